@@ -1,0 +1,88 @@
+//! The mode codes of MIL-STD-1553B with Notice 2: which there are, which may be broadcast, and which have a data word.
+//!
+//! A mode command has subaddress 0 or 31; its code stands in the field of the word count, its direction in the T/R
+//! bit (MIL-STD-1553B 4.3.3.5.1.7). In each function here `transmit` is the T/R bit, and `code` is at most 31.
+#![tactic(auto)]
+
+ghost use Rattle.std.specs.Prelude.{◌≡◌, ◌≤◌, ◌↔◌, IsTrue, ◌||◌, not};
+ghost use Rattle.mil_mode.specs.Table.{row_of, is_known, is_reserved, is_broadcast_mode, data_word_count, is_legal_mode as is_legal};
+
+/// What the mode table has for a T/R bit and a code.
+#[derive(Clone, Copy, Debug, PartialEq, Eq)]
+pub enum ModeRow {
+    /// One of the fifteen codes that the standard assigns.
+    Known,
+    /// Codes 9 to 15 with T/R 1 and codes 22 to 31, which the standard keeps for later.
+    Reserved,
+    /// Every other pair.
+    Undefined,
+}
+
+/// What the mode table has for this pair.
+pub fn mode_of(transmit: bool, code: u8) -> ModeRow
+    requires { code ≤ 31 }
+    ensures row { result ≡ row_of transmit code }
+    ensures known { (result ≡ ModeRow.Known) ↔ IsTrue (is_known transmit code) }
+    ensures reserved { (result ≡ ModeRow.Reserved) ↔ IsTrue (is_reserved transmit code) }
+    ensures undefined { (result ≡ ModeRow.Undefined) ↔ IsTrue (not (is_known transmit code || is_reserved transmit code)) }
+{
+    if code >= 22 {
+        ModeRow::Reserved
+    } else if is_assigned(transmit, code) {
+        ModeRow::Known
+    } else if transmit && 9 <= code && code <= 15 {
+        ModeRow::Reserved
+    } else {
+        ModeRow::Undefined
+    }
+}
+
+/// Whether the standard assigns this pair a meaning.
+fn is_assigned(transmit: bool, code: u8) -> bool
+    requires { code ≤ 31 }
+    ensures { result ≡ is_known transmit code }
+{
+    if transmit {
+        code <= 8 || code == 16 || code == 18 || code == 19
+    } else {
+        code == 17 || code == 20 || code == 21
+    }
+}
+
+/// Whether the pair may be sent to all terminals at once, with address 31: true for known pairs alone.
+pub fn broadcast_allowed(transmit: bool, code: u8) -> bool
+    requires { code ≤ 31 }
+    ensures { result ≡ is_broadcast_mode transmit code }
+{
+    if transmit {
+        code == 1 || 3 <= code && code <= 8
+    } else {
+        code == 17 || code == 20 || code == 21
+    }
+}
+
+/// How many data words go with the pair, 0 or 1: sent by the terminal where T/R is 1, received by it where it is 0.
+/// Codes 22 to 31 have one in either direction.
+pub fn data_words(transmit: bool, code: u8) -> u8
+    requires { code ≤ 31 }
+    ensures { result ≡ data_word_count transmit code }
+{
+    if transmit {
+        if code == 16 || code == 18 || code == 19 || code >= 22 {
+            1
+        } else {
+            0
+        }
+    } else {
+        if code == 17 || code >= 20 { 1 } else { 0 }
+    }
+}
+
+/// Whether the terminals of this bench carry the pair out: known, and neither 20 nor 21, which select one of
+/// several further lines (own choice).
+pub fn is_legal_mode(transmit: bool, code: u8) -> bool
+    requires { code ≤ 31 }
+    ensures { result ≡ is_legal transmit code }
+{
+    is_assigned(transmit, code) && code != 20 && code != 21
+}
