@@ -1,0 +1,53 @@
+//! What a host sets.
+ghost use Rattle.std.specs.Prelude.{◌≡◌};
+
+use crate::values::{Mark, ResponseGap, TransmitWords};
+
+/// What the host sets on its remote terminal. At first everything is off, each subaddress and count is legal,
+/// the vector word and the self-test result are 0000, the response time is 80 ticks and no transmit words are put up (own choice).
+#[derive(Debug, Drop)]
+pub enum Action {
+    /// The words that a transmit command at a subaddress sends.
+    Transmit(TransmitWords),
+    /// The busy bit of the status word (MIL-STD-1553B 4.3.3.5.3.9).
+    Busy(bool),
+    /// The service request bit (4.3.3.5.3.5).
+    Service(bool),
+    /// The subsystem flag (4.3.3.5.3.10).
+    Subsystem(bool),
+    /// A fault of the terminal itself, which its terminal flag tells (4.3.3.5.3.12).
+    Fault(bool),
+    /// Whether an offer of dynamic bus control is accepted (4.3.3.5.3.11).
+    Control(bool),
+    /// The vector word (4.3.3.5.1.7.10).
+    Vector(u16),
+    /// The result of the terminal's self test, which becomes its BIT word when a self test is initiated.
+    SelfTest(u16),
+    /// The terminal takes commands of this direction, subaddress and count as illegal (4.4.3.4).
+    Illegal(Mark),
+    /// It takes them as legal again.
+    Legal(Mark),
+    /// The response time (4.3.3.8).
+    Response(ResponseGap),
+}
+
+impl Action {
+    /// The same action.
+    pub fn copy(&self) -> Action
+        ensures { result ≡ self.now }
+    {
+        match self {
+            Action::Transmit(words) => Action::Transmit(words.copy()),
+            Action::Busy(on) => Action::Busy(*on),
+            Action::Service(on) => Action::Service(*on),
+            Action::Subsystem(on) => Action::Subsystem(*on),
+            Action::Fault(on) => Action::Fault(*on),
+            Action::Control(on) => Action::Control(*on),
+            Action::Vector(word) => Action::Vector(*word),
+            Action::SelfTest(word) => Action::SelfTest(*word),
+            Action::Illegal(mark) => Action::Illegal(*mark),
+            Action::Legal(mark) => Action::Legal(*mark),
+            Action::Response(gap) => Action::Response(*gap),
+        }
+    }
+}

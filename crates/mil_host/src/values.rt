@@ -1,0 +1,168 @@
+//! The values of an action that keep their ranges.
+ghost use Rattle.std.specs.Prelude.{◌≡◌, ◌≤◌, length};
+
+use arrayvec::ArrayVec;
+use std::marker::Model;
+
+/// The data words that a host puts up for a transmit command at a subaddress: 1 to 32 words, at a subaddress of 1 to 29.
+/// (Own choice: subaddress 30 wraps around, and takes none.)
+#[derive(Debug, Drop)]
+pub struct TransmitWords {
+    sub: u8,
+    words: ArrayVec<u16, 32>,
+}
+
+impl Model for TransmitWords {
+    ghost use Rattle.std.specs.Prelude.{◌≤◌, length};
+    ghost use Rattle.mil_host.specs.Values.{PutUp};
+
+    ghost Value = { PutUp };
+
+    ghost view = { λ w. record { sub = w.sub; words = w.words.items } };
+
+    ghost invariant = { λ w. (1 ≤ w.sub) × (w.sub ≤ 29) × (1 ≤ length w.words.items) × (length w.words.items ≤ 32) };
+}
+
+impl TransmitWords {
+    /// The words for a subaddress.
+    pub fn make(sub: u8, words: ArrayVec<u16, 32>) -> TransmitWords
+        requires low { 1 ≤ sub }
+        requires high { sub ≤ 29 }
+        requires some { 1 ≤ length words.items }
+        ensures { result ≡ record { sub = sub; words = words.items } }
+    {
+        let _ = words.as_slice();
+        TransmitWords { sub, words }
+    }
+
+    /// The subaddress, 1 to 29.
+    pub fn sub(&self) -> u8
+        ensures value { result ≡ self.now.sub }
+        ensures low { 1 ≤ result }
+        ensures high { result ≤ 29 }
+    {
+        self.sub
+    }
+
+    /// The words, 1 to 32 of them.
+    pub fn words(&self) -> &[u16]
+        ensures value { result.now ≡ self.now.words }
+        ensures some { 1 ≤ length result.now }
+        ensures few { length result.now ≤ 32 }
+    {
+        self.words.as_slice()
+    }
+
+    /// The same words for the same subaddress.
+    pub fn copy(&self) -> TransmitWords
+        ensures { result ≡ self.now }
+    {
+        let mut words = ArrayVec::new();
+        let _ = words.try_extend_from_slice(self.words.as_slice());
+        TransmitWords {
+            sub: self.sub,
+            words,
+        }
+    }
+}
+
+/// A direction, a subaddress of 1 to 30 and a count of 1 to 32 data words.
+#[derive(Clone, Copy, Debug)]
+pub struct Mark {
+    transmit: bool,
+    sub: u8,
+    count: u8,
+}
+
+impl Model for Mark {
+    ghost use Rattle.std.specs.Prelude.{◌≤◌};
+    ghost use Rattle.mil_host.specs.Values.{Marked};
+
+    ghost Value = { Marked };
+
+    ghost view = { λ m. record { transmit = m.transmit; sub = m.sub; count = m.count } };
+
+    ghost invariant = { λ m. (1 ≤ m.sub) × (m.sub ≤ 30) × (1 ≤ m.count) × (m.count ≤ 32) };
+
+    ghost inverse = { λ m. record { transmit = m.transmit; sub = m.sub; count = m.count } };
+}
+
+impl Mark {
+    /// The mark of transmit commands (`transmit`) or of receive commands.
+    pub fn make(transmit: bool, sub: u8, count: u8) -> Mark
+        requires sub_low { 1 ≤ sub }
+        requires sub_high { sub ≤ 30 }
+        requires count_low { 1 ≤ count }
+        requires count_high { count ≤ 32 }
+        ensures { result ≡ record { transmit = transmit; sub = sub; count = count } }
+    {
+        Mark {
+            transmit,
+            sub,
+            count,
+        }
+    }
+
+    /// Whether it is of transmit commands.
+    pub fn transmit(&self) -> bool
+        ensures { result ≡ self.now.transmit }
+    {
+        self.transmit
+    }
+
+    /// The subaddress, 1 to 30.
+    pub fn sub(&self) -> u8
+        ensures value { result ≡ self.now.sub }
+        ensures low { 1 ≤ result }
+        ensures high { result ≤ 30 }
+    {
+        self.sub
+    }
+
+    /// The count of data words, 1 to 32.
+    pub fn count(&self) -> u8
+        ensures value { result ≡ self.now.count }
+        ensures low { 1 ≤ result }
+        ensures high { result ≤ 32 }
+    {
+        self.count
+    }
+}
+
+/// A response time of 40 to 120 ticks of 0.1 µs (MIL-STD-1553B 4.3.3.8).
+#[derive(Clone, Copy, Debug)]
+pub struct ResponseGap {
+    ticks: u8,
+}
+
+impl Model for ResponseGap {
+    ghost use Rattle.std.specs.Prelude.{ℕ, ◌≤◌};
+
+    ghost Value = { ℕ };
+
+    ghost view = { λ g. g.ticks };
+
+    ghost invariant = { λ g. (40 ≤ g.ticks) × (g.ticks ≤ 120) };
+
+    ghost inverse = { λ n. record { ticks = n } };
+}
+
+impl ResponseGap {
+    /// The response time of so many ticks.
+    pub fn make(ticks: u8) -> ResponseGap
+        requires low { 40 ≤ ticks }
+        requires high { ticks ≤ 120 }
+        ensures { result ≡ ticks }
+    {
+        ResponseGap { ticks }
+    }
+
+    /// The ticks, 40 to 120.
+    pub fn ticks(&self) -> u8
+        ensures value { result ≡ self.now }
+        ensures low { 40 ≤ result }
+        ensures high { result ≤ 120 }
+    {
+        self.ticks
+    }
+}
