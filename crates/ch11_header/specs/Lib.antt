@@ -1,0 +1,3 @@
+pub mod HeaderBytes
+pub mod HeaderReading
+pub mod Examples

@@ -1,0 +1,11 @@
+//! The header of a packet: its fields, its 24 bytes, and which bytes are a header
+//! (IRIG 106-17 Chapter 11, packet header). All numbers are little-endian.
+#![tactic(auto)]
+
+mod fault;
+mod header;
+mod laws;
+
+pub use fault::HeaderError;
+pub use header::{HEADER_SIZE, Header, SYNC, read_header, write_header};
+pub use laws::written_is_read;
