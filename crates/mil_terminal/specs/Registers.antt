@@ -1,0 +1,94 @@
+-- What the registers of a terminal hold, as queries on its history.
+use Rattle.std.specs.Prelude.{ℕ, Bool, true, false, ◌&&◌, ◌||◌, not, ◌==◌, List, [], ◌∷◌, Option, Some, None, unwrap_or, if◌then◌else◌}
+use Rattle.std.specs.Option.{option_map}
+use Rattle.std.specs.List.{find, filter_map}
+use Rattle.mil_word.specs.declared.Line.{Line}
+use Rattle.mil_word.specs.Words.{same_line, same_bool, data_in}
+use Rattle.mil_word.specs.Fields.{address_of, is_broadcast, is_transmit, sub_of, code_of, is_mode, is_receive}
+use Rattle.mil_terminal.specs.declared.events.Event.{Event}
+use Rattle.mil_terminal.specs.declared.events.Event.TheVariants.{Heard, Quiet, Host}
+use Rattle.mil_terminal.specs.History.{History, latest_set}
+use Rattle.mil_terminal.specs.Host.{told_vector, is_busy, self_test, words_put_up}
+use Rattle.mil_terminal.specs.Windows.{Ended, opening, ended}
+use Rattle.mil_terminal.specs.Verdicts.{verdict, is_good}
+
+-- of the latest ended window that passes the test, what is asked, and else the first value
+abbrev pub latest : {X : Type 0} → ℕ → (Ended → Bool) → (Ended → X) → X → History → X
+latest own test asked first h = unwrap_or (option_map asked (find test (ended own h))) first
+
+-- the value of a sound data word
+abbrev pub value_of : Event → Option ℕ
+value_of (Heard line wave gap) = data_in wave
+value_of (Quiet line) = None
+value_of (Host action) = None
+
+-- the data words of a window
+abbrev pub words_of : Ended → List ℕ
+words_of e = filter_map value_of e.window.items
+
+-- a good window of a mode command
+abbrev pub is_good_mode : ℕ → Bool → ℕ → Ended → Bool
+is_good_mode own transmit code e =
+    is_good (verdict own e) && is_mode e.window.command && same_bool (is_transmit e.window.command) transmit && code_of e.window.command == code
+
+-- a good window of a receive command at a subaddress, to all terminals or to this one, that ended while the terminal
+-- was not busy (4.3.3.5.3.8)
+abbrev pub is_good_receive : ℕ → Bool → ℕ → Ended → Bool
+is_good_receive own to_all sub e =
+    is_good (verdict own e) && is_receive e.window.command && sub_of e.window.command == sub
+    && same_bool (is_broadcast e.window.command) to_all && not (is_busy e.before)
+
+-- the words of the latest receive command to this terminal at the subaddress
+unfoldable pub received : ℕ → ℕ → History → List ℕ
+received own sub h = latest own (is_good_receive own false sub) words_of [] h
+
+-- the words of the latest receive command to all terminals there (Notice 2: kept apart)
+unfoldable pub received_from_all : ℕ → ℕ → History → List ℕ
+received_from_all own sub h = latest own (is_good_receive own true sub) words_of [] h
+
+-- the words that a transmit command sends: those that the host put up, and at subaddress 30, which wraps around,
+-- those that were received there (Notice 2)
+unfoldable pub transmit_words : ℕ → ℕ → History → List ℕ
+transmit_words own sub h = if sub == 30 then received own 30 h else words_put_up sub h
+
+abbrev pub first_or_zero : List ℕ → ℕ
+first_or_zero [] = 0
+first_or_zero (w ∷ ws) = w
+
+-- the word of the latest synchronize with data word (17), and 0 after synchronize (1) and reset (8)
+unfoldable pub sync_word : ℕ → History → ℕ
+sync_word own h =
+    latest own (λ e. is_good_mode own false 17 e || is_good_mode own true 1 e || is_good_mode own true 8 e) (λ e. first_or_zero (words_of e)) 0 h
+
+-- the result of the self test when one was initiated last (3)
+unfoldable pub bit_word : ℕ → History → ℕ
+bit_word own h = latest own (is_good_mode own true 3) (λ e. self_test e.before) 0 h
+
+-- the vector word, which is the host's
+unfoldable pub vector : History → ℕ
+vector h = latest_set told_vector 0 h
+
+-- a shutdown (4) on the other line is later than each override (5) there and each reset (8)
+unfoldable pub is_transmitter_on : ℕ → Line → History → Bool
+is_transmitter_on own line h =
+    latest own
+    (λ e. is_good_mode own true 8 e || not (same_line e.window.line line) && (is_good_mode own true 4 e || is_good_mode own true 5 e))
+    (λ e. not (code_of e.window.command == 4)) true h
+
+-- an inhibition of the terminal flag (6) is later than each override (7) and each reset (8)
+unfoldable pub is_flag_inhibited : ℕ → History → Bool
+is_flag_inhibited own h =
+    latest own (λ e. is_good_mode own true 6 e || is_good_mode own true 7 e || is_good_mode own true 8 e) (λ e. code_of e.window.command == 6) false h
+
+-- a question of the controller: transmit status word (2) or transmit last command (18), to this terminal
+abbrev pub is_question : ℕ → ℕ → Bool
+is_question own c = address_of c == own && is_transmit c && is_mode c && (code_of c == 2 || code_of c == 18)
+
+abbrev pub opened_or : ℕ → Option (Line × ℕ) → ℕ → ℕ
+opened_or own None before = before
+opened_or own (Some o) before = if is_question own o.1 && code_of o.1 == 18 then before else o.1
+
+-- the command of the latest window, questions for the last command excepted
+unfoldable pub last_command : ℕ → History → ℕ
+last_command own [] = 0
+last_command own (e ∷ past) = opened_or own (opening own e) (last_command own past)

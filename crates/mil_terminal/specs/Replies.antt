@@ -1,0 +1,55 @@
+-- The reply of a terminal (MIL-STD-1553B 4.3.3.6, 4.3.3.8), as a query on its history.
+use Rattle.std.specs.Prelude.{ℕ, ◌-◌, Bool, ◌&&◌, not, ◌==◌, List, [], ◌∷◌, ◌++◌, Option, Some, None, if◌then◌else◌, take, length, replicate}
+use Rattle.mil_word.specs.declared.Line.{Line}
+use Rattle.mil_word.specs.Fields.{address_of, is_transmit, sub_of, code_of, count_of, is_mode}
+use Rattle.mil_terminal.specs.declared.events.Event.TheVariants.{Quiet}
+use Rattle.mil_terminal.specs.declared.replies.Reply.{Reply}
+use Rattle.mil_terminal.specs.History.{History}
+use Rattle.mil_terminal.specs.Host.{is_busy, response_gap}
+use Rattle.mil_terminal.specs.Windows.{Ended, ended_by}
+use Rattle.mil_terminal.specs.Verdicts.{verdict, is_good, is_bad}
+use Rattle.mil_terminal.specs.Registers.{transmit_words, vector, bit_word, last_command, is_transmitter_on}
+use Rattle.mil_terminal.specs.Status.{status}
+
+-- the first words, so many, with zeros where there are fewer
+abbrev pub exactly : ℕ → List ℕ → List ℕ
+exactly n words = take n words ++ replicate (n - length words) 0
+
+-- the data word that a mode command is answered with, if one; h is the history with the quiet
+abbrev pub mode_data : ℕ → ℕ → History → List ℕ
+mode_data own code h =
+    if code == 18 then last_command own h ∷ []
+    else if is_busy h then []
+    else if code == 16 then vector h ∷ []
+    else if code == 19 then bit_word own h ∷ []
+    else []
+
+-- the data words that follow the status where the window was good: a busy terminal sends the status alone, but for
+-- the last command (4.3.3.5.3.8)
+abbrev pub data_sent : ℕ → ℕ → History → List ℕ
+data_sent own c h =
+    if is_transmit c
+    then (if is_mode c then mode_data own (code_of c) h
+    else if is_busy h then []
+    else exactly (count_of c) (transmit_words own (sub_of c) h))
+    else []
+
+-- a window is answered where it has good shape and this terminal's own address, and the transmitter of its line was on
+-- before the window acted
+abbrev pub is_answered : ℕ → Ended → Bool
+is_answered own e = not (is_bad (verdict own e)) && address_of e.window.command == own && is_transmitter_on own e.window.line e.before
+
+-- the status, alone where the command was illegal, at the host's response time
+abbrev pub answer_to : ℕ → Ended → History → Reply
+answer_to own e h = record {
+  gap = response_gap h;
+  words = record { items = status own h ∷ (if is_good (verdict own e) then data_sent own e.window.command h else []) };
+}
+
+abbrev pub reply_to : ℕ → Option Ended → History → Option Reply
+reply_to own None h = None
+reply_to own (Some e) h = if is_answered own e then Some (answer_to own e h) else None
+
+-- the reply to a quiet on a line after this history
+unfoldable pub reply : ℕ → Line → History → Option Reply
+reply own line past = reply_to own (ended_by own (Quiet line) past) (Quiet line ∷ past)

@@ -1,0 +1,55 @@
+-- The status word of a terminal (MIL-STD-1553B 4.3.3.5.3), as a query on its history.
+use Rattle.std.specs.Prelude.{ℕ, ◌+◌, ◌*◌, ◌^◌, Bool, true, false, ◌&&◌, not, if◌then◌else◌}
+use Rattle.mil_word.specs.Fields.{is_broadcast}
+use Rattle.mil_terminal.specs.History.{History}
+use Rattle.mil_terminal.specs.Host.{requests_service, is_busy, has_subsystem_fault, accepts_control, has_fault}
+use Rattle.mil_terminal.specs.Windows.{Ended}
+use Rattle.mil_terminal.specs.Verdicts.{verdict, is_good}
+use Rattle.mil_terminal.specs.Registers.{latest, is_good_mode, is_flag_inhibited, is_question}
+
+-- the conditions that a status word tells; terminals here never set its instrumentation bit (own choice)
+pub record Conditions : Type 0 where
+  pub message_error : Bool
+  pub service_request : Bool
+  pub broadcast : Bool
+  pub busy : Bool
+  pub subsystem : Bool
+  pub control : Bool
+  pub terminal : Bool
+
+-- whether the terminal flag is inhibited for the status of this window: by an inhibition (6) and its override (7)
+-- at once, by a reset (8) afterwards (own choice)
+abbrev pub is_inhibited_for : ℕ → Ended → Bool
+is_inhibited_for own e =
+    if is_good_mode own true 6 e then true else if is_good_mode own true 7 e then false else is_flag_inhibited own e.before
+
+-- the conditions that a window sets when it ends
+abbrev pub conditions_at : ℕ → Ended → Conditions
+conditions_at own e = record {
+  message_error = not (is_good (verdict own e));
+  service_request = requests_service e.before;
+  broadcast = is_broadcast e.window.command;
+  busy = is_busy e.before;
+  subsystem = has_subsystem_fault e.before;
+  control = is_good_mode own true 0 e && accepts_control e.before;
+  terminal = has_fault e.before && not (is_inhibited_for own e);
+}
+
+abbrev pub no_conditions : Conditions
+no_conditions = record { message_error = false; service_request = false; broadcast = false; busy = false; subsystem = false; control = false; terminal = false }
+
+-- those of the latest ended window that is no question
+unfoldable pub conditions : ℕ → History → Conditions
+conditions own h = latest own (λ e. not (is_question own e.window.command)) (conditions_at own) no_conditions h
+
+abbrev pub bit : Bool → ℕ → ℕ
+bit true place = 2 ^ place
+bit false place = 0
+
+-- the address and a bit for each condition (4.3.3.5.3.2 to 4.3.3.5.3.12)
+abbrev pub status_word : ℕ → Conditions → ℕ
+status_word own s =
+    own * 2 ^ 11 + bit s.message_error 10 + bit s.service_request 8 + bit s.broadcast 4 + bit s.busy 3 + bit s.subsystem 2 + bit s.control 1 + bit s.terminal 0
+
+unfoldable pub status : ℕ → History → ℕ
+status own h = status_word own (conditions own h)
