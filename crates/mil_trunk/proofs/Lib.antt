@@ -1,0 +1,6 @@
+pub mod Bounds
+pub mod Numbered
+pub mod Parts
+pub mod Sets
+pub mod Steps
+pub mod Tagging

@@ -1,0 +1,4 @@
+pub mod Ends
+pub mod Rule
+pub mod Tags
+pub mod Views
