@@ -1,0 +1,4 @@
+pub mod Request
+pub mod Rules
+pub mod Forms
+pub mod World

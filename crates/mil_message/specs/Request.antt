@@ -1,0 +1,54 @@
+-- What a draft asks for, as plain data: its numbers, and its data words wherever they lie in memory.
+use Rattle.std.specs.Prelude.{ℕ, Bool, List, Option, Some, None, ◌&&◌, ◌||◌, ◌==◌, nat_le, if◌then◌else◌, option_map}
+use Rattle.mil_message.specs.declared.drafts.ModeSubaddress.{ModeSubaddress}
+use Rattle.mil_message.specs.declared.drafts.Draft.{Draft}
+use Rattle.mil_message.specs.declared.drafts.Draft.TheVariants.{ToTerminal, FromTerminal, Between, Mode, ModeFrom, ModeTo, ToAll, BetweenAll, ModeAll, ModeAllTo}
+
+-- the words of a mode form are None where none are asked for
+pub data Request : Type 0 where
+  -- address, subaddress, data words
+  to_terminal : ℕ → ℕ → List ℕ → Request
+  -- address, subaddress, count
+  from_terminal : ℕ → ℕ → ℕ → Request
+  -- the sender and its subaddress, the receiver and its subaddress, count
+  between : ℕ → ℕ → ℕ → ℕ → ℕ → Request
+  -- address, subaddress, code, data words
+  mode : ℕ → ModeSubaddress → ℕ → Option (List ℕ) → Request
+  mode_from : ℕ → ModeSubaddress → ℕ → Option (List ℕ) → Request
+  mode_to : ℕ → ModeSubaddress → ℕ → Option (List ℕ) → Request
+  -- subaddress, data words
+  to_all : ℕ → List ℕ → Request
+  -- the sender and its subaddress, the receivers' subaddress, count
+  between_all : ℕ → ℕ → ℕ → ℕ → Request
+  -- subaddress, code, data words
+  mode_all : ModeSubaddress → ℕ → Option (List ℕ) → Request
+  mode_all_to : ModeSubaddress → ℕ → Option (List ℕ) → Request
+
+abbrev pub request_of : Draft → Request
+request_of (ToTerminal address subaddress words) = to_terminal address subaddress words.now
+request_of (FromTerminal address subaddress count) = from_terminal address subaddress count
+request_of (Between sender sender_subaddress receiver receiver_subaddress count) = between sender sender_subaddress receiver receiver_subaddress count
+request_of (Mode address subaddress code words) = mode address subaddress code (option_map (λ w. w.now) words)
+request_of (ModeFrom address subaddress code words) = mode_from address subaddress code (option_map (λ w. w.now) words)
+request_of (ModeTo address subaddress code words) = mode_to address subaddress code (option_map (λ w. w.now) words)
+request_of (ToAll subaddress words) = to_all subaddress words.now
+request_of (BetweenAll sender sender_subaddress receiver_subaddress count) = between_all sender sender_subaddress receiver_subaddress count
+request_of (ModeAll subaddress code words) = mode_all subaddress code (option_map (λ w. w.now) words)
+request_of (ModeAllTo subaddress code words) = mode_all_to subaddress code (option_map (λ w. w.now) words)
+
+-- codes 16, 18 and 19 have a data word from the terminal, and codes 22 on where no word is written
+abbrev is_from : ℕ → Option (List ℕ) → Bool
+is_from code None = code == 16 || code == 18 || code == 19 || nat_le 22 code
+is_from code (Some words) = code == 16 || code == 18 || code == 19
+
+-- a mode command to one terminal, whose code and words choose the form (own choice)
+abbrev pub mode_request : ℕ → ModeSubaddress → ℕ → Option (List ℕ) → Request
+mode_request address subaddress code words =
+    if nat_le code 15 then mode address subaddress code words
+    else if is_from code words then mode_from address subaddress code words
+    else mode_to address subaddress code words
+
+-- a mode command to all terminals, whose code chooses the form (own choice)
+abbrev pub mode_request_to_all : ModeSubaddress → ℕ → Option (List ℕ) → Request
+mode_request_to_all subaddress code words =
+    if nat_le code 15 then mode_all subaddress code words else mode_all_to subaddress code words

@@ -1,0 +1,54 @@
+//! Command words from their fields (MIL-STD-1553B 4.3.3.5.1).
+ghost use Rattle.std.specs.Prelude.{◌≡◌, ◌≤◌};
+ghost use Rattle.mil_message.specs.Forms as words;
+
+use crate::ModeSubaddress;
+use mil_word::Command;
+
+/// The address of all terminals.
+pub const ALL_TERMINALS: u8 = 31;
+
+/// A command word from its fields, each at most 31.
+#[inline]
+fn command_word(address: u8, transmit: bool, subaddress: u8, field: u8) -> Command
+    requires address { address ≤ 31 }
+    requires subaddress { subaddress ≤ 31 }
+    requires field { field ≤ 31 }
+    ensures { result ≡ words.command_word address transmit subaddress field }
+{
+    let transmit_bit = if transmit { 1 << 10 } else { 0 };
+    Command::of(
+        u16::from(address) * 0x800 + transmit_bit + u16::from(subaddress) * 0x20 + u16::from(field),
+    )
+}
+
+/// A command to receive so many data words.
+pub fn receive_command(address: u8, subaddress: u8, count: u8) -> Command
+    requires address { address ≤ 31 }
+    requires subaddress { subaddress ≤ 31 }
+    ensures { result ≡ words.receive_command address subaddress count }
+{
+    command_word(address, false, subaddress, count % 32)
+}
+
+/// A command to transmit so many data words.
+pub fn transmit_command(address: u8, subaddress: u8, count: u8) -> Command
+    requires address { address ≤ 31 }
+    requires subaddress { subaddress ≤ 31 }
+    ensures { result ≡ words.transmit_command address subaddress count }
+{
+    command_word(address, true, subaddress, count % 32)
+}
+
+/// A mode command.
+pub fn mode_command(address: u8, transmit: bool, subaddress: ModeSubaddress, code: u8) -> Command
+    requires address { address ≤ 31 }
+    requires code { code ≤ 31 }
+    ensures { result ≡ words.mode_command address transmit subaddress code }
+{
+    let subaddress = match subaddress {
+        ModeSubaddress::Zero => 0,
+        ModeSubaddress::ThirtyOne => 31,
+    };
+    command_word(address, transmit, subaddress, code)
+}

@@ -1,0 +1,16 @@
+//! The messages of a MIL-STD-1553B data bus: the ten message forms, what the controller sends for each, and which
+//! replies are due (MIL-STD-1553B 4.3.3.6, with Notice 2).
+#![tactic(auto)]
+
+mod command;
+pub mod drafts;
+pub mod faults;
+pub mod forms;
+mod judge;
+pub mod messages;
+mod ranges;
+
+pub use drafts::{Draft, ModeSubaddress};
+pub use faults::BadMessage;
+pub use forms::{Commands, Due, Form};
+pub use messages::Message;

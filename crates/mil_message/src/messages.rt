@@ -1,0 +1,307 @@
+//! A message in one of the ten forms.
+ghost use Rattle.std.specs.Prelude.{◌≡◌, ◌≤◌, ◌↔◌, ◌∷◌, Ok, length};
+ghost use Rattle.std.specs.Option.{option_to_list};
+ghost use Rattle.mil_message.specs.declared.forms.Form.{Form as FormValue};
+ghost use Rattle.mil_message.specs.Request.{request_of};
+ghost use Rattle.mil_message.specs.Rules.{checked, request_for, IsLawful};
+ghost use Rattle.mil_message.specs.Forms.{commands, first_command, second_command, data_words, controller_words, controller_waves, replies_due, form_number};
+
+use crate::command::{ALL_TERMINALS, mode_command, receive_command, transmit_command};
+use crate::{BadMessage, Commands, Draft, Due, Form, judge};
+use arrayvec::ArrayVec;
+use mil_word::{Command, Sync, Wave, Word, encode};
+use std::marker::Model;
+use std::slice;
+
+/// A message in one of the ten forms, all its numbers in their ranges; contracts see its form.
+#[derive(Debug, Drop, PartialEq, Eq)]
+pub struct Message {
+    form: Form,
+}
+
+impl Model for Message {
+    ghost use Rattle.mil_message.specs.declared.forms.Form.{Form};
+
+    ghost Value = { Form };
+
+    ghost use Rattle.mil_message.specs.Rules.{IsLawful};
+
+    ghost view = { λ m. m.form };
+
+    ghost invariant = { λ m. IsLawful m.form };
+
+    ghost inverse = { λ f. record { form = f } };
+}
+
+impl Message {
+    /// The message that the draft asks for, or the first fault that it has.
+    pub fn check(draft: Draft<'_>) -> Result<Message, BadMessage>
+        ensures judged { result ≡ checked (request_of draft.entry) }
+        ensures accepted { (form : FormValue) → (result ≡ Ok form) ↔ (IsLawful form × (request_of draft.entry ≡ request_for form)) }
+    {
+        let form = judge::form(draft)?;
+        Ok(Message { form })
+    }
+
+    /// The message by its form.
+    pub fn form(&self) -> &Form
+        ensures value { result.now ≡ self.now }
+        ensures lawful { IsLawful self.now }
+    {
+        &self.form
+    }
+
+    /// The draft that `check` accepted: checked again, it gives this message.
+    pub fn draft(&self) -> Draft<'_>
+        ensures same { request_of result ≡ request_for self.now }
+        ensures accepted { checked (request_of result) ≡ Ok self.now }
+    {
+        match &self.form {
+            Form::ToTerminal {
+                address,
+                subaddress,
+                words,
+            } => Draft::ToTerminal {
+                address: u32::from(*address),
+                subaddress: u32::from(*subaddress),
+                words: words.as_slice(),
+            },
+            Form::FromTerminal {
+                address,
+                subaddress,
+                count,
+            } => Draft::FromTerminal {
+                address: u32::from(*address),
+                subaddress: u32::from(*subaddress),
+                count: u32::from(*count),
+            },
+            Form::Between {
+                sender,
+                sender_subaddress,
+                receiver,
+                receiver_subaddress,
+                count,
+            } => Draft::Between {
+                sender: u32::from(*sender),
+                sender_subaddress: u32::from(*sender_subaddress),
+                receiver: u32::from(*receiver),
+                receiver_subaddress: u32::from(*receiver_subaddress),
+                count: u32::from(*count),
+            },
+            Form::Mode {
+                address,
+                subaddress,
+                code,
+            } => Draft::Mode {
+                address: u32::from(*address),
+                subaddress: *subaddress,
+                code: u32::from(*code),
+                words: None,
+            },
+            Form::ModeFrom {
+                address,
+                subaddress,
+                code,
+            } => Draft::ModeFrom {
+                address: u32::from(*address),
+                subaddress: *subaddress,
+                code: u32::from(*code),
+                words: None,
+            },
+            Form::ModeTo {
+                address,
+                subaddress,
+                code,
+                word,
+            } => Draft::ModeTo {
+                address: u32::from(*address),
+                subaddress: *subaddress,
+                code: u32::from(*code),
+                words: Some(slice::from_ref(word)),
+            },
+            Form::ToAll { subaddress, words } => Draft::ToAll {
+                subaddress: u32::from(*subaddress),
+                words: words.as_slice(),
+            },
+            Form::BetweenAll {
+                sender,
+                sender_subaddress,
+                receiver_subaddress,
+                count,
+            } => Draft::BetweenAll {
+                sender: u32::from(*sender),
+                sender_subaddress: u32::from(*sender_subaddress),
+                receiver_subaddress: u32::from(*receiver_subaddress),
+                count: u32::from(*count),
+            },
+            Form::ModeAll { subaddress, code } => Draft::ModeAll {
+                subaddress: *subaddress,
+                code: u32::from(*code),
+                words: None,
+            },
+            Form::ModeAllTo {
+                subaddress,
+                code,
+                word,
+            } => Draft::ModeAllTo {
+                subaddress: *subaddress,
+                code: u32::from(*code),
+                words: Some(slice::from_ref(word)),
+            },
+        }
+    }
+
+    /// The number of the form, 0 to 9, in the order of `Form`.
+    pub fn form_number(&self) -> u8
+        ensures number { result ≡ form_number self.now }
+        ensures range { result ≤ 9 }
+    {
+        match &self.form {
+            Form::ToTerminal { .. } => 0,
+            Form::FromTerminal { .. } => 1,
+            Form::Between { .. } => 2,
+            Form::Mode { .. } => 3,
+            Form::ModeFrom { .. } => 4,
+            Form::ModeTo { .. } => 5,
+            Form::ToAll { .. } => 6,
+            Form::BetweenAll { .. } => 7,
+            Form::ModeAll { .. } => 8,
+            Form::ModeAllTo { .. } => 9,
+        }
+    }
+
+    /// The command words: a second one in the two forms between terminals alone.
+    pub fn commands(&self) -> Commands
+        ensures first { result.first ≡ first_command self.now }
+        ensures second { result.second ≡ second_command self.now }
+        ensures all { result.first ∷ option_to_list result.second ≡ commands self.now }
+    {
+        let first = match &self.form {
+            Form::ToTerminal {
+                address,
+                subaddress,
+                words,
+            } => receive_command(*address, *subaddress, words.len() as u8),
+            Form::FromTerminal {
+                address,
+                subaddress,
+                count,
+            } => transmit_command(*address, *subaddress, *count),
+            Form::Between {
+                receiver,
+                receiver_subaddress,
+                count,
+                ..
+            } => receive_command(*receiver, *receiver_subaddress, *count),
+            Form::Mode {
+                address,
+                subaddress,
+                code,
+            }
+            | Form::ModeFrom {
+                address,
+                subaddress,
+                code,
+            } => mode_command(*address, true, *subaddress, *code),
+            Form::ModeTo {
+                address,
+                subaddress,
+                code,
+                ..
+            } => mode_command(*address, false, *subaddress, *code),
+            Form::ToAll { subaddress, words } => receive_command(
+                ALL_TERMINALS,
+                *subaddress,
+                words.len() as u8,
+            ),
+            Form::BetweenAll {
+                receiver_subaddress,
+                count,
+                ..
+            } => receive_command(ALL_TERMINALS, *receiver_subaddress, *count),
+            Form::ModeAll { subaddress, code } => mode_command(
+                ALL_TERMINALS,
+                true,
+                *subaddress,
+                *code,
+            ),
+            Form::ModeAllTo {
+                subaddress,
+                code,
+                ..
+            } => mode_command(ALL_TERMINALS, false, *subaddress, *code),
+        };
+        let second = match &self.form {
+            Form::Between {
+                sender,
+                sender_subaddress,
+                count,
+                ..
+            }
+            | Form::BetweenAll {
+                sender,
+                sender_subaddress,
+                count,
+                ..
+            } => Some(transmit_command(*sender, *sender_subaddress, *count)),
+            _ => None,
+        };
+        Commands { first, second }
+    }
+
+    /// The data words that the controller sends after its commands.
+    pub fn data_words(&self) -> &[u16]
+        ensures words { result.now ≡ data_words self.now }
+        ensures at_most_32 { length result.now ≤ 32 }
+    {
+        match &self.form {
+            Form::ToTerminal { words, .. } | Form::ToAll { words, .. } => words.as_slice(),
+            Form::ModeTo { word, .. } | Form::ModeAllTo { word, .. } => slice::from_ref(word),
+            _ => &[],
+        }
+    }
+
+    /// The replies that are due, in their order.
+    pub fn replies_due(&self) -> ArrayVec<Due, 2>
+        ensures { result.items ≡ replies_due self.now }
+    {
+        let mut due = ArrayVec::new();
+        match &self.form {
+            Form::ToTerminal { address, .. }
+            | Form::Mode { address, .. }
+            | Form::ModeTo { address, .. } => due.push(Due {
+                address: *address,
+                words: 0,
+            }),
+            Form::FromTerminal { address, count, .. } => due.push(Due {
+                address: *address,
+                words: *count,
+            }),
+            Form::Between {
+                sender,
+                receiver,
+                count,
+                ..
+            } => {
+                due.push(Due {
+                    address: *sender,
+                    words: *count,
+                });
+                due.push(Due {
+                    address: *receiver,
+                    words: 0,
+                });
+            }
+            Form::ModeFrom { address, .. } => due.push(Due {
+                address: *address,
+                words: 1,
+            }),
+            Form::BetweenAll { sender, count, .. } => due.push(Due {
+                address: *sender,
+                words: *count,
+            }),
+            Form::ToAll { .. } | Form::ModeAll { .. } | Form::ModeAllTo { .. } => {}
+        }
+        due
+    }
+}
