@@ -1,0 +1,102 @@
+ghost use Rattle.std.specs.Prelude.{◌≡◌, ◌+◌, ◌-◌, ◌<◌, ◌≤◌, ◌^◌, ◌++◌, ◌↔◌, ◌||◌, ◌==◌, [], true, false, not, length, take, min, is_ok, if◌then◌else◌, IfOk, OnErr, IsOk, Some};
+
+use crate::sink::{Sink, SinkFault};
+use std::alloc::Global;
+use std::marker::Model;
+
+/// A sink in memory that takes so many bytes. It fails at the first `take` that it is asked for once it has them, and
+/// from then on for good, `finish` included. Refused memory is a fault of that call alone.
+#[derive(Drop)]
+pub struct FuseSink {
+    bytes: Vec<u8>,
+    left: usize,
+    blown: bool,
+    failures: u64,
+    finished: bool,
+}
+
+impl Model for FuseSink {
+    ghost use Rattle.ch11_writer.specs.Sinks.{Fused};
+
+    ghost Value = { Fused };
+
+    ghost view = { λ s. record { bytes = s.bytes.items; left = s.left; blown = s.blown; failures = s.failures; finished = s.finished } };
+}
+
+impl FuseSink {
+    /// A sink that takes `k` bytes. It takes no memory yet.
+    pub fn make(alloc: Global, k: usize) -> FuseSink
+        ensures { result ≡ record { bytes = []; left = k; blown = false; failures = 0; finished = false } }
+    {
+        FuseSink {
+            bytes: Vec::new(alloc),
+            left: k,
+            blown: false,
+            failures: 0,
+            finished: false,
+        }
+    }
+
+    /// What it took.
+    pub fn bytes(&self) -> &[u8]
+        ensures { result.now ≡ self.now.bytes }
+    {
+        &self.bytes
+    }
+}
+
+impl Sink for FuseSink {
+    ghost taken = { λ s. Some s.bytes };
+
+    ghost failures = { λ s. s.failures };
+
+    ghost finished = { λ s. s.finished };
+
+    /// Takes as many of the bytes as are left to it. Where none is left, the fuse blows.
+    fn take(&mut self, bytes: &[u8]) -> Result<usize, SinkFault>
+        requires some { 0 < length bytes.now }
+        requires countable { self.old.failures < 2 ^ 64 - 1 }
+        ensures count { IfOk result (λ n. n ≡ min (length bytes.now) self.old.left) }
+        ensures some { IfOk result (λ n. 0 < n) }
+        ensures taken { self.new.bytes ≡ (if is_ok result then self.old.bytes ++ take self.old.left bytes.now else self.old.bytes) }
+        ensures left { self.new.left ≡ (if is_ok result then self.old.left - length bytes.now else self.old.left) }
+        ensures blows { self.new.blown ≡ (self.old.blown || self.old.left == 0) }
+        ensures failures { self.new.failures ≡ (if is_ok result then self.old.failures else self.old.failures + 1) }
+        ensures finished { self.new.finished ≡ self.old.finished }
+    {
+        if self.left == 0 {
+            self.blown = true;
+            self.failures += 1;
+            return Err(SinkFault);
+        }
+        let size = bytes.len().min(self.left);
+        match self.bytes.extend_from_slice(&bytes[..size]) {
+            Ok(()) => {
+                self.left -= size;
+                Ok(size)
+            }
+            Err(_) => {
+                self.failures += 1;
+                Err(SinkFault)
+            }
+        }
+    }
+
+    /// Fails where the fuse has blown, and only there.
+    fn finish(&mut self) -> Result<(), SinkFault>
+        requires countable { self.old.failures < 2 ^ 64 - 1 }
+        ensures blown { IsOk result ↔ (self.old.blown ≡ false) }
+        ensures after { self.new ≡ (if is_ok result then record self.old { finished = true } else record self.old { failures = self.old.failures + 1 }) }
+    {
+        if self.blown {
+            self.failures += 1;
+            return Err(SinkFault);
+        }
+        self.finished = true;
+        Ok(())
+    }
+
+    fn failures(&self) -> u64 {
+        self.failures
+    }
+}

@@ -1,0 +1,164 @@
+ghost use Rattle.std.specs.Prelude.{◌≡◌, ℕ, List, [], ◌++◌, ◌+◌, ◌-◌, ◌≤◌, ◌<◌, ◌^◌, ◌↔◌, ◌||◌, Bool, true, false, length, take, is_ok, if◌then◌else◌, IfOk, IfErr, IsOk, OnOk, OnErr};
+ghost use Rattle.std.specs.declared.option.Option.{Option};
+ghost use Rattle.std.specs.Io.KnownBytes.{Keeps, Appends};
+ghost use Rattle.ch11_writer.specs.Writing.{IsWritten};
+ghost use Rattle.ch11_writer.specs.Sent.{Shown, IsSent};
+
+use crate::sink::Sink;
+use std::fmt;
+use std::fmt::Display;
+use std::marker::Model;
+
+/// V1: the sink failed in this call or an earlier one. `taken` counts the bytes that it took from the writer.
+#[derive(Clone, Copy, Debug, PartialEq, Eq)]
+pub struct WriteFault {
+    pub taken: u64,
+}
+
+impl Display for WriteFault {
+    fn fmt<W: fmt::Write>(&self, f: &mut fmt::Formatter<W>) -> fmt::Result {
+        write!(f, "V1 taken {}", self.taken)
+    }
+}
+
+/// How far a run of bytes came: so many were taken, and whether those are all.
+#[derive(Clone, Copy)]
+struct Sent {
+    count: usize,
+    whole: bool,
+}
+
+/// Gives the sink the bytes until it has taken all or failed.
+fn send<S: Sink>(sink: &mut S, bytes: &[u8]) -> Sent
+    requires { S.failures sink.old < 2 ^ 64 - 1 }
+    ensures { let shown : S → Shown = λ s. record { taken = S.taken s; failures = S.failures s; finished = S.finished s } in IsSent result bytes.now (shown sink.old) (shown sink.new) }
+{
+    let mut count = 0;
+    while count < bytes.len() {
+        match sink.take(&bytes[count..]) {
+            Ok(n) => count += n,
+            Err(_) => {
+                return Sent {
+                    count,
+                    whole: false,
+                };
+            }
+        }
+    }
+    Sent { count, whole: true }
+}
+
+/// Writes a recording to a sink until the sink fails, and calls it no more from then on.
+#[derive(Drop)]
+pub struct Writer<S: Sink> {
+    sink: S,
+    taken: u64,
+    failed: bool,
+    finished: bool,
+}
+
+impl<S: Sink> Model for Writer<S> {
+    ghost use Rattle.std.specs.Prelude.{◌≡◌, ◌-◌, ◌<◌, ◌^◌, false};
+    ghost use Rattle.ch11_writer.specs.Writing.{Writing};
+
+    ghost Value = { Writing S };
+
+    ghost view = { λ w. record { sink = w.sink; taken = w.taken; failed = w.failed; finished = w.finished } };
+
+    ghost invariant = { λ w. w.failed ≡ false → S.failures w.sink < 2 ^ 64 - 1 };
+}
+
+impl<S: Sink> Writer<S> {
+    /// A writer that has written nothing.
+    pub fn make(sink: S) -> Writer<S>
+        requires countable { S.failures sink < 2 ^ 64 - 1 }
+        ensures made { result ≡ record { sink = sink; taken = 0; failed = false; finished = false } }
+        ensures written { IsWritten [] (S.taken sink) (S.taken result.sink) result.taken result.failed }
+    {
+        Writer {
+            sink,
+            taken: 0,
+            failed: false,
+            finished: false,
+        }
+    }
+
+    /// Writes the packets that stand first in the recording, as they are. It answers and fails as `put` does.
+    pub fn prologue(&mut self, bytes: &[u8]) -> Result<(), WriteFault>
+        requires unfinished { self.old.finished ≡ false }
+        requires few { self.old.taken + length bytes.now < 2 ^ 64 }
+        ensures ok { IsOk result ↔ (self.new.failed ≡ false) }
+        ensures fault { IfErr result (λ e. e.taken ≡ self.new.taken) }
+        ensures silent { self.old.failed ≡ true → self.new ≡ self.old }
+        ensures failures { S.failures self.new.sink ≡ (if self.old.failed || is_ok result then S.failures self.old.sink else S.failures self.old.sink + 1) }
+        ensures whole { OnOk result (self.new.taken ≡ self.old.taken + length bytes.now) }
+        ensures part { OnErr result (self.old.failed ≡ false → (self.old.taken ≤ self.new.taken) × (self.new.taken < self.old.taken + length bytes.now)) }
+        ensures taken { Appends (S.taken self.old.sink) (S.taken self.new.sink) (take (self.new.taken - self.old.taken) bytes.now) }
+        ensures written { (before : Option (List ℕ)) (put : List ℕ) → IsWritten put before (S.taken self.old.sink) self.old.taken self.old.failed → IsWritten (put ++ bytes.now) before (S.taken self.new.sink) self.new.taken self.new.failed }
+        ensures unfinished { (self.new.finished ≡ false) × (S.finished self.new.sink ≡ S.finished self.old.sink) }
+    {
+        self.put(bytes)
+    }
+
+    /// Writes the bytes. V1 where the sink fails now or has failed before; from its first fault on the sink is called no
+    /// more.
+    pub fn put(&mut self, bytes: &[u8]) -> Result<(), WriteFault>
+        requires unfinished { self.old.finished ≡ false }
+        requires few { self.old.taken + length bytes.now < 2 ^ 64 }
+        ensures ok { IsOk result ↔ (self.new.failed ≡ false) }
+        ensures fault { IfErr result (λ e. e.taken ≡ self.new.taken) }
+        ensures silent { self.old.failed ≡ true → self.new ≡ self.old }
+        ensures failures { S.failures self.new.sink ≡ (if self.old.failed || is_ok result then S.failures self.old.sink else S.failures self.old.sink + 1) }
+        ensures whole { OnOk result (self.new.taken ≡ self.old.taken + length bytes.now) }
+        ensures part { OnErr result (self.old.failed ≡ false → (self.old.taken ≤ self.new.taken) × (self.new.taken < self.old.taken + length bytes.now)) }
+        ensures taken { Appends (S.taken self.old.sink) (S.taken self.new.sink) (take (self.new.taken - self.old.taken) bytes.now) }
+        ensures written { (before : Option (List ℕ)) (put : List ℕ) → IsWritten put before (S.taken self.old.sink) self.old.taken self.old.failed → IsWritten (put ++ bytes.now) before (S.taken self.new.sink) self.new.taken self.new.failed }
+        ensures unfinished { (self.new.finished ≡ false) × (S.finished self.new.sink ≡ S.finished self.old.sink) }
+    {
+        if self.failed {
+            return Err(WriteFault { taken: self.taken });
+        }
+        let sent = send(&mut self.sink, bytes);
+        self.taken += sent.count as u64;
+        self.failed = !sent.whole;
+        if sent.whole {
+            Ok(())
+        } else {
+            Err(WriteFault { taken: self.taken })
+        }
+    }
+
+    /// Tells the sink that the recording is whole. V1 as in `put`. After a success only `into_sink` follows.
+    pub fn finish(&mut self) -> Result<(), WriteFault>
+        requires unfinished { self.old.finished ≡ false }
+        ensures ok { IsOk result ↔ (self.new.failed ≡ false) }
+        ensures fault { IfErr result (λ e. e.taken ≡ self.new.taken) }
+        ensures silent { self.old.failed ≡ true → self.new ≡ self.old }
+        ensures failures { S.failures self.new.sink ≡ (if self.old.failed || is_ok result then S.failures self.old.sink else S.failures self.old.sink + 1) }
+        ensures count { self.new.taken ≡ self.old.taken }
+        ensures taken { Keeps (S.taken self.old.sink) (S.taken self.new.sink) }
+        ensures written { (before : Option (List ℕ)) (put : List ℕ) → IsWritten put before (S.taken self.old.sink) self.old.taken self.old.failed → IsWritten put before (S.taken self.new.sink) self.new.taken self.new.failed }
+        ensures told { OnOk result (S.finished self.new.sink ≡ true) }
+        ensures finished { self.new.finished ≡ is_ok result }
+    {
+        if !self.failed && self.sink.finish().is_ok() {
+            self.finished = true;
+            return Ok(());
+        }
+        self.failed = true;
+        Err(WriteFault { taken: self.taken })
+    }
+
+    /// The sink as it stands.
+    pub fn into_sink(self) -> S
+        ensures { result ≡ self.sink }
+    {
+        let Writer {
+            sink,
+            taken: _,
+            failed: _,
+            finished: _,
+        } = self;
+        sink
+    }
+}
