@@ -1,8 +1,9 @@
 //! The wave of a word, and the word of a wave.
-ghost use Rattle.std.specs.Prelude.{◌≡◌, ◌+◌, ◌*◌, ◌/◌, ◌%◌, ◌<◌, ◌≤◌, ◌^◌, ◌↔◌, Some};
+ghost use Rattle.std.specs.Prelude.{◌≡◌, ◌+◌, ◌*◌, ◌/◌, ◌%◌, ◌<◌, ◌≤◌, ◌^◌, ◌↔◌, ◌==◌, if◌then◌else◌, Some};
 ghost use Rattle.std.specs.List.{flat_map};
+ghost use Rattle.mil_word.specs.declared.Sync.TheVariants.{CommandSync, DataSync};
 ghost use Rattle.mil_word.specs.declared.Word.{Word};
-ghost use Rattle.mil_word.specs.Wave.{digits, number, pair, first_halves, wave_of, raw_of, sync_read, word_of};
+ghost use Rattle.mil_word.specs.Wave.{digits, number, pair, first_halves, wave_of, raw_of, word_of};
 
 use crate::tables::{FIRSTS, PAIRS};
 use crate::{Sync, Wave, Word};
@@ -28,7 +29,7 @@ fn joined(sync: u64, high: u64, low: u64, last: u64) -> u64
     sync << 34 | (high << 18 | (low << 2 | last))
 }
 
-/// The wave of a word.
+/// The wave of a word (MIL-STD-1553B 4.3.3.2, 4.3.3.5).
 pub fn encode(word: Word) -> Wave
     ensures { result ≡ wave_of word }
 {
@@ -63,7 +64,7 @@ fn nibbles(a: u16, b: u16, c: u16, d: u16) -> u16
     a << 12 | (b << 8 | (c << 4 | d))
 }
 
-/// The first half of each of the 16 information pairs.
+/// The first half of each of the 16 information pairs, sound or not.
 pub fn raw_bits(wave: Wave) -> u16
     ensures { result ≡ raw_of wave }
 {
@@ -78,7 +79,7 @@ pub fn raw_bits(wave: Wave) -> u16
 
 /// The sync of a sound wave.
 fn sync_of(wave: Wave) -> Sync
-    ensures { result ≡ sync_read wave }
+    ensures { result ≡ (if wave / 2 ^ 34 == 56 then CommandSync else DataSync) }
 {
     if wave.half_bits() >> 34 == 0b111000 {
         Sync::CommandSync
@@ -87,7 +88,14 @@ fn sync_of(wave: Wave) -> Sync
     }
 }
 
-/// The word whose wave this is.
+/// Whether a wave is that of a word.
+fn is_wave_of(wave: Wave, word: Word) -> bool
+    ensures { result ≡ (wave_of word == wave) }
+{
+    encode(word) == wave
+}
+
+/// The word whose wave this is; None where the sync, a pair or the parity is wrong (MIL-STD-1553B 4.4.1.1).
 pub fn decode(wave: Wave) -> Option<Word>
     ensures read { result ≡ word_of wave }
     ensures sound { (word : Word) → word.value < 2 ^ 16 → ((result ≡ Some word) ↔ (wave ≡ wave_of word)) }
@@ -96,7 +104,7 @@ pub fn decode(wave: Wave) -> Option<Word>
         sync: sync_of(wave),
         value: raw_bits(wave),
     };
-    if encode(word) == wave {
+    if is_wave_of(wave, word) {
         Some(word)
     } else {
         None

@@ -4,6 +4,7 @@
 
 pub mod code;
 pub mod commands;
+pub mod plain;
 pub mod statuses;
 mod tables;
 pub mod waves;
@@ -34,3 +35,6 @@ pub struct Word {
     pub sync: Sync,
     pub value: u16,
 }
+
+#[cfg(test)]
+mod tests;
