@@ -1,0 +1,27 @@
+-- What a recording holds, read off its packets.
+use Rattle.std.specs.Prelude.{ℕ, zero, suc, ◌+◌, ◌==◌, if◌then◌else◌, List, [], ◌∷◌, length, map, slice_get, Option, None}
+use Rattle.std.specs.List.{flat_map}
+use Rattle.ch11_f1.specs.BodyReading.{Message}
+use Rattle.ch11_reader.specs.Recording.{Found}
+
+-- the messages of a channel, in the file's order
+abbrev pub reading : List Found → ℕ → List Message
+reading ps channel = flat_map (λ (p : Found). if p.header.channel == channel then p.messages else []) ps
+
+-- the messages of a packet, each with the packet's channel
+abbrev pub heard_of : Found → List (ℕ × Message)
+heard_of p = map (λ (m : Message). (p.header.channel, m)) p.messages
+
+-- all messages, in the file's order
+abbrev pub heard_in : List Found → List (ℕ × Message)
+heard_in ps = flat_map heard_of ps
+
+-- message n of the file, counted from 1
+abbrev pub message_numbered : List Found → ℕ → Option (ℕ × Message)
+message_numbered ps zero = None
+message_numbered ps (suc n) = slice_get (heard_in ps) n
+
+-- how many messages the packets hold
+abbrev pub total_in : List Found → ℕ
+total_in [] = 0
+total_in (p ∷ ps) = length p.messages + total_in ps

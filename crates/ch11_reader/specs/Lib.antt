@@ -1,0 +1,4 @@
+pub mod Recording
+pub mod Contents
+pub mod Listing
+pub mod Indexed

@@ -1,0 +1,86 @@
+-- What a recording is read as: its packets, or its first fault and the packet's offset (IRIG 106-17
+-- Chapter 11). Secondary headers, data of other types and reserved bits are let pass.
+use Rattle.std.specs.Prelude.{◌≡◌, ℕ, zero, suc, ◌+◌, ◌==◌, Bool, nat_lt, if◌then◌else◌, List, [], ◌∷◌, length, take, drop, Result, Ok, Err}
+use Rattle.ch11_header.specs.declared.header.Header.{Header}
+use Rattle.ch11_header.specs.declared.fault.HeaderError.{HeaderError}
+use Rattle.ch11_header.specs.HeaderReading.{header_in, body_start}
+use Rattle.ch11_f1.specs.declared.fault.BodyError.{BodyError}
+use Rattle.ch11_f1.specs.BodyReading.{Message, messages_in, ok_or_none}
+use Rattle.ch11_reader.specs.declared.fault.Fault.{Fault}
+use Rattle.ch11_reader.specs.declared.fault.Fault.TheVariants as faults
+use Rattle.ch11_reader.specs.declared.fault.Refusal.{Refusal}
+use Rattle.ch11_reader.specs.declared.fault.ReadError.{ReadError}
+use Rattle.ch11_reader.specs.declared.fault.ReadError.TheVariants as errors
+
+-- a packet as it stands in a recording: where it begins, what its header says, and its messages
+pub record Found : Type 0 where
+  pub offset : ℕ
+  pub header : Header
+  pub messages : List Message
+
+-- the packet holds MIL-STD-1553 messages, Format 1
+abbrev pub holds_messages : Header → Bool
+holds_messages h = h.kind == 0x19
+
+-- the body of the packet that begins these bytes, without its filler
+abbrev pub body_of : Header → List ℕ → List ℕ
+body_of h bytes = take h.data_length (drop (body_start h) bytes)
+
+-- the messages of the packet that begins these bytes; a packet of another type has none
+abbrev pub messages_of : Header → List ℕ → List Message
+messages_of h bytes = if holds_messages h then ok_or_none (messages_in (body_of h bytes)) else []
+
+abbrev pub with_body : Header → Result (List Message) BodyError → Result Header Fault
+with_body h (Ok ms) = Ok h
+with_body h (Err e) = Err (faults.Body e)
+
+-- behind a lawful header: the packet ends in the file, and its body can be read if it holds messages
+abbrev pub with_rest : Header → List ℕ → Result Header Fault
+with_rest h bytes =
+    if nat_lt (length bytes) h.packet_length then Err faults.End
+    else if holds_messages h then with_body h (messages_in (body_of h bytes))
+    else Ok h
+
+abbrev pub with_header : Result Header HeaderError → List ℕ → Result Header Fault
+with_header (Ok h) bytes = with_rest h bytes
+with_header (Err e) bytes = Err (faults.Header e)
+
+-- the packet that begins these bytes, or its first fault
+unfoldable pub packet_at : List ℕ → Result Header Fault
+packet_at bytes = with_header (header_in bytes) bytes
+
+infixl 10 ◌>>=◌
+abbrev pub ◌>>=◌ : {A B : Type 0} → Result A Refusal → (A → Result B Refusal) → Result B Refusal
+(Ok x) >>= f = f x
+(Err e) >>= f = Err e
+
+-- the answer, a fault with the packet's offset
+abbrev pub located : ℕ → Result Header Fault → Result Header Refusal
+located offset (Ok h) = Ok h
+located offset (Err f) = Err (record { offset = offset; fault = f })
+
+-- the packets of the bytes that stand at an offset, one after the other; the first number only bounds
+-- how many there can be
+unfoldable pub packets_from : ℕ → ℕ → List ℕ → Result (List Found) Refusal
+packets_from zero offset bytes = Ok []
+packets_from (suc most) offset [] = Ok []
+packets_from (suc most) offset (b ∷ bs) = do
+  h ← located offset (packet_at (b ∷ bs))
+  others ← packets_from most (offset + h.packet_length) (drop h.packet_length (b ∷ bs))
+  Ok (record { offset = offset; header = h; messages = messages_of h (b ∷ bs) } ∷ others)
+
+-- the packets of a recording, which has no more of them than bytes, or its first fault
+abbrev pub packets_in : List ℕ → Result (List Found) Refusal
+packets_in file = packets_from (length file) 0 file
+
+-- the packets, none where there is a fault
+abbrev pub found_or_none : Result (List Found) Refusal → List Found
+found_or_none (Ok ps) = ps
+found_or_none (Err e) = []
+
+-- What a function returned is what reading gives: the packets, or the first fault and its offset. Want of
+-- memory is answered only where there is no fault.
+abbrev pub Gives : Result (List Found) ReadError → Result (List Found) Refusal → Type 0
+Gives (Ok ps) read = read ≡ Ok ps
+Gives (Err (errors.Refused e)) read = read ≡ Err e
+Gives (Err errors.Memory) read = read ≡ Ok (found_or_none read)

@@ -1,0 +1,11 @@
+//! Recordings as they are read (IRIG 106-17 Chapter 11): which bytes are one, and what it holds.
+#![tactic(auto)]
+
+mod build;
+mod fault;
+mod index;
+mod packet;
+
+pub use fault::{Fault, ReadError, Refusal};
+pub use index::Index;
+pub use packet::{MESSAGES_KIND, Packet};

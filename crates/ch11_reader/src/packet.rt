@@ -1,0 +1,85 @@
+//! One packet of a recording.
+ghost use Rattle.std.specs.Prelude.{◌≡◌, ◌+◌, ◌*◌, ◌≤◌, length, drop, IfOk, MatchOption, MatchResult, Ok, Err, []};
+ghost use Rattle.ch11_header.specs.HeaderReading.{body_start};
+ghost use Rattle.ch11_reader.specs.Recording.{messages_of, packet_at};
+
+use crate::fault::Fault;
+use ch11_f1::Messages;
+use ch11_f1::body::messages;
+use ch11_header::{Header, read_header};
+
+/// The data type of MIL-STD-1553 messages, Format 1.
+pub const MESSAGES_KIND: u8 = 0x19;
+
+/// What an index tells of a packet.
+#[derive(Clone, Copy, Debug, PartialEq, Eq)]
+pub struct Packet {
+    /// Where it begins, in bytes from the start of the file.
+    pub offset: usize,
+
+    /// Its header: channel, data type, flags and, as the counter, the first stamp.
+    pub header: Header,
+
+    /// How many messages stand before it in the file, of any channel.
+    pub before: u64,
+
+    /// How many messages it holds; none where it is of another data type than 19 (hexadecimal).
+    pub count: u32,
+
+    /// Whether its sequence number isn't one more, modulo 256, than that of the channel's packet before
+    /// it in the file. False for a channel's first packet.
+    pub sequence_jump: bool,
+}
+
+/// A packet that was checked.
+#[derive(Clone, Copy)]
+pub(crate) struct Checked {
+    pub(crate) header: Header,
+    pub(crate) count: u32,
+}
+
+/// The packet that begins the bytes, or its first fault.
+#[tactic(auto, unfolding(crate::specs::Recording::packet_at))]
+pub(crate) fn check_packet(bytes: &[u8]) -> Result<Checked, Fault>
+    ensures read { MatchResult result (λ c. packet_at bytes.now ≡ Ok c.header) (λ f. packet_at bytes.now ≡ Err f) }
+    ensures count { IfOk result (λ c. c.count ≡ length (messages_of c.header bytes.now)) }
+    ensures few { IfOk result (λ c. c.count ≤ c.header.packet_length) }
+    ensures whole { IfOk result (λ c. (24 ≤ c.header.packet_length) × (c.header.packet_length ≤ length bytes.now) × (body_start c.header + c.header.data_length ≤ c.header.packet_length)) }
+{
+    let header = match read_header(bytes) {
+        Ok(header) => header,
+        Err(fault) => return Err(Fault::Header(fault)),
+    };
+    if bytes.len() < header.packet_length as usize {
+        return Err(Fault::End);
+    }
+    if header.kind != MESSAGES_KIND {
+        return Ok(Checked { header, count: 0 });
+    }
+    let (_, behind_head) = bytes.split_at(header.body_start());
+    let (body, _) = behind_head.split_at(header.data_length as usize);
+    match messages(body) {
+        Ok(found) => {
+            let count = found.left();
+            Ok(Checked { header, count })
+        }
+        Err(fault) => Err(Fault::Body(fault)),
+    }
+}
+
+/// The messages of a packet of the file, None where it holds none that can be read.
+pub(crate) fn messages_in_packet<'a>(file: &'a [u8], packet: &Packet) -> Option<Messages<'a>>
+    requires { packet.now.offset + (body_start packet.now.header + packet.now.header.data_length) ≤ length file.now }
+    ensures { MatchOption result (messages_of packet.now.header (drop packet.now.offset file.now) ≡ []) (λ found. found ≡ messages_of packet.now.header (drop packet.now.offset file.now)) }
+{
+    if packet.header.kind != MESSAGES_KIND {
+        return None;
+    }
+    let (_, behind) = file.split_at(packet.offset);
+    let (_, behind_head) = behind.split_at(packet.header.body_start());
+    let (body, _) = behind_head.split_at(packet.header.data_length as usize);
+    match messages(body) {
+        Ok(found) => Some(found),
+        Err(_) => None,
+    }
+}
