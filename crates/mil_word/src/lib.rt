@@ -36,5 +36,20 @@ pub struct Word {
     pub value: u16,
 }
 
+/// A data word of zeros.
+impl Default for Word {
+    ghost use Rattle.std.specs.Prelude.{◌≡◌};
+    ghost use Rattle.mil_word.specs.declared.Sync.TheVariants.{DataSync};
+
+    ghost is_default = { λ w. w ≡ record { sync = DataSync; value = 0 } };
+
+    fn default() -> Word {
+        Word {
+            sync: Sync::DataSync,
+            value: 0,
+        }
+    }
+}
+
 #[cfg(test)]
 mod tests;
