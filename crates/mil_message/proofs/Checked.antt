@@ -13,15 +13,33 @@ judged_ok : (fault : Option BadMessage) (form found : Form) → judged fault for
 judged_ok None form found is = (refl, cc)
 judged_ok (Some fault) form found is = cc
 
--- where no fault is found among two or three rules, the last is met
-second_met : (a b : Bool) (x y : BadMessage) → first_fault ((a, x) ∷ (b, y) ∷ []) ≡ None → b ≡ true
-second_met a true x y met = refl
-second_met true false x y met = cc
-second_met false false x y met = cc
+-- where no fault is found, each rule is met
+only_met : (a : Bool) (x : BadMessage) → first_fault ((a, x) ∷ []) ≡ None → a ≡ true
+only_met true x met = refl
+only_met false x met = cc
 
-third_met : (a b c : Bool) (x y z : BadMessage) → first_fault ((a, x) ∷ (b, y) ∷ (c, z) ∷ []) ≡ None → c ≡ true
+pub head_met : (a b : Bool) (x y : BadMessage) → first_fault ((a, x) ∷ (b, y) ∷ []) ≡ None → a ≡ true
+head_met true b x y met = refl
+head_met false b x y met = cc
+
+pub second_met : (a b : Bool) (x y : BadMessage) → first_fault ((a, x) ∷ (b, y) ∷ []) ≡ None → b ≡ true
+second_met true b x y met = only_met b y met
+second_met false b x y met = cc
+
+pub middle_met : (a b c : Bool) (x y z : BadMessage) → first_fault ((a, x) ∷ (b, y) ∷ (c, z) ∷ []) ≡ None → b ≡ true
+middle_met true b c x y z met = head_met b c y z met
+middle_met false b c x y z met = cc
+
+pub third_met : (a b c : Bool) (x y z : BadMessage) → first_fault ((a, x) ∷ (b, y) ∷ (c, z) ∷ []) ≡ None → c ≡ true
 third_met true b c x y z met = second_met b c y z met
 third_met false b c x y z met = cc
+
+-- the second and the third of four
+pub four_met : (a b c d : Bool) (x y z w : BadMessage) → first_fault ((a, x) ∷ (b, y) ∷ (c, z) ∷ (d, w) ∷ []) ≡ None → (b ≡ true) × (c ≡ true)
+four_met true true true d x y z w met = (refl, refl)
+four_met true true false d x y z w met = cc
+four_met true false c d x y z w met = cc
+four_met false b c d x y z w met = cc
 
 no_word_is : (words : Option (List ℕ)) → is_no_word words ≡ true → None ≡ words
 no_word_is None is = refl

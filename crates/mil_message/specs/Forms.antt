@@ -1,5 +1,5 @@
 -- The ten message forms: what the controller sends, and which replies are due (MIL-STD-1553B 4.3.3.6, with Notice 2).
-use Rattle.std.specs.Prelude.{ℕ, ◌+◌, ◌*◌, ◌%◌, ◌^◌, Bool, true, false, List, [], ◌∷◌, ◌++◌, length, map, Option, Some, None, unwrap_or, if◌then◌else◌}
+use Rattle.std.specs.Prelude.{ℕ, ◌+◌, ◌*◌, ◌%◌, ◌^◌, Bool, true, false, List, [], ◌∷◌, ◌++◌, length, map, Option, Some, None, if◌then◌else◌}
 use Rattle.std.specs.Option.{option_to_list}
 use Rattle.mil_word.specs.Words.{command_wave, data_wave}
 use Rattle.mil_word.specs.declared.Sync.TheVariants.{CommandSync, DataSync}
@@ -72,10 +72,10 @@ data_words (ToAll subaddress words) = words.items
 data_words (ModeAllTo subaddress code word) = word ∷ []
 data_words _ = []
 
-abbrev command_of : ℕ → Word
+abbrev pub command_of : ℕ → Word
 command_of value = record { sync = CommandSync; value = value }
 
-abbrev data_of : ℕ → Word
+abbrev pub data_of : ℕ → Word
 data_of value = record { sync = DataSync; value = value }
 
 -- the controller's words: its commands, then its data words
@@ -114,19 +114,3 @@ form_number (ToAll subaddress words) = 6
 form_number (BetweenAll sender sender_subaddress receiver_subaddress count) = 7
 form_number (ModeAll subaddress code) = 8
 form_number (ModeAllTo subaddress code word) = 9
-
--- what an image of a program holds of a message
-pub record Parts : Type 0 where
-  pub number : ℕ
-  pub first : ℕ
-  -- 0 where there is no second command
-  pub second : ℕ
-  pub words : List ℕ
-
-abbrev pub parts_of : Form → Parts
-parts_of form = record {
-  number = form_number form;
-  first = first_command form;
-  second = unwrap_or (second_command form) 0;
-  words = data_words form;
-}

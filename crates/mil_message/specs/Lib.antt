@@ -2,3 +2,4 @@ pub mod Request
 pub mod Rules
 pub mod Forms
 pub mod World
+pub mod Parts

@@ -1,4 +1,6 @@
 //! The ten forms of a message (MIL-STD-1553B 4.3.3.6).
+ghost use Rattle.std.specs.Prelude.{◌≡◌};
+
 use crate::ModeSubaddress;
 use arrayvec::ArrayVec;
 use mil_word::Command;
@@ -69,6 +71,114 @@ pub enum Form {
         code: u8,
         word: u16,
     },
+}
+
+impl Form {
+    /// The same form once more, which takes no memory.
+    pub fn copy(&self) -> Form
+        ensures { result ≡ self.now }
+    {
+        match self {
+            Form::ToTerminal {
+                address,
+                subaddress,
+                words,
+            } => Form::ToTerminal {
+                address: *address,
+                subaddress: *subaddress,
+                words: copied(words),
+            },
+            Form::FromTerminal {
+                address,
+                subaddress,
+                count,
+            } => Form::FromTerminal {
+                address: *address,
+                subaddress: *subaddress,
+                count: *count,
+            },
+            Form::Between {
+                sender,
+                sender_subaddress,
+                receiver,
+                receiver_subaddress,
+                count,
+            } => Form::Between {
+                sender: *sender,
+                sender_subaddress: *sender_subaddress,
+                receiver: *receiver,
+                receiver_subaddress: *receiver_subaddress,
+                count: *count,
+            },
+            Form::Mode {
+                address,
+                subaddress,
+                code,
+            } => Form::Mode {
+                address: *address,
+                subaddress: *subaddress,
+                code: *code,
+            },
+            Form::ModeFrom {
+                address,
+                subaddress,
+                code,
+            } => Form::ModeFrom {
+                address: *address,
+                subaddress: *subaddress,
+                code: *code,
+            },
+            Form::ModeTo {
+                address,
+                subaddress,
+                code,
+                word,
+            } => Form::ModeTo {
+                address: *address,
+                subaddress: *subaddress,
+                code: *code,
+                word: *word,
+            },
+            Form::ToAll { subaddress, words } => Form::ToAll {
+                subaddress: *subaddress,
+                words: copied(words),
+            },
+            Form::BetweenAll {
+                sender,
+                sender_subaddress,
+                receiver_subaddress,
+                count,
+            } => Form::BetweenAll {
+                sender: *sender,
+                sender_subaddress: *sender_subaddress,
+                receiver_subaddress: *receiver_subaddress,
+                count: *count,
+            },
+            Form::ModeAll { subaddress, code } => Form::ModeAll {
+                subaddress: *subaddress,
+                code: *code,
+            },
+            Form::ModeAllTo {
+                subaddress,
+                code,
+                word,
+            } => Form::ModeAllTo {
+                subaddress: *subaddress,
+                code: *code,
+                word: *word,
+            },
+        }
+    }
+}
+
+/// The same words once more.
+fn copied(words: &ArrayVec<u16, 32>) -> ArrayVec<u16, 32>
+    ensures { result ≡ words.now }
+{
+    match ArrayVec::try_from(words.as_slice()) {
+        Ok(copied) => copied,
+        Err(_) => unreachable!(),
+    }
 }
 
 /// A reply that is due.

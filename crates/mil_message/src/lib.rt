@@ -8,6 +8,7 @@ pub mod faults;
 pub mod forms;
 mod judge;
 pub mod messages;
+mod parts;
 mod ranges;
 
 pub use drafts::{Draft, ModeSubaddress};

@@ -4,12 +4,13 @@ ghost use Rattle.std.specs.Option.{option_to_list};
 ghost use Rattle.mil_message.specs.declared.forms.Form.{Form as FormValue};
 ghost use Rattle.mil_message.specs.Request.{request_of};
 ghost use Rattle.mil_message.specs.Rules.{checked, request_for, IsLawful};
-ghost use Rattle.mil_message.specs.Forms.{commands, first_command, second_command, data_words, controller_words, controller_waves, replies_due, form_number};
+ghost use Rattle.mil_message.specs.Forms.{commands, first_command, second_command, data_words, controller_words, controller_waves, command_of, replies_due, form_number};
 
 use crate::command::{ALL_TERMINALS, mode_command, receive_command, transmit_command};
 use crate::{BadMessage, Commands, Draft, Due, Form, judge};
 use arrayvec::ArrayVec;
 use mil_word::{Command, Sync, Wave, Word, encode};
+use std::alloc::AllocError;
 use std::marker::Model;
 use std::slice;
 
@@ -303,5 +304,88 @@ impl Message {
             Form::ToAll { .. } | Form::ModeAll { .. } | Form::ModeAllTo { .. } => {}
         }
         due
+    }
+
+    /// How many words the controller sends: 1 to 33.
+    pub fn controller_count(&self) -> usize
+        ensures count { result ≡ length (controller_words self.now) }
+        ensures at_most_33 { result ≤ 33 }
+    {
+        let commands = if self.commands().second.is_some() {
+            2
+        } else {
+            1
+        };
+        commands + self.data_words().len()
+    }
+
+    /// The words that the controller sends: its commands, then its data words.
+    pub fn controller_words(&self) -> ArrayVec<Word, 34>
+        ensures { result.items ≡ controller_words self.now }
+    {
+        let commands = self.commands();
+        let mut words = ArrayVec::new();
+        words.push(command(commands.first));
+        if let Some(second) = commands.second {
+            words.push(command(second));
+        }
+        for &value in self.data_words() {
+            words.push(Word {
+                sync: Sync::DataSync,
+                value,
+            });
+        }
+        words
+    }
+
+    /// The same as waves.
+    pub fn controller_waves(&self) -> ArrayVec<Wave, 34>
+        ensures { result.items ≡ controller_waves self.now }
+    {
+        let commands = self.commands();
+        let mut waves = ArrayVec::new();
+        waves.push(encode(command(commands.first)));
+        if let Some(second) = commands.second {
+            waves.push(encode(command(second)));
+        }
+        for &value in self.data_words() {
+            waves.push(encode(Word {
+                sync: Sync::DataSync,
+                value,
+            }));
+        }
+        waves
+    }
+
+    /// The same message once more, which takes no memory.
+    pub fn copy(&self) -> Message
+        ensures { result ≡ self.now }
+    {
+        Message {
+            form: self.form.copy(),
+        }
+    }
+}
+
+/// A command as a word of the bus.
+fn command(command: Command) -> Word
+    ensures { result ≡ command_of command }
+{
+    Word {
+        sync: Sync::CommandSync,
+        value: command.value(),
+    }
+}
+
+/// A clone takes no memory, and so never fails.
+impl Clone for Message {
+    ghost use Rattle.std.specs.Prelude.{◌≡◌, ⊤};
+
+    ghost is_clone = { λ message copied. copied ≡ message };
+
+    ghost is_infallible = { λ _. ⊤ };
+
+    fn clone(&self) -> Result<Message, AllocError> {
+        Ok(self.copy())
     }
 }
