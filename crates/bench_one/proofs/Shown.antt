@@ -17,8 +17,8 @@ appends_none (Some a) = sym (append-nil a)
 
 pub shown_one : (bytes : List ℕ) (place : ℕ) → place < length bytes
     → shown_from place (drop place bytes)
-      ≡ digit_of (slice_index_or bytes place 0 / 16) ∷ digit_of (slice_index_or bytes place 0 % 16) ∷ behind place (length bytes - place) ∷ shown_from (place + 1) (drop (place + 1) bytes)
-shown_one bytes place small = 
+    ≡ digit_of (slice_index_or bytes place 0 / 16) ∷ digit_of (slice_index_or bytes place 0 % 16) ∷ behind place (length bytes - place) ∷ shown_from (place + 1) (drop (place + 1) bytes)
+shown_one bytes place small =
     let left : length (drop (place + 1) bytes) + 1 ≡ length bytes - place = rw (length-drop (place + 1) bytes) (omega arith) in
     rw (drop_more bytes place 0 small, left) refl
 

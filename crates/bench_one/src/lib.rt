@@ -4,3 +4,6 @@
 mod print;
 
 pub use print::print_bytes;
+
+#[cfg(test)]
+mod tests;
