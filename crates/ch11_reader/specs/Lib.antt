@@ -2,3 +2,4 @@ pub mod Recording
 pub mod Contents
 pub mod Listing
 pub mod Indexed
+pub mod Examples

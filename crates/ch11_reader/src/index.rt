@@ -1,11 +1,16 @@
 //! The packets of a recording that was read.
-ghost use Rattle.std.specs.Prelude.{◌≡◌};
+ghost use Rattle.std.specs.Prelude.{◌≡◌, option_map};
+ghost use Rattle.ch11_f1.specs.Views.{message_of};
 ghost use Rattle.ch11_reader.specs.Recording.{Gives, packets_in};
+ghost use Rattle.ch11_reader.specs.Contents.{message_numbered, reading, total_in};
 ghost use Rattle.ch11_reader.specs.Listing.{listing};
 
 use crate::build::{fault_or_memory, read_packets};
+use crate::channel::ChannelMessages;
 use crate::fault::ReadError;
-use crate::packet::Packet;
+use crate::packet::{Packet, message_in_packet};
+use crate::search::packet_with;
+use ch11_f1::Seen;
 use std::alloc::Global;
 use std::marker::Model;
 
@@ -40,6 +45,34 @@ impl<'a> Index<'a> {
             Err(ReadError::Memory) => Err(fault_or_memory(file)),
             answer => answer,
         }
+    }
+
+    /// The messages of a channel, in the file's order.
+    pub fn channel(&self, channel: u16) -> ChannelMessages<'a, '_>
+        ensures { result ≡ reading self.now channel }
+    {
+        ChannelMessages::over(self.file, &self.packets, channel)
+    }
+
+    /// Message n of the file with its channel, counted from 1 over all channels; None for 0 and past the
+    /// last. The packet is found by halving, and its messages are walked up to the one asked for.
+    pub fn message(&self, n: u64) -> Option<(u16, Seen<'a>)>
+        ensures { option_map (λ x. (x.0, message_of x.1)) result ≡ message_numbered self.now n }
+    {
+        if n == 0 || self.total < n {
+            return None;
+        }
+        let place = packet_with(&self.packets, n - 1);
+        let packet = &self.packets[place];
+        let seen = message_in_packet(self.file, packet, n - 1 - packet.before)?;
+        Some((packet.header.channel, seen))
+    }
+
+    /// How many messages the recording holds, of all channels.
+    pub fn total(&self) -> u64
+        ensures { result ≡ total_in self.now }
+    {
+        self.total
     }
 
     /// What there is to tell of each packet, in the file's order.

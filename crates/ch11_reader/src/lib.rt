@@ -2,10 +2,13 @@
 #![tactic(auto)]
 
 mod build;
+mod channel;
 mod fault;
 mod index;
 mod packet;
+mod search;
 
+pub use channel::ChannelMessages;
 pub use fault::{Fault, ReadError, Refusal};
 pub use index::Index;
 pub use packet::{MESSAGES_KIND, Packet};

@@ -1,11 +1,12 @@
 //! One packet of a recording.
-ghost use Rattle.std.specs.Prelude.{◌≡◌, ◌+◌, ◌*◌, ◌≤◌, length, drop, IfOk, MatchOption, MatchResult, Ok, Err, []};
+ghost use Rattle.std.specs.Prelude.{◌≡◌, ◌+◌, ◌*◌, ◌≤◌, length, drop, IfOk, MatchOption, MatchResult, Ok, Err, [], option_map, slice_get};
+ghost use Rattle.ch11_f1.specs.Views.{message_of};
 ghost use Rattle.ch11_header.specs.HeaderReading.{body_start};
 ghost use Rattle.ch11_reader.specs.Recording.{messages_of, packet_at};
 
 use crate::fault::Fault;
-use ch11_f1::Messages;
 use ch11_f1::body::messages;
+use ch11_f1::{Messages, Seen};
 use ch11_header::{Header, read_header};
 
 /// The data type of MIL-STD-1553 messages, Format 1.
@@ -81,5 +82,16 @@ pub(crate) fn messages_in_packet<'a>(file: &'a [u8], packet: &Packet) -> Option<
     match messages(body) {
         Ok(found) => Some(found),
         Err(_) => None,
+    }
+}
+
+/// Message k of a packet of the file, counted from 0, None where it holds no such message.
+pub(crate) fn message_in_packet<'a>(file: &'a [u8], packet: &Packet, k: u64) -> Option<Seen<'a>>
+    requires { packet.now.offset + (body_start packet.now.header + packet.now.header.data_length) ≤ length file.now }
+    ensures { option_map message_of result ≡ slice_get (messages_of packet.now.header (drop packet.now.offset file.now)) k }
+{
+    match messages_in_packet(file, packet) {
+        Some(mut messages) => messages.nth(k as usize),
+        None => None,
     }
 }
