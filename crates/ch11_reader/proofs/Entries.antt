@@ -125,3 +125,16 @@ message_is file entries lent total n i e seen x some most same within read from 
     let low : e.before ≤ n - 1 = from e (ap (λ (es : List Packet). slice_get es i) same ∙ at) in
     let high : (f : Packet) → slice_get entries (i + 1) ≡ Some f → n - 1 < f.before = λ f h. next f (ap (λ (es : List Packet). slice_get es (i + 1)) same ∙ h) in
     seen_with_channel e.header.channel seen (slice_get (messages_of e.header (drop e.offset file)) (n - 1 - e.before)) found ∙ sym (message_at_entry file entries total n i e x (omega (arith, some)) most at low high)
+
+-- the entry at a place of the recording's packets
+pub entry_there : (file : List ℕ) (entries : List Packet) (total : ℕ) (ps : List Found) (i : ℕ) (e : Packet) → IsIndex file entries total → found_in file ≡ ps → i < length ps → e ≡ get_or entries i e → slice_get entries i ≡ Some e
+entry_there file entries total ps i e x same within read =
+    slice_get_read entries (length entries) i e refl (omega (arith, ap length same, ap length x.found, length-map entries (found_of file))) read
+
+-- the packet at a place holds the messages that are read at its entry
+pub messages_there : (file : List ℕ) (entries : List Packet) (total : ℕ) (ps : List Found) (i : ℕ) (e : Packet) (p : Found) → IsIndex file entries total → found_in file ≡ ps → slice_get entries i ≡ Some e → slice_get ps i ≡ Some p
+    → messages_of e.header (drop e.offset file) ≡ p.messages
+messages_there file entries total ps i e p x same at there =
+    let both : Some p ≡ Some (found_of file e) = sym there ∙ ap (λ (qs : List Found). slice_get qs i) (sym same) ∙ ap (λ (qs : List Found). slice_get qs i) (sym x.found) ∙ slice_get-map (found_of file) entries i ∙ ap (option_map (found_of file)) at in
+    let is : p ≡ found_of file e = cc in
+    sym (ap (λ (q : Found). q.messages) is)

@@ -1,5 +1,5 @@
 -- What a recording holds, read off its packets.
-use Rattle.std.specs.Prelude.{ℕ, zero, suc, ◌+◌, ◌==◌, if◌then◌else◌, List, [], ◌∷◌, length, map, slice_get, Option, None, Some}
+use Rattle.std.specs.Prelude.{ℕ, zero, suc, ◌+◌, ◌==◌, if◌then◌else◌, List, [], ◌∷◌, length, map, slice_get, Option, None}
 use Rattle.std.specs.List.{flat_map}
 use Rattle.ch11_f1.specs.BodyReading.{Message}
 use Rattle.ch11_reader.specs.Recording.{Found}
@@ -25,8 +25,3 @@ message_numbered ps (suc n) = slice_get (heard_in ps) n
 abbrev pub total_in : List Found → ℕ
 total_in [] = 0
 total_in (p ∷ ps) = length p.messages + total_in ps
-
--- the messages that are left of an open packet
-abbrev pub still_in : Option (List Message) → List Message
-still_in None = []
-still_in (Some ms) = ms

@@ -14,19 +14,19 @@ use std::marker::Model;
 pub struct ChannelMessages<'a, 'i> {
     file: &'a [u8],
     rest: &'i [Packet],
-    current: Option<Messages<'a>>,
+    current: Messages<'a>,
     channel: u16,
 }
 
 impl<'a, 'i> Model for ChannelMessages<'a, 'i> {
     ghost use Rattle.std.specs.Prelude.{List, ◌++◌, map};
     ghost use Rattle.ch11_f1.specs.BodyReading.{Message};
-    ghost use Rattle.ch11_reader.specs.Contents.{reading, still_in};
+    ghost use Rattle.ch11_reader.specs.Contents.{reading};
     ghost use Rattle.ch11_reader.specs.Indexed.{AreWithin, found_of};
 
     ghost Value = { List Message };
 
-    ghost view = { λ m. still_in m.current ++ reading (map (found_of m.file.now) m.rest.now) m.channel };
+    ghost view = { λ m. m.current ++ reading (map (found_of m.file.now) m.rest.now) m.channel };
 
     ghost invariant = { λ m. AreWithin m.file.now m.rest.now };
 }
@@ -43,7 +43,7 @@ impl<'a, 'i> ChannelMessages<'a, 'i> {
         ChannelMessages {
             file,
             rest: packets,
-            current: None,
+            current: Messages::none(),
             channel,
         }
     }
@@ -58,16 +58,14 @@ impl<'a, 'i> Iterator for ChannelMessages<'a, 'i> {
 
     fn next(&mut self) -> Option<Seen<'a>> {
         loop {
-            if let Some(messages) = &mut self.current {
-                if let Some(seen) = messages.next() {
-                    return Some(seen);
-                }
+            if let Some(seen) = self.current.next() {
+                return Some(seen);
             }
             let (first, others) = self.rest.split_first()?;
             self.current = if first.header.channel == self.channel {
                 messages_in_packet(self.file, first)
             } else {
-                None
+                Messages::none()
             };
             self.rest = others;
         }

@@ -1,16 +1,16 @@
 //! The packets of a recording that was read.
-ghost use Rattle.std.specs.Prelude.{◌≡◌, option_map};
+ghost use Rattle.std.specs.Prelude.{◌≡◌, ◌<◌, length, slice_get, Some, option_map};
 ghost use Rattle.ch11_f1.specs.Views.{message_of};
-ghost use Rattle.ch11_reader.specs.Recording.{Gives, packets_in};
+ghost use Rattle.ch11_reader.specs.Recording.{Found, Gives, packets_in};
 ghost use Rattle.ch11_reader.specs.Contents.{message_numbered, reading, total_in};
 ghost use Rattle.ch11_reader.specs.Listing.{listing};
 
 use crate::build::{fault_or_memory, read_packets};
 use crate::channel::ChannelMessages;
 use crate::fault::ReadError;
-use crate::packet::{Packet, message_in_packet};
+use crate::packet::{Packet, message_in_packet, messages_in_packet};
 use crate::search::packet_with;
-use ch11_f1::Seen;
+use ch11_f1::{Messages, Seen};
 use std::alloc::Global;
 use std::marker::Model;
 
@@ -66,6 +66,14 @@ impl<'a> Index<'a> {
         let packet = &self.packets[place];
         let seen = message_in_packet(self.file, packet, n - 1 - packet.before)?;
         Some((packet.header.channel, seen))
+    }
+
+    /// The messages of the packet at a place of `packets`, in the file's order. Condition: there is one.
+    pub fn messages_in(&self, place: usize) -> Messages<'a>
+        requires { place < length self.now }
+        ensures { (p : Found) → slice_get self.now place ≡ Some p → result ≡ p.messages }
+    {
+        messages_in_packet(self.file, &self.packets[place])
     }
 
     /// How many messages the recording holds, of all channels.

@@ -68,20 +68,20 @@ pub(crate) fn check_packet(bytes: &[u8]) -> Result<Checked, Fault>
     }
 }
 
-/// The messages of a packet of the file, None where it holds none that can be read.
-pub(crate) fn messages_in_packet<'a>(file: &'a [u8], packet: &Packet) -> Option<Messages<'a>>
+/// The messages of a packet of the file; it holds none where it is of another data type.
+pub(crate) fn messages_in_packet<'a>(file: &'a [u8], packet: &Packet) -> Messages<'a>
     requires { packet.now.offset + (body_start packet.now.header + packet.now.header.data_length) ≤ length file.now }
-    ensures { MatchOption result (messages_of packet.now.header (drop packet.now.offset file.now) ≡ []) (λ found. found ≡ messages_of packet.now.header (drop packet.now.offset file.now)) }
+    ensures { result ≡ messages_of packet.now.header (drop packet.now.offset file.now) }
 {
     if packet.header.kind != MESSAGES_KIND {
-        return None;
+        return Messages::none();
     }
     let (_, behind) = file.split_at(packet.offset);
     let (_, behind_head) = behind.split_at(packet.header.body_start());
     let (body, _) = behind_head.split_at(packet.header.data_length as usize);
     match messages(body) {
-        Ok(found) => Some(found),
-        Err(_) => None,
+        Ok(found) => found,
+        Err(_) => Messages::none(),
     }
 }
 
@@ -90,8 +90,6 @@ pub(crate) fn message_in_packet<'a>(file: &'a [u8], packet: &Packet, k: u64) -> 
     requires { packet.now.offset + (body_start packet.now.header + packet.now.header.data_length) ≤ length file.now }
     ensures { option_map message_of result ≡ slice_get (messages_of packet.now.header (drop packet.now.offset file.now)) k }
 {
-    match messages_in_packet(file, packet) {
-        Some(mut messages) => messages.nth(k as usize),
-        None => None,
-    }
+    let mut messages = messages_in_packet(file, packet);
+    messages.nth(k as usize)
 }
