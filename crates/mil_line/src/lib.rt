@@ -1,6 +1,18 @@
-//! What stands between the words of a line, and the faults that a plan puts on it.
+//! What stands between the words of a line, the faults that are planned for messages, and what they make of a run.
 #![tactic(auto)]
 
+pub mod error;
+pub mod faults;
 pub mod gaps;
+pub mod kept;
+pub mod on_line;
+pub mod plans;
 
+pub use error::LineError;
+pub use faults::Fault;
 pub use gaps::Gap;
+pub use on_line::{altered, late_gap};
+pub use plans::Plan;
+
+#[cfg(test)]
+mod tests;

@@ -1,0 +1,102 @@
+//! The faults that are planned for the messages of a channel.
+ghost use Rattle.std.specs.Prelude.{◌≡◌, ◌∷◌, ◌++◌, [], ◌<◌, ◌≤◌, ◌&&◌, ◌↔◌, true, false, length, Err, OnOk, IfOk, OnErr};
+ghost use Rattle.std.specs.List.{list_all};
+ghost use Rattle.mil_line.specs.Plans.{faults_of};
+ghost use Rattle.mil_line.specs.Ranges.{is_in_range, is_number};
+
+use crate::kept::{Log, nothing, one_more, same};
+use crate::{Fault, LineError};
+use arrayvec::ArrayVec;
+use std::alloc::{AllocError, Global};
+use std::collections::BTreeMap;
+use std::marker::Model;
+use std::snapshot::Snapshot;
+
+/// Faults by the number of their message; contracts see the list of (number, fault) in the order in which they were
+/// added. A look-up takes time by the logarithm of how many messages have faults.
+#[derive(Drop)]
+pub struct Plan {
+    by_number: BTreeMap<u32, ArrayVec<Fault, 4>>,
+    added: Snapshot<Log>,
+}
+
+impl Model for Plan {
+    ghost use Rattle.std.specs.Prelude.{List};
+    ghost use Rattle.mil_line.specs.Plans.{Planned};
+    ghost use Rattle.mil_line.specs.StandsFor.{StandsFor};
+
+    ghost Value = { List Planned };
+
+    ghost view = { λ p. p.added.value.0 };
+
+    ghost invariant = { λ p. StandsFor p.by_number p.added.value.0 };
+}
+
+/// Whether the number of a message is 1 to 1,000,000, and the fault's place and value are in their ranges.
+fn is_fit(number: u32, fault: &Fault) -> bool
+    ensures { result ≡ (is_number number && is_in_range fault.now) }
+{
+    1 <= number && number <= 1_000_000 && fault.is_in_range()
+}
+
+impl Plan {
+    /// A plan with no faults. It takes no memory.
+    pub fn make(alloc: Global) -> Plan
+        ensures { result ≡ [] }
+    {
+        Plan {
+            by_number: BTreeMap::new(alloc),
+            added: nothing(),
+        }
+    }
+
+    /// Plans one more fault for the message of this number. Refusals in this order: a fifth fault of one message (L1);
+    /// a number, place or value out of its range (L2); memory (L3).
+    pub fn add(&mut self, number: u32, fault: Fault) -> Result<(), LineError>
+        ensures ok { OnOk result (self.new ≡ self.old ++ (number, fault) ∷ []) }
+        ensures too_many { (result ≡ Err LineError.TooMany) ↔ (4 ≤ length (faults_of number self.old)) }
+        ensures out_of_range { (result ≡ Err LineError.OutOfRange) ↔ ((length (faults_of number self.old) < 4) × ((is_number number && is_in_range fault) ≡ false)) }
+        ensures err { OnErr result (self.new ≡ self.old) }
+    {
+        let mut faults = self.faults(number);
+        if faults.is_full() {
+            return Err(LineError::TooMany);
+        }
+        if !is_fit(number, &fault) {
+            return Err(LineError::OutOfRange);
+        }
+        faults.push(fault);
+        match self.by_number.insert(number, faults) {
+            Ok(_) => {
+                self.added = one_more(&self.added, number, fault);
+                Ok(())
+            }
+            Err(_) => Err(LineError::Memory),
+        }
+    }
+
+    /// The faults of the message of this number, in the order in which they were added.
+    pub fn faults(&self, number: u32) -> ArrayVec<Fault, 4>
+        ensures faults { result.items ≡ faults_of number self.now }
+        ensures in_range { list_all is_in_range result.items ≡ true }
+    {
+        let mut faults = ArrayVec::new();
+        if let Some(planned) = self.by_number.get(&number) {
+            for fault in planned.as_slice() {
+                faults.push(*fault);
+            }
+        }
+        faults
+    }
+
+    /// A copy of this plan, which fails for want of memory alone.
+    pub fn copy(&self) -> Result<Plan, AllocError>
+        ensures { IfOk result (λ p. p ≡ self.now) }
+    {
+        let by_number = self.by_number.clone()?;
+        Ok(Plan {
+            by_number,
+            added: same(&self.added),
+        })
+    }
+}
