@@ -1,0 +1,12 @@
+//! The bits of status words (MIL-STD-1553B 4.3.3.5.3) and of the block status words of a recording (IRIG 106-17
+//! Chapter 11, MIL-STD-1553 bus data packets, Format 1).
+#![tactic(auto)]
+
+pub mod block;
+pub mod status;
+
+pub use block::BlockBits;
+pub use status::{StatusBits, bit_named, status_word};
+
+#[cfg(test)]
+mod tests;

@@ -1,0 +1,134 @@
+//! The bits of a status word.
+ghost use Rattle.std.specs.Prelude.{◌≡◌, ◌≤◌, ◌<◌, ◌+◌, ◌*◌, ◌^◌, option_map};
+ghost use Rattle.mil_status.specs.Status.{status_of, bit_of_name};
+
+use bitflags::{Flag, Flags};
+
+/// A set of bits of a status word, each at its place; the number has the bit of each set to one.
+#[derive(Clone, Copy, Debug, PartialEq, Eq)]
+pub struct StatusBits(pub u16);
+
+/// The eight bits by the names that scripts give them.
+static FLAGS: [Flag<StatusBits>; 8] = [
+    Flag {
+        name: "message_error",
+        value: StatusBits::MESSAGE_ERROR,
+    },
+    Flag {
+        name: "instrumentation",
+        value: StatusBits::INSTRUMENTATION,
+    },
+    Flag {
+        name: "service_request",
+        value: StatusBits::SERVICE_REQUEST,
+    },
+    Flag {
+        name: "broadcast",
+        value: StatusBits::BROADCAST,
+    },
+    Flag {
+        name: "busy",
+        value: StatusBits::BUSY,
+    },
+    Flag {
+        name: "subsystem",
+        value: StatusBits::SUBSYSTEM,
+    },
+    Flag {
+        name: "control",
+        value: StatusBits::CONTROL,
+    },
+    Flag {
+        name: "terminal",
+        value: StatusBits::TERMINAL,
+    },
+];
+
+impl StatusBits {
+    /// The last message was not valid, or its command was illegal (4.3.3.5.3.3).
+    pub const MESSAGE_ERROR: StatusBits = StatusBits(1024);
+    /// Tells a status word from a command word, where it is used (4.3.3.5.3.4).
+    pub const INSTRUMENTATION: StatusBits = StatusBits(512);
+    /// The terminal asks for service (4.3.3.5.3.5).
+    pub const SERVICE_REQUEST: StatusBits = StatusBits(256);
+    /// The last valid command was a broadcast (4.3.3.5.3.7).
+    pub const BROADCAST: StatusBits = StatusBits(16);
+    /// The terminal cannot move data now (4.3.3.5.3.8).
+    pub const BUSY: StatusBits = StatusBits(8);
+    /// A fault in the subsystem (4.3.3.5.3.9).
+    pub const SUBSYSTEM: StatusBits = StatusBits(4);
+    /// The terminal accepts control of the bus (4.3.3.5.3.10).
+    pub const CONTROL: StatusBits = StatusBits(2);
+    /// A fault in the terminal (4.3.3.5.3.11).
+    pub const TERMINAL: StatusBits = StatusBits(1);
+}
+
+impl Flags for StatusBits {
+    ghost use Rattle.std.specs.Prelude.{⊤};
+    ghost use Rattle.mil_status.specs.Status.{status_bits};
+
+    type Bits = u16;
+
+    ghost exact = { ⊤ };
+
+    ghost table = { status_bits };
+
+    ghost set_of = { λ s. s.0 };
+
+    fn flags<'a>() -> &'a [Flag<StatusBits>] {
+        &FLAGS
+    }
+
+    fn bits(&self) -> u16 {
+        self.0
+    }
+
+    fn from_bits_retain(bits: u16) -> StatusBits {
+        StatusBits(bits)
+    }
+}
+
+/// The status word of a terminal: its address, and each of the eight bits in its place.
+pub fn status_word(address: u8, bits: StatusBits) -> u16
+    requires { address ≤ 31 }
+    ensures { result ≡ status_of address bits.0 }
+{
+    joined(u16::from(address), bits.0 >> 8 & 7, bits.0 & 31)
+}
+
+/// A word from its first five bits, bits 10 to 8 and bits 4 to 0.
+#[inline]
+fn joined(address: u16, high: u16, low: u16) -> u16
+    requires five { address < 2 ^ 5 }
+    requires three { high < 2 ^ 3 }
+    requires five_more { low < 2 ^ 5 }
+    ensures { result ≡ address * 2 ^ 11 + (high * 2 ^ 8 + low) }
+{
+    address << 11 | (high << 8 | low)
+}
+
+/// The bit of this name, as scripts write it: `message_error`, `instrumentation`, `service_request`, `broadcast`,
+/// `busy`, `subsystem`, `control` or `terminal`. No other text names one.
+pub fn bit_named(name: &[u8]) -> Option<StatusBits>
+    ensures { option_map (λ b. b.0) result ≡ bit_of_name name.now }
+{
+    if name == b"message_error".as_slice() {
+        Some(StatusBits::MESSAGE_ERROR)
+    } else if name == b"instrumentation".as_slice() {
+        Some(StatusBits::INSTRUMENTATION)
+    } else if name == b"service_request".as_slice() {
+        Some(StatusBits::SERVICE_REQUEST)
+    } else if name == b"broadcast".as_slice() {
+        Some(StatusBits::BROADCAST)
+    } else if name == b"busy".as_slice() {
+        Some(StatusBits::BUSY)
+    } else if name == b"subsystem".as_slice() {
+        Some(StatusBits::SUBSYSTEM)
+    } else if name == b"control".as_slice() {
+        Some(StatusBits::CONTROL)
+    } else if name == b"terminal".as_slice() {
+        Some(StatusBits::TERMINAL)
+    } else {
+        None
+    }
+}
