@@ -1,7 +1,7 @@
 -- The items of a list that have a tag, or a tag in a set.
-use Rattle.std.proofs.Common.{◌≡◌, ◌≢◌, ◌≤◌, ◌<◌, ⊎_elim, ℕ, ◌+◌, Bool, true, false, not, List, [], ◌∷◌, ◌++◌, length, refl, sym, ap, ◌∙◌, arith, true≢false}
+use Rattle.std.proofs.Common.{◌≡◌, ◌≢◌, ◌≤◌, ◌<◌, ⊎_elim, ℕ, ◌+◌, Bool, true, false, not, List, suc, [], ◌∷◌, ◌++◌, length, refl, sym, ap, ◌∙◌, arith, true≢false}
 use Rattle.std.specs.Prelude.{◌==◌}
-use Rattle.std.specs.List.{filter}
+use Rattle.std.specs.List.{filter, All}
 use Rattle.std.proofs.lemmas.List.Elements.{filter-append}
 use Rattle.std.proofs.lemmas.List.Filters.{length-filter_both}
 use Rattle.std.proofs.lemmas.Bool.Decides.{eqb_tells}
@@ -78,3 +78,17 @@ module _ {T : Type 0} (tag_of : T → ℕ) where
 
   pub length-with_tag : (k : ℕ) (xs : List T) → length (with_tag tag_of k xs) + length (without k xs) ≡ length xs
   length-with_tag k xs = length-filter_both (λ x. tag_of x == k) (λ x. not (tag_of x == k)) (λ _. refl) xs
+
+  all_tail : (P : T → Type 0) (x : T) (xs : List T) → All P (x ∷ xs) → All P xs
+  all_tail P x xs a = λ k d lt. a (suc k) d (omega (arith, lt))
+
+  -- a list of items of one tag has them all, and none of another tag
+  pub with_tag-all : (k : ℕ) (xs : List T) → All (λ x. tag_of x ≡ k) xs → with_tag tag_of k xs ≡ xs
+  with_tag-all k [] a = refl
+  with_tag-all k (x ∷ xs) a = rw (eq-eqb (tag_of x) k (a 0 x (omega arith))) (ap (λ l. x ∷ l) (with_tag-all k xs (all_tail (λ y. tag_of y ≡ k) x xs a)))
+
+  pub with_tag-all_other : (k t : ℕ) (xs : List T) → k ≢ t → All (λ x. tag_of x ≡ k) xs → with_tag tag_of t xs ≡ []
+  with_tag-all_other k t [] ne a = refl
+  with_tag-all_other k t (x ∷ xs) ne a =
+      let rest = with_tag-all_other k t xs ne (all_tail (λ y. tag_of y ≡ k) x xs a) in
+      ⊎_elim (λ e. absurd (ne (sym (a 0 x (omega arith)) ∙ e.1))) (λ e. rw e.0 rest) (eqb_tells (tag_of x) t)

@@ -15,13 +15,13 @@ module _ {T : Type 0} where
   abbrev pub capacity_of : Trunk T → ℕ
   capacity_of trunk = ruled_capacity trunk.queue
 
-  -- the bounds of the tags 0, 1, ..: how many items of a tag may be sent in all
-  abbrev pub bounds_of : Trunk T → List ℕ
-  bounds_of trunk = (view trunk.begun.value).bounds
-
   -- the tags that the ticket holds
   abbrev pub tags_of : Ticket T → ℕ
   tags_of t = (view t.pass).tags
+
+  -- the bounds of the tags 0, 1, ..: how many items of a tag may be sent in all
+  abbrev pub bounds_of : Ticket T → List ℕ
+  bounds_of t = (view t.pass).bounds
 
   -- what was sent with the ticket, oldest first
   abbrev pub sent : Ticket T → List T
@@ -31,10 +31,10 @@ module _ {T : Type 0} where
   abbrev pub received : Taker T → List T
   received t = (view t.pass).received
 
-  -- the ticket is one of this trunk, and carries its bounds
+  -- the ticket is one of this trunk
   abbrev pub IsTicketOf : Trunk T → Ticket T → Type 0
-  IsTicketOf trunk t = IsPassOf trunk.queue t.pass × (view t.pass ≡ ticket (bounds_of trunk) (tags_of t) (sent t))
+  IsTicketOf trunk t = IsPassOf trunk.queue t.pass × (view t.pass ≡ ticket (bounds_of t) (tags_of t) (sent t))
 
-  -- the taker is that of this trunk, and carries its bounds
+  -- the taker is that of this trunk
   abbrev pub IsTakerOf : Trunk T → Taker T → Type 0
-  IsTakerOf trunk t = IsPassOf trunk.queue t.pass × (view t.pass ≡ taker (bounds_of trunk) (received t))
+  IsTakerOf trunk t = IsPassOf trunk.queue t.pass × (view t.pass ≡ taker (view t.pass).bounds (received t))

@@ -9,3 +9,6 @@ mod trunk;
 pub use error::TrunkError;
 pub use tags::{Tagged, Tags};
 pub use trunk::{Taker, Ticket, Trunk};
+
+#[cfg(test)]
+mod tests;

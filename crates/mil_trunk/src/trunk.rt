@@ -12,7 +12,6 @@ use crate::tags::{Tagged, Tags};
 use crossbeam_queue::{Pass, RuledArrayQueue};
 use std::alloc::{AllocError, Global};
 use std::marker::Brand;
-use std::snapshot::Snapshot;
 use std::sync::Wait;
 
 /// A bounded queue of items: any number of tickets push into it, and one taker pops from it.
@@ -21,8 +20,6 @@ use std::sync::Wait;
 #[derive(Drop)]
 pub struct Trunk<T: Tagged> {
     queue: RuledArrayQueue<T, View<T>, SentAndReceived<T>>,
-    // What the first ticket knew at first, which has the bounds. It has no bytes.
-    begun: Snapshot<Pass<T, View<T>>>,
 }
 
 /// The right to send items of some tags. It has no bytes: its tags, and the list of what was sent with it, are known to contracts alone.
@@ -51,7 +48,7 @@ impl<T: Tagged> Trunk<T> {
         requires low { All (λ bound. bound ≤ 2 ^ 55) bounds.now }
         ensures ends { IfOk result (λ r. IsTicketOf r.0 r.1 × IsTakerOf r.0 r.2) }
         ensures capacity { IfOk result (λ r. capacity_of r.0 ≡ capacity) }
-        ensures bounds { IfOk result (λ r. bounds_of r.0 ≡ bounds.now) }
+        ensures bounds { IfOk result (λ r. bounds_of r.1 ≡ bounds.now) }
         ensures tags { IfOk result (λ r. (t : ℕ) → t < 64 → has (tags_of r.1) t ≡ true) }
         ensures sent { IfOk result (λ r. sent r.1 ≡ []) }
         ensures received { IfOk result (λ r. received r.2 ≡ []) }
@@ -76,15 +73,14 @@ impl<T: Tagged> Trunk<T> {
         requires bounds { B.bounds ≡ bounds.now }
         ensures ends { IfOk result (λ r. IsTicketOf r.0 r.1 × IsTakerOf r.0 r.2) }
         ensures capacity { IfOk result (λ r. capacity_of r.0 ≡ capacity) }
-        ensures bounds { IfOk result (λ r. bounds_of r.0 ≡ bounds.now) }
+        ensures bounds { IfOk result (λ r. bounds_of r.1 ≡ bounds.now) }
         ensures tags { IfOk result (λ r. tags_of r.1 ≡ all_tags) }
         ensures sent { IfOk result (λ r. sent r.1 ≡ []) }
         ensures received { IfOk result (λ r. received r.2 ≡ []) }
     {
         let (queue, mut pass) = RuledArrayQueue::ruled(alloc, capacity as usize)?;
         let end = queue.another::<Begin<B>>(&mut pass);
-        let begun = Snapshot::of(&pass);
-        Ok((Trunk { queue, begun }, Ticket { pass }, Taker { pass: end }))
+        Ok((Trunk { queue }, Ticket { pass }, Taker { pass: end }))
     }
 
     /// Parts off a ticket with some of a ticket's tags, and with what was sent of these.
@@ -94,6 +90,7 @@ impl<T: Tagged> Trunk<T> {
         ensures tickets { IsTicketOf self.now ticket.new × IsTicketOf self.now result }
         ensures gone { (t : ℕ) → has (tags_of ticket.new) t ≡ (has (tags_of ticket.old) t && not (has tags t)) }
         ensures given { tags_of result ≡ tags }
+        ensures bounds { (bounds_of ticket.new ≡ bounds_of ticket.old) × (bounds_of result ≡ bounds_of ticket.old) }
         ensures sent { sent ticket.new ≡ outside T.tag_of tags (sent ticket.old) }
         ensures sent_of_given { sent result ≡ inside T.tag_of tags (sent ticket.old) }
     {
@@ -107,6 +104,7 @@ impl<T: Tagged> Trunk<T> {
         ensures tickets { IsTicketOf self.now ticket.new × IsTicketOf self.now result }
         ensures gone { tags_of ticket.new ≡ minus (tags_of ticket.old) tags }
         ensures given { tags_of result ≡ tags }
+        ensures bounds { (bounds_of ticket.new ≡ bounds_of ticket.old) × (bounds_of result ≡ bounds_of ticket.old) }
         ensures sent { sent ticket.new ≡ outside T.tag_of tags (sent ticket.old) }
         ensures sent_of_given { sent result ≡ inside T.tag_of tags (sent ticket.old) }
     {
@@ -121,6 +119,7 @@ impl<T: Tagged> Trunk<T> {
         requires { IsTicketOf self.now ticket.old × IsTicketOf self.now other }
         ensures ticket { IsTicketOf self.now ticket.new }
         ensures tags { (t : ℕ) → has (tags_of ticket.new) t ≡ (has (tags_of ticket.old) t || has (tags_of other) t) }
+        ensures bounds { bounds_of ticket.new ≡ bounds_of ticket.old }
         ensures sent { sent ticket.new ≡ sent ticket.old ++ sent other }
     {
         let Ticket { pass } = other;
@@ -131,13 +130,14 @@ impl<T: Tagged> Trunk<T> {
     pub fn offer<R: Wait>(&self, rt: &R, ticket: &mut Ticket<T>, item: T) -> Result<(), T>
         requires ticket { IsTicketOf self.now ticket.old }
         requires tag { has (tags_of ticket.old) (T.tag_of item) ≡ true }
-        requires bound { length (with_tag T.tag_of (T.tag_of item) (sent ticket.old)) < bound_of (bounds_of self.now) (T.tag_of item) }
+        requires bound { length (with_tag T.tag_of (T.tag_of item) (sent ticket.old)) < bound_of (bounds_of ticket.old) (T.tag_of item) }
         ensures ticket { IsTicketOf self.now ticket.new }
         ensures tags { tags_of ticket.new ≡ tags_of ticket.old }
+        ensures bounds { bounds_of ticket.new ≡ bounds_of ticket.old }
         ensures kept { OnOk result (sent ticket.new ≡ sent ticket.old ++ item ∷ []) }
         ensures back { IfErr result (λ back. back ≡ item) }
         ensures not_sent { OnErr result (sent ticket.new ≡ sent ticket.old) }
-        ensures full { OnErr result (capacity_of self.now ≤ length (sent ticket.old) + bounds_outside (tags_of ticket.old) (bounds_of self.now)) }
+        ensures full { OnErr result (capacity_of self.now ≤ length (sent ticket.old) + bounds_outside (tags_of ticket.old) (bounds_of ticket.old)) }
     {
         self.queue.push_as::<Offer, R>(rt, &mut ticket.pass, item)
     }
@@ -163,6 +163,7 @@ impl<T: Tagged> Trunk<T> {
         requires all { (t : ℕ) → t < 64 → has (tags_of ticket) t ≡ true }
         ensures ends { IsTicketOf self.now result.0 × IsTakerOf self.now result.1 }
         ensures tags { tags_of result.0 ≡ tags_of ticket }
+        ensures bounds { bounds_of result.0 ≡ bounds_of ticket }
         ensures sent { sent result.0 ≡ sent ticket }
         ensures taken { IfSome result.2 (λ item. received result.1 ≡ received taker ++ item ∷ []) }
         ensures none { IfNone result.2 (received result.1 ≡ received taker) }
