@@ -1,0 +1,2 @@
+pub mod SealedBytes
+pub mod OneMore

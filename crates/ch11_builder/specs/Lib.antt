@@ -1,0 +1,9 @@
+pub mod Packet
+pub mod Cutting
+pub mod Held
+pub mod Run
+pub mod Pushing
+pub mod Log
+pub mod Built
+pub mod Recorded
+pub mod Examples

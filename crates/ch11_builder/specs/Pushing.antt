@@ -1,0 +1,11 @@
+-- What a push answers.
+use Rattle.std.specs.Prelude.{◌≡◌, true, false}
+use Rattle.ch11_builder.specs.Packet.{Numbered}
+use Rattle.ch11_builder.specs.Held.{Held, fits, packet_of}
+use Rattle.ch11_builder.specs.declared.builder.Pushed.{Pushed}
+use Rattle.ch11_builder.specs.declared.builder.Pushed.TheVariants.{Kept, Closed}
+
+-- a packet is closed exactly where it cannot hold the record too, and it is the packet of the records before
+abbrev pub Answers : Held → Numbered → Pushed → Type 0
+Answers s n Kept = fits s n ≡ true
+Answers s n (Closed bytes) = (fits s n ≡ false) × (bytes.now ≡ packet_of s)
