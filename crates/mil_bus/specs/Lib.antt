@@ -1,0 +1,4 @@
+pub mod Times
+pub mod Counts
+pub mod Pass
+pub mod BlockStatus

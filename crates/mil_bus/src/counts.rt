@@ -1,0 +1,162 @@
+//! What one pass over the words of a talk counts.
+ghost use Rattle.std.specs.Prelude.{◌≡◌, ◌<◌, ◌≤◌, length};
+ghost use Rattle.mil_bus.specs.Counts.{counts_of, takes_command, differs};
+ghost use Rattle.mil_bus.specs.Pass.{noted, one_more, words_in, place_in};
+ghost use Rattle.mil_word.specs.Words.{is_command_sync};
+
+use crate::Sent;
+use mil_line::Gap;
+use mil_word::{Sync, Word, decode};
+
+/// A reply that came.
+#[derive(Clone, Copy, Debug, PartialEq, Eq)]
+pub struct Came {
+    /// The gap of its first word.
+    pub gap: Gap,
+    /// Its first word where that is sound.
+    pub first: Option<Word>,
+    /// How many words it had, 1 to 40.
+    pub count: u8,
+}
+
+/// What is seen of a talk.
+#[derive(Clone, Copy, Debug, PartialEq, Eq)]
+pub struct Seen {
+    /// How many words the controller sent.
+    pub controllers: u8,
+    /// The first reply.
+    pub one: Option<Came>,
+    /// The second reply.
+    pub two: Option<Came>,
+    /// Whether a reply came beyond those due.
+    pub beyond: bool,
+    /// Whether a word was unsound.
+    pub unsound: bool,
+    /// Whether a sound word had the other sync than its place.
+    pub other_sync: bool,
+}
+
+/// Whether a place takes command sync.
+fn takes_command(commands: u8, due: u8, run: u8, place: u8) -> bool
+    ensures { result ≡ takes_command commands due run place }
+{
+    if run == 0 {
+        place < commands
+    } else {
+        run - 1 < due && place == 0
+    }
+}
+
+/// Whether a word has command sync.
+pub fn is_command(word: Word) -> bool
+    ensures { result ≡ is_command_sync word.sync }
+{
+    match word.sync {
+        Sync::CommandSync => true,
+        Sync::DataSync => false,
+    }
+}
+
+/// Whether the word, where it is sound, has the other sync.
+fn differs(command: bool, word: Option<Word>) -> bool
+    ensures { result ≡ differs command word }
+{
+    match word {
+        None => false,
+        Some(word) => {
+            if command {
+                !is_command(word)
+            } else {
+                is_command(word)
+            }
+        }
+    }
+}
+
+/// A reply with one more word.
+fn one_more(came: Option<Came>, gap: Gap, word: Option<Word>) -> Option<Came>
+    requires { words_in came < 100 }
+    ensures { result ≡ one_more came gap word }
+{
+    match came {
+        None => Some(Came {
+            gap,
+            first: word,
+            count: 1,
+        }),
+        Some(came) => Some(Came {
+            gap: came.gap,
+            first: came.first,
+            count: came.count + 1,
+        }),
+    }
+}
+
+/// How many words a reply has.
+fn words_in(came: Option<Came>) -> u8
+    ensures { result ≡ words_in came }
+{
+    match came {
+        None => 0,
+        Some(came) => came.count,
+    }
+}
+
+impl Seen {
+    /// Where the next word of a run stands in it, as far as that matters.
+    fn place(&self, run: u8) -> u8
+        ensures { result ≡ place_in self.now run }
+    {
+        if run == 0 {
+            self.controllers
+        } else if run == 1 {
+            words_in(self.one)
+        } else {
+            words_in(self.two)
+        }
+    }
+
+    /// Counts one more word.
+    fn note(&mut self, commands: u8, due: u8, sent: &Sent)
+        requires controllers { self.old.controllers < 100 }
+        requires one { words_in self.old.one < 100 }
+        requires two { words_in self.old.two < 100 }
+        ensures { self.new ≡ noted commands due self.old sent.now }
+    {
+        let word = decode(sent.wave);
+        let place = self.place(sent.run);
+        self.other_sync = self.other_sync
+            || differs(takes_command(commands, due, sent.run, place), word);
+        self.unsound = self.unsound || word.is_none();
+        self.beyond = self.beyond || due < sent.run;
+        if sent.run == 0 {
+            self.controllers += 1;
+        }
+        if sent.run == 1 {
+            self.one = one_more(self.one, sent.gap, word);
+        }
+        if sent.run == 2 {
+            self.two = one_more(self.two, sent.gap, word);
+        }
+    }
+}
+
+/// One pass over the words of a talk, where so many commands are sent and so many replies are due.
+pub fn counted(commands: u8, due: u8, sent: &[Sent]) -> Seen
+    requires few { length sent.now ≤ 40 }
+    requires two { due ≤ 2 }
+    ensures { result ≡ counts_of commands due sent.now }
+{
+    let mut seen = Seen {
+        controllers: 0,
+        one: None,
+        two: None,
+        beyond: false,
+        unsound: false,
+        other_sync: false,
+    };
+    for word in sent {
+        seen.note(commands, due, word);
+    }
+    seen
+}

@@ -1,0 +1,208 @@
+//! The block status word of a finished talk, and what a program learns of it.
+ghost use Rattle.std.specs.Prelude.{◌≡◌, ◌<◌, ◌≤◌, ◌^◌};
+ghost use Rattle.mil_bus.specs.BlockStatus.{first_due, second_due, is_late, is_excuse, is_miscounted, has_other_address, bit, is_line_b, is_transfer, has_response_time_out, has_word_count_error, has_error, block_of, came_bits, outcome_of};
+ghost use Rattle.mil_bus.specs.Counts.{seen_of};
+ghost use Rattle.mil_message.specs.Forms.{replies_due};
+
+use crate::Talk;
+use crate::counts::{Came, Seen, counted, is_command};
+use mil_message::{Due, Message};
+use mil_word::{Line, Status, Word};
+
+/// What a program learns of a talk.
+#[derive(Clone, Copy, Debug, PartialEq, Eq)]
+pub struct Outcome {
+    /// Whether there was any error (bit 12 of the block status word).
+    pub failed: bool,
+    /// Whether a reply was due and none came.
+    pub silent: bool,
+    /// The status bits of all due replies together, in the places of the status word.
+    pub bits: u16,
+}
+
+/// The replies that are due as runs 1 and 2.
+#[derive(Clone, Copy, Debug)]
+struct DueReplies {
+    first: Option<Due>,
+    second: Option<Due>,
+}
+
+/// The replies that a message is due.
+fn due_of(message: &Message) -> DueReplies
+    ensures first { result.first ≡ first_due (replies_due message.now) }
+    ensures second { result.second ≡ second_due (replies_due message.now) }
+{
+    let due = message.replies_due();
+    DueReplies {
+        first: due.as_slice().first().copied(),
+        second: due.as_slice().get(1).copied(),
+    }
+}
+
+fn is_late(due: Option<Due>, came: Option<Came>) -> bool
+    ensures { result ≡ is_late due came }
+{
+    match due {
+        None => false,
+        Some(_) => match came {
+            None => true,
+            Some(came) => came.gap.ticks() > 140,
+        },
+    }
+}
+
+fn is_excuse(word: Option<Word>) -> bool
+    ensures { result ≡ is_excuse word }
+{
+    match word {
+        None => false,
+        Some(word) => {
+            let status = Status::of(word.value);
+            is_command(word) && (status.has_message_error() || status.has_busy())
+        }
+    }
+}
+
+fn is_miscounted(due: Option<Due>, came: Option<Came>) -> bool
+    ensures { result ≡ is_miscounted due came }
+{
+    match due {
+        None => false,
+        Some(due) => match came {
+            None => false,
+            Some(came) => {
+                u16::from(came.count) != u16::from(due.words) + 1
+                    && !(came.count == 1 && is_excuse(came.first))
+            }
+        },
+    }
+}
+
+fn has_other_address(due: Option<Due>, came: Option<Came>) -> bool
+    ensures { result ≡ has_other_address due came }
+{
+    match due {
+        None => false,
+        Some(due) => match came {
+            None => false,
+            Some(came) => match came.first {
+                None => false,
+                Some(word) => is_command(word) && Status::of(word.value).address() != due.address,
+            },
+        },
+    }
+}
+
+fn came_bits(due: Option<Due>, came: Option<Came>) -> u16
+    ensures { result ≡ came_bits due came }
+{
+    match due {
+        None => 0,
+        Some(_) => match came {
+            None => 0,
+            Some(came) => match came.first {
+                None => 0,
+                Some(word) => {
+                    if is_command(word) {
+                        word.value & 0x071F
+                    } else {
+                        0
+                    }
+                }
+            },
+        },
+    }
+}
+
+fn bit(on: bool, place: u32) -> u16
+    requires { place < 14 }
+    ensures value { result ≡ bit on place }
+    ensures small { result ≤ 2 ^ place }
+{
+    if on { 1 << place } else { 0 }
+}
+
+fn is_line_b(line: Line) -> bool
+    ensures { result ≡ is_line_b line }
+{
+    match line {
+        Line::A => false,
+        Line::B => true,
+    }
+}
+
+fn is_transfer(message: &Message) -> bool
+    ensures { result ≡ is_transfer message.now }
+{
+    message.commands().second.is_some()
+}
+
+/// Whether fewer replies came than are due, or a due one came late.
+fn has_response_time_out(message: &Message, seen: &Seen) -> bool
+    ensures { result ≡ has_response_time_out message.now seen.now }
+{
+    let due = due_of(message);
+    is_late(due.first, seen.one) || is_late(due.second, seen.two)
+}
+
+/// Whether the controller or a due reply has another number of words.
+fn has_word_count_error(message: &Message, seen: &Seen) -> bool
+    ensures { result ≡ has_word_count_error message.now seen.now }
+{
+    let due = due_of(message);
+    usize::from(seen.controllers) != message.controller_count()
+        || is_miscounted(due.first, seen.one)
+        || is_miscounted(due.second, seen.two)
+}
+
+/// Whether there is any error.
+fn has_error(message: &Message, seen: &Seen) -> bool
+    ensures { result ≡ has_error message.now seen.now }
+{
+    let due = due_of(message);
+    has_response_time_out(message, seen)
+        || has_word_count_error(message, seen)
+        || seen.other_sync
+        || seen.unsound
+        || has_other_address(due.first, seen.one)
+        || has_other_address(due.second, seen.two)
+        || seen.beyond
+}
+
+impl Talk {
+    /// What is seen of this talk, in one pass.
+    pub fn seen(&self) -> Seen
+        ensures { result ≡ seen_of self.now.message self.now.sent.items }
+    {
+        let commands = if is_transfer(&self.message) { 2 } else { 1 };
+        let due = self.message.replies_due().len() as u8;
+        counted(commands, due, self.sent.as_slice())
+    }
+
+    /// The block status word, from what is seen of this talk.
+    pub fn block(&self, seen: &Seen) -> u16
+        ensures { result ≡ block_of self.now.line self.now.message seen.now }
+    {
+        bit(is_line_b(self.line), 13)
+            + bit(has_error(&self.message, seen), 12)
+            + bit(is_transfer(&self.message), 11)
+            + bit(has_response_time_out(&self.message, seen), 9)
+            + bit(has_word_count_error(&self.message, seen), 5)
+            + bit(seen.other_sync, 4)
+            + bit(seen.unsound, 3)
+    }
+
+    /// Whether this talk failed, whether no reply came that was due, and the status bits that came.
+    #[tactic(auto, unfolding(crate::specs::BlockStatus::outcome_of))]
+    pub fn outcome(&self) -> Outcome
+        ensures { result ≡ outcome_of self.now.message self.now.sent.items }
+    {
+        let seen = self.seen();
+        let due = due_of(&self.message);
+        Outcome {
+            failed: has_error(&self.message, &seen),
+            silent: due.first.is_some() && seen.one.is_none(),
+            bits: came_bits(due.first, seen.one) | came_bits(due.second, seen.two),
+        }
+    }
+}
