@@ -1,0 +1,37 @@
+-- What a frame does, by recursion on the tree, in any world (own choice).
+use Rattle.std.specs.Prelude.{ℕ, zero, suc, ◌+◌, Bool, not, ◌&&◌, ◌||◌, if◌then◌else◌}
+use Rattle.mil_word.specs.declared.Line.{Line}
+use Rattle.mil_message.specs.declared.messages.Message.{Message}
+use Rattle.mil_message.specs.World.{World, Point, other_line, sent, asks}
+use Rattle.frame_tree.specs.Tree.{Test, failed, silent, bit, negated, both, either, Tree, send, retry, gap, repeat, choose, nothing, first}
+
+-- n times in a row
+abbrev pub times : {X : Type 0} → ℕ → (X → X) → X → X
+times zero f x = x
+times (suc n) f x = times n f (f x)
+
+module _ {State Outcome : Type 0} (w : World State Outcome) where
+  -- what a test says of the last outcome
+  abbrev pub test_meaning : Test → Point State Outcome → Bool
+  test_meaning failed p = asks w 0 p
+  test_meaning silent p = asks w 1 p
+  test_meaning (bit b) p = asks w (16 + b) p
+  test_meaning (negated c) p = not (test_meaning c p)
+  test_meaning (both a b) p = test_meaning a p && test_meaning b p
+  test_meaning (either a b) p = test_meaning a p || test_meaning b p
+
+  -- at most n further attempts, each on the other line than the one before, while the last outcome is failed
+  abbrev pub attempts : ℕ → Line → Message → Point State Outcome → Point State Outcome
+  attempts zero line message p = p
+  attempts (suc n) line message p =
+      if asks w 0 p then attempts n (other_line line) message (sent w (other_line line) message p) else p
+
+  -- where a run is after a frame
+  abbrev pub meaning : Tree → Point State Outcome → Point State Outcome
+  meaning (send line message) p = sent w line message p
+  meaning (retry n line message) p = attempts n line message (sent w line message p)
+  meaning (gap t) p = record p { gap = t }
+  meaning (repeat n body) p = times n (meaning body) p
+  meaning (choose c a b) p = if test_meaning c p then meaning a p else meaning b p
+  meaning nothing p = p
+  meaning (first a b) p = meaning b (meaning a p)

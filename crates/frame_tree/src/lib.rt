@@ -1,0 +1,63 @@
+//! Frames, the programs of a bus controller, as trees under any allocator (own choice): what a script says, before it is
+//! assembled.
+#![tactic(auto)]
+
+mod conditions;
+mod frames;
+#[cfg(test)]
+mod tests;
+
+pub use conditions::number_of_bit;
+use mil_message::Message;
+use mil_status::StatusBits;
+use mil_word::Line;
+use std::alloc::Allocator;
+
+/// A condition on the outcome of the last message; before any message every test in it is false.
+#[derive(Drop)]
+pub enum Cond<A: Allocator + Clone> {
+    /// The exchange failed.
+    Fail,
+    /// A reply was due and none came.
+    Silent,
+    /// One named bit of the status words received (MIL-STD-1553B 4.3.3.5.3).
+    Bit(StatusBits),
+    /// The condition does not hold.
+    Not(Box<Cond<A>, A>),
+    /// Both conditions hold.
+    And(Box<Cond<A>, A>, Box<Cond<A>, A>),
+    /// One of the conditions holds, or both do.
+    Or(Box<Cond<A>, A>, Box<Cond<A>, A>),
+}
+
+/// A frame.
+#[derive(Drop)]
+pub enum Frame<A: Allocator + Clone> {
+    /// Sends a message on a line.
+    Send {
+        line: Line,
+        message: Message,
+    },
+    /// Sends a message, and then at most `count` (1 to 8) times more, each time on the other line than before, while the
+    /// last outcome is failed.
+    Retry {
+        count: u8,
+        line: Line,
+        message: Message,
+    },
+    /// Sets the gap of all messages after it, 40 to 65,535 ticks of 0.1 µs.
+    Gap(u16),
+    /// Runs the body `count` (1 to 10,000) times.
+    Repeat {
+        count: u16,
+        body: Box<Frame<A>, A>,
+    },
+    /// Runs `then` where the condition holds, else `otherwise`.
+    If {
+        condition: Cond<A>,
+        then: Box<Frame<A>, A>,
+        otherwise: Box<Frame<A>, A>,
+    },
+    /// Runs frames one after the other.
+    Seq(Vec<Frame<A>, A>),
+}
