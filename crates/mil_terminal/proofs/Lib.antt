@@ -1,1 +1,14 @@
 pub mod Examples
+pub mod Steps
+pub mod Ends
+pub mod Switching
+pub mod Syncing
+pub mod Storing
+pub mod Telling
+pub mod Hears
+pub mod Quiets
+pub mod Bits
+pub mod SlotLemmas
+pub mod Setting
+pub mod Acts
+pub mod Passing

@@ -6,3 +6,9 @@ pub mod Registers
 pub mod Status
 pub mod Replies
 pub mod Station
+pub mod Slots
+pub mod Marking
+pub mod Phases
+pub mod Updates
+pub mod StandsFor
+pub mod Log

@@ -58,7 +58,7 @@ first_or_zero (w ∷ ws) = w
 -- the word of the latest synchronize with data word (17), and 0 after synchronize (1) and reset (8)
 unfoldable pub sync_word : ℕ → History → ℕ
 sync_word own h =
-    latest own (λ e. is_good_mode own false 17 e || is_good_mode own true 1 e || is_good_mode own true 8 e) (λ e. first_or_zero (words_of e)) 0 h
+    latest own (λ e. is_good_mode own false 17 e || is_good_mode own true 1 e || is_good_mode own true 8 e) (λ e. if code_of e.window.command == 17 then first_or_zero (words_of e) else 0) 0 h
 
 -- the result of the self test when one was initiated last (3)
 unfoldable pub bit_word : ℕ → History → ℕ

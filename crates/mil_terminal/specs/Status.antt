@@ -1,21 +1,12 @@
 -- The status word of a terminal (MIL-STD-1553B 4.3.3.5.3), as a query on its history.
 use Rattle.std.specs.Prelude.{ℕ, ◌+◌, ◌*◌, ◌^◌, Bool, true, false, ◌&&◌, not, if◌then◌else◌}
 use Rattle.mil_word.specs.Fields.{is_broadcast}
+use Rattle.mil_terminal.specs.declared.conditions.Conditions.{Conditions}
 use Rattle.mil_terminal.specs.History.{History}
 use Rattle.mil_terminal.specs.Host.{requests_service, is_busy, has_subsystem_fault, accepts_control, has_fault}
 use Rattle.mil_terminal.specs.Windows.{Ended}
 use Rattle.mil_terminal.specs.Verdicts.{verdict, is_good}
 use Rattle.mil_terminal.specs.Registers.{latest, is_good_mode, is_flag_inhibited, is_question}
-
--- the conditions that a status word tells; terminals here never set its instrumentation bit (own choice)
-pub record Conditions : Type 0 where
-  pub message_error : Bool
-  pub service_request : Bool
-  pub broadcast : Bool
-  pub busy : Bool
-  pub subsystem : Bool
-  pub control : Bool
-  pub terminal : Bool
 
 -- whether the terminal flag is inhibited for the status of this window: by an inhibition (6) and its override (7)
 -- at once, by a reset (8) afterwards (own choice)

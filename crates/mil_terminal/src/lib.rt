@@ -1,8 +1,24 @@
 //! A remote terminal of MIL-STD-1553B with Notice 2.
 #![tactic(auto)]
 
-pub mod events;
-pub mod replies;
+mod addresses;
+mod blocks;
+mod conditions;
+mod events;
+mod host;
+mod log;
+mod marks;
+mod pending;
+mod registers;
+mod replies;
+mod sounds;
+mod switches;
+mod synced;
+mod terminals;
+#[cfg(test)]
+mod tests;
 
+pub use conditions::Conditions;
 pub use events::Event;
 pub use replies::Reply;
+pub use terminals::{Terminal, TerminalError};

@@ -1,0 +1,74 @@
+-- What the host has set, after one more action.
+use Rattle.std.proofs.Common.{◌≡◌, ℕ, ◌<◌, ◌≤◌, ◌∷◌, refl, sym, ◌∙◌}
+use Rattle.std.specs.Prelude.{Bool, true, false, List, Option, Some, None, if◌then◌else◌, unwrap_or}
+use Rattle.mil_host.specs.Values.{PutUp, Marked}
+use Rattle.mil_host.specs.declared.actions.Action.{Action}
+use Rattle.mil_host.specs.declared.actions.Action.TheVariants.{Transmit, Busy, Service, Subsystem, Fault, Control, Vector, SelfTest, Illegal, Legal, Response}
+use Rattle.mil_terminal.specs.declared.events.Event.{Event}
+use Rattle.mil_terminal.specs.declared.events.Event.TheVariants.{Host}
+use Rattle.mil_terminal.specs.History.{History}
+use Rattle.mil_terminal.specs.Host.{is_mark, is_marked_illegal}
+use Rattle.mil_terminal.specs.Registers.{vector}
+use Rattle.mil_terminal.specs.Marking.{is_set}
+use Rattle.mil_terminal.specs.declared.marks.Marks.{Marks}
+use Rattle.mil_terminal.specs.declared.host.Settings.{Settings}
+use Rattle.mil_terminal.specs.StandsFor.{AreSettings}
+
+module _ (s : Settings) (h : History) (is : AreSettings s h) where
+  pub set_transmit : (put : PutUp) → AreSettings s (Host (Transmit put) ∷ h)
+  unfolding vector
+  set_transmit put = record { busy = is.busy; service = is.service; subsystem = is.subsystem; fault = is.fault; control = is.control; vector = is.vector; self_test = is.self_test; response = is.response; marks = is.marks }
+
+  pub set_busy : (on : Bool) → AreSettings (record s { busy = on }) (Host (Busy on) ∷ h)
+  unfolding vector
+  set_busy on = record { busy = refl; service = is.service; subsystem = is.subsystem; fault = is.fault; control = is.control; vector = is.vector; self_test = is.self_test; response = is.response; marks = is.marks }
+
+  pub set_service : (on : Bool) → AreSettings (record s { service = on }) (Host (Service on) ∷ h)
+  unfolding vector
+  set_service on = record { busy = is.busy; service = refl; subsystem = is.subsystem; fault = is.fault; control = is.control; vector = is.vector; self_test = is.self_test; response = is.response; marks = is.marks }
+
+  pub set_subsystem : (on : Bool) → AreSettings (record s { subsystem = on }) (Host (Subsystem on) ∷ h)
+  unfolding vector
+  set_subsystem on = record { busy = is.busy; service = is.service; subsystem = refl; fault = is.fault; control = is.control; vector = is.vector; self_test = is.self_test; response = is.response; marks = is.marks }
+
+  pub set_fault : (on : Bool) → AreSettings (record s { fault = on }) (Host (Fault on) ∷ h)
+  unfolding vector
+  set_fault on = record { busy = is.busy; service = is.service; subsystem = is.subsystem; fault = refl; control = is.control; vector = is.vector; self_test = is.self_test; response = is.response; marks = is.marks }
+
+  pub set_control : (on : Bool) → AreSettings (record s { control = on }) (Host (Control on) ∷ h)
+  unfolding vector
+  set_control on = record { busy = is.busy; service = is.service; subsystem = is.subsystem; fault = is.fault; control = refl; vector = is.vector; self_test = is.self_test; response = is.response; marks = is.marks }
+
+  pub set_vector : (word : ℕ) → AreSettings (record s { vector = word }) (Host (Vector word) ∷ h)
+  unfolding vector
+  set_vector word = record { busy = is.busy; service = is.service; subsystem = is.subsystem; fault = is.fault; control = is.control; vector = refl; self_test = is.self_test; response = is.response; marks = is.marks }
+
+  pub set_self_test : (word : ℕ) → AreSettings (record s { self_test = word }) (Host (SelfTest word) ∷ h)
+  unfolding vector
+  set_self_test word = record { busy = is.busy; service = is.service; subsystem = is.subsystem; fault = is.fault; control = is.control; vector = is.vector; self_test = refl; response = is.response; marks = is.marks }
+
+  pub set_response : (ticks : ℕ) → AreSettings (record s { response = ticks }) (Host (Response ticks) ∷ h)
+  unfolding vector
+  set_response ticks = record { busy = is.busy; service = is.service; subsystem = is.subsystem; fault = is.fault; control = is.control; vector = is.vector; self_test = is.self_test; response = refl; marks = is.marks }
+
+  marked : (on b old was : Bool) → old ≡ was → (if b then on else old) ≡ unwrap_or (if b then Some on else None) was
+  marked on true old was same = refl
+  marked on false old was same = same
+
+  pub set_illegal : (mark : Marked) (marks : Marks)
+      → ((t : Bool) (sub n : ℕ) → sub < 32 → 1 ≤ n → n ≤ 32 → is_set marks t sub n ≡ (if is_mark t sub n mark then true else is_set s.marks t sub n))
+      → AreSettings (record s { marks = marks }) (Host (Illegal mark) ∷ h)
+  unfolding vector
+  set_illegal mark marks set = record {
+    busy = is.busy; service = is.service; subsystem = is.subsystem; fault = is.fault; control = is.control; vector = is.vector; self_test = is.self_test; response = is.response;
+    marks = λ t sub n sub_lt n_ge n_le. set t sub n sub_lt n_ge n_le ∙ marked true (is_mark t sub n mark) (is_set s.marks t sub n) (is_marked_illegal t sub n h) (is.marks t sub n sub_lt n_ge n_le);
+  }
+
+  pub set_legal : (mark : Marked) (marks : Marks)
+      → ((t : Bool) (sub n : ℕ) → sub < 32 → 1 ≤ n → n ≤ 32 → is_set marks t sub n ≡ (if is_mark t sub n mark then false else is_set s.marks t sub n))
+      → AreSettings (record s { marks = marks }) (Host (Legal mark) ∷ h)
+  unfolding vector
+  set_legal mark marks set = record {
+    busy = is.busy; service = is.service; subsystem = is.subsystem; fault = is.fault; control = is.control; vector = is.vector; self_test = is.self_test; response = is.response;
+    marks = λ t sub n sub_lt n_ge n_le. set t sub n sub_lt n_ge n_le ∙ marked false (is_mark t sub n mark) (is_set s.marks t sub n) (is_marked_illegal t sub n h) (is.marks t sub n sub_lt n_ge n_le);
+  }

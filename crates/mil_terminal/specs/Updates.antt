@@ -1,0 +1,135 @@
+-- What each window does to the registers (inside the terminal).
+use Rattle.std.specs.Prelude.{ℕ, ◌+◌, ◌==◌, Bool, true, false, ◌&&◌, ◌||◌, not, List, [], ◌∷◌, slice_set, slice_index_or, if◌then◌else◌, Option, Some, None}
+use Rattle.mil_word.specs.declared.Line.{Line}
+use Rattle.mil_word.specs.declared.Line.TheVariants.{A, B}
+use Rattle.mil_word.specs.Words.{same_line}
+use Rattle.mil_word.specs.Fields.{address_of, is_broadcast, is_transmit, sub_of, code_of, count_of, is_mode, is_receive}
+use Rattle.mil_terminal.specs.Registers.{first_or_zero, is_question}
+use Rattle.mil_terminal.specs.Verdicts.{is_unknown}
+use Rattle.mil_terminal.specs.Marking.{is_set}
+use Rattle.mil_terminal.specs.Status.{status_word}
+use Rattle.mil_terminal.specs.Replies.{exactly}
+use Rattle.mil_terminal.specs.declared.switches.Switches.{Switches}
+use Rattle.mil_terminal.specs.declared.synced.Synced.{Synced}
+use Rattle.mil_terminal.specs.declared.host.Settings.{Settings}
+use Rattle.mil_terminal.specs.declared.conditions.Conditions.{Conditions}
+use Rattle.mil_terminal.specs.declared.pending.Pending.{Pending}
+use Rattle.mil_terminal.specs.declared.pending.Phase.TheVariants.{Start}
+use Rattle.mil_terminal.specs.declared.registers.Registers.{Registers}
+use Rattle.mil_terminal.specs.declared.replies.Reply.{Reply}
+
+-- whether the transmitter of this line is off
+abbrev pub off_on : Switches → Line → Bool
+off_on s A = s.off_a
+off_on s B = s.off_b
+
+-- whether a good command is this mode code of a transmit command
+abbrev pub is_code : ℕ → ℕ → Bool
+is_code c code = is_mode c && is_transmit c && code_of c == code
+
+-- whether a transmitter is off after a good command that was heard on the other line or not
+abbrev pub off_after : ℕ → Bool → Bool → Bool
+off_after c heard_on_other off =
+    if is_code c 8 then false
+    else if heard_on_other && is_code c 4 then true
+    else if heard_on_other && is_code c 5 then false
+    else off
+
+abbrev pub inhibited_after : ℕ → Bool → Bool
+inhibited_after c inhibited = if is_code c 6 then true else if is_code c 7 then false else if is_code c 8 then false else inhibited
+
+abbrev pub switched : Switches → Line → ℕ → Switches
+switched s line c = record {
+  off_a = off_after c (not (same_line line A)) s.off_a;
+  off_b = off_after c (not (same_line line B)) s.off_b;
+  inhibited = inhibited_after c s.inhibited;
+}
+
+abbrev pub inhibited_for : Switches → ℕ → Bool → Bool
+inhibited_for s c good = if good && is_code c 6 then true else if good && is_code c 7 then false else s.inhibited
+
+abbrev pub synchronized : Synced → ℕ → List ℕ → ℕ → Synced
+synchronized s c words self_test = record {
+  sync_word =
+      if is_mode c && not (is_transmit c) && code_of c == 17 then first_or_zero words
+      else if is_code c 1 then 0
+      else if is_code c 8 then 0
+      else s.sync_word;
+  bit_word = if is_code c 3 then self_test else s.bit_word;
+}
+
+-- the slot of a receive command's words
+abbrev pub slot_of : ℕ → ℕ
+slot_of c = if is_broadcast c then 32 + sub_of c else sub_of c
+
+abbrev pub stored : List (List ℕ) → ℕ → Bool → List ℕ → List (List ℕ)
+stored block c busy words = if is_receive c && not busy then slice_set block (slot_of c) words else block
+
+-- whether the command is illegal
+abbrev pub is_barred : Registers → ℕ → Bool
+is_barred r c = is_unknown c || not (is_mode c) && is_set r.host.marks (is_transmit c) (sub_of c) (count_of c)
+
+-- the conditions that a window sets
+abbrev pub conditions_set : Registers → ℕ → Bool → Conditions
+conditions_set r c good = record {
+  message_error = not good;
+  service_request = r.host.service;
+  broadcast = is_broadcast c;
+  busy = r.host.busy;
+  subsystem = r.host.subsystem;
+  control = good && is_code c 0 && r.host.control;
+  terminal = r.host.fault && not (inhibited_for r.switches c good);
+}
+
+abbrev pub told : Registers → ℕ → Bool → Registers
+told r c good = record r { conditions = if is_question r.own c then r.conditions else conditions_set r c good }
+
+abbrev pub acted : Registers → Line → ℕ → List ℕ → Registers
+acted r line c words = record r {
+  switches = switched r.switches line c;
+  synced = synchronized r.synced c words r.host.self_test;
+  block = stored r.block c r.host.busy words;
+}
+
+-- the registers after a window that ended by a quiet
+abbrev pub settled : Registers → Line → ℕ → Bool → List ℕ → Registers
+settled r line c true words = acted (told r c true) line c words
+settled r line c false words = told r c false
+
+-- a window that another one cuts short
+abbrev pub cut : Option Pending → Registers → Registers
+cut None r = r
+cut (Some p) r = told r p.command false
+
+abbrev pub opened : Registers → Line → ℕ → Registers
+opened r line c = record (cut r.window r) {
+  window = Some (record { line = line; command = c; phase = Start; words = record { items = [] } });
+  last_command = if is_question r.own c && code_of c == 18 then r.last_command else c;
+}
+
+-- ---- the reply
+
+abbrev pub put_up_at : Registers → ℕ → List ℕ
+put_up_at r sub = if sub == 30 then slice_index_or r.block 30 [] else slice_index_or r.block (64 + sub) []
+
+abbrev pub mode_data_now : Registers → ℕ → List ℕ
+mode_data_now r code =
+    if code == 18 then r.last_command ∷ []
+    else if r.host.busy then []
+    else if code == 16 then r.host.vector ∷ []
+    else if code == 19 then r.synced.bit_word ∷ []
+    else []
+
+abbrev pub data_now : Registers → ℕ → List ℕ
+data_now r c =
+    if is_transmit c
+    then (if is_mode c then mode_data_now r (code_of c)
+          else if r.host.busy then []
+          else exactly (count_of c) (put_up_at r (sub_of c)))
+    else []
+
+abbrev pub answer_now : Registers → ℕ → Bool → Reply
+answer_now r c good = record {
+  gap = r.host.response;
+  words = record { items = status_word r.own r.conditions ∷ (if good then data_now r c else []) };
+}

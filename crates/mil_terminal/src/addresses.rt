@@ -1,0 +1,39 @@
+//! The address of a terminal.
+ghost use Rattle.std.specs.Prelude.{◌≡◌, ◌≤◌};
+
+use std::marker::Model;
+
+/// The address of one remote terminal, 0 to 30: 31 is that of all (MIL-STD-1553B 4.3.3.5.1.2).
+#[derive(Clone, Copy, Debug)]
+pub struct Address {
+    value: u8,
+}
+
+impl Model for Address {
+    ghost use Rattle.std.specs.Prelude.{ℕ, ◌≤◌};
+
+    ghost Value = { ℕ };
+
+    ghost view = { λ a. a.value };
+
+    ghost invariant = { λ a. a.value ≤ 30 };
+
+    ghost inverse = { λ n. record { value = n } };
+}
+
+impl Address {
+    pub fn of(value: u8) -> Address
+        requires { value ≤ 30 }
+        ensures { result ≡ value }
+    {
+        Address { value }
+    }
+
+    #[inline]
+    pub fn value(self) -> u8
+        ensures value { result ≡ self }
+        ensures range { result ≤ 30 }
+    {
+        self.value
+    }
+}

@@ -1,0 +1,70 @@
+//! The words that a terminal keeps, in one flat block.
+ghost use Rattle.std.specs.Prelude.{◌≡◌, ℕ, ◌<◌, ◌≤◌, List, [], ◌∷◌, IfOk, length, replicate, slice_set, slice_index_or};
+
+use std::alloc::{AllocError, Global};
+use std::marker::Model;
+
+/// How many lists of words a block has: for each of 32 subaddresses those received, those received from all, and those put up.
+pub const SLOTS: usize = 96;
+
+/// 96 lists of at most 32 words each, in one block of memory.
+#[derive(Drop)]
+pub struct Block {
+    words: Vec<u16>,
+    counts: [u8; 96],
+}
+
+impl Model for Block {
+    ghost use Rattle.std.specs.Prelude.{◌≡◌, ℕ, ◌≤◌, ◌<◌, List, length, vec_len, slice_index};
+    ghost use Rattle.mil_terminal.specs.Slots.{slots};
+
+    ghost Value = { List (List ℕ) };
+
+    ghost view = { λ b. slots b.counts b.words.items };
+
+    ghost invariant = { λ b. (vec_len b.words ≡ 3072) × (length b.counts ≡ 96) × ((i : ℕ) → i < 96 → slice_index b.counts i ≤ 32) };
+}
+
+impl Block {
+    /// A block of empty lists. All its memory is taken here.
+    pub fn empty(alloc: Global) -> Result<Block, AllocError>
+        ensures { IfOk result (λ b. b ≡ replicate 96 []) }
+    {
+        let words = vec![in alloc; 0u16; 3072]?;
+        Ok(Block {
+            words,
+            counts: [0; 96],
+        })
+    }
+
+    /// The words of a slot.
+    pub fn at(&self, slot: usize) -> &[u16]
+        requires { slot < 96 }
+        ensures value { result.now ≡ slice_index_or self.now slot [] }
+        ensures few { length result.now ≤ 32 }
+    {
+        let start = 32 * slot;
+        &self.words[start..start + self.counts[slot] as usize]
+    }
+
+    /// Puts words into a slot, in place of those that were there.
+    pub fn store(&mut self, slot: usize, words: &[u16])
+        requires slot { slot < 96 }
+        requires few { length words.now ≤ 32 }
+        ensures { self.new ≡ slice_set self.old slot words.now }
+    {
+        let start = 32 * slot;
+        self.words[start..start + words.len()].copy_from_slice(words);
+        self.counts[slot] = words.len() as u8;
+    }
+
+    /// The same words, in a block of their own.
+    pub fn copy(&self, alloc: Global) -> Result<Block, AllocError>
+        ensures { IfOk result (λ b. b ≡ self.now) }
+    {
+        Ok(Block {
+            words: Vec::from_slice(alloc, self.words.as_slice())?,
+            counts: self.counts,
+        })
+    }
+}

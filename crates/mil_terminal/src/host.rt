@@ -1,0 +1,79 @@
+//! What the host has set.
+ghost use Rattle.std.specs.Prelude.{◌≡◌, [], ◌∷◌};
+ghost use Rattle.mil_terminal.specs.declared.events.Event.TheVariants.{Host as host_event};
+ghost use Rattle.mil_terminal.specs.History.{History};
+
+use crate::marks::Marks;
+use mil_host::Action;
+use mil_line::Gap;
+
+/// The latest setting of each kind, the words that are put up excepted.
+#[derive(Drop)]
+pub struct Settings {
+    pub busy: bool,
+    pub service: bool,
+    pub subsystem: bool,
+    pub fault: bool,
+    pub control: bool,
+    pub vector: u16,
+    pub self_test: u16,
+    pub response: Gap,
+    pub marks: Marks,
+}
+
+impl Settings {
+    ghost use Rattle.mil_terminal.specs.StandsFor.{AreSettings};
+
+    /// The settings before any action.
+    pub fn at_first() -> Settings
+        ensures { AreSettings result [] }
+    {
+        Settings {
+            busy: false,
+            service: false,
+            subsystem: false,
+            fault: false,
+            control: false,
+            vector: 0,
+            self_test: 0,
+            response: Gap::of(80),
+            marks: Marks::none(),
+        }
+    }
+
+    /// One more action.
+    pub fn set(&mut self, action: &Action)
+        ensures { (h : History) → AreSettings self.old h → AreSettings self.new (host_event action.now ∷ h) }
+    {
+        match action {
+            Action::Transmit(_) => {}
+            Action::Busy(on) => self.busy = *on,
+            Action::Service(on) => self.service = *on,
+            Action::Subsystem(on) => self.subsystem = *on,
+            Action::Fault(on) => self.fault = *on,
+            Action::Control(on) => self.control = *on,
+            Action::Vector(word) => self.vector = *word,
+            Action::SelfTest(word) => self.self_test = *word,
+            Action::Illegal(mark) => self.marks.set(*mark, true),
+            Action::Legal(mark) => self.marks.set(*mark, false),
+            Action::Response(gap) => self.response = Gap::of(u16::from(gap.ticks())),
+        }
+    }
+
+    /// The same settings.
+    pub fn copy(&self) -> Settings
+        ensures { result ≡ self.now }
+    {
+        Settings {
+            busy: self.busy,
+            service: self.service,
+            subsystem: self.subsystem,
+            fault: self.fault,
+            control: self.control,
+            vector: self.vector,
+            self_test: self.self_test,
+            response: self.response,
+            marks: self.marks.copy(),
+        }
+    }
+}

@@ -1,0 +1,65 @@
+//! The commands that the host has marked as illegal.
+ghost use Rattle.std.specs.Prelude.{◌≡◌, ℕ, ◌+◌, Bool, false, ◌<◌, ◌≤◌, if◌then◌else◌};
+ghost use Rattle.mil_terminal.specs.Host.{is_mark};
+
+use mil_host::Mark;
+
+/// A bit for each direction, subaddress and count: a row of 32 counts for each subaddress, receive commands first.
+#[derive(Drop)]
+pub struct Marks {
+    rows: [u32; 64],
+}
+
+fn row_of(transmit: bool, sub: u8) -> usize
+    requires { sub < 32 }
+    ensures value { result ≡ (if transmit then 32 + sub else sub) }
+    ensures range { result < 64 }
+{
+    if transmit {
+        32 + sub as usize
+    } else {
+        sub as usize
+    }
+}
+
+impl Marks {
+    ghost use Rattle.mil_terminal.specs.Marking.{is_set};
+
+    /// Nothing is marked.
+    pub fn none() -> Marks
+        ensures { (t : Bool) (s n : ℕ) → is_set result t s n ≡ false }
+    {
+        Marks { rows: [0; 64] }
+    }
+
+    /// Sets or clears a mark.
+    pub fn set(&mut self, mark: Mark, on: bool)
+        ensures { (t : Bool) (s n : ℕ) → s < 32 → 1 ≤ n → n ≤ 32
+            → is_set self.new t s n ≡ (if is_mark t s n mark then on else is_set self.old t s n) }
+    {
+        let row = row_of(mark.transmit(), mark.sub());
+        let place = u32::from(mark.count() - 1);
+        if on {
+            self.rows[row] |= 1 << place;
+        } else {
+            self.rows[row] &= !(1 << place);
+        }
+    }
+
+    /// Whether commands of this direction, subaddress and count are marked.
+    pub fn has(&self, transmit: bool, sub: u8, count: u8) -> bool
+        requires sub_range { sub < 32 }
+        requires count_low { 1 ≤ count }
+        requires count_high { count ≤ 32 }
+        ensures { result ≡ is_set self.now transmit sub count }
+    {
+        self.rows[row_of(transmit, sub)] >> (count - 1) & 1 == 1
+    }
+
+    /// The same marks.
+    pub fn copy(&self) -> Marks
+        ensures { result ≡ self.now }
+    {
+        Marks { rows: self.rows }
+    }
+}

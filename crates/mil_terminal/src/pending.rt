@@ -1,0 +1,212 @@
+//! An undecided window, by a small state for each word.
+ghost use Rattle.std.specs.Prelude.{◌≡◌, ℕ, ◌<◌, ◌≤◌, List, [], ◌∷◌, ◌++◌, Some, None, IfSome, IfNone, true, false, if◌then◌else◌};
+ghost use Rattle.std.specs.List.{filter_map};
+ghost use Rattle.mil_word.specs.Words.{same_line as same};
+ghost use Rattle.mil_terminal.specs.declared.events.Event.{Event};
+ghost use Rattle.mil_terminal.specs.declared.events.Event.TheVariants.{Heard, Quiet};
+ghost use Rattle.mil_terminal.specs.Windows as windows;
+ghost use Rattle.mil_terminal.specs.Verdicts as verdicts;
+ghost use Rattle.mil_terminal.specs.Registers.{value_of};
+ghost use Rattle.mil_terminal.specs.Phases as phases;
+
+use crate::addresses::Address;
+use crate::sounds::Sound;
+use arrayvec::ArrayVec;
+use mil_line::Gap;
+use mil_word::{Command, Line};
+
+/// What was heard in a window so far.
+#[derive(Clone, Copy, Debug)]
+pub enum Phase {
+    /// Nothing was heard yet.
+    Start,
+    /// Due words so far, and nothing else.
+    Taking,
+    /// Another terminal was told to send.
+    Called(u8),
+    /// What it sends is due.
+    Waiting(u8),
+    /// The shape is lost, with two quiets to come.
+    LostTransfer,
+    /// The shape is lost, with one quiet to come.
+    Lost,
+}
+
+/// A window that is not decided yet, and its due words so far.
+#[derive(Drop)]
+pub struct Pending {
+    pub line: Line,
+    pub command: Command,
+    pub phase: Phase,
+    pub words: ArrayVec<u16, 32>,
+}
+
+pub fn same_line(one: Line, other: Line) -> bool
+    ensures { result ≡ same one other }
+{
+    match (one, other) {
+        (Line::A, Line::A) | (Line::B, Line::B) => true,
+        (Line::A, Line::B) | (Line::B, Line::A) => false,
+    }
+}
+
+/// The data words that a command announces, 0 to 32.
+pub fn words_due(command: Command) -> usize
+    ensures value { result ≡ verdicts.words_due command }
+    ensures few { result ≤ 32 }
+{
+    if command.is_receive() {
+        command.count() as usize
+    } else if command.is_mode() && !command.is_transmit() && 16 <= command.code() {
+        1
+    } else {
+        0
+    }
+}
+
+/// The terminal that is to send, where the first word of a receive window is a command to it.
+fn sender_called(own: Address, command: Command, sound: &Sound, gap: Gap) -> Option<u8>
+    ensures { result ≡ windows.sender_called own command sound.now gap }
+{
+    match sound.command() {
+        Some(called) => {
+            if command.is_receive()
+                && gap.is_contiguous()
+                && called.is_transmit()
+                && !called.is_mode()
+                && called.address() != own.value()
+                && !called.is_broadcast()
+            {
+                Some(called.address())
+            } else {
+                None
+            }
+        }
+        None => None,
+    }
+}
+
+/// Whether the word is the status of the sender, no later than is allowed.
+fn is_answer(sender: u8, sound: &Sound, gap: Gap) -> bool
+    ensures { result ≡ phases.is_answer sender sound.now gap }
+{
+    match sound.command() {
+        Some(status) => status.address() == sender && gap.ticks() <= 170,
+        None => false,
+    }
+}
+
+impl Pending {
+    ghost use Rattle.mil_terminal.specs.Phases.{with_due, due_value, after_word, decides, shape_now, phase_after_quiet, window_of, IsPending};
+
+    /// A window that was just opened.
+    pub fn open(line: Line, command: Command) -> Pending
+        ensures { result ≡ record { line = line; command = command; phase = Phase.Start; words = record { items = [] } } }
+    {
+        Pending {
+            line,
+            command,
+            phase: Phase::Start,
+            words: ArrayVec::new(),
+        }
+    }
+
+    /// The same window.
+    pub fn copy(&self) -> Pending
+        ensures { result ≡ self.now }
+    {
+        let mut words = ArrayVec::new();
+        let _ = words.try_extend_from_slice(self.words.as_slice());
+        Pending {
+            line: self.line,
+            command: self.command,
+            phase: self.phase,
+            words,
+        }
+    }
+
+    /// A word in a place where a due word may stand.
+    fn take_due(&mut self, sound: &Sound, gap: Gap)
+        ensures { self.new ≡ with_due (due_value self.old sound.now gap) self.old }
+    {
+        let value = if gap.is_contiguous() && self.words.len() < words_due(self.command) {
+            sound.data()
+        } else {
+            None
+        };
+        match value {
+            Some(value) => {
+                self.words.push(value);
+                self.phase = Phase::Taking;
+            }
+            None => self.phase = Phase::Lost,
+        }
+    }
+
+    /// One more word on the line.
+    pub fn take_word(&mut self, own: Address, sound: &Sound, gap: Gap)
+        ensures pending { (items : List Event) → IsPending own self.old items
+            → IsPending own self.new (items ++ Heard self.old.line sound.now gap ∷ []) }
+        ensures line { self.new.line ≡ self.old.line }
+        ensures command { self.new.command ≡ self.old.command }
+    {
+        self.follow_word(own, sound, gap);
+    }
+
+    /// A quiet on the line: the shape of the window, where it decides it.
+    pub fn take_quiet(&mut self) -> Option<bool>
+        ensures decided { (own : ℕ) (items : List Event) → IsPending own self.old items → IfSome result (λ shape.
+            (windows.is_decided own (window_of self.old (items ++ Quiet self.old.line ∷ [])) ≡ true)
+            × (verdicts.has_good_shape own (window_of self.old (items ++ Quiet self.old.line ∷ [])) ≡ shape)
+            × (shape ≡ true → filter_map value_of (items ++ Quiet self.old.line ∷ []) ≡ self.old.words.items)) }
+        ensures pending { (own : ℕ) (items : List Event) → IsPending own self.old items → IfNone result (
+            (windows.is_decided own (window_of self.old (items ++ Quiet self.old.line ∷ [])) ≡ false)
+            × IsPending own self.new (items ++ Quiet self.old.line ∷ [])) }
+        ensures words { self.new.words ≡ self.old.words }
+        ensures line { self.new.line ≡ self.old.line }
+        ensures command { self.new.command ≡ self.old.command }
+    {
+        self.follow_quiet()
+    }
+
+    fn follow_quiet(&mut self) -> Option<bool>
+        ensures result { result ≡ (if decides self.old.phase then Some (shape_now self.old self.old.phase) else None) }
+        ensures after { self.new ≡ record self.old { phase = phase_after_quiet self.old.phase } }
+    {
+        match self.phase {
+            Phase::Start => Some(words_due(self.command) == 0),
+            Phase::Taking => Some(words_due(self.command) == self.words.len()),
+            Phase::Called(sender) => {
+                self.phase = Phase::Waiting(sender);
+                None
+            }
+            Phase::Waiting(_) => Some(false),
+            Phase::LostTransfer => {
+                self.phase = Phase::Lost;
+                None
+            }
+            Phase::Lost => Some(false),
+        }
+    }
+
+    fn follow_word(&mut self, own: Address, sound: &Sound, gap: Gap)
+        ensures { self.new ≡ after_word own self.old self.old.phase sound.now gap }
+    {
+        match self.phase {
+            Phase::Start => match sender_called(own, self.command, sound, gap) {
+                Some(sender) => self.phase = Phase::Called(sender),
+                None => self.take_due(sound, gap),
+            },
+            Phase::Taking => self.take_due(sound, gap),
+            Phase::Called(_) => self.phase = Phase::LostTransfer,
+            Phase::Waiting(sender) => {
+                self.phase = if is_answer(sender, sound, gap) {
+                    Phase::Taking
+                } else {
+                    Phase::Lost
+                };
+            }
+            Phase::LostTransfer | Phase::Lost => {}
+        }
+    }
+}

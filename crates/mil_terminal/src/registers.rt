@@ -1,0 +1,401 @@
+//! The registers of a terminal, which stand for its history.
+ghost use Rattle.std.specs.Prelude.{◌≡◌, ℕ, ◌+◌, ◌≤◌, ◌<◌, ◌==◌, ◌&&◌, not, List, [], ◌∷◌, IfOk, length, slice_index_or, ◌++◌, Some, None, if◌then◌else◌};
+ghost use Rattle.mil_word.specs.Wave.{word_of};
+ghost use Rattle.mil_terminal.specs.declared.events.Event.TheVariants.{Heard, Quiet, Host};
+ghost use Rattle.mil_terminal.specs.History.{History};
+ghost use Rattle.mil_terminal.specs.Registers as registers;
+ghost use Rattle.mil_terminal.specs.Status.{status};
+ghost use Rattle.mil_terminal.specs.Replies as replies;
+ghost use Rattle.mil_terminal.specs.Replies.{exactly};
+ghost use Rattle.mil_word.specs.Fields.{address_of};
+ghost use Rattle.mil_terminal.specs.Updates.{is_code};
+ghost use Rattle.mil_terminal.specs.Verdicts.{is_unknown as unknown};
+ghost use Rattle.mil_terminal.specs.Windows.{is_listening};
+ghost use Rattle.std.specs.Option.{option_to_list};
+ghost use Rattle.arrayvec.specs.ArrayVec.{array_vec_len};
+
+use crate::addresses::Address;
+use crate::blocks::Block;
+use crate::conditions::Conditions;
+use crate::host::Settings;
+use crate::pending::{Pending, same_line};
+use crate::replies::Reply;
+use crate::sounds::Sound;
+use crate::switches::Switches;
+use crate::synced::Synced;
+use arrayvec::ArrayVec;
+use mil_host::Action;
+use mil_line::Gap;
+use mil_mode::{broadcast_allowed, is_legal_mode};
+use mil_word::{Command, Line};
+use std::alloc::{AllocError, Global};
+
+/// All that a terminal keeps.
+#[derive(Drop)]
+pub struct Registers {
+    pub own: Address,
+    pub window: Option<Pending>,
+    pub host: Settings,
+    pub conditions: Conditions,
+    pub switches: Switches,
+    pub synced: Synced,
+    pub last_command: u16,
+    pub block: Block,
+}
+
+/// Whether the command leaves the status as it was.
+fn is_question(own: Address, command: Command) -> bool
+    ensures { result ≡ registers.is_question own command }
+{
+    command.address() == own.value()
+        && command.is_transmit()
+        && command.is_mode()
+        && (command.code() == 2 || command.code() == 18)
+}
+
+/// Whether no terminal here carries the command out.
+fn is_unknown(command: Command) -> bool
+    ensures { result ≡ unknown command }
+{
+    if command.is_mode() {
+        !is_legal_mode(command.is_transmit(), command.code())
+            || command.is_broadcast()
+                && !broadcast_allowed(command.is_transmit(), command.code())
+    } else {
+        command.is_broadcast() && command.is_transmit()
+    }
+}
+
+impl Registers {
+    ghost use Rattle.mil_terminal.specs.StandsFor.{StandsFor};
+    ghost use Rattle.mil_terminal.specs.Updates.{told, opened, settled, stored, off_on, answer_now, mode_data_now, put_up_at, is_barred};
+
+    /// The registers of a terminal that has met nothing yet. All room is made here.
+    pub fn make(alloc: Global, own: Address) -> Result<Registers, AllocError>
+        ensures stands { IfOk result (λ r. StandsFor r []) }
+        ensures own { IfOk result (λ r. r.own ≡ own) }
+    {
+        let block = Block::empty(alloc)?;
+        Ok(Registers {
+            own,
+            window: None,
+            host: Settings::at_first(),
+            conditions: Conditions::none(),
+            switches: Switches::none(),
+            synced: Synced::none(),
+            last_command: 0,
+            block,
+        })
+    }
+
+    /// A word on a line.
+    pub fn hear(&mut self, line: Line, sound: &Sound, gap: Gap)
+        ensures stands { (h : History) → StandsFor self.old h → StandsFor self.new (Heard line sound.now gap ∷ h) }
+        ensures own { self.new.own ≡ self.old.own }
+    {
+        match sound.command_to(self.own) {
+            Some(command) => self.open(line, command),
+            None => {
+                if let Some(pending) = &mut self.window {
+                    if same_line(line, pending.line) {
+                        pending.take_word(self.own, sound, gap);
+                    }
+                }
+            }
+        }
+    }
+
+    /// The status that a window sets when it ends.
+    fn tell(&mut self, command: Command, good: bool)
+        ensures { self.new ≡ told self.old command good }
+    {
+        if !is_question(self.own, command) {
+            self.conditions = Conditions {
+                message_error: !good,
+                service_request: self.host.service,
+                broadcast: command.is_broadcast(),
+                busy: self.host.busy,
+                subsystem: self.host.subsystem,
+                control: good && is_bus_control(command) && self.host.control,
+                terminal: self.host.fault && !self.switches.inhibits(command, good),
+            };
+        }
+    }
+
+    fn open(&mut self, line: Line, command: Command)
+        ensures { self.new ≡ opened self.old line command }
+    {
+        if let Some(pending) = self.window.take() {
+            self.tell(pending.command, false);
+        }
+        self.window = Some(Pending::open(line, command));
+        if !(is_question(self.own, command) && command.code() == 18) {
+            self.last_command = command.value();
+        }
+    }
+
+    /// A quiet on a line, and what the terminal answers.
+    pub fn quiet(&mut self, line: Line) -> Option<Reply>
+        ensures stands { (h : History) → StandsFor self.old h → StandsFor self.new (Quiet line ∷ h) }
+        ensures own { self.new.own ≡ self.old.own }
+        ensures reply { (h : History) → StandsFor self.old h → result ≡ replies.reply self.old.own line h }
+    {
+        match self.window.take() {
+            None => None,
+            Some(mut pending) => {
+                if same_line(line, pending.line) {
+                    match pending.take_quiet() {
+                        None => {
+                            self.window = Some(pending);
+                            None
+                        }
+                        Some(shape) => self.settle(pending, shape),
+                    }
+                } else {
+                    self.window = Some(pending);
+                    None
+                }
+            }
+        }
+    }
+
+    /// A window that its last quiet ends.
+    fn settle(&mut self, pending: Pending, shape: bool) -> Option<Reply>
+        ensures after { self.new ≡ settled self.old pending.line pending.command (shape && not (is_barred self.old pending.command)) pending.words.items }
+        ensures reply { result ≡ (if shape && address_of pending.command == self.old.own && not (off_on self.old.switches pending.line)
+            then Some (answer_now self.new pending.command (shape && not (is_barred self.old pending.command))) else None) }
+    {
+        let Pending {
+            line,
+            command,
+            phase: _,
+            words,
+        } = pending;
+        let answers = shape && command.address() == self.own.value() && self.switches.is_on(line);
+        let good = shape && !self.bars(command);
+        self.conclude(line, command, good, words.as_slice());
+        if answers {
+            Some(self.answer(command, good))
+        } else {
+            None
+        }
+    }
+
+    /// Whether the command is illegal: unknown here, or marked by the host.
+    fn bars(&self, command: Command) -> bool
+        ensures { result ≡ is_barred self.now command }
+    {
+        is_unknown(command)
+            || !command.is_mode()
+                && self
+                    .host
+                    .marks
+                    .has(command.is_transmit(), command.subaddress(), command.count())
+    }
+
+    fn conclude(&mut self, line: Line, command: Command, good: bool, words: &[u16])
+        requires { length words.now ≤ 32 }
+        ensures { self.new ≡ settled self.old line command good words.now }
+    {
+        self.tell(command, good);
+        if good {
+            self.switches.act(line, command);
+            self.synced.act(command, words, self.host.self_test);
+            self.store(command, words);
+        }
+    }
+
+    /// The words of a good receive command go into their slot.
+    fn store(&mut self, command: Command, words: &[u16])
+        requires { length words.now ≤ 32 }
+        ensures { self.new ≡ record self.old { block = stored self.old.block command self.old.host.busy words.now } }
+    {
+        if command.is_receive() && !self.host.busy {
+            let sub = command.subaddress() as usize;
+            if command.is_broadcast() {
+                self.block.store(32 + sub, words);
+            } else {
+                self.block.store(sub, words);
+            }
+        }
+    }
+
+    /// The status, and behind it the data words of a good command.
+    fn answer(&self, command: Command, good: bool) -> Reply
+        ensures { result ≡ answer_now self.now command good }
+    {
+        let mut words = ArrayVec::new();
+        words.push(self.conditions.word(self.own));
+        if good && command.is_transmit() {
+            if command.is_mode() {
+                if let Some(word) = self.mode_data(command.code()) {
+                    words.push(word);
+                }
+            } else if !self.host.busy {
+                push_exactly(&mut words, command.count() as usize, self.put_up(command.subaddress()));
+            }
+        }
+        Reply {
+            gap: self.host.response,
+            words,
+        }
+    }
+
+    /// The data word that a mode command is answered with, if one.
+    fn mode_data(&self, code: u8) -> Option<u16>
+        ensures { option_to_list result ≡ mode_data_now self.now code }
+    {
+        match code {
+            18 => Some(self.last_command),
+            16 if !self.host.busy => Some(self.host.vector),
+            19 if !self.host.busy => Some(self.synced.bit_word),
+            _ => None,
+        }
+    }
+
+    /// The words that a transmit command at the subaddress sends.
+    fn put_up(&self, sub: u8) -> &[u16]
+        requires { sub < 32 }
+        ensures value { result.now ≡ put_up_at self.now sub }
+        ensures few { length result.now ≤ 32 }
+    {
+        if sub == 30 {
+            self.block.at(30)
+        } else {
+            self.block.at(64 + sub as usize)
+        }
+    }
+
+    /// An action of the host.
+    pub fn act(&mut self, action: &Action)
+        ensures stands { (h : History) → StandsFor self.old h → StandsFor self.new (Host action.now ∷ h) }
+        ensures own { self.new.own ≡ self.old.own }
+    {
+        self.host.set(action);
+        if let Action::Transmit(put) = action {
+            self.block.store(64 + put.sub() as usize, put.words());
+        }
+    }
+
+    /// Whether a window is open on the line that is not decided yet.
+    pub fn listens(&self, line: Line) -> bool
+        ensures { (h : History) → StandsFor self.now h → result ≡ is_listening self.now.own line h }
+    {
+        match &self.window {
+            Some(pending) => same_line(line, pending.line),
+            None => false,
+        }
+    }
+
+    /// The status word.
+    pub fn status(&self) -> u16
+        ensures { (h : History) → StandsFor self.now h → result ≡ status self.now.own h }
+    {
+        self.conditions.word(self.own)
+    }
+
+    /// The last command.
+    pub fn last_command(&self) -> u16
+        ensures { (h : History) → StandsFor self.now h → result ≡ registers.last_command self.now.own h }
+    {
+        self.last_command
+    }
+
+    /// The vector word.
+    pub fn vector(&self) -> u16
+        ensures { (h : History) → StandsFor self.now h → result ≡ registers.vector h }
+    {
+        self.host.vector
+    }
+
+    /// The BIT word.
+    pub fn bit_word(&self) -> u16
+        ensures { (h : History) → StandsFor self.now h → result ≡ registers.bit_word self.now.own h }
+    {
+        self.synced.bit_word
+    }
+
+    /// The sync word.
+    pub fn sync_word(&self) -> u16
+        ensures { (h : History) → StandsFor self.now h → result ≡ registers.sync_word self.now.own h }
+    {
+        self.synced.sync_word
+    }
+
+    /// Whether the transmitter of the line is on.
+    pub fn transmitter_on(&self, line: Line) -> bool
+        ensures { (h : History) → StandsFor self.now h → result ≡ registers.is_transmitter_on self.now.own line h }
+    {
+        self.switches.is_on(line)
+    }
+
+    /// Whether the terminal flag is inhibited.
+    pub fn flag_inhibited(&self) -> bool
+        ensures { (h : History) → StandsFor self.now h → result ≡ registers.is_flag_inhibited self.now.own h }
+    {
+        self.switches.inhibited
+    }
+
+    /// The words that were received at the subaddress.
+    pub fn received(&self, sub: u8) -> &[u16]
+        requires { sub < 32 }
+        ensures { (h : History) → StandsFor self.now h → result.now ≡ registers.received self.now.own sub h }
+    {
+        self.block.at(sub as usize)
+    }
+
+    /// The words that were received there from all.
+    pub fn received_from_all(&self, sub: u8) -> &[u16]
+        requires { sub < 32 }
+        ensures { (h : History) → StandsFor self.now h → result.now ≡ registers.received_from_all self.now.own sub h }
+    {
+        self.block.at(32 + sub as usize)
+    }
+
+    /// The words that a transmit command there sends.
+    pub fn transmit_words(&self, sub: u8) -> &[u16]
+        requires { sub < 32 }
+        ensures { (h : History) → StandsFor self.now h → result.now ≡ registers.transmit_words self.now.own sub h }
+    {
+        self.put_up(sub)
+    }
+
+    /// The same registers.
+    pub fn copy(&self, alloc: Global) -> Result<Registers, AllocError>
+        ensures { IfOk result (λ r. r ≡ self.now) }
+    {
+        let block = self.block.copy(alloc)?;
+        Ok(Registers {
+            own: self.own,
+            window: match &self.window {
+                Some(pending) => Some(pending.copy()),
+                None => None,
+            },
+            host: self.host.copy(),
+            conditions: self.conditions,
+            switches: self.switches,
+            synced: self.synced,
+            last_command: self.last_command,
+            block,
+        })
+    }
+}
+
+/// Whether this is the mode code that offers dynamic bus control.
+fn is_bus_control(command: Command) -> bool
+    ensures { result ≡ is_code command 0 }
+{
+    command.is_mode() && command.is_transmit() && command.code() == 0
+}
+
+/// So many words: the first of these, and zeros where there are fewer.
+fn push_exactly(words: &mut ArrayVec<u16, 33>, count: usize, from: &[u16])
+    requires { array_vec_len words.old + count ≤ 33 }
+    ensures { words.new.items ≡ words.old.items ++ exactly count from.now }
+{
+    let taken = if count < from.len() { count } else { from.len() };
+    let _ = words.try_extend_from_slice(&from[..taken]);
+    for _ in 0..count - taken {
+        words.push(0);
+    }
+}

@@ -1,0 +1,258 @@
+//! The remote terminal.
+ghost use Rattle.std.specs.Prelude.{◌≡◌, ◌<◌, ◌≤◌, ◌↔◌, ◌/◌, ◌^◌, ◌==◌, Err, None, [], ◌∷◌, true, false, IfOk};
+ghost use Rattle.mil_word.specs.Wave.{word_of};
+ghost use Rattle.mil_terminal.specs.declared.events.Event.TheVariants.{Heard, Quiet, Host};
+ghost use Rattle.mil_terminal.specs.Registers as registers;
+ghost use Rattle.mil_terminal.specs.Replies as replies;
+ghost use Rattle.mil_terminal.specs.Status as statuses;
+ghost use Rattle.mil_terminal.specs.Windows as windows;
+ghost use Rattle.mil_terminal.specs.Station.{after};
+ghost use Rattle.mil_terminal.specs.Log.{events};
+
+use crate::addresses::Address;
+use crate::log::{Link, Log, log_after};
+use crate::registers::Registers;
+use crate::replies::Reply;
+use crate::sounds::Sound;
+use mil_host::Action;
+use mil_line::Gap;
+use mil_word::{Line, Wave, Word, decode};
+use std::alloc::{AllocError, Global};
+use std::marker::Model;
+use std::snapshot::Snapshot;
+
+/// Why there is no such terminal.
+#[derive(Clone, Copy, Debug, PartialEq, Eq)]
+pub enum TerminalError {
+    /// Z1: the address is over 30.
+    Address,
+    /// Z2: memory was refused.
+    Memory,
+}
+
+impl From<AllocError> for TerminalError {
+    ghost use Rattle.std.specs.Prelude.{◌≡◌};
+    ghost use Rattle.mil_terminal.specs.declared.terminals.TerminalError.TheVariants.{Memory};
+
+    ghost from_gives = { λ _ e. e ≡ Memory };
+
+    fn from(_: AllocError) -> TerminalError {
+        TerminalError::Memory
+    }
+}
+
+/// A remote terminal. Contracts see its address and the history of what it has met, the newest event first; it holds no
+/// list of events, and each of its readers and replies is a query on that history, whatever the history is.
+#[derive(Drop)]
+pub struct Terminal {
+    registers: Registers,
+    past: Snapshot<Log>,
+}
+
+impl Model for Terminal {
+    ghost use Rattle.mil_terminal.specs.Station.{Station};
+    ghost use Rattle.mil_terminal.specs.StandsFor.{StandsFor};
+
+    ghost Value = { Station };
+
+    ghost view = { λ t. record { own = t.registers.own; history = t.past.value.0 } };
+
+    ghost invariant = { λ t. StandsFor t.registers t.past.value.0 };
+}
+
+impl Terminal {
+    /// A terminal that has met nothing yet, at an address of 0 to 30. All room of later calls is made here.
+    pub fn make(alloc: Global, address: u8) -> Result<Terminal, TerminalError>
+        ensures made { IfOk result (λ t. t ≡ record { own = address; history = [] }) }
+        ensures address { (result ≡ Err TerminalError.Address) ↔ (30 < address) }
+    {
+        if address > 30 {
+            return Err(TerminalError::Address);
+        }
+        let registers = Registers::make(alloc, Address::of(address))?;
+        Ok(Terminal {
+            registers,
+            past: log_after(Link::Start),
+        })
+    }
+
+    /// A word on a line, and the gap before it. A word that has the sync of a data word, or that is no word at all, costs a
+    /// few instructions where no window is open on its line.
+    pub fn hear(&mut self, line: Line, wave: Wave, gap: Gap)
+        ensures { self.new ≡ after self.old (Heard line wave gap) }
+    {
+        if has_command_sync(wave) {
+            self.hear_word(line, wave, decode(wave), gap);
+        } else if self.registers.listens(line) {
+            self.hear_word(line, wave, decode(wave), gap);
+        } else {
+            self.pass(line, wave, gap);
+        }
+    }
+
+    /// The same, for a wave that was decoded before.
+    pub fn hear_word(&mut self, line: Line, wave: Wave, decoded: Option<Word>, gap: Gap)
+        requires { decoded ≡ word_of wave }
+        ensures { self.new ≡ after self.old (Heard line wave gap) }
+    {
+        self.registers.hear(line, &Sound::of(wave, decoded), gap);
+        let past = log_after(Link::Same(Snapshot::of(&self.past)));
+        self.past = log_after(Link::Heard(line, wave, gap, past));
+    }
+
+    /// The same, for a word that is no command to this terminal or to all, on a line where this terminal is not listening:
+    /// it changes nothing but what contracts see, and costs nothing.
+    #[inline]
+    pub fn pass(&mut self, line: Line, wave: Wave, gap: Gap)
+        requires other { windows.opens self.old.own (Heard line wave gap) ≡ false }
+        requires closed { windows.is_listening self.old.own line self.old.history ≡ false }
+        ensures { self.new ≡ after self.old (Heard line wave gap) }
+    {
+        let past = log_after(Link::Same(Snapshot::of(&self.past)));
+        self.past = log_after(Link::Heard(line, wave, gap, past));
+    }
+
+    /// A line that fell quiet where this terminal is not listening: it answers nothing, and this costs nothing.
+    #[inline]
+    pub fn pass_quiet(&mut self, line: Line)
+        requires { windows.is_listening self.old.own line self.old.history ≡ false }
+        ensures after { self.new ≡ after self.old (Quiet line) }
+        ensures silent { replies.reply self.old.own line self.old.history ≡ None }
+    {
+        let past = log_after(Link::Same(Snapshot::of(&self.past)));
+        self.past = log_after(Link::Quiet(line, past));
+    }
+
+    /// A line that fell quiet after words, and what the terminal answers.
+    pub fn quiet(&mut self, line: Line) -> Option<Reply>
+        ensures after { self.new ≡ after self.old (Quiet line) }
+        ensures reply { result ≡ replies.reply self.old.own line self.old.history }
+    {
+        let reply = self.registers.quiet(line);
+        let past = log_after(Link::Same(Snapshot::of(&self.past)));
+        self.past = log_after(Link::Quiet(line, past));
+        reply
+    }
+
+    /// An action of the host.
+    pub fn act(&mut self, action: &Action)
+        ensures { self.new ≡ after self.old (Host action.now) }
+    {
+        self.registers.act(action);
+        let past = log_after(Link::Same(Snapshot::of(&self.past)));
+        self.past = log_after(Link::Host(Snapshot::of(action), past));
+    }
+
+    /// Whether a window is open on the line that is not decided yet.
+    #[inline]
+    pub fn is_listening(&self, line: Line) -> bool
+        ensures { result ≡ windows.is_listening self.now.own line self.now.history }
+    {
+        self.registers.listens(line)
+    }
+
+    /// The same terminal, with room of its own.
+    pub fn copy(&self, alloc: Global) -> Result<Terminal, AllocError>
+        ensures { IfOk result (λ t. t ≡ self.now) }
+    {
+        let registers = self.registers.copy(alloc)?;
+        Ok(Terminal {
+            registers,
+            past: log_after(Link::Same(Snapshot::of(&self.past))),
+        })
+    }
+
+    /// The address, 0 to 30.
+    #[inline]
+    pub fn address(&self) -> u8
+        ensures value { result ≡ self.now.own }
+        ensures range { result ≤ 30 }
+    {
+        self.registers.own.value()
+    }
+
+    /// The status word that a transmit status word command would be answered with (MIL-STD-1553B 4.3.3.5.3).
+    pub fn status(&self) -> u16
+        ensures { result ≡ statuses.status self.now.own self.now.history }
+    {
+        self.registers.status()
+    }
+
+    /// The last command (4.3.3.5.1.7.11); 0000 before any.
+    pub fn last_command(&self) -> u16
+        ensures { result ≡ registers.last_command self.now.own self.now.history }
+    {
+        self.registers.last_command()
+    }
+
+    /// The vector word that the host set (4.3.3.5.1.7.10); 0000 at first.
+    pub fn vector(&self) -> u16
+        ensures { result ≡ registers.vector self.now.history }
+    {
+        self.registers.vector()
+    }
+
+    /// The BIT word: the result of the last self test that was initiated (4.3.3.5.1.7.12); 0000 at first.
+    pub fn bit_word(&self) -> u16
+        ensures { result ≡ registers.bit_word self.now.own self.now.history }
+    {
+        self.registers.bit_word()
+    }
+
+    /// The word of the last synchronize with data word, or 0000 after a synchronize without one and after a reset.
+    pub fn sync_word(&self) -> u16
+        ensures { result ≡ registers.sync_word self.now.own self.now.history }
+    {
+        self.registers.sync_word()
+    }
+
+    /// Whether the transmitter of the line is on, as at first.
+    pub fn transmitter_on(&self, line: Line) -> bool
+        ensures { result ≡ registers.is_transmitter_on self.now.own line self.now.history }
+    {
+        self.registers.transmitter_on(line)
+    }
+
+    /// Whether the terminal flag is inhibited, as it is not at first.
+    pub fn flag_inhibited(&self) -> bool
+        ensures { result ≡ registers.is_flag_inhibited self.now.own self.now.history }
+    {
+        self.registers.flag_inhibited()
+    }
+
+    /// The words that the latest receive command to this terminal left at a subaddress of 1 to 30; none at first.
+    pub fn received(&self, sub: u8) -> &[u16]
+        requires low { 1 ≤ sub }
+        requires high { sub ≤ 30 }
+        ensures { result.now ≡ registers.received self.now.own sub self.now.history }
+    {
+        self.registers.received(sub)
+    }
+
+    /// The words that the latest receive command to all terminals left there (Notice 2); none at first.
+    pub fn received_from_all(&self, sub: u8) -> &[u16]
+        requires low { 1 ≤ sub }
+        requires high { sub ≤ 30 }
+        ensures { result.now ≡ registers.received_from_all self.now.own sub self.now.history }
+    {
+        self.registers.received_from_all(sub)
+    }
+
+    /// The words that a transmit command there sends, before they are cut or filled with zeros to its count: those that the
+    /// host put up, and at subaddress 30 those that were received there (Notice 2); none at first.
+    pub fn transmit_words(&self, sub: u8) -> &[u16]
+        requires low { 1 ≤ sub }
+        requires high { sub ≤ 30 }
+        ensures { result.now ≡ registers.transmit_words self.now.own sub self.now.history }
+    {
+        self.registers.transmit_words(sub)
+    }
+}
+
+/// Whether the first six half bits are the sync of a command or status word.
+#[inline]
+fn has_command_sync(wave: Wave) -> bool
+    ensures { result ≡ (wave / 2 ^ 34 == 56) }
+{
+    wave.half_bits() >> 34 == 0b111000
+}
