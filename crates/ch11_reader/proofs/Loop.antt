@@ -204,6 +204,7 @@ is_built file rest entries before latest none b =
       readable = rw all read;
       listed = rw all (sym (b.listed [] ∙ append-nil entries));
       counted = rw all (omega (arith, b.counted, total_in_order b.earlier []));
+      few = omega (arith, b.few);
       found = rw all (sym (b.found [] ∙ append-nil (map (found_of file) entries)));
       within = b.within;
     }

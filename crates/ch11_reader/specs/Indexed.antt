@@ -24,5 +24,6 @@ pub record IsIndex (file : List ℕ) (entries : List Packet) (total : ℕ) : Typ
   pub readable : packets_in file ≡ Ok (found_in file)
   pub listed : entries ≡ listing (found_in file)
   pub counted : total ≡ total_in (found_in file)
+  pub few : total ≤ length file
   pub found : map (found_of file) entries ≡ found_in file
   pub within : AreWithin file entries

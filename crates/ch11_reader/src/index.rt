@@ -1,5 +1,5 @@
 //! The packets of a recording that was read.
-ghost use Rattle.std.specs.Prelude.{◌≡◌, ◌<◌, length, slice_get, Some, option_map};
+ghost use Rattle.std.specs.Prelude.{◌≡◌, ◌<◌, ◌^◌, length, slice_get, Some, option_map};
 ghost use Rattle.ch11_f1.specs.Views.{message_of};
 ghost use Rattle.ch11_reader.specs.Recording.{Found, Gives, packets_in};
 ghost use Rattle.ch11_reader.specs.Contents.{message_numbered, reading, total_in};
@@ -85,7 +85,8 @@ impl<'a> Index<'a> {
 
     /// What there is to tell of each packet, in the file's order.
     pub fn packets(&self) -> &[Packet]
-        ensures { result.now ≡ listing self.now }
+        ensures listed { result.now ≡ listing self.now }
+        ensures few { total_in self.now < 2 ^ 64 }
     {
         &self.packets
     }

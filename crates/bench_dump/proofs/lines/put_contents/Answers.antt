@@ -1,0 +1,9 @@
+use Rattle.std.proofs.Common.{◌≡◌, Bool, true, eqb, eq-eqb, append_assoc}
+use Rattle.bench_dump.specs.DumpText.{packet_contents}
+use Rattle.bench_dump.proofs.lines.put_contents.Goals as goal
+
+pub returns : goal.returns
+unfolding packet_contents
+returns c =
+    let test : eqb c.args.packet.now.header.kind 25 ≡ true = eq-eqb c.args.packet.now.header.kind 25 c.if-packet-ne-MESSAGES_KIND.false in
+    rw (test, c.in_ok-extend_from_slice-3.ensures.items, c.in_ok-put_number-2.ensures, c.in_ok-extend_from_slice-2.ensures.items, c.digits_of_byte.ensures, c.in_ok-extend_from_slice.ensures.items, c.in_ok-put_number.ensures) (simp append_assoc)

@@ -1,0 +1,27 @@
+-- Text on its way to a writer.
+use Rattle.std.specs.Prelude.{◌≡◌, ℕ, List, ◌++◌, Option, Result, Ok, Err}
+use Rattle.std.specs.Io.KnownBytes.{Appends}
+use Rattle.ch11_reader.specs.declared.fault.Refusal.{Refusal}
+use Rattle.ch11_reader.specs.Recording.{Found, found_or_none}
+use Rattle.bench_dump.specs.declared.fault.DumpFault.{DumpFault}
+use Rattle.bench_dump.specs.declared.fault.DumpFault.TheVariants as faults
+
+-- what a writer got and the text that waits, taken together, grew by these bytes
+pub record Carries (got : Option (List ℕ)) (waiting : List ℕ) (gets : Option (List ℕ)) (waits more : List ℕ) : Type 0 where
+  pub sent : List ℕ
+  pub taken : Appends got gets sent
+  pub kept : sent ++ waits ≡ waiting ++ more
+
+-- A dump is refused exactly where the recording is, with its first fault; other answers come only where it
+-- can be read.
+abbrev pub IsAnswer : {A : Type 0} → Result A DumpFault → Result (List Found) Refusal → Type 0
+IsAnswer (Ok x) read = read ≡ Ok (found_or_none read)
+IsAnswer (Err (faults.Refused r)) read = read ≡ Err r
+IsAnswer (Err faults.Memory) read = read ≡ Ok (found_or_none read)
+IsAnswer (Err faults.Device) read = read ≡ Ok (found_or_none read)
+
+-- a fault that isn't the recording's
+abbrev pub IsOther : DumpFault → Type 0
+IsOther (faults.Refused r) = ⊥
+IsOther faults.Memory = Unit {0}
+IsOther faults.Device = Unit {0}

@@ -1,0 +1,47 @@
+//! Why a recording was not dumped, or not to its end.
+ghost use Rattle.std.specs.Prelude.{◌≡◌};
+ghost use Rattle.bench_dump.specs.declared.fault.DumpFault.TheVariants.{Device, Memory};
+
+use ch11_reader::Refusal;
+use std::alloc::AllocError;
+use std::fmt;
+use std::io;
+
+/// Why a dump failed.
+#[derive(Clone, Copy, Debug, PartialEq, Eq)]
+pub enum DumpFault {
+    /// The recording can't be read: K1 to K5, N2 or F1 to F3 with the packet's offset. Nothing was printed.
+    Refused(Refusal),
+
+    /// Memory was refused.
+    Memory,
+
+    /// The writer failed, which may have got some of the text.
+    Device,
+}
+
+impl fmt::Display for DumpFault {
+    fn fmt<W: fmt::Write>(&self, f: &mut fmt::Formatter<W>) -> fmt::Result {
+        match self {
+            DumpFault::Refused(refusal) => write!(f, "{refusal}"),
+            DumpFault::Memory => write!(f, "memory"),
+            DumpFault::Device => write!(f, "device -"),
+        }
+    }
+}
+
+impl From<AllocError> for DumpFault {
+    ghost from_gives = { λ _ e. e ≡ Memory };
+
+    fn from(_e: AllocError) -> DumpFault {
+        DumpFault::Memory
+    }
+}
+
+impl From<io::Error> for DumpFault {
+    ghost from_gives = { λ _ e. e ≡ Device };
+
+    fn from(_e: io::Error) -> DumpFault {
+        DumpFault::Device
+    }
+}
