@@ -7,3 +7,4 @@ pub mod Log
 pub mod Built
 pub mod Recorded
 pub mod Examples
+pub mod Laws
