@@ -1,0 +1,78 @@
+-- What an image is read as, by its parts.
+use Rattle.std.proofs.Common.{◌≡◌, ℕ, ◌<◌, ◌==◌, true, List, [], ◌∷◌, ◌++◌, length, Result, Ok, Err, Some, refl, sym, ap, ap₂, ◌∙◌, arith, append_assoc}
+use Rattle.std.specs.Prelude.{IfOk}
+use Rattle.std.specs.List.{flat_map}
+use Rattle.std.proofs.lemmas.Bool.Decides.{nat_tests}
+use Rattle.mil_word.specs.declared.Line.{Line}
+use Rattle.mil_message.specs.declared.messages.Message.{Message}
+use Rattle.mil_message.specs.Parts.{parts_of, request_at}
+use Rattle.frame_code.specs.declared.ImageError.{ImageError}
+use Rattle.frame_code.specs.declared.Op.{Op}
+use Rattle.std.proofs.lemmas.List.{append-nil}
+use Rattle.frame_code.specs.declared.ImageError.TheVariants as fault
+use Rattle.frame_code.specs.Bytes.{two_bytes, line_number, parts_bytes, message_bytes, operation_bytes, header_bytes, image_bytes}
+use Rattle.frame_code.specs.Fields.{words_due}
+use Rattle.frame_code.specs.Reading.{many, two_at, words_at, header_at, operation_at, message_at, message_with, image_of, Faults}
+use Rattle.frame_code.proofs.Lawful.{parts}
+
+pub image_reads : (bs r0 r1 : List ℕ) (n m : ℕ) (os : List Op) (ms : List (Line × Message)) → header_at bs ≡ Ok (n, m, r0) → many operation_at n r0 ≡ Ok (os, r1) → many message_at m r1 ≡ Ok (ms, []) → image_of bs ≡ Ok (record { operations = os; messages = ms })
+unfolding image_of
+image_reads bs r0 r1 n m os ms h o k = rw (h, o, k) refl
+
+pub equal_true : (a b : ℕ) → a ≡ b → (a == b) ≡ true
+equal_true a b e = grind (arith, nat_tests)
+
+-- the data words are not read
+pub words_fail : (form : ℕ) (line : Line) (first second : ℕ) (bs r : List ℕ) (count : ℕ) (e : ImageError) → two_at bs ≡ Ok (count, r) → count ≡ words_due form first → many two_at count r ≡ Err e → words_at form line first second bs ≡ Err e
+unfolding words_at
+words_fail form line first second bs r count e a d b = rw (a, equal_true count (words_due form first) d, b) refl
+
+-- the message is read
+pub words_read : (form : ℕ) (line : Line) (first second : ℕ) (bs r : List ℕ) (count : ℕ) (ws rest : List ℕ) (m : Message) → two_at bs ≡ Ok (count, r) → count ≡ words_due form first → many two_at count r ≡ Ok (ws, rest)
+    → message_with (request_at (parts form first second ws)) ≡ Some m → words_at form line first second bs ≡ Ok ((line, m), rest)
+unfolding words_at
+words_read form line first second bs r count ws rest m a d b f = rw (a, equal_true count (words_due form first) d, b, f) refl
+
+-- the bytes of a message
+pub body_spelled : (form first second count : ℕ) (line : Line) (ws bs r rest : List ℕ) (m : Message) → parts_of m ≡ parts form first second ws → length ws ≡ count → bs ≡ two_bytes count ++ r → r ≡ flat_map two_bytes ws ++ rest
+    → form ∷ line_number line ∷ two_bytes first ++ two_bytes second ++ bs ≡ message_bytes (line, m) ++ rest
+body_spelled form first second count line ws bs r rest m same long e1 e2 =
+    ap (λ z. form ∷ line_number line ∷ two_bytes first ++ two_bytes second ++ z) (e1 ∙ ap (λ z. two_bytes count ++ z) e2 ∙ ap (λ n. two_bytes n ++ (flat_map two_bytes ws ++ rest)) (sym long))
+    ∙ ap (λ p. parts_bytes line p ++ rest) (sym same)
+
+pub spelled_behind : {X : Type 0} (r : Result X ImageError) (f : X → List ℕ) (a b : List ℕ) → b ≡ a → IfOk r (λ x. a ≡ f x) → IfOk r (λ x. b ≡ f x)
+spelled_behind (Ok x) f a b e h = e ∙ h
+spelled_behind (Err y) f a b e h = h
+
+pub none_left : (xs : List ℕ) → length xs ≡ 0 → xs ≡ []
+none_left [] e = refl
+none_left (x ∷ xs) e = absurd (omega arith)
+
+-- the first fault
+pub header_fails : (bs : List ℕ) (e : ImageError) → header_at bs ≡ Err e → image_of bs ≡ Err e
+unfolding image_of
+header_fails bs e h = rw h refl
+
+pub operations_fail : (bs r0 : List ℕ) (n m : ℕ) (e : ImageError) → header_at bs ≡ Ok (n, m, r0) → many operation_at n r0 ≡ Err e → image_of bs ≡ Err e
+unfolding image_of
+operations_fail bs r0 n m e h o = rw (h, o) refl
+
+pub messages_fail : (bs r0 r1 : List ℕ) (n m : ℕ) (os : List Op) (e : ImageError) → header_at bs ≡ Ok (n, m, r0) → many operation_at n r0 ≡ Ok (os, r1) → many message_at m r1 ≡ Err e → image_of bs ≡ Err e
+unfolding image_of
+messages_fail bs r0 r1 n m os e h o k = rw (h, o, k) refl
+
+pub faults_through : {X Y : Type 0} (e : ImageError) (r : Result X ImageError) (s : Result Y ImageError) → (r ≡ Err e → s ≡ Err e) → Faults e r → Faults e s
+faults_through fault.Mark r s f h = f h
+faults_through fault.Length r s f h = f h
+faults_through fault.Operations r s f h = f h
+faults_through fault.Messages r s f h = f h
+faults_through fault.Memory r s f h = tt
+
+-- the bytes of an image
+pub image_spelled : (bs r0 r1 r2 : List ℕ) (n m : ℕ) (os : List Op) (ms : List (Line × Message)) → length os ≡ n → length ms ≡ m → bs ≡ header_bytes n m ++ r0 → r0 ≡ flat_map operation_bytes os ++ r1 → r1 ≡ flat_map message_bytes ms ++ r2 → r2 ≡ []
+    → bs ≡ image_bytes (record { operations = os; messages = ms })
+image_spelled bs r0 r1 r2 n m os ms ln lm e0 e1 e2 e3 =
+    let last : flat_map message_bytes ms ++ [] ≡ flat_map message_bytes ms = simp append-nil in
+    e0 ∙ ap (λ z. header_bytes n m ++ z) (e1 ∙ ap (λ z. flat_map operation_bytes os ++ z) (e2 ∙ ap (λ z. flat_map message_bytes ms ++ z) e3 ∙ last))
+    ∙ ap₂ (λ x y. header_bytes x y ++ (flat_map operation_bytes os ++ flat_map message_bytes ms)) (sym ln) (sym lm)
+    ∙ sym (append_assoc (header_bytes (length os) (length ms)) (flat_map operation_bytes os) (flat_map message_bytes ms))

@@ -1,0 +1,6 @@
+pub mod Many
+pub mod Pairs
+pub mod Lawful
+pub mod Images
+pub mod Forward
+pub mod Written

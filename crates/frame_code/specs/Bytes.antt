@@ -1,0 +1,74 @@
+-- The bytes of an image (own choice): the mark BC01, two counts, the operations, the messages; numbers little-endian.
+use Rattle.std.specs.Prelude.{ℕ, ◌/◌, ◌%◌, List, [], ◌∷◌, ◌++◌, length, codes}
+use Rattle.std.specs.List.{flat_map}
+use Rattle.mil_word.specs.declared.Line.{Line}
+use Rattle.mil_word.specs.declared.Line.TheVariants.{A, B}
+use Rattle.mil_message.specs.Parts.{Parts, parts_of}
+use Rattle.mil_message.specs.Rules.{IsLawful}
+use Rattle.mil_message.specs.declared.messages.Message.{Message}
+use Rattle.frame_code.specs.declared.Op.{Op}
+use Rattle.frame_code.specs.declared.Op.TheVariants.{Halt, Send, Alt, SetGap, Loop, Again, Leave, Jump, Test, JumpFalse}
+use Rattle.frame_code.specs.Table.{Code}
+
+-- a number of two bytes, the low one first
+abbrev pub two_bytes : ℕ → List ℕ
+two_bytes n = n % 256 ∷ n / 256 ∷ []
+
+abbrev pub mark : List ℕ
+mark = codes "BC01"
+
+-- the number of an operation
+abbrev pub number_of : Op → ℕ
+number_of Halt = 0
+number_of (Send m) = 1
+number_of (Alt m) = 2
+number_of (SetGap t) = 3
+number_of (Loop n) = 4
+number_of (Again i) = 5
+number_of (Leave i) = 6
+number_of (Jump i) = 7
+number_of (Test k) = 8
+number_of (JumpFalse i) = 9
+
+-- its operand; 0 for Halt
+abbrev pub operand_of : Op → ℕ
+operand_of Halt = 0
+operand_of (Send m) = m
+operand_of (Alt m) = m
+operand_of (SetGap t) = t
+operand_of (Loop n) = n
+operand_of (Again i) = i
+operand_of (Leave i) = i
+operand_of (Jump i) = i
+operand_of (Test k) = k
+operand_of (JumpFalse i) = i
+
+-- four bytes: the number, 00, and the operand
+abbrev pub operation_bytes : Op → List ℕ
+operation_bytes o = number_of o ∷ 0 ∷ two_bytes (operand_of o)
+
+abbrev pub line_number : Line → ℕ
+line_number A = 0
+line_number B = 1
+
+-- the form, the line, the commands (0000 for no second one), the number of data words, and those
+abbrev pub parts_bytes : Line → Parts → List ℕ
+parts_bytes line p =
+    p.number ∷ line_number line ∷ two_bytes p.first ++ two_bytes p.second ++ two_bytes (length p.words) ++ flat_map two_bytes p.words
+
+abbrev pub message_bytes : Line × Message → List ℕ
+message_bytes m = parts_bytes m.0 (parts_of m.1)
+
+-- the mark, and how many operations and messages there are
+abbrev pub header_bytes : ℕ → ℕ → List ℕ
+header_bytes operations messages = mark ++ two_bytes operations ++ two_bytes messages
+
+abbrev pub image_bytes : Code → List ℕ
+image_bytes code =
+    header_bytes (length code.operations) (length code.messages)
+    ++ flat_map operation_bytes code.operations ++ flat_map message_bytes code.messages
+
+-- each message has one of the ten forms, all its numbers in their ranges
+abbrev pub AreLawful : List (Line × Message) → Type 0
+AreLawful [] = Unit {0}
+AreLawful (m ∷ ms) = IsLawful m.1 × AreLawful ms

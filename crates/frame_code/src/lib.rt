@@ -1,0 +1,168 @@
+//! The code of the bus controller (own choice): ten operations, images of them, and the bytes of an image.
+#![tactic(auto)]
+
+ghost use Rattle.std.specs.Prelude.{◌≡◌, IfOk};
+ghost use Rattle.frame_code.specs.Ranges.{IsImage};
+
+mod fields;
+mod reading;
+#[cfg(test)]
+mod tests;
+mod writing;
+
+pub use reading::read_image;
+pub use writing::write_image;
+
+use mil_message::Message;
+use mil_word::Line;
+use std::alloc::{AllocError, AllocFailed};
+use std::fmt;
+use std::marker::Model;
+
+/// One operation of the bus controller. Places are counted from 0 in the list of operations, messages in that of
+/// messages; a message step sends its message, and all other steps take no time on the bus.
+#[derive(Clone, Copy, PartialEq, Eq, Debug)]
+pub enum Op {
+    /// Number 0: the end; every later step is a Halt too.
+    Halt,
+    /// Number 1: sends the message of this index on its own line.
+    Send(u16),
+    /// Number 2: sends the message of this index on the other line than the last one sent (before any, A counts as last).
+    Alt(u16),
+    /// Number 3: sets the gap before the messages after it, 40 to 65,535 ticks of 0.1 µs.
+    SetGap(u16),
+    /// Number 4: pushes the counter, 1 to 10,000.
+    Loop(u16),
+    /// Number 5: takes 1 from the top counter; above 0 it goes to this place, at 0 it pops the counter and goes on.
+    Again(u16),
+    /// Number 6: pops the top counter and goes to this place.
+    Leave(u16),
+    /// Number 7: goes to this place.
+    Jump(u16),
+    /// Number 8: sets the flag to a test of the last outcome (false before any): 0 failed, 1 silent, 16 + b the bit b of
+    /// the status words, b one of 0 to 4 and 8 to 10.
+    Test(u8),
+    /// Number 9: goes to this place where the flag is false.
+    JumpFalse(u16),
+}
+
+/// What the controller runs: at most 4096 operations, each with its operand in its range, and the at most 1024 messages
+/// that they send.
+#[derive(Drop)]
+pub struct Image {
+    operations: Vec<Op>,
+    messages: Vec<(Line, Message)>,
+}
+
+impl Model for Image {
+    ghost use Rattle.frame_code.specs.Table.{Code};
+
+    ghost Value = { Code };
+
+    ghost use Rattle.frame_code.specs.Ranges.{code_in, IsImage};
+
+    ghost view = { code_in };
+
+    ghost invariant = { λ i. IsImage (code_in i) };
+}
+
+impl Image {
+    /// The image of these operations and messages. Condition: there are at most 4096 and 1024 of them, and each operand is in
+    /// its range.
+    pub fn new(operations: Vec<Op>, messages: Vec<(Line, Message)>) -> Image
+        requires { IsImage (record { operations = operations.items; messages = messages.items }) }
+        ensures { result ≡ record { operations = operations.items; messages = messages.items } }
+    {
+        Image {
+            operations,
+            messages,
+        }
+    }
+
+    /// An equal image, in memory of its own.
+    pub fn copy(&self) -> Result<Image, AllocError>
+        ensures { IfOk result (λ image. image ≡ self.now) }
+    {
+        Ok(Image {
+            operations: self.operations.clone()?,
+            messages: self.messages.clone()?,
+        })
+    }
+
+    /// The operations, at most 4096.
+    pub fn operations(&self) -> &[Op]
+        ensures value { result.now ≡ self.now.operations }
+        ensures image { IsImage self.now }
+    {
+        &self.operations
+    }
+
+    /// The messages, at most 1024, each with its line.
+    pub fn messages(&self) -> &[(Line, Message)]
+        ensures value { result.now ≡ self.now.messages }
+        ensures image { IsImage self.now }
+    {
+        &self.messages
+    }
+}
+
+/// Why bytes are not an image. They are judged field by field in their order; want of memory comes last.
+#[derive(Clone, Copy, PartialEq, Eq, Debug)]
+pub enum ImageError {
+    /// C1: there are fewer than four bytes, or they are not the mark BC01.
+    Mark,
+    /// C2: the bytes end too early, or go on behind the last message.
+    Length,
+    /// C3: an operation's number is over 9, its second byte is not 00, its operand is out of its range, or there are more
+    /// than 4096 operations.
+    Operations,
+    /// C4: there are more than 1024 messages, or no message of the form has the field.
+    Messages,
+    /// C5: memory was refused.
+    Memory,
+}
+
+impl fmt::Display for ImageError {
+    ghost use Rattle.std.specs.Prelude.{Some};
+    ghost use Rattle.frame_code.specs.Codes.{code_of};
+
+    ghost output = { λ e. Some (code_of e) };
+
+    fn fmt<W: fmt::Write>(&self, f: &mut fmt::Formatter<W>) -> fmt::Result {
+        f.write_str(match self {
+            ImageError::Mark => "C1",
+            ImageError::Length => "C2",
+            ImageError::Operations => "C3",
+            ImageError::Messages => "C4",
+            ImageError::Memory => "C5",
+        })
+    }
+}
+
+impl From<AllocError> for ImageError {
+    ghost use Rattle.std.specs.Prelude.{◌≡◌};
+    ghost use Rattle.frame_code.specs.declared.ImageError.TheVariants.{Memory};
+
+    ghost from_gives = { λ _ e. e ≡ Memory };
+
+    fn from(_: AllocError) -> ImageError {
+        ImageError::Memory
+    }
+}
+
+impl<T: Drop> From<AllocFailed<T>> for ImageError {
+    ghost use Rattle.std.specs.Prelude.{◌≡◌};
+    ghost use Rattle.frame_code.specs.declared.ImageError.TheVariants.{Memory};
+
+    ghost from_gives = { λ _ e. e ≡ Memory };
+
+    fn from(_: AllocFailed<T>) -> ImageError {
+        ImageError::Memory
+    }
+}
+
+/// What frames run on, for proofs alone: the type of its states and that of its outcomes.
+pub trait Setting {
+    ghost State: { Type 0 };
+    ghost Outcome: { Type 0 };
+}

@@ -1,0 +1,310 @@
+//! The image that bytes spell. The bytes are judged first, which takes no memory, and then the image is made.
+ghost use Rattle.std.specs.Prelude.{◌∷◌, ◌++◌, ◌≡◌, ◌≢◌, ◌≤◌, ◌<◌, ◌↔◌, IsTrue, IfOk, IfSome, MatchResult, Ok, Err, length};
+ghost use Rattle.frame_code.specs.Table.{Code};
+ghost use Rattle.frame_code.specs.Ranges.{in_range, AreInRange};
+ghost use Rattle.frame_code.specs.Bytes.{two_bytes, mark, header_bytes, number_of, operand_of, operation_bytes, line_number, message_bytes, image_bytes};
+ghost use Rattle.std.specs.List.{flat_map};
+ghost use Rattle.frame_code.specs.Fields as table;
+ghost use Rattle.frame_code.specs.Reading as spelled;
+ghost use Rattle.frame_code.specs.Reading.{Reads, Builds, behind, image_of};
+ghost use Rattle.frame_code.specs.declared.ImageError.{ImageError};
+
+use crate::fields::{first_fits, second_fits, words_due};
+use crate::{Image, ImageError, Op};
+use arrayvec::ArrayVec;
+use mil_message::Message;
+use mil_word::{Command, Line};
+use std::alloc::Global;
+
+// A field of one byte.
+fn byte(bytes: &[u8]) -> Result<(u8, &[u8]), ImageError>
+    ensures byte { Reads (λ x. (x.0, x.1.now)) result (spelled.byte_at bytes.now) }
+    ensures spelled { IfOk result (λ x. bytes.now ≡ x.0 ∷ x.1.now) }
+    ensures range { IfOk result (λ x. x.0 < 256) }
+{
+    match bytes.split_first() {
+        Some((first, rest)) => Ok((*first, rest)),
+        None => Err(ImageError::Length),
+    }
+}
+
+// A field of two bytes, the low one first.
+#[tactic(auto, unfolding(crate::specs::Reading::two_at))]
+fn two(bytes: &[u8]) -> Result<(u16, &[u8]), ImageError>
+    ensures two { Reads (λ x. (x.0, x.1.now)) result (spelled.two_at bytes.now) }
+    ensures spelled { IfOk result (λ x. bytes.now ≡ two_bytes x.0 ++ x.1.now) }
+{
+    let (low, rest) = byte(bytes)?;
+    let (high, rest) = byte(rest)?;
+    Ok((u16::from(low) + 256 * u16::from(high), rest))
+}
+
+// The bytes behind the mark.
+#[tactic(auto, unfolding(crate::specs::Reading::mark_at))]
+fn mark(bytes: &[u8]) -> Result<&[u8], ImageError>
+    ensures mark { Reads (λ rest. rest.now) result (spelled.mark_at bytes.now) }
+    ensures spelled { IfOk result (λ rest. bytes.now ≡ mark ++ rest.now) }
+{
+    match bytes {
+        [b'B', b'C', b'0', b'1', rest @ ..] => Ok(rest),
+        _ => Err(ImageError::Mark),
+    }
+}
+
+// The mark and the two counts: operations, messages, and the bytes behind them.
+#[tactic(auto, unfolding(crate::specs::Reading::header_at))]
+fn header(bytes: &[u8]) -> Result<(u16, u16, &[u8]), ImageError>
+    ensures fields { Reads (λ x. (x.0, x.1, x.2.now)) result (spelled.header_at bytes.now) }
+    ensures spelled { IfOk result (λ x. bytes.now ≡ header_bytes x.0 x.1 ++ x.2.now) }
+    ensures operations { IfOk result (λ x. x.0 ≤ 4096) }
+    ensures messages { IfOk result (λ x. x.1 ≤ 1024) }
+{
+    let rest = mark(bytes)?;
+    let (operations, rest) = two(rest)?;
+    if operations > 4096 {
+        return Err(ImageError::Operations);
+    }
+    let (messages, rest) = two(rest)?;
+    if messages > 1024 {
+        return Err(ImageError::Messages);
+    }
+    Ok((operations, messages, rest))
+}
+
+// The test of a number, if there is one.
+fn test_of(number: u16) -> Option<Op>
+    ensures { result ≡ spelled.test_of number }
+{
+    match number {
+        0..=1 | 16..=20 | 24..=26 => Some(Op::Test(number as u8)),
+        _ => None,
+    }
+}
+
+// The operation of a number and an operand, if there is one.
+#[tactic(auto, unfolding(crate::specs::Reading::operation_of))]
+fn operation_of(number: u8, operand: u16) -> Option<Op>
+    ensures operation { result ≡ spelled.operation_of number operand }
+    ensures range { IfSome result (λ op. IsTrue (in_range op)) }
+    ensures number { IfSome result (λ op. number_of op ≡ number) }
+    ensures operand { IfSome result (λ op. operand_of op ≡ operand) }
+{
+    match number {
+        0 => (operand == 0).then_some(Op::Halt),
+        1 => Some(Op::Send(operand)),
+        2 => Some(Op::Alt(operand)),
+        3 => (operand >= 40).then_some(Op::SetGap(operand)),
+        4 => (1 <= operand && operand <= 10000).then_some(Op::Loop(operand)),
+        5 => Some(Op::Again(operand)),
+        6 => Some(Op::Leave(operand)),
+        7 => Some(Op::Jump(operand)),
+        8 => test_of(operand),
+        9 => Some(Op::JumpFalse(operand)),
+        _ => None,
+    }
+}
+
+// An operation: a number up to 9, 00, and an operand in its range.
+#[tactic(auto, unfolding(crate::specs::Reading::operation_at))]
+fn operation(bytes: &[u8]) -> Result<(Op, &[u8]), ImageError>
+    ensures operation { Reads (λ x. (x.0, x.1.now)) result (spelled.operation_at bytes.now) }
+    ensures range { IfOk result (λ x. IsTrue (in_range x.0)) }
+    ensures spelled { IfOk result (λ x. bytes.now ≡ operation_bytes x.0 ++ x.1.now) }
+{
+    let (number, rest) = byte(bytes)?;
+    if number >= 10 {
+        return Err(ImageError::Operations);
+    }
+    let (pad, rest) = byte(rest)?;
+    if pad != 0 {
+        return Err(ImageError::Operations);
+    }
+    let (operand, rest) = two(rest)?;
+    match operation_of(number, operand) {
+        Some(op) => Ok((op, rest)),
+        None => Err(ImageError::Operations),
+    }
+}
+
+// The line of a message, 0 or 1.
+#[tactic(auto, unfolding(crate::specs::Reading::line_at))]
+fn line(bytes: &[u8]) -> Result<(Line, &[u8]), ImageError>
+    ensures line { Reads (λ x. (x.0, x.1.now)) result (spelled.line_at bytes.now) }
+    ensures spelled { IfOk result (λ x. bytes.now ≡ line_number x.0 ∷ x.1.now) }
+{
+    let (line, rest) = byte(bytes)?;
+    match line {
+        0 => Ok((Line::A, rest)),
+        1 => Ok((Line::B, rest)),
+        _ => Err(ImageError::Messages),
+    }
+}
+
+// So many data words, at most 32.
+fn words(count: u16, bytes: &[u8]) -> Result<(ArrayVec<u16, 32>, &[u8]), ImageError>
+    requires { count ≤ 32 }
+    ensures words { Reads (λ x. (x.0.items, x.1.now)) result (spelled.many spelled.two_at count bytes.now) }
+    ensures count { IfOk result (λ x. length x.0.items ≡ count) }
+    ensures spelled { IfOk result (λ x. bytes.now ≡ flat_map two_bytes x.0.items ++ x.1.now) }
+{
+    let mut found = ArrayVec::new();
+    let mut rest = bytes;
+    for _ in 0..count {
+        let (word, next) = two(rest)?;
+        found.push(word);
+        rest = next;
+    }
+    Ok((found, rest))
+}
+
+// The data words of a message whose other fields are known, and so the message.
+#[tactic(auto, unfolding(crate::specs::Reading::words_at))]
+fn body(
+    form: u8,
+    line: Line,
+    first: u16,
+    second: u16,
+    bytes: &[u8],
+) -> Result<((Line, Message), &[u8]), ImageError>
+    requires form { form < 10 }
+    requires first { IsTrue (table.first_fits form first) }
+    requires second { IsTrue (table.second_fits form first second) }
+    ensures message { Reads (λ x. (x.0, x.1.now)) result (spelled.words_at form line first second bytes.now) }
+    ensures spelled { IfOk result (λ x. form ∷ line_number line ∷ two_bytes first ++ two_bytes second ++ bytes.now ≡ message_bytes x.0 ++ x.1.now) }
+{
+    let (count, rest) = two(bytes)?;
+    if count != u16::from(words_due(form, Command::of(first))) {
+        return Err(ImageError::Messages);
+    }
+    let (words, rest) = words(count, rest)?;
+    match Message::of_parts(form, first, second, &words) {
+        Some(message) => Ok(((line, message), rest)),
+        None => Err(ImageError::Messages),
+    }
+}
+
+// A message with its line.
+#[tactic(auto, unfolding(crate::specs::Reading::message_at))]
+fn message(bytes: &[u8]) -> Result<((Line, Message), &[u8]), ImageError>
+    ensures message { Reads (λ x. (x.0, x.1.now)) result (spelled.message_at bytes.now) }
+    ensures spelled { IfOk result (λ x. bytes.now ≡ message_bytes x.0 ++ x.1.now) }
+{
+    let (form, rest) = byte(bytes)?;
+    if form >= 10 {
+        return Err(ImageError::Messages);
+    }
+    let (line, rest) = line(rest)?;
+    let (first, rest) = two(rest)?;
+    if !first_fits(form, Command::of(first)) {
+        return Err(ImageError::Messages);
+    }
+    let (second, rest) = two(rest)?;
+    if !second_fits(form, Command::of(first), Command::of(second)) {
+        return Err(ImageError::Messages);
+    }
+    body(form, line, first, second, rest)
+}
+
+// The bytes behind so many operations.
+fn past_operations(count: u16, bytes: &[u8]) -> Result<&[u8], ImageError>
+    ensures { Reads (λ rest. rest.now) result (behind (spelled.many spelled.operation_at count bytes.now)) }
+{
+    let mut rest = bytes;
+    for _ in 0..count {
+        let (_, next) = operation(rest)?;
+        rest = next;
+    }
+    Ok(rest)
+}
+
+// The bytes behind so many messages.
+fn past_messages(count: u16, bytes: &[u8]) -> Result<&[u8], ImageError>
+    ensures { Reads (λ rest. rest.now) result (behind (spelled.many spelled.message_at count bytes.now)) }
+{
+    let mut rest = bytes;
+    for _ in 0..count {
+        let (_, next) = message(rest)?;
+        rest = next;
+    }
+    Ok(rest)
+}
+
+// Whether the bytes are those of an image, else the first fault.
+#[tactic(auto, unfolding(crate::specs::Reading::image_of))]
+fn judge(bytes: &[u8]) -> Result<(), ImageError>
+    ensures { MatchResult result (λ _. (code : Code) × (image_of bytes.now ≡ Ok code)) (λ e. image_of bytes.now ≡ Err e) }
+{
+    let (operations, messages, rest) = header(bytes)?;
+    let rest = past_operations(operations, rest)?;
+    let rest = past_messages(messages, rest)?;
+    match rest.split_first() {
+        None => Ok(()),
+        Some(_) => Err(ImageError::Length),
+    }
+}
+
+// So many operations.
+fn operations(alloc: Global, count: u16, bytes: &[u8]) -> Result<(Vec<Op>, &[u8]), ImageError>
+    ensures operations { Builds (λ x. (x.0.items, x.1.now)) result (spelled.many spelled.operation_at count bytes.now) }
+    ensures range { IfOk result (λ x. AreInRange x.0.items) }
+    ensures count { IfOk result (λ x. length x.0.items ≡ count) }
+    ensures spelled { IfOk result (λ x. bytes.now ≡ flat_map operation_bytes x.0.items ++ x.1.now) }
+{
+    let mut found = Vec::new(alloc);
+    let mut rest = bytes;
+    for _ in 0..count {
+        let (op, next) = operation(rest)?;
+        found.push(op)?;
+        rest = next;
+    }
+    Ok((found, rest))
+}
+
+// So many messages.
+fn messages(
+    alloc: Global,
+    count: u16,
+    bytes: &[u8],
+) -> Result<(Vec<(Line, Message)>, &[u8]), ImageError>
+    ensures messages { Builds (λ x. (x.0.items, x.1.now)) result (spelled.many spelled.message_at count bytes.now) }
+    ensures count { IfOk result (λ x. length x.0.items ≡ count) }
+    ensures spelled { IfOk result (λ x. bytes.now ≡ flat_map message_bytes x.0.items ++ x.1.now) }
+{
+    let mut found = Vec::new(alloc);
+    let mut rest = bytes;
+    for _ in 0..count {
+        let (entry, next) = message(rest)?;
+        found.push(entry)?;
+        rest = next;
+    }
+    Ok((found, rest))
+}
+
+// The image that the bytes spell.
+#[tactic(auto, unfolding(crate::specs::Reading::image_of))]
+fn build(alloc: Global, bytes: &[u8]) -> Result<Image, ImageError>
+    ensures image { Builds (λ image. image) result (image_of bytes.now) }
+    ensures spelled { IfOk result (λ image. bytes.now ≡ image_bytes image) }
+{
+    let (operation_count, message_count, rest) = header(bytes)?;
+    let (operations, rest) = operations(alloc, operation_count, rest)?;
+    let (messages, rest) = messages(alloc, message_count, rest)?;
+    match rest.split_first() {
+        None => Ok(Image {
+            operations,
+            messages,
+        }),
+        Some(_) => Err(ImageError::Length),
+    }
+}
+
+/// The image that the bytes spell, else their first fault (C1 to C4); want of memory (C5) is answered for bytes of an image
+/// alone. Two byte lists are never read as one image.
+pub fn read_image(alloc: Global, bytes: &[u8]) -> Result<Image, ImageError>
+    ensures image { IfOk result (λ image. image_of bytes.now ≡ Ok image) }
+    ensures spelled { IfOk result (λ image. bytes.now ≡ image_bytes image) }
+    ensures exact { (e : ImageError) → e ≢ ImageError.Memory → (result ≡ Err e) ↔ (image_of bytes.now ≡ Err e) }
+{
+    judge(bytes)?;
+    build(alloc, bytes)
+}

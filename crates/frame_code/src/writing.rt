@@ -1,0 +1,152 @@
+//! The bytes of an image.
+ghost use Rattle.std.specs.Prelude.{◌≡◌, ◌++◌, Ok, IfOk, OnOk};
+ghost use Rattle.std.specs.List.{flat_map};
+ghost use Rattle.mil_message.specs.Rules.{IsLawful};
+ghost use Rattle.mil_message.specs.Parts.{parts_of};
+ghost use Rattle.frame_code.specs.Ranges.{IsImage};
+ghost use Rattle.frame_code.specs.Bytes as spelled;
+ghost use Rattle.frame_code.specs.Reading.{image_of};
+
+use crate::{Image, Op};
+use mil_message::Message;
+use mil_word::Line;
+use std::alloc::{AllocError, Global};
+
+// Two bytes more, the low one first.
+fn put_two(bytes: &mut Vec<u8>, number: u16) -> Result<(), AllocError>
+    ensures { OnOk result (bytes.new.items ≡ bytes.old.items ++ spelled.two_bytes number) }
+{
+    bytes.push((number % 256) as u8)?;
+    bytes.push((number / 256) as u8)?;
+    Ok(())
+}
+
+// The number of an operation.
+fn number_of(op: Op) -> u8
+    ensures { result ≡ spelled.number_of op }
+{
+    match op {
+        Op::Halt => 0,
+        Op::Send(_) => 1,
+        Op::Alt(_) => 2,
+        Op::SetGap(_) => 3,
+        Op::Loop(_) => 4,
+        Op::Again(_) => 5,
+        Op::Leave(_) => 6,
+        Op::Jump(_) => 7,
+        Op::Test(_) => 8,
+        Op::JumpFalse(_) => 9,
+    }
+}
+
+// The operand of an operation, 0 for Halt.
+fn operand_of(op: Op) -> u16
+    ensures { result ≡ spelled.operand_of op }
+{
+    match op {
+        Op::Halt => 0,
+        Op::Send(operand)
+        | Op::Alt(operand)
+        | Op::SetGap(operand)
+        | Op::Loop(operand)
+        | Op::Again(operand)
+        | Op::Leave(operand)
+        | Op::Jump(operand)
+        | Op::JumpFalse(operand) => operand,
+        Op::Test(test) => u16::from(test),
+    }
+}
+
+fn put_operation(bytes: &mut Vec<u8>, op: Op) -> Result<(), AllocError>
+    ensures { OnOk result (bytes.new.items ≡ bytes.old.items ++ spelled.operation_bytes op) }
+{
+    bytes.push(number_of(op))?;
+    bytes.push(0)?;
+    put_two(bytes, operand_of(op))
+}
+
+fn put_operations(bytes: &mut Vec<u8>, operations: &[Op]) -> Result<(), AllocError>
+    ensures { OnOk result (bytes.new.items ≡ bytes.old.items ++ flat_map spelled.operation_bytes operations.now) }
+{
+    for op in operations {
+        put_operation(bytes, *op)?;
+    }
+    Ok(())
+}
+
+fn put_words(bytes: &mut Vec<u8>, words: &[u16]) -> Result<(), AllocError>
+    ensures { OnOk result (bytes.new.items ≡ bytes.old.items ++ flat_map spelled.two_bytes words.now) }
+{
+    for word in words {
+        put_two(bytes, *word)?;
+    }
+    Ok(())
+}
+
+fn line_number(line: Line) -> u8
+    ensures { result ≡ spelled.line_number line }
+{
+    match line {
+        Line::A => 0,
+        Line::B => 1,
+    }
+}
+
+// The value of the second command, 0 for none.
+fn second_of(message: &Message) -> u16
+    ensures { result ≡ (parts_of message.now).second }
+{
+    match message.commands().second {
+        Some(command) => command.value(),
+        None => 0,
+    }
+}
+
+fn put_message(bytes: &mut Vec<u8>, line: Line, message: &Message) -> Result<(), AllocError>
+    ensures bytes { OnOk result (bytes.new.items ≡ bytes.old.items ++ spelled.message_bytes (line, message.now)) }
+    ensures lawful { IsLawful message.now }
+{
+    let _form = message.form();
+    let words = message.data_words();
+    bytes.push(message.form_number())?;
+    bytes.push(line_number(line))?;
+    put_two(bytes, message.commands().first.value())?;
+    put_two(bytes, second_of(message))?;
+    put_two(bytes, words.len() as u16)?;
+    put_words(bytes, words)
+}
+
+fn put_messages(bytes: &mut Vec<u8>, messages: &[(Line, Message)]) -> Result<(), AllocError>
+    ensures bytes { OnOk result (bytes.new.items ≡ bytes.old.items ++ flat_map spelled.message_bytes messages.now) }
+    ensures lawful { OnOk result (spelled.AreLawful messages.now) }
+{
+    for entry in messages {
+        put_message(bytes, entry.0, &entry.1)?;
+    }
+    Ok(())
+}
+
+// The bytes of an image, all of whose messages are lawful.
+fn written(alloc: Global, image: &Image) -> Result<Vec<u8>, AllocError>
+    ensures bytes { IfOk result (λ bytes. bytes.items ≡ spelled.image_bytes image.now) }
+    ensures lawful { IfOk result (λ bytes. spelled.AreLawful image.now.messages) }
+    ensures image { IfOk result (λ bytes. IsImage image.now) }
+{
+    let operations = image.operations();
+    let messages = image.messages();
+    let mut bytes = Vec::new(alloc);
+    bytes.extend_from_slice(b"BC01")?;
+    put_two(&mut bytes, operations.len() as u16)?;
+    put_two(&mut bytes, messages.len() as u16)?;
+    put_operations(&mut bytes, operations)?;
+    put_messages(&mut bytes, messages)?;
+    Ok(bytes)
+}
+
+/// The bytes of an image; `read_image` gives the image back.
+pub fn write_image(alloc: Global, image: &Image) -> Result<Vec<u8>, AllocError>
+    ensures bytes { IfOk result (λ bytes. bytes.items ≡ spelled.image_bytes image.now) }
+    ensures read_back { IfOk result (λ bytes. image_of bytes.items ≡ Ok image.now) }
+{
+    written(alloc, image)
+}

@@ -1,0 +1,13 @@
+use Rattle.std.proofs.Common.{◌≡◌, ℕ, ◌<◌, ◌≤◌, length, get_or, min, Some}
+use Rattle.std.specs.Prelude.{slice_get}
+use Rattle.frame_code.specs.declared.Op.{Op}
+use Rattle.frame_code.specs.Loadable.{open_at, GoesWell, HasMessage}
+use Rattle.frame_load.specs.Marks.{innermost}
+use Rattle.frame_load.specs.Budget.{weight, one_each, one_sent, total_to}
+use Rattle.frame_load.proofs.sums.mark_weights.Given as goal
+
+abbrev pub invariant-loop-i : goal.invariant-loop-i
+invariant-loop-i l = record {
+  now : l.current ≡ min 100000001 (weight l.operations l.i);
+  so_far : (p : ℕ) → p < l.i → get_or l.weights p 0 ≡ min 100000001 (weight l.operations p);
+}

@@ -1,0 +1,16 @@
+-- What the loader counts and notes on its way over the operations.
+use Rattle.std.specs.Prelude.{ℕ, ◌+◌, ◌-◌, nat_lt, if◌then◌else◌, List, [], ◌∷◌, Option, Some, None}
+use Rattle.frame_code.specs.declared.Op.{Op}
+use Rattle.frame_code.specs.declared.Op.TheVariants.{Halt, Send, Alt, SetGap, Loop, Again, Leave, Jump, Test, JumpFalse}
+
+-- how many loops are open behind an operation, or None where the operation cannot stand there
+abbrev pub depth_after : Op → ℕ → Option ℕ
+depth_after (Loop n) d = if nat_lt d 17 then Some (d + 1) else None
+depth_after (Again i) d = if nat_lt 0 d then Some (d - 1) else None
+depth_after (Leave i) d = if nat_lt 0 d then Some d else None
+depth_after _ d = Some d
+
+-- the innermost of these loops, as the place of its Loop plus one; 0 for none
+abbrev pub innermost : List ℕ → ℕ
+innermost [] = 0
+innermost (s ∷ st) = s + 1

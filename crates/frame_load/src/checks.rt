@@ -1,0 +1,178 @@
+//! The rules of the loader that need no sums.
+ghost use Rattle.std.specs.Prelude.{◌≡◌, ◌≤◌, ◌<◌, ◌↔◌, ℕ, length, get_or, slice_get, Some, IsTrue};
+ghost use Rattle.frame_code.specs.Loadable.{open_at, EndsInHalt, LeavesTo, JumpsTo, TurnsTo, GoesWell, HasMessage, Each, IsNested};
+ghost use Rattle.frame_code.specs.declared.Op.{Op};
+ghost use Rattle.frame_load.specs.Marks.{innermost, depth_after};
+
+use frame_code::Op;
+
+// Whether the last operation is Halt.
+pub fn ends_in_halt(operations: &[Op]) -> bool
+    ensures { IsTrue result ↔ EndsInHalt operations.now }
+{
+    matches!(operations, [.., Op::Halt])
+}
+
+// How many loops are open behind an operation.
+fn next_depth(op: Op, depth: usize) -> Option<usize>
+    ensures { result ≡ depth_after op depth }
+{
+    match op {
+        Op::Loop(_) => {
+            if depth < 17 {
+                Some(depth + 1)
+            } else {
+                None
+            }
+        }
+        Op::Again(_) => {
+            if 0 < depth {
+                Some(depth - 1)
+            } else {
+                None
+            }
+        }
+        Op::Leave(_) => {
+            if 0 < depth {
+                Some(depth)
+            } else {
+                None
+            }
+        }
+        _ => Some(depth),
+    }
+}
+
+// Whether Loop and Again pair as brackets.
+pub fn is_nested(operations: &[Op]) -> bool
+    ensures { IsTrue result ↔ IsNested operations.now }
+{
+    let mut depth = 0;
+    for op in operations {
+        let Some(next) = next_depth(*op, depth) else {
+            return false;
+        };
+        depth = next;
+    }
+    depth == 0
+}
+
+// For each place its innermost loop, by the place of its Loop plus one; 0 outside all.
+pub fn mark_loops(operations: &[Op], loops: &mut [u16; 4096])
+    requires { length operations.now ≤ 4096 }
+    ensures { (p : ℕ) → p < length operations.now → get_or loops.new p 0 ≡ innermost (open_at operations.now p) }
+{
+    let mut current: u16 = 0;
+    for i in 0..operations.len() {
+        loops[i] = current;
+        current = match operations[i] {
+            Op::Loop(_) => i as u16 + 1,
+            Op::Again(_) => {
+                if current == 0 {
+                    0
+                } else {
+                    loops[current as usize - 1]
+                }
+            }
+            _ => current,
+        };
+    }
+}
+
+// Whether the Again of the place's innermost loop stands just before the target.
+fn leaves_well(operations: &[Op], loops: &[u16; 4096], place: usize, target: usize) -> bool
+    requires size { length operations.now ≤ 4096 }
+    requires place { place < length operations.now }
+    requires marked { (p : ℕ) → p < length operations.now → get_or loops.now p 0 ≡ innermost (open_at operations.now p) }
+    ensures { IsTrue result ↔ LeavesTo operations.now (open_at operations.now place) target }
+{
+    if target == 0 {
+        return false;
+    }
+    if operations.len() < target {
+        return false;
+    }
+    let before = target - 1;
+    let Op::Again(_) = operations[before] else {
+        return false;
+    };
+    loops[before] == loops[place]
+}
+
+// Whether a jump from this place may go to the target.
+fn jumps_well(operations: &[Op], loops: &[u16; 4096], place: usize, target: usize) -> bool
+    requires size { length operations.now ≤ 4096 }
+    requires place { place < length operations.now }
+    requires marked { (p : ℕ) → p < length operations.now → get_or loops.now p 0 ≡ innermost (open_at operations.now p) }
+    ensures { IsTrue result ↔ JumpsTo operations.now place target }
+{
+    if target <= place {
+        return false;
+    }
+    if operations.len() <= target {
+        return false;
+    }
+    loops[target] == loops[place]
+}
+
+// Whether an Again at this place may go to the target.
+fn turns_well(operations: &[Op], loops: &[u16; 4096], place: usize, target: u16) -> bool
+    requires size { length operations.now ≤ 4096 }
+    requires place { place < length operations.now }
+    requires marked { (p : ℕ) → p < length operations.now → get_or loops.now p 0 ≡ innermost (open_at operations.now p) }
+    ensures { IsTrue result ↔ TurnsTo (open_at operations.now place) target }
+{
+    target != 0 && loops[place] == target
+}
+
+// Whether the operation at this place goes where it may.
+fn goes_well(operations: &[Op], loops: &[u16; 4096], place: usize) -> bool
+    requires size { length operations.now ≤ 4096 }
+    requires place { place < length operations.now }
+    requires marked { (p : ℕ) → p < length operations.now → get_or loops.now p 0 ≡ innermost (open_at operations.now p) }
+    ensures { (o : Op) → slice_get operations.now place ≡ Some o → IsTrue result ↔ GoesWell operations.now place o }
+{
+    match operations[place] {
+        Op::Again(i) => turns_well(operations, loops, place, i),
+        Op::Leave(i) => leaves_well(operations, loops, place, i as usize),
+        Op::Jump(i) => jumps_well(operations, loops, place, i as usize),
+        Op::JumpFalse(i) => jumps_well(operations, loops, place, i as usize),
+        _ => true,
+    }
+}
+
+// Whether all operations go where they may.
+pub fn all_go_well(operations: &[Op], loops: &[u16; 4096]) -> bool
+    requires size { length operations.now ≤ 4096 }
+    requires marked { (p : ℕ) → p < length operations.now → get_or loops.now p 0 ≡ innermost (open_at operations.now p) }
+    ensures { IsTrue result ↔ Each operations.now (GoesWell operations.now) }
+{
+    for i in 0..operations.len() {
+        if !goes_well(operations, loops, i) {
+            return false;
+        }
+    }
+    true
+}
+
+// Whether the message that an operation sends is there.
+fn has_message(op: Op, count: usize) -> bool
+    ensures { IsTrue result ↔ HasMessage count op }
+{
+    match op {
+        Op::Send(m) | Op::Alt(m) => (m as usize) < count,
+        _ => true,
+    }
+}
+
+// Whether all messages that are sent are there.
+pub fn all_have_messages(operations: &[Op], count: usize) -> bool
+    ensures { IsTrue result ↔ Each operations.now (λ p. HasMessage count) }
+{
+    for op in operations {
+        if !has_message(*op, count) {
+            return false;
+        }
+    }
+    true
+}

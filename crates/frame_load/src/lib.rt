@@ -1,0 +1,189 @@
+//! The loader (own choice): which images the controller may run, how many steps a run takes, and how many messages it
+//! sends.
+#![tactic(auto)]
+
+ghost use Rattle.std.specs.Prelude.{◌+◌, ◌≡◌, ◌≢◌, ◌≤◌, ◌<◌, ◌↔◌, ℕ, length, slice_get, Some, Err, IfOk};
+ghost use Rattle.mil_message.specs.World.{World, Point};
+ghost use Rattle.frame_code.specs.declared.Op.TheVariants as op;
+ghost use Rattle.frame_code.specs.Table.{Code, Running, goes_on, halted, stuck, start, step, run};
+ghost use Rattle.frame_code.specs.Loadable.{IsLoadable};
+ghost use Rattle.frame_load.specs.Budget as sums;
+ghost use Rattle.frame_load.specs.Runs.{Reaches, HaltsWithin};
+ghost use Rattle.frame_load.specs.Judging.{Judges, Refuses, IsWithin};
+ghost use Rattle.frame_load.specs.declared.LoadError.{LoadError};
+
+mod checks;
+mod sums;
+#[cfg(test)]
+mod tests;
+
+use frame_code::{Image, Setting};
+use std::alloc::{AllocError, Global};
+use std::fmt;
+use std::marker::Model;
+
+/// Why an image is not loaded. The rules are judged in the order in which they stand here, each over the whole image.
+#[derive(Clone, Copy, PartialEq, Eq, Debug)]
+pub enum LoadError {
+    /// P4: there is no operation, or the last is not Halt.
+    End,
+    /// P2: Loop and Again do not pair as brackets, a Leave stands outside every loop, or more than 17 loops are open.
+    Nesting,
+    /// P1: an operation goes where it must not: an Again not behind its Loop, a Leave not behind the Again of its innermost
+    /// loop, a Jump or JumpFalse not to a later operation in the same innermost loop.
+    Jumps,
+    /// P3: the message of a Send or Alt is not there.
+    Messages,
+    /// P5: a run may take more than 100,000,000 steps or send more than 1,000,000 messages.
+    Budget,
+    /// P6: memory was refused; `load` takes none, and never answers it.
+    Memory,
+}
+
+impl fmt::Display for LoadError {
+    ghost use Rattle.std.specs.Prelude.{Some};
+    ghost use Rattle.frame_load.specs.Codes.{code_of};
+
+    ghost output = { λ e. Some (code_of e) };
+
+    fn fmt<W: fmt::Write>(&self, f: &mut fmt::Formatter<W>) -> fmt::Result {
+        f.write_str(match self {
+            LoadError::Jumps => "P1",
+            LoadError::Nesting => "P2",
+            LoadError::Messages => "P3",
+            LoadError::End => "P4",
+            LoadError::Budget => "P5",
+            LoadError::Memory => "P6",
+        })
+    }
+}
+
+/// An image that the controller may run.
+#[derive(Drop)]
+pub struct Program {
+    image: Image,
+    budget: u64,
+    worst_messages: u64,
+}
+
+impl Model for Program {
+    ghost use Rattle.frame_code.specs.Table.{Code};
+
+    ghost Value = { Code };
+
+    ghost use Rattle.frame_load.specs.Judging.{IsProgram};
+
+    ghost view = { λ p. p.image };
+
+    ghost invariant = { λ p. IsProgram p.image p.budget p.worst_messages };
+}
+
+impl Program {
+    /// The image that was loaded.
+    pub fn image(&self) -> &Image
+        ensures value { result.now ≡ self.now }
+        ensures loadable { IsLoadable self.now }
+        ensures within { IsWithin self.now }
+    {
+        &self.image
+    }
+
+    /// How many steps a run takes at most, 1 to 100,000,000: the sum over all operations of the product of the counts of the
+    /// loops that they stand in.
+    pub fn budget(&self) -> u64
+        ensures value { result ≡ sums.budget self.now.operations }
+        ensures within { result ≤ 100000000 }
+    {
+        self.budget
+    }
+
+    /// How many messages a run sends at most, 0 to 1,000,000: the same sum over the operations that send.
+    pub fn worst_messages(&self) -> u64
+        ensures value { result ≡ sums.worst_messages self.now.operations }
+        ensures within { result ≤ 1000000 }
+    {
+        self.worst_messages
+    }
+
+    /// An equal program, in memory of its own.
+    pub fn copy(&self) -> Result<Program, AllocError>
+        ensures { IfOk result (λ program. program ≡ self.now) }
+    {
+        Ok(Program {
+            image: self.image.copy()?,
+            budget: self.budget,
+            worst_messages: self.worst_messages,
+        })
+    }
+}
+
+/// Law: in any world a run of a code that keeps the loader's rules never meets a bad place, an empty counter list or a
+/// message that is not there; it stands at an operation with at most 17 counters, and at fewer at a Loop; it sends at most as
+/// many messages as the code's sum says, and halts within its budget.
+pub fn loadable_runs<W: Setting>()
+    ensures never_stuck { (w : World W.State W.Outcome) (code : Code) (from : Point W.State W.Outcome) (x : Running W.State W.Outcome) →
+        IsLoadable code → Reaches w code from x → step w code x.at x.point ≢ stuck }
+    ensures begins { (w : World W.State W.Outcome) (code : Code) (from : Point W.State W.Outcome) →
+        IsLoadable code → Reaches w code from (record { at = start; point = from }) }
+    ensures goes_on { (w : World W.State W.Outcome) (code : Code) (from : Point W.State W.Outcome) (x y : Running W.State W.Outcome) →
+        IsLoadable code → Reaches w code from x → step w code x.at x.point ≡ goes_on y → Reaches w code from y }
+    ensures inside { (w : World W.State W.Outcome) (code : Code) (from : Point W.State W.Outcome) (x : Running W.State W.Outcome) →
+        IsLoadable code → Reaches w code from x → x.at.place < length code.operations }
+    ensures counters { (w : World W.State W.Outcome) (code : Code) (from : Point W.State W.Outcome) (x : Running W.State W.Outcome) →
+        IsLoadable code → Reaches w code from x → length x.at.counters ≤ 17 }
+    ensures room { (w : World W.State W.Outcome) (code : Code) (from : Point W.State W.Outcome) (x : Running W.State W.Outcome) (n : ℕ) →
+        IsLoadable code → Reaches w code from x → slice_get code.operations x.at.place ≡ Some (op.Loop n) → length x.at.counters < 17 }
+    ensures messages { (w : World W.State W.Outcome) (code : Code) (from : Point W.State W.Outcome) (x : Running W.State W.Outcome) →
+        IsLoadable code → Reaches w code from x → x.point.number ≤ from.number + sums.worst_messages code.operations }
+    ensures halts { (w : World W.State W.Outcome) (code : Code) (from : Point W.State W.Outcome) →
+        IsLoadable code → HaltsWithin w code (sums.budget code.operations) start from }
+{
+}
+
+// The most steps that a run may take.
+const STEPS: u64 = 100_000_000;
+
+// The most messages that a run may send.
+const MESSAGES: u64 = 1_000_000;
+
+// The program of an image, or the first rule that it breaks.
+fn judge(image: Image) -> Result<Program, LoadError>
+    ensures { Judges image result }
+{
+    let operations = image.operations();
+    if !checks::ends_in_halt(operations) {
+        return Err(LoadError::End);
+    }
+    if !checks::is_nested(operations) {
+        return Err(LoadError::Nesting);
+    }
+    let mut loops = [0; 4096];
+    checks::mark_loops(operations, &mut loops);
+    if !checks::all_go_well(operations, &loops) {
+        return Err(LoadError::Jumps);
+    }
+    if !checks::all_have_messages(operations, image.messages().len()) {
+        return Err(LoadError::Messages);
+    }
+    let mut weights = [0; 4096];
+    sums::mark_weights(operations, &loops, &mut weights);
+    let budget = sums::count_steps(operations, &weights);
+    let worst_messages = sums::count_messages(operations, &weights);
+    if STEPS < budget || MESSAGES < worst_messages {
+        return Err(LoadError::Budget);
+    }
+    Ok(Program {
+        image,
+        budget,
+        worst_messages,
+    })
+}
+
+/// The program of an image that keeps all rules, else the first rule that it breaks, in the order P4, P2, P1, P3, P5. It takes
+/// no memory, and time linear in the image.
+pub fn load(_alloc: Global, image: Image) -> Result<Program, LoadError>
+    ensures judged { Judges image result }
+    ensures exact { (e : LoadError) → (result ≡ Err e) ↔ Refuses image e }
+{
+    judge(image)
+}
