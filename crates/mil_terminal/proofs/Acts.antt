@@ -67,12 +67,12 @@ puts_up block put h lt is = record {
   long = length-set block (64 + put.sub) put.words ∙ is.long;
   words = λ sub sub_lt. go sub sub_lt (nat_eq put.sub sub) refl;
 }
-    where
-      go : (sub : ℕ) → sub < 32 → (b : Bool) → nat_eq put.sub sub ≡ b
-          → slice_index_or (slice_set block (64 + put.sub) put.words) (64 + sub) [] ≡ unwrap_or (if put.sub == sub then Some put.words else None) (words_put_up sub h)
-      go sub sub_lt true here = rw (here, ← eqb-true put.sub sub here) (get_or-set_same block (64 + put.sub) put.words [] (omega (arith, is.long)))
-      go sub sub_lt false there =
-          rw there (get_or-set_other block (64 + put.sub) (64 + sub) put.words [] (λ e. false≢true (sym there ∙ eq-eqb put.sub sub (omega arith))) ∙ is.words sub sub_lt)
+  where
+    go : (sub : ℕ) → sub < 32 → (b : Bool) → nat_eq put.sub sub ≡ b
+        → slice_index_or (slice_set block (64 + put.sub) put.words) (64 + sub) [] ≡ unwrap_or (if put.sub == sub then Some put.words else None) (words_put_up sub h)
+    go sub sub_lt true here = rw (here, ← eqb-true put.sub sub here) (get_or-set_same block (64 + put.sub) put.words [] (omega (arith, is.long)))
+    go sub sub_lt false there =
+        rw there (get_or-set_other block (64 + put.sub) (64 + sub) put.words [] (λ e. false≢true (sym there ∙ eq-eqb put.sub sub (omega arith))) ∙ is.words sub sub_lt)
 
 -- the words that were received stay
 pub keeps_received : (own : ℕ) (block : List (List ℕ)) (at : ℕ) (words : List ℕ) (h : History) → 64 ≤ at → AreReceived own block h → AreReceived own (slice_set block at words) h

@@ -63,36 +63,41 @@ pub is_written : (rows : List ℕ) (mark : Marked) (on : Bool) (value : ℕ) →
     → is_set (record { rows = slice_set rows (if mark.transmit then 32 + mark.sub else mark.sub) value }) t s n ≡ (if is_mark t s n mark then on else is_set (record { rows = rows }) t s n)
 unfolding is_set
 is_written rows mark on value long same other sub_lt count_ge t s n s_lt n_ge n_le = go (is_mark t s n mark) refl
-    where
-      at : ℕ
-      at = if mark.transmit then 32 + mark.sub else mark.sub
+  where
+    at : ℕ
+    at = if mark.transmit then 32 + mark.sub else mark.sub
 
-      told : (b : Bool) → ((if b then 1 else 0) == 1) ≡ b
-      told true = refl
-      told false = refl
+    told : (b : Bool) → ((if b then 1 else 0) == 1) ≡ b
+    told true = refl
+    told false = refl
 
-      row_lt : (b : Bool) (v : ℕ) → v < 32 → (if b then 32 + v else v) < 64
-      row_lt true v lt = omega arith
-      row_lt false v lt = omega arith
+    row_lt : (b : Bool) (v : ℕ) → v < 32 → (if b then 32 + v else v) < 64
+    row_lt true v lt = omega arith
+    row_lt false v lt = omega arith
 
-      elsewhere : (b : Bool) → is_mark t s n mark ≡ false → ((if mark.transmit then 32 + mark.sub else mark.sub) == (if t then 32 + s else s)) ≡ b
-          → bit_at (slice_index (slice_set rows (if mark.transmit then 32 + mark.sub else mark.sub) value) (if t then 32 + s else s)) (n - 1) ≡ bit_at (slice_index rows (if t then 32 + s else s)) (n - 1)
-      elsewhere true not_mark here =
-          let rows_same = eqb-true (if mark.transmit then 32 + mark.sub else mark.sub) (if t then 32 + s else s) here in
-          let differs : n ≢ mark.count = other_count t s n mark s_lt sub_lt not_mark rows_same in
-          rw (← rows_same, get_or-set_same rows (if mark.transmit then 32 + mark.sub else mark.sub) value 0 (omega (arith, long, row_lt mark.transmit mark.sub sub_lt)))
-            (other (n - 1) (omega arith) (λ e. differs (omega arith)))
-      elsewhere false not_mark here =
-          ap (λ (x : ℕ). bit_at x (n - 1)) (get_or-set_other rows (if mark.transmit then 32 + mark.sub else mark.sub) (if t then 32 + s else s) value 0 (λ e. false≢true (sym here ∙ eq-eqb _ _ (sym e))))
+    elsewhere : (b : Bool) → is_mark t s n mark ≡ false → ((if mark.transmit then 32 + mark.sub else mark.sub) == (if t then 32 + s else s)) ≡ b
+        → bit_at (slice_index (slice_set rows (if mark.transmit then 32 + mark.sub else mark.sub) value) (if t then 32 + s else s)) (n - 1) ≡ bit_at (slice_index rows (if t then 32 + s else s)) (n - 1)
+    elsewhere true not_mark here =
+        let rows_same = eqb-true (if mark.transmit then 32 + mark.sub else mark.sub) (if t then 32 + s else s) here in
+        let differs : n ≢ mark.count = other_count t s n mark s_lt sub_lt not_mark rows_same in
+        rw (← rows_same, get_or-set_same rows (if mark.transmit then 32 + mark.sub else mark.sub) value 0 (omega (arith, long, row_lt mark.transmit mark.sub sub_lt)))
+        (other (n - 1) (omega arith) (λ e. differs (omega arith)))
+    elsewhere false not_mark here =
+        ap (λ (x : ℕ). bit_at x (n - 1)) (get_or-set_other rows (if mark.transmit then 32 + mark.sub else mark.sub) (if t then 32 + s else s) value 0 (λ e. false≢true (sym here ∙ eq-eqb _ _ (sym e))))
 
-      go : (b : Bool) → is_mark t s n mark ≡ b
-          → (bit_at (slice_index (slice_set rows (if mark.transmit then 32 + mark.sub else mark.sub) value) (if t then 32 + s else s)) (n - 1) == 1)
-            ≡ (if b then on else bit_at (slice_index rows (if t then 32 + s else s)) (n - 1) == 1)
-      go true is =
-          let parts = and_parts (same_bool mark.transmit t) (mark.sub == s) (mark.count == n) is in
-          rw (← same_bool_is mark.transmit t parts.0, ← eqb-true mark.sub s parts.1, ← eqb-true mark.count n parts.2,
-              get_or-set_same rows (if mark.transmit then 32 + mark.sub else mark.sub) value 0 (omega (arith, long, row_lt mark.transmit mark.sub sub_lt)), same) (told on)
-      go false is = ap (λ (x : ℕ). x == 1) (elsewhere (nat_eq (if mark.transmit then 32 + mark.sub else mark.sub) (if t then 32 + s else s)) is refl)
+    go : (b : Bool) → is_mark t s n mark ≡ b
+        → (bit_at (slice_index (slice_set rows (if mark.transmit then 32 + mark.sub else mark.sub) value) (if t then 32 + s else s)) (n - 1) == 1)
+        ≡ (if b then on else bit_at (slice_index rows (if t then 32 + s else s)) (n - 1) == 1)
+    go true is =
+        let parts = and_parts (same_bool mark.transmit t) (mark.sub == s) (mark.count == n) is in
+        rw (
+          ← same_bool_is mark.transmit t parts.0,
+          ← eqb-true mark.sub s parts.1,
+          ← eqb-true mark.count n parts.2,
+          get_or-set_same rows (if mark.transmit then 32 + mark.sub else mark.sub) value 0 (omega (arith, long, row_lt mark.transmit mark.sub sub_lt)),
+          same,
+        ) (told on)
+    go false is = ap (λ (x : ℕ). x == 1) (elsewhere (nat_eq (if mark.transmit then 32 + mark.sub else mark.sub) (if t then 32 + s else s)) is refl)
 
 -- a mark is set, and cleared
 pub is_set_on : (rows : List ℕ) (mark : Marked) (row place : ℕ) → length rows ≡ 64 → row ≡ (if mark.transmit then 32 + mark.sub else mark.sub) → place ≡ mark.count - 1
@@ -103,7 +108,7 @@ is_set_on rows mark row place long row_is place_is sub_lt count_ge count_le t s 
     let within : mark.count - 1 < 32 = omega arith in
     rw (row_is, place_is)
     (is_written rows mark true _ long (bit_at_set_same w32 _ (mark.count - 1) within) (λ i lt differs. bit_at_set_other w32 _ (mark.count - 1) within i differs)
-      sub_lt count_ge t s n s_lt n_ge n_le)
+    sub_lt count_ge t s n s_lt n_ge n_le)
 
 pub is_set_off : (rows : List ℕ) (mark : Marked) (row place : ℕ) → length rows ≡ 64 → row ≡ (if mark.transmit then 32 + mark.sub else mark.sub) → place ≡ mark.count - 1
     → mark.sub < 32 → 1 ≤ mark.count → mark.count ≤ 32
@@ -113,4 +118,4 @@ is_set_off rows mark row place long row_is place_is sub_lt count_ge count_le t s
     let within : mark.count - 1 < 32 = omega arith in
     rw (row_is, place_is)
     (is_written rows mark false _ long (bit_at_clear_same w32 _ (mark.count - 1) within) (λ i lt differs. bit_at_clear_other w32 _ (mark.count - 1) within i lt differs)
-      sub_lt count_ge t s n s_lt n_ge n_le)
+    sub_lt count_ge t s n s_lt n_ge n_le)

@@ -23,11 +23,11 @@ with_item e w = record { line = w.line; command = w.command; items = w.items ++ 
 pub window_on : (own : ℕ) (e : Event) (past : History) → opening own e ≡ None → latest_window own (e ∷ past) ≡ option_map (with_item e) (latest_window own past)
 unfolding latest_window
 window_on own e past h = rw h (go (latest_opening own past))
-    where
-      go : (o : Option (Line × ℕ)) → option_map (λ (o : Line × ℕ). record { line = o.0; command = o.1; items = filter (is_on o.0) (since_opening own past ++ e ∷ []) }) o
-          ≡ option_map (with_item e) (option_map (λ (o : Line × ℕ). record { line = o.0; command = o.1; items = filter (is_on o.0) (since_opening own past) }) o)
-      go None = refl
-      go (Some o) = ap (λ (items : List Event). Some (record { line = o.0; command = o.1; items = items })) (filter-append (is_on o.0) (since_opening own past) (e ∷ []))
+  where
+    go : (o : Option (Line × ℕ)) → option_map (λ (o : Line × ℕ). record { line = o.0; command = o.1; items = filter (is_on o.0) (since_opening own past ++ e ∷ []) }) o
+        ≡ option_map (with_item e) (option_map (λ (o : Line × ℕ). record { line = o.0; command = o.1; items = filter (is_on o.0) (since_opening own past) }) o)
+    go None = refl
+    go (Some o) = ap (λ (items : List Event). Some (record { line = o.0; command = o.1; items = items })) (filter-append (is_on o.0) (since_opening own past) (e ∷ []))
 
 pub window_opened : (own : ℕ) (e : Event) (past : History) (o : Line × ℕ) → opening own e ≡ Some o → latest_window own (e ∷ past) ≡ Some (record { line = o.0; command = o.1; items = [] })
 unfolding latest_window
@@ -53,14 +53,14 @@ undecided_if own w b h = rw h refl
 -- a window that was decided stays so
 pub stays_decided : (own : ℕ) (e : Event) (past : History) → opening own e ≡ None → undecided own (latest_window own past) ≡ None → undecided own (latest_window own (e ∷ past)) ≡ None
 stays_decided own e past h is = rw (window_on own e past h) (go (latest_window own past) is)
-    where
-      go2 : (w : Window) (b : Bool) → is_decided own w ≡ b → (if b then None else Some w) ≡ None → undecided own (Some (with_item e w)) ≡ None
-      go2 w true done k = undecided_if own (with_item e w) true (decided_stays own w.line w.command w.items (filter (is_on w.line) (e ∷ [])) done)
-      go2 w false done k = cc
+  where
+    go2 : (w : Window) (b : Bool) → is_decided own w ≡ b → (if b then None else Some w) ≡ None → undecided own (Some (with_item e w)) ≡ None
+    go2 w true done k = undecided_if own (with_item e w) true (decided_stays own w.line w.command w.items (filter (is_on w.line) (e ∷ [])) done)
+    go2 w false done k = cc
 
-      go : (w : Option Window) → undecided own w ≡ None → undecided own (option_map (with_item e) w) ≡ None
-      go None k = refl
-      go (Some w) k = go2 w (is_decided own w) refl k
+    go : (w : Option Window) → undecided own w ≡ None → undecided own (option_map (with_item e) w) ≡ None
+    go None k = refl
+    go (Some w) k = go2 w (is_decided own w) refl k
 
 -- ---- ends
 
@@ -104,8 +104,7 @@ pub latest_some : {X : Type 0} (own : ℕ) (test : Ended → Bool) (asked : Ende
     → latest own test asked first (e ∷ past) ≡ (if test w then asked w else latest own test asked first past)
 unfolding ended
 latest_some {X} own test asked first e past w h = rw h (go (test w))
-    where
-      go : (b : Bool) → unwrap_or (option_map asked (if b then Some w else find test (ended own past))) first ≡ (if b then asked w else unwrap_or (option_map asked (find test (ended own past))) first)
-      go true = refl
-      go false = refl
-
+  where
+    go : (b : Bool) → unwrap_or (option_map asked (if b then Some w else find test (ended own past))) first ≡ (if b then asked w else unwrap_or (option_map asked (find test (ended own past))) first)
+    go true = refl
+    go false = refl

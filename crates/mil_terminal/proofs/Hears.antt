@@ -29,15 +29,29 @@ use Rattle.mil_terminal.proofs.Telling.{conditions-none, conditions-some}
 pub settings_heard : (r : Registers) (line : Line) (wave gap : ℕ) (past : History) → AreSettings r.host past → AreSettings r.host (Heard line wave gap ∷ past)
 unfolding vector
 settings_heard r line wave gap past is = record {
-  busy = is.busy; service = is.service; subsystem = is.subsystem; fault = is.fault; control = is.control;
-  vector = is.vector; self_test = is.self_test; response = is.response; marks = is.marks;
+  busy = is.busy;
+  service = is.service;
+  subsystem = is.subsystem;
+  fault = is.fault;
+  control = is.control;
+  vector = is.vector;
+  self_test = is.self_test;
+  response = is.response;
+  marks = is.marks;
 }
 
 pub settings_quiet : (r : Registers) (line : Line) (past : History) → AreSettings r.host past → AreSettings r.host (Quiet line ∷ past)
 unfolding vector
 settings_quiet r line past is = record {
-  busy = is.busy; service = is.service; subsystem = is.subsystem; fault = is.fault; control = is.control;
-  vector = is.vector; self_test = is.self_test; response = is.response; marks = is.marks;
+  busy = is.busy;
+  service = is.service;
+  subsystem = is.subsystem;
+  fault = is.fault;
+  control = is.control;
+  vector = is.vector;
+  self_test = is.self_test;
+  response = is.response;
+  marks = is.marks;
 }
 
 pub put_up_heard : (block : List (List ℕ)) (line : Line) (wave gap : ℕ) (past : History) → ArePutUp block past → ArePutUp block (Heard line wave gap ∷ past)
@@ -84,9 +98,9 @@ open_on r w p q e h was not_opening same_l same_c goes settings put_up is =
     let more = items ++ filter (is_on p.line) (e ∷ []) in
     let pending = goes items open_before.2 in
     let now : latest_window r.own (e ∷ h) ≡ Some (window_of q more) =
-        window_on r.own e h not_opening ∙ ap (option_map (with_item e)) open_before.1 ∙ rw (same_l, same_c) refl in
+    window_on r.own e h not_opening ∙ ap (option_map (with_item e)) open_before.1 ∙ rw (same_l, same_c) refl in
     let none : ended_by r.own e h ≡ None =
-        still_open r.own e h (window_of p items) (window_of q more) not_opening open_before.1 now (is_undecided r.own p items open_before.2) (is_undecided r.own q more pending) in
+    still_open r.own e h (window_of p items) (window_of q more) not_opening open_before.1 now (is_undecided r.own p items open_before.2) (is_undecided r.own q more pending) in
     (goes_on (record r { window = w }) (Some q) e h not_opening none (more, now, pending) settings put_up is, none)
 
 -- ---- a word that opens nothing
@@ -107,15 +121,15 @@ pub hear_item : (r : Registers) (p q : Pending) (line : Line) (wave gap : ℕ) (
     → StandsFor r h → StandsFor (record r { window = Some q }) (Heard line wave gap ∷ h)
 hear_item r p q line wave gap h was not_opening same same_l same_c goes is =
     (open_on r r.window p q (Heard line wave gap) h was not_opening same_l same_c
-      (λ items pending. rw (same, ← same_line_is line p.line same) (goes items pending))
-      (settings_heard r line wave gap h is.settings) (put_up_heard r.block line wave gap h is.put_up) is).0
+    (λ items pending. rw (same, ← same_line_is line p.line same) (goes items pending))
+    (settings_heard r line wave gap h is.settings) (put_up_heard r.block line wave gap h is.put_up) is).0
 
 pub hear_silent : (r : Registers) (p : Pending) (line : Line) (wave gap : ℕ) (h : History) → r.window ≡ Some p → opening r.own (Heard line wave gap) ≡ None → same_line line p.line ≡ false
     → StandsFor r h → StandsFor (record r { window = Some p }) (Heard line wave gap ∷ h)
 hear_silent r p line wave gap h was not_opening other is =
     (open_on r r.window p p (Heard line wave gap) h was not_opening refl refl
-      (λ items pending. rw (other, append-nil) pending)
-      (settings_heard r line wave gap h is.settings) (put_up_heard r.block line wave gap h is.put_up) is).0
+    (λ items pending. rw (other, append-nil) pending)
+    (settings_heard r line wave gap h is.settings) (put_up_heard r.block line wave gap h is.put_up) is).0
 
 -- ---- a word that opens a window
 

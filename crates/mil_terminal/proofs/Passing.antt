@@ -1,13 +1,14 @@
 -- Registers that stand for a history, after an event that does not concern their terminal.
-use Rattle.std.proofs.Common.{◌≡◌, ℕ, ◌/◌, ◌^◌, ◌∷◌, refl, ap, sym, ◌∙◌}
-use Rattle.std.specs.Prelude.{Bool, true, false, ◌==◌, ◌||◌, Option, Some, None, if◌then◌else◌}
+use Rattle.std.proofs.Common.{◌≡◌, ℕ, ◌/◌, ◌%◌, ◌^◌, List, ◌∷◌, refl, ap, sym, ◌∙◌}
+use Rattle.std.specs.Prelude.{Bool, true, false, ◌==◌, ◌||◌, Option, Some, None, if◌then◌else◌, take, drop, sum}
 use Rattle.std.specs.Option.{option_map, option_and_then, is_some}
 use Rattle.mil_word.specs.declared.Line.{Line}
 use Rattle.mil_word.specs.declared.Line.TheVariants.{A, B}
 use Rattle.mil_word.specs.declared.Word.{Word}
-use Rattle.mil_word.specs.Wave.{word_of, wave_of, raw_of}
+use Rattle.mil_word.specs.Wave.{word_of, digits, number, word_in, word_with, same_halves, sync_halves, bits_in}
+use Rattle.mil_word.specs.declared.Sync.{Sync}
 use Rattle.mil_word.specs.declared.Sync.TheVariants.{DataSync}
-use Rattle.mil_word.specs.Words.{same_line, value_if, is_command_sync}
+use Rattle.mil_word.specs.Words.{same_line, value_if, is_command_sync, command_in}
 use Rattle.mil_word.specs.Fields.{address_of, is_broadcast}
 use Rattle.mil_terminal.specs.declared.events.Event.{Event}
 use Rattle.mil_terminal.specs.declared.events.Event.TheVariants.{Heard, Quiet, Host}
@@ -28,24 +29,37 @@ none_if (Some x) h = cc
 pub passes_word : (r : Registers) (line : Line) (wave gap : ℕ) (h : History) → opens r.own (Heard line wave gap) ≡ false → is_listening r.own line h ≡ false
     → StandsFor r h → StandsFor r (Heard line wave gap ∷ h)
 passes_word r line wave gap h other closed is = go r.window refl
-    where
-      go : (w : Option Pending) → r.window ≡ w → StandsFor r (Heard line wave gap ∷ h)
-      go None none = hear_none r line wave gap h none (none_if _ other) is
-      go (Some p) some = rw (← some) at (hear_silent r p line wave gap h some (none_if _ other) (listens-some r p line h (same_line line p.line) some refl is ∙ closed) is)
+  where
+    go : (w : Option Pending) → r.window ≡ w → StandsFor r (Heard line wave gap ∷ h)
+    go None none = hear_none r line wave gap h none (none_if _ other) is
+    go (Some p) some = rw (← some) at (hear_silent r p line wave gap h some (none_if _ other) (listens-some r p line h (same_line line p.line) some refl is ∙ closed) is)
 
 pub passes_quiet : (r : Registers) (line : Line) (h : History) → is_listening r.own line h ≡ false → StandsFor r h → GoesOn r r.own line h
 passes_quiet r line h closed is = go r.window refl
-    where
-      go : (w : Option Pending) → r.window ≡ w → GoesOn r r.own line h
-      go None none = quiet_none r r.window line h none none is
-      go (Some p) some = rw (← some) at (quiet_silent r p line h some (listens-some r p line h (same_line line p.line) some refl is ∙ closed) is)
+  where
+    go : (w : Option Pending) → r.window ≡ w → GoesOn r r.own line h
+    go None none = quiet_none r r.window line h none none is
+    go (Some p) some = rw (← some) at (quiet_silent r p line h some (listens-some r p line h (same_line line p.line) some refl is ∙ closed) is)
 
--- a wave that does not begin with the sync of a command opens no window
-pub opens-data : (own : ℕ) (line : Line) (wave gap : ℕ) → (wave / 2 ^ 34 == 56) ≡ false → opens own (Heard line wave gap) ≡ false
-unfolding word_of
-opens-data own line wave gap data_sync = rw data_sync (go (wave_of (record { sync = DataSync; value = raw_of wave }) == wave))
-    where
-      go : (b : Bool) → is_some {T = Line × ℕ} (option_map (λ (c : ℕ). (line, c)) (option_and_then (λ (c : ℕ). value_if (address_of c == own || is_broadcast c) c)
-          (option_and_then (λ (w : Word). value_if (is_command_sync w.sync) w.value) (if b then Some (record { sync = DataSync; value = raw_of wave }) else None)))) ≡ false
-      go true = refl
-      go false = refl
+-- half bits of which the first is low are no command
+not_command : (half : ℕ) (halves : List ℕ) → (half == 1) ≡ false → option_and_then (λ (w : Word). value_if (is_command_sync w.sync) w.value) (word_in (half ∷ halves)) ≡ None
+not_command half halves low = rw low (go (same_halves (take 6 (half ∷ halves)) (sync_halves DataSync)) (bits_in (drop 6 (half ∷ halves))))
+  where
+    odd : (b : Bool) (value : ℕ) → option_and_then (λ (w : Word). value_if (is_command_sync w.sync) w.value) (if b then Some (record { sync = DataSync; value = value }) else None) ≡ None
+    odd true value = refl
+    odd false value = refl
+
+    go : (b : Bool) (bits : Option (List ℕ))
+        → option_and_then (λ (w : Word). value_if (is_command_sync w.sync) w.value)
+        (option_and_then (λ (sync : Sync). option_and_then (word_with sync) bits) (if b then Some DataSync else None)) ≡ None
+    go false bits = refl
+    go true None = refl
+    go true (Some bits) = odd (sum bits % 2 == 1) (number (take 16 bits))
+
+command_none : (wave : ℕ) → (wave / 2 ^ 39 % 2 == 1) ≡ false → command_in wave ≡ None
+unfolding word_of digits
+command_none wave low = not_command (wave / 2 ^ 39 % 2) (digits 39 wave) low
+
+-- a wave that begins low opens no window
+pub opens-low : (own : ℕ) (line : Line) (wave gap : ℕ) → (wave / 2 ^ 39 % 2 == 1) ≡ false → opens own (Heard line wave gap) ≡ false
+opens-low own line wave gap low = rw (command_none wave low) refl

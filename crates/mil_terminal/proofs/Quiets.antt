@@ -53,14 +53,14 @@ pub quiet_waits : (r : Registers) (p q : Pending) (line : Line) (h : History) �
     → StandsFor r h → GoesOn (record r { window = Some q }) r.own line h
 quiet_waits r p q line h was same same_l same_c goes is =
     let both = open_on r r.window p q (Quiet line) h was refl same_l same_c (λ items pending. rw (same, ← same_line_is line p.line same) (goes items pending))
-        (settings_quiet r line h is.settings) (put_up_quiet r.block line h is.put_up) is in
+    (settings_quiet r line h is.settings) (put_up_quiet r.block line h is.put_up) is in
     record { stands = both.0; silent = no_reply r.own line h both.1 }
 
 pub quiet_silent : (r : Registers) (p : Pending) (line : Line) (h : History) → r.window ≡ Some p → same_line line p.line ≡ false
     → StandsFor r h → GoesOn (record r { window = Some p }) r.own line h
 quiet_silent r p line h was other is =
     let both = open_on r r.window p p (Quiet line) h was refl refl refl (λ items pending. rw (other, append-nil) pending)
-        (settings_quiet r line h is.settings) (put_up_quiet r.block line h is.put_up) is in
+    (settings_quiet r line h is.settings) (put_up_quiet r.block line h is.put_up) is in
     record { stands = both.0; silent = no_reply r.own line h both.1 }
 
 -- ---- the verdict of the window that a quiet decides
@@ -73,10 +73,10 @@ code_range c = omega arith
 
 count_range : (c : ℕ) → (1 ≤ count_of c) × (count_of c ≤ 32)
 count_range c = go (code_of c == 0) refl
-    where
-      go : (b : Bool) → (code_of c == 0) ≡ b → (1 ≤ (if b then 32 else code_of c)) × ((if b then 32 else code_of c) ≤ 32)
-      go true zero_is = (omega arith, omega arith)
-      go false other = (grind (arith, nat_tests), omega arith)
+  where
+    go : (b : Bool) → (code_of c == 0) ≡ b → (1 ≤ (if b then 32 else code_of c)) × ((if b then 32 else code_of c) ≤ 32)
+    go true zero_is = (omega arith, omega arith)
+    go false other = (grind (arith, nat_tests), omega arith)
 
 barred_is : (r : Registers) (c : ℕ) (h : History) → AreSettings r.host h → is_illegal c h ≡ is_barred r c
 barred_is r c h is = and_or (is_unknown c) (is_mode c) _ _ (sym (is.marks (is_transmit c) (sub_of c) (count_of c) (code_range c) (count_range c).0 (count_range c).1))
@@ -104,10 +104,10 @@ same_line_refl B = refl
 put_up_is : (r : Registers) (sub : ℕ) (h : History) → sub < 32 → StandsFor r h → put_up_at r sub ≡ transmit_words r.own sub h
 unfolding transmit_words
 put_up_is r sub h lt is = go (sub == 30)
-    where
-      go : (b : Bool) → (if b then slice_index_or r.block 30 [] else slice_index_or r.block (64 + sub) []) ≡ (if b then received r.own 30 h else words_put_up sub h)
-      go true = is.received.addressed 30 (omega arith)
-      go false = is.put_up.words sub lt
+  where
+    go : (b : Bool) → (if b then slice_index_or r.block 30 [] else slice_index_or r.block (64 + sub) []) ≡ (if b then received r.own 30 h else words_put_up sub h)
+    go true = is.received.addressed 30 (omega arith)
+    go false = is.put_up.words sub lt
 
 mode_data_is : (r : Registers) (code : ℕ) (h : History) → StandsFor r h → mode_data_now r code ≡ mode_data r.own code h
 mode_data_is r code h is = rw (is.last_command, is.settings.busy, is.settings.vector, is.synced.bit) refl
@@ -190,13 +190,19 @@ pub quiet_settles : (r : Registers) (p q : Pending) (shape : Bool) (line : Line)
     → ((items : List Event) → IsPending r.own p items → Decided r.own p items shape)
     → StandsFor r h
     → (StandsFor (settled (record r { window = None }) q.line q.command (shape && not (is_barred r q.command)) q.words.items) (Quiet line ∷ h))
-      × ((if shape && address_of q.command == r.own && not (off_on r.switches q.line)
-          then Some (answer_now (settled (record r { window = None }) q.line q.command (shape && not (is_barred r q.command)) q.words.items) q.command (shape && not (is_barred r q.command))) else None)
-         ≡ reply r.own line h)
+    × ((if shape && address_of q.command == r.own && not (off_on r.switches q.line)
+    then Some (answer_now (settled (record r { window = None }) q.line q.command (shape && not (is_barred r q.command)) q.words.items) q.command (shape && not (is_barred r q.command))) else None)
+    ≡ reply r.own line h)
 quiet_settles r p q shape line h was same same_l same_c same_w decides is =
     let open_is : StandsFor (record r { window = Some p }) h = record {
-      window = rw was at is.window; settings = is.settings; conditions = is.conditions; switches = is.switches; synced = is.synced;
-      received = is.received; put_up = is.put_up; last_command = is.last_command;
+      window = rw was at is.window;
+      settings = is.settings;
+      conditions = is.conditions;
+      switches = is.switches;
+      synced = is.synced;
+      received = is.received;
+      put_up = is.put_up;
+      last_command = is.last_command;
     } in
     let s = quiet_ends r p shape h decides open_is in
     rw (same_l, same_c, same_w, ← same_line_is line p.line same) (s.stands, s.answer)

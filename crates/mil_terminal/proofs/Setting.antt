@@ -60,7 +60,14 @@ module _ (s : Settings) (h : History) (is : AreSettings s h) where
       → AreSettings (record s { marks = marks }) (Host (Illegal mark) ∷ h)
   unfolding vector
   set_illegal mark marks set = record {
-    busy = is.busy; service = is.service; subsystem = is.subsystem; fault = is.fault; control = is.control; vector = is.vector; self_test = is.self_test; response = is.response;
+    busy = is.busy;
+    service = is.service;
+    subsystem = is.subsystem;
+    fault = is.fault;
+    control = is.control;
+    vector = is.vector;
+    self_test = is.self_test;
+    response = is.response;
     marks = λ t sub n sub_lt n_ge n_le. set t sub n sub_lt n_ge n_le ∙ marked true (is_mark t sub n mark) (is_set s.marks t sub n) (is_marked_illegal t sub n h) (is.marks t sub n sub_lt n_ge n_le);
   }
 
@@ -69,6 +76,13 @@ module _ (s : Settings) (h : History) (is : AreSettings s h) where
       → AreSettings (record s { marks = marks }) (Host (Legal mark) ∷ h)
   unfolding vector
   set_legal mark marks set = record {
-    busy = is.busy; service = is.service; subsystem = is.subsystem; fault = is.fault; control = is.control; vector = is.vector; self_test = is.self_test; response = is.response;
+    busy = is.busy;
+    service = is.service;
+    subsystem = is.subsystem;
+    fault = is.fault;
+    control = is.control;
+    vector = is.vector;
+    self_test = is.self_test;
+    response = is.response;
     marks = λ t sub n sub_lt n_ge n_le. set t sub n sub_lt n_ge n_le ∙ marked false (is_mark t sub n mark) (is_set s.marks t sub n) (is_marked_illegal t sub n h) (is.marks t sub n sub_lt n_ge n_le);
   }

@@ -34,29 +34,29 @@ pub slots-written : (counts words ws : List ℕ) (at : ℕ) → at < length coun
     → slots (set counts at (length ws)) (put_mid (32 * at) (length ws) words ws) ≡ set (slots counts words) at ws
 slots-written counts words ws at lt long few small =
     same_lists _ _ (length-slots (set counts at (length ws)) _ ∙ length-set counts at (length ws) ∙ sym (length-set (slots counts words) at ws ∙ length-slots counts words))
-      (λ i d within.
-        let i_lt : i < length counts = omega (arith, length-slots (set counts at (length ws)) (put_mid (32 * at) (length ws) words ws), length-set counts at (length ws)) in
-        slots_at (set counts at (length ws)) (put_mid (32 * at) (length ws) words ws) i d (omega (arith, length-set counts at (length ws))) ∙ go i d i_lt (nat_eq at i) refl)
-    where
-      elsewhere : (i : ℕ) → i < length counts → get_or counts i 0 ≤ 32 → at ≢ i
-          → take (get_or counts i 0) (drop (32 * i) (put_mid (32 * at) (length ws) words ws)) ≡ take (get_or counts i 0) (drop (32 * i) words)
-      elsewhere i i_lt c_le other = side (nat_lt i at) refl
-          where
-            side : (b : Bool) → nat_lt i at ≡ b → take (get_or counts i 0) (drop (32 * i) (put_mid (32 * at) (length ws) words ws)) ≡ take (get_or counts i 0) (drop (32 * i) words)
-            side true is = below (32 * at) (length ws) (32 * i) (get_or counts i 0) words ws (grind (arith, nat_tests)) (omega arith)
-            side false is = ap (λ (zs : List ℕ). take (get_or counts i 0) zs) (drop-put_mid (32 * at) (length ws) words ws (32 * i) (grind (arith, nat_tests)) (omega arith) refl)
+    (λ i d within.
+    let i_lt : i < length counts = omega (arith, length-slots (set counts at (length ws)) (put_mid (32 * at) (length ws) words ws), length-set counts at (length ws)) in
+    slots_at (set counts at (length ws)) (put_mid (32 * at) (length ws) words ws) i d (omega (arith, length-set counts at (length ws))) ∙ go i d i_lt (nat_eq at i) refl)
+  where
+    elsewhere : (i : ℕ) → i < length counts → get_or counts i 0 ≤ 32 → at ≢ i
+        → take (get_or counts i 0) (drop (32 * i) (put_mid (32 * at) (length ws) words ws)) ≡ take (get_or counts i 0) (drop (32 * i) words)
+    elsewhere i i_lt c_le other = side (nat_lt i at) refl
+      where
+        side : (b : Bool) → nat_lt i at ≡ b → take (get_or counts i 0) (drop (32 * i) (put_mid (32 * at) (length ws) words ws)) ≡ take (get_or counts i 0) (drop (32 * i) words)
+        side true is = below (32 * at) (length ws) (32 * i) (get_or counts i 0) words ws (grind (arith, nat_tests)) (omega arith)
+        side false is = ap (λ (zs : List ℕ). take (get_or counts i 0) zs) (drop-put_mid (32 * at) (length ws) words ws (32 * i) (grind (arith, nat_tests)) (omega arith) refl)
 
-      go : (i : ℕ) (d : List ℕ) → i < length counts → (b : Bool) → nat_eq at i ≡ b
-          → take (get_or (set counts at (length ws)) i 0) (drop (32 * i) (put_mid (32 * at) (length ws) words ws)) ≡ get_or (set (slots counts words) at ws) i d
-      go i d i_lt true here =
-          rw (← eqb-true at i here)
-          (rw (get_or-set_same counts at (length ws) 0 lt, get_or-set_same (slots counts words) at ws d (omega (arith, length-slots counts words)))
-            (ap (λ (n : ℕ). take n (drop (32 * at) (put_mid (32 * at) (length ws) words ws))) (omega arith)
-              ∙ between-put_mid (32 * at) (length ws) words ws (32 * at + length ws) (omega arith) (omega arith)))
-      go i d i_lt false there =
-          let other : at ≢ i = λ e. false≢true (sym there ∙ eq-eqb at i e) in
-          rw (get_or-set_other counts at i (length ws) 0 (λ e. other (sym e)), get_or-set_other (slots counts words) at i ws d (λ e. other (sym e)), slots_at counts words i d i_lt)
-          (elsewhere i i_lt (small i i_lt) other)
+    go : (i : ℕ) (d : List ℕ) → i < length counts → (b : Bool) → nat_eq at i ≡ b
+        → take (get_or (set counts at (length ws)) i 0) (drop (32 * i) (put_mid (32 * at) (length ws) words ws)) ≡ get_or (set (slots counts words) at ws) i d
+    go i d i_lt true here =
+        rw (← eqb-true at i here)
+        (rw (get_or-set_same counts at (length ws) 0 lt, get_or-set_same (slots counts words) at ws d (omega (arith, length-slots counts words)))
+        (ap (λ (n : ℕ). take n (drop (32 * at) (put_mid (32 * at) (length ws) words ws))) (omega arith)
+        ∙ between-put_mid (32 * at) (length ws) words ws (32 * at + length ws) (omega arith) (omega arith)))
+    go i d i_lt false there =
+        let other : at ≢ i = λ e. false≢true (sym there ∙ eq-eqb at i e) in
+        rw (get_or-set_other counts at i (length ws) 0 (λ e. other (sym e)), get_or-set_other (slots counts words) at i ws d (λ e. other (sym e)), slots_at counts words i d i_lt)
+        (elsewhere i i_lt (small i i_lt) other)
 
 length-put_mid : (a k : ℕ) (xs ys : List ℕ) → length ys ≡ k → a + k ≤ length xs → length (put_mid a k xs ys) ≡ length xs
 length-put_mid a k xs ys same fits =

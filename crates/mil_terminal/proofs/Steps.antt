@@ -43,10 +43,10 @@ data_if_command : (s : Option Word) (c : ℕ) → option_and_then (λ (w : Word)
     → option_and_then (λ (w : Word). value_if (not (is_command_sync w.sync)) w.value) s ≡ None
 data_if_command None c is = refl
 data_if_command (Some w) c is = go (is_command_sync w.sync) is
-    where
-      go : (b : Bool) → value_if b w.value ≡ Some c → value_if (not b) w.value ≡ None
-      go true h = refl
-      go false h = cc
+  where
+    go : (b : Bool) → value_if b w.value ≡ Some c → value_if (not b) w.value ≡ None
+    go true h = refl
+    go false h = cc
 
 -- a word with command sync has no data
 pub data_of-command : (wave c : ℕ) → command_in wave ≡ Some c → data_in wave ≡ None
@@ -109,9 +109,9 @@ module _ (own : ℕ) (line : Line) (command : ℕ) (phase : Phase) (words : Arra
       let long : length (words.items ++ value ∷ []) ≡ length words.items + 1 = length-append words.items (value ∷ []) in
       let left : words_due command - length words.items ≡ suc (words_due command - length (words.items ++ value ∷ [])) = omega arith in
       carried own this (with_due (Some value) this) items e refl is (omega arith) (λ h. cc) (λ h. cc)
-        (λ more. shape more ∙ one_due _ _ wave gap value line more left gap_is data_is)
-        quiets
-        (λ h. rw (filter_map-push value_of items e, data_is, had) refl)
+      (λ more. shape more ∙ one_due _ _ wave gap value line more left gap_is data_is)
+      quiets
+      (λ h. rw (filter_map-push value_of items e, data_is, had) refl)
 
   pub due : IsPending own this items
       → filter_map value_of items ≡ words.items
@@ -132,32 +132,32 @@ first_go : (own : ℕ) (line : Line) (command : ℕ) (words : ArrayVec ℕ) (wav
 first_go own line command words wave gap items None h is =
     let none : length words.items ≡ 0 = ap length (is.before_words refl) in
     due own line command Start words wave gap items is (is.words refl)
-      (λ more. rw (h, none) (ap (λ m. are_due_words m (Heard line wave gap ∷ more)) (none_off (words_due command))))
-      (λ more. rw h refl)
+    (λ more. rw (h, none) (ap (λ m. are_due_words m (Heard line wave gap ∷ more)) (none_off (words_due command))))
+    (λ more. rw h refl)
 first_go own line command words wave gap items (Some sender) h is =
     let called = some_from _ (command_in wave) sender h in
     let no_data : data_in wave ≡ None = data_of-command wave called.0 called.1 in
     carried own (at line command Start words) (at line command (Called sender) words) items (Heard line wave gap) refl is is.few (λ k. cc) (λ k. is.before_words refl)
-      (λ more. rw h refl)
-      (λ more. rw h refl)
-      (λ k. rw (filter_map-push value_of items (Heard line wave gap), no_data, append-nil) (is.words refl))
+    (λ more. rw h refl)
+    (λ more. rw h refl)
+    (λ k. rw (filter_map-push value_of items (Heard line wave gap), no_data, append-nil) (is.words refl))
 
 answer_go : (own : ℕ) (line : Line) (command sender : ℕ) (words : ArrayVec ℕ) (wave gap : ℕ) (items : List Event) (s : Option ℕ) (b : Bool)
     → command_in wave ≡ s → (is_from sender s && is_in_time gap) ≡ b → IsPending own (at line command (Waiting sender) words) items
     → IsPending own (at line command (if b then Taking else Lost) words) (items ++ Heard line wave gap ∷ [])
 answer_go own line command sender words wave gap items s false h test is =
     carried own (at line command (Waiting sender) words) (at line command Lost words) items (Heard line wave gap) refl is is.few (λ k. cc) (λ k. cc)
-      (λ more. rw (h, test) refl)
-      (λ more. refl)
-      (λ k. cc)
+    (λ more. rw (h, test) refl)
+    (λ more. refl)
+    (λ k. cc)
 answer_go own line command sender words wave gap items None true h test is = cc
 answer_go own line command sender words wave gap items (Some c) true h test is =
     let no_data : data_in wave ≡ None = data_of-command wave c h in
     let none : length words.items ≡ 0 = ap length (is.before_words refl) in
     carried own (at line command (Waiting sender) words) (at line command Taking words) items (Heard line wave gap) refl is is.few (λ k. cc) (λ k. cc)
-      (λ more. rw (h, test, none) (ap (λ m. are_due_words m more) (none_off (words_due command))))
-      (λ more. refl)
-      (λ k. rw (filter_map-push value_of items (Heard line wave gap), no_data, append-nil) (is.words refl))
+    (λ more. rw (h, test, none) (ap (λ m. are_due_words m more) (none_off (words_due command))))
+    (λ more. refl)
+    (λ k. rw (filter_map-push value_of items (Heard line wave gap), no_data, append-nil) (is.words refl))
 
 pub word_step : (own : ℕ) (line : Line) (command : ℕ) (phase : Phase) (words : ArrayVec ℕ) (wave gap : ℕ) (items : List Event)
     → IsPending own (at line command phase words) items
@@ -185,9 +185,9 @@ after_quiet-pending own p (Waiting sender) items at_phase still is = cc
 after_quiet-pending own p Lost items at_phase still is = cc
 after_quiet-pending own p (Called sender) items at_phase still is =
     carried own p (record p { phase = Waiting sender }) items (Quiet p.line) refl is is.few (λ h. cc) (λ h. is.before_words (rw at_phase refl))
-      (λ more. rw at_phase refl)
-      (λ more. rw at_phase refl)
-      (λ h. rw (filter_map-push value_of items (Quiet p.line), append-nil) (is.words (rw at_phase refl)))
+    (λ more. rw at_phase refl)
+    (λ more. rw at_phase refl)
+    (λ h. rw (filter_map-push value_of items (Quiet p.line), append-nil) (is.words (rw at_phase refl)))
 after_quiet-pending own p LostTransfer items at_phase still is =
     carried own p (record p { phase = Lost }) items (Quiet p.line) refl is is.few (λ h. cc) (λ h. cc) (λ more. rw at_phase refl) (λ more. rw at_phase refl) (λ h. cc)
 

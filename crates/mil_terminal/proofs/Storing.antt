@@ -36,52 +36,52 @@ module _ (block : List (List ℕ)) (words : List ℕ) where
   kind_is : (at sub base : ℕ) → base + at < length block
       → slice_index_or (slice_set block (base + at) words) (base + sub) [] ≡ (if at == sub then words else slice_index_or block (base + sub) [])
   kind_is at sub base lt = go (at == sub) refl
-      where
-        go : (b : Bool) → (at == sub) ≡ b → slice_index_or (slice_set block (base + at) words) (base + sub) [] ≡ (if b then words else slice_index_or block (base + sub) [])
-        go true same = rw (← eqb-true at sub same) (get_or-set_same block (base + at) words [] lt)
-        go false other = get_or-set_other block (base + at) (base + sub) words [] (λ e. false≢true (sym other ∙ eq-eqb at sub (omega arith)))
+    where
+      go : (b : Bool) → (at == sub) ≡ b → slice_index_or (slice_set block (base + at) words) (base + sub) [] ≡ (if b then words else slice_index_or block (base + sub) [])
+      go true same = rw (← eqb-true at sub same) (get_or-set_same block (base + at) words [] lt)
+      go false other = get_or-set_other block (base + at) (base + sub) words [] (λ e. false≢true (sym other ∙ eq-eqb at sub (omega arith)))
 
   addressed_is : (r b busy : Bool) (at sub : ℕ) → at < 32 → sub < 32 → length block ≡ 96
       → slice_index_or (if r && not busy then slice_set block (if b then 32 + at else at) words else block) sub []
-        ≡ (if true && r && at == sub && same_bool b false && not busy then words else slice_index_or block sub [])
+      ≡ (if true && r && at == sub && same_bool b false && not busy then words else slice_index_or block sub [])
   addressed_is false b busy at sub at_lt sub_lt long = refl
   addressed_is true b true at sub at_lt sub_lt long = go (at == sub) b
-      where
-        go : (s b : Bool) → slice_index_or block sub [] ≡ (if s && same_bool b false && false then words else slice_index_or block sub [])
-        go true true = refl
-        go true false = refl
-        go false b = refl
+    where
+      go : (s b : Bool) → slice_index_or block sub [] ≡ (if s && same_bool b false && false then words else slice_index_or block sub [])
+      go true true = refl
+      go true false = refl
+      go false b = refl
   addressed_is true true false at sub at_lt sub_lt long = get_or-set_other block (32 + at) sub words [] (λ same. absurd (omega arith)) ∙ go (at == sub)
-      where
-        go : (s : Bool) → slice_index_or block sub [] ≡ (if s && false && true then words else slice_index_or block sub [])
-        go true = refl
-        go false = refl
+    where
+      go : (s : Bool) → slice_index_or block sub [] ≡ (if s && false && true then words else slice_index_or block sub [])
+      go true = refl
+      go false = refl
   addressed_is true false false at sub at_lt sub_lt long = go (at == sub) refl
-      where
-        go : (s : Bool) → (at == sub) ≡ s → slice_index_or (slice_set block at words) sub [] ≡ (if s && true && true then words else slice_index_or block sub [])
-        go true same = rw (← eqb-true at sub same) (get_or-set_same block at words [] (omega arith))
-        go false other = get_or-set_other block at sub words [] (λ e. false≢true (sym other ∙ eq-eqb at sub (sym e)))
+    where
+      go : (s : Bool) → (at == sub) ≡ s → slice_index_or (slice_set block at words) sub [] ≡ (if s && true && true then words else slice_index_or block sub [])
+      go true same = rw (← eqb-true at sub same) (get_or-set_same block at words [] (omega arith))
+      go false other = get_or-set_other block at sub words [] (λ e. false≢true (sym other ∙ eq-eqb at sub (sym e)))
 
   from_all_is : (r b busy : Bool) (at sub : ℕ) → at < 32 → sub < 32 → length block ≡ 96
       → slice_index_or (if r && not busy then slice_set block (if b then 32 + at else at) words else block) (32 + sub) []
-        ≡ (if true && r && at == sub && same_bool b true && not busy then words else slice_index_or block (32 + sub) [])
+      ≡ (if true && r && at == sub && same_bool b true && not busy then words else slice_index_or block (32 + sub) [])
   from_all_is false b busy at sub at_lt sub_lt long = refl
   from_all_is true b true at sub at_lt sub_lt long = go (at == sub) b
-      where
-        go : (s b : Bool) → slice_index_or block (32 + sub) [] ≡ (if s && same_bool b true && false then words else slice_index_or block (32 + sub) [])
-        go true true = refl
-        go true false = refl
-        go false b = refl
+    where
+      go : (s b : Bool) → slice_index_or block (32 + sub) [] ≡ (if s && same_bool b true && false then words else slice_index_or block (32 + sub) [])
+      go true true = refl
+      go true false = refl
+      go false b = refl
   from_all_is true false false at sub at_lt sub_lt long = get_or-set_other block at (32 + sub) words [] (λ same. absurd (omega arith)) ∙ go (at == sub)
-      where
-        go : (s : Bool) → slice_index_or block (32 + sub) [] ≡ (if s && false && true then words else slice_index_or block (32 + sub) [])
-        go true = refl
-        go false = refl
+    where
+      go : (s : Bool) → slice_index_or block (32 + sub) [] ≡ (if s && false && true then words else slice_index_or block (32 + sub) [])
+      go true = refl
+      go false = refl
   from_all_is true true false at sub at_lt sub_lt long = go (at == sub) refl
-      where
-        go : (s : Bool) → (at == sub) ≡ s → slice_index_or (slice_set block (32 + at) words) (32 + sub) [] ≡ (if s && true && true then words else slice_index_or block (32 + sub) [])
-        go true same = rw (← eqb-true at sub same) (get_or-set_same block (32 + at) words [] (omega arith))
-        go false other = get_or-set_other block (32 + at) (32 + sub) words [] (λ e. false≢true (sym other ∙ eq-eqb at sub (omega arith)))
+    where
+      go : (s : Bool) → (at == sub) ≡ s → slice_index_or (slice_set block (32 + at) words) (32 + sub) [] ≡ (if s && true && true then words else slice_index_or block (32 + sub) [])
+      go true same = rw (← eqb-true at sub same) (get_or-set_same block (32 + at) words [] (omega arith))
+      go false other = get_or-set_other block (32 + at) (32 + sub) words [] (λ e. false≢true (sym other ∙ eq-eqb at sub (omega arith)))
 
   put_up_is : (r b busy : Bool) (at sub : ℕ) → at < 32 → sub < 32
       → slice_index_or (if r && not busy then slice_set block (if b then 32 + at else at) words else block) (64 + sub) [] ≡ slice_index_or block (64 + sub) []

@@ -40,7 +40,7 @@ switches-bad own s e past w ends bad is = record {
 
 on_is : (m t other off : Bool) (code : ℕ)
     → not (if m && t && code == 8 then false else if other && (m && t && code == 4) then true else if other && (m && t && code == 5) then false else off)
-      ≡ (if true && m && same_bool t true && code == 8 || other && (true && m && same_bool t true && code == 4 || true && m && same_bool t true && code == 5) then not (code == 4) else not off)
+    ≡ (if true && m && same_bool t true && code == 8 || other && (true && m && same_bool t true && code == 4 || true && m && same_bool t true && code == 5) then not (code == 4) else not off)
 on_is false t true off code = refl
 on_is false t false off code = refl
 on_is true false true off code = refl
@@ -50,7 +50,7 @@ on_is true true false off code = grind (arith, nat_tests)
 
 inhibited_is : (m t inhibited : Bool) (code : ℕ)
     → (if m && t && code == 6 then true else if m && t && code == 7 then false else if m && t && code == 8 then false else inhibited)
-      ≡ (if true && m && same_bool t true && code == 6 || true && m && same_bool t true && code == 7 || true && m && same_bool t true && code == 8 then code == 6 else inhibited)
+    ≡ (if true && m && same_bool t true && code == 6 || true && m && same_bool t true && code == 7 || true && m && same_bool t true && code == 8 then code == 6 else inhibited)
 inhibited_is false t inhibited code = refl
 inhibited_is true false inhibited code = refl
 inhibited_is true true inhibited code = grind (arith, nat_tests)

@@ -34,8 +34,8 @@ synced-bad own s e past w ends bad is = record {
 
 sync_is : (m t : Bool) (code was word : ℕ)
     → (if m && not t && code == 17 then word else if m && t && code == 1 then 0 else if m && t && code == 8 then 0 else was)
-      ≡ (if true && m && same_bool t false && code == 17 || true && m && same_bool t true && code == 1 || true && m && same_bool t true && code == 8
-          then (if code == 17 then word else 0) else was)
+    ≡ (if true && m && same_bool t false && code == 17 || true && m && same_bool t true && code == 1 || true && m && same_bool t true && code == 8
+    then (if code == 17 then word else 0) else was)
 sync_is false t code was word = refl
 sync_is true true code was word = grind (arith, nat_tests)
 sync_is true false code was word = grind (arith, nat_tests)

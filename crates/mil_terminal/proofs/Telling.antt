@@ -28,14 +28,14 @@ pub conditions-some : (r : Registers) (e : Event) (past : History) (w : Ended) (
     → (told r w.window.command good).conditions ≡ conditions r.own (e ∷ past)
 unfolding conditions
 conditions-some r e past w good ends good_is before settings switches is = go (is_question r.own w.window.command) good refl good_is
-    where
-      some : conditions r.own (e ∷ past) ≡ (if not (is_question r.own w.window.command) then conditions_at r.own w else conditions r.own past)
-      some = latest_some r.own (λ e. not (is_question r.own e.window.command)) (conditions_at r.own) no_conditions e past w ends
+  where
+    some : conditions r.own (e ∷ past) ≡ (if not (is_question r.own w.window.command) then conditions_at r.own w else conditions r.own past)
+    some = latest_some r.own (λ e. not (is_question r.own e.window.command)) (conditions_at r.own) no_conditions e past w ends
 
-      go : (asks good : Bool) → is_question r.own w.window.command ≡ asks → is_good (verdict r.own w) ≡ good
-          → (if asks then r.conditions else conditions_set r w.window.command good) ≡ conditions r.own (e ∷ past)
-      go true good asks_is good_is = is ∙ sym (some ∙ rw asks_is refl)
-      go false true asks_is good_is =
-          sym (some ∙ rw (asks_is, good_is, same_true, before, ← settings.service, ← settings.busy, ← settings.subsystem, ← settings.control, ← settings.fault, ← switches.inhibited) refl)
-      go false false asks_is good_is =
-          sym (some ∙ rw (asks_is, good_is, before, ← settings.service, ← settings.busy, ← settings.subsystem, ← settings.fault, ← switches.inhibited) refl)
+    go : (asks good : Bool) → is_question r.own w.window.command ≡ asks → is_good (verdict r.own w) ≡ good
+        → (if asks then r.conditions else conditions_set r w.window.command good) ≡ conditions r.own (e ∷ past)
+    go true good asks_is good_is = is ∙ sym (some ∙ rw asks_is refl)
+    go false true asks_is good_is =
+        sym (some ∙ rw (asks_is, good_is, same_true, before, ← settings.service, ← settings.busy, ← settings.subsystem, ← settings.control, ← settings.fault, ← switches.inhibited) refl)
+    go false false asks_is good_is =
+        sym (some ∙ rw (asks_is, good_is, before, ← settings.service, ← settings.busy, ← settings.subsystem, ← settings.fault, ← switches.inhibited) refl)

@@ -124,8 +124,8 @@ abbrev pub data_now : Registers → ℕ → List ℕ
 data_now r c =
     if is_transmit c
     then (if is_mode c then mode_data_now r (code_of c)
-          else if r.host.busy then []
-          else exactly (count_of c) (put_up_at r (sub_of c)))
+    else if r.host.busy then []
+    else exactly (count_of c) (put_up_at r (sub_of c)))
     else []
 
 abbrev pub answer_now : Registers → ℕ → Bool → Reply

@@ -59,8 +59,7 @@ fn is_unknown(command: Command) -> bool
 {
     if command.is_mode() {
         !is_legal_mode(command.is_transmit(), command.code())
-            || command.is_broadcast()
-                && !broadcast_allowed(command.is_transmit(), command.code())
+            || command.is_broadcast() && !broadcast_allowed(command.is_transmit(), command.code())
     } else {
         command.is_broadcast() && command.is_transmit()
     }
@@ -187,10 +186,7 @@ impl Registers {
     {
         is_unknown(command)
             || !command.is_mode()
-                && self
-                    .host
-                    .marks
-                    .has(command.is_transmit(), command.subaddress(), command.count())
+                && self.host.marks.has(command.is_transmit(), command.subaddress(), command.count())
     }
 
     fn conclude(&mut self, line: Line, command: Command, good: bool, words: &[u16])
@@ -232,7 +228,11 @@ impl Registers {
                     words.push(word);
                 }
             } else if !self.host.busy {
-                push_exactly(&mut words, command.count() as usize, self.put_up(command.subaddress()));
+                push_exactly(
+                    &mut words,
+                    command.count() as usize,
+                    self.put_up(command.subaddress()),
+                );
             }
         }
         Reply {
@@ -393,7 +393,11 @@ fn push_exactly(words: &mut ArrayVec<u16, 33>, count: usize, from: &[u16])
     requires { array_vec_len words.old + count ≤ 33 }
     ensures { words.new.items ≡ words.old.items ++ exactly count from.now }
 {
-    let taken = if count < from.len() { count } else { from.len() };
+    let taken = if count < from.len() {
+        count
+    } else {
+        from.len()
+    };
     let _ = words.try_extend_from_slice(&from[..taken]);
     for _ in 0..count - taken {
         words.push(0);

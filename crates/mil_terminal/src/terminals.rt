@@ -1,5 +1,5 @@
 //! The remote terminal.
-ghost use Rattle.std.specs.Prelude.{◌≡◌, ◌<◌, ◌≤◌, ◌↔◌, ◌/◌, ◌^◌, ◌==◌, Err, None, [], ◌∷◌, true, false, IfOk};
+ghost use Rattle.std.specs.Prelude.{◌≡◌, ◌<◌, ◌≤◌, ◌↔◌, ◌/◌, ◌%◌, ◌^◌, ◌==◌, Err, None, [], ◌∷◌, true, false, IfOk};
 ghost use Rattle.mil_word.specs.Wave.{word_of};
 ghost use Rattle.mil_terminal.specs.declared.events.Event.TheVariants.{Heard, Quiet, Host};
 ghost use Rattle.mil_terminal.specs.Registers as registers;
@@ -76,12 +76,12 @@ impl Terminal {
         })
     }
 
-    /// A word on a line, and the gap before it. A word that has the sync of a data word, or that is no word at all, costs a
+    /// A word on a line, and the gap before it. A data word costs a
     /// few instructions where no window is open on its line.
     pub fn hear(&mut self, line: Line, wave: Wave, gap: Gap)
         ensures { self.new ≡ after self.old (Heard line wave gap) }
     {
-        if has_command_sync(wave) {
+        if begins_high(wave) {
             self.hear_word(line, wave, decode(wave), gap);
         } else if self.registers.listens(line) {
             self.hear_word(line, wave, decode(wave), gap);
@@ -108,8 +108,8 @@ impl Terminal {
         requires closed { windows.is_listening self.old.own line self.old.history ≡ false }
         ensures { self.new ≡ after self.old (Heard line wave gap) }
     {
-        let past = log_after(Link::Same(Snapshot::of(&self.past)));
-        self.past = log_after(Link::Heard(line, wave, gap, past));
+        let before = log_after(Link::Same(Snapshot::of(&self.past)));
+        self.past = log_after(Link::Heard(line, wave, gap, before));
     }
 
     /// A line that fell quiet where this terminal is not listening: it answers nothing, and this costs nothing.
@@ -119,8 +119,8 @@ impl Terminal {
         ensures after { self.new ≡ after self.old (Quiet line) }
         ensures silent { replies.reply self.old.own line self.old.history ≡ None }
     {
-        let past = log_after(Link::Same(Snapshot::of(&self.past)));
-        self.past = log_after(Link::Quiet(line, past));
+        let before = log_after(Link::Same(Snapshot::of(&self.past)));
+        self.past = log_after(Link::Quiet(line, before));
     }
 
     /// A line that fell quiet after words, and what the terminal answers.
@@ -249,10 +249,10 @@ impl Terminal {
     }
 }
 
-/// Whether the first six half bits are the sync of a command or status word.
+/// Whether the first half bit is high, as it is in the sync of a command or status word.
 #[inline]
-fn has_command_sync(wave: Wave) -> bool
-    ensures { result ≡ (wave / 2 ^ 34 == 56) }
+fn begins_high(wave: Wave) -> bool
+    ensures { result ≡ (wave / 2 ^ 39 % 2 == 1) }
 {
-    wave.half_bits() >> 34 == 0b111000
+    wave.half_bits() >> 39 & 1 == 1
 }

@@ -11,24 +11,24 @@ returns-in-None-clause-reply c = λ h is. (quiet_none c.args.self.now c.take.new
 pub returns-in-None-take_quiet-clause-stands : goal.returns-in-None-take_quiet-clause-stands
 returns-in-None-take_quiet-clause-stands c = λ h is.
     (quiet_waits c.args.self.now c.in-Some.pending c.take_quiet.new.self c.args.line h (sym c.in-Some.ensures.value) (sym c.same_line.ensures ∙ c.if-same_line.true)
-      c.take_quiet.ensures.line c.take_quiet.ensures.command (λ items pending. (c.in-None-take_quiet.ensures.pending c.args.self.now.own items pending).1) is).stands
+    c.take_quiet.ensures.line c.take_quiet.ensures.command (λ items pending. (c.in-None-take_quiet.ensures.pending c.args.self.now.own items pending).1) is).stands
 
 pub returns-in-None-take_quiet-clause-reply : goal.returns-in-None-take_quiet-clause-reply
 returns-in-None-take_quiet-clause-reply c = λ h is.
     (quiet_waits c.args.self.now c.in-Some.pending c.take_quiet.new.self c.args.line h (sym c.in-Some.ensures.value) (sym c.same_line.ensures ∙ c.if-same_line.true)
-      c.take_quiet.ensures.line c.take_quiet.ensures.command (λ items pending. (c.in-None-take_quiet.ensures.pending c.args.self.now.own items pending).1) is).silent
+    c.take_quiet.ensures.line c.take_quiet.ensures.command (λ items pending. (c.in-None-take_quiet.ensures.pending c.args.self.now.own items pending).1) is).silent
 
 pub returns-in-Some-take_quiet-clause-stands : goal.returns-in-Some-take_quiet-clause-stands
 returns-in-Some-take_quiet-clause-stands c = λ h is.
     rw (c.settle.ensures.after, c.take.ensures.after)
     (quiet_settles c.args.self.now c.in-Some.pending c.take_quiet.new.self c.in-Some-take_quiet.shape c.args.line h (sym c.in-Some.ensures.value) (sym c.same_line.ensures ∙ c.if-same_line.true)
-      c.take_quiet.ensures.line c.take_quiet.ensures.command c.take_quiet.ensures.words (λ items pending. c.in-Some-take_quiet.ensures.decided c.args.self.now.own items pending) is).0
+    c.take_quiet.ensures.line c.take_quiet.ensures.command c.take_quiet.ensures.words (λ items pending. c.in-Some-take_quiet.ensures.decided c.args.self.now.own items pending) is).0
 
 pub returns-in-Some-take_quiet-clause-reply : goal.returns-in-Some-take_quiet-clause-reply
 returns-in-Some-take_quiet-clause-reply c = λ h is.
     rw (c.settle.ensures.reply, c.settle.ensures.after, c.take.ensures.after)
     (quiet_settles c.args.self.now c.in-Some.pending c.take_quiet.new.self c.in-Some-take_quiet.shape c.args.line h (sym c.in-Some.ensures.value) (sym c.same_line.ensures ∙ c.if-same_line.true)
-      c.take_quiet.ensures.line c.take_quiet.ensures.command c.take_quiet.ensures.words (λ items pending. c.in-Some-take_quiet.ensures.decided c.args.self.now.own items pending) is).1
+    c.take_quiet.ensures.line c.take_quiet.ensures.command c.take_quiet.ensures.words (λ items pending. c.in-Some-take_quiet.ensures.decided c.args.self.now.own items pending) is).1
 
 pub returns-else-same_line-clause-stands : goal.returns-else-same_line-clause-stands
 returns-else-same_line-clause-stands c = λ h is. (quiet_silent c.args.self.now c.in-Some.pending c.args.line h (sym c.in-Some.ensures.value) (sym c.same_line.ensures ∙ c.if-same_line.false) is).stands

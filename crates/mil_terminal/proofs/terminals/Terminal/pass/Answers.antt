@@ -3,5 +3,5 @@ use Rattle.mil_terminal.proofs.terminals.Terminal.pass.Goals as goal
 
 pub invariant_of-self : goal.invariant_of-self
 invariant_of-self c =
-    rw (c.log_after.ensures, c.log_after-past.ensures, c.of.ensures)
+    rw (c.log_after.ensures, c.log_after-before.ensures, c.of.ensures)
     (passes_word c.self.inside.registers c.args.line c.args.wave c.args.gap c.self.inside.past.value.0 (rw (← c.self.view_is) at c.requires.other) (rw (← c.self.view_is) at c.requires.closed) c.self.invariant)
