@@ -2,8 +2,13 @@
 #![tactic(auto)]
 
 mod fault;
+mod input;
 mod lines;
 mod output;
 
 pub use fault::DumpFault;
+pub use input::read_all;
 pub use output::dump;
+
+#[cfg(test)]
+mod tests;

@@ -106,7 +106,7 @@ fn put_contents(text: &mut Vec<u8>, packet: &Packet) -> Result<(), AllocError>
     put_number(text, b" seq ", packet.header.sequence as u64)?;
     text.extend_from_slice(b" flags ")?;
     text.extend_from_slice(&digits_of_byte(packet.header.flags))?;
-    put_number(text, b" messages ", packet.count as u64)?;
+    put_number(text, b" messages ", packet.count)?;
     text.extend_from_slice(b"\n")?;
     Ok(())
 }

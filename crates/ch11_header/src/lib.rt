@@ -9,3 +9,6 @@ mod laws;
 pub use fault::HeaderError;
 pub use header::{HEADER_SIZE, Header, SYNC, read_header, write_header};
 pub use laws::written_is_read;
+
+#[cfg(test)]
+mod tests;

@@ -61,7 +61,7 @@ pub(crate) fn read_packets<'a>(alloc: Global, file: &'a [u8]) -> Result<Index<'a
             count: checked.count,
             sequence_jump,
         })?;
-        before += checked.count as u64;
+        before += checked.count;
         let (_, after) = rest.split_at(header.packet_length as usize);
         rest = after;
     }

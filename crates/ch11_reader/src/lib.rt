@@ -12,3 +12,6 @@ pub use channel::ChannelMessages;
 pub use fault::{Fault, ReadError, Refusal};
 pub use index::Index;
 pub use packet::{MESSAGES_KIND, Packet};
+
+#[cfg(test)]
+mod tests;

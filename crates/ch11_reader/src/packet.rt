@@ -25,7 +25,7 @@ pub struct Packet {
     pub before: u64,
 
     /// How many messages it holds; none where it is of another data type than 19 (hexadecimal).
-    pub count: u32,
+    pub count: u64,
 
     /// Whether its sequence number isn't one more, modulo 256, than that of the channel's packet before
     /// it in the file. False for a channel's first packet.
@@ -36,7 +36,7 @@ pub struct Packet {
 #[derive(Clone, Copy)]
 pub(crate) struct Checked {
     pub(crate) header: Header,
-    pub(crate) count: u32,
+    pub(crate) count: u64,
 }
 
 /// The packet that begins the bytes, or its first fault.

@@ -1,0 +1,184 @@
+// The same in plain Rust: an index of a recording and its dump, timed alike, and a recording to time them on.
+use std::io::Write;
+use std::time::Instant;
+
+const ROUNDS: u32 = 7;
+
+#[derive(Clone, Copy)]
+struct Header { channel: u16, packet_length: u32, data_length: u32, sequence: u8, flags: u8, kind: u8, counter: u64 }
+
+#[allow(dead_code)]
+struct Packet { offset: usize, header: Header, before: u64, count: u64, sequence_jump: bool }
+
+fn u16_at(b: &[u8], i: usize) -> u16 { u16::from_le_bytes([b[i], b[i + 1]]) }
+fn u32_at(b: &[u8], i: usize) -> u32 { u32::from_le_bytes(b[i..i + 4].try_into().unwrap()) }
+fn u64_at(b: &[u8], i: usize) -> u64 { u64::from_le_bytes(b[i..i + 8].try_into().unwrap()) }
+
+fn read_header(b: &[u8]) -> Result<Header, &'static str> {
+    if b.len() < 24 { return Err("K1"); }
+    if u16_at(b, 0) != 0xEB25 { return Err("K2"); }
+    let mut sum = 0u32;
+    for i in 0..11 { sum += u32::from(u16_at(b, 2 * i)); }
+    if u32::from(u16_at(b, 22)) != sum % 65536 { return Err("K3"); }
+    let h = Header { channel: u16_at(b, 2), packet_length: u32_at(b, 4), data_length: u32_at(b, 8), sequence: b[13], flags: b[14], kind: b[15], counter: u64_at(b, 16) & 0xFFFF_FFFF_FFFF };
+    if h.packet_length < 24 || h.packet_length % 4 != 0 { return Err("K4"); }
+    if u64::from(h.packet_length) < body_start(&h) as u64 + u64::from(h.data_length) { return Err("K5"); }
+    Ok(h)
+}
+
+fn body_start(h: &Header) -> usize { if h.flags >= 128 { 36 } else { 24 } }
+
+struct Messages<'a> { left: u32, rest: &'a [u8] }
+struct Seen<'a> { stamp: u64, block: u16, gaps: u16, words: &'a [u8] }
+
+fn split(b: &[u8]) -> Result<(Seen<'_>, &[u8]), &'static str> {
+    if b.len() < 14 { return Err("F3"); }
+    let size = u16_at(b, 12) as usize;
+    if size % 2 == 1 { return Err("F2"); }
+    if b.len() < 14 + size { return Err("F3"); }
+    let (words, rest) = b[14..].split_at(size);
+    Ok((Seen { stamp: u64_at(b, 0), block: u16_at(b, 8), gaps: u16_at(b, 10), words }, rest))
+}
+
+fn messages(body: &[u8]) -> Result<Messages<'_>, &'static str> {
+    if body.len() < 4 { return Err("F1"); }
+    let left = u32_at(body, 0) % 0x100_0000;
+    let mut rest = &body[4..];
+    for _ in 0..left { rest = split(rest)?.1; }
+    Ok(Messages { left, rest: &body[4..] })
+}
+
+impl<'a> Iterator for Messages<'a> {
+    type Item = Seen<'a>;
+    fn next(&mut self) -> Option<Seen<'a>> {
+        if self.left == 0 { return None; }
+        let (seen, rest) = split(self.rest).ok()?;
+        self.left -= 1;
+        self.rest = rest;
+        Some(seen)
+    }
+}
+
+fn build(file: &[u8]) -> Result<(Vec<Packet>, u64), (usize, &'static str)> {
+    let mut latest: Vec<Option<u8>> = vec![None; 65536];
+    let (mut packets, mut before, mut rest) = (Vec::new(), 0u64, file);
+    while !rest.is_empty() {
+        let offset = file.len() - rest.len();
+        let header = read_header(rest).map_err(|e| (offset, e))?;
+        if rest.len() < header.packet_length as usize { return Err((offset, "N2")); }
+        let mut count = 0;
+        if header.kind == 0x19 {
+            let start = body_start(&header);
+            count = u64::from(messages(&rest[start..start + header.data_length as usize]).map_err(|e| (offset, e))?.left);
+        }
+        let sequence_jump = latest[header.channel as usize].is_some_and(|s| header.sequence != s.wrapping_add(1));
+        latest[header.channel as usize] = Some(header.sequence);
+        packets.push(Packet { offset, header, before, count, sequence_jump });
+        before += count;
+        rest = &rest[header.packet_length as usize..];
+    }
+    Ok((packets, before))
+}
+
+fn digit(v: u8) -> u8 { if v < 10 { b'0' + v } else { b'A' + (v - 10) } }
+fn put_number(text: &mut Vec<u8>, label: &[u8], mut n: u64) {
+    let (mut buf, mut at) = ([0u8; 20], 20);
+    loop { at -= 1; buf[at] = b'0' + (n % 10) as u8; n /= 10; if n == 0 { break; } }
+    text.extend_from_slice(label);
+    text.extend_from_slice(&buf[at..]);
+}
+fn put_word(text: &mut Vec<u8>, label: &[u8], w: u16) {
+    let (h, l) = ((w >> 8) as u8, w as u8);
+    text.extend_from_slice(label);
+    text.extend_from_slice(&[digit(h / 16), digit(h % 16), digit(l / 16), digit(l % 16)]);
+}
+
+fn dump(file: &[u8], out: &mut impl Write) -> std::io::Result<()> {
+    let Ok((packets, _)) = build(file) else { return Ok(()) };
+    let mut text = Vec::new();
+    for p in &packets {
+        let h = &p.header;
+        put_number(&mut text, b"packet ", p.offset as u64);
+        put_number(&mut text, b" channel ", h.channel.into());
+        text.extend_from_slice(b" type ");
+        text.extend_from_slice(&[digit(h.kind / 16), digit(h.kind % 16)]);
+        if h.kind != 0x19 { text.extend_from_slice(b" skipped\n"); continue; }
+        put_number(&mut text, b" seq ", h.sequence.into());
+        text.extend_from_slice(b" flags ");
+        text.extend_from_slice(&[digit(h.flags / 16), digit(h.flags % 16)]);
+        put_number(&mut text, b" messages ", p.count);
+        text.extend_from_slice(b"\n");
+        let start = p.offset + body_start(h);
+        let Ok(found) = messages(&file[start..start + h.data_length as usize]) else { continue };
+        for (number, seen) in (p.before + 1..).zip(found) {
+            put_number(&mut text, b"message ", number);
+            put_number(&mut text, b" channel ", h.channel.into());
+            put_number(&mut text, b" stamp ", seen.stamp);
+            put_word(&mut text, b" block ", seen.block);
+            put_word(&mut text, b" gaps ", seen.gaps);
+            text.extend_from_slice(b" words");
+            for w in seen.words.chunks_exact(2) {
+                text.extend_from_slice(&[b' ', digit(w[1] / 16), digit(w[1] % 16), digit(w[0] / 16), digit(w[0] % 16)]);
+            }
+            text.extend_from_slice(b"\n");
+            if text.len() >= 65536 { out.write_all(&text)?; text.clear(); }
+        }
+    }
+    out.write_all(&text)?;
+    out.flush()
+}
+
+struct Counter { bytes: u64 }
+impl Write for Counter {
+    fn write(&mut self, buf: &[u8]) -> std::io::Result<usize> { self.bytes += buf.len() as u64; Ok(buf.len()) }
+    fn flush(&mut self) -> std::io::Result<()> { Ok(()) }
+}
+
+// About 100 MB: eight channels in turn, packets of 60 messages with 1 to 32 bus words.
+fn recording() -> Vec<u8> {
+    let (mut file, mut seed, mut stamp) = (Vec::new(), 1u64, 0u64);
+    let mut sequence = [0u8; 8];
+    for packet in 0usize.. {
+        if file.len() >= 100_000_000 { break; }
+        let mut body = (0x4000_0000u32 + 60).to_le_bytes().to_vec();
+        let first = stamp;
+        for _ in 0..60 {
+            seed = seed.wrapping_mul(6364136223846793005).wrapping_add(1442695040888963407);
+            let words = 1 + (seed >> 59) as usize;
+            body.extend_from_slice(&stamp.to_le_bytes());
+            body.extend_from_slice(&[0, 0, 0x50, 0, 2 * words as u8, 0]);
+            for i in 0..words { body.extend_from_slice(&((seed >> 20) as u16).wrapping_mul(i as u16 + 1).to_le_bytes()); }
+            stamp += 900;
+        }
+        let channel = packet % 8;
+        let filler = (4 - body.len() % 4) % 4;
+        let mut head = vec![0x25, 0xEB, channel as u8 + 1, 0];
+        head.extend_from_slice(&((24 + body.len() + filler) as u32).to_le_bytes());
+        head.extend_from_slice(&(body.len() as u32).to_le_bytes());
+        head.extend_from_slice(&[6, sequence[channel], 0, 0x19]);
+        head.extend_from_slice(&first.to_le_bytes()[..6]);
+        let sum: u32 = head.chunks_exact(2).map(|w| u32::from(u16::from_le_bytes([w[0], w[1]]))).sum();
+        head.extend_from_slice(&(sum as u16).to_le_bytes());
+        sequence[channel] = sequence[channel].wrapping_add(1);
+        file.extend_from_slice(&head);
+        file.extend_from_slice(&body);
+        file.extend_from_slice(&[0; 3][..filler]);
+    }
+    file
+}
+
+fn main() {
+    let words: Vec<String> = std::env::args().collect();
+    if words[1] == "make" { std::fs::write(&words[2], recording()).unwrap(); return; }
+    let bytes = std::fs::read(&words[2]).unwrap();
+    let (mut best_build, mut best_dump, mut total, mut counter) = (u128::MAX, u128::MAX, 0, Counter { bytes: 0 });
+    for _ in 0..ROUNDS {
+        let start = Instant::now();
+        if let Ok((packets, count)) = build(&bytes) { total = count; std::hint::black_box(packets); }
+        best_build = best_build.min(start.elapsed().as_nanos());
+        let start = Instant::now();
+        let _ = dump(&bytes, &mut counter);
+        best_dump = best_dump.min(start.elapsed().as_nanos());
+    }
+    println!("{} {best_build} {best_dump} {total} {}", bytes.len(), counter.bytes / u64::from(ROUNDS));
+}

@@ -1,0 +1,5 @@
+use Rattle.std.specs.Io.KnownBytes.{Consumes}
+use Rattle.bench_dump.proofs.input.read_all.Given as goal
+
+abbrev pub invariant-reads : goal.invariant-reads
+invariant-reads g l = Consumes (g.R.Read.remaining l.fn.input) (g.R.Read.remaining l.input) l.bytes.items

@@ -1,0 +1,47 @@
+//! A file read whole.
+ghost use Rattle.std.specs.Prelude.{◌≡◌, ◌<◌, length, IfOk, IfSome, OnOk};
+ghost use Rattle.std.specs.Io.KnownBytes.{IsAtEnd};
+ghost use Rattle.bench_dump.specs.Reads.{IsRead};
+
+use crate::fault::DumpFault;
+use std::alloc::Global;
+use std::io::{ErrorKind, Read};
+
+/// How many bytes a read asks for at most.
+const PIECE: usize = 65536;
+
+/// How many reads there are at most.
+const READS: u32 = 1_000_000;
+
+/// One read: appends what it gave, and answers whether there may be more. Nothing is given by a read that
+/// was interrupted.
+fn read_piece<R: Read>(input: &mut R, piece: &mut [u8], bytes: &mut Vec<u8>) -> Result<bool, DumpFault>
+    requires { 0 < length piece.old }
+    ensures { IfOk result (IsRead (R.remaining input.old) (R.remaining input.new) bytes.old.items bytes.new.items) }
+{
+    match input.read(piece) {
+        Ok(0) => Ok(false),
+        Ok(count) => {
+            bytes.extend_from_slice(&piece[..count])?;
+            Ok(true)
+        }
+        Err(e) if e.kind() == ErrorKind::Interrupted => Ok(true),
+        Err(_) => Err(DumpFault::Device),
+    }
+}
+
+/// Reads a file to its end, in at most 1,000,000 reads of up to 65,536 bytes: one more is a device fault,
+/// as an error of the reader is. A read that was interrupted counts and is made again.
+pub fn read_all<R: Read>(alloc: Global, input: &mut R) -> Result<Vec<u8>, DumpFault>
+    ensures whole { IfOk result (λ bytes. IfSome (R.remaining input.old) (λ xs. bytes.items ≡ xs)) }
+    ensures end { OnOk result (IsAtEnd (R.remaining input.new)) }
+{
+    let mut piece = [0u8; PIECE];
+    let mut bytes = Vec::new(alloc);
+    'reads: for _ in 0..READS {
+        if !read_piece(input, &mut piece, &mut bytes)? {
+            return Ok(bytes);
+        }
+    }
+    Err(DumpFault::Device)
+}

@@ -1,0 +1,165 @@
+//! Recordings against worked files, cut and changed, and a long one of all data types.
+
+use crate::{Fault, Index, ReadError, Refusal};
+use ch11_f1::BodyError;
+use ch11_header::{Header, HeaderError, write_header};
+use std::alloc::{AllocError, Global};
+use std::test::Fail;
+
+/// A packet of 52 bytes on channel 1 with a message of five words.
+const ONE_MESSAGE: [u8; 52] = [
+    0x25, 0xEB, 0x01, 0x00, 0x34, 0x00, 0x00, 0x00, 0x1C, 0x00, 0x00, 0x00, 0x06, 0x00, 0x00, 0x19,
+    0x00, 0x00, 0x00, 0x00, 0x00, 0x00, 0x7C, 0x04, 0x01, 0x00, 0x00, 0x40, 0x00, 0x00, 0x00, 0x00,
+    0x00, 0x00, 0x00, 0x00, 0x00, 0x00, 0x50, 0x00, 0x0A, 0x00, 0x23, 0x28, 0x01, 0x00, 0x02, 0x00,
+    0x03, 0x00, 0x00, 0x28,
+];
+
+/// A setup record on channel 0, and the same message behind a secondary header.
+const FOREIGN: [u8; 96] = [
+    0x25, 0xEB, 0x00, 0x00, 0x20, 0x00, 0x00, 0x00, 0x06, 0x00, 0x00, 0x00, 0x06, 0x00, 0x00, 0x01,
+    0x00, 0x00, 0x00, 0x00, 0x00, 0x00, 0x51, 0xEC, 0x00, 0x00, 0x00, 0x00, 0x41, 0x42, 0x00, 0x00,
+    0x25, 0xEB, 0x01, 0x00, 0x40, 0x00, 0x00, 0x00, 0x1C, 0x00, 0x00, 0x00, 0x06, 0x00, 0x80, 0x19,
+    0x00, 0x00, 0x00, 0x00, 0x00, 0x00, 0x08, 0x05, 0x00, 0x00, 0x00, 0x00, 0x00, 0x00, 0x00, 0x00,
+    0x00, 0x00, 0x00, 0x00, 0x01, 0x00, 0x00, 0x40, 0x00, 0x00, 0x00, 0x00, 0x00, 0x00, 0x00, 0x00,
+    0x00, 0x00, 0x50, 0x00, 0x0A, 0x00, 0x23, 0x28, 0x01, 0x00, 0x02, 0x00, 0x03, 0x00, 0x00, 0x28,
+];
+
+/// The answer to a file: how many messages it holds, or why it is refused.
+fn answer(alloc: Global, file: &[u8]) -> Result<u64, ReadError> {
+    match Index::build(alloc, file) {
+        Ok(index) => Ok(index.total()),
+        Err(fault) => Err(fault),
+    }
+}
+
+/// How many messages a channel has.
+fn count_of(index: &Index<'_>, channel: u16) -> u64 {
+    let mut count = 0u64;
+    for _ in index.channel(channel) {
+        count = count.wrapping_add(1);
+    }
+    count
+}
+
+/// A fault of the packet at the start of a file.
+fn at_start(fault: Fault) -> Result<u64, ReadError> {
+    Err(ReadError::Refused(Refusal { offset: 0, fault }))
+}
+
+#[test]
+fn reads_the_foreign_file(rt: HostRuntime) -> Result<(), Fail> {
+    let index = Index::build(rt.alloc(), &FOREIGN).ok().ok_or("refused")?;
+    let packets = index.packets();
+    assert_eq!(rt; packets.len(), 2);
+    let (first, second) = (packets[0], packets[1]);
+    assert_eq!(rt;
+        (
+            first.offset,
+            first.header.channel,
+            first.header.kind,
+            first.count
+        ),
+        (0, 0, 1, 0)
+    );
+    assert_eq!(rt;
+        (
+            second.offset,
+            second.header.channel,
+            second.header.flags,
+            second.count
+        ),
+        (32, 1, 0x80, 1)
+    );
+    assert!(rt; !first.sequence_jump && !second.sequence_jump);
+    assert_eq!(rt; index.total(), 1);
+    assert!(rt; index.message(0).is_none() && index.message(2).is_none());
+    let (channel, seen) = index.message(1).ok_or("no message")?;
+    assert_eq!(rt; channel, 1);
+    assert_eq!(rt; seen.words, &FOREIGN[86..]);
+    assert_eq!(rt; count_of(&index, 1), 1);
+    assert_eq!(rt; count_of(&index, 0), 0);
+    assert_eq!(rt; index.messages_in(1).left(), 1);
+    Ok(())
+}
+
+#[test]
+fn reads_or_refuses_each_cut(rt: HostRuntime) {
+    assert_eq!(rt; answer(rt.alloc(), &[]), Ok(0));
+    for length in 1..52 {
+        let fault = if length < 24 {
+            Fault::Header(HeaderError::Short)
+        } else {
+            Fault::End
+        };
+        assert_eq!(rt; answer(rt.alloc(), &ONE_MESSAGE[..length]), at_start(fault));
+    }
+    assert_eq!(rt; answer(rt.alloc(), &ONE_MESSAGE), Ok(1));
+}
+
+#[test]
+fn reads_or_refuses_each_change(rt: HostRuntime) {
+    for place in 0..52 {
+        let mut file = ONE_MESSAGE;
+        file[place] ^= 0xFF;
+        let wanted = match place {
+            0..=1 => at_start(Fault::Header(HeaderError::Sync)),
+            2..=23 => at_start(Fault::Header(HeaderError::Checksum)),
+            24..=26 | 41 => at_start(Fault::Body(BodyError::End)),
+            40 => at_start(Fault::Body(BodyError::Odd)),
+            _ => Ok(1),
+        };
+        assert_eq!(rt; answer(rt.alloc(), &file), wanted);
+    }
+}
+
+#[test]
+fn names_the_fault_of_a_later_packet(rt: HostRuntime) {
+    let mut file = FOREIGN;
+    file[32] = 0;
+    let refusal = Refusal {
+        offset: 32,
+        fault: Fault::Header(HeaderError::Sync),
+    };
+    assert_eq!(rt; answer(rt.alloc(), &file), Err(ReadError::Refused(refusal)));
+}
+
+/// A packet of channel 7 with a kind and a sequence number, and a message's body.
+fn add_packet(file: &mut Vec<u8>, kind: u8, sequence: u8) -> Result<(), AllocError> {
+    let header = Header {
+        channel: 7,
+        packet_length: 52,
+        data_length: 28,
+        version: 6,
+        sequence,
+        flags: 0,
+        kind,
+        counter: 0,
+    };
+    file.extend_from_slice(&write_header(&header))?;
+    file.extend_from_slice(&ONE_MESSAGE[24..])
+}
+
+#[test]
+fn reads_ten_thousand_packets_of_all_kinds(rt: HostRuntime) -> Result<(), Fail> {
+    let mut file = Vec::new(rt.alloc());
+    for number in 0..10000u32 {
+        let kind = (number % 256) as u8;
+        let sequence = if number == 9999 { 0 } else { kind };
+        add_packet(&mut file, kind, sequence)?;
+    }
+    let index = Index::build(rt.alloc(), &file).ok().ok_or("refused")?;
+    assert_eq!(rt; index.packets().len(), 10000);
+    assert_eq!(rt;
+        index
+            .packets()
+            .iter()
+            .filter(|packet| packet.sequence_jump)
+            .count(),
+        1
+    );
+    assert_eq!(rt; index.total(), 39);
+    assert_eq!(rt; count_of(&index, 7), 39);
+    assert_eq!(rt; index.message(39).map(|found| found.0), Some(7));
+    assert!(rt; index.message(40).is_none());
+    Ok(())
+}
