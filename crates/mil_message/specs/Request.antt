@@ -1,5 +1,6 @@
 -- What a draft asks for, as plain data: its numbers, and its data words wherever they lie in memory.
 use Rattle.std.specs.Prelude.{ℕ, Bool, List, Option, Some, None, ◌&&◌, ◌||◌, ◌==◌, nat_le, if◌then◌else◌, option_map}
+use Rattle.std.specs.Borrow.{Bor}
 use Rattle.mil_message.specs.declared.drafts.ModeSubaddress.{ModeSubaddress}
 use Rattle.mil_message.specs.declared.drafts.Draft.{Draft}
 use Rattle.mil_message.specs.declared.drafts.Draft.TheVariants.{ToTerminal, FromTerminal, Between, Mode, ModeFrom, ModeTo, ToAll, BetweenAll, ModeAll, ModeAllTo}
@@ -24,17 +25,21 @@ pub data Request : Type 0 where
   mode_all : ModeSubaddress → ℕ → Option (List ℕ) → Request
   mode_all_to : ModeSubaddress → ℕ → Option (List ℕ) → Request
 
+-- the words that are written, where any are
+abbrev pub written : Option (Bor (List ℕ)) → Option (List ℕ)
+written words = option_map (λ w. w.now) words
+
 abbrev pub request_of : Draft → Request
 request_of (ToTerminal address subaddress words) = to_terminal address subaddress words.now
 request_of (FromTerminal address subaddress count) = from_terminal address subaddress count
 request_of (Between sender sender_subaddress receiver receiver_subaddress count) = between sender sender_subaddress receiver receiver_subaddress count
-request_of (Mode address subaddress code words) = mode address subaddress code (option_map (λ w. w.now) words)
-request_of (ModeFrom address subaddress code words) = mode_from address subaddress code (option_map (λ w. w.now) words)
-request_of (ModeTo address subaddress code words) = mode_to address subaddress code (option_map (λ w. w.now) words)
+request_of (Mode address subaddress code words) = mode address subaddress code (written words)
+request_of (ModeFrom address subaddress code words) = mode_from address subaddress code (written words)
+request_of (ModeTo address subaddress code words) = mode_to address subaddress code (written words)
 request_of (ToAll subaddress words) = to_all subaddress words.now
 request_of (BetweenAll sender sender_subaddress receiver_subaddress count) = between_all sender sender_subaddress receiver_subaddress count
-request_of (ModeAll subaddress code words) = mode_all subaddress code (option_map (λ w. w.now) words)
-request_of (ModeAllTo subaddress code words) = mode_all_to subaddress code (option_map (λ w. w.now) words)
+request_of (ModeAll subaddress code words) = mode_all subaddress code (written words)
+request_of (ModeAllTo subaddress code words) = mode_all_to subaddress code (written words)
 
 -- codes 16, 18 and 19 have a data word from the terminal, and codes 22 on where no word is written
 abbrev is_from : ℕ → Option (List ℕ) → Bool

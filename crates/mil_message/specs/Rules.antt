@@ -1,5 +1,5 @@
 -- Which requests are messages: MIL-STD-1553B 4.3.3.5.1 for the ranges, 4.3.3.6 for the forms.
-use Rattle.std.specs.Prelude.{ℕ, ◌+◌, ◌≤◌, ◌≡◌, ◌≢◌, Bool, true, false, not, ◌&&◌, ◌||◌, ◌==◌, nat_le, List, [], ◌∷◌, length, Option, Some, None, Result, Ok, Err}
+use Rattle.std.specs.Prelude.{ℕ, ◌+◌, ◌≤◌, ◌≡◌, ◌≢◌, Bool, true, false, not, ◌&&◌, ◌||◌, ◌==◌, nat_le, List, [], ◌∷◌, length, Option, Some, None, Result, Ok, Err, MatchResult}
 use Rattle.mil_mode.specs.Table.{data_word_count}
 use Rattle.mil_message.specs.declared.drafts.ModeSubaddress.{ModeSubaddress}
 use Rattle.mil_message.specs.declared.faults.BadMessage.{BadMessage}
@@ -97,6 +97,10 @@ form_of (mode_all_to subaddress code words) = ModeAllTo subaddress code (mode_wo
 abbrev pub judged : Option BadMessage → Form → Result Form BadMessage
 judged None form = Ok form
 judged (Some fault) form = Err fault
+
+-- the rule is met, and the value is as it is to be; or the rule is not met, and this is the fault
+abbrev pub Meets : {X : Type 0} → Result X BadMessage → Bool → (X → Type 0) → BadMessage → Type 0
+Meets result rule IsRight fault = MatchResult result (λ value. IsRight value × (rule ≡ true)) (λ e. (e ≡ fault) × (rule ≡ false))
 
 -- what becomes of a request: its message, or the first fault
 abbrev pub checked : Request → Result Form BadMessage

@@ -1,6 +1,6 @@
 //! What a script or a job asks for: a message with unchecked numbers.
-ghost use Rattle.std.specs.Prelude.{◌≡◌, option_map};
-ghost use Rattle.mil_message.specs.Request.{request_of, mode_request, mode_request_to_all};
+ghost use Rattle.std.specs.Prelude.{◌≡◌};
+ghost use Rattle.mil_message.specs.Request.{request_of, written, mode_request, mode_request_to_all};
 
 /// The two subaddresses that mark a mode command, alike in meaning (MIL-STD-1553B 4.3.3.5.1.7, Notice 2).
 #[derive(Clone, Copy, Debug, PartialEq, Eq)]
@@ -91,7 +91,7 @@ impl<'a> Draft<'a> {
         code: u32,
         words: Option<&'a [u16]>,
     ) -> Draft<'a>
-        ensures { request_of result ≡ mode_request address subaddress code (option_map (λ w. w.now) words.entry) }
+        ensures { request_of result ≡ mode_request address subaddress code (written words.entry) }
     {
         let from_terminal = code == 16 || code == 18 || code == 19 || code >= 22 && words.is_none();
         if code <= 15 {
@@ -125,7 +125,7 @@ impl<'a> Draft<'a> {
         code: u32,
         words: Option<&'a [u16]>,
     ) -> Draft<'a>
-        ensures { request_of result ≡ mode_request_to_all subaddress code (option_map (λ w. w.now) words.entry) }
+        ensures { request_of result ≡ mode_request_to_all subaddress code (written words.entry) }
     {
         if code <= 15 {
             Draft::ModeAll {

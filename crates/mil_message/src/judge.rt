@@ -1,5 +1,5 @@
 //! The form that a draft asks for, or the first fault: one function for each of the ten forms.
-ghost use Rattle.std.specs.Prelude.{◌≡◌, option_map};
+ghost use Rattle.std.specs.Prelude.{◌≡◌};
 ghost use Rattle.mil_message.specs.Request as asks;
 ghost use Rattle.mil_message.specs.Rules.{checked};
 
@@ -145,7 +145,7 @@ fn mode(
     code: u32,
     words: Option<&[u16]>,
 ) -> Result<Form, BadMessage>
-    ensures { result ≡ checked (asks.mode address_number subaddress code (option_map (λ w. w.now) words.entry)) }
+    ensures { result ≡ checked (asks.mode address_number subaddress code (asks.written words.entry)) }
 {
     let address = address(address_number)?;
     let code = code_alone(code)?;
@@ -164,7 +164,7 @@ fn mode_from(
     code: u32,
     words: Option<&[u16]>,
 ) -> Result<Form, BadMessage>
-    ensures { result ≡ checked (asks.mode_from address_number subaddress code (option_map (λ w. w.now) words.entry)) }
+    ensures { result ≡ checked (asks.mode_from address_number subaddress code (asks.written words.entry)) }
 {
     let address = address(address_number)?;
     let code = code_from(code)?;
@@ -183,7 +183,7 @@ fn mode_to(
     code: u32,
     words: Option<&[u16]>,
 ) -> Result<Form, BadMessage>
-    ensures { result ≡ checked (asks.mode_to address_number subaddress code (option_map (λ w. w.now) words.entry)) }
+    ensures { result ≡ checked (asks.mode_to address_number subaddress code (asks.written words.entry)) }
 {
     let address = address(address_number)?;
     let code = code_to(code)?;
@@ -232,7 +232,7 @@ fn mode_all(
     code: u32,
     words: Option<&[u16]>,
 ) -> Result<Form, BadMessage>
-    ensures { result ≡ checked (asks.mode_all subaddress code (option_map (λ w. w.now) words.entry)) }
+    ensures { result ≡ checked (asks.mode_all subaddress code (asks.written words.entry)) }
 {
     let code = code_alone(code)?;
     no_word(words)?;
@@ -245,7 +245,7 @@ fn mode_all_to(
     code: u32,
     words: Option<&[u16]>,
 ) -> Result<Form, BadMessage>
-    ensures { result ≡ checked (asks.mode_all_to subaddress code (option_map (λ w. w.now) words.entry)) }
+    ensures { result ≡ checked (asks.mode_all_to subaddress code (asks.written words.entry)) }
 {
     let code = code_to(code)?;
     let word = one_word(words)?;
