@@ -31,10 +31,10 @@ module _ {T : Type 0} (tag_of : T → ℕ) where
   abbrev pub Keeps : List T → List (View T) → Type 0
   Keeps items views = ((items ≡ []) × (views ≡ unsplit ∷ [])) ⊎ Flows items views
 
-  -- what an empty or any other queue tells a ticket that has taken in the taker
+  -- what the queue tells a ticket that has taken in the taker: of each of its tags, what was sent is what was received and then what is queued
   abbrev pub Agrees : View T → List T → Type 0
   Agrees v items = (t : ℕ) → has v.tags t ≡ true → with_tag tag_of t v.sent ≡ with_tag tag_of t v.received ++ with_tag tag_of t items
 
--- what a queue tells a ticket: it holds no more items than the ticket's lists and the bounds of the other tags together
+-- what the queue tells any ticket: it holds no more items than the ticket's lists and the bounds of the other tags together
 abbrev pub HoldsAtMost : {T : Type 0} → View T → List T → Type 0
 HoldsAtMost v items = length items ≤ length v.sent + bounds_outside v.tags v.bounds

@@ -39,6 +39,8 @@ impl<T: Tagged> Trunk<T> {
     ///
     /// At most `bounds[t]` items of tag t may ever be sent, and none where `bounds` ends before t. `Q1` comes where the capacity is
     /// outside 1 to 4096, before any memory is asked for, and `Q2` where memory is refused.
+    ///
+    /// By the bounds of 2^55 (own choice) fewer than 2^62 items are ever sent: past that number the queue below would wait for ever.
     pub fn make(
         alloc: Global,
         capacity: u32,
