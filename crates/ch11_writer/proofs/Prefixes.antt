@@ -27,8 +27,8 @@ next_within count n bytes le h =
     omega arith
 
 -- bytes that are put to a writer that has not failed
-pub written_next : (put bytes : List ℕ) (before old new : Option (List ℕ)) (count n : ℕ) (failed : Bool) → IsWritten put before old count false → n ≤ length bytes → Appends old new (take n bytes)
-    → (failed ≡ false → n ≡ length bytes) → IsWritten (put ++ bytes) before new (count + n) failed
+pub written_next : (put bytes : List ℕ) (before old new : Option (List ℕ)) (count n : ℕ) (failed : Bool) → IsWritten put before (record { bytes = old; count = count; failed = false }) → n ≤ length bytes
+    → Appends old new (take n bytes) → (failed ≡ false → n ≡ length bytes) → IsWritten (put ++ bytes) before (record { bytes = new; count = count + n; failed = failed })
 written_next put bytes before old new count n failed w within a whole =
     let all : count ≡ length put = w.whole refl in
     let own : take count put ≡ put = take_all count put (omega arith) in

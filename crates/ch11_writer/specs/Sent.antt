@@ -10,6 +10,10 @@ pub record Shown : Type 0 where
   pub failures : ℕ
   pub finished : Bool
 
+-- what the sink shows, by its members
+abbrev pub shown_by : {S : Type 0} → (S → Option (List ℕ)) → (S → ℕ) → (S → Bool) → S → Shown
+shown_by taken failures finished s = record { taken = taken s; failures = failures s; finished = finished s }
+
 -- so many of the bytes were taken, and all of them exactly where no call failed
 pub record IsSent (sent : Sent) (bytes : List ℕ) (old new : Shown) : Type 0 where
   pub within : sent.count ≤ length bytes

@@ -58,7 +58,8 @@ impl Sink for FuseSink {
         requires countable { self.old.failures < 2 ^ 64 - 1 }
         ensures count { IfOk result (λ n. n ≡ min (length bytes.now) self.old.left) }
         ensures some { IfOk result (λ n. 0 < n) }
-        ensures taken { self.new.bytes ≡ (if is_ok result then self.old.bytes ++ take self.old.left bytes.now else self.old.bytes) }
+        ensures taken { self.new.bytes ≡ (if is_ok result
+            then self.old.bytes ++ take self.old.left bytes.now else self.old.bytes) }
         ensures left { self.new.left ≡ (if is_ok result then self.old.left - length bytes.now else self.old.left) }
         ensures blows { self.new.blown ≡ (self.old.blown || self.old.left == 0) }
         ensures failures { self.new.failures ≡ (if is_ok result then self.old.failures else self.old.failures + 1) }
@@ -86,7 +87,8 @@ impl Sink for FuseSink {
     fn finish(&mut self) -> Result<(), SinkFault>
         requires countable { self.old.failures < 2 ^ 64 - 1 }
         ensures blown { IsOk result ↔ (self.old.blown ≡ false) }
-        ensures after { self.new ≡ (if is_ok result then record self.old { finished = true } else record self.old { failures = self.old.failures + 1 }) }
+        ensures after { self.new ≡ (if is_ok result
+            then record self.old { finished = true } else record self.old { failures = self.old.failures + 1 }) }
     {
         if self.blown {
             self.failures += 1;

@@ -52,7 +52,9 @@ impl Sink for MemorySink {
         requires some { 0 < length bytes.now }
         requires countable { self.old.failures < 2 ^ 64 - 1 }
         ensures count { IfOk result (λ n. n ≡ length bytes.now) }
-        ensures after { self.new ≡ (if is_ok result then record self.old { bytes = self.old.bytes ++ bytes.now } else record self.old { failures = self.old.failures + 1 }) }
+        ensures after { self.new ≡ (if is_ok result
+            then record self.old { bytes = self.old.bytes ++ bytes.now }
+            else record self.old { failures = self.old.failures + 1 }) }
     {
         match self.bytes.extend_from_slice(bytes) {
             Ok(()) => Ok(bytes.len()),

@@ -1,8 +1,8 @@
 ghost use Rattle.std.specs.Prelude.{◌≡◌, ℕ, List, [], ◌++◌, ◌+◌, ◌-◌, ◌≤◌, ◌<◌, ◌^◌, ◌↔◌, ◌||◌, Bool, true, false, length, take, is_ok, if◌then◌else◌, IfOk, IfErr, IsOk, OnOk, OnErr};
 ghost use Rattle.std.specs.declared.option.Option.{Option};
 ghost use Rattle.std.specs.Io.KnownBytes.{Keeps, Appends};
-ghost use Rattle.ch11_writer.specs.Writing.{IsWritten};
-ghost use Rattle.ch11_writer.specs.Sent.{Shown, IsSent};
+ghost use Rattle.ch11_writer.specs.Writing.{IsWritten, Puts, PutsNone, progress_of};
+ghost use Rattle.ch11_writer.specs.Sent.{shown_by, IsSent};
 
 use crate::sink::Sink;
 use std::fmt;
@@ -31,7 +31,8 @@ struct Sent {
 /// Gives the sink the bytes until it has taken all or failed.
 fn send<S: Sink>(sink: &mut S, bytes: &[u8]) -> Sent
     requires { S.failures sink.old < 2 ^ 64 - 1 }
-    ensures { let shown : S → Shown = λ s. record { taken = S.taken s; failures = S.failures s; finished = S.finished s } in IsSent result bytes.now (shown sink.old) (shown sink.new) }
+    ensures { IsSent result bytes.now (shown_by S.taken S.failures S.finished sink.old)
+        (shown_by S.taken S.failures S.finished sink.new) }
 {
     let mut count = 0;
     while count < bytes.len() {
@@ -73,7 +74,7 @@ impl<S: Sink> Writer<S> {
     pub fn make(sink: S) -> Writer<S>
         requires countable { S.failures sink < 2 ^ 64 - 1 }
         ensures made { result ≡ record { sink = sink; taken = 0; failed = false; finished = false } }
-        ensures written { IsWritten [] (S.taken sink) (S.taken result.sink) result.taken result.failed }
+        ensures written { IsWritten [] (S.taken sink) (progress_of S.taken result) }
     {
         Writer {
             sink,
@@ -87,14 +88,23 @@ impl<S: Sink> Writer<S> {
     pub fn prologue(&mut self, bytes: &[u8]) -> Result<(), WriteFault>
         requires unfinished { self.old.finished ≡ false }
         requires few { self.old.taken + length bytes.now < 2 ^ 64 }
+
+        // It fails exactly where the sink fails now or has failed before, and tells how many bytes the sink took.
         ensures ok { IsOk result ↔ (self.new.failed ≡ false) }
+        ensures failures { S.failures self.new.sink ≡ (if self.old.failed || is_ok result
+            then S.failures self.old.sink else S.failures self.old.sink + 1) }
         ensures fault { IfErr result (λ e. e.taken ≡ self.new.taken) }
+
+        // After a failure nothing changes: the sink is called no more.
         ensures silent { self.old.failed ≡ true → self.new ≡ self.old }
-        ensures failures { S.failures self.new.sink ≡ (if self.old.failed || is_ok result then S.failures self.old.sink else S.failures self.old.sink + 1) }
+
+        // The sink took all of the bytes, or those before its failure.
+        ensures taken { Appends (S.taken self.old.sink) (S.taken self.new.sink)
+            (take (self.new.taken - self.old.taken) bytes.now) }
         ensures whole { OnOk result (self.new.taken ≡ self.old.taken + length bytes.now) }
-        ensures part { OnErr result (self.old.failed ≡ false → (self.old.taken ≤ self.new.taken) × (self.new.taken < self.old.taken + length bytes.now)) }
-        ensures taken { Appends (S.taken self.old.sink) (S.taken self.new.sink) (take (self.new.taken - self.old.taken) bytes.now) }
-        ensures written { (before : Option (List ℕ)) (put : List ℕ) → IsWritten put before (S.taken self.old.sink) self.old.taken self.old.failed → IsWritten (put ++ bytes.now) before (S.taken self.new.sink) self.new.taken self.new.failed }
+        ensures part { OnErr result (self.old.failed ≡ false →
+            (self.old.taken ≤ self.new.taken) × (self.new.taken < self.old.taken + length bytes.now)) }
+        ensures written { Puts bytes.now (progress_of S.taken self.old) (progress_of S.taken self.new) }
         ensures unfinished { (self.new.finished ≡ false) × (S.finished self.new.sink ≡ S.finished self.old.sink) }
     {
         self.put(bytes)
@@ -105,14 +115,23 @@ impl<S: Sink> Writer<S> {
     pub fn put(&mut self, bytes: &[u8]) -> Result<(), WriteFault>
         requires unfinished { self.old.finished ≡ false }
         requires few { self.old.taken + length bytes.now < 2 ^ 64 }
+
+        // It fails exactly where the sink fails now or has failed before, and tells how many bytes the sink took.
         ensures ok { IsOk result ↔ (self.new.failed ≡ false) }
+        ensures failures { S.failures self.new.sink ≡ (if self.old.failed || is_ok result
+            then S.failures self.old.sink else S.failures self.old.sink + 1) }
         ensures fault { IfErr result (λ e. e.taken ≡ self.new.taken) }
+
+        // After a failure nothing changes: the sink is called no more.
         ensures silent { self.old.failed ≡ true → self.new ≡ self.old }
-        ensures failures { S.failures self.new.sink ≡ (if self.old.failed || is_ok result then S.failures self.old.sink else S.failures self.old.sink + 1) }
+
+        // The sink took all of the bytes, or those before its failure.
+        ensures taken { Appends (S.taken self.old.sink) (S.taken self.new.sink)
+            (take (self.new.taken - self.old.taken) bytes.now) }
         ensures whole { OnOk result (self.new.taken ≡ self.old.taken + length bytes.now) }
-        ensures part { OnErr result (self.old.failed ≡ false → (self.old.taken ≤ self.new.taken) × (self.new.taken < self.old.taken + length bytes.now)) }
-        ensures taken { Appends (S.taken self.old.sink) (S.taken self.new.sink) (take (self.new.taken - self.old.taken) bytes.now) }
-        ensures written { (before : Option (List ℕ)) (put : List ℕ) → IsWritten put before (S.taken self.old.sink) self.old.taken self.old.failed → IsWritten (put ++ bytes.now) before (S.taken self.new.sink) self.new.taken self.new.failed }
+        ensures part { OnErr result (self.old.failed ≡ false →
+            (self.old.taken ≤ self.new.taken) × (self.new.taken < self.old.taken + length bytes.now)) }
+        ensures written { Puts bytes.now (progress_of S.taken self.old) (progress_of S.taken self.new) }
         ensures unfinished { (self.new.finished ≡ false) × (S.finished self.new.sink ≡ S.finished self.old.sink) }
     {
         if self.failed {
@@ -132,12 +151,13 @@ impl<S: Sink> Writer<S> {
     pub fn finish(&mut self) -> Result<(), WriteFault>
         requires unfinished { self.old.finished ≡ false }
         ensures ok { IsOk result ↔ (self.new.failed ≡ false) }
+        ensures failures { S.failures self.new.sink ≡ (if self.old.failed || is_ok result
+            then S.failures self.old.sink else S.failures self.old.sink + 1) }
         ensures fault { IfErr result (λ e. e.taken ≡ self.new.taken) }
         ensures silent { self.old.failed ≡ true → self.new ≡ self.old }
-        ensures failures { S.failures self.new.sink ≡ (if self.old.failed || is_ok result then S.failures self.old.sink else S.failures self.old.sink + 1) }
-        ensures count { self.new.taken ≡ self.old.taken }
         ensures taken { Keeps (S.taken self.old.sink) (S.taken self.new.sink) }
-        ensures written { (before : Option (List ℕ)) (put : List ℕ) → IsWritten put before (S.taken self.old.sink) self.old.taken self.old.failed → IsWritten put before (S.taken self.new.sink) self.new.taken self.new.failed }
+        ensures count { self.new.taken ≡ self.old.taken }
+        ensures written { PutsNone (progress_of S.taken self.old) (progress_of S.taken self.new) }
         ensures told { OnOk result (S.finished self.new.sink ≡ true) }
         ensures finished { self.new.finished ≡ is_ok result }
     {
