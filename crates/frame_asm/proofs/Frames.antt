@@ -1,0 +1,113 @@
+-- The operations of a frame in parts.
+use Rattle.std.proofs.Common.{◌≡◌, ℕ, ◌+◌, ◌<◌, ◌≤◌, List, [], ◌∷◌, ◌++◌, length, get_or, map, take, refl, sym, ap, ap₂, ◌∙◌, arith, rules, append_assoc, length-append, Vec, Box, zero, suc, subst}
+use Rattle.std.proofs.lemmas.List.{append-nil}
+use Rattle.mil_word.specs.declared.Line.{Line}
+use Rattle.mil_message.specs.declared.messages.Message.{Message}
+use Rattle.frame_tree.specs.Tree.{Test, Tree, repeat, choose, nothing, first, chain, test_of, tree_of}
+use Rattle.frame_tree.specs.declared.Cond.{Cond}
+use Rattle.frame_tree.specs.declared.Frame.{Frame, Repeat, If, Seq, the_lemmas}
+use Rattle.frame_code.specs.declared.Op.{Op}
+use Rattle.frame_code.specs.declared.Op.TheVariants as op
+use Rattle.frame_asm.specs.Shapes.{branch_size, branch, size, entries, messages_of, shape}
+use Rattle.frame_asm.proofs.Lengths.{length_branch, length_shape, length_messages_of}
+use Rattle.frame_asm.proofs.Chains.{front, front_more}
+
+pub tree_repeat : {A : Type 0} (n : ℕ) (b : Box (Frame A) A) → tree_of (Repeat n b) ≡ repeat n (tree_of b.value)
+tree_repeat n b = search (rules, the_lemmas)
+
+pub tree_if : {A : Type 0} (c : Cond A) (a b : Box (Frame A) A) → tree_of (If c a b) ≡ choose (test_of c) (tree_of a.value) (tree_of b.value)
+tree_if c a b = search (rules, the_lemmas)
+
+pub length_put : {X : Type 0} (c0 c1 : List X) (x : X) → c1 ≡ c0 ++ x ∷ [] → length c1 ≡ length c0 + 1
+length_put c0 c1 x e = ap length e ∙ length-append c0 (x ∷ [])
+
+pub length_branched : (c : Test) (c0 c1 : List Op) (p t f : ℕ) → c1 ≡ c0 ++ branch p c t f → length c1 ≡ length c0 + branch_size c
+length_branched c c0 c1 p t f e = ap length e ∙ length-append c0 (branch p c t f) ∙ ap (λ n. length c0 + n) (length_branch c p t f)
+
+pub length_grown : (t : Tree) (c0 c1 : List Op) (p m : ℕ) → c1 ≡ c0 ++ shape p m t → length c1 ≡ length c0 + size t
+length_grown t c0 c1 p m e = ap length e ∙ length-append c0 (shape p m t) ∙ ap (λ n. length c0 + n) (length_shape t p m)
+
+pub length_entered : (t : Tree) (m0 m1 : List (Line × Message)) → m1 ≡ m0 ++ messages_of t → length m1 ≡ length m0 + entries t
+length_entered t m0 m1 e = ap length e ∙ length-append m0 (messages_of t) ∙ ap (λ n. length m0 + n) (length_messages_of t)
+
+pub repeat_done : (tree b b1 : Tree) (n : ℕ) (c0 c1 c2 c3 : List Op) (m i : ℕ) → tree ≡ repeat n b → b1 ≡ b → i ≡ length c0 + 1
+    → c1 ≡ c0 ++ op.Loop n ∷ [] → c2 ≡ c1 ++ shape (length c1) m b1 → c3 ≡ c2 ++ op.Again i ∷ [] → c3 ≡ c0 ++ shape (length c0) m tree
+repeat_done tree b b1 n c0 c1 c2 c3 m i is ib ii e1 e2 e3 =
+    let l1 = length_put c0 c1 (op.Loop n) e1 in
+    let body : shape (length c1) m b1 ≡ shape (length c0 + 1) m b = ap₂ (λ p t. shape p m t) l1 ib in
+    let all : c3 ≡ ((c0 ++ op.Loop n ∷ []) ++ shape (length c0 + 1) m b) ++ op.Again (length c0 + 1) ∷ [] = cc in
+    let flat : ((c0 ++ op.Loop n ∷ []) ++ shape (length c0 + 1) m b) ++ op.Again (length c0 + 1) ∷ [] ≡ c0 ++ op.Loop n ∷ (shape (length c0 + 1) m b ++ op.Again (length c0 + 1) ∷ []) = simp append_assoc in
+    all ∙ flat ∙ ap (λ t. c0 ++ shape (length c0) m t) (sym is)
+
+pub choose_done : (tree a a1 b b1 : Tree) (c k : Test) (c0 c1 c2 c3 c4 : List Op) (m0 m1 : List (Line × Message)) (t f e : ℕ)
+    → tree ≡ choose c a b → k ≡ c → a1 ≡ a → b1 ≡ b → t ≡ length c0 + branch_size c → f ≡ t + size a + 1 → e ≡ f + size b
+    → c1 ≡ c0 ++ branch (length c0) k t f → c2 ≡ c1 ++ shape (length c1) (length m0) a1 → m1 ≡ m0 ++ messages_of a1 → c3 ≡ c2 ++ op.Jump e ∷ [] → c4 ≡ c3 ++ shape (length c3) (length m1) b1
+    → c4 ≡ c0 ++ shape (length c0) (length m0) tree
+choose_done tree a a1 b b1 c k c0 c1 c2 c3 c4 m0 m1 t f e is ik ia ib it if ie e1 e2 em e3 e4 =
+    let l1 : length c1 ≡ t = length_branched k c0 c1 (length c0) t f e1 ∙ ap (λ z. length c0 + branch_size z) ik ∙ sym it in
+    let l2 : length c2 ≡ length c1 + size a = length_grown a1 c1 c2 _ _ e2 ∙ ap (λ z. length c1 + size z) ia in
+    let l3 : length c3 ≡ f = omega (arith, length_put c2 c3 (op.Jump e) e3, l2, l1, if) in
+    let lm : length m1 ≡ length m0 + entries a = length_entered a1 m0 m1 em ∙ ap (λ z. length m0 + entries z) ia in
+    let p = length c0 in
+    let t0 = p + branch_size c in
+    let f0 = t0 + size a + 1 in
+    let if0 : f ≡ f0 = if ∙ ap (λ z. z + size a + 1) it in
+    let ie0 : e ≡ f0 + size b = ie ∙ ap (λ z. z + size b) if0 in
+    let pa = branch p c t0 f0 in
+    let pb = shape t0 (length m0) a in
+    let pc = op.Jump (f0 + size b) in
+    let pd = shape f0 (length m0 + entries a) b in
+    let d1 : c1 ≡ c0 ++ pa = e1 ∙ ap (λ z. c0 ++ branch p z t f) ik ∙ ap₂ (λ x y. c0 ++ branch p c x y) it if0 in
+    let d2 : c2 ≡ (c0 ++ pa) ++ pb = e2 ∙ ap₂ (λ x y. x ++ shape y (length m0) a1) d1 (l1 ∙ it) ∙ ap (λ z. (c0 ++ pa) ++ shape t0 (length m0) z) ia in
+    let d3 : c3 ≡ ((c0 ++ pa) ++ pb) ++ pc ∷ [] = e3 ∙ ap₂ (λ x y. x ++ op.Jump y ∷ []) d2 ie0 in
+    let d4 : c4 ≡ (((c0 ++ pa) ++ pb) ++ pc ∷ []) ++ pd = e4 ∙ ap₂ (λ x y. x ++ shape y (length m1) b1) d3 (l3 ∙ if0) ∙ ap₂ (λ x y. (((c0 ++ pa) ++ pb) ++ pc ∷ []) ++ shape f0 x y) lm ib in
+    let flat : (((c0 ++ pa) ++ pb) ++ pc ∷ []) ++ pd ≡ c0 ++ (pa ++ (pb ++ (pc ∷ pd))) = simp append_assoc in
+    d4 ∙ flat ∙ ap (λ z. c0 ++ shape p (length m0) z) (sym is)
+
+pub messages_done : (tree a a1 b b1 : Tree) (c : Test) (m0 m1 m2 : List (Line × Message)) → tree ≡ choose c a b → a1 ≡ a → b1 ≡ b → m1 ≡ m0 ++ messages_of a1 → m2 ≡ m1 ++ messages_of b1 → m2 ≡ m0 ++ messages_of tree
+messages_done tree a a1 b b1 c m0 m1 m2 is ia ib e1 e2 =
+    e2 ∙ ap₂ (λ x y. x ++ messages_of y) (e1 ∙ ap (λ z. m0 ++ messages_of z) ia) ib ∙ append_assoc m0 (messages_of a) (messages_of b) ∙ ap (λ z. m0 ++ messages_of z) (sym is)
+
+-- a chain with one more frame
+pub shape_more : (ts : List Tree) (t : Tree) (p m : ℕ) → shape p m (chain (ts ++ t ∷ [])) ≡ shape p m (chain ts) ++ shape (p + size (chain ts)) (m + entries (chain ts)) t
+shape_more [] t p m = let e : p ≡ p + 0 = omega arith in let e' : m ≡ m + 0 = omega arith in append-nil (shape p m t) ∙ ap₂ (λ x y. shape x y t) e e'
+shape_more (s ∷ ts) t p m =
+    let e : p + size s + size (chain ts) ≡ p + (size s + size (chain ts)) = omega arith in
+    let e' : m + entries s + entries (chain ts) ≡ m + (entries s + entries (chain ts)) = omega arith in
+    ap (λ z. shape p m s ++ z) (shape_more ts t (p + size s) (m + entries s) ∙ ap₂ (λ x y. shape (p + size s) (m + entries s) (chain ts) ++ shape x y t) e e')
+    ∙ sym (append_assoc (shape p m s) _ _)
+
+pub messages_more : (ts : List Tree) (t : Tree) → messages_of (chain (ts ++ t ∷ [])) ≡ messages_of (chain ts) ++ messages_of t
+messages_more [] t = append-nil (messages_of t)
+messages_more (s ∷ ts) t = ap (λ z. messages_of s ++ z) (messages_more ts t) ∙ sym (append_assoc (messages_of s) _ _)
+
+pub room_at : {A : Type 0} (fs : List (Frame A)) (i : ℕ) (f : Frame A) → i < length fs → f ≡ get_or fs i f → size (front i fs) + size (tree_of f) ≤ size (chain (map tree_of fs))
+room_at [] i f h is = absurd (omega arith)
+room_at (x ∷ fs) zero f h is = omega (arith, ap (λ z. size (tree_of z)) is)
+room_at (x ∷ fs) (suc i) f h is = omega (arith, room_at fs i f (omega arith) is)
+
+pub table_at : {A : Type 0} (fs : List (Frame A)) (i : ℕ) (f : Frame A) → i < length fs → f ≡ get_or fs i f → entries (front i fs) + entries (tree_of f) ≤ entries (chain (map tree_of fs))
+table_at [] i f h is = absurd (omega arith)
+table_at (x ∷ fs) zero f h is = omega (arith, ap (λ z. entries (tree_of z)) is)
+table_at (x ∷ fs) (suc i) f h is = omega (arith, table_at fs i f (omega arith) is)
+
+-- one more turn of the loop over a chain
+pub front_done : {A : Type 0} (fs : List (Frame A)) (i : ℕ) (f : Frame A) → i < length fs → f ≡ get_or fs i f → (c0 c1 c2 : List Op) (m0 m1 : List (Line × Message))
+    → c1 ≡ c0 ++ shape (length c0) (length m0) (front i fs) → m1 ≡ m0 ++ messages_of (front i fs) → c2 ≡ c1 ++ shape (length c1) (length m1) (tree_of f)
+    → c2 ≡ c0 ++ shape (length c0) (length m0) (front (i + 1) fs)
+front_done fs i f h is c0 c1 c2 m0 m1 e1 em e2 =
+    let l1 = length_grown (front i fs) c0 c1 (length c0) (length m0) e1 in
+    let lm = length_entered (front i fs) m0 m1 em in
+    e2
+    ∙ ap₂ (λ x y. c1 ++ shape x y (tree_of f)) l1 lm
+    ∙ ap (λ z. z ++ shape (length c0 + size (front i fs)) (length m0 + entries (front i fs)) (tree_of f)) e1
+    ∙ append_assoc c0 _ _
+    ∙ ap (λ z. c0 ++ z) (sym (shape_more (map tree_of (take i fs)) (tree_of f) (length c0) (length m0)))
+    ∙ ap (λ z. c0 ++ shape (length c0) (length m0) z) (sym (front_more fs i f h is))
+
+pub front_entered : {A : Type 0} (fs : List (Frame A)) (i : ℕ) (f : Frame A) → i < length fs → f ≡ get_or fs i f → (m0 m1 m2 : List (Line × Message))
+    → m1 ≡ m0 ++ messages_of (front i fs) → m2 ≡ m1 ++ messages_of (tree_of f) → m2 ≡ m0 ++ messages_of (front (i + 1) fs)
+front_entered fs i f h is m0 m1 m2 e1 e2 =
+    e2 ∙ ap (λ z. z ++ messages_of (tree_of f)) e1 ∙ append_assoc m0 _ _
+    ∙ ap (λ z. m0 ++ z) (sym (messages_more (map tree_of (take i fs)) (tree_of f)))
+    ∙ ap (λ z. m0 ++ messages_of z) (sym (front_more fs i f h is))

@@ -1,0 +1,72 @@
+-- The loops that are open behind a frame's operations are those that were open before.
+use Rattle.std.proofs.Common.{◌≡◌, ℕ, zero, suc, ◌+◌, ◌<◌, ◌≤◌, List, [], ◌∷◌, ◌++◌, length, Some, refl, sym, ap, ◌∙◌, subst, arith, length-append}
+use Rattle.std.specs.Prelude.{slice_get}
+use Rattle.frame_tree.specs.Tree.{Test, failed, silent, bit, negated, both, either, Tree, send, retry, gap, repeat, choose, nothing, first}
+use Rattle.frame_code.specs.declared.Op.{Op}
+use Rattle.frame_code.specs.declared.Op.TheVariants as op
+use Rattle.frame_code.specs.Loadable.{tail, after, open_at}
+use Rattle.frame_asm.proofs.Runs.{HasAt, has_front, has_back}
+use Rattle.frame_asm.proofs.Lengths.{length_branch, length_shape}
+use Rattle.frame_asm.specs.Shapes.{branch_size, probe, branch, size, entries, retry_shape, shape}
+
+abbrev pub AllFlat : List Op → Type 0
+AllFlat [] = Unit {0}
+AllFlat (y ∷ ys) = ((q : ℕ) (st : List ℕ) → after (Some y) q st ≡ st) × AllFlat ys
+
+module _ (os : List Op) where
+  pub next : (p : ℕ) (o : Op) → slice_get os p ≡ Some o → open_at os (p + 1) ≡ after (Some o) p (open_at os p)
+  next p o at = let s : p + 1 ≡ suc p = omega arith in ap (open_at os) s ∙ ap (λ v. after v p (open_at os p)) at
+
+  -- a list without Loop and Again
+  flat : (p : ℕ) (ys : List Op) → HasAt os p ys → AllFlat ys → open_at os (p + length ys) ≡ open_at os p
+  flat p [] h f = let s : p + 0 ≡ p = omega arith in ap (open_at os) s
+  flat p (y ∷ ys) h f =
+      let s : p + suc (length ys) ≡ p + 1 + length ys = omega arith in
+      ap (open_at os) s ∙ flat (p + 1) ys h.1 f.1 ∙ next p y h.0 ∙ f.0 p (open_at os p)
+
+  pub branch_level : (p t f : ℕ) (c : Test) → HasAt os p (branch p c t f) → open_at os (p + branch_size c) ≡ open_at os p
+  branch_level p t f failed h = flat p (probe 0 t f) h (λ q st. refl, (λ q st. refl, (λ q st. refl, tt)))
+  branch_level p t f silent h = flat p (probe 1 t f) h (λ q st. refl, (λ q st. refl, (λ q st. refl, tt)))
+  branch_level p t f (bit b) h = flat p (probe (16 + b) t f) h (λ q st. refl, (λ q st. refl, (λ q st. refl, tt)))
+  branch_level p t f (negated c) h = branch_level p f t c h
+  branch_level p t f (both a b) h =
+      let m = p + branch_size a in
+      let s : p + (branch_size a + branch_size b) ≡ m + branch_size b = omega arith in
+      ap (open_at os) s ∙ branch_level m t f b (has_back os p m (branch p a m f) (branch m b t f) (omega (arith, length_branch a p m f)) h) ∙ branch_level p m f a (has_front os p (branch p a m f) (branch m b t f) h)
+  branch_level p t f (either a b) h =
+      let m = p + branch_size a in
+      let s : p + (branch_size a + branch_size b) ≡ m + branch_size b = omega arith in
+      ap (open_at os) s ∙ branch_level m t f b (has_back os p m (branch p a t m) (branch m b t f) (omega (arith, length_branch a p t m)) h) ∙ branch_level p t m a (has_front os p (branch p a t m) (branch m b t f) h)
+
+  pub level : (p m : ℕ) (t : Tree) → HasAt os p (shape p m t) → open_at os (p + size t) ≡ open_at os p
+  level p m (send l x) h = next p (op.Send m) h.0
+  level p m (gap t) h = next p (op.SetGap t) h.0
+  level p m nothing h = let s : p + 0 ≡ p = omega arith in ap (open_at os) s
+  level p m (first a b) h =
+      let q = p + size a in
+      let s : p + (size a + size b) ≡ q + size b = omega arith in
+      ap (open_at os) s ∙ level q (m + entries a) b (has_back os p q (shape p m a) (shape q (m + entries a) b) (omega (arith, length_shape a p m)) h) ∙ level p m a (has_front os p (shape p m a) (shape q (m + entries a) b) h)
+  level p m (repeat n b) h =
+      let q = p + 1 + size b in
+      let s : p + (size b + 2) ≡ q + 1 = omega arith in
+      let inside = level (p + 1) m b (has_front os (p + 1) (shape (p + 1) m b) (op.Again (p + 1) ∷ []) h.1) in
+      let back = has_back os (p + 1) q (shape (p + 1) m b) (op.Again (p + 1) ∷ []) (omega (arith, length_shape b (p + 1) m)) h.1 in
+      ap (open_at os) s ∙ next q (op.Again (p + 1)) back.0 ∙ ap tail (inside ∙ next p (op.Loop n) h.0)
+  level p m (retry n l x) h =
+      let a = p + 1 + 1 in
+      let ops = op.Test 0 ∷ op.JumpFalse (p + 6) ∷ op.Alt m ∷ op.Jump (p + 7) ∷ op.Leave (p + 8) ∷ [] in
+      let body : open_at os (a + 5) ≡ open_at os a = flat a ops (h.1.1.0, (h.1.1.1.0, (h.1.1.1.1.0, (h.1.1.1.1.1.0, (h.1.1.1.1.1.1.0, tt))))) (λ q st. refl, (λ q st. refl, (λ q st. refl, (λ q st. refl, (λ q st. refl, tt))))) in
+      let q = a + 1 + 1 + 1 + 1 + 1 in
+      let same : q ≡ a + 5 = omega arith in
+      let all : p + 8 ≡ q + 1 = omega arith in
+      let opened = next (p + 1) (op.Loop n) h.1.0 in
+      ap (open_at os) all ∙ next q (op.Again (p + 2)) h.1.1.1.1.1.1.1.0 ∙ ap tail (ap (open_at os) same ∙ body ∙ opened) ∙ next p (op.Send m) h.0
+  level p m (choose c a b) h =
+      let t = p + branch_size c in
+      let f = t + size a + 1 in
+      let else_part = op.Jump (f + size b) ∷ shape f (m + entries a) b in
+      let h1 = has_back os p t (branch p c t f) (shape t m a ++ else_part) (omega (arith, length_branch c p t f)) h in
+      let h2 = has_back os t (t + size a) (shape t m a) else_part (omega (arith, length_shape a t m)) h1 in
+      let s : p + (branch_size c + size a + 1 + size b) ≡ f + size b = omega arith in
+      ap (open_at os) s ∙ level f (m + entries a) b h2.1 ∙ next (t + size a) (op.Jump (f + size b)) h2.0
+      ∙ level t m a (has_front os t (shape t m a) else_part h1) ∙ branch_level p t f c (has_front os p (branch p c t f) (shape t m a ++ else_part) h)

@@ -1,0 +1,3 @@
+pub mod Shapes
+pub mod Behaves
+pub mod Codes

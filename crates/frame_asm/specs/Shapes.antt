@@ -1,0 +1,82 @@
+-- The operations of a tree (own choice): each kind of frame has its shape, with absolute places, and Halt stands behind all.
+use Rattle.std.specs.Prelude.{ℕ, ◌+◌, List, [], ◌∷◌, ◌++◌}
+use Rattle.mil_word.specs.declared.Line.{Line}
+use Rattle.mil_message.specs.declared.messages.Message.{Message}
+use Rattle.frame_tree.specs.Tree.{Test, failed, silent, bit, negated, both, either, Tree, send, retry, gap, repeat, choose, nothing, first}
+use Rattle.frame_code.specs.declared.Op.{Op}
+use Rattle.frame_code.specs.declared.Op.TheVariants as op
+use Rattle.frame_code.specs.Table.{Code}
+
+-- how many operations a condition has
+abbrev pub branch_size : Test → ℕ
+branch_size failed = 3
+branch_size silent = 3
+branch_size (bit b) = 3
+branch_size (negated c) = branch_size c
+branch_size (both a b) = branch_size a + branch_size b
+branch_size (either a b) = branch_size a + branch_size b
+
+-- the operations of one test: to t where it holds, and to f where it does not
+abbrev pub probe : ℕ → ℕ → ℕ → List Op
+probe k t f = op.Test k ∷ op.JumpFalse f ∷ op.Jump t ∷ []
+
+-- the operations of a condition from place p: to t where it holds, and to f where it does not
+abbrev pub branch : ℕ → Test → ℕ → ℕ → List Op
+branch p failed t f = probe 0 t f
+branch p silent t f = probe 1 t f
+branch p (bit b) t f = probe (16 + b) t f
+branch p (negated c) t f = branch p c f t
+branch p (both a b) t f = branch p a (p + branch_size a) f ++ branch (p + branch_size a) b t f
+branch p (either a b) t f = branch p a t (p + branch_size a) ++ branch (p + branch_size a) b t f
+
+-- how many operations a frame has, the Halt behind all not counted
+abbrev pub size : Tree → ℕ
+size (send l x) = 1
+size (retry n l x) = 8
+size (gap t) = 1
+size (repeat n b) = size b + 2
+size (choose c a b) = branch_size c + size a + 1 + size b
+size nothing = 0
+size (first a b) = size a + size b
+
+-- the messages in the order of the text, one for each send and retry, none shared
+abbrev pub messages_of : Tree → List (Line × Message)
+messages_of (send l x) = (l, x) ∷ []
+messages_of (retry n l x) = (l, x) ∷ []
+messages_of (gap t) = []
+messages_of (repeat n b) = messages_of b
+messages_of (choose c a b) = messages_of a ++ messages_of b
+messages_of nothing = []
+messages_of (first a b) = messages_of a ++ messages_of b
+
+-- how many they are
+abbrev pub entries : Tree → ℕ
+entries (send l x) = 1
+entries (retry n l x) = 1
+entries (gap t) = 0
+entries (repeat n b) = entries b
+entries (choose c a b) = entries a + entries b
+entries nothing = 0
+entries (first a b) = entries a + entries b
+
+-- the first attempt, and a loop of the further ones, each on the other_line line, that is left where one did not fail
+abbrev pub retry_shape : ℕ → ℕ → ℕ → List Op
+retry_shape p m n =
+    op.Send m ∷ op.Loop n ∷ op.Test 0 ∷ op.JumpFalse (p + 6) ∷ op.Alt m ∷ op.Jump (p + 7) ∷ op.Leave (p + 8) ∷ op.Again (p + 2) ∷ []
+
+-- the operations of a frame from place p, whose messages begin at index m
+abbrev pub shape : ℕ → ℕ → Tree → List Op
+shape p m (send l x) = op.Send m ∷ []
+shape p m (retry n l x) = retry_shape p m n
+shape p m (gap t) = op.SetGap t ∷ []
+shape p m (repeat n b) = op.Loop n ∷ (shape (p + 1) m b ++ op.Again (p + 1) ∷ [])
+shape p m (choose c a b) =
+    let t = p + branch_size c in
+    let f = t + size a + 1 in
+    branch p c t f ++ (shape t m a ++ (op.Jump (f + size b) ∷ shape f (m + entries a) b))
+shape p m nothing = []
+shape p m (first a b) = shape p m a ++ shape (p + size a) (m + entries a) b
+
+-- the code of a tree
+abbrev pub code_of : Tree → Code
+code_of t = record { operations = shape 0 0 t ++ op.Halt ∷ []; messages = messages_of t }

@@ -1,0 +1,154 @@
+//! Writing the operations and messages of a frame behind those that are there.
+ghost use Rattle.std.specs.Prelude.{◌≡◌, ◌+◌, ◌<◌, ◌≤◌, [], ◌∷◌, ◌++◌, length, IfOk, OnOk};
+ghost use Rattle.frame_tree.specs.Tree.{bit_number, test_of, tree_of};
+ghost use Rattle.frame_asm.specs.Shapes.{branch_size, probe, branch, size, entries, messages_of, retry_shape, shape};
+
+use crate::sizes::{branch_len, operation_count};
+use frame_code::Op;
+use frame_tree::{Cond, Frame, number_of_bit};
+use mil_message::Message;
+use mil_status::StatusBits;
+use mil_word::Line;
+use std::alloc::{AllocError, Allocator};
+
+// One more operation.
+pub fn put(operations: &mut Vec<Op>, op: Op) -> Result<(), AllocError>
+    ensures { OnOk result (operations.new.items ≡ operations.old.items ++ op ∷ []) }
+{
+    operations.push(op)?;
+    Ok(())
+}
+
+// One more message: its index.
+fn enter(
+    messages: &mut Vec<(Line, Message)>,
+    line: Line,
+    message: Message,
+) -> Result<u16, AllocError>
+    requires { length messages.old.items < 1024 }
+    ensures index { IfOk result (λ i. i ≡ length messages.old.items) }
+    ensures messages { OnOk result (messages.new.items ≡ messages.old.items ++ (line, message) ∷ []) }
+{
+    let index = messages.len() as u16;
+    messages.push((line, message))?;
+    Ok(index)
+}
+
+// The number of the test of a status bit.
+fn bit_test(bit: StatusBits) -> u8
+    ensures { result ≡ 16 + bit_number bit.0 }
+{
+    16 + number_of_bit(bit)
+}
+
+fn emit_test(
+    operations: &mut Vec<Op>,
+    test: u8,
+    yes: u16,
+    no: u16,
+) -> Result<(), AllocError>
+    ensures { OnOk result (operations.new.items ≡ operations.old.items ++ probe test yes no) }
+{
+    put(operations, Op::Test(test))?;
+    put(operations, Op::JumpFalse(no))?;
+    put(operations, Op::Jump(yes))
+}
+
+// The operations of a condition: to `yes` where it holds, to `no` where it does not.
+#[tactic(auto, using(crate::proofs::Branches::length_after))]
+fn emit_branch<A: Allocator + Clone>(
+    operations: &mut Vec<Op>,
+    condition: &Cond<A>,
+    yes: u16,
+    no: u16,
+) -> Result<(), AllocError>
+    requires { length operations.old.items + branch_size (test_of condition.now) ≤ 4096 }
+    ensures { OnOk result (operations.new.items ≡ operations.old.items ++ branch (length operations.old.items) (test_of condition.now) yes no) }
+{
+    match condition {
+        Cond::Fail => emit_test(operations, 0, yes, no),
+        Cond::Silent => emit_test(operations, 1, yes, no),
+        Cond::Bit(bit) => emit_test(operations, bit_test(*bit), yes, no),
+        Cond::Not(c) => emit_branch(operations, c, no, yes),
+        Cond::And(a, b) => {
+            let middle = operations.len() as u16 + branch_len(a);
+            emit_branch(operations, a, middle, no)?;
+            emit_branch(operations, b, yes, no)
+        }
+        Cond::Or(a, b) => {
+            let middle = operations.len() as u16 + branch_len(a);
+            emit_branch(operations, a, yes, middle)?;
+            emit_branch(operations, b, yes, no)
+        }
+    }
+}
+
+// The operations of a retry that sends this message.
+fn emit_retry(operations: &mut Vec<Op>, message: u16, count: u16) -> Result<(), AllocError>
+    requires { length operations.old.items + 8 ≤ 4096 }
+    ensures { OnOk result (operations.new.items ≡ operations.old.items ++ retry_shape (length operations.old.items) message count) }
+{
+    let place = operations.len() as u16;
+    put(operations, Op::Send(message))?;
+    put(operations, Op::Loop(count))?;
+    put(operations, Op::Test(0))?;
+    put(operations, Op::JumpFalse(place + 6))?;
+    put(operations, Op::Alt(message))?;
+    put(operations, Op::Jump(place + 7))?;
+    put(operations, Op::Leave(place + 8))?;
+    put(operations, Op::Again(place + 2))
+}
+
+// The operations and messages of a frame.
+pub fn emit<A: Allocator + Clone>(
+    operations: &mut Vec<Op>,
+    messages: &mut Vec<(Line, Message)>,
+    frame: &Frame<A>,
+) -> Result<(), AllocError>
+    requires room { length operations.old.items + size (tree_of frame.now) ≤ 4095 }
+    requires table { length messages.old.items + entries (tree_of frame.now) ≤ 1024 }
+    ensures operations { OnOk result (operations.new.items
+        ≡ operations.old.items ++ shape (length operations.old.items) (length messages.old.items) (tree_of frame.now)) }
+    ensures messages { OnOk result (messages.new.items ≡ messages.old.items ++ messages_of (tree_of frame.now)) }
+{
+    match frame {
+        Frame::Send { line, message } => {
+            let index = enter(messages, *line, message.copy())?;
+            put(operations, Op::Send(index))
+        }
+        Frame::Retry {
+            count,
+            line,
+            message,
+        } => {
+            let index = enter(messages, *line, message.copy())?;
+            emit_retry(operations, index, *count as u16)
+        }
+        Frame::Gap(ticks) => put(operations, Op::SetGap(*ticks)),
+        Frame::Repeat { count, body } => {
+            let first = operations.len() as u16 + 1;
+            put(operations, Op::Loop(*count))?;
+            emit(operations, messages, body)?;
+            put(operations, Op::Again(first))
+        }
+        Frame::If {
+            condition,
+            then,
+            otherwise,
+        } => {
+            let then_at = operations.len() as u16 + branch_len(condition);
+            let else_at = then_at + operation_count(then) + 1;
+            let end = else_at + operation_count(otherwise);
+            emit_branch(operations, condition, then_at, else_at)?;
+            emit(operations, messages, then)?;
+            put(operations, Op::Jump(end))?;
+            emit(operations, messages, otherwise)
+        }
+        Frame::Seq(frames) => {
+            for frame in frames {
+                emit(operations, messages, frame)?;
+            }
+            Ok(())
+        }
+    }
+}
