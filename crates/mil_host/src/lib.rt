@@ -1,8 +1,15 @@
-//! What the host of a remote terminal sets.
+//! What the host of a remote terminal sets: its actions, and the texts that spell them.
 #![tactic(auto)]
 
 mod actions;
+mod names;
+mod printing;
+mod reading;
+#[cfg(test)]
+mod tests;
 mod values;
+mod words;
 
 pub use actions::Action;
+pub use reading::{BadAction, read_action};
 pub use values::{Mark, ResponseGap, TransmitWords};

@@ -1,0 +1,151 @@
+-- The action that a text spells, or the first fault in it from left to right.
+use Rattle.std.specs.Prelude.{ℕ, Bool, true, false, ◌==◌, ◌&&◌, nat_le, nat_lt, List, [], ◌∷◌, length, drop, Result, Ok, Err, Option, Some, None, codes, if◌then◌else◌}
+use Rattle.std.proofs.Common.{zero, suc}
+use Rattle.std.specs.List.{list_all}
+use Rattle.std.specs.Char.{digit_value}
+use Rattle.std.specs.Str.{bytes_eq}
+use Rattle.std.specs.Str.Parse.{digits_value}
+use Rattle.mil_host.specs.Values.{PutUp, Marked}
+use Rattle.mil_host.specs.Words.{Text, words}
+use Rattle.mil_host.specs.declared.reading.BadAction.{BadAction}
+use Rattle.mil_host.specs.declared.reading.BadAction.TheVariants.{Word, Number, Range}
+use Rattle.mil_host.specs.declared.names.Name.{Name}
+use Rattle.mil_host.specs.declared.names.Name.TheVariants.{TransmitName, BusyName, ServiceName, SubsystemName, FaultName, ControlName, VectorName, SelfTestName, IllegalName, LegalName, ResponseName}
+use Rattle.mil_host.specs.declared.actions.Action.{Action}
+use Rattle.mil_host.specs.declared.actions.Action.TheVariants.{Transmit, Busy, Service, Subsystem, Fault, Control, Vector, SelfTest, Illegal, Legal, Response}
+
+abbrev pub Read : Type 0 → Type 0
+Read X = Result X BadAction
+
+-- what is read first, and then what is read with it; the first fault counts
+abbrev pub and_then : {X Y : Type 0} → Read X → (X → Read Y) → Read Y
+and_then (Ok x) next = next x
+and_then (Err fault) next = Err fault
+
+abbrev pub are_digits : ℕ → Text → Bool
+are_digits base word = list_all (λ b. nat_lt (digit_value b) base) word
+
+-- one to seven decimal digits
+abbrev pub is_number : Text → Bool
+is_number word = are_digits 10 word && nat_le 1 (length word) && nat_le (length word) 7
+
+-- four hexadecimal digits, of either case
+abbrev pub is_data_word : Text → Bool
+is_data_word word = are_digits 16 word && length word == 4
+
+abbrev pub number_of : ℕ → ℕ → Text → Read ℕ
+number_of low high word =
+    if is_number word
+    then (if nat_le low (digits_value 10 word) && nat_le (digits_value 10 word) high then Ok (digits_value 10 word) else Err Range)
+    else Err Number
+
+abbrev pub data_of : Text → Read ℕ
+data_of word = if is_data_word word then Ok (digits_value 16 word) else Err Number
+
+-- the first of the words is a number of this range, a data word, `on` or `off`, or a direction
+
+abbrev pub number_in : ℕ → ℕ → List Text → Read ℕ
+number_in low high [] = Err Word
+number_in low high (word ∷ rest) = number_of low high word
+
+abbrev pub data_in : List Text → Read ℕ
+data_in [] = Err Word
+data_in (word ∷ rest) = data_of word
+
+abbrev pub one_of : Text → Text → Text → Read Bool
+one_of first second word = if bytes_eq word first then Ok true else if bytes_eq word second then Ok false else Err Word
+
+abbrev pub switch_in : List Text → Read Bool
+switch_in [] = Err Word
+switch_in (word ∷ rest) = one_of (codes "on") (codes "off") word
+
+abbrev pub direction_in : List Text → Read Bool
+direction_in [] = Err Word
+direction_in (word ∷ rest) = one_of (codes "transmit") (codes "receive") word
+
+-- no word is left over
+abbrev pub and_end : {X : Type 0} → List Text → X → Read X
+and_end [] x = Ok x
+and_end (word ∷ rest) x = Err Word
+
+-- so many data words at most, to the end
+abbrev pub all_data : ℕ → List Text → Read (List ℕ)
+all_data room [] = Ok []
+all_data zero (word ∷ rest) = Err Word
+all_data (suc room) (word ∷ rest) = and_then (data_of word) (λ value. and_then (all_data room rest) (λ values. Ok (value ∷ values)))
+
+abbrev pub some_data : List Text → Read (List ℕ)
+some_data [] = Err Word
+some_data (word ∷ rest) = all_data 32 (word ∷ rest)
+
+-- what follows the name of an action
+
+abbrev pub only_switch : List Text → Read Bool
+only_switch rest = and_then (switch_in rest) (λ on. and_end (drop 1 rest) on)
+
+abbrev pub only_data : List Text → Read ℕ
+only_data rest = and_then (data_in rest) (λ value. and_end (drop 1 rest) value)
+
+abbrev pub only_ticks : List Text → Read ℕ
+only_ticks rest = and_then (number_in 40 120 rest) (λ ticks. and_end (drop 1 rest) ticks)
+
+-- a subaddress of 1 to 29, and 1 to 32 data words
+abbrev pub only_words : List Text → Read PutUp
+only_words rest =
+    and_then (number_in 1 29 rest) (λ sub.
+    and_then (some_data (drop 1 rest)) (λ values.
+    Ok (record { sub = sub; words = values })))
+
+-- a direction, a subaddress of 1 to 30 and a count of 1 to 32
+abbrev pub only_mark : List Text → Read Marked
+only_mark rest =
+    and_then (direction_in rest) (λ transmit.
+    and_then (number_in 1 30 (drop 1 rest)) (λ sub.
+    and_then (number_in 1 32 (drop 2 rest)) (λ count.
+    and_end (drop 3 rest) (record { transmit = transmit; sub = sub; count = count }))))
+
+abbrev pub as_action : {X : Type 0} → (X → Action) → Read X → Read Action
+as_action make (Ok x) = Ok (make x)
+as_action make (Err fault) = Err fault
+
+-- the action with a name, from the words behind it
+abbrev pub of_name : Name → List Text → Read Action
+of_name TransmitName rest = as_action Transmit (only_words rest)
+of_name BusyName rest = as_action Busy (only_switch rest)
+of_name ServiceName rest = as_action Service (only_switch rest)
+of_name SubsystemName rest = as_action Subsystem (only_switch rest)
+of_name FaultName rest = as_action Fault (only_switch rest)
+of_name ControlName rest = as_action Control (only_switch rest)
+of_name VectorName rest = as_action Vector (only_data rest)
+of_name SelfTestName rest = as_action SelfTest (only_data rest)
+of_name IllegalName rest = as_action Illegal (only_mark rest)
+of_name LegalName rest = as_action Legal (only_mark rest)
+of_name ResponseName rest = as_action Response (only_ticks rest)
+
+-- the name that a word spells
+abbrev pub name_of : Text → Option Name
+name_of word =
+    if bytes_eq word (codes "transmit") then Some TransmitName
+    else if bytes_eq word (codes "busy") then Some BusyName
+    else if bytes_eq word (codes "service") then Some ServiceName
+    else if bytes_eq word (codes "subsystem") then Some SubsystemName
+    else if bytes_eq word (codes "fault") then Some FaultName
+    else if bytes_eq word (codes "control") then Some ControlName
+    else if bytes_eq word (codes "vector") then Some VectorName
+    else if bytes_eq word (codes "selftest") then Some SelfTestName
+    else if bytes_eq word (codes "illegal") then Some IllegalName
+    else if bytes_eq word (codes "legal") then Some LegalName
+    else if bytes_eq word (codes "response") then Some ResponseName
+    else None
+
+abbrev pub of_word : Option Name → List Text → Read Action
+of_word None rest = Err Word
+of_word (Some name) rest = of_name name rest
+
+abbrev pub in_words : List Text → Read Action
+in_words [] = Err Word
+in_words (word ∷ rest) = of_word (name_of word) rest
+
+-- the action of a text
+unfoldable pub action_in : Text → Read Action
+action_in text = in_words (words text)

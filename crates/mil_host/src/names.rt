@@ -1,0 +1,50 @@
+//! The names of actions.
+ghost use Rattle.std.specs.Prelude.{◌≡◌};
+ghost use Rattle.mil_host.specs.Reading.{name_of};
+
+/// The first word of an action's text.
+#[derive(Clone, Copy, Debug)]
+pub enum Name {
+    TransmitName,
+    BusyName,
+    ServiceName,
+    SubsystemName,
+    FaultName,
+    ControlName,
+    VectorName,
+    SelfTestName,
+    IllegalName,
+    LegalName,
+    ResponseName,
+}
+
+/// The name that a word spells.
+pub fn name_in(word: &[u8]) -> Option<Name>
+    ensures { result ≡ name_of word.now }
+{
+    if word == b"transmit".as_slice() {
+        Some(Name::TransmitName)
+    } else if word == b"busy".as_slice() {
+        Some(Name::BusyName)
+    } else if word == b"service".as_slice() {
+        Some(Name::ServiceName)
+    } else if word == b"subsystem".as_slice() {
+        Some(Name::SubsystemName)
+    } else if word == b"fault".as_slice() {
+        Some(Name::FaultName)
+    } else if word == b"control".as_slice() {
+        Some(Name::ControlName)
+    } else if word == b"vector".as_slice() {
+        Some(Name::VectorName)
+    } else if word == b"selftest".as_slice() {
+        Some(Name::SelfTestName)
+    } else if word == b"illegal".as_slice() {
+        Some(Name::IllegalName)
+    } else if word == b"legal".as_slice() {
+        Some(Name::LegalName)
+    } else if word == b"response".as_slice() {
+        Some(Name::ResponseName)
+    } else {
+        None
+    }
+}

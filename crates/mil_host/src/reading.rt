@@ -1,0 +1,250 @@
+//! The action that a text spells.
+ghost use Rattle.std.specs.Prelude.{◌≡◌, ◌≤◌, true, Ok, Err, length, drop, IfOk, MatchResult};
+ghost use Rattle.mil_host.specs.Reading.{action_in, of_name, number_in, data_in, one_of, switch_in, direction_in, and_end, some_data, only_switch, only_data, only_ticks, only_words, only_mark, are_digits, data_of, number_of};
+ghost use Rattle.std.specs.Str.Parse.{digits_value};
+ghost use Rattle.std.specs.Char.{digit_value};
+
+use crate::actions::Action;
+use crate::names::{Name, name_in};
+use crate::values::{Mark, ResponseGap, TransmitWords};
+use crate::words::Words;
+use arrayvec::ArrayVec;
+
+/// Why a text spells no action.
+#[derive(Clone, Copy, Debug, PartialEq, Eq)]
+pub enum BadAction {
+    /// H1: a word that does not stand there, is missing or is left over, a thirty-third data word included.
+    Word,
+    /// H2: not a number of one to seven digits, or not four hexadecimal digits.
+    Number,
+    /// H3: out of range.
+    Range,
+}
+
+/// The value of a digit or a letter, and 36 for any other byte.
+fn digit(byte: u8) -> u8
+    ensures value { result ≡ digit_value byte }
+    ensures small { result ≤ 36 }
+{
+    match byte {
+        b'0'..=b'9' => byte - b'0',
+        b'A'..=b'Z' => byte - b'A' + 10,
+        b'a'..=b'z' => byte - b'a' + 10,
+        _ => 36,
+    }
+}
+
+/// Whether each byte of a word is a digit in the base.
+fn all_digits(base: u8, word: &[u8]) -> bool
+    ensures { result ≡ are_digits base word.now }
+{
+    word.iter().all(|byte| digit(*byte) < base)
+}
+
+/// The number that digits spell, at most seven of them.
+fn number(base: u8, word: &[u8]) -> u32
+    requires base { base ≤ 16 }
+    requires few { length word.now ≤ 7 }
+    requires digits { are_digits base word.now ≡ true }
+    ensures { result ≡ digits_value base word.now }
+{
+    let mut total = 0u32;
+    for byte in word {
+        total = total * u32::from(base) + u32::from(digit(*byte));
+    }
+    total
+}
+
+/// The number of a word, within a range.
+fn number_within(word: &[u8], low: u8, high: u8) -> Result<u8, BadAction>
+    ensures value { result ≡ number_of low high word.now }
+    ensures range { IfOk result (λ n. (low ≤ n) × (n ≤ high)) }
+{
+    if !(all_digits(10, word) && 1 <= word.len() && word.len() <= 7) {
+        return Err(BadAction::Number);
+    }
+    let value = number(10, word);
+    if u32::from(low) <= value && value <= u32::from(high) {
+        Ok(value as u8)
+    } else {
+        Err(BadAction::Range)
+    }
+}
+
+/// The data word that a word spells.
+fn data_word(word: &[u8]) -> Result<u16, BadAction>
+    ensures { result ≡ data_of word.now }
+{
+    if all_digits(16, word) && word.len() == 4 {
+        Ok(number(16, word) as u16)
+    } else {
+        Err(BadAction::Number)
+    }
+}
+
+/// Which of two words this is.
+fn yes_or_no(word: &[u8], first: &[u8], second: &[u8]) -> Result<bool, BadAction>
+    ensures { result ≡ one_of first.now second.now word.now }
+{
+    if word == first {
+        Ok(true)
+    } else if word == second {
+        Ok(false)
+    } else {
+        Err(BadAction::Word)
+    }
+}
+
+/// A number as the next word.
+fn read_number(words: &mut Words<'_>, low: u8, high: u8) -> Result<u8, BadAction>
+    ensures value { result ≡ number_in low high words.old }
+    ensures range { IfOk result (λ n. (low ≤ n) × (n ≤ high)) }
+    ensures rest { words.new ≡ drop 1 words.old }
+{
+    match words.next() {
+        Some(word) => number_within(word, low, high),
+        None => Err(BadAction::Word),
+    }
+}
+
+/// A data word as the next word.
+fn read_data(words: &mut Words<'_>) -> Result<u16, BadAction>
+    ensures value { result ≡ data_in words.old }
+    ensures rest { words.new ≡ drop 1 words.old }
+{
+    match words.next() {
+        Some(word) => data_word(word),
+        None => Err(BadAction::Word),
+    }
+}
+
+/// `on` or `off` as the next word.
+fn read_switch(words: &mut Words<'_>) -> Result<bool, BadAction>
+    ensures value { result ≡ switch_in words.old }
+    ensures rest { words.new ≡ drop 1 words.old }
+{
+    match words.next() {
+        Some(word) => yes_or_no(word, b"on", b"off"),
+        None => Err(BadAction::Word),
+    }
+}
+
+/// `transmit` or `receive` as the next word.
+fn read_direction(words: &mut Words<'_>) -> Result<bool, BadAction>
+    ensures value { result ≡ direction_in words.old }
+    ensures rest { words.new ≡ drop 1 words.old }
+{
+    match words.next() {
+        Some(word) => yes_or_no(word, b"transmit", b"receive"),
+        None => Err(BadAction::Word),
+    }
+}
+
+/// No word is left.
+fn read_end<T: Drop>(words: &mut Words<'_>, value: T) -> Result<T, BadAction>
+    ensures { result ≡ and_end words.old value }
+{
+    match words.next() {
+        Some(_) => Err(BadAction::Word),
+        None => Ok(value),
+    }
+}
+
+/// `on` or `off`, and no more.
+fn read_only_switch(words: &mut Words<'_>) -> Result<bool, BadAction>
+    ensures { result ≡ only_switch words.old }
+{
+    let on = read_switch(words)?;
+    read_end(words, on)
+}
+
+/// A data word, and no more.
+fn read_only_data(words: &mut Words<'_>) -> Result<u16, BadAction>
+    ensures { result ≡ only_data words.old }
+{
+    let value = read_data(words)?;
+    read_end(words, value)
+}
+
+/// A response time, and no more.
+fn read_only_ticks(words: &mut Words<'_>) -> Result<ResponseGap, BadAction>
+    ensures { result ≡ only_ticks words.old }
+{
+    let ticks = read_number(words, 40, 120)?;
+    read_end(words, ResponseGap::make(ticks))
+}
+
+/// Data words to the end, 1 to 32 of them.
+fn read_all_data(words: &mut Words<'_>) -> Result<ArrayVec<u16, 32>, BadAction>
+    ensures value { MatchResult result (λ v. some_data words.old ≡ Ok v.items) (λ e. some_data words.old ≡ Err e) }
+    ensures some { IfOk result (λ v. 1 ≤ length v.items) }
+{
+    let mut values = ArrayVec::new();
+    while let Some(word) = words.next() {
+        if values.len() == 32 {
+            return Err(BadAction::Word);
+        }
+        let value = data_word(word)?;
+        values.push(value);
+    }
+    if values.is_empty() {
+        Err(BadAction::Word)
+    } else {
+        Ok(values)
+    }
+}
+
+/// A subaddress and data words.
+fn read_only_words(words: &mut Words<'_>) -> Result<TransmitWords, BadAction>
+    ensures { result ≡ only_words words.old }
+{
+    let sub = read_number(words, 1, 29)?;
+    let values = read_all_data(words)?;
+    Ok(TransmitWords::make(sub, values))
+}
+
+/// A direction, a subaddress and a count.
+fn read_only_mark(words: &mut Words<'_>) -> Result<Mark, BadAction>
+    ensures { result ≡ only_mark words.old }
+{
+    let transmit = read_direction(words)?;
+    let sub = read_number(words, 1, 30)?;
+    let count = read_number(words, 1, 32)?;
+    read_end(words, Mark::make(transmit, sub, count))
+}
+
+/// The action with a name, from the words behind it.
+fn read_named(name: Name, words: &mut Words<'_>) -> Result<Action, BadAction>
+    ensures { result ≡ of_name name words.old }
+{
+    match name {
+        Name::TransmitName => Ok(Action::Transmit(read_only_words(words)?)),
+        Name::BusyName => Ok(Action::Busy(read_only_switch(words)?)),
+        Name::ServiceName => Ok(Action::Service(read_only_switch(words)?)),
+        Name::SubsystemName => Ok(Action::Subsystem(read_only_switch(words)?)),
+        Name::FaultName => Ok(Action::Fault(read_only_switch(words)?)),
+        Name::ControlName => Ok(Action::Control(read_only_switch(words)?)),
+        Name::VectorName => Ok(Action::Vector(read_only_data(words)?)),
+        Name::SelfTestName => Ok(Action::SelfTest(read_only_data(words)?)),
+        Name::IllegalName => Ok(Action::Illegal(read_only_mark(words)?)),
+        Name::LegalName => Ok(Action::Legal(read_only_mark(words)?)),
+        Name::ResponseName => Ok(Action::Response(read_only_ticks(words)?)),
+    }
+}
+
+/// The action that a text spells, of words parted by one or more spaces: `transmit SUB WORD..`, `busy on|off`, `service on|off`,
+/// `subsystem on|off`, `fault on|off`, `control on|off`, `vector WORD`, `selftest WORD`, `illegal receive|transmit SUB COUNT`,
+/// `legal receive|transmit SUB COUNT` or `response TICKS` (own choice). The first fault from left to right is answered.
+#[tactic(auto, unfolding(crate::specs::Reading::action_in))]
+pub fn read_action(text: &[u8]) -> Result<Action, BadAction>
+    ensures { result ≡ action_in text.now }
+{
+    let mut words = Words::of(text);
+    match words.next() {
+        Some(word) => match name_in(word) {
+            Some(name) => read_named(name, &mut words),
+            None => Err(BadAction::Word),
+        },
+        None => Err(BadAction::Word),
+    }
+}

@@ -1,0 +1,74 @@
+//! The words of a text, one after the other.
+ghost use Rattle.std.specs.Prelude.{◌≡◌, ◌≤◌, ◌<◌, [], ◌∷◌, List, length, drop, take, slice_get, slice_index, false};
+ghost use Rattle.std.specs.Option.{option_copied};
+ghost use Rattle.std.specs.List.{position_or_len};
+ghost use Rattle.mil_host.specs.Words.{words, is_space};
+
+use std::marker::Model;
+
+/// The words that are left of a text. Spaces part them.
+#[derive(Drop)]
+pub struct Words<'a> {
+    rest: &'a [u8],
+}
+
+impl<'a> Model for Words<'a> {
+    ghost use Rattle.std.specs.Prelude.{List, ℕ};
+    ghost use Rattle.mil_host.specs.Words.{words};
+
+    ghost Value = { List (List ℕ) };
+
+    ghost view = { λ w. words w.rest.now };
+}
+
+impl<'a> Words<'a> {
+    /// The words of the text.
+    pub fn of(text: &'a [u8]) -> Words<'a>
+        ensures { result ≡ words text.now }
+    {
+        Words { rest: text }
+    }
+
+    /// The next word, if one is left.
+    pub fn next(&mut self) -> Option<&'a [u8]>
+        ensures word { option_copied result ≡ slice_get self.old 0 }
+        ensures rest { self.new ≡ drop 1 self.old }
+    {
+        let text = from_word(self.rest);
+        if text.is_empty() {
+            self.rest = text;
+            return None;
+        }
+        let (word, rest) = text.split_at(word_len(text));
+        self.rest = rest;
+        Some(word)
+    }
+}
+
+/// The length of the word with which a text begins.
+fn word_len(text: &[u8]) -> usize
+    ensures value { result ≡ position_or_len is_space text.now }
+    ensures within { result ≤ length text.now }
+{
+    for (i, byte) in text.iter().enumerate() {
+        if *byte == b' ' {
+            return i;
+        }
+    }
+    text.len()
+}
+
+/// What is left from the next word on.
+fn from_word(text: &[u8]) -> &[u8]
+    ensures same { words result.now ≡ words text.now }
+    ensures start { 0 < length result.now → is_space (slice_index result.now 0) ≡ false }
+{
+    let mut rest = text;
+    while let Some((first, tail)) = rest.split_first() {
+        if *first != b' ' {
+            break;
+        }
+        rest = tail;
+    }
+    rest
+}
