@@ -5,7 +5,7 @@ use std::time::Instant;
 const ROUNDS: u32 = 7;
 
 #[derive(Clone, Copy)]
-struct Header { channel: u16, packet_length: u32, data_length: u32, sequence: u8, flags: u8, kind: u8, counter: u64 }
+struct Header { channel: u16, packet_length: u32, data_length: u32, sequence: u8, flags: u8, kind: u8 }
 
 #[allow(dead_code)]
 struct Packet { offset: usize, header: Header, before: u64, count: u64, sequence_jump: bool }
@@ -20,7 +20,7 @@ fn read_header(b: &[u8]) -> Result<Header, &'static str> {
     let mut sum = 0u32;
     for i in 0..11 { sum += u32::from(u16_at(b, 2 * i)); }
     if u32::from(u16_at(b, 22)) != sum % 65536 { return Err("K3"); }
-    let h = Header { channel: u16_at(b, 2), packet_length: u32_at(b, 4), data_length: u32_at(b, 8), sequence: b[13], flags: b[14], kind: b[15], counter: u64_at(b, 16) & 0xFFFF_FFFF_FFFF };
+    let h = Header { channel: u16_at(b, 2), packet_length: u32_at(b, 4), data_length: u32_at(b, 8), sequence: b[13], flags: b[14], kind: b[15] };
     if h.packet_length < 24 || h.packet_length % 4 != 0 { return Err("K4"); }
     if u64::from(h.packet_length) < body_start(&h) as u64 + u64::from(h.data_length) { return Err("K5"); }
     Ok(h)

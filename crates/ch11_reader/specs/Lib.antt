@@ -3,3 +3,4 @@ pub mod Contents
 pub mod Listing
 pub mod Indexed
 pub mod Examples
+pub mod Written

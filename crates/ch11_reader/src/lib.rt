@@ -5,12 +5,14 @@ mod build;
 mod channel;
 mod fault;
 mod index;
+mod laws;
 mod packet;
 mod search;
 
 pub use channel::ChannelMessages;
 pub use fault::{Fault, ReadError, Refusal};
 pub use index::Index;
+pub use laws::packet_is_read_again;
 pub use packet::{MESSAGES_KIND, Packet};
 
 #[cfg(test)]

@@ -39,14 +39,14 @@ fn speeds(rt: &HostRuntime, path: &str) -> io::Result<()> {
     let mut total = 0u64;
     let mut counter = Counter { bytes: 0 };
     for _ in 0..ROUNDS {
-        let start = Instant::now(rt);
+        let start = Instant::now(rt)?;
         if let Ok(index) = Index::build(rt.alloc(), &bytes) {
             total = index.total();
         }
-        build = build.min(start.elapsed(rt).as_nanos());
-        let start = Instant::now(rt);
+        build = build.min(start.elapsed(rt)?.as_nanos());
+        let start = Instant::now(rt)?;
         let _ = dump(rt.alloc(), &bytes, &mut counter);
-        print = print.min(start.elapsed(rt).as_nanos());
+        print = print.min(start.elapsed(rt)?.as_nanos());
     }
     println!(rt; "{} {build} {print} {total} {}", bytes.len(), counter.bytes / u64::from(ROUNDS))
 }
