@@ -56,13 +56,14 @@ impl Builder {
         Ok(Builder { packing })
     }
 
-    /// Takes the next record of the channel in. Where the open packet can't hold it too, that packet is finished and lent out,
-    /// and the record is the first of the next one. Conditions: the number is above that of the record before, and the stamp
-    /// has 48 bits.
+    /// Takes the next record of the channel in. Where the open packet can't hold it too, that packet is finished and lent
+    /// out, and the record is the first of the next one. Conditions: the number is above that of the record before, and
+    /// the stamp has 48 bits.
     pub fn push(&mut self, number: u64, message: &Record) -> Pushed<'_>
         requires number { latest_number self.old < number }
         requires stamp { message.now.stamp < 2 ^ 48 }
-        ensures* after { sem 𝓛 (Rests the_row self.entry (λ b. b ≡ pushed self.old (record { number = number; message = message.now }))) }
+        ensures* after { sem 𝓛 (Rests the_row self.entry
+            (λ b. b ≡ pushed self.old (record { number = number; message = message.now }))) }
         ensures answer { Answers self.old (record { number = number; message = message.now }) result }
     {
         if self.packing.advance(number, message) {
@@ -74,8 +75,10 @@ impl Builder {
 
     /// Finishes the open packet and lends it out. None where it has no record.
     pub fn close(&mut self) -> Option<&[u8]>
-        ensures* after { sem 𝓛 (Rests the_row self.entry (λ b. b ≡ (if is_empty self.old.records then self.old else closed self.old))) }
-        ensures answer { MatchOption result (self.old.records ≡ []) (λ bytes. (is_empty self.old.records ≡ false) × (bytes.now ≡ packet_of self.old)) }
+        ensures* after { sem 𝓛 (Rests the_row self.entry
+            (λ b. b ≡ (if is_empty self.old.records then self.old else closed self.old))) }
+        ensures answer { MatchOption result (self.old.records ≡ [])
+            (λ bytes. (is_empty self.old.records ≡ false) × (bytes.now ≡ packet_of self.old)) }
     {
         if self.packing.is_empty() {
             None

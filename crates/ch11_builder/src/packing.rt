@@ -125,7 +125,8 @@ impl Packing {
     fn takes(&self, number: u64, message: &Record) -> bool
         requires stamp { message.now.stamp < 2 ^ 48 }
         ensures answer { result ≡ fits self.now.held (record { number = number; message = message.now }) }
-        ensures room { result ≡ true → packet_length (self.now.held.records ++ record { number = number; message = message.now } ∷ []) ≤ self.now.held.channel.limit }
+        ensures room { result ≡ true →
+            packet_length (self.now.held.records ++ record { number = number; message = message.now } ∷ []) ≤ self.now.held.channel.limit }
         ensures alone { packet_length (record { number = number; message = message.now } ∷ []) ≤ self.now.held.channel.limit }
         ensures some { result ≡ false → 0 < length self.now.held.records }
     {

@@ -43,7 +43,8 @@ pub(crate) fn seal(buffer: &mut [u8], used: usize, header: &Header, count: u32) 
     requires count { count < 2 ^ 24 }
     requires counter { header.now.counter < 2 ^ 48 }
     ensures size { result ≡ padded used }
-    ensures bytes { take result buffer.new ≡ filled (header_bytes header.now ++ (little_bytes 4 (2 ^ 30 + count) ++ drop 28 (take used buffer.old))) }
+    ensures bytes { take result buffer.new
+        ≡ filled (header_bytes header.now ++ (little_bytes 4 (2 ^ 30 + count) ++ drop 28 (take used buffer.old))) }
 {
     let end = padded(used);
     buffer[..HEADER_SIZE].copy_from_slice(&write_header(header));
