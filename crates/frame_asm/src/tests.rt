@@ -30,6 +30,7 @@ fn a_repeat_of_a_retry(rt: HostRuntime) -> Result<(), Fail> {
         count: 3,
         body: Box::new(rt.alloc(), retry)?,
     };
+    assert!(rt; frame.sound());
     let image = assemble(rt.alloc(), &frame).expect(&rt, "the image");
     assert_eq!(rt; write_image(rt.alloc(), &image)?.as_slice(), LOOPS.as_slice());
     Ok(())
