@@ -1,0 +1,231 @@
+-- A tree that a text has is sound.
+use Rattle.std.proofs.Common.{◌≡◌, ℕ, zero, suc, ◌+◌, ◌<◌, ◌≤◌, ◌⊎◌, inl, inr, max, Bool, true, false, cond, List, [], ◌∷◌, length, Option, Some, None, Result, Ok, Err, refl, sym, ap, ◌∙◌, subst, arith}
+use Rattle.std.specs.Prelude.{nat_le, ◌&&◌, codes}
+use Rattle.std.specs.Str.{bytes_eq}
+use Rattle.std.proofs.lemmas.Bool.Decides.{nat_tests}
+use Rattle.mil_status.specs.Status.{bit_of_name, bit_in, status_bits, Row}
+use Rattle.frame_tree.specs.Tree.{Test, Tree, bit_number, nothing, first, send, retry, gap, repeat, choose, failed, silent, bit, negated, both, either}
+use Rattle.frame_tree.specs.Bounds.{depth, worst_messages, operators, HasNamedBits, IsNamedBit, IsInRange, IsSound}
+use Rattle.frame_text.specs.Reading.{◌>>=◌, Tokens, Reading, same, misplaced, past}
+use Rattle.frame_text.specs.Words.{number_at, number_within}
+use Rattle.frame_text.specs.Messages.{send_at}
+use Rattle.frame_text.specs.Conditions.{condition_at, condition_from, condition_of, condition_word, below_at, name_at, named, pair_at}
+use Rattle.frame_text.specs.Frames.{Reader, frame_at, frame_from, frame_of, frame_word, frames_at, block_at, block_from, inner_at, else_at, script_at}
+use Rattle.frame_text.specs.declared.faults.Cause.{Cause}
+use Rattle.frame_text.specs.declared.faults.Cause.TheVariants as cause
+use Rattle.frame_text.specs.declared.keywords.ConditionWord.{ConditionWord}
+use Rattle.frame_text.specs.declared.keywords.ConditionWord.TheVariants as key
+use Rattle.frame_text.specs.declared.keywords.FrameWord.{FrameWord}
+use Rattle.frame_text.specs.declared.keywords.FrameWord.TheVariants as word
+
+-- what a reading that went well read first
+pub bind_ok : {X Y : Type 0} (r : Result X Cause) (f : X → Result Y Cause) (y : Y) → (r >>= f) ≡ Ok y → (x : X) × (r ≡ Ok x) × (f x ≡ Ok y)
+bind_ok (Ok x) f y e = (x, refl, e)
+bind_ok (Err c) f y e = absurd (cc)
+
+abbrev ok : {X : Type 0} → X → Result X Cause
+ok x = Ok x
+
+ok_is : {X : Type 0} (x y : X) → ok x ≡ ok y → x ≡ y
+ok_is x y e = cc
+
+chosen : {X : Type 0} (b : Bool) (x y : X) (c : Cause) → cond b (Ok x) (Err c) ≡ Ok y → (b ≡ true) × (x ≡ y)
+chosen true x y c e = (refl, ok_is x y e)
+chosen false x y c e = absurd (cc)
+
+both_true : (low n high : ℕ) → (nat_le low n && nat_le n high) ≡ true → (low ≤ n) × (n ≤ high)
+both_true low n high e = (grind (arith, nat_tests), grind (arith, nat_tests))
+
+number_ok : (low high : ℕ) (ts : Tokens) (n : ℕ × Tokens) → number_within low high ts ≡ Ok n → (low ≤ n.0) × (n.0 ≤ high)
+unfolding number_within
+number_ok low high ts n e =
+    let b = bind_ok (number_at ts) _ n e in
+    let k = chosen (nat_le low b.0.0 && nat_le b.0.0 high) b.0 n cause.Range b.2 in
+    let r = both_true low b.0.0 high k.0 in
+    let i : b.0.0 ≡ n.0 = ap (λ m. m.0) k.1 in
+    (omega (arith, r.0, i), omega (arith, r.1, i))
+
+-- every row of a table is a named bit
+abbrev AllNamed : List Row → Type 0
+AllNamed [] = Unit {0}
+AllNamed (row ∷ rows) = IsNamedBit (bit_number row.1) × AllNamed rows
+
+named_in : (rows : List Row) (w : List ℕ) (b : ℕ) → AllNamed rows → bit_in rows w ≡ Some b → IsNamedBit (bit_number b)
+named_in [] w b a e = absurd (cc)
+named_in (row ∷ rows) w b a e = by (bytes_eq w row.0) (λ h. named_in rows w b a.1 h) e
+  where
+    by : (t : Bool) → (bit_in rows w ≡ Some b → IsNamedBit (bit_number b)) → cond t (Some row.1) (bit_in rows w) ≡ Some b → IsNamedBit (bit_number b)
+    by true more h = let i : row.1 ≡ b = cc in subst (λ (x : ℕ). IsNamedBit (bit_number x)) i a.0
+    by false more h = more h
+
+high : (n : ℕ) → 8 ≤ n → n ≤ 10 → IsNamedBit n
+high n a b = inr (a, b)
+
+low : (n : ℕ) → n ≤ 4 → IsNamedBit n
+low n a = inl a
+
+all_named : AllNamed status_bits
+all_named = (high 10 (omega arith) (omega arith), (high 9 (omega arith) (omega arith), (high 8 (omega arith) (omega arith), (low 4 (omega arith), (low 3 (omega arith), (low 2 (omega arith), (low 1 (omega arith), (low 0 (omega arith), tt))))))))
+
+name_ok : (ts : Tokens) (n : ℕ × Tokens) → name_at ts ≡ Ok n → IsNamedBit n.0
+unfolding name_at
+name_ok [] n e = absurd (cc)
+name_ok (w ∷ ts) n e = by (bit_of_name w) refl e
+  where
+    by : (o : Option ℕ) → bit_of_name w ≡ o → named w o ts ≡ Ok n → IsNamedBit n.0
+    by (Some bits) i h = let j : bit_number bits ≡ n.0 = ap (λ m. m.0) (ok_is _ n h) in subst IsNamedBit j (named_in status_bits w bits all_named i)
+    by None i h = absurd (cc)
+
+-- a condition with at most so many operators above a test
+abbrev IsWithin : ℕ → Test → Type 0
+IsWithin d c = (operators c ≤ d) × HasNamedBits c
+
+abbrev ConditionReader : Type 0
+ConditionReader = Tokens → Reading Test
+
+abbrev ReadsWithin : ℕ → ConditionReader → Type 0
+ReadsWithin d reader = (ts : Tokens) (c : Test × Tokens) → reader ts ≡ Ok c → IsWithin d c.0
+
+pair_ok : (d : ℕ) (reader : ConditionReader) → ReadsWithin d reader → (ts : Tokens) (x : (Test × Test) × Tokens) → pair_at reader ts ≡ Ok x → IsWithin d x.0.0 × IsWithin d x.0.1
+unfolding pair_at
+pair_ok d reader sound ts x e =
+    let o = bind_ok (past (codes "(") ts) _ x e in
+    let a = bind_ok (reader o.0) _ x o.2 in
+    let b = bind_ok (reader a.0.1) _ x a.2 in
+    let r = bind_ok (past (codes ")") b.0.1) _ x b.2 in
+    let i : (a.0.0, b.0.0) ≡ x.0 = ap (λ z. z.0) (ok_is _ x r.2) in
+    let P : Test × Test → Type 0 = λ p. IsWithin d p.0 × IsWithin d p.1 in
+    subst P i (sound o.0 a.0 a.1, sound a.0.1 b.0 b.1)
+
+one_more : (d : ℕ) (a b : Test) → IsWithin d a × IsWithin d b → (1 + max (operators a) (operators b) ≤ suc d) × (HasNamedBits a × HasNamedBits b)
+one_more d a b h = (omega (arith, h.0.0, h.1.0), (h.0.1, h.1.1))
+
+word_none : (k : ConditionWord) (w : List ℕ) (ts : Tokens) (c : Test × Tokens) → condition_of (Err cause.Depth) k w ts ≡ Ok c → IsWithin 0 c.0
+unfolding condition_of
+word_none key.Fail w ts c e = subst (λ (x : Test × Tokens). IsWithin 0 x.0) (ok_is _ c e) (omega arith, tt)
+word_none key.Silent w ts c e = subst (λ (x : Test × Tokens). IsWithin 0 x.0) (ok_is _ c e) (omega arith, tt)
+word_none key.Bit w ts c e = let n = bind_ok (name_at ts) _ c e in subst (λ (x : Test × Tokens). IsWithin 0 x.0) (ok_is _ c n.2) (omega arith, name_ok ts n.0 n.1)
+word_none key.Not w ts c e = absurd (cc)
+word_none key.All w ts c e = absurd (cc)
+word_none key.Any w ts c e = absurd (cc)
+word_none key.NoCondition w ts c e = absurd (cc)
+
+word_some : (d : ℕ) (reader : ConditionReader) → ReadsWithin d reader → (k : ConditionWord) (w : List ℕ) (ts : Tokens) (c : Test × Tokens) → condition_of (Ok reader) k w ts ≡ Ok c → IsWithin (suc d) c.0
+unfolding condition_of
+word_some d reader sound key.Fail w ts c e = subst (λ (x : Test × Tokens). IsWithin (suc d) x.0) (ok_is _ c e) (omega arith, tt)
+word_some d reader sound key.Silent w ts c e = subst (λ (x : Test × Tokens). IsWithin (suc d) x.0) (ok_is _ c e) (omega arith, tt)
+word_some d reader sound key.Bit w ts c e = let n = bind_ok (name_at ts) _ c e in subst (λ (x : Test × Tokens). IsWithin (suc d) x.0) (ok_is _ c n.2) (omega arith, name_ok ts n.0 n.1)
+word_some d reader sound key.Not w ts c e =
+    let a = bind_ok (reader ts) _ c e in
+    let s = sound ts a.0 a.1 in
+    subst (λ (x : Test × Tokens). IsWithin (suc d) x.0) (ok_is _ c a.2) (omega (arith, s.0), s.1)
+word_some d reader sound key.All w ts c e =
+    let x = bind_ok (pair_at reader ts) _ c e in
+    subst (λ (x : Test × Tokens). IsWithin (suc d) x.0) (ok_is _ c x.2) (one_more d _ _ (pair_ok d reader sound ts x.0 x.1))
+word_some d reader sound key.Any w ts c e =
+    let x = bind_ok (pair_at reader ts) _ c e in
+    subst (λ (x : Test × Tokens). IsWithin (suc d) x.0) (ok_is _ c x.2) (one_more d _ _ (pair_ok d reader sound ts x.0 x.1))
+word_some d reader sound key.NoCondition w ts c e = absurd (cc)
+
+pub condition_ok : (d : ℕ) → ReadsWithin d (condition_at d)
+unfolding condition_from below_at
+condition_ok d [] c e = absurd (cc)
+condition_ok zero (w ∷ ts) c e = word_none (condition_word w) w ts c e
+condition_ok (suc d) (w ∷ ts) c e = word_some d (condition_at d) (condition_ok d) (condition_word w) w ts c e
+
+-- a tree with at most so many blocks in one another, its numbers in their ranges
+abbrev IsTreeWithin : ℕ → Tree → Type 0
+IsTreeWithin d t = (depth t ≤ d) × IsInRange t
+
+abbrev ReadsTrees : ℕ → Reader → Type 0
+ReadsTrees d reader = (ts : Tokens) (x : Tree × Tokens) → reader ts ≡ Ok x → IsTreeWithin d x.0
+
+-- a reader of blocks, of which one may stand around each
+abbrev ReadsBlocks : ℕ → Reader → Type 0
+ReadsBlocks d reader = (ts : Tokens) (x : Tree × Tokens) → reader ts ≡ Ok x → (1 + depth x.0 ≤ d) × IsInRange x.0
+
+else_ok : (d : ℕ) (block : Reader) → ReadsBlocks d block → 1 ≤ d → ReadsBlocks d (else_at block)
+unfolding else_at
+else_ok d block sound h [] x e = subst (λ (z : Tree × Tokens). (1 + depth z.0 ≤ d) × IsInRange z.0) (ok_is _ x e) (omega (arith, h), tt)
+else_ok d block sound h (w ∷ ts) x e = by (same w (codes "else")) e
+  where
+    by : (t : Bool) → cond t (block ts) (Ok (nothing, w ∷ ts)) ≡ Ok x → (1 + depth x.0 ≤ d) × IsInRange x.0
+    by true i = sound ts x i
+    by false i = subst (λ (z : Tree × Tokens). (1 + depth z.0 ≤ d) × IsInRange z.0) (ok_is _ x i) (omega (arith, h), tt)
+
+word_ok : (d : ℕ) (block : Reader) → ReadsBlocks d block → (k : FrameWord) (w : List ℕ) (ts : Tokens) (x : Tree × Tokens) → frame_of block k w ts ≡ Ok x → IsTreeWithin d x.0
+unfolding frame_of
+word_ok d block sound word.Send w ts x e =
+    let m = bind_ok (send_at ts) _ x e in
+    subst (λ (z : Tree × Tokens). IsTreeWithin d z.0) (ok_is _ x m.2) (omega arith, tt)
+word_ok d block sound word.Retry w ts x e =
+    let n = bind_ok (number_within 1 8 ts) _ x e in
+    let u = bind_ok (past (codes "send") n.0.1) _ x n.2 in
+    let m = bind_ok (send_at u.0) _ x u.2 in
+    subst (λ (z : Tree × Tokens). IsTreeWithin d z.0) (ok_is _ x m.2) (omega arith, number_ok 1 8 ts n.0 n.1)
+word_ok d block sound word.Gap w ts x e =
+    let n = bind_ok (number_within 40 65535 ts) _ x e in
+    subst (λ (z : Tree × Tokens). IsTreeWithin d z.0) (ok_is _ x n.2) (omega arith, number_ok 40 65535 ts n.0 n.1)
+word_ok d block sound word.Repeat w ts x e =
+    let n = bind_ok (number_within 1 10000 ts) _ x e in
+    let b = bind_ok (block n.0.1) _ x n.2 in
+    let s = sound n.0.1 b.0 b.1 in
+    let r = number_ok 1 10000 ts n.0 n.1 in
+    subst (λ (z : Tree × Tokens). IsTreeWithin d z.0) (ok_is _ x b.2) (s.0, (r.0, r.1, s.1))
+word_ok d block sound word.If w ts x e =
+    let c = bind_ok (condition_at 16 ts) _ x e in
+    let a = bind_ok (block c.0.1) _ x c.2 in
+    let b = bind_ok (else_at block a.0.1) _ x a.2 in
+    let s = sound c.0.1 a.0 a.1 in
+    let u = else_ok d block sound (omega (arith, s.0)) a.0.1 b.0 b.1 in
+    subst (λ (z : Tree × Tokens). IsTreeWithin d z.0) (ok_is _ x b.2) (omega (arith, s.0, u.0), (condition_ok 16 ts c.0 c.1, s.1, u.1))
+word_ok d block sound word.NoFrame w ts x e = absurd (cc)
+
+frame_ok : (d : ℕ) (block : Reader) → ReadsBlocks d block → ReadsTrees d (frame_from block)
+unfolding frame_from
+frame_ok d block sound [] x e = absurd (cc)
+frame_ok d block sound (w ∷ ts) x e = word_ok d block sound (frame_word w) w ts x e
+
+frames_ok : (d : ℕ) (frame : Reader) → ReadsTrees d frame → (n : ℕ) → ReadsTrees d (frames_at frame n)
+unfolding frames_at
+frames_ok d frame sound n [] x e = absurd (cc)
+frames_ok d frame sound zero (w ∷ ts) x e = absurd (cc)
+frames_ok d frame sound (suc n) (w ∷ ts) x e = by (same w (codes "}")) (λ us y i. frames_ok d frame sound n us y i) e
+  where
+    by : (t : Bool) → ReadsTrees d (frames_at frame n) → cond t (Ok (nothing, ts)) (frame (w ∷ ts) >>= (λ y. frames_at frame n y.1 >>= (λ z. Ok (first y.0 z.0, z.1)))) ≡ Ok x → IsTreeWithin d x.0
+    by true more i = subst (λ (z : Tree × Tokens). IsTreeWithin d z.0) (ok_is _ x i) (omega arith, tt)
+    by false more i =
+        let a = bind_ok (frame (w ∷ ts)) _ x i in
+        let b = bind_ok (frames_at frame n a.0.1) _ x a.2 in
+        let s = sound (w ∷ ts) a.0 a.1 in
+        let u = more a.0.1 b.0 b.1 in
+        subst (λ (z : Tree × Tokens). IsTreeWithin d z.0) (ok_is _ x b.2) (omega (arith, s.0, u.0), (s.1, u.1))
+
+block_ok : (d : ℕ) → ReadsBlocks d (block_at d)
+unfolding block_from inner_at
+block_ok d [] x e = absurd (cc)
+block_ok zero (w ∷ ts) x e = by (same w (codes "{")) e
+  where
+    by : (t : Bool) → cond t (Err cause.Depth) (Err (misplaced w)) ≡ Ok x → (1 + depth x.0 ≤ 0) × IsInRange x.0
+    by true i = absurd (cc)
+    by false i = absurd (cc)
+block_ok (suc d) (w ∷ ts) x e = by (same w (codes "{")) (λ us y i. block_ok d us y i) e
+  where
+    by : (t : Bool) → ReadsBlocks d (block_at d) → cond t (frames_at (frame_at d) (length ts) ts) (Err (misplaced w)) ≡ Ok x → (1 + depth x.0 ≤ suc d) × IsInRange x.0
+    by true more i = let s = frames_ok d (frame_at d) (frame_ok d (block_at d) more) (length ts) ts x i in (omega (arith, s.0), s.1)
+    by false more i = absurd (cc)
+
+script_ok : (n : ℕ) (ts : Tokens) (t : Tree) → script_at n ts ≡ Ok t → IsTreeWithin 16 t
+unfolding script_at
+script_ok n [] t e = subst (IsTreeWithin 16) (ok_is _ t e) (omega arith, tt)
+script_ok zero (w ∷ ts) t e = absurd (cc)
+script_ok (suc n) (w ∷ ts) t e =
+    let a = bind_ok (frame_at 16 (w ∷ ts)) _ t e in
+    let b = bind_ok (script_at n a.0.1) _ t a.2 in
+    let s = frame_ok 16 (block_at 16) (block_ok 16) (w ∷ ts) a.0 a.1 in
+    let u = script_ok n a.0.1 b.0 b.1 in
+    subst (IsTreeWithin 16) (ok_is _ t b.2) (omega (arith, s.0, u.0), (s.1, u.1))
+
+-- a tree that is read from tokens, with so few messages, is sound
+pub script_is_sound : (ts : Tokens) (t : Tree) → script_at (length ts) ts ≡ Ok t → worst_messages t ≤ 1000000 → IsSound t
+script_is_sound ts t e few = let s = script_ok (length ts) ts t e in record { shallow = s.0; in_range = s.1; bounded = few }

@@ -1,0 +1,26 @@
+use Rattle.std.proofs.Common.{◌≡◌, ◌+◌, ◌*◌, ◌≤◌, ℕ, length}
+use Rattle.frame_text.specs.Tokens.{tokens}
+use Rattle.frame_text.specs.Frames.{frames_at, frame_at}
+use Rattle.frame_text.proofs.Scripts.{onto}
+use Rattle.frame_text.proofs.frames.+frames.Given as goal
+
+abbrev pub decreases-block : goal.decreases-block
+decreases-block g l = 4 * l.depth
+
+abbrev pub decreases-else_part : goal.decreases-else_part
+decreases-else_part g l = 4 * l.depth + 1
+
+abbrev pub decreases-frame : goal.decreases-frame
+decreases-frame g l = 4 * l.depth + 2
+
+abbrev pub decreases-frames : goal.decreases-frames
+decreases-frames g l = 4 * l.depth + 3
+
+abbrev pub invariant-frames-loop-word : goal.invariant-frames-loop-word
+invariant-frames-loop-word g l = record {
+  read : (n : ℕ) × (length (tokens l.rest) ≤ n) × (frames_at (frame_at l.depth) (length (tokens l.initial.rest)) (tokens l.initial.rest) ≡ onto l.found.items (frames_at (frame_at l.depth) n (tokens l.rest)));
+  fewer : length (tokens l.rest) ≤ length (tokens l.initial.rest);
+}
+
+abbrev pub decreases-frames-loop-word : goal.decreases-frames-loop-word
+decreases-frames-loop-word g l = length (tokens l.rest)

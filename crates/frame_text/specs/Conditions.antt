@@ -1,0 +1,64 @@
+-- The text of a condition (own choice).
+use Rattle.std.specs.Prelude.{ℕ, zero, suc, Bool, true, false, if◌then◌else◌, List, [], ◌∷◌, Option, Some, None, Result, Ok, Err, codes}
+use Rattle.mil_status.specs.Status.{bit_of_name}
+use Rattle.frame_tree.specs.Tree.{Test, failed, silent, bit, negated, both, either, bit_number}
+use Rattle.frame_text.specs.Tokens.{tokens}
+use Rattle.frame_text.specs.Reading.{Tokens, Reading, ◌>>=◌, same, misplaced, past, to_the_end}
+use Rattle.frame_text.specs.declared.faults.Cause.{Cause}
+use Rattle.frame_text.specs.declared.faults.Cause.TheVariants as cause
+use Rattle.frame_text.specs.declared.keywords.ConditionWord.{ConditionWord}
+use Rattle.frame_text.specs.declared.keywords.ConditionWord.TheVariants as word
+
+unfoldable pub condition_word : List ℕ → ConditionWord
+condition_word w =
+    if same w (codes "fail") then word.Fail else
+    if same w (codes "silent") then word.Silent else
+    if same w (codes "bit") then word.Bit else
+    if same w (codes "not") then word.Not else
+    if same w (codes "all") then word.All else
+    if same w (codes "any") then word.Any else
+    word.NoCondition
+
+-- the status bit of a name
+abbrev pub named : List ℕ → Option ℕ → Tokens → Reading ℕ
+named w (Some bits) ts = Ok (bit_number bits, ts)
+named w None ts = Err (misplaced w)
+
+unfoldable pub name_at : Tokens → Reading ℕ
+name_at [] = Err cause.End
+name_at (w ∷ ts) = named w (bit_of_name w) ts
+
+abbrev pub Reader : Type 0
+Reader = Tokens → Reading Test
+
+-- two conditions in their brackets
+unfoldable pub pair_at : Reader → Tokens → Reading (Test × Test)
+pair_at below ts =
+    past (codes "(") ts >>= (λ us. below us >>= (λ a. below a.1 >>= (λ b. past (codes ")") b.1 >>= (λ rest. Ok ((a.0, b.0), rest)))))
+
+-- a condition by its first word; below reads those in it, or is the fault of one level too many
+unfoldable pub condition_of : Result Reader Cause → ConditionWord → List ℕ → Tokens → Reading Test
+condition_of below word.Fail w ts = Ok (failed, ts)
+condition_of below word.Silent w ts = Ok (silent, ts)
+condition_of below word.Bit w ts = name_at ts >>= (λ name. Ok (bit name.0, name.1))
+condition_of below word.Not w ts = below >>= (λ reader. reader ts >>= (λ a. Ok (negated a.0, a.1)))
+condition_of below word.All w ts = below >>= (λ reader. pair_at reader ts >>= (λ x. Ok (both x.0.0 x.0.1, x.1)))
+condition_of below word.Any w ts = below >>= (λ reader. pair_at reader ts >>= (λ x. Ok (either x.0.0 x.0.1, x.1)))
+condition_of below word.NoCondition w ts = Err (misplaced w)
+
+unfoldable pub condition_from : Result Reader Cause → Reader
+condition_from below [] = Err cause.End
+condition_from below (w ∷ ts) = condition_of below (condition_word w) w ts
+
+-- what reads a condition within another, where at most so many operators may stand above a test, the outer one among them
+unfoldable pub below_at : ℕ → Result Reader Cause
+below_at zero = Err cause.Depth
+below_at (suc d) = Ok (condition_from (below_at d))
+
+-- a condition with at most so many operators above a test
+abbrev pub condition_at : ℕ → Reader
+condition_at d ts = condition_from (below_at d) ts
+
+-- the condition of a whole text
+abbrev pub condition_of_text : List ℕ → Result Test Cause
+condition_of_text text = condition_at 16 (tokens text) >>= (λ read. to_the_end read)

@@ -1,0 +1,79 @@
+-- What reading tokens from left to right comes to: what was read and the tokens after it, or the first fault.
+use Rattle.std.specs.Prelude.{◌≡◌, ℕ, nat_eq, Bool, true, false, ◌&&◌, ◌||◌, if◌then◌else◌, List, [], ◌∷◌, Result, Ok, Err, codes}
+use Rattle.frame_text.specs.Tokens.{in_word}
+use Rattle.frame_text.specs.declared.faults.Cause.{Cause}
+use Rattle.frame_text.specs.declared.faults.Cause.TheVariants as cause
+use Rattle.frame_text.specs.declared.faults.Fault.{Fault}
+use Rattle.frame_text.specs.declared.faults.Fault.TheVariants as fault
+use Rattle.frame_text.specs.declared.faults.ScriptError.{ScriptError}
+use Rattle.frame_text.specs.declared.faults.ScriptError.TheVariants as error
+
+abbrev pub Tokens : Type 0
+Tokens = List (List ℕ)
+
+-- an X and the tokens after it, or the first fault
+abbrev pub Reading : Type 0 → Type 0
+Reading X = Result (X × Tokens) Cause
+
+infixl 10 ◌>>=◌
+abbrev pub ◌>>=◌ : {X Y : Type 0} → Result X Cause → (X → Result Y Cause) → Result Y Cause
+(Ok x) >>= f = f x
+(Err e) >>= f = Err e
+
+-- a fault of the text is the one that reading comes to; want of memory says nothing
+abbrev pub Fails : {Y : Type 0} → Fault → Result Y Cause → Type 0
+Fails (fault.Text c left) read = read ≡ Err c
+Fails (fault.Memory left) read = Unit {0}
+
+-- what a call answered is what reading comes to, but for want of memory
+abbrev pub Gives : {X Y : Type 0} → (X → Y) → Result X Fault → Result Y Cause → Type 0
+Gives view (Ok x) read = read ≡ Ok (view x)
+Gives view (Err e) read = Fails e read
+
+-- the same of the public calls
+abbrev pub Refuses : {Y : Type 0} → ScriptError → Result Y Cause → Type 0
+Refuses (error.Text c place) read = read ≡ Err c
+Refuses (error.Memory place) read = Unit {0}
+
+abbrev pub Answers : {X Y : Type 0} → (X → Y) → Result X ScriptError → Result Y Cause → Type 0
+Answers view (Ok x) read = read ≡ Ok (view x)
+Answers view (Err e) read = Refuses e read
+
+abbrev pub same : List ℕ → List ℕ → Bool
+same [] [] = true
+same [] (y ∷ ys) = false
+same (x ∷ xs) [] = false
+same (x ∷ xs) (y ∷ ys) = nat_eq x y && same xs ys
+
+abbrev pub is_word : List ℕ → Bool
+is_word [] = false
+is_word (b ∷ bs) = in_word b
+
+-- the brackets { } ( ) [ ]
+abbrev pub is_bracket : List ℕ → Bool
+is_bracket w = same w (codes "{") || same w (codes "}") || same w (codes "(") || same w (codes ")") || same w (codes "[") || same w (codes "]")
+
+-- the fault of a token that may not stand where it does: a byte that is in no token of the language, or a wrong token
+abbrev pub misplaced : List ℕ → Cause
+misplaced w = if is_word w || is_bracket w then cause.Token else cause.Byte
+
+-- a token that has to stand here
+unfoldable pub past : List ℕ → Tokens → Result Tokens Cause
+past token [] = Err cause.End
+past token (w ∷ ts) = if same w token then Ok ts else Err (misplaced w)
+
+-- a reading of all tokens
+unfoldable pub to_the_end : {X : Type 0} → X × Tokens → Result X Cause
+to_the_end (x, []) = Ok x
+to_the_end (x, (w ∷ ts)) = Err (misplaced w)
+
+-- a fault of the text with this cause
+abbrev pub IsCause : Cause → Fault → Type 0
+IsCause c (fault.Text d left) = d ≡ c
+IsCause c (fault.Memory left) = ⊥
+
+-- the same fault, with its place
+abbrev pub IsLocated : Fault → ScriptError → Type 0
+IsLocated (fault.Text c left) (error.Text d place) = d ≡ c
+IsLocated (fault.Memory left) (error.Memory place) = Unit {0}
+IsLocated _ _ = ⊥

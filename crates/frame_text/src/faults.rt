@@ -1,0 +1,94 @@
+//! What is wrong with a text, and where.
+
+use mil_message::BadMessage;
+use std::fmt::{self, Display, Formatter, Write};
+
+/// What is wrong with a text. Faults are found from left to right, and the first one counts.
+#[derive(Clone, Copy, Debug, PartialEq, Eq)]
+pub enum Cause {
+    /// S1: a byte that is in no token of the language.
+    Byte,
+    /// S2: a token that may not stand there, or an unknown name of a status bit.
+    Token,
+    /// S3: a word that is no number of one to seven digits, or no data word of four hexadecimal digits.
+    Number,
+    /// S4: numbers that no message has, at the first word of the message, once it is read.
+    Message(BadMessage),
+    /// S5: the text ends inside a frame or a block, at the place directly after its last byte.
+    End,
+    /// S6: more than 16 blocks in one another, at the opening brace, or more than 16 operators above a test of a
+    /// condition, at the operator.
+    Depth,
+    /// S7: a number out of its range: a repeat outside 1 to 10,000, a retry outside 1 to 8, a gap outside 40 to 65,535.
+    Range,
+    /// S8: more than 1,000,000 messages at worst, at line 1 column 1, once the text is read to its end.
+    Messages,
+}
+
+/// A place in a text: lines count from 1 by LF, columns from 1 by bytes.
+#[derive(Clone, Copy, Debug, PartialEq, Eq)]
+pub struct Place {
+    pub line: u64,
+    pub column: u64,
+}
+
+/// Why a text is refused.
+#[derive(Clone, Copy, Debug, PartialEq, Eq)]
+pub enum ScriptError {
+    /// What is wrong with the text, and where: at the token, where the cause says no other place.
+    Text { cause: Cause, place: Place },
+    /// S9: memory was refused, at the token that was being read.
+    Memory { place: Place },
+}
+
+/// A fault with the number of bytes that are left of the text at its place.
+#[derive(Clone, Copy, Debug, PartialEq, Eq)]
+pub enum Fault {
+    Text(Cause, usize),
+    /// Memory was refused when this many bytes behind the token were left.
+    Memory(usize),
+}
+
+impl Cause {
+    /// `S1` to `S8`.
+    fn code(&self) -> &'static str {
+        match self {
+            Cause::Byte => "S1",
+            Cause::Token => "S2",
+            Cause::Number => "S3",
+            Cause::Message(_) => "S4",
+            Cause::End => "S5",
+            Cause::Depth => "S6",
+            Cause::Range => "S7",
+            Cause::Messages => "S8",
+        }
+    }
+}
+
+/// `S1` to `S8`, and `S4 M1` to `S4 M5`.
+impl Display for Cause {
+    fn fmt<W: Write>(&self, f: &mut Formatter<W>) -> fmt::Result {
+        match self {
+            Cause::Message(bad) => write!(f, "S4 {bad}"),
+            _ => f.write_str(self.code()),
+        }
+    }
+}
+
+/// `line 1 column 8`.
+impl Display for Place {
+    fn fmt<W: Write>(&self, f: &mut Formatter<W>) -> fmt::Result {
+        write!(f, "line {} column {}", self.line, self.column)
+    }
+}
+
+/// `S7 line 1 column 8`, `S4 line 1 column 8 M3`, and `memory`.
+impl Display for ScriptError {
+    fn fmt<W: Write>(&self, f: &mut Formatter<W>) -> fmt::Result {
+        match self {
+            ScriptError::Text { cause: Cause::Message(bad), place } => write!(f, "S4 {place} {bad}"),
+            ScriptError::Text { cause, place } => write!(f, "{} {place}", cause.code()),
+            ScriptError::Memory { .. } => f.write_str("memory"),
+        }
+    }
+}

@@ -1,0 +1,181 @@
+//! The text of frames.
+
+ghost use Rattle.std.specs.Prelude.{◌≡◌, ◌<◌, ◌≤◌, length, map, IfOk, IfErr};
+ghost use Rattle.frame_tree.specs.Tree.{tree_of, chain, nothing};
+ghost use Rattle.frame_text.specs.Tokens.{tokens};
+ghost use Rattle.frame_text.specs.Reading.{Gives};
+ghost use Rattle.frame_text.specs.Frames.{else_at, frame_at, frames_at, block_at, inner_at, script_at};
+
+use crate::conditions::condition;
+use crate::faults::{Cause, Fault};
+use crate::keywords::{FrameWord, frame_word, is, misplaced};
+use crate::memory::or_refused;
+use crate::messages::send;
+use crate::tokens::{after_token, fault, next};
+use crate::words::number_in_range;
+use frame_tree::Frame;
+use std::alloc::Allocator;
+
+/// Frames one after the other.
+#[tactic(auto, using(crate::proofs::Scripts::tree_seq))]
+pub fn seq<A: Allocator + Clone>(frames: Vec<Frame<A>, A>) -> Frame<A>
+    ensures { tree_of result ≡ chain (map tree_of frames.items) }
+{
+    Frame::Seq(frames)
+}
+
+// No frames, where the rest of the text goes on.
+fn no_frames<A: Allocator + Clone>(alloc: &A, rest: &[u8]) -> Result<Frame<A>, Fault>
+    ensures tree { IfOk result (λ f. tree_of f ≡ nothing) }
+    ensures memory { IfErr result (λ e. e ≡ Fault.Memory (length rest.now)) }
+{
+    let own = or_refused!(alloc.clone(), rest);
+    Ok(seq(Vec::new(own)))
+}
+
+// How many blocks may stand in a block, whose opening brace is the first token of the text.
+#[tactic(auto, using(crate::proofs::Scripts::inner_some, crate::proofs::Scripts::inner_none))]
+fn within(depth: u8, text: &[u8]) -> Result<u8, Fault>
+    ensures tree { Gives (λ d. λ ts. frames_at (frame_at d) (length ts) ts) result (inner_at depth) }
+    ensures fewer { IfOk result (λ d. d < depth) }
+{
+    if depth == 0 {
+        return Err(fault(Cause::Depth, text));
+    }
+    Ok(depth - 1)
+}
+
+// A block in its braces.
+#[cycle(frames)]
+#[tactic(auto, unfolding(crate::specs::Frames::block_from))]
+fn block<'a, A: Allocator + Clone>(
+    alloc: &A,
+    text: &'a [u8],
+    depth: u8,
+) -> Result<(Frame<A>, &'a [u8]), Fault>
+    ensures tree { Gives (λ x. (tree_of x.0, tokens x.1.now)) result (block_at depth (tokens text.now)) }
+    ensures fewer { IfOk result (λ x. length (tokens x.1.now) < length (tokens text.now)) }
+{
+    let Some((word, rest)) = next(text) else {
+        return Err(fault(Cause::End, text));
+    };
+    if !is(word, b"{") {
+        return Err(fault(misplaced(word), text));
+    }
+    let depth = within(depth, text)?;
+    let (found, rest) = frames(alloc, rest, depth)?;
+    let whole = seq(found);
+    Ok((whole, rest))
+}
+
+// Frames up to the closing brace.
+#[cycle(frames)]
+fn frames<'a, A: Allocator + Clone>(
+    alloc: &A,
+    text: &'a [u8],
+    depth: u8,
+) -> Result<(Vec<Frame<A>, A>, &'a [u8]), Fault>
+    ensures tree { Gives (λ x. (chain (map tree_of x.0.items), tokens x.1.now)) result (frames_at (frame_at depth) (length (tokens text.now)) (tokens text.now)) }
+    ensures fewer { IfOk result (λ x. length (tokens x.1.now) < length (tokens text.now)) }
+{
+    let own = or_refused!(alloc.clone(), text);
+    let mut found = Vec::new(own);
+    let mut rest = text;
+    while let Some((word, after)) = next(rest) {
+        if is(word, b"}") {
+            return Ok((found, after));
+        }
+        let (one, left) = frame(alloc, rest, depth)?;
+        or_refused!(found.push(one), left);
+        rest = left;
+    }
+    Err(fault(Cause::End, rest))
+}
+
+// What stands behind an else, or nothing.
+#[cycle(frames)]
+#[tactic(auto, unfolding(crate::specs::Frames::else_at))]
+fn else_part<'a, A: Allocator + Clone>(
+    alloc: &A,
+    text: &'a [u8],
+    depth: u8,
+) -> Result<(Frame<A>, &'a [u8]), Fault>
+    ensures tree { Gives (λ x. (tree_of x.0, tokens x.1.now)) result (else_at (block_at depth) (tokens text.now)) }
+    ensures fewer { IfOk result (λ x. length (tokens x.1.now) ≤ length (tokens text.now)) }
+{
+    let Some((word, rest)) = next(text) else {
+        let none = no_frames(alloc, text)?;
+        return Ok((none, text));
+    };
+    if !is(word, b"else") {
+        let none = no_frames(alloc, text)?;
+        return Ok((none, text));
+    }
+    block(alloc, rest, depth)
+}
+
+/// A frame with at most `depth` blocks in one another.
+#[cycle(frames)]
+#[tactic(auto, unfolding(crate::specs::Frames::frame_from, crate::specs::Frames::frame_of))]
+pub fn frame<'a, A: Allocator + Clone>(
+    alloc: &A,
+    text: &'a [u8],
+    depth: u8,
+) -> Result<(Frame<A>, &'a [u8]), Fault>
+    ensures tree { Gives (λ x. (tree_of x.0, tokens x.1.now)) result (frame_at depth (tokens text.now)) }
+    ensures fewer { IfOk result (λ x. length (tokens x.1.now) < length (tokens text.now)) }
+{
+    let Some((word, rest)) = next(text) else {
+        return Err(fault(Cause::End, text));
+    };
+    match frame_word(word) {
+        FrameWord::Send => {
+            let (line, message, rest) = send(rest)?;
+            Ok((Frame::Send { line, message }, rest))
+        }
+        FrameWord::Retry => {
+            let (count, rest) = number_in_range(rest, 1, 8)?;
+            let rest = after_token(rest, b"send")?;
+            let (line, message, rest) = send(rest)?;
+            Ok((Frame::Retry { count: count as u8, line, message }, rest))
+        }
+        FrameWord::Gap => {
+            let (ticks, rest) = number_in_range(rest, 40, 65_535)?;
+            Ok((Frame::Gap(ticks as u16), rest))
+        }
+        FrameWord::Repeat => {
+            let (count, rest) = number_in_range(rest, 1, 10_000)?;
+            let (body, rest) = block(alloc, rest, depth)?;
+            let own = or_refused!(alloc.clone(), rest);
+            let body = or_refused!(Box::new(own, body), rest);
+            Ok((Frame::Repeat { count: count as u16, body }, rest))
+        }
+        FrameWord::If => {
+            let (condition, rest) = condition(alloc, rest, 16)?;
+            let (then, rest) = block(alloc, rest, depth)?;
+            let (otherwise, rest) = else_part(alloc, rest, depth)?;
+            let own = or_refused!(alloc.clone(), rest);
+            let then = or_refused!(Box::new(own, then), rest);
+            let own = or_refused!(alloc.clone(), rest);
+            let otherwise = or_refused!(Box::new(own, otherwise), rest);
+            Ok((Frame::If { condition, then, otherwise }, rest))
+        }
+        FrameWord::NoFrame => Err(fault(misplaced(word), text)),
+    }
+}
+
+/// Frames up to the end of the text.
+pub fn script<A: Allocator + Clone>(alloc: &A, text: &[u8]) -> Result<Frame<A>, Fault>
+    ensures { Gives tree_of result (script_at (length (tokens text.now)) (tokens text.now)) }
+{
+    let own = or_refused!(alloc.clone(), text);
+    let mut found = Vec::new(own);
+    let mut rest = text;
+    while let Some((word, _)) = next(rest) {
+        let _ = word;
+        let (one, left) = frame(alloc, rest, 16)?;
+        or_refused!(found.push(one), left);
+        rest = left;
+    }
+    Ok(seq(found))
+}

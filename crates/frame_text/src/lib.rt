@@ -1,0 +1,64 @@
+//! Scripts: frames as text (own choice). A text has at most one tree, and every other text is refused by its first fault
+//! from left to right.
+#![tactic(auto)]
+
+ghost use Rattle.std.specs.Prelude.{IfOk};
+ghost use Rattle.frame_tree.specs.Tree.{test_of, tree_of};
+ghost use Rattle.frame_tree.specs.Bounds.{IsSound};
+ghost use Rattle.frame_text.specs.Reading.{Answers};
+ghost use Rattle.frame_text.specs.Messages.{send_of_text};
+ghost use Rattle.frame_text.specs.Conditions.{condition_of_text};
+ghost use Rattle.frame_text.specs.Frames.{tree_of_text};
+
+pub mod conditions;
+pub mod faults;
+pub mod frames;
+pub mod keywords;
+mod memory;
+pub mod messages;
+pub mod places;
+pub mod tokens;
+pub mod whole;
+pub mod words;
+
+#[cfg(test)]
+mod tests;
+
+pub use faults::{Cause, Place, ScriptError};
+
+use frame_tree::{Cond, Frame};
+use mil_message::Message;
+use mil_word::Line;
+use places::located;
+use std::alloc::Allocator;
+
+/// The frame of a script. It is refused with the first fault from left to right, or for want of memory; a frame is sound.
+pub fn parse<A: Allocator + Clone>(alloc: A, text: &[u8]) -> Result<Frame<A>, ScriptError>
+    ensures tree { Answers tree_of result (tree_of_text text.now) }
+    ensures sound { IfOk result (λ f. IsSound (tree_of f)) }
+{
+    match whole::script(&alloc, text) {
+        Ok(frame) => Ok(frame),
+        Err(fault) => Err(located(text, fault)),
+    }
+}
+
+/// The line and the message of a text such as `A rx 5 1 [0001]`. It takes no memory.
+pub fn read_send(text: &[u8]) -> Result<(Line, Message), ScriptError>
+    ensures { Answers (λ x. x) result (send_of_text text.now) }
+{
+    match whole::send(text) {
+        Ok(read) => Ok(read),
+        Err(fault) => Err(located(text, fault)),
+    }
+}
+
+/// The condition of a text such as `any ( fail silent )`.
+pub fn read_cond<A: Allocator + Clone>(alloc: A, text: &[u8]) -> Result<Cond<A>, ScriptError>
+    ensures { Answers test_of result (condition_of_text text.now) }
+{
+    match whole::condition(&alloc, text) {
+        Ok(condition) => Ok(condition),
+        Err(fault) => Err(located(text, fault)),
+    }
+}

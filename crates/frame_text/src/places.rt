@@ -1,0 +1,59 @@
+//! Places in a text.
+
+ghost use Rattle.frame_text.specs.Reading.{IsLocated};
+
+use crate::faults::{Fault, Place, ScriptError};
+use crate::keywords::is_word_byte;
+
+/// The place directly behind the first bytes of a text.
+fn place_after(before: &[u8]) -> Place {
+    let mut line: u64 = 1;
+    let mut column: u64 = 1;
+    for b in before {
+        if *b == b'\n' {
+            line = line.saturating_add(1);
+            column = 1;
+        } else {
+            column = column.saturating_add(1);
+        }
+    }
+    Place { line, column }
+}
+
+/// What comes before the token that ends a text.
+fn before_last_token(text: &[u8]) -> &[u8] {
+    let mut before = text;
+    while let Some((last, rest)) = before.split_last() {
+        if !is_word_byte(*last) {
+            break;
+        }
+        before = rest;
+    }
+    if before.len() < text.len() {
+        return before;
+    }
+    match text.split_last() {
+        Some((_, rest)) => rest,
+        None => text,
+    }
+}
+
+/// What comes before the last bytes of a text.
+fn without_last(text: &[u8], left: usize) -> &[u8] {
+    &text[..text.len().saturating_sub(left)]
+}
+
+/// A fault with its place in the whole text.
+pub fn located(text: &[u8], fault: Fault) -> ScriptError
+    ensures { IsLocated fault result }
+{
+    match fault {
+        Fault::Text(cause, left) => ScriptError::Text {
+            cause,
+            place: place_after(without_last(text, left)),
+        },
+        Fault::Memory(left) => ScriptError::Memory {
+            place: place_after(before_last_token(without_last(text, left))),
+        },
+    }
+}

@@ -1,0 +1,84 @@
+//! The tokens of a text, one by one: no list of them is ever made.
+
+ghost use Rattle.std.specs.Prelude.{◌≡◌, ◌<◌, ◌≤◌, [], ◌∷◌, length, MatchOption, IfSome, IfOk};
+ghost use Rattle.frame_text.specs.Tokens.{is_space, tokens, BeginsToken};
+ghost use Rattle.frame_text.specs.Reading.{Gives, IsCause, past};
+
+use crate::faults::{Cause, Fault};
+use crate::keywords::{is, is_word_byte, misplaced};
+
+fn is_space_byte(b: u8) -> bool
+    ensures { result ≡ is_space b }
+{
+    b == b' ' || b == b'\t' || b == b'\r' || b == b'\n'
+}
+
+// What comes after spaces and comments.
+fn skipped(text: &[u8]) -> &[u8]
+    ensures tokens { tokens result.now ≡ tokens text.now }
+    ensures shorter { length result.now ≤ length text.now }
+    ensures begins { BeginsToken result.now }
+{
+    let mut rest = text;
+    let mut comment = false;
+    while let Some((first, after)) = rest.split_first() {
+        if comment {
+            comment = *first != b'\n';
+        } else if *first == b'#' {
+            comment = true;
+        } else if !is_space_byte(*first) {
+            return rest;
+        }
+        rest = after;
+    }
+    rest
+}
+
+// The first token of what begins with one, and what comes after it.
+fn token(text: &[u8]) -> Option<(&[u8], &[u8])>
+    requires { BeginsToken text.now }
+    ensures tokens { MatchOption result (tokens text.now ≡ []) (λ x. tokens text.now ≡ x.0.now ∷ tokens x.1.now) }
+    ensures shorter { IfSome result (λ x. length x.1.now < length text.now) }
+{
+    let Some((first, after)) = text.split_first() else {
+        return None;
+    };
+    if !is_word_byte(*first) {
+        return Some((&text[..1], after));
+    }
+    let mut end = 1;
+    while end < text.len() && is_word_byte(text[end]) {
+        end += 1;
+    }
+    Some((&text[..end], &text[end..]))
+}
+
+/// The first token, and what comes after it; nothing at the end.
+pub fn next(text: &[u8]) -> Option<(&[u8], &[u8])>
+    ensures tokens { MatchOption result (tokens text.now ≡ []) (λ x. tokens text.now ≡ x.0.now ∷ tokens x.1.now) }
+    ensures shorter { IfSome result (λ x. length x.1.now < length text.now) }
+{
+    token(skipped(text))
+}
+
+/// The fault at the first token of what is left of the text, or at its end.
+pub fn fault(cause: Cause, text: &[u8]) -> Fault
+    ensures { IsCause cause result }
+{
+    Fault::Text(cause, skipped(text).len())
+}
+
+/// What comes after a token that has to stand here.
+#[tactic(auto, unfolding(crate::specs::Reading::past))]
+pub fn after_token<'a>(text: &'a [u8], expected: &[u8]) -> Result<&'a [u8], Fault>
+    ensures tree { Gives (λ x. tokens x.now) result (past expected.now (tokens text.now)) }
+    ensures fewer { IfOk result (λ x. length (tokens x.now) < length (tokens text.now)) }
+{
+    let Some((word, rest)) = next(text) else {
+        return Err(fault(Cause::End, text));
+    };
+    if !is(word, expected) {
+        return Err(fault(misplaced(word), text));
+    }
+    Ok(rest)
+}

@@ -1,0 +1,54 @@
+//! Whole texts.
+
+ghost use Rattle.std.specs.Prelude.{IfOk};
+ghost use Rattle.frame_tree.specs.Tree.{test_of, tree_of};
+ghost use Rattle.frame_tree.specs.Bounds.{IsSound};
+ghost use Rattle.frame_text.specs.Reading.{Gives};
+ghost use Rattle.frame_text.specs.Messages.{send_of_text};
+ghost use Rattle.frame_text.specs.Conditions.{condition_of_text};
+ghost use Rattle.frame_text.specs.Frames.{tree_of_text};
+
+use crate::faults::{Cause, Fault};
+use crate::keywords::misplaced;
+use crate::tokens::{fault, next};
+use crate::{conditions, frames, messages};
+use frame_tree::{Cond, Frame};
+use mil_message::Message;
+use mil_word::Line;
+use std::alloc::Allocator;
+
+/// The frame of a script, with at most 1,000,000 messages at worst.
+pub fn script<A: Allocator + Clone>(alloc: &A, text: &[u8]) -> Result<Frame<A>, Fault>
+    ensures tree { Gives tree_of result (tree_of_text text.now) }
+    ensures sound { IfOk result (λ f. IsSound (tree_of f)) }
+{
+    let frame = frames::script(alloc, text)?;
+    if frame.worst_messages() > 1_000_000 {
+        return Err(Fault::Text(Cause::Messages, text.len()));
+    }
+    Ok(frame)
+}
+
+/// The line and the message of a whole text.
+#[tactic(auto, unfolding(crate::specs::Reading::to_the_end))]
+pub fn send(text: &[u8]) -> Result<(Line, Message), Fault>
+    ensures { Gives (λ x. x) result (send_of_text text.now) }
+{
+    let (line, message, rest) = messages::send(text)?;
+    match next(rest) {
+        None => Ok((line, message)),
+        Some((word, _)) => Err(fault(misplaced(word), rest)),
+    }
+}
+
+/// The condition of a whole text.
+#[tactic(auto, unfolding(crate::specs::Reading::to_the_end))]
+pub fn condition<A: Allocator + Clone>(alloc: &A, text: &[u8]) -> Result<Cond<A>, Fault>
+    ensures { Gives test_of result (condition_of_text text.now) }
+{
+    let (condition, rest) = conditions::condition(alloc, text, 16)?;
+    match next(rest) {
+        None => Ok(condition),
+        Some((word, _)) => Err(fault(misplaced(word), rest)),
+    }
+}

@@ -1,0 +1,156 @@
+//! Numbers and data words.
+
+ghost use Rattle.std.specs.Prelude.{◌≡◌, ◌<◌, ◌≤◌, ◌++◌, ◌∷◌, [], length, take, IfOk, IfSome, option_map};
+ghost use Rattle.frame_text.specs.Tokens.{tokens};
+ghost use Rattle.frame_text.specs.Reading.{Gives, IsCause};
+ghost use Rattle.frame_text.specs.Words.{number_of, hex_of, data_word_of, unspelled, number_at, number_within, words_at, counted, bracketed_at, optional_at};
+
+use crate::faults::{Cause, Fault};
+use crate::keywords::{is, is_word, misplaced};
+use crate::tokens::{after_token, fault, next};
+use arrayvec::ArrayVec;
+
+/// Data words as far as they count: a message with more than 32 is refused.
+pub type DataWords = ArrayVec<u16, 33>;
+
+// The number that a token spells.
+#[tactic(auto, unfolding(crate::specs::Words::number_of))]
+fn number_in(word: &[u8]) -> Option<u32>
+    ensures { result ≡ number_of word.now }
+{
+    if word.len() < 1 || 7 < word.len() {
+        return None;
+    }
+    let mut total: u32 = 0;
+    for b in word {
+        if *b < b'0' || b'9' < *b {
+            return None;
+        }
+        total = total * 10 + (*b - b'0') as u32;
+    }
+    Some(total)
+}
+
+// The value of a hexadecimal digit.
+#[tactic(auto, unfolding(crate::specs::Words::hex_of))]
+fn hex_in(b: u8) -> Option<u16>
+    ensures value { result ≡ hex_of b }
+    ensures small { IfSome result (λ d. d < 16) }
+{
+    if b'0' <= b && b <= b'9' {
+        Some((b - b'0') as u16)
+    } else if b'A' <= b && b <= b'F' {
+        Some((b - 55) as u16)
+    } else if b'a' <= b && b <= b'f' {
+        Some((b - 87) as u16)
+    } else {
+        None
+    }
+}
+
+// The data word that a token spells.
+#[tactic(auto, unfolding(crate::specs::Words::data_word_of))]
+fn data_word_in(word: &[u8]) -> Option<u16>
+    ensures { result ≡ data_word_of word.now }
+{
+    let [first, second, third, fourth] = word else {
+        return None;
+    };
+    let first = hex_in(*first)?;
+    let second = hex_in(*second)?;
+    let third = hex_in(*third)?;
+    let fourth = hex_in(*fourth)?;
+    Some(first * 4096 + second * 256 + third * 16 + fourth)
+}
+
+// The fault of the first token of the text, which should have spelled something.
+fn unspelled_fault(word: &[u8], text: &[u8]) -> Fault
+    ensures { IsCause (unspelled word.now) result }
+{
+    let cause = if is_word(word) { Cause::Number } else { misplaced(word) };
+    fault(cause, text)
+}
+
+/// A number of one to seven digits.
+#[tactic(auto, unfolding(crate::specs::Words::number_at))]
+pub fn number(text: &[u8]) -> Result<(u32, &[u8]), Fault>
+    ensures tree { Gives (λ x. (x.0, tokens x.1.now)) result (number_at (tokens text.now)) }
+    ensures fewer { IfOk result (λ x. length (tokens x.1.now) < length (tokens text.now)) }
+{
+    let Some((word, rest)) = next(text) else {
+        return Err(fault(Cause::End, text));
+    };
+    match number_in(word) {
+        Some(n) => Ok((n, rest)),
+        None => Err(unspelled_fault(word, text)),
+    }
+}
+
+/// A number from `low` to `high`.
+#[tactic(auto, unfolding(crate::specs::Words::number_within))]
+pub fn number_in_range(text: &[u8], low: u32, high: u32) -> Result<(u32, &[u8]), Fault>
+    ensures tree { Gives (λ x. (x.0, tokens x.1.now)) result (number_within low high (tokens text.now)) }
+    ensures fewer { IfOk result (λ x. length (tokens x.1.now) < length (tokens text.now)) }
+    ensures within { IfOk result (λ x. (low ≤ x.0) × (x.0 ≤ high)) }
+{
+    let (n, rest) = number(text)?;
+    if n < low || high < n {
+        return Err(fault(Cause::Range, text));
+    }
+    Ok((n, rest))
+}
+
+// One more data word, where it still counts.
+fn keep(found: &mut DataWords, value: u16)
+    ensures { found.new.items ≡ take 33 (found.old.items ++ value ∷ []) }
+{
+    if !found.is_full() {
+        found.push(value);
+    }
+}
+
+// Data words up to the closing bracket.
+fn words(text: &[u8]) -> Result<(DataWords, &[u8]), Fault>
+    ensures tree { Gives (λ x. (x.0.items, tokens x.1.now)) result (counted (words_at (tokens text.now))) }
+    ensures fewer { IfOk result (λ x. length (tokens x.1.now) < length (tokens text.now)) }
+{
+    let mut found = DataWords::new();
+    let mut rest = text;
+    while let Some((word, after)) = next(rest) {
+        if is(word, b"]") {
+            return Ok((found, after));
+        }
+        let Some(value) = data_word_in(word) else {
+            return Err(unspelled_fault(word, rest));
+        };
+        keep(&mut found, value);
+        rest = after;
+    }
+    Err(fault(Cause::End, rest))
+}
+
+/// Data words in their brackets.
+#[tactic(auto, unfolding(crate::specs::Words::bracketed_at))]
+pub fn bracketed(text: &[u8]) -> Result<(DataWords, &[u8]), Fault>
+    ensures tree { Gives (λ x. (x.0.items, tokens x.1.now)) result (bracketed_at (tokens text.now)) }
+    ensures fewer { IfOk result (λ x. length (tokens x.1.now) < length (tokens text.now)) }
+{
+    let rest = after_token(text, b"[")?;
+    words(rest)
+}
+
+/// Data words in their brackets, where a bracket opens here.
+#[tactic(auto, unfolding(crate::specs::Words::optional_at))]
+pub fn optional(text: &[u8]) -> Result<(Option<DataWords>, &[u8]), Fault>
+    ensures tree { Gives (λ x. (option_map (λ w. w.items) x.0, tokens x.1.now)) result (optional_at (tokens text.now)) }
+    ensures fewer { IfOk result (λ x. length (tokens x.1.now) ≤ length (tokens text.now)) }
+{
+    let Some((word, rest)) = next(text) else {
+        return Ok((None, text));
+    };
+    if !is(word, b"[") {
+        return Ok((None, text));
+    }
+    let (found, rest) = words(rest)?;
+    Ok((Some(found), rest))
+}
