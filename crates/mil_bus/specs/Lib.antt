@@ -2,3 +2,9 @@ pub mod Times
 pub mod Counts
 pub mod Pass
 pub mod BlockStatus
+pub mod Exchange
+pub mod Offers
+pub mod Actions
+pub mod Addresses
+pub mod Past
+pub mod KeepsTimes

@@ -1,10 +1,17 @@
 //! A bus: terminals that hear and answer what a controller sends, and the talks that come of it.
 #![tactic(auto)]
 
+mod addresses;
+pub mod buses;
 pub mod counts;
+pub mod error;
 pub mod outcomes;
+mod past;
+mod runs;
 pub mod talks;
 
+pub use buses::Bus;
 pub use counts::{Came, Seen};
+pub use error::BusError;
 pub use outcomes::Outcome;
 pub use talks::{Sent, Source, Talk};

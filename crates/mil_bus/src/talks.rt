@@ -88,6 +88,7 @@ impl Talk {
         requires { self.now.start < 2 ^ 61 }
         ensures value { result ≡ end_of self.now }
         ensures soon { result ≤ self.now.start + 2 ^ 23 }
+        ensures after { self.now.start ≤ result }
     {
         let sent = self.sent.as_slice();
         let mut tick = self.start;

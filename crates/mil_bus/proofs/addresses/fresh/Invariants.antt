@@ -1,0 +1,6 @@
+use Rattle.std.proofs.Common.{◌≡◌}
+use Rattle.mil_bus.specs.Addresses.{stations_below}
+use Rattle.mil_bus.proofs.addresses.fresh.Given as goal
+
+abbrev pub invariant-loop-own : goal.invariant-loop-own
+invariant-loop-own l = l.terminals.items ≡ stations_below l.own l.addresses

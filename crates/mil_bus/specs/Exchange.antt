@@ -1,0 +1,151 @@
+-- The exchange of one message (MIL-STD-1553B 4.3.3.6, 4.3.3.7; times, faults and the limit of forty words are own choices).
+use Rattle.std.specs.Prelude.{ℕ, ◌+◌, ◌-◌, ◌*◌, ◌==◌, min, max, if◌then◌else◌, Bool, true, false, ◌&&◌, ◌||◌, not, List, [], ◌∷◌, ◌++◌, length, map, take, Option, Some, None}
+use Rattle.std.specs.Option.{option_map, option_or}
+use Rattle.std.proofs.Common.{zero, suc}
+use Rattle.mil_word.specs.declared.Line.{Line}
+use Rattle.mil_word.specs.declared.Line.TheVariants.{A, B}
+use Rattle.mil_message.specs.declared.forms.Form.{Form}
+use Rattle.mil_message.specs.Forms.{controller_waves}
+use Rattle.mil_word.specs.Words.{same_line, command_wave, data_wave}
+use Rattle.mil_line.specs.declared.faults.Fault.{Fault}
+use Rattle.mil_line.specs.Faults.{altered, gap_of}
+use Rattle.mil_bus.specs.declared.talks.Source.{Source}
+use Rattle.mil_bus.specs.declared.talks.Source.TheVariants.{Controller, Terminal}
+use Rattle.mil_bus.specs.declared.talks.Sent.{Sent}
+use Rattle.mil_bus.specs.declared.talks.Talk.{Talk}
+use Rattle.mil_bus.specs.Times.{end_of, is_controllers_last}
+use Rattle.mil_bus.specs.BlockStatus.{outcome_of}
+use Rattle.mil_terminal.specs.declared.events.Event.{Event}
+use Rattle.mil_terminal.specs.declared.events.Event.TheVariants.{Heard, Quiet}
+use Rattle.mil_terminal.specs.declared.replies.Reply.{Reply}
+use Rattle.mil_terminal.specs.Station.{Station, after}
+use Rattle.mil_terminal.specs.Replies.{reply}
+
+-- what a sender gives: a gap, and the waves of its words
+pub record Offer : Type 0 where
+  pub source : Source
+  pub gap : ℕ
+  pub waves : List ℕ
+
+-- what an exchange has come to: the words sent, and the stations in order of address
+pub record Standing : Type 0 where
+  pub sent : List Sent
+  pub stations : List Station
+
+-- the words of a run: the first has the run's gap, the others are contiguous
+abbrev pub words_of : ℕ → Source → ℕ → List ℕ → List Sent
+words_of run source gap [] = []
+words_of run source gap (wave ∷ waves) = record { wave = wave; gap = gap; run = run; source = source } ∷ words_of run source 20 waves
+
+-- what comes on the line of a run, where there is room for so many words
+unfoldable pub run_sent : ℕ → List Fault → ℕ → Offer → List Sent
+run_sent room faults run offer = words_of run offer.source (gap_of faults run offer.gap) (take room (altered faults run offer.waves))
+
+abbrev pub sends : Source → ℕ → Bool
+sends Controller own = false
+sends (Terminal address) own = address == own
+
+-- a word, heard by a station that did not send it
+abbrev pub hearing : Line → Sent → Station → Station
+hearing line w s = if sends w.source s.own then s else after s (Heard line w.wave w.gap)
+
+-- words, each heard by all
+abbrev pub all_hearing : Line → List Sent → List Station → List Station
+all_hearing line [] stations = stations
+all_hearing line (w ∷ ws) stations = all_hearing line ws (map (hearing line w) stations)
+
+abbrev pub quieted : Line → Station → Station
+quieted line s = after s (Quiet line)
+
+-- the wave of a word of a reply, by its place: its status comes first
+abbrev pub reply_wave : ℕ → ℕ → ℕ
+reply_wave zero status = command_wave status
+reply_wave (suc place) value = data_wave value
+
+-- a status and its data words, as waves
+abbrev pub reply_waves : List ℕ → List ℕ
+reply_waves [] = []
+reply_waves (status ∷ values) = command_wave status ∷ map data_wave values
+
+abbrev pub offer_of : ℕ → Reply → Offer
+offer_of own r = record { source = Terminal own; gap = r.gap; waves = reply_waves r.words.items }
+
+-- what a station answers to a quiet
+abbrev pub answer : Line → Station → Option Offer
+answer line s = option_map (offer_of s.own) (reply s.own line s.history)
+
+-- the first answer to a quiet, in order of address
+abbrev pub first_reply : Line → List Station → Option Offer
+first_reply line [] = None
+first_reply line (s ∷ ss) = option_or (answer line s) (first_reply line ss)
+
+-- after a run that put a word on the line all stations get quiet, and the first to answer sends the next run
+abbrev pub quiet_after : Line → List Sent → List Station → List Station
+quiet_after line [] stations = stations
+quiet_after line (w ∷ ws) stations = map (quieted line) stations
+
+abbrev pub next_offer : Line → List Sent → List Station → Option Offer
+next_offer line [] stations = None
+next_offer line (w ∷ ws) stations = first_reply line stations
+
+abbrev pub standing_after : Line → List Sent → Standing → Standing
+standing_after line words s = record { sent = s.sent ++ words; stations = quiet_after line words (all_hearing line words s.stations) }
+
+-- the runs from one on, at most so many: each but the last puts a word on the line
+unfoldable pub runs : ℕ → Line → List Fault → ℕ → Option Offer → Standing → Standing
+runs zero line faults run offer s = s
+runs (suc left) line faults run None s = s
+runs (suc left) line faults run (Some offer) s =
+    let words = run_sent (40 - length s.sent) faults run offer in
+    runs left line faults (suc run) (next_offer line words (all_hearing line words s.stations)) (standing_after line words s)
+
+-- a bus: its start tick, its talks, the latest first, and its stations in order of address
+pub record BusState : Type 0 where
+  pub start : ℕ
+  pub talks : List Talk
+  pub stations : List Station
+
+-- when the last word on either line ended
+abbrev pub clock_of : ℕ → List Talk → ℕ
+clock_of start [] = start
+clock_of start (t ∷ ts) = end_of t
+
+-- the least gap after a talk
+abbrev pub least_after : Talk → ℕ
+least_after t = if (outcome_of t.message t.sent.items).failed || is_controllers_last t.sent.items then 180 else 40
+
+-- when the next talk starts, where this gap is asked for
+abbrev pub next_start : ℕ → List Talk → ℕ → ℕ
+next_start start [] gap = start
+next_start start (t ∷ ts) gap = end_of t + (max gap (least_after t) - 20)
+
+abbrev pub has_word : List Sent → Bool
+has_word [] = false
+has_word (w ∷ ws) = true
+
+-- when the last word on a line ended, if there was one
+abbrev pub last_on : Line → List Talk → Option ℕ
+last_on line [] = None
+last_on line (t ∷ ts) = if same_line t.line line && has_word t.sent.items then Some (end_of t) else last_on line ts
+
+-- the gap from a word's end to a word that starts at a tick
+abbrev pub gap_since : Option ℕ → ℕ → ℕ
+gap_since None tick = 65535
+gap_since (Some end) tick = min (tick + 20 - end) 65535
+
+abbrev pub controllers : Line → Form → ℕ → List Talk → Offer
+controllers line message tick talks =
+    record { source = Controller; gap = gap_since (last_on line talks) tick; waves = controller_waves message }
+
+-- what the exchange of a message comes to; forty runs do, since each but the last puts a word on the line
+unfoldable pub exchange_of : BusState → Line → Form → ℕ → List Fault → Standing
+exchange_of b line message gap faults =
+    runs 40 line faults 0 (Some (controllers line message (next_start b.start b.talks gap) b.talks)) (record { sent = []; stations = b.stations })
+
+unfoldable pub talk_of : BusState → Line → Form → ℕ → List Fault → Talk
+talk_of b line message gap faults =
+    record { start = next_start b.start b.talks gap; line = line; message = message; sent = record { items = (exchange_of b line message gap faults).sent } }
+
+unfoldable pub exchanged : BusState → Line → Form → ℕ → List Fault → BusState
+exchanged b line message gap faults =
+    record { start = b.start; talks = talk_of b line message gap faults ∷ b.talks; stations = (exchange_of b line message gap faults).stations }

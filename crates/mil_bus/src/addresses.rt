@@ -1,0 +1,51 @@
+//! The addresses of a new bus.
+ghost use Rattle.std.specs.Prelude.{◌≡◌, ◌≤◌, ◌==◌, [], IfOk};
+ghost use Rattle.std.specs.List.{list_any};
+ghost use Rattle.mil_bus.specs.Addresses.{is_fit, stations_of};
+
+use mil_terminal::Terminal;
+use std::alloc::{AllocError, Global};
+
+/// Whether an address is among those given.
+fn has(addresses: &[u8], own: u8) -> bool
+    ensures { result ≡ list_any (λ a. a == own) addresses.now }
+{
+    addresses.iter().any(|a| *a == own)
+}
+
+/// Whether each address is at most 30 and stands once.
+pub fn is_fit(addresses: &[u8]) -> bool
+    ensures { result ≡ is_fit addresses.now }
+{
+    for i in 0..addresses.len() {
+        let address = addresses[i];
+        if address > 30 || has(&addresses[i + 1..], address) {
+            return false;
+        }
+    }
+    true
+}
+
+/// A new terminal of an address, 0 to 30.
+fn terminal(alloc: Global, own: u8) -> Result<Terminal, AllocError>
+    requires { own ≤ 30 }
+    ensures { IfOk result (λ t. t ≡ record { own = own; history = [] }) }
+{
+    match Terminal::make(alloc, own) {
+        Ok(terminal) => Ok(terminal),
+        Err(_) => Err(AllocError),
+    }
+}
+
+/// New terminals of these addresses, in order of address.
+pub fn fresh(alloc: Global, addresses: &[u8]) -> Result<Vec<Terminal>, AllocError>
+    ensures { IfOk result (λ v. v.items ≡ stations_of addresses.now) }
+{
+    let mut terminals = Vec::new(alloc);
+    for own in 0..31 {
+        if has(addresses, own) {
+            terminals.push(terminal(alloc, own)?)?;
+        }
+    }
+    Ok(terminals)
+}

@@ -1,0 +1,213 @@
+//! The bus.
+ghost use Rattle.std.specs.Prelude.{◌≡◌, ◌+◌, ◌<◌, ◌≤◌, ◌^◌, ◌↔◌, ◌∷◌, [], true, false, unwrap_or, IfOk, Err};
+ghost use Rattle.std.specs.List.{list_all};
+ghost use Rattle.std.specs.Option.{is_some, option_copied};
+ghost use Rattle.mil_line.specs.Ranges.{is_in_range};
+ghost use Rattle.mil_bus.specs.Actions.{place_of, station_of, acted};
+ghost use Rattle.mil_bus.specs.Addresses.{is_fit, stations_of};
+ghost use Rattle.mil_bus.specs.Exchange.{exchanged, talk_of, next_start, clock_of, last_on, gap_since, least_after};
+
+use crate::addresses::{fresh, is_fit};
+use crate::past::{Past, no_talks, one_more, same};
+use crate::runs::{Offered, all_runs};
+use crate::{BusError, Source, Talk};
+use arrayvec::ArrayVec;
+use mil_host::Action;
+use mil_line::{Fault, Gap};
+use mil_message::Message;
+use mil_terminal::Terminal;
+use mil_word::Line;
+use std::alloc::{AllocError, Global};
+use std::marker::Model;
+use std::snapshot::Snapshot;
+
+/// Up to 31 terminals on the two lines of a bus. Contracts see the start tick, the talks so far, the latest first, and the
+/// terminals' addresses and histories, in order of address; no value holds a list of talks.
+#[derive(Drop)]
+pub struct Bus {
+    begin: u64,
+    clock: u64,
+    least: Option<u16>,
+    on_a: Option<u64>,
+    on_b: Option<u64>,
+    terminals: Vec<Terminal>,
+    past: Snapshot<Past>,
+}
+
+impl Model for Bus {
+    ghost use Rattle.mil_bus.specs.Exchange.{BusState};
+    ghost use Rattle.mil_bus.specs.KeepsTimes.{KeepsTimes};
+
+    ghost Value = { BusState };
+
+    ghost view = { λ b. record { start = b.begin; talks = b.past.value.0; stations = b.terminals.items } };
+
+    ghost invariant = { λ b. KeepsTimes b.begin b.clock b.least b.on_a b.on_b b.past.value.0 };
+}
+
+/// The least gap after a talk, in ticks.
+fn least_gap(talk: &Talk) -> u16
+    ensures value { result ≡ least_after talk.now }
+{
+    if talk.outcome().failed || talk.is_controllers_last() {
+        180
+    } else {
+        40
+    }
+}
+
+/// The gap from the end of a word to a word that starts at a tick.
+fn gap_from(end: Option<u64>, tick: u64) -> Gap
+    requires small { tick < 2 ^ 61 }
+    requires before { unwrap_or end 0 ≤ tick }
+    ensures { result ≡ gap_since end tick }
+{
+    match end {
+        None => Gap::of(65535),
+        Some(end) => Gap::of((tick + 20 - end).min(65535) as u16),
+    }
+}
+
+impl Bus {
+    /// A bus with new terminals of these addresses, whose first talk starts at a tick. Refusals: an address over 30, or one
+    /// that stands twice (B1); memory (B2).
+    pub fn make(alloc: Global, start: u64, addresses: &[u8]) -> Result<Bus, BusError>
+        ensures ok { IfOk result (λ b. b ≡ record { start = start; talks = []; stations = stations_of addresses.now }) }
+        ensures addresses { (result ≡ Err BusError.Addresses) ↔ (is_fit addresses.now ≡ false) }
+    {
+        if !is_fit(addresses) {
+            return Err(BusError::Addresses);
+        }
+        match fresh(alloc, addresses) {
+            Ok(terminals) => Ok(Bus {
+                begin: start,
+                clock: start,
+                least: None,
+                on_a: None,
+                on_b: None,
+                terminals,
+                past: no_talks(),
+            }),
+            Err(_) => Err(BusError::Memory),
+        }
+    }
+
+    /// When the last word on either line ended, in ticks; the start tick before any talk.
+    pub fn clock(&self) -> u64
+        ensures { result ≡ clock_of self.now.start self.now.talks }
+    {
+        self.clock
+    }
+
+    /// When the next talk starts.
+    fn next_start(&self, gap: Gap) -> u64
+        requires { clock_of self.now.start self.now.talks < 2 ^ 60 }
+        ensures value { result ≡ next_start self.now.start self.now.talks gap }
+        ensures small { result < 2 ^ 61 }
+        ensures soon { result ≤ clock_of self.now.start self.now.talks + 2 ^ 17 }
+        ensures after { clock_of self.now.start self.now.talks ≤ result }
+    {
+        match self.least {
+            None => self.begin,
+            Some(least) => self.clock + u64::from(gap.ticks().max(least)).saturating_sub(20),
+        }
+    }
+
+    /// The gap from the last word on a line.
+    fn gap_on(&self, line: Line, tick: u64) -> Gap
+        requires small { tick < 2 ^ 61 }
+        requires after { clock_of self.now.start self.now.talks ≤ tick }
+        ensures { result ≡ gap_since (last_on line self.now.talks) tick }
+    {
+        match line {
+            Line::A => gap_from(self.on_a, tick),
+            Line::B => gap_from(self.on_b, tick),
+        }
+    }
+
+    /// Keeps what the next exchange needs of a talk.
+    fn note(&mut self, talk: &Talk)
+        requires small { talk.now.start < 2 ^ 61 }
+        requires after { clock_of self.old.start self.old.talks ≤ talk.now.start }
+        ensures soon { clock_of self.new.start self.new.talks ≤ talk.now.start + 2 ^ 23 }
+        ensures value { self.new ≡ record { start = self.old.start; talks = talk.now ∷ self.old.talks; stations = self.old.stations } }
+    {
+        let end = talk.end();
+        self.clock = end;
+        self.least = Some(least_gap(talk));
+        if !talk.sent.is_empty() {
+            match talk.line {
+                Line::A => self.on_a = Some(end),
+                Line::B => self.on_b = Some(end),
+            }
+        }
+        self.past = one_more(talk, &self.past);
+    }
+
+    /// The exchange of one message on a line, at a gap of ticks from the last word on either line, which is raised to 180
+    /// where the talk before failed or its last word was the controller's, and to 40 otherwise. It takes no memory.
+    ///
+    /// The faults are those planned for the message, at most four, in the order of the plan.
+    pub fn exchange(&mut self, line: Line, message: &Message, gap: Gap, faults: &[Fault]) -> Talk
+        requires clock { clock_of self.old.start self.old.talks < 2 ^ 60 }
+        requires in_range { list_all is_in_range faults.now ≡ true }
+        ensures bus { self.new ≡ exchanged self.old line message.now gap faults.now }
+        ensures talk { result ≡ talk_of self.old line message.now gap faults.now }
+        ensures soon { clock_of self.new.start self.new.talks ≤ clock_of self.old.start self.old.talks + 2 ^ 24 }
+    {
+        let start = self.next_start(gap);
+        let first = Offered {
+            source: Source::Controller,
+            gap: self.gap_on(line, start),
+            waves: message.controller_waves(),
+        };
+        let mut sent = ArrayVec::new();
+        all_runs(&mut self.terminals, &mut sent, line, faults, first);
+        let talk = Talk {
+            start,
+            line,
+            message: message.copy(),
+            sent,
+        };
+        self.note(&talk);
+        talk
+    }
+
+    /// Where the terminal with this address stands.
+    fn place(&self, address: u8) -> Option<usize>
+        ensures { result ≡ place_of address self.now.stations }
+    {
+        for i in 0..self.terminals.len() {
+            let terminal = &self.terminals[i];
+            if terminal.address() == address {
+                return Some(i);
+            }
+        }
+        None
+    }
+
+    /// An action of a terminal's host; false, and nothing done, where there is no such terminal.
+    pub fn act(&mut self, address: u8, action: &Action) -> bool
+        ensures bus { self.new ≡ acted self.old address action.now }
+        ensures found { result ≡ is_some (place_of address self.old.stations) }
+    {
+        match self.place(address) {
+            None => false,
+            Some(place) => {
+                let terminal = &mut self.terminals[place];
+                terminal.act(action);
+                true
+            }
+        }
+    }
+
+    /// The terminal with this address.
+    pub fn terminal(&self, address: u8) -> Option<&Terminal>
+        ensures { option_copied result ≡ station_of address self.now.stations }
+    {
+        match self.place(address) {
+            None => None,
+            Some(place) => Some(&self.terminals[place]),
+        }
+    }
+}
