@@ -33,4 +33,4 @@ runs-enough zero line faults run (Some o) sent stations h =
 runs-enough (suc left) line faults run (Some o) sent stations h =
     let words = run_sent (40 - length sent) faults run o in
     one_more_turn line faults run left words sent stations
-      (λ w ws e. runs-enough left line faults (suc run) (next_offer line words (all_hearing line words stations)) (sent ++ words) (quiet_after line words (all_hearing line words stations)) (omega (arith, length-append sent words, ap (λ (l : List Sent). length l) e)))
+    (λ w ws e. runs-enough left line faults (suc run) (next_offer line words (all_hearing line words stations)) (sent ++ words) (quiet_after line words (all_hearing line words stations)) (omega (arith, length-append sent words, ap (λ (l : List Sent). length l) e)))

@@ -8,6 +8,7 @@ ghost use Rattle.mil_bus.specs.Addresses.{is_fit, stations_of};
 ghost use Rattle.mil_bus.specs.Exchange.{exchanged, talk_of, next_start, clock_of, last_on, gap_since, least_after};
 
 use crate::addresses::{fresh, is_fit};
+use crate::copies::copied;
 use crate::past::{Past, no_talks, one_more, same};
 use crate::runs::{Offered, all_runs};
 use crate::{BusError, Source, Talk};
@@ -209,5 +210,21 @@ impl Bus {
             None => None,
             Some(place) => Some(&self.terminals[place]),
         }
+    }
+
+    /// The same bus, with room of its own, which fails for want of memory alone.
+    pub fn copy(&self) -> Result<Bus, AllocError>
+        ensures { IfOk result (λ b. b ≡ self.now) }
+    {
+        let terminals = copied(*self.terminals.allocator(), self.terminals.as_slice())?;
+        Ok(Bus {
+            begin: self.begin,
+            clock: self.clock,
+            least: self.least,
+            on_a: self.on_a,
+            on_b: self.on_b,
+            terminals,
+            past: same(&self.past),
+        })
     }
 }

@@ -3,6 +3,7 @@
 
 mod addresses;
 pub mod buses;
+mod copies;
 pub mod counts;
 pub mod error;
 pub mod outcomes;

@@ -146,17 +146,11 @@ fn run_once(
     offer: &Offered,
 ) -> Option<Offered>
     requires in_range { list_all is_in_range faults.now ≡ true }
-    ensures sent {
-        sent.new.items ≡ sent.old.items ++ run_sent (40 - length sent.old.items) faults.now run (offered offer.now)
-    }
-    ensures stations {
-        let words = run_sent (40 - length sent.old.items) faults.now run (offered offer.now) in
-        terminals.new.items ≡ quiet_after line words (all_hearing line words terminals.old.items)
-    }
-    ensures next {
-        let words = run_sent (40 - length sent.old.items) faults.now run (offered offer.now) in
-        option_map offered result ≡ next_offer line words (all_hearing line words terminals.old.items)
-    }
+    ensures sent { sent.new.items ≡ sent.old.items ++ run_sent (40 - length sent.old.items) faults.now run (offered offer.now) }
+    ensures stations { let words = run_sent (40 - length sent.old.items) faults.now run (offered offer.now) in
+        terminals.new.items ≡ quiet_after line words (all_hearing line words terminals.old.items) }
+    ensures next { let words = run_sent (40 - length sent.old.items) faults.now run (offered offer.now) in
+        option_map offered result ≡ next_offer line words (all_hearing line words terminals.old.items) }
 {
     let before = sent.len();
     let waves = altered(faults, u32::from(run), offer.waves.as_slice(), 40 - before);
@@ -180,10 +174,8 @@ fn turn(
     next: Option<Offered>,
 ) -> Option<Offered>
     requires in_range { list_all is_in_range faults.now ≡ true }
-    ensures {
-        (left : ℕ) → runs left line faults.now (run + 1) (option_map offered result) (record { sent = sent.new.items; stations = terminals.new.items })
-        ≡ runs (left + 1) line faults.now run (option_map offered next) (record { sent = sent.old.items; stations = terminals.old.items })
-    }
+    ensures { (left : ℕ) → runs left line faults.now (run + 1) (option_map offered result) (record { sent = sent.new.items; stations = terminals.new.items })
+        ≡ runs (left + 1) line faults.now run (option_map offered next) (record { sent = sent.old.items; stations = terminals.old.items }) }
 {
     match next {
         None => None,
@@ -192,12 +184,16 @@ fn turn(
 }
 
 /// All runs of an exchange.
-pub fn all_runs(terminals: &mut Vec<Terminal>, sent: &mut ArrayVec<Sent, 40>, line: Line, faults: &[Fault], first: Offered)
+pub fn all_runs(
+    terminals: &mut Vec<Terminal>,
+    sent: &mut ArrayVec<Sent, 40>,
+    line: Line,
+    faults: &[Fault],
+    first: Offered,
+)
     requires in_range { list_all is_in_range faults.now ≡ true }
-    ensures {
-        record { sent = sent.new.items; stations = terminals.new.items }
-        ≡ runs 40 line faults.now 0 (Some (offered first)) (record { sent = sent.old.items; stations = terminals.old.items })
-    }
+    ensures { record { sent = sent.new.items; stations = terminals.new.items }
+        ≡ runs 40 line faults.now 0 (Some (offered first)) (record { sent = sent.old.items; stations = terminals.old.items }) }
 {
     let mut next = Some(first);
     for run in 0..40 {

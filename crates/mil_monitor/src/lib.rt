@@ -1,6 +1,10 @@
 //! What a bus monitor keeps of a message: one record for each message on the bus.
 #![tactic(auto)]
 
+pub mod observations;
+
+pub use observations::observe;
+
 use arrayvec::ArrayVec;
 
 /// A recorded message (IRIG 106-17 Chapter 11, MIL-STD-1553 bus data packets, Format 1).
@@ -18,3 +22,6 @@ pub struct Record {
     /// The 16 information bits of each word, in the order on the bus; at most forty are recorded.
     pub words: ArrayVec<u16, 40>,
 }
+
+#[cfg(test)]
+mod tests;

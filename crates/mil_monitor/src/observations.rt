@@ -1,0 +1,37 @@
+//! The record of a finished talk.
+ghost use Rattle.std.specs.Prelude.{◌≡◌, ◌<◌};
+ghost use Rattle.mil_monitor.specs.Observed.{observed, gap_half};
+
+use crate::Record;
+use arrayvec::ArrayVec;
+use mil_bus::{Came, Talk};
+use mil_word::raw_bits;
+
+/// The gap of a reply as a record has it, in ticks: 0 where it did not come, 255 where it is more.
+fn gap_half(came: Option<Came>) -> u16
+    ensures value { result ≡ gap_half came }
+    ensures small { result < 256 }
+{
+    match came {
+        None => 0,
+        Some(came) => came.gap.ticks().min(255),
+    }
+}
+
+/// The record that a bus monitor keeps of a talk. It takes no memory.
+pub fn observe(talk: &Talk) -> Record
+    ensures { result ≡ observed talk.now }
+{
+    let sent = talk.sent.as_slice();
+    let seen = talk.seen();
+    let mut words = ArrayVec::new();
+    for word in sent {
+        words.push(raw_bits(word.wave));
+    }
+    Record {
+        stamp: talk.start,
+        block: talk.block(&seen),
+        gaps: gap_half(seen.two) * 256 + gap_half(seen.one),
+        words,
+    }
+}
