@@ -1,5 +1,5 @@
 //! The addresses of a new bus.
-ghost use Rattle.std.specs.Prelude.{◌≡◌, ◌≤◌, ◌==◌, [], IfOk};
+ghost use Rattle.std.specs.Prelude.{◌≡◌, ◌≤◌, ◌==◌, ◌++◌, ◌∷◌, [], if◌then◌else◌, IfOk, OnOk};
 ghost use Rattle.std.specs.List.{list_any};
 ghost use Rattle.mil_bus.specs.Addresses.{is_fit, stations_of};
 
@@ -37,15 +37,27 @@ fn terminal(alloc: Global, own: u8) -> Result<Terminal, AllocError>
     }
 }
 
+/// Puts a new terminal of an address behind the others, where it is wanted.
+fn add(alloc: Global, terminals: &mut Vec<Terminal>, own: u8, wanted: bool) -> Result<(), AllocError>
+    requires { own ≤ 30 }
+    ensures {
+        OnOk result (terminals.new.items ≡ terminals.old.items ++ (if wanted then record { own = own; history = [] } ∷ [] else []))
+    }
+{
+    if wanted {
+        terminals.push(terminal(alloc, own)?)?;
+    }
+    Ok(())
+}
+
 /// New terminals of these addresses, in order of address.
 pub fn fresh(alloc: Global, addresses: &[u8]) -> Result<Vec<Terminal>, AllocError>
     ensures { IfOk result (λ v. v.items ≡ stations_of addresses.now) }
 {
     let mut terminals = Vec::new(alloc);
     for own in 0..31 {
-        if has(addresses, own) {
-            terminals.push(terminal(alloc, own)?)?;
-        }
+        let wanted = has(addresses, own);
+        add(alloc, &mut terminals, own, wanted)?;
     }
     Ok(terminals)
 }
