@@ -38,11 +38,14 @@ fn terminal(alloc: Global, own: u8) -> Result<Terminal, AllocError>
 }
 
 /// Puts a new terminal of an address behind the others, where it is wanted.
-fn add(alloc: Global, terminals: &mut Vec<Terminal>, own: u8, wanted: bool) -> Result<(), AllocError>
+fn add(
+    alloc: Global,
+    terminals: &mut Vec<Terminal>,
+    own: u8,
+    wanted: bool,
+) -> Result<(), AllocError>
     requires { own ≤ 30 }
-    ensures {
-        OnOk result (terminals.new.items ≡ terminals.old.items ++ (if wanted then record { own = own; history = [] } ∷ [] else []))
-    }
+    ensures { OnOk result (terminals.new.items ≡ terminals.old.items ++ (if wanted then record { own = own; history = [] } ∷ [] else [])) }
 {
     if wanted {
         terminals.push(terminal(alloc, own)?)?;

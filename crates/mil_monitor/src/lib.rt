@@ -3,9 +3,8 @@
 
 pub mod observations;
 
-pub use observations::observe;
-
 use arrayvec::ArrayVec;
+pub use observations::observe;
 
 /// A recorded message (IRIG 106-17 Chapter 11, MIL-STD-1553 bus data packets, Format 1).
 #[derive(Debug, Drop, PartialEq, Eq)]

@@ -37,7 +37,9 @@ impl Setting {
         self.number = self.number.saturating_add(1);
         let faults = self.plan.faults(self.number);
         assert!(rt; self.bus.clock() < 1 << 60);
-        let talk = self.bus.exchange(line, &message, Gap::of(40), faults.as_slice());
+        let talk = self
+            .bus
+            .exchange(line, &message, Gap::of(40), faults.as_slice());
         observe(&talk)
     }
 
@@ -91,7 +93,10 @@ fn shows(rt: &HostRuntime, record: &Record, block: u16, gaps: u16, expected: &[u
 fn transmit_of_32_words(rt: HostRuntime) {
     let mut alone = setting(&rt, &[5]);
     let record = alone.send(&rt, Line::A, transmit(2, 32));
-    assert_eq!(rt; (record.stamp, record.block, record.gaps), (0, 0x0000, 0x0050));
+    assert_eq!(rt;
+        (record.stamp, record.block, record.gaps),
+        (0, 0x0000, 0x0050)
+    );
     assert_eq!(rt; record.words.len(), 34);
     for (i, word) in record.words.as_slice().iter().enumerate() {
         let expected = match i {
@@ -130,13 +135,35 @@ fn terminal_to_terminal(rt: HostRuntime) {
     shows(&rt, &two.send(&rt, Line::A, between()), 0x0800, 0x5050, six);
 
     let mut late = two_terminals(&rt);
-    assert_eq!(rt; late.plan.add(1, Fault::Late { run: 1, ticks: 170 }), Ok(()));
-    shows(&rt, &late.send(&rt, Line::A, between()), 0x1A00, 0x50AA, six);
+    assert_eq!(rt;
+        late.plan.add(1, Fault::Late { run: 1, ticks: 170 }),
+        Ok(())
+    );
+    shows(
+        &rt,
+        &late.send(&rt, Line::A, between()),
+        0x1A00,
+        0x50AA,
+        six,
+    );
 
     let mut too_late = two_terminals(&rt);
-    assert_eq!(rt; too_late.plan.add(1, Fault::Late { run: 1, ticks: 171 }), Ok(()));
-    shows(&rt, &too_late.send(&rt, Line::A, between()), 0x1A00, 0x00AB, &[0x1882, 0x3C22, 0x3800, 0xAAAA, 0x5555]);
-    words(&rt, &too_late.send(&rt, Line::A, mode_of(3, 2)), &[0x1FE2, 0x1C00]);
+    assert_eq!(rt;
+        too_late.plan.add(1, Fault::Late { run: 1, ticks: 171 }),
+        Ok(())
+    );
+    shows(
+        &rt,
+        &too_late.send(&rt, Line::A, between()),
+        0x1A00,
+        0x00AB,
+        &[0x1882, 0x3C22, 0x3800, 0xAAAA, 0x5555],
+    );
+    words(
+        &rt,
+        &too_late.send(&rt, Line::A, mode_of(3, 2)),
+        &[0x1FE2, 0x1C00],
+    );
 }
 
 #[test]
@@ -158,12 +185,38 @@ fn added_masked_and_missing_words(rt: HostRuntime) {
         sync: Sync::DataSync,
         value: 4,
     };
-    let mut added = with_fault(&rt, Fault::Add { run: 0, index: 3, word });
-    shows(&rt, &added.send(&rt, Line::A, receive(&[1, 2, 3])), 0x1220, 0x0000, &[0x2823, 1, 2, 3, 4]);
+    let mut added = with_fault(
+        &rt,
+        Fault::Add {
+            run: 0,
+            index: 3,
+            word,
+        },
+    );
+    shows(
+        &rt,
+        &added.send(&rt, Line::A, receive(&[1, 2, 3])),
+        0x1220,
+        0x0000,
+        &[0x2823, 1, 2, 3, 4],
+    );
 
     let half_bits = Wave::of(4);
-    let mut masked = with_fault(&rt, Fault::Mask { run: 0, index: 1, half_bits });
-    shows(&rt, &masked.send(&rt, Line::A, receive(&[1, 2, 3])), 0x1208, 0x0000, &[0x2823, 1, 2, 3]);
+    let mut masked = with_fault(
+        &rt,
+        Fault::Mask {
+            run: 0,
+            index: 1,
+            half_bits,
+        },
+    );
+    shows(
+        &rt,
+        &masked.send(&rt, Line::A, receive(&[1, 2, 3])),
+        0x1208,
+        0x0000,
+        &[0x2823, 1, 2, 3],
+    );
 
     let mut missing = with_fault(&rt, Fault::Drop { run: 0, index: 0 });
     let none = missing.send(&rt, Line::A, mode(1));
@@ -177,7 +230,13 @@ fn added_masked_and_missing_words(rt: HostRuntime) {
 #[test]
 fn muted_reply(rt: HostRuntime) {
     let mut muted = with_fault(&rt, Fault::Mute { run: 1 });
-    shows(&rt, &muted.send(&rt, Line::A, mode(1)), 0x1200, 0x0000, &[0x2FE1]);
+    shows(
+        &rt,
+        &muted.send(&rt, Line::A, mode(1)),
+        0x1200,
+        0x0000,
+        &[0x2FE1],
+    );
 }
 
 #[test]
@@ -188,7 +247,13 @@ fn broadcast_and_questions(rt: HostRuntime) {
         code: 1,
         words: None,
     };
-    shows(&rt, &alone.send(&rt, Line::A, to_all), 0x0000, 0x0000, &[0xFFE1]);
+    shows(
+        &rt,
+        &alone.send(&rt, Line::A, to_all),
+        0x0000,
+        0x0000,
+        &[0xFFE1],
+    );
     words(&rt, &alone.send(&rt, Line::A, mode(2)), &[0x2FE2, 0x2810]);
     words(&rt, &alone.send(&rt, Line::A, mode(2)), &[0x2FE2, 0x2810]);
     words(&rt, &alone.send(&rt, Line::A, mode(1)), &[0x2FE1, 0x2800]);
@@ -198,11 +263,23 @@ fn broadcast_and_questions(rt: HostRuntime) {
 fn shutdown_of_the_other_line(rt: HostRuntime) {
     let mut alone = setting(&rt, &[5]);
     words(&rt, &alone.send(&rt, Line::A, mode(4)), &[0x2FE4, 0x2800]);
-    shows(&rt, &alone.send(&rt, Line::B, receive(&[1])), 0x3200, 0x0000, &[0x2821, 0x0001]);
+    shows(
+        &rt,
+        &alone.send(&rt, Line::B, receive(&[1])),
+        0x3200,
+        0x0000,
+        &[0x2821, 0x0001],
+    );
     let terminal = alone.bus.terminal(5).expect(&rt, "terminal 5");
     assert_eq!(rt; terminal.received(1), &[0x0001]);
     words(&rt, &alone.send(&rt, Line::A, mode(5)), &[0x2FE5, 0x2800]);
-    shows(&rt, &alone.send(&rt, Line::B, receive(&[1])), 0x2000, 0x0050, &[0x2821, 0x0001, 0x2800]);
+    shows(
+        &rt,
+        &alone.send(&rt, Line::B, receive(&[1])),
+        0x2000,
+        0x0050,
+        &[0x2821, 0x0001, 0x2800],
+    );
 }
 
 #[test]
@@ -225,8 +302,20 @@ fn busy_terminal(rt: HostRuntime) {
         code: 18,
         words: None,
     };
-    shows(&rt, &alone.send(&rt, Line::A, transmit(2, 1)), 0x0000, 0x0050, &[0x2C41, 0x2808]);
-    shows(&rt, &alone.send(&rt, Line::A, last_command), 0x0000, 0x0050, &[0x2FF2, 0x2808, 0x2C41]);
+    shows(
+        &rt,
+        &alone.send(&rt, Line::A, transmit(2, 1)),
+        0x0000,
+        0x0050,
+        &[0x2C41, 0x2808],
+    );
+    shows(
+        &rt,
+        &alone.send(&rt, Line::A, last_command),
+        0x0000,
+        0x0050,
+        &[0x2FF2, 0x2808, 0x2C41],
+    );
 }
 
 #[test]
@@ -237,8 +326,16 @@ fn wrap_around_and_broadcast_data(rt: HostRuntime) {
         subaddress: 30,
         words: &[0xBEEF, 0xCAFE],
     };
-    words(&rt, &alone.send(&rt, Line::A, wrap), &[0x2BC2, 0xBEEF, 0xCAFE, 0x2800]);
-    words(&rt, &alone.send(&rt, Line::A, transmit(30, 2)), &[0x2FC2, 0x2800, 0xBEEF, 0xCAFE]);
+    words(
+        &rt,
+        &alone.send(&rt, Line::A, wrap),
+        &[0x2BC2, 0xBEEF, 0xCAFE, 0x2800],
+    );
+    words(
+        &rt,
+        &alone.send(&rt, Line::A, transmit(30, 2)),
+        &[0x2FC2, 0x2800, 0xBEEF, 0xCAFE],
+    );
     let to_all = Draft::ToAll {
         subaddress: 1,
         words: &[0x00AA],
@@ -258,7 +355,11 @@ fn illegal_commands(rt: HostRuntime) {
         subaddress: 3,
         words: &[1, 2, 3, 4],
     };
-    words(&rt, &alone.send(&rt, Line::A, marked), &[0x2864, 1, 2, 3, 4, 0x2C00]);
+    words(
+        &rt,
+        &alone.send(&rt, Line::A, marked),
+        &[0x2864, 1, 2, 3, 4, 0x2C00],
+    );
     let terminal = alone.bus.terminal(5).expect(&rt, "terminal 5");
     assert_eq!(rt; terminal.received(3).len(), 0);
 
@@ -269,7 +370,13 @@ fn illegal_commands(rt: HostRuntime) {
         words: Some(&[0x0000]),
     };
     let mut other = setting(&rt, &[5]);
-    shows(&rt, &other.send(&rt, Line::A, selected), 0x0000, 0x0050, &[0x2BF4, 0x0000, 0x2C00]);
+    shows(
+        &rt,
+        &other.send(&rt, Line::A, selected),
+        0x0000,
+        0x0050,
+        &[0x2BF4, 0x0000, 0x2C00],
+    );
 }
 
 #[test]
@@ -284,6 +391,9 @@ fn addresses_and_a_fifth_fault(rt: HostRuntime) {
     for _ in 0..4 {
         assert_eq!(rt; alone.plan.add(1, Fault::Drop { run: 0, index: 0 }), Ok(()));
     }
-    assert_eq!(rt; alone.plan.add(1, Fault::Drop { run: 0, index: 0 }), Err(LineError::TooMany));
+    assert_eq!(rt;
+        alone.plan.add(1, Fault::Drop { run: 0, index: 0 }),
+        Err(LineError::TooMany)
+    );
     assert!(rt; !alone.bus.act(6, &Action::Busy(true)));
 }
