@@ -103,10 +103,13 @@ goes_on got mid gets waits put then place ps e a g line on = record {
   where
     packet : List ℕ
     packet = packet_line e.offset e.header e.count
+
     messages : List ℕ
     messages = message_lines e.before e.header.channel a.packet.messages
+
     before : e.before ≡ total_in (take place ps)
     before = omega (arith, a.before)
+
     here : packet_line e.offset e.header e.count ++ (message_lines e.before e.header.channel a.packet.messages ++ packet_lines (total_in (take (place + 1) ps)) (drop (place + 1) ps)) ≡ packet_lines (total_in (take place ps)) (drop place ps)
     here = rw (add-one, a.split, a.next, a.offset, a.header, a.count, before) refl
 

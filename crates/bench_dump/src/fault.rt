@@ -4,8 +4,7 @@ ghost use Rattle.bench_dump.specs.declared.fault.DumpFault.TheVariants.{Device, 
 
 use ch11_reader::Refusal;
 use std::alloc::AllocError;
-use std::fmt;
-use std::io;
+use std::{fmt, io};
 
 /// Why a dump failed.
 #[derive(Clone, Copy, Debug, PartialEq, Eq)]

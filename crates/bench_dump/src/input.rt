@@ -15,7 +15,11 @@ const READS: u32 = 1_000_000;
 
 /// One read: appends what it gave, and answers whether there may be more. Nothing is given by a read that
 /// was interrupted.
-fn read_piece<R: Read>(input: &mut R, piece: &mut [u8], bytes: &mut Vec<u8>) -> Result<bool, DumpFault>
+fn read_piece<R: Read>(
+    input: &mut R,
+    piece: &mut [u8],
+    bytes: &mut Vec<u8>,
+) -> Result<bool, DumpFault>
     requires { 0 < length piece.old }
     ensures { IfOk result (IsRead (R.remaining input.old) (R.remaining input.new) bytes.old.items bytes.new.items) }
 {

@@ -81,7 +81,12 @@ fn put_words(text: &mut Vec<u8>, words: &[u8]) -> Result<(), AllocError>
 
 /// Appends the line of a message.
 #[tactic(auto, unfolding(crate::specs::DumpText::message_line))]
-pub(crate) fn put_message_line(text: &mut Vec<u8>, number: u64, channel: u16, seen: &Seen<'_>) -> Result<(), AllocError>
+pub(crate) fn put_message_line(
+    text: &mut Vec<u8>,
+    number: u64,
+    channel: u16,
+    seen: &Seen<'_>,
+) -> Result<(), AllocError>
     ensures { OnOk result (text.new.items ≡ text.old.items ++ message_line number channel (message_of seen.now)) }
 {
     put_number(text, b"message ", number)?;

@@ -30,7 +30,13 @@ fn hand_on<W: Write>(text: &mut Vec<u8>, out: &mut W) -> Result<(), DumpFault>
 }
 
 /// The lines of a packet's messages, behind so many messages of the file.
-fn dump_messages<W: Write>(text: &mut Vec<u8>, out: &mut W, before: u64, channel: u16, messages: Messages<'_>) -> Result<(), DumpFault>
+fn dump_messages<W: Write>(
+    text: &mut Vec<u8>,
+    out: &mut W,
+    before: u64,
+    channel: u16,
+    messages: Messages<'_>,
+) -> Result<(), DumpFault>
     requires { before + length messages < 2 ^ 64 }
     ensures printed { OnOk result (Carries (W.contents out.old) text.old.items (W.contents out.new) text.new.items (message_lines before channel messages.entry)) }
     ensures failed { IfErr result IsOther }
@@ -70,7 +76,13 @@ fn dump_index<W: Write>(alloc: Global, index: &Index<'_>, out: &mut W) -> Result
     'packets: for place in 0..packets.len() {
         let packet = &packets[place];
         put_packet_line(&mut text, packet)?;
-        dump_messages(&mut text, out, packet.before, packet.header.channel, index.messages_in(place))?;
+        dump_messages(
+            &mut text,
+            out,
+            packet.before,
+            packet.header.channel,
+            index.messages_in(place),
+        )?;
     }
     out.write_all(&text)?;
     out.flush()?;

@@ -54,6 +54,9 @@ fn reads_a_file_whole(rt: HostRuntime) -> Result<(), Fail> {
     let mut input = FOREIGN.as_slice();
     let bytes = read_all(rt.alloc(), &mut input).ok().ok_or("fault")?;
     assert_eq!(rt; bytes.as_slice(), FOREIGN.as_slice());
-    assert_eq!(rt; read_all(rt.alloc(), &mut Endless).err(), Some(DumpFault::Device));
+    assert_eq!(rt;
+        read_all(rt.alloc(), &mut Endless).err(),
+        Some(DumpFault::Device)
+    );
     Ok(())
 }

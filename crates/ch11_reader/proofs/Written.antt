@@ -28,7 +28,7 @@ no_flag h low = lt-leb 128 h.flags low
 body_again : (h : Header) (rs : List Record) (filler rest : List ℕ) → IsWritten h rs filler → body_of h (written_bytes h rs filler ++ rest) ≡ body_bytes rs
 body_again h rs filler rest w =
     rw (no_flag h w.no_secondary, regroup (header_bytes h) (body_bytes rs) filler rest, behind_header h (body_bytes rs ++ (filler ++ rest)), w.body_length)
-        (take_at (body_bytes rs) (filler ++ rest) (length (body_bytes rs)) refl)
+    (take_at (body_bytes rs) (filler ++ rest) (length (body_bytes rs)) refl)
 
 pub messages_again : (h : Header) (rs : List Record) (filler rest : List ℕ) → messages_in (body_bytes rs ++ []) ≡ Ok (map as_message rs) → IsWritten h rs filler → messages_in (body_of h (written_bytes h rs filler ++ rest)) ≡ Ok (map as_message rs)
 messages_again h rs filler rest read w = ap messages_in (body_again h rs filler rest w ∙ sym (append-nil (body_bytes rs))) ∙ read

@@ -6,4 +6,4 @@ pub returns : goal.returns
 unfolding message_line
 returns c =
     rw (c.in_ok-extend_from_slice-2.ensures.items, c.in_ok-put_words.ensures, c.in_ok-extend_from_slice.ensures.items, c.in_ok-put_word-2.ensures, c.in_ok-put_word.ensures, c.in_ok-put_number-3.ensures, c.in_ok-put_number-2.ensures, c.in_ok-put_number.ensures)
-        (simp append_assoc)
+    (simp append_assoc)
