@@ -13,9 +13,9 @@ const LOOPS: [u8; 62] = [
     0, 0, 0x21, 0x48, 0, 0, 1, 0, 1, 0, // the message
 ];
 
-// Why the image with these bytes is not loaded.
+// Why the image with these bytes is not loaded; None where they are no image.
 fn refusal(rt: &HostRuntime, bytes: &[u8]) -> Option<LoadError> {
-    let image = read_image(rt.alloc(), bytes).expect(rt, "the image");
+    let image = read_image(rt.alloc(), bytes).ok()?;
     load(rt.alloc(), image).err()
 }
 
