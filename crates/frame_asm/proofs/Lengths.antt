@@ -35,4 +35,3 @@ length_messages_of (repeat n b) = length_messages_of b
 length_messages_of (choose c a b) = omega (arith, length-append (messages_of a) (messages_of b), length_messages_of a, length_messages_of b)
 length_messages_of nothing = refl
 length_messages_of (first a b) = omega (arith, length-append (messages_of a) (messages_of b), length_messages_of a, length_messages_of b)
-

@@ -115,15 +115,28 @@ module _ (os : List Op) (n : ℕ) where
       let e7 : open_at os (p + 1 + 1 + 1 + 1 + 1 + 1 + 1) ≡ (p + 1) ∷ st = next os (p + 1 + 1 + 1 + 1 + 1 + 1) (op.Leave (p + 8)) h.1.1.1.1.1.1.0 ∙ e6 in
       let six : p + 6 ≡ p + 1 + 1 + 1 + 1 + 1 + 1 = omega arith in
       let seven : p + 7 ≡ p + 1 + 1 + 1 + 1 + 1 + 1 + 1 = omega arith in
-      let deep : (st' : List ℕ) → st' ≡ (p + 1) ∷ st → 0 < length st' = λ st' e. omega (arith, ap length e) in
-      (record { paired = tt; goes = tt; has = entry },
-      (record { paired = omega (arith, ap length e1); goes = tt; has = tt },
-      (test (p + 1 + 1) 0,
-      (jump_false (p + 1 + 1 + 1) (p + 6) (omega arith) (omega arith) (ap (open_at os) six ∙ e6 ∙ sym e3),
-      (record { paired = tt; goes = tt; has = entry },
-      (jump (p + 1 + 1 + 1 + 1 + 1) (p + 7) (omega arith) (omega arith) (ap (open_at os) seven ∙ e7 ∙ sym e5),
-      (record { paired = deep _ e6; goes = (p + 1 + 1 + 1 + 1 + 1 + 1 + 1, p + 2, omega arith, h.1.1.1.1.1.1.1.0, e7 ∙ sym e6); has = tt },
-      (record { paired = deep _ e7; goes = (p + 1, st, e7, omega arith); has = tt }, tt))))))))
+      let deep : (st' : List ℕ) → st' ≡ (p + 1) ∷ st → 0 < length st' = λ st' e. omega (arith, ap length e) in (
+        record { paired = tt; goes = tt; has = entry },
+        (
+          record { paired = omega (arith, ap length e1); goes = tt; has = tt },
+          (
+            test (p + 1 + 1) 0,
+            (
+              jump_false (p + 1 + 1 + 1) (p + 6) (omega arith) (omega arith) (ap (open_at os) six ∙ e6 ∙ sym e3),
+              (
+                record { paired = tt; goes = tt; has = entry },
+                (
+                  jump (p + 1 + 1 + 1 + 1 + 1) (p + 7) (omega arith) (omega arith) (ap (open_at os) seven ∙ e7 ∙ sym e5),
+                  (
+                    record { paired = deep _ e6; goes = (p + 1 + 1 + 1 + 1 + 1 + 1 + 1, p + 2, omega arith, h.1.1.1.1.1.1.1.0, e7 ∙ sym e6); has = tt },
+                    (record { paired = deep _ e7; goes = (p + 1, st, e7, omega arith); has = tt }, tt),
+                  ),
+                ),
+              ),
+            ),
+          ),
+        ),
+      )
 
   good_shape : (t : Tree) (p m : ℕ) → HasAt os p (shape p m t) → length (open_at os p) + loops_in t ≤ 17 → p + size t < length os → m + entries t ≤ n → AreGood os n p (shape p m t)
   good_shape (send l x) p m h room inside table = (record { paired = tt; goes = tt; has = omega arith }, tt)
@@ -135,11 +148,12 @@ module _ (os : List Op) (n : ℕ) where
       let q = p + 1 + size b in
       let hb = has_front os (p + 1) body end h.1 in
       let e1 : open_at os (p + 1) ≡ p ∷ open_at os p = next os p (op.Loop k) h.0 in
-      let e2 : open_at os q ≡ p ∷ open_at os p = level os (p + 1) m b hb ∙ e1 in
-      (record { paired = omega arith; goes = tt; has = tt },
-      good_both (p + 1) q body end (omega (arith, length_shape b (p + 1) m))
-      (good_shape b (p + 1) m hb (omega (arith, ap length e1)) (omega arith) table)
-      (record { paired = omega (arith, ap length e2); goes = (p, open_at os p, e2, omega arith); has = tt }, tt))
+      let e2 : open_at os q ≡ p ∷ open_at os p = level os (p + 1) m b hb ∙ e1 in (
+        record { paired = omega arith; goes = tt; has = tt },
+        good_both (p + 1) q body end (omega (arith, length_shape b (p + 1) m))
+            (good_shape b (p + 1) m hb (omega (arith, ap length e1)) (omega arith) table)
+            (record { paired = omega (arith, ap length e2); goes = (p, open_at os p, e2, omega arith); has = tt }, tt),
+      )
   good_shape (choose c a b) p m h room inside table =
       let t = p + branch_size c in
       let f = t + size a + 1 in
@@ -156,8 +170,8 @@ module _ (os : List Op) (n : ℕ) where
       good_both p t (branch p c t f) (shape t m a ++ last) (omega (arith, length_branch c p t f))
       (good_branch c p t f hc (record { behind = omega arith; inside = omega arith; same = et }) (record { behind = omega arith; inside = omega arith; same = all }))
       (good_both t (t + size a) (shape t m a) last (omega (arith, length_shape a t m))
-        (good_shape a t m ha (omega (arith, ap length et)) (omega arith) (omega arith))
-        (jump (t + size a) (f + size b) (omega arith) (omega arith) (eb ∙ ef), good_shape b f (m + entries a) h2.1 (omega (arith, ap length all)) (omega arith) (omega arith)))
+      (good_shape a t m ha (omega (arith, ap length et)) (omega arith) (omega arith))
+      (jump (t + size a) (f + size b) (omega arith) (omega arith) (eb ∙ ef), good_shape b f (m + entries a) h2.1 (omega (arith, ap length all)) (omega arith) (omega arith)))
   good_shape nothing p m h room inside table = tt
   good_shape (first a b) p m h room inside table =
       let q = p + size a in

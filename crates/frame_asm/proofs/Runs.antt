@@ -197,24 +197,24 @@ module _ {State Outcome : Type 0} (w : World State Outcome) (code : Code) where
             next (i + 3) (i + 4) (i + 8) (suc n ∷ cs) (suc n ∷ cs) cs true true l l p p _
             (λ k. one (i + 3) (suc n ∷ cs) true l p (op.JumpFalse (i + 6)) at_jump_false k ∙ ap (λ v. run w k code (regs v (suc n ∷ cs) true l) p) four)
             (next (i + 4) (i + 5) (i + 8) (suc n ∷ cs) (suc n ∷ cs) cs true true l (other_line l) p (sent w (other_line l) x p) _
-              (λ k. alt_runs (i + 4) m (suc n ∷ cs) p line x at_alt entry true l k ∙ ap (λ v. run w k code (regs v (suc n ∷ cs) true (other_line l)) (sent w (other_line l) x p)) five)
-              (next (i + 5) (i + 7) (i + 8) (suc n ∷ cs) (suc n ∷ cs) cs true true (other_line l) (other_line l) (sent w (other_line l) x p) (sent w (other_line l) x p) _
-                (λ k. one (i + 5) (suc n ∷ cs) true (other_line l) (sent w (other_line l) x p) (op.Jump (i + 7)) at_jump k)
-                rest))
+            (λ k. alt_runs (i + 4) m (suc n ∷ cs) p line x at_alt entry true l k ∙ ap (λ v. run w k code (regs v (suc n ∷ cs) true (other_line l)) (sent w (other_line l) x p)) five)
+            (next (i + 5) (i + 7) (i + 8) (suc n ∷ cs) (suc n ∷ cs) cs true true (other_line l) (other_line l) (sent w (other_line l) x p) (sent w (other_line l) x p) _
+            (λ k. one (i + 5) (suc n ∷ cs) true (other_line l) (sent w (other_line l) x p) (op.Jump (i + 7)) at_jump k)
+            rest))
         decided false =
             next (i + 3) (i + 6) (i + 8) (suc n ∷ cs) (suc n ∷ cs) cs false false l l p p p
             (λ k. one (i + 3) (suc n ∷ cs) false l p (op.JumpFalse (i + 6)) at_jump_false k)
             (next (i + 6) (i + 8) (i + 8) (suc n ∷ cs) cs cs false false l l p p p
-              (λ k. one (i + 6) (suc n ∷ cs) false l p (op.Leave (i + 8)) at_leave k)
-              (here (i + 8) (i + 8) cs false l p refl))
+            (λ k. one (i + 6) (suc n ∷ cs) false l p (op.Leave (i + 8)) at_leave k)
+            (here (i + 8) (i + 8) cs false l p refl))
 
     attempts_run : (n : ℕ) (l : Line) (p : Point State Outcome) (f : Bool) → Comes (i + 2) (suc n ∷ cs) f l p (i + 8) cs (attempts w (suc n) l x p)
     attempts_run zero l p f = one_attempt zero l p f (turn_ends (sent w (other_line l) x p) true (other_line l))
     attempts_run (suc n) l p f =
         one_attempt (suc n) l p f
         (next (i + 7) (i + 2) (i + 8) (suc (suc n) ∷ cs) (suc n ∷ cs) cs true true (other_line l) (other_line l) (sent w (other_line l) x p) (sent w (other_line l) x p) _
-          (again_runs (suc n) (i + 7) (i + 2) cs true (other_line l) (sent w (other_line l) x p) at_again)
-          (attempts_run n (other_line l) (sent w (other_line l) x p) true))
+        (again_runs (suc n) (i + 7) (i + 2) cs true (other_line l) (sent w (other_line l) x p) at_again)
+        (attempts_run n (other_line l) (sent w (other_line l) x p) true))
 
   retry_runs : (n i m : ℕ) (cs : List ℕ) (line : Line) (x : Message) (p : Point State Outcome) → 1 ≤ n → HasAt code.operations i (retry_shape i m n) → slice_get code.messages m ≡ Some (line, x) → Does i cs p (i + 8) cs (attempts w n line x (sent w line x p))
   retry_runs zero i m cs line x p c has entry f l = absurd (omega arith)
@@ -222,8 +222,8 @@ module _ {State Outcome : Type 0} (w : World State Outcome) (code : Code) where
       let e : i + 1 + 1 ≡ i + 2 = omega arith in
       next i (i + 1) (i + 8) cs cs cs f f l line p (sent w line x p) _ (send_runs i m cs p line x has.0 entry f l)
       (next (i + 1) (i + 2) (i + 8) cs (suc n ∷ cs) cs f f line line (sent w line x p) (sent w line x p) _
-        (λ k. one (i + 1) cs f line (sent w line x p) (op.Loop (suc n)) has.1.0 k ∙ ap (λ v. run w k code (regs v (suc n ∷ cs) f line) (sent w line x p)) e)
-        (attempts_run i m (suc n) cs line x has entry n line (sent w line x p) f))
+      (λ k. one (i + 1) cs f line (sent w line x p) (op.Loop (suc n)) has.1.0 k ∙ ap (λ v. run w k code (regs v (suc n ∷ cs) f line) (sent w line x p)) e)
+      (attempts_run i m (suc n) cs line x has entry n line (sent w line x p) f))
 
   repeat_runs : (n i z : ℕ) (cs : List ℕ) (body : Point State Outcome → Point State Outcome) (p : Point State Outcome) → 1 ≤ n → slice_get code.operations i ≡ Some (op.Loop n) → slice_get code.operations (i + 1 + z) ≡ Some (op.Again (i + 1))
       → ((c : ℕ) (p : Point State Outcome) → Does (i + 1) (c ∷ cs) p (i + 1 + z) (c ∷ cs) (body p)) → Does i cs p (i + (z + 2)) cs (times n body p)
@@ -258,18 +258,18 @@ module _ {State Outcome : Type 0} (w : World State Outcome) (code : Code) where
       let e : f + size b ≡ i + (branch_size c + size a + 1 + size b) = omega arith in
       at_end i _ _ cs cs f0 l0 p _ e
       (choose_runs (test_meaning w c p) i t f (f + size b) cs p (meaning w a p) (meaning w b p) (t + size a)
-        (branch_runs c i t f cs p (has_front code.operations i (branch i c t f) _ h))
-        (tree_runs a t m cs p n.1 (has_front code.operations t (shape t m a) rest ht) (has_front code.messages m (messages_of a) (messages_of b) g))
-        hr.0
-        (tree_runs b f (m + entries a) cs p n.2 hr.1 (has_back code.messages m (m + entries a) (messages_of a) (messages_of b) (ap (λ z. m + z) (length_messages_of a)) g))
-        f0 l0)
+      (branch_runs c i t f cs p (has_front code.operations i (branch i c t f) _ h))
+      (tree_runs a t m cs p n.1 (has_front code.operations t (shape t m a) rest ht) (has_front code.messages m (messages_of a) (messages_of b) g))
+      hr.0
+      (tree_runs b f (m + entries a) cs p n.2 hr.1 (has_back code.messages m (m + entries a) (messages_of a) (messages_of b) (ap (λ z. m + z) (length_messages_of a)) g))
+      f0 l0)
   tree_runs nothing i m cs p c h g f l0 = let e : i ≡ i + 0 = omega arith in here i (i + 0) cs f l0 p e
   tree_runs (first a b) i m cs p c h g f l0 =
       let e : i + size a + size b ≡ i + (size a + size b) = omega arith in
       at_end i _ _ cs cs f l0 p _ e
       (both_do i (i + size a) (i + size a + size b) cs cs cs f l0 p _ _
-        (tree_runs a i m cs p c.0 (has_front code.operations i (shape i m a) _ h) (has_front code.messages m (messages_of a) (messages_of b) g) f l0)
-        (tree_runs b (i + size a) (m + entries a) cs _ c.1 (has_back code.operations i (i + size a) (shape i m a) _ (ap (λ z. i + z) (length_shape a i m)) h) (has_back code.messages m (m + entries a) (messages_of a) (messages_of b) (ap (λ z. m + z) (length_messages_of a)) g)))
+      (tree_runs a i m cs p c.0 (has_front code.operations i (shape i m a) _ h) (has_front code.messages m (messages_of a) (messages_of b) g) f l0)
+      (tree_runs b (i + size a) (m + entries a) cs _ c.1 (has_back code.operations i (i + size a) (shape i m a) _ (ap (λ z. i + z) (length_shape a i m)) h) (has_back code.messages m (m + entries a) (messages_of a) (messages_of b) (ap (λ z. m + z) (length_messages_of a)) g)))
 
 pub behaves : {State Outcome : Type 0} (w : World State Outcome) (t : Tree) (p : Point State Outcome) → IsInRange t → Behaves w t (code_of t) p
 behaves w t p c =

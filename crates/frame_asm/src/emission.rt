@@ -41,12 +41,7 @@ fn bit_test(bit: StatusBits) -> u8
     16 + number_of_bit(bit)
 }
 
-fn emit_test(
-    operations: &mut Vec<Op>,
-    test: u8,
-    yes: u16,
-    no: u16,
-) -> Result<(), AllocError>
+fn emit_test(operations: &mut Vec<Op>, test: u8, yes: u16, no: u16) -> Result<(), AllocError>
     ensures { OnOk result (operations.new.items ≡ operations.old.items ++ probe test yes no) }
 {
     put(operations, Op::Test(test))?;

@@ -60,8 +60,7 @@ impl From<AllocError> for AsmError {
 /// Law: in any world, and from any point, the code of a sound tree does what the tree means, and halts there.
 pub fn code_means<W: Setting>()
     ensures { (w : World W.State W.Outcome) (t : Tree) (p : Point W.State W.Outcome) → IsSound t → Behaves w t (code_of t) p }
-{
-}
+{}
 
 // The image of a frame, by the sizes of its tree.
 fn build<A: Allocator + Clone>(alloc: Global, frame: &Frame<A>) -> Result<Image, AsmError>

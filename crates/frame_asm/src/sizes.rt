@@ -31,7 +31,10 @@ pub fn operation_count<A: Allocator + Clone>(frame: &Frame<A>) -> u16
             then,
             otherwise,
         } => {
-            let all = branch_len(condition) + operation_count(then) + 1 + operation_count(otherwise);
+            let all = branch_len(condition)
+                + operation_count(then)
+                + 1
+                + operation_count(otherwise);
             all.min(4096)
         }
         Frame::Seq(frames) => {
@@ -53,7 +56,9 @@ pub fn entry_count<A: Allocator + Clone>(frame: &Frame<A>) -> u16
         Frame::Gap(_) => 0,
         Frame::Repeat { body, .. } => entry_count(body),
         Frame::If {
-            then, otherwise, ..
+            then,
+            otherwise,
+            ..
         } => (entry_count(then) + entry_count(otherwise)).min(1025),
         Frame::Seq(frames) => {
             let mut total = 0;

@@ -32,13 +32,21 @@ fn a_repeat_of_a_retry(rt: HostRuntime) -> Result<(), Fail> {
     };
     assert!(rt; frame.sound());
     let image = assemble(rt.alloc(), &frame).expect(&rt, "the image");
-    assert_eq!(rt; write_image(rt.alloc(), &image)?.as_slice(), LOOPS.as_slice());
+    assert_eq!(rt;
+        write_image(rt.alloc(), &image)?.as_slice(),
+        LOOPS.as_slice()
+    );
     Ok(())
 }
 
 #[test]
 fn refusals_are_printed_by_their_letters(rt: HostRuntime) -> Result<(), Fail> {
-    let printed = format!(in rt.alloc(); "{} {} {}", AsmError::Operations, AsmError::Messages, AsmError::Memory)?;
+    let printed = format!(in rt.alloc();
+        "{} {} {}",
+        AsmError::Operations,
+        AsmError::Messages,
+        AsmError::Memory
+    )?;
     assert_eq!(rt; printed.as_str(), "A1 A2 A3");
     Ok(())
 }

@@ -202,7 +202,7 @@ between_whole c d ws f s l =
       message = Between (address_of d) (sub_of d) (address_of c) (sub_of c) (count_of c);
       found = refl;
       lawful = met4 (is_address (address_of d) && is_address (address_of c)) (is_subaddress (sub_of d) && is_subaddress (sub_of c)) (is_count (count_of c)) (not (address_of d == address_of c)) bad.Address bad.Subaddress bad.CountOrCode bad.SameEnds
-        (both_true (is_address (address_of d)) (is_address (address_of c)) u.one p.0) (both_true (is_subaddress (sub_of d)) (is_subaddress (sub_of c)) u.data_at.sub q.sub) (counted c) t.1;
+          (both_true (is_address (address_of d)) (is_address (address_of c)) u.one p.0) (both_true (is_subaddress (sub_of d)) (is_subaddress (sub_of c)) u.data_at.sub q.sub) (counted c) t.1;
       same = none_of 2 c d _ _ ws q.word (ap (λ n. command_word (address_of d) true (sub_of d) (count_field n)) u.count ∙ u.data_at.word) l;
     }
 

@@ -10,14 +10,13 @@ mod reading;
 mod tests;
 mod writing;
 
-pub use reading::read_image;
-pub use writing::write_image;
-
 use mil_message::Message;
 use mil_word::Line;
+pub use reading::read_image;
 use std::alloc::{AllocError, AllocFailed};
 use std::fmt;
 use std::marker::Model;
+pub use writing::write_image;
 
 /// One operation of the bus controller. Places are counted from 0 in the list of operations, messages in that of
 /// messages; a message step sends its message, and all other steps take no time on the bus.
@@ -164,5 +163,6 @@ impl<T: Drop> From<AllocFailed<T>> for ImageError {
 /// What frames run on, for proofs alone: the type of its states and that of its outcomes.
 pub trait Setting {
     ghost State: { Type 0 };
+
     ghost Outcome: { Type 0 };
 }

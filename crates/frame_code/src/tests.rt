@@ -36,23 +36,45 @@ fn bytes_to_image_and_back(rt: HostRuntime) -> Result<(), Fail> {
 
 #[test]
 fn the_first_fault_of_bytes(rt: HostRuntime) -> Result<(), Fail> {
-    assert_eq!(rt; read_image(rt.alloc(), &LOOPS[..3]).err(), Some(ImageError::Mark));
-    assert_eq!(rt; read_image(rt.alloc(), &LOOPS[..61]).err(), Some(ImageError::Length));
+    assert_eq!(rt;
+        read_image(rt.alloc(), &LOOPS[..3]).err(),
+        Some(ImageError::Mark)
+    );
+    assert_eq!(rt;
+        read_image(rt.alloc(), &LOOPS[..61]).err(),
+        Some(ImageError::Length)
+    );
     let mut longer = [0; 63];
     longer[..62].copy_from_slice(&LOOPS);
-    assert_eq!(rt; read_image(rt.alloc(), &longer).err(), Some(ImageError::Length));
+    assert_eq!(rt;
+        read_image(rt.alloc(), &longer).err(),
+        Some(ImageError::Length)
+    );
     let mut changed = LOOPS;
     changed[8] = 0x0a;
-    assert_eq!(rt; read_image(rt.alloc(), &changed).err(), Some(ImageError::Operations));
+    assert_eq!(rt;
+        read_image(rt.alloc(), &changed).err(),
+        Some(ImageError::Operations)
+    );
     let mut changed = LOOPS;
     changed[52] = 0x0a;
-    assert_eq!(rt; read_image(rt.alloc(), &changed).err(), Some(ImageError::Messages));
+    assert_eq!(rt;
+        read_image(rt.alloc(), &changed).err(),
+        Some(ImageError::Messages)
+    );
     Ok(())
 }
 
 #[test]
 fn faults_are_printed_by_their_letters(rt: HostRuntime) -> Result<(), Fail> {
-    let printed = format!(in rt.alloc(); "{} {} {} {} {}", ImageError::Mark, ImageError::Length, ImageError::Operations, ImageError::Messages, ImageError::Memory)?;
+    let printed = format!(in rt.alloc();
+        "{} {} {} {} {}",
+        ImageError::Mark,
+        ImageError::Length,
+        ImageError::Operations,
+        ImageError::Messages,
+        ImageError::Memory
+    )?;
     assert_eq!(rt; printed.as_str(), "C1 C2 C3 C4 C5");
     Ok(())
 }

@@ -139,8 +139,8 @@ module _ (cost : Op → ℕ) {State Outcome : Type 0} (w : World State Outcome) 
           let q = g.0 in
           let eq : open_at code.operations q ≡ s ∷ ss = g.4 ∙ er in
           let less = ⊎_elim
-            (λ lt. let same : suc q + (r.place - suc q) ≡ r.place = omega (arith, lt) in absurd (closed_for_good code.operations q (r.place - suc q) g.1 s ss g.3 eq (ap (open_at code.operations) same ∙ er)))
-            (λ le. leave_left r q g.1 c i cs s ss at ec er g.3 eq le) (cases_lt q r.place) in
+          (λ lt. let same : suc q + (r.place - suc q) ≡ r.place = omega (arith, lt) in absurd (closed_for_good code.operations q (r.place - suc q) g.1 s ss g.3 eq (ap (open_at code.operations) same ∙ er)))
+          (λ le. leave_left r q g.1 c i cs s ss at ec er g.3 eq le) (cases_lt q r.place) in
           omega (arith, less, ap (λ v. left_at v cs) g.2)
 
   branch_cost : (r : Registers) (i : ℕ) (b : Bool) → slice_get code.operations r.place ≡ Some (JumpFalse i) → left_at (cond b (r.place + 1) i) r.counters + cost_of cost (slice_get code.operations r.place) ≤ left r

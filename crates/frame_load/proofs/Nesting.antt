@@ -35,7 +35,7 @@ pub more : (os : List Op) (i : ℕ) (o : Op) → slice_get os i ≡ Some o → I
 more os i o at here below p o' h e =
     ⊎_elim (λ lt. below p o' lt e)
     (λ le. let same : i ≡ p = omega (arith, le, h) in let one : o ≡ o' = let x : Some o ≡ Some o' = sym at ∙ ap (slice_get os) same ∙ e in cc in
-      subst (λ v. IsPaired (open_at os p) v) one (subst (λ v. IsPaired (open_at os v) o) same here)) (cases_lt p i)
+    subst (λ v. IsPaired (open_at os p) v) one (subst (λ v. IsPaired (open_at os v) o) same here)) (cases_lt p i)
 
 pub none_open : (st : List ℕ) → length st ≡ 0 → st ≡ []
 none_open [] e = refl

@@ -34,11 +34,11 @@ next_within os p o ends e going =
     let long : length os ≡ length ends.0 + 1 = ap length ends.1 ∙ length-append ends.0 (Halt ∷ []) in
     ⊎_elim (λ l. omega (arith, l, long))
     (λ g.
-      let at : p ≡ length ends.0 = omega (arith, g, lt, long) in
-      let last : slice_get os p ≡ Some Halt =
-        ap₂ slice_get ends.1 at ∙ slice_get-get_or (ends.0 ++ Halt ∷ []) (length ends.0) Halt (omega (arith, length-append ends.0 (Halt ∷ []))) ∙ ap Some (get_or-append_seam ends.0 Halt [] Halt) in
-      let same : o ≡ Halt = let both : Some o ≡ Some Halt = sym e ∙ last in cc in
-      absurd (going (subst IsHalt (sym same) tt)))
+    let at : p ≡ length ends.0 = omega (arith, g, lt, long) in
+    let last : slice_get os p ≡ Some Halt =
+    ap₂ slice_get ends.1 at ∙ slice_get-get_or (ends.0 ++ Halt ∷ []) (length ends.0) Halt (omega (arith, length-append ends.0 (Halt ∷ []))) ∙ ap Some (get_or-append_seam ends.0 Halt [] Halt) in
+    let same : o ≡ Halt = let both : Some o ≡ Some Halt = sym e ∙ last in cc in
+    absurd (going (subst IsHalt (sym same) tt)))
     (cases_lt p (length ends.0))
 
 -- an open loop has its Loop where it says

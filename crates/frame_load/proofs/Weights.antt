@@ -155,8 +155,14 @@ module _ (cost : Op → ℕ) where
     total_from (suc d) p e =
         let x = there os p (omega (arith, e)) in
         let next : open_at os (suc p) ≡ after (Some x.0) p (open_at os p) = ap (λ v. after v p (open_at os p)) x.1 in
-        omega (arith, total_from d (suc p) (omega (arith, e)), ap (summed (weights_of (open_at os p))) (drop_at os p x.0 x.1), summed_at x.0 p (open_at os p) (drop (suc p) os) x.1,
-          ap (λ v. weight os p * cost_of cost v) x.1, ap (λ st. summed (weights_of st) (drop (suc p) os)) next)
+        omega (
+          arith,
+          total_from d (suc p) (omega (arith, e)),
+          ap (summed (weights_of (open_at os p))) (drop_at os p x.0 x.1),
+          summed_at x.0 p (open_at os p) (drop (suc p) os) x.1,
+          ap (λ v. weight os p * cost_of cost v) x.1,
+          ap (λ st. summed (weights_of st) (drop (suc p) os)) next,
+        )
 
   pub rest_total : (code : Code) → IsLoadable code → rest cost [] code.operations ≤ total cost code.operations
   rest_total code ok = omega (arith, rest_summed code.operations [] (1 ∷ []) ok.image.operands refl, total_from code.operations (length code.operations) 0 (omega arith))

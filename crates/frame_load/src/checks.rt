@@ -18,27 +18,9 @@ fn next_depth(op: Op, depth: usize) -> Option<usize>
     ensures { result ≡ depth_after op depth }
 {
     match op {
-        Op::Loop(_) => {
-            if depth < 17 {
-                Some(depth + 1)
-            } else {
-                None
-            }
-        }
-        Op::Again(_) => {
-            if 0 < depth {
-                Some(depth - 1)
-            } else {
-                None
-            }
-        }
-        Op::Leave(_) => {
-            if 0 < depth {
-                Some(depth)
-            } else {
-                None
-            }
-        }
+        Op::Loop(_) => { if depth < 17 { Some(depth + 1) } else { None } }
+        Op::Again(_) => { if 0 < depth { Some(depth - 1) } else { None } }
+        Op::Leave(_) => { if 0 < depth { Some(depth) } else { None } }
         _ => Some(depth),
     }
 }

@@ -137,8 +137,7 @@ pub fn loadable_runs<W: Setting>()
         IsLoadable code → Reaches w code from x → x.point.number ≤ from.number + sums.worst_messages code.operations }
     ensures halts { (w : World W.State W.Outcome) (code : Code) (from : Point W.State W.Outcome) →
         IsLoadable code → HaltsWithin w code (sums.budget code.operations) start from }
-{
-}
+{}
 
 // The most steps that a run may take.
 const STEPS: u64 = 100_000_000;

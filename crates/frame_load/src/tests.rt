@@ -42,7 +42,10 @@ fn a_program_and_its_sums(rt: HostRuntime) -> Result<(), Fail> {
     let program = load(rt.alloc(), image).expect(&rt, "the program").copy()?;
     assert_eq!(rt; program.budget(), 47);
     assert_eq!(rt; program.worst_messages(), 9);
-    assert_eq!(rt; program.image().operations().get(7).copied(), Some(Op::Leave(9)));
+    assert_eq!(rt;
+        program.image().operations().get(7).copied(),
+        Some(Op::Leave(9))
+    );
     Ok(())
 }
 
@@ -85,7 +88,15 @@ fn seventeen_loops_and_one_more(rt: HostRuntime) -> Result<(), Fail> {
 
 #[test]
 fn refusals_are_printed_by_their_letters(rt: HostRuntime) -> Result<(), Fail> {
-    let printed = format!(in rt.alloc(); "{} {} {} {} {} {}", LoadError::Jumps, LoadError::Nesting, LoadError::Messages, LoadError::End, LoadError::Budget, LoadError::Memory)?;
+    let printed = format!(in rt.alloc();
+        "{} {} {} {} {} {}",
+        LoadError::Jumps,
+        LoadError::Nesting,
+        LoadError::Messages,
+        LoadError::End,
+        LoadError::Budget,
+        LoadError::Memory
+    )?;
     assert_eq!(rt; printed.as_str(), "P1 P2 P3 P4 P5 P6");
     Ok(())
 }

@@ -80,10 +80,12 @@ frames_on frame n w text ts is b =
 pub frames_more : {A : Type 0} (frame : Reader) (n : ℕ) (w : List ℕ) (text ts left : Tokens) (fs : List (Frame A)) (f : Frame A) (whole : Reading Tree) → text ≡ w ∷ ts → length text ≤ n → same w (codes "}") ≡ false
     → frame text ≡ Ok (tree_of f, left) → length left < length text → whole ≡ onto fs (frames_at frame n text) → (m : ℕ) × (length left ≤ m) × (whole ≡ onto (fs ++ f ∷ []) (frames_at frame m left))
 frames_more frame zero w text ts left fs f whole is h b r s e = absurd (omega (arith, h, ap length is))
-frames_more frame (suc n) w text ts left fs f whole is h b r s e =
-    (n, omega (arith, h, s),
-    e ∙ ap (onto fs) (frames_on frame n w text ts is b ∙ ap (λ z. z >>= (λ x. frames_at frame n x.1 >>= (λ y. Ok (first x.0 y.0, y.1)))) r)
-    ∙ onto_more fs f (frames_at frame n left))
+frames_more frame (suc n) w text ts left fs f whole is h b r s e = (
+  n,
+  omega (arith, h, s),
+  e ∙ ap (onto fs) (frames_on frame n w text ts is b ∙ ap (λ z. z >>= (λ x. frames_at frame n x.1 >>= (λ y. Ok (first x.0 y.0, y.1)))) r)
+      ∙ onto_more fs f (frames_at frame n left),
+)
 
 frames_fail : {A : Type 0} (frame : Reader) (n : ℕ) (w : List ℕ) (text ts : Tokens) (fs : List (Frame A)) (c : Cause) (whole : Reading Tree) → text ≡ w ∷ ts → length text ≤ n → same w (codes "}") ≡ false → frame text ≡ Err c → whole ≡ onto fs (frames_at frame n text) → whole ≡ Err c
 frames_fail frame zero w text ts fs c whole is h b r e = absurd (omega (arith, h, ap length is))
@@ -123,11 +125,13 @@ script_end n text fs whole h e = e ∙ ap (λ z. onto_script fs (script_at n z))
 pub script_more : {A : Type 0} (n : ℕ) (w : List ℕ) (text ts left : Tokens) (fs : List (Frame A)) (f : Frame A) (whole : Result Tree Cause) → text ≡ w ∷ ts → length text ≤ n
     → frame_at 16 text ≡ Ok (tree_of f, left) → length left < length text → whole ≡ onto_script fs (script_at n text) → (m : ℕ) × (length left ≤ m) × (whole ≡ onto_script (fs ++ f ∷ []) (script_at m left))
 script_more zero w text ts left fs f whole is h r s e = absurd (omega (arith, h, ap length is))
-script_more (suc n) w text ts left fs f whole is h r s e =
-    (n, omega (arith, h, s),
-    e ∙ ap (onto_script fs) (script_on n w text ts is ∙ ap (λ z. z >>= (λ x. script_at n x.1 >>= (λ y. Ok (first x.0 y)))) r)
-    ∙ put_script_more (map tree_of fs) (tree_of f) (script_at n left)
-    ∙ ap (λ us. script_at n left >>= (λ x. Ok (before us x))) (sym (map-append tree_of fs (f ∷ []))))
+script_more (suc n) w text ts left fs f whole is h r s e = (
+  n,
+  omega (arith, h, s),
+  e ∙ ap (onto_script fs) (script_on n w text ts is ∙ ap (λ z. z >>= (λ x. script_at n x.1 >>= (λ y. Ok (first x.0 y)))) r)
+      ∙ put_script_more (map tree_of fs) (tree_of f) (script_at n left)
+      ∙ ap (λ us. script_at n left >>= (λ x. Ok (before us x))) (sym (map-append tree_of fs (f ∷ []))),
+)
 
 script_fail : {A : Type 0} (n : ℕ) (w : List ℕ) (text ts : Tokens) (fs : List (Frame A)) (c : Cause) (whole : Result Tree Cause) → text ≡ w ∷ ts → length text ≤ n → frame_at 16 text ≡ Err c → whole ≡ onto_script fs (script_at n text) → whole ≡ Err c
 script_fail zero w text ts fs c whole is h r e = absurd (omega (arith, h, ap length is))

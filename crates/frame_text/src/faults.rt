@@ -86,7 +86,10 @@ impl Display for Place {
 impl Display for ScriptError {
     fn fmt<W: Write>(&self, f: &mut Formatter<W>) -> fmt::Result {
         match self {
-            ScriptError::Text { cause: Cause::Message(bad), place } => write!(f, "S4 {place} {bad}"),
+            ScriptError::Text {
+                cause: Cause::Message(bad),
+                place,
+            } => write!(f, "S4 {place} {bad}"),
             ScriptError::Text { cause, place } => write!(f, "{} {place}", cause.code()),
             ScriptError::Memory { .. } => f.write_str("memory"),
         }

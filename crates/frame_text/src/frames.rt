@@ -137,7 +137,14 @@ pub fn frame<'a, A: Allocator + Clone>(
             let (count, rest) = number_in_range(rest, 1, 8)?;
             let rest = after_token(rest, b"send")?;
             let (line, message, rest) = send(rest)?;
-            Ok((Frame::Retry { count: count as u8, line, message }, rest))
+            Ok((
+                Frame::Retry {
+                    count: count as u8,
+                    line,
+                    message,
+                },
+                rest,
+            ))
         }
         FrameWord::Gap => {
             let (ticks, rest) = number_in_range(rest, 40, 65_535)?;
@@ -148,7 +155,13 @@ pub fn frame<'a, A: Allocator + Clone>(
             let (body, rest) = block(alloc, rest, depth)?;
             let own = or_refused!(alloc.clone(), rest);
             let body = or_refused!(Box::new(own, body), rest);
-            Ok((Frame::Repeat { count: count as u16, body }, rest))
+            Ok((
+                Frame::Repeat {
+                    count: count as u16,
+                    body,
+                },
+                rest,
+            ))
         }
         FrameWord::If => {
             let (condition, rest) = condition(alloc, rest, 16)?;
@@ -158,7 +171,14 @@ pub fn frame<'a, A: Allocator + Clone>(
             let then = or_refused!(Box::new(own, then), rest);
             let own = or_refused!(alloc.clone(), rest);
             let otherwise = or_refused!(Box::new(own, otherwise), rest);
-            Ok((Frame::If { condition, then, otherwise }, rest))
+            Ok((
+                Frame::If {
+                    condition,
+                    then,
+                    otherwise,
+                },
+                rest,
+            ))
         }
         FrameWord::NoFrame => Err(fault(misplaced(word), text)),
     }

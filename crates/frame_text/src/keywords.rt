@@ -58,7 +58,11 @@ pub fn is(word: &[u8], text: &[u8]) -> bool
 pub fn misplaced(word: &[u8]) -> Cause
     ensures { result ≡ reading.misplaced word.now }
 {
-    if is_word(word) || is_bracket(word) { Cause::Token } else { Cause::Byte }
+    if is_word(word) || is_bracket(word) {
+        Cause::Token
+    } else {
+        Cause::Byte
+    }
 }
 
 /// Whether a byte is a letter, a digit or `_`.
@@ -81,7 +85,12 @@ pub fn is_word(word: &[u8]) -> bool
 fn is_bracket(word: &[u8]) -> bool
     ensures { result ≡ reading.is_bracket word.now }
 {
-    is(word, b"{") || is(word, b"}") || is(word, b"(") || is(word, b")") || is(word, b"[") || is(word, b"]")
+    is(word, b"{")
+        || is(word, b"}")
+        || is(word, b"(")
+        || is(word, b")")
+        || is(word, b"[")
+        || is(word, b"]")
 }
 
 /// What a message may begin with.

@@ -17,15 +17,13 @@ pub mod keywords;
 mod memory;
 pub mod messages;
 pub mod places;
+#[cfg(test)]
+mod tests;
 pub mod tokens;
 pub mod whole;
 pub mod words;
 
-#[cfg(test)]
-mod tests;
-
 pub use faults::{Cause, Place, ScriptError};
-
 use frame_tree::{Cond, Frame};
 use mil_message::Message;
 use mil_word::Line;

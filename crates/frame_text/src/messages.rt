@@ -49,7 +49,15 @@ fn receive<'a>(text: &[u8], rest: &'a [u8]) -> Result<(Message, &'a [u8]), Fault
     let (address, rest) = number(rest)?;
     let (subaddress, rest) = number(rest)?;
     let (words, rest) = bracketed(rest)?;
-    made(Draft::ToTerminal { address, subaddress, words: words.as_slice() }, text, rest)
+    made(
+        Draft::ToTerminal {
+            address,
+            subaddress,
+            words: words.as_slice(),
+        },
+        text,
+        rest,
+    )
 }
 
 #[tactic(auto, unfolding(crate::specs::Messages::transmit_at))]
@@ -60,7 +68,15 @@ fn transmit<'a>(text: &[u8], rest: &'a [u8]) -> Result<(Message, &'a [u8]), Faul
     let (address, rest) = number(rest)?;
     let (subaddress, rest) = number(rest)?;
     let (count, rest) = number(rest)?;
-    made(Draft::FromTerminal { address, subaddress, count }, text, rest)
+    made(
+        Draft::FromTerminal {
+            address,
+            subaddress,
+            count,
+        },
+        text,
+        rest,
+    )
 }
 
 #[tactic(auto, unfolding(crate::specs::Messages::transfer_at))]
@@ -74,14 +90,24 @@ fn transfer<'a>(text: &[u8], rest: &'a [u8]) -> Result<(Message, &'a [u8]), Faul
     let (receiver_subaddress, rest) = number(rest)?;
     let (count, rest) = number(rest)?;
     made(
-        Draft::Between { sender, sender_subaddress, receiver, receiver_subaddress, count },
+        Draft::Between {
+            sender,
+            sender_subaddress,
+            receiver,
+            receiver_subaddress,
+            count,
+        },
         text,
         rest,
     )
 }
 
 #[tactic(auto, unfolding(crate::specs::Messages::mode_at))]
-fn mode<'a>(text: &[u8], rest: &'a [u8], subaddress: ModeSubaddress) -> Result<(Message, &'a [u8]), Fault>
+fn mode<'a>(
+    text: &[u8],
+    rest: &'a [u8],
+    subaddress: ModeSubaddress,
+) -> Result<(Message, &'a [u8]), Fault>
     ensures tree { Gives (λ x. (x.0, tokens x.1.now)) result (reads.mode_at subaddress (tokens rest.now)) }
     ensures fewer { IfOk result (λ x. length (tokens x.1.now) < length (tokens rest.now)) }
 {
@@ -89,7 +115,11 @@ fn mode<'a>(text: &[u8], rest: &'a [u8], subaddress: ModeSubaddress) -> Result<(
     let (code, rest) = number(rest)?;
     let (words, rest) = optional(rest)?;
     let words = words.as_ref().map(|words| words.as_slice());
-    made(Draft::mode_command(address, subaddress, code, words), text, rest)
+    made(
+        Draft::mode_command(address, subaddress, code, words),
+        text,
+        rest,
+    )
 }
 
 #[tactic(auto, unfolding(crate::specs::Messages::receive_all_at))]
@@ -99,7 +129,14 @@ fn receive_all<'a>(text: &[u8], rest: &'a [u8]) -> Result<(Message, &'a [u8]), F
 {
     let (subaddress, rest) = number(rest)?;
     let (words, rest) = bracketed(rest)?;
-    made(Draft::ToAll { subaddress, words: words.as_slice() }, text, rest)
+    made(
+        Draft::ToAll {
+            subaddress,
+            words: words.as_slice(),
+        },
+        text,
+        rest,
+    )
 }
 
 #[tactic(auto, unfolding(crate::specs::Messages::transfer_all_at))]
@@ -112,21 +149,34 @@ fn transfer_all<'a>(text: &[u8], rest: &'a [u8]) -> Result<(Message, &'a [u8]), 
     let (receiver_subaddress, rest) = number(rest)?;
     let (count, rest) = number(rest)?;
     made(
-        Draft::BetweenAll { sender, sender_subaddress, receiver_subaddress, count },
+        Draft::BetweenAll {
+            sender,
+            sender_subaddress,
+            receiver_subaddress,
+            count,
+        },
         text,
         rest,
     )
 }
 
 #[tactic(auto, unfolding(crate::specs::Messages::mode_all_at))]
-fn mode_all<'a>(text: &[u8], rest: &'a [u8], subaddress: ModeSubaddress) -> Result<(Message, &'a [u8]), Fault>
+fn mode_all<'a>(
+    text: &[u8],
+    rest: &'a [u8],
+    subaddress: ModeSubaddress,
+) -> Result<(Message, &'a [u8]), Fault>
     ensures tree { Gives (λ x. (x.0, tokens x.1.now)) result (reads.mode_all_at subaddress (tokens rest.now)) }
     ensures fewer { IfOk result (λ x. length (tokens x.1.now) < length (tokens rest.now)) }
 {
     let (code, rest) = number(rest)?;
     let (words, rest) = optional(rest)?;
     let words = words.as_ref().map(|words| words.as_slice());
-    made(Draft::mode_command_to_all(subaddress, code, words), text, rest)
+    made(
+        Draft::mode_command_to_all(subaddress, code, words),
+        text,
+        rest,
+    )
 }
 
 #[tactic(auto, unfolding(crate::specs::Messages::message_at, crate::specs::Messages::message_of))]

@@ -15,8 +15,14 @@ fn faults(rt: HostRuntime) -> Result<(), Fail> {
     let alloc = rt.alloc();
     let table: [(&[u8], &str); 20] = [
         (b"repeat 0 { }", "S7 line 1 column 8"),
-        (b"repeat 10000 { repeat 100 { send A mode 5 1 } } send A mode 5 1", "S8 line 1 column 1"),
-        (b"repeat 10000 { repeat 100 { send A mode 5 1 } } send A mode 5 1 repeat 0 { }", "S7 line 1 column 72"),
+        (
+            b"repeat 10000 { repeat 100 { send A mode 5 1 } } send A mode 5 1",
+            "S8 line 1 column 1",
+        ),
+        (
+            b"repeat 10000 { repeat 100 { send A mode 5 1 } } send A mode 5 1 repeat 0 { }",
+            "S7 line 1 column 72",
+        ),
         (b"send A mode 5 20", "S4 line 1 column 8 M5"),
         (b"send A mode 5 20 @", "S4 line 1 column 8 M5"),
         (b"send A bmode 16", "S4 line 1 column 8 M3"),

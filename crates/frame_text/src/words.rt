@@ -67,7 +67,11 @@ fn data_word_in(word: &[u8]) -> Option<u16>
 fn unspelled_fault(word: &[u8], text: &[u8]) -> Fault
     ensures { IsCause (unspelled word.now) result }
 {
-    let cause = if is_word(word) { Cause::Number } else { misplaced(word) };
+    let cause = if is_word(word) {
+        Cause::Number
+    } else {
+        misplaced(word)
+    };
     fault(cause, text)
 }
 

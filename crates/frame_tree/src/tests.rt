@@ -8,8 +8,16 @@ use std::test::Fail;
 
 // repeat 3 { retry 2 send A rx 9 1 [0001] }
 fn script(alloc: Global) -> Result<Frame<Global>, Fail> {
-    let message = Message::check(Draft::ToTerminal { address: 9, subaddress: 1, words: &[1] })?;
-    let retry = Frame::Retry { count: 2, line: Line::A, message };
+    let message = Message::check(Draft::ToTerminal {
+        address: 9,
+        subaddress: 1,
+        words: &[1],
+    })?;
+    let retry = Frame::Retry {
+        count: 2,
+        line: Line::A,
+        message,
+    };
     let mut body = Vec::new(alloc);
     body.push(retry)?;
     let body = Box::new(alloc, Frame::Seq(body))?;

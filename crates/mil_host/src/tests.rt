@@ -36,7 +36,15 @@ fn reads_an_action(rt: HostRuntime) -> Result<(), Fail> {
 
 #[test]
 fn prints_what_it_reads(rt: HostRuntime) -> Result<(), Fail> {
-    let texts = ["transmit 1 AAAA 5555", "busy on", "service off", "vector 00FF", "illegal receive 3 4", "legal transmit 30 32", "response 120"];
+    let texts = [
+        "transmit 1 AAAA 5555",
+        "busy on",
+        "service off",
+        "vector 00FF",
+        "illegal receive 3 4",
+        "legal transmit 30 32",
+        "response 120",
+    ];
     for text in texts {
         let action = read_action(text.as_bytes()).map_err(|_| "refused")?;
         let printed = action.to_string(rt.alloc())?;

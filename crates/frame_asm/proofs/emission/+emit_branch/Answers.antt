@@ -15,7 +15,7 @@ emit_branch-requires-in-And-2 g t c κs within =
     let first : test_of c.deref-in-And-2.result.now ≡ a = ap test_of c.deref-in-And-2.ensures in
     let grown = length_after (test_of c.deref-in-And-2.result.now) c.args.operations.now.items c.emit_branch-in-And.new.operations.items (length c.args.operations.now.items) _ _ c.in_ok-emit_branch-in-And.ensures in
     let room : length c.emit_branch-in-And.new.operations.items + branch_size (test_of c.deref-in-And-3.result.now) ≤ 4096 =
-      omega (arith, c.requires, ap branch_size is, ap branch_size now, ap branch_size first, grown) in
+    omega (arith, c.requires, ap branch_size is, ap branch_size now, ap branch_size first, grown) in
     (search (rules, the_lemmas), (search rules, room))
 
 pub emit_branch-requires-in-Or-2 : goal.emit_branch-requires-in-Or-2
@@ -27,7 +27,7 @@ emit_branch-requires-in-Or-2 g t c κs within =
     let first : test_of c.deref-in-Or-2.result.now ≡ a = ap test_of c.deref-in-Or-2.ensures in
     let grown = length_after (test_of c.deref-in-Or-2.result.now) c.args.operations.now.items c.emit_branch-in-Or.new.operations.items (length c.args.operations.now.items) _ _ c.in_ok-emit_branch-in-Or.ensures in
     let room : length c.emit_branch-in-Or.new.operations.items + branch_size (test_of c.deref-in-Or-3.result.now) ≤ 4096 =
-      omega (arith, c.requires, ap branch_size is, ap branch_size now, ap branch_size first, grown) in
+    omega (arith, c.requires, ap branch_size is, ap branch_size now, ap branch_size first, grown) in
     (search (rules, the_lemmas), (search rules, room))
 
 pub returns-in_ok-emit_branch-in-And : goal.returns-in_ok-emit_branch-in-And
@@ -39,7 +39,7 @@ returns-in_ok-emit_branch-in-And g t c =
     let first : test_of c.deref-in-And-2.result.now ≡ a = ap test_of c.deref-in-And-2.ensures in
     let counted : test_of c.deref-in-And.result.now ≡ a = ap test_of c.deref-in-And.ensures in
     let middle : c.len.result + c.branch_len.result ≡ length c.args.operations.now.items + branch_size a =
-      omega (arith, c.requires, ap branch_size is, ap branch_size counted, c.branch_len.ensures, c.len.ensures, c.args.operations.now.ok.0) in
+    omega (arith, c.requires, ap branch_size is, ap branch_size counted, c.branch_len.ensures, c.len.ensures, c.args.operations.now.ok.0) in
     on_ok_weaker _ (and_done (test_of c.args.condition.now) a b _ _ c.args.operations.now.items c.emit_branch-in-And.new.operations.items _ _ _ _ is first now middle c.in_ok-emit_branch-in-And.ensures) c.emit_branch-in-And-2.ensures
 
 pub returns-in_ok-emit_branch-in-Or : goal.returns-in_ok-emit_branch-in-Or
@@ -51,5 +51,5 @@ returns-in_ok-emit_branch-in-Or g t c =
     let first : test_of c.deref-in-Or-2.result.now ≡ a = ap test_of c.deref-in-Or-2.ensures in
     let counted : test_of c.deref-in-Or.result.now ≡ a = ap test_of c.deref-in-Or.ensures in
     let middle : c.len-in-Or.result + c.branch_len-in-Or.result ≡ length c.args.operations.now.items + branch_size a =
-      omega (arith, c.requires, ap branch_size is, ap branch_size counted, c.branch_len-in-Or.ensures, c.len-in-Or.ensures, c.args.operations.now.ok.0) in
+    omega (arith, c.requires, ap branch_size is, ap branch_size counted, c.branch_len-in-Or.ensures, c.len-in-Or.ensures, c.args.operations.now.ok.0) in
     on_ok_weaker _ (or_done (test_of c.args.condition.now) a b _ _ c.args.operations.now.items c.emit_branch-in-Or.new.operations.items _ _ _ _ is first now middle c.in_ok-emit_branch-in-Or.ensures) c.emit_branch-in-Or-2.ensures

@@ -26,8 +26,8 @@ loop-i-preserved c = λ p o h at.
     let os = c.args.operations.now in
     ⊎_elim (λ lt. c.loop-i.invariant p o lt at)
     (λ le. let same : p ≡ c.loop-i.i = omega (arith, h, le) in
-      let here : slice_get os c.loop-i.i ≡ Some o = ap (slice_get os) (sym same) ∙ at in
-      subst (λ q. GoesWell os q o) (sym same) ((c.goes_well.ensures o here).0 (subst IsTrue (sym c.if-not-goes_well.false) is_true))) (cases_lt p c.loop-i.i)
+    let here : slice_get os c.loop-i.i ≡ Some o = ap (slice_get os) (sym same) ∙ at in
+    subst (λ q. GoesWell os q o) (sym same) ((c.goes_well.ensures o here).0 (subst IsTrue (sym c.if-not-goes_well.false) is_true))) (cases_lt p c.loop-i.i)
 
 pub returns : goal.returns
 returns c = (λ y p o at. c.loop-i.invariant p o (omega (arith, within c.args.operations.now p o at)) at, λ all. is_true)

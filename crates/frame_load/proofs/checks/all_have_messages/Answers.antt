@@ -26,8 +26,8 @@ loop-op-preserved c = λ p o h at.
     let os = c.args.operations.now in
     ⊎_elim (λ lt. c.loop-op.invariant p o lt at)
     (λ le. let same : p ≡ c.loop-op.op-index = omega (arith, h, le) in
-      let here : slice_get os c.loop-op.op-index ≡ Some o = ap (slice_get os) (sym same) ∙ at in
-      subst (λ q. HasMessage c.args.count o) (sym same) ((subst (λ x. IsTrue c.has_message.result ↔ HasMessage c.args.count x) (let two : Some (get_or os c.loop-op.op-index Halt) ≡ Some o = sym (op_at os c.loop-op.op-index Halt _ c.loop-op-test.true refl) ∙ here in cc) c.has_message.ensures).0 (subst IsTrue (sym c.if-not-has_message.false) is_true))) (cases_lt p c.loop-op.op-index)
+    let here : slice_get os c.loop-op.op-index ≡ Some o = ap (slice_get os) (sym same) ∙ at in
+    subst (λ q. HasMessage c.args.count o) (sym same) ((subst (λ x. IsTrue c.has_message.result ↔ HasMessage c.args.count x) (let two : Some (get_or os c.loop-op.op-index Halt) ≡ Some o = sym (op_at os c.loop-op.op-index Halt _ c.loop-op-test.true refl) ∙ here in cc) c.has_message.ensures).0 (subst IsTrue (sym c.if-not-has_message.false) is_true))) (cases_lt p c.loop-op.op-index)
 
 pub returns : goal.returns
 returns c = (λ y p o at. c.loop-op.invariant p o (omega (arith, within c.args.operations.now p o at)) at, λ all. is_true)

@@ -22,9 +22,10 @@ returns c =
     let os = c.args.operations.now in
     let i = c.loop-op.op-index in
     let all : i ≡ length os = omega arith in
-    let depth : c.loop-op.depth ≡ length (open_at os (length os)) = c.loop-op.invariant.depth ∙ ap (λ q. length (open_at os q)) all in
-    (λ yes'. record {
-      paired = λ p o e. c.loop-op.invariant.so_far p o (omega (arith, within os p o e)) e;
-      closed = none_open (open_at os (length os)) (let zero_depth : c.loop-op.depth ≡ 0 = search rules in sym depth ∙ zero_depth);
-    },
-    λ n. let zero_depth : c.loop-op.depth ≡ 0 = depth ∙ ap length n.closed in search rules)
+    let depth : c.loop-op.depth ≡ length (open_at os (length os)) = c.loop-op.invariant.depth ∙ ap (λ q. length (open_at os q)) all in (
+      λ yes'. record {
+        paired = λ p o e. c.loop-op.invariant.so_far p o (omega (arith, within os p o e)) e;
+        closed = none_open (open_at os (length os)) (let zero_depth : c.loop-op.depth ≡ 0 = search rules in sym depth ∙ zero_depth);
+      },
+      λ n. let zero_depth : c.loop-op.depth ≡ 0 = depth ∙ ap length n.closed in search rules,
+    )

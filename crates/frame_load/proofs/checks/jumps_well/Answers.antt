@@ -15,6 +15,7 @@ returns c =
     let os = c.args.operations.now in
     let t = c.args.loops.now in
     let inside : c.args.target < length os = omega arith in
-    let later : c.args.place < c.args.target = omega arith in
-    (λ y. (later, inside, jumps_by os t c.args.place c.args.target c.requires.marked c.requires.place inside (let e : get_or t c.args.target 0 ≡ get_or t c.args.place 0 = search rules in e)),
-    λ j. let e : get_or t c.args.target 0 ≡ get_or t c.args.place 0 = jumps_back os t c.args.place c.args.target c.requires.marked c.requires.place inside j.2 in search rules)
+    let later : c.args.place < c.args.target = omega arith in (
+      λ y. (later, inside, jumps_by os t c.args.place c.args.target c.requires.marked c.requires.place inside (let e : get_or t c.args.target 0 ≡ get_or t c.args.place 0 = search rules in e)),
+      λ j. let e : get_or t c.args.target 0 ≡ get_or t c.args.place 0 = jumps_back os t c.args.place c.args.target c.requires.marked c.requires.place inside j.2 in search rules,
+    )

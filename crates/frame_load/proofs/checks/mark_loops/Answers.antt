@@ -22,14 +22,14 @@ loop-i-preserved c =
     let cur = c.loop-i.current in
     record {
       now = elim c.match-operations-i.branch [
-        in-Loop w ↦ w.current-is ∙ sym (mark_loop os i w.in-Loop.field-0 (op_at os i Halt _ c.loop-i-test.true w.in-Loop.is))
+        | in-Loop w ↦ w.current-is ∙ sym (mark_loop os i w.in-Loop.field-0 (op_at os i Halt _ c.loop-i-test.true w.in-Loop.is))
         | in-Again+then-current-eq0 w ↦ w.current-is ∙ sym (mark_out os i w.in-Again.field-0 (op_at os i Halt _ c.loop-i-test.true w.in-Again.is) (sym c.loop-i.invariant.now ∙ w.if-current-eq0.true))
         | in-Again+else-current-eq0 w ↦
-          let lt : cur - 1 < i = omega (arith, innermost_below os i, w.if-current-eq0.false) in
-          let apart : cur - 1 ≢ i = λ e. omega (arith, e, lt) in
-          w.current-is ∙ get_or-set_other c.loop-i.loops i (cur - 1) cur 0 apart ∙ c.loop-i.invariant.so_far (cur - 1) lt
-          ∙ ap (λ v. innermost (open_at os (v - 1))) c.loop-i.invariant.now
-          ∙ sym (ap innermost (back_out os i w.in-Again.field-0 (op_at os i Halt _ c.loop-i-test.true w.in-Again.is) (λ z. w.if-current-eq0.false (c.loop-i.invariant.now ∙ z))))
+            let lt : cur - 1 < i = omega (arith, innermost_below os i, w.if-current-eq0.false) in
+            let apart : cur - 1 ≢ i = λ e. omega (arith, e, lt) in
+            w.current-is ∙ get_or-set_other c.loop-i.loops i (cur - 1) cur 0 apart ∙ c.loop-i.invariant.so_far (cur - 1) lt
+            ∙ ap (λ v. innermost (open_at os (v - 1))) c.loop-i.invariant.now
+            ∙ sym (ap innermost (back_out os i w.in-Again.field-0 (op_at os i Halt _ c.loop-i-test.true w.in-Again.is) (λ z. w.if-current-eq0.false (c.loop-i.invariant.now ∙ z))))
         | in_default w ↦ w.current-is ∙ c.loop-i.invariant.now ∙ sym (ap innermost (mark_other os i _ (op_at os i Halt _ c.loop-i-test.true refl) w.in_default.not-Loop w.in_default.not-Again))
       ];
       so_far = more_marks (λ p. innermost (open_at os p)) c.loop-i.loops i cur (omega arith) c.loop-i.invariant.so_far c.loop-i.invariant.now;

@@ -23,15 +23,15 @@ loop-i-preserved c =
     let mark = c.requires.marked i c.loop-i-test.true in
     record {
       now = elim c.match-operations-i.branch [
-        in-Loop w ↦ mark_weight os i w.in-Loop.n _ cur c.requires.range (op_at os i Halt _ c.loop-i-test.true w.in-Loop.is) c.loop-i.invariant.now (omega (arith, w.min-current.ensures, w.current-is))
+        | in-Loop w ↦ mark_weight os i w.in-Loop.n _ cur c.requires.range (op_at os i Halt _ c.loop-i-test.true w.in-Loop.is) c.loop-i.invariant.now (omega (arith, w.min-current.ensures, w.current-is))
         | in-Again+then-loops-i-eq0 w ↦ w.current-is ∙ c.loop-i.invariant.now ∙ sym (ap (λ st. min 100000001 (weight_in os st)) (out_same os i w.in-Again.field-0 (op_at os i Halt _ c.loop-i-test.true w.in-Again.is) (sym mark ∙ w.if-loops-i-eq0.true)))
         | in-Again+else-loops-i-eq0 w ↦
-          let m = get_or c.args.loops.now i 0 in
-          let lt : m - 1 < i = omega (arith, innermost_below os i, mark, w.if-loops-i-eq0.false) in
-          let apart : m - 1 ≢ i = λ e. omega (arith, e, lt) in
-          w.current-is ∙ get_or-set_other c.loop-i.weights i (m - 1) cur 0 apart ∙ c.loop-i.invariant.so_far (m - 1) lt
-          ∙ ap (λ v. min 100000001 (weight os (v - 1))) mark
-          ∙ sym (ap (λ st. min 100000001 (weight_in os st)) (back_out os i w.in-Again.field-0 (op_at os i Halt _ c.loop-i-test.true w.in-Again.is) (λ z. w.if-loops-i-eq0.false (mark ∙ z))))
+            let m = get_or c.args.loops.now i 0 in
+            let lt : m - 1 < i = omega (arith, innermost_below os i, mark, w.if-loops-i-eq0.false) in
+            let apart : m - 1 ≢ i = λ e. omega (arith, e, lt) in
+            w.current-is ∙ get_or-set_other c.loop-i.weights i (m - 1) cur 0 apart ∙ c.loop-i.invariant.so_far (m - 1) lt
+            ∙ ap (λ v. min 100000001 (weight os (v - 1))) mark
+            ∙ sym (ap (λ st. min 100000001 (weight_in os st)) (back_out os i w.in-Again.field-0 (op_at os i Halt _ c.loop-i-test.true w.in-Again.is) (λ z. w.if-loops-i-eq0.false (mark ∙ z))))
         | in_default w ↦ w.current-is ∙ c.loop-i.invariant.now ∙ sym (ap (λ st. min 100000001 (weight_in os st)) (mark_other os i _ (op_at os i Halt _ c.loop-i-test.true refl) w.in_default.not-Loop w.in_default.not-Again))
       ];
       so_far = more_marks (λ p. min 100000001 (weight os p)) c.loop-i.weights i cur (omega arith) c.loop-i.invariant.so_far c.loop-i.invariant.now;

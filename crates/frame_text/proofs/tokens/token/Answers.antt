@@ -24,7 +24,8 @@ returns-clause-tokens c =
     let bs = c.args.text.now in
     let n = c.loop-end.end in
     word_at n bs _ c.loop-end.invariant.some c.loop-end.invariant.inside c.loop-end.invariant.word
-      (elim c.loop-end-test.branch [
-        then-loop-end-test+else-is_word_byte w ↦ stops_there n bs w.loop-end-test.true (sym w.is_word_byte-in-loop-end.ensures ∙ w.if-is_word_byte.false)
-        | else-loop-end-test w ↦ ends_there n bs w.loop-end-test.false ])
-      (take_all _ (drop n bs) (omega (arith, length-drop n bs)))
+    (elim c.loop-end-test.branch [
+      | then-loop-end-test+else-is_word_byte w ↦ stops_there n bs w.loop-end-test.true (sym w.is_word_byte-in-loop-end.ensures ∙ w.if-is_word_byte.false)
+      | else-loop-end-test w ↦ ends_there n bs w.loop-end-test.false
+    ])
+    (take_all _ (drop n bs) (omega (arith, length-drop n bs)))

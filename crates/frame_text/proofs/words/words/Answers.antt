@@ -16,9 +16,11 @@ loop-word-preserved c =
     let i = c.loop-word.invariant.read in
     let v = c.in-Some-data_word_in.value in
     record {
-      read = (i.0 ++ v ∷ [],
+      read = (
+        i.0 ++ v ∷ [],
         c.keep.ensures ∙ ap (λ xs. take 33 (xs ++ v ∷ [])) i.1 ∙ take_again 33 i.0 (v ∷ []),
-        words_more i.0 v c.in-Some.word.now (tokens c.loop-word.rest.now) (tokens c.in-Some.after.now) _ c.in-Some.ensures.tokens (sym c.is.ensures ∙ c.if-is.false) c.in-Some-data_word_in.ensures i.2);
+        words_more i.0 v c.in-Some.word.now (tokens c.loop-word.rest.now) (tokens c.in-Some.after.now) _ c.in-Some.ensures.tokens (sym c.is.ensures ∙ c.if-is.false) c.in-Some-data_word_in.ensures i.2,
+      );
       fewer = omega (arith, c.loop-word.invariant.fewer, ap length c.in-Some.ensures.tokens);
     }
 
