@@ -48,7 +48,11 @@ fn speeds(rt: &HostRuntime, path: &str) -> io::Result<()> {
         let _ = dump(rt.alloc(), &bytes, &mut counter);
         print = print.min(start.elapsed(rt)?.as_nanos());
     }
-    println!(rt; "{} {build} {print} {total} {}", bytes.len(), counter.bytes / u64::from(ROUNDS))
+    println!(rt;
+        "{} {build} {print} {total} {}",
+        bytes.len(),
+        counter.bytes / u64::from(ROUNDS)
+    )
 }
 
 fn main(rt: HostRuntime) -> io::Result<()> {
