@@ -1,9 +1,13 @@
 //! The command `bench one`: a message on fresh terminals, as the bytes of a packet and as lines of pairs.
 #![tactic(auto)]
 
+mod fault;
 mod print;
+mod single;
 
+pub use fault::OneFault;
 pub use print::print_bytes;
+pub use single::one;
 
 #[cfg(test)]
 mod tests;

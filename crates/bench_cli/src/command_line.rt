@@ -1,0 +1,93 @@
+//! The command line of `bench`: its commands, their arguments with their ranges, and their help.
+
+use clap::{Arg, ArgMatches, Command, Error, value_parser};
+use std::alloc::{AllocError, Global};
+
+/// What a command line asks.
+#[derive(Clone, Copy, Debug)]
+pub enum Request<'a> {
+    /// One message on fresh terminals, printed as a packet of this channel and data type version.
+    One {
+        channel: u16,
+        version: u8,
+        text: &'a str,
+    },
+    /// The packets and messages of a recording, printed as lines.
+    Dump {
+        recording: &'a str,
+    },
+}
+
+/// What the words ask, the program's name first. An error is a usage fault, the help or the version that was asked for, or
+/// want of memory: its kind says which.
+pub fn read<'a>(alloc: Global, words: &'a [String]) -> Result<Request<'a>, Error> {
+    let matches = bench_command(alloc)?.try_get_matches_from(words)?;
+    Ok(match matches.subcommand() {
+        Some(("dump", given)) => Request::Dump {
+            recording: given.get_str("RECORDING").unwrap_or(""),
+        },
+        Some((_, given)) => one_request(given),
+        None => one_request(&matches),
+    })
+}
+
+fn bench_command<'a>(alloc: Global) -> Result<Command<'a>, AllocError> {
+    Command::new(alloc, "bench")
+        .about(
+            "A test bench for MIL-STD-1553B data buses with a recorder of IRIG 106-17 Chapter 11",
+        )
+        .version("0.1.0")
+        .bin_name("bench")?
+        .subcommand_required(true)
+        .arg_required_else_help(true)
+        .after_help(
+            "Exit status: 0 done, 1 the input was refused, 2 usage, 3 a file or a stream failed, 4 no memory.",
+        )
+        .subcommand(one_command(alloc)?)?
+        .subcommand(dump_command(alloc)?)
+}
+
+fn dump_command<'a>(alloc: Global) -> Result<Command<'a>, AllocError> {
+    let recording = Arg::new(alloc, "RECORDING")
+        .required(true)
+        .help("The Chapter 11 file to show");
+    Command::new(alloc, "dump")
+        .about("Shows the packets and messages of a recording, or its first fault")
+        .after_help("Example:\n  bench dump flight.ch11")
+        .arg(recording)
+}
+
+fn one_command<'a>(alloc: Global) -> Result<Command<'a>, AllocError> {
+    let channel = Arg::new(alloc, "channel")
+        .long("channel")
+        .value_name("N")
+        .required(true)
+        .value_parser(value_parser!(u16).range(1..=65535))
+        .allow_negative_numbers(true)
+        .help("The packet's channel, 1 to 65535");
+    let version = Arg::new(alloc, "version")
+        .long("version")
+        .value_name("N")
+        .required(true)
+        .value_parser(value_parser!(u8).range(0..=255))
+        .allow_negative_numbers(true)
+        .help("The packet's data type version, 0 to 255; 6 is that of IRIG 106-17");
+    let text = Arg::new(alloc, "TEXT").required(true).help(
+        "The line, A or B, and the message, as in \"A rx 5 1 [0001]\"",
+    );
+    Command::new(alloc, "one")
+        .about("Runs one message on fresh terminals and prints its packet")
+        .disable_version_flag(true)
+        .after_help("Example:\n  bench one --channel 1 --version 6 \"A rx 5 1 [0001 0002 0003]\"")
+        .arg(channel)?
+        .arg(version)?
+        .arg(text)
+}
+
+fn one_request<'a>(given: &ArgMatches<'a>) -> Request<'a> {
+    Request::One {
+        channel: given.get_one::<u16>("channel").unwrap_or(1),
+        version: given.get_one::<u8>("version").unwrap_or(0),
+        text: given.get_str("TEXT").unwrap_or(""),
+    }
+}

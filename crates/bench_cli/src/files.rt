@@ -1,0 +1,20 @@
+//! Files, read whole.
+
+use crate::fault::Fault;
+use bench_dump::{DumpFault, read_all};
+use std::fs;
+use std::rt::Files;
+
+/// All bytes of a file. One that cannot be opened or read, or that does not end within 1,000,000 reads of up to 65,536 bytes
+/// (own choice), is a device fault with its name as given.
+pub fn read_whole<'a, R: Files + AllocGlobal>(rt: &R, name: &'a str) -> Result<Vec<u8>, Fault<'a>> {
+    let mut file = match fs::open(rt, name) {
+        Ok(file) => file,
+        Err(error) => return Err(Fault::of_stream(name, &error)),
+    };
+    match read_all(rt.alloc(), &mut file) {
+        Ok(bytes) => Ok(bytes),
+        Err(DumpFault::Memory) => Err(Fault::Memory),
+        Err(_) => Err(Fault::Device(name)),
+    }
+}

@@ -1,0 +1,13 @@
+//! `bench`: a test bench for MIL-STD-1553B data buses with a recorder of IRIG 106-17 Chapter 11.
+#![tactic(auto)]
+
+mod command_line;
+mod commands;
+mod fault;
+mod files;
+
+use std::process::ExitCode;
+
+fn main(rt: HostRuntime) -> ExitCode {
+    commands::run(&rt)
+}

@@ -1,0 +1,101 @@
+//! One message on fresh terminals.
+ghost use Rattle.std.specs.Prelude.{◌≡◌, ◌<◌, ◌^◌, true, map, Ok, IfOk, IfErr, length, ◌≤◌};
+ghost use Rattle.mil_message.specs.Rules.{IsLawful};
+ghost use Rattle.mil_bus.specs.Addresses.{is_fit};
+ghost use Rattle.mil_monitor.specs.Observed.{observed};
+ghost use Rattle.bench_one.specs.One.{named, only_talk, only_record, packet_of_send, packet_of_text, IsRefusal};
+
+use crate::fault::OneFault;
+use arrayvec::ArrayVec;
+use ch11_builder::Builder;
+use frame_text::{ScriptError, read_send};
+use mil_bus::{Bus, Talk};
+use mil_line::Gap;
+use mil_message::Message;
+use mil_monitor::{Record, observe};
+use mil_word::Line;
+use std::alloc::{AllocError, Global};
+
+/// The packet of the message that the text spells, as in `A rx 5 1 [0001]`, run on fresh terminals at the addresses that it
+/// names, at tick 0. A text that spells none is refused with its first fault (S1 to S5); then memory.
+pub fn one(alloc: Global, channel: u16, version: u8, text: &[u8]) -> Result<Vec<u8>, OneFault>
+    ensures packet { IfOk result (λ bytes. packet_of_text channel version text.now ≡ Ok bytes.items) }
+    ensures refused { IfErr result (IsRefusal (packet_of_text channel version text.now)) }
+{
+    match read_send(text) {
+        Ok((line, message)) => Ok(packet(alloc, channel, version, line, &message)?),
+        Err(ScriptError::Text { cause, place }) => Err(OneFault::Text { cause, place }),
+        Err(ScriptError::Memory { .. }) => Err(OneFault::Memory),
+    }
+}
+
+/// The packet of one message.
+fn packet(
+    alloc: Global,
+    channel: u16,
+    version: u8,
+    line: Line,
+    message: &Message,
+) -> Result<Vec<u8>, AllocError>
+    ensures { IfOk result (λ bytes. bytes.items ≡ packet_of_send channel version line message.now) }
+{
+    let talk = only_talk(alloc, line, message)?;
+    packed(alloc, channel, version, line, message, &observe(&talk))
+}
+
+/// The addresses that a message names.
+fn named(message: &Message) -> ArrayVec<u8, 2>
+    ensures all { result.items ≡ named message.now }
+    ensures fit { is_fit result.items ≡ true }
+{
+    let _lawful = message.form();
+    let mut addresses = ArrayVec::new();
+    for due in message.replies_due().as_slice() {
+        addresses.push(due.address);
+    }
+    addresses
+}
+
+/// The exchange of a message on a bus with fresh terminals.
+fn only_talk(alloc: Global, line: Line, message: &Message) -> Result<Talk, AllocError>
+    ensures talk { IfOk result (λ talk. talk ≡ only_talk line message.now) }
+    ensures start { IfOk result (λ talk. talk.start ≡ 0) }
+{
+    let addresses = named(message);
+    match Bus::make(alloc, 0, addresses.as_slice()) {
+        Ok(mut bus) => Ok(bus.exchange(line, message, Gap::of(40), &[])),
+        Err(_) => Err(AllocError),
+    }
+}
+
+/// The packet of one record.
+fn packed(
+    alloc: Global,
+    channel: u16,
+    version: u8,
+    line: Line,
+    message: &Message,
+    recorded: &Record,
+) -> Result<Vec<u8>, AllocError>
+    requires is { recorded.now ≡ observed (only_talk line message.now) }
+    requires stamp { recorded.now.stamp < 2 ^ 48 }
+    ensures { IfOk result (λ bytes. bytes.items ≡ packet_of_send channel version line message.now) }
+{
+    let Ok(mut builder) = Builder::make(alloc, channel, version, 256) else {
+        return Err(AllocError);
+    };
+    let _ = builder.push(1, recorded);
+    match builder.close() {
+        Some(packet) => copied(alloc, packet),
+        None => Ok(Vec::new(alloc)),
+    }
+}
+
+/// The same bytes, in memory of their own.
+fn copied(alloc: Global, bytes: &[u8]) -> Result<Vec<u8>, AllocError>
+    ensures { IfOk result (λ copy. copy.items ≡ bytes.now) }
+{
+    let mut copy = Vec::new(alloc);
+    copy.extend_from_slice(bytes)?;
+    Ok(copy)
+}
