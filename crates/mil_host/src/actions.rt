@@ -9,15 +9,15 @@ use crate::values::{Mark, ResponseGap, TransmitWords};
 pub enum Action {
     /// The words that a transmit command at a subaddress sends.
     Transmit(TransmitWords),
-    /// The busy bit of the status word (MIL-STD-1553B 4.3.3.5.3.9).
+    /// The busy bit of the status word (MIL-STD-1553B 4.3.3.5.3.8).
     Busy(bool),
     /// The service request bit (4.3.3.5.3.5).
     Service(bool),
-    /// The subsystem flag (4.3.3.5.3.10).
+    /// The subsystem flag (4.3.3.5.3.9).
     Subsystem(bool),
-    /// A fault of the terminal itself, which its terminal flag tells (4.3.3.5.3.12).
+    /// A fault of the terminal itself, which its terminal flag tells (4.3.3.5.3.11).
     Fault(bool),
-    /// Whether an offer of dynamic bus control is accepted (4.3.3.5.3.11).
+    /// Whether an offer of dynamic bus control is accepted (4.3.3.5.3.10).
     Control(bool),
     /// The vector word (4.3.3.5.1.7.10).
     Vector(u16),

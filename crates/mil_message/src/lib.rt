@@ -15,3 +15,6 @@ pub use drafts::{Draft, ModeSubaddress};
 pub use faults::BadMessage;
 pub use forms::{Commands, Due, Form};
 pub use messages::Message;
+
+#[cfg(test)]
+mod tests;

@@ -1,0 +1,522 @@
+//! Messages as they stand on a bus, and each fault of each form.
+use crate::{BadMessage, Draft, Due, Form, Message, ModeSubaddress};
+use arrayvec::ArrayVec;
+use mil_word::{Sync, Wave, Word};
+use std::process::Abort;
+use std::test::Fail;
+
+const SUBADDRESS: ModeSubaddress = ModeSubaddress::ThirtyOne;
+
+fn message(rt: &impl Abort, draft: Draft<'_>) -> Message {
+    Message::check(draft).expect(rt, "a draft in range")
+}
+
+/// The controller's words are these commands and these data words, and the replies due are these.
+fn stands(rt: &impl Abort, draft: Draft<'_>, commands: &[u16], words: &[u16], due: &[Due]) {
+    let message = message(rt, draft);
+    let mut sent: ArrayVec<Word, 34> = ArrayVec::new();
+    for &value in commands {
+        assert!(rt; !sent.is_full());
+        sent.push(Word {
+            sync: Sync::CommandSync,
+            value,
+        });
+    }
+    for &value in words {
+        assert!(rt; !sent.is_full());
+        sent.push(Word {
+            sync: Sync::DataSync,
+            value,
+        });
+    }
+    assert_eq!(rt; message.controller_words().as_slice(), sent.as_slice());
+    assert_eq!(rt; message.controller_count(), sent.len());
+    assert_eq!(rt; message.data_words(), words);
+    assert_eq!(rt; message.replies_due().as_slice(), due);
+    assert!(rt; Message::check(message.draft()) == Ok(message.copy()));
+    let commands = message.commands();
+    let second = commands.second.map_or(0, |command| command.value());
+    let back = Message::of_parts(message.form_number(), commands.first.value(), second, words);
+    assert!(rt; back == Some(message));
+}
+
+fn due(address: u8, words: u8) -> Due {
+    Due { address, words }
+}
+
+#[test]
+fn messages_of_data(rt: HostRuntime) {
+    stands(
+        &rt,
+        Draft::ToTerminal {
+            address: 5,
+            subaddress: 1,
+            words: &[1, 2, 3],
+        },
+        &[0x2823],
+        &[1, 2, 3],
+        &[due(5, 0)],
+    );
+    stands(
+        &rt,
+        Draft::FromTerminal {
+            address: 5,
+            subaddress: 2,
+            count: 32,
+        },
+        &[0x2c40],
+        &[],
+        &[due(5, 32)],
+    );
+    let between = Draft::Between {
+        sender: 7,
+        sender_subaddress: 1,
+        receiver: 3,
+        receiver_subaddress: 4,
+        count: 2,
+    };
+    stands(
+        &rt,
+        between,
+        &[0x1882, 0x3c22],
+        &[],
+        &[due(7, 2), due(3, 0)],
+    );
+    stands(
+        &rt,
+        Draft::ToAll {
+            subaddress: 1,
+            words: &[0x00aa],
+        },
+        &[0xf821],
+        &[0x00aa],
+        &[],
+    );
+    let to_all = Draft::BetweenAll {
+        sender: 7,
+        sender_subaddress: 1,
+        receiver_subaddress: 4,
+        count: 2,
+    };
+    stands(&rt, to_all, &[0xf882, 0x3c22], &[], &[due(7, 2)]);
+}
+
+#[test]
+fn mode_commands(rt: HostRuntime) {
+    let subaddress = SUBADDRESS;
+    stands(
+        &rt,
+        Draft::mode_command(5, subaddress, 2, None),
+        &[0x2fe2],
+        &[],
+        &[due(5, 0)],
+    );
+    stands(
+        &rt,
+        Draft::mode_command(5, subaddress, 18, None),
+        &[0x2ff2],
+        &[],
+        &[due(5, 1)],
+    );
+    stands(
+        &rt,
+        Draft::mode_command(5, subaddress, 20, Some(&[0])),
+        &[0x2bf4],
+        &[0],
+        &[due(5, 0)],
+    );
+    stands(
+        &rt,
+        Draft::mode_command(5, subaddress, 22, Some(&[0])),
+        &[0x2bf6],
+        &[0],
+        &[due(5, 0)],
+    );
+    stands(
+        &rt,
+        Draft::mode_command(5, subaddress, 22, None),
+        &[0x2ff6],
+        &[],
+        &[due(5, 1)],
+    );
+    stands(
+        &rt,
+        Draft::mode_command(5, ModeSubaddress::Zero, 2, None),
+        &[0x2c02],
+        &[],
+        &[due(5, 0)],
+    );
+    stands(
+        &rt,
+        Draft::mode_command_to_all(subaddress, 1, None),
+        &[0xffe1],
+        &[],
+        &[],
+    );
+    stands(
+        &rt,
+        Draft::mode_command_to_all(subaddress, 17, Some(&[7])),
+        &[0xfbf1],
+        &[7],
+        &[],
+    );
+}
+
+#[test]
+fn waves(rt: HostRuntime) -> Result<(), Fail> {
+    let message = message(
+        &rt,
+        Draft::ToTerminal {
+            address: 5,
+            subaddress: 1,
+            words: &[0],
+        },
+    );
+    let message = message.clone()?;
+    let waves = message.controller_waves();
+    assert_eq!(rt; waves.len(), 2);
+    assert_eq!(rt; waves[1], Wave::of(0x1D_5555_5556));
+    Ok(())
+}
+
+/// The draft is refused with this fault.
+fn refused(rt: &impl Abort, draft: Draft<'_>, fault: BadMessage) {
+    assert!(rt; Message::check(draft) == Err(fault));
+}
+
+#[test]
+fn addresses_over_30(rt: HostRuntime) {
+    let subaddress = SUBADDRESS;
+    let fault = BadMessage::Address;
+    refused(
+        &rt,
+        Draft::ToTerminal {
+            address: 31,
+            subaddress: 0,
+            words: &[],
+        },
+        fault,
+    );
+    refused(
+        &rt,
+        Draft::FromTerminal {
+            address: 31,
+            subaddress: 0,
+            count: 0,
+        },
+        fault,
+    );
+    refused(
+        &rt,
+        Draft::Between {
+            sender: 31,
+            sender_subaddress: 0,
+            receiver: 31,
+            receiver_subaddress: 0,
+            count: 0,
+        },
+        fault,
+    );
+    refused(
+        &rt,
+        Draft::Between {
+            sender: 1,
+            sender_subaddress: 0,
+            receiver: 31,
+            receiver_subaddress: 0,
+            count: 0,
+        },
+        fault,
+    );
+    refused(
+        &rt,
+        Draft::Mode {
+            address: 31,
+            subaddress,
+            code: 16,
+            words: Some(&[]),
+        },
+        fault,
+    );
+    refused(
+        &rt,
+        Draft::ModeFrom {
+            address: 31,
+            subaddress,
+            code: 0,
+            words: Some(&[]),
+        },
+        fault,
+    );
+    refused(
+        &rt,
+        Draft::ModeTo {
+            address: 31,
+            subaddress,
+            code: 0,
+            words: None,
+        },
+        fault,
+    );
+    refused(
+        &rt,
+        Draft::BetweenAll {
+            sender: 31,
+            sender_subaddress: 0,
+            receiver_subaddress: 0,
+            count: 0,
+        },
+        fault,
+    );
+}
+
+#[test]
+fn subaddresses_outside_1_to_30(rt: HostRuntime) {
+    let fault = BadMessage::Subaddress;
+    refused(
+        &rt,
+        Draft::ToTerminal {
+            address: 5,
+            subaddress: 0,
+            words: &[],
+        },
+        fault,
+    );
+    refused(
+        &rt,
+        Draft::ToTerminal {
+            address: 5,
+            subaddress: 31,
+            words: &[],
+        },
+        fault,
+    );
+    refused(
+        &rt,
+        Draft::FromTerminal {
+            address: 5,
+            subaddress: 31,
+            count: 0,
+        },
+        fault,
+    );
+    refused(
+        &rt,
+        Draft::Between {
+            sender: 5,
+            sender_subaddress: 1,
+            receiver: 5,
+            receiver_subaddress: 0,
+            count: 0,
+        },
+        fault,
+    );
+    refused(
+        &rt,
+        Draft::ToAll {
+            subaddress: 31,
+            words: &[],
+        },
+        fault,
+    );
+    refused(
+        &rt,
+        Draft::BetweenAll {
+            sender: 5,
+            sender_subaddress: 1,
+            receiver_subaddress: 31,
+            count: 0,
+        },
+        fault,
+    );
+}
+
+#[test]
+fn counts_and_codes(rt: HostRuntime) {
+    let subaddress = SUBADDRESS;
+    let fault = BadMessage::CountOrCode;
+    refused(
+        &rt,
+        Draft::ToTerminal {
+            address: 5,
+            subaddress: 1,
+            words: &[],
+        },
+        fault,
+    );
+    refused(
+        &rt,
+        Draft::ToTerminal {
+            address: 5,
+            subaddress: 1,
+            words: &[0; 33],
+        },
+        fault,
+    );
+    refused(
+        &rt,
+        Draft::FromTerminal {
+            address: 5,
+            subaddress: 1,
+            count: 33,
+        },
+        fault,
+    );
+    refused(
+        &rt,
+        Draft::Between {
+            sender: 5,
+            sender_subaddress: 1,
+            receiver: 5,
+            receiver_subaddress: 2,
+            count: 0,
+        },
+        fault,
+    );
+    refused(
+        &rt,
+        Draft::Mode {
+            address: 5,
+            subaddress,
+            code: 16,
+            words: None,
+        },
+        fault,
+    );
+    refused(
+        &rt,
+        Draft::ModeFrom {
+            address: 5,
+            subaddress,
+            code: 17,
+            words: None,
+        },
+        fault,
+    );
+    refused(
+        &rt,
+        Draft::ModeTo {
+            address: 5,
+            subaddress,
+            code: 18,
+            words: Some(&[0]),
+        },
+        fault,
+    );
+    refused(&rt, Draft::mode_command(5, subaddress, 32, None), fault);
+    refused(
+        &rt,
+        Draft::ToAll {
+            subaddress: 1,
+            words: &[],
+        },
+        fault,
+    );
+    refused(
+        &rt,
+        Draft::BetweenAll {
+            sender: 5,
+            sender_subaddress: 1,
+            receiver_subaddress: 1,
+            count: 33,
+        },
+        fault,
+    );
+    refused(
+        &rt,
+        Draft::ModeAll {
+            subaddress,
+            code: 16,
+            words: None,
+        },
+        fault,
+    );
+    refused(&rt, Draft::mode_command_to_all(subaddress, 16, None), fault);
+}
+
+#[test]
+fn ends_and_mode_words(rt: HostRuntime) {
+    let subaddress = SUBADDRESS;
+    let between = Draft::Between {
+        sender: 5,
+        sender_subaddress: 1,
+        receiver: 5,
+        receiver_subaddress: 2,
+        count: 1,
+    };
+    refused(&rt, between, BadMessage::SameEnds);
+    let fault = BadMessage::ModeWord;
+    refused(&rt, Draft::mode_command(5, subaddress, 20, None), fault);
+    refused(
+        &rt,
+        Draft::mode_command(5, subaddress, 22, Some(&[])),
+        fault,
+    );
+    refused(
+        &rt,
+        Draft::mode_command(5, subaddress, 20, Some(&[1, 2])),
+        fault,
+    );
+    refused(
+        &rt,
+        Draft::mode_command(5, subaddress, 2, Some(&[1])),
+        fault,
+    );
+    refused(
+        &rt,
+        Draft::mode_command(5, subaddress, 16, Some(&[1])),
+        fault,
+    );
+    refused(
+        &rt,
+        Draft::mode_command_to_all(subaddress, 1, Some(&[1])),
+        fault,
+    );
+    refused(&rt, Draft::mode_command_to_all(subaddress, 17, None), fault);
+}
+
+#[test]
+fn parts_of_no_message(rt: HostRuntime) {
+    assert!(rt; Message::of_parts(0, 0x2823, 0, &[1, 2]).is_none());
+    assert!(rt; Message::of_parts(0, 0x2823, 1, &[1, 2, 3]).is_none());
+    assert!(rt; Message::of_parts(1, 0x2823, 0, &[]).is_none());
+    assert!(rt; Message::of_parts(3, 0x2fe2, 0, &[1]).is_none());
+    assert!(rt; Message::of_parts(10, 0x2823, 0, &[1, 2, 3]).is_none());
+}
+
+#[test]
+fn printed_faults(rt: HostRuntime) -> Result<(), Fail> {
+    let faults = [
+        BadMessage::Address,
+        BadMessage::Subaddress,
+        BadMessage::CountOrCode,
+        BadMessage::SameEnds,
+        BadMessage::ModeWord,
+    ];
+    let mut text = format!(in rt.alloc(); "")?;
+    for fault in faults {
+        text.push_str(format!(in rt.alloc(); "{fault} ")?.as_str())?;
+    }
+    assert_eq!(rt; text.as_str(), "M1 M2 M3 M4 M5 ");
+    Ok(())
+}
+
+#[test]
+fn form_of_a_message(rt: HostRuntime) {
+    let message = message(
+        &rt,
+        Draft::FromTerminal {
+            address: 5,
+            subaddress: 2,
+            count: 32,
+        },
+    );
+    assert!(rt;
+        *message.form()
+            == Form::FromTerminal {
+                address: 5,
+                subaddress: 2,
+                count: 32
+            }
+    );
+}
