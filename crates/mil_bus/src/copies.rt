@@ -10,7 +10,7 @@ pub fn copied(alloc: Global, terminals: &[Terminal]) -> Result<Vec<Terminal>, Al
 {
     let mut copies = Vec::with_capacity(alloc, terminals.len())?;
     for terminal in terminals {
-        copies.push(terminal.copy(alloc)?)?;
+        copies.push(terminal.copy()?)?;
     }
     Ok(copies)
 }

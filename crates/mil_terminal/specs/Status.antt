@@ -37,7 +37,7 @@ abbrev pub bit : Bool → ℕ → ℕ
 bit true place = 2 ^ place
 bit false place = 0
 
--- the address and a bit for each condition (4.3.3.5.3.2 to 4.3.3.5.3.12)
+-- the address and a bit for each condition (4.3.3.5.3.2 to 4.3.3.5.3.11)
 abbrev pub status_word : ℕ → Conditions → ℕ
 status_word own s =
     own * 2 ^ 11 + bit s.message_error 10 + bit s.service_request 8 + bit s.broadcast 4 + bit s.busy 3 + bit s.subsystem 2 + bit s.control 1 + bit s.terminal 0

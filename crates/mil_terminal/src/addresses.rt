@@ -22,6 +22,7 @@ impl Model for Address {
 }
 
 impl Address {
+    /// The address of this number, 0 to 30.
     pub fn of(value: u8) -> Address
         requires { value ≤ 30 }
         ensures { result ≡ value }
@@ -29,6 +30,7 @@ impl Address {
         Address { value }
     }
 
+    /// The number, 0 to 30.
     #[inline]
     pub fn value(self) -> u8
         ensures value { result ≡ self }

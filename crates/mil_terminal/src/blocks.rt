@@ -4,10 +4,8 @@ ghost use Rattle.std.specs.Prelude.{◌≡◌, ℕ, ◌<◌, ◌≤◌, List, []
 use std::alloc::{AllocError, Global};
 use std::marker::Model;
 
-/// How many lists of words a block has: for each of 32 subaddresses those received, those received from all, and those put up.
-pub const SLOTS: usize = 96;
-
-/// 96 lists of at most 32 words each, in one block of memory.
+/// 96 lists of at most 32 words each, in one block of memory: for each of 32 subaddresses those received, those received from
+/// all, and those put up.
 #[derive(Drop)]
 pub struct Block {
     words: Vec<u16>,
@@ -59,11 +57,11 @@ impl Block {
     }
 
     /// The same words, in a block of their own.
-    pub fn copy(&self, alloc: Global) -> Result<Block, AllocError>
+    pub fn copy(&self) -> Result<Block, AllocError>
         ensures { IfOk result (λ b. b ≡ self.now) }
     {
         Ok(Block {
-            words: Vec::from_slice(alloc, self.words.as_slice())?,
+            words: self.words.clone()?,
             counts: self.counts,
         })
     }

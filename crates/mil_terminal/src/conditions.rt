@@ -4,7 +4,7 @@ ghost use Rattle.mil_terminal.specs.Status.{no_conditions, status_word, bit as b
 
 use crate::addresses::Address;
 
-/// The conditions that a status word tells (MIL-STD-1553B 4.3.3.5.3.3 to 4.3.3.5.3.12). Terminals here never set the
+/// The conditions that a status word tells (MIL-STD-1553B 4.3.3.5.3.3 to 4.3.3.5.3.11). Terminals here never set the
 /// instrumentation bit (own choice).
 #[derive(Clone, Copy, Debug, PartialEq, Eq)]
 pub struct Conditions {

@@ -3,6 +3,7 @@
 
 mod addresses;
 mod blocks;
+mod commands;
 mod conditions;
 mod events;
 mod host;

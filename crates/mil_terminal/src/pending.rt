@@ -41,6 +41,7 @@ pub struct Pending {
     pub words: ArrayVec<u16, 32>,
 }
 
+/// Whether two lines are one.
 pub fn same_line(one: Line, other: Line) -> bool
     ensures { result ≡ same one other }
 {

@@ -8,14 +8,13 @@ ghost use Rattle.mil_terminal.specs.Status.{status};
 ghost use Rattle.mil_terminal.specs.Replies as replies;
 ghost use Rattle.mil_terminal.specs.Replies.{exactly};
 ghost use Rattle.mil_word.specs.Fields.{address_of};
-ghost use Rattle.mil_terminal.specs.Updates.{is_code};
-ghost use Rattle.mil_terminal.specs.Verdicts.{is_unknown as unknown};
 ghost use Rattle.mil_terminal.specs.Windows.{is_listening};
 ghost use Rattle.std.specs.Option.{option_to_list};
 ghost use Rattle.arrayvec.specs.ArrayVec.{array_vec_len};
 
 use crate::addresses::Address;
 use crate::blocks::Block;
+use crate::commands::{is_bus_control, is_question, is_unknown};
 use crate::conditions::Conditions;
 use crate::host::Settings;
 use crate::pending::{Pending, same_line};
@@ -26,7 +25,6 @@ use crate::synced::Synced;
 use arrayvec::ArrayVec;
 use mil_host::Action;
 use mil_line::Gap;
-use mil_mode::{broadcast_allowed, is_legal_mode};
 use mil_word::{Command, Line};
 use std::alloc::{AllocError, Global};
 
@@ -41,28 +39,6 @@ pub struct Registers {
     pub synced: Synced,
     pub last_command: u16,
     pub block: Block,
-}
-
-/// Whether the command leaves the status as it was.
-fn is_question(own: Address, command: Command) -> bool
-    ensures { result ≡ registers.is_question own command }
-{
-    command.address() == own.value()
-        && command.is_transmit()
-        && command.is_mode()
-        && (command.code() == 2 || command.code() == 18)
-}
-
-/// Whether no terminal here carries the command out.
-fn is_unknown(command: Command) -> bool
-    ensures { result ≡ unknown command }
-{
-    if command.is_mode() {
-        !is_legal_mode(command.is_transmit(), command.code())
-            || command.is_broadcast() && !broadcast_allowed(command.is_transmit(), command.code())
-    } else {
-        command.is_broadcast() && command.is_transmit()
-    }
 }
 
 impl Registers {
@@ -361,10 +337,10 @@ impl Registers {
     }
 
     /// The same registers.
-    pub fn copy(&self, alloc: Global) -> Result<Registers, AllocError>
+    pub fn copy(&self) -> Result<Registers, AllocError>
         ensures { IfOk result (λ r. r ≡ self.now) }
     {
-        let block = self.block.copy(alloc)?;
+        let block = self.block.copy()?;
         Ok(Registers {
             own: self.own,
             window: match &self.window {
@@ -379,13 +355,6 @@ impl Registers {
             block,
         })
     }
-}
-
-/// Whether this is the mode code that offers dynamic bus control.
-fn is_bus_control(command: Command) -> bool
-    ensures { result ≡ is_code command 0 }
-{
-    command.is_mode() && command.is_transmit() && command.code() == 0
 }
 
 /// So many words: the first of these, and zeros where there are fewer.

@@ -151,11 +151,11 @@ impl Terminal {
         self.registers.listens(line)
     }
 
-    /// The same terminal, with room of its own.
-    pub fn copy(&self, alloc: Global) -> Result<Terminal, AllocError>
+    /// The same terminal, with room of its own from the same allocator; it fails for want of memory alone.
+    pub fn copy(&self) -> Result<Terminal, AllocError>
         ensures { IfOk result (λ t. t ≡ self.now) }
     {
-        let registers = self.registers.copy(alloc)?;
+        let registers = self.registers.copy()?;
         Ok(Terminal {
             registers,
             past: log_after(Link::Same(Snapshot::of(&self.past))),

@@ -167,7 +167,7 @@ fn subaddress_30_wraps_around_and_broadcast_is_kept_apart(rt: HostRuntime) -> Re
         words(&say(&mut terminal, Line::A, 0x2fe2, &[])),
         [0x2810].as_slice()
     );
-    let copied = terminal.copy(rt.alloc())?;
+    let copied = terminal.copy()?;
     assert_eq!(rt; copied.transmit_words(30), [0xbeef, 0xcafe].as_slice());
     Ok(())
 }
