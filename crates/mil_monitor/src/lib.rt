@@ -21,3 +21,6 @@ pub struct Record {
     /// The 16 information bits of each word, in the order on the bus; at most forty are recorded.
     pub words: ArrayVec<u16, 40>,
 }
+
+#[cfg(test)]
+mod tests;
