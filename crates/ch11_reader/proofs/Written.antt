@@ -1,5 +1,5 @@
 -- A packet that is written is read again.
-use Rattle.std.proofs.Common.{◌≡◌, ℕ, ◌+◌, ◌-◌, ◌≤◌, ◌<◌, Bool, true, false, eqb, ltb, eq-eqb, List, [], ◌∷◌, ◌++◌, length, take, drop, map, Result, Ok, Err, refl, sym, ap, ◌∙◌, append_assoc, arith}
+use Rattle.std.proofs.Common.{◌≡◌, ℕ, ◌<◌, true, false, eqb, ltb, eq-eqb, List, [], ◌++◌, length, drop, map, Ok, refl, sym, ap, ◌∙◌, append_assoc, arith}
 use Rattle.std.proofs.lemmas.Bool.{le-ltb, lt-leb}
 use Rattle.std.proofs.lemmas.List.{append-nil, length-append, take_at}
 use lib.Dec.{leb}
@@ -7,9 +7,8 @@ use Rattle.mil_monitor.specs.declared.Record.{Record}
 use Rattle.ch11_header.specs.declared.header.Header.{Header}
 use Rattle.ch11_header.specs.HeaderBytes.{header_bytes, summed_bytes}
 use Rattle.ch11_header.specs.HeaderReading.{header_in}
-use Rattle.ch11_f1.specs.declared.fault.BodyError.{BodyError}
 use Rattle.ch11_f1.specs.BodyBytes.{body_bytes}
-use Rattle.ch11_f1.specs.BodyReading.{Message, messages_in, ok_or_none}
+use Rattle.ch11_f1.specs.BodyReading.{messages_in}
 use Rattle.ch11_f1.specs.Again.{as_message}
 use Rattle.ch11_reader.specs.Recording.{body_of, messages_of, packet_at}
 use Rattle.ch11_reader.specs.Written.{IsWritten, written_bytes}

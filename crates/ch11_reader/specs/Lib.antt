@@ -4,3 +4,4 @@ pub mod Listing
 pub mod Indexed
 pub mod Examples
 pub mod Written
+pub mod Joined

@@ -1,5 +1,5 @@
 -- A packet of messages as it is written: a header without a secondary one, the body, and filler.
-use Rattle.std.specs.Prelude.{◌≡◌, ℕ, ◌+◌, ◌<◌, ◌^◌, List, ◌++◌, length, Ok}
+use Rattle.std.specs.Prelude.{◌≡◌, ℕ, ◌<◌, ◌^◌, List, ◌++◌, length, Ok}
 use Rattle.std.specs.List.{AllByRecursion}
 use Rattle.mil_monitor.specs.declared.Record.{Record}
 use Rattle.ch11_header.specs.declared.header.Header.{Header}

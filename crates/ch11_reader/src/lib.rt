@@ -12,7 +12,7 @@ mod search;
 pub use channel::ChannelMessages;
 pub use fault::{Fault, ReadError, Refusal};
 pub use index::Index;
-pub use laws::packet_is_read_again;
+pub use laws::{packet_is_read_again, recordings_join};
 pub use packet::{MESSAGES_KIND, Packet};
 
 #[cfg(test)]
