@@ -1,0 +1,3 @@
+pub mod Stacks
+pub mod Runs
+pub mod Steps

@@ -1,0 +1,9 @@
+pub mod Controller
+pub mod Outcomes
+pub mod Running
+pub mod UnderWay
+pub mod Moves
+pub mod Able
+pub mod Counters
+pub mod Begun
+pub mod Seeing

@@ -1,0 +1,20 @@
+-- What the parts of a step make of a controller.
+use Rattle.std.specs.Prelude.{ℕ, ◌+◌, Bool, ◌∷◌}
+use Rattle.frame_code.specs.Table.{Registers, at_place}
+use Rattle.bc_machine.specs.Running.{MachineState}
+
+-- one more step was taken, and these are the registers after it
+abbrev pub with_registers : MachineState → Registers → MachineState
+with_registers m r = record { code = m.code; plan = m.plan; placed = m.placed; begun = m.begun; taken = m.taken; at = r; point = m.point }
+
+abbrev pub gone : MachineState → ℕ → MachineState
+gone m place = record { code = m.code; plan = m.plan; placed = m.placed; begun = m.begun; taken = m.taken + 1; at = at_place m.at place; point = m.point }
+
+abbrev pub gap_set : MachineState → ℕ → MachineState
+gap_set m ticks = record { code = m.code; plan = m.plan; placed = m.placed; begun = m.begun; taken = m.taken; at = m.at; point = record m.point { gap = ticks } }
+
+abbrev pub opened : MachineState → ℕ → MachineState
+opened m count = with_registers m (record m.at { counters = count ∷ m.at.counters })
+
+abbrev pub flagged : MachineState → Bool → MachineState
+flagged m flag = with_registers m (record m.at { flag = flag })

@@ -1,0 +1,14 @@
+-- A controller's fields as plain data.
+use Rattle.bc_machine.specs.Running.{MachineState}
+use Rattle.bc_machine.specs.declared.parts.Parts.TheInside.{Inside}
+
+abbrev pub state_in : Inside → MachineState
+state_in m = record {
+  code = m.program;
+  plan = m.plan;
+  placed = m.placed.items;
+  begun = m.begun.value.0;
+  taken = m.taken;
+  at = record { place = m.place; counters = m.counters; flag = m.flag; line = m.line };
+  point = record { state = m.bus; number = m.number; gap = m.gap; last = m.last };
+}

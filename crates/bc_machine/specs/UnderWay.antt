@@ -1,0 +1,52 @@
+-- What every controller keeps, and what a step tells.
+use Rattle.std.specs.Prelude.{◌≡◌, ◌+◌, ◌*◌, ◌^◌, ◌≤◌, ◌<◌, ◌∷◌, Some}
+use Rattle.mil_bus.specs.declared.talks.Talk.{Talk}
+use Rattle.mil_monitor.specs.declared.Record.{Record}
+use Rattle.mil_monitor.specs.Observed.{observed}
+use Rattle.frame_code.specs.Table.{goes_on, halted, start, run}
+use Rattle.frame_code.specs.Loadable.{IsLoadable}
+use Rattle.frame_load.specs.Budget.{budget, worst_messages}
+use Rattle.frame_load.specs.Judging.{IsWithin}
+use Rattle.bc_machine.specs.declared.Stepped.{Stepped}
+use Rattle.bc_machine.specs.declared.Stepped.TheVariants.{Ran, Sent, Halted}
+use Rattle.bc_machine.specs.Controller.{outcome_in}
+use Rattle.bc_machine.specs.Running.{MachineState, world_in, beginning, turn_of, clock_in}
+
+-- a loaded code stands where its run from the beginning comes after the steps that were taken, within its budget
+pub record IsUnderWay (m : MachineState) : Type 0 where
+  pub loadable : IsLoadable m.code
+  pub within : IsWithin m.code
+  pub reached : run (world_in m) m.taken m.code start (beginning m.begun) ≡ goes_on (record { at = m.at; point = m.point })
+  pub steps : m.taken ≤ budget m.code.operations
+  pub messages : m.point.number ≤ worst_messages m.code.operations
+  -- a message moves the clock by at most 2^24 ticks
+  pub clock : clock_in m ≤ 2 ^ 47 + m.point.number * 2 ^ 24
+
+-- a message was sent, and this is its record: its stamp is below 2^48, and never before the end of the talk before
+pub record IsSent (old new : MachineState) (r : Record) : Type 0 where
+  pub talk : Talk
+  pub recorded : r ≡ observed talk
+  pub talks : new.point.state.talks ≡ talk ∷ old.point.state.talks
+  pub number : new.point.number ≡ old.point.number + 1
+  pub last : new.point.last ≡ Some (outcome_in talk)
+  pub taken : new.taken ≡ old.taken + 1
+  pub small : r.stamp < 2 ^ 48
+  pub follows : clock_in old ≤ r.stamp
+  pub ends : r.stamp ≤ clock_in new
+
+-- a step that sent nothing: bus, number and outcome stand still
+pub record IsQuiet (old new : MachineState) : Type 0 where
+  pub state : new.point.state ≡ old.point.state
+  pub number : new.point.number ≡ old.point.number
+  pub last : new.point.last ≡ old.point.last
+  pub taken : new.taken ≡ old.taken + 1
+
+pub record IsHalted (old new : MachineState) : Type 0 where
+  pub halts : turn_of old ≡ halted
+  pub same : new ≡ old
+
+-- what an answer tells of the step
+abbrev pub Tells : MachineState → MachineState → Stepped → Type 0
+Tells old new Ran = IsQuiet old new
+Tells old new (Sent r) = IsSent old new r
+Tells old new Halted = IsHalted old new

@@ -1,0 +1,38 @@
+//! What holds of every run of a controller.
+ghost use Rattle.std.specs.Prelude.{◌≡◌, ◌≢◌, ◌≤◌, ℕ, List};
+ghost use Rattle.mil_line.specs.Plans.{Planned};
+ghost use Rattle.mil_bus.specs.Exchange.{BusState};
+ghost use Rattle.frame_code.specs.Table.{Code, halted, stuck};
+ghost use Rattle.frame_code.specs.Loadable.{IsLoadable};
+ghost use Rattle.frame_load.specs.Budget.{budget, worst_messages};
+ghost use Rattle.bc_machine.specs.declared.placed.Placed.{Placed};
+ghost use Rattle.bc_machine.specs.Running.{started, after_steps, turn_of};
+
+use frame_code::Setting;
+use frame_load::loadable_runs;
+
+/// The bus as what frames run on, for proofs alone.
+pub struct BusSetting;
+
+impl Setting for BusSetting {
+    ghost use Rattle.mil_bus.specs.Exchange.{BusState};
+    ghost use Rattle.mil_bus.specs.declared.outcomes.Outcome.{Outcome};
+
+    ghost State = { BusState };
+
+    ghost Outcome = { Outcome };
+}
+
+/// Law: a controller that runs a loadable code on any bus, under any plan and any placed actions, is never stuck: it never
+/// meets a bad place, an empty list of counters or a message that is not there. It sends at most as many messages as the
+/// code's sum says, and has halted after as many steps as its budget.
+pub fn controller_runs()
+    ensures never_stuck { (code : Code) (b : BusState) (plan : List Planned) (placed : List Placed) (n : ℕ) →
+        IsLoadable code → turn_of (after_steps n (started code b plan placed)) ≢ stuck }
+    ensures messages { (code : Code) (b : BusState) (plan : List Planned) (placed : List Placed) (n : ℕ) →
+        IsLoadable code → (after_steps n (started code b plan placed)).point.number ≤ worst_messages code.operations }
+    ensures halts { (code : Code) (b : BusState) (plan : List Planned) (placed : List Placed) →
+        IsLoadable code → turn_of (after_steps (budget code.operations) (started code b plan placed)) ≡ halted }
+{
+    loadable_runs::<BusSetting>();
+}

@@ -1,0 +1,26 @@
+//! The bus controller (own choice): a loaded program under way on a real bus, step by step.
+#![tactic(auto)]
+
+mod begun;
+mod counters;
+mod laws;
+mod machine;
+mod outcomes;
+mod parts;
+mod placed;
+
+pub use laws::controller_runs;
+pub use machine::Machine;
+use mil_monitor::Record;
+pub use placed::Placed;
+
+/// What a step came to.
+#[derive(Debug, Drop, PartialEq, Eq)]
+pub enum Stepped {
+    /// An operation that sends nothing.
+    Ran,
+    /// A message was sent; this is its record.
+    Sent(Record),
+    /// The program has ended; every later step is Halted too.
+    Halted,
+}

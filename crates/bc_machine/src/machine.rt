@@ -1,0 +1,79 @@
+//! A controller whose program is under way.
+ghost use Rattle.std.specs.Prelude.{◌≡◌, ◌≤◌, ◌^◌, IfOk};
+ghost use Rattle.mil_bus.specs.Exchange.{clock_of};
+ghost use Rattle.bc_machine.specs.Running.{started, stepped, answered};
+ghost use Rattle.bc_machine.specs.UnderWay.{IsUnderWay, Tells};
+
+use crate::counters::Counters;
+use crate::parts::Parts;
+use crate::{Placed, Stepped};
+use frame_load::Program;
+use mil_bus::{Bus, Outcome};
+use mil_line::Plan;
+use std::alloc::AllocError;
+use std::marker::Model;
+
+/// A program under way on a bus. Contracts see its code, the plan, the placed actions, the bus that it began with, how many
+/// steps it took, the controller's registers, the bus as it is now, how many messages were sent, the gap, and the last
+/// outcome.
+#[derive(Drop)]
+pub struct Machine {
+    parts: Parts,
+}
+
+impl Model for Machine {
+    ghost use Rattle.bc_machine.specs.Running.{MachineState};
+    ghost use Rattle.bc_machine.specs.UnderWay.{IsUnderWay};
+
+    ghost Value = { MachineState };
+
+    ghost view = { λ m. m.parts };
+
+    ghost invariant = { λ m. IsUnderWay m.parts };
+}
+
+impl Machine {
+    /// A program at its beginning, on a bus, with the faults planned and the actions placed for its messages. Condition: the
+    /// clock of the bus is at most 2^47 ticks. It takes no memory.
+    pub fn start(program: Program, bus: Bus, plan: Plan, placed: Vec<Placed>) -> Machine
+        requires { clock_of bus.start bus.talks ≤ 2 ^ 47 }
+        ensures value { result ≡ started program bus plan placed.items }
+        ensures under_way { IsUnderWay result }
+    {
+        Machine {
+            parts: Parts::start(program, bus, plan, placed),
+        }
+    }
+
+    /// The bus as it is now.
+    pub fn bus(&self) -> &Bus
+        ensures value { result.now ≡ self.now.point.state }
+        ensures under_way { IsUnderWay self.now }
+    {
+        self.parts.bus()
+    }
+
+    /// How many messages were sent, 0 to 1,000,000.
+    pub fn number(&self) -> u32
+        ensures value { result ≡ self.now.point.number }
+        ensures range { result ≤ 1000000 }
+    {
+        self.parts.number()
+    }
+
+    /// What the last message came to; None before any.
+    pub fn last_outcome(&self) -> Option<Outcome>
+        ensures { result ≡ self.now.point.last }
+    {
+        self.parts.last_outcome()
+    }
+
+    /// An equal controller, in memory of its own, which fails for want of memory alone.
+    pub fn copy(&self) -> Result<Machine, AllocError>
+        ensures { IfOk result (λ m. m ≡ self.now) }
+    {
+        Ok(Machine {
+            parts: self.parts.copy()?,
+        })
+    }
+}

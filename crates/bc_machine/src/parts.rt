@@ -1,0 +1,180 @@
+//! A controller's parts, wherever its program stands.
+ghost use Rattle.std.specs.Prelude.{◌≡◌, ◌<◌, ◌≤◌, ◌+◌, ◌^◌, Some, slice_get, length, IfOk, IsTrue, [], ◌∷◌};
+ghost use Rattle.mil_word.specs.declared.Line.{Line};
+ghost use Rattle.mil_message.specs.declared.messages.Message.{Message};
+ghost use Rattle.mil_message.specs.World.{sent, other_line};
+ghost use Rattle.mil_bus.specs.Exchange.{clock_of};
+ghost use Rattle.frame_code.specs.Table.{at_place};
+ghost use Rattle.frame_code.specs.Ranges.{is_test};
+ghost use Rattle.frame_load.specs.Judging.{IsWithin};
+ghost use Rattle.frame_code.specs.Loadable.{IsLoadable};
+ghost use Rattle.bc_machine.specs.Running.{started, stepped, answered, latest, clock_in, world_in};
+ghost use Rattle.bc_machine.specs.Outcomes.{test_of};
+ghost use Rattle.bc_machine.specs.Moves as moves;
+ghost use Rattle.bc_machine.specs.Able.{IsAble};
+
+use crate::begun::{Begun, begun_with, same};
+use crate::counters::Counters;
+use crate::outcomes::{asks, other};
+use crate::placed::{act_at, copied};
+use crate::{Placed, Stepped};
+use frame_code::Op;
+use frame_load::Program;
+use mil_bus::{Bus, Outcome};
+use mil_line::{Gap, Plan};
+use mil_monitor::observe;
+use mil_word::Line;
+use std::alloc::{AllocError, Global};
+use std::marker::Model;
+use std::snapshot::Snapshot;
+
+/// What a controller has; contracts see it as plain data.
+#[derive(Drop)]
+pub struct Parts {
+    program: Program,
+    plan: Plan,
+    placed: Vec<Placed>,
+    begun: Snapshot<Begun>,
+    taken: u32,
+    place: u16,
+    counters: Counters,
+    flag: bool,
+    line: Line,
+    bus: Bus,
+    number: u32,
+    gap: Gap,
+    last: Option<Outcome>,
+}
+
+impl Model for Parts {
+    ghost use Rattle.bc_machine.specs.Running.{MachineState};
+
+    ghost Value = { MachineState };
+
+    ghost use Rattle.bc_machine.specs.Seeing.{state_in};
+
+    ghost view = { state_in };
+}
+
+impl Parts {
+    /// A program at its beginning.
+    pub fn start(program: Program, bus: Bus, plan: Plan, placed: Vec<Placed>) -> Parts
+        ensures value { result ≡ started program bus plan placed.items }
+        ensures loadable { IsLoadable program }
+        ensures within { IsWithin program }
+    {
+        let _image = program.image();
+        let begun = begun_with(&bus);
+        Parts {
+            program,
+            plan,
+            placed,
+            begun,
+            taken: 0,
+            place: 0,
+            counters: Counters::none(),
+            flag: false,
+            line: Line::A,
+            bus,
+            number: 0,
+            gap: Gap::of(40),
+            last: None,
+        }
+    }
+
+    /// The operation that is next.
+    fn op(&self) -> Op
+        requires { self.now.at.place < length self.now.code.operations }
+        ensures { slice_get self.now.code.operations self.now.at.place ≡ Some result }
+    {
+        self.program.image().operations()[self.place as usize]
+    }
+
+    /// Goes to a place.
+    fn go(&mut self, place: u16) -> Stepped
+        requires { self.old.taken < 2 ^ 31 }
+        ensures value { self.new ≡ moves.gone self.old place }
+        ensures answer { result ≡ Stepped.Ran }
+    {
+        self.place = place;
+        self.taken += 1;
+        Stepped::Ran
+    }
+
+    /// Goes on to the next place.
+    fn go_on(&mut self) -> Stepped
+        requires taken { self.old.taken < 2 ^ 31 }
+        requires place { self.old.at.place < 4096 }
+        ensures value { self.new ≡ moves.gone self.old (self.old.at.place + 1) }
+        ensures answer { result ≡ Stepped.Ran }
+    {
+        let next = self.place + 1;
+        self.go(next)
+    }
+
+    /// Sets the gap.
+    fn set_gap(&mut self, ticks: u16)
+        requires { 40 ≤ ticks }
+        ensures { self.new ≡ moves.gap_set self.old ticks }
+    {
+        self.gap = Gap::of(ticks);
+    }
+
+    /// Opens a loop.
+    fn open_loop(&mut self, count: u16)
+        requires { length self.old.at.counters < 17 }
+        ensures { self.new ≡ moves.opened self.old count }
+    {
+        self.counters.push(count);
+    }
+
+    /// Sets the flag.
+    fn test(&mut self, test: u8)
+        requires { IsTrue (is_test test) }
+        ensures { self.new ≡ moves.flagged self.old (test_of test self.old.point.last) }
+    {
+        self.flag = asks(test, self.last);
+    }
+
+    /// The bus as it is now.
+    pub fn bus(&self) -> &Bus
+        ensures { result.now ≡ self.now.point.state }
+    {
+        &self.bus
+    }
+
+    /// How many messages were sent.
+    pub fn number(&self) -> u32
+        ensures { result ≡ self.now.point.number }
+    {
+        self.number
+    }
+
+    /// The last outcome.
+    pub fn last_outcome(&self) -> Option<Outcome>
+        ensures { result ≡ self.now.point.last }
+    {
+        self.last
+    }
+
+    /// Equal parts, in memory of their own.
+    pub fn copy(&self) -> Result<Parts, AllocError>
+        ensures { IfOk result (λ p. p ≡ self.now) }
+    {
+        Ok(Parts {
+            program: self.program.copy()?,
+            plan: self.plan.copy()?,
+            placed: copied(*self.placed.allocator(), self.placed.as_slice())?,
+            begun: same(&self.begun),
+            taken: self.taken,
+            place: self.place,
+            counters: self.counters.copy(),
+            flag: self.flag,
+            line: self.line,
+            bus: self.bus.copy()?,
+            number: self.number,
+            gap: self.gap,
+            last: self.last,
+        })
+    }
+}

@@ -1,0 +1,57 @@
+//! Actions of hosts, each placed at a message.
+ghost use Rattle.std.specs.Prelude.{◌≡◌, IfOk};
+ghost use Rattle.mil_bus.specs.Exchange.{clock_of};
+ghost use Rattle.bc_machine.specs.Controller.{ready};
+
+use mil_bus::Bus;
+use mil_host::Action;
+use std::alloc::{AllocError, Global};
+
+/// An action of a terminal's host, just before a message. It does nothing where the bus has no such terminal, and at a
+/// number that no message comes to.
+#[derive(Debug, Drop)]
+pub struct Placed {
+    /// The number of the message, counted from 1.
+    pub number: u32,
+    /// The address of the terminal, 0 to 30.
+    pub address: u8,
+    pub action: Action,
+}
+
+impl Placed {
+    ghost use Rattle.std.specs.Prelude.{◌≡◌};
+
+    /// The same action, placed alike.
+    pub fn copy(&self) -> Placed
+        ensures { result ≡ self.now }
+    {
+        Placed {
+            number: self.number,
+            address: self.address,
+            action: self.action.copy(),
+        }
+    }
+}
+
+// The actions that are placed at a number act, in their order.
+pub fn act_at(bus: &mut Bus, placed: &[Placed], number: u32)
+    ensures bus { bus.new ≡ ready placed.now number bus.old }
+    ensures clock { clock_of bus.new.start bus.new.talks ≡ clock_of bus.old.start bus.old.talks }
+{
+    for one in placed {
+        if one.number == number {
+            bus.act(one.address, &one.action);
+        }
+    }
+}
+
+// Copies of placed actions, in their order.
+pub fn copied(alloc: Global, placed: &[Placed]) -> Result<Vec<Placed>, AllocError>
+    ensures { IfOk result (λ v. v.items ≡ placed.now) }
+{
+    let mut copies = Vec::with_capacity(alloc, placed.len())?;
+    for one in placed {
+        copies.push(one.copy())?;
+    }
+    Ok(copies)
+}
