@@ -20,7 +20,7 @@ use Rattle.mil_terminal.specs.declared.registers.Registers.{Registers}
 use Rattle.mil_terminal.specs.StandsFor.{StandsFor}
 use Rattle.mil_terminal.proofs.Hears.{hear_none, hear_silent}
 use Rattle.mil_terminal.proofs.Quiets.{GoesOn, quiet_none, quiet_silent}
-use Rattle.mil_terminal.proofs.Acts.{listens-some}
+use Rattle.mil_terminal.proofs.Acts.{listens-none, listens-some}
 
 none_if : {X : Type 0} (o : Option X) → is_some o ≡ false → o ≡ None
 none_if None h = refl
@@ -40,6 +40,14 @@ passes_quiet r line h closed is = go r.window refl
     go : (w : Option Pending) → r.window ≡ w → GoesOn r r.own line h
     go None none = quiet_none r r.window line h none none is
     go (Some p) some = rw (← some) at (quiet_silent r p line h some (listens-some r p line h (same_line line p.line) some refl is ∙ closed) is)
+
+-- registers that stand for both histories listen alike in both
+pub listening_stays : (r : Registers) (h later : History) → StandsFor r h → StandsFor r later → (line : Line) → is_listening r.own line later ≡ is_listening r.own line h
+listening_stays r h later before now line = go r.window refl
+  where
+    go : (w : Option Pending) → r.window ≡ w → is_listening r.own line later ≡ is_listening r.own line h
+    go None none = sym (listens-none r line later none now) ∙ listens-none r line h none before
+    go (Some p) some = sym (listens-some r p line later (same_line line p.line) some refl now) ∙ listens-some r p line h (same_line line p.line) some refl before
 
 -- half bits of which the first is low are no command
 not_command : (half : ℕ) (halves : List ℕ) → (half == 1) ≡ false → option_and_then (λ (w : Word). value_if (is_command_sync w.sync) w.value) (word_in (half ∷ halves)) ≡ None

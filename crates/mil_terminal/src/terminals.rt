@@ -1,5 +1,6 @@
 //! The remote terminal.
 ghost use Rattle.std.specs.Prelude.{◌≡◌, ◌<◌, ◌≤◌, ◌↔◌, ◌/◌, ◌%◌, ◌^◌, ◌==◌, Err, None, [], ◌∷◌, true, false, IfOk};
+ghost use Rattle.mil_word.specs.declared.Line.{Line as LineValue};
 ghost use Rattle.mil_word.specs.Wave.{word_of};
 ghost use Rattle.mil_terminal.specs.declared.events.Event.TheVariants.{Heard, Quiet, Host};
 ghost use Rattle.mil_terminal.specs.Registers as registers;
@@ -106,7 +107,8 @@ impl Terminal {
     pub fn pass(&mut self, line: Line, wave: Wave, gap: Gap)
         requires other { windows.opens self.old.own (Heard line wave gap) ≡ false }
         requires closed { windows.is_listening self.old.own line self.old.history ≡ false }
-        ensures { self.new ≡ after self.old (Heard line wave gap) }
+        ensures after { self.new ≡ after self.old (Heard line wave gap) }
+        ensures listening { (l : LineValue) → windows.is_listening self.new.own l self.new.history ≡ windows.is_listening self.old.own l self.old.history }
     {
         let before = log_after(Link::Same(Snapshot::of(&self.past)));
         self.past = log_after(Link::Heard(line, wave, gap, before));
@@ -118,6 +120,7 @@ impl Terminal {
         requires { windows.is_listening self.old.own line self.old.history ≡ false }
         ensures after { self.new ≡ after self.old (Quiet line) }
         ensures silent { replies.reply self.old.own line self.old.history ≡ None }
+        ensures listening { (l : LineValue) → windows.is_listening self.new.own l self.new.history ≡ windows.is_listening self.old.own l self.old.history }
     {
         let before = log_after(Link::Same(Snapshot::of(&self.past)));
         self.past = log_after(Link::Quiet(line, before));
