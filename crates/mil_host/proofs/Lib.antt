@@ -1,2 +1,5 @@
 pub mod WordLemmas
 pub mod DigitLemmas
+pub mod Printed
+pub mod Spacing
+pub mod ReadingBack

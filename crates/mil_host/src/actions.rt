@@ -1,5 +1,8 @@
 //! What a host sets.
-ghost use Rattle.std.specs.Prelude.{◌≡◌};
+ghost use Rattle.std.specs.Prelude.{◌≡◌, Ok};
+ghost use Rattle.mil_host.specs.Ranges.{IsInRange};
+ghost use Rattle.mil_host.specs.Reading.{action_in};
+ghost use Rattle.mil_host.specs.Printing.{text_of};
 
 use crate::values::{Mark, ResponseGap, TransmitWords};
 
@@ -48,6 +51,35 @@ impl Action {
             Action::Illegal(mark) => Action::Illegal(*mark),
             Action::Legal(mark) => Action::Legal(*mark),
             Action::Response(gap) => Action::Response(*gap),
+        }
+    }
+
+    /// Each action has its values in their ranges, and its printed text, single spaces and upper-case data words, spells it:
+    /// what `Display` writes is read back as the same action.
+    pub fn reads_back(&self)
+        ensures ranges { IsInRange self.now }
+        ensures back { action_in (text_of self.now) ≡ Ok self.now }
+    {
+        self.keeps_ranges();
+    }
+
+    fn keeps_ranges(&self)
+        ensures { IsInRange self.now }
+    {
+        match self {
+            Action::Transmit(put) => put.keeps_ranges(),
+            Action::Illegal(mark) | Action::Legal(mark) => mark.keeps_ranges(),
+            Action::Vector(word) | Action::SelfTest(word) => {
+                let _word = *word;
+            }
+            Action::Response(gap) => {
+                let _ticks = gap.ticks();
+            }
+            Action::Busy(_)
+            | Action::Service(_)
+            | Action::Subsystem(_)
+            | Action::Fault(_)
+            | Action::Control(_) => {}
         }
     }
 }

@@ -2,6 +2,7 @@
 #![tactic(auto)]
 
 mod actions;
+mod data_words;
 mod names;
 mod printing;
 mod reading;

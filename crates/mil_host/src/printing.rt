@@ -1,14 +1,23 @@
 //! The text of an action, and the code of a fault in such a text.
+ghost use Rattle.std.specs.Prelude.{◌≡◌, Ok};
+ghost use Rattle.mil_host.specs.Printing.{text_of, switch_text, direction_text};
+ghost use Rattle.mil_host.specs.Reading.{action_in};
+
 use crate::actions::Action;
+use crate::data_words::{DataWord, DataWords};
 use crate::reading::BadAction;
 use crate::values::Mark;
 use std::fmt;
 
-fn switch(on: bool) -> &'static str {
+fn switch(on: bool) -> &'static str
+    ensures { result.now ≡ switch_text on }
+{
     if on { "on" } else { "off" }
 }
 
-fn direction(mark: &Mark) -> &'static str {
+fn direction(mark: &Mark) -> &'static str
+    ensures { result.now ≡ direction_text mark.now.transmit }
+{
     if mark.transmit() {
         "transmit"
     } else {
@@ -18,46 +27,59 @@ fn direction(mark: &Mark) -> &'static str {
 
 /// The code of the fault: `H1`, `H2` or `H3`.
 impl fmt::Display for BadAction {
+    ghost use Rattle.std.specs.Prelude.{Some};
+    ghost use Rattle.mil_host.specs.Printing.{code_of};
+
+    ghost output = { λ e. Some (code_of e) };
+
     fn fmt<W: fmt::Write>(&self, f: &mut fmt::Formatter<W>) -> fmt::Result {
-        match self {
-            BadAction::Word => write!(f, "H1"),
-            BadAction::Number => write!(f, "H2"),
-            BadAction::Range => write!(f, "H3"),
-        }
+        f.write_str(match self {
+            BadAction::Word => "H1",
+            BadAction::Number => "H2",
+            BadAction::Range => "H3",
+        })
+    }
+}
+
+/// A direction, a subaddress and a count as three words.
+impl fmt::Display for Mark {
+    ghost use Rattle.std.specs.Prelude.{Some};
+    ghost use Rattle.mil_host.specs.Printing.{mark_words, spaced};
+
+    ghost output = { λ m. Some (spaced (mark_words m)) };
+
+    fn fmt<W: fmt::Write>(&self, f: &mut fmt::Formatter<W>) -> fmt::Result {
+        let side = direction(self);
+        let sub = self.sub();
+        let count = self.count();
+        write!(f, "{side} {sub} {count}")
     }
 }
 
 /// The action as its text: single spaces, and data words in upper case.
 impl fmt::Display for Action {
+    ghost use Rattle.std.specs.Prelude.{Some};
+    ghost use Rattle.mil_host.specs.Printing.{text_of};
+
+    ghost output = { λ a. Some (text_of a) };
+
+    #[tactic(auto, unfolding(crate::specs::Printing::text_of))]
     fn fmt<W: fmt::Write>(&self, f: &mut fmt::Formatter<W>) -> fmt::Result {
         match self {
             Action::Transmit(put) => {
                 let sub = put.sub();
-                write!(f, "transmit {sub}")?;
-                for word in put.words() {
-                    write!(f, " {word:04X}")?;
-                }
-                Ok(())
+                let words = DataWords(put.words());
+                write!(f, "transmit {sub}{words}")
             }
             Action::Busy(on) => write!(f, "busy {}", switch(*on)),
             Action::Service(on) => write!(f, "service {}", switch(*on)),
             Action::Subsystem(on) => write!(f, "subsystem {}", switch(*on)),
             Action::Fault(on) => write!(f, "fault {}", switch(*on)),
             Action::Control(on) => write!(f, "control {}", switch(*on)),
-            Action::Vector(word) => write!(f, "vector {word:04X}"),
-            Action::SelfTest(word) => write!(f, "selftest {word:04X}"),
-            Action::Illegal(mark) => {
-                let side = direction(mark);
-                let sub = mark.sub();
-                let count = mark.count();
-                write!(f, "illegal {side} {sub} {count}")
-            }
-            Action::Legal(mark) => {
-                let side = direction(mark);
-                let sub = mark.sub();
-                let count = mark.count();
-                write!(f, "legal {side} {sub} {count}")
-            }
+            Action::Vector(word) => write!(f, "vector {}", DataWord(*word)),
+            Action::SelfTest(word) => write!(f, "selftest {}", DataWord(*word)),
+            Action::Illegal(mark) => write!(f, "illegal {mark}"),
+            Action::Legal(mark) => write!(f, "legal {mark}"),
             Action::Response(gap) => {
                 let ticks = gap.ticks();
                 write!(f, "response {ticks}")

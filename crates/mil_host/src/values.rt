@@ -1,5 +1,6 @@
 //! The values of an action that keep their ranges.
-ghost use Rattle.std.specs.Prelude.{◌≡◌, ◌≤◌, length};
+ghost use Rattle.std.specs.Prelude.{◌≡◌, ◌≤◌, ◌<◌, length, All};
+ghost use Rattle.mil_host.specs.Ranges.{IsPutUp, IsMark};
 
 use arrayvec::ArrayVec;
 use std::marker::Model;
@@ -8,7 +9,7 @@ use std::marker::Model;
 /// (Own choice: subaddress 30 wraps around, and takes none.)
 #[derive(Debug, Drop)]
 pub struct TransmitWords {
-    sub: u8,
+    place: u8,
     words: ArrayVec<u16, 32>,
 }
 
@@ -18,9 +19,9 @@ impl Model for TransmitWords {
 
     ghost Value = { PutUp };
 
-    ghost view = { λ w. record { sub = w.sub; words = w.words.items } };
+    ghost view = { λ w. record { sub = w.place; words = w.words.items } };
 
-    ghost invariant = { λ w. (1 ≤ w.sub) × (w.sub ≤ 29) × (1 ≤ length w.words.items) × (length w.words.items ≤ 32) };
+    ghost invariant = { λ w. (1 ≤ w.place) × (w.place ≤ 29) × (1 ≤ length w.words.items) × (length w.words.items ≤ 32) };
 }
 
 impl TransmitWords {
@@ -32,7 +33,7 @@ impl TransmitWords {
         ensures { result ≡ record { sub = sub; words = words.items } }
     {
         let _ = words.as_slice();
-        TransmitWords { sub, words }
+        TransmitWords { place: sub, words }
     }
 
     /// The subaddress, 1 to 29.
@@ -41,7 +42,7 @@ impl TransmitWords {
         ensures low { 1 ≤ result }
         ensures high { result ≤ 29 }
     {
-        self.sub
+        self.place
     }
 
     /// The words, 1 to 32 of them.
@@ -53,6 +54,13 @@ impl TransmitWords {
         self.words.as_slice()
     }
 
+    /// The subaddress, the count of words and each word are in their ranges.
+    pub(crate) fn keeps_ranges(&self)
+        ensures { IsPutUp self.now }
+    {
+        have_16_bits(self.words.as_slice());
+    }
+
     /// The same words for the same subaddress.
     pub fn copy(&self) -> TransmitWords
         ensures { result ≡ self.now }
@@ -60,10 +68,17 @@ impl TransmitWords {
         let mut words = ArrayVec::new();
         let _ = words.try_extend_from_slice(self.words.as_slice());
         TransmitWords {
-            sub: self.sub,
+            place: self.place,
             words,
         }
     }
+}
+
+/// Data words have 16 bits.
+fn have_16_bits(words: &[u16])
+    ensures { All (λ w. w < 65536) words.now }
+{
+    let _count = words.len();
 }
 
 /// A direction, a subaddress of 1 to 30 and a count of 1 to 32 data words.
@@ -126,6 +141,13 @@ impl Mark {
         ensures high { result ≤ 32 }
     {
         self.count
+    }
+
+    /// The subaddress and the count are in their ranges.
+    pub(crate) fn keeps_ranges(&self)
+        ensures { IsMark self.now }
+    {
+        let _count = self.count;
     }
 }
 

@@ -1,0 +1,207 @@
+-- A printed action reads back.
+use Rattle.std.proofs.Common.{◌≡◌, ℕ, zero, suc, ◌+◌, ◌*◌, ◌/◌, ◌%◌, ◌≤◌, ◌<◌, List, Bool, true, false, [], ◌∷◌, length, refl, ap, arith, All}
+use Rattle.std.specs.Prelude.{Ok, not, codes, decimal, map, nat_lt, nat_le, ◌&&◌}
+use Rattle.std.specs.List.{list_all}
+use Rattle.std.specs.Char.{digit_value}
+use Rattle.std.specs.Fmt.{digit_glyph}
+use Rattle.std.specs.Str.Parse.{AllDigits}
+use Rattle.std.proofs.lemmas.Bool.Decides.{nat_tests}
+use Rattle.std.proofs.lemmas.Fmt.{decimal_is_IsNumeral, length-decimal-le}
+use Rattle.std.proofs.lemmas.List.Elements.{All-tail}
+use Rattle.mil_host.specs.Values.{PutUp, Marked}
+use Rattle.mil_host.specs.Words.{Text, is_space, has_bytes}
+use Rattle.mil_host.specs.Reading.{action_in, in_words, number_of, data_of, all_data, only_switch, only_mark, are_digits}
+use Rattle.mil_host.specs.Printing.{text_of, words_of, data_text, switch_text, direction_text, mark_words}
+use Rattle.mil_host.specs.Ranges.{IsInRange, IsPutUp, IsMark}
+use Rattle.mil_host.specs.declared.actions.Action.{Action}
+use Rattle.mil_host.specs.declared.actions.Action.TheVariants.{Transmit, Busy, Service, Subsystem, Fault, Control, Vector, SelfTest, Illegal, Legal, Response}
+use Rattle.mil_host.proofs.Spacing.{NoSpaces, IsWord, AreWords, words-spaced}
+
+-- an upper-case hexadecimal digit is one, and no space
+record IsGlyph (d c : ℕ) : Type 0 where
+  below : nat_lt (digit_value c) 16 ≡ true
+  digit : digit_value c ≡ d
+  other : is_space c ≡ false
+
+glyph : (d : ℕ) → d < 16 → IsGlyph d (digit_glyph true d)
+glyph zero lt = record { below = refl; digit = refl; other = refl }
+glyph (suc zero) lt = record { below = refl; digit = refl; other = refl }
+glyph (suc (suc zero)) lt = record { below = refl; digit = refl; other = refl }
+glyph (suc (suc (suc zero))) lt = record { below = refl; digit = refl; other = refl }
+glyph (suc (suc (suc (suc zero)))) lt = record { below = refl; digit = refl; other = refl }
+glyph (suc (suc (suc (suc (suc zero))))) lt = record { below = refl; digit = refl; other = refl }
+glyph (suc (suc (suc (suc (suc (suc zero)))))) lt = record { below = refl; digit = refl; other = refl }
+glyph (suc (suc (suc (suc (suc (suc (suc zero))))))) lt = record { below = refl; digit = refl; other = refl }
+glyph (suc (suc (suc (suc (suc (suc (suc (suc zero)))))))) lt = record { below = refl; digit = refl; other = refl }
+glyph (suc (suc (suc (suc (suc (suc (suc (suc (suc zero))))))))) lt = record { below = refl; digit = refl; other = refl }
+glyph (suc (suc (suc (suc (suc (suc (suc (suc (suc (suc zero)))))))))) lt = record { below = refl; digit = refl; other = refl }
+glyph (suc (suc (suc (suc (suc (suc (suc (suc (suc (suc (suc zero))))))))))) lt = record { below = refl; digit = refl; other = refl }
+glyph (suc (suc (suc (suc (suc (suc (suc (suc (suc (suc (suc (suc zero)))))))))))) lt = record { below = refl; digit = refl; other = refl }
+glyph (suc (suc (suc (suc (suc (suc (suc (suc (suc (suc (suc (suc (suc zero))))))))))))) lt = record { below = refl; digit = refl; other = refl }
+glyph (suc (suc (suc (suc (suc (suc (suc (suc (suc (suc (suc (suc (suc (suc zero)))))))))))))) lt = record { below = refl; digit = refl; other = refl }
+glyph (suc (suc (suc (suc (suc (suc (suc (suc (suc (suc (suc (suc (suc (suc (suc zero))))))))))))))) lt = record { below = refl; digit = refl; other = refl }
+glyph (suc (suc (suc (suc (suc (suc (suc (suc (suc (suc (suc (suc (suc (suc (suc (suc n)))))))))))))))) lt = absurd (omega arith)
+
+-- four hexadecimal digits spell a data word
+record IsData (value : ℕ) (word : Text) : Type 0 where
+  reads : data_of word ≡ Ok value
+  is : IsWord word
+
+four : (value : ℕ) → value < 65536 → (((0 * 16 + value / 256 / 16) * 16 + value / 256 % 16) * 16 + value % 256 / 16) * 16 + value % 256 % 16 ≡ value
+four value lt = omega arith
+
+below_256 : (value : ℕ) → value < 65536 → value / 256 < 256
+below_256 value lt = omega arith
+
+below_16 : (byte : ℕ) → byte < 256 → byte / 16 < 16
+below_16 byte lt = omega arith
+
+data_word : (value : ℕ) → value < 65536 → IsData value (data_text value)
+data_word value lt =
+    let high : value / 256 < 256 = below_256 value lt in
+    let low : value % 256 < 256 = omega arith in
+    let a = glyph (value / 256 / 16) (below_16 (value / 256) high) in
+    let b = glyph (value / 256 % 16) (omega arith) in
+    let c = glyph (value % 256 / 16) (below_16 (value % 256) low) in
+    let d = glyph (value % 256 % 16) (omega arith) in
+    record {
+      reads = rw (a.below, b.below, c.below, d.below, a.digit, b.digit, c.digit, d.digit) (ap (λ (n : ℕ). Ok n) (four value lt));
+      is = record { some = refl; no_spaces = (a.other, (b.other, (c.other, (d.other, tt)))) };
+    }
+
+-- a digit is no space
+other_of_digit : (c : ℕ) → digit_value c < 10 → is_space c ≡ false
+other_of_digit c lt = go (is_space c) refl
+  where
+    go : (b : Bool) → is_space c ≡ b → is_space c ≡ false
+    go false is = is
+    go true is =
+        let at : c ≡ 32 = grind (arith, nat_tests, is) in
+        let wrong : digit_value 32 < 10 = rw at at lt in
+        absurd (omega (arith, wrong))
+
+digits_are : (word : Text) → AllDigits 10 word → (are_digits 10 word ≡ true) × NoSpaces word
+digits_are [] all = (refl, tt)
+digits_are (c ∷ word) all =
+    let is : nat_lt (digit_value c) 10 ≡ true = grind (arith, nat_tests, all.0) in
+    (rw is (digits_are word all.1).0, (other_of_digit c all.0, (digits_are word all.1).1))
+
+-- a printed number reads back within its range
+record IsNumber (low high n : ℕ) : Type 0 where
+  reads : number_of low high (decimal n) ≡ Ok n
+  is : IsWord (decimal n)
+
+has_bytes_of : (word : Text) → 1 ≤ length word → has_bytes word ≡ true
+has_bytes_of [] some = absurd (omega arith)
+has_bytes_of (b ∷ word) some = refl
+
+number : (low high n : ℕ) → low ≤ n → n ≤ high → high ≤ 9999999 → IsNumber low high n
+number low high n from to small =
+    let spelt = decimal_is_IsNumeral n (omega arith) in
+    let some : 1 ≤ length (decimal n) = omega (arith, spelt.0.0) in
+    let few : length (decimal n) ≤ 7 = length-decimal-le 7 n (omega arith) (omega arith) (omega arith) in
+    let are = digits_are (decimal n) spelt.0.1 in
+    let at_least : nat_le 1 (length (decimal n)) ≡ true = grind (arith, nat_tests, some) in
+    let at_most : nat_le (length (decimal n)) 7 ≡ true = grind (arith, nat_tests, few) in
+    let above : nat_le low n ≡ true = grind (arith, nat_tests, from) in
+    let below : nat_le n high ≡ true = grind (arith, nat_tests, to) in
+    record {
+      reads = rw (are.0, at_least, at_most, spelt.1, above, below) refl;
+      is = record { some = has_bytes_of (decimal n) some; no_spaces = are.1 };
+    }
+
+-- data words read back to the end
+all_data_back : (room : ℕ) (values : List ℕ) → length values ≤ room → All (λ w. w < 65536) values → all_data room (map data_text values) ≡ Ok values
+all_data_back room [] few small = refl
+all_data_back zero (w ∷ values) few small = absurd (omega arith)
+all_data_back (suc room) (w ∷ values) few small =
+    rw ((data_word w (small 0 0 (omega arith))).reads, all_data_back room values (omega arith) (All-tail (λ w. w < 65536) w values small)) refl
+
+data_words : (values : List ℕ) → All (λ w. w < 65536) values → AreWords (map data_text values)
+data_words [] small = tt
+data_words (w ∷ values) small = ((data_word w (small 0 0 (omega arith))).is, data_words values (All-tail (λ w. w < 65536) w values small))
+
+-- words that are put up
+put_up_back : (put : PutUp) → IsPutUp put → in_words (words_of (Transmit put)) ≡ Ok (Transmit put)
+put_up_back put range = go put.words range.some range.few range.of_16_bits
+  where
+    go : (values : List ℕ) → 1 ≤ length values → length values ≤ 32 → All (λ w. w < 65536) values
+        → in_words (words_of (Transmit (record { sub = put.sub; words = values }))) ≡ Ok (Transmit (record { sub = put.sub; words = values }))
+    go [] some few small = absurd (omega arith)
+    go (w ∷ values) some few small =
+        rw ((number 1 29 put.sub range.sub_low range.sub_high (omega arith)).reads, all_data_back 32 (w ∷ values) few small) refl
+
+switch_word : (on : Bool) → IsWord (switch_text on)
+switch_word true = record { some = refl; no_spaces = (refl, (refl, tt)) }
+switch_word false = record { some = refl; no_spaces = (refl, (refl, (refl, tt))) }
+
+direction_word : (transmit : Bool) → IsWord (direction_text transmit)
+direction_word true = record { some = refl; no_spaces = (refl, (refl, (refl, (refl, (refl, (refl, (refl, (refl, tt)))))))) }
+direction_word false = record { some = refl; no_spaces = (refl, (refl, (refl, (refl, (refl, (refl, (refl, tt))))))) }
+
+-- the words of a mark
+mark_back : (mark : Marked) → IsMark mark → only_mark (mark_words mark) ≡ Ok mark
+mark_back mark range = go mark.transmit
+  where
+    sub : IsNumber 1 30 mark.sub
+    sub = number 1 30 mark.sub range.sub_low range.sub_high (omega arith)
+
+    count : IsNumber 1 32 mark.count
+    count = number 1 32 mark.count range.count_low range.count_high (omega arith)
+
+    go : (transmit : Bool) → only_mark (mark_words (record { transmit = transmit; sub = mark.sub; count = mark.count })) ≡ Ok (record { transmit = transmit; sub = mark.sub; count = mark.count })
+    go true = rw (sub.reads, count.reads) refl
+    go false = rw (sub.reads, count.reads) refl
+
+are_mark_words : (mark : Marked) → IsMark mark → AreWords (mark_words mark)
+are_mark_words mark range =
+    (direction_word mark.transmit, ((number 1 30 mark.sub range.sub_low range.sub_high (omega arith)).is, ((number 1 32 mark.count range.count_low range.count_high (omega arith)).is, tt)))
+
+-- the name of an action is a word
+no_spaces : (word : Text) → list_all (λ b. not (is_space b)) word ≡ true → NoSpaces word
+no_spaces [] none = tt
+no_spaces (b ∷ word) none = go (is_space b) refl none (no_spaces word)
+  where
+    go : (s : Bool) → is_space b ≡ s → (not s && list_all (λ b. not (is_space b)) word) ≡ true
+        → (list_all (λ b. not (is_space b)) word ≡ true → NoSpaces word) → NoSpaces (b ∷ word)
+    go true is none rest = cc
+    go false is none rest = (is, rest none)
+
+named : (name : Text) → has_bytes name ≡ true → list_all (λ b. not (is_space b)) name ≡ true → IsWord name
+named name some none = record { some = some; no_spaces = no_spaces name none }
+
+are_words : (a : Action) → IsInRange a → AreWords (words_of a)
+are_words (Transmit put) range =
+    (named (codes "transmit") refl refl, ((number 1 29 put.sub range.sub_low range.sub_high (omega arith)).is, data_words put.words range.of_16_bits))
+are_words (Busy on) range = (named (codes "busy") refl refl, (switch_word on, tt))
+are_words (Service on) range = (named (codes "service") refl refl, (switch_word on, tt))
+are_words (Subsystem on) range = (named (codes "subsystem") refl refl, (switch_word on, tt))
+are_words (Fault on) range = (named (codes "fault") refl refl, (switch_word on, tt))
+are_words (Control on) range = (named (codes "control") refl refl, (switch_word on, tt))
+are_words (Vector value) range = (named (codes "vector") refl refl, ((data_word value range).is, tt))
+are_words (SelfTest value) range = (named (codes "selftest") refl refl, ((data_word value range).is, tt))
+are_words (Illegal mark) range = (named (codes "illegal") refl refl, are_mark_words mark range)
+are_words (Legal mark) range = (named (codes "legal") refl refl, are_mark_words mark range)
+are_words (Response ticks) range = (named (codes "response") refl refl, ((number 40 120 ticks range.0 range.1 (omega arith)).is, tt))
+
+switch_back : (on : Bool) → only_switch (switch_text on ∷ []) ≡ Ok on
+switch_back true = refl
+switch_back false = refl
+
+words_back : (a : Action) → IsInRange a → in_words (words_of a) ≡ Ok a
+words_back (Transmit put) range = put_up_back put range
+words_back (Busy on) range = rw (switch_back on) refl
+words_back (Service on) range = rw (switch_back on) refl
+words_back (Subsystem on) range = rw (switch_back on) refl
+words_back (Fault on) range = rw (switch_back on) refl
+words_back (Control on) range = rw (switch_back on) refl
+words_back (Vector value) range = rw (data_word value range).reads refl
+words_back (SelfTest value) range = rw (data_word value range).reads refl
+words_back (Illegal mark) range = rw (mark_back mark range) refl
+words_back (Legal mark) range = rw (mark_back mark range) refl
+words_back (Response ticks) range = rw (number 40 120 ticks range.0 range.1 (omega arith)).reads refl
+
+-- the text of an action in range spells it
+pub reads-back : (a : Action) → IsInRange a → action_in (text_of a) ≡ Ok a
+unfolding action_in text_of
+reads-back a range = rw (words-spaced (words_of a) (are_words a range)) (words_back a range)

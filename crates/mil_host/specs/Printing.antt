@@ -1,0 +1,67 @@
+-- The text of an action: its words with single spaces between them, numbers without leading zeros, data words as four
+-- upper-case hexadecimal digits (own choice).
+use Rattle.std.specs.Prelude.{ℕ, Bool, true, false, ◌/◌, ◌%◌, List, [], ◌∷◌, ◌++◌, map, codes, decimal}
+use Rattle.std.specs.Fmt.{digit_glyph}
+use Rattle.std.specs.List.{flat_map}
+use Rattle.mil_host.specs.Values.{Marked}
+use Rattle.mil_host.specs.Words.{Text}
+use Rattle.mil_host.specs.declared.reading.BadAction.{BadAction}
+use Rattle.mil_host.specs.declared.reading.BadAction.TheVariants.{Word, Number, Range}
+use Rattle.mil_host.specs.declared.actions.Action.{Action}
+use Rattle.mil_host.specs.declared.actions.Action.TheVariants.{Transmit, Busy, Service, Subsystem, Fault, Control, Vector, SelfTest, Illegal, Legal, Response}
+
+-- two hexadecimal digits
+abbrev pub byte_text : ℕ → Text
+byte_text byte = digit_glyph true (byte / 16) ∷ digit_glyph true (byte % 16) ∷ []
+
+-- a data word
+abbrev pub data_text : ℕ → Text
+data_text value = byte_text (value / 256) ++ byte_text (value % 256)
+
+abbrev pub switch_text : Bool → Text
+switch_text true = codes "on"
+switch_text false = codes "off"
+
+abbrev pub direction_text : Bool → Text
+direction_text true = codes "transmit"
+direction_text false = codes "receive"
+
+abbrev pub mark_words : Marked → List Text
+mark_words m = direction_text m.transmit ∷ decimal m.sub ∷ decimal m.count ∷ []
+
+-- the words of an action's text
+abbrev pub words_of : Action → List Text
+words_of (Transmit put) = codes "transmit" ∷ decimal put.sub ∷ map data_text put.words
+words_of (Busy on) = codes "busy" ∷ switch_text on ∷ []
+words_of (Service on) = codes "service" ∷ switch_text on ∷ []
+words_of (Subsystem on) = codes "subsystem" ∷ switch_text on ∷ []
+words_of (Fault on) = codes "fault" ∷ switch_text on ∷ []
+words_of (Control on) = codes "control" ∷ switch_text on ∷ []
+words_of (Vector value) = codes "vector" ∷ data_text value ∷ []
+words_of (SelfTest value) = codes "selftest" ∷ data_text value ∷ []
+words_of (Illegal mark) = codes "illegal" ∷ mark_words mark
+words_of (Legal mark) = codes "legal" ∷ mark_words mark
+words_of (Response ticks) = codes "response" ∷ decimal ticks ∷ []
+
+-- a space, and then a word
+abbrev pub spaced_word : Text → Text
+spaced_word word = 32 ∷ word
+
+-- a space, and then a data word
+abbrev pub spaced_data : ℕ → Text
+spaced_data value = spaced_word (data_text value)
+
+-- words with single spaces between them
+abbrev pub spaced : List Text → Text
+spaced [] = []
+spaced (word ∷ rest) = word ++ flat_map spaced_word rest
+
+-- the text of an action
+unfoldable pub text_of : Action → Text
+text_of action = spaced (words_of action)
+
+-- the code of a fault
+abbrev pub code_of : BadAction → Text
+code_of Word = codes "H1"
+code_of Number = codes "H2"
+code_of Range = codes "H3"

@@ -1,0 +1,34 @@
+-- The ranges of an action's values.
+use Rattle.std.specs.Prelude.{◌≤◌, ◌<◌, length, All}
+use Rattle.mil_host.specs.Values.{PutUp, Marked}
+use Rattle.mil_host.specs.declared.actions.Action.{Action}
+use Rattle.mil_host.specs.declared.actions.Action.TheVariants.{Transmit, Busy, Service, Subsystem, Fault, Control, Vector, SelfTest, Illegal, Legal, Response}
+
+-- a subaddress of 1 to 29, and 1 to 32 data words of 16 bits
+pub record IsPutUp (put : PutUp) : Type 0 where
+  pub sub_low : 1 ≤ put.sub
+  pub sub_high : put.sub ≤ 29
+  pub some : 1 ≤ length put.words
+  pub few : length put.words ≤ 32
+  pub of_16_bits : All (λ w. w < 65536) put.words
+
+-- a subaddress of 1 to 30, and a count of 1 to 32
+pub record IsMark (mark : Marked) : Type 0 where
+  pub sub_low : 1 ≤ mark.sub
+  pub sub_high : mark.sub ≤ 30
+  pub count_low : 1 ≤ mark.count
+  pub count_high : mark.count ≤ 32
+
+-- each value of an action is in its range
+abbrev pub IsInRange : Action → Type 0
+IsInRange (Transmit put) = IsPutUp put
+IsInRange (Busy on) = Unit {0}
+IsInRange (Service on) = Unit {0}
+IsInRange (Subsystem on) = Unit {0}
+IsInRange (Fault on) = Unit {0}
+IsInRange (Control on) = Unit {0}
+IsInRange (Vector value) = value < 65536
+IsInRange (SelfTest value) = value < 65536
+IsInRange (Illegal mark) = IsMark mark
+IsInRange (Legal mark) = IsMark mark
+IsInRange (Response ticks) = (40 ≤ ticks) × (ticks ≤ 120)
