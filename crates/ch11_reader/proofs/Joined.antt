@@ -1,5 +1,6 @@
 -- One recording behind another is read as both.
 use Rattle.std.proofs.Common.{◌≡◌, ℕ, zero, suc, ◌+◌, ◌*◌, ◌≤◌, Bool, true, false, not, ◌&&◌, cond, eqb, ltb, leb, List, [], ◌∷◌, ◌++◌, length, drop, map, Result, Ok, Err, refl, sym, ap, ◌∙◌, arith}
+use Rattle.std.specs.List.{AllByRecursion}
 use Rattle.std.proofs.lemmas.Bool.{le-ltb, ltb-false, leb-true}
 use Rattle.std.proofs.lemmas.List.{drop-append-le, take-append-le, get_or_append_left, length-append, length-drop}
 use Rattle.byteorder.specs.Endian.{little_from}
@@ -246,3 +247,19 @@ recordings_join a b ps qs first then =
     let same : 0 + length a ≡ length a = omega arith in
     join_at (length a) (length (a ++ b)) (length b) 0 a b ps qs (omega arith) (omega arith) (omega arith) first then
     ∙ ap (λ (k : ℕ). Ok (ps ++ map (later k) qs)) same
+
+-- ---- packets of other types
+
+silent_at : (most offset : ℕ) (bytes : List ℕ) (ps : List Found) → length bytes ≤ most → packets_from most offset bytes ≡ Ok ps
+    → AllByRecursion (λ (p : Found). holds_messages p.header ≡ false → p.messages ≡ []) ps
+silent_at most offset [] ps few is = rw (nothing_found most offset ps is) tt
+silent_at zero offset (b ∷ bs) ps few is = absurd (omega (arith, few))
+silent_at (suc most) offset (b ∷ bs) ps few is =
+    let f = first_of most offset b bs ps is in
+    let n : ℕ = f.header.packet_length in
+    let later_ones = silent_at most (offset + n) (drop n (b ∷ bs)) f.others (omega (arith, few, (least_of (b ∷ bs) f.header f.is).0, length-drop n (b ∷ bs))) f.behind in
+    rw (f.all) (λ none. rw none refl, later_ones)
+
+pub others_are_silent : (bytes : List ℕ) (ps : List Found) → packets_in bytes ≡ Ok ps
+    → AllByRecursion (λ (p : Found). holds_messages p.header ≡ false → p.messages ≡ []) ps
+others_are_silent bytes ps is = silent_at (length bytes) 0 bytes ps (omega arith) is

@@ -5,7 +5,7 @@ ghost use Rattle.ch11_header.specs.declared.header.Header.{Header};
 ghost use Rattle.ch11_f1.specs.Again.{as_message};
 ghost use Rattle.ch11_reader.specs.Recording.{messages_of, packet_at};
 ghost use Rattle.ch11_reader.specs.Written.{IsWritten, written_bytes};
-ghost use Rattle.ch11_reader.specs.Joined.{RecordingsJoin};
+ghost use Rattle.ch11_reader.specs.Joined.{RecordingsJoin, OthersAreSilent};
 
 use ch11_f1::body_is_read_again;
 use ch11_header::written_is_read;
@@ -19,7 +19,8 @@ pub fn packet_is_read_again()
     body_is_read_again();
 }
 
-/// Two recordings one behind the other are one, and are read as both.
+/// Two recordings one behind the other are one, and are read as both. Packets of other types of data have no messages.
 pub fn recordings_join()
-    ensures { RecordingsJoin }
+    ensures join { RecordingsJoin }
+    ensures silent { OthersAreSilent }
 {}

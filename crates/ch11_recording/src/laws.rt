@@ -1,0 +1,22 @@
+//! Laws of the definitions of this crate, each the contract of a function that does nothing.
+ghost use Rattle.ch11_recording.specs.Laws.{RecordingIsRead, RecordsAreKept, EndedIsClosed, FileGoesOn};
+
+use ch11_builder::packet_is_read_again;
+use ch11_reader::recordings_join;
+
+/// A recording is read again as the records of its closed packets: for each channel in order and once. Where a channel has
+/// ended, those are all of its records. Conditions: the prologue is a list of sound packets without one of MIL-STD-1553
+/// messages, the limit is 256 to 524,288, and stamps are below 2^48.
+pub fn recording_is_read_again()
+    ensures read { RecordingIsRead }
+    ensures kept { RecordsAreKept }
+    ensures ended { EndedIsClosed }
+{
+    packet_is_read_again();
+    recordings_join();
+}
+
+/// What one more item adds to a recording: the packet that it closes.
+pub fn recording_goes_on()
+    ensures { FileGoesOn }
+{}

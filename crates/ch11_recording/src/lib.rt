@@ -1,0 +1,8 @@
+//! A recording as a whole (IRIG 106-17 Chapter 11): which packets stand in it, and what it is read as.
+#![tactic(auto)]
+
+mod item;
+mod laws;
+
+pub use item::Item;
+pub use laws::{recording_goes_on, recording_is_read_again};
