@@ -1,3 +1,7 @@
 pub mod Stacks
+pub mod Acts
 pub mod Runs
 pub mod Steps
+pub mod Rows
+pub mod Told
+pub mod Next

@@ -1,10 +1,12 @@
 -- What a controller's parts need for a step.
 use Rattle.std.specs.Prelude.{◌≡◌, ◌≢◌, ℕ, ◌<◌, ◌≤◌, ◌^◌, Some, slice_get, length}
 use Rattle.frame_code.specs.declared.Op.TheVariants as op
+use Rattle.frame_code.specs.Ranges.{IsImage}
 use Rattle.frame_code.specs.Table.{stuck}
 use Rattle.bc_machine.specs.Running.{MachineState, turn_of, clock_in}
 
 pub record IsAble (m : MachineState) : Type 0 where
+  pub image : IsImage m.code
   pub going : turn_of m ≢ stuck
   pub inside : m.at.place < length m.code.operations
   pub room : (n : ℕ) → slice_get m.code.operations m.at.place ≡ Some (op.Loop n) → length m.at.counters < 17

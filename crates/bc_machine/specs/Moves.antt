@@ -1,5 +1,7 @@
 -- What the parts of a step make of a controller.
-use Rattle.std.specs.Prelude.{ℕ, ◌+◌, Bool, ◌∷◌}
+use Rattle.std.specs.Prelude.{ℕ, ◌+◌, Bool, true, false, ◌∷◌}
+use Rattle.mil_word.specs.declared.Line.{Line}
+use Rattle.mil_message.specs.World.{other_line}
 use Rattle.frame_code.specs.Table.{Registers, at_place}
 use Rattle.bc_machine.specs.Running.{MachineState}
 
@@ -18,3 +20,8 @@ opened m count = with_registers m (record m.at { counters = count ∷ m.at.count
 
 abbrev pub flagged : MachineState → Bool → MachineState
 flagged m flag = with_registers m (record m.at { flag = flag })
+
+-- the line of a message, where this was the last one: its own, or the other one than the last
+abbrev pub line_of : Bool → Line → Line → Line
+line_of false last own = own
+line_of true last own = other_line last

@@ -5,6 +5,7 @@ mod begun;
 mod counters;
 mod laws;
 mod machine;
+mod messages;
 mod outcomes;
 mod parts;
 mod placed;

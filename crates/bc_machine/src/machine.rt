@@ -5,9 +5,10 @@ ghost use Rattle.bc_machine.specs.Running.{started, stepped, answered};
 ghost use Rattle.bc_machine.specs.UnderWay.{IsUnderWay, Tells};
 
 use crate::counters::Counters;
+use crate::laws::BusSetting;
 use crate::parts::Parts;
 use crate::{Placed, Stepped};
-use frame_load::Program;
+use frame_load::{Program, loadable_runs};
 use mil_bus::{Bus, Outcome};
 use mil_line::Plan;
 use std::alloc::AllocError;
@@ -43,6 +44,19 @@ impl Machine {
         Machine {
             parts: Parts::start(program, bus, plan, placed),
         }
+    }
+
+    /// One step: one row of the operation table. A message step raises the number, lets the actions placed at it act in
+    /// their order, makes the exchange with the faults planned for it, keeps the outcome, and answers the record. It takes
+    /// no memory.
+    pub fn step(&mut self) -> Stepped
+        ensures value { self.new ≡ stepped self.old }
+        ensures answer { result ≡ answered self.old }
+        ensures tells { Tells self.old self.new result }
+        ensures under_way { IsUnderWay self.new }
+    {
+        loadable_runs::<BusSetting>();
+        self.parts.step()
     }
 
     /// The bus as it is now.

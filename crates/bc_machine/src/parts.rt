@@ -1,22 +1,24 @@
 //! A controller's parts, wherever its program stands.
-ghost use Rattle.std.specs.Prelude.{◌≡◌, ◌<◌, ◌≤◌, ◌+◌, ◌^◌, Some, slice_get, length, IfOk, IsTrue, [], ◌∷◌};
+ghost use Rattle.std.specs.Prelude.{◌≡◌, ◌<◌, ◌≤◌, ◌+◌, ◌^◌, Some, if◌then◌else◌, slice_get, length, IfOk, IsTrue, [], ◌∷◌};
 ghost use Rattle.mil_word.specs.declared.Line.{Line};
 ghost use Rattle.mil_message.specs.declared.messages.Message.{Message};
 ghost use Rattle.mil_message.specs.World.{sent, other_line};
 ghost use Rattle.mil_bus.specs.Exchange.{clock_of};
-ghost use Rattle.frame_code.specs.Table.{at_place};
+ghost use Rattle.frame_code.specs.Table.{at_place, sends, turns, leaves};
 ghost use Rattle.frame_code.specs.Ranges.{is_test};
 ghost use Rattle.frame_load.specs.Judging.{IsWithin};
 ghost use Rattle.frame_code.specs.Loadable.{IsLoadable};
-ghost use Rattle.bc_machine.specs.Running.{started, stepped, answered, latest, clock_in, world_in};
+ghost use Rattle.bc_machine.specs.Running.{started, moved_by, stepped, answered, latest, clock_in, world_in};
 ghost use Rattle.bc_machine.specs.Outcomes.{test_of};
 ghost use Rattle.bc_machine.specs.Moves as moves;
+ghost use Rattle.bc_machine.specs.Moves.{line_of};
 ghost use Rattle.bc_machine.specs.Able.{IsAble};
 
 use crate::begun::{Begun, begun_with, same};
 use crate::counters::Counters;
+use crate::messages::exchange;
 use crate::outcomes::{asks, other};
-use crate::placed::{act_at, copied};
+use crate::placed::copied;
 use crate::{Placed, Stepped};
 use frame_code::Op;
 use frame_load::Program;
@@ -134,6 +136,108 @@ impl Parts {
         ensures { self.new ≡ moves.flagged self.old (test_of test self.old.point.last) }
     {
         self.flag = asks(test, self.last);
+    }
+
+    /// Takes 1 from the top counter: above 0 goes to a place, at 0 pops it and goes on.
+    fn again(&mut self, place: u16) -> Stepped
+        requires taken { self.old.taken < 2 ^ 31 }
+        requires place { self.old.at.place < 4096 }
+        requires counter { 0 < length self.old.at.counters }
+        ensures value { self.new ≡ moved_by (turns (world_in self.old) self.old.at.counters place self.old.at self.old.point) self.old }
+        ensures answer { result ≡ Stepped.Ran }
+    {
+        match self.counters.pop() {
+            Some(count) if count > 1 => {
+                self.counters.push(count - 1);
+                self.go(place)
+            }
+            _ => self.go_on(),
+        }
+    }
+
+    /// Pops the top counter, and goes to a place.
+    fn leave(&mut self, place: u16) -> Stepped
+        requires taken { self.old.taken < 2 ^ 31 }
+        requires counter { 0 < length self.old.at.counters }
+        ensures value { self.new ≡ moved_by (leaves (world_in self.old) self.old.at.counters place self.old.at self.old.point) self.old }
+        ensures answer { result ≡ Stepped.Ran }
+    {
+        let _ = self.counters.pop();
+        self.go(place)
+    }
+
+    /// Goes to a place where the flag is false.
+    fn jump_false(&mut self, place: u16) -> Stepped
+        requires taken { self.old.taken < 2 ^ 31 }
+        requires place { self.old.at.place < 4096 }
+        ensures value { self.new ≡ moves.gone self.old (if self.old.at.flag then self.old.at.place + 1 else place) }
+        ensures answer { result ≡ Stepped.Ran }
+    {
+        if self.flag {
+            self.go_on()
+        } else {
+            self.go(place)
+        }
+    }
+
+    /// Sends the message of an index, on its own line or on the other line than the last one.
+    fn send(&mut self, index: u16, alternates: bool) -> Stepped
+        requires taken { self.old.taken < 2 ^ 31 }
+        requires place { self.old.at.place < 4096 }
+        requires message { index < length self.old.code.messages }
+        requires number { self.old.point.number < 2 ^ 31 }
+        requires clock { clock_in self.old ≤ 2 ^ 48 }
+        ensures value { self.new ≡ moved_by (sends (world_in self.old) (slice_get self.old.code.messages index) (line_of alternates self.old.at.line) self.old.at self.old.point) self.old }
+        ensures answer { result ≡ latest self.new.point.state.talks }
+        ensures soon { clock_in self.new ≤ clock_in self.old + 2 ^ 24 }
+    {
+        let (own, message) = &self.program.image().messages()[index as usize];
+        let line = if alternates { other(self.line) } else { *own };
+        self.number += 1;
+        let talk = exchange(
+            &mut self.bus,
+            &self.plan,
+            self.placed.as_slice(),
+            self.number,
+            line,
+            message,
+            self.gap,
+        );
+        self.last = Some(talk.outcome());
+        self.line = line;
+        self.place += 1;
+        self.taken += 1;
+        Stepped::Sent(observe(&talk))
+    }
+
+    /// One step: one row of the operation table.
+    pub fn step(&mut self) -> Stepped
+        requires { IsAble self.old }
+        ensures value { self.new ≡ stepped self.old }
+        ensures answer { result ≡ answered self.old }
+        ensures soon { clock_in self.new ≤ clock_in self.old + 2 ^ 24 }
+    {
+        match self.op() {
+            Op::Halt => Stepped::Halted,
+            Op::Send(index) => self.send(index, false),
+            Op::Alt(index) => self.send(index, true),
+            Op::SetGap(ticks) => {
+                self.set_gap(ticks);
+                self.go_on()
+            }
+            Op::Loop(count) => {
+                self.open_loop(count);
+                self.go_on()
+            }
+            Op::Again(place) => self.again(place),
+            Op::Leave(place) => self.leave(place),
+            Op::Jump(place) => self.go(place),
+            Op::Test(test) => {
+                self.test(test);
+                self.go_on()
+            }
+            Op::JumpFalse(place) => self.jump_false(place),
+        }
     }
 
     /// The bus as it is now.

@@ -1,0 +1,57 @@
+-- The actions placed at a message, and its exchange.
+use Rattle.std.proofs.Common.{◌≡◌, ◌≤◌, ◌+◌, ℕ, suc, List, [], ◌∷◌, refl, ap₂, arith}
+use Rattle.mil_word.specs.declared.Line.{Line}
+use Rattle.mil_message.specs.declared.forms.Form.{Form}
+use Rattle.mil_line.specs.declared.faults.Fault.{Fault}
+use Rattle.mil_bus.specs.declared.talks.Sent.{Sent}
+use Rattle.mil_bus.specs.declared.talks.Talk.{Talk}
+use Rattle.mil_bus.specs.Times.{end_of, end_from, lasting}
+use Rattle.mil_bus.specs.Exchange.{BusState, exchanged, talk_of, clock_of, next_start}
+use Rattle.mil_bus.specs.Actions.{acted}
+use Rattle.bc_machine.specs.declared.placed.Placed.{Placed}
+use Rattle.bc_machine.specs.Controller.{all_acted, placed_at, ready}
+
+acted_talks : (ps : List Placed) (b : BusState) → (all_acted b ps).talks ≡ b.talks
+acted_talks [] b = refl
+acted_talks (p ∷ ps) b = acted_talks ps (acted b p.address p.action)
+
+acted_start : (ps : List Placed) (b : BusState) → (all_acted b ps).start ≡ b.start
+acted_start [] b = refl
+acted_start (p ∷ ps) b = acted_start ps (acted b p.address p.action)
+
+-- no action moves the clock
+pub ready_talks : (placed : List Placed) (number : ℕ) (b : BusState) → (ready placed number b).talks ≡ b.talks
+unfolding ready
+ready_talks placed number b = acted_talks (placed_at number placed) b
+
+pub ready_start : (placed : List Placed) (number : ℕ) (b : BusState) → (ready placed number b).start ≡ b.start
+unfolding ready
+ready_start placed number b = acted_start (placed_at number placed) b
+
+-- an exchange adds its talk
+pub exchanged_talks : (b : BusState) (line : Line) (message : Form) (gap : ℕ) (faults : List Fault) → (exchanged b line message gap faults).talks ≡ talk_of b line message gap faults ∷ b.talks
+unfolding exchanged
+exchanged_talks b line message gap faults = refl
+
+pub exchanged_start : (b : BusState) (line : Line) (message : Form) (gap : ℕ) (faults : List Fault) → (exchanged b line message gap faults).start ≡ b.start
+unfolding exchanged
+exchanged_start b line message gap faults = refl
+
+-- a talk starts where the one before has ended, or later, and ends where it starts, or later
+starts_after : (start : ℕ) (talks : List Talk) (gap : ℕ) → clock_of start talks ≤ next_start start talks gap
+starts_after start [] gap = omega arith
+starts_after start (t ∷ ts) gap = omega arith
+
+ends_after : (place tick : ℕ) (sent : List Sent) → tick ≤ end_from place tick sent
+ends_after place tick [] = omega arith
+ends_after place tick (w ∷ ws) = omega (arith, ends_after (suc place) (tick + lasting place w.gap) ws)
+
+pub talk_follows : (b : BusState) (line : Line) (message : Form) (gap : ℕ) (faults : List Fault) → clock_of b.start b.talks ≤ (talk_of b line message gap faults).start
+unfolding talk_of
+talk_follows b line message gap faults = starts_after b.start b.talks gap
+
+pub talk_ends : (t : Talk) → t.start ≤ end_of t
+talk_ends t = ends_after 0 t.start t.sent.items
+
+pub ready_clock : (placed : List Placed) (number : ℕ) (b : BusState) → clock_of (ready placed number b).start (ready placed number b).talks ≡ clock_of b.start b.talks
+ready_clock placed number b = ap₂ clock_of (ready_start placed number b) (ready_talks placed number b)
