@@ -9,6 +9,8 @@ mod messages;
 mod outcomes;
 mod parts;
 mod placed;
+#[cfg(test)]
+mod tests;
 
 pub use laws::controller_runs;
 pub use machine::Machine;
