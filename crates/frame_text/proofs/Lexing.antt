@@ -1,9 +1,9 @@
 -- How a text begins, and its tokens.
-use Rattle.std.proofs.Common.{rules, ◌≡◌, ◌≢◌, ℕ, zero, suc, ◌+◌, ◌-◌, ◌<◌, ◌≤◌, Bool, true, false, cond, List, [], ◌∷◌, length, get_or, take, drop, refl, sym, ap, ap₂, ◌∙◌, subst, ⊎_elim, arith}
+use Rattle.std.proofs.Common.{◌≡◌, ℕ, zero, suc, ◌+◌, ◌<◌, ◌≤◌, Bool, true, false, cond, List, [], ◌∷◌, length, get_or, take, drop, refl, sym, ap, ap₂, ◌∙◌, subst, ⊎_elim, arith}
 use Rattle.std.proofs.lemmas.Bool.{cases_lt}
-use Rattle.std.specs.Prelude.{nat_eq, nat_le, not, ◌&&◌, ◌||◌}
+use Rattle.std.specs.Prelude.{nat_eq, not, ◌&&◌}
 use Rattle.std.proofs.lemmas.Bool.Decides.{nat_tests}
-use Rattle.frame_text.specs.Tokens.{in_word, is_space, goes_on, glued, lex, tokens, BeginsToken}
+use Rattle.frame_text.specs.Tokens.{in_word, is_space, goes_on, glued, lex, BeginsToken}
 
 pub lex_end : (c : Bool) (bs : List ℕ) → length bs ≡ 0 → lex false bs ≡ lex c bs
 unfolding lex
@@ -26,11 +26,11 @@ pub lex_space : (b : ℕ) (bs : List ℕ) → is_space b ≡ true → lex false 
 unfolding lex
 lex_space b bs e = ap (λ t. cond t (lex false bs) (cond (nat_eq b 35) (lex true bs) (cond (in_word b && goes_on bs) (glued b (lex false bs)) ((b ∷ []) ∷ lex false bs)))) e
 
-word_apart : (b : ℕ) → in_word b ≡ true → (is_space b ≡ false) × (nat_eq b 35 ≡ false)
+pub word_apart : (b : ℕ) → in_word b ≡ true → (is_space b ≡ false) × (nat_eq b 35 ≡ false)
 word_apart b h = (grind (arith, nat_tests), grind (arith, nat_tests))
 
 -- at a token
-lex_token : (b : ℕ) (bs : List ℕ) → is_space b ≡ false → nat_eq b 35 ≡ false → lex false (b ∷ bs) ≡ cond (in_word b && goes_on bs) (glued b (lex false bs)) ((b ∷ []) ∷ lex false bs)
+pub lex_token : (b : ℕ) (bs : List ℕ) → is_space b ≡ false → nat_eq b 35 ≡ false → lex false (b ∷ bs) ≡ cond (in_word b && goes_on bs) (glued b (lex false bs)) ((b ∷ []) ∷ lex false bs)
 unfolding lex
 lex_token b bs s h =
     ap (λ t. cond t (lex false bs) (cond (nat_eq b 35) (lex true bs) (cond (in_word b && goes_on bs) (glued b (lex false bs)) ((b ∷ []) ∷ lex false bs)))) s

@@ -1,5 +1,17 @@
 pub mod Below
+pub mod ConditionsBack
+pub mod Digits
+pub mod FormsBack
+pub mod FormsRead
 pub mod Lexing
+pub mod Printed
+pub mod PrintedForms
+pub mod PrintedLines
 pub mod Reading
 pub mod Scripts
+pub mod ScriptsBack
 pub mod Soundness
+pub mod Spelling
+pub mod Tables
+pub mod TreesBack
+pub mod TreesRead

@@ -1,5 +1,5 @@
 -- Reading frames one by one.
-use Rattle.std.proofs.Common.{rules, ◌≡◌, ◌≢◌, ℕ, zero, suc, ◌+◌, ◌-◌, ◌<◌, ◌≤◌, Bool, true, false, cond, List, [], ◌∷◌, ◌++◌, length, map, Result, Ok, Err, refl, sym, ap, ap₂, ◌∙◌, subst, arith, Vec}
+use Rattle.std.proofs.Common.{rules, ◌≡◌, ◌≢◌, ℕ, zero, suc, ◌-◌, ◌<◌, ◌≤◌, Bool, true, false, cond, List, [], ◌∷◌, ◌++◌, length, map, Result, Ok, Err, refl, sym, ap, ◌∙◌, arith, Vec}
 use Rattle.std.specs.Prelude.{codes}
 use Rattle.std.proofs.lemmas.List.{map-append}
 use Rattle.frame_tree.specs.Tree.{Tree, chain, tree_of, nothing, first}
@@ -71,7 +71,7 @@ frames_close frame (suc n) w text ts fs whole is h b e =
     ∙ ap (λ t. onto fs (goes frame n w ts t)) b
     ∙ ap (λ t. Ok (t, ts)) (before_nothing (map tree_of fs))
 
-frames_on : (frame : Reader) (n : ℕ) (w : List ℕ) (text ts : Tokens) → text ≡ w ∷ ts → same w (codes "}") ≡ false → frames_at frame (suc n) text ≡ (frame text >>= (λ x. frames_at frame n x.1 >>= (λ y. Ok (first x.0 y.0, y.1))))
+pub frames_on : (frame : Reader) (n : ℕ) (w : List ℕ) (text ts : Tokens) → text ≡ w ∷ ts → same w (codes "}") ≡ false → frames_at frame (suc n) text ≡ (frame text >>= (λ x. frames_at frame n x.1 >>= (λ y. Ok (first x.0 y.0, y.1))))
 unfolding frames_at
 frames_on frame n w text ts is b =
     ap (frames_at frame (suc n)) is ∙ ap (λ t. goes frame n w ts t) b
@@ -114,7 +114,7 @@ put_script_more : (ts : List Tree) (t : Tree) (r : Result Tree Cause) → ((r >>
 put_script_more ts t (Ok x) = ap Ok (before_more ts t x)
 put_script_more ts t (Err e) = refl
 
-script_on : (n : ℕ) (w : List ℕ) (text ts : Tokens) → text ≡ w ∷ ts → script_at (suc n) text ≡ (frame_at 16 text >>= (λ x. script_at n x.1 >>= (λ y. Ok (first x.0 y))))
+pub script_on : (n : ℕ) (w : List ℕ) (text ts : Tokens) → text ≡ w ∷ ts → script_at (suc n) text ≡ (frame_at 16 text >>= (λ x. script_at n x.1 >>= (λ y. Ok (first x.0 y))))
 unfolding script_at
 script_on n w text ts is = ap (script_at (suc n)) is ∙ ap (λ z. frame_at 16 z >>= (λ x. script_at n x.1 >>= (λ y. Ok (first x.0 y)))) (sym is)
 

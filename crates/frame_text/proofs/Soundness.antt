@@ -1,10 +1,10 @@
 -- A tree that a text has is sound.
-use Rattle.std.proofs.Common.{◌≡◌, ℕ, zero, suc, ◌+◌, ◌<◌, ◌≤◌, ◌⊎◌, inl, inr, max, Bool, true, false, cond, List, [], ◌∷◌, length, Option, Some, None, Result, Ok, Err, refl, sym, ap, ◌∙◌, subst, arith}
+use Rattle.std.proofs.Common.{◌≡◌, ℕ, zero, suc, ◌+◌, ◌≤◌, inl, inr, max, Bool, true, false, cond, List, [], ◌∷◌, length, Option, Some, None, Result, Ok, Err, refl, ap, subst, arith}
 use Rattle.std.specs.Prelude.{nat_le, ◌&&◌, codes}
 use Rattle.std.specs.Str.{bytes_eq}
 use Rattle.std.proofs.lemmas.Bool.Decides.{nat_tests}
 use Rattle.mil_status.specs.Status.{bit_of_name, bit_in, status_bits, Row}
-use Rattle.frame_tree.specs.Tree.{Test, Tree, bit_number, nothing, first, send, retry, gap, repeat, choose, failed, silent, bit, negated, both, either}
+use Rattle.frame_tree.specs.Tree.{Test, Tree, bit_number, nothing, first}
 use Rattle.frame_tree.specs.Bounds.{depth, worst_messages, operators, HasNamedBits, IsNamedBit, IsInRange, IsSound}
 use Rattle.frame_text.specs.Reading.{◌>>=◌, Tokens, Reading, same, misplaced, past}
 use Rattle.frame_text.specs.Words.{number_at, number_within}
@@ -23,17 +23,17 @@ pub bind_ok : {X Y : Type 0} (r : Result X Cause) (f : X → Result Y Cause) (y 
 bind_ok (Ok x) f y e = (x, refl, e)
 bind_ok (Err c) f y e = absurd (cc)
 
-abbrev ok : {X : Type 0} → X → Result X Cause
+abbrev pub ok : {X : Type 0} → X → Result X Cause
 ok x = Ok x
 
-ok_is : {X : Type 0} (x y : X) → ok x ≡ ok y → x ≡ y
+pub ok_is : {X : Type 0} (x y : X) → ok x ≡ ok y → x ≡ y
 ok_is x y e = cc
 
 chosen : {X : Type 0} (b : Bool) (x y : X) (c : Cause) → cond b (Ok x) (Err c) ≡ Ok y → (b ≡ true) × (x ≡ y)
 chosen true x y c e = (refl, ok_is x y e)
 chosen false x y c e = absurd (cc)
 
-both_true : (low n high : ℕ) → (nat_le low n && nat_le n high) ≡ true → (low ≤ n) × (n ≤ high)
+pub both_true : (low n high : ℕ) → (nat_le low n && nat_le n high) ≡ true → (low ≤ n) × (n ≤ high)
 both_true low n high e = (grind (arith, nat_tests), grind (arith, nat_tests))
 
 number_ok : (low high : ℕ) (ts : Tokens) (n : ℕ × Tokens) → number_within low high ts ≡ Ok n → (low ≤ n.0) × (n.0 ≤ high)

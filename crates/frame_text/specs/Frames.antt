@@ -1,5 +1,5 @@
 -- The text of frames: the grammar of a script (own choice), and the tree of a text or its first fault.
-use Rattle.std.specs.Prelude.{ℕ, zero, suc, nat_le, Bool, true, false, if◌then◌else◌, List, [], ◌∷◌, length, Result, Ok, Err, codes}
+use Rattle.std.specs.Prelude.{ℕ, zero, suc, nat_le, if◌then◌else◌, List, [], ◌∷◌, length, Result, Ok, Err, codes}
 use Rattle.frame_tree.specs.Tree.{Tree, send, retry, gap, repeat, choose, nothing, first}
 use Rattle.frame_tree.specs.Bounds.{worst_messages}
 use Rattle.frame_text.specs.Tokens.{tokens}

@@ -4,3 +4,6 @@ pub mod Words
 pub mod Messages
 pub mod Conditions
 pub mod Frames
+pub mod PrintedMessages
+pub mod PrintedConditions
+pub mod Printing

@@ -1,5 +1,5 @@
 -- The text of a message: `send LINE MESSAGE` (own choice; the forms are those of MIL-STD-1553B 4.3.3.6).
-use Rattle.std.specs.Prelude.{ℕ, Bool, true, false, if◌then◌else◌, List, [], ◌∷◌, Option, Some, None, Result, Ok, Err, codes}
+use Rattle.std.specs.Prelude.{ℕ, if◌then◌else◌, List, [], ◌∷◌, Result, Ok, Err, codes}
 use Rattle.mil_word.specs.declared.Line.{Line}
 use Rattle.mil_word.specs.declared.Line.TheVariants.{A, B}
 use Rattle.mil_message.specs.declared.faults.BadMessage.{BadMessage}

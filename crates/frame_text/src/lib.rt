@@ -2,13 +2,14 @@
 //! from left to right.
 #![tactic(auto)]
 
-ghost use Rattle.std.specs.Prelude.{IfOk};
+ghost use Rattle.std.specs.Prelude.{◌≡◌, ℕ, List, Ok, IfOk, string_bytes};
 ghost use Rattle.frame_tree.specs.Tree.{test_of, tree_of};
 ghost use Rattle.frame_tree.specs.Bounds.{IsSound};
 ghost use Rattle.frame_text.specs.Reading.{Answers};
 ghost use Rattle.frame_text.specs.Messages.{send_of_text};
 ghost use Rattle.frame_text.specs.Conditions.{condition_of_text};
 ghost use Rattle.frame_text.specs.Frames.{tree_of_text};
+ghost use Rattle.frame_text.specs.Printing.{printed};
 
 pub mod conditions;
 pub mod faults;
@@ -17,6 +18,9 @@ pub mod keywords;
 mod memory;
 pub mod messages;
 pub mod places;
+mod printed_conditions;
+mod printed_frames;
+mod printed_messages;
 #[cfg(test)]
 mod tests;
 pub mod tokens;
@@ -28,7 +32,8 @@ use frame_tree::{Cond, Frame};
 use mil_message::Message;
 use mil_word::Line;
 use places::located;
-use std::alloc::Allocator;
+use printed_frames::put_lines;
+use std::alloc::{AllocError, Allocator, Global};
 
 /// The frame of a script. It is refused with the first fault from left to right, or for want of memory; a frame is sound.
 pub fn parse<A: Allocator + Clone>(alloc: A, text: &[u8]) -> Result<Frame<A>, ScriptError>
@@ -59,4 +64,15 @@ pub fn read_cond<A: Allocator + Clone>(alloc: A, text: &[u8]) -> Result<Cond<A>,
         Ok(condition) => Ok(condition),
         Err(fault) => Err(located(text, fault)),
     }
+}
+
+/// The text of a frame: one frame a line, two spaces for each open block, an empty else left out. The tree that `parse` gives of
+/// a text is also the tree of its print.
+pub fn print<A: Allocator + Clone>(alloc: Global, frame: &Frame<A>) -> Result<String, AllocError>
+    ensures text { IfOk result (λ s. string_bytes s ≡ printed (tree_of frame.now)) }
+    ensures same_tree { IfOk result (λ s. (text : List ℕ) → tree_of_text text ≡ Ok (tree_of frame.now) → tree_of_text (string_bytes s) ≡ Ok (tree_of frame.now)) }
+{
+    let mut text = String::new(alloc);
+    put_lines(&mut text, frame, 0)?;
+    Ok(text)
 }

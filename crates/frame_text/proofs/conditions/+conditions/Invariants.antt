@@ -1,4 +1,4 @@
-use Rattle.std.proofs.Common.{◌≡◌, ◌+◌, ◌*◌, ℕ}
+use Rattle.std.proofs.Common.{◌+◌, ◌*◌}
 use Rattle.frame_text.proofs.conditions.+conditions.Given as goal
 
 abbrev pub decreases-condition : goal.decreases-condition

@@ -1,8 +1,6 @@
-use Rattle.std.proofs.Common.{◌≡◌, ◌+◌, ◌-◌, ◌≤◌, ◌<◌, ◌++◌, ℕ, length, map, sym, ap, ◌∙◌, Ok, Err, arith}
+use Rattle.std.proofs.Common.{length, sym, ap, ◌∙◌, arith}
 use Rattle.std.proofs.lemmas.Result.{err_from_is_err_and}
-use Rattle.frame_tree.specs.Tree.{tree_of, chain}
 use Rattle.frame_text.specs.Tokens.{tokens}
-use Rattle.frame_text.specs.Reading.{Gives, Fails}
 use Rattle.frame_text.specs.Frames.{frames_at, frame_at}
 use Rattle.frame_text.specs.declared.faults.Cause.TheVariants as cause
 use Rattle.frame_text.proofs.Scripts.{onto, onto_none, frames_end, frames_close, frames_more, frames_refused, fails_with}

@@ -1,8 +1,7 @@
-use Rattle.std.proofs.Common.{◌≡◌, ◌+◌, ◌-◌, ◌≤◌, ◌<◌, ◌++◌, ℕ, length, map, sym, ap, ◌∙◌, Ok, Err, arith}
+use Rattle.std.proofs.Common.{length, sym, ap, ◌∙◌, Ok, arith}
 use Rattle.std.proofs.lemmas.Result.{err_from_is_err_and}
-use Rattle.frame_tree.specs.Tree.{tree_of, chain}
 use Rattle.frame_text.specs.Tokens.{tokens}
-use Rattle.frame_text.specs.Frames.{frame_at, script_at}
+use Rattle.frame_text.specs.Frames.{script_at}
 use Rattle.frame_text.proofs.Scripts.{onto_script, script_none, script_end, script_more, script_refused}
 use Rattle.frame_text.proofs.frames.script.Goals as goal
 

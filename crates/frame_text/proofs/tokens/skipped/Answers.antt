@@ -1,6 +1,5 @@
-use Rattle.std.proofs.Common.{rules, ◌≡◌, ◌≤◌, length, sym, ap, ◌∙◌, arith, [], true, false}
-use Rattle.std.specs.Prelude.{nat_eq}
-use Rattle.frame_text.specs.Tokens.{lex, tokens, is_space}
+use Rattle.std.proofs.Common.{length, sym, ap, ◌∙◌, arith, true, false}
+use Rattle.frame_text.specs.Tokens.{lex}
 use Rattle.frame_text.proofs.Lexing.{lex_comment, lex_hash, lex_space, lex_end}
 use Rattle.frame_text.proofs.tokens.skipped.Goals as goal
 

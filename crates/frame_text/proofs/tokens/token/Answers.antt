@@ -1,7 +1,5 @@
-use Rattle.std.proofs.Common.{rules, ◌≡◌, ◌≤◌, ◌<◌, ◌+◌, ◌-◌, ℕ, length, length-drop, get_or, take, drop, sym, ap, ◌∙◌, arith, [], true, false}
-use Rattle.std.specs.Prelude.{nat_eq}
+use Rattle.std.proofs.Common.{length-drop, drop, sym, ◌∙◌, arith}
 use Rattle.std.proofs.lemmas.List.{take_all}
-use Rattle.frame_text.specs.Tokens.{lex, tokens, is_space, in_word, goes_on}
 use Rattle.frame_text.proofs.Lexing.{word_at, more_word, one_byte, no_bytes, ends_there, stops_there}
 use Rattle.frame_text.proofs.tokens.token.Goals as goal
 use Rattle.frame_text.proofs.tokens.token.Goals.{then-loop-end-test+else-is_word_byte, else-loop-end-test}

@@ -1,4 +1,4 @@
-use Rattle.std.proofs.Common.{◌≡◌, ℕ, ◌+◌, ◌-◌, ◌≤◌, ◌<◌, length, get_or}
+use Rattle.std.proofs.Common.{◌≡◌, ℕ, ◌-◌, ◌≤◌, ◌<◌, length, get_or}
 use Rattle.std.specs.Prelude.{true}
 use Rattle.frame_text.specs.Tokens.{in_word}
 use Rattle.frame_text.proofs.tokens.token.Given as goal

@@ -1,4 +1,4 @@
-use Rattle.std.proofs.Common.{◌≡◌, ◌≤◌, arith}
+use Rattle.std.proofs.Common.{arith}
 use Rattle.frame_tree.specs.Tree.{tree_of}
 use Rattle.frame_text.specs.Tokens.{tokens}
 use Rattle.frame_text.proofs.Soundness.{script_is_sound}

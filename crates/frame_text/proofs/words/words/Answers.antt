@@ -1,8 +1,7 @@
-use Rattle.std.proofs.Common.{◌≡◌, ◌≤◌, ◌<◌, ◌++◌, ◌∷◌, [], length, take, ℕ, List, Ok, Err, sym, ap, ◌∙◌, arith, refl}
+use Rattle.std.proofs.Common.{◌++◌, ◌∷◌, [], length, take, sym, ap, ◌∙◌, arith}
 use Rattle.frame_text.specs.Tokens.{tokens}
-use Rattle.frame_text.specs.Reading.{Tokens, Reading, Fails}
-use Rattle.frame_text.specs.Words.{words_at, counted}
-use Rattle.frame_text.proofs.Reading.{put_words, put_none, words_more, words_close, words_wrong, words_end, wrong_counted, close_counted, take_again}
+use Rattle.frame_text.specs.Words.{words_at}
+use Rattle.frame_text.proofs.Reading.{put_none, words_more, words_close, words_wrong, words_end, wrong_counted, close_counted, take_again}
 use Rattle.frame_text.proofs.words.words.Goals as goal
 
 pub loop-word-init : goal.loop-word-init

@@ -1,0 +1,149 @@
+-- The tokens of printed trees, and what is read of them.
+use Rattle.std.proofs.Common.{◌≡◌, ℕ, ◌+◌, ◌<◌, ◌≤◌, ◌^◌, Bool, true, false, cond, List, [], ◌∷◌, ◌++◌, length, refl, sym, arith, subst}
+use Rattle.std.specs.Prelude.{codes, decimal}
+use Rattle.mil_message.specs.declared.forms.Form.{Form}
+use Rattle.mil_message.specs.declared.forms.Form.TheVariants.{ToTerminal, FromTerminal, Between, Mode, ModeFrom, ModeTo, ToAll, BetweenAll, ModeAll, ModeAllTo}
+use Rattle.frame_tree.specs.Tree.{Test, Tree, send, retry, gap, repeat, choose, nothing, first}
+use Rattle.frame_tree.specs.Bounds.{IsInRange}
+use Rattle.frame_text.specs.Reading.{Tokens, same}
+use Rattle.frame_text.specs.PrintedMessages.{line_text}
+use Rattle.frame_text.specs.Printing.{lines, is_empty, block_text, else_text}
+use Rattle.frame_text.proofs.Spelling.{SpellsLines, word_spells, number_spells, spaced_lines, line_spells, indent_spells, lines_spell, no_lines, block_spells, words_then}
+use Rattle.frame_text.proofs.PrintedForms.{Small, IsReadable, MayFollow, message_then, send_then, send_spells}
+use Rattle.frame_text.proofs.ConditionsBack.{condition_then, condition_spells, condition_grows}
+
+-- A tree that a text may have: frames in sequence are a chain that holds no chain itself, and each message can be read. The first
+-- argument tells whether a chain or one frame is asked for.
+abbrev pub IsRead : Bool → Tree → Type 0
+IsRead true nothing = Unit {0}
+IsRead true (first a b) = IsRead false a × IsRead true b
+IsRead true (send line m) = ⊥
+IsRead true (retry n line m) = ⊥
+IsRead true (gap n) = ⊥
+IsRead true (repeat n b) = ⊥
+IsRead true (choose c a b) = ⊥
+IsRead false nothing = ⊥
+IsRead false (first a b) = ⊥
+IsRead false (send line m) = IsReadable m
+IsRead false (retry n line m) = IsReadable m
+IsRead false (gap n) = Unit {0}
+IsRead false (repeat n b) = IsRead true b
+IsRead false (choose c a b) = IsRead true a × IsRead true b
+
+-- the tokens of a tree, in front of others
+abbrev pub tree_then : Tree → Tokens → Tokens
+tree_then (send line m) ts = send_then line m ts
+tree_then (retry n line m) ts = codes "retry" ∷ decimal n ∷ send_then line m ts
+tree_then (gap n) ts = codes "gap" ∷ decimal n ∷ ts
+tree_then (repeat n b) ts = codes "repeat" ∷ decimal n ∷ codes "{" ∷ tree_then b (codes "}" ∷ ts)
+tree_then (choose c a b) ts =
+    codes "if" ∷ condition_then c (codes "{" ∷ tree_then a (codes "}" ∷ cond (is_empty b) ts (codes "else" ∷ codes "{" ∷ tree_then b (codes "}" ∷ ts))))
+tree_then nothing ts = ts
+tree_then (first a b) ts = tree_then a (tree_then b ts)
+
+pub number_spelled : (n k : ℕ) → k ≤ 65535 → n ≤ k → Small n
+number_spelled n k h l = omega (arith, h, l)
+
+spelled : (n k : ℕ) → k ≤ 65535 → n ≤ k → n < 2 ^ 64
+spelled n k h l = omega (arith, h, l)
+
+-- the tokens of the lines of a tree
+pub tree_spells : (k : Bool) (t : Tree) (d : ℕ) → IsRead k t → IsInRange t → SpellsLines (lines d t) (tree_then t)
+unfolding lines
+tree_spells false (send line m) d r h = indent_spells d (line_spells (send_spells line m r))
+tree_spells false (retry n line m) d r h =
+    indent_spells d (spaced_lines (word_spells (codes "retry") (omega arith) (refl, (refl, (refl, (refl, (refl, tt)))))) (spaced_lines (number_spells n (spelled n 8 (omega arith) h.1)) (line_spells (send_spells line m r))))
+tree_spells false (gap n) d r h =
+    indent_spells d (spaced_lines (word_spells (codes "gap") (omega arith) (refl, (refl, (refl, tt)))) (line_spells (number_spells n (spelled n 65535 (omega arith) h.1))))
+tree_spells false (repeat n b) d r h =
+    indent_spells d (spaced_lines (word_spells (codes "repeat") (omega arith) (refl, (refl, (refl, (refl, (refl, (refl, tt)))))))
+    (spaced_lines (number_spells n (spelled n 10000 (omega arith) h.1)) (line_spells (block_spells d (tree_spells true b (d + 1) r h.2)))))
+tree_spells false (choose c a b) d r h =
+    indent_spells d (spaced_lines (word_spells (codes "if") (omega arith) (refl, (refl, tt)))
+    (spaced_lines (condition_spells c h.0.1) (by (is_empty b) (tree_spells true a (d + 1) r.0 h.1) (tree_spells true b (d + 1) r.1 h.2))))
+  where
+    by : (e : Bool) → SpellsLines (lines (d + 1) a) (tree_then a) → SpellsLines (lines (d + 1) b) (tree_then b)
+        → SpellsLines (block_text d (lines (d + 1) a) ++ (else_text d e (lines (d + 1) b) ++ codes "\n"))
+        (λ ts. codes "{" ∷ tree_then a (codes "}" ∷ cond e ts (codes "else" ∷ codes "{" ∷ tree_then b (codes "}" ∷ ts))))
+    by true p q = line_spells (block_spells d p)
+    by false p q = spaced_lines (block_spells d p) (spaced_lines (word_spells (codes "else") (omega arith) (refl, (refl, (refl, (refl, tt))))) (line_spells (block_spells d q)))
+tree_spells false nothing d r h = absurd r
+tree_spells false (first a b) d r h = absurd r
+tree_spells true nothing d r h = no_lines
+tree_spells true (first a b) d r h = lines_spell (tree_spells false a d r.0 h.0) (tree_spells true b d r.1 h.1)
+tree_spells true (send line m) d r h = absurd r
+tree_spells true (retry n line m) d r h = absurd r
+tree_spells true (gap n) d r h = absurd r
+tree_spells true (repeat n b) d r h = absurd r
+tree_spells true (choose c a b) d r h = absurd r
+
+words_grow : (ws : List ℕ) (ts : Tokens) → length ts ≤ length (words_then ws ts)
+words_grow [] ts = omega arith
+words_grow (w ∷ ws) ts = omega (arith, words_grow ws ts)
+
+message_grows : (m : Form) (ts : Tokens) → length ts ≤ length (message_then m ts)
+message_grows (ToTerminal a s ws) ts = omega (arith, words_grow ws.items (codes "]" ∷ ts))
+message_grows (FromTerminal a s n) ts = omega arith
+message_grows (Between a s b t n) ts = omega arith
+message_grows (Mode a s c) ts = omega arith
+message_grows (ModeFrom a s c) ts = omega arith
+message_grows (ModeTo a s c w) ts = omega arith
+message_grows (ToAll s ws) ts = omega (arith, words_grow ws.items (codes "]" ∷ ts))
+message_grows (BetweenAll a s t n) ts = omega arith
+message_grows (ModeAll s c) ts = omega arith
+message_grows (ModeAllTo s c w) ts = omega arith
+
+choose_longer : (e : Bool) (c : Test) (a b : Tree) (ts : Tokens) → length (codes "}" ∷ ts) ≤ length (tree_then b (codes "}" ∷ ts)) → ((us : Tokens) → length us ≤ length (tree_then a us))
+    → length ts < length (codes "if" ∷ condition_then c (codes "{" ∷ tree_then a (codes "}" ∷ cond e ts (codes "else" ∷ codes "{" ∷ tree_then b (codes "}" ∷ ts)))))
+choose_longer true c a b ts q p = omega (arith, condition_grows c (codes "{" ∷ tree_then a (codes "}" ∷ ts)), p (codes "}" ∷ ts))
+choose_longer false c a b ts q p =
+    let behind : Tokens = codes "}" ∷ codes "else" ∷ codes "{" ∷ tree_then b (codes "}" ∷ ts) in
+    omega (arith, condition_grows c (codes "{" ∷ tree_then a behind), p behind, q)
+
+-- a tree has no fewer tokens than stand behind it
+grows : (t : Tree) (ts : Tokens) → length ts ≤ length (tree_then t ts)
+grows (send line m) ts = omega (arith, message_grows m ts)
+grows (retry n line m) ts = omega (arith, message_grows m ts)
+grows (gap n) ts = omega arith
+grows (repeat n b) ts = omega (arith, grows b (codes "}" ∷ ts))
+grows (choose c a b) ts = omega (arith, choose_longer (is_empty b) c a b ts (grows b (codes "}" ∷ ts)) (grows a))
+grows nothing ts = omega arith
+grows (first a b) ts = omega (arith, grows a (tree_then b ts), grows b ts)
+
+-- the first token of a frame
+pub record Begins (ts : Tokens) : Type 0 where
+  pub word : List ℕ
+  pub more : Tokens
+  pub is : ts ≡ word ∷ more
+  pub goes : same word (codes "}") ≡ false
+  pub no_bracket : same word (codes "[") ≡ false
+  pub no_else : same word (codes "else") ≡ false
+
+pub begins : (t : Tree) → IsRead false t → (ts : Tokens) → Begins (tree_then t ts)
+begins (send line m) r ts = record { word = codes "send"; more = line_text line ∷ message_then m ts; is = refl; goes = refl; no_bracket = refl; no_else = refl }
+begins (retry n line m) r ts = record { word = codes "retry"; more = decimal n ∷ send_then line m ts; is = refl; goes = refl; no_bracket = refl; no_else = refl }
+begins (gap n) r ts = record { word = codes "gap"; more = decimal n ∷ ts; is = refl; goes = refl; no_bracket = refl; no_else = refl }
+begins (repeat n b) r ts = record { word = codes "repeat"; more = decimal n ∷ codes "{" ∷ tree_then b (codes "}" ∷ ts); is = refl; goes = refl; no_bracket = refl; no_else = refl }
+begins (choose c a b) r ts = record { word = codes "if"; more = condition_then c (codes "{" ∷ tree_then a (codes "}" ∷ cond (is_empty b) ts (codes "else" ∷ codes "{" ∷ tree_then b (codes "}" ∷ ts)))); is = refl; goes = refl; no_bracket = refl; no_else = refl }
+begins nothing r ts = absurd r
+begins (first a b) r ts = absurd r
+
+-- what stands behind a frame in its chain may stand there
+pub follows : (t : Tree) → IsRead true t → (ts : Tokens) → MayFollow ts → MayFollow (tree_then t ts)
+follows nothing r ts f = f
+follows (first a b) r ts f = let g = begins a r.0 (tree_then b ts) in subst MayFollow (sym g.is) (g.no_bracket, g.no_else)
+follows (send line m) r ts f = absurd r
+follows (retry n line m) r ts f = absurd r
+follows (gap n) r ts f = absurd r
+follows (repeat n b) r ts f = absurd r
+follows (choose c a b) r ts f = absurd r
+
+-- a frame has at least one token
+pub longer : (t : Tree) → IsRead false t → (ts : Tokens) → length ts < length (tree_then t ts)
+longer (send line m) r ts = omega (arith, message_grows m ts)
+longer (retry n line m) r ts = omega (arith, message_grows m ts)
+longer (gap n) r ts = omega arith
+longer (repeat n b) r ts = omega (arith, grows b (codes "}" ∷ ts))
+longer (choose c a b) r ts = choose_longer (is_empty b) c a b ts (grows b (codes "}" ∷ ts)) (grows a)
+longer nothing r ts = absurd r
+longer (first a b) r ts = absurd r

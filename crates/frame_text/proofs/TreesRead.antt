@@ -1,0 +1,126 @@
+-- A tree that a text has is one whose print reads back.
+use Rattle.std.proofs.Common.{◌≡◌, ℕ, zero, suc, ◌≤◌, Bool, true, false, cond, List, [], ◌∷◌, length, Ok, Err, refl, sym, ap, ◌∙◌, subst, arith}
+use Rattle.std.specs.Prelude.{codes, nat_le}
+use Rattle.std.proofs.lemmas.Bool.{leb-true, le-leb}
+use Rattle.frame_tree.specs.Tree.{Tree, nothing, first}
+use Rattle.frame_tree.specs.Bounds.{IsSound, worst_messages}
+use Rattle.frame_text.specs.Tokens.{lex, tokens}
+use Rattle.frame_text.specs.Reading.{Tokens, ◌>>=◌, same, misplaced, past}
+use Rattle.frame_text.specs.Words.{number_within}
+use Rattle.frame_text.specs.Messages.{send_at}
+use Rattle.frame_text.specs.Conditions.{condition_at}
+use Rattle.frame_text.specs.Frames.{Reader, frame_at, frame_from, frame_of, frame_word, frames_at, block_at, block_from, inner_at, else_at, script_at, bounded, tree_of_text}
+use Rattle.frame_text.specs.Printing.{printed}
+use Rattle.frame_text.specs.declared.faults.Cause.TheVariants as cause
+use Rattle.frame_text.specs.declared.keywords.FrameWord.{FrameWord}
+use Rattle.frame_text.specs.declared.keywords.FrameWord.TheVariants as word
+use Rattle.frame_text.proofs.Soundness.{bind_ok, ok_is, script_is_sound}
+use Rattle.frame_text.proofs.FormsRead.{send_ok}
+use Rattle.frame_text.proofs.TreesBack.{IsRead, tree_then, tree_spells}
+use Rattle.frame_text.proofs.ScriptsBack.{script_back}
+use Rattle.std.proofs.lemmas.List.{append-nil}
+
+-- what a reader reads is a chain of frames, or a frame
+abbrev Reads : Bool → Reader → Type 0
+Reads k reader = (ts : Tokens) (x : Tree × Tokens) → reader ts ≡ Ok x → IsRead k x.0
+
+else_read : (block : Reader) → Reads true block → Reads true (else_at block)
+unfolding else_at
+else_read block reads [] x e = subst (λ (z : Tree × Tokens). IsRead true z.0) (ok_is _ x e) tt
+else_read block reads (w ∷ ts) x e = by (same w (codes "else")) e
+  where
+    by : (t : Bool) → cond t (block ts) (Ok (nothing, w ∷ ts)) ≡ Ok x → IsRead true x.0
+    by true i = reads ts x i
+    by false i = subst (λ (z : Tree × Tokens). IsRead true z.0) (ok_is _ x i) tt
+
+word_read : (block : Reader) → Reads true block → (k : FrameWord) (w : List ℕ) (ts : Tokens) (x : Tree × Tokens) → frame_of block k w ts ≡ Ok x → IsRead false x.0
+unfolding frame_of
+word_read block reads word.Send w ts x e =
+    let m = bind_ok (send_at ts) _ x e in
+    subst (λ (z : Tree × Tokens). IsRead false z.0) (ok_is _ x m.2) (send_ok ts m.0 m.1)
+word_read block reads word.Retry w ts x e =
+    let n = bind_ok (number_within 1 8 ts) _ x e in
+    let u = bind_ok (past (codes "send") n.0.1) _ x n.2 in
+    let m = bind_ok (send_at u.0) _ x u.2 in
+    subst (λ (z : Tree × Tokens). IsRead false z.0) (ok_is _ x m.2) (send_ok u.0 m.0 m.1)
+word_read block reads word.Gap w ts x e =
+    let n = bind_ok (number_within 40 65535 ts) _ x e in
+    subst (λ (z : Tree × Tokens). IsRead false z.0) (ok_is _ x n.2) tt
+word_read block reads word.Repeat w ts x e =
+    let n = bind_ok (number_within 1 10000 ts) _ x e in
+    let b = bind_ok (block n.0.1) _ x n.2 in
+    subst (λ (z : Tree × Tokens). IsRead false z.0) (ok_is _ x b.2) (reads n.0.1 b.0 b.1)
+word_read block reads word.If w ts x e =
+    let c = bind_ok (condition_at 16 ts) _ x e in
+    let a = bind_ok (block c.0.1) _ x c.2 in
+    let b = bind_ok (else_at block a.0.1) _ x a.2 in
+    subst (λ (z : Tree × Tokens). IsRead false z.0) (ok_is _ x b.2) (reads c.0.1 a.0 a.1, else_read block reads a.0.1 b.0 b.1)
+word_read block reads word.NoFrame w ts x e = absurd (cc)
+
+frame_read : (block : Reader) → Reads true block → Reads false (frame_from block)
+unfolding frame_from
+frame_read block reads [] x e = absurd (cc)
+frame_read block reads (w ∷ ts) x e = word_read block reads (frame_word w) w ts x e
+
+frames_read : (frame : Reader) → Reads false frame → (n : ℕ) → Reads true (frames_at frame n)
+unfolding frames_at
+frames_read frame reads n [] x e = absurd (cc)
+frames_read frame reads zero (w ∷ ts) x e = absurd (cc)
+frames_read frame reads (suc n) (w ∷ ts) x e = by (same w (codes "}")) (λ us y i. frames_read frame reads n us y i) e
+  where
+    by : (t : Bool) → Reads true (frames_at frame n) → cond t (Ok (nothing, ts)) (frame (w ∷ ts) >>= (λ y. frames_at frame n y.1 >>= (λ z. Ok (first y.0 z.0, z.1)))) ≡ Ok x → IsRead true x.0
+    by true more i = subst (λ (z : Tree × Tokens). IsRead true z.0) (ok_is _ x i) tt
+    by false more i =
+        let a = bind_ok (frame (w ∷ ts)) _ x i in
+        let b = bind_ok (frames_at frame n a.0.1) _ x a.2 in
+        subst (λ (z : Tree × Tokens). IsRead true z.0) (ok_is _ x b.2) (reads (w ∷ ts) a.0 a.1, more a.0.1 b.0 b.1)
+
+block_read : (d : ℕ) → Reads true (block_at d)
+unfolding block_from inner_at
+block_read d [] x e = absurd (cc)
+block_read zero (w ∷ ts) x e = by (same w (codes "{")) e
+  where
+    by : (t : Bool) → cond t (Err cause.Depth) (Err (misplaced w)) ≡ Ok x → IsRead true x.0
+    by true i = absurd (cc)
+    by false i = absurd (cc)
+block_read (suc d) (w ∷ ts) x e = by (same w (codes "{")) (λ us y i. block_read d us y i) e
+  where
+    by : (t : Bool) → Reads true (block_at d) → cond t (frames_at (frame_at d) (length ts) ts) (Err (misplaced w)) ≡ Ok x → IsRead true x.0
+    by true more i = frames_read (frame_at d) (frame_read (block_at d) more) (length ts) ts x i
+    by false more i = absurd (cc)
+
+script_read : (n : ℕ) (ts : Tokens) (t : Tree) → script_at n ts ≡ Ok t → IsRead true t
+unfolding script_at
+script_read n [] t e = subst (IsRead true) (ok_is _ t e) tt
+script_read zero (w ∷ ts) t e = absurd (cc)
+script_read (suc n) (w ∷ ts) t e =
+    let a = bind_ok (frame_at 16 (w ∷ ts)) _ t e in
+    let b = bind_ok (script_at n a.0.1) _ t a.2 in
+    subst (IsRead true) (ok_is _ t b.2) (frame_read (block_at 16) (block_read 16) (w ∷ ts) a.0 a.1, script_read n a.0.1 b.0 b.1)
+
+-- a tree within the bound is that of its text, and nothing else
+bounded_is : (t u : Tree) → bounded t ≡ Ok u → (t ≡ u) × (worst_messages t ≤ 1000000)
+bounded_is t u e = by (nat_le (worst_messages t) 1000000) refl e
+  where
+    by : (b : Bool) → nat_le (worst_messages t) 1000000 ≡ b → cond b (Ok t) (Err cause.Messages) ≡ Ok u → (t ≡ u) × (worst_messages t ≤ 1000000)
+    by true i h = (ok_is t u h, leb-true (worst_messages t) 1000000 i)
+    by false i h = absurd (cc)
+
+-- the tokens of a printed tree
+printed_tokens : (t : Tree) → IsRead true t → IsSound t → tokens (printed t) ≡ tree_then t []
+unfolding lex
+printed_tokens t r s = ap (lex false) (sym (append-nil (printed t))) ∙ (tree_spells true t 0 r s.in_range).reads []
+
+sound_back : (t : Tree) → IsRead true t → IsSound t → tree_of_text (printed t) ≡ Ok t
+sound_back t r s =
+    ap (λ ts. script_at (length ts) ts >>= (λ u. bounded u)) (printed_tokens t r s)
+    ∙ ap (λ z. z >>= (λ u. bounded u)) (script_back t r s.in_range s.shallow (length (tree_then t [])) (omega arith))
+    ∙ ap (λ b. cond b (Ok t) (Err cause.Messages)) (le-leb (worst_messages t) 1000000 s.bounded)
+
+-- what a text has as its tree, its print has too
+pub print_reads_back : (text : List ℕ) (t : Tree) → tree_of_text text ≡ Ok t → tree_of_text (printed t) ≡ Ok t
+print_reads_back text t e =
+    let ts = tokens text in
+    let u = bind_ok (script_at (length ts) ts) (λ v. bounded v) t e in
+    let k = bounded_is u.0 t u.2 in
+    sound_back t (subst (IsRead true) k.0 (script_read (length ts) ts u.0 u.1)) (subst IsSound k.0 (script_is_sound ts u.0 u.1 k.1))

@@ -1,0 +1,60 @@
+-- The text that a message is printed as: words with one space between them (own choice).
+use Rattle.std.specs.Prelude.{ℕ, ◌/◌, ◌%◌, List, [], ◌∷◌, ◌++◌, map, true, codes, decimal}
+use Rattle.std.specs.Fmt.{digit_glyph}
+use Rattle.mil_word.specs.declared.Line.{Line}
+use Rattle.mil_word.specs.declared.Line.TheVariants.{A, B}
+use Rattle.mil_message.specs.declared.drafts.ModeSubaddress.{ModeSubaddress}
+use Rattle.mil_message.specs.declared.drafts.ModeSubaddress.TheVariants.{Zero, ThirtyOne}
+use Rattle.mil_message.specs.declared.forms.Form.{Form}
+use Rattle.mil_message.specs.declared.forms.Form.TheVariants.{ToTerminal, FromTerminal, Between, Mode, ModeFrom, ModeTo, ToAll, BetweenAll, ModeAll, ModeAllTo}
+
+-- texts with one space between them
+abbrev pub spaced : List (List ℕ) → List ℕ
+spaced [] = []
+spaced (w ∷ []) = w
+spaced (w ∷ v ∷ ws) = w ++ (codes " " ++ spaced (v ∷ ws))
+
+-- a byte as two hexadecimal digits, in upper case
+abbrev byte_text : ℕ → List ℕ
+byte_text b = digit_glyph true (b / 16) ∷ digit_glyph true (b % 16) ∷ []
+
+-- a data word as four hexadecimal digits
+abbrev pub data_word_text : ℕ → List ℕ
+data_word_text w = byte_text (w / 256) ++ byte_text (w % 256)
+
+-- data words in their brackets
+abbrev pub bracketed_text : List ℕ → List ℕ
+bracketed_text ws = codes "[" ++ (spaced (map data_word_text ws) ++ codes "]")
+
+abbrev pub line_text : Line → List ℕ
+line_text A = codes "A"
+line_text B = codes "B"
+
+-- the word of a mode command to one terminal, and to all
+abbrev pub mode_text : ModeSubaddress → List ℕ
+mode_text ThirtyOne = codes "mode"
+mode_text Zero = codes "mode0"
+
+abbrev pub mode_all_text : ModeSubaddress → List ℕ
+mode_all_text ThirtyOne = codes "bmode"
+mode_all_text Zero = codes "bmode0"
+
+-- the words of a message; a mode command has brackets where the controller sends its data word
+abbrev pub message_words : Form → List (List ℕ)
+message_words (ToTerminal address sub words) = codes "rx" ∷ decimal address ∷ decimal sub ∷ bracketed_text words.items ∷ []
+message_words (FromTerminal address sub count) = codes "tx" ∷ decimal address ∷ decimal sub ∷ decimal count ∷ []
+message_words (Between sender from receiver to count) = codes "rt" ∷ decimal sender ∷ decimal from ∷ decimal receiver ∷ decimal to ∷ decimal count ∷ []
+message_words (Mode address sub code) = mode_text sub ∷ decimal address ∷ decimal code ∷ []
+message_words (ModeFrom address sub code) = mode_text sub ∷ decimal address ∷ decimal code ∷ []
+message_words (ModeTo address sub code word) = mode_text sub ∷ decimal address ∷ decimal code ∷ bracketed_text (word ∷ []) ∷ []
+message_words (ToAll sub words) = codes "brx" ∷ decimal sub ∷ bracketed_text words.items ∷ []
+message_words (BetweenAll sender from to count) = codes "brt" ∷ decimal sender ∷ decimal from ∷ decimal to ∷ decimal count ∷ []
+message_words (ModeAll sub code) = mode_all_text sub ∷ decimal code ∷ []
+message_words (ModeAllTo sub code word) = mode_all_text sub ∷ decimal code ∷ bracketed_text (word ∷ []) ∷ []
+
+abbrev pub message_text : Form → List ℕ
+message_text message = spaced (message_words message)
+
+-- a line and a message
+abbrev pub send_text : Line → Form → List ℕ
+send_text line message = codes "send " ++ (line_text line ++ (codes " " ++ message_text message))

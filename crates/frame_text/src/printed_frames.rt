@@ -1,0 +1,130 @@
+//! Frames as text, one a line.
+
+ghost use Rattle.std.specs.Prelude.{◌≡◌, ◌+◌, ◌++◌, OnOk, string_bytes};
+ghost use Rattle.frame_tree.specs.Tree.{tree_of};
+ghost use Rattle.frame_text.specs.Printing as texts;
+
+use crate::printed_conditions::put_condition;
+use crate::printed_messages::put_send;
+use frame_tree::Frame;
+use std::alloc::{AllocError, Allocator};
+use std::fmt::Write;
+
+// Whether a frame has no frame but empty sequences.
+fn is_empty<A: Allocator + Clone>(frame: &Frame<A>) -> bool
+    ensures { result ≡ texts.is_empty (tree_of frame.now) }
+{
+    match frame {
+        Frame::Seq(frames) => {
+            for one in frames {
+                if !is_empty(one) {
+                    return false;
+                }
+            }
+            true
+        }
+        _ => false,
+    }
+}
+
+// Two spaces for each open block.
+fn put_indent(out: &mut String, depth: usize) -> Result<(), AllocError>
+    ensures { OnOk result (string_bytes out.new ≡ string_bytes out.old ++ texts.indent depth) }
+{
+    for _ in 0..depth {
+        out.push_str("  ")?;
+    }
+    Ok(())
+}
+
+// A block of frames, behind what opens it on its line.
+#[cycle(lines)]
+fn put_block<A: Allocator + Clone>(
+    out: &mut String,
+    body: &Frame<A>,
+    depth: usize,
+) -> Result<(), AllocError>
+    ensures { OnOk result (string_bytes out.new ≡ string_bytes out.old ++ texts.block_text depth (texts.lines (depth + 1) (tree_of body.now))) }
+{
+    // no memory holds a tree of so many levels
+    let inner = depth.checked_add(1).ok_or(AllocError)?;
+    out.push_str("{\n")?;
+    put_lines(out, body, inner)?;
+    put_indent(out, depth)?;
+    out.push_str("}")
+}
+
+/// The lines of a frame inside so many blocks.
+#[cycle(lines)]
+#[tactic(auto, unfolding(crate::specs::Printing::lines))]
+pub fn put_lines<A: Allocator + Clone>(
+    out: &mut String,
+    frame: &Frame<A>,
+    depth: usize,
+) -> Result<(), AllocError>
+    ensures { OnOk result (string_bytes out.new ≡ string_bytes out.old ++ texts.lines depth (tree_of frame.now)) }
+{
+    match frame {
+        Frame::Send { line, message } => {
+            put_indent(out, depth)?;
+            put_send(out, *line, message)?;
+            out.push_str("\n")
+        }
+        Frame::Retry {
+            count,
+            line,
+            message,
+        } => {
+            put_indent(out, depth)?;
+            write!(out, "retry {count} ")?;
+            put_send(out, *line, message)?;
+            out.push_str("\n")
+        }
+        Frame::Gap(ticks) => {
+            put_indent(out, depth)?;
+            write!(out, "gap {ticks}\n")
+        }
+        Frame::Repeat { count, body } => {
+            put_indent(out, depth)?;
+            write!(out, "repeat {count} ")?;
+            put_block(out, body, depth)?;
+            out.push_str("\n")
+        }
+        Frame::If {
+            condition,
+            then,
+            otherwise,
+        } => {
+            put_indent(out, depth)?;
+            out.push_str("if ")?;
+            put_condition(out, condition)?;
+            out.push_str(" ")?;
+            put_block(out, then, depth)?;
+            put_else(out, otherwise, depth)?;
+            out.push_str("\n")?;
+            Ok(())
+        }
+        Frame::Seq(frames) => {
+            for one in frames {
+                put_lines(out, one, depth)?;
+            }
+            Ok(())
+        }
+    }
+}
+
+// What stands behind the first block of an if.
+#[cycle(lines)]
+fn put_else<A: Allocator + Clone>(
+    out: &mut String,
+    otherwise: &Frame<A>,
+    depth: usize,
+) -> Result<(), AllocError>
+    ensures { OnOk result (string_bytes out.new ≡ string_bytes out.old ++ texts.else_text depth (texts.is_empty (tree_of otherwise.now)) (texts.lines (depth + 1) (tree_of otherwise.now))) }
+{
+    if is_empty(otherwise) {
+        return Ok(());
+    }
+    out.push_str(" else ")?;
+    put_block(out, otherwise, depth)
+}
