@@ -1,12 +1,11 @@
 -- Forty runs are enough: with as many turns left as words, one more turn changes nothing.
-use Rattle.std.proofs.Common.{◌≡◌, ℕ, ◌+◌, ◌-◌, ◌≤◌, ◌==◌, List, [], ◌∷◌, ◌++◌, take, length, zero, suc, refl, sym, ap, ◌∙◌, arith, Option, Some, None, length-append}
+use Rattle.std.proofs.Common.{◌≡◌, ℕ, ◌+◌, ◌-◌, ◌≤◌, List, [], ◌∷◌, ◌++◌, length, zero, suc, refl, sym, ap, ◌∙◌, arith, Option, Some, None, length-append}
 use Rattle.std.proofs.lemmas.List.{append-nil}
 use Rattle.mil_word.specs.declared.Line.{Line}
 use Rattle.mil_line.specs.declared.faults.Fault.{Fault}
-use Rattle.mil_line.specs.Faults.{altered, gap_of}
 use Rattle.mil_bus.specs.declared.talks.Sent.{Sent}
 use Rattle.mil_terminal.specs.Station.{Station}
-use Rattle.mil_bus.specs.Exchange.{Offer, Standing, words_of, run_sent, quiet_after, next_offer, all_hearing, standing_after, runs}
+use Rattle.mil_bus.specs.Exchange.{Offer, Standing, run_sent, quiet_after, next_offer, all_hearing, standing_after, runs}
 use Rattle.mil_bus.proofs.OneRun.{runs-none}
 
 full : (room : ℕ) (faults : List Fault) (run : ℕ) (o : Offer) → room ≡ 0 → run_sent room faults run o ≡ []

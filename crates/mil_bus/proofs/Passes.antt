@@ -1,17 +1,14 @@
 -- What one more word makes of the counts of a talk.
-use Rattle.std.proofs.Common.{◌≡◌, ℕ, ◌+◌, ◌<◌, ◌≤◌, ◌==◌, nat_lt, cond, Bool, true, false, ◌||◌, List, [], ◌∷◌, ◌++◌, take, length, get_or, zero, suc, refl, sym, ap, ◌∙◌, arith, append_assoc, append-nil, length-append, ◌&&◌, Option, Some, None}
+use Rattle.std.proofs.Common.{◌≡◌, ℕ, ◌+◌, ◌<◌, ◌≤◌, ◌==◌, nat_lt, cond, Bool, true, false, ◌||◌, List, [], ◌∷◌, ◌++◌, take, length, get_or, zero, suc, refl, sym, ap, ◌∙◌, arith, append_assoc, append-nil, length-append, Some}
 use Rattle.std.specs.Prelude.{if◌then◌else◌}
-use Rattle.std.specs.List.{list_any, filter}
-use Rattle.std.specs.Option.{is_none, option_to_list}
+use Rattle.std.specs.List.{list_any}
+use Rattle.std.specs.Option.{is_none}
 use Rattle.std.proofs.lemmas.List.Elements.{filter-append}
 use Rattle.std.proofs.lemmas.List.Folds.{list_any-append}
 use Rattle.std.proofs.lemmas.List.{take_more}
 use Rattle.std.proofs.lemmas.Bool.Decides.{nat_tests}
-use Rattle.std.proofs.lemmas.Grind.{common_steps}
 use Rattle.mil_word.specs.Wave.{word_of}
 use Rattle.mil_bus.specs.declared.talks.Sent.{Sent}
-use Rattle.mil_bus.specs.declared.counts.Came.{Came}
-use Rattle.mil_bus.specs.declared.counts.Seen.{Seen}
 use Rattle.mil_bus.specs.Counts.{run_of, came_of, takes_command, differs, is_any_other_sync, counts_of}
 use Rattle.mil_bus.specs.Pass.{noted, one_more, words_in, place_in}
 

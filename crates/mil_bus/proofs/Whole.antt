@@ -1,5 +1,5 @@
 -- The whole exchange, from its parts.
-use Rattle.std.proofs.Common.{◌≡◌, ℕ, List, [], ◌∷◌, refl, sym, ap, ◌∙◌, Option, Some}
+use Rattle.std.proofs.Common.{◌≡◌, ℕ, List, [], ◌∷◌, refl, ap, Some}
 use Rattle.arrayvec.specs.ArrayVec.{ArrayVec}
 use Rattle.mil_word.specs.declared.Line.{Line}
 use Rattle.mil_message.specs.declared.forms.Form.{Form}
@@ -9,7 +9,7 @@ use Rattle.mil_bus.specs.declared.talks.Source.TheVariants.{Controller}
 use Rattle.mil_bus.specs.declared.talks.Sent.{Sent}
 use Rattle.mil_bus.specs.declared.talks.Talk.{Talk}
 use Rattle.mil_terminal.specs.Station.{Station}
-use Rattle.mil_bus.specs.Exchange.{Offer, Standing, BusState, next_start, last_on, gap_since, runs, exchange_of, talk_of, exchanged}
+use Rattle.mil_bus.specs.Exchange.{Standing, BusState, next_start, last_on, gap_since, runs, exchange_of, talk_of, exchanged}
 
 pub exchange_is : (b : BusState) (line : Line) (m : Form) (gap : ℕ) (faults : List Fault) (tick g : ℕ) (waves : List ℕ) (sent : List Sent) (stations : List Station) (s : Standing)
     → tick ≡ next_start b.start b.talks gap → g ≡ gap_since (last_on line b.talks) tick → waves ≡ controller_waves m → sent ≡ [] → stations ≡ b.stations

@@ -1,9 +1,8 @@
 -- The exchange of one message (MIL-STD-1553B 4.3.3.6, 4.3.3.7; times, faults and the limit of forty words are own choices).
-use Rattle.std.specs.Prelude.{ℕ, ◌+◌, ◌-◌, ◌*◌, ◌==◌, min, max, if◌then◌else◌, Bool, true, false, ◌&&◌, ◌||◌, not, List, [], ◌∷◌, ◌++◌, length, map, take, Option, Some, None}
+use Rattle.std.specs.Prelude.{ℕ, ◌+◌, ◌-◌, ◌==◌, min, max, if◌then◌else◌, Bool, true, false, ◌&&◌, ◌||◌, List, [], ◌∷◌, ◌++◌, length, map, take, Option, Some, None}
 use Rattle.std.specs.Option.{option_map, option_or}
 use Rattle.std.proofs.Common.{zero, suc}
 use Rattle.mil_word.specs.declared.Line.{Line}
-use Rattle.mil_word.specs.declared.Line.TheVariants.{A, B}
 use Rattle.mil_message.specs.declared.forms.Form.{Form}
 use Rattle.mil_message.specs.Forms.{controller_waves}
 use Rattle.mil_word.specs.Words.{same_line, command_wave, data_wave}
@@ -15,7 +14,6 @@ use Rattle.mil_bus.specs.declared.talks.Sent.{Sent}
 use Rattle.mil_bus.specs.declared.talks.Talk.{Talk}
 use Rattle.mil_bus.specs.Times.{end_of, is_controllers_last}
 use Rattle.mil_bus.specs.BlockStatus.{outcome_of}
-use Rattle.mil_terminal.specs.declared.events.Event.{Event}
 use Rattle.mil_terminal.specs.declared.events.Event.TheVariants.{Heard, Quiet}
 use Rattle.mil_terminal.specs.declared.replies.Reply.{Reply}
 use Rattle.mil_terminal.specs.Station.{Station, after}

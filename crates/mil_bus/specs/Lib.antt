@@ -8,3 +8,4 @@ pub mod Actions
 pub mod Addresses
 pub mod Past
 pub mod KeepsTimes
+pub mod Index

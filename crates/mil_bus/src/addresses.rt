@@ -1,7 +1,8 @@
 //! The addresses of a new bus.
-ghost use Rattle.std.specs.Prelude.{◌≡◌, ◌≤◌, ◌==◌, ◌++◌, ◌∷◌, [], if◌then◌else◌, IfOk, OnOk};
+ghost use Rattle.std.specs.Prelude.{◌≡◌, ◌+◌, ◌≤◌, ◌==◌, ◌++◌, ◌∷◌, [], if◌then◌else◌, IfOk, OnOk};
 ghost use Rattle.std.specs.List.{list_any};
 ghost use Rattle.mil_bus.specs.Addresses.{is_fit, stations_of};
+ghost use Rattle.mil_bus.specs.Index.{IsIndex, IsIndexBelow};
 
 use mil_terminal::Terminal;
 use std::alloc::{AllocError, Global};
@@ -37,30 +38,40 @@ fn terminal(alloc: Global, own: u8) -> Result<Terminal, AllocError>
     }
 }
 
-/// Puts a new terminal of an address behind the others, where it is wanted.
+/// Puts a new terminal of an address behind the others, and its place into the table, where it is wanted.
 fn add(
     alloc: Global,
     terminals: &mut Vec<Terminal>,
+    places: &mut [u8; 32],
     own: u8,
     wanted: bool,
 ) -> Result<(), AllocError>
-    requires { own ≤ 30 }
-    ensures { OnOk result (terminals.new.items ≡ terminals.old.items ++ (if wanted then record { own = own; history = [] } ∷ [] else [])) }
+    requires own { own ≤ 30 }
+    requires index { IsIndexBelow own places.old terminals.old.items }
+    ensures stations { OnOk result (terminals.new.items ≡ terminals.old.items ++ (if wanted then record { own = own; history = [] } ∷ [] else [])) }
+    ensures index { OnOk result (IsIndexBelow (own + 1) places.new terminals.new.items) }
 {
-    if wanted {
-        terminals.push(terminal(alloc, own)?)?;
+    if !wanted {
+        return Ok(());
     }
+    places[own as usize] = terminals.len() as u8;
+    terminals.push(terminal(alloc, own)?)?;
     Ok(())
 }
 
-/// New terminals of these addresses, in order of address.
-pub fn fresh(alloc: Global, addresses: &[u8]) -> Result<Vec<Terminal>, AllocError>
-    ensures { IfOk result (λ v. v.items ≡ stations_of addresses.now) }
+/// New terminals of these addresses, in order of address; under each address the table then has the place of its terminal.
+pub fn fresh(
+    alloc: Global,
+    addresses: &[u8],
+    places: &mut [u8; 32],
+) -> Result<Vec<Terminal>, AllocError>
+    ensures stations { IfOk result (λ v. v.items ≡ stations_of addresses.now) }
+    ensures index { IfOk result (λ v. IsIndex places.new v.items) }
 {
     let mut terminals = Vec::new(alloc);
     for own in 0..31 {
         let wanted = has(addresses, own);
-        add(alloc, &mut terminals, own, wanted)?;
+        add(alloc, &mut terminals, places, own, wanted)?;
     }
     Ok(terminals)
 }

@@ -7,10 +7,11 @@ ghost use Rattle.mil_bus.specs.Actions.{place_of, station_of, acted};
 ghost use Rattle.mil_bus.specs.Addresses.{is_fit, stations_of};
 ghost use Rattle.mil_bus.specs.Exchange.{exchanged, talk_of, next_start, clock_of, last_on, gap_since, least_after};
 
-use crate::addresses::{fresh, is_fit};
-use crate::copies::copied;
+use crate::addresses::is_fit;
+use crate::offers::Offered;
 use crate::past::{Past, no_talks, one_more, same};
-use crate::runs::{Offered, all_runs};
+use crate::runs::all_runs;
+use crate::terminals::Terminals;
 use crate::{BusError, Source, Talk};
 use arrayvec::ArrayVec;
 use mil_host::Action;
@@ -31,7 +32,7 @@ pub struct Bus {
     least: Option<u16>,
     on_a: Option<u64>,
     on_b: Option<u64>,
-    terminals: Vec<Terminal>,
+    terminals: Terminals,
     past: Snapshot<Past>,
 }
 
@@ -41,7 +42,7 @@ impl Model for Bus {
 
     ghost Value = { BusState };
 
-    ghost view = { λ b. record { start = b.begin; talks = b.past.value.0; stations = b.terminals.items } };
+    ghost view = { λ b. record { start = b.begin; talks = b.past.value.0; stations = b.terminals } };
 
     ghost invariant = { λ b. KeepsTimes b.begin b.clock b.least b.on_a b.on_b b.past.value.0 };
 }
@@ -79,7 +80,7 @@ impl Bus {
         if !is_fit(addresses) {
             return Err(BusError::Addresses);
         }
-        match fresh(alloc, addresses) {
+        match Terminals::make(alloc, addresses) {
             Ok(terminals) => Ok(Bus {
                 begin: start,
                 clock: start,
@@ -157,34 +158,26 @@ impl Bus {
         ensures soon { clock_of self.new.start self.new.talks ≤ clock_of self.old.start self.old.talks + 2 ^ 24 }
     {
         let start = self.next_start(gap);
-        let first = Offered {
+        let mut offer = Offered {
             source: Source::Controller,
             gap: self.gap_on(line, start),
             waves: message.controller_waves(),
         };
-        let mut sent = ArrayVec::new();
-        all_runs(&mut self.terminals, &mut sent, line, faults, first);
-        let talk = Talk {
+        let mut talk = Talk {
             start,
             line,
             message: message.copy(),
-            sent,
+            sent: ArrayVec::new(),
         };
+        all_runs(
+            &mut self.terminals,
+            &mut talk.sent,
+            line,
+            faults,
+            &mut offer,
+        );
         self.note(&talk);
         talk
-    }
-
-    /// Where the terminal with this address stands.
-    fn place(&self, address: u8) -> Option<usize>
-        ensures { result ≡ place_of address self.now.stations }
-    {
-        for i in 0..self.terminals.len() {
-            let terminal = &self.terminals[i];
-            if terminal.address() == address {
-                return Some(i);
-            }
-        }
-        None
     }
 
     /// An action of a terminal's host; false, and nothing done, where there is no such terminal.
@@ -192,31 +185,21 @@ impl Bus {
         ensures bus { self.new ≡ acted self.old address action.now }
         ensures found { result ≡ is_some (place_of address self.old.stations) }
     {
-        match self.place(address) {
-            None => false,
-            Some(place) => {
-                let terminal = &mut self.terminals[place];
-                terminal.act(action);
-                true
-            }
-        }
+        self.terminals.act(address, action)
     }
 
     /// The terminal with this address.
     pub fn terminal(&self, address: u8) -> Option<&Terminal>
         ensures { option_copied result ≡ station_of address self.now.stations }
     {
-        match self.place(address) {
-            None => None,
-            Some(place) => Some(&self.terminals[place]),
-        }
+        self.terminals.terminal(address)
     }
 
     /// The same bus, with room of its own, which fails for want of memory alone.
     pub fn copy(&self) -> Result<Bus, AllocError>
         ensures { IfOk result (λ b. b ≡ self.now) }
     {
-        let terminals = copied(*self.terminals.allocator(), self.terminals.as_slice())?;
+        let terminals = self.terminals.copy()?;
         Ok(Bus {
             begin: self.begin,
             clock: self.clock,

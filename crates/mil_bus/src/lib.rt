@@ -2,14 +2,19 @@
 #![tactic(auto)]
 
 mod addresses;
+mod bits;
 pub mod buses;
 mod copies;
 pub mod counts;
 pub mod error;
+mod hearing;
+mod offers;
 pub mod outcomes;
 mod past;
+mod quieting;
 mod runs;
 pub mod talks;
+mod terminals;
 
 pub use buses::Bus;
 pub use counts::{Came, Seen};

@@ -1,6 +1,6 @@
-use Rattle.std.proofs.Common.{◌<◌, ◌≤◌, length, take, arith, refl, ap, ◌∙◌, sym, length-take}
+use Rattle.std.proofs.Common.{take, arith, refl, ap, ◌∙◌, sym, length-take}
 use Rattle.mil_bus.specs.Counts.{counts_of}
-use Rattle.mil_bus.specs.Pass.{noted, words_in}
+use Rattle.mil_bus.specs.Pass.{noted}
 use Rattle.mil_bus.proofs.Passes.{counts_of-more, controllers-few, one-few, two-few}
 use Rattle.mil_bus.proofs.counts.counted.Goals as goal
 

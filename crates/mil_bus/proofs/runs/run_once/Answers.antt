@@ -1,6 +1,5 @@
-use Rattle.std.proofs.Common.{◌≡◌, ◌-◌, ◌++◌, ◌==◌, true, false, length, take, map, refl, sym, ap, ◌∙◌, arith, []}
+use Rattle.std.proofs.Common.{◌≡◌, ◌-◌, ◌++◌, length, map, refl, sym, ap, ◌∙◌, []}
 use Rattle.std.proofs.lemmas.List.{append-nil}
-use Rattle.mil_line.specs.Faults.{altered}
 use Rattle.mil_bus.specs.Exchange.{run_sent, words_of, all_hearing, quieted, quiet_after, next_offer, first_reply}
 use Rattle.mil_bus.specs.Offers.{offered}
 use Rattle.mil_bus.proofs.OneRun.{run_sent-none, run_sent-some, quiet_after-some, next_offer-some, tail_is}
@@ -31,19 +30,19 @@ returns-clause-stations c =
     let w : run_sent (40 - length c.args.sent.now.items) c.args.faults.now c.args.run (offered c.args.offer.now) ≡ words_of c.args.run c.args.offer.now.source c.late_gap-gap.result c.altered-waves.result.items = run_sent-some _ _ _ _ _ _ (cc) (cc) in
     let sent : c.as_slice-words.result.now ≡ c.args.sent.now.items ++ words_of c.args.run c.args.offer.now.source c.late_gap-gap.result c.altered-waves.result.items =
     c.as_slice-words.ensures.value ∙ c.send.ensures ∙ ap (λ ws. c.args.sent.now.items ++ words_of c.args.run c.args.offer.now.source c.late_gap-gap.result ws) c.as_slice-2.ensures.value in
-    let heard : c.tell_words.new.terminals.items ≡ all_hearing c.args.line (words_of c.args.run c.args.offer.now.source c.late_gap-gap.result c.altered-waves.result.items) c.args.terminals.now.items =
-    c.tell_words.ensures ∙ ap (λ ws. all_hearing c.args.line ws c.args.terminals.now.items) (tail_is _ _ _ _ sent c.len-before.ensures.value) in
-    c.quiet_all.ensures.after ∙ ap (map (quieted c.args.line)) heard
+    let heard : c.hear_all.new.self ≡ all_hearing c.args.line (words_of c.args.run c.args.offer.now.source c.late_gap-gap.result c.altered-waves.result.items) c.args.terminals.now =
+    c.hear_all.ensures ∙ ap (λ ws. all_hearing c.args.line ws c.args.terminals.now) (tail_is _ _ _ _ sent c.len-before.ensures.value) in
+    c.quiet.ensures.after ∙ ap (map (quieted c.args.line)) heard
     ∙ sym (quiet_after-some c.args.line c.args.run c.args.offer.now.source c.late_gap-gap.result c.altered-waves.result.items _ (cc))
-    ∙ ap (λ ws. quiet_after c.args.line ws (all_hearing c.args.line ws c.args.terminals.now.items)) (sym w)
+    ∙ ap (λ ws. quiet_after c.args.line ws (all_hearing c.args.line ws c.args.terminals.now)) (sym w)
 
 pub returns-clause-next : goal.returns-clause-next
 returns-clause-next c =
     let w : run_sent (40 - length c.args.sent.now.items) c.args.faults.now c.args.run (offered c.args.offer.now) ≡ words_of c.args.run c.args.offer.now.source c.late_gap-gap.result c.altered-waves.result.items = run_sent-some _ _ _ _ _ _ (cc) (cc) in
     let sent : c.as_slice-words.result.now ≡ c.args.sent.now.items ++ words_of c.args.run c.args.offer.now.source c.late_gap-gap.result c.altered-waves.result.items =
     c.as_slice-words.ensures.value ∙ c.send.ensures ∙ ap (λ ws. c.args.sent.now.items ++ words_of c.args.run c.args.offer.now.source c.late_gap-gap.result ws) c.as_slice-2.ensures.value in
-    let heard : c.tell_words.new.terminals.items ≡ all_hearing c.args.line (words_of c.args.run c.args.offer.now.source c.late_gap-gap.result c.altered-waves.result.items) c.args.terminals.now.items =
-    c.tell_words.ensures ∙ ap (λ ws. all_hearing c.args.line ws c.args.terminals.now.items) (tail_is _ _ _ _ sent c.len-before.ensures.value) in
-    c.quiet_all.ensures.first ∙ ap (first_reply c.args.line) heard
+    let heard : c.hear_all.new.self ≡ all_hearing c.args.line (words_of c.args.run c.args.offer.now.source c.late_gap-gap.result c.altered-waves.result.items) c.args.terminals.now =
+    c.hear_all.ensures ∙ ap (λ ws. all_hearing c.args.line ws c.args.terminals.now) (tail_is _ _ _ _ sent c.len-before.ensures.value) in
+    c.quiet.ensures.first ∙ ap (first_reply c.args.line) heard
     ∙ sym (next_offer-some c.args.line c.args.run c.args.offer.now.source c.late_gap-gap.result c.altered-waves.result.items _ (cc))
-    ∙ ap (λ ws. next_offer c.args.line ws (all_hearing c.args.line ws c.args.terminals.now.items)) (sym w)
+    ∙ ap (λ ws. next_offer c.args.line ws (all_hearing c.args.line ws c.args.terminals.now)) (sym w)

@@ -1,0 +1,13 @@
+use Rattle.std.proofs.Common.{◌≡◌, ℕ, ◌≤◌, List, length, get_or, take}
+use Rattle.mil_terminal.specs.Station.{Station}
+use Rattle.mil_bus.specs.Exchange.{quieted, first_reply}
+use Rattle.mil_bus.specs.Index.{HasCome}
+use Rattle.mil_bus.proofs.quieting.pass_between.Given as goal
+
+abbrev pub invariant-loop-i : goal.invariant-loop-i
+invariant-loop-i l = record {
+  long : length l.terminals.items ≡ length l.fn.terminals.items;
+  rest : (k : ℕ) (d : Station) → l.i ≤ k → get_or l.terminals.items k d ≡ get_or l.fn.terminals.items k d;
+  come : (old : List Station) (opened : ℕ) → HasCome (quieted l.line) old l.fn.terminals.items l.from opened → HasCome (quieted l.line) old l.terminals.items l.i opened;
+  silent : (old : List Station) (opened : ℕ) → HasCome (quieted l.line) old l.fn.terminals.items l.from opened → first_reply l.line (take l.i old) ≡ first_reply l.line (take l.from old);
+}

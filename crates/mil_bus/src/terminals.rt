@@ -1,0 +1,137 @@
+//! The terminals of a bus, in order of address.
+ghost use Rattle.std.specs.Prelude.{◌≡◌, ◌≤◌, IfOk, map, None};
+ghost use Rattle.std.specs.Option.{is_some, option_copied};
+ghost use Rattle.mil_bus.specs.Actions.{place_of, station_of, acting};
+ghost use Rattle.mil_bus.specs.Addresses.{stations_of};
+ghost use Rattle.mil_bus.specs.Exchange.{hearing, all_hearing, quieted, first_reply};
+ghost use Rattle.mil_bus.specs.Offers.{given};
+
+use crate::Sent;
+use crate::addresses::fresh;
+use crate::bits::with_bit;
+use crate::copies::copied;
+use crate::hearing::{concerned, tell_all};
+use crate::offers::Offered;
+use crate::quieting::quiet_all;
+use mil_host::Action;
+use mil_terminal::Terminal;
+use mil_word::{Line, decode};
+use std::alloc::{AllocError, Global};
+use std::marker::Model;
+
+/// Terminals in order of address, and what tells quickly which of them an event concerns: one that it does not concern
+/// costs nothing. Contracts see their addresses and histories.
+#[derive(Drop)]
+pub struct Terminals {
+    list: Vec<Terminal>,
+    /// Under each address the place of its terminal in the list.
+    places: [u8; 32],
+    /// A bit for each place, clear only where no window is open.
+    opened: u32,
+}
+
+impl Model for Terminals {
+    ghost use Rattle.std.specs.Prelude.{List};
+    ghost use Rattle.mil_terminal.specs.Station.{Station};
+    ghost use Rattle.mil_bus.specs.Index.{AreClosed, IsIndex};
+
+    ghost Value = { List Station };
+
+    ghost view = { λ t. t.list.items };
+
+    ghost invariant = { λ t. IsIndex t.places t.list.items × AreClosed t.opened t.list.items };
+}
+
+impl Terminals {
+    /// New terminals of these addresses.
+    pub fn make(alloc: Global, addresses: &[u8]) -> Result<Terminals, AllocError>
+        ensures { IfOk result (λ t. t ≡ stations_of addresses.now) }
+    {
+        let mut places = [0; 32];
+        let list = fresh(alloc, addresses, &mut places)?;
+        Ok(Terminals {
+            list,
+            places,
+            opened: u32::MAX,
+        })
+    }
+
+    /// A word comes to all terminals. It is decoded once.
+    pub fn hear(&mut self, line: Line, sent: &Sent)
+        ensures { self.new ≡ map (hearing line sent.now) self.old }
+    {
+        let decoded = decode(sent.wave);
+        let mask = concerned(&self.places, self.opened, decoded);
+        self.opened = tell_all(&mut self.list, mask, line, sent, decoded);
+    }
+
+    /// Words come to all terminals.
+    pub fn hear_all(&mut self, line: Line, sent: &[Sent])
+        ensures { self.new ≡ all_hearing line sent.now self.old }
+    {
+        for word in sent {
+            self.hear(line, word);
+        }
+    }
+
+    /// A quiet comes to all terminals, and the first to answer, in order of address, gives the next words; whether one does.
+    pub fn quiet(&mut self, line: Line, offer: &mut Offered) -> bool
+        ensures after { self.new ≡ map (quieted line) self.old }
+        ensures first { given result offer.new ≡ first_reply line self.old }
+    {
+        let quieted = quiet_all(&mut self.list, self.opened, line, offer);
+        self.opened = quieted.opened;
+        quieted.answered
+    }
+
+    /// Where the terminal with this address stands.
+    fn place(&self, address: u8) -> Option<usize>
+        ensures { result ≡ place_of address self.now }
+    {
+        for i in 0..self.list.len() {
+            let terminal = &self.list[i];
+            if terminal.address() == address {
+                return Some(i);
+            }
+        }
+        None
+    }
+
+    /// An action of a terminal's host; false, and nothing done, where there is no such terminal.
+    pub fn act(&mut self, address: u8, action: &Action) -> bool
+        ensures after { self.new ≡ acting address action.now self.old }
+        ensures found { result ≡ is_some (place_of address self.old) }
+    {
+        match self.place(address) {
+            None => false,
+            Some(place) => {
+                let terminal = &mut self.list[place];
+                terminal.act(action);
+                self.opened = with_bit(self.opened, place, true);
+                true
+            }
+        }
+    }
+
+    /// The terminal with this address.
+    pub fn terminal(&self, address: u8) -> Option<&Terminal>
+        ensures { option_copied result ≡ station_of address self.now }
+    {
+        match self.place(address) {
+            None => None,
+            Some(place) => Some(&self.list[place]),
+        }
+    }
+
+    /// The same terminals, with room of their own.
+    pub fn copy(&self) -> Result<Terminals, AllocError>
+        ensures { IfOk result (λ t. t ≡ self.now) }
+    {
+        let list = copied(*self.list.allocator(), self.list.as_slice())?;
+        Ok(Terminals {
+            list,
+            places: self.places,
+            opened: self.opened,
+        })
+    }
+}
