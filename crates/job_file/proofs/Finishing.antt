@@ -1,0 +1,38 @@
+-- The job of a draft and a script.
+use Rattle.std.proofs.Common.{◌≡◌, ℕ, refl}
+use Rattle.std.specs.Prelude.{Option, Some, Result, Ok}
+use Rattle.mil_host.specs.Words.{Text}
+use Rattle.frame_tree.specs.Tree.{Tree}
+use Rattle.frame_text.specs.Frames.{tree_of_text}
+use Rattle.frame_asm.specs.Shapes.{code_of}
+use Rattle.job_file.specs.Drafts.{shown}
+use Rattle.job_file.specs.Spelled.{ChannelJob, first_or, job_of}
+use Rattle.job_file.specs.Reading.{IsCodeRefusal, IsRefusal}
+use Rattle.job_file.specs.declared.drafts.Draft.{Draft}
+use Rattle.job_file.specs.declared.error.JobError.{JobError}
+use Rattle.job_file.specs.declared.error.JobError.TheVariants as error
+
+abbrev job_with : Draft → ℕ → Tree → ChannelJob
+job_with d channel tree = record {
+  channel = channel;
+  start = first_or 0 (shown d).starts;
+  addresses = d.addresses.items;
+  actions = d.actions.items;
+  plan = d.plan;
+  tree = tree;
+}
+
+job_is : (d : Draft) (channel : ℕ) (text : Text) (tree : Tree) → d.channel ≡ Some channel → tree_of_text text ≡ Ok tree → job_of (shown d) text ≡ Some (job_with d channel tree)
+job_is d channel text tree named read = rw (named, read) refl
+
+refused : (spelled : Option ChannelJob) (job : ChannelJob) (e : JobError) → spelled ≡ Some job → IsCodeRefusal (code_of job.tree) e → IsRefusal spelled e
+refused spelled job (error.Line line why) is r = absurd r
+refused spelled job (error.Script cause place) is r = absurd r
+refused spelled job (error.Assembly line why) is r = (job, is, r)
+refused spelled job (error.Loading line why) is r = (job, is, r)
+refused spelled job error.Memory is r = tt
+
+-- a script without a program
+pub code_refused : (d : Draft) (channel : ℕ) (text : Text) (tree : Tree) (e : JobError) → d.channel ≡ Some channel → tree_of_text text ≡ Ok tree
+    → IsCodeRefusal (code_of tree) e → IsRefusal (job_of (shown d) text) e
+code_refused d channel text tree e named read r = refused _ (job_with d channel tree) e (job_is d channel text tree named read) r

@@ -1,0 +1,98 @@
+-- Lines in their ranges make a head that keeps the ranges of a job.
+use Rattle.std.proofs.Common.{◌≡◌, ℕ, ◌≤◌, List, [], ◌∷◌, ◌++◌, refl, sym, ap, ◌∙◌, eqb, arith}
+use Rattle.std.specs.Prelude.{Bool, true, false, not, ◌&&◌, ◌||◌, ◌==◌, nat_le, Option, Some, None, Result, Ok, Err}
+use Rattle.std.specs.Option.{option_to_list}
+use Rattle.std.specs.Result.{is_ok}
+use Rattle.std.specs.List.{list_any, list_all}
+use Rattle.std.proofs.lemmas.Bool.{le-leb}
+use Rattle.std.proofs.lemmas.Bool.Decides.{nat_tests}
+use Rattle.std.proofs.lemmas.List.Folds.{list_any-append, list_all-append}
+use Rattle.mil_host.specs.Words.{Text}
+use Rattle.mil_host.specs.Reading.{in_words}
+use Rattle.mil_host.specs.declared.actions.Action.{Action}
+use Rattle.mil_host.specs.declared.reading.BadAction.{BadAction}
+use Rattle.mil_bus.specs.Addresses.{is_fit}
+use Rattle.bc_machine.specs.declared.placed.Placed.{Placed}
+use Rattle.job_file.specs.Lines.{Said, blank, script, channel, start, terminal, action, fault}
+use Rattle.job_file.specs.Entries.{IsInRange}
+use Rattle.job_file.specs.Heads.{Head, has, placing, may_stand, is_none_yet}
+use Rattle.job_file.specs.Fits.{may_act, IsFit}
+use Rattle.job_file.specs.Drafts.{with_line}
+
+and_left : (a b : Bool) → (a && b) ≡ true → a ≡ true
+and_left true b h = refl
+and_left false b h = cc
+
+and_right : (a b : Bool) → (a && b) ≡ true → b ≡ true
+and_right true b h = h
+and_right false b h = cc
+
+or_left : (a b : Bool) → (a || b) ≡ false → a ≡ false
+or_left true b h = cc
+or_left false b h = refl
+
+or_right : (a b : Bool) → (a || b) ≡ false → b ≡ false
+or_right true b h = cc
+or_right false b h = h
+
+not_true : (a : Bool) → not a ≡ true → a ≡ false
+not_true true h = cc
+not_true false h = refl
+
+other_way : (a b : ℕ) → (a == b) ≡ false → (b == a) ≡ false
+other_way a b h = grind (arith, nat_tests)
+
+-- one more address
+fit_push : (xs : List ℕ) (a : ℕ) → is_fit xs ≡ true → has a xs ≡ false → a ≤ 30 → is_fit (xs ++ a ∷ []) ≡ true
+fit_push [] a fit new le = rw (le-leb a 30 le) refl
+fit_push (x ∷ xs) a fit new le =
+    let front = and_left (nat_le x 30 && not (list_any (λ b. b == x) xs)) (is_fit xs) fit in
+    let low : nat_le x 30 ≡ true = and_left (nat_le x 30) (not (list_any (λ b. b == x) xs)) front in
+    let alone : list_any (λ b. b == x) xs ≡ false = not_true _ (and_right (nat_le x 30) (not (list_any (λ b. b == x) xs)) front) in
+    let more : is_fit (xs ++ a ∷ []) ≡ true = fit_push xs a (and_right (nat_le x 30 && not (list_any (λ b. b == x) xs)) (is_fit xs) fit) (or_right (x == a) (has a xs) new) le in
+    let differs : (a == x) ≡ false = other_way x a (or_left (x == a) (has a xs) new) in
+    rw (low, list_any-append (λ b. b == x) xs (a ∷ []), alone, differs, more) refl
+
+has_more : (b a : ℕ) (xs : List ℕ) → has b xs ≡ true → has b (xs ++ a ∷ []) ≡ true
+has_more b a xs h = rw (list_any-append (λ c. c == b) xs (a ∷ []), h) refl
+
+acts_more : (a : ℕ) (xs : List ℕ) (ps : List Placed) → list_all (may_act xs) ps ≡ true → list_all (may_act (xs ++ a ∷ [])) ps ≡ true
+acts_more a xs [] h = refl
+acts_more a xs (p ∷ ps) h =
+    let here = and_left (may_act xs p) (list_all (may_act xs) ps) h in
+    let range = and_left (nat_le 1 p.number && nat_le p.number 1000000) (has p.address xs) here in
+    rw (range, has_more p.address a xs (and_right (nat_le 1 p.number && nat_le p.number 1000000) (has p.address xs) here), acts_more a xs ps (and_right (may_act xs p) (list_all (may_act xs) ps) h)) refl
+
+act_push : (xs : List ℕ) (ps : List Placed) (number address : ℕ) (r : Result Action BadAction) → list_all (may_act xs) ps ≡ true
+    → 1 ≤ number → number ≤ 1000000 → (has address xs && is_ok r) ≡ true → list_all (may_act xs) (ps ++ option_to_list (placing number address r)) ≡ true
+act_push xs ps number address (Ok a) all low high h =
+    rw (list_all-append (may_act xs) ps, all, le-leb 1 number low, le-leb number 1000000 high, and_left (has address xs) true h) refl
+act_push xs ps number address (Err bad) all low high h = let no = and_right (has address xs) false h in cc
+
+first_channel : (h : Head) (ns : List ℕ) (n : ℕ) → h.channels ≡ ns → IsFit h → 1 ≤ n → n ≤ 65535 → is_none_yet ns ≡ true → IsFit (record h { channels = ns ++ n ∷ [] })
+first_channel h [] n is fit low high none = record { channels = ((low, high), tt); starts = fit.starts; addresses = fit.addresses; actions = fit.actions }
+first_channel h (m ∷ ms) n is fit low high none = cc
+
+first_start : (h : Head) (ns : List ℕ) (n : ℕ) → h.starts ≡ ns → IsFit h → n ≤ 140737488355328 → is_none_yet ns ≡ true → IsFit (record h { starts = ns ++ n ∷ [] })
+first_start h [] n is fit high none = record { channels = fit.channels; starts = (high, tt); addresses = fit.addresses; actions = fit.actions }
+first_start h (m ∷ ms) n is fit high none = cc
+
+-- one more line
+pub fit_with : (s : Said) (h : Head) → IsInRange s → may_stand s h ≡ true → IsFit h → IsFit (with_line s h)
+fit_with blank h range stands fit = fit
+fit_with script h range stands fit = fit
+fit_with (channel n) h range stands fit = first_channel h h.channels n refl fit range.0 range.1 stands
+fit_with (start n) h range stands fit = first_start h h.starts n refl fit range stands
+fit_with (terminal n) h range stands fit = record {
+  channels = fit.channels;
+  starts = fit.starts;
+  addresses = fit_push h.addresses n fit.addresses (not_true (has n h.addresses) stands) range;
+  actions = acts_more n h.addresses h.actions fit.actions;
+}
+fit_with (action number address text) h range stands fit = record {
+  channels = fit.channels;
+  starts = fit.starts;
+  addresses = fit.addresses;
+  actions = act_push h.addresses h.actions number address (in_words text) fit.actions range.0 range.1 stands;
+}
+fit_with (fault number f) h range stands fit = record { channels = fit.channels; starts = fit.starts; addresses = fit.addresses; actions = fit.actions }

@@ -1,0 +1,175 @@
+-- Line by line to the job of a text.
+use Rattle.std.proofs.Common.{◌≡◌, ℕ, ◌+◌, List, [], ◌∷◌, ◌++◌, length, refl, sym, ap, ◌∙◌, append_assoc, arith, inl, inr}
+use Rattle.std.specs.Prelude.{Bool, true, false, ◌&&◌, cond, Option, Some, None, Result, Ok, Err}
+use Rattle.std.specs.Option.{option_to_list}
+use Rattle.std.specs.List.{filter_map, before_first, after_first}
+use Rattle.std.proofs.lemmas.List.{append-nil}
+use Rattle.std.proofs.lemmas.List.Elements.{filter_map-append}
+use Rattle.mil_host.specs.Words.{Text, words}
+use Rattle.mil_host.specs.Reading.{in_words}
+use Rattle.job_file.specs.Options.{◌>>=◌}
+use Rattle.job_file.specs.Lines.{Said, blank, script, channel, start, terminal, action, fault, said, said_in}
+use Rattle.job_file.specs.Heads.{Head, head_of, channel_of, start_of, address_of, placed_of, planned_of, placing, may_stand, are_lawful}
+use Rattle.job_file.specs.Drafts.{with_line}
+use Rattle.job_file.specs.Spelled.{ChannelJob, is_line_end, lines_of, text_of, is_script, with_line_above, parted, all_said, lawful, job_of, spelled}
+use Rattle.job_file.specs.Errors.{IsOfLine}
+use Rattle.job_file.specs.Fits.{IsFit}
+use Rattle.job_file.specs.Reading.{stands, with_said, TakesLine, IsRefusal, AreInRange}
+use Rattle.job_file.specs.declared.drafts.Taken.{Taken}
+use Rattle.job_file.specs.declared.drafts.Taken.TheVariants as taken
+use Rattle.job_file.specs.declared.error.Refusal.{Refusal}
+use Rattle.job_file.specs.declared.error.Refusal.TheVariants as refusal
+use Rattle.job_file.specs.declared.error.JobError.{JobError}
+use Rattle.job_file.specs.declared.error.JobError.TheVariants as error
+use Rattle.job_file.proofs.FitLemmas.{fit_with}
+use Rattle.job_file.proofs.LineLemmas.{first_line, text_again}
+
+-- the job of the lines that are left, behind lines that said this
+abbrev pub job_behind : List Said → List Text → Option ChannelJob
+job_behind above lines =
+    parted lines >>= (λ parts. all_said parts.0 >>= (λ said. lawful above said >>= (λ heads.
+    job_of (head_of (above ++ heads)) (text_of parts.1))))
+
+script_line : (above : List Said) (line : Text) (lines : List Text) → is_script (said line) ≡ true
+    → job_behind above (line ∷ lines) ≡ job_of (head_of above) (text_of lines)
+script_line above line lines e = rw (e, append-nil) refl
+
+bad_line : (above : List Said) (line : Text) (lines : List Text) → is_script (said line) ≡ false → stands (said line) (head_of above) ≡ false
+    → job_behind above (line ∷ lines) ≡ None
+bad_line above line lines e bad = rw e (by_parts (parted lines))
+  where
+    by_said : (o : Option Said) (rest : Option (List Said)) (behind : List Text) → stands o (head_of above) ≡ false
+        → ((o >>= (λ s. rest >>= (λ ss. Some (s ∷ ss)))) >>= (λ said. lawful above said >>= (λ heads. job_of (head_of (above ++ heads)) (text_of behind)))) ≡ None
+    by_said None rest behind not = refl
+    by_said (Some s) None behind not = refl
+    by_said (Some s) (Some ss) behind not = rw not refl
+
+    by_parts : (o : Option (List Text × List Text))
+        → ((o >>= (λ (parts : List Text × List Text). Some (with_line_above line parts))) >>= (λ parts. all_said parts.0 >>= (λ said. lawful above said >>= (λ heads. job_of (head_of (above ++ heads)) (text_of parts.1))))) ≡ None
+    by_parts None = refl
+    by_parts (Some parts) = by_said (said line) (all_said parts.0) parts.1 bad
+
+good_line : (above : List Said) (line : Text) (lines : List Text) (s : Said) → said line ≡ Some s → is_script (Some s) ≡ false → may_stand s (head_of above) ≡ true
+    → job_behind above (line ∷ lines) ≡ job_behind (above ++ s ∷ []) lines
+good_line above line lines s is e good = rw (is, e) (by_parts (parted lines))
+  where
+    by_lawful : (b : Bool) (ss : List Said) (behind : List Text)
+        → (cond b (Some (s ∷ ss)) None >>= (λ heads. job_of (head_of (above ++ heads)) (text_of behind)))
+        ≡ (cond b (Some ss) None >>= (λ heads. job_of (head_of ((above ++ s ∷ []) ++ heads)) (text_of behind)))
+    by_lawful true ss behind = rw append_assoc refl
+    by_lawful false ss behind = refl
+
+    by_said : (rest : Option (List Said)) (behind : List Text)
+        → ((rest >>= (λ ss. Some (s ∷ ss))) >>= (λ said. lawful above said >>= (λ heads. job_of (head_of (above ++ heads)) (text_of behind))))
+        ≡ (rest >>= (λ said. lawful (above ++ s ∷ []) said >>= (λ heads. job_of (head_of ((above ++ s ∷ []) ++ heads)) (text_of behind))))
+    by_said None behind = refl
+    by_said (Some ss) behind = rw good (by_lawful (are_lawful (above ++ s ∷ []) ss) ss behind)
+
+    by_parts : (o : Option (List Text × List Text))
+        → ((o >>= (λ (parts : List Text × List Text). Some (with_line_above line parts))) >>= (λ parts. all_said parts.0 >>= (λ said. lawful above said >>= (λ heads. job_of (head_of (above ++ heads)) (text_of parts.1)))))
+        ≡ (o >>= (λ parts. all_said parts.0 >>= (λ said. lawful (above ++ s ∷ []) said >>= (λ heads. job_of (head_of ((above ++ s ∷ []) ++ heads)) (text_of parts.1)))))
+    by_parts None = refl
+    by_parts (Some parts) = rw is (by_said (all_said parts.0) parts.1)
+
+-- no line is left
+no_line : (above : List Said) → job_behind above (lines_of []) ≡ job_behind above []
+unfolding said_in
+no_line above = refl
+
+kept : {Y : Type 0} (f : Said → Option Y) (s : Said) (o : Option Y) → f s ≡ o → filter_map f (s ∷ []) ≡ option_to_list o
+kept f s None e = rw e refl
+kept f s (Some y) e = rw e refl
+
+-- one more line in a head
+head_with : (above : List Said) (s : Said) → head_of (above ++ s ∷ []) ≡ with_line s (head_of above)
+head_with above blank = simp (filter_map-append, append-nil)
+head_with above script = simp (filter_map-append, append-nil)
+head_with above (channel n) = simp (filter_map-append, append-nil)
+head_with above (start n) = simp (filter_map-append, append-nil)
+head_with above (terminal n) = simp (filter_map-append, append-nil)
+head_with above (action number address text) =
+    simp (filter_map-append, append-nil, kept placed_of (action number address text) (placing number address (in_words text)) refl)
+head_with above (fault number f) = simp (filter_map-append, append-nil)
+
+-- the job of a text that is left, behind lines that said this
+abbrev pub job_left : List Said → Text → Option ChannelJob
+job_left above text = job_behind above (lines_of text)
+
+-- the text that is left behind a first line
+left_behind : (above : List Said) (text : Text) → (lines : List Text) × (lines_of text ≡ before_first is_line_end text ∷ lines) × (text_of lines ≡ after_first is_line_end text)
+    × (((heads : List Said) → job_behind heads lines ≡ job_left heads (after_first is_line_end text)))
+left_behind above text =
+    elim (first_line text) [
+      | inl more ↦ (lines_of (after_first is_line_end text), more, text_again (after_first is_line_end text), λ heads. refl)
+      | inr last ↦ ([], last.0, sym last.1, λ heads. rw last.1 (sym (no_line heads)))
+    ]
+
+pub at_script : (above : List Said) (text : Text) → is_script (said (before_first is_line_end text)) ≡ true
+    → job_left above text ≡ job_of (head_of above) (after_first is_line_end text)
+at_script above text e =
+    let l = left_behind above text in
+    ap (job_behind above) l.1 ∙ script_line above (before_first is_line_end text) l.0 e ∙ ap (job_of (head_of above)) l.2
+
+pub at_bad : (above : List Said) (text : Text) → is_script (said (before_first is_line_end text)) ≡ false → stands (said (before_first is_line_end text)) (head_of above) ≡ false
+    → job_left above text ≡ None
+at_bad above text e bad =
+    let l = left_behind above text in
+    ap (job_behind above) l.1 ∙ bad_line above (before_first is_line_end text) l.0 e bad
+
+pub at_good : (above : List Said) (text : Text) (s : Said) → said (before_first is_line_end text) ≡ Some s → is_script (Some s) ≡ false → may_stand s (head_of above) ≡ true
+    → job_left above text ≡ job_left (above ++ s ∷ []) (after_first is_line_end text)
+at_good above text s is e good =
+    let l = left_behind above text in
+    ap (job_behind above) l.1 ∙ good_line above (before_first is_line_end text) l.0 s is e good ∙ l.3 (above ++ s ∷ [])
+
+pub spelled_left : (text : Text) → spelled text ≡ job_left [] text
+unfolding spelled
+spelled_left text = refl
+
+pub nothing_left : (above : List Said) (text : Text) → length text ≡ 0 → job_left above text ≡ None
+nothing_left above [] e = no_line above
+nothing_left above (b ∷ text) e = absurd (omega arith)
+
+module _ (text rest line behind : Text) (above : List Said) (old new : Head) (shows : old ≡ head_of above) (left : spelled text ≡ job_left above rest)
+    (first : line ≡ before_first is_line_end rest) (after : behind ≡ after_first is_line_end rest) where
+  -- the line of the script
+  pub script_taken : (r : Result Taken Refusal) → r ≡ Ok taken.Script → TakesLine (said line) old new r → spelled text ≡ job_of new behind
+  script_taken r is takes =
+      let t : TakesLine (said line) old new (Ok taken.Script) = rw is at takes in
+      let e : is_script (said (before_first is_line_end rest)) ≡ true = rw first at t.0 in
+      left ∙ at_script above rest e ∙ rw (t.1, shows, after) refl
+
+  pub script_fits : (r : Result Taken Refusal) → r ≡ Ok taken.Script → TakesLine (said line) old new r → IsFit old → IsFit new
+  script_fits r is takes fit = let t : TakesLine (said line) old new (Ok taken.Script) = rw is at takes in rw t.1 fit
+
+  -- another line
+  pub line_taken : (r : Result Taken Refusal) → r ≡ Ok taken.Line → TakesLine (said line) old new r → AreInRange (said line) → IsFit old
+      → (x : List Said) × (new ≡ head_of x) × (spelled text ≡ job_left x behind) × IsFit new
+  line_taken r is takes range fit = go (said line) refl (rw is at takes) range
+    where
+      go : (o : Option Said) → said line ≡ o → TakesLine o old new (Ok taken.Line) → AreInRange o → (x : List Said) × (new ≡ head_of x) × (spelled text ≡ job_left x behind) × IsFit new
+      go None says t r = absurd (cc)
+      go (Some s) says t r = (
+        above ++ s ∷ [],
+        t.2 ∙ ap (with_line s) shows ∙ sym (head_with above s),
+        left ∙ at_good above rest s (rw first at says) t.0 (rw shows at t.1) ∙ rw after refl,
+        rw t.2 (fit_with s old r t.1 fit),
+      )
+
+  -- a line that was refused
+  pub line_refused : (r : Result Taken Refusal) (why : Refusal) (e : JobError) → r ≡ Err why → TakesLine (said line) old new r → IsOfLine why e → IsRefusal (spelled text) e
+  line_refused r (refusal.Line f) (error.Line n g) is takes of =
+      let t : TakesLine (said line) old new (Err (refusal.Line f)) = rw is at takes in
+      left ∙ at_bad above rest (rw first at t.0) (rw (first, shows) at t.1)
+  line_refused r (refusal.Line f) (error.Script cause place) is takes of = absurd of
+  line_refused r (refusal.Line f) (error.Assembly n g) is takes of = absurd of
+  line_refused r (refusal.Line f) (error.Loading n g) is takes of = absurd of
+  line_refused r (refusal.Line f) error.Memory is takes of = absurd of
+  line_refused r refusal.Memory (error.Line n g) is takes of = absurd of
+  line_refused r refusal.Memory (error.Script cause place) is takes of = absurd of
+  line_refused r refusal.Memory (error.Assembly n g) is takes of = absurd of
+  line_refused r refusal.Memory (error.Loading n g) is takes of = absurd of
+  line_refused r refusal.Memory error.Memory is takes of = tt
+
+pub fit_at_first : (h : Head) → h ≡ record { channels = []; starts = []; addresses = []; actions = []; plan = [] } → IsFit h
+fit_at_first h e = rw e (record { channels = tt; starts = tt; addresses = refl; actions = refl })

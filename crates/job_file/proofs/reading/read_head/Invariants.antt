@@ -1,0 +1,14 @@
+use Rattle.std.proofs.Common.{◌≡◌, List, length}
+use Rattle.job_file.specs.Lines.{Said}
+use Rattle.job_file.specs.Heads.{head_of}
+use Rattle.job_file.specs.Drafts.{shown}
+use Rattle.job_file.specs.Fits.{IsFit}
+use Rattle.job_file.specs.Spelled.{spelled}
+use Rattle.job_file.proofs.HeadLemmas.{job_left}
+use Rattle.job_file.proofs.reading.read_head.Given as goal
+
+abbrev pub invariant-loop-rest : goal.invariant-loop-rest
+invariant-loop-rest l = (above : List Said) × (shown l.draft ≡ head_of above) × (spelled l.fn.text ≡ job_left above l.rest) × IsFit (shown l.draft)
+
+abbrev pub decreases-loop-rest : goal.decreases-loop-rest
+decreases-loop-rest l = length l.rest

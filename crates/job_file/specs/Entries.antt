@@ -1,0 +1,25 @@
+-- What an entry says.
+use Rattle.std.specs.Prelude.{◌≤◌}
+use Rattle.mil_host.specs.Words.{words}
+use Rattle.job_file.specs.Lines.{Said, blank, script, channel, start, terminal, action, fault}
+use Rattle.job_file.specs.declared.lines.Entry.{Entry}
+use Rattle.job_file.specs.declared.lines.Entry.TheVariants as entry
+
+abbrev pub said_by : Entry → Said
+said_by entry.Blank = blank
+said_by entry.Script = script
+said_by (entry.Channel n) = channel n
+said_by (entry.Start n) = start n
+said_by (entry.Terminal n) = terminal n
+said_by (entry.Action number address text) = action number address (words text.now)
+said_by (entry.Fault number f) = fault number f
+
+-- each number in its range
+abbrev pub IsInRange : Said → Type 0
+IsInRange blank = Unit {0}
+IsInRange script = Unit {0}
+IsInRange (channel n) = (1 ≤ n) × (n ≤ 65535)
+IsInRange (start n) = n ≤ 140737488355328
+IsInRange (terminal n) = n ≤ 30
+IsInRange (action number address text) = (1 ≤ number) × (number ≤ 1000000) × (address ≤ 30)
+IsInRange (fault number f) = Unit {0}

@@ -1,0 +1,17 @@
+-- The ranges that a job keeps.
+use Rattle.std.specs.Prelude.{◌≡◌, ℕ, ◌≤◌, nat_le, Bool, true, ◌&&◌, List}
+use Rattle.std.specs.List.{list_all, AllByRecursion}
+use Rattle.mil_bus.specs.Addresses.{is_fit}
+use Rattle.job_file.specs.Heads.{Head, has}
+use Rattle.bc_machine.specs.declared.placed.Placed.{Placed}
+
+-- an action of one of these terminals, at a message that a channel may have
+abbrev pub may_act : List ℕ → Placed → Bool
+may_act addresses placed = nat_le 1 placed.number && nat_le placed.number 1000000 && has placed.address addresses
+
+pub record IsFit (h : Head) : Type 0 where
+  pub channels : AllByRecursion (λ n. (1 ≤ n) × (n ≤ 65535)) h.channels
+  pub starts : AllByRecursion (λ n. n ≤ 140737488355328) h.starts
+  -- each address is at most 30 and stands once
+  pub addresses : is_fit h.addresses ≡ true
+  pub actions : list_all (may_act h.addresses) h.actions ≡ true

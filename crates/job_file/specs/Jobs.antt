@@ -1,0 +1,46 @@
+-- A job as plain data, and what every job keeps.
+use Rattle.std.specs.Prelude.{◌≡◌, ℕ, ◌≤◌, true, List}
+use Rattle.std.specs.List.{list_all}
+use Rattle.mil_line.specs.Plans.{Planned}
+use Rattle.mil_bus.specs.Addresses.{is_fit}
+use Rattle.frame_tree.specs.Tree.{Tree, tree_of}
+use Rattle.frame_tree.specs.Bounds.{IsSound}
+use Rattle.frame_code.specs.Table.{Code}
+use Rattle.frame_asm.specs.Shapes.{code_of}
+use Rattle.bc_machine.specs.declared.placed.Placed.{Placed}
+use Rattle.job_file.specs.Fits.{may_act}
+use Rattle.job_file.specs.Spelled.{ChannelJob}
+use Rattle.job_file.specs.declared.scripts.Script.{Script}
+
+pub record JobState : Type 0 where
+  pub channel : ℕ
+  pub start : ℕ
+  pub addresses : List ℕ
+  pub actions : List Placed
+  pub plan : List Planned
+  pub script : Script
+
+-- what the script spells
+abbrev pub tree_in : JobState → Tree
+tree_in job = tree_of job.script.frame
+
+-- the job, whatever memory its script lies in
+abbrev pub job_in : JobState → ChannelJob
+job_in job = record {
+  channel = job.channel;
+  start = job.start;
+  addresses = job.addresses;
+  actions = job.actions;
+  plan = job.plan;
+  tree = tree_in job;
+}
+
+-- its numbers are in their ranges, its script is sound, and the program is the script's
+pub record IsJob (job : JobState) (program : Code) : Type 0 where
+  pub channel_low : 1 ≤ job.channel
+  pub channel_high : job.channel ≤ 65535
+  pub start_high : job.start ≤ 140737488355328
+  pub addresses : is_fit job.addresses ≡ true
+  pub actions : list_all (may_act job.addresses) job.actions ≡ true
+  pub sound : IsSound (tree_in job)
+  pub program_is : program ≡ code_of (tree_in job)

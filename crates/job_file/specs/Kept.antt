@@ -1,0 +1,17 @@
+-- A job's fields as plain data.
+use Rattle.frame_code.specs.Table.{Code}
+use Rattle.job_file.specs.Jobs.{JobState, IsJob}
+use Rattle.job_file.specs.declared.jobs.Job.TheInside.{Inside}
+
+abbrev pub state_in : Inside → JobState
+state_in j = record {
+  channel = j.channel;
+  start = j.start;
+  addresses = j.addresses.items;
+  actions = j.actions.items;
+  plan = j.plan;
+  script = j.script.value;
+}
+
+abbrev pub IsKept : Inside → Type 0
+IsKept j = IsJob (state_in j) j.program

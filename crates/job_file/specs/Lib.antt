@@ -1,0 +1,13 @@
+pub mod Options
+pub mod Numbers
+pub mod Lines
+pub mod Entries
+pub mod Heads
+pub mod Fits
+pub mod Errors
+pub mod Drafts
+pub mod Spelled
+pub mod Reading
+pub mod Jobs
+pub mod Kept
+pub mod Meaning

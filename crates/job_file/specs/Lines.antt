@@ -1,0 +1,141 @@
+-- What a line of a job says (own choice): its words, parted by spaces alone.
+use Rattle.std.specs.Prelude.{ℕ, Bool, true, false, ◌==◌, if◌then◌else◌, List, [], ◌∷◌, Option, Some, None, codes}
+use Rattle.std.specs.Str.{bytes_eq}
+use Rattle.mil_host.specs.Words.{Text, words}
+use Rattle.mil_word.specs.declared.Sync.{Sync}
+use Rattle.mil_word.specs.declared.Sync.TheVariants.{CommandSync, DataSync}
+use Rattle.mil_line.specs.declared.faults.Fault.{Fault}
+use Rattle.mil_line.specs.declared.faults.Fault.TheVariants.{Mask, Drop, Add, Late, Mute}
+use Rattle.job_file.specs.Options.{◌>>=◌}
+use Rattle.job_file.specs.Numbers.{number_of, number_within, start_of, data_word_of, half_bits_of}
+use Rattle.job_file.specs.declared.keywords.Keyword.{Keyword}
+use Rattle.job_file.specs.declared.keywords.Keyword.TheVariants as keyword
+use Rattle.job_file.specs.declared.keywords.FaultWord.{FaultWord}
+use Rattle.job_file.specs.declared.keywords.FaultWord.TheVariants as word
+
+pub data Said : Type 0 where
+  -- an empty line, or a comment
+  blank : Said
+  -- the line that ends the part above the script
+  script : Said
+  channel : ℕ → Said
+  start : ℕ → Said
+  terminal : ℕ → Said
+  -- the number of a message, the address of a terminal, and the words of its host's action
+  action : ℕ → ℕ → List Text → Said
+  -- the number of a message, and a fault of it
+  fault : ℕ → Fault → Said
+
+abbrev pub keyword_of : Text → Option Keyword
+keyword_of w =
+    if bytes_eq w (codes "channel") then Some keyword.Channel
+    else if bytes_eq w (codes "start") then Some keyword.Start
+    else if bytes_eq w (codes "terminal") then Some keyword.Terminal
+    else if bytes_eq w (codes "at") then Some keyword.At
+    else if bytes_eq w (codes "fault") then Some keyword.Fault
+    else if bytes_eq w (codes "script") then Some keyword.Script
+    else None
+
+abbrev pub fault_word_of : Text → Option FaultWord
+fault_word_of w =
+    if bytes_eq w (codes "mask") then Some word.Mask
+    else if bytes_eq w (codes "drop") then Some word.Drop
+    else if bytes_eq w (codes "add") then Some word.Add
+    else if bytes_eq w (codes "late") then Some word.Late
+    else if bytes_eq w (codes "mute") then Some word.Mute
+    else None
+
+-- command or data sync
+abbrev pub sync_of : Text → Option Sync
+sync_of w =
+    if bytes_eq w (codes "c") then Some CommandSync
+    else if bytes_eq w (codes "d") then Some DataSync
+    else None
+
+-- the first word and those behind it; exactly one word, or two, three or four
+abbrev pub first : List Text → Option (Text × List Text)
+first [] = None
+first (w ∷ ws) = Some (w, ws)
+
+abbrev pub ended : {X : Type 0} → List Text → X → Option X
+ended [] x = Some x
+ended (w ∷ ws) x = None
+
+unfoldable pub one : List Text → Option Text
+one ws = first ws >>= (λ a. ended a.1 a.0)
+
+unfoldable pub two : List Text → Option (Text × Text)
+two ws = first ws >>= (λ a. one a.1 >>= (λ b. Some (a.0, b)))
+
+unfoldable pub three : List Text → Option (Text × Text × Text)
+three ws = first ws >>= (λ a. two a.1 >>= (λ b. Some (a.0, b.0, b.1)))
+
+unfoldable pub four : List Text → Option (Text × Text × Text × Text)
+four ws = first ws >>= (λ a. three a.1 >>= (λ b. Some (a.0, b.0, b.1, b.2)))
+
+-- `mask RUN INDEX HALF_BITS`, `drop RUN INDEX`, `add RUN INDEX c|d WORD`, `late RUN TICKS` and `mute RUN`
+unfoldable pub mask_in : List Text → Option Fault
+mask_in ws = three ws >>= (λ w. number_of w.0 >>= (λ run. number_of w.1 >>= (λ index. half_bits_of w.2 >>= (λ half_bits. Some (Mask run index half_bits)))))
+
+unfoldable pub drop_in : List Text → Option Fault
+drop_in ws = two ws >>= (λ w. number_of w.0 >>= (λ run. number_of w.1 >>= (λ index. Some (Drop run index))))
+
+unfoldable pub add_in : List Text → Option Fault
+add_in ws =
+    four ws >>= (λ w. sync_of w.2 >>= (λ sync. number_of w.0 >>= (λ run. number_of w.1 >>= (λ index. data_word_of w.3 >>= (λ value.
+    Some (Add run index (record { sync = sync; value = value })))))))
+
+unfoldable pub late_in : List Text → Option Fault
+late_in ws = two ws >>= (λ w. number_of w.0 >>= (λ run. number_of w.1 >>= (λ ticks. Some (Late run ticks))))
+
+unfoldable pub mute_in : List Text → Option Fault
+mute_in ws = one ws >>= (λ w. number_of w >>= (λ run. Some (Mute run)))
+
+unfoldable pub fault_of : FaultWord → List Text → Option Fault
+fault_of word.Mask ws = mask_in ws
+fault_of word.Drop ws = drop_in ws
+fault_of word.Add ws = add_in ws
+fault_of word.Late ws = late_in ws
+fault_of word.Mute ws = mute_in ws
+
+-- what stands behind the first word of a line
+
+unfoldable pub channel_in : List Text → Option Said
+channel_in ws = one ws >>= (λ w. number_within 1 65535 w >>= (λ n. Some (channel n)))
+
+unfoldable pub start_in : List Text → Option Said
+start_in ws = one ws >>= (λ w. start_of w >>= (λ n. Some (start n)))
+
+unfoldable pub terminal_in : List Text → Option Said
+terminal_in ws = one ws >>= (λ w. number_within 0 30 w >>= (λ n. Some (terminal n)))
+
+unfoldable pub action_in : List Text → Option Said
+action_in ws =
+    first ws >>= (λ n. first n.1 >>= (λ a. first a.1 >>= (λ more.
+    number_within 1 1000000 n.0 >>= (λ number. number_within 0 30 a.0 >>= (λ address. Some (action number address a.1))))))
+
+unfoldable pub fault_in : List Text → Option Said
+fault_in ws =
+    first ws >>= (λ n. first n.1 >>= (λ k. fault_word_of k.0 >>= (λ kind. fault_of kind k.1 >>= (λ f.
+    number_of n.0 >>= (λ number. Some (fault number f))))))
+
+unfoldable pub of_keyword : Keyword → List Text → Option Said
+of_keyword keyword.Channel ws = channel_in ws
+of_keyword keyword.Start ws = start_in ws
+of_keyword keyword.Terminal ws = terminal_in ws
+of_keyword keyword.At ws = action_in ws
+of_keyword keyword.Fault ws = fault_in ws
+of_keyword keyword.Script ws = ended ws script
+
+-- a word that begins with #
+abbrev pub is_comment : Text → Bool
+is_comment [] = false
+is_comment (b ∷ bs) = b == 35
+
+unfoldable pub said_in : List Text → Option Said
+said_in [] = Some blank
+said_in (w ∷ ws) = if is_comment w then Some blank else (keyword_of w >>= (λ k. of_keyword k ws))
+
+-- what a line says; nothing where it may not stand in a job
+abbrev pub said : Text → Option Said
+said line = said_in (words line)

@@ -1,0 +1,37 @@
+-- Numbers in the lines of a job (own choice).
+use Rattle.std.specs.Prelude.{ℕ, ◌+◌, ◌*◌, ◌&&◌, nat_lt, nat_le, if◌then◌else◌, List, [], ◌∷◌, length, Option, Some, None}
+use Rattle.std.specs.Char.{digit_value}
+use Rattle.mil_host.specs.Words.{Text}
+use Rattle.job_file.specs.Options.{◌>>=◌}
+
+-- the number that digits in a base spell, behind those that spelled n
+abbrev pub digits : ℕ → ℕ → Text → Option ℕ
+digits base n [] = Some n
+digits base n (b ∷ bs) = if nat_lt (digit_value b) base then digits base (n * base + digit_value b) bs else None
+
+-- the number that a word of `least` to `most` digits spells
+unfoldable pub spelled : ℕ → ℕ → ℕ → Text → Option ℕ
+spelled base least most word = if nat_le least (length word) && nat_le (length word) most then digits base 0 word else None
+
+-- one to seven decimal digits
+abbrev pub number_of : Text → Option ℕ
+number_of word = spelled 10 1 7 word
+
+-- a number from low to high
+abbrev pub within : ℕ → ℕ → ℕ → Option ℕ
+within low high n = if nat_le low n && nat_le n high then Some n else None
+
+abbrev pub number_within : ℕ → ℕ → Text → Option ℕ
+number_within low high word = number_of word >>= (λ n. within low high n)
+
+-- four hexadecimal digits, of either case
+abbrev pub data_word_of : Text → Option ℕ
+data_word_of word = spelled 16 4 4 word
+
+-- ten hexadecimal digits: forty half bits
+abbrev pub half_bits_of : Text → Option ℕ
+half_bits_of word = spelled 16 10 10 word
+
+-- a start tick has one to fifteen decimal digits, and is at most 2^47
+abbrev pub start_of : Text → Option ℕ
+start_of word = spelled 10 1 15 word >>= (λ n. within 0 140737488355328 n)

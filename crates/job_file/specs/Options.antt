@@ -1,0 +1,12 @@
+-- What is read first, and then what is read with it; nothing where one of them is nothing.
+use Rattle.std.specs.Prelude.{◌≡◌, Option, Some, None, Result, Ok, Err}
+
+infixl 10 ◌>>=◌
+abbrev pub ◌>>=◌ : {X Y : Type 0} → Option X → (X → Option Y) → Option Y
+None >>= next = None
+(Some x) >>= next = next x
+
+-- what a call answered is what reading comes to
+abbrev pub Reads : {X Y E : Type 0} → (X → Y) → Result X E → Option Y → Type 0
+Reads view (Ok x) read = read ≡ Some (view x)
+Reads view (Err e) read = read ≡ None

@@ -1,0 +1,74 @@
+-- What the reading of a job answers.
+use Rattle.std.specs.Prelude.{◌≡◌, ◌<◌, true, false, Bool, length, Option, Some, None, Result, Ok, Err}
+use Rattle.frame_tree.specs.Tree.{Tree}
+use Rattle.frame_text.specs.declared.faults.Cause.{Cause}
+use Rattle.frame_code.specs.Table.{Code}
+use Rattle.frame_asm.specs.Shapes.{code_of}
+use Rattle.frame_asm.specs.declared.AsmError.{AsmError}
+use Rattle.frame_asm.specs.declared.AsmError.TheVariants as assembler
+use Rattle.frame_load.specs.Judging.{IsWithin}
+use Rattle.frame_load.specs.declared.LoadError.{LoadError}
+use Rattle.frame_load.specs.declared.LoadError.TheVariants as loader
+use Rattle.job_file.specs.Lines.{Said}
+use Rattle.job_file.specs.Entries.{IsInRange}
+use Rattle.job_file.specs.Heads.{Head, may_stand}
+use Rattle.job_file.specs.Drafts.{with_line}
+use Rattle.job_file.specs.Spelled.{ChannelJob, is_script}
+use Rattle.job_file.specs.declared.error.Refusal.{Refusal}
+use Rattle.job_file.specs.declared.error.Refusal.TheVariants as refusal
+use Rattle.job_file.specs.declared.error.JobError.{JobError}
+use Rattle.job_file.specs.declared.error.JobError.TheVariants as error
+use Rattle.job_file.specs.declared.drafts.Taken.{Taken}
+use Rattle.job_file.specs.declared.drafts.Taken.TheVariants as taken
+
+abbrev pub stands : Option Said → Head → Bool
+stands None above = false
+stands (Some line) above = may_stand line above
+
+abbrev pub with_said : Option Said → Head → Head
+with_said None head = head
+with_said (Some line) head = with_line line head
+
+-- the line of the script, another line that may stand there, or one that may not; want of memory says nothing
+abbrev pub TakesLine : Option Said → Head → Head → Result Taken Refusal → Type 0
+TakesLine line old new (Ok taken.Script) = (is_script line ≡ true) × (new ≡ old)
+TakesLine line old new (Ok taken.Line) = (is_script line ≡ false) × (stands line old ≡ true) × (new ≡ with_said line old)
+TakesLine line old new (Err refusal.Memory) = Unit {0}
+TakesLine line old new (Err (refusal.Line why)) = (is_script line ≡ false) × (stands line old ≡ false)
+
+-- what a line says is in its ranges
+abbrev pub AreInRange : Option Said → Type 0
+AreInRange None = Unit {0}
+AreInRange (Some line) = IsInRange line
+
+-- what a script comes to: its tree, or a fault; want of memory says nothing
+abbrev pub IsScriptRefusal : Result Tree Cause → JobError → Type 0
+IsScriptRefusal read (error.Script cause place) = read ≡ Err cause
+IsScriptRefusal read error.Memory = Unit {0}
+IsScriptRefusal read _ = ⊥
+
+-- an image that is too long
+abbrev pub IsTooLong : Code → AsmError → Type 0
+IsTooLong code assembler.Operations = 4096 < length code.operations
+IsTooLong code assembler.Messages = 1024 < length code.messages
+IsTooLong code assembler.Memory = ⊥
+
+-- an image that the loader refuses for its budget; it refuses none for another cause
+abbrev pub IsTooMuch : Code → LoadError → Type 0
+IsTooMuch code loader.Budget = ¬ IsWithin code
+IsTooMuch code _ = ⊥
+
+abbrev pub IsCodeRefusal : Code → JobError → Type 0
+IsCodeRefusal code (error.Assembly line why) = IsTooLong code why
+IsCodeRefusal code (error.Loading line why) = IsTooMuch code why
+IsCodeRefusal code error.Memory = Unit {0}
+IsCodeRefusal code _ = ⊥
+
+-- A refusal for another cause than memory: there is no job, or its script has an image that is too long or that the loader
+-- refuses for its budget.
+abbrev pub IsRefusal : Option ChannelJob → JobError → Type 0
+IsRefusal spelled (error.Line line why) = spelled ≡ None
+IsRefusal spelled (error.Script cause place) = spelled ≡ None
+IsRefusal spelled (error.Assembly line why) = (job : ChannelJob) × (spelled ≡ Some job) × IsTooLong (code_of job.tree) why
+IsRefusal spelled (error.Loading line why) = (job : ChannelJob) × (spelled ≡ Some job) × IsTooMuch (code_of job.tree) why
+IsRefusal spelled error.Memory = Unit {0}

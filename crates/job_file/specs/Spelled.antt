@@ -1,0 +1,90 @@
+-- The job that a text spells (own choice): lines that end by LF, then a line `script`, then the script.
+use Rattle.std.specs.Prelude.{ℕ, ◌==◌, Bool, true, false, if◌then◌else◌, List, [], ◌∷◌, Option, Some, None}
+use Rattle.std.specs.Option.{option_map}
+use Rattle.std.specs.Result.{result_ok}
+use Rattle.std.specs.List.{slice_split, join_with_byte}
+use Rattle.mil_host.specs.Words.{Text}
+use Rattle.mil_line.specs.Plans.{Planned}
+use Rattle.frame_tree.specs.Tree.{Tree}
+use Rattle.frame_text.specs.Frames.{tree_of_text}
+use Rattle.job_file.specs.Options.{◌>>=◌}
+use Rattle.job_file.specs.Lines.{Said, script, said}
+use Rattle.job_file.specs.Heads.{Head, head_of, are_lawful}
+use Rattle.bc_machine.specs.declared.placed.Placed.{Placed}
+
+-- all that is to be known of a channel's bus
+pub record ChannelJob : Type 0 where
+  pub channel : ℕ
+  -- the start tick
+  pub start : ℕ
+  -- the addresses of the terminals
+  pub addresses : List ℕ
+  -- the hosts' actions, in the order of the text
+  pub actions : List Placed
+  -- the planned faults, in the order of the text
+  pub plan : List Planned
+  -- what the script spells
+  pub tree : Tree
+
+abbrev pub is_line_end : ℕ → Bool
+is_line_end b = b == 10
+
+-- what stands between line ends
+abbrev pub lines_of : Text → List Text
+lines_of text = slice_split is_line_end text
+
+-- lines as a text again
+abbrev pub text_of : List Text → Text
+text_of lines = join_with_byte 10 lines
+
+abbrev pub is_script : Option Said → Bool
+is_script (Some script) = true
+is_script _ = false
+
+abbrev pub with_line_above : Text → List Text × List Text → List Text × List Text
+with_line_above line parts = (line ∷ parts.0, parts.1)
+
+-- the lines above the first line `script`, and those behind it
+abbrev pub parted : List Text → Option (List Text × List Text)
+parted [] = None
+parted (line ∷ lines) =
+    if is_script (said line) then Some ([], lines) else (parted lines >>= (λ parts. Some (with_line_above line parts)))
+
+-- what lines say, where each says something
+abbrev pub all_said : List Text → Option (List Said)
+all_said [] = Some []
+all_said (line ∷ lines) = said line >>= (λ s. all_said lines >>= (λ ss. Some (s ∷ ss)))
+
+abbrev pub lawful : List Said → List Said → Option (List Said)
+lawful above lines = if are_lawful above lines then Some lines else None
+
+abbrev pub first_of : List ℕ → Option ℕ
+first_of [] = None
+first_of (n ∷ ns) = Some n
+
+abbrev pub first_or : ℕ → List ℕ → ℕ
+first_or n [] = n
+first_or n (m ∷ ms) = m
+
+-- the job of the lines above the script, and the script: the channel has to be named, and a job that names no start tick
+-- starts at 0
+abbrev pub job_of : Head → Text → Option ChannelJob
+job_of head text =
+    first_of head.channels >>= (λ channel. result_ok (tree_of_text text) >>= (λ tree.
+    Some (record {
+      channel = channel;
+      start = first_or 0 head.starts;
+      addresses = head.addresses;
+      actions = head.actions;
+      plan = head.plan;
+      tree = tree;
+    })))
+
+abbrev pub job_of_lines : List Text → Option ChannelJob
+job_of_lines lines =
+    parted lines >>= (λ parts. all_said parts.0 >>= (λ said. lawful [] said >>= (λ heads.
+    job_of (head_of heads) (text_of parts.1))))
+
+-- the job that a text spells, if it spells one
+unfoldable pub spelled : Text → Option ChannelJob
+spelled text = job_of_lines (lines_of text)

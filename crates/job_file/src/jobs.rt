@@ -1,0 +1,154 @@
+//! A job: all that is to be known of a channel's bus.
+ghost use Rattle.std.specs.Prelude.{◌≡◌, ◌≤◌, true, Some, IfOk};
+ghost use Rattle.std.specs.List.{list_all};
+ghost use Rattle.mil_bus.specs.Addresses.{is_fit};
+ghost use Rattle.frame_tree.specs.Tree.{tree_of};
+ghost use Rattle.frame_tree.specs.Bounds.{IsSound};
+ghost use Rattle.frame_asm.specs.Shapes.{code_of};
+ghost use Rattle.bc_machine.specs.Running.{started};
+ghost use Rattle.bc_machine.specs.UnderWay.{IsUnderWay};
+ghost use Rattle.job_file.specs.Fits.{may_act, IsFit};
+ghost use Rattle.job_file.specs.Drafts.{shown};
+ghost use Rattle.job_file.specs.Spelled.{first_or};
+ghost use Rattle.job_file.specs.Jobs.{tree_in, job_in};
+ghost use Rattle.job_file.specs.Meaning.{bus_of};
+
+use crate::drafts::Draft;
+use crate::scripts::Script;
+use bc_machine::{Machine, Placed};
+use frame_load::Program;
+use mil_bus::Bus;
+use mil_line::Plan;
+use std::alloc::{AllocError, Global};
+use std::marker::Model;
+use std::snapshot::Snapshot;
+
+/// A job: the number of a channel, when its first message starts, its terminals, what their hosts do, the faults that are
+/// planned, and the program of its script. Contracts see the script itself too, of which no byte is kept.
+#[derive(Drop)]
+pub struct Job {
+    channel: u16,
+    start: u64,
+    addresses: Vec<u8>,
+    actions: Vec<Placed>,
+    plan: Plan,
+    program: Program,
+    script: Snapshot<Script>,
+}
+
+impl Model for Job {
+    ghost use Rattle.job_file.specs.contracts.scripts.Script as scripts;
+    ghost use Rattle.std.specs.Coded.{codes};
+    ghost use Rattle.job_file.specs.Jobs.{JobState};
+
+    ghost Value = { JobState };
+
+    ghost coded = { Prim.hlevel (codes, scripts.the_row.coded) };
+
+    ghost use Rattle.job_file.specs.Kept.{state_in, IsKept};
+
+    ghost view = { state_in };
+
+    ghost invariant = { IsKept };
+}
+
+impl Job {
+    /// The job of a draft that names its channel, with the program of its script.
+    pub(crate) fn make(channel: u16, draft: Draft, program: Program, script: &Script) -> Job
+        requires channel { draft.channel ≡ Some channel }
+        requires fit { IsFit (shown draft) }
+        requires sound { IsSound (tree_of script.now.frame) }
+        requires program { program ≡ code_of (tree_of script.now.frame) }
+        ensures { job_in result ≡ record {
+          channel = channel;
+          start = first_or 0 (shown draft).starts;
+          addresses = (shown draft).addresses;
+          actions = (shown draft).actions;
+          plan = draft.plan;
+          tree = tree_of script.now.frame;
+        } }
+    {
+        Job {
+            channel,
+            start: draft.start.unwrap_or(0),
+            addresses: draft.addresses,
+            actions: draft.actions,
+            plan: draft.plan,
+            program,
+            script: Snapshot::of(script),
+        }
+    }
+
+    /// The number of the channel, 1 to 65,535.
+    pub fn channel(&self) -> u16
+        ensures value { result ≡ self.now.channel }
+        ensures low { 1 ≤ result }
+    {
+        self.channel
+    }
+
+    /// When the first message starts, 0 to 2^47 ticks of 0.1 µs.
+    pub fn start(&self) -> u64
+        ensures value { result ≡ self.now.start }
+        ensures high { result ≤ 140737488355328 }
+    {
+        self.start
+    }
+
+    /// The addresses of the terminals, 0 to 30, in the order of the text.
+    pub fn addresses(&self) -> &[u8]
+        ensures value { result.now ≡ self.now.addresses }
+        ensures fit { is_fit result.now ≡ true }
+    {
+        self.addresses.as_slice()
+    }
+
+    /// What the hosts do, in the order of the text: each action is of one of the terminals, at a message 1 to 1,000,000.
+    pub fn actions(&self) -> &[Placed]
+        ensures value { result.now ≡ self.now.actions }
+        ensures fit { list_all (may_act self.now.addresses) result.now ≡ true }
+    {
+        self.actions.as_slice()
+    }
+
+    /// The planned faults, in the order of the text.
+    pub fn plan(&self) -> &Plan
+        ensures { result.now ≡ self.now.plan }
+    {
+        &self.plan
+    }
+
+    /// The program of the script.
+    pub fn program(&self) -> &Program
+        ensures value { result.now ≡ code_of (tree_in self.now) }
+        ensures sound { IsSound (tree_in self.now) }
+    {
+        &self.program
+    }
+
+    /// A controller at the beginning of the job's program, on a bus with new terminals, under the job's planned faults and these
+    /// placed actions, which are not the job's own unless the caller hands in those. It fails for want of memory alone.
+    pub fn machine(&self, alloc: Global, placed: &[Placed]) -> Result<Machine, AllocError>
+        ensures value { IfOk result (λ m. m ≡ started (code_of (tree_in self.now)) (bus_of (job_in self.now)) self.now.plan placed.now) }
+        ensures under_way { IfOk result (λ m. IsUnderWay m) }
+    {
+        let program = self.program.copy()?;
+        let plan = self.plan.copy()?;
+        let placed = copied(alloc, placed)?;
+        match Bus::make(alloc, self.start, self.addresses.as_slice()) {
+            Ok(bus) => Ok(Machine::start(program, bus, plan, placed)),
+            Err(_) => Err(AllocError),
+        }
+    }
+}
+
+/// The same actions, placed alike.
+fn copied(alloc: Global, placed: &[Placed]) -> Result<Vec<Placed>, AllocError>
+    ensures { IfOk result (λ v. v.items ≡ placed.now) }
+{
+    let mut copies = Vec::with_capacity(alloc, placed.len())?;
+    for one in placed {
+        copies.push(one.copy())?;
+    }
+    Ok(copies)
+}

@@ -1,0 +1,16 @@
+//! Jobs: all that is to be known of a channel's bus, as one text (own choice).
+#![tactic(auto)]
+
+mod drafts;
+mod error;
+mod jobs;
+mod keywords;
+mod lines;
+mod numbers;
+mod reading;
+mod scripts;
+mod words;
+
+pub use error::{JobError, LineFault};
+pub use jobs::Job;
+pub use reading::read_job;

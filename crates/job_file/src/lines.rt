@@ -1,0 +1,281 @@
+//! What a line of a job says, by itself: whether it may stand where it does is judged elsewhere.
+ghost use Rattle.std.specs.Prelude.{◌≡◌, ◌≤◌, IfOk};
+ghost use Rattle.mil_host.specs.Words.{words};
+ghost use Rattle.job_file.specs.Options.{Reads};
+ghost use Rattle.job_file.specs.Lines as lines;
+ghost use Rattle.job_file.specs.Entries.{said_by, IsInRange};
+
+use crate::error::LineFault;
+use crate::keywords::{FaultWord, Keyword, fault_word_in, keyword_in, sync_in};
+use crate::numbers::{data_word, half_bits, number, number_within, start_tick};
+use crate::words::next_word;
+use mil_line::Fault;
+use mil_word::Word;
+
+/// What a line says.
+#[derive(Drop)]
+pub enum Entry<'a> {
+    /// An empty line or a comment.
+    Blank,
+    /// All bytes after this line are the script.
+    Script,
+    /// The number of the channel, 1 to 65,535.
+    Channel(u16),
+    /// The start tick, at most 2^47.
+    Start(u64),
+    /// The address of a terminal, 0 to 30.
+    Terminal(u8),
+    /// The text of an action of a terminal's host, which comes before the message of this number, 1 to 1,000,000.
+    Action {
+        number: u32,
+        address: u8,
+        text: &'a [u8],
+    },
+    /// A fault of the message of this number; their ranges are not judged yet.
+    Fault {
+        number: u32,
+        fault: Fault,
+    },
+}
+
+/// The first word, and what comes after it.
+fn first_word(text: &[u8]) -> Result<(&[u8], &[u8]), LineFault>
+    ensures { Reads (λ x. (x.0.now, words x.1.now)) result (lines.first (words text.now)) }
+{
+    match next_word(text) {
+        Some(split) => Ok(split),
+        None => Err(LineFault::Word),
+    }
+}
+
+/// No word is left.
+fn end(text: &[u8]) -> Result<(), LineFault>
+    ensures { Reads (λ x. x) result (lines.ended (words text.now) tt) }
+{
+    match next_word(text) {
+        Some(_) => Err(LineFault::Word),
+        None => Ok(()),
+    }
+}
+
+/// The only word.
+#[tactic(auto, unfolding(crate::specs::Lines::one))]
+fn one_word(text: &[u8]) -> Result<&[u8], LineFault>
+    ensures { Reads (λ x. x.now) result (lines.one (words text.now)) }
+{
+    let (word, rest) = first_word(text)?;
+    end(rest)?;
+    Ok(word)
+}
+
+/// The only two words.
+#[tactic(auto, unfolding(crate::specs::Lines::two))]
+fn two_words(text: &[u8]) -> Result<(&[u8], &[u8]), LineFault>
+    ensures { Reads (λ x. (x.0.now, x.1.now)) result (lines.two (words text.now)) }
+{
+    let (first, rest) = first_word(text)?;
+    let second = one_word(rest)?;
+    Ok((first, second))
+}
+
+/// The only three words.
+#[tactic(auto, unfolding(crate::specs::Lines::three))]
+fn three_words(text: &[u8]) -> Result<(&[u8], &[u8], &[u8]), LineFault>
+    ensures { Reads (λ x. (x.0.now, x.1.now, x.2.now)) result (lines.three (words text.now)) }
+{
+    let (first, rest) = first_word(text)?;
+    let (second, third) = two_words(rest)?;
+    Ok((first, second, third))
+}
+
+/// The only four words.
+#[tactic(auto, unfolding(crate::specs::Lines::four))]
+fn four_words(text: &[u8]) -> Result<(&[u8], &[u8], &[u8], &[u8]), LineFault>
+    ensures { Reads (λ x. (x.0.now, x.1.now, x.2.now, x.3.now)) result (lines.four (words text.now)) }
+{
+    let (first, rest) = first_word(text)?;
+    let (second, third, fourth) = three_words(rest)?;
+    Ok((first, second, third, fourth))
+}
+
+#[tactic(auto, unfolding(crate::specs::Lines::mask_in))]
+fn mask(text: &[u8]) -> Result<Fault, LineFault>
+    ensures { Reads (λ f. f) result (lines.mask_in (words text.now)) }
+{
+    let (run, index, mask) = three_words(text)?;
+    let run = number(run)?;
+    let index = number(index)?;
+    let half_bits = half_bits(mask)?;
+    Ok(Fault::Mask {
+        run,
+        index,
+        half_bits,
+    })
+}
+
+#[tactic(auto, unfolding(crate::specs::Lines::drop_in))]
+fn dropped(text: &[u8]) -> Result<Fault, LineFault>
+    ensures { Reads (λ f. f) result (lines.drop_in (words text.now)) }
+{
+    let (run, index) = two_words(text)?;
+    let run = number(run)?;
+    let index = number(index)?;
+    Ok(Fault::Drop { run, index })
+}
+
+#[tactic(auto, unfolding(crate::specs::Lines::add_in))]
+fn added(text: &[u8]) -> Result<Fault, LineFault>
+    ensures { Reads (λ f. f) result (lines.add_in (words text.now)) }
+{
+    let (run, index, name, value) = four_words(text)?;
+    let sync = sync_in(name)?;
+    let run = number(run)?;
+    let index = number(index)?;
+    let value = data_word(value)?;
+    Ok(Fault::Add {
+        run,
+        index,
+        word: Word { sync, value },
+    })
+}
+
+#[tactic(auto, unfolding(crate::specs::Lines::late_in))]
+fn late(text: &[u8]) -> Result<Fault, LineFault>
+    ensures { Reads (λ f. f) result (lines.late_in (words text.now)) }
+{
+    let (run, ticks) = two_words(text)?;
+    let run = number(run)?;
+    let ticks = number(ticks)?;
+    Ok(Fault::Late { run, ticks })
+}
+
+#[tactic(auto, unfolding(crate::specs::Lines::mute_in))]
+fn muted(text: &[u8]) -> Result<Fault, LineFault>
+    ensures { Reads (λ f. f) result (lines.mute_in (words text.now)) }
+{
+    let run = one_word(text)?;
+    let run = number(run)?;
+    Ok(Fault::Mute { run })
+}
+
+#[tactic(auto, unfolding(crate::specs::Lines::fault_of))]
+fn fault_named(kind: FaultWord, text: &[u8]) -> Result<Fault, LineFault>
+    ensures { Reads (λ f. f) result (lines.fault_of kind (words text.now)) }
+{
+    match kind {
+        FaultWord::Mask => mask(text),
+        FaultWord::Drop => dropped(text),
+        FaultWord::Add => added(text),
+        FaultWord::Late => late(text),
+        FaultWord::Mute => muted(text),
+    }
+}
+
+#[tactic(auto, unfolding(crate::specs::Lines::channel_in))]
+fn channel(text: &[u8]) -> Result<Entry<'_>, LineFault>
+    ensures said { Reads said_by result (lines.channel_in (words text.now)) }
+    ensures range { IfOk result (λ e. IsInRange (said_by e)) }
+{
+    let word = one_word(text)?;
+    let channel = number_within(word, 1, 65_535)?;
+    Ok(Entry::Channel(channel as u16))
+}
+
+#[tactic(auto, unfolding(crate::specs::Lines::start_in))]
+fn start(text: &[u8]) -> Result<Entry<'_>, LineFault>
+    ensures said { Reads said_by result (lines.start_in (words text.now)) }
+    ensures range { IfOk result (λ e. IsInRange (said_by e)) }
+{
+    let word = one_word(text)?;
+    let start = start_tick(word)?;
+    Ok(Entry::Start(start))
+}
+
+#[tactic(auto, unfolding(crate::specs::Lines::terminal_in))]
+fn terminal(text: &[u8]) -> Result<Entry<'_>, LineFault>
+    ensures said { Reads said_by result (lines.terminal_in (words text.now)) }
+    ensures range { IfOk result (λ e. IsInRange (said_by e)) }
+{
+    let word = one_word(text)?;
+    let address = number_within(word, 0, 30)?;
+    Ok(Entry::Terminal(address as u8))
+}
+
+#[tactic(auto, unfolding(crate::specs::Lines::action_in))]
+fn action(text: &[u8]) -> Result<Entry<'_>, LineFault>
+    ensures said { Reads said_by result (lines.action_in (words text.now)) }
+    ensures range { IfOk result (λ e. IsInRange (said_by e)) }
+{
+    let (number, rest) = first_word(text)?;
+    let (address, text) = first_word(rest)?;
+    first_word(text)?;
+    let number = number_within(number, 1, 1_000_000)?;
+    let address = number_within(address, 0, 30)?;
+    Ok(Entry::Action {
+        number,
+        address: address as u8,
+        text,
+    })
+}
+
+#[tactic(auto, unfolding(crate::specs::Lines::fault_in))]
+fn fault(text: &[u8]) -> Result<Entry<'_>, LineFault>
+    ensures said { Reads said_by result (lines.fault_in (words text.now)) }
+    ensures range { IfOk result (λ e. IsInRange (said_by e)) }
+{
+    let (message, rest) = first_word(text)?;
+    let (name, rest) = first_word(rest)?;
+    let kind = fault_word_in(name)?;
+    let fault = fault_named(kind, rest)?;
+    let number = number(message)?;
+    Ok(Entry::Fault { number, fault })
+}
+
+fn script(text: &[u8]) -> Result<Entry<'_>, LineFault>
+    ensures said { Reads said_by result (lines.ended (words text.now) lines.script) }
+    ensures range { IfOk result (λ e. IsInRange (said_by e)) }
+{
+    end(text)?;
+    Ok(Entry::Script)
+}
+
+#[tactic(auto, unfolding(crate::specs::Lines::of_keyword))]
+fn after_keyword(keyword: Keyword, text: &[u8]) -> Result<Entry<'_>, LineFault>
+    ensures said { Reads said_by result (lines.of_keyword keyword (words text.now)) }
+    ensures range { IfOk result (λ e. IsInRange (said_by e)) }
+{
+    match keyword {
+        Keyword::Channel => channel(text),
+        Keyword::Start => start(text),
+        Keyword::Terminal => terminal(text),
+        Keyword::At => action(text),
+        Keyword::Fault => fault(text),
+        Keyword::Script => script(text),
+    }
+}
+
+fn is_comment(word: &[u8]) -> bool
+    ensures { result ≡ lines.is_comment word.now }
+{
+    match word.split_first() {
+        Some((first, _)) => *first == b'#',
+        None => false,
+    }
+}
+
+/// What a line says: `channel N`, `start TICK`, `terminal ADDRESS`, `at NUMBER ADDRESS ACTION`, `fault NUMBER FAULT`, `script`,
+/// a comment or nothing. J1, then J2.
+#[tactic(auto, unfolding(crate::specs::Lines::said_in))]
+pub fn read_line(line: &[u8]) -> Result<Entry<'_>, LineFault>
+    ensures said { Reads said_by result (lines.said line.now) }
+    ensures range { IfOk result (λ e. IsInRange (said_by e)) }
+{
+    let Some((word, rest)) = next_word(line) else {
+        return Ok(Entry::Blank);
+    };
+    if is_comment(word) {
+        return Ok(Entry::Blank);
+    }
+    let keyword = keyword_in(word)?;
+    after_keyword(keyword, rest)
+}

@@ -1,0 +1,93 @@
+//! Numbers in the lines of a job.
+ghost use Rattle.std.specs.Prelude.{◌≡◌, ◌≤◌, ◌<◌, ◌^◌, IfOk, IfSome};
+ghost use Rattle.std.specs.Char.{digit_value};
+ghost use Rattle.job_file.specs.Options.{Reads};
+ghost use Rattle.job_file.specs.Numbers.{spelled, number_of, number_within, data_word_of, half_bits_of, start_of};
+
+use crate::error::LineFault;
+use mil_word::Wave;
+
+/// The value of a digit or a letter, and 36 for any other byte.
+fn digit(byte: u8) -> u8
+    ensures { result ≡ digit_value byte }
+{
+    match byte {
+        b'0'..=b'9' => byte - b'0',
+        b'A'..=b'Z' => byte - b'A' + 10,
+        b'a'..=b'z' => byte - b'a' + 10,
+        _ => 36,
+    }
+}
+
+/// The number that a word of `least` to `most` digits in a base spells.
+#[tactic(auto, unfolding(crate::specs::Numbers::spelled))]
+fn spelled(base: u8, least: usize, most: usize, word: &[u8]) -> Result<u64, LineFault>
+    requires base { base ≤ 16 }
+    requires few { most ≤ 15 }
+    ensures value { Reads (λ n. n) result (spelled base least most word.now) }
+    ensures small { IfOk result (λ n. n < 16 ^ most) }
+{
+    if word.len() < least || most < word.len() {
+        return Err(LineFault::Number);
+    }
+    let mut total = 0u64;
+    for byte in word {
+        let value = digit(*byte);
+        if value >= base {
+            return Err(LineFault::Number);
+        }
+        total = total * u64::from(base) + u64::from(value);
+    }
+    Ok(total)
+}
+
+/// A number of one to seven decimal digits.
+pub fn number(word: &[u8]) -> Result<u32, LineFault>
+    ensures { Reads (λ n. n) result (number_of word.now) }
+{
+    let value = spelled(10, 1, 7, word)?;
+    Ok(value as u32)
+}
+
+/// A number of one to seven decimal digits, from `low` to `high`.
+pub fn number_within(word: &[u8], low: u32, high: u32) -> Result<u32, LineFault>
+    ensures value { Reads (λ n. n) result (number_within low high word.now) }
+    ensures low { IfOk result (λ n. low ≤ n) }
+    ensures high { IfOk result (λ n. n ≤ high) }
+{
+    let value = number(word)?;
+    if low <= value && value <= high {
+        Ok(value)
+    } else {
+        Err(LineFault::Number)
+    }
+}
+
+/// A start tick: one to fifteen decimal digits, at most 2^47.
+pub fn start_tick(word: &[u8]) -> Result<u64, LineFault>
+    ensures value { Reads (λ n. n) result (start_of word.now) }
+    ensures high { IfOk result (λ n. n ≤ 140737488355328) }
+{
+    let value = spelled(10, 1, 15, word)?;
+    if value <= 140_737_488_355_328 {
+        Ok(value)
+    } else {
+        Err(LineFault::Number)
+    }
+}
+
+/// A data word of four hexadecimal digits.
+pub fn data_word(word: &[u8]) -> Result<u16, LineFault>
+    ensures { Reads (λ n. n) result (data_word_of word.now) }
+{
+    let value = spelled(16, 4, 4, word)?;
+    Ok(value as u16)
+}
+
+/// Forty half bits as ten hexadecimal digits.
+pub fn half_bits(word: &[u8]) -> Result<Wave, LineFault>
+    ensures { Reads (λ n. n) result (half_bits_of word.now) }
+{
+    let value = spelled(16, 10, 10, word)?;
+    Ok(Wave::of(value))
+}

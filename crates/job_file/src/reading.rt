@@ -1,0 +1,135 @@
+//! The job of a text.
+ghost use Rattle.std.specs.Prelude.{◌≡◌, Ok, Some, MatchResult, IfOk, IfErr};
+ghost use Rattle.frame_tree.specs.Tree.{tree_of};
+ghost use Rattle.frame_tree.specs.Bounds.{IsSound};
+ghost use Rattle.frame_text.specs.Frames.{tree_of_text};
+ghost use Rattle.frame_asm.specs.Shapes.{code_of};
+ghost use Rattle.job_file.specs.Drafts.{shown};
+ghost use Rattle.job_file.specs.Fits.{IsFit};
+ghost use Rattle.job_file.specs.Spelled.{spelled, job_of};
+ghost use Rattle.job_file.specs.Reading.{IsRefusal, IsScriptRefusal, IsCodeRefusal};
+ghost use Rattle.job_file.specs.Jobs.{job_in};
+
+use crate::drafts::{Draft, Taken};
+use crate::error::{JobError, LineFault};
+use crate::jobs::Job;
+use crate::scripts::Script;
+use crate::words::next_line;
+use frame_asm::{AsmError, assemble};
+use frame_load::{LoadError, Program, load};
+use frame_text::{Place, ScriptError, parse};
+use frame_tree::Frame;
+use std::alloc::Global;
+
+/// What the lines above the script say, the line of the script, counted from 1, and the script.
+#[derive(Drop)]
+struct Head<'a> {
+    draft: Draft,
+    line: u64,
+    script: &'a [u8],
+}
+
+/// The lines of a text up to the line of the script.
+fn read_head(alloc: Global, text: &[u8]) -> Result<Head<'_>, JobError>
+    ensures read { MatchResult result (λ h. spelled text.now ≡ job_of (shown h.draft) h.script.now) (IsRefusal (spelled text.now)) }
+    ensures fit { IfOk result (λ h. IsFit (shown h.draft)) }
+{
+    let mut draft = Draft::make(alloc);
+    let mut rest = text;
+    let mut line = 1u64;
+    while !rest.is_empty() {
+        let (first, behind) = next_line(rest);
+        match draft.take_line(first) {
+            Ok(Taken::Line) => {}
+            Ok(Taken::Script) => {
+                return Ok(Head {
+                    draft,
+                    line,
+                    script: behind,
+                });
+            }
+            Err(refusal) => return Err(JobError::of_line(line, refusal)),
+        }
+        rest = behind;
+        line = line.saturating_add(1);
+    }
+    Err(JobError::Line {
+        line,
+        fault: LineFault::Order,
+    })
+}
+
+/// A place of the script in the whole text, where the script begins behind this line.
+fn placed(line: u64, place: Place) -> Place {
+    Place {
+        line: line.saturating_add(place.line),
+        column: place.column,
+    }
+}
+
+/// The frame of a script that begins behind a line.
+fn read_script(alloc: Global, line: u64, text: &[u8]) -> Result<Frame<Global>, JobError>
+    ensures tree { IfOk result (λ f. tree_of_text text.now ≡ Ok (tree_of f)) }
+    ensures refused { IfErr result (IsScriptRefusal (tree_of_text text.now)) }
+    ensures sound { IfOk result (λ f. IsSound (tree_of f)) }
+{
+    match parse(alloc, text) {
+        Ok(frame) => Ok(frame),
+        Err(ScriptError::Text { cause, place }) => Err(JobError::Script {
+            cause,
+            place: placed(line, place),
+        }),
+        Err(ScriptError::Memory { .. }) => Err(JobError::Memory),
+    }
+}
+
+/// The program of a frame; a refusal stands at the line of the script.
+fn program(alloc: Global, line: u64, frame: &Frame<Global>) -> Result<Program, JobError>
+    requires { IsSound (tree_of frame.now) }
+    ensures program { IfOk result (λ p. p ≡ code_of (tree_of frame.now)) }
+    ensures refused { IfErr result (IsCodeRefusal (code_of (tree_of frame.now))) }
+{
+    let image = match assemble(alloc, frame) {
+        Ok(image) => image,
+        Err(AsmError::Memory) => return Err(JobError::Memory),
+        Err(fault) => return Err(JobError::Assembly { line, fault }),
+    };
+    match load(alloc, image) {
+        Ok(program) => Ok(program),
+        Err(LoadError::Memory) => Err(JobError::Memory),
+        Err(fault) => Err(JobError::Loading { line, fault }),
+    }
+}
+
+/// The job of the lines above a script, and of the script, which begins behind a line.
+fn finish(alloc: Global, draft: Draft, line: u64, script: &[u8]) -> Result<Job, JobError>
+    requires { IsFit (shown draft) }
+    ensures job { IfOk result (λ j. job_of (shown draft) script.now ≡ Some (job_in j)) }
+    ensures refused { IfErr result (IsRefusal (job_of (shown draft) script.now)) }
+{
+    let Some(channel) = draft.channel else {
+        return Err(JobError::Line {
+            line,
+            fault: LineFault::Order,
+        });
+    };
+    let frame = read_script(alloc, line, script)?;
+    let program = program(alloc, line, &frame)?;
+    let script = Script { frame };
+    Ok(Job::make(channel, draft, program, &script))
+}
+
+/// The job that a text spells: lines `channel N`, `start TICK`, `terminal ADDRESS`, `at NUMBER ADDRESS ACTION` and
+/// `fault NUMBER FAULT`, and below a line `script` the script. The first fault is answered, line by line: J1 to J6, then J7 of the
+/// script, and J8 where memory is refused.
+pub fn read_job(alloc: Global, text: &[u8]) -> Result<Job, JobError>
+    ensures job { IfOk result (λ j. spelled text.now ≡ Some (job_in j)) }
+    ensures refused { IfErr result (IsRefusal (spelled text.now)) }
+{
+    let Head {
+        draft,
+        line,
+        script,
+    } = read_head(alloc, text)?;
+    finish(alloc, draft, line, script)
+}
