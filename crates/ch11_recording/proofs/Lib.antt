@@ -2,3 +2,4 @@ pub mod Growth
 pub mod Kept
 pub mod Packets
 pub mod Reading
+pub mod Recordings

@@ -1,3 +1,4 @@
 pub mod Items
 pub mod WrittenFile
 pub mod Laws
+pub mod Recording

@@ -1,8 +1,11 @@
-//! A recording as a whole (IRIG 106-17 Chapter 11): which packets stand in it, and what it is read as.
+//! A recording as a whole (IRIG 106-17 Chapter 11): which packets stand in it, how it is written, and what it is read as.
 #![tactic(auto)]
 
 mod item;
+mod lane;
 mod laws;
+mod recorder;
 
 pub use item::Item;
 pub use laws::{recording_goes_on, recording_is_read_again};
+pub use recorder::Recorder;

@@ -1,0 +1,146 @@
+//! A recording that is being written.
+ghost use Rattle.std.specs.Prelude.{ℕ, List, Option, true, ◌≡◌, ◌<◌, ◌≤◌, ◌^◌, ◌+◌, ◌-◌, ◌↔◌, ◌||◌, ◌⊎◌, not, [], false, length, map, is_ok, slice_get, Some, if◌then◌else◌, IfOk, IfErr, IsOk, OnOk};
+ghost use Rattle.std.specs.Io.KnownBytes.{Keeps};
+ghost use Rattle.ch11_writer.specs.Writing.{Writing, IsWritten, Puts, PutsNone, progress_of};
+ghost use Rattle.ch11_builder.specs.Held.{Held, fresh, latest_number};
+ghost use Rattle.ch11_recording.specs.declared.item.Item.TheVariants as item;
+ghost use Rattle.ch11_recording.specs.declared.item.Item.{Item};
+ghost use Rattle.ch11_recording.specs.WrittenFile.{Format, channel_in};
+ghost use Rattle.ch11_recording.specs.Recording.{IsRecordingOf, GoesOn};
+
+use crate::lane;
+use ch11_builder::{Builder, BuilderError};
+use ch11_writer::{Sink, WriteFault, Writer};
+use mil_monitor::Record;
+use std::alloc::{AllocError, Global};
+use std::marker::Model;
+
+/// Writes a recording of several channels into a sink: each packet where it is closed. It has room for two packets a channel,
+/// and takes no memory once it is made.
+#[derive(Drop)]
+pub struct Recorder<S: Sink> {
+    builders: Vec<Builder>,
+    writer: Writer<S>,
+}
+
+impl<S: Sink> Model for Recorder<S> {
+    ghost use Rattle.ch11_recording.specs.Recording.{Recording};
+
+    ghost Value = { Recording S };
+
+    ghost view = { λ r. record { lanes = r.builders.items; writing = r.writer } };
+}
+
+/// A builder for each channel.
+fn builders_of(
+    alloc: Global,
+    version: u8,
+    limit: u32,
+    channels: &[u16],
+) -> Result<Vec<Builder>, BuilderError>
+    ensures fresh { IfOk result (λ bs. bs.items ≡ map (λ c. fresh (channel_in (record { version = version; limit = limit }) c)) channels.now) }
+{
+    let mut builders = Vec::new(alloc);
+    for channel in channels {
+        let builder = Builder::make(alloc, *channel, version, limit)?;
+        if builders.push(builder).is_err() {
+            return Err(BuilderError::Memory);
+        }
+    }
+    Ok(builders)
+}
+
+impl<S: Sink> Recorder<S> {
+    /// A recording of these channels with nothing in it. G1 where the limit is outside 256 to 524,288 and there is a channel,
+    /// then G2 where memory is refused; each hands the sink back, which took nothing.
+    pub fn make(
+        alloc: Global,
+        version: u8,
+        limit: u32,
+        channels: &[u16],
+        sink: S,
+    ) -> Result<Recorder<S>, (BuilderError, S)>
+        requires countable { S.failures sink < 2 ^ 64 - 1 }
+        ensures writing { IfOk result (λ r. r.writing ≡ record { sink = sink; taken = 0; failed = false; finished = false }) }
+        ensures begun { IfOk result (λ r. IsRecordingOf S.taken (record { version = version; limit = limit }) [] (S.taken sink) channels.now [] r) }
+        ensures back { IfErr result (λ e. e.1 ≡ sink) }
+    {
+        match builders_of(alloc, version, limit, channels) {
+            Ok(builders) => Ok(Recorder {
+                builders,
+                writer: Writer::make(sink),
+            }),
+            Err(fault) => Err((fault, sink)),
+        }
+    }
+
+    /// Takes the next record of the channel at an index in, and writes the packet that it closes. Conditions: the number is
+    /// above that of the channel's record before, and the stamp below 2^48.
+    pub fn keep(&mut self, index: usize, number: u64, message: &Record)
+        requires index { index < length self.old.lanes }
+        requires number { (h : Held) → slice_get self.old.lanes index ≡ Some h → latest_number h < number }
+        requires stamp { message.now.stamp < 2 ^ 48 }
+        requires unfinished { self.old.writing.finished ≡ false }
+        requires few { self.old.writing.taken < 2 ^ 63 }
+        ensures goes_on { GoesOn S.taken index (λ channel. item.Message channel number message.now) self.old self.new }
+        ensures unfinished { self.new.writing.finished ≡ false }
+        ensures failures { S.failures self.new.writing.sink ≡ (if self.old.writing.failed || not self.new.writing.failed
+            then S.failures self.old.writing.sink else S.failures self.old.writing.sink + 1) }
+    {
+        let builder = &mut self.builders[index];
+        lane::keep(builder, &mut self.writer, number, message);
+    }
+
+    /// Ends the channel at an index: writes its open packet, where there is a record in it.
+    pub fn end(&mut self, index: usize)
+        requires index { index < length self.old.lanes }
+        requires unfinished { self.old.writing.finished ≡ false }
+        requires few { self.old.writing.taken < 2 ^ 63 }
+        ensures goes_on { GoesOn S.taken index (λ channel. item.End channel) self.old self.new }
+        ensures unfinished { self.new.writing.finished ≡ false }
+        ensures failures { S.failures self.new.writing.sink ≡ (if self.old.writing.failed || not self.new.writing.failed
+            then S.failures self.old.writing.sink else S.failures self.old.writing.sink + 1) }
+    {
+        let builder = &mut self.builders[index];
+        lane::end(builder, &mut self.writer);
+    }
+
+    /// Writes the packets that stand before all others, as they are. It comes before any record.
+    pub fn prologue(&mut self, bytes: &[u8])
+        requires unfinished { self.old.writing.finished ≡ false }
+        requires few { self.old.writing.taken < 2 ^ 63 }
+        ensures begun { (f : Format) (before : Option (List ℕ)) (channels : List ℕ) → IsRecordingOf S.taken f [] before channels [] self.old
+            → IsRecordingOf S.taken f bytes.now before channels [] self.new }
+        ensures unfinished { self.new.writing.finished ≡ false }
+        ensures failures { S.failures self.new.writing.sink ≡ (if self.old.writing.failed || not self.new.writing.failed
+            then S.failures self.old.writing.sink else S.failures self.old.writing.sink + 1) }
+    {
+        let _ = self.writer.prologue(bytes);
+    }
+
+    /// Tells the sink that the recording is whole. V1 where the sink fails now or failed before, with the count of bytes that it
+    /// took. After a success only `into_sink` follows.
+    pub fn finish(&mut self) -> Result<(), WriteFault>
+        requires unfinished { self.old.writing.finished ≡ false }
+        ensures ok { IsOk result ↔ (self.new.writing.failed ≡ false) }
+        ensures fault { IfErr result (λ e. e.taken ≡ self.new.writing.taken) }
+        ensures same { (f : Format) (prologue : List ℕ) (before : Option (List ℕ)) (channels : List ℕ) (items : List Item)
+            → IsRecordingOf S.taken f prologue before channels items self.old → IsRecordingOf S.taken f prologue before channels items self.new }
+        ensures failures { S.failures self.new.writing.sink ≡ (if self.old.writing.failed || is_ok result
+            then S.failures self.old.writing.sink else S.failures self.old.writing.sink + 1) }
+        ensures told { OnOk result (S.finished self.new.writing.sink ≡ true) }
+    {
+        self.writer.finish()
+    }
+
+    /// The sink as it stands.
+    pub fn into_sink(self) -> S
+        ensures { result ≡ self.writing.sink }
+    {
+        let Recorder {
+            builders: _,
+            writer,
+        } = self;
+        writer.into_sink()
+    }
+}
