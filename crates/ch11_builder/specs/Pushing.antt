@@ -1,5 +1,5 @@
 -- What a push answers.
-use Rattle.std.specs.Prelude.{◌≡◌, true, false}
+use Rattle.std.specs.Prelude.{◌≡◌, true, false, ◌≤◌, length}
 use Rattle.ch11_builder.specs.Packet.{Numbered}
 use Rattle.ch11_builder.specs.Held.{Held, fits, packet_of}
 use Rattle.ch11_builder.specs.declared.builder.Pushed.{Pushed}
@@ -9,3 +9,8 @@ use Rattle.ch11_builder.specs.declared.builder.Pushed.TheVariants.{Kept, Closed}
 abbrev pub Answers : Held → Numbered → Pushed → Type 0
 Answers s n Kept = fits s n ≡ true
 Answers s n (Closed bytes) = (fits s n ≡ false) × (bytes.now ≡ packet_of s)
+
+-- a packet has at most 524,288 bytes
+abbrev pub IsSmall : Pushed → Type 0
+IsSmall Kept = Unit {0}
+IsSmall (Closed bytes) = length bytes.now ≤ 524288

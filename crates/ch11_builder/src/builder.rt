@@ -1,4 +1,4 @@
-ghost use Rattle.std.specs.Prelude.{◌≡◌, ◌≤◌, ◌<◌, ◌^◌, ◌↔◌, ◌⊎◌, [], false, if◌then◌else◌, IfOk, IsErrOf, MatchOption};
+ghost use Rattle.std.specs.Prelude.{◌≡◌, ◌≤◌, ◌<◌, ◌^◌, ◌↔◌, ◌⊎◌, [], false, if◌then◌else◌, length, IfOk, IfSome, IsErrOf, MatchOption};
 ghost use Rattle.std.specs.Borrow.{sem};
 ghost use Rattle.std.specs.Io.BufRead.{Rests};
 ghost use Rattle.ch11_builder.specs.Cutting.{is_empty};
@@ -36,7 +36,7 @@ impl Model for Builder {
 
 impl Builder {
     ghost use Rattle.ch11_builder.specs.contracts.builder.Builder.{the_row};
-    ghost use Rattle.ch11_builder.specs.Pushing.{Answers};
+    ghost use Rattle.ch11_builder.specs.Pushing.{Answers, IsSmall};
 
     /// A builder for the packets of a channel, each of at most `limit` bytes. G1 where the limit is outside 256 to 524,288,
     /// then G2 where memory is refused.
@@ -65,6 +65,7 @@ impl Builder {
         ensures* after { sem 𝓛 (Rests the_row self.entry
             (λ b. b ≡ pushed self.old (record { number = number; message = message.now }))) }
         ensures answer { Answers self.old (record { number = number; message = message.now }) result }
+        ensures small { IsSmall result }
     {
         if self.packing.advance(number, message) {
             Pushed::Closed(self.packing.lent())
@@ -79,6 +80,7 @@ impl Builder {
             (λ b. b ≡ (if is_empty self.old.records then self.old else closed self.old))) }
         ensures answer { MatchOption result (self.old.records ≡ [])
             (λ bytes. (is_empty self.old.records ≡ false) × (bytes.now ≡ packet_of self.old)) }
+        ensures small { IfSome result (λ bytes. length bytes.now ≤ 524288) }
     {
         if self.packing.is_empty() {
             None

@@ -197,7 +197,8 @@ impl Packing {
 
     /// The packet that was finished last.
     pub(crate) fn lent(&self) -> &[u8]
-        ensures { result.now ≡ self.now.lent }
+        ensures lent { result.now ≡ self.now.lent }
+        ensures small { length result.now ≤ 524288 }
     {
         &self.done[..self.finished]
     }

@@ -97,3 +97,8 @@ begun taken f before channels bytes lanes old new is puts = record {
       let nothing : IsWritten [] before (progress_of taken old) = rw (← file_of_none f []) is.written in
       rw (file_of_none f bytes) (puts [] before nothing);
 }
+
+pub lane_got : (lanes : List Held) (i : ℕ) (h d : Held) → slice_get lanes i ≡ Some h → slice_index_or lanes i d ≡ h
+lane_got [] i h d at = absurd cc
+lane_got (x ∷ lanes) zero h d at = cc
+lane_got (x ∷ lanes) (suc i) h d at = lane_got lanes i h d at

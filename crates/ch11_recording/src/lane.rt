@@ -1,30 +1,49 @@
 //! One channel of a recording.
-ghost use Rattle.std.specs.Prelude.{◌≡◌, ◌<◌, ◌^◌, ◌+◌, ◌||◌, not, false, if◌then◌else◌};
+ghost use Rattle.std.specs.Prelude.{◌≡◌, ◌<◌, ◌≤◌, ◌^◌, ◌+◌, ◌||◌, not, true, false, if◌then◌else◌, IfOk, IfErr, IsTrue, IsFalse};
 ghost use Rattle.ch11_writer.specs.Writing.{Puts, progress_of};
-ghost use Rattle.ch11_builder.specs.Cutting.{is_empty};
-ghost use Rattle.ch11_builder.specs.Held.{latest_number};
+ghost use Rattle.ch11_builder.specs.Held.{fresh, pushed, latest_number};
 ghost use Rattle.ch11_recording.specs.declared.item.Item.TheVariants as item;
+ghost use Rattle.ch11_recording.specs.Items.{numbered};
 ghost use Rattle.ch11_recording.specs.WrittenFile.{closing, met};
 
-use ch11_builder::{Builder, Pushed};
+use ch11_builder::{Builder, BuilderError, Pushed, run_gives_the_packets};
 use ch11_writer::{Sink, Writer};
 use mil_monitor::Record;
+use std::alloc::Global;
+use std::marker::Model;
 
-/// Takes a record into the channel's open packet, and writes the packet that it closes, if it closes one.
-pub(crate) fn keep<S: Sink>(
-    builder: &mut Builder,
-    writer: &mut Writer<S>,
-    number: u64,
-    message: &Record,
-)
+/// Stamps of a recording are below this many ticks of 0.1 µs (IRIG 106-17 Chapter 11: a counter of 48 bits).
+const STAMPS: u64 = 1 << 48;
+
+/// A channel's builder, and the number of the record that it took last, 0 before any.
+#[derive(Drop)]
+pub(crate) struct Lane {
+    builder: Builder,
+    last: u64,
+}
+
+impl Model for Lane {
+    ghost use Rattle.std.specs.Prelude.{◌≡◌};
+    ghost use Rattle.ch11_builder.specs.Held.{Held, latest_number};
+
+    ghost Value = { Held };
+
+    ghost view = { λ l. l.builder };
+
+    ghost invariant = { λ l. l.last ≡ latest_number l.builder };
+}
+
+/// Takes a record into the open packet, and writes the packet that it closes, if it closes one.
+fn put<S: Sink>(builder: &mut Builder, writer: &mut Writer<S>, number: u64, message: &Record)
     requires number { latest_number builder.old < number }
     requires stamp { message.now.stamp < 2 ^ 48 }
     requires unfinished { writer.old.finished ≡ false }
     requires few { writer.old.taken < 2 ^ 63 }
-    ensures held { builder.new ≡ met builder.old (item.Message builder.old.channel.channel number message.now) }
+    ensures held { builder.new ≡ pushed builder.old (numbered number message.now) }
     ensures written { Puts (closing builder.old (item.Message builder.old.channel.channel number message.now))
         (progress_of S.taken writer.old) (progress_of S.taken writer.new) }
     ensures unfinished { writer.new.finished ≡ false }
+    ensures few { writer.new.taken ≤ writer.old.taken + 524288 }
     ensures failures { S.failures writer.new.sink ≡ (if writer.old.failed || not writer.new.failed
         then S.failures writer.old.sink else S.failures writer.old.sink + 1) }
 {
@@ -33,18 +52,66 @@ pub(crate) fn keep<S: Sink>(
     }
 }
 
-/// Writes the channel's open packet, where it has a record: no record of the channel follows.
-pub(crate) fn end<S: Sink>(builder: &mut Builder, writer: &mut Writer<S>)
-    requires unfinished { writer.old.finished ≡ false }
-    requires few { writer.old.taken < 2 ^ 63 }
-    ensures held { builder.new ≡ met builder.old (item.End builder.old.channel.channel) }
-    ensures written { Puts (closing builder.old (item.End builder.old.channel.channel))
-        (progress_of S.taken writer.old) (progress_of S.taken writer.new) }
-    ensures unfinished { writer.new.finished ≡ false }
-    ensures failures { S.failures writer.new.sink ≡ (if writer.old.failed || not writer.new.failed
-        then S.failures writer.old.sink else S.failures writer.old.sink + 1) }
-{
-    if let Some(packet) = builder.close() {
-        let _ = writer.put(packet);
+impl Lane {
+    /// A channel with no record yet.
+    pub(crate) fn make(
+        alloc: Global,
+        channel: u16,
+        version: u8,
+        limit: u32,
+    ) -> Result<Lane, BuilderError>
+        ensures { IfOk result (λ l. l ≡ fresh (record { channel = channel; version = version; limit = limit })) }
+    {
+        Ok(Lane {
+            builder: Builder::make(alloc, channel, version, limit)?,
+            last: 0,
+        })
+    }
+
+    /// Takes a record into the channel's open packet, and writes the packet that it closes, if it closes one. False, and
+    /// nothing done, where the number isn't above the last or the stamp isn't below 2^48.
+    pub(crate) fn keep<S: Sink>(
+        &mut self,
+        writer: &mut Writer<S>,
+        number: u64,
+        message: &Record,
+    ) -> bool
+        requires unfinished { writer.old.finished ≡ false }
+        requires few { writer.old.taken < 2 ^ 63 }
+        ensures held { IsTrue result → self.new ≡ met self.old (item.Message self.old.channel.channel number message.now) }
+        ensures written { IsTrue result → Puts (closing self.old (item.Message self.old.channel.channel number message.now))
+            (progress_of S.taken writer.old) (progress_of S.taken writer.new) }
+        ensures refused { IsFalse result → self.new ≡ self.old }
+        ensures silent { IsFalse result → writer.new ≡ writer.old }
+        ensures when { latest_number self.old < number → message.now.stamp < 2 ^ 48 → result ≡ true }
+        ensures unfinished { writer.new.finished ≡ false }
+        ensures few { writer.new.taken ≤ writer.old.taken + 524288 }
+        ensures failures { S.failures writer.new.sink ≡ (if writer.old.failed || not writer.new.failed
+            then S.failures writer.old.sink else S.failures writer.old.sink + 1) }
+    {
+        if number <= self.last || message.stamp >= STAMPS {
+            return false;
+        }
+        run_gives_the_packets();
+        self.last = number;
+        put(&mut self.builder, writer, number, message);
+        true
+    }
+
+    /// Writes the channel's open packet, where it has a record.
+    pub(crate) fn end<S: Sink>(&mut self, writer: &mut Writer<S>)
+        requires unfinished { writer.old.finished ≡ false }
+        requires few { writer.old.taken < 2 ^ 63 }
+        ensures held { self.new ≡ met self.old (item.End self.old.channel.channel) }
+        ensures written { Puts (closing self.old (item.End self.old.channel.channel))
+            (progress_of S.taken writer.old) (progress_of S.taken writer.new) }
+        ensures unfinished { writer.new.finished ≡ false }
+        ensures few { writer.new.taken ≤ writer.old.taken + 524288 }
+        ensures failures { S.failures writer.new.sink ≡ (if writer.old.failed || not writer.new.failed
+            then S.failures writer.old.sink else S.failures writer.old.sink + 1) }
+    {
+        if let Some(packet) = self.builder.close() {
+            let _ = writer.put(packet);
+        }
     }
 }

@@ -9,3 +9,6 @@ mod recorder;
 pub use item::Item;
 pub use laws::{recording_goes_on, recording_is_read_again};
 pub use recorder::Recorder;
+
+#[cfg(test)]
+mod tests;

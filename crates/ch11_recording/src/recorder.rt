@@ -1,25 +1,23 @@
 //! A recording that is being written.
-ghost use Rattle.std.specs.Prelude.{ℕ, List, Option, true, ◌≡◌, ◌<◌, ◌≤◌, ◌^◌, ◌+◌, ◌-◌, ◌↔◌, ◌||◌, ◌⊎◌, not, [], false, length, map, is_ok, slice_get, Some, if◌then◌else◌, IfOk, IfErr, IsOk, OnOk};
-ghost use Rattle.std.specs.Io.KnownBytes.{Keeps};
-ghost use Rattle.ch11_writer.specs.Writing.{Writing, IsWritten, Puts, PutsNone, progress_of};
+ghost use Rattle.std.specs.Prelude.{ℕ, List, Option, true, ◌≡◌, ◌<◌, ◌≤◌, ◌^◌, ◌+◌, ◌-◌, ◌↔◌, ◌||◌, not, [], false, length, map, is_ok, slice_get, slice_set, Some, if◌then◌else◌, IfOk, IfErr, IsOk, OnOk, IsTrue, IsFalse};
 ghost use Rattle.ch11_builder.specs.Held.{Held, fresh, latest_number};
 ghost use Rattle.ch11_recording.specs.declared.item.Item.TheVariants as item;
 ghost use Rattle.ch11_recording.specs.declared.item.Item.{Item};
 ghost use Rattle.ch11_recording.specs.WrittenFile.{Format, channel_in};
 ghost use Rattle.ch11_recording.specs.Recording.{IsRecordingOf, GoesOn};
 
-use crate::lane;
-use ch11_builder::{Builder, BuilderError};
+use crate::lane::Lane;
+use ch11_builder::BuilderError;
 use ch11_writer::{Sink, WriteFault, Writer};
 use mil_monitor::Record;
-use std::alloc::{AllocError, Global};
+use std::alloc::Global;
 use std::marker::Model;
 
 /// Writes a recording of several channels into a sink: each packet where it is closed. It has room for two packets a channel,
 /// and takes no memory once it is made.
 #[derive(Drop)]
 pub struct Recorder<S: Sink> {
-    builders: Vec<Builder>,
+    lanes: Vec<Lane>,
     writer: Writer<S>,
 }
 
@@ -28,26 +26,26 @@ impl<S: Sink> Model for Recorder<S> {
 
     ghost Value = { Recording S };
 
-    ghost view = { λ r. record { lanes = r.builders.items; writing = r.writer } };
+    ghost view = { λ r. record { lanes = r.lanes.items; writing = r.writer } };
 }
 
-/// A builder for each channel.
-fn builders_of(
+/// A lane for each channel.
+fn lanes_of(
     alloc: Global,
     version: u8,
     limit: u32,
     channels: &[u16],
-) -> Result<Vec<Builder>, BuilderError>
-    ensures fresh { IfOk result (λ bs. bs.items ≡ map (λ c. fresh (channel_in (record { version = version; limit = limit }) c)) channels.now) }
+) -> Result<Vec<Lane>, BuilderError>
+    ensures { IfOk result (λ ls. ls.items ≡ map (λ c. fresh (channel_in (record { version = version; limit = limit }) c)) channels.now) }
 {
-    let mut builders = Vec::new(alloc);
+    let mut lanes = Vec::new(alloc);
     for channel in channels {
-        let builder = Builder::make(alloc, *channel, version, limit)?;
-        if builders.push(builder).is_err() {
+        let lane = Lane::make(alloc, *channel, version, limit)?;
+        if lanes.push(lane).is_err() {
             return Err(BuilderError::Memory);
         }
     }
-    Ok(builders)
+    Ok(lanes)
 }
 
 impl<S: Sink> Recorder<S> {
@@ -65,44 +63,54 @@ impl<S: Sink> Recorder<S> {
         ensures begun { IfOk result (λ r. IsRecordingOf S.taken (record { version = version; limit = limit }) [] (S.taken sink) channels.now [] r) }
         ensures back { IfErr result (λ e. e.1 ≡ sink) }
     {
-        match builders_of(alloc, version, limit, channels) {
-            Ok(builders) => Ok(Recorder {
-                builders,
+        match lanes_of(alloc, version, limit, channels) {
+            Ok(lanes) => Ok(Recorder {
+                lanes,
                 writer: Writer::make(sink),
             }),
             Err(fault) => Err((fault, sink)),
         }
     }
 
-    /// Takes the next record of the channel at an index in, and writes the packet that it closes. Conditions: the number is
-    /// above that of the channel's record before, and the stamp below 2^48.
-    pub fn keep(&mut self, index: usize, number: u64, message: &Record)
-        requires index { index < length self.old.lanes }
-        requires number { (h : Held) → slice_get self.old.lanes index ≡ Some h → latest_number h < number }
-        requires stamp { message.now.stamp < 2 ^ 48 }
+    /// Takes the next record of the channel at an index in, and writes the packet that it closes. False, and nothing done, where
+    /// there is no such channel, the number isn't above that of the channel's record before, or the stamp isn't below 2^48.
+    pub fn keep(&mut self, index: usize, number: u64, message: &Record) -> bool
         requires unfinished { self.old.writing.finished ≡ false }
         requires few { self.old.writing.taken < 2 ^ 63 }
-        ensures goes_on { GoesOn S.taken index (λ channel. item.Message channel number message.now) self.old self.new }
+        ensures goes_on { IsTrue result → GoesOn S.taken index (λ channel. item.Message channel number message.now) self.old self.new }
+        ensures refused { IsFalse result → self.new ≡ self.old }
+        ensures when { (h : Held) → slice_get self.old.lanes index ≡ Some h → latest_number h < number → message.now.stamp < 2 ^ 48 → result ≡ true }
         ensures unfinished { self.new.writing.finished ≡ false }
+        ensures few { self.new.writing.taken ≤ self.old.writing.taken + 524288 }
         ensures failures { S.failures self.new.writing.sink ≡ (if self.old.writing.failed || not self.new.writing.failed
             then S.failures self.old.writing.sink else S.failures self.old.writing.sink + 1) }
     {
-        let builder = &mut self.builders[index];
-        lane::keep(builder, &mut self.writer, number, message);
+        if index >= self.lanes.len() {
+            return false;
+        }
+        let lane = &mut self.lanes[index];
+        lane.keep(&mut self.writer, number, message)
     }
 
-    /// Ends the channel at an index: writes its open packet, where there is a record in it.
-    pub fn end(&mut self, index: usize)
-        requires index { index < length self.old.lanes }
+    /// Ends the channel at an index: writes its open packet, where there is a record in it. False, and nothing done, where there is
+    /// no such channel.
+    pub fn end(&mut self, index: usize) -> bool
         requires unfinished { self.old.writing.finished ≡ false }
         requires few { self.old.writing.taken < 2 ^ 63 }
-        ensures goes_on { GoesOn S.taken index (λ channel. item.End channel) self.old self.new }
+        ensures goes_on { IsTrue result → GoesOn S.taken index (λ channel. item.End channel) self.old self.new }
+        ensures refused { IsFalse result → self.new ≡ self.old }
+        ensures when { index < length self.old.lanes → result ≡ true }
         ensures unfinished { self.new.writing.finished ≡ false }
+        ensures few { self.new.writing.taken ≤ self.old.writing.taken + 524288 }
         ensures failures { S.failures self.new.writing.sink ≡ (if self.old.writing.failed || not self.new.writing.failed
             then S.failures self.old.writing.sink else S.failures self.old.writing.sink + 1) }
     {
-        let builder = &mut self.builders[index];
-        lane::end(builder, &mut self.writer);
+        if index >= self.lanes.len() {
+            return false;
+        }
+        let lane = &mut self.lanes[index];
+        lane.end(&mut self.writer);
+        true
     }
 
     /// Writes the packets that stand before all others, as they are. It comes before any record.
@@ -112,6 +120,7 @@ impl<S: Sink> Recorder<S> {
         ensures begun { (f : Format) (before : Option (List ℕ)) (channels : List ℕ) → IsRecordingOf S.taken f [] before channels [] self.old
             → IsRecordingOf S.taken f bytes.now before channels [] self.new }
         ensures unfinished { self.new.writing.finished ≡ false }
+        ensures few { self.new.writing.taken ≤ self.old.writing.taken + length bytes.now }
         ensures failures { S.failures self.new.writing.sink ≡ (if self.old.writing.failed || not self.new.writing.failed
             then S.failures self.old.writing.sink else S.failures self.old.writing.sink + 1) }
     {
@@ -137,10 +146,7 @@ impl<S: Sink> Recorder<S> {
     pub fn into_sink(self) -> S
         ensures { result ≡ self.writing.sink }
     {
-        let Recorder {
-            builders: _,
-            writer,
-        } = self;
+        let Recorder { lanes: _, writer } = self;
         writer.into_sink()
     }
 }

@@ -1,10 +1,15 @@
-use Rattle.std.proofs.Common.{refl}
+use Rattle.std.proofs.Common.{refl, ap, ◌∙◌, sym, slice_get, Some}
 use Rattle.ch11_recording.specs.declared.item.Item.TheVariants as item
-use Rattle.ch11_recording.proofs.Recordings.{goes_on}
+use Rattle.ch11_recording.proofs.Recordings.{goes_on, lane_got}
 use Rattle.ch11_recording.proofs.recorder.Recorder.keep.Goals as goal
 
 pub returns-clause-goes_on : goal.returns-clause-goes_on
-returns-clause-goes_on g c f prologue before channels channel items distinct at is =
+returns-clause-goes_on g c kept f prologue before channels channel items distinct at is =
     goes_on g.S.Sink.taken (λ k. item.Message k c.args.number c.args.message.now) f prologue before channels c.args.index channel items
-    c.self.inside.builders.items c.self.inside.writer c.keep.new.writer c.index_mut-builder.result.now c.index_mut-builder.result.now c.keep.new.builder
-    (λ k. refl) distinct at (rw c.self.view_is is) c.index_mut-builder.ensures.value c.keep.ensures.held c.keep.ensures.written
+    c.self.inside.lanes.items c.self.inside.writer c.keep.new.writer c.index_mut-lane.result.now c.index_mut-lane.result.now c.keep.new.self
+    (λ k. refl) distinct at (rw c.self.view_is is) c.index_mut-lane.ensures.value (c.keep.ensures.held kept) (c.keep.ensures.written kept)
+
+pub returns-clause-when : goal.returns-clause-when
+returns-clause-when g c h at low stamp =
+    let same = c.index_mut-lane.ensures.value ∙ lane_got c.self.inside.lanes.items c.args.index h c.index_mut-lane.result.now (ap (λ r. slice_get r.lanes c.args.index) c.self.view_is ∙ at) in
+    c.keep.ensures.when (rw same low) stamp

@@ -1,0 +1,119 @@
+ghost use Rattle.std.specs.Prelude.{◌≡◌};
+
+use super::*;
+use arrayvec::ArrayVec;
+use ch11_builder::BuilderError;
+use ch11_header::read_header;
+use ch11_reader::Index;
+use ch11_writer::{FuseSink, MemorySink, WriteFault};
+use mil_monitor::Record;
+use std::test::*;
+
+/// A receive command for one word, the word, and the status of terminal 5.
+fn received(stamp: u64) -> Record
+    ensures { result.stamp ≡ stamp }
+{
+    let mut words: ArrayVec<u16, 40> = ArrayVec::new();
+    for word in [0x2821u16, 1, 0x2800] {
+        let _ = words.try_push(word);
+    }
+    Record {
+        stamp,
+        block: 0,
+        gaps: 0x50,
+        words,
+    }
+}
+
+/// Channel, length, sequence and flags of the packet at the front.
+fn shape_of(bytes: &[u8]) -> Option<(u16, u32, u8, u8)> {
+    let header = read_header(bytes).ok()?;
+    Some((
+        header.channel,
+        header.packet_length,
+        header.sequence,
+        header.flags,
+    ))
+}
+
+#[test]
+fn packets_stand_as_they_close(rt: HostRuntime) -> Result<(), Fail> {
+    let sink = MemorySink::make(rt.alloc());
+    let mut recorder = Recorder::make(rt.alloc(), 6, 4096, &[1, 2], sink)
+        .ok()
+        .ok_or("memory")?;
+    let kept = recorder.keep(1, 1, &received(0));
+    assert!(rt; kept);
+    let ended = recorder.end(1);
+    assert!(rt; ended);
+    let kept = recorder.keep(0, 1, &received(0));
+    assert!(rt; kept);
+    let kept = recorder.keep(0, 2, &received(680));
+    assert!(rt; kept);
+    let again = recorder.keep(0, 2, &received(2000));
+    assert_eq!(rt; again, false);
+    let nowhere = recorder.keep(2, 3, &received(2000));
+    assert_eq!(rt; nowhere, false);
+    let kept = recorder.keep(0, 5, &received(2720));
+    assert!(rt; kept);
+    let ended = recorder.end(0);
+    assert!(rt; ended);
+    assert_eq!(rt; recorder.finish(), Ok(()));
+    let sink = recorder.into_sink();
+    let file = sink.bytes();
+    assert_eq!(rt; file.len(), 136);
+    assert_eq!(rt; shape_of(file), Some((2, 48, 0, 0)));
+    let second = file.get(48..).ok_or("a second packet")?;
+    assert_eq!(rt; shape_of(second), Some((1, 88, 0, 0x10)));
+    let index = Index::build(rt.alloc(), file).ok().ok_or("readable")?;
+    let third = index.message(4).ok_or("a fourth message")?;
+    assert_eq!(rt; (third.0, third.1.stamp), (1, 2720));
+    assert_eq!(rt; index.total(), 4);
+    Ok(())
+}
+
+#[test]
+fn a_prologue_stands_first(rt: HostRuntime) -> Result<(), Fail> {
+    let sink = MemorySink::make(rt.alloc());
+    let mut recorder = Recorder::make(rt.alloc(), 6, 4096, &[1], sink)
+        .ok()
+        .ok_or("memory")?;
+    recorder.prologue(&[7, 8, 9]);
+    let ended = recorder.end(0);
+    assert!(rt; ended);
+    assert_eq!(rt; recorder.finish(), Ok(()));
+    let sink = recorder.into_sink();
+    assert_eq!(rt; sink.bytes(), [7u8, 8, 9].as_slice());
+    Ok(())
+}
+
+#[test]
+fn a_failing_sink_keeps_what_it_took(rt: HostRuntime) -> Result<(), Fail> {
+    for k in 0..49usize {
+        let sink = FuseSink::make(rt.alloc(), k);
+        let mut recorder = Recorder::make(rt.alloc(), 6, 4096, &[1], sink)
+            .ok()
+            .ok_or("memory")?;
+        let kept = recorder.keep(0, 1, &received(0));
+        assert!(rt; kept);
+        let ended = recorder.end(0);
+        assert!(rt; ended);
+        let last = recorder.finish();
+        let fault = Err(WriteFault { taken: k as u64 });
+        assert_eq!(rt; last, if k < 48 { fault } else { Ok(()) });
+        let sink = recorder.into_sink();
+        assert_eq!(rt; sink.bytes().len(), k);
+    }
+    Ok(())
+}
+
+#[test]
+fn a_limit_out_of_range_hands_the_sink_back(rt: HostRuntime) -> Result<(), Fail> {
+    let sink = FuseSink::make(rt.alloc(), 3);
+    let refused = Recorder::make(rt.alloc(), 6, 255, &[1], sink)
+        .err()
+        .ok_or("a fault")?;
+    assert_eq!(rt; refused.0, BuilderError::Limit);
+    assert_eq!(rt; refused.1.bytes().len(), 0);
+    Ok(())
+}
