@@ -1,0 +1,2 @@
+pub mod SizesLine
+pub mod Assembled

@@ -1,0 +1,52 @@
+//! Why a script has no image.
+ghost use Rattle.std.specs.Prelude.{◌≡◌};
+ghost use Rattle.bench_assemble.specs.declared.fault.AssembleFault.TheVariants.{Memory};
+
+use frame_asm::AsmError;
+use frame_load::LoadError;
+use frame_text::{Cause, Place, ScriptError};
+use std::alloc::AllocError;
+use std::fmt;
+
+/// Why a script has no image. Faults of the text count before those of its code, and want of memory comes last.
+#[derive(Clone, Copy, Debug, PartialEq, Eq)]
+pub enum AssembleFault {
+    /// S1 to S8: the first fault of the text, and its place.
+    Text { cause: Cause, place: Place },
+    /// A1: there are more than 4096 operations.
+    Operations,
+    /// A2: there are more than 1024 messages in the table.
+    Messages,
+    /// P5: a run may take more than 100,000,000 steps or send more than 1,000,000 messages. The code of a script breaks no
+    /// other rule of the loader.
+    Budget,
+    /// Memory was refused.
+    Memory,
+}
+
+/// `S7 line 1 column 8`, `A1`, `P5`, `memory`.
+impl fmt::Display for AssembleFault {
+    fn fmt<W: fmt::Write>(&self, f: &mut fmt::Formatter<W>) -> fmt::Result {
+        match self {
+            AssembleFault::Text { cause, place } => {
+                let text = ScriptError::Text {
+                    cause: *cause,
+                    place: *place,
+                };
+                write!(f, "{text}")
+            }
+            AssembleFault::Operations => write!(f, "{}", AsmError::Operations),
+            AssembleFault::Messages => write!(f, "{}", AsmError::Messages),
+            AssembleFault::Budget => write!(f, "{}", LoadError::Budget),
+            AssembleFault::Memory => f.write_str("memory"),
+        }
+    }
+}
+
+impl From<AllocError> for AssembleFault {
+    ghost from_gives = { λ _ e. e ≡ Memory };
+
+    fn from(_: AllocError) -> AssembleFault {
+        AssembleFault::Memory
+    }
+}
