@@ -29,15 +29,24 @@ unfoldable pub else_at : Reader → Reader
 else_at block [] = Ok (nothing, [])
 else_at block (w ∷ ts) = if same w (codes "else") then block ts else Ok (nothing, w ∷ ts)
 
--- a frame by its first word; block reads a block in its braces
+-- behind the first word of a frame: what is sent once and again, what is repeated, what is chosen; block reads a block in
+-- its braces
+abbrev pub retry_at : Reader
+retry_at ts = number_within 1 8 ts >>= (λ n. past (codes "send") n.1 >>= (λ us. send_at us >>= (λ x. Ok (retry n.0 x.0.0 x.0.1, x.1))))
+
+abbrev pub repeat_at : Reader → Reader
+repeat_at block ts = number_within 1 10000 ts >>= (λ n. block n.1 >>= (λ b. Ok (repeat n.0 b.0, b.1)))
+
+abbrev pub choice_at : Reader → Reader
+choice_at block ts = condition_at 16 ts >>= (λ c. block c.1 >>= (λ a. else_at block a.1 >>= (λ b. Ok (choose c.0 a.0 b.0, b.1))))
+
+-- a frame by its first word
 unfoldable pub frame_of : Reader → FrameWord → List ℕ → Tokens → Reading Tree
 frame_of block word.Send w ts = send_at ts >>= (λ x. Ok (send x.0.0 x.0.1, x.1))
-frame_of block word.Retry w ts =
-    number_within 1 8 ts >>= (λ n. past (codes "send") n.1 >>= (λ us. send_at us >>= (λ x. Ok (retry n.0 x.0.0 x.0.1, x.1))))
+frame_of block word.Retry w ts = retry_at ts
 frame_of block word.Gap w ts = number_within 40 65535 ts >>= (λ n. Ok (gap n.0, n.1))
-frame_of block word.Repeat w ts = number_within 1 10000 ts >>= (λ n. block n.1 >>= (λ b. Ok (repeat n.0 b.0, b.1)))
-frame_of block word.If w ts =
-    condition_at 16 ts >>= (λ c. block c.1 >>= (λ a. else_at block a.1 >>= (λ b. Ok (choose c.0 a.0 b.0, b.1))))
+frame_of block word.Repeat w ts = repeat_at block ts
+frame_of block word.If w ts = choice_at block ts
 frame_of block word.NoFrame w ts = Err (misplaced w)
 
 unfoldable pub frame_from : Reader → Reader

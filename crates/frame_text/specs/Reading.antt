@@ -72,6 +72,15 @@ abbrev pub IsCause : Cause → Fault → Type 0
 IsCause c (fault.Text d left) = d ≡ c
 IsCause c (fault.Memory left) = ⊥
 
+-- a fault of the text, and not want of memory
+abbrev pub IsOfText : Fault → Type 0
+IsOfText (fault.Text c left) = Unit {0}
+IsOfText (fault.Memory left) = ⊥
+
+abbrev pub IsTextError : ScriptError → Type 0
+IsTextError (error.Text c place) = Unit {0}
+IsTextError (error.Memory place) = ⊥
+
 -- the same fault, with its place
 abbrev pub IsLocated : Fault → ScriptError → Type 0
 IsLocated (fault.Text c left) (error.Text d place) = d ≡ c

@@ -4,7 +4,7 @@ ghost use Rattle.std.specs.Prelude.{◌≡◌, ◌<◌, ◌≤◌, length, map, 
 ghost use Rattle.frame_tree.specs.Tree.{tree_of, chain, nothing};
 ghost use Rattle.frame_text.specs.Tokens.{tokens};
 ghost use Rattle.frame_text.specs.Reading.{Gives};
-ghost use Rattle.frame_text.specs.Frames.{else_at, frame_at, frames_at, block_at, inner_at, script_at};
+ghost use Rattle.frame_text.specs.Frames.{else_at, retry_at, repeat_at, choice_at, frame_at, frames_at, block_at, inner_at, script_at};
 
 use crate::conditions::condition;
 use crate::faults::{Cause, Fault};
@@ -114,6 +114,70 @@ fn else_part<'a, A: Allocator + Clone>(
     block(alloc, rest, depth)
 }
 
+// A message that is sent again, behind its first word.
+fn retry<'a, A: Allocator + Clone>(text: &'a [u8]) -> Result<(Frame<A>, &'a [u8]), Fault>
+    ensures tree { Gives (λ x. (tree_of x.0, tokens x.1.now)) result (retry_at (tokens text.now)) }
+    ensures fewer { IfOk result (λ x. length (tokens x.1.now) < length (tokens text.now)) }
+{
+    let (count, rest) = number_in_range(text, 1, 8)?;
+    let rest = after_token(rest, b"send")?;
+    let (line, message, rest) = send(rest)?;
+    let count = count as u8;
+    Ok((
+        Frame::Retry {
+            count,
+            line,
+            message,
+        },
+        rest,
+    ))
+}
+
+// A repeated block, behind its first word.
+#[cycle(frames)]
+fn repeat<'a, A: Allocator + Clone>(
+    alloc: &A,
+    text: &'a [u8],
+    depth: u8,
+) -> Result<(Frame<A>, &'a [u8]), Fault>
+    ensures tree { Gives (λ x. (tree_of x.0, tokens x.1.now)) result (repeat_at (block_at depth) (tokens text.now)) }
+    ensures fewer { IfOk result (λ x. length (tokens x.1.now) < length (tokens text.now)) }
+{
+    let (count, rest) = number_in_range(text, 1, 10_000)?;
+    let (body, rest) = block(alloc, rest, depth)?;
+    let own = or_refused!(alloc.clone(), rest);
+    let body = or_refused!(Box::new(own, body), rest);
+    let count = count as u16;
+    Ok((Frame::Repeat { count, body }, rest))
+}
+
+// A choice between two blocks, behind its first word.
+#[cycle(frames)]
+fn choice<'a, A: Allocator + Clone>(
+    alloc: &A,
+    text: &'a [u8],
+    depth: u8,
+) -> Result<(Frame<A>, &'a [u8]), Fault>
+    ensures tree { Gives (λ x. (tree_of x.0, tokens x.1.now)) result (choice_at (block_at depth) (tokens text.now)) }
+    ensures fewer { IfOk result (λ x. length (tokens x.1.now) < length (tokens text.now)) }
+{
+    let (condition, rest) = condition(alloc, text, 16)?;
+    let (then, rest) = block(alloc, rest, depth)?;
+    let (otherwise, rest) = else_part(alloc, rest, depth)?;
+    let own = or_refused!(alloc.clone(), rest);
+    let then = or_refused!(Box::new(own, then), rest);
+    let own = or_refused!(alloc.clone(), rest);
+    let otherwise = or_refused!(Box::new(own, otherwise), rest);
+    Ok((
+        Frame::If {
+            condition,
+            then,
+            otherwise,
+        },
+        rest,
+    ))
+}
+
 /// A frame with at most `depth` blocks in one another.
 #[cycle(frames)]
 #[tactic(auto, unfolding(crate::specs::Frames::frame_from, crate::specs::Frames::frame_of))]
@@ -133,53 +197,13 @@ pub fn frame<'a, A: Allocator + Clone>(
             let (line, message, rest) = send(rest)?;
             Ok((Frame::Send { line, message }, rest))
         }
-        FrameWord::Retry => {
-            let (count, rest) = number_in_range(rest, 1, 8)?;
-            let rest = after_token(rest, b"send")?;
-            let (line, message, rest) = send(rest)?;
-            Ok((
-                Frame::Retry {
-                    count: count as u8,
-                    line,
-                    message,
-                },
-                rest,
-            ))
-        }
+        FrameWord::Retry => retry(rest),
         FrameWord::Gap => {
             let (ticks, rest) = number_in_range(rest, 40, 65_535)?;
             Ok((Frame::Gap(ticks as u16), rest))
         }
-        FrameWord::Repeat => {
-            let (count, rest) = number_in_range(rest, 1, 10_000)?;
-            let (body, rest) = block(alloc, rest, depth)?;
-            let own = or_refused!(alloc.clone(), rest);
-            let body = or_refused!(Box::new(own, body), rest);
-            Ok((
-                Frame::Repeat {
-                    count: count as u16,
-                    body,
-                },
-                rest,
-            ))
-        }
-        FrameWord::If => {
-            let (condition, rest) = condition(alloc, rest, 16)?;
-            let (then, rest) = block(alloc, rest, depth)?;
-            let (otherwise, rest) = else_part(alloc, rest, depth)?;
-            let own = or_refused!(alloc.clone(), rest);
-            let then = or_refused!(Box::new(own, then), rest);
-            let own = or_refused!(alloc.clone(), rest);
-            let otherwise = or_refused!(Box::new(own, otherwise), rest);
-            Ok((
-                Frame::If {
-                    condition,
-                    then,
-                    otherwise,
-                },
-                rest,
-            ))
-        }
+        FrameWord::Repeat => repeat(alloc, rest, depth),
+        FrameWord::If => choice(alloc, rest, depth),
         FrameWord::NoFrame => Err(fault(misplaced(word), text)),
     }
 }

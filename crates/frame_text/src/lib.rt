@@ -2,30 +2,30 @@
 //! from left to right.
 #![tactic(auto)]
 
-ghost use Rattle.std.specs.Prelude.{◌≡◌, ℕ, List, Ok, IfOk, string_bytes};
+ghost use Rattle.std.specs.Prelude.{◌≡◌, ℕ, List, Ok, IfOk, IfErr, string_bytes};
 ghost use Rattle.frame_tree.specs.Tree.{test_of, tree_of};
 ghost use Rattle.frame_tree.specs.Bounds.{IsSound};
-ghost use Rattle.frame_text.specs.Reading.{Answers};
+ghost use Rattle.frame_text.specs.Reading.{Answers, IsTextError};
 ghost use Rattle.frame_text.specs.Messages.{send_of_text};
 ghost use Rattle.frame_text.specs.Conditions.{condition_of_text};
 ghost use Rattle.frame_text.specs.Frames.{tree_of_text};
 ghost use Rattle.frame_text.specs.Printing.{printed};
 
-pub mod conditions;
+mod conditions;
 pub mod faults;
-pub mod frames;
-pub mod keywords;
+mod frames;
+mod keywords;
 mod memory;
-pub mod messages;
-pub mod places;
+mod messages;
+mod places;
 mod printed_conditions;
 mod printed_frames;
 mod printed_messages;
 #[cfg(test)]
 mod tests;
-pub mod tokens;
-pub mod whole;
-pub mod words;
+mod tokens;
+mod whole;
+mod words;
 
 pub use faults::{Cause, Place, ScriptError};
 use frame_tree::{Cond, Frame};
@@ -46,9 +46,10 @@ pub fn parse<A: Allocator + Clone>(alloc: A, text: &[u8]) -> Result<Frame<A>, Sc
     }
 }
 
-/// The line and the message of a text such as `A rx 5 1 [0001]`. It takes no memory.
+/// The line and the message of a text such as `A rx 5 1 [0001]`. It takes no memory, and is never refused for want of it.
 pub fn read_send(text: &[u8]) -> Result<(Line, Message), ScriptError>
-    ensures { Answers (λ x. x) result (send_of_text text.now) }
+    ensures tree { Answers (λ x. x) result (send_of_text text.now) }
+    ensures no_memory { IfErr result (λ e. IsTextError e) }
 {
     match whole::send(text) {
         Ok(read) => Ok(read),

@@ -1,9 +1,9 @@
 //! The text of a message.
 
-ghost use Rattle.std.specs.Prelude.{◌≡◌, ◌<◌, ◌≤◌, length, IfOk};
+ghost use Rattle.std.specs.Prelude.{◌≡◌, ◌<◌, ◌≤◌, length, IfOk, IfErr};
 ghost use Rattle.mil_message.specs.Request.{request_of};
 ghost use Rattle.frame_text.specs.Tokens.{tokens};
-ghost use Rattle.frame_text.specs.Reading.{Gives};
+ghost use Rattle.frame_text.specs.Reading.{Gives, IsOfText};
 ghost use Rattle.frame_text.specs.Messages as reads;
 
 use crate::faults::{Cause, Fault};
@@ -17,6 +17,7 @@ use mil_word::Line;
 fn line(text: &[u8]) -> Result<(Line, &[u8]), Fault>
     ensures tree { Gives (λ x. (x.0, tokens x.1.now)) result (reads.line_at (tokens text.now)) }
     ensures fewer { IfOk result (λ x. length (tokens x.1.now) < length (tokens text.now)) }
+    ensures of_text { IfErr result (λ e. IsOfText e) }
 {
     let Some((word, rest)) = next(text) else {
         return Err(fault(Cause::End, text));
@@ -34,6 +35,7 @@ fn line(text: &[u8]) -> Result<(Line, &[u8]), Fault>
 fn made<'a>(draft: Draft<'_>, text: &[u8], rest: &'a [u8]) -> Result<(Message, &'a [u8]), Fault>
     ensures tree { Gives (λ x. (x.0, tokens x.1.now)) result (reads.made (request_of draft.entry) (tokens rest.now)) }
     ensures rest { IfOk result (λ x. x.1.now ≡ rest.now) }
+    ensures of_text { IfErr result (λ e. IsOfText e) }
 {
     match Message::check(draft) {
         Ok(message) => Ok((message, rest)),
@@ -45,6 +47,7 @@ fn made<'a>(draft: Draft<'_>, text: &[u8], rest: &'a [u8]) -> Result<(Message, &
 fn receive<'a>(text: &[u8], rest: &'a [u8]) -> Result<(Message, &'a [u8]), Fault>
     ensures tree { Gives (λ x. (x.0, tokens x.1.now)) result (reads.receive_at (tokens rest.now)) }
     ensures fewer { IfOk result (λ x. length (tokens x.1.now) < length (tokens rest.now)) }
+    ensures of_text { IfErr result (λ e. IsOfText e) }
 {
     let (address, rest) = number(rest)?;
     let (subaddress, rest) = number(rest)?;
@@ -64,6 +67,7 @@ fn receive<'a>(text: &[u8], rest: &'a [u8]) -> Result<(Message, &'a [u8]), Fault
 fn transmit<'a>(text: &[u8], rest: &'a [u8]) -> Result<(Message, &'a [u8]), Fault>
     ensures tree { Gives (λ x. (x.0, tokens x.1.now)) result (reads.transmit_at (tokens rest.now)) }
     ensures fewer { IfOk result (λ x. length (tokens x.1.now) < length (tokens rest.now)) }
+    ensures of_text { IfErr result (λ e. IsOfText e) }
 {
     let (address, rest) = number(rest)?;
     let (subaddress, rest) = number(rest)?;
@@ -83,6 +87,7 @@ fn transmit<'a>(text: &[u8], rest: &'a [u8]) -> Result<(Message, &'a [u8]), Faul
 fn transfer<'a>(text: &[u8], rest: &'a [u8]) -> Result<(Message, &'a [u8]), Fault>
     ensures tree { Gives (λ x. (x.0, tokens x.1.now)) result (reads.transfer_at (tokens rest.now)) }
     ensures fewer { IfOk result (λ x. length (tokens x.1.now) < length (tokens rest.now)) }
+    ensures of_text { IfErr result (λ e. IsOfText e) }
 {
     let (sender, rest) = number(rest)?;
     let (sender_subaddress, rest) = number(rest)?;
@@ -110,6 +115,7 @@ fn mode<'a>(
 ) -> Result<(Message, &'a [u8]), Fault>
     ensures tree { Gives (λ x. (x.0, tokens x.1.now)) result (reads.mode_at subaddress (tokens rest.now)) }
     ensures fewer { IfOk result (λ x. length (tokens x.1.now) < length (tokens rest.now)) }
+    ensures of_text { IfErr result (λ e. IsOfText e) }
 {
     let (address, rest) = number(rest)?;
     let (code, rest) = number(rest)?;
@@ -126,6 +132,7 @@ fn mode<'a>(
 fn receive_all<'a>(text: &[u8], rest: &'a [u8]) -> Result<(Message, &'a [u8]), Fault>
     ensures tree { Gives (λ x. (x.0, tokens x.1.now)) result (reads.receive_all_at (tokens rest.now)) }
     ensures fewer { IfOk result (λ x. length (tokens x.1.now) < length (tokens rest.now)) }
+    ensures of_text { IfErr result (λ e. IsOfText e) }
 {
     let (subaddress, rest) = number(rest)?;
     let (words, rest) = bracketed(rest)?;
@@ -143,6 +150,7 @@ fn receive_all<'a>(text: &[u8], rest: &'a [u8]) -> Result<(Message, &'a [u8]), F
 fn transfer_all<'a>(text: &[u8], rest: &'a [u8]) -> Result<(Message, &'a [u8]), Fault>
     ensures tree { Gives (λ x. (x.0, tokens x.1.now)) result (reads.transfer_all_at (tokens rest.now)) }
     ensures fewer { IfOk result (λ x. length (tokens x.1.now) < length (tokens rest.now)) }
+    ensures of_text { IfErr result (λ e. IsOfText e) }
 {
     let (sender, rest) = number(rest)?;
     let (sender_subaddress, rest) = number(rest)?;
@@ -168,6 +176,7 @@ fn mode_all<'a>(
 ) -> Result<(Message, &'a [u8]), Fault>
     ensures tree { Gives (λ x. (x.0, tokens x.1.now)) result (reads.mode_all_at subaddress (tokens rest.now)) }
     ensures fewer { IfOk result (λ x. length (tokens x.1.now) < length (tokens rest.now)) }
+    ensures of_text { IfErr result (λ e. IsOfText e) }
 {
     let (code, rest) = number(rest)?;
     let (words, rest) = optional(rest)?;
@@ -183,6 +192,7 @@ fn mode_all<'a>(
 fn message(text: &[u8]) -> Result<(Message, &[u8]), Fault>
     ensures tree { Gives (λ x. (x.0, tokens x.1.now)) result (reads.message_at (tokens text.now)) }
     ensures fewer { IfOk result (λ x. length (tokens x.1.now) < length (tokens text.now)) }
+    ensures of_text { IfErr result (λ e. IsOfText e) }
 {
     let Some((word, rest)) = next(text) else {
         return Err(fault(Cause::End, text));
@@ -206,6 +216,7 @@ fn message(text: &[u8]) -> Result<(Message, &[u8]), Fault>
 pub fn send(text: &[u8]) -> Result<(Line, Message, &[u8]), Fault>
     ensures tree { Gives (λ x. ((x.0, x.1), tokens x.2.now)) result (reads.send_at (tokens text.now)) }
     ensures fewer { IfOk result (λ x. length (tokens x.2.now) < length (tokens text.now)) }
+    ensures of_text { IfErr result (λ e. IsOfText e) }
 {
     let (line, rest) = line(text)?;
     let (message, rest) = message(rest)?;

@@ -1,6 +1,6 @@
 //! Places in a text.
 
-ghost use Rattle.frame_text.specs.Reading.{IsLocated};
+ghost use Rattle.frame_text.specs.Reading.{IsLocated, IsOfText, IsTextError};
 
 use crate::faults::{Fault, Place, ScriptError};
 use crate::keywords::is_word_byte;
@@ -45,7 +45,8 @@ fn without_last(text: &[u8], left: usize) -> &[u8] {
 
 /// A fault with its place in the whole text.
 pub fn located(text: &[u8], fault: Fault) -> ScriptError
-    ensures { IsLocated fault result }
+    ensures same { IsLocated fault result }
+    ensures of_text { IsOfText fault → IsTextError result }
 {
     match fault {
         Fault::Text(cause, left) => ScriptError::Text {

@@ -1,8 +1,8 @@
 //! The tokens of a text, one by one: no list of them is ever made.
 
-ghost use Rattle.std.specs.Prelude.{◌≡◌, ◌<◌, ◌≤◌, [], ◌∷◌, length, MatchOption, IfSome, IfOk};
+ghost use Rattle.std.specs.Prelude.{◌≡◌, ◌<◌, ◌≤◌, [], ◌∷◌, length, MatchOption, IfSome, IfOk, IfErr};
 ghost use Rattle.frame_text.specs.Tokens.{is_space, tokens, BeginsToken};
-ghost use Rattle.frame_text.specs.Reading.{Gives, IsCause, past};
+ghost use Rattle.frame_text.specs.Reading.{Gives, IsCause, IsOfText, past};
 
 use crate::faults::{Cause, Fault};
 use crate::keywords::{is, is_word_byte, misplaced};
@@ -63,7 +63,8 @@ pub fn next(text: &[u8]) -> Option<(&[u8], &[u8])>
 
 /// The fault at the first token of what is left of the text, or at its end.
 pub fn fault(cause: Cause, text: &[u8]) -> Fault
-    ensures { IsCause cause result }
+    ensures cause { IsCause cause result }
+    ensures of_text { IsOfText result }
 {
     Fault::Text(cause, skipped(text).len())
 }
@@ -73,6 +74,7 @@ pub fn fault(cause: Cause, text: &[u8]) -> Fault
 pub fn after_token<'a>(text: &'a [u8], expected: &[u8]) -> Result<&'a [u8], Fault>
     ensures tree { Gives (λ x. tokens x.now) result (past expected.now (tokens text.now)) }
     ensures fewer { IfOk result (λ x. length (tokens x.now) < length (tokens text.now)) }
+    ensures of_text { IfErr result (λ e. IsOfText e) }
 {
     let Some((word, rest)) = next(text) else {
         return Err(fault(Cause::End, text));

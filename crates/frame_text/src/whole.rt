@@ -1,9 +1,9 @@
 //! Whole texts.
 
-ghost use Rattle.std.specs.Prelude.{IfOk};
+ghost use Rattle.std.specs.Prelude.{IfOk, IfErr};
 ghost use Rattle.frame_tree.specs.Tree.{test_of, tree_of};
 ghost use Rattle.frame_tree.specs.Bounds.{IsSound};
-ghost use Rattle.frame_text.specs.Reading.{Gives};
+ghost use Rattle.frame_text.specs.Reading.{Gives, IsOfText};
 ghost use Rattle.frame_text.specs.Messages.{send_of_text};
 ghost use Rattle.frame_text.specs.Conditions.{condition_of_text};
 ghost use Rattle.frame_text.specs.Frames.{tree_of_text};
@@ -32,7 +32,8 @@ pub fn script<A: Allocator + Clone>(alloc: &A, text: &[u8]) -> Result<Frame<A>, 
 /// The line and the message of a whole text.
 #[tactic(auto, unfolding(crate::specs::Reading::to_the_end))]
 pub fn send(text: &[u8]) -> Result<(Line, Message), Fault>
-    ensures { Gives (λ x. x) result (send_of_text text.now) }
+    ensures tree { Gives (λ x. x) result (send_of_text text.now) }
+    ensures of_text { IfErr result (λ e. IsOfText e) }
 {
     let (line, message, rest) = messages::send(text)?;
     match next(rest) {

@@ -1,8 +1,8 @@
 //! Numbers and data words.
 
-ghost use Rattle.std.specs.Prelude.{◌≡◌, ◌<◌, ◌≤◌, ◌++◌, ◌∷◌, [], length, take, IfOk, IfSome, option_map};
+ghost use Rattle.std.specs.Prelude.{◌≡◌, ◌<◌, ◌≤◌, ◌++◌, ◌∷◌, [], length, take, IfOk, IfSome, option_map, IfErr};
 ghost use Rattle.frame_text.specs.Tokens.{tokens};
-ghost use Rattle.frame_text.specs.Reading.{Gives, IsCause};
+ghost use Rattle.frame_text.specs.Reading.{Gives, IsCause, IsOfText};
 ghost use Rattle.frame_text.specs.Words.{number_of, hex_of, data_word_of, unspelled, number_at, number_within, words_at, counted, bracketed_at, optional_at};
 
 use crate::faults::{Cause, Fault};
@@ -65,7 +65,8 @@ fn data_word_in(word: &[u8]) -> Option<u16>
 
 // The fault of the first token of the text, which should have spelled something.
 fn unspelled_fault(word: &[u8], text: &[u8]) -> Fault
-    ensures { IsCause (unspelled word.now) result }
+    ensures cause { IsCause (unspelled word.now) result }
+    ensures of_text { IsOfText result }
 {
     let cause = if is_word(word) {
         Cause::Number
@@ -80,6 +81,7 @@ fn unspelled_fault(word: &[u8], text: &[u8]) -> Fault
 pub fn number(text: &[u8]) -> Result<(u32, &[u8]), Fault>
     ensures tree { Gives (λ x. (x.0, tokens x.1.now)) result (number_at (tokens text.now)) }
     ensures fewer { IfOk result (λ x. length (tokens x.1.now) < length (tokens text.now)) }
+    ensures of_text { IfErr result (λ e. IsOfText e) }
 {
     let Some((word, rest)) = next(text) else {
         return Err(fault(Cause::End, text));
@@ -95,6 +97,7 @@ pub fn number(text: &[u8]) -> Result<(u32, &[u8]), Fault>
 pub fn number_in_range(text: &[u8], low: u32, high: u32) -> Result<(u32, &[u8]), Fault>
     ensures tree { Gives (λ x. (x.0, tokens x.1.now)) result (number_within low high (tokens text.now)) }
     ensures fewer { IfOk result (λ x. length (tokens x.1.now) < length (tokens text.now)) }
+    ensures of_text { IfErr result (λ e. IsOfText e) }
     ensures within { IfOk result (λ x. (low ≤ x.0) × (x.0 ≤ high)) }
 {
     let (n, rest) = number(text)?;
@@ -117,6 +120,7 @@ fn keep(found: &mut DataWords, value: u16)
 fn words(text: &[u8]) -> Result<(DataWords, &[u8]), Fault>
     ensures tree { Gives (λ x. (x.0.items, tokens x.1.now)) result (counted (words_at (tokens text.now))) }
     ensures fewer { IfOk result (λ x. length (tokens x.1.now) < length (tokens text.now)) }
+    ensures of_text { IfErr result (λ e. IsOfText e) }
 {
     let mut found = DataWords::new();
     let mut rest = text;
@@ -138,6 +142,7 @@ fn words(text: &[u8]) -> Result<(DataWords, &[u8]), Fault>
 pub fn bracketed(text: &[u8]) -> Result<(DataWords, &[u8]), Fault>
     ensures tree { Gives (λ x. (x.0.items, tokens x.1.now)) result (bracketed_at (tokens text.now)) }
     ensures fewer { IfOk result (λ x. length (tokens x.1.now) < length (tokens text.now)) }
+    ensures of_text { IfErr result (λ e. IsOfText e) }
 {
     let rest = after_token(text, b"[")?;
     words(rest)
@@ -148,6 +153,7 @@ pub fn bracketed(text: &[u8]) -> Result<(DataWords, &[u8]), Fault>
 pub fn optional(text: &[u8]) -> Result<(Option<DataWords>, &[u8]), Fault>
     ensures tree { Gives (λ x. (option_map (λ w. w.items) x.0, tokens x.1.now)) result (optional_at (tokens text.now)) }
     ensures fewer { IfOk result (λ x. length (tokens x.1.now) ≤ length (tokens text.now)) }
+    ensures of_text { IfErr result (λ e. IsOfText e) }
 {
     let Some((word, rest)) = next(text) else {
         return Ok((None, text));

@@ -20,7 +20,7 @@ frames-returns-then-is-clause-tree g t c =
 pub frames-returns-clause-tree : goal.frames-returns-clause-tree
 frames-returns-clause-tree g t c =
     let i = c.loop-word.invariant.read in
-    fails_with c.fault.result cause.End _ c.fault.ensures (frames_end (frame_at c.args.depth) i.0 (tokens c.loop-word.rest.now) c.loop-word.found.items _ c.in_default.ensures.tokens i.2)
+    fails_with c.fault.result cause.End _ c.fault.ensures.cause (frames_end (frame_at c.args.depth) i.0 (tokens c.loop-word.rest.now) c.loop-word.found.items _ c.in_default.ensures.tokens i.2)
 
 pub frames-returns-in_err-one-clause-tree : goal.frames-returns-in_err-one-clause-tree
 frames-returns-in_err-one-clause-tree g t c =

@@ -5,16 +5,22 @@ use Rattle.frame_text.proofs.Scripts.{onto}
 use Rattle.frame_text.proofs.frames.+frames.Given as goal
 
 abbrev pub decreases-block : goal.decreases-block
-decreases-block g l = 4 * l.depth
+decreases-block g l = 5 * l.depth
 
 abbrev pub decreases-else_part : goal.decreases-else_part
-decreases-else_part g l = 4 * l.depth + 1
+decreases-else_part g l = 5 * l.depth + 1
+
+abbrev pub decreases-repeat : goal.decreases-repeat
+decreases-repeat g l = 5 * l.depth + 1
+
+abbrev pub decreases-choice : goal.decreases-choice
+decreases-choice g l = 5 * l.depth + 2
 
 abbrev pub decreases-frame : goal.decreases-frame
-decreases-frame g l = 4 * l.depth + 2
+decreases-frame g l = 5 * l.depth + 3
 
 abbrev pub decreases-frames : goal.decreases-frames
-decreases-frames g l = 4 * l.depth + 3
+decreases-frames g l = 5 * l.depth + 4
 
 abbrev pub invariant-frames-loop-word : goal.invariant-frames-loop-word
 invariant-frames-loop-word g l = record {
