@@ -12,6 +12,11 @@ pub enum Request<'a> {
         version: u8,
         text: &'a str,
     },
+    /// The image of a script, written to a file.
+    Assemble {
+        script: &'a str,
+        image: &'a str,
+    },
     /// The packets and messages of a recording, printed as lines.
     Dump {
         recording: &'a str,
@@ -23,6 +28,10 @@ pub enum Request<'a> {
 pub fn read<'a>(alloc: Global, words: &'a [String]) -> Result<Request<'a>, Error> {
     let matches = bench_command(alloc)?.try_get_matches_from(words)?;
     Ok(match matches.subcommand() {
+        Some(("assemble", given)) => Request::Assemble {
+            script: given.get_str("SCRIPT").unwrap_or(""),
+            image: given.get_str("IMAGE").unwrap_or(""),
+        },
         Some(("dump", given)) => Request::Dump {
             recording: given.get_str("RECORDING").unwrap_or(""),
         },
@@ -44,7 +53,22 @@ fn bench_command<'a>(alloc: Global) -> Result<Command<'a>, AllocError> {
             "Exit status: 0 done, 1 the input was refused, 2 usage, 3 a file or a stream failed, 4 no memory.",
         )
         .subcommand(one_command(alloc)?)?
+        .subcommand(assemble_command(alloc)?)?
         .subcommand(dump_command(alloc)?)
+}
+
+fn assemble_command<'a>(alloc: Global) -> Result<Command<'a>, AllocError> {
+    let script = Arg::new(alloc, "SCRIPT")
+        .required(true)
+        .help("The script to assemble, as a text");
+    let image = Arg::new(alloc, "IMAGE")
+        .required(true)
+        .help("The file to write the image to; it is written only where the script is accepted");
+    Command::new(alloc, "assemble")
+        .about("Assembles a script into an image for the bus controller, and prints its sizes")
+        .after_help("Example:\n  bench assemble poll.script poll.bc")
+        .arg(script)?
+        .arg(image)
 }
 
 fn dump_command<'a>(alloc: Global) -> Result<Command<'a>, AllocError> {

@@ -2,7 +2,8 @@
 
 use crate::command_line::{self, Request};
 use crate::fault::Fault;
-use crate::files::read_whole;
+use crate::files::{read_whole, write_whole};
+use bench_assemble::{AssembleFault, Sizes, assemble_text, print_sizes};
 use bench_dump::{DumpFault, dump};
 use bench_one::{OneFault, one, print_bytes};
 use clap::Error;
@@ -71,6 +72,7 @@ fn obey<'a, R: Files + AllocGlobal + Input + Print>(
             version,
             text,
         } => run_one(rt, channel, version, text),
+        Request::Assemble { script, image } => run_assemble(rt, script, image),
         Request::Dump { recording } => show(rt, recording),
     }
 }
@@ -95,6 +97,30 @@ fn run_one<'a, R: AllocGlobal + Print>(
 fn print_to_output<R: AllocGlobal + Print>(rt: &R, bytes: &[u8]) -> io::Result<()> {
     let mut out = BufWriter::new(rt.alloc(), io::writer(rt))?;
     print_bytes(&mut out, bytes)?;
+    out.flush()
+}
+
+fn run_assemble<'a, R: Files + AllocGlobal + Print>(
+    rt: &R,
+    script: &'a str,
+    image: &'a str,
+) -> Result<(), Fault<'a>> {
+    let text = read_whole(rt, script)?;
+    let (bytes, sizes) = match assemble_text(rt.alloc(), text.as_slice()) {
+        Ok(made) => made,
+        Err(AssembleFault::Memory) => return Err(Fault::Memory),
+        Err(fault) => return Err(Fault::Script(fault)),
+    };
+    write_whole(rt, image, bytes.as_slice())?;
+    match print_sizes_to_output(rt, &sizes) {
+        Ok(()) => Ok(()),
+        Err(error) => Err(Fault::of_stream("-", &error)),
+    }
+}
+
+fn print_sizes_to_output<R: AllocGlobal + Print>(rt: &R, sizes: &Sizes) -> io::Result<()> {
+    let mut out = BufWriter::new(rt.alloc(), io::writer(rt))?;
+    print_sizes(&mut out, sizes)?;
     out.flush()
 }
 

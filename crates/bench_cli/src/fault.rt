@@ -2,6 +2,7 @@
 ghost use Rattle.std.specs.Prelude.{◌≡◌};
 ghost use Rattle.bench_cli.specs.Status.{status_of};
 
+use bench_assemble::AssembleFault;
 use bench_one::OneFault;
 use ch11_reader::Refusal;
 use std::io;
@@ -13,6 +14,9 @@ pub enum Fault<'a> {
     /// A message's text was refused.
     #[error("{0}")]
     Text(OneFault),
+    /// A script was refused.
+    #[error("{0}")]
+    Script(AssembleFault),
     /// A recording was refused.
     #[error("{0}")]
     Recording(Refusal),
@@ -30,7 +34,7 @@ impl<'a> Fault<'a> {
         ensures { result ≡ status_of self.now }
     {
         match self {
-            Fault::Text(_) | Fault::Recording(_) => 1,
+            Fault::Text(_) | Fault::Script(_) | Fault::Recording(_) => 1,
             Fault::Device(_) => 3,
             Fault::Memory => 4,
         }

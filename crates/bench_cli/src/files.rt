@@ -1,8 +1,9 @@
-//! Files, read whole.
+//! Files, read and written whole.
 
 use crate::fault::Fault;
 use bench_dump::{DumpFault, read_all};
 use std::fs;
+use std::io::Write;
 use std::rt::Files;
 
 /// All bytes of a file. One that cannot be opened or read, or that does not end within 1,000,000 reads of up to 65,536 bytes
@@ -16,5 +17,18 @@ pub fn read_whole<'a, R: Files + AllocGlobal>(rt: &R, name: &'a str) -> Result<V
         Ok(bytes) => Ok(bytes),
         Err(DumpFault::Memory) => Err(Fault::Memory),
         Err(_) => Err(Fault::Device(name)),
+    }
+}
+
+/// Makes a file of these bytes, in the place of one that is there. One that cannot be made or written is a device fault with its
+/// name as given.
+pub fn write_whole<'a, R: Files>(rt: &R, name: &'a str, bytes: &[u8]) -> Result<(), Fault<'a>> {
+    let mut file = match fs::create(rt, name) {
+        Ok(file) => file,
+        Err(error) => return Err(Fault::of_stream(name, &error)),
+    };
+    match file.write_all(bytes) {
+        Ok(()) => Ok(()),
+        Err(error) => Err(Fault::of_stream(name, &error)),
     }
 }
