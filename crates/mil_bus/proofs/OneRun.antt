@@ -1,35 +1,30 @@
 -- One run and what follows it.
-use Rattle.std.proofs.Common.{◌≡◌, ℕ, ◌+◌, ◌-◌, ◌==◌, true, false, List, [], ◌∷◌, ◌++◌, map, take, length, zero, suc, refl, sym, ap, ◌∙◌, arith, Option, Some, None, add-one, drop, length-append}
+use Rattle.std.proofs.Common.{◌≡◌, ℕ, ◌+◌, ◌-◌, ◌==◌, true, false, List, [], ◌∷◌, ◌++◌, map, take, length, zero, suc, refl, arith, Option, Some, None, add-one, drop, length-append}
 use Rattle.std.proofs.Math.Seq.{drop-append_seam}
 use Rattle.std.proofs.lemmas.List.{take_all}
 use Rattle.std.proofs.lemmas.Bool.Decides.{nat_tests}
 use Rattle.mil_word.specs.declared.Line.{Line}
 use Rattle.mil_line.specs.declared.faults.Fault.{Fault}
 use Rattle.mil_line.specs.Faults.{altered, gap_of}
-use Rattle.mil_bus.specs.declared.talks.Source.{Source}
 use Rattle.mil_bus.specs.declared.talks.Sent.{Sent}
 use Rattle.mil_terminal.specs.Station.{Station}
 use Rattle.mil_bus.specs.Exchange.{Offer, Standing, words_of, run_sent, quieted, quiet_after, next_offer, first_reply, all_hearing, runs}
 
-pub none : (ws : List ℕ) → (length ws == 0) ≡ true → ws ≡ []
+pub none : (ws : List Sent) → (length ws == 0) ≡ true → ws ≡ []
 none [] h = refl
 none (w ∷ ws) h = absurd (grind (arith, nat_tests))
-
-pub run_sent-none : (room : ℕ) (faults : List Fault) (run : ℕ) (o : Offer) (ws : List ℕ) → ws ≡ take room (altered faults run o.waves) → (length ws == 0) ≡ true → run_sent room faults run o ≡ []
-unfolding run_sent
-run_sent-none room faults run o ws e h = ap (words_of run o.source (gap_of faults run o.gap)) (sym e ∙ none ws h)
 
 pub run_sent-some : (room : ℕ) (faults : List Fault) (run : ℕ) (o : Offer) (gap : ℕ) (ws : List ℕ) → ws ≡ take room (altered faults run o.waves) → gap ≡ gap_of faults run o.gap → run_sent room faults run o ≡ words_of run o.source gap ws
 unfolding run_sent
 run_sent-some room faults run o gap ws e g = rw (g, e) refl
 
-pub quiet_after-some : (line : Line) (run : ℕ) (source : Source) (gap : ℕ) (ws : List ℕ) (st : List Station) → (length ws == 0) ≡ false → quiet_after line (words_of run source gap ws) st ≡ map (quieted line) st
-quiet_after-some line run source gap [] st h = cc
-quiet_after-some line run source gap (w ∷ ws) st h = refl
+pub quiet_after-some : (line : Line) (ws : List Sent) (st : List Station) → (length ws == 0) ≡ false → quiet_after line ws st ≡ map (quieted line) st
+quiet_after-some line [] st h = cc
+quiet_after-some line (w ∷ ws) st h = refl
 
-pub next_offer-some : (line : Line) (run : ℕ) (source : Source) (gap : ℕ) (ws : List ℕ) (st : List Station) → (length ws == 0) ≡ false → next_offer line (words_of run source gap ws) st ≡ first_reply line st
-next_offer-some line run source gap [] st h = cc
-next_offer-some line run source gap (w ∷ ws) st h = refl
+pub next_offer-some : (line : Line) (ws : List Sent) (st : List Station) → (length ws == 0) ≡ false → next_offer line ws st ≡ first_reply line st
+next_offer-some line [] st h = cc
+next_offer-some line (w ∷ ws) st h = refl
 
 pub runs-none : (left : ℕ) (line : Line) (faults : List Fault) (run : ℕ) (s : Standing) → runs left line faults run None s ≡ s
 unfolding runs

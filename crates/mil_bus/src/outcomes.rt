@@ -137,36 +137,41 @@ fn is_transfer(message: &Message) -> bool
     message.commands().second.is_some()
 }
 
-/// Whether fewer replies came than are due, or a due one came late.
-fn has_response_time_out(message: &Message, seen: &Seen) -> bool
-    ensures { result ≡ has_response_time_out message.now seen.now }
-{
-    let due = due_of(message);
-    is_late(due.first, seen.one) || is_late(due.second, seen.two)
+/// The errors of a talk.
+#[derive(Clone, Copy, Debug)]
+struct Errors {
+    /// Whether fewer replies came than are due, or a due one came late.
+    late: bool,
+    /// Whether the controller or a due reply has another number of words.
+    miscounted: bool,
+    /// Whether there is any error.
+    any: bool,
 }
 
-/// Whether the controller or a due reply has another number of words.
-fn has_word_count_error(message: &Message, seen: &Seen) -> bool
-    ensures { result ≡ has_word_count_error message.now seen.now }
+/// The errors of the talk of a message that is due these replies.
+fn judged(message: &Message, due: DueReplies, seen: &Seen) -> Errors
+    requires first { due.first ≡ first_due (replies_due message.now) }
+    requires second { due.second ≡ second_due (replies_due message.now) }
+    ensures late { result.late ≡ has_response_time_out message.now seen.now }
+    ensures miscounted { result.miscounted ≡ has_word_count_error message.now seen.now }
+    ensures any { result.any ≡ has_error message.now seen.now }
 {
-    let due = due_of(message);
-    usize::from(seen.controllers) != message.controller_count()
+    let late = is_late(due.first, seen.one) || is_late(due.second, seen.two);
+    let miscounted = usize::from(seen.controllers) != message.controller_count()
         || is_miscounted(due.first, seen.one)
-        || is_miscounted(due.second, seen.two)
-}
-
-/// Whether there is any error.
-fn has_error(message: &Message, seen: &Seen) -> bool
-    ensures { result ≡ has_error message.now seen.now }
-{
-    let due = due_of(message);
-    has_response_time_out(message, seen)
-        || has_word_count_error(message, seen)
+        || is_miscounted(due.second, seen.two);
+    let any = late
+        || miscounted
         || seen.other_sync
         || seen.unsound
         || has_other_address(due.first, seen.one)
         || has_other_address(due.second, seen.two)
-        || seen.beyond
+        || seen.beyond;
+    Errors {
+        late,
+        miscounted,
+        any,
+    }
 }
 
 impl Talk {
@@ -183,11 +188,12 @@ impl Talk {
     pub fn block(&self, seen: &Seen) -> u16
         ensures { result ≡ block_of self.now.line self.now.message seen.now }
     {
+        let errors = judged(&self.message, due_of(&self.message), seen);
         bit(is_line_b(self.line), 13)
-            + bit(has_error(&self.message, seen), 12)
+            + bit(errors.any, 12)
             + bit(is_transfer(&self.message), 11)
-            + bit(has_response_time_out(&self.message, seen), 9)
-            + bit(has_word_count_error(&self.message, seen), 5)
+            + bit(errors.late, 9)
+            + bit(errors.miscounted, 5)
             + bit(seen.other_sync, 4)
             + bit(seen.unsound, 3)
     }
@@ -200,7 +206,7 @@ impl Talk {
         let seen = self.seen();
         let due = due_of(&self.message);
         Outcome {
-            failed: has_error(&self.message, &seen),
+            failed: judged(&self.message, due, &seen).any,
             silent: due.first.is_some() && seen.one.is_none(),
             bits: came_bits(due.first, seen.one) | came_bits(due.second, seen.two),
         }

@@ -29,6 +29,23 @@ fn send(sent: &mut ArrayVec<Sent, 40>, run: u8, source: Source, gap: Gap, waves:
     }
 }
 
+/// Puts what comes on the line of a run behind the words sent, as far as there is room for it.
+fn put_run(sent: &mut ArrayVec<Sent, 40>, faults: &[Fault], run: u8, offer: &Offered)
+    requires in_range { list_all is_in_range faults.now ≡ true }
+    ensures { sent.new.items ≡ sent.old.items ++ run_sent (40 - length sent.old.items) faults.now run (offered offer.now) }
+{
+    let room = 40 - sent.len();
+    let given = offer.waves.as_slice();
+    if faults.is_empty() {
+        let count = room.min(given.len());
+        send(sent, run, offer.source, offer.gap, &given[..count]);
+    } else {
+        let waves = altered(faults, u32::from(run), given, room);
+        let gap = late_gap(faults, u32::from(run), offer.gap);
+        send(sent, run, offer.source, gap, waves.as_slice());
+    }
+}
+
 /// One run: its words come on the line and to all terminals, then a quiet does, and the first to answer is taken; whether one
 /// answers.
 fn run_once(
@@ -47,14 +64,12 @@ fn run_once(
         given result offer.new ≡ next_offer line words (all_hearing line words terminals.old) }
 {
     let before = sent.len();
-    let waves = altered(faults, u32::from(run), offer.waves.as_slice(), 40 - before);
-    if waves.is_empty() {
+    put_run(sent, faults, run, offer);
+    let words = &sent.as_slice()[before..];
+    if words.is_empty() {
         return false;
     }
-    let gap = late_gap(faults, u32::from(run), offer.gap);
-    send(sent, run, offer.source, gap, waves.as_slice());
-    let words = sent.as_slice();
-    terminals.hear_all(line, &words[before..]);
+    terminals.hear_all(line, words);
     terminals.quiet(line, offer)
 }
 
