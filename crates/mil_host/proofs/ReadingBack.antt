@@ -80,7 +80,8 @@ other_of_digit c lt = go (is_space c) refl
         let wrong : digit_value 32 < 10 = rw at at lt in
         absurd (omega (arith, wrong))
 
-digits_are : (word : Text) → AllDigits 10 word → (are_digits 10 word ≡ true) × NoSpaces word
+-- digits are digits, and no spaces
+pub digits_are : (word : Text) → AllDigits 10 word → (are_digits 10 word ≡ true) × NoSpaces word
 digits_are [] all = (refl, tt)
 digits_are (c ∷ word) all =
     let is : nat_lt (digit_value c) 10 ≡ true = grind (arith, nat_tests, all.0) in
@@ -91,7 +92,8 @@ record IsNumber (low high n : ℕ) : Type 0 where
   reads : number_of low high (decimal n) ≡ Ok n
   is : IsWord (decimal n)
 
-has_bytes_of : (word : Text) → 1 ≤ length word → has_bytes word ≡ true
+-- a word that is not empty
+pub has_bytes_of : (word : Text) → 1 ≤ length word → has_bytes word ≡ true
 has_bytes_of [] some = absurd (omega arith)
 has_bytes_of (b ∷ word) some = refl
 

@@ -24,6 +24,10 @@ each_other : (word : Text) → NoSpaces word → All (λ b. is_space b ≡ false
 each_other [] none = All-nil (λ b. is_space b ≡ false)
 each_other (b ∷ word) none = All-cons (λ b. is_space b ≡ false) b word none.0 (each_other word none.1)
 
+-- a word and a space before a text
+pub words-word : (word text : Text) → IsWord word → words (word ++ 32 ∷ text) ≡ word ∷ words text
+words-word word text is = rw (slice_split_at is_space word 32 text (each_other word is.no_spaces) refl, is.some) refl
+
 split_spaced : (word : Text) (rest : List Text) → AreWords (word ∷ rest) → slice_split is_space (word ++ flat_map spaced_word rest) ≡ word ∷ rest
 split_spaced word [] are = rw (append-nil word) (slice_split_none is_space word (each_other word are.0.no_spaces))
 split_spaced word (next ∷ rest) are =

@@ -14,3 +14,4 @@ mod words;
 pub use actions::Action;
 pub use reading::{BadAction, read_action};
 pub use values::{Mark, ResponseGap, TransmitWords};
+pub use words::next_word;

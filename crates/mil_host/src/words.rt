@@ -1,5 +1,5 @@
 //! The words of a text, one after the other.
-ghost use Rattle.std.specs.Prelude.{◌≡◌, ◌≤◌, ◌<◌, [], ◌∷◌, List, length, drop, take, slice_get, slice_index, false};
+ghost use Rattle.std.specs.Prelude.{◌≡◌, ◌≤◌, ◌<◌, [], ◌∷◌, List, length, drop, take, slice_get, slice_index, false, MatchOption};
 ghost use Rattle.std.specs.Option.{option_copied};
 ghost use Rattle.std.specs.List.{position_or_len};
 ghost use Rattle.mil_host.specs.Words.{words, is_space};
@@ -34,15 +34,25 @@ impl<'a> Words<'a> {
         ensures word { option_copied result ≡ slice_get self.old 0 }
         ensures rest { self.new ≡ drop 1 self.old }
     {
-        let text = from_word(self.rest);
-        if text.is_empty() {
-            self.rest = text;
-            return None;
+        match next_word(self.rest) {
+            Some((word, rest)) => {
+                self.rest = rest;
+                Some(word)
+            }
+            None => None,
         }
-        let (word, rest) = text.split_at(word_len(text));
-        self.rest = rest;
-        Some(word)
     }
+}
+
+/// The first word of a text, which spaces alone part from the next, and what stands behind it; nothing where no word is left.
+pub fn next_word(text: &[u8]) -> Option<(&[u8], &[u8])>
+    ensures { MatchOption result (words text.now ≡ []) (λ x. words text.now ≡ x.0.now ∷ words x.1.now) }
+{
+    let text = from_word(text);
+    if text.is_empty() {
+        return None;
+    }
+    Some(text.split_at(word_len(text)))
 }
 
 /// The length of the word with which a text begins.
