@@ -1,27 +1,28 @@
 -- A printed action reads back.
 use Rattle.std.proofs.Common.{◌≡◌, ℕ, zero, suc, ◌+◌, ◌*◌, ◌/◌, ◌%◌, ◌≤◌, ◌<◌, List, Bool, true, false, [], ◌∷◌, length, refl, ap, arith, All}
-use Rattle.std.specs.Prelude.{Ok, not, codes, decimal, map, nat_lt, nat_le, ◌&&◌}
+use Rattle.std.specs.Prelude.{Ok, codes, decimal, map, nat_lt, nat_le, ◌&&◌}
 use Rattle.std.specs.List.{list_all}
 use Rattle.std.specs.Char.{digit_value}
 use Rattle.std.specs.Fmt.{digit_glyph}
 use Rattle.std.specs.Str.Parse.{AllDigits}
 use Rattle.std.proofs.lemmas.Bool.Decides.{nat_tests}
+use Rattle.std.proofs.lemmas.Str.Parse.{digit_from_value}
 use Rattle.std.proofs.lemmas.Fmt.{decimal_is_IsNumeral, length-decimal-le}
 use Rattle.std.proofs.lemmas.List.Elements.{All-tail}
 use Rattle.mil_host.specs.Values.{PutUp, Marked}
-use Rattle.mil_host.specs.Words.{Text, is_space, has_bytes}
+use Rattle.mil_host.specs.Words.{Text, has_bytes}
 use Rattle.mil_host.specs.Reading.{action_in, in_words, number_of, data_of, all_data, only_switch, only_mark, are_digits}
 use Rattle.mil_host.specs.Printing.{text_of, words_of, data_text, switch_text, direction_text, mark_words}
 use Rattle.mil_host.specs.Ranges.{IsInRange, IsPutUp, IsMark}
 use Rattle.mil_host.specs.declared.actions.Action.{Action}
 use Rattle.mil_host.specs.declared.actions.Action.TheVariants.{Transmit, Busy, Service, Subsystem, Fault, Control, Vector, SelfTest, Illegal, Legal, Response}
-use Rattle.mil_host.proofs.Spacing.{NoSpaces, IsWord, AreWords, words-spaced}
+use Rattle.mil_host.proofs.Spacing.{AreVisible, IsWord, AreWords, words-spaced, one_line-spaced}
 
 -- an upper-case hexadecimal digit is one, and no space
 record IsGlyph (d c : ℕ) : Type 0 where
   below : nat_lt (digit_value c) 16 ≡ true
   digit : digit_value c ≡ d
-  other : is_space c ≡ false
+  other : nat_lt 32 c ≡ true
 
 glyph : (d : ℕ) → d < 16 → IsGlyph d (digit_glyph true d)
 glyph zero lt = record { below = refl; digit = refl; other = refl }
@@ -66,26 +67,21 @@ data_word value lt =
     let d = glyph (value % 256 % 16) (omega arith) in
     record {
       reads = rw (a.below, b.below, c.below, d.below, a.digit, b.digit, c.digit, d.digit) (ap (λ (n : ℕ). Ok n) (four value lt));
-      is = record { some = refl; no_spaces = (a.other, (b.other, (c.other, (d.other, tt)))) };
+      is = record { some = refl; visible = (a.other, (b.other, (c.other, (d.other, tt)))) };
     }
 
--- a digit is no space
-other_of_digit : (c : ℕ) → digit_value c < 10 → is_space c ≡ false
-other_of_digit c lt = go (is_space c) refl
-  where
-    go : (b : Bool) → is_space c ≡ b → is_space c ≡ false
-    go false is = is
-    go true is =
-        let at : c ≡ 32 = grind (arith, nat_tests, is) in
-        let wrong : digit_value 32 < 10 = rw at at lt in
-        absurd (omega (arith, wrong))
+-- a digit is visible
+visible_digit : (c : ℕ) → digit_value c < 10 → nat_lt 32 c ≡ true
+visible_digit c lt =
+    let range = digit_from_value c lt in
+    grind (arith, nat_tests, range.0)
 
--- digits are digits, and no spaces
-pub digits_are : (word : Text) → AllDigits 10 word → (are_digits 10 word ≡ true) × NoSpaces word
+-- digits are digits, and visible
+pub digits_are : (word : Text) → AllDigits 10 word → (are_digits 10 word ≡ true) × AreVisible word
 digits_are [] all = (refl, tt)
 digits_are (c ∷ word) all =
     let is : nat_lt (digit_value c) 10 ≡ true = grind (arith, nat_tests, all.0) in
-    (rw is (digits_are word all.1).0, (other_of_digit c all.0, (digits_are word all.1).1))
+    (rw is (digits_are word all.1).0, (visible_digit c all.0, (digits_are word all.1).1))
 
 -- a printed number reads back within its range
 record IsNumber (low high n : ℕ) : Type 0 where
@@ -109,7 +105,7 @@ number low high n from to small =
     let below : nat_le n high ≡ true = grind (arith, nat_tests, to) in
     record {
       reads = rw (are.0, at_least, at_most, spelt.1, above, below) refl;
-      is = record { some = has_bytes_of (decimal n) some; no_spaces = are.1 };
+      is = record { some = has_bytes_of (decimal n) some; visible = are.1 };
     }
 
 -- data words read back to the end
@@ -134,12 +130,12 @@ put_up_back put range = go put.words range.some range.few range.of_16_bits
         rw ((number 1 29 put.sub range.sub_low range.sub_high (omega arith)).reads, all_data_back 32 (w ∷ values) few small) refl
 
 switch_word : (on : Bool) → IsWord (switch_text on)
-switch_word true = record { some = refl; no_spaces = (refl, (refl, tt)) }
-switch_word false = record { some = refl; no_spaces = (refl, (refl, (refl, tt))) }
+switch_word true = record { some = refl; visible = (refl, (refl, tt)) }
+switch_word false = record { some = refl; visible = (refl, (refl, (refl, tt))) }
 
 direction_word : (transmit : Bool) → IsWord (direction_text transmit)
-direction_word true = record { some = refl; no_spaces = (refl, (refl, (refl, (refl, (refl, (refl, (refl, (refl, tt)))))))) }
-direction_word false = record { some = refl; no_spaces = (refl, (refl, (refl, (refl, (refl, (refl, (refl, tt))))))) }
+direction_word true = record { some = refl; visible = (refl, (refl, (refl, (refl, (refl, (refl, (refl, (refl, tt)))))))) }
+direction_word false = record { some = refl; visible = (refl, (refl, (refl, (refl, (refl, (refl, (refl, tt))))))) }
 
 -- the words of a mark
 mark_back : (mark : Marked) → IsMark mark → only_mark (mark_words mark) ≡ Ok mark
@@ -160,17 +156,17 @@ are_mark_words mark range =
     (direction_word mark.transmit, ((number 1 30 mark.sub range.sub_low range.sub_high (omega arith)).is, ((number 1 32 mark.count range.count_low range.count_high (omega arith)).is, tt)))
 
 -- the name of an action is a word
-no_spaces : (word : Text) → list_all (λ b. not (is_space b)) word ≡ true → NoSpaces word
-no_spaces [] none = tt
-no_spaces (b ∷ word) none = go (is_space b) refl none (no_spaces word)
+visible : (word : Text) → list_all (λ b. nat_lt 32 b) word ≡ true → AreVisible word
+visible [] each = tt
+visible (b ∷ word) each = go (nat_lt 32 b) refl each (visible word)
   where
-    go : (s : Bool) → is_space b ≡ s → (not s && list_all (λ b. not (is_space b)) word) ≡ true
-        → (list_all (λ b. not (is_space b)) word ≡ true → NoSpaces word) → NoSpaces (b ∷ word)
-    go true is none rest = cc
-    go false is none rest = (is, rest none)
+    go : (s : Bool) → nat_lt 32 b ≡ s → (s && list_all (λ b. nat_lt 32 b) word) ≡ true
+        → (list_all (λ b. nat_lt 32 b) word ≡ true → AreVisible word) → AreVisible (b ∷ word)
+    go false is each rest = cc
+    go true is each rest = (is, rest each)
 
-named : (name : Text) → has_bytes name ≡ true → list_all (λ b. not (is_space b)) name ≡ true → IsWord name
-named name some none = record { some = some; no_spaces = no_spaces name none }
+pub named : (name : Text) → has_bytes name ≡ true → list_all (λ b. nat_lt 32 b) name ≡ true → IsWord name
+named name some each = record { some = some; visible = visible name each }
 
 are_words : (a : Action) → IsInRange a → AreWords (words_of a)
 are_words (Transmit put) range =
@@ -207,3 +203,8 @@ words_back (Response ticks) range = rw (number 40 120 ticks range.0 range.1 (ome
 pub reads-back : (a : Action) → IsInRange a → action_in (text_of a) ≡ Ok a
 unfolding action_in text_of
 reads-back a range = rw (words-spaced (words_of a) (are_words a range)) (words_back a range)
+
+-- the text of an action in range stands on one line
+pub one_line : (a : Action) → IsInRange a → All (λ b. 32 ≤ b) (text_of a)
+unfolding text_of
+one_line a range = one_line-spaced (words_of a) (are_words a range)

@@ -1,5 +1,5 @@
 //! What a host sets.
-ghost use Rattle.std.specs.Prelude.{◌≡◌, Ok};
+ghost use Rattle.std.specs.Prelude.{◌≡◌, ◌≤◌, Ok, All};
 ghost use Rattle.mil_host.specs.Ranges.{IsInRange};
 ghost use Rattle.mil_host.specs.Reading.{action_in};
 ghost use Rattle.mil_host.specs.Printing.{text_of};
@@ -55,10 +55,11 @@ impl Action {
     }
 
     /// Each action has its values in their ranges, and its printed text, single spaces and upper-case data words, spells it:
-    /// what `Display` writes is read back as the same action.
+    /// what `Display` writes is read back as the same action. The text stands on one line, with no control character.
     pub fn reads_back(&self)
         ensures ranges { IsInRange self.now }
         ensures back { action_in (text_of self.now) ≡ Ok self.now }
+        ensures one_line { All (λ b. 32 ≤ b) (text_of self.now) }
     {
         self.keeps_ranges();
     }

@@ -1,0 +1,7 @@
+pub mod NumberLemmas
+pub mod ListLemmas
+pub mod LineLemmas
+pub mod PrintLemmas
+pub mod Drafted
+pub mod Taken
+pub mod PrintedSpells

@@ -1,0 +1,10 @@
+use Rattle.std.proofs.Common.{ℕ, ◌<◌, slice_index_or}
+use Rattle.bc_machine.specs.declared.placed.Placed.{Placed}
+use Rattle.mil_host.specs.Ranges.{IsInRange}
+use Rattle.bench_report.proofs.channels.keep_ranges.Given as goal
+
+abbrev invariant_at : Placed → Type 0
+invariant_at p = IsInRange p.action
+
+abbrev pub invariant-loop-one : goal.invariant-loop-one
+invariant-loop-one l = (k : ℕ) (d : Placed) → k < l.one-index → invariant_at (slice_index_or l.placed k d)

@@ -1,0 +1,5 @@
+pub mod Reports
+pub mod Lines
+pub mod Spelling
+pub mod Printing
+pub mod Drafts

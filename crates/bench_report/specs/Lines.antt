@@ -1,0 +1,58 @@
+-- What a line of a report says (own choice): its words, parted by spaces alone.
+use Rattle.std.specs.Prelude.{ℕ, ◌≤◌, ◌&&◌, nat_le, if◌then◌else◌, List, [], ◌∷◌, length, Option, Some, None, Ok, Err, Result, codes, option_map}
+use Rattle.std.specs.Str.{bytes_eq}
+use Rattle.std.specs.Str.Parse.{digits_value}
+use Rattle.mil_host.specs.Words.{Text, words}
+use Rattle.mil_host.specs.Reading.{are_digits, in_words}
+use Rattle.mil_host.specs.declared.actions.Action.{Action}
+use Rattle.mil_host.specs.declared.reading.BadAction.{BadAction}
+use Rattle.bench_report.specs.Reports.{IsPlaced}
+use Rattle.bench_report.specs.declared.lines.Line.{Line}
+use Rattle.bench_report.specs.declared.lines.Line.TheVariants as line
+
+-- the number that a word of one to so many decimal digits spells, from low to high
+abbrev pub number_of : ℕ → ℕ → ℕ → Text → Option ℕ
+number_of most low high word =
+    if are_digits 10 word && (nat_le 1 (length word) && (nat_le (length word) most && (nat_le low (digits_value 10 word) && nat_le (digits_value 10 word) high)))
+    then Some (digits_value 10 word) else None
+
+-- one number, and no more
+abbrev pub only_number : ℕ → ℕ → ℕ → List Text → Option ℕ
+only_number most low high [] = None
+only_number most low high (word ∷ []) = number_of most low high word
+only_number most low high (word ∷ more ∷ rest) = None
+
+-- an action at a message and a terminal
+abbrev pub placing : Option ℕ → Option ℕ → Result Action BadAction → Option Line
+placing (Some number) (Some address) (Ok action) = Some (line.Placed (record { number = number; address = address; action = action }))
+placing (Some number) (Some address) (Err bad) = None
+placing (Some number) None action = None
+placing None address action = None
+
+-- the number of a message, the address of a terminal, and the text of an action
+abbrev pub placed_in : List Text → Option Line
+placed_in [] = None
+placed_in (number ∷ []) = None
+placed_in (number ∷ address ∷ action) = placing (number_of 7 1 1000000 number) (number_of 7 0 30 address) (in_words action)
+
+abbrev pub line_in : List Text → Option Line
+line_in [] = None
+line_in (word ∷ rest) =
+    if bytes_eq word (codes "channel") then option_map line.Channel (only_number 7 1 65535 rest)
+    else if bytes_eq word (codes "made") then option_map line.Made (only_number 7 0 1000000 rest)
+    else if bytes_eq word (codes "refused") then option_map line.Refused (only_number 7 1 1000000 rest)
+    else if bytes_eq word (codes "placed") then placed_in rest
+    else if bytes_eq word (codes "packets") then option_map line.Packets (only_number 10 0 9999999999 rest)
+    else None
+
+-- what a line says; nothing where it may not stand in a report
+unfoldable pub said : Text → Option Line
+said text = line_in (words text)
+
+-- the ranges of what a line says
+abbrev pub IsLine : Line → Type 0
+IsLine (line.Channel n) = (1 ≤ n) × (n ≤ 65535)
+IsLine (line.Made n) = n ≤ 1000000
+IsLine (line.Refused n) = (1 ≤ n) × (n ≤ 1000000)
+IsLine (line.Placed p) = IsPlaced p
+IsLine (line.Packets n) = n ≤ 9999999999

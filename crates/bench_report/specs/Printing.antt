@@ -1,0 +1,47 @@
+-- The text of a report: its lines, single spaces between their words, each ended by LF.
+use Rattle.std.specs.Prelude.{ℕ, List, [], ◌∷◌, ◌++◌, codes, decimal}
+use Rattle.std.specs.List.{flat_map}
+use Rattle.bc_machine.specs.declared.placed.Placed.{Placed}
+use Rattle.mil_host.specs.Words.{Text}
+use Rattle.mil_host.specs.Printing.{spaced, text_of}
+use Rattle.bench_report.specs.Reports.{ChannelPart, RunReport}
+use Rattle.bench_report.specs.Spelling.{part_lines, report_lines}
+use Rattle.bench_report.specs.declared.lines.Line.{Line}
+use Rattle.bench_report.specs.declared.lines.Line.TheVariants as line
+use Rattle.bench_report.specs.declared.fault.ReportFault.{ReportFault}
+use Rattle.bench_report.specs.declared.fault.ReportFault.TheVariants as fault
+use Rattle.bench_report.specs.declared.fault.ReportError.{ReportError}
+
+-- the words of a line; those of an action stand in its text
+abbrev pub line_words : Line → List Text
+line_words (line.Channel n) = codes "channel" ∷ decimal n ∷ []
+line_words (line.Made n) = codes "made" ∷ decimal n ∷ []
+line_words (line.Refused n) = codes "refused" ∷ decimal n ∷ []
+line_words (line.Placed p) = codes "placed" ∷ decimal p.number ∷ decimal p.address ∷ text_of p.action ∷ []
+line_words (line.Packets n) = codes "packets" ∷ decimal n ∷ []
+
+-- a line and its end
+abbrev pub line_text : Line → Text
+line_text l = spaced (line_words l) ++ codes "\n"
+
+abbrev pub refused_text : ℕ → Text
+refused_text n = line_text (line.Refused n)
+
+abbrev pub placed_text : Placed → Text
+placed_text p = line_text (line.Placed p)
+
+abbrev pub part_text : ChannelPart → Text
+part_text p = flat_map line_text (part_lines p)
+
+unfoldable pub report_text : RunReport → Text
+report_text r = flat_map line_text (report_lines r)
+
+abbrev pub code_of : ReportFault → Text
+code_of fault.Word = codes "X1"
+code_of fault.Number = codes "X2"
+code_of fault.Order = codes "X3"
+code_of fault.Memory = codes "X4"
+
+-- a fault with its line
+abbrev pub error_text : ReportError → Text
+error_text e = code_of e.fault ++ (codes " line " ++ decimal e.line)

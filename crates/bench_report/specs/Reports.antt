@@ -1,0 +1,51 @@
+-- A run's report: for each channel, in the order of the jobs, how many messages it made, which of them a full queue
+-- refused, and the hosts' actions that were placed; and how many packets were written (own choice).
+use Rattle.std.specs.Prelude.{ℕ, ◌≤◌, ◌<◌, List, [], ◌∷◌, All}
+use Rattle.mil_host.specs.Ranges.{IsInRange}
+use Rattle.bc_machine.specs.declared.placed.Placed.{Placed}
+
+-- what contracts see of the report of one channel
+pub record ChannelPart : Type 0 where
+  pub channel : ℕ
+  pub made : ℕ
+  pub refused : List ℕ
+  pub placed : List Placed
+
+-- what they see of the report of a run
+pub record RunReport : Type 0 where
+  pub channels : List ChannelPart
+  pub packets : ℕ
+
+-- numbers that rise, all of them above one number and none over another
+abbrev pub Rises : ℕ → ℕ → List ℕ → Type 0
+Rises above most [] = Unit {0}
+Rises above most (n ∷ ns) = (above < n) × (n ≤ most) × Rises n most ns
+
+-- the numbers of placed actions never fall, and none is below this one
+abbrev pub NeverFalls : ℕ → List Placed → Type 0
+NeverFalls least [] = Unit {0}
+NeverFalls least (p ∷ ps) = (least ≤ p.number) × NeverFalls p.number ps
+
+-- the number of a message, and the address of a terminal
+pub record IsPlace (p : Placed) : Type 0 where
+  pub number_low : 1 ≤ p.number
+  pub number_high : p.number ≤ 1000000
+  pub address : p.address ≤ 30
+
+-- the same, with an action whose values are in their ranges
+pub record IsPlaced (p : Placed) : Type 0 where
+  pub place : IsPlace p
+  pub action : IsInRange p.action
+
+pub record IsPart (p : ChannelPart) : Type 0 where
+  pub channel_low : 1 ≤ p.channel
+  pub channel_high : p.channel ≤ 65535
+  pub made : p.made ≤ 1000000
+  pub refused : Rises 0 p.made p.refused
+  pub placed : All IsPlaced p.placed
+  pub order : NeverFalls 0 p.placed
+
+-- each part of a report is one, and packets have at most ten digits
+pub record IsReport (r : RunReport) : Type 0 where
+  pub parts : All IsPart r.channels
+  pub packets : r.packets ≤ 9999999999

@@ -1,0 +1,153 @@
+//! The report of one channel.
+ghost use Rattle.std.specs.Prelude.{◌≡◌, ◌≤◌, All, [], ◌∷◌, ◌++◌};
+ghost use Rattle.mil_host.specs.Ranges.{IsInRange};
+ghost use Rattle.bc_machine.specs.declared.placed.Placed.{Placed};
+ghost use Rattle.bench_report.specs.Reports.{IsPart, IsPlaced, IsPlace, Rises, NeverFalls};
+ghost use Rattle.bench_report.specs.Drafts.{Takes, last_number, numbers, with_refused, with_placed};
+
+use crate::fault::ReportFault;
+use bc_machine::Placed;
+use std::alloc::Global;
+use std::marker::Model;
+
+/// The report of one channel: how many messages it made, the numbers of those that a full queue refused, rising, and the
+/// actions of hosts that were placed, whose numbers never fall. A placed number may be above the number made.
+#[derive(Drop)]
+pub struct ChannelReport {
+    channel: u16,
+    made: u32,
+    refused: Vec<u32>,
+    placed: Vec<Placed>,
+}
+
+impl Model for ChannelReport {
+    ghost use Rattle.bench_report.specs.Reports.{ChannelPart, IsPart};
+
+    ghost Value = { ChannelPart };
+
+    ghost view = { λ c. record { channel = c.channel; made = c.made; refused = c.refused.items; placed = c.placed.items } };
+
+    ghost invariant = { λ c. IsPart (record { channel = c.channel; made = c.made; refused = c.refused.items; placed = c.placed.items }) };
+}
+
+impl ChannelReport {
+    /// The report of a channel of 1 to 65,535 that made up to 1,000,000 messages. The refused numbers rise within 1 to `made`;
+    /// the placed ones are 1 to 1,000,000 and never fall, at addresses of 0 to 30.
+    pub fn make(channel: u16, made: u32, refused: Vec<u32>, placed: Vec<Placed>) -> ChannelReport
+        requires channel { 1 ≤ channel }
+        requires made { made ≤ 1000000 }
+        requires refused { Rises 0 made refused.items }
+        requires placed { All IsPlace placed.items }
+        requires order { NeverFalls 0 placed.items }
+        ensures { result ≡ record { channel = channel; made = made; refused = refused.items; placed = placed.items } }
+    {
+        keep_ranges(&placed);
+        ChannelReport {
+            channel,
+            made,
+            refused,
+            placed,
+        }
+    }
+
+    /// A channel that made so many messages, as far as its first two lines say.
+    pub fn begin(alloc: Global, channel: u16, made: u32) -> ChannelReport
+        requires channel { 1 ≤ channel }
+        requires made { made ≤ 1000000 }
+        ensures { result ≡ record { channel = channel; made = made; refused = []; placed = [] } }
+    {
+        ChannelReport::make(channel, made, Vec::new(alloc), Vec::new(alloc))
+    }
+
+    /// The channel, 1 to 65,535.
+    pub fn channel(&self) -> u16
+        ensures value { result ≡ self.now.channel }
+        ensures part { IsPart self.now }
+    {
+        self.channel
+    }
+
+    /// How many messages were made, 0 to 1,000,000.
+    pub fn made(&self) -> u32
+        ensures value { result ≡ self.now.made }
+        ensures part { IsPart self.now }
+    {
+        self.made
+    }
+
+    /// The refused numbers, rising within 1 to the number made.
+    pub fn refused(&self) -> &[u32]
+        ensures value { result.now ≡ self.now.refused }
+        ensures part { IsPart self.now }
+    {
+        &self.refused
+    }
+
+    /// The placed actions; their numbers never fall.
+    pub fn placed(&self) -> &[Placed]
+        ensures value { result.now ≡ self.now.placed }
+        ensures part { IsPart self.now }
+    {
+        &self.placed
+    }
+
+    /// The refused numbers and the placed actions, in the memory that they have.
+    pub fn into_lists(self) -> (Vec<u32>, Vec<Placed>)
+        ensures refused { result.0.items ≡ self.refused }
+        ensures placed { result.1.items ≡ self.placed }
+    {
+        (self.refused, self.placed)
+    }
+
+    /// A refused number behind those that are there.
+    pub(crate) fn add_refused(&mut self, number: u32) -> Result<(), ReportFault>
+        ensures { Takes result (with_refused self.old number) self.new }
+    {
+        if !self.placed.is_empty() || number <= last_refused(&self.refused) || self.made < number {
+            return Err(ReportFault::Order);
+        }
+        self.refused.push(number)?;
+        Ok(())
+    }
+
+    /// A placed action behind those that are there.
+    pub(crate) fn add_placed(&mut self, placed: Placed) -> Result<(), ReportFault>
+        requires { IsPlaced placed }
+        ensures { Takes result (with_placed self.old placed) self.new }
+    {
+        if placed.number < last_placed(&self.placed) {
+            return Err(ReportFault::Order);
+        }
+        self.placed.push(placed)?;
+        Ok(())
+    }
+}
+
+/// The last refused number, and 0 where there is none.
+fn last_refused(refused: &[u32]) -> u32
+    ensures { result ≡ last_number 0 refused.now }
+{
+    match refused.last() {
+        Some(number) => *number,
+        None => 0,
+    }
+}
+
+/// The number of the last placed action, and 0 where there is none.
+fn last_placed(placed: &[Placed]) -> u32
+    ensures { result ≡ last_number 0 (numbers placed.now) }
+{
+    match placed.last() {
+        Some(placed) => placed.number,
+        None => 0,
+    }
+}
+
+/// Each action keeps its ranges.
+fn keep_ranges(placed: &[Placed])
+    ensures { All (λ (p : Placed). IsInRange p.action) placed.now }
+{
+    for one in placed {
+        one.action.reads_back();
+    }
+}

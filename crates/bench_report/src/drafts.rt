@@ -1,0 +1,110 @@
+//! A report as far as its lines have come.
+ghost use Rattle.std.specs.Prelude.{◌≡◌};
+ghost use Rattle.bench_report.specs.Lines.{IsLine, said};
+ghost use Rattle.bench_report.specs.Drafts.{Takes, Reads, no_lines, closed, made_line, refused_line, placed_line, with_line, with_said, finished};
+
+use crate::channels::ChannelReport;
+use crate::fault::ReportFault;
+use crate::lines::{Line, read_line};
+use crate::reports::Report;
+use crate::stages::Stage;
+use std::alloc::Global;
+use std::marker::Model;
+use std::mem;
+
+/// The channels that are done, and the one whose lines are read.
+#[derive(Drop)]
+pub struct Draft {
+    alloc: Global,
+    done: Vec<ChannelReport>,
+    stage: Stage,
+}
+
+impl Model for Draft {
+    ghost use Rattle.bench_report.specs.Drafts.{Draft as Drafted, IsStage};
+
+    ghost Value = { Drafted };
+
+    ghost view = { λ d. record { done = d.done.items; stage = d.stage } };
+
+    ghost invariant = { λ d. IsStage d.stage };
+}
+
+impl Draft {
+    /// A report of which no line has come.
+    pub fn empty(alloc: Global) -> Draft
+        ensures { result ≡ no_lines }
+    {
+        Draft {
+            alloc,
+            done: Vec::new(alloc),
+            stage: Stage::Begin,
+        }
+    }
+
+    /// The line of a text.
+    pub fn take_text(&mut self, text: &[u8]) -> Result<(), ReportFault>
+        ensures { Takes result (with_said self.old (said text.now)) self.new }
+    {
+        let line = read_line(text)?;
+        self.take(line)
+    }
+
+    /// One more line.
+    fn take(&mut self, line: Line) -> Result<(), ReportFault>
+        requires { IsLine line }
+        ensures { Takes result (with_line self.old line) self.new }
+    {
+        match line {
+            Line::Channel(channel) => {
+                self.close()?;
+                self.stage = Stage::Named(channel);
+                Ok(())
+            }
+            Line::Packets(packets) => {
+                self.close()?;
+                self.stage = Stage::End(packets);
+                Ok(())
+            }
+            Line::Made(made) => match self.stage {
+                Stage::Named(channel) => {
+                    self.stage = Stage::Body(ChannelReport::begin(self.alloc, channel, made));
+                    Ok(())
+                }
+                _ => Err(ReportFault::Order),
+            },
+            Line::Refused(number) => match &mut self.stage {
+                Stage::Body(channel) => channel.add_refused(number),
+                _ => Err(ReportFault::Order),
+            },
+            Line::Placed(placed) => match &mut self.stage {
+                Stage::Body(channel) => channel.add_placed(placed),
+                _ => Err(ReportFault::Order),
+            },
+        }
+    }
+
+    /// The channel whose lines were read is done.
+    fn close(&mut self) -> Result<(), ReportFault>
+        ensures { Takes result (closed self.old.done self.old.stage) self.new.done }
+    {
+        match mem::replace(&mut self.stage, Stage::Begin) {
+            Stage::Begin => Ok(()),
+            Stage::Body(channel) => {
+                self.done.push(channel)?;
+                Ok(())
+            }
+            Stage::Named(_) | Stage::End(_) => Err(ReportFault::Order),
+        }
+    }
+
+    /// The report, once its last line has come.
+    pub fn finish(self) -> Result<Report, ReportFault>
+        ensures { Reads (λ r. r) result (finished self) }
+    {
+        match self.stage {
+            Stage::End(packets) => Ok(Report::make(self.done, packets)),
+            _ => Err(ReportFault::Order),
+        }
+    }
+}

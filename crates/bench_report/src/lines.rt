@@ -1,0 +1,75 @@
+//! The lines of a report.
+ghost use Rattle.std.specs.Prelude.{◌≡◌, ◌≤◌, IfOk};
+ghost use Rattle.mil_host.specs.Words.{words};
+ghost use Rattle.bench_report.specs.Lines.{placed_in, said, IsLine};
+ghost use Rattle.bench_report.specs.Reports.{IsPlaced};
+ghost use Rattle.bench_report.specs.Drafts.{Reads};
+
+use crate::fault::ReportFault;
+use crate::numbers::{number, only_number_in};
+use bc_machine::Placed;
+use mil_host::{next_word, read_action};
+
+/// What a line says.
+#[derive(Drop)]
+pub enum Line {
+    /// The channel that the lines behind it are about, 1 to 65,535.
+    Channel(u16),
+    /// How many messages it made, 0 to 1,000,000.
+    Made(u32),
+    /// The number of a refused message, 1 to 1,000,000.
+    Refused(u32),
+    /// An action of a host.
+    Placed(Placed),
+    /// How many packets were written, of at most ten digits.
+    Packets(u64),
+}
+
+/// The words behind `placed`.
+#[tactic(auto, unfolding(mil_host::specs::Reading::action_in))]
+fn read_placed(rest: &[u8]) -> Result<Placed, ReportFault>
+    ensures value { Reads Line.Placed result (placed_in (words rest.now)) }
+    ensures range { IfOk result IsPlaced }
+{
+    let Some((number_word, behind)) = next_word(rest) else {
+        return Err(ReportFault::Word);
+    };
+    let Some((address_word, text)) = next_word(behind) else {
+        return Err(ReportFault::Word);
+    };
+    let Ok(action) = read_action(text) else {
+        return Err(ReportFault::Word);
+    };
+    action.reads_back();
+    let placed = number(number_word, 7, 1, 1_000_000)?;
+    let address = number(address_word, 7, 0, 30)?;
+    Ok(Placed {
+        number: placed as u32,
+        address: address as u8,
+        action,
+    })
+}
+
+/// What a line says.
+#[tactic(auto, unfolding(crate::specs::Lines::said))]
+pub fn read_line(text: &[u8]) -> Result<Line, ReportFault>
+    ensures value { Reads (λ l. l) result (said text.now) }
+    ensures range { IfOk result IsLine }
+{
+    let Some((word, rest)) = next_word(text) else {
+        return Err(ReportFault::Word);
+    };
+    if word == b"channel".as_slice() {
+        Ok(Line::Channel(only_number_in(rest, 7, 1, 65_535)? as u16))
+    } else if word == b"made".as_slice() {
+        Ok(Line::Made(only_number_in(rest, 7, 0, 1_000_000)? as u32))
+    } else if word == b"refused".as_slice() {
+        Ok(Line::Refused(only_number_in(rest, 7, 1, 1_000_000)? as u32))
+    } else if word == b"placed".as_slice() {
+        Ok(Line::Placed(read_placed(rest)?))
+    } else if word == b"packets".as_slice() {
+        Ok(Line::Packets(only_number_in(rest, 10, 0, 9_999_999_999)?))
+    } else {
+        Err(ReportFault::Word)
+    }
+}

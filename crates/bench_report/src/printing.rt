@@ -1,0 +1,110 @@
+//! The text of a report.
+ghost use Rattle.std.specs.Prelude.{◌≡◌, IfOk, string_bytes};
+ghost use Rattle.bench_report.specs.Printing.{report_text};
+ghost use Rattle.bench_report.specs.Spelling.{Spells};
+
+use crate::channels::ChannelReport;
+use crate::reports::Report;
+use bc_machine::Placed;
+use std::alloc::{AllocError, Global};
+use std::fmt;
+
+/// The text of a report, which spells it: `read_report` reads it back. Single spaces part words, and LF ends each line.
+pub fn print_report(alloc: Global, report: &Report) -> Result<String, AllocError>
+    ensures text { IfOk result (λ s. string_bytes s ≡ report_text report.now) }
+    ensures spelled { IfOk result (λ s. Spells (string_bytes s) report.now) }
+{
+    let _packets = report.packets();
+    let text = report.to_string(alloc)?;
+    Ok(text)
+}
+
+/// The refused numbers, each on a line.
+#[derive(Clone, Copy)]
+struct RefusedLines<'a>(&'a [u32]);
+
+impl fmt::Display for RefusedLines<'_> {
+    ghost use Rattle.std.specs.Prelude.{Some};
+    ghost use Rattle.std.specs.List.{flat_map};
+    ghost use Rattle.bench_report.specs.Printing.{refused_text};
+
+    ghost output = { λ r. Some (flat_map refused_text r.0.now) };
+
+    fn fmt<W: fmt::Write>(&self, f: &mut fmt::Formatter<W>) -> fmt::Result {
+        for number in self.0 {
+            write!(f, "refused {number}\n")?;
+        }
+        Ok(())
+    }
+}
+
+/// The placed actions, each on a line.
+#[derive(Clone, Copy)]
+struct PlacedLines<'a>(&'a [Placed]);
+
+impl fmt::Display for PlacedLines<'_> {
+    ghost use Rattle.std.specs.Prelude.{Some};
+    ghost use Rattle.std.specs.List.{flat_map};
+    ghost use Rattle.bench_report.specs.Printing.{placed_text};
+
+    ghost output = { λ p. Some (flat_map placed_text p.0.now) };
+
+    fn fmt<W: fmt::Write>(&self, f: &mut fmt::Formatter<W>) -> fmt::Result {
+        for one in self.0 {
+            let number = one.number;
+            let address = one.address;
+            let action = &one.action;
+            write!(f, "placed {number} {address} {action}\n")?;
+        }
+        Ok(())
+    }
+}
+
+/// The lines of a channel.
+impl fmt::Display for ChannelReport {
+    ghost use Rattle.std.specs.Prelude.{Some};
+    ghost use Rattle.bench_report.specs.Printing.{part_text};
+
+    ghost output = { λ c. Some (part_text c) };
+
+    fn fmt<W: fmt::Write>(&self, f: &mut fmt::Formatter<W>) -> fmt::Result {
+        let channel = self.channel();
+        let made = self.made();
+        let refused = RefusedLines(self.refused());
+        let placed = PlacedLines(self.placed());
+        write!(f, "channel {channel}\nmade {made}\n{refused}{placed}")
+    }
+}
+
+/// The lines of channels, one after the other.
+#[derive(Clone, Copy)]
+struct Channels<'a>(&'a [ChannelReport]);
+
+impl fmt::Display for Channels<'_> {
+    ghost use Rattle.std.specs.Prelude.{Some};
+    ghost use Rattle.std.specs.List.{flat_map};
+    ghost use Rattle.bench_report.specs.Printing.{part_text};
+
+    ghost output = { λ c. Some (flat_map part_text c.0.now) };
+
+    fn fmt<W: fmt::Write>(&self, f: &mut fmt::Formatter<W>) -> fmt::Result {
+        for channel in self.0 {
+            write!(f, "{channel}")?;
+        }
+        Ok(())
+    }
+}
+
+/// The report as its text.
+impl fmt::Display for Report {
+    ghost use Rattle.std.specs.Prelude.{Some};
+    ghost use Rattle.bench_report.specs.Printing.{report_text};
+
+    ghost output = { λ r. Some (report_text r) };
+
+    fn fmt<W: fmt::Write>(&self, f: &mut fmt::Formatter<W>) -> fmt::Result {
+        let channels = Channels(self.channels());
+        let packets = self.packets();
+        write!(f, "{channels}packets {packets}\n")
+    }
+}
