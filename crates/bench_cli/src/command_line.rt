@@ -61,9 +61,9 @@ fn assemble_command<'a>(alloc: Global) -> Result<Command<'a>, AllocError> {
     let script = Arg::new(alloc, "SCRIPT")
         .required(true)
         .help("The script to assemble, as a text");
-    let image = Arg::new(alloc, "IMAGE")
-        .required(true)
-        .help("The file to write the image to; it is written only where the script is accepted");
+    let image = Arg::new(alloc, "IMAGE").required(true).help(
+        "The file to write the image to; it is written only where the script is accepted",
+    );
     Command::new(alloc, "assemble")
         .about("Assembles a script into an image for the bus controller, and prints its sizes")
         .after_help("Example:\n  bench assemble poll.script poll.bc")
