@@ -1,5 +1,5 @@
 -- The actions placed at a message, and its exchange.
-use Rattle.std.proofs.Common.{◌≡◌, ◌≤◌, ◌+◌, ℕ, suc, List, [], ◌∷◌, refl, ap₂, arith}
+use Rattle.std.proofs.Common.{ap, ◌≡◌, ◌≤◌, ◌+◌, ℕ, suc, List, [], ◌∷◌, refl, ap₂, arith}
 use Rattle.mil_word.specs.declared.Line.{Line}
 use Rattle.mil_message.specs.declared.forms.Form.{Form}
 use Rattle.mil_line.specs.declared.faults.Fault.{Fault}
@@ -55,3 +55,8 @@ talk_ends t = ends_after 0 t.start t.sent.items
 
 pub ready_clock : (placed : List Placed) (number : ℕ) (b : BusState) → clock_of (ready placed number b).start (ready placed number b).talks ≡ clock_of b.start b.talks
 ready_clock placed number b = ap₂ clock_of (ready_start placed number b) (ready_talks placed number b)
+
+-- what counts is which actions are placed at the number
+pub ready_same : (number : ℕ) (ps qs : List Placed) (b : BusState) → placed_at number ps ≡ placed_at number qs → ready ps number b ≡ ready qs number b
+unfolding ready
+ready_same number ps qs b e = ap (all_acted b) e

@@ -1,5 +1,6 @@
 pub mod Controller
 pub mod Outcomes
+pub mod Rising
 pub mod Running
 pub mod UnderWay
 pub mod Moves

@@ -6,7 +6,7 @@ abbrev pub state_in : Inside → MachineState
 state_in m = record {
   code = m.program;
   plan = m.plan;
-  placed = m.placed.items;
+  placed = m.placed;
   begun = m.begun.value.0;
   taken = m.taken;
   at = record { place = m.place; counters = m.counters; flag = m.flag; line = m.line };

@@ -9,6 +9,7 @@ mod messages;
 mod outcomes;
 mod parts;
 mod placed;
+mod schedule;
 #[cfg(test)]
 mod tests;
 

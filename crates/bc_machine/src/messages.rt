@@ -3,8 +3,8 @@ ghost use Rattle.std.specs.Prelude.{◌≡◌, ◌≤◌, ◌+◌, ◌^◌, ◌�
 ghost use Rattle.mil_bus.specs.Exchange.{clock_of};
 ghost use Rattle.bc_machine.specs.Controller.{world_of, outcome_in};
 
-use crate::Placed;
 use crate::placed::act_at;
+use crate::schedule::Schedule;
 use mil_bus::{Bus, Talk};
 use mil_line::{Gap, Plan};
 use mil_message::Message;
@@ -14,7 +14,7 @@ use mil_word::Line;
 pub fn exchange(
     bus: &mut Bus,
     plan: &Plan,
-    placed: &[Placed],
+    placed: &Schedule,
     number: u32,
     line: Line,
     message: &Message,
@@ -26,7 +26,7 @@ pub fn exchange(
     ensures talks { bus.new.talks ≡ result ∷ bus.old.talks }
     ensures soon { clock_of bus.new.start bus.new.talks ≤ clock_of bus.old.start bus.old.talks + 2 ^ 24 }
 {
-    act_at(bus, placed, number);
+    act_at(bus, placed.around(number), number);
     let faults = plan.faults(number);
     bus.exchange(line, message, gap, faults.as_slice())
 }

@@ -18,7 +18,7 @@ use crate::begun::{Begun, begun_with, same};
 use crate::counters::Counters;
 use crate::messages::exchange;
 use crate::outcomes::{asks, other};
-use crate::placed::copied;
+use crate::schedule::Schedule;
 use crate::{Placed, Stepped};
 use frame_code::Op;
 use frame_load::Program;
@@ -35,7 +35,7 @@ use std::snapshot::Snapshot;
 pub struct Parts {
     program: Program,
     plan: Plan,
-    placed: Vec<Placed>,
+    placed: Schedule,
     begun: Snapshot<Begun>,
     taken: u32,
     place: u16,
@@ -70,7 +70,7 @@ impl Parts {
         Parts {
             program,
             plan,
-            placed,
+            placed: Schedule::of(placed),
             begun,
             taken: 0,
             place: 0,
@@ -197,7 +197,7 @@ impl Parts {
         let talk = exchange(
             &mut self.bus,
             &self.plan,
-            self.placed.as_slice(),
+            &self.placed,
             self.number,
             line,
             message,
@@ -268,7 +268,7 @@ impl Parts {
         Ok(Parts {
             program: self.program.copy()?,
             plan: self.plan.copy()?,
-            placed: copied(*self.placed.allocator(), self.placed.as_slice())?,
+            placed: self.placed.copy()?,
             begun: same(&self.begun),
             taken: self.taken,
             place: self.place,
