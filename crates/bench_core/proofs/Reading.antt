@@ -1,0 +1,54 @@
+-- The recording of a bench, read back.
+use Rattle.std.proofs.Common.{◌≡◌, ℕ, List, [], ◌∷◌, ◌++◌, map, refl, sym, ap, ◌∙◌, append_assoc}
+use Rattle.std.specs.List.{AllByRecursion}
+use Rattle.ch11_f1.specs.BodyReading.{Message}
+use Rattle.ch11_f1.specs.Again.{as_message}
+use Rattle.ch11_builder.specs.Packet.{Numbered, messages_of}
+use Rattle.ch11_reader.specs.Recording.{Found}
+use Rattle.ch11_reader.specs.Contents.{reading}
+use Rattle.ch11_recording.specs.declared.item.Item.{Item}
+use Rattle.ch11_recording.specs.Items.{records_in}
+use Rattle.ch11_recording.specs.WrittenFile.{Format, held_in, closed_records}
+use Rattle.ch11_recording.specs.Laws.{IsFormat, IsPrologue, IsItem, RecordingIsRead, RecordsAreKept}
+use Rattle.bench_core.specs.Bench.{Lane, Bench}
+use Rattle.bench_core.specs.Settled.{kept_of, IsSettled, ReadsBack}
+use Rattle.bench_core.proofs.Lists.{records_both}
+use Rattle.bench_core.proofs.Steps.{IsLane, IsBench}
+
+abbrev heard : List Numbered → List Message
+heard ns = map as_message (messages_of ns)
+
+heard_both : (ns ms : List Numbered) → heard (ns ++ ms) ≡ heard ns ++ heard ms
+heard_both [] ms = refl
+heard_both (n ∷ ns) ms = ap (λ (xs : List Message). as_message n.message ∷ xs) (heard_both ns ms)
+
+front_of : (xs ys : List Item) → AllByRecursion IsItem (xs ++ ys) → AllByRecursion IsItem xs
+front_of [] ys all = tt
+front_of (x ∷ xs) ys all = (all.0, front_of xs ys all.1)
+
+pub settled_lanes : (items : List Item) (lanes : List Lane) → AllByRecursion (IsLane items) lanes → AllByRecursion (λ l. records_in l.channel items ≡ kept_of l) lanes
+settled_lanes items [] all = tt
+settled_lanes items (l ∷ lanes) all = (all.0.settled, settled_lanes items lanes all.1)
+
+module _ (read : RecordingIsRead) (kept : RecordsAreKept) (f : Format) where
+  lane_read : (b : Bench) (l : Lane) (ps : List Found) → reading ps l.channel ≡ heard (closed_records f l.channel b.taken) → IsLane (b.taken ++ b.queue) l
+      → reading ps l.channel ++ heard ((held_in f l.channel b.taken).records ++ records_in l.channel b.queue) ≡ heard (kept_of l)
+  lane_read b l ps is lane =
+      let closed : List Numbered = closed_records f l.channel b.taken in
+      let held : List Numbered = (held_in f l.channel b.taken).records in
+      let queued : List Numbered = records_in l.channel b.queue in
+      ap (λ (ms : List Message). ms ++ heard (held ++ queued)) is
+      ∙ sym (heard_both closed (held ++ queued))
+      ∙ ap heard (sym (append_assoc closed held queued) ∙ ap (λ (ns : List Numbered). ns ++ queued) (kept f l.channel b.taken)
+      ∙ sym (records_both l.channel b.taken b.queue) ∙ lane.settled)
+
+  lanes_read : (b : Bench) (lanes : List Lane) (ps : List Found) → ((channel : ℕ) → reading ps channel ≡ heard (closed_records f channel b.taken))
+      → AllByRecursion (IsLane (b.taken ++ b.queue)) lanes
+      → AllByRecursion (λ l. reading ps l.channel ++ heard ((held_in f l.channel b.taken).records ++ records_in l.channel b.queue) ≡ heard (kept_of l)) lanes
+  lanes_read b [] ps is all = tt
+  lanes_read b (l ∷ lanes) ps is all = (lane_read b l ps (is l.channel) all.0, lanes_read b lanes ps is all.1)
+
+  pub reads_back : (prologue : List ℕ) (b : Bench) → IsFormat f → IsPrologue prologue → IsBench b → ReadsBack f prologue b
+  reads_back prologue b good first is =
+      let r = read f prologue b.taken good first (front_of b.taken b.queue is.items) in
+      (r.0, r.1, lanes_read b b.lanes r.0 r.2 is.lanes)
