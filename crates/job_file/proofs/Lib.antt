@@ -4,3 +4,7 @@ pub mod LineLemmas
 pub mod FitLemmas
 pub mod HeadLemmas
 pub mod Finishing
+pub mod Moves
+pub mod Limits
+pub mod Growth
+pub mod JobRuns

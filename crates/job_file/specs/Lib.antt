@@ -11,3 +11,4 @@ pub mod Reading
 pub mod Jobs
 pub mod Kept
 pub mod Meaning
+pub mod Machines

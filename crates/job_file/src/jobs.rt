@@ -6,12 +6,12 @@ ghost use Rattle.frame_tree.specs.Tree.{tree_of};
 ghost use Rattle.frame_tree.specs.Bounds.{IsSound};
 ghost use Rattle.frame_asm.specs.Shapes.{code_of};
 ghost use Rattle.bc_machine.specs.Running.{started};
-ghost use Rattle.bc_machine.specs.UnderWay.{IsUnderWay};
 ghost use Rattle.job_file.specs.Fits.{may_act, IsFit};
 ghost use Rattle.job_file.specs.Drafts.{shown};
 ghost use Rattle.job_file.specs.Spelled.{first_or};
 ghost use Rattle.job_file.specs.Jobs.{tree_in, job_in};
 ghost use Rattle.job_file.specs.Meaning.{bus_of};
+ghost use Rattle.job_file.specs.Machines.{IsOf};
 
 use crate::drafts::Draft;
 use crate::scripts::Script;
@@ -128,9 +128,10 @@ impl Job {
 
     /// A controller at the beginning of the job's program, on a bus with new terminals, under the job's planned faults and these
     /// placed actions, which are not the job's own unless the caller hands in those. It fails for want of memory alone.
+    #[tactic(auto, using(crate::proofs::JobRuns::starts_as))]
     pub fn machine(&self, alloc: Global, placed: &[Placed]) -> Result<Machine, AllocError>
         ensures value { IfOk result (λ m. m ≡ started (code_of (tree_in self.now)) (bus_of (job_in self.now)) self.now.plan placed.now) }
-        ensures under_way { IfOk result (λ m. IsUnderWay m) }
+        ensures of_job { IfOk result (λ m. IsOf (job_in self.now) placed.now m) }
     {
         let program = self.program.copy()?;
         let plan = self.plan.copy()?;

@@ -5,6 +5,7 @@ mod drafts;
 mod error;
 mod jobs;
 mod keywords;
+mod laws;
 mod lines;
 mod numbers;
 mod reading;
@@ -13,4 +14,5 @@ mod words;
 
 pub use error::{JobError, LineFault};
 pub use jobs::Job;
+pub use laws::job_runs;
 pub use reading::read_job;

@@ -1,0 +1,94 @@
+-- Runs in the world in which only the first messages leave a trace.
+use Rattle.std.proofs.Common.{◌≡◌, ◌≤◌, ◌<◌, ℕ, zero, suc, ◌+◌, ◌-◌, List, [], ◌∷◌, refl, sym, ap, ◌∙◌, arith}
+use Rattle.std.specs.Prelude.{Bool, true, false, nat_le, Option, Some, None, slice_get}
+use Rattle.std.proofs.lemmas.Bool.{le-leb, lt-leb}
+use Rattle.mil_word.specs.declared.Line.{Line}
+use Rattle.mil_message.specs.declared.messages.Message.{Message}
+use Rattle.mil_message.specs.World.{World, Point, other_line, sent}
+use Rattle.frame_code.specs.declared.Op.{Op}
+use Rattle.frame_code.specs.declared.Op.TheVariants as op
+use Rattle.frame_code.specs.Table.{Code, Registers, Running, Turn, goes_on, halted, stuck, sends, counted, turns, leaves, act, step, then_run, run}
+use Rattle.job_file.specs.Meaning.{up_to}
+use Rattle.job_file.proofs.Moves.{run_keeps, run_ends}
+
+module _ {State Outcome : Type 0} (w : World State Outcome) (k : ℕ) (code : Code) where
+  limited : World State Outcome
+  limited = up_to k w
+
+  -- numbers rise
+  abbrev Rises : Point State Outcome → Point State Outcome → Type 0
+  Rises p q = p.number ≤ q.number
+
+  rises : (n : ℕ) (r : Registers) (p : Point State Outcome) (x : Running State Outcome) → run w n code r p ≡ goes_on x → p.number ≤ x.point.number
+  rises n r p x e = run_keeps w code Rises (λ p. omega arith) (λ p t. omega arith) (λ line m p. omega arith) (λ p q s a b. omega (arith, a, b)) n r p x e
+
+  sends_agree : (o : Option (Line × Message)) (on : Line → Line) (r : Registers) (p : Point State Outcome) (x : Running State Outcome)
+      → sends w o on r p ≡ goes_on x → x.point.number ≤ k → sends (up_to k w) o on r p ≡ goes_on x
+  sends_agree None on r p x e le = e
+  sends_agree (Some m) on r p x e le =
+      let is : record { at = record r { place = r.place + 1; line = on m.0 }; point = sent w (on m.0) m.1 p } ≡ x = cc in
+      let number : p.number + 1 ≡ x.point.number = ap (λ (v : Running State Outcome). v.point.number) is in
+      let low : p.number + 1 ≤ k = omega (arith, number, le) in
+      rw (le-leb (p.number + 1) k low) e
+
+  act_agrees : (o : Option Op) (ms : List (Line × Message)) (r : Registers) (p : Point State Outcome) (x : Running State Outcome)
+      → act w o ms r p ≡ goes_on x → x.point.number ≤ k → act (up_to k w) o ms r p ≡ goes_on x
+  act_agrees None ms r p x e le = e
+  act_agrees (Some op.Halt) ms r p x e le = e
+  act_agrees (Some (op.Send m)) ms r p x e le = sends_agree (slice_get ms m) (λ l. l) r p x e le
+  act_agrees (Some (op.Alt m)) ms r p x e le = sends_agree (slice_get ms m) (λ l. other_line r.line) r p x e le
+  act_agrees (Some (op.SetGap t)) ms r p x e le = e
+  act_agrees (Some (op.Loop n)) ms r p x e le = e
+  act_agrees (Some (op.Again i)) ms r p x e le = e
+  act_agrees (Some (op.Leave i)) ms r p x e le = e
+  act_agrees (Some (op.Jump i)) ms r p x e le = e
+  act_agrees (Some (op.Test t)) ms r p x e le = e
+  act_agrees (Some (op.JumpFalse i)) ms r p x e le = e
+
+  sends_on : (o : Option (Line × Message)) (on : Line → Line) (r : Registers) (p : Point State Outcome) → sends w o on r p ≡ halted → sends (up_to k w) o on r p ≡ halted
+  sends_on None on r p e = e
+  sends_on (Some m) on r p e = absurd (cc)
+
+  act_halts : (o : Option Op) (ms : List (Line × Message)) (r : Registers) (p : Point State Outcome) → act w o ms r p ≡ halted → act (up_to k w) o ms r p ≡ halted
+  act_halts None ms r p e = e
+  act_halts (Some op.Halt) ms r p e = e
+  act_halts (Some (op.Send m)) ms r p e = sends_on (slice_get ms m) (λ l. l) r p e
+  act_halts (Some (op.Alt m)) ms r p e = sends_on (slice_get ms m) (λ l. other_line r.line) r p e
+  act_halts (Some (op.SetGap t)) ms r p e = e
+  act_halts (Some (op.Loop n)) ms r p e = e
+  act_halts (Some (op.Again i)) ms r p e = e
+  act_halts (Some (op.Leave i)) ms r p e = e
+  act_halts (Some (op.Jump i)) ms r p e = e
+  act_halts (Some (op.Test t)) ms r p e = e
+  act_halts (Some (op.JumpFalse i)) ms r p e = e
+
+  -- a run of at most k messages is the same in both worlds
+  pub run_agrees : (n : ℕ) (r : Registers) (p : Point State Outcome) (x : Running State Outcome) → run w n code r p ≡ goes_on x → x.point.number ≤ k
+      → run (up_to k w) n code r p ≡ goes_on x
+  run_agrees zero r p x e le = e
+  run_agrees (suc n) r p x e le = go (step w code r p) refl (λ z h. run_agrees n z.at z.point x h le) e
+    where
+      go : (t : Turn (Running State Outcome)) → step w code r p ≡ t
+          → ((z : Running State Outcome) → run w n code z.at z.point ≡ goes_on x → run (up_to k w) n code z.at z.point ≡ goes_on x)
+          → then_run w t (record { at = r; point = p }) (run w n code) ≡ goes_on x → run (up_to k w) (suc n) code r p ≡ goes_on x
+      go (goes_on z) s more h =
+          let low : z.point.number ≤ k = omega (arith, rises n z.at z.point x h, le) in
+          let also : step (up_to k w) code r p ≡ goes_on z = act_agrees (slice_get code.operations r.place) code.messages r p z s low in
+          ap (λ t. then_run (up_to k w) t (record { at = r; point = p }) (run (up_to k w) n code)) also ∙ more z h
+      go halted s more h =
+          let also : step (up_to k w) code r p ≡ halted = act_halts (slice_get code.operations r.place) code.messages r p s in
+          ap (λ t. then_run (up_to k w) t (record { at = r; point = p }) (run (up_to k w) n code)) also ∙ h
+      go stuck s more h = absurd (cc)
+
+  -- behind the first k messages the state stands still
+  abbrev pub Stands : Point State Outcome → Point State Outcome → Type 0
+  Stands p q = k ≤ p.number → (q.state ≡ p.state) × (k ≤ q.number)
+
+  sent_stands : (line : Line) (m : Message) (p : Point State Outcome) → Stands p (sent (up_to k w) line m p)
+  sent_stands line m p le = (rw (lt-leb (p.number + 1) k (omega (arith, le))) refl, omega (arith, le))
+
+  pub stands_still : (n m : ℕ) (r : Registers) (p : Point State Outcome) (x y : Running State Outcome) → run (up_to k w) n code r p ≡ goes_on x → run (up_to k w) m code r p ≡ goes_on y
+      → step (up_to k w) code y.at y.point ≡ halted → k ≤ x.point.number → y.point.state ≡ x.point.state
+  stands_still n m r p x y e h ends le =
+      (run_ends (up_to k w) code Stands (λ p low. (refl, low)) (λ p t low. (refl, low)) sent_stands
+      (λ p q s a b low. (let one = a low in let two = b one.1 in (two.0 ∙ one.0, two.1))) n m r p x y e h ends le).0

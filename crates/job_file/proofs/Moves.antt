@@ -1,0 +1,79 @@
+-- What every step of a run keeps, in any world.
+use Rattle.std.proofs.Common.{◌≡◌, ◌≤◌, ℕ, zero, suc, ◌-◌, List, [], ◌∷◌, refl, sym, ap, ◌∙◌, subst}
+use Rattle.std.specs.Prelude.{Option, Some, None, slice_get}
+use Rattle.mil_word.specs.declared.Line.{Line}
+use Rattle.mil_message.specs.declared.messages.Message.{Message}
+use Rattle.mil_message.specs.World.{World, Point, other_line, sent}
+use Rattle.frame_code.specs.declared.Op.{Op}
+use Rattle.frame_code.specs.declared.Op.TheVariants as op
+use Rattle.frame_code.specs.Table.{Code, Registers, Running, Turn, goes_on, halted, stuck, sends, counted, turns, leaves, act, step, then_run, run}
+use Rattle.bc_machine.proofs.Runs.{run_halted}
+
+module _ {State Outcome : Type 0} (w : World State Outcome) (code : Code) (R : Point State Outcome → Point State Outcome → Type 0)
+    (same : (p : Point State Outcome) → R p p) (gap : (p : Point State Outcome) (t : ℕ) → R p (record p { gap = t }))
+    (message : (line : Line) (m : Message) (p : Point State Outcome) → R p (sent w line m p))
+    (through : (p q s : Point State Outcome) → R p q → R q s → R p s) where
+  comes : (p : Point State Outcome) (y x : Running State Outcome) → goes_on y ≡ goes_on x → R p y.point → R p x.point
+  comes p y x e h = let is : y ≡ x = cc in subst (λ (v : Running State Outcome). R p v.point) is h
+
+  sends_keep : (o : Option (Line × Message)) (on : Line → Line) (r : Registers) (p : Point State Outcome) (x : Running State Outcome) → sends w o on r p ≡ goes_on x → R p x.point
+  sends_keep None on r p x e = absurd (cc)
+  sends_keep (Some m) on r p x e = comes p _ x e (message (on m.0) m.1 p)
+
+  counted_keep : (n : ℕ) (ns : List ℕ) (i : ℕ) (r : Registers) (p : Point State Outcome) (x : Running State Outcome) → counted w n ns i r p ≡ goes_on x → R p x.point
+  counted_keep zero ns i r p x e = comes p _ x e (same p)
+  counted_keep (suc n) ns i r p x e = comes p _ x e (same p)
+
+  turns_keep : (ns : List ℕ) (i : ℕ) (r : Registers) (p : Point State Outcome) (x : Running State Outcome) → turns w ns i r p ≡ goes_on x → R p x.point
+  turns_keep [] i r p x e = absurd (cc)
+  turns_keep (n ∷ ns) i r p x e = counted_keep (n - 1) ns i r p x e
+
+  leaves_keep : (ns : List ℕ) (i : ℕ) (r : Registers) (p : Point State Outcome) (x : Running State Outcome) → leaves w ns i r p ≡ goes_on x → R p x.point
+  leaves_keep [] i r p x e = absurd (cc)
+  leaves_keep (n ∷ ns) i r p x e = comes p _ x e (same p)
+
+  act_keeps : (o : Option Op) (ms : List (Line × Message)) (r : Registers) (p : Point State Outcome) (x : Running State Outcome) → act w o ms r p ≡ goes_on x → R p x.point
+  act_keeps None ms r p x e = absurd (cc)
+  act_keeps (Some op.Halt) ms r p x e = absurd (cc)
+  act_keeps (Some (op.Send m)) ms r p x e = sends_keep (slice_get ms m) (λ l. l) r p x e
+  act_keeps (Some (op.Alt m)) ms r p x e = sends_keep (slice_get ms m) (λ l. other_line r.line) r p x e
+  act_keeps (Some (op.SetGap t)) ms r p x e = comes p _ x e (gap p t)
+  act_keeps (Some (op.Loop n)) ms r p x e = comes p _ x e (same p)
+  act_keeps (Some (op.Again i)) ms r p x e = turns_keep r.counters i r p x e
+  act_keeps (Some (op.Leave i)) ms r p x e = leaves_keep r.counters i r p x e
+  act_keeps (Some (op.Jump i)) ms r p x e = comes p _ x e (same p)
+  act_keeps (Some (op.Test k)) ms r p x e = comes p _ x e (same p)
+  act_keeps (Some (op.JumpFalse i)) ms r p x e = comes p _ x e (same p)
+
+  pub step_keeps : (r : Registers) (p : Point State Outcome) (x : Running State Outcome) → step w code r p ≡ goes_on x → R p x.point
+  step_keeps r p x e = act_keeps (slice_get code.operations r.place) code.messages r p x e
+
+  pub run_keeps : (n : ℕ) (r : Registers) (p : Point State Outcome) (x : Running State Outcome) → run w n code r p ≡ goes_on x → R p x.point
+  run_keeps zero r p x e = comes p _ x e (same p)
+  run_keeps (suc n) r p x e = go (step w code r p) refl (λ z h. run_keeps n z.at z.point x h) e
+    where
+      go : (t : Turn (Running State Outcome)) → step w code r p ≡ t → ((z : Running State Outcome) → run w n code z.at z.point ≡ goes_on x → R z.point x.point)
+          → then_run w t (record { at = r; point = p }) (run w n code) ≡ goes_on x → R p x.point
+      go (goes_on z) s more h = through p z.point x.point (step_keeps r p z s) (more z h)
+      go halted s more h = comes p _ x h (same p)
+      go stuck s more h = absurd (cc)
+
+  -- from where a run is to where it halts
+  pub run_ends : (n m : ℕ) (r : Registers) (p : Point State Outcome) (x y : Running State Outcome) → run w n code r p ≡ goes_on x → run w m code r p ≡ goes_on y
+      → step w code y.at y.point ≡ halted → R x.point y.point
+  run_ends zero m r p x y e h ends =
+      let is : record { at = r; point = p } ≡ x = cc in
+      subst (λ (v : Running State Outcome). R v.point y.point) is (run_keeps m r p y h)
+  run_ends (suc n) zero r p x y e h ends =
+      let is : record { at = r; point = p } ≡ y = cc in
+      let here : step w code r p ≡ halted = ap (λ (v : Running State Outcome). step w code v.at v.point) is ∙ ends in
+      let also : goes_on (record { at = r; point = p }) ≡ goes_on x = sym (run_halted w code (suc n) r p here) ∙ e in
+      let too : y ≡ x = cc in
+      subst (λ (v : Running State Outcome). R v.point y.point) too (same y.point)
+  run_ends (suc n) (suc m) r p x y e h ends = go (step w code r p) (λ z f g. run_ends n m z.at z.point x y f g ends) e h
+    where
+      go : (t : Turn (Running State Outcome)) → ((z : Running State Outcome) → run w n code z.at z.point ≡ goes_on x → run w m code z.at z.point ≡ goes_on y → R x.point y.point)
+          → then_run w t (record { at = r; point = p }) (run w n code) ≡ goes_on x → then_run w t (record { at = r; point = p }) (run w m code) ≡ goes_on y → R x.point y.point
+      go (goes_on z) more f g = more z f g
+      go halted more f g = let too : y ≡ x = cc in subst (λ (v : Running State Outcome). R v.point y.point) too (same y.point)
+      go stuck more f g = absurd (cc)

@@ -1,0 +1,18 @@
+use Rattle.std.proofs.Common.{refl}
+use Rattle.job_file.proofs.JobRuns.{stays, so_far, bus_so_far, all_records}
+use Rattle.job_file.proofs.laws.job_runs.Goals as goal
+
+pub returns-clause-starts : goal.returns-clause-starts
+returns-clause-starts c job placed under_way = record { code = refl; plan = refl; actions = refl; begun = refl; under_way = under_way }
+
+pub returns-clause-goes_on : goal.returns-clause-goes_on
+returns-clause-goes_on c job placed m of under_way = stays job placed m of under_way
+
+pub returns-clause-so_far : goal.returns-clause-so_far
+returns-clause-so_far c job placed m sound of = so_far c.code_means.ensures job placed m sound of
+
+pub returns-clause-bus : goal.returns-clause-bus
+returns-clause-bus c job placed m sound of = bus_so_far c.code_means.ensures job placed m sound of
+
+pub returns-clause-whole : goal.returns-clause-whole
+returns-clause-whole c job placed m sound of e = all_records c.code_means.ensures job placed m sound of e

@@ -1,0 +1,46 @@
+-- The controller of a job, and what is known of it as it goes on.
+use Rattle.std.specs.Prelude.{◌≡◌, ℕ, List, take}
+use Rattle.frame_tree.specs.Bounds.{IsSound}
+use Rattle.frame_code.specs.Table.{halted}
+use Rattle.frame_asm.specs.Shapes.{code_of}
+use Rattle.bc_machine.specs.declared.placed.Placed.{Placed}
+use Rattle.bc_machine.specs.Running.{MachineState, started, stepped, turn_of}
+use Rattle.bc_machine.specs.UnderWay.{IsUnderWay}
+use Rattle.job_file.specs.Spelled.{ChannelJob}
+use Rattle.job_file.specs.Meaning.{bus_of, records_in, records, bus_after}
+
+-- a controller under way that runs the job's script, from new terminals, under the job's planned faults and these placed actions
+pub record IsOf (job : ChannelJob) (placed : List Placed) (m : MachineState) : Type 0 where
+  pub code : m.code ≡ code_of job.tree
+  pub plan : m.plan ≡ job.plan
+  pub actions : m.placed ≡ placed
+  pub begun : m.begun ≡ bus_of job
+  pub under_way : IsUnderWay m
+
+-- its controller at the beginning is the job's
+abbrev pub Starts : Type 0
+Starts =
+    (job : ChannelJob) (placed : List Placed) → IsUnderWay (started (code_of job.tree) (bus_of job) job.plan placed)
+    → IsOf job placed (started (code_of job.tree) (bus_of job) job.plan placed)
+
+-- and stays so with each step
+abbrev pub GoesOn : Type 0
+GoesOn = (job : ChannelJob) (placed : List Placed) (m : MachineState) → IsOf job placed m → IsUnderWay (stepped m) → IsOf job placed (stepped m)
+
+-- the records so far are the first of the job's, as many as messages were sent
+abbrev pub RecordsSoFar : Type 0
+RecordsSoFar =
+    (job : ChannelJob) (placed : List Placed) (m : MachineState) → IsSound job.tree → IsOf job placed m
+    → records_in m.point.state ≡ take m.point.number (records job placed)
+
+-- the bus is the job's after that many messages
+abbrev pub BusSoFar : Type 0
+BusSoFar =
+    (job : ChannelJob) (placed : List Placed) (m : MachineState) → IsSound job.tree → IsOf job placed m
+    → m.point.state ≡ bus_after job placed m.point.number
+
+-- where it halts, the records are all of the job's
+abbrev pub AllRecords : Type 0
+AllRecords =
+    (job : ChannelJob) (placed : List Placed) (m : MachineState) → IsSound job.tree → IsOf job placed m → turn_of m ≡ halted
+    → records_in m.point.state ≡ records job placed
