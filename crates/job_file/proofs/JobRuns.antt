@@ -68,8 +68,8 @@ module _ (means : CodeMeans) (job : ChannelJob) (placed : List Placed) (m : Mach
       let way : run w m.taken code start first ≡ goes_on (here m) = reached job placed m of in
       let ends : step w code m.at m.point ≡ halted = halts_here job placed m of e in
       let one : goes_on (here m) ≡ goes_on last =
-          ⊎_elim (λ less. sym (run_stays w code m.taken b.steps start first (here m) ends way (omega (arith, less))) ∙ b.comes)
-          (λ le. sym way ∙ run_stays w code b.steps m.taken start first last b.halts b.comes le) (cases_lt m.taken b.steps) in
+      ⊎_elim (λ less. sym (run_stays w code m.taken b.steps start first (here m) ends way (omega (arith, less))) ∙ b.comes)
+      (λ le. sym way ∙ run_stays w code b.steps m.taken start first last b.halts b.comes le) (cases_lt m.taken b.steps) in
       let same : here m ≡ last = cc in
       ap (λ (v : Running BusState Outcome). records_in v.point.state) same
 

@@ -10,6 +10,8 @@ mod lines;
 mod numbers;
 mod reading;
 mod scripts;
+#[cfg(test)]
+mod tests;
 mod words;
 
 pub use error::{JobError, LineFault};
