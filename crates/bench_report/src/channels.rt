@@ -51,7 +51,7 @@ impl ChannelReport {
     }
 
     /// A channel that made so many messages, as far as its first two lines say.
-    pub fn begin(alloc: Global, channel: u16, made: u32) -> ChannelReport
+    pub(crate) fn begin(alloc: Global, channel: u16, made: u32) -> ChannelReport
         requires channel { 1 ≤ channel }
         requires made { made ≤ 1000000 }
         ensures { result ≡ record { channel = channel; made = made; refused = []; placed = [] } }

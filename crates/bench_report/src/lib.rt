@@ -4,6 +4,7 @@
 mod channels;
 mod drafts;
 mod fault;
+mod laws;
 mod lines;
 mod numbers;
 mod printing;
@@ -16,6 +17,7 @@ mod text_lines;
 
 pub use channels::ChannelReport;
 pub use fault::{ReportError, ReportFault};
+pub use laws::text_spells_one_report;
 pub use printing::print_report;
 pub use reading::read_report;
 pub use reports::Report;

@@ -14,6 +14,7 @@ pub fn print_report(alloc: Global, report: &Report) -> Result<String, AllocError
     ensures text { IfOk result (λ s. string_bytes s ≡ report_text report.now) }
     ensures spelled { IfOk result (λ s. Spells (string_bytes s) report.now) }
 {
+    // A report keeps its ranges.
     let _packets = report.packets();
     let text = report.to_string(alloc)?;
     Ok(text)

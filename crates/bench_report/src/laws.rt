@@ -1,0 +1,10 @@
+//! What the definition of a report's text says.
+ghost use Rattle.std.specs.Prelude.{◌≡◌};
+ghost use Rattle.mil_host.specs.Words.{Text};
+ghost use Rattle.bench_report.specs.Reports.{RunReport, IsReport};
+ghost use Rattle.bench_report.specs.Spelling.{Spells};
+
+/// A text spells at most one report.
+pub fn text_spells_one_report()
+    ensures { (text : Text) (one other : RunReport) → IsReport one → IsReport other → Spells text one → Spells text other → one ≡ other }
+{}
