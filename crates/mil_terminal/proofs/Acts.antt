@@ -1,5 +1,5 @@
 -- Registers that stand for a history, at first and after an action of the host.
-use Rattle.std.proofs.Common.{◌≡◌, ◌≢◌, ℕ, ◌+◌, ◌<◌, ◌≤◌, List, [], ◌∷◌, ◌++◌, length, refl, ap, sym, ◌∙◌, append-nil, arith, replicate, get_or-set_same, get_or-set_other, length-set}
+use Rattle.std.proofs.Common.{◌≡◌, ℕ, ◌+◌, ◌<◌, ◌≤◌, List, [], ◌∷◌, refl, ap, sym, ◌∙◌, append-nil, arith, replicate, get_or-set_same, get_or-set_other, length-set}
 use Rattle.std.proofs.lemmas.Bool.{eq-eqb, eqb-true, false≢true}
 use Rattle.std.proofs.lemmas.List.{get_or-replicate}
 use Rattle.std.specs.Prelude.{Bool, true, false, ◌==◌, Option, Some, None, if◌then◌else◌, unwrap_or, slice_index_or, slice_set, nat_eq}
@@ -9,8 +9,8 @@ use Rattle.mil_host.specs.Values.{PutUp}
 use Rattle.mil_host.specs.declared.actions.Action.{Action}
 use Rattle.mil_host.specs.declared.actions.Action.TheVariants.{Transmit, Busy, Service, Subsystem, Fault, Control, Vector, SelfTest, Illegal, Legal, Response}
 use Rattle.mil_terminal.specs.declared.events.Event.{Event}
-use Rattle.mil_terminal.specs.declared.events.Event.TheVariants.{Heard, Quiet, Host}
-use Rattle.mil_terminal.specs.History.{History, latest_set}
+use Rattle.mil_terminal.specs.declared.events.Event.TheVariants.{Host}
+use Rattle.mil_terminal.specs.History.{History}
 use Rattle.mil_terminal.specs.Host.{told_words, words_put_up}
 use Rattle.mil_terminal.specs.Windows.{latest_window, ended_by, ended, is_listening}
 use Rattle.mil_terminal.specs.Registers.{received, received_from_all, sync_word, bit_word, is_transmitter_on, is_flag_inhibited, last_command}
@@ -18,7 +18,7 @@ use Rattle.mil_terminal.specs.Status.{conditions, no_conditions}
 use Rattle.mil_terminal.specs.declared.host.Settings.{Settings}
 use Rattle.mil_terminal.specs.declared.pending.Pending.{Pending}
 use Rattle.mil_terminal.specs.declared.registers.Registers.{Registers}
-use Rattle.mil_terminal.specs.Phases.{IsPending, window_of}
+use Rattle.mil_terminal.specs.Phases.{window_of}
 use Rattle.mil_terminal.specs.StandsFor.{AreSettings, ArePutUp, AreReceived, IsOpen, StandsFor}
 use Rattle.mil_terminal.proofs.Ends.{with_item, window_on, stays_decided, nothing_open, still_open, is_undecided}
 use Rattle.mil_word.specs.Words.{same_line}

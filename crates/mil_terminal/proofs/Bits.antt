@@ -1,9 +1,9 @@
 -- The marks of a host as bits.
-use Rattle.std.proofs.Common.{◌≡◌, ◌≢◌, ℕ, zero, suc, ◌+◌, ◌-◌, ◌*◌, ◌^◌, ◌/◌, ◌%◌, nat_eq, ◌<◌, ◌≤◌, List, [], ◌∷◌, refl, sym, ap, ◌∙◌, arith, replicate, length, w32, get_or-set_same, get_or-set_other, zero-add}
+use Rattle.std.proofs.Common.{◌≡◌, ◌≢◌, ℕ, zero, suc, ◌+◌, ◌-◌, ◌*◌, ◌^◌, ◌/◌, ◌%◌, nat_eq, ◌<◌, ◌≤◌, List, refl, sym, ap, ◌∙◌, arith, replicate, length, w32, get_or-set_same, get_or-set_other}
 use Rattle.std.proofs.lemmas.Bool.{eq-eqb, eqb-true, false≢true}
 use Rattle.std.proofs.lemmas.Nat.Bits.{bit_at-zero, shr_and_one, bit_at_set_same, bit_at_set_other, bit_at_clear_same, bit_at_clear_other}
-use Rattle.std.specs.Prelude.{Bool, true, false, ◌&&◌, ◌==◌, if◌then◌else◌, slice_index, slice_index_or, slice_set, bit_and, bit_or}
-use Rattle.std.specs.Int.{bit_at, bit_not}
+use Rattle.std.specs.Prelude.{Bool, true, false, ◌&&◌, ◌==◌, if◌then◌else◌, slice_index, slice_set, bit_and, bit_or}
+use Rattle.std.specs.Int.{bit_at}
 use Rattle.mil_word.specs.Words.{same_bool}
 use Rattle.mil_host.specs.Values.{Marked}
 use Rattle.mil_terminal.specs.Host.{is_mark}

@@ -1,6 +1,6 @@
 -- Registers that stand for a history, after one more word.
-use Rattle.std.proofs.Common.{◌≡◌, ℕ, List, [], ◌∷◌, ◌++◌, refl, ap, sym, ◌∙◌, append-nil, zero-le}
-use Rattle.std.specs.Prelude.{Bool, true, false, ◌&&◌, ◌==◌, not, Option, Some, None, if◌then◌else◌}
+use Rattle.std.proofs.Common.{◌≡◌, ℕ, List, [], ◌∷◌, ◌++◌, refl, ap, ◌∙◌, append-nil, zero-le}
+use Rattle.std.specs.Prelude.{true, false, ◌&&◌, ◌==◌, Option, Some, None, if◌then◌else◌}
 use Rattle.std.specs.Option.{option_map}
 use Rattle.std.specs.List.{filter}
 use Rattle.mil_word.specs.declared.Line.{Line}
@@ -8,15 +8,15 @@ use Rattle.mil_word.specs.declared.Line.TheVariants.{A, B}
 use Rattle.mil_word.specs.Words.{same_line}
 use Rattle.mil_word.specs.Fields.{code_of}
 use Rattle.mil_terminal.specs.declared.events.Event.{Event}
-use Rattle.mil_terminal.specs.declared.events.Event.TheVariants.{Heard, Quiet, Host}
+use Rattle.mil_terminal.specs.declared.events.Event.TheVariants.{Heard, Quiet}
 use Rattle.mil_terminal.specs.History.{History}
-use Rattle.mil_terminal.specs.Windows.{Window, Ended, opening, latest_window, is_decided, is_on, undecided, ended_by}
+use Rattle.mil_terminal.specs.Windows.{Ended, opening, latest_window, is_on, ended_by}
 use Rattle.mil_terminal.specs.Registers.{last_command, is_question, vector}
 use Rattle.mil_terminal.specs.declared.pending.Phase.TheVariants.{Start}
 use Rattle.mil_terminal.specs.declared.pending.Pending.{Pending}
 use Rattle.mil_terminal.specs.declared.registers.Registers.{Registers}
 use Rattle.mil_terminal.specs.Phases.{IsPending, window_of}
-use Rattle.mil_terminal.specs.Updates.{told, cut, opened}
+use Rattle.mil_terminal.specs.Updates.{opened}
 use Rattle.mil_terminal.specs.StandsFor.{AreSettings, ArePutUp, IsOpen, StandsFor}
 use Rattle.mil_terminal.proofs.Ends.{with_item, window_on, window_opened, stays_decided, nothing_open, still_open, cut_short, is_undecided}
 use Rattle.mil_terminal.proofs.Switching.{switches-none, switches-bad}

@@ -1,20 +1,16 @@
 -- Registers that stand for a history, after an event that does not concern their terminal.
-use Rattle.std.proofs.Common.{◌≡◌, ℕ, ◌/◌, ◌%◌, ◌^◌, List, ◌∷◌, refl, ap, sym, ◌∙◌}
-use Rattle.std.specs.Prelude.{Bool, true, false, ◌==◌, ◌||◌, Option, Some, None, if◌then◌else◌, take, drop, sum}
-use Rattle.std.specs.Option.{option_map, option_and_then, is_some}
+use Rattle.std.proofs.Common.{◌≡◌, ℕ, ◌/◌, ◌%◌, ◌^◌, List, ◌∷◌, refl, sym, ◌∙◌}
+use Rattle.std.specs.Prelude.{Bool, true, false, ◌==◌, Option, Some, None, if◌then◌else◌, take, drop, sum}
+use Rattle.std.specs.Option.{option_and_then, is_some}
 use Rattle.mil_word.specs.declared.Line.{Line}
-use Rattle.mil_word.specs.declared.Line.TheVariants.{A, B}
 use Rattle.mil_word.specs.declared.Word.{Word}
 use Rattle.mil_word.specs.Wave.{word_of, digits, number, word_in, word_with, same_halves, sync_halves, bits_in}
 use Rattle.mil_word.specs.declared.Sync.{Sync}
 use Rattle.mil_word.specs.declared.Sync.TheVariants.{DataSync}
 use Rattle.mil_word.specs.Words.{same_line, value_if, is_command_sync, command_in}
-use Rattle.mil_word.specs.Fields.{address_of, is_broadcast}
-use Rattle.mil_terminal.specs.declared.events.Event.{Event}
-use Rattle.mil_terminal.specs.declared.events.Event.TheVariants.{Heard, Quiet, Host}
+use Rattle.mil_terminal.specs.declared.events.Event.TheVariants.{Heard}
 use Rattle.mil_terminal.specs.History.{History}
-use Rattle.mil_terminal.specs.Windows.{opening, opens, is_listening}
-use Rattle.mil_terminal.specs.Replies.{reply}
+use Rattle.mil_terminal.specs.Windows.{opens, is_listening}
 use Rattle.mil_terminal.specs.declared.pending.Pending.{Pending}
 use Rattle.mil_terminal.specs.declared.registers.Registers.{Registers}
 use Rattle.mil_terminal.specs.StandsFor.{StandsFor}

@@ -2,27 +2,24 @@
 use Rattle.std.proofs.Common.{◌≡◌, ℕ, ◌<◌, ◌≤◌, List, [], ◌∷◌, ◌++◌, refl, ap, sym, ◌∙◌, append-nil, arith}
 use Rattle.std.specs.Prelude.{Bool, true, false, ◌&&◌, ◌||◌, ◌==◌, not, Option, Some, None, if◌then◌else◌, ◌+◌, slice_index_or}
 use Rattle.std.specs.Option.{option_map}
-use Rattle.std.specs.List.{filter, filter_map}
 use Rattle.mil_word.specs.declared.Line.{Line}
 use Rattle.mil_word.specs.declared.Line.TheVariants.{A, B}
 use Rattle.mil_word.specs.Words.{same_line}
 use Rattle.mil_word.specs.Fields.{address_of, is_mode, is_transmit, sub_of, code_of, count_of}
 use Rattle.mil_terminal.specs.declared.events.Event.{Event}
-use Rattle.mil_terminal.specs.declared.events.Event.TheVariants.{Heard, Quiet, Host}
+use Rattle.mil_terminal.specs.declared.events.Event.TheVariants.{Quiet}
 use Rattle.mil_terminal.specs.History.{History}
-use Rattle.mil_terminal.specs.Host.{is_marked_illegal, is_busy, words_put_up}
+use Rattle.mil_terminal.specs.Host.{words_put_up}
 use Rattle.std.proofs.lemmas.Bool.Decides.{nat_tests}
-use Rattle.mil_terminal.specs.Windows.{Window, Ended, latest_window, is_decided, is_on, ended_by}
+use Rattle.mil_terminal.specs.Windows.{Window, Ended, latest_window, is_decided, ended_by}
 use Rattle.mil_terminal.specs.Verdicts.{verdict, is_good, is_bad, is_illegal, is_unknown, has_good_shape}
-use Rattle.mil_terminal.specs.Registers.{value_of, words_of, received, transmit_words, vector, bit_word, last_command, is_transmitter_on}
+use Rattle.mil_terminal.specs.Registers.{words_of, received, transmit_words, is_transmitter_on}
 use Rattle.mil_terminal.specs.Status.{status, status_word}
-use Rattle.mil_terminal.specs.Replies.{exactly, mode_data, data_sent, answer_to, is_answered, reply}
-use Rattle.mil_terminal.specs.declared.replies.Reply.{Reply}
+use Rattle.mil_terminal.specs.Replies.{mode_data, data_sent, answer_to, reply}
 use Rattle.mil_terminal.specs.declared.pending.Pending.{Pending}
 use Rattle.mil_terminal.specs.declared.switches.Switches.{Switches}
 use Rattle.mil_terminal.specs.declared.registers.Registers.{Registers}
 use Rattle.mil_terminal.specs.Phases.{IsPending, window_of}
-use Rattle.mil_terminal.specs.Marking.{is_set}
 use Rattle.mil_terminal.specs.Updates.{settled, off_on, is_barred, put_up_at, mode_data_now, data_now, answer_now}
 use Rattle.mil_terminal.specs.StandsFor.{AreSettings, AreSwitches, StandsFor}
 use Rattle.mil_terminal.proofs.Steps.{Decided}

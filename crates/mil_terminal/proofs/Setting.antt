@@ -1,10 +1,8 @@
 -- What the host has set, after one more action.
-use Rattle.std.proofs.Common.{◌≡◌, ℕ, ◌<◌, ◌≤◌, ◌∷◌, refl, sym, ◌∙◌}
-use Rattle.std.specs.Prelude.{Bool, true, false, List, Option, Some, None, if◌then◌else◌, unwrap_or}
+use Rattle.std.proofs.Common.{◌≡◌, ℕ, ◌<◌, ◌≤◌, ◌∷◌, refl, ◌∙◌}
+use Rattle.std.specs.Prelude.{Bool, true, false, Some, None, if◌then◌else◌, unwrap_or}
 use Rattle.mil_host.specs.Values.{PutUp, Marked}
-use Rattle.mil_host.specs.declared.actions.Action.{Action}
 use Rattle.mil_host.specs.declared.actions.Action.TheVariants.{Transmit, Busy, Service, Subsystem, Fault, Control, Vector, SelfTest, Illegal, Legal, Response}
-use Rattle.mil_terminal.specs.declared.events.Event.{Event}
 use Rattle.mil_terminal.specs.declared.events.Event.TheVariants.{Host}
 use Rattle.mil_terminal.specs.History.{History}
 use Rattle.mil_terminal.specs.Host.{is_mark, is_marked_illegal}

@@ -1,7 +1,7 @@
 -- The small state of a window, step by step.
-use Rattle.std.proofs.Common.{◌≡◌, ℕ, zero, suc, ◌+◌, ◌-◌, ◌<◌, ◌≤◌, List, [], ◌∷◌, ◌++◌, length, refl, ap, sym, ◌∙◌, arith, append_assoc, length-append, append-nil}
+use Rattle.std.proofs.Common.{◌≡◌, ℕ, zero, suc, ◌+◌, ◌-◌, ◌<◌, ◌≤◌, List, [], ◌∷◌, ◌++◌, length, refl, ap, ◌∙◌, arith, append_assoc, length-append, append-nil}
 use Rattle.std.specs.Prelude.{IfSome, IfNone, Bool, true, false, ◌&&◌, ◌==◌, nat_lt, not, Option, Some, None, if◌then◌else◌}
-use Rattle.std.specs.Option.{is_some, option_and_then}
+use Rattle.std.specs.Option.{option_and_then}
 use Rattle.arrayvec.specs.ArrayVec.{ArrayVec}
 use Rattle.std.proofs.lemmas.Bool.Decides.{nat_tests}
 use Rattle.std.specs.List.{filter_map, cons_option}
@@ -9,15 +9,15 @@ use Rattle.mil_word.specs.declared.Line.{Line}
 use Rattle.mil_word.specs.declared.Word.{Word}
 use Rattle.mil_word.specs.Wave.{word_of}
 use Rattle.mil_terminal.specs.declared.events.Event.{Event}
-use Rattle.mil_terminal.specs.declared.events.Event.TheVariants.{Heard, Quiet, Host}
+use Rattle.mil_terminal.specs.declared.events.Event.TheVariants.{Heard, Quiet}
 use Rattle.mil_word.specs.Words.{command_in, data_in, value_if, is_command_sync}
-use Rattle.mil_terminal.specs.Windows.{Window, sender_called, sender_in, has_quiets, is_decided}
-use Rattle.mil_terminal.specs.Verdicts.{words_due, are_due_words, is_sent_by, is_answered_by, is_from, is_in_time, are_transfer, has_shape, has_good_shape}
+use Rattle.mil_terminal.specs.Windows.{sender_called, has_quiets, is_decided}
+use Rattle.mil_terminal.specs.Verdicts.{words_due, are_due_words, is_from, is_in_time, has_good_shape}
 use Rattle.mil_terminal.specs.Registers.{value_of}
 use Rattle.mil_terminal.specs.declared.pending.Phase.{Phase}
 use Rattle.mil_terminal.specs.declared.pending.Phase.TheVariants.{Start, Taking, Called, Waiting, LostTransfer, Lost}
 use Rattle.mil_terminal.specs.declared.pending.Pending.{Pending}
-use Rattle.mil_terminal.specs.Phases.{shape_left, quiets_left, is_alive, is_before_words, IsPending, with_due, due_value, with_first, is_answer, after_word, decides, shape_now, phase_after_quiet, window_of}
+use Rattle.mil_terminal.specs.Phases.{shape_left, quiets_left, is_alive, is_before_words, IsPending, with_due, due_value, with_first, after_word, decides, shape_now, phase_after_quiet, window_of}
 
 -- what the shape and the quiets make of one more item
 pub carried : (own : ℕ) (p q : Pending) (items : List Event) (e : Event)

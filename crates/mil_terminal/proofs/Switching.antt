@@ -1,13 +1,13 @@
 -- The switches of a terminal after one more event.
 use Rattle.std.proofs.Common.{◌≡◌, ℕ, ◌∷◌, refl, sym, ◌∙◌, arith}
 use Rattle.std.proofs.lemmas.Bool.Decides.{nat_tests}
-use Rattle.std.specs.Prelude.{Bool, true, false, ◌&&◌, ◌||◌, ◌==◌, not, Option, Some, None, if◌then◌else◌}
+use Rattle.std.specs.Prelude.{Bool, true, false, ◌&&◌, ◌||◌, ◌==◌, not, Some, None, if◌then◌else◌}
 use Rattle.mil_word.specs.declared.Line.TheVariants.{A, B}
 use Rattle.mil_word.specs.Words.{same_line, same_bool}
 use Rattle.mil_word.specs.Fields.{is_transmit, code_of, is_mode}
 use Rattle.mil_terminal.specs.declared.events.Event.{Event}
 use Rattle.mil_terminal.specs.History.{History}
-use Rattle.mil_terminal.specs.Windows.{Window, Ended, ended_by}
+use Rattle.mil_terminal.specs.Windows.{Ended, ended_by}
 use Rattle.mil_terminal.specs.Verdicts.{verdict, is_good}
 use Rattle.mil_terminal.specs.Registers.{is_transmitter_on, is_flag_inhibited}
 use Rattle.mil_terminal.specs.declared.switches.Switches.{Switches}

@@ -1,7 +1,7 @@
 -- The sync word and the BIT word of a terminal after one more event.
 use Rattle.std.proofs.Common.{◌≡◌, ℕ, ◌∷◌, List, refl, sym, ◌∙◌, arith}
 use Rattle.std.proofs.lemmas.Bool.Decides.{nat_tests}
-use Rattle.std.specs.Prelude.{Bool, true, false, ◌&&◌, ◌||◌, ◌==◌, not, Option, Some, None, if◌then◌else◌}
+use Rattle.std.specs.Prelude.{Bool, true, false, ◌&&◌, ◌||◌, ◌==◌, not, Some, None, if◌then◌else◌}
 use Rattle.mil_word.specs.Words.{same_bool}
 use Rattle.mil_word.specs.Fields.{is_transmit, code_of, is_mode}
 use Rattle.mil_terminal.specs.declared.events.Event.{Event}

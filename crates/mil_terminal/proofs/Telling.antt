@@ -1,6 +1,6 @@
 -- The conditions of a terminal after one more event.
 use Rattle.std.proofs.Common.{◌≡◌, ℕ, ◌∷◌, refl, sym, ◌∙◌}
-use Rattle.std.specs.Prelude.{Bool, true, false, not, Option, Some, None, if◌then◌else◌}
+use Rattle.std.specs.Prelude.{Bool, true, false, not, Some, None, if◌then◌else◌}
 use Rattle.mil_word.specs.Words.{same_bool}
 use Rattle.mil_terminal.specs.declared.events.Event.{Event}
 use Rattle.mil_terminal.specs.History.{History}

@@ -1,12 +1,11 @@
 -- What the small state of an undecided window knows of the items so far (inside the terminal).
-use Rattle.std.specs.Prelude.{◌≡◌, ℕ, ◌+◌, ◌-◌, ◌<◌, ◌≤◌, Bool, true, false, ◌&&◌, ◌==◌, nat_le, nat_lt, List, [], ◌∷◌, ◌++◌, length, Option, Some, None, if◌then◌else◌}
+use Rattle.std.specs.Prelude.{◌≡◌, ℕ, ◌-◌, ◌≤◌, Bool, true, false, ◌&&◌, ◌==◌, nat_lt, List, [], ◌∷◌, ◌++◌, length, Option, Some, None, if◌then◌else◌}
 use Rattle.std.specs.Option.{is_some}
 use Rattle.std.specs.List.{filter_map}
 use Rattle.mil_terminal.specs.declared.events.Event.{Event}
-use Rattle.mil_terminal.specs.declared.events.Event.TheVariants.{Heard, Quiet, Host}
 use Rattle.mil_word.specs.Words.{command_in, data_in}
-use Rattle.mil_terminal.specs.Windows.{Window, sender_called, sender_in, has_quiets, is_decided}
-use Rattle.mil_terminal.specs.Verdicts.{words_due, are_due_words, is_sent_by, is_answered_by, is_from, is_in_time, are_transfer, has_shape, has_good_shape}
+use Rattle.mil_terminal.specs.Windows.{Window, sender_called, sender_in, has_quiets}
+use Rattle.mil_terminal.specs.Verdicts.{words_due, are_due_words, is_sent_by, is_answered_by, is_from, is_in_time, has_shape}
 use Rattle.mil_terminal.specs.Registers.{value_of}
 use Rattle.mil_terminal.specs.declared.pending.Phase.{Phase}
 use Rattle.mil_terminal.specs.declared.pending.Phase.TheVariants.{Start, Taking, Called, Waiting, LostTransfer, Lost}

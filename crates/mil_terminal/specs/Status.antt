@@ -1,5 +1,6 @@
 -- The status word of a terminal (MIL-STD-1553B 4.3.3.5.3), as a query on its history.
-use Rattle.std.specs.Prelude.{ℕ, ◌+◌, ◌*◌, ◌^◌, Bool, true, false, ◌&&◌, not, if◌then◌else◌}
+use Rattle.std.specs.Prelude.{ℕ, ◌+◌, Bool, true, false, ◌&&◌, not, if◌then◌else◌, List, codes, unwrap_or}
+use Rattle.mil_status.specs.Status.{status_of, bit_of_name}
 use Rattle.mil_word.specs.Fields.{is_broadcast}
 use Rattle.mil_terminal.specs.declared.conditions.Conditions.{Conditions}
 use Rattle.mil_terminal.specs.History.{History}
@@ -33,14 +34,18 @@ no_conditions = record { message_error = false; service_request = false; broadca
 unfoldable pub conditions : ℕ → History → Conditions
 conditions own h = latest own (λ e. not (is_question own e.window.command)) (conditions_at own) no_conditions h
 
-abbrev pub bit : Bool → ℕ → ℕ
-bit true place = 2 ^ place
-bit false place = 0
+-- the bit of a condition by its name in a status word, where the condition is on
+abbrev pub bit_if : Bool → List ℕ → ℕ
+bit_if on name = if on then unwrap_or (bit_of_name name) 0 else 0
 
--- the address and a bit for each condition (4.3.3.5.3.2 to 4.3.3.5.3.11)
+abbrev pub bits_of : Conditions → ℕ
+bits_of s =
+    bit_if s.message_error (codes "message_error") + bit_if s.service_request (codes "service_request") + bit_if s.broadcast (codes "broadcast")
+    + bit_if s.busy (codes "busy") + bit_if s.subsystem (codes "subsystem") + bit_if s.control (codes "control") + bit_if s.terminal (codes "terminal")
+
+-- the word of an address and conditions
 abbrev pub status_word : ℕ → Conditions → ℕ
-status_word own s =
-    own * 2 ^ 11 + bit s.message_error 10 + bit s.service_request 8 + bit s.broadcast 4 + bit s.busy 3 + bit s.subsystem 2 + bit s.control 1 + bit s.terminal 0
+status_word own s = status_of own (bits_of s)
 
 unfoldable pub status : ℕ → History → ℕ
 status own h = status_word own (conditions own h)

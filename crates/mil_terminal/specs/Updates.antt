@@ -3,7 +3,7 @@ use Rattle.std.specs.Prelude.{ℕ, ◌+◌, ◌==◌, Bool, true, false, ◌&&�
 use Rattle.mil_word.specs.declared.Line.{Line}
 use Rattle.mil_word.specs.declared.Line.TheVariants.{A, B}
 use Rattle.mil_word.specs.Words.{same_line}
-use Rattle.mil_word.specs.Fields.{address_of, is_broadcast, is_transmit, sub_of, code_of, count_of, is_mode, is_receive}
+use Rattle.mil_word.specs.Fields.{is_broadcast, is_transmit, sub_of, code_of, count_of, is_mode, is_receive}
 use Rattle.mil_terminal.specs.Registers.{first_or_zero, is_question}
 use Rattle.mil_terminal.specs.Verdicts.{is_unknown}
 use Rattle.mil_terminal.specs.Marking.{is_set}
@@ -11,7 +11,6 @@ use Rattle.mil_terminal.specs.Status.{status_word}
 use Rattle.mil_terminal.specs.Replies.{exactly}
 use Rattle.mil_terminal.specs.declared.switches.Switches.{Switches}
 use Rattle.mil_terminal.specs.declared.synced.Synced.{Synced}
-use Rattle.mil_terminal.specs.declared.host.Settings.{Settings}
 use Rattle.mil_terminal.specs.declared.conditions.Conditions.{Conditions}
 use Rattle.mil_terminal.specs.declared.pending.Pending.{Pending}
 use Rattle.mil_terminal.specs.declared.pending.Phase.TheVariants.{Start}

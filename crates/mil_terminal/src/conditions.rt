@@ -1,8 +1,9 @@
 //! The conditions that a status word tells.
-ghost use Rattle.std.specs.Prelude.{◌≡◌, ◌≤◌, ◌<◌, ◌^◌};
-ghost use Rattle.mil_terminal.specs.Status.{no_conditions, status_word, bit as bit_of};
+ghost use Rattle.std.specs.Prelude.{◌≡◌, if◌then◌else◌};
+ghost use Rattle.mil_terminal.specs.Status.{no_conditions, bits_of, status_word as word_of};
 
 use crate::addresses::Address;
+use mil_status::{StatusBits, status_word};
 
 /// The conditions that a status word tells (MIL-STD-1553B 4.3.3.5.3.3 to 4.3.3.5.3.11). Terminals here never set the
 /// instrumentation bit (own choice).
@@ -17,11 +18,11 @@ pub struct Conditions {
     pub terminal: bool,
 }
 
-fn bit(on: bool, place: u16) -> u16
-    requires { place < 16 }
-    ensures { result ≡ bit_of on place }
+/// The bit of a condition, where it is on.
+fn bit_if(on: bool, bit: StatusBits) -> u16
+    ensures { result ≡ (if on then bit.0 else 0) }
 {
-    if on { 1 << place } else { 0 }
+    if on { bit.0 } else { 0 }
 }
 
 impl Conditions {
@@ -40,17 +41,25 @@ impl Conditions {
         }
     }
 
+    /// The bits that tell them.
+    fn bits(&self) -> StatusBits
+        ensures { result.0 ≡ bits_of self.now }
+    {
+        StatusBits(
+            bit_if(self.message_error, StatusBits::MESSAGE_ERROR)
+                + bit_if(self.service_request, StatusBits::SERVICE_REQUEST)
+                + bit_if(self.broadcast, StatusBits::BROADCAST)
+                + bit_if(self.busy, StatusBits::BUSY)
+                + bit_if(self.subsystem, StatusBits::SUBSYSTEM)
+                + bit_if(self.control, StatusBits::CONTROL)
+                + bit_if(self.terminal, StatusBits::TERMINAL),
+        )
+    }
+
     /// The status word that tells them.
     pub fn word(&self, own: Address) -> u16
-        ensures { result ≡ status_word own self.now }
+        ensures { result ≡ word_of own self.now }
     {
-        u16::from(own.value()) * 2048
-            + bit(self.message_error, 10)
-            + bit(self.service_request, 8)
-            + bit(self.broadcast, 4)
-            + bit(self.busy, 3)
-            + bit(self.subsystem, 2)
-            + bit(self.control, 1)
-            + bit(self.terminal, 0)
+        status_word(own.value(), self.bits())
     }
 }

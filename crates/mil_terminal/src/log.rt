@@ -16,6 +16,7 @@ pub struct Log {
     link: Link,
 }
 
+/// How a log goes on from the one before it.
 #[cycle(log)]
 #[derive(Drop)]
 pub enum Link {

@@ -29,6 +29,7 @@ impl Model for Sound {
 }
 
 impl Sound {
+    /// A wave that was heard, and the word that it is.
     #[inline]
     pub fn of(wave: Wave, word: Option<Word>) -> Sound
         requires { word ≡ word_of wave }

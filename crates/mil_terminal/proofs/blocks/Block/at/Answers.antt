@@ -1,4 +1,4 @@
-use Rattle.std.proofs.Common.{◌≡◌, ℕ, ◌*◌, ◌+◌, ◌-◌, List, take, drop, get_or, refl, sym, ap, ◌∙◌, arith, []}
+use Rattle.std.proofs.Common.{ℕ, ◌*◌, take, drop, sym, ap, ◌∙◌, arith, []}
 use Rattle.mil_terminal.proofs.SlotLemmas.{slots_at}
 use Rattle.mil_terminal.proofs.blocks.Block.at.Goals as goal
 

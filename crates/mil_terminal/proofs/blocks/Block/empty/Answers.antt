@@ -1,4 +1,4 @@
-use Rattle.std.proofs.Common.{refl, arith}
+use Rattle.std.proofs.Common.{refl}
 use Rattle.mil_terminal.proofs.SlotLemmas.{slots-none, none_counted}
 use Rattle.mil_terminal.proofs.blocks.Block.empty.Goals as goal
 

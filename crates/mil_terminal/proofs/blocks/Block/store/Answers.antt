@@ -1,5 +1,4 @@
-use Rattle.std.proofs.Common.{◌≡◌, ℕ, ◌*◌, ◌+◌, ◌-◌, List, length, take, drop, get_or, set, refl, sym, ap, ◌∙◌, arith}
-use borrow.Rule.Slice.PartMut.{put_mid}
+use Rattle.std.proofs.Common.{ℕ, ◌*◌, List, length, set, ap, ◌∙◌, arith}
 use Rattle.mil_terminal.specs.Slots.{slots}
 use Rattle.mil_terminal.proofs.SlotLemmas.{slots-written, refilled}
 use Rattle.mil_terminal.proofs.blocks.Block.store.Goals as goal

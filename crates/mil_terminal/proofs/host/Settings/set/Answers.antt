@@ -1,4 +1,3 @@
-use Rattle.std.proofs.Common.{refl, sym, ◌∙◌}
 use Rattle.mil_terminal.proofs.Setting.{set_transmit, set_busy, set_service, set_subsystem, set_fault, set_control, set_vector, set_self_test, set_illegal, set_legal, set_response}
 use Rattle.mil_terminal.proofs.host.Settings.set.Goals as goal
 

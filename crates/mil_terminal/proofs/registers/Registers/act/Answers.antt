@@ -1,4 +1,4 @@
-use Rattle.std.proofs.Common.{refl, arith, ◌+◌}
+use Rattle.std.proofs.Common.{arith, ◌+◌}
 use Rattle.std.specs.Prelude.{slice_set}
 use Rattle.mil_terminal.proofs.Acts.{acts, puts_up, keeps_received, puts_none, told_none}
 use Rattle.mil_terminal.proofs.registers.Registers.act.Goals as goal

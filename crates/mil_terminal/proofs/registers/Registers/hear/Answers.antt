@@ -1,4 +1,4 @@
-use Rattle.std.proofs.Common.{◌≡◌, ℕ, refl, sym, ◌∙◌}
+use Rattle.std.proofs.Common.{refl, sym, ◌∙◌}
 use Rattle.mil_terminal.proofs.Hears.{hear_none, hear_item, hear_silent, hear_opening}
 use Rattle.mil_terminal.proofs.registers.Registers.hear.Goals as goal
 

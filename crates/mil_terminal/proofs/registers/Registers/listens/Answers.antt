@@ -1,4 +1,3 @@
-use Rattle.std.proofs.Common.{refl}
 use Rattle.mil_terminal.proofs.Acts.{listens-none, listens-some}
 use Rattle.mil_terminal.proofs.registers.Registers.listens.Goals as goal
 

@@ -1,5 +1,5 @@
-use Rattle.std.proofs.Common.{◌≡◌, ℕ, refl, ap, sym, ◌∙◌}
-use Rattle.mil_terminal.proofs.Quiets.{GoesOn, quiet_none, quiet_waits, quiet_silent, quiet_settles, own_stays}
+use Rattle.std.proofs.Common.{sym, ◌∙◌}
+use Rattle.mil_terminal.proofs.Quiets.{quiet_none, quiet_waits, quiet_silent, quiet_settles, own_stays}
 use Rattle.mil_terminal.proofs.registers.Registers.quiet.Goals as goal
 
 pub returns-in-None-clause-stands : goal.returns-in-None-clause-stands
