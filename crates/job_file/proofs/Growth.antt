@@ -54,10 +54,14 @@ records_more more talks = ap (map observed) (reverse-append more talks) ∙ map-
 length_records : (talks : List Talk) → length (map observed (reverse talks)) ≡ length talks
 length_records talks = length-map (reverse talks) observed ∙ length-reverse talks
 
+-- as many records as messages, from a bus without talks on
+pub records_count : (p q : BusPoint) → p.state.talks ≡ [] → p.number ≡ 0 → Grows p q → q.number ≡ length (records_in q.state)
+records_count p q none zero_yet a =
+    a.2 ∙ omega (arith, zero_yet) ∙ sym (ap length (a.1 ∙ ap (λ (ts : List Talk). a.0 ++ ts) none ∙ append-nil a.0)) ∙ sym (length_records q.state.talks)
+
 -- the records of a point are the first of those of a later one
 pub records_first : (p q s : BusPoint) → p.state.talks ≡ [] → p.number ≡ 0 → Grows p q → Grows q s → records_in q.state ≡ take q.number (records_in s.state)
 records_first p q s none zero_yet a b =
-    let long : q.number ≡ length (records_in q.state) =
-    a.2 ∙ omega (arith, zero_yet) ∙ sym (ap length (a.1 ∙ ap (λ (ts : List Talk). a.0 ++ ts) none ∙ append-nil a.0)) ∙ sym (length_records q.state.talks) in
+    let long : q.number ≡ length (records_in q.state) = records_count p q none zero_yet a in
     sym (ap (λ (ts : List Talk). take q.number (map observed (reverse ts))) b.1 ∙ ap (take q.number) (records_more b.0 q.state.talks)
     ∙ ap (λ n. take n (records_in q.state ++ map observed (reverse b.0))) long ∙ take-append_seam (records_in q.state) (map observed (reverse b.0)))

@@ -1,5 +1,5 @@
 -- The controller of a job, on its way and at its end.
-use Rattle.std.proofs.Common.{◌≡◌, ℕ, ◌+◌, ◌≤◌, ◌<◌, List, [], take, refl, sym, ap, ◌∙◌, ⊎_elim, subst, arith}
+use Rattle.std.proofs.Common.{◌≡◌, ℕ, ◌+◌, ◌≤◌, ◌<◌, List, [], length, take, refl, sym, ap, ◌∙◌, ⊎_elim, subst, arith}
 use Rattle.std.proofs.lemmas.Bool.{cases_lt}
 use Rattle.mil_message.specs.World.{World, Point}
 use Rattle.mil_bus.specs.declared.outcomes.Outcome.{Outcome}
@@ -19,7 +19,7 @@ use Rattle.job_file.specs.Meaning.{bus_of, world_at, end_of, records_in, records
 use Rattle.job_file.specs.Machines.{IsOf}
 use Rattle.job_file.proofs.Moves.{run_keeps, run_ends}
 use Rattle.job_file.proofs.Limits.{run_agrees, stands_still}
-use Rattle.job_file.proofs.Growth.{Grows, grows_same, grows_gap, grows_through, grows_message, records_first}
+use Rattle.job_file.proofs.Growth.{Grows, grows_same, grows_gap, grows_through, grows_message, records_count, records_first}
 
 abbrev pub CodeMeans : Type 0
 CodeMeans = (w : World BusState Outcome) (t : Tree) (p : Point BusState Outcome) → IsSound t → Behaves w t (code_of t) p
@@ -35,6 +35,12 @@ reached job placed m of = rw (of.code, of.plan, of.actions, of.begun) at of.unde
 halts_here : (job : ChannelJob) (placed : List Placed) (m : MachineState) → IsOf job placed m → turn_of m ≡ halted
     → step (world_at job placed) (code_of job.tree) m.at m.point ≡ halted
 halts_here job placed m of e = rw (of.code, of.plan, of.actions) at e
+
+-- as many records as messages
+pub counted : (job : ChannelJob) (placed : List Placed) (m : MachineState) → IsOf job placed m → m.point.number ≡ length (records_in m.point.state)
+counted job placed m of =
+    records_count (beginning (bus_of job)) m.point refl refl
+    (run_keeps (world_at job placed) (code_of job.tree) Grows grows_same grows_gap (grows_message job.plan placed) grows_through m.taken start (beginning (bus_of job)) (here m) (reached job placed m of))
 
 module _ (means : CodeMeans) (job : ChannelJob) (placed : List Placed) (m : MachineState) (sound : IsSound job.tree) (of : IsOf job placed m) where
   pub so_far : records_in m.point.state ≡ take m.point.number (records job placed)
@@ -73,7 +79,7 @@ module _ (means : CodeMeans) (job : ChannelJob) (placed : List Placed) (m : Mach
       let same : here m ≡ last = cc in
       ap (λ (v : Running BusState Outcome). records_in v.point.state) same
 
-kept : (t : Turn (Running BusState Outcome)) (m : MachineState)
+pub kept : (t : Turn (Running BusState Outcome)) (m : MachineState)
     → ((moved_by t m).code ≡ m.code) × ((moved_by t m).plan ≡ m.plan) × ((moved_by t m).placed ≡ m.placed) × ((moved_by t m).begun ≡ m.begun)
 kept (goes_on x) m = (refl, refl, refl, refl)
 kept halted m = (refl, refl, refl, refl)

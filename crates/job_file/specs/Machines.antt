@@ -1,5 +1,5 @@
 -- The controller of a job, and what is known of it as it goes on.
-use Rattle.std.specs.Prelude.{◌≡◌, ℕ, List, take}
+use Rattle.std.specs.Prelude.{◌≡◌, List, length, take}
 use Rattle.frame_tree.specs.Bounds.{IsSound}
 use Rattle.frame_code.specs.Table.{halted}
 use Rattle.frame_asm.specs.Shapes.{code_of}
@@ -26,6 +26,11 @@ Starts =
 -- and stays so with each step
 abbrev pub GoesOn : Type 0
 GoesOn = (job : ChannelJob) (placed : List Placed) (m : MachineState) → IsOf job placed m → IsUnderWay (stepped m) → IsOf job placed (stepped m)
+
+-- as many records as messages were sent
+abbrev pub Counts : Type 0
+Counts =
+    (job : ChannelJob) (placed : List Placed) (m : MachineState) → IsOf job placed m → m.point.number ≡ length (records_in m.point.state)
 
 -- the records so far are the first of the job's, as many as messages were sent
 abbrev pub RecordsSoFar : Type 0

@@ -1,5 +1,5 @@
 //! Laws of the definitions of this crate, the contract of a function that does nothing.
-ghost use Rattle.job_file.specs.Machines.{Starts, GoesOn, RecordsSoFar, BusSoFar, AllRecords};
+ghost use Rattle.job_file.specs.Machines.{Starts, GoesOn, Counts, RecordsSoFar, BusSoFar, AllRecords};
 
 use frame_asm::code_means;
 use frame_code::Setting;
@@ -22,6 +22,7 @@ impl Setting for JobSetting {
 pub fn job_runs()
     ensures starts { Starts }
     ensures goes_on { GoesOn }
+    ensures counts { Counts }
     ensures so_far { RecordsSoFar }
     ensures bus { BusSoFar }
     ensures whole { AllRecords }

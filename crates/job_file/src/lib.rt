@@ -10,6 +10,7 @@ mod lines;
 mod numbers;
 mod reading;
 mod scripts;
+mod stepping;
 #[cfg(test)]
 mod tests;
 mod words;
@@ -18,3 +19,4 @@ pub use error::{JobError, LineFault};
 pub use jobs::Job;
 pub use laws::job_runs;
 pub use reading::read_job;
+pub use stepping::next_record;

@@ -1,5 +1,5 @@
 use Rattle.std.proofs.Common.{refl}
-use Rattle.job_file.proofs.JobRuns.{stays, so_far, bus_so_far, all_records}
+use Rattle.job_file.proofs.JobRuns.{stays, counted, so_far, bus_so_far, all_records}
 use Rattle.job_file.proofs.laws.job_runs.Goals as goal
 
 pub returns-clause-starts : goal.returns-clause-starts
@@ -16,3 +16,6 @@ returns-clause-bus c job placed m sound of = bus_so_far c.code_means.ensures job
 
 pub returns-clause-whole : goal.returns-clause-whole
 returns-clause-whole c job placed m sound of e = all_records c.code_means.ensures job placed m sound of e
+
+pub returns-clause-counts : goal.returns-clause-counts
+returns-clause-counts c job placed m of = counted job placed m of

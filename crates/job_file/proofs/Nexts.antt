@@ -1,0 +1,62 @@
+-- The next record of a controller.
+use Rattle.std.proofs.Common.{◌≡◌, ℕ, ◌+◌, ◌-◌, ◌≤◌, ◌<◌, List, [], ◌∷◌, ◌++◌, length, take, drop, map, refl, sym, ap, ◌∙◌, subst, append_assoc, arith}
+use Rattle.std.specs.Prelude.{Some, slice_get, reverse}
+use Rattle.std.proofs.lemmas.List.{take-append-drop, length-map, length-reverse, map-append, reverse-append, append-nil}
+use Rattle.mil_bus.specs.declared.talks.Talk.{Talk}
+use Rattle.mil_monitor.specs.declared.Record.{Record}
+use Rattle.mil_monitor.specs.Observed.{observed}
+use Rattle.frame_tree.specs.Bounds.{IsSound}
+use Rattle.frame_load.specs.Budget.{budget}
+use Rattle.frame_code.specs.Table.{Code, halted}
+use Rattle.bc_machine.specs.declared.placed.Placed.{Placed}
+use Rattle.bc_machine.specs.Running.{MachineState, stepped, turn_of, moved_by}
+use Rattle.bc_machine.specs.UnderWay.{IsUnderWay, IsSent, IsQuiet, IsHalted}
+use Rattle.job_file.specs.Spelled.{ChannelJob}
+use Rattle.job_file.specs.Meaning.{records_in, records}
+use Rattle.job_file.specs.Machines.{IsOf, GoesOn, RecordsSoFar, AllRecords, Counts}
+use Rattle.job_file.proofs.JobRuns.{kept}
+
+at_place : (xs ys : List Record) (x : Record) → slice_get (xs ++ x ∷ ys) (length xs) ≡ Some x
+at_place [] ys x = refl
+at_place (z ∷ xs) ys x = at_place xs ys x
+
+one_behind : (talk : Talk) (talks : List Talk) → map observed (reverse (talk ∷ talks)) ≡ map observed (reverse talks) ++ observed talk ∷ []
+one_behind talk talks = ap (map observed) (reverse-append (talk ∷ []) talks) ∙ map-append observed (reverse talks) (talk ∷ [])
+
+-- the records after a message
+pub records_sent : (m n : MachineState) (r : Record) → IsSent m n r → records_in n.point.state ≡ records_in m.point.state ++ r ∷ []
+records_sent m n r s =
+    ap (λ (ts : List Talk). map observed (reverse ts)) s.talks ∙ one_behind s.talk m.point.state.talks ∙ ap (λ q. records_in m.point.state ++ q ∷ []) (sym s.recorded)
+
+-- the record of a message is the next of the job's
+pub next_is : RecordsSoFar → Counts → (job : ChannelJob) (placed : List Placed) (m n : MachineState) (r : Record) (k : ℕ) → IsSound job.tree → IsOf job placed m → IsOf job placed n → IsSent m n r
+    → m.point.number ≡ k → slice_get (records job placed) k ≡ Some r
+next_is so_far counts job placed m n r k sound of of_next s is =
+    let long : k ≡ length (records_in m.point.state) = sym is ∙ counts job placed m of in
+    let front : records_in m.point.state ++ r ∷ [] ≡ take n.point.number (records job placed) = sym (records_sent m n r s) ∙ so_far job placed n sound of_next in
+    let rest : List Record = drop n.point.number (records job placed) in
+    let whole : records job placed ≡ records_in m.point.state ++ r ∷ rest =
+    sym (take-append-drop n.point.number (records job placed)) ∙ ap (λ (xs : List Record). xs ++ rest) (sym front) ∙ append_assoc (records_in m.point.state) (r ∷ []) rest in
+    ap (λ (xs : List Record). slice_get xs k) whole ∙ ap (λ i. slice_get (records_in m.point.state ++ r ∷ rest) i) long ∙ at_place (records_in m.point.state) rest r
+
+-- where it halts, all records were given
+pub all_given : AllRecords → Counts → (job : ChannelJob) (placed : List Placed) (m : MachineState) (k : ℕ) → IsSound job.tree → IsOf job placed m → turn_of m ≡ halted → m.point.number ≡ k
+    → k ≡ length (records job placed)
+all_given whole counts job placed m k sound of e is = sym is ∙ counts job placed m of ∙ ap length (whole job placed m sound of e)
+
+-- a step keeps the code
+pub same_code : (m : MachineState) → (stepped m).code ≡ m.code
+unfolding stepped
+same_code m = (kept (turn_of m) m).0
+
+-- a step leaves fewer steps of the budget
+pub smaller : (m n : MachineState) → n ≡ stepped m → n.taken ≡ m.taken + 1 → IsUnderWay n → budget n.code.operations - n.taken < budget m.code.operations - m.taken
+smaller m n is took way =
+    let code : budget n.code.operations ≡ budget m.code.operations = ap (λ (v : MachineState). budget v.code.operations) is ∙ ap (λ (v : Code). budget v.operations) (same_code m) in
+    let low : n.taken ≤ budget n.code.operations = way.steps in
+    omega (arith, code, took, low)
+
+-- and leaves it a job's
+pub next_of : GoesOn → (job : ChannelJob) (placed : List Placed) (m n : MachineState) → n ≡ stepped m → IsOf job placed m → IsUnderWay n → IsOf job placed n
+next_of goes_on job placed m n is of way =
+    subst (λ (v : MachineState). IsOf job placed v) (sym is) (goes_on job placed m of (subst IsUnderWay is way))

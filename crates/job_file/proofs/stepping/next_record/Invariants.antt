@@ -1,0 +1,17 @@
+use Rattle.std.proofs.Common.{◌≡◌, ◌-◌, List}
+use Rattle.frame_load.specs.Budget.{budget}
+use Rattle.bc_machine.specs.declared.placed.Placed.{Placed}
+use Rattle.job_file.specs.Spelled.{ChannelJob}
+use Rattle.job_file.specs.Machines.{IsOf}
+use Rattle.job_file.proofs.stepping.next_record.Given as goal
+
+-- nothing was sent yet
+abbrev pub invariant-steps : goal.invariant-steps
+invariant-steps l = record {
+  state : l.machine.point.state ≡ l.initial.machine.point.state;
+  number : l.machine.point.number ≡ l.initial.machine.point.number;
+  of : (job : ChannelJob) (placed : List Placed) → IsOf job placed l.initial.machine → IsOf job placed l.machine;
+}
+
+abbrev pub decreases-steps : goal.decreases-steps
+decreases-steps l = budget l.machine.code.operations - l.machine.taken
