@@ -10,21 +10,9 @@ use Rattle.mil_bus.specs.declared.talks.Sent.{Sent}
 use Rattle.mil_terminal.specs.Station.{Station}
 use Rattle.mil_bus.specs.Exchange.{Offer, Standing, words_of, run_sent, quieted, quiet_after, next_offer, first_reply, all_hearing, runs}
 
-pub none : (ws : List Sent) → (length ws == 0) ≡ true → ws ≡ []
-none [] h = refl
-none (w ∷ ws) h = absurd (grind (arith, nat_tests))
-
 pub run_sent-some : (room : ℕ) (faults : List Fault) (run : ℕ) (o : Offer) (gap : ℕ) (ws : List ℕ) → ws ≡ take room (altered faults run o.waves) → gap ≡ gap_of faults run o.gap → run_sent room faults run o ≡ words_of run o.source gap ws
 unfolding run_sent
 run_sent-some room faults run o gap ws e g = rw (g, e) refl
-
-pub quiet_after-some : (line : Line) (ws : List Sent) (st : List Station) → (length ws == 0) ≡ false → quiet_after line ws st ≡ map (quieted line) st
-quiet_after-some line [] st h = cc
-quiet_after-some line (w ∷ ws) st h = refl
-
-pub next_offer-some : (line : Line) (ws : List Sent) (st : List Station) → (length ws == 0) ≡ false → next_offer line ws st ≡ first_reply line st
-next_offer-some line [] st h = cc
-next_offer-some line (w ∷ ws) st h = refl
 
 pub runs-none : (left : ℕ) (line : Line) (faults : List Fault) (run : ℕ) (s : Standing) → runs left line faults run None s ≡ s
 unfolding runs
@@ -38,9 +26,3 @@ pub runs-some : (left : ℕ) (line : Line) (faults : List Fault) (run : ℕ) (o 
     → runs left line faults (run + 1) next (record { sent = sent_after; stations = stations_after }) ≡ runs (left + 1) line faults run (Some o) (record { sent = sent; stations = stations })
 unfolding runs
 runs-some left line faults run o sent sent_after stations stations_after next e1 e2 e3 = rw (e1, e2, e3, add-one left, add-one run) refl
-
-pub tail_is : (old new all : List Sent) (n : ℕ) → all ≡ old ++ new → n ≡ length old → take (length all - n) (drop n all) ≡ new
-tail_is old new all n e h =
-    let d : drop (length old) (old ++ new) ≡ new = drop-append_seam old new in
-    let m : length (old ++ new) - length old ≡ length new = omega (arith, length-append old new) in
-    rw (e, h, m, d) (take_all (length new) new (omega arith))

@@ -9,3 +9,4 @@ pub mod Addresses
 pub mod Past
 pub mod KeepsTimes
 pub mod Index
+pub mod Enough

@@ -8,6 +8,7 @@ mod copies;
 pub mod counts;
 pub mod error;
 mod hearing;
+pub mod laws;
 mod offers;
 pub mod outcomes;
 mod past;

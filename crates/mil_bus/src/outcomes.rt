@@ -1,5 +1,5 @@
 //! The block status word of a finished talk, and what a program learns of it.
-ghost use Rattle.std.specs.Prelude.{◌≡◌, ◌<◌, ◌≤◌, ◌^◌};
+ghost use Rattle.std.specs.Prelude.{◌≡◌, ◌<◌, ◌≤◌, ◌^◌, length};
 ghost use Rattle.mil_bus.specs.BlockStatus.{first_due, second_due, is_late, is_excuse, is_miscounted, has_other_address, bit, is_line_b, is_transfer, has_response_time_out, has_word_count_error, has_error, block_of, came_bits, outcome_of};
 ghost use Rattle.mil_bus.specs.Counts.{seen_of};
 ghost use Rattle.mil_message.specs.Forms.{replies_due};
@@ -25,17 +25,22 @@ pub struct Outcome {
 struct DueReplies {
     first: Option<Due>,
     second: Option<Due>,
+    /// How many there are, 0 to 2.
+    count: u8,
 }
 
 /// The replies that a message is due.
 fn due_of(message: &Message) -> DueReplies
     ensures first { result.first ≡ first_due (replies_due message.now) }
     ensures second { result.second ≡ second_due (replies_due message.now) }
+    ensures count { result.count ≡ length (replies_due message.now) }
+    ensures few { result.count ≤ 2 }
 {
     let due = message.replies_due();
     DueReplies {
         first: due.as_slice().first().copied(),
         second: due.as_slice().get(1).copied(),
+        count: due.len() as u8,
     }
 }
 
@@ -179,9 +184,17 @@ impl Talk {
     pub fn seen(&self) -> Seen
         ensures { result ≡ seen_of self.now.message self.now.sent.items }
     {
+        self.seen_with(due_of(&self.message))
+    }
+
+    /// The same, where these replies are due.
+    fn seen_with(&self, due: DueReplies) -> Seen
+        requires count { due.count ≡ length (replies_due self.now.message) }
+        requires few { due.count ≤ 2 }
+        ensures { result ≡ seen_of self.now.message self.now.sent.items }
+    {
         let commands = if is_transfer(&self.message) { 2 } else { 1 };
-        let due = self.message.replies_due().len() as u8;
-        counted(commands, due, self.sent.as_slice())
+        counted(commands, due.count, self.sent.as_slice())
     }
 
     /// The block status word, from what is seen of this talk.
@@ -203,8 +216,8 @@ impl Talk {
     pub fn outcome(&self) -> Outcome
         ensures { result ≡ outcome_of self.now.message self.now.sent.items }
     {
-        let seen = self.seen();
         let due = due_of(&self.message);
+        let seen = self.seen_with(due);
         Outcome {
             failed: judged(&self.message, due, &seen).any,
             silent: due.first.is_some() && seen.one.is_none(),

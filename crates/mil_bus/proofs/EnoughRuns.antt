@@ -33,3 +33,11 @@ runs-enough (suc left) line faults run (Some o) sent stations h =
     let words = run_sent (40 - length sent) faults run o in
     one_more_turn line faults run left words sent stations
     (λ w ws e. runs-enough left line faults (suc run) (next_offer line words (all_hearing line words stations)) (sent ++ words) (quiet_after line words (all_hearing line words stations)) (omega (arith, length-append sent words, ap (λ (l : List Sent). length l) e)))
+
+pub forty : (more : ℕ) (line : Line) (faults : List Fault) (offer : Offer) (stations : List Station)
+    → runs (40 + more) line faults 0 (Some offer) (record { sent = []; stations = stations }) ≡ runs 40 line faults 0 (Some offer) (record { sent = []; stations = stations })
+forty zero line faults offer stations = refl
+forty (suc more) line faults offer stations =
+    let next : 40 + suc more ≡ suc (40 + more) = omega arith in
+    ap (λ n. runs n line faults 0 (Some offer) (record { sent = []; stations = stations })) next
+    ∙ sym (runs-enough (40 + more) line faults 0 (Some offer) [] stations (omega arith)) ∙ forty more line faults offer stations

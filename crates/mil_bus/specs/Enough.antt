@@ -1,0 +1,12 @@
+-- How many runs an exchange can have.
+use Rattle.std.specs.Prelude.{◌≡◌, ℕ, ◌+◌, List, [], Option, Some}
+use Rattle.mil_word.specs.declared.Line.{Line}
+use Rattle.mil_line.specs.declared.faults.Fault.{Fault}
+use Rattle.mil_terminal.specs.Station.{Station}
+use Rattle.mil_bus.specs.Exchange.{Offer, Standing, runs}
+
+-- whatever the first sender gives, forty runs and any more of them come to the same words and the same histories
+abbrev pub FortyRunsAreEnough : Type 0
+FortyRunsAreEnough =
+    (more : ℕ) (line : Line) (faults : List Fault) (offer : Offer) (stations : List Station)
+    → runs (40 + more) line faults 0 (Some offer) (record { sent = []; stations = stations }) ≡ runs 40 line faults 0 (Some offer) (record { sent = []; stations = stations })
