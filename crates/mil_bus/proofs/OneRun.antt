@@ -1,14 +1,11 @@
 -- One run and what follows it.
-use Rattle.std.proofs.Common.{◌≡◌, ℕ, ◌+◌, ◌-◌, ◌==◌, true, false, List, [], ◌∷◌, ◌++◌, map, take, length, zero, suc, refl, arith, Option, Some, None, add-one, drop, length-append}
-use Rattle.std.proofs.Math.Seq.{drop-append_seam}
-use Rattle.std.proofs.lemmas.List.{take_all}
-use Rattle.std.proofs.lemmas.Bool.Decides.{nat_tests}
+use Rattle.std.proofs.Common.{◌≡◌, ℕ, ◌+◌, ◌-◌, List, ◌++◌, take, length, zero, suc, refl, Option, Some, None, add-one}
 use Rattle.mil_word.specs.declared.Line.{Line}
 use Rattle.mil_line.specs.declared.faults.Fault.{Fault}
 use Rattle.mil_line.specs.Faults.{altered, gap_of}
 use Rattle.mil_bus.specs.declared.talks.Sent.{Sent}
 use Rattle.mil_terminal.specs.Station.{Station}
-use Rattle.mil_bus.specs.Exchange.{Offer, Standing, words_of, run_sent, quieted, quiet_after, next_offer, first_reply, all_hearing, runs}
+use Rattle.mil_bus.specs.Exchange.{Offer, Standing, words_of, run_sent, quiet_after, next_offer, all_hearing, runs}
 
 pub run_sent-some : (room : ℕ) (faults : List Fault) (run : ℕ) (o : Offer) (gap : ℕ) (ws : List ℕ) → ws ≡ take room (altered faults run o.waves) → gap ≡ gap_of faults run o.gap → run_sent room faults run o ≡ words_of run o.source gap ws
 unfolding run_sent

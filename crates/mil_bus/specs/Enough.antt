@@ -1,9 +1,9 @@
 -- How many runs an exchange can have.
-use Rattle.std.specs.Prelude.{◌≡◌, ℕ, ◌+◌, List, [], Option, Some}
+use Rattle.std.specs.Prelude.{◌≡◌, ℕ, ◌+◌, List, [], Some}
 use Rattle.mil_word.specs.declared.Line.{Line}
 use Rattle.mil_line.specs.declared.faults.Fault.{Fault}
 use Rattle.mil_terminal.specs.Station.{Station}
-use Rattle.mil_bus.specs.Exchange.{Offer, Standing, runs}
+use Rattle.mil_bus.specs.Exchange.{Offer, runs}
 
 -- whatever the first sender gives, forty runs and any more of them come to the same words and the same histories
 abbrev pub FortyRunsAreEnough : Type 0
