@@ -28,6 +28,23 @@ fn an_image_and_its_sizes(rt: HostRuntime) -> Result<(), Fail> {
     Ok(())
 }
 
+/// The bytes of the image of `if fail { send A mode 5 1 }`.
+const CHOSEN: [u8; 40] = [
+    0x42, 0x43, 0x30, 0x31, 6, 0, 1, 0, // the mark and the counts
+    8, 0, 0, 0, 9, 0, 5, 0, 7, 0, 3, 0, // Test 0, JumpFalse 5, Jump 3
+    1, 0, 0, 0, 7, 0, 5, 0, 0, 0, 0, 0, // Send 0, Jump 5, Halt
+    3, 0, 0xE1, 0x2F, 0, 0, 0, 0, // the message
+];
+
+#[test]
+fn a_choice_has_its_jumps(rt: HostRuntime) -> Result<(), Fail> {
+    let script = b"if fail { send A mode 5 1 }";
+    let (bytes, sizes) = assemble_text(rt.alloc(), script).expect(&rt, "an image");
+    assert_eq!(rt; bytes.as_slice(), CHOSEN.as_slice());
+    assert_eq!(rt; sizes.budget, 6);
+    Ok(())
+}
+
 // What is printed of the refusal of a script.
 fn refusal(rt: &HostRuntime, text: &[u8]) -> Result<String, Fail> {
     match assemble_text(rt.alloc(), text) {
