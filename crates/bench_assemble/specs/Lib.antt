@@ -1,2 +1,3 @@
 pub mod SizesLine
 pub mod Assembled
+pub mod Letters

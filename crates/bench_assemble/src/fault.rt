@@ -26,6 +26,10 @@ pub enum AssembleFault {
 
 /// `S7 line 1 column 8`, `A1`, `P5`, `memory`.
 impl fmt::Display for AssembleFault {
+    ghost use Rattle.bench_assemble.specs.Letters.{letters_of};
+
+    ghost output = { letters_of };
+
     fn fmt<W: fmt::Write>(&self, f: &mut fmt::Formatter<W>) -> fmt::Result {
         match self {
             AssembleFault::Text { cause, place } => {
