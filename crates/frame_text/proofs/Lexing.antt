@@ -1,5 +1,5 @@
 -- How a text begins, and its tokens.
-use Rattle.std.proofs.Common.{◌≡◌, ℕ, zero, suc, ◌+◌, ◌<◌, ◌≤◌, Bool, true, false, cond, List, [], ◌∷◌, length, get_or, take, drop, refl, sym, ap, ap₂, ◌∙◌, subst, ⊎_elim, arith}
+use Rattle.std.proofs.Common.{◌≡◌, ℕ, zero, suc, ◌+◌, ◌<◌, ◌≤◌, Bool, true, false, cond, List, [], ◌∷◌, ◌++◌, append_assoc, length, get_or, take, drop, refl, sym, ap, ap₂, ◌∙◌, subst, ⊎_elim, arith}
 use Rattle.std.proofs.lemmas.Bool.{cases_lt}
 use Rattle.std.specs.Prelude.{nat_eq, not, ◌&&◌}
 use Rattle.std.proofs.lemmas.Bool.Decides.{nat_tests}
@@ -81,3 +81,7 @@ pub no_bytes : (bs : List ℕ) → length bs ≡ 0 → lex false bs ≡ []
 unfolding lex
 no_bytes [] e = refl
 no_bytes (b ∷ bs) e = absurd (omega (arith, e))
+
+-- a suffix without its first byte is a suffix
+pub shorter_suffix : (text rest after : List ℕ) (b : ℕ) → rest ≡ b ∷ after → ((before : List ℕ) × (text ≡ before ++ rest)) → (before : List ℕ) × (text ≡ before ++ after)
+shorter_suffix text rest after b e p = (p.0 ++ b ∷ [], p.1 ∙ ap (λ xs. p.0 ++ xs) e ∙ sym (append_assoc p.0 (b ∷ []) after))

@@ -4,6 +4,7 @@ pub mod Digits
 pub mod FormsBack
 pub mod FormsRead
 pub mod Lexing
+pub mod Positions
 pub mod Printed
 pub mod PrintedForms
 pub mod PrintedLines

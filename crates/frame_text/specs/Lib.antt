@@ -4,6 +4,7 @@ pub mod Words
 pub mod Messages
 pub mod Conditions
 pub mod Frames
+pub mod Places
 pub mod PrintedMessages
 pub mod PrintedConditions
 pub mod Printing

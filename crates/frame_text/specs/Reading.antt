@@ -1,6 +1,6 @@
 -- What reading tokens from left to right comes to: what was read and the tokens after it, or the first fault.
-use Rattle.std.specs.Prelude.{◌≡◌, ℕ, nat_eq, Bool, true, false, ◌&&◌, ◌||◌, if◌then◌else◌, List, [], ◌∷◌, Result, Ok, Err, codes}
-use Rattle.frame_text.specs.Tokens.{in_word}
+use Rattle.std.specs.Prelude.{◌≡◌, ℕ, nat_eq, Bool, true, false, ◌&&◌, ◌||◌, if◌then◌else◌, List, [], ◌∷◌, ◌++◌, length, Result, Ok, Err, codes}
+use Rattle.frame_text.specs.Tokens.{in_word, tokens, BeginsToken}
 use Rattle.frame_text.specs.declared.faults.Cause.{Cause}
 use Rattle.frame_text.specs.declared.faults.Cause.TheVariants as cause
 use Rattle.frame_text.specs.declared.faults.Fault.{Fault}
@@ -71,6 +71,11 @@ to_the_end (x, (w ∷ ts)) = Err (misplaced w)
 abbrev pub IsCause : Cause → Fault → Type 0
 IsCause c (fault.Text d left) = d ≡ c
 IsCause c (fault.Memory left) = ⊥
+
+-- a fault at the first token of a text, or at its end: that many bytes are left from there on
+abbrev pub IsAtToken : List ℕ → Fault → Type 0
+IsAtToken text (fault.Text c left) = (before : List ℕ) × (rest : List ℕ) × (text ≡ before ++ rest) × (tokens rest ≡ tokens text) × BeginsToken rest × (left ≡ length rest)
+IsAtToken text (fault.Memory left) = ⊥
 
 -- a fault of the text, and not want of memory
 abbrev pub IsOfText : Fault → Type 0

@@ -9,6 +9,7 @@ ghost use Rattle.frame_text.specs.Reading.{Answers, IsTextError};
 ghost use Rattle.frame_text.specs.Messages.{send_of_text};
 ghost use Rattle.frame_text.specs.Conditions.{condition_of_text};
 ghost use Rattle.frame_text.specs.Frames.{tree_of_text};
+ghost use Rattle.frame_text.specs.Places.{StandsIn};
 ghost use Rattle.frame_text.specs.Printing.{printed};
 
 mod conditions;
@@ -38,6 +39,7 @@ use std::alloc::{AllocError, Allocator, Global};
 /// The frame of a script. It is refused with the first fault from left to right, or for want of memory; a frame is sound.
 pub fn parse<A: Allocator + Clone>(alloc: A, text: &[u8]) -> Result<Frame<A>, ScriptError>
     ensures tree { Answers tree_of result (tree_of_text text.now) }
+    ensures place { IfErr result (λ e. StandsIn text.now e) }
     ensures sound { IfOk result (λ f. IsSound (tree_of f)) }
 {
     match whole::script(&alloc, text) {
@@ -50,6 +52,7 @@ pub fn parse<A: Allocator + Clone>(alloc: A, text: &[u8]) -> Result<Frame<A>, Sc
 pub fn read_send(text: &[u8]) -> Result<(Line, Message), ScriptError>
     ensures tree { Answers (λ x. x) result (send_of_text text.now) }
     ensures no_memory { IfErr result (λ e. IsTextError e) }
+    ensures place { IfErr result (λ e. StandsIn text.now e) }
 {
     match whole::send(text) {
         Ok(read) => Ok(read),
@@ -59,7 +62,8 @@ pub fn read_send(text: &[u8]) -> Result<(Line, Message), ScriptError>
 
 /// The condition of a text such as `any ( fail silent )`.
 pub fn read_cond<A: Allocator + Clone>(alloc: A, text: &[u8]) -> Result<Cond<A>, ScriptError>
-    ensures { Answers test_of result (condition_of_text text.now) }
+    ensures tree { Answers test_of result (condition_of_text text.now) }
+    ensures place { IfErr result (λ e. StandsIn text.now e) }
 {
     match whole::condition(&alloc, text) {
         Ok(condition) => Ok(condition),

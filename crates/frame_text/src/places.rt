@@ -1,27 +1,33 @@
 //! Places in a text.
 
+ghost use Rattle.std.specs.Prelude.{◌≡◌, ◌++◌, ◌-◌, List, ℕ, length, take};
 ghost use Rattle.frame_text.specs.Reading.{IsLocated, IsOfText, IsTextError};
+ghost use Rattle.frame_text.specs.Places.{place_behind, IsPlaced, StandsIn};
 
 use crate::faults::{Fault, Place, ScriptError};
 use crate::keywords::is_word_byte;
 
-/// The place directly behind the first bytes of a text.
-fn place_after(before: &[u8]) -> Place {
+// The place directly behind the first bytes of a text.
+fn place_after(before: &[u8]) -> Place
+    ensures { result ≡ place_behind before.now }
+{
     let mut line: u64 = 1;
     let mut column: u64 = 1;
     for b in before {
         if *b == b'\n' {
-            line = line.saturating_add(1);
+            line += 1;
             column = 1;
         } else {
-            column = column.saturating_add(1);
+            column += 1;
         }
     }
     Place { line, column }
 }
 
-/// What comes before the token that ends a text.
-fn before_last_token(text: &[u8]) -> &[u8] {
+// What comes before the token that ends a text.
+fn before_last_token(text: &[u8]) -> &[u8]
+    ensures { (after : List ℕ) × (text.now ≡ result.now ++ after) }
+{
     let mut before = text;
     while let Some((last, rest)) = before.split_last() {
         if !is_word_byte(*last) {
@@ -38,8 +44,10 @@ fn before_last_token(text: &[u8]) -> &[u8] {
     }
 }
 
-/// What comes before the last bytes of a text.
-fn without_last(text: &[u8], left: usize) -> &[u8] {
+// What comes before the last bytes of a text.
+fn without_last(text: &[u8], left: usize) -> &[u8]
+    ensures { result.now ≡ take (length text.now - left) text.now }
+{
     &text[..text.len().saturating_sub(left)]
 }
 
@@ -47,6 +55,8 @@ fn without_last(text: &[u8], left: usize) -> &[u8] {
 pub fn located(text: &[u8], fault: Fault) -> ScriptError
     ensures same { IsLocated fault result }
     ensures of_text { IsOfText fault → IsTextError result }
+    ensures place { IsPlaced text.now fault result }
+    ensures inside { StandsIn text.now result }
 {
     match fault {
         Fault::Text(cause, left) => ScriptError::Text {

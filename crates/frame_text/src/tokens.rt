@@ -1,8 +1,8 @@
 //! The tokens of a text, one by one: no list of them is ever made.
 
-ghost use Rattle.std.specs.Prelude.{◌≡◌, ◌<◌, ◌≤◌, [], ◌∷◌, length, MatchOption, IfSome, IfOk, IfErr};
+ghost use Rattle.std.specs.Prelude.{◌≡◌, ◌<◌, ◌≤◌, ◌++◌, ℕ, List, [], ◌∷◌, length, MatchOption, IfSome, IfOk, IfErr};
 ghost use Rattle.frame_text.specs.Tokens.{is_space, tokens, BeginsToken};
-ghost use Rattle.frame_text.specs.Reading.{Gives, IsCause, IsOfText, past};
+ghost use Rattle.frame_text.specs.Reading.{Gives, IsAtToken, IsCause, IsOfText, past};
 
 use crate::faults::{Cause, Fault};
 use crate::keywords::{is, is_word_byte, misplaced};
@@ -18,6 +18,7 @@ fn skipped(text: &[u8]) -> &[u8]
     ensures tokens { tokens result.now ≡ tokens text.now }
     ensures shorter { length result.now ≤ length text.now }
     ensures begins { BeginsToken result.now }
+    ensures suffix { (before : List ℕ) × (text.now ≡ before ++ result.now) }
 {
     let mut rest = text;
     let mut comment = false;
@@ -65,6 +66,7 @@ pub fn next(text: &[u8]) -> Option<(&[u8], &[u8])>
 pub fn fault(cause: Cause, text: &[u8]) -> Fault
     ensures cause { IsCause cause result }
     ensures of_text { IsOfText result }
+    ensures place { IsAtToken text.now result }
 {
     Fault::Text(cause, skipped(text).len())
 }

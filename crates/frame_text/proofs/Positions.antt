@@ -1,0 +1,10 @@
+-- The place behind a whole text.
+use Rattle.std.proofs.Common.{◌≡◌, ℕ, ◌+◌, ◌≤◌, List, length, take, ap, ap₂, ◌∙◌}
+use Rattle.std.specs.List.{count_by}
+use Rattle.std.proofs.lemmas.List.{take_all}
+use Rattle.frame_text.specs.declared.faults.Place.{Place}
+use Rattle.frame_text.specs.Places.{is_line_end, since_line_end, place_behind}
+
+pub place_at_end : (xs : List ℕ) (i line column : ℕ) → length xs ≤ i → line ≡ 1 + count_by is_line_end (take i xs) → column ≡ 1 + since_line_end (take i xs) → let place : Place = record { line = line; column = column } in place ≡ place_behind xs
+place_at_end xs i line column h e c =
+    ap₂ (λ l k. let place : Place = record { line = l; column = k } in place) (e ∙ ap (λ ys. 1 + count_by is_line_end ys) (take_all i xs h)) (c ∙ ap (λ ys. 1 + since_line_end ys) (take_all i xs h))
