@@ -2,6 +2,7 @@
 use Rattle.std.proofs.Common.{◌≡◌, ◌≢◌, ℕ, zero, suc, ◌+◌, ◌-◌, ◌*◌, ◌/◌, ◌%◌, ◌^◌, ◌<◌, ◌≤◌, refl, sym, ap, ◌∙◌, arith, w32}
 use Rattle.std.specs.Prelude.{bit_or, nat_eq, Bool, true, false, ◌&&◌, ◌||◌, Some}
 use Rattle.std.specs.Int.{bit_at, trailing_zeros}
+use Rattle.std.specs.Int.Count.{trailing_of_zero}
 use Rattle.std.proofs.lemmas.Nat.{shr-shr, shr_le}
 use Rattle.std.proofs.lemmas.Nat.Bits.{bit_at-zero, bit_at-trailing_zeros, bit_at_ones, bit_at_or, bit_at_set_same}
 use Rattle.std.proofs.lemmas.Bool.{eqb-true}
@@ -25,6 +26,21 @@ clear_between mask from small k le lt = bit_at-shifted mask from k le ∙ go (ma
         let pos : 0 < mask / 2 ^ from = omega arith in
         let fits : mask / 2 ^ from < 2 ^ 32 = omega (arith, shr_le mask from) in
         (bit_at-trailing_zeros w32 (mask / 2 ^ from) pos fits).2 (k - from) (omega arith)
+
+-- at that place it is set
+pub set_there : (mask from : ℕ) → mask < 2 ^ 32 → from + trailing_zeros w32 (mask / 2 ^ from) < 32 → bit_at mask (from + trailing_zeros w32 (mask / 2 ^ from)) ≡ 1
+set_there mask from small within =
+    let shifted : from + trailing_zeros w32 (mask / 2 ^ from) - from ≡ trailing_zeros w32 (mask / 2 ^ from) = omega arith in
+    bit_at-shifted mask from (from + trailing_zeros w32 (mask / 2 ^ from)) (omega arith) ∙ ap (bit_at (mask / 2 ^ from)) shifted ∙ go (mask / 2 ^ from) refl
+  where
+    go : (rest : ℕ) → mask / 2 ^ from ≡ rest → bit_at (mask / 2 ^ from) (trailing_zeros w32 (mask / 2 ^ from)) ≡ 1
+    go zero is =
+        let none : trailing_zeros w32 (mask / 2 ^ from) ≡ 32 = ap (trailing_zeros w32) is ∙ trailing_of_zero 32 in
+        absurd (omega (arith, none, within))
+    go (suc rest) is =
+        let pos : 0 < mask / 2 ^ from = omega arith in
+        let fits : mask / 2 ^ from < 2 ^ 32 = omega (arith, shr_le mask from) in
+        (bit_at-trailing_zeros w32 (mask / 2 ^ from) pos fits).1
 
 -- in a mask of ones no bit is clear
 pub all_set : (k : ℕ) → k < 32 → bit_at 4294967295 k ≢ 0

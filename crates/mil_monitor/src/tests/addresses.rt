@@ -23,6 +23,15 @@ fn no_bus_has_an_address_twice_or_over_30(rt: HostRuntime) {
 }
 
 #[test]
+fn a_refusal_prints_its_code(rt: HostRuntime) -> Result<(), Fail> {
+    for (refusal, code) in [(BusError::Addresses, "B1"), (BusError::Memory, "B2")] {
+        let text = format!(in rt.alloc(); "{refusal}")?;
+        assert_eq!(rt; text.as_str(), code);
+    }
+    Ok(())
+}
+
+#[test]
 fn an_action_of_no_terminal_is_refused(rt: HostRuntime) -> Result<(), Fail> {
     let mut alone = fresh(rt.alloc(), &[5])?;
     assert!(rt; !alone.bus.act(6, &Action::Busy(true)));
