@@ -1,3 +1,4 @@
 pub mod DumpText
 pub mod Printing
 pub mod Reads
+pub mod FaultText

@@ -20,6 +20,11 @@ pub enum DumpFault {
 }
 
 impl fmt::Display for DumpFault {
+    ghost use Rattle.std.specs.Prelude.{Some};
+    ghost use Rattle.bench_dump.specs.FaultText.{fault_text};
+
+    ghost output = { λ e. Some (fault_text e) };
+
     fn fmt<W: fmt::Write>(&self, f: &mut fmt::Formatter<W>) -> fmt::Result {
         match self {
             DumpFault::Refused(refusal) => write!(f, "{refusal}"),

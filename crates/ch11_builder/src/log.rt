@@ -13,6 +13,7 @@ pub struct Log {
     link: Link,
 }
 
+/// How a log goes on from the one before it.
 #[cycle(log)]
 #[derive(Drop)]
 pub enum Link {
@@ -38,6 +39,7 @@ impl Model for Log {
     ghost size_decreases = { λ a h. Prim.grind arith };
 }
 
+/// What proofs know of the records so far; it costs nothing.
 pub(crate) fn log_of(link: Link) -> Snapshot<Log>
     ensures { result.value ≡ records_in link }
 {

@@ -1,3 +1,4 @@
 pub mod HeaderBytes
 pub mod HeaderReading
 pub mod Examples
+pub mod Codes

@@ -20,6 +20,11 @@ pub enum HeaderError {
 }
 
 impl fmt::Display for HeaderError {
+    ghost use Rattle.std.specs.Prelude.{Some};
+    ghost use Rattle.ch11_header.specs.Codes.{code_of};
+
+    ghost output = { λ e. Some (code_of e) };
+
     fn fmt<W: fmt::Write>(&self, f: &mut fmt::Formatter<W>) -> fmt::Result {
         f.write_str(match self {
             HeaderError::Short => "K1",

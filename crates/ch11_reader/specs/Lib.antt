@@ -5,3 +5,4 @@ pub mod Indexed
 pub mod Examples
 pub mod Written
 pub mod Joined
+pub mod Codes

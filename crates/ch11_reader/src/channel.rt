@@ -32,6 +32,7 @@ impl<'a, 'i> Model for ChannelMessages<'a, 'i> {
 }
 
 impl<'a, 'i> ChannelMessages<'a, 'i> {
+    /// The messages of a channel in these packets of a file, in their order.
     pub(crate) fn over(
         file: &'a [u8],
         packets: &'i [Packet],

@@ -41,6 +41,11 @@ pub enum ReadError {
 }
 
 impl fmt::Display for Fault {
+    ghost use Rattle.std.specs.Prelude.{Some};
+    ghost use Rattle.ch11_reader.specs.Codes.{code_of};
+
+    ghost output = { λ e. Some (code_of e) };
+
     fn fmt<W: fmt::Write>(&self, f: &mut fmt::Formatter<W>) -> fmt::Result {
         match self {
             Fault::Header(fault) => write!(f, "{fault}"),
@@ -51,12 +56,22 @@ impl fmt::Display for Fault {
 }
 
 impl fmt::Display for Refusal {
+    ghost use Rattle.std.specs.Prelude.{Some};
+    ghost use Rattle.ch11_reader.specs.Codes.{refusal_text};
+
+    ghost output = { λ e. Some (refusal_text e) };
+
     fn fmt<W: fmt::Write>(&self, f: &mut fmt::Formatter<W>) -> fmt::Result {
         write!(f, "{} offset {}", self.fault, self.offset)
     }
 }
 
 impl fmt::Display for ReadError {
+    ghost use Rattle.std.specs.Prelude.{Some};
+    ghost use Rattle.ch11_reader.specs.Codes.{error_text};
+
+    ghost output = { λ e. Some (error_text e) };
+
     fn fmt<W: fmt::Write>(&self, f: &mut fmt::Formatter<W>) -> fmt::Result {
         match self {
             ReadError::Refused(refusal) => write!(f, "{refusal}"),

@@ -22,6 +22,7 @@ impl<W: Write> Model for StdSink<W> {
 }
 
 impl<W: Write> StdSink<W> {
+    /// A sink over this writer, which has taken nothing and has not failed.
     pub fn make(writer: W) -> StdSink<W>
         ensures { result ≡ record { writer = writer; failures = 0; finished = false } }
     {
