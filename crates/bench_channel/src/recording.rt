@@ -1,0 +1,107 @@
+//! One channel's recording.
+ghost use Rattle.std.specs.Prelude.{◌≡◌, ◌-◌, ◌<◌, ◌≤◌, ◌^◌, ◌∷◌, [], false, IsErr, IfOk, IfErr};
+ghost use Rattle.std.specs.Io.KnownBytes.{Appends};
+ghost use Rattle.job_file.specs.Jobs.{job_in};
+ghost use Rattle.job_file.specs.Meaning.{records};
+ghost use Rattle.job_file.specs.Machines.{IsOf};
+ghost use Rattle.ch11_builder.specs.Recorded.{IsRecorded};
+ghost use Rattle.ch11_recording.specs.Items.{numbered};
+ghost use Rattle.ch11_recording.specs.Recording.{IsRecordingOf};
+ghost use Rattle.bench_channel.specs.Channel.{format_of, channel_file, IsReadAs};
+ghost use Rattle.bench_channel.specs.Faults.{Leaves, IsOutOfRange};
+
+use crate::fault::ChannelFault;
+use bc_machine::Machine;
+use ch11_builder::run_gives_the_packets;
+use ch11_recording::{Recorder, recording_is_read_again};
+use ch11_writer::Sink;
+use job_file::{Job, next_record};
+use mil_monitor::Record;
+use std::alloc::Global;
+
+/// A record of a bus monitor fits a recording, where its stamp does.
+fn fits(number: u32, record: &Record)
+    requires { record.now.stamp < 2 ^ 48 }
+    ensures { IsRecorded (numbered number record.now) }
+{
+    let _block = record.block;
+    let _gaps = record.gaps;
+    let _words = record.words.as_slice();
+}
+
+/// Records every message of a job, from its first on.
+fn record_all<S: Sink>(
+    job: &Job,
+    version: u8,
+    limit: u32,
+    machine: Machine,
+    recorder: Recorder<S>,
+) -> Result<S, ChannelFault<S>>
+    requires low { 256 ≤ limit }
+    requires high { limit ≤ 524288 }
+    requires machine { IsOf (job_in job.now) job.now.actions machine }
+    requires first { machine.point.number ≡ 0 }
+    requires begun { IsRecordingOf S.taken (format_of version limit) [] (S.taken recorder.writing.sink) (job.now.channel ∷ []) [] recorder }
+    requires fresh { recorder.writing ≡ record { sink = recorder.writing.sink; taken = 0; failed = false; finished = false } }
+    ensures file { IfOk result (λ s. Appends (S.taken recorder.writing.sink) (S.taken s)
+        (channel_file job.now.channel version limit (records (job_in job.now) job.now.actions))) }
+    ensures read { IfOk result (λ _. IsReadAs job.now.channel (records (job_in job.now) job.now.actions)
+        (channel_file job.now.channel version limit (records (job_in job.now) job.now.actions))) }
+    ensures refused { IfErr result (Leaves S.taken S.failures limit
+        (channel_file job.now.channel version limit (records (job_in job.now) job.now.actions)) recorder.writing.sink) }
+{
+    let mut machine = machine;
+    let mut recorder = recorder;
+    let _sound = job.program();
+    let _channel = job.channel();
+    run_gives_the_packets();
+    recording_is_read_again();
+    while let Some(record) = next_record(&mut machine) {
+        let number = machine.number();
+        fits(number, &record);
+        recorder.keep(0, u64::from(number), &record);
+    }
+    recorder.end(0);
+    match recorder.finish() {
+        Ok(()) => Ok(recorder.into_sink()),
+        Err(fault) => Err(ChannelFault::Sink {
+            sink: recorder.into_sink(),
+            taken: fault.taken,
+        }),
+    }
+}
+
+/// The recording of a job's channel under its own actions, in packets of at most `limit` bytes, put into the sink. G1 where the
+/// limit is outside 256 to 524,288, then U3 where memory is refused, then U4 where the sink fails; each hands the sink back.
+///
+/// What the sink took, read back, gives the job's records, in order and once.
+pub fn one_channel<S: Sink>(
+    alloc: Global,
+    job: &Job,
+    version: u8,
+    limit: u32,
+    sink: S,
+) -> Result<S, ChannelFault<S>>
+    requires countable { S.failures sink < 2 ^ 64 - 1 }
+    ensures file { IfOk result (λ s. Appends (S.taken sink) (S.taken s)
+        (channel_file job.now.channel version limit (records (job_in job.now) job.now.actions))) }
+    ensures read { IfOk result (λ _. IsReadAs job.now.channel (records (job_in job.now) job.now.actions)
+        (channel_file job.now.channel version limit (records (job_in job.now) job.now.actions))) }
+    ensures limit { IsOutOfRange limit → IsErr result }
+    ensures refused { IfErr result (Leaves S.taken S.failures limit
+        (channel_file job.now.channel version limit (records (job_in job.now) job.now.actions)) sink) }
+{
+    if limit < 256 || 524_288 < limit {
+        return Err(ChannelFault::Limit { sink });
+    }
+    let recorder = match Recorder::make(alloc, version, limit, &[job.channel()], sink) {
+        Ok(recorder) => recorder,
+        Err((_, sink)) => return Err(ChannelFault::Memory { sink }),
+    };
+    match job.machine(alloc, job.actions()) {
+        Ok(machine) => record_all(job, version, limit, machine, recorder),
+        Err(_) => Err(ChannelFault::Memory {
+            sink: recorder.into_sink(),
+        }),
+    }
+}
