@@ -1,6 +1,6 @@
 -- The job of a draft and a script.
 use Rattle.std.proofs.Common.{◌≡◌, ℕ, refl}
-use Rattle.std.specs.Prelude.{Option, Some, Result, Ok}
+use Rattle.std.specs.Prelude.{Option, Some, Ok}
 use Rattle.mil_host.specs.Words.{Text}
 use Rattle.frame_tree.specs.Tree.{Tree}
 use Rattle.frame_text.specs.Frames.{tree_of_text}

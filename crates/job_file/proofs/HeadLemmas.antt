@@ -1,20 +1,20 @@
 -- Line by line to the job of a text.
-use Rattle.std.proofs.Common.{◌≡◌, ℕ, ◌+◌, List, [], ◌∷◌, ◌++◌, length, refl, sym, ap, ◌∙◌, append_assoc, arith, inl, inr}
-use Rattle.std.specs.Prelude.{Bool, true, false, ◌&&◌, cond, Option, Some, None, Result, Ok, Err}
+use Rattle.std.proofs.Common.{◌≡◌, List, [], ◌∷◌, ◌++◌, length, refl, sym, ap, ◌∙◌, append_assoc, arith, inl, inr}
+use Rattle.std.specs.Prelude.{Bool, true, false, cond, Option, Some, None, Result, Ok, Err}
 use Rattle.std.specs.Option.{option_to_list}
 use Rattle.std.specs.List.{filter_map, before_first, after_first}
 use Rattle.std.proofs.lemmas.List.{append-nil}
 use Rattle.std.proofs.lemmas.List.Elements.{filter_map-append}
-use Rattle.mil_host.specs.Words.{Text, words}
+use Rattle.mil_host.specs.Words.{Text}
 use Rattle.mil_host.specs.Reading.{in_words}
 use Rattle.job_file.specs.Options.{◌>>=◌}
 use Rattle.job_file.specs.Lines.{Said, blank, script, channel, start, terminal, action, fault, said, said_in}
-use Rattle.job_file.specs.Heads.{Head, head_of, channel_of, start_of, address_of, placed_of, planned_of, placing, may_stand, are_lawful}
+use Rattle.job_file.specs.Heads.{Head, head_of, placed_of, placing, may_stand, are_lawful}
 use Rattle.job_file.specs.Drafts.{with_line}
 use Rattle.job_file.specs.Spelled.{ChannelJob, is_line_end, lines_of, text_of, is_script, with_line_above, parted, all_said, lawful, job_of, spelled}
 use Rattle.job_file.specs.Errors.{IsOfLine}
 use Rattle.job_file.specs.Fits.{IsFit}
-use Rattle.job_file.specs.Reading.{stands, with_said, TakesLine, IsRefusal, AreInRange}
+use Rattle.job_file.specs.Reading.{stands, TakesLine, IsRefusal, AreInRange}
 use Rattle.job_file.specs.declared.drafts.Taken.{Taken}
 use Rattle.job_file.specs.declared.drafts.Taken.TheVariants as taken
 use Rattle.job_file.specs.declared.error.Refusal.{Refusal}

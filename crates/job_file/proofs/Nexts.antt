@@ -1,7 +1,7 @@
 -- The next record of a controller.
 use Rattle.std.proofs.Common.{◌≡◌, ℕ, ◌+◌, ◌-◌, ◌≤◌, ◌<◌, List, [], ◌∷◌, ◌++◌, length, take, drop, map, refl, sym, ap, ◌∙◌, subst, append_assoc, arith}
 use Rattle.std.specs.Prelude.{Some, slice_get, reverse}
-use Rattle.std.proofs.lemmas.List.{take-append-drop, length-map, length-reverse, map-append, reverse-append, append-nil}
+use Rattle.std.proofs.lemmas.List.{take-append-drop, map-append, reverse-append}
 use Rattle.mil_bus.specs.declared.talks.Talk.{Talk}
 use Rattle.mil_monitor.specs.declared.Record.{Record}
 use Rattle.mil_monitor.specs.Observed.{observed}
@@ -9,8 +9,8 @@ use Rattle.frame_tree.specs.Bounds.{IsSound}
 use Rattle.frame_load.specs.Budget.{budget}
 use Rattle.frame_code.specs.Table.{Code, halted}
 use Rattle.bc_machine.specs.declared.placed.Placed.{Placed}
-use Rattle.bc_machine.specs.Running.{MachineState, stepped, turn_of, moved_by}
-use Rattle.bc_machine.specs.UnderWay.{IsUnderWay, IsSent, IsQuiet, IsHalted}
+use Rattle.bc_machine.specs.Running.{MachineState, stepped, turn_of}
+use Rattle.bc_machine.specs.UnderWay.{IsUnderWay, IsSent}
 use Rattle.job_file.specs.Spelled.{ChannelJob}
 use Rattle.job_file.specs.Meaning.{records_in, records}
 use Rattle.job_file.specs.Machines.{IsOf, GoesOn, RecordsSoFar, AllRecords, Counts}

@@ -1,14 +1,9 @@
 -- A draft of a job as what its lines say, and one more line.
-use Rattle.std.specs.Prelude.{◌≡◌, ℕ, true, false, if◌then◌else◌, List, [], ◌∷◌, ◌++◌, Option, Some, None, Result, Ok, Err}
+use Rattle.std.specs.Prelude.{◌≡◌, true, false, [], ◌∷◌, ◌++◌, Result, Ok, Err}
 use Rattle.std.specs.Option.{option_to_list}
-use Rattle.mil_host.specs.Words.{Text}
 use Rattle.mil_host.specs.Reading.{in_words}
-use Rattle.mil_host.specs.declared.actions.Action.{Action}
-use Rattle.mil_host.specs.declared.reading.BadAction.{BadAction}
-use Rattle.mil_line.specs.declared.faults.Fault.{Fault}
 use Rattle.job_file.specs.Lines.{Said, blank, script, channel, start, terminal, action, fault}
 use Rattle.job_file.specs.Heads.{Head, placing, may_stand}
-use Rattle.bc_machine.specs.declared.placed.Placed.{Placed}
 use Rattle.job_file.specs.declared.drafts.Draft.{Draft}
 use Rattle.job_file.specs.declared.error.Refusal.{Refusal}
 use Rattle.job_file.specs.declared.error.Refusal.TheVariants as refusal

@@ -1,5 +1,4 @@
 -- A job's fields as plain data.
-use Rattle.frame_code.specs.Table.{Code}
 use Rattle.job_file.specs.Jobs.{JobState, IsJob}
 use Rattle.job_file.specs.declared.jobs.Job.TheInside.{Inside}
 

@@ -1,5 +1,5 @@
 -- What a line of a job says (own choice): its words, parted by spaces alone.
-use Rattle.std.specs.Prelude.{ℕ, Bool, true, false, ◌==◌, if◌then◌else◌, List, [], ◌∷◌, Option, Some, None, codes}
+use Rattle.std.specs.Prelude.{ℕ, Bool, false, ◌==◌, if◌then◌else◌, List, [], ◌∷◌, Option, Some, None, codes}
 use Rattle.std.specs.Str.{bytes_eq}
 use Rattle.mil_host.specs.Words.{Text, words}
 use Rattle.mil_word.specs.declared.Sync.{Sync}

@@ -1,7 +1,6 @@
 -- What a job means (own choice): its script's frames on the real bus, under the planned faults and placed actions.
 use Rattle.std.specs.Prelude.{ℕ, nat_le, if◌then◌else◌, List, [], map, reverse}
 use Rattle.mil_message.specs.World.{World, Point}
-use Rattle.mil_bus.specs.declared.talks.Talk.{Talk}
 use Rattle.mil_bus.specs.declared.outcomes.Outcome.{Outcome}
 use Rattle.mil_bus.specs.Exchange.{BusState}
 use Rattle.mil_bus.specs.Addresses.{stations_of}

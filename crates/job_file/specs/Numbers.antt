@@ -1,5 +1,5 @@
 -- Numbers in the lines of a job (own choice).
-use Rattle.std.specs.Prelude.{ℕ, ◌+◌, ◌*◌, ◌&&◌, nat_lt, nat_le, if◌then◌else◌, List, [], ◌∷◌, length, Option, Some, None}
+use Rattle.std.specs.Prelude.{ℕ, ◌+◌, ◌*◌, ◌&&◌, nat_lt, nat_le, if◌then◌else◌, [], ◌∷◌, length, Option, Some, None}
 use Rattle.std.specs.Char.{digit_value}
 use Rattle.mil_host.specs.Words.{Text}
 use Rattle.job_file.specs.Options.{◌>>=◌}

@@ -1,6 +1,5 @@
 -- The job that a text spells (own choice): lines that end by LF, then a line `script`, then the script.
 use Rattle.std.specs.Prelude.{ℕ, ◌==◌, Bool, true, false, if◌then◌else◌, List, [], ◌∷◌, Option, Some, None}
-use Rattle.std.specs.Option.{option_map}
 use Rattle.std.specs.Result.{result_ok}
 use Rattle.std.specs.List.{slice_split, join_with_byte}
 use Rattle.mil_host.specs.Words.{Text}

@@ -1,4 +1,4 @@
-use Rattle.std.proofs.Common.{◌≤◌, ◌<◌, ◌+◌, ◌*◌, arith}
+use Rattle.std.proofs.Common.{arith}
 use Rattle.job_file.proofs.DigitLemmas.{room, small}
 use Rattle.job_file.proofs.numbers.spelled.Goals as goal
 
