@@ -1,7 +1,10 @@
 //! Scripts against worked images and refusals.
 
 use super::*;
-use frame_text::{Cause, Place};
+use bumpalo::Bump;
+use frame_asm::assemble;
+use frame_code::write_image;
+use frame_text::{Cause, Place, parse};
 use std::test::*;
 
 const SCRIPT: &[u8] = b"repeat 3 { retry 2 send A rx 9 1 [0001] }";
@@ -25,6 +28,19 @@ fn an_image_and_its_sizes(rt: HostRuntime) -> Result<(), Fail> {
         line.as_slice(),
         b"operations 11 messages 1 budget 47\n".as_slice()
     );
+    Ok(())
+}
+
+#[test]
+fn a_tree_in_an_arena_has_the_same_image(rt: HostRuntime) -> Result<(), Fail> {
+    let alloc = rt.alloc();
+    let bump = Bump::new(alloc);
+    let frame = parse(&bump, SCRIPT)?;
+    let copy = frame.copy_in(alloc)?;
+    let image = write_image(alloc, &assemble(alloc, &frame)?)?;
+    let image_of_copy = write_image(alloc, &assemble(alloc, &copy)?)?;
+    assert_eq!(rt; image.as_slice(), IMAGE.as_slice());
+    assert_eq!(rt; image_of_copy.as_slice(), IMAGE.as_slice());
     Ok(())
 }
 
