@@ -20,13 +20,13 @@ use mil_monitor::Record;
 use std::alloc::Global;
 
 /// A record of a bus monitor fits a recording, where its stamp does.
-fn fits(number: u32, record: &Record)
-    requires { record.now.stamp < 2 ^ 48 }
-    ensures { IsRecorded (numbered number record.now) }
+fn fits(number: u32, message: &Record)
+    requires { message.now.stamp < 2 ^ 48 }
+    ensures { IsRecorded (numbered number message.now) }
 {
-    let _block = record.block;
-    let _gaps = record.gaps;
-    let _words = record.words.as_slice();
+    let _block = message.block;
+    let _gaps = message.gaps;
+    let _words = message.words.as_slice();
 }
 
 /// Records every message of a job, from its first on.
