@@ -8,9 +8,9 @@ use mil_line::Gap;
 use mil_message::{Draft, Message};
 use mil_monitor::observe;
 use mil_word::Line;
-use std::io;
 use std::rt::Clock;
 use std::time::Instant;
+use std::{env, io};
 
 /// How often each is done; the best counts.
 const ROUNDS: u32 = 9;
@@ -89,7 +89,18 @@ fn speed(rt: &HostRuntime, name: &str, addresses: &[u8], draft: Draft<'_>) -> io
     )
 }
 
+// With no argument it does nothing, so that its run as a test is always the same.
 fn main(rt: HostRuntime) -> io::Result<()> {
+    let mut words = env::args(&rt)?;
+    let _ = words.next();
+    match words.next() {
+        Some(_) => speeds(&rt),
+        None => Ok(()),
+    }
+}
+
+/// All lines.
+fn speeds(rt: &HostRuntime) -> io::Result<()> {
     let one = Draft::ToTerminal {
         address: 5,
         subaddress: 1,
@@ -107,10 +118,10 @@ fn main(rt: HostRuntime) -> io::Result<()> {
         receiver_subaddress: 2,
         count: 32,
     };
-    speed(&rt, "receive-1", &[5], one)?;
-    speed(&rt, "receive-1", ALL, one)?;
-    speed(&rt, "receive-32", &[5], many)?;
-    speed(&rt, "receive-32", ALL, many)?;
-    speed(&rt, "transfer-32", &[5, 7], transfer)?;
-    speed(&rt, "transfer-32", ALL, transfer)
+    speed(rt, "receive-1", &[5], one)?;
+    speed(rt, "receive-1", ALL, one)?;
+    speed(rt, "receive-32", &[5], many)?;
+    speed(rt, "receive-32", ALL, many)?;
+    speed(rt, "transfer-32", &[5, 7], transfer)?;
+    speed(rt, "transfer-32", ALL, transfer)
 }
