@@ -42,16 +42,17 @@ pub tree_if : {A : Type 0} (c : Cond A) (a b : Box (Frame A) A) → tree_of (If 
 tree_if c a b = search (rules, the_lemmas)
 
 -- an if, piece by piece
-pub if_line : (depth : ℕ) (t : Tree) (c : Test) (a b : Tree) (before indented begun tested spaced closed otherwise end : List ℕ) → t ≡ choose c a b
-    → indented ≡ before ++ indent depth → begun ≡ indented ++ codes "if " → tested ≡ begun ++ condition_text c → spaced ≡ tested ++ codes " "
-    → closed ≡ spaced ++ block_text depth (lines (depth + 1) a) → otherwise ≡ closed ++ else_text depth (is_empty b) (lines (depth + 1) b)
-    → end ≡ otherwise ++ codes "\n" → end ≡ before ++ lines depth t
+pub if_line : (depth : ℕ) (t : Tree) (c : Test) (a b : Tree) (before indented tested closed end : List ℕ) → t ≡ choose c a b
+    → indented ≡ before ++ indent depth → tested ≡ indented ++ (codes "if " ++ (condition_text c ++ codes " "))
+    → closed ≡ tested ++ block_text depth (lines (depth + 1) a) → end ≡ closed ++ (else_text depth (is_empty b) (lines (depth + 1) b) ++ codes "\n")
+    → end ≡ before ++ lines depth t
 unfolding lines
-if_line depth t c a b before indented begun tested spaced closed otherwise end is e1 e2 e3 e4 e5 e6 e7 =
+if_line depth t c a b before indented tested closed end is e1 e2 e3 e4 =
+    let block = block_text depth (lines (depth + 1) a) in
+    let behind = else_text depth (is_empty b) (lines (depth + 1) b) ++ codes "\n" in
     piece before (indent depth) indented _ end e1
-    (piece indented (codes "if ") begun _ end e2
-    (piece begun (condition_text c) tested _ end e3
-    (piece tested (codes " ") spaced _ end e4
-    (piece spaced (block_text depth (lines (depth + 1) a)) closed _ end e5
-    (piece closed (else_text depth (is_empty b) (lines (depth + 1) b)) otherwise (codes "\n") end e6 e7)))))
+    (piece indented (codes "if " ++ (condition_text c ++ codes " ")) tested (block ++ behind) end e2 (piece tested block closed behind end e3 e4)
+    ∙ ap (λ xs. indented ++ xs)
+    (append_assoc (codes "if ") (condition_text c ++ codes " ") (block ++ behind)
+    ∙ ap (λ xs. codes "if " ++ xs) (append_assoc (condition_text c) (codes " ") (block ++ behind))))
     ∙ ap (λ u. before ++ lines depth u) (sym is)

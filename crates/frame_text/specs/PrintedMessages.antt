@@ -1,5 +1,5 @@
 -- The text that a message is printed as: words with one space between them (own choice).
-use Rattle.std.specs.Prelude.{ℕ, ◌/◌, ◌%◌, List, [], ◌∷◌, ◌++◌, map, true, codes, decimal}
+use Rattle.std.specs.Prelude.{ℕ, ◌/◌, ◌%◌, List, [], ◌∷◌, ◌++◌, map, Bool, true, false, codes, decimal}
 use Rattle.std.specs.Fmt.{digit_glyph}
 use Rattle.mil_word.specs.declared.Line.{Line}
 use Rattle.mil_word.specs.declared.Line.TheVariants.{A, B}
@@ -38,6 +38,15 @@ mode_text Zero = codes "mode0"
 abbrev pub mode_all_text : ModeSubaddress → List ℕ
 mode_all_text ThirtyOne = codes "bmode"
 mode_all_text Zero = codes "bmode0"
+
+-- whether a message is a mode command, to one terminal or to all
+abbrev pub is_mode_command : Form → Bool
+is_mode_command (ToTerminal address sub words) = false
+is_mode_command (FromTerminal address sub count) = false
+is_mode_command (Between sender from receiver to count) = false
+is_mode_command (ToAll sub words) = false
+is_mode_command (BetweenAll sender from to count) = false
+is_mode_command _ = true
 
 -- the words of a message; a mode command has brackets where the controller sends its data word
 abbrev pub message_words : Form → List (List ℕ)

@@ -1,12 +1,16 @@
 //! Frames as text, one a line.
 
-ghost use Rattle.std.specs.Prelude.{◌≡◌, ◌+◌, ◌++◌, OnOk, string_bytes};
-ghost use Rattle.frame_tree.specs.Tree.{tree_of};
+ghost use Rattle.std.specs.Prelude.{◌≡◌, ◌+◌, ◌++◌, OnOk, string_bytes, codes};
+ghost use Rattle.frame_tree.specs.Tree.{test_of, tree_of};
+ghost use Rattle.frame_text.specs.PrintedConditions.{condition_text};
+ghost use Rattle.frame_text.specs.PrintedMessages.{send_text};
 ghost use Rattle.frame_text.specs.Printing as texts;
 
 use crate::printed_conditions::put_condition;
 use crate::printed_messages::put_send;
-use frame_tree::Frame;
+use frame_tree::{Cond, Frame};
+use mil_message::Message;
+use mil_word::Line;
 use std::alloc::{AllocError, Allocator};
 use std::fmt::Write;
 
@@ -35,6 +39,26 @@ fn put_indent(out: &mut String, depth: usize) -> Result<(), AllocError>
         out.push_str("  ")?;
     }
     Ok(())
+}
+
+// A line and a message, with the end of their line.
+fn put_send_line(out: &mut String, line: Line, message: &Message) -> Result<(), AllocError>
+    ensures { OnOk result (string_bytes out.new ≡ string_bytes out.old ++ (send_text line message.now ++ codes "\n")) }
+{
+    put_send(out, line, message)?;
+    out.push_str("\n")
+}
+
+// What stands in front of the first block of an if.
+fn put_if_condition<A: Allocator + Clone>(
+    out: &mut String,
+    condition: &Cond<A>,
+) -> Result<(), AllocError>
+    ensures { OnOk result (string_bytes out.new ≡ string_bytes out.old ++ (codes "if " ++ (condition_text (test_of condition.now) ++ codes " "))) }
+{
+    out.push_str("if ")?;
+    put_condition(out, condition)?;
+    out.push_str(" ")
 }
 
 // A block of frames, behind what opens it on its line.
@@ -67,8 +91,7 @@ pub fn put_lines<A: Allocator + Clone>(
     match frame {
         Frame::Send { line, message } => {
             put_indent(out, depth)?;
-            put_send(out, *line, message)?;
-            out.push_str("\n")
+            put_send_line(out, *line, message)
         }
         Frame::Retry {
             count,
@@ -77,8 +100,7 @@ pub fn put_lines<A: Allocator + Clone>(
         } => {
             put_indent(out, depth)?;
             write!(out, "retry {count} ")?;
-            put_send(out, *line, message)?;
-            out.push_str("\n")
+            put_send_line(out, *line, message)
         }
         Frame::Gap(ticks) => {
             put_indent(out, depth)?;
@@ -96,12 +118,9 @@ pub fn put_lines<A: Allocator + Clone>(
             otherwise,
         } => {
             put_indent(out, depth)?;
-            out.push_str("if ")?;
-            put_condition(out, condition)?;
-            out.push_str(" ")?;
+            put_if_condition(out, condition)?;
             put_block(out, then, depth)?;
             put_else(out, otherwise, depth)?;
-            out.push_str("\n")?;
             Ok(())
         }
         Frame::Seq(frames) => {
@@ -113,18 +132,19 @@ pub fn put_lines<A: Allocator + Clone>(
     }
 }
 
-// What stands behind the first block of an if.
+// What stands behind the first block of an if, with the end of its last line.
 #[cycle(lines)]
 fn put_else<A: Allocator + Clone>(
     out: &mut String,
     otherwise: &Frame<A>,
     depth: usize,
 ) -> Result<(), AllocError>
-    ensures { OnOk result (string_bytes out.new ≡ string_bytes out.old ++ texts.else_text depth (texts.is_empty (tree_of otherwise.now)) (texts.lines (depth + 1) (tree_of otherwise.now))) }
+    ensures { OnOk result (string_bytes out.new ≡ string_bytes out.old ++ (texts.else_text depth (texts.is_empty (tree_of otherwise.now)) (texts.lines (depth + 1) (tree_of otherwise.now)) ++ codes "\n")) }
 {
     if is_empty(otherwise) {
-        return Ok(());
+        return out.push_str("\n");
     }
     out.push_str(" else ")?;
-    put_block(out, otherwise, depth)
+    put_block(out, otherwise, depth)?;
+    out.push_str("\n")
 }

@@ -1,6 +1,6 @@
 //! Messages as text.
 
-ghost use Rattle.std.specs.Prelude.{◌≡◌, ◌++◌, ◌∷◌, [], OnOk, string_bytes, take, map};
+ghost use Rattle.std.specs.Prelude.{◌≡◌, ◌++◌, ◌∷◌, [], OnOk, string_bytes, take, map, true};
 ghost use Rattle.frame_text.specs.PrintedMessages as texts;
 
 use mil_message::{Form, Message, ModeSubaddress};
@@ -63,6 +63,15 @@ fn put_bracketed(out: &mut String, words: &[u16]) -> Result<(), AllocError>
     Ok(())
 }
 
+// One data word in its brackets.
+fn put_one_word(out: &mut String, word: u16) -> Result<(), AllocError>
+    ensures { OnOk result (string_bytes out.new ≡ string_bytes out.old ++ texts.bracketed_text (word ∷ [])) }
+{
+    out.push_str("[")?;
+    put_data_word(out, word)?;
+    out.push_str("]")
+}
+
 // A message as its words.
 fn put_message(out: &mut String, message: &Message) -> Result<(), AllocError>
     ensures { OnOk result (string_bytes out.new ≡ string_bytes out.old ++ texts.message_text message.now) }
@@ -91,6 +100,29 @@ fn put_message(out: &mut String, message: &Message) -> Result<(), AllocError>
             out,
             "rt {sender} {sender_subaddress} {receiver} {receiver_subaddress} {count}"
         ),
+        Form::ToAll { subaddress, words } => {
+            write!(out, "brx {subaddress} ")?;
+            put_bracketed(out, words.as_slice())
+        }
+        Form::BetweenAll {
+            sender,
+            sender_subaddress,
+            receiver_subaddress,
+            count,
+        } => write!(
+            out,
+            "brt {sender} {sender_subaddress} {receiver_subaddress} {count}"
+        ),
+        mode_command => put_mode_command(out, mode_command),
+    }
+}
+
+// A mode command as its words.
+fn put_mode_command(out: &mut String, form: &Form) -> Result<(), AllocError>
+    requires { texts.is_mode_command form.now ≡ true }
+    ensures { OnOk result (string_bytes out.new ≡ string_bytes out.old ++ texts.message_text form.now) }
+{
+    match form {
         Form::Mode {
             address,
             subaddress,
@@ -111,23 +143,9 @@ fn put_message(out: &mut String, message: &Message) -> Result<(), AllocError>
             word,
         } => {
             let first = mode_word(*subaddress);
-            write!(out, "{first} {address} {code} [")?;
-            put_data_word(out, *word)?;
-            out.push_str("]")
+            write!(out, "{first} {address} {code} ")?;
+            put_one_word(out, *word)
         }
-        Form::ToAll { subaddress, words } => {
-            write!(out, "brx {subaddress} ")?;
-            put_bracketed(out, words.as_slice())
-        }
-        Form::BetweenAll {
-            sender,
-            sender_subaddress,
-            receiver_subaddress,
-            count,
-        } => write!(
-            out,
-            "brt {sender} {sender_subaddress} {receiver_subaddress} {count}"
-        ),
         Form::ModeAll { subaddress, code } => {
             let word = mode_all_word(*subaddress);
             write!(out, "{word} {code}")
@@ -138,10 +156,10 @@ fn put_message(out: &mut String, message: &Message) -> Result<(), AllocError>
             word,
         } => {
             let first = mode_all_word(*subaddress);
-            write!(out, "{first} {code} [")?;
-            put_data_word(out, *word)?;
-            out.push_str("]")
+            write!(out, "{first} {code} ")?;
+            put_one_word(out, *word)
         }
+        _ => unreachable!(),
     }
 }
 

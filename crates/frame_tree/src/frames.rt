@@ -33,29 +33,19 @@ impl<A: Allocator + Clone> Frame<A> {
                 message: message.copy(),
             }),
             Frame::Gap(ticks) => Ok(Frame::Gap(*ticks)),
-            Frame::Repeat { count, body } => {
-                let body = body.copied(alloc)?;
-                Ok(Frame::Repeat {
-                    count: *count,
-                    body: Box::new(alloc.clone()?, body)?,
-                })
-            }
+            Frame::Repeat { count, body } => Ok(Frame::Repeat {
+                count: *count,
+                body: boxed(alloc, body.copied(alloc)?)?,
+            }),
             Frame::If {
                 condition,
                 then,
                 otherwise,
-            } => {
-                let condition = condition.copy_in(alloc)?;
-                let then = then.copied(alloc)?;
-                let otherwise = otherwise.copied(alloc)?;
-                let then = Box::new(alloc.clone()?, then)?;
-                let otherwise = Box::new(alloc.clone()?, otherwise)?;
-                Ok(Frame::If {
-                    condition,
-                    then,
-                    otherwise,
-                })
-            }
+            } => Ok(Frame::If {
+                condition: condition.copy_in(alloc)?,
+                then: boxed(alloc, then.copied(alloc)?)?,
+                otherwise: boxed(alloc, otherwise.copied(alloc)?)?,
+            }),
             Frame::Seq(frames) => {
                 let mut copies = Vec::new(alloc.clone()?);
                 for frame in frames {
@@ -150,6 +140,13 @@ impl<A: Allocator + Clone> Frame<A> {
             }
         }
     }
+}
+
+// A frame in memory of its own.
+fn boxed<A: Allocator + Clone>(alloc: &A, frame: Frame<A>) -> Result<Box<Frame<A>, A>, AllocError>
+    ensures { IfOk result (λ b. b.value ≡ frame) }
+{
+    Ok(Box::new(alloc.clone()?, frame)?)
 }
 
 // A product, 1,000,001 where it is more than that.

@@ -13,7 +13,7 @@ mod scripts;
 mod stepping;
 #[cfg(test)]
 mod tests;
-mod words;
+mod text_lines;
 
 pub use error::{JobError, LineFault};
 pub use jobs::Job;

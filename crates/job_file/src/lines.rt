@@ -8,7 +8,7 @@ ghost use Rattle.job_file.specs.Entries.{said_by, IsInRange};
 use crate::error::LineFault;
 use crate::keywords::{FaultWord, Keyword, fault_word_in, keyword_in, sync_in};
 use crate::numbers::{data_word, half_bits, number, number_within, start_tick};
-use crate::words::next_word;
+use mil_host::next_word;
 use mil_line::Fault;
 use mil_word::Word;
 

@@ -14,7 +14,7 @@ use crate::drafts::{Draft, Taken};
 use crate::error::{JobError, LineFault};
 use crate::jobs::Job;
 use crate::scripts::Script;
-use crate::words::next_line;
+use crate::text_lines::next_line;
 use frame_asm::{AsmError, assemble};
 use frame_load::{LoadError, Program, load};
 use frame_text::{Place, ScriptError, parse};

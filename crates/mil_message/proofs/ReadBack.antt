@@ -1,6 +1,6 @@
 -- The parts of a lawful message are read back.
-use Rattle.std.proofs.Common.{◌≡◌, ℕ, ◌+◌, ◌*◌, ◌/◌, ◌%◌, ◌^◌, ◌≤◌, List, [], ◌∷◌, length, refl, ap, sym, ◌∙◌, subst, arith}
-use Rattle.std.specs.Prelude.{Bool, true, false, ◌&&◌, not, nat_le, Option, Some, None, Result, Ok, Err, ◌==◌, ◌↔◌, if◌then◌else◌}
+use Rattle.std.proofs.Common.{◌≡◌, ℕ, ◌%◌, ◌≤◌, List, length, refl, ap, sym, ◌∙◌, subst, arith}
+use Rattle.std.specs.Prelude.{Bool, true, false, ◌&&◌, not, nat_le, Option, Some, None, Ok, Err, ◌==◌, ◌↔◌, if◌then◌else◌, unwrap_or, option_map}
 use Rattle.std.proofs.lemmas.Bool.{leb-true}
 use Rattle.mil_mode.specs.Table.{data_word_count}
 use Rattle.mil_word.specs.Fields.{address_of, sub_of, code_of, count_of}
@@ -10,9 +10,10 @@ use Rattle.mil_message.specs.declared.faults.BadMessage.{BadMessage}
 use Rattle.mil_message.specs.declared.faults.BadMessage.TheVariants.{Address, Subaddress, CountOrCode, SameEnds, ModeWord}
 use Rattle.mil_message.specs.declared.forms.Form.{Form}
 use Rattle.mil_message.specs.declared.forms.Form.TheVariants.{ToTerminal, FromTerminal, Between, Mode, ModeFrom, ModeTo, ToAll, BetweenAll, ModeAll, ModeAllTo}
-use Rattle.mil_message.specs.Forms.{command_word, count_field, mode_subaddress}
+use Rattle.mil_message.specs.Forms.{command_word, count_field, mode_subaddress, form_number, first_command, second_command, data_words}
 use Rattle.mil_message.specs.Parts.{Parts, parts_of, request_at}
-use Rattle.mil_message.specs.Request.{Request}
+use Rattle.mil_message.specs.declared.drafts.Draft.{Draft}
+use Rattle.mil_message.specs.Request.{Request, request_of}
 use Rattle.mil_message.proofs.Checked.{head_met, second_met, middle_met, third_met, four_met, checked-request_for, lawful-checked}
 use Rattle.mil_message.specs.Rules.{IsLawful, request_for, checked, is_count, is_subaddress, is_address, is_code_alone, is_code_from, is_code_to}
 
@@ -158,6 +159,16 @@ read_back (ModeAllTo subaddress code word) lawful =
     let code_in = head_met (is_code_to code) true CountOrCode ModeWord lawful in
     let r = reads_mode 31 false subaddress code (to_range code code_in) in
     cc (r.subaddress_is, r.code_is)
+
+-- the draft that has the parts of a lawful message asks for it
+pub asked_back : (form : Form) (n first second : ℕ) (words : List ℕ) (answer : Option Draft) (draft : Draft) → IsLawful form
+    → n ≡ form_number form → first ≡ first_command form → second ≡ unwrap_or (second_command form) 0 → words ≡ data_words form
+    → option_map request_of answer ≡ request_at (record { number = n; first = first; second = second; words = words }) → answer ≡ Some draft
+    → request_of draft ≡ request_for form
+asked_back form n first second words answer draft lawful is_number is_first is_second are_words at is =
+    let there : request_at (record { number = n; first = first; second = second; words = words }) ≡ Some (request_for form) = rw (is_number, is_first, is_second, are_words) (read_back form lawful) in
+    let found : Some (request_of draft) ≡ Some (request_for form) = sym (ap (option_map request_of) is) ∙ (at ∙ there) in
+    cc
 
 -- the answer is the one lawful message with these parts, if there is one
 abbrev pub Answers : Parts → Option Form → Type 0

@@ -3,3 +3,4 @@ pub mod Rules
 pub mod Forms
 pub mod World
 pub mod Parts
+pub mod Codes

@@ -6,7 +6,7 @@ use crate::ModeSubaddress;
 use mil_word::Command;
 
 /// The address of all terminals.
-pub const ALL_TERMINALS: u8 = 31;
+const ALL_TERMINALS: u8 = 31;
 
 /// A command word from its fields, each at most 31.
 #[inline]
@@ -51,4 +51,20 @@ pub fn mode_command(address: u8, transmit: bool, subaddress: ModeSubaddress, cod
         ModeSubaddress::ThirtyOne => 31,
     };
     command_word(address, transmit, subaddress, code)
+}
+
+/// A command to all terminals to receive so many data words.
+pub fn receive_command_to_all(subaddress: u8, count: u8) -> Command
+    requires { subaddress ≤ 31 }
+    ensures { result ≡ words.receive_command words.all_terminals subaddress count }
+{
+    receive_command(ALL_TERMINALS, subaddress, count)
+}
+
+/// A mode command to all terminals.
+pub fn mode_command_to_all(transmit: bool, subaddress: ModeSubaddress, code: u8) -> Command
+    requires { code ≤ 31 }
+    ensures { result ≡ words.mode_command words.all_terminals transmit subaddress code }
+{
+    mode_command(ALL_TERMINALS, transmit, subaddress, code)
 }

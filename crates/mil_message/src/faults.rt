@@ -18,6 +18,11 @@ pub enum BadMessage {
 
 /// `M1` to `M5`.
 impl Display for BadMessage {
+    ghost use Rattle.std.specs.Prelude.{Some};
+    ghost use Rattle.mil_message.specs.Codes.{code_of};
+
+    ghost output = { λ fault. Some (code_of fault) };
+
     fn fmt<W: Write>(&self, f: &mut Formatter<W>) -> fmt::Result {
         f.write_str(match self {
             BadMessage::Address => "M1",

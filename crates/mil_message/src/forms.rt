@@ -7,7 +7,7 @@ use mil_word::Command;
 
 /// A message by its form. Addresses are 0 to 30, subaddresses 1 to 30, counts and numbers of words 1 to 32, mode codes
 /// those of the form.
-#[derive(Debug, Drop, PartialEq, Eq)]
+#[derive(Clone, Debug, Drop, PartialEq, Eq)]
 pub enum Form {
     /// Controller to terminal.
     ToTerminal {
@@ -78,106 +78,10 @@ impl Form {
     pub fn copy(&self) -> Form
         ensures { result ≡ self.now }
     {
-        match self {
-            Form::ToTerminal {
-                address,
-                subaddress,
-                words,
-            } => Form::ToTerminal {
-                address: *address,
-                subaddress: *subaddress,
-                words: copied(words),
-            },
-            Form::FromTerminal {
-                address,
-                subaddress,
-                count,
-            } => Form::FromTerminal {
-                address: *address,
-                subaddress: *subaddress,
-                count: *count,
-            },
-            Form::Between {
-                sender,
-                sender_subaddress,
-                receiver,
-                receiver_subaddress,
-                count,
-            } => Form::Between {
-                sender: *sender,
-                sender_subaddress: *sender_subaddress,
-                receiver: *receiver,
-                receiver_subaddress: *receiver_subaddress,
-                count: *count,
-            },
-            Form::Mode {
-                address,
-                subaddress,
-                code,
-            } => Form::Mode {
-                address: *address,
-                subaddress: *subaddress,
-                code: *code,
-            },
-            Form::ModeFrom {
-                address,
-                subaddress,
-                code,
-            } => Form::ModeFrom {
-                address: *address,
-                subaddress: *subaddress,
-                code: *code,
-            },
-            Form::ModeTo {
-                address,
-                subaddress,
-                code,
-                word,
-            } => Form::ModeTo {
-                address: *address,
-                subaddress: *subaddress,
-                code: *code,
-                word: *word,
-            },
-            Form::ToAll { subaddress, words } => Form::ToAll {
-                subaddress: *subaddress,
-                words: copied(words),
-            },
-            Form::BetweenAll {
-                sender,
-                sender_subaddress,
-                receiver_subaddress,
-                count,
-            } => Form::BetweenAll {
-                sender: *sender,
-                sender_subaddress: *sender_subaddress,
-                receiver_subaddress: *receiver_subaddress,
-                count: *count,
-            },
-            Form::ModeAll { subaddress, code } => Form::ModeAll {
-                subaddress: *subaddress,
-                code: *code,
-            },
-            Form::ModeAllTo {
-                subaddress,
-                code,
-                word,
-            } => Form::ModeAllTo {
-                subaddress: *subaddress,
-                code: *code,
-                word: *word,
-            },
+        match self.clone() {
+            Ok(form) => form,
+            Err(_) => unreachable!(),
         }
-    }
-}
-
-/// The same words once more.
-fn copied(words: &ArrayVec<u16, 32>) -> ArrayVec<u16, 32>
-    ensures { result ≡ words.now }
-{
-    match ArrayVec::try_from(words.as_slice()) {
-        Ok(copied) => copied,
-        Err(_) => unreachable!(),
     }
 }
 

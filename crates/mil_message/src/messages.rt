@@ -6,7 +6,9 @@ ghost use Rattle.mil_message.specs.Request.{request_of};
 ghost use Rattle.mil_message.specs.Rules.{checked, request_for, IsLawful};
 ghost use Rattle.mil_message.specs.Forms.{commands, first_command, second_command, data_words, controller_words, controller_waves, command_of, replies_due, form_number};
 
-use crate::command::{ALL_TERMINALS, mode_command, receive_command, transmit_command};
+use crate::command::{
+    mode_command, mode_command_to_all, receive_command, receive_command_to_all, transmit_command,
+};
 use crate::{BadMessage, Commands, Draft, Due, Form, judge};
 use arrayvec::ArrayVec;
 use mil_word::{Command, Sync, Wave, Word, encode};
@@ -52,106 +54,6 @@ impl Message {
         &self.form
     }
 
-    /// The draft that `check` accepted: checked again, it gives this message.
-    pub fn draft(&self) -> Draft<'_>
-        ensures same { request_of result ≡ request_for self.now }
-        ensures accepted { checked (request_of result) ≡ Ok self.now }
-    {
-        match &self.form {
-            Form::ToTerminal {
-                address,
-                subaddress,
-                words,
-            } => Draft::ToTerminal {
-                address: u32::from(*address),
-                subaddress: u32::from(*subaddress),
-                words: words.as_slice(),
-            },
-            Form::FromTerminal {
-                address,
-                subaddress,
-                count,
-            } => Draft::FromTerminal {
-                address: u32::from(*address),
-                subaddress: u32::from(*subaddress),
-                count: u32::from(*count),
-            },
-            Form::Between {
-                sender,
-                sender_subaddress,
-                receiver,
-                receiver_subaddress,
-                count,
-            } => Draft::Between {
-                sender: u32::from(*sender),
-                sender_subaddress: u32::from(*sender_subaddress),
-                receiver: u32::from(*receiver),
-                receiver_subaddress: u32::from(*receiver_subaddress),
-                count: u32::from(*count),
-            },
-            Form::Mode {
-                address,
-                subaddress,
-                code,
-            } => Draft::Mode {
-                address: u32::from(*address),
-                subaddress: *subaddress,
-                code: u32::from(*code),
-                words: None,
-            },
-            Form::ModeFrom {
-                address,
-                subaddress,
-                code,
-            } => Draft::ModeFrom {
-                address: u32::from(*address),
-                subaddress: *subaddress,
-                code: u32::from(*code),
-                words: None,
-            },
-            Form::ModeTo {
-                address,
-                subaddress,
-                code,
-                word,
-            } => Draft::ModeTo {
-                address: u32::from(*address),
-                subaddress: *subaddress,
-                code: u32::from(*code),
-                words: Some(slice::from_ref(word)),
-            },
-            Form::ToAll { subaddress, words } => Draft::ToAll {
-                subaddress: u32::from(*subaddress),
-                words: words.as_slice(),
-            },
-            Form::BetweenAll {
-                sender,
-                sender_subaddress,
-                receiver_subaddress,
-                count,
-            } => Draft::BetweenAll {
-                sender: u32::from(*sender),
-                sender_subaddress: u32::from(*sender_subaddress),
-                receiver_subaddress: u32::from(*receiver_subaddress),
-                count: u32::from(*count),
-            },
-            Form::ModeAll { subaddress, code } => Draft::ModeAll {
-                subaddress: *subaddress,
-                code: u32::from(*code),
-                words: None,
-            },
-            Form::ModeAllTo {
-                subaddress,
-                code,
-                word,
-            } => Draft::ModeAllTo {
-                subaddress: *subaddress,
-                code: u32::from(*code),
-                words: Some(slice::from_ref(word)),
-            },
-        }
-    }
-
     /// The number of the form, 0 to 9, in the order of `Form`.
     pub fn form_number(&self) -> u8
         ensures number { result ≡ form_number self.now }
@@ -177,7 +79,17 @@ impl Message {
         ensures second { result.second ≡ second_command self.now }
         ensures all { result.first ∷ option_to_list result.second ≡ commands self.now }
     {
-        let first = match &self.form {
+        Commands {
+            first: self.first_command(),
+            second: self.second_command(),
+        }
+    }
+
+    /// The first command word.
+    fn first_command(&self) -> Command
+        ensures { result ≡ first_command self.now }
+    {
+        match &self.form {
             Form::ToTerminal {
                 address,
                 subaddress,
@@ -210,8 +122,7 @@ impl Message {
                 code,
                 ..
             } => mode_command(*address, false, *subaddress, *code),
-            Form::ToAll { subaddress, words } => receive_command(
-                ALL_TERMINALS,
+            Form::ToAll { subaddress, words } => receive_command_to_all(
                 *subaddress,
                 words.len() as u8,
             ),
@@ -219,20 +130,21 @@ impl Message {
                 receiver_subaddress,
                 count,
                 ..
-            } => receive_command(ALL_TERMINALS, *receiver_subaddress, *count),
-            Form::ModeAll { subaddress, code } => mode_command(
-                ALL_TERMINALS,
-                true,
-                *subaddress,
-                *code,
-            ),
+            } => receive_command_to_all(*receiver_subaddress, *count),
+            Form::ModeAll { subaddress, code } => mode_command_to_all(true, *subaddress, *code),
             Form::ModeAllTo {
                 subaddress,
                 code,
                 ..
-            } => mode_command(ALL_TERMINALS, false, *subaddress, *code),
-        };
-        let second = match &self.form {
+            } => mode_command_to_all(false, *subaddress, *code),
+        }
+    }
+
+    /// The second command word, which calls the sender of the two forms between terminals.
+    fn second_command(&self) -> Option<Command>
+        ensures { result ≡ second_command self.now }
+    {
+        match &self.form {
             Form::Between {
                 sender,
                 sender_subaddress,
@@ -246,8 +158,7 @@ impl Message {
                 ..
             } => Some(transmit_command(*sender, *sender_subaddress, *count)),
             _ => None,
-        };
-        Commands { first, second }
+        }
     }
 
     /// The data words that the controller sends after its commands.

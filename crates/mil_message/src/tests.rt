@@ -46,134 +46,88 @@ fn due(address: u8, words: u8) -> Due {
     Due { address, words }
 }
 
+fn to_terminal(address: u32, subaddress: u32, words: &[u16]) -> Draft<'_> {
+    Draft::ToTerminal {
+        address,
+        subaddress,
+        words,
+    }
+}
+
+fn from_terminal(address: u32, subaddress: u32, count: u32) -> Draft<'static> {
+    Draft::FromTerminal {
+        address,
+        subaddress,
+        count,
+    }
+}
+
+/// Between two terminals, each given by its address and its subaddress.
+fn between(sender: (u32, u32), receiver: (u32, u32), count: u32) -> Draft<'static> {
+    Draft::Between {
+        sender: sender.0,
+        sender_subaddress: sender.1,
+        receiver: receiver.0,
+        receiver_subaddress: receiver.1,
+        count,
+    }
+}
+
+fn to_all(subaddress: u32, words: &[u16]) -> Draft<'_> {
+    Draft::ToAll { subaddress, words }
+}
+
+/// From a terminal, given by its address and its subaddress, to all others.
+fn between_all(sender: (u32, u32), receiver_subaddress: u32, count: u32) -> Draft<'static> {
+    Draft::BetweenAll {
+        sender: sender.0,
+        sender_subaddress: sender.1,
+        receiver_subaddress,
+        count,
+    }
+}
+
 #[test]
 fn messages_of_data(rt: HostRuntime) {
-    stands(
-        &rt,
-        Draft::ToTerminal {
-            address: 5,
-            subaddress: 1,
-            words: &[1, 2, 3],
-        },
-        &[0x2823],
-        &[1, 2, 3],
-        &[due(5, 0)],
-    );
-    stands(
-        &rt,
-        Draft::FromTerminal {
-            address: 5,
-            subaddress: 2,
-            count: 32,
-        },
-        &[0x2c40],
-        &[],
-        &[due(5, 32)],
-    );
-    let between = Draft::Between {
-        sender: 7,
-        sender_subaddress: 1,
-        receiver: 3,
-        receiver_subaddress: 4,
-        count: 2,
-    };
-    stands(
-        &rt,
-        between,
-        &[0x1882, 0x3c22],
-        &[],
-        &[due(7, 2), due(3, 0)],
-    );
-    stands(
-        &rt,
-        Draft::ToAll {
-            subaddress: 1,
-            words: &[0x00aa],
-        },
-        &[0xf821],
-        &[0x00aa],
-        &[],
-    );
-    let to_all = Draft::BetweenAll {
-        sender: 7,
-        sender_subaddress: 1,
-        receiver_subaddress: 4,
-        count: 2,
-    };
-    stands(&rt, to_all, &[0xf882, 0x3c22], &[], &[due(7, 2)]);
+    let words = &[1, 2, 3];
+    let draft = to_terminal(5, 1, words);
+    stands(&rt, draft, &[0x2823], words, &[due(5, 0)]);
+    let draft = from_terminal(5, 2, 32);
+    stands(&rt, draft, &[0x2c40], &[], &[due(5, 32)]);
+    let draft = between((7, 1), (3, 4), 2);
+    let replies = &[due(7, 2), due(3, 0)];
+    stands(&rt, draft, &[0x1882, 0x3c22], &[], replies);
+    let words = &[0x00aa];
+    stands(&rt, to_all(1, words), &[0xf821], words, &[]);
+    let draft = between_all((7, 1), 4, 2);
+    stands(&rt, draft, &[0xf882, 0x3c22], &[], &[due(7, 2)]);
+}
+
+/// A mode command to terminal 5.
+fn mode(code: u32, words: Option<&[u16]>) -> Draft<'_> {
+    Draft::mode_command(5, SUBADDRESS, code, words)
+}
+
+fn mode_to_all(code: u32, words: Option<&[u16]>) -> Draft<'_> {
+    Draft::mode_command_to_all(SUBADDRESS, code, words)
 }
 
 #[test]
 fn mode_commands(rt: HostRuntime) {
-    let subaddress = SUBADDRESS;
-    stands(
-        &rt,
-        Draft::mode_command(5, subaddress, 2, None),
-        &[0x2fe2],
-        &[],
-        &[due(5, 0)],
-    );
-    stands(
-        &rt,
-        Draft::mode_command(5, subaddress, 18, None),
-        &[0x2ff2],
-        &[],
-        &[due(5, 1)],
-    );
-    stands(
-        &rt,
-        Draft::mode_command(5, subaddress, 20, Some(&[0])),
-        &[0x2bf4],
-        &[0],
-        &[due(5, 0)],
-    );
-    stands(
-        &rt,
-        Draft::mode_command(5, subaddress, 22, Some(&[0])),
-        &[0x2bf6],
-        &[0],
-        &[due(5, 0)],
-    );
-    stands(
-        &rt,
-        Draft::mode_command(5, subaddress, 22, None),
-        &[0x2ff6],
-        &[],
-        &[due(5, 1)],
-    );
-    stands(
-        &rt,
-        Draft::mode_command(5, ModeSubaddress::Zero, 2, None),
-        &[0x2c02],
-        &[],
-        &[due(5, 0)],
-    );
-    stands(
-        &rt,
-        Draft::mode_command_to_all(subaddress, 1, None),
-        &[0xffe1],
-        &[],
-        &[],
-    );
-    stands(
-        &rt,
-        Draft::mode_command_to_all(subaddress, 17, Some(&[7])),
-        &[0xfbf1],
-        &[7],
-        &[],
-    );
+    stands(&rt, mode(2, None), &[0x2fe2], &[], &[due(5, 0)]);
+    stands(&rt, mode(18, None), &[0x2ff2], &[], &[due(5, 1)]);
+    stands(&rt, mode(20, Some(&[0])), &[0x2bf4], &[0], &[due(5, 0)]);
+    stands(&rt, mode(22, Some(&[0])), &[0x2bf6], &[0], &[due(5, 0)]);
+    stands(&rt, mode(22, None), &[0x2ff6], &[], &[due(5, 1)]);
+    let of_zero = Draft::mode_command(5, ModeSubaddress::Zero, 2, None);
+    stands(&rt, of_zero, &[0x2c02], &[], &[due(5, 0)]);
+    stands(&rt, mode_to_all(1, None), &[0xffe1], &[], &[]);
+    stands(&rt, mode_to_all(17, Some(&[7])), &[0xfbf1], &[7], &[]);
 }
 
 #[test]
 fn waves(rt: HostRuntime) -> Result<(), Fail> {
-    let message = message(
-        &rt,
-        Draft::ToTerminal {
-            address: 5,
-            subaddress: 1,
-            words: &[0],
-        },
-    );
+    let message = message(&rt, to_terminal(5, 1, &[0]));
     let message = message.clone()?;
     let waves = message.controller_waves();
     assert_eq!(rt; waves.len(), 2);
@@ -209,14 +163,7 @@ fn printed_faults(rt: HostRuntime) -> Result<(), Fail> {
 
 #[test]
 fn form_of_a_message(rt: HostRuntime) {
-    let message = message(
-        &rt,
-        Draft::FromTerminal {
-            address: 5,
-            subaddress: 2,
-            count: 32,
-        },
-    );
+    let message = message(&rt, from_terminal(5, 2, 32));
     assert!(rt;
         *message.form()
             == Form::FromTerminal {

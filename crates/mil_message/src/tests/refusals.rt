@@ -1,5 +1,7 @@
 //! Drafts that are refused, each with the first of its faults.
-use super::SUBADDRESS;
+use super::{
+    SUBADDRESS, between, between_all, from_terminal, mode, mode_to_all, to_all, to_terminal,
+};
 use crate::{BadMessage, Draft, Message};
 use std::process::Abort;
 
@@ -12,46 +14,10 @@ fn refused(rt: &impl Abort, draft: Draft<'_>, fault: BadMessage) {
 fn addresses_over_30(rt: HostRuntime) {
     let subaddress = SUBADDRESS;
     let fault = BadMessage::Address;
-    refused(
-        &rt,
-        Draft::ToTerminal {
-            address: 31,
-            subaddress: 0,
-            words: &[],
-        },
-        fault,
-    );
-    refused(
-        &rt,
-        Draft::FromTerminal {
-            address: 31,
-            subaddress: 0,
-            count: 0,
-        },
-        fault,
-    );
-    refused(
-        &rt,
-        Draft::Between {
-            sender: 31,
-            sender_subaddress: 0,
-            receiver: 31,
-            receiver_subaddress: 0,
-            count: 0,
-        },
-        fault,
-    );
-    refused(
-        &rt,
-        Draft::Between {
-            sender: 1,
-            sender_subaddress: 0,
-            receiver: 31,
-            receiver_subaddress: 0,
-            count: 0,
-        },
-        fault,
-    );
+    refused(&rt, to_terminal(31, 0, &[]), fault);
+    refused(&rt, from_terminal(31, 0, 0), fault);
+    refused(&rt, between((31, 0), (31, 0), 0), fault);
+    refused(&rt, between((1, 0), (31, 0), 0), fault);
     refused(
         &rt,
         Draft::Mode {
@@ -82,121 +48,35 @@ fn addresses_over_30(rt: HostRuntime) {
         },
         fault,
     );
-    refused(
-        &rt,
-        Draft::BetweenAll {
-            sender: 31,
-            sender_subaddress: 0,
-            receiver_subaddress: 0,
-            count: 0,
-        },
-        fault,
-    );
+    refused(&rt, between_all((31, 0), 0, 0), fault);
 }
 
 #[test]
 fn subaddresses_outside_1_to_30(rt: HostRuntime) {
     let fault = BadMessage::Subaddress;
-    refused(
-        &rt,
-        Draft::ToTerminal {
-            address: 5,
-            subaddress: 0,
-            words: &[],
-        },
-        fault,
-    );
-    refused(
-        &rt,
-        Draft::ToTerminal {
-            address: 5,
-            subaddress: 31,
-            words: &[],
-        },
-        fault,
-    );
-    refused(
-        &rt,
-        Draft::FromTerminal {
-            address: 5,
-            subaddress: 31,
-            count: 0,
-        },
-        fault,
-    );
-    refused(
-        &rt,
-        Draft::Between {
-            sender: 5,
-            sender_subaddress: 1,
-            receiver: 5,
-            receiver_subaddress: 0,
-            count: 0,
-        },
-        fault,
-    );
-    refused(
-        &rt,
-        Draft::ToAll {
-            subaddress: 31,
-            words: &[],
-        },
-        fault,
-    );
-    refused(
-        &rt,
-        Draft::BetweenAll {
-            sender: 5,
-            sender_subaddress: 1,
-            receiver_subaddress: 31,
-            count: 0,
-        },
-        fault,
-    );
+    refused(&rt, to_terminal(5, 0, &[]), fault);
+    refused(&rt, to_terminal(5, 31, &[]), fault);
+    refused(&rt, from_terminal(5, 31, 0), fault);
+    refused(&rt, between((5, 1), (5, 0), 0), fault);
+    refused(&rt, to_all(31, &[]), fault);
+    refused(&rt, between_all((5, 1), 31, 0), fault);
 }
 
 #[test]
-fn counts_and_codes(rt: HostRuntime) {
+fn counts_outside_1_to_32(rt: HostRuntime) {
+    let fault = BadMessage::CountOrCode;
+    refused(&rt, to_terminal(5, 1, &[]), fault);
+    refused(&rt, to_terminal(5, 1, &[0; 33]), fault);
+    refused(&rt, from_terminal(5, 1, 33), fault);
+    refused(&rt, between((5, 1), (5, 2), 0), fault);
+    refused(&rt, to_all(1, &[]), fault);
+    refused(&rt, between_all((5, 1), 1, 33), fault);
+}
+
+#[test]
+fn codes_that_have_no_such_form(rt: HostRuntime) {
     let subaddress = SUBADDRESS;
     let fault = BadMessage::CountOrCode;
-    refused(
-        &rt,
-        Draft::ToTerminal {
-            address: 5,
-            subaddress: 1,
-            words: &[],
-        },
-        fault,
-    );
-    refused(
-        &rt,
-        Draft::ToTerminal {
-            address: 5,
-            subaddress: 1,
-            words: &[0; 33],
-        },
-        fault,
-    );
-    refused(
-        &rt,
-        Draft::FromTerminal {
-            address: 5,
-            subaddress: 1,
-            count: 33,
-        },
-        fault,
-    );
-    refused(
-        &rt,
-        Draft::Between {
-            sender: 5,
-            sender_subaddress: 1,
-            receiver: 5,
-            receiver_subaddress: 2,
-            count: 0,
-        },
-        fault,
-    );
     refused(
         &rt,
         Draft::Mode {
@@ -227,25 +107,7 @@ fn counts_and_codes(rt: HostRuntime) {
         },
         fault,
     );
-    refused(&rt, Draft::mode_command(5, subaddress, 32, None), fault);
-    refused(
-        &rt,
-        Draft::ToAll {
-            subaddress: 1,
-            words: &[],
-        },
-        fault,
-    );
-    refused(
-        &rt,
-        Draft::BetweenAll {
-            sender: 5,
-            sender_subaddress: 1,
-            receiver_subaddress: 1,
-            count: 33,
-        },
-        fault,
-    );
+    refused(&rt, mode(32, None), fault);
     refused(
         &rt,
         Draft::ModeAll {
@@ -255,46 +117,19 @@ fn counts_and_codes(rt: HostRuntime) {
         },
         fault,
     );
-    refused(&rt, Draft::mode_command_to_all(subaddress, 16, None), fault);
+    refused(&rt, mode_to_all(16, None), fault);
 }
 
 #[test]
 fn ends_and_mode_words(rt: HostRuntime) {
-    let subaddress = SUBADDRESS;
-    let between = Draft::Between {
-        sender: 5,
-        sender_subaddress: 1,
-        receiver: 5,
-        receiver_subaddress: 2,
-        count: 1,
-    };
-    refused(&rt, between, BadMessage::SameEnds);
+    let to_itself = between((5, 1), (5, 2), 1);
+    refused(&rt, to_itself, BadMessage::SameEnds);
     let fault = BadMessage::ModeWord;
-    refused(&rt, Draft::mode_command(5, subaddress, 20, None), fault);
-    refused(
-        &rt,
-        Draft::mode_command(5, subaddress, 22, Some(&[])),
-        fault,
-    );
-    refused(
-        &rt,
-        Draft::mode_command(5, subaddress, 20, Some(&[1, 2])),
-        fault,
-    );
-    refused(
-        &rt,
-        Draft::mode_command(5, subaddress, 2, Some(&[1])),
-        fault,
-    );
-    refused(
-        &rt,
-        Draft::mode_command(5, subaddress, 16, Some(&[1])),
-        fault,
-    );
-    refused(
-        &rt,
-        Draft::mode_command_to_all(subaddress, 1, Some(&[1])),
-        fault,
-    );
-    refused(&rt, Draft::mode_command_to_all(subaddress, 17, None), fault);
+    refused(&rt, mode(20, None), fault);
+    refused(&rt, mode(22, Some(&[])), fault);
+    refused(&rt, mode(20, Some(&[1, 2])), fault);
+    refused(&rt, mode(2, Some(&[1])), fault);
+    refused(&rt, mode(16, Some(&[1])), fault);
+    refused(&rt, mode_to_all(1, Some(&[1])), fault);
+    refused(&rt, mode_to_all(17, None), fault);
 }

@@ -15,9 +15,8 @@ put_lines-returns-after-loop-one g t c =
     let all = c.deref-one-items.result.now in
     lines_done _ _ _ _ (left_none all c.loop-one.one-index c.loop-one-test.false) (c.loop-one.invariant ∙ ap (λ u. string_bytes c.args.out.now ++ lines c.args.depth u) (seq_tree c.args.frame.now c.in-Seq.frames all c.in-Seq.is c.deref-one-items.ensures.value))
 
-pub put_lines-returns-in_ok-push_str-in-If-3 : goal.put_lines-returns-in_ok-push_str-in-If-3
-put_lines-returns-in_ok-push_str-in-If-3 g t c =
-    if_line c.args.depth (tree_of c.args.frame.now) (test_of c.in-If.condition) (tree_of c.deref-in-If.result.now) (tree_of c.deref-in-If-2.result.now) _ _ _ _ _ _ _ _
+pub put_lines-returns-in_ok-put_else-in-If : goal.put_lines-returns-in_ok-put_else-in-If
+put_lines-returns-in_ok-put_else-in-If g t c =
+    if_line c.args.depth (tree_of c.args.frame.now) (test_of c.in-If.condition) (tree_of c.deref-in-If.result.now) (tree_of c.deref-in-If-2.result.now) _ _ _ _ _
     (ap tree_of c.in-If.is ∙ tree_if c.in-If.condition c.in-If.then c.in-If.otherwise ∙ ap₂ (λ u v. choose (test_of c.in-If.condition) (tree_of u) (tree_of v)) (sym c.deref-in-If.ensures) (sym c.deref-in-If-2.ensures))
-    c.in_ok-put_indent-in-If.ensures c.in_ok-push_str-in-If.ensures.bytes c.in_ok-put_condition-in-If.ensures c.in_ok-push_str-in-If-2.ensures.bytes
-    c.in_ok-put_block-in-If.ensures c.in_ok-put_else-in-If.ensures c.in_ok-push_str-in-If-3.ensures.bytes
+    c.in_ok-put_indent-in-If.ensures c.in_ok-put_if_condition-in-If.ensures c.in_ok-put_block-in-If.ensures c.in_ok-put_else-in-If.ensures
