@@ -1,10 +1,10 @@
 -- How many items a queue can hold, by the bounds of their tags.
-use Rattle.std.proofs.Common.{◌≡◌, ◌≢◌, ◌≤◌, ◌<◌, ⊎_elim, ℕ, zero, suc, ◌+◌, ◌-◌, true, false, List, [], ◌∷◌, length, sum, refl, sym, ap, ◌∙◌, subst, arith}
+use Rattle.std.proofs.Common.{◌≡◌, ◌≢◌, ◌≤◌, ◌<◌, ⊎_elim, ℕ, zero, suc, ◌+◌, ◌-◌, true, false, List, [], ◌∷◌, length, sum, refl, sym, ap, ◌∙◌, subst, arith, true≢false}
 use Rattle.std.proofs.lemmas.Bool.{cases_lt}
 use Rattle.std.proofs.lemmas.List.Sums.{sum_by-cons}
 use Rattle.mil_trunk.specs.Tags.{has, bound_of, bounds_outside_from, bounds_outside}
 use Rattle.mil_trunk.specs.Views.{with_tag}
-use Rattle.mil_trunk.proofs.Sets.{is_either}
+use Rattle.mil_trunk.proofs.Sets.{is_either, has-zero}
 use Rattle.mil_trunk.proofs.Tagging.{with_tag_first, without, with_tag-without, with_tag-without_none, length-with_tag}
 
 bounds_outside_from-cons : (first tags b : ℕ) (bs : List ℕ) → has tags first ≡ false → bounds_outside_from first tags (b ∷ bs) ≡ b + bounds_outside_from (suc first) tags bs
@@ -55,6 +55,14 @@ unfolding bounds_outside_from
 bounds_outside_from-none first tags [] none = refl
 bounds_outside_from-none first tags (b ∷ bs) none =
     let rest = bounds_outside_from-none (suc first) tags bs (λ t le. none t (omega (arith, le))) in rw (none first (omega arith)) (ap (λ n. b + n) rest ∙ sym (sum_by-cons (λ n. n) b bs))
+
+-- items that are within the bound of each tag are within all bounds together
+pub length-by_bounds : {T : Type 0} (tag_of : T → ℕ) (bounds : List ℕ) (items : List T) → ((t : ℕ) → length (with_tag tag_of t items) ≤ bound_of bounds t) → length items ≤ sum bounds
+length-by_bounds tag_of bounds items within =
+    let all = length-by_tags tag_of 0 0 bounds items [] (λ t lt. absurd (omega (arith, lt)))
+    (λ k n is. let same : n ≡ k = omega (arith, is) in subst (λ m. length (with_tag tag_of m items) ≤ bound_of bounds k) (sym same) (within k))
+    (λ n le it. absurd (true≢false (sym it ∙ has-zero n))) in
+    let e = bounds_outside_from-none 0 0 bounds (λ t le. has-zero t) in omega (arith, all, e)
 
 bounds_outside_from-one : (first k tags : ℕ) (bounds : List ℕ) → has tags (k + first) ≡ true → ((t : ℕ) → first ≤ t → t ≢ k + first → has tags t ≡ false) → bound_of bounds k + bounds_outside_from first tags bounds ≡ sum bounds
 unfolding bounds_outside_from

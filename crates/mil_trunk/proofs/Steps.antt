@@ -1,5 +1,5 @@
 -- The first split, pushes and pops keep the rule, and what is learned at them.
-use Rattle.std.proofs.Common.{◌≡◌, ◌≢◌, ◌≤◌, ◌<◌, inr, ⊎_elim, ℕ, true, List, [], ◌∷◌, ◌++◌, length, set, refl, sym, ap, ◌∙◌, subst, arith, true≢false, append_assoc, append-nil, length-append}
+use Rattle.std.proofs.Common.{◌≡◌, ◌≢◌, ◌≤◌, ◌<◌, inr, ⊎_elim, ℕ, true, List, [], ◌∷◌, ◌++◌, length, sum, set, refl, sym, ap, ◌∙◌, subst, arith, true≢false, append_assoc, append-nil, length-append}
 use Rattle.std.specs.Prelude.{Option, Some, None, MatchOption}
 use Rattle.std.proofs.lemmas.Bool.Decides.{eqb_tells}
 use mathlib.Core.Option.{some}
@@ -8,16 +8,20 @@ use Rattle.crossbeam_queue.specs.Fifo.{Pushes, Pops, Forks, Learns}
 use Rattle.mil_trunk.specs.declared.rule.View.{View}
 use Rattle.mil_trunk.specs.Tags.{has, bound_of}
 use Rattle.mil_trunk.specs.Views.{unsplit, first_ticket, first_taker, pushed, popped, with_tag}
-use Rattle.mil_trunk.specs.Rule.{IsRight, Flows, Keeps, Agrees, HoldsAtMost}
+use Rattle.mil_trunk.specs.Rule.{IsRight, Flows, Keeps, Agrees, HoldsAtMost, Receives}
 use Rattle.mil_trunk.proofs.Sets.{has-zero}
 use Rattle.mil_trunk.proofs.Tagging.{with_tag-append, with_tag_other, with_tag_one}
 use Rattle.mil_trunk.proofs.Numbered.{all_set, all_snoc, only_one}
-use Rattle.mil_trunk.proofs.Bounds.{length-by_tags}
+use Rattle.mil_trunk.proofs.Bounds.{length-by_tags, length-by_bounds}
+
+no_items : {T : Type 0} (xs : List T) → length xs ≤ 0 → xs ≡ []
+no_items [] few = refl
+no_items (x ∷ xs) few = absurd (omega (arith, few))
 
 -- a pop leaves the two ends together
-pub after_pop : {T : Type 0} (F : Type 0) (r : Option T) (v w : View T) → MatchOption r ((w ≡ v) × F) (λ x. w ≡ popped v x) → v.live ≡ true → v.takes ≡ true → (w.live ≡ true) × (w.takes ≡ true)
+pub after_pop : {T : Type 0} (F : Type 0) (r : Option T) (v w : View T) → MatchOption r ((w ≡ v) × F) (λ x. Receives v x w) → v.live ≡ true → v.takes ≡ true → (w.live ≡ true) × (w.takes ≡ true)
 after_pop F None v w h live takes = (ap (λ u. u.live) h.0 ∙ live, ap (λ u. u.takes) h.0 ∙ takes)
-after_pop F (Some x) v w h live takes = (ap (λ u. u.live) h ∙ live, ap (λ u. u.takes) h ∙ takes)
+after_pop F (Some x) v w h live takes = (ap (λ u. u.live) h.0 ∙ live, ap (λ u. u.takes) h.0 ∙ takes)
 
 module _ {T : Type 0} (tag_of : T → ℕ) where
   -- a live view knows that the queue was split
@@ -90,8 +94,21 @@ module _ {T : Type 0} (tag_of : T → ℕ) where
         refl,
       )
 
+  -- what was received is a part of what was sent, and so within the bounds
+  received_few : (v : View T) (x : T) (items : List T) (bounds : List ℕ) (all_sent : ℕ → List T) (got : List T) → v.bounds ≡ bounds → v.received ≡ got
+      → ((t : ℕ) → all_sent t ≡ with_tag tag_of t got ++ with_tag tag_of t (x ∷ items)) → ((t : ℕ) → length (all_sent t) ≤ bound_of bounds t)
+      → length (v.received ++ x ∷ []) ≤ sum v.bounds
+  received_few v x items bounds all_sent got bounds_are received_are flow within =
+      let few : (t : ℕ) → length (with_tag tag_of t (got ++ x ∷ [])) ≤ bound_of bounds t = λ t.
+      let sent_are = ap length (flow t) in
+      let front = ap length (with_tag-append tag_of t got (x ∷ [])) in
+      let behind = ap length (with_tag-append tag_of t (x ∷ []) items) in
+      let low = within t in
+      omega (arith, sent_are, front, behind, low, length-append (with_tag tag_of t got) (with_tag tag_of t (x ∷ [])), length-append (with_tag tag_of t got) (with_tag tag_of t (x ∷ items)), length-append (with_tag tag_of t (x ∷ [])) (with_tag tag_of t items)) in
+      subst (λ (y : List T × List ℕ). length (y.0 ++ x ∷ []) ≤ sum y.1) (λ i. (sym received_are i, sym bounds_are i)) (length-by_bounds tag_of bounds (got ++ x ∷ []) few)
+
   -- a pop
-  pub pops : (number : ℕ) (v : View T) → v.live ≡ true → v.takes ≡ true → Pops (Keeps tag_of) number v (λ x w. w ≡ popped v x)
+  pub pops : (number : ℕ) (v : View T) → v.live ≡ true → v.takes ≡ true → Pops (Keeps tag_of) number v (λ x w. Receives v x w)
   pops number v live takes x items views h at =
       let r = flows (x ∷ items) views number v at live h in
       let mine = r.each number v at in
@@ -110,15 +127,27 @@ module _ {T : Type 0} (tag_of : T → ℕ) where
               record { split = mine.split; bounds_are = mine.bounds_are; held = mine.held; others = mine.others; taker = λ it. ((mine.taker it).0, ap (λ l. l ++ x ∷ []) (mine.taker it).1) }
               (λ j u other e. let one = r.each j u e in record { split = one.split; bounds_are = one.bounds_are; held = one.held; others = one.others; taker = λ is. absurd (other ((one.taker is).0 ∙ sym (mine.taker takes).0)) });
         },
-        refl,
+        (
+          refl,
+          received_few v x items r.bounds r.sent r.received (mine.bounds_are live) (mine.taker takes).1 r.flow r.within,
+        ),
       )
 
   -- what a ticket that has taken in the taker learns
   pub agrees : (number : ℕ) (v : View T) → v.live ≡ true → v.takes ≡ true → Learns (Keeps tag_of) number v (Agrees tag_of v)
-  agrees number v live takes items views h at t it =
+  agrees number v live takes items views h at =
       let r = flows items views number v at live h in
       let mine = r.each number v at in
-      (mine.held t it).1 ∙ r.flow t ∙ ap (λ l. with_tag tag_of t l ++ with_tag tag_of t items) (sym (mine.taker takes).1)
+      let received_are = (mine.taker takes).1 in record {
+        held = λ t it. (mine.held t it).1 ∙ r.flow t ∙ ap (λ l. with_tag tag_of t l ++ with_tag tag_of t items) (sym received_are);
+        barred = λ t none.
+            let few : length (with_tag tag_of t r.received) ≤ 0 =
+            let sent_are = ap length (r.flow t) in
+            let low = r.within t in
+            let bound_is = ap (λ bs. bound_of bs t) (sym (mine.bounds_are live)) ∙ none in
+            omega (arith, sent_are, low, bound_is, length-append (with_tag tag_of t r.received) (with_tag tag_of t items)) in
+            ap (with_tag tag_of t) received_are ∙ no_items (with_tag tag_of t r.received) few;
+      }
 
   -- what a ticket learns of how many items there are
   pub learns : (number : ℕ) (v : View T) → v.live ≡ true → Learns (Keeps tag_of) number v (HoldsAtMost v)

@@ -35,6 +35,10 @@ module _ {T : Type 0} where
   abbrev pub IsTicketOf : Trunk T → Ticket T → Type 0
   IsTicketOf trunk t = IsPassOf trunk.queue t.pass × (view t.pass ≡ ticket (bounds_of t) (tags_of t) (sent t))
 
+  -- the bounds that the taker knows, which are those of its trunk
+  abbrev pub bounds_in : Taker T → List ℕ
+  bounds_in t = (view t.pass).bounds
+
   -- the taker is that of this trunk
   abbrev pub IsTakerOf : Trunk T → Taker T → Type 0
-  IsTakerOf trunk t = IsPassOf trunk.queue t.pass × (view t.pass ≡ taker (view t.pass).bounds (received t))
+  IsTakerOf trunk t = IsPassOf trunk.queue t.pass × (view t.pass ≡ taker (bounds_in t) (received t))

@@ -132,10 +132,9 @@ impl<T> Lesson<T, View<T>> for Offer {
 pub struct Take;
 
 impl<T> Outcome<T, View<T>> for Take {
-    ghost use Rattle.std.specs.Prelude.{◌≡◌};
-    ghost use Rattle.mil_trunk.specs.Views.{popped};
+    ghost use Rattle.mil_trunk.specs.Rule.{Receives};
 
-    ghost then = { λ v x w. w ≡ popped v x };
+    ghost then = { Receives };
 }
 
 impl<T> Lesson<T, View<T>> for Take {
@@ -150,10 +149,9 @@ pub struct Settle<T> {
 }
 
 impl<T> Outcome<T, View<T>> for Settle<T> {
-    ghost use Rattle.std.specs.Prelude.{◌≡◌};
-    ghost use Rattle.mil_trunk.specs.Views.{popped};
+    ghost use Rattle.mil_trunk.specs.Rule.{Receives};
 
-    ghost then = { λ v x w. w ≡ popped v x };
+    ghost then = { Receives };
 }
 
 impl<T: Tagged> Lesson<T, View<T>> for Settle<T> {

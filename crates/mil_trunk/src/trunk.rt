@@ -1,6 +1,6 @@
 //! The queue, its tickets and its taker.
-ghost use Rattle.std.specs.Prelude.{◌≡◌, ◌<◌, ◌≤◌, ◌+◌, ◌^◌, ◌↔◌, ◌⊎◌, ◌++◌, ◌∷◌, [], ℕ, true, length, not, ◌&&◌, ◌||◌, All, IfOk, OnOk, IfErr, OnErr, IfSome, IfNone};
-ghost use Rattle.mil_trunk.specs.Ends.{IsCapacity, IsTicketOf, IsTakerOf, capacity_of, bounds_of, tags_of, sent, received};
+ghost use Rattle.std.specs.Prelude.{◌≡◌, ◌<◌, ◌≤◌, ◌+◌, ◌^◌, ◌↔◌, ◌⊎◌, ◌++◌, ◌∷◌, [], ℕ, true, length, sum, not, ◌&&◌, ◌||◌, All, IfOk, OnOk, IfErr, OnErr, IfSome, IfNone};
+ghost use Rattle.mil_trunk.specs.Ends.{IsCapacity, IsTicketOf, IsTakerOf, capacity_of, bounds_of, bounds_in, tags_of, sent, received};
 ghost use Rattle.mil_trunk.specs.Tags.{has, all_tags, minus, bound_of, bounds_outside, Includes};
 ghost use Rattle.mil_trunk.specs.Views.{with_tag, inside, outside};
 
@@ -54,6 +54,7 @@ impl<T: Tagged> Trunk<T> {
         ensures tags { IfOk result (λ r. (t : ℕ) → t < 64 → has (tags_of r.1) t ≡ true) }
         ensures sent { IfOk result (λ r. sent r.1 ≡ []) }
         ensures received { IfOk result (λ r. received r.2 ≡ []) }
+        ensures bounds_in { IfOk result (λ r. bounds_in r.2 ≡ bounds.now) }
         ensures lawful { OnOk result (IsCapacity capacity) }
         ensures refused { (result ≡ Err TrunkError.Capacity) ↔ ((capacity < 1) ⊎ (4096 < capacity)) }
     {
@@ -79,6 +80,7 @@ impl<T: Tagged> Trunk<T> {
         ensures tags { IfOk result (λ r. tags_of r.1 ≡ all_tags) }
         ensures sent { IfOk result (λ r. sent r.1 ≡ []) }
         ensures received { IfOk result (λ r. received r.2 ≡ []) }
+        ensures bounds_in { IfOk result (λ r. bounds_in r.2 ≡ bounds.now) }
     {
         let (queue, mut pass) = RuledArrayQueue::ruled(alloc, capacity as usize)?;
         let end = queue.another::<Begin<B>>(&mut pass);
@@ -150,6 +152,8 @@ impl<T: Tagged> Trunk<T> {
         ensures taker { IsTakerOf self.now taker.new }
         ensures taken { IfSome result (λ item. received taker.new ≡ received taker.old ++ item ∷ []) }
         ensures none { IfNone result (received taker.new ≡ received taker.old) }
+        ensures bounds { bounds_in taker.new ≡ bounds_in taker.old }
+        ensures few { IfSome result (λ item. length (received taker.new) ≤ sum (bounds_in taker.old)) }
     {
         self.queue.pop_as::<Take, R>(rt, &mut taker.pass)
     }
@@ -169,7 +173,10 @@ impl<T: Tagged> Trunk<T> {
         ensures sent { sent result.0 ≡ sent ticket }
         ensures taken { IfSome result.2 (λ item. received result.1 ≡ received taker ++ item ∷ []) }
         ensures none { IfNone result.2 (received result.1 ≡ received taker) }
+        ensures bounds_in { bounds_in result.1 ≡ bounds_of ticket }
+        ensures few { IfSome result.2 (λ item. length (received result.1) ≤ sum (bounds_of ticket)) }
         ensures settled { IfNone result.2 ((t : ℕ) → t < 64 → with_tag T.tag_of t (sent result.0) ≡ with_tag T.tag_of t (received result.1)) }
+        ensures barred { IfNone result.2 ((t : ℕ) → bound_of (bounds_of ticket) t ≡ 0 → with_tag T.tag_of t (received result.1) ≡ []) }
     {
         let Ticket { mut pass } = ticket;
         let Taker { pass: end } = taker;
