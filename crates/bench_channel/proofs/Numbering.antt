@@ -9,19 +9,19 @@ use Rattle.ch11_builder.specs.Held.{Held, fresh, fits, pushed, closed, with_reco
 use Rattle.ch11_builder.specs.Recorded.{IsRecorded}
 use Rattle.ch11_recording.specs.declared.item.Item.{Item}
 use Rattle.ch11_recording.specs.declared.item.Item.TheVariants as item
-use Rattle.ch11_recording.specs.Items.{numbered, part_of, to_the_end}
+use Rattle.ch11_recording.specs.Items.{numbered, numbered_from, part_of, to_the_end}
 use Rattle.ch11_recording.specs.Laws.{IsItem}
 use Rattle.ch11_recording.specs.WrittenFile.{Format, channel_in, held_in}
 use Rattle.ch11_recording.proofs.Growth.{after_more}
-use Rattle.bench_channel.specs.Channel.{numbers_from, message_of, items_of}
+use Rattle.bench_channel.specs.Channel.{message_of, items_of}
 
-numbers_more : (k : ℕ) (rs : List Record) (q : Record) → numbers_from k (rs ++ q ∷ []) ≡ numbers_from k rs ++ numbered (k + length rs) q ∷ []
+numbers_more : (k : ℕ) (rs : List Record) (q : Record) → numbered_from k (rs ++ q ∷ []) ≡ numbered_from k rs ++ numbered (k + length rs) q ∷ []
 numbers_more k [] q = ap (λ i. numbered i q ∷ []) (sym (plus_none k))
   where
     plus_none : (i : ℕ) → i + 0 ≡ i
     plus_none i = omega arith
 numbers_more k (r ∷ rs) q =
-    ap (λ (ns : List Numbered). numbered k r ∷ ns) (numbers_more (suc k) rs q ∙ ap (λ i. numbers_from (suc k) rs ++ numbered i q ∷ []) (over k (length rs)))
+    ap (λ (ns : List Numbered). numbered k r ∷ ns) (numbers_more (suc k) rs q ∙ ap (λ i. numbered_from (suc k) rs ++ numbered i q ∷ []) (over k (length rs)))
   where
     over : (i j : ℕ) → suc i + j ≡ i + suc j
     over i j = omega arith
@@ -30,18 +30,18 @@ numbers_more k (r ∷ rs) q =
 pub items_more : (channel n : ℕ) (rs : List Record) (q : Record) → length rs ≡ n → items_of channel (rs ++ q ∷ []) ≡ items_of channel rs ++ item.Message channel (n + 1) q ∷ []
 items_more channel n rs q long =
     let i : 1 + length rs ≡ n + 1 = omega (arith, long) in
-    ap (map (message_of channel)) (numbers_more 1 rs q) ∙ map-append (message_of channel) (numbers_from 1 rs) (numbered (1 + length rs) q ∷ [])
+    ap (map (message_of channel)) (numbers_more 1 rs q) ∙ map-append (message_of channel) (numbered_from 1 rs) (numbered (1 + length rs) q ∷ [])
     ∙ ap (λ j. items_of channel rs ++ item.Message channel j q ∷ []) i
 
 all_more : (ns : List Numbered) (n : Numbered) → AllByRecursion IsRecorded ns → IsRecorded n → AllByRecursion IsRecorded (ns ++ n ∷ [])
 all_more [] n all is = (is, tt)
 all_more (m ∷ ns) n all is = (all.0, all_more ns n all.1 is)
 
-pub recorded_more : (n : ℕ) (rs : List Record) (q : Record) → length rs ≡ n → AllByRecursion IsRecorded (numbers_from 1 rs) → IsRecorded (numbered (n + 1) q)
-    → AllByRecursion IsRecorded (numbers_from 1 (rs ++ q ∷ []))
+pub recorded_more : (n : ℕ) (rs : List Record) (q : Record) → length rs ≡ n → AllByRecursion IsRecorded (numbered_from 1 rs) → IsRecorded (numbered (n + 1) q)
+    → AllByRecursion IsRecorded (numbered_from 1 (rs ++ q ∷ []))
 recorded_more n rs q long all is =
     let i : n + 1 ≡ 1 + length rs = omega (arith, long) in
-    rw (numbers_more 1 rs q, ← i) (all_more (numbers_from 1 rs) (numbered (n + 1) q) all is)
+    rw (numbers_more 1 rs q, ← i) (all_more (numbered_from 1 rs) (numbered (n + 1) q) all is)
 
 -- the first elements and the next
 pub take_next : (xs : List Record) (n : ℕ) (q : Record) → slice_get xs n ≡ Some q → take (suc n) xs ≡ take n xs ++ q ∷ []
@@ -83,6 +83,6 @@ pub all_items : (channel : ℕ) (ns : List Numbered) → channel < 2 ^ 16 → Al
 all_items channel [] low all = ((low, tt), tt)
 all_items channel (n ∷ ns) low all = ((low, (all.0, tt)), all_items channel ns low all.1)
 
-pub messages_again : (k : ℕ) (rs : List Record) → messages_of (numbers_from k rs) ≡ rs
+pub messages_again : (k : ℕ) (rs : List Record) → messages_of (numbered_from k rs) ≡ rs
 messages_again k [] = refl
 messages_again k (r ∷ rs) = ap (λ (qs : List Record). r ∷ qs) (messages_again (suc k) rs)

@@ -18,11 +18,11 @@ use Rattle.ch11_f1.specs.Again.{as_message}
 use Rattle.ch11_reader.specs.Recording.{packets_in, packets_from}
 use Rattle.ch11_recording.specs.declared.item.Item.{Item}
 use Rattle.ch11_recording.specs.declared.item.Item.TheVariants as item
-use Rattle.ch11_recording.specs.Items.{numbered, to_the_end}
+use Rattle.ch11_recording.specs.Items.{numbered, numbered_from, to_the_end}
 use Rattle.ch11_recording.specs.Laws.{IsFormat, RecordingIsRead, EndedIsClosed}
 use Rattle.ch11_recording.specs.WrittenFile.{held_in}
 use Rattle.ch11_recording.specs.Recording.{Recording, IsRecordingOf, GoesOn}
-use Rattle.bench_channel.specs.Channel.{numbers_from, items_of, format_of, channel_file, IsReadAs}
+use Rattle.bench_channel.specs.Channel.{items_of, format_of, channel_file, IsReadAs}
 use Rattle.bench_channel.proofs.Numbering.{items_more, recorded_more, take_next, held_more, held_channel, ended, own_part, all_items, messages_again}
 
 nothing_read : packets_in [] ≡ Ok []
@@ -35,7 +35,7 @@ pub record Stage {S : Type 0} (taken : S → Option (List ℕ)) (failures : S �
   pub count : length (take n (records job placed)) ≡ n
   pub own : (held_in (format_of version limit) job.channel (items_of job.channel (take n (records job placed)))).channel.channel ≡ job.channel
   pub latest : latest_number (held_in (format_of version limit) job.channel (items_of job.channel (take n (records job placed)))) ≡ n
-  pub recorded : AllByRecursion IsRecorded (numbers_from 1 (take n (records job placed)))
+  pub recorded : AllByRecursion IsRecorded (numbered_from 1 (take n (records job placed)))
   pub unfinished : r.writing.finished ≡ false
   pub few : r.writing.taken ≤ n * 524288
   pub rose : r.writing.failed ≡ true → failures before < failures r.writing.sink
@@ -112,11 +112,11 @@ module _ {S : Type 0} (taken : S → Option (List ℕ)) (failures : S → ℕ) (
   -- all records, and then the end mark
   pub last_stage : (n : ℕ) (r s : Recording S) → Stage taken failures job placed version limit before n r → n ≡ length (records job placed)
       → GoesOn taken 0 (λ channel. item.End channel) r s
-      → IsRecordingOf taken (format_of version limit) [] (taken before) (job.channel ∷ []) (to_the_end job.channel (numbers_from 1 (records job placed))) s
+      → IsRecordingOf taken (format_of version limit) [] (taken before) (job.channel ∷ []) (to_the_end job.channel (numbered_from 1 (records job placed))) s
   last_stage n r s st is goes =
       let all : take n (records job placed) ≡ records job placed = take_all n (records job placed) (omega (arith, is)) in
-      let items : items_of job.channel (take n (records job placed)) ++ item.End job.channel ∷ [] ≡ to_the_end job.channel (numbers_from 1 (records job placed)) =
-      ended job.channel (numbers_from 1 (take n (records job placed))) ∙ ap (λ (rs : List Record). to_the_end job.channel (numbers_from 1 rs)) all in
+      let items : items_of job.channel (take n (records job placed)) ++ item.End job.channel ∷ [] ≡ to_the_end job.channel (numbered_from 1 (records job placed)) =
+      ended job.channel (numbered_from 1 (take n (records job placed))) ∙ ap (λ (rs : List Record). to_the_end job.channel (numbered_from 1 rs)) all in
       subst (λ (xs : List Item). IsRecordingOf taken (format_of version limit) [] (taken before) (job.channel ∷ []) xs s) items
       (goes (format_of version limit) [] (taken before) (job.channel ∷ []) job.channel (items_of job.channel (take n (records job placed))) (tt, tt) refl st.recording)
 
@@ -125,9 +125,9 @@ module _ {S : Type 0} (taken : S → Option (List ℕ)) (failures : S → ℕ) (
       → IsFormat (format_of version limit) → job.channel < 2 ^ 16 → IsReadAs job.channel (records job placed) (channel_file job.channel version limit (records job placed))
   read_again read closed n r st is format low =
       let f = format_of version limit in
-      let ns : List Numbered = numbers_from 1 (records job placed) in
+      let ns : List Numbered = numbered_from 1 (records job placed) in
       let all : take n (records job placed) ≡ records job placed = take_all n (records job placed) (omega (arith, is)) in
-      let fits : AllByRecursion IsRecorded ns = subst (λ (rs : List Record). AllByRecursion IsRecorded (numbers_from 1 rs)) all st.recorded in
+      let fits : AllByRecursion IsRecorded ns = subst (λ (rs : List Record). AllByRecursion IsRecorded (numbered_from 1 rs)) all st.recorded in
       let got = read f [] (to_the_end job.channel ns) format ([], nothing_read, tt) (all_items job.channel ns low fits) in (
         got.0,
         got.1,

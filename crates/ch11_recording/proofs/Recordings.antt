@@ -1,17 +1,20 @@
 -- One more item of a recording that is being written.
-use Rattle.std.proofs.Common.{◌≡◌, ◌≢◌, ℕ, zero, suc, List, [], ◌∷◌, ◌++◌, map, slice_get, slice_index_or, slice_set, Option, Some, refl, sym, ap, ◌∙◌}
-use Rattle.std.specs.List.{AllByRecursion}
+use Rattle.std.proofs.Common.{◌≡◌, ◌≢◌, ℕ, zero, suc, ◌+◌, ◌-◌, ◌≤◌, List, [], ◌∷◌, ◌++◌, length, map, slice_get, slice_index_or, slice_set, Option, Some, refl, sym, ap, ◌∙◌, arith}
+use Rattle.std.specs.List.{AllByRecursion, concat}
 use Rattle.std.proofs.lemmas.List.{append-nil}
 use Rattle.std.proofs.lemmas.Bool.{eqb-true, eq-eqb, false_from_ne_true}
-use Rattle.ch11_writer.specs.Writing.{Writing, IsWritten, Puts, progress_of}
+use Rattle.ch11_writer.specs.Writing.{IsWritten, Puts, PutsNone, progress_of}
 use Rattle.ch11_builder.specs.Packet.{Channel}
 use Rattle.ch11_builder.specs.Held.{Held, fresh}
+use Rattle.ch11_builder.specs.Laws.{PacketHasItsLength}
 use Rattle.ch11_recording.specs.declared.item.Item.{Item}
 use Rattle.ch11_recording.specs.Items.{channel_of}
-use Rattle.ch11_recording.specs.WrittenFile.{Format, channel_in, concerns, met, held_in, closing, written_file}
+use Rattle.ch11_recording.specs.WrittenFile.{Format, channel_in, concerns, met, held_in, closing, written_file, closed_by, closed_packets, whole_packets}
+use Rattle.ch11_recording.specs.Counting.{Counting, Counts}
 use Rattle.ch11_recording.specs.Recording.{IsRecordingOf, AreDistinct}
 use Rattle.ch11_recording.proofs.Growth.{after_more, file_more}
 use Rattle.ch11_recording.proofs.Kept.{not_mine, mine, items_channel}
+use Rattle.ch11_recording.proofs.Whole.{HaveBytes, closed_has_bytes, count_goes_on, file_length, none_counted, packets_go_on}
 
 all_others : (g k : ℕ → Held) (c : ℕ) (channels : List ℕ) → AllByRecursion (λ other. other ≢ c) channels → ((d : ℕ) → d ≢ c → k d ≡ g d) → map g channels ≡ map k channels
 all_others g k c [] others same = refl
@@ -55,14 +58,27 @@ held_same f items x channel d of other =
     ∙ not_mine (held_in f d items) x (false_from_ne_true (concerns (held_in f d items) x)
     (λ e. other (sym (own f d items) ∙ sym (eqb-true (channel_of x) (held_in f d items).channel.channel e) ∙ of)))
 
+-- the count, where these packets are put
+counts_on : {S : Type 0} (taken : S → Option (List ℕ)) (f : Format) (prologue : List ℕ) (before : Option (List ℕ)) (items : List Item) (qs : List (List ℕ)) (old new : Counting S)
+    → HaveBytes qs → IsWritten (written_file f prologue items) before (progress_of taken old.writing)
+    → old.packets ≡ whole_packets (old.writing.taken - length prologue) (closed_packets f items) → Counts qs old new
+    → new.packets ≡ whole_packets (new.writing.taken - length prologue) (closed_packets f items ++ qs)
+counts_on taken f prologue before items qs old new all written is counts =
+    let long : length (written_file f prologue items) ≡ length prologue + length (concat (closed_packets f items)) = file_length f prologue items in
+    let within : old.writing.taken ≤ length prologue + length (concat (closed_packets f items)) = omega (arith, written.within, long) in
+    count_goes_on (closed_packets f items) qs (length prologue) old.writing.taken new.writing.taken old.packets new.packets old.writing.failed all within
+    (λ whole. written.whole whole ∙ long) is counts.grows counts.counted
+    (λ failed. (ap (λ (w : Counting _). w.writing.taken) (counts.silent failed), ap (λ (w : Counting _). w.packets) (counts.silent failed)))
+
 -- the item is one of the channel that the builder has
-pub goes_on : {S : Type 0} (taken : S → Option (List ℕ)) (item : ℕ → Item) (f : Format) (prologue : List ℕ) (before : Option (List ℕ)) (channels : List ℕ) (i channel : ℕ) (items : List Item)
-    (lanes : List Held) (old new : Writing S) (d h k : Held)
+pub goes_on : {S : Type 0} (taken : S → Option (List ℕ)) → PacketHasItsLength → (item : ℕ → Item) (f : Format) (prologue : List ℕ) (before : Option (List ℕ)) (channels : List ℕ) (i channel : ℕ)
+    (items : List Item) (lanes : List Held) (old new : Counting S) (d h k : Held)
     → ((c : ℕ) → channel_of (item c) ≡ c) → AreDistinct channels → slice_get channels i ≡ Some channel
-    → IsRecordingOf taken f prologue before channels items (record { lanes = lanes; writing = old })
-    → h ≡ slice_index_or lanes i d → k ≡ met h (item h.channel.channel) → Puts (closing h (item h.channel.channel)) (progress_of taken old) (progress_of taken new)
-    → IsRecordingOf taken f prologue before channels (items ++ item channel ∷ []) (record { lanes = slice_set lanes i k; writing = new })
-goes_on taken item f prologue before channels i channel items lanes old new d h k of distinct at is from next puts =
+    → IsRecordingOf taken f prologue before channels items (record { lanes = lanes; writing = old.writing; packets = old.packets })
+    → h ≡ slice_index_or lanes i d → k ≡ met h (item h.channel.channel) → Puts (closing h (item h.channel.channel)) (progress_of taken old.writing) (progress_of taken new.writing)
+    → Counts (closed_by h (item h.channel.channel)) old new
+    → IsRecordingOf taken f prologue before channels (items ++ item channel ∷ []) (record { lanes = slice_set lanes i k; writing = new.writing; packets = new.packets })
+goes_on taken size item f prologue before channels i channel items lanes old new d h k of distinct at is from next puts counts =
     let g : ℕ → Held = λ (c : ℕ). held_in f c items in
     let x : Item = item channel in
     let here : h ≡ g channel = from ∙ ap (λ (ls : List Held). slice_index_or ls i d) is.lanes ∙ lane_at g channels i channel d at in
@@ -81,6 +97,14 @@ goes_on taken item f prologue before channels i channel items lanes old new d h 
           ∙ ap (λ (l : Held). written_file f prologue items ++ closing l x) (sym here)
           ∙ ap (λ (y : Item). written_file f prologue items ++ closing h y) (sym same_item) in
           rw bytes (puts (written_file f prologue items) before is.written);
+      packets =
+          let packets : closed_packets f (items ++ x ∷ []) ≡ closed_packets f items ++ closed_by h (item h.channel.channel) =
+          packets_go_on f items x
+          ∙ ap (λ (c : ℕ). closed_packets f items ++ closed_by (held_in f c items) x) of_channel
+          ∙ ap (λ (l : Held). closed_packets f items ++ closed_by l x) (sym here)
+          ∙ ap (λ (y : Item). closed_packets f items ++ closed_by h y) (sym same_item) in
+          counts_on taken f prologue before items (closed_by h (item h.channel.channel)) old new (closed_has_bytes size h (item h.channel.channel)) is.written is.packets counts
+          ∙ ap (whole_packets (new.writing.taken - length prologue)) (sym packets);
     }
 
 -- a recording with nothing in it
@@ -88,14 +112,27 @@ pub file_of_none : (f : Format) (prologue : List ℕ) → written_file f prologu
 unfolding written_file
 file_of_none f prologue = append-nil prologue
 
-pub begun : {S : Type 0} (taken : S → Option (List ℕ)) (f : Format) (before : Option (List ℕ)) (channels bytes : List ℕ) (lanes : List Held) (old new : Writing S)
-    → IsRecordingOf taken f [] before channels [] (record { lanes = lanes; writing = old }) → Puts bytes (progress_of taken old) (progress_of taken new)
-    → IsRecordingOf taken f bytes before channels [] (record { lanes = lanes; writing = new })
-begun taken f before channels bytes lanes old new is puts = record {
+pub begun : {S : Type 0} (taken : S → Option (List ℕ)) (f : Format) (before : Option (List ℕ)) (channels bytes : List ℕ) (lanes : List Held) (old new : Counting S)
+    → IsRecordingOf taken f [] before channels [] (record { lanes = lanes; writing = old.writing; packets = old.packets })
+    → Puts bytes (progress_of taken old.writing) (progress_of taken new.writing) → new.packets ≡ old.packets
+    → IsRecordingOf taken f bytes before channels [] (record { lanes = lanes; writing = new.writing; packets = new.packets })
+begun taken f before channels bytes lanes old new is puts same = record {
   lanes = is.lanes;
   written =
-      let nothing : IsWritten [] before (progress_of taken old) = rw (← file_of_none f []) is.written in
+      let nothing : IsWritten [] before (progress_of taken old.writing) = rw (← file_of_none f []) is.written in
       rw (file_of_none f bytes) (puts [] before nothing);
+  packets = same ∙ is.packets ∙ none_counted f (old.writing.taken - length {A = ℕ} []) ∙ sym (none_counted f (new.writing.taken - length bytes));
+}
+
+-- the end is no packet
+pub told : {S : Type 0} (taken : S → Option (List ℕ)) (f : Format) (prologue : List ℕ) (before : Option (List ℕ)) (channels : List ℕ) (items : List Item) (lanes : List Held) (old new : Counting S)
+    → IsRecordingOf taken f prologue before channels items (record { lanes = lanes; writing = old.writing; packets = old.packets })
+    → PutsNone (progress_of taken old.writing) (progress_of taken new.writing) → new.writing.taken ≡ old.writing.taken → new.packets ≡ old.packets
+    → IsRecordingOf taken f prologue before channels items (record { lanes = lanes; writing = new.writing; packets = new.packets })
+told taken f prologue before channels items lanes old new is puts count same = record {
+  lanes = is.lanes;
+  written = puts (written_file f prologue items) before is.written;
+  packets = same ∙ is.packets ∙ ap (λ (n : ℕ). whole_packets (n - length prologue) (closed_packets f items)) (sym count);
 }
 
 pub lane_got : (lanes : List Held) (i : ℕ) (h d : Held) → slice_get lanes i ≡ Some h → slice_index_or lanes i d ≡ h

@@ -1,14 +1,15 @@
--- Laws of a recording: what it is read as, and how it grows.
-use Rattle.std.specs.Prelude.{◌≡◌, ℕ, ◌<◌, ◌≤◌, ◌^◌, false, List, [], ◌∷◌, ◌++◌, map, Ok}
-use Rattle.std.specs.List.{AllByRecursion}
+-- Laws of a recording: what it is read as, how it grows, and the packets that it is made of.
+use Rattle.std.specs.Prelude.{◌≡◌, ℕ, ◌<◌, ◌≤◌, ◌^◌, false, List, [], ◌∷◌, ◌++◌, length, map, Ok}
+use Rattle.std.specs.List.{AllByRecursion, concat}
 use Rattle.ch11_f1.specs.Again.{as_message}
 use Rattle.ch11_builder.specs.Packet.{Numbered, messages_of}
+use Rattle.ch11_builder.specs.Held.{latest_number}
 use Rattle.ch11_builder.specs.Recorded.{IsRecorded}
 use Rattle.ch11_reader.specs.Recording.{Found, packets_in, holds_messages}
 use Rattle.ch11_reader.specs.Contents.{reading}
 use Rattle.ch11_recording.specs.declared.item.Item.{Item}
-use Rattle.ch11_recording.specs.Items.{channel_of, record_in, records_in, part_of, to_the_end}
-use Rattle.ch11_recording.specs.WrittenFile.{Format, held_in, closing, written_file, closed_records}
+use Rattle.ch11_recording.specs.Items.{channel_of, record_in, records_in, part_of, to_the_end, last_number}
+use Rattle.ch11_recording.specs.WrittenFile.{Format, held_in, closing, written_file, closed_by, closed_packets, whole_packets, closed_records}
 
 -- the version has the size of its field, and the limit is lawful
 pub record IsFormat (f : Format) : Type 0 where
@@ -53,3 +54,31 @@ abbrev pub FileGoesOn : Type 0
 FileGoesOn =
     (f : Format) (prologue : List ℕ) (items : List Item) (x : Item)
     → written_file f prologue (items ++ x ∷ []) ≡ written_file f prologue items ++ closing (held_in f (channel_of x) items) x
+
+-- The latest number that a channel holds is that of the channel's last record.
+abbrev pub LatestIsLast : Type 0
+LatestIsLast =
+    (f : Format) (channel : ℕ) (items : List Item)
+    → latest_number (held_in f channel items) ≡ last_number (records_in channel items)
+
+-- A recording is its prologue, and then its packets.
+abbrev pub FileIsPackets : Type 0
+FileIsPackets =
+    (f : Format) (prologue : List ℕ) (items : List Item)
+    → written_file f prologue items ≡ prologue ++ concat (closed_packets f items)
+
+-- Each packet has a byte at least.
+abbrev pub PacketsHaveBytes : Type 0
+PacketsHaveBytes = (f : Format) (items : List Item) → AllByRecursion (λ p. 0 < length p) (closed_packets f items)
+
+-- Within the bytes of all packets each of them stands whole.
+abbrev pub AllPacketsAreWhole : Type 0
+AllPacketsAreWhole =
+    (f : Format) (items : List Item)
+    → whole_packets (length (concat (closed_packets f items))) (closed_packets f items) ≡ length (closed_packets f items)
+
+-- One more item adds the packet that it closes.
+abbrev pub PacketsGoOn : Type 0
+PacketsGoOn =
+    (f : Format) (items : List Item) (x : Item)
+    → closed_packets f (items ++ x ∷ []) ≡ closed_packets f items ++ closed_by (held_in f (channel_of x) items) x

@@ -1,4 +1,5 @@
 pub mod Items
 pub mod WrittenFile
+pub mod Counting
 pub mod Laws
 pub mod Recording

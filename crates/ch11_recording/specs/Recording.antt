@@ -1,21 +1,24 @@
--- A recording that is being written: what its builders hold, and how far its writer came.
-use Rattle.std.specs.Prelude.{◌≡◌, ◌≢◌, ℕ, List, [], ◌∷◌, ◌++◌, map, slice_get, Option, Some}
+-- A recording that is being written: what its builders hold, how far its writer came, and how many packets the sink took whole.
+use Rattle.std.specs.Prelude.{◌≡◌, ◌≢◌, ℕ, ◌-◌, List, [], ◌∷◌, ◌++◌, length, map, slice_get, Option, Some}
 use Rattle.std.specs.List.{AllByRecursion}
 use Rattle.ch11_writer.specs.Writing.{Writing, IsWritten, progress_of}
 use Rattle.ch11_builder.specs.Held.{Held}
 use Rattle.ch11_recording.specs.declared.item.Item.{Item}
-use Rattle.ch11_recording.specs.WrittenFile.{Format, held_in, written_file}
+use Rattle.ch11_recording.specs.WrittenFile.{Format, held_in, written_file, closed_packets, whole_packets}
 
--- what each channel holds, and the writer
+-- what each channel holds, the writer, and how many packets the sink took whole
 pub record Recording (S : Type 0) : Type 0 where
   pub lanes : List Held
   pub writing : Writing S
+  pub packets : ℕ
 
--- The recording of these items: each channel holds what it does after them, and their file was put. `before` is what the
--- sink had taken when the recording began, and `taken` shows what a sink has taken.
+-- The recording of these items: each channel holds what it does after them, their file was put, and of its packets behind the
+-- prologue those are counted that the sink took whole. `before` is what the sink had taken when the recording began, and
+-- `taken` shows what a sink has taken.
 pub record IsRecordingOf {S : Type 0} (taken : S → Option (List ℕ)) (f : Format) (prologue : List ℕ) (before : Option (List ℕ)) (channels : List ℕ) (items : List Item) (r : Recording S) : Type 0 where
   pub lanes : r.lanes ≡ map (λ channel. held_in f channel items) channels
   pub written : IsWritten (written_file f prologue items) before (progress_of taken r.writing)
+  pub packets : r.packets ≡ whole_packets (r.writing.taken - length prologue) (closed_packets f items)
 
 -- no channel stands twice
 abbrev pub AreDistinct : List ℕ → Type 0

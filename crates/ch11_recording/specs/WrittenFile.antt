@@ -1,6 +1,6 @@
 -- The bytes of a recording (IRIG 106-17 Chapter 11): the prologue, then the packets in the order in which they are closed. A
 -- packet is closed by the item that opens the next one of its channel, or by the end mark of its channel (own choice).
-use Rattle.std.specs.Prelude.{ℕ, ◌==◌, Bool, not, ◌&&◌, if◌then◌else◌, List, [], ◌∷◌, ◌++◌}
+use Rattle.std.specs.Prelude.{ℕ, suc, ◌-◌, ◌==◌, nat_le, Bool, not, ◌&&◌, if◌then◌else◌, List, [], ◌∷◌, ◌++◌, length}
 use Rattle.ch11_builder.specs.Packet.{Numbered, Channel}
 use Rattle.ch11_builder.specs.Cutting.{is_empty}
 use Rattle.ch11_builder.specs.Held.{Held, fresh, fits, pushed, closed, packet_of}
@@ -55,6 +55,24 @@ packets_behind f earlier (x ∷ later) = closing (held_in f (channel_of x) earli
 -- the bytes of a recording
 unfoldable pub written_file : Format → List ℕ → List Item → List ℕ
 written_file f prologue items = prologue ++ packets_behind f [] items
+
+-- the packet that an item closes, none where it closes none
+abbrev pub closed_by : Held → Item → List (List ℕ)
+closed_by h x = if closes h x then packet_of h ∷ [] else []
+
+-- the packets that later items close, behind earlier ones, each as its bytes
+abbrev pub closed_packets_behind : Format → List Item → List Item → List (List ℕ)
+closed_packets_behind f earlier [] = []
+closed_packets_behind f earlier (x ∷ later) = closed_by (held_in f (channel_of x) earlier) x ++ closed_packets_behind f (earlier ++ x ∷ []) later
+
+-- the packets of a recording behind its prologue, in their order, each as its bytes
+unfoldable pub closed_packets : Format → List Item → List (List ℕ)
+closed_packets f items = closed_packets_behind f [] items
+
+-- how many of the packets stand whole within so many bytes, from the first on
+abbrev pub whole_packets : ℕ → List (List ℕ) → ℕ
+whole_packets bytes [] = 0
+whole_packets bytes (p ∷ ps) = if nat_le (length p) bytes then suc (whole_packets (bytes - length p) ps) else 0
 
 -- the records of a channel that its packets have: those in no closed packet are left out
 abbrev pub closed_behind : Held → List Item → List Numbered

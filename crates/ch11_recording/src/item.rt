@@ -1,7 +1,7 @@
 use mil_monitor::Record;
 
 /// What goes into a recording.
-#[derive(Debug)]
+#[derive(Debug, Drop)]
 pub enum Item {
     /// A message of a channel: its number there, from 1, and what the bus monitor kept of it.
     Message {

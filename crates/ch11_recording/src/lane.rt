@@ -4,10 +4,12 @@ ghost use Rattle.ch11_writer.specs.Writing.{Puts, progress_of};
 ghost use Rattle.ch11_builder.specs.Held.{fresh, pushed, latest_number};
 ghost use Rattle.ch11_recording.specs.declared.item.Item.TheVariants as item;
 ghost use Rattle.ch11_recording.specs.Items.{numbered};
-ghost use Rattle.ch11_recording.specs.WrittenFile.{closing, met};
+ghost use Rattle.ch11_recording.specs.WrittenFile.{closing, closed_by, met};
+ghost use Rattle.ch11_recording.specs.Counting.{Counts};
 
-use ch11_builder::{Builder, BuilderError, Pushed, run_gives_the_packets};
-use ch11_writer::{Sink, Writer};
+use crate::packet_writer::PacketWriter;
+use ch11_builder::{Builder, BuilderError, Pushed, packet_is_read_again, run_gives_the_packets};
+use ch11_writer::Sink;
 use mil_monitor::Record;
 use std::alloc::Global;
 use std::marker::Model;
@@ -34,21 +36,23 @@ impl Model for Lane {
 }
 
 /// Takes a record into the open packet, and writes the packet that it closes, if it closes one.
-fn put<S: Sink>(builder: &mut Builder, writer: &mut Writer<S>, number: u64, message: &Record)
+fn put<S: Sink>(builder: &mut Builder, writer: &mut PacketWriter<S>, number: u64, message: &Record)
     requires number { latest_number builder.old < number }
     requires stamp { message.now.stamp < 2 ^ 48 }
-    requires unfinished { writer.old.finished ≡ false }
-    requires few { writer.old.taken < 2 ^ 63 }
+    requires unfinished { writer.old.writing.finished ≡ false }
+    requires few { writer.old.writing.taken + 524288 < 2 ^ 64 }
     ensures held { builder.new ≡ pushed builder.old (numbered number message.now) }
     ensures written { Puts (closing builder.old (item.Message builder.old.channel.channel number message.now))
-        (progress_of S.taken writer.old) (progress_of S.taken writer.new) }
-    ensures unfinished { writer.new.finished ≡ false }
-    ensures few { writer.new.taken ≤ writer.old.taken + 524288 }
-    ensures failures { S.failures writer.new.sink ≡ (if writer.old.failed || not writer.new.failed
-        then S.failures writer.old.sink else S.failures writer.old.sink + 1) }
+        (progress_of S.taken writer.old.writing) (progress_of S.taken writer.new.writing) }
+    ensures counted { Counts (closed_by builder.old (item.Message builder.old.channel.channel number message.now)) writer.old writer.new }
+    ensures unfinished { writer.new.writing.finished ≡ false }
+    ensures few { writer.new.writing.taken ≤ writer.old.writing.taken + 524288 }
+    ensures failures { S.failures writer.new.writing.sink ≡ (if writer.old.writing.failed || not writer.new.writing.failed
+        then S.failures writer.old.writing.sink else S.failures writer.old.writing.sink + 1) }
 {
+    packet_is_read_again();
     if let Pushed::Closed(packet) = builder.push(number, message) {
-        let _ = writer.put(packet);
+        writer.put(packet);
     }
 }
 
@@ -72,22 +76,23 @@ impl Lane {
     /// nothing done, where the number isn't above the last or the stamp isn't below 2^48.
     pub(crate) fn keep<S: Sink>(
         &mut self,
-        writer: &mut Writer<S>,
+        writer: &mut PacketWriter<S>,
         number: u64,
         message: &Record,
     ) -> bool
-        requires unfinished { writer.old.finished ≡ false }
-        requires few { writer.old.taken < 2 ^ 63 }
+        requires unfinished { writer.old.writing.finished ≡ false }
+        requires few { writer.old.writing.taken + 524288 < 2 ^ 64 }
         ensures held { IsTrue result → self.new ≡ met self.old (item.Message self.old.channel.channel number message.now) }
         ensures written { IsTrue result → Puts (closing self.old (item.Message self.old.channel.channel number message.now))
-            (progress_of S.taken writer.old) (progress_of S.taken writer.new) }
+            (progress_of S.taken writer.old.writing) (progress_of S.taken writer.new.writing) }
+        ensures counted { IsTrue result → Counts (closed_by self.old (item.Message self.old.channel.channel number message.now)) writer.old writer.new }
         ensures refused { IsFalse result → self.new ≡ self.old }
         ensures silent { IsFalse result → writer.new ≡ writer.old }
         ensures when { latest_number self.old < number → message.now.stamp < 2 ^ 48 → result ≡ true }
-        ensures unfinished { writer.new.finished ≡ false }
-        ensures few { writer.new.taken ≤ writer.old.taken + 524288 }
-        ensures failures { S.failures writer.new.sink ≡ (if writer.old.failed || not writer.new.failed
-            then S.failures writer.old.sink else S.failures writer.old.sink + 1) }
+        ensures unfinished { writer.new.writing.finished ≡ false }
+        ensures few { writer.new.writing.taken ≤ writer.old.writing.taken + 524288 }
+        ensures failures { S.failures writer.new.writing.sink ≡ (if writer.old.writing.failed || not writer.new.writing.failed
+            then S.failures writer.old.writing.sink else S.failures writer.old.writing.sink + 1) }
     {
         if number <= self.last || message.stamp >= STAMPS {
             return false;
@@ -99,19 +104,21 @@ impl Lane {
     }
 
     /// Writes the channel's open packet, where it has a record.
-    pub(crate) fn end<S: Sink>(&mut self, writer: &mut Writer<S>)
-        requires unfinished { writer.old.finished ≡ false }
-        requires few { writer.old.taken < 2 ^ 63 }
+    pub(crate) fn end<S: Sink>(&mut self, writer: &mut PacketWriter<S>)
+        requires unfinished { writer.old.writing.finished ≡ false }
+        requires few { writer.old.writing.taken + 524288 < 2 ^ 64 }
         ensures held { self.new ≡ met self.old (item.End self.old.channel.channel) }
         ensures written { Puts (closing self.old (item.End self.old.channel.channel))
-            (progress_of S.taken writer.old) (progress_of S.taken writer.new) }
-        ensures unfinished { writer.new.finished ≡ false }
-        ensures few { writer.new.taken ≤ writer.old.taken + 524288 }
-        ensures failures { S.failures writer.new.sink ≡ (if writer.old.failed || not writer.new.failed
-            then S.failures writer.old.sink else S.failures writer.old.sink + 1) }
+            (progress_of S.taken writer.old.writing) (progress_of S.taken writer.new.writing) }
+        ensures counted { Counts (closed_by self.old (item.End self.old.channel.channel)) writer.old writer.new }
+        ensures unfinished { writer.new.writing.finished ≡ false }
+        ensures few { writer.new.writing.taken ≤ writer.old.writing.taken + 524288 }
+        ensures failures { S.failures writer.new.writing.sink ≡ (if writer.old.writing.failed || not writer.new.writing.failed
+            then S.failures writer.old.writing.sink else S.failures writer.old.writing.sink + 1) }
     {
+        packet_is_read_again();
         if let Some(packet) = self.builder.close() {
-            let _ = writer.put(packet);
+            writer.put(packet);
         }
     }
 }

@@ -1,7 +1,7 @@
 //! Laws of the definitions of this crate, each the contract of a function that does nothing.
-ghost use Rattle.ch11_recording.specs.Laws.{RecordingIsRead, RecordsAreKept, EndedIsClosed, FileGoesOn};
+ghost use Rattle.ch11_recording.specs.Laws.{RecordingIsRead, RecordsAreKept, EndedIsClosed, FileGoesOn, LatestIsLast, FileIsPackets, PacketsHaveBytes, AllPacketsAreWhole, PacketsGoOn};
 
-use ch11_builder::packet_is_read_again;
+use ch11_builder::{packet_is_read_again, run_gives_the_packets};
 use ch11_reader::recordings_join;
 
 /// A recording is read again as the records of its closed packets: for each channel in order and once. Where a channel has
@@ -20,3 +20,20 @@ pub fn recording_is_read_again()
 pub fn recording_goes_on()
     ensures { FileGoesOn }
 {}
+
+/// A channel knows the number of its last record, whatever packets its records went into.
+pub fn latest_is_last()
+    ensures { LatestIsLast }
+{
+    run_gives_the_packets();
+}
+
+/// A recording is its prologue and then the packets that its items close, one behind the other, none of them empty.
+pub fn file_is_packets()
+    ensures file { FileIsPackets }
+    ensures bytes { PacketsHaveBytes }
+    ensures whole { AllPacketsAreWhole }
+    ensures goes_on { PacketsGoOn }
+{
+    packet_is_read_again();
+}

@@ -7,8 +7,9 @@ ghost use Rattle.ch11_recording.specs.WrittenFile.{Format, channel_in};
 ghost use Rattle.ch11_recording.specs.Recording.{IsRecordingOf, GoesOn};
 
 use crate::lane::Lane;
-use ch11_builder::BuilderError;
-use ch11_writer::{Sink, WriteFault, Writer};
+use crate::packet_writer::PacketWriter;
+use ch11_builder::{BuilderError, packet_is_read_again};
+use ch11_writer::{Sink, WriteFault};
 use mil_monitor::Record;
 use std::alloc::Global;
 use std::marker::Model;
@@ -18,7 +19,7 @@ use std::marker::Model;
 #[derive(Drop)]
 pub struct Recorder<S: Sink> {
     lanes: Vec<Lane>,
-    writer: Writer<S>,
+    writer: PacketWriter<S>,
 }
 
 impl<S: Sink> Model for Recorder<S> {
@@ -26,7 +27,7 @@ impl<S: Sink> Model for Recorder<S> {
 
     ghost Value = { Recording S };
 
-    ghost view = { λ r. record { lanes = r.lanes.items; writing = r.writer } };
+    ghost view = { λ r. record { lanes = r.lanes.items; writing = r.writer.writing; packets = r.writer.packets } };
 }
 
 /// A lane for each channel.
@@ -66,7 +67,7 @@ impl<S: Sink> Recorder<S> {
         match lanes_of(alloc, version, limit, channels) {
             Ok(lanes) => Ok(Recorder {
                 lanes,
-                writer: Writer::make(sink),
+                writer: PacketWriter::make(sink),
             }),
             Err(fault) => Err((fault, sink)),
         }
@@ -76,7 +77,7 @@ impl<S: Sink> Recorder<S> {
     /// there is no such channel, the number isn't above that of the channel's record before, or the stamp isn't below 2^48.
     pub fn keep(&mut self, index: usize, number: u64, message: &Record) -> bool
         requires unfinished { self.old.writing.finished ≡ false }
-        requires few { self.old.writing.taken < 2 ^ 63 }
+        requires few { self.old.writing.taken + 524288 < 2 ^ 64 }
         ensures goes_on { IsTrue result → GoesOn S.taken index (λ channel. item.Message channel number message.now) self.old self.new }
         ensures refused { IsFalse result → self.new ≡ self.old }
         ensures when { (h : Held) → slice_get self.old.lanes index ≡ Some h → latest_number h < number → message.now.stamp < 2 ^ 48 → result ≡ true }
@@ -88,6 +89,7 @@ impl<S: Sink> Recorder<S> {
         if index >= self.lanes.len() {
             return false;
         }
+        packet_is_read_again();
         let lane = &mut self.lanes[index];
         lane.keep(&mut self.writer, number, message)
     }
@@ -96,7 +98,7 @@ impl<S: Sink> Recorder<S> {
     /// no such channel.
     pub fn end(&mut self, index: usize) -> bool
         requires unfinished { self.old.writing.finished ≡ false }
-        requires few { self.old.writing.taken < 2 ^ 63 }
+        requires few { self.old.writing.taken + 524288 < 2 ^ 64 }
         ensures goes_on { IsTrue result → GoesOn S.taken index (λ channel. item.End channel) self.old self.new }
         ensures refused { IsFalse result → self.new ≡ self.old }
         ensures when { index < length self.old.lanes → result ≡ true }
@@ -108,6 +110,7 @@ impl<S: Sink> Recorder<S> {
         if index >= self.lanes.len() {
             return false;
         }
+        packet_is_read_again();
         let lane = &mut self.lanes[index];
         lane.end(&mut self.writer);
         true
@@ -116,7 +119,7 @@ impl<S: Sink> Recorder<S> {
     /// Writes the packets that stand before all others, as they are. It comes before any record.
     pub fn prologue(&mut self, bytes: &[u8])
         requires unfinished { self.old.writing.finished ≡ false }
-        requires few { self.old.writing.taken < 2 ^ 63 }
+        requires few { self.old.writing.taken + length bytes.now < 2 ^ 64 }
         ensures begun { (f : Format) (before : Option (List ℕ)) (channels : List ℕ) → IsRecordingOf S.taken f [] before channels [] self.old
             → IsRecordingOf S.taken f bytes.now before channels [] self.new }
         ensures unfinished { self.new.writing.finished ≡ false }
@@ -124,7 +127,7 @@ impl<S: Sink> Recorder<S> {
         ensures failures { S.failures self.new.writing.sink ≡ (if self.old.writing.failed || not self.new.writing.failed
             then S.failures self.old.writing.sink else S.failures self.old.writing.sink + 1) }
     {
-        let _ = self.writer.prologue(bytes);
+        self.writer.prologue(bytes);
     }
 
     /// Tells the sink that the recording is whole. V1 where the sink fails now or failed before, with the count of bytes that it
@@ -140,6 +143,13 @@ impl<S: Sink> Recorder<S> {
         ensures told { OnOk result (S.finished self.new.writing.sink ≡ true) }
     {
         self.writer.finish()
+    }
+
+    /// How many packets the sink took whole. Those of the prologue are not counted, nor is a packet that was cut short.
+    pub fn packets(&self) -> u64
+        ensures { result ≡ self.now.packets }
+    {
+        self.writer.packets()
     }
 
     /// The sink as it stands.

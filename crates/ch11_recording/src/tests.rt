@@ -56,9 +56,11 @@ fn packets_stand_as_they_close(rt: HostRuntime) -> Result<(), Fail> {
     assert_eq!(rt; nowhere, false);
     let kept = recorder.keep(0, 5, &received(2720));
     assert!(rt; kept);
+    assert_eq!(rt; recorder.packets(), 1);
     let ended = recorder.end(0);
     assert!(rt; ended);
     assert_eq!(rt; recorder.finish(), Ok(()));
+    assert_eq!(rt; recorder.packets(), 2);
     let sink = recorder.into_sink();
     let file = sink.bytes();
     assert_eq!(rt; file.len(), 136);
@@ -82,6 +84,7 @@ fn a_prologue_stands_first(rt: HostRuntime) -> Result<(), Fail> {
     let ended = recorder.end(0);
     assert!(rt; ended);
     assert_eq!(rt; recorder.finish(), Ok(()));
+    assert_eq!(rt; recorder.packets(), 0);
     let sink = recorder.into_sink();
     assert_eq!(rt; sink.bytes(), [7u8, 8, 9].as_slice());
     Ok(())
@@ -101,8 +104,26 @@ fn a_failing_sink_keeps_what_it_took(rt: HostRuntime) -> Result<(), Fail> {
         let last = recorder.finish();
         let fault = Err(WriteFault { taken: k as u64 });
         assert_eq!(rt; last, if k < 48 { fault } else { Ok(()) });
+        assert_eq!(rt; recorder.packets(), if k < 48 { 0 } else { 1 });
         let sink = recorder.into_sink();
         assert_eq!(rt; sink.bytes().len(), k);
+    }
+    Ok(())
+}
+
+#[test]
+fn a_prologue_is_no_packet_of_the_count(rt: HostRuntime) -> Result<(), Fail> {
+    for k in 0..52usize {
+        let sink = FuseSink::make(rt.alloc(), k);
+        let mut recorder = Recorder::make(rt.alloc(), 6, 4096, &[1], sink)
+            .ok()
+            .ok_or("memory")?;
+        recorder.prologue(&[7, 8, 9]);
+        let kept = recorder.keep(0, 1, &received(0));
+        assert!(rt; kept);
+        let ended = recorder.end(0);
+        assert!(rt; ended);
+        assert_eq!(rt; recorder.packets(), if k < 51 { 0 } else { 1 });
     }
     Ok(())
 }

@@ -3,8 +3,8 @@ use Rattle.std.specs.Prelude.{true, false}
 use Rattle.job_file.specs.Jobs.{job_in}
 use Rattle.job_file.specs.Meaning.{records}
 use Rattle.ch11_builder.specs.Recorded.{IsRecorded}
-use Rattle.ch11_recording.specs.Items.{numbered, to_the_end}
-use Rattle.bench_channel.specs.Channel.{format_of, numbers_from}
+use Rattle.ch11_recording.specs.Items.{numbered, numbered_from, to_the_end}
+use Rattle.bench_channel.specs.Channel.{format_of}
 use Rattle.bench_channel.proofs.Stages.{Stage, next_stage, last_stage, lane_now, one_lane, is_next, holding, rises, read_again, took_all, took_part, rose_at_end}
 use Rattle.bench_channel.proofs.recording.record_all.Goals as goal
 
@@ -45,7 +45,7 @@ returns-in-Ok-clause-file g c =
     let whole : n ≡ length (records job placed) = c.in_default.ensures.all job placed c.program-sound.ensures.sound c.loop-record.invariant.of in
     let goes = c.end.ensures.goes_on (c.end.ensures.when (one_lane taken failures job placed c.args.version c.args.limit before n c.loop-record.recorder st)) in
     let last = last_stage taken failures job placed c.args.version c.args.limit before n c.loop-record.recorder c.end.new.self st whole goes in
-    let done = c.finish.ensures.same (format_of c.args.version c.args.limit) [] (taken before) (job.channel ∷ []) (to_the_end job.channel (numbers_from 1 (records job placed))) last in
+    let done = c.finish.ensures.same (format_of c.args.version c.args.limit) [] (taken before) (job.channel ∷ []) (to_the_end job.channel (numbered_from 1 (records job placed))) last in
     rw c.into_sink.ensures (took_all taken _ (taken before) c.finish.new.self.writing done.written (c.in-Ok.ensures.ok.0 refl))
 
 pub returns-in-Ok-clause-read : goal.returns-in-Ok-clause-read
@@ -69,7 +69,7 @@ returns-clause-refused g c =
     let whole : n ≡ length (records job placed) = c.in_default.ensures.all job placed c.program-sound.ensures.sound c.loop-record.invariant.of in
     let goes = c.end.ensures.goes_on (c.end.ensures.when (one_lane taken failures job placed c.args.version c.args.limit before n c.loop-record.recorder st)) in
     let last = last_stage taken failures job placed c.args.version c.args.limit before n c.loop-record.recorder c.end.new.self st whole goes in
-    let done = c.finish.ensures.same (format_of c.args.version c.args.limit) [] (taken before) (job.channel ∷ []) (to_the_end job.channel (numbers_from 1 (records job placed))) last in
+    let done = c.finish.ensures.same (format_of c.args.version c.args.limit) [] (taken before) (job.channel ∷ []) (to_the_end job.channel (numbered_from 1 (records job placed))) last in
     let up = rises taken failures job placed c.args.version c.args.limit before c.loop-record.recorder.writing.failed c.end.new.self.writing.failed _ _ c.end.ensures.failures st.rose st.kept in
     let rose = rose_at_end (failures before) _ _ c.end.new.self.writing.failed false c.in-Err.ensures.failures refl up.0 up.1 in (
       subst (λ s. failures before < failures s) (sym c.into_sink-in-Err.ensures) rose,
