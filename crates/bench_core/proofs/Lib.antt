@@ -1,3 +1,12 @@
 pub mod Lists
 pub mod Steps
 pub mod Reading
+pub mod Ordered
+pub mod Sorting
+pub mod Judged
+pub mod Tidy
+pub mod Coming
+pub mod Offers
+pub mod Worlds
+pub mod Fields
+pub mod Beginning

@@ -1,15 +1,15 @@
 -- Lists of records and numbers.
-use Rattle.std.proofs.Common.{◌≡◌, ◌≢◌, ℕ, zero, suc, ◌+◌, ◌<◌, ◌≤◌, Bool, true, false, not, ◌||◌, cond, eqb, List, [], ◌∷◌, ◌++◌, length, map, take, slice_get, Option, Some, None, refl, sym, ap, ◌∙◌, append_assoc, arith, subst}
+use Rattle.std.proofs.Common.{◌≡◌, ◌≢◌, ℕ, zero, suc, ◌+◌, ◌<◌, ◌≤◌, Bool, true, false, not, ◌||◌, cond, eqb, List, [], ◌∷◌, ◌++◌, take, slice_get, Some, refl, sym, ap, ◌∙◌, append_assoc, arith, subst}
 use Rattle.std.specs.List.{AllByRecursion, filter, list_any}
 use Rattle.std.proofs.lemmas.List.{append-nil}
 use Rattle.std.proofs.lemmas.List.Elements.{filter-append}
 use Rattle.std.proofs.lemmas.List.Folds.{list_any-append}
-use Rattle.std.proofs.lemmas.Bool.{eqb-true, eq-eqb, ne_eqb}
+use Rattle.std.proofs.lemmas.Bool.{eq-eqb, ne_eqb}
 use Rattle.mil_monitor.specs.declared.Record.{Record}
 use Rattle.ch11_builder.specs.Packet.{Numbered}
 use Rattle.ch11_recording.specs.declared.item.Item.{Item}
-use Rattle.ch11_recording.specs.Items.{channel_of, record_in, records_in, numbered}
-use Rattle.bench_core.specs.Settled.{numbered_from, is_kept}
+use Rattle.ch11_recording.specs.Items.{channel_of, record_in, records_in, numbered, numbered_from}
+use Rattle.bench_core.specs.Settled.{is_kept}
 
 -- ---- records of a channel
 
@@ -44,19 +44,19 @@ numbered_more number zero (x ∷ rs) r at =
     ap (λ (y : Record). numbered number y ∷ []) same ∙ ap (λ (k : ℕ). numbered k r ∷ []) none
 numbered_more number (suc made) (x ∷ rs) r at =
     let longer : suc made + 1 ≡ suc (made + 1) = omega arith in
-    let place : number + 1 + made ≡ number + suc made = omega arith in
+    let place : suc number + made ≡ number + suc made = omega arith in
     ap (λ (k : ℕ). numbered_from number (take k (x ∷ rs))) longer
-    ∙ ap (λ (ns : List Numbered). numbered number x ∷ ns) (numbered_more (number + 1) made rs r at)
-    ∙ ap (λ (k : ℕ). numbered number x ∷ (numbered_from (number + 1) (take made rs) ++ numbered k r ∷ [])) place
+    ∙ ap (λ (ns : List Numbered). numbered number x ∷ ns) (numbered_more (suc number) made rs r at)
+    ∙ ap (λ (k : ℕ). numbered number x ∷ (numbered_from (suc number) (take made rs) ++ numbered k r ∷ [])) place
 
 -- their numbers are below the next one
 all_below : (number made : ℕ) (rs : List Record) → AllByRecursion (λ (n : Numbered). n.number < number + made) (numbered_from number (take made rs))
 all_below number zero rs = tt
 all_below number (suc made) [] = tt
 all_below number (suc made) (r ∷ rs) =
-    let later = all_below (number + 1) made rs in
-    let place : number + 1 + made ≡ number + suc made = omega arith in
-    (omega arith, subst (λ (k : ℕ). AllByRecursion (λ (n : Numbered). n.number < k) (numbered_from (number + 1) (take made rs))) place later)
+    let later = all_below (suc number) made rs in
+    let place : suc number + made ≡ number + suc made = omega arith in
+    (omega arith, subst (λ (k : ℕ). AllByRecursion (λ (n : Numbered). n.number < k) (numbered_from (suc number) (take made rs))) place later)
 
 -- ---- refused numbers
 

@@ -11,7 +11,7 @@ use Rattle.ch11_recording.specs.Items.{records_in}
 use Rattle.ch11_recording.specs.WrittenFile.{Format, held_in, closed_records}
 use Rattle.ch11_recording.specs.Laws.{IsFormat, IsPrologue, IsItem, RecordingIsRead, RecordsAreKept}
 use Rattle.bench_core.specs.Bench.{Lane, Bench}
-use Rattle.bench_core.specs.Settled.{kept_of, IsSettled, ReadsBack}
+use Rattle.bench_core.specs.Settled.{kept_of, HasRecorded, ReadsBack}
 use Rattle.bench_core.proofs.Lists.{records_both}
 use Rattle.bench_core.proofs.Steps.{IsLane, IsBench}
 
@@ -48,7 +48,7 @@ module _ (read : RecordingIsRead) (kept : RecordsAreKept) (f : Format) where
   lanes_read b [] ps is all = tt
   lanes_read b (l ∷ lanes) ps is all = (lane_read b l ps (is l.channel) all.0, lanes_read b lanes ps is all.1)
 
-  pub reads_back : (prologue : List ℕ) (b : Bench) → IsFormat f → IsPrologue prologue → IsBench b → ReadsBack f prologue b
-  reads_back prologue b good first is =
-      let r = read f prologue b.taken good first (front_of b.taken b.queue is.items) in
+  pub reads_back : (prologue : List ℕ) (b : Bench) → IsFormat f → IsPrologue prologue → IsBench b → AllByRecursion HasRecorded b.lanes → ReadsBack f prologue b
+  reads_back prologue b good first is recorded =
+      let r = read f prologue b.taken good first (front_of b.taken b.queue (is.items recorded)) in
       (r.0, r.1, lanes_read b b.lanes r.0 r.2 is.lanes)

@@ -1,5 +1,5 @@
 -- What holds of a bench stays with each step.
-use Rattle.std.proofs.Common.{◌≡◌, ◌≢◌, ℕ, zero, suc, ◌+◌, ◌<◌, ◌≤◌, ◌^◌, Bool, true, false, not, ◌||◌, cond, ltb, List, [], ◌∷◌, ◌++◌, length, map, take, slice_get, slice_set, Option, Some, None, refl, sym, ap, ◌∙◌, append_assoc, arith, subst}
+use Rattle.std.proofs.Common.{◌≡◌, ◌≢◌, ℕ, zero, suc, ◌+◌, ◌<◌, ◌^◌, Bool, true, false, not, ◌||◌, cond, List, [], ◌∷◌, ◌++◌, map, take, slice_get, slice_set, Option, Some, None, refl, sym, ap, ◌∙◌, append_assoc, arith, subst}
 use Rattle.std.specs.List.{AllByRecursion}
 use Rattle.std.proofs.lemmas.List.{append-nil}
 use Rattle.mil_monitor.specs.declared.Record.{Record}
@@ -12,14 +12,13 @@ use Rattle.ch11_recording.specs.Recording.{AreDistinct}
 use Rattle.ch11_recording.specs.Laws.{IsItem}
 use Rattle.bench_core.specs.declared.step.Step.{Step}
 use Rattle.bench_core.specs.declared.step.Step.TheVariants.{Offer, Take}
-use Rattle.bench_core.specs.Bench.{Lane, Bench, begun, has_room, with_message, with_end, message_of, message_offered, end_offered, next_offered, lane_offers, offered, taken_from, stepped, after_steps}
-use Rattle.bench_core.specs.Settled.{kept_of, IsFresh}
+use Rattle.bench_core.specs.Bench.{Lane, Bench, begun, has_room, with_message, with_end, message_of, next_offered, lane_offers, taken_from, stepped, after_steps}
+use Rattle.bench_core.specs.Settled.{kept_of, IsFresh, HasRecorded}
 use Rattle.bench_core.proofs.Lists.{own_more, other_more, NoneAbove, none_above_more, none_above_next, kept_more, kept_same}
 
 -- a channel, where these are its items so far
 pub record IsLane (items : List Item) (l : Lane) : Type 0 where
   pub channel : l.channel < 2 ^ 16
-  pub records : AllByRecursion (λ r. IsRecorded (numbered 0 r)) l.records
   pub low : NoneAbove l.made l.refused
   pub settled : records_in l.channel items ≡ kept_of l
 
@@ -29,11 +28,11 @@ channels_in lanes = map (λ (l : Lane). l.channel) lanes
 pub record IsBench (b : Bench) : Type 0 where
   pub distinct : AreDistinct (channels_in b.lanes)
   pub lanes : AllByRecursion (IsLane (b.taken ++ b.queue)) b.lanes
-  pub items : AllByRecursion IsItem (b.taken ++ b.queue)
+  pub items : AllByRecursion HasRecorded b.lanes → AllByRecursion IsItem (b.taken ++ b.queue)
 
 -- ---- one channel changes
 
-others_of : (c d : ℕ) (channels : List ℕ) → c ≡ d → AllByRecursion (λ other. other ≢ c) channels → AllByRecursion (λ other. other ≢ d) channels
+pub others_of : (c d : ℕ) (channels : List ℕ) → c ≡ d → AllByRecursion (λ other. other ≢ c) channels → AllByRecursion (λ other. other ≢ d) channels
 others_of c d channels same all = subst (λ (k : ℕ). AllByRecursion (λ other. other ≢ k) channels) same all
 
 all_others : (P Q : Lane → Type 0) (l : Lane) (lanes : List Lane) → AllByRecursion (λ other. other ≢ l.channel) (channels_in lanes)
@@ -41,7 +40,7 @@ all_others : (P Q : Lane → Type 0) (l : Lane) (lanes : List Lane) → AllByRec
 all_others P Q l [] others step all = tt
 all_others P Q l (k ∷ lanes) others step all = (step k others.0 all.0, all_others P Q l lanes others.1 step all.1)
 
-stands_apart : (c i : ℕ) (l : Lane) (lanes : List Lane) → AllByRecursion (λ other. other ≢ c) (channels_in lanes) → slice_get lanes i ≡ Some l → l.channel ≢ c
+pub stands_apart : (c i : ℕ) (l : Lane) (lanes : List Lane) → AllByRecursion (λ other. other ≢ c) (channels_in lanes) → slice_get lanes i ≡ Some l → l.channel ≢ c
 stands_apart c i l [] others at = absurd cc
 stands_apart c zero l (k ∷ lanes) others at = let same : k ≡ l = cc in subst (λ (x : Lane). x.channel ≢ c) same others.0
 stands_apart c (suc i) l (k ∷ lanes) others at = stands_apart c i l lanes others.1 at
@@ -56,7 +55,7 @@ all_set P Q (k ∷ lanes) (suc i) l new distinct at step all q =
     let apart : l.channel ≢ k.channel = stands_apart k.channel i l lanes distinct.0 at in
     (step k (λ (e : k.channel ≡ l.channel). apart (sym e)) all.0, all_set P Q lanes i l new distinct.1 at step all.1 q)
 
-channels_set : (lanes : List Lane) (i : ℕ) (l new : Lane) → slice_get lanes i ≡ Some l → new.channel ≡ l.channel → channels_in (slice_set lanes i new) ≡ channels_in lanes
+pub channels_set : (lanes : List Lane) (i : ℕ) (l new : Lane) → slice_get lanes i ≡ Some l → new.channel ≡ l.channel → channels_in (slice_set lanes i new) ≡ channels_in lanes
 channels_set [] i l new at same = absurd cc
 channels_set (k ∷ lanes) zero l new at same = let here : l ≡ k = cc in ap (λ (c : ℕ). c ∷ channels_in lanes) (same ∙ ap (λ (x : Lane). x.channel) here)
 channels_set (k ∷ lanes) (suc i) l new at same = ap (λ (cs : List ℕ). k.channel ∷ cs) (channels_set lanes i l new at same)
@@ -66,10 +65,29 @@ one_of P [] i l at all = absurd cc
 one_of P (k ∷ lanes) zero l at all = let same : k ≡ l = cc in subst P same all.0
 one_of P (k ∷ lanes) (suc i) l at all = one_of P lanes i l at all.1
 
-record_of : (rs : List Record) (i : ℕ) (r : Record) → slice_get rs i ≡ Some r → AllByRecursion (λ r. IsRecorded (numbered 0 r)) rs → IsRecorded (numbered 0 r)
-record_of [] i r at all = absurd cc
-record_of (x ∷ rs) zero r at all = let same : x ≡ r = cc in subst (λ (y : Record). IsRecorded (numbered 0 y)) same all.0
-record_of (x ∷ rs) (suc i) r at all = record_of rs i r at all.1
+-- what holds once one of them has changed, held before where it did of that one
+all_before : (P : Lane → Type 0) (lanes : List Lane) (i : ℕ) (l new : Lane) → slice_get lanes i ≡ Some l → (P new → P l) → AllByRecursion P (slice_set lanes i new) → AllByRecursion P lanes
+all_before P [] i l new at back all = tt
+all_before P (k ∷ lanes) zero l new at back all = let same : l ≡ k = cc in (subst P same (back all.0), all.1)
+all_before P (k ∷ lanes) (suc i) l new at back all = (all.0, all_before P lanes i l new at back all.1)
+
+the_new : (P : Lane → Type 0) (lanes : List Lane) (i : ℕ) (l new : Lane) → slice_get lanes i ≡ Some l → AllByRecursion P (slice_set lanes i new) → P new
+the_new P [] i l new at all = absurd cc
+the_new P (k ∷ lanes) zero l new at all = all.0
+the_new P (k ∷ lanes) (suc i) l new at all = the_new P lanes i l new at all.1
+
+abbrev AllRecorded : List Record → Type 0
+AllRecorded rs = AllByRecursion (λ r. IsRecorded (numbered 0 r)) rs
+
+-- the records before the last one, and that one
+last_apart : (rs : List Record) (made : ℕ) (r : Record) → slice_get rs made ≡ Some r → AllRecorded (take (made + 1) rs) → AllRecorded (take made rs) × IsRecorded (numbered 0 r)
+last_apart [] made r at all = absurd cc
+last_apart (x ∷ rs) zero r at all = let same : x ≡ r = cc in (tt, subst (λ (y : Record). IsRecorded (numbered 0 y)) same all.0)
+last_apart (x ∷ rs) (suc made) r at all =
+    let longer : suc made + 1 ≡ suc (made + 1) = omega arith in
+    let whole : AllRecorded (take (suc (made + 1)) (x ∷ rs)) = subst (λ (k : ℕ). AllRecorded (take k (x ∷ rs))) longer all in
+    let later = last_apart rs made r at whole.1 in
+    ((whole.0, later.0), later.1)
 
 any_number : (k n : ℕ) (r : Record) → IsRecorded (numbered k r) → IsRecorded (numbered n r)
 any_number k n r is = record { stamp = is.stamp; block = is.block; gaps = is.gaps; words = is.words }
@@ -82,12 +100,11 @@ all_more (y ∷ items) x all last = (all.0, all_more items x all.1 last)
 
 -- another channel
 lane_apart : (items : List Item) (x : Item) (k : Lane) → channel_of x ≢ k.channel → IsLane items k → IsLane (items ++ x ∷ []) k
-lane_apart items x k apart is = record { channel = is.channel; records = is.records; low = is.low; settled = other_more k.channel items x apart ∙ is.settled }
+lane_apart items x k apart is = record { channel = is.channel; low = is.low; settled = other_more k.channel items x apart ∙ is.settled }
 
 lane_kept : (items : List Item) (l : Lane) (r : Record) → slice_get l.records l.made ≡ Some r → IsLane items l → IsLane (items ++ message_of l r ∷ []) (with_message l true)
 lane_kept items l r at is = record {
   channel = is.channel;
-  records = is.records;
   low = none_above_more l.made l.refused is.low;
   settled = own_more l.channel items (message_of l r) refl ∙ ap (λ (ns : List Numbered). ns ++ numbered (l.made + 1) r ∷ []) is.settled ∙ sym (kept_more l.refused l.made l.records r is.low at);
 }
@@ -95,7 +112,6 @@ lane_kept items l r at is = record {
 lane_refused : (items : List Item) (l : Lane) (r : Record) → slice_get l.records l.made ≡ Some r → IsLane items l → IsLane items (with_message l false)
 lane_refused items l r at is = record {
   channel = is.channel;
-  records = is.records;
   low = none_above_next l.made l.refused is.low;
   settled = is.settled ∙ sym (kept_same l.refused l.made l.records r is.low at);
 }
@@ -103,7 +119,6 @@ lane_refused items l r at is = record {
 lane_ended : (items : List Item) (l : Lane) → IsLane items l → IsLane (items ++ item.End l.channel ∷ []) (with_end l)
 lane_ended items l is = record {
   channel = is.channel;
-  records = is.records;
   low = is.low;
   settled = own_more l.channel items (item.End l.channel) refl ∙ append-nil (records_in l.channel items) ∙ is.settled;
 }
@@ -114,11 +129,11 @@ lane_ended items l is = record {
 behind : (b : Bench) (x : Item) → (b.taken ++ b.queue) ++ x ∷ [] ≡ b.taken ++ (b.queue ++ x ∷ [])
 behind b x = append_assoc b.taken b.queue (x ∷ [])
 
-abbrev with_lane : Bench → ℕ → Lane → List Item → Bench
+abbrev pub with_lane : Bench → ℕ → Lane → List Item → Bench
 with_lane b i new queue = record { lanes = slice_set b.lanes i new; capacity = b.capacity; queue = queue; taken = b.taken }
 
 -- a channel puts an item into the queue
-lane_queues : (b : Bench) (i : ℕ) (l new : Lane) (x : Item) → slice_get b.lanes i ≡ Some l → new.channel ≡ l.channel → channel_of x ≡ l.channel → IsItem x
+lane_queues : (b : Bench) (i : ℕ) (l new : Lane) (x : Item) → slice_get b.lanes i ≡ Some l → new.channel ≡ l.channel → channel_of x ≡ l.channel → (HasRecorded new → HasRecorded l × IsItem x)
     → (IsLane (b.taken ++ b.queue) l → IsLane ((b.taken ++ b.queue) ++ x ∷ []) new) → IsBench b → IsBench (with_lane b i new (b.queue ++ x ∷ []))
 lane_queues b i l new x at same of good step is = record {
   distinct = subst AreDistinct (sym (channels_set b.lanes i l new at same)) is.distinct;
@@ -127,34 +142,37 @@ lane_queues b i l new x at same of good step is = record {
       subst (λ (ys : List Item). AllByRecursion (IsLane ys) (slice_set b.lanes i new)) (behind b x)
       (all_set (IsLane xs) (IsLane (xs ++ x ∷ [])) b.lanes i l new is.distinct at
       (λ k other lane. lane_apart xs x k (λ e. other (sym e ∙ of)) lane) is.lanes (step (one_of (IsLane xs) b.lanes i l at is.lanes)));
-  items = subst (AllByRecursion IsItem) (behind b x) (all_more (b.taken ++ b.queue) x is.items good);
+  items = λ recorded.
+      subst (AllByRecursion IsItem) (behind b x)
+      (all_more (b.taken ++ b.queue) x (is.items (all_before HasRecorded b.lanes i l new at (λ h. (good h).0) recorded)) (good (the_new HasRecorded b.lanes i l new at recorded)).1);
 }
 
 -- a channel's message is refused
-lane_drops : (b : Bench) (i : ℕ) (l new : Lane) → slice_get b.lanes i ≡ Some l → new.channel ≡ l.channel
+lane_drops : (b : Bench) (i : ℕ) (l new : Lane) → slice_get b.lanes i ≡ Some l → new.channel ≡ l.channel → (HasRecorded new → HasRecorded l)
     → (IsLane (b.taken ++ b.queue) l → IsLane (b.taken ++ b.queue) new) → IsBench b → IsBench (with_lane b i new b.queue)
-lane_drops b i l new at same step is = record {
+lane_drops b i l new at same back step is = record {
   distinct = subst AreDistinct (sym (channels_set b.lanes i l new at same)) is.distinct;
   lanes =
       let P : Lane → Type 0 = IsLane (b.taken ++ b.queue) in
       all_set P P b.lanes i l new is.distinct at (λ k other lane. lane) is.lanes (step (one_of P b.lanes i l at is.lanes));
-  items = is.items;
+  items = λ recorded. is.items (all_before HasRecorded b.lanes i l new at back recorded);
 }
 
 after_message : (b : Bench) (i : ℕ) (l : Lane) (r : Record) (room : Bool) → slice_get b.lanes i ≡ Some l → slice_get l.records l.made ≡ Some r → IsBench b
     → IsBench (with_lane b i (with_message l room) (cond room (b.queue ++ message_of l r ∷ []) b.queue))
 after_message b i l r true at next is =
     let lane : IsLane (b.taken ++ b.queue) l = one_of (IsLane (b.taken ++ b.queue)) b.lanes i l at is.lanes in
-    lane_queues b i l (with_message l true) (message_of l r) at refl refl (lane.channel, (any_number 0 (l.made + 1) r (record_of l.records l.made r next lane.records), tt))
+    lane_queues b i l (with_message l true) (message_of l r) at refl refl
+    (λ recorded. (let parts = last_apart l.records l.made r next recorded in (parts.0, (lane.channel, (any_number 0 (l.made + 1) r parts.1, tt)))))
     (lane_kept (b.taken ++ b.queue) l r next) is
-after_message b i l r false at next is = lane_drops b i l (with_message l false) at refl (lane_refused (b.taken ++ b.queue) l r next) is
+after_message b i l r false at next is = lane_drops b i l (with_message l false) at refl (λ recorded. (last_apart l.records l.made r next recorded).0) (lane_refused (b.taken ++ b.queue) l r next) is
 
 after_end : (b : Bench) (i : ℕ) (l : Lane) (stays : Bool) → slice_get b.lanes i ≡ Some l → IsBench b
     → IsBench (cond stays b (with_lane b i (with_end l) (b.queue ++ item.End l.channel ∷ [])))
 after_end b i l true at is = is
 after_end b i l false at is =
     let lane : IsLane (b.taken ++ b.queue) l = one_of (IsLane (b.taken ++ b.queue)) b.lanes i l at is.lanes in
-    lane_queues b i l (with_end l) (item.End l.channel) at refl refl (lane.channel, tt) (lane_ended (b.taken ++ b.queue) l) is
+    lane_queues b i l (with_end l) (item.End l.channel) at refl refl (λ recorded. (recorded, (lane.channel, tt))) (lane_ended (b.taken ++ b.queue) l) is
 
 after_next : (b : Bench) (i : ℕ) (l : Lane) (next : Option Record) → slice_get b.lanes i ≡ Some l → slice_get l.records l.made ≡ next → IsBench b → IsBench (next_offered i l next b)
 after_next b i l (Some r) at next is = after_message b i l r (has_room b) at next is
@@ -171,7 +189,7 @@ after_take b (x ∷ queue) at is =
     record {
       distinct = is.distinct;
       lanes = subst (λ (xs : List Item). AllByRecursion (IsLane xs) b.lanes) same is.lanes;
-      items = subst (AllByRecursion IsItem) same is.items;
+      items = λ recorded. subst (AllByRecursion IsItem) same (is.items recorded);
     }
 
 after_step : (b : Bench) (s : Step) → IsBench b → IsBench (stepped s b)
@@ -188,7 +206,6 @@ after_all b (s ∷ ss) is = after_all (stepped s b) ss (after_step b s is)
 fresh_lane : (l : Lane) → IsFresh l → IsLane [] l
 fresh_lane l is = record {
   channel = is.channel;
-  records = is.records;
   low = subst (NoneAbove l.made) (sym is.refused) tt;
   settled = rw is.made refl;
 }
@@ -198,4 +215,4 @@ fresh_lanes [] all = tt
 fresh_lanes (l ∷ lanes) all = (fresh_lane l all.0, fresh_lanes lanes all.1)
 
 pub at_first : (capacity : ℕ) (lanes : List Lane) → AllByRecursion IsFresh lanes → AreDistinct (channels_in lanes) → IsBench (begun capacity lanes)
-at_first capacity lanes all distinct = record { distinct = distinct; lanes = fresh_lanes lanes all; items = tt }
+at_first capacity lanes all distinct = record { distinct = distinct; lanes = fresh_lanes lanes all; items = λ recorded. tt }

@@ -1,6 +1,6 @@
 -- What is settled after each step: for each channel, what the file gives, what is written to no packet yet, and what stands in the
 -- queue are together the messages made so far, in order and once, but for the refused.
-use Rattle.std.specs.Prelude.{◌≡◌, ℕ, ◌+◌, ◌<◌, ◌==◌, ◌^◌, Bool, not, List, [], ◌∷◌, ◌++◌, map, take, length, Ok}
+use Rattle.std.specs.Prelude.{◌≡◌, ℕ, ◌<◌, ◌==◌, ◌^◌, Bool, not, List, [], ◌++◌, map, take, Ok}
 use Rattle.std.specs.List.{AllByRecursion, filter, list_any}
 use Rattle.mil_monitor.specs.declared.Record.{Record}
 use Rattle.ch11_f1.specs.Again.{as_message}
@@ -8,25 +8,24 @@ use Rattle.ch11_builder.specs.Packet.{Numbered, messages_of}
 use Rattle.ch11_builder.specs.Recorded.{IsRecorded}
 use Rattle.ch11_reader.specs.Recording.{Found, packets_in}
 use Rattle.ch11_reader.specs.Contents.{reading}
-use Rattle.ch11_recording.specs.Items.{records_in, numbered}
-use Rattle.ch11_recording.specs.WrittenFile.{Format, held_in, written_file, closed_records}
+use Rattle.ch11_recording.specs.Items.{records_in, numbered, numbered_from}
+use Rattle.ch11_recording.specs.WrittenFile.{Format, held_in, written_file}
 use Rattle.ch11_recording.specs.Recording.{AreDistinct}
 use Rattle.ch11_recording.specs.Laws.{IsFormat, IsPrologue}
 use Rattle.bench_core.specs.declared.step.Step.{Step}
 use Rattle.bench_core.specs.Bench.{Lane, Bench, begun, after_steps}
 
--- records with their numbers, from one on
-abbrev pub numbered_from : ℕ → List Record → List Numbered
-numbered_from number [] = []
-numbered_from number (r ∷ rs) = numbered number r ∷ numbered_from (number + 1) rs
-
 -- the number is none of these
 abbrev pub is_kept : List ℕ → Numbered → Bool
 is_kept refused n = not (list_any (λ number. number == n.number) refused)
 
+-- records, numbered from 1, but for the refused
+abbrev pub kept : List ℕ → List Record → List Numbered
+kept refused rs = filter (is_kept refused) (numbered_from 1 rs)
+
 -- the messages that a channel has made, but for the refused
 abbrev pub kept_of : Lane → List Numbered
-kept_of l = filter (is_kept l.refused) (numbered_from 1 (take l.made l.records))
+kept_of l = kept l.refused (take l.made l.records)
 
 -- nothing is lost that is not listed, and nothing is doubled or out of order
 abbrev pub IsSettled : Bench → Lane → Type 0
@@ -40,12 +39,15 @@ ReadsBack f prologue b =
     × AllByRecursion (λ l. reading ps l.channel ++ map as_message (messages_of ((held_in f l.channel b.taken).records ++ records_in l.channel b.queue))
     ≡ map as_message (messages_of (kept_of l))) b.lanes
 
--- a channel at the beginning: nothing was made, and its records are those of a bus monitor
+-- a channel at the beginning: nothing was made
 pub record IsFresh (l : Lane) : Type 0 where
   pub channel : l.channel < 2 ^ 16
   pub made : l.made ≡ 0
   pub refused : l.refused ≡ []
-  pub records : AllByRecursion (λ r. IsRecorded (numbered 0 r)) l.records
+
+-- the messages that a channel has made are those of a bus monitor
+abbrev pub HasRecorded : Lane → Type 0
+HasRecorded l = AllByRecursion (λ r. IsRecorded (numbered 0 r)) (take l.made l.records)
 
 -- After each list of steps, of a bench with any capacity.
 abbrev pub SettledAfterEachStep : Type 0
@@ -57,4 +59,5 @@ abbrev pub ReadsBackAfterEachStep : Type 0
 ReadsBackAfterEachStep =
     (lanes : List Lane) (capacity : ℕ) (steps : List Step) (f : Format) (prologue : List ℕ)
     → AllByRecursion IsFresh lanes → AreDistinct (map (λ l. l.channel) lanes) → IsFormat f → IsPrologue prologue
+    → AllByRecursion HasRecorded (after_steps steps (begun capacity lanes)).lanes
     → ReadsBack f prologue (after_steps steps (begun capacity lanes))

@@ -1,8 +1,29 @@
 //! The pure bench: every interleaving of buses and writer, one step at a time.
 #![tactic(auto)]
 
+mod fault;
+mod judging;
+mod lane;
 mod laws;
+mod parts;
+mod placing;
+mod play;
+mod settings;
 mod step;
+mod taken;
+#[cfg(test)]
+mod tests;
+mod world;
+mod writing;
 
+pub use bench_report::{
+    ChannelReport, Report, ReportError, ReportFault, print_report, read_report,
+};
+pub use fault::PlayError;
+pub use judging::judge;
 pub use laws::bench_is_settled;
+pub use parts::channel_report;
+pub use placing::ordered_actions;
+pub use settings::{Settings, WorldError};
 pub use step::Step;
+pub use world::World;

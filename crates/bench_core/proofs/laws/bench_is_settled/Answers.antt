@@ -11,7 +11,7 @@ returns-clause-settled c lanes capacity steps all distinct =
     settled_lanes (b.taken ++ b.queue) b.lanes is.lanes
 
 pub returns-clause-read : goal.returns-clause-read
-returns-clause-read c lanes capacity steps f prologue all distinct good first =
+returns-clause-read c lanes capacity steps f prologue all distinct good first recorded =
     let r = c.recording_is_read_again.ensures in
     reads_back r.read r.kept f prologue (after_steps steps (begun capacity lanes)) good first
-    (after_all (begun capacity lanes) steps (at_first capacity lanes all distinct))
+    (after_all (begun capacity lanes) steps (at_first capacity lanes all distinct)) recorded

@@ -1,0 +1,254 @@
+-- The fields of a world after a step.
+use Rattle.std.proofs.Common.{◌≡◌, ◌≢◌, ℕ, zero, suc, ◌+◌, ◌<◌, ◌≤◌, Bool, true, false, cond, ltb, List, [], ◌∷◌, ◌++◌, length, map, slice_get, slice_set, slice_index_or, Option, Some, None, refl, sym, ap, ◌∙◌, arith, subst}
+use Rattle.std.specs.Option.{option_to_list}
+use Rattle.std.specs.Prelude.{Result, Ok, Err, OnOk, OnErr}
+use Rattle.std.specs.List.{AllByRecursion}
+use Rattle.std.proofs.lemmas.List.{length-set, length-append}
+use Rattle.bc_machine.specs.declared.placed.Placed.{Placed}
+use Rattle.mil_monitor.specs.declared.Record.{Record}
+use Rattle.ch11_builder.specs.Held.{Held, packet_of}
+use Rattle.ch11_recording.specs.declared.item.Item.{Item}
+use Rattle.ch11_recording.specs.Items.{channel_of}
+use Rattle.ch11_recording.specs.Laws.{FileGoesOn, PacketsGoOn, LatestIsLast, IsItem}
+use Rattle.ch11_recording.specs.WrittenFile.{Format, held_in, met, closes, closing, written_file, closed_by, closed_packets}
+use Rattle.bench_core.specs.declared.step.Step.TheVariants.{Offer, Take}
+use Rattle.bench_core.specs.Bench.{Lane, Bench, has_room, with_end, offered, taken_from, stepped}
+use Rattle.bench_core.specs.Settled.{IsSettled}
+use Rattle.bench_core.specs.Writing.{MayCome}
+use Rattle.bench_core.specs.Channels.{Bus, after_next, queued_next, next_in, IsMade}
+use Rattle.bench_core.specs.World.{WorldState, with_bench, IsReached, IsKept, lanes_in}
+use Rattle.bench_core.proofs.Steps.{IsBench, channels_in, one_of}
+use Rattle.bench_core.proofs.Tidy.{Stands, IsTidy, packets_at_most}
+use Rattle.bench_core.proofs.Coming.{holds, held_set, may_come}
+use Rattle.bench_core.proofs.Offers.{map_set, map_at, map_kept, all_set_to, set_same, offer_made, offer_is}
+use Rattle.bench_core.proofs.Worlds.{all_recorded, reached_bench, reached_tidy, reached_more}
+
+abbrev pub state : Format → List ℕ → List Bus → ℕ → List Item → List Item → WorldState
+state f prologue buses capacity queue taken = record {
+  format = f;
+  prologue = prologue;
+  actions = map (λ (b : Bus). b.actions) buses;
+  bench = record { lanes = lanes_in buses; capacity = capacity; queue = queue; taken = taken };
+}
+
+-- ---- an offer
+
+pub offer_state : (f : Format) (prologue : List ℕ) (buses : List Bus) (capacity : ℕ) (queue taken : List Item) (i : ℕ) (old v : Bus) (more : List Item)
+    → slice_get buses i ≡ Some old → v.actions ≡ old.actions → v.lane ≡ after_next old.lane (next_in old.lane) (ltb (length queue) capacity)
+    → more ≡ queue ++ option_to_list (queued_next old.lane (next_in old.lane) (ltb (length queue) capacity))
+    → state f prologue (slice_set buses i v) capacity more taken
+    ≡ with_bench (state f prologue buses capacity queue taken) (offered i (state f prologue buses capacity queue taken).bench)
+offer_state f prologue buses capacity queue taken i old v more at same is queued =
+    let b : Bench = record { lanes = lanes_in buses; capacity = capacity; queue = queue; taken = taken } in
+    let new : Lane = after_next old.lane (next_in old.lane) (ltb (length queue) capacity) in
+    ap (λ (acts : List (List Placed)). record { format = f; prologue = prologue; actions = acts; bench = record { lanes = lanes_in (slice_set buses i v); capacity = capacity; queue = more; taken = taken } })
+    (map_kept (λ (x : Bus). x.actions) buses i old v at same)
+    ∙ ap (λ (ls : List Lane). record { format = f; prologue = prologue; actions = map (λ (x : Bus). x.actions) buses; bench = record { lanes = ls; capacity = capacity; queue = more; taken = taken } })
+    (map_set (λ (x : Bus). x.lane) buses i v ∙ ap (slice_set (lanes_in buses) i) is)
+    ∙ ap (λ (q : List Item). record { format = f; prologue = prologue; actions = map (λ (x : Bus). x.actions) buses; bench = record { lanes = slice_set (lanes_in buses) i new; capacity = capacity; queue = q; taken = taken } }) queued
+    ∙ ap (λ (c : Bench). record { format = f; prologue = prologue; actions = map (λ (x : Bus). x.actions) buses; bench = c }) (offer_is i b old.lane (map_at (λ (x : Bus). x.lane) buses i old at))
+
+next_channel : (l : Lane) (next : Option Record) (room : Bool) → (after_next l next room).channel ≡ l.channel
+next_channel l (Some r) room = refl
+next_channel l None room = go _
+  where
+    go : (b : Bool) → (cond b l (with_end l)).channel ≡ l.channel
+    go true = refl
+    go false = refl
+
+reached_offer : (b : Bench) (i : ℕ) → IsReached b → IsReached (offered i b)
+unfolding stepped
+reached_offer b i r = reached_more b (Offer i) r
+
+module _ (slots : ℕ) (builders : List Held) (bytes : List ℕ) (count : ℕ) where
+  pub offer_kept : (w : WorldState) (i : ℕ) (l : Lane) → slice_get w.bench.lanes i ≡ Some l → IsMade (after_next l (next_in l) (has_room w.bench))
+      → IsKept slots builders bytes count w → IsKept slots builders bytes count (with_bench w (offered i w.bench))
+  offer_kept w i l at made is =
+      let new : Lane = after_next l (next_in l) (has_room w.bench) in
+      let goes : offer_made i w.bench new (queued_next l (next_in l) (has_room w.bench)) ≡ offered i w.bench = offer_is i w.bench l at in
+      subst (λ (b : Bench). IsKept slots builders bytes count (with_bench w b)) goes (record {
+        reached = subst IsReached (sym goes) (reached_offer w.bench i is.reached);
+        made = all_set_to IsMade w.bench.lanes i new is.made made;
+        format = is.format;
+        prologue = is.prologue;
+        held = is.held ∙ sym (map_kept (λ (k : Lane). held_in w.format k.channel w.bench.taken) w.bench.lanes i l new at
+            (ap (λ (c : ℕ). held_in w.format c w.bench.taken) (next_channel l (next_in l) (has_room w.bench))));
+        file = is.file;
+        packets = is.packets;
+        few = omega (arith, length-set w.bench.lanes i new, is.few);
+        room = is.room;
+      })
+
+-- ---- a take
+
+one_closed : (h : Held) (x : Item) (b : Bool) → length (cond b (packet_of h ∷ []) []) ≡ cond b 1 0
+one_closed h x true = refl
+one_closed h x false = refl
+
+reached_take : (b : Bench) → IsReached b → IsReached (taken_from b.queue b)
+unfolding stepped
+reached_take b r = reached_more b Take r
+
+abbrev pub took : Bench → Item → List Item → Bench
+took b x behind = record { lanes = b.lanes; capacity = b.capacity; queue = behind; taken = b.taken ++ x ∷ [] }
+
+pub took_is : (b : Bench) (x : Item) (behind : List Item) → b.queue ≡ x ∷ behind → took b x behind ≡ taken_from b.queue b
+took_is b x behind at = ap (λ (q : List Item). taken_from q b) (sym at)
+
+module _ (goes : FileGoesOn) (more : PacketsGoOn) (latest : LatestIsLast) (slots : ℕ) (builders : List Held) (bytes : List ℕ) (count : ℕ) where
+  pub take_kept : (w : WorldState) (x : Item) (behind : List Item) (i : ℕ) (l : Lane) (h k : Held) → w.bench.queue ≡ x ∷ behind → slice_get w.bench.lanes i ≡ Some l → channel_of x ≡ l.channel
+      → h ≡ held_in w.format l.channel w.bench.taken → k ≡ met h x → IsKept slots builders bytes count w
+      → IsKept slots (slice_set builders i k) (bytes ++ closing h x) (count + cond (closes h x) 1 0) (with_bench w (took w.bench x behind))
+  take_kept w x behind i l h k at here of holding next is =
+      let f : Format = w.format in
+      let items : List Item = w.bench.taken in
+      let own : held_in f (channel_of x) items ≡ h = ap (λ (c : ℕ). held_in f c items) of ∙ sym holding in
+      record {
+        reached = subst IsReached (sym (took_is w.bench x behind at)) (reached_take w.bench is.reached);
+        made = is.made;
+        format = is.format;
+        prologue = is.prologue;
+        held = ap (λ (hs : List Held). slice_set hs i k) is.held
+            ∙ ap (slice_set (holds f items w.bench.lanes) i) (next ∙ ap (λ (y : Held). met y x) holding)
+            ∙ held_set f items x w.bench.lanes i l (reached_bench w.bench is.reached).distinct here of;
+        file = ap (λ (bs : List ℕ). bs ++ closing h x) is.file
+            ∙ ap (λ (y : Held). written_file f w.prologue items ++ closing y x) (sym own)
+            ∙ sym (goes f w.prologue items x);
+        packets =
+            let all : closed_packets f (items ++ x ∷ []) ≡ closed_packets f items ++ closed_by h x = more f items x ∙ ap (λ (y : Held). closed_packets f items ++ closed_by y x) own in
+            omega (arith, is.packets, ap (λ (ps : List (List ℕ)). length ps) all, length-append (closed_packets f items) (closed_by h x), one_closed h x (closes h x));
+        few = is.few;
+        room = is.room;
+      }
+
+  item_front : (xs ys : List Item) (x : Item) → AllByRecursion IsItem (xs ++ x ∷ ys) → IsItem x
+  item_front [] ys x all = all.0
+  item_front (y ∷ xs) ys x all = item_front xs ys x all.1
+
+  settled_of : (b : Bench) (l : Lane) (i : ℕ) → slice_get b.lanes i ≡ Some l → IsBench b → IsSettled b l
+  settled_of b l i at is = (one_of _ b.lanes i l at is.lanes).settled
+
+  pub take_may : (w : WorldState) (x : Item) (behind : List Item) (i : ℕ) (l : Lane) (h : Held) → w.bench.queue ≡ x ∷ behind → slice_get w.bench.lanes i ≡ Some l → channel_of x ≡ l.channel
+      → h ≡ held_in w.format l.channel w.bench.taken → IsKept slots builders bytes count w → MayCome h x
+  take_may w x behind i l h at here of holding is =
+      let bench : IsBench w.bench = reached_bench w.bench is.reached in
+      let items : AllByRecursion IsItem (w.bench.taken ++ x ∷ behind) = subst (λ (q : List Item). AllByRecursion IsItem (w.bench.taken ++ q)) at (bench.items (all_recorded w.bench.lanes is.made)) in
+      subst (λ (y : Held). MayCome y x) (sym holding)
+      (may_come latest w.format w.bench l x behind at of (settled_of w.bench l i here bench) (item_front w.bench.taken behind x items))
+
+-- ---- where a channel stands
+
+pub which : {X Y : Type 0} (g : X → Y) (xs : List X) (i : ℕ) (y : Y) → slice_get (map g xs) i ≡ Some y → (x : X) × (slice_get xs i ≡ Some x) × (y ≡ g x)
+which g [] i y at = absurd cc
+which g (x ∷ xs) zero y at = (x, refl, cc)
+which g (x ∷ xs) (suc i) y at = which g xs i y at
+
+pub got : {X : Type 0} (xs : List X) (i : ℕ) (x d : X) → slice_get xs i ≡ Some x → slice_index_or xs i d ≡ x
+got [] i x d at = absurd cc
+got (y ∷ xs) zero x d at = cc
+got (y ∷ xs) (suc i) x d at = got xs i x d at
+
+pub nowhere : (buses : List Bus) (c i : ℕ) → AllByRecursion (λ (b : Bus). b.lane.channel ≢ c) buses → slice_get (channels_in (lanes_in buses)) i ≡ Some c → ⊥
+nowhere [] c i all at = absurd cc
+nowhere (b ∷ buses) c zero all at = let same : b.lane.channel ≡ c = cc in all.0 same
+nowhere (b ∷ buses) c (suc i) all at = nowhere buses c i all.1 at
+
+pub never_nowhere : (w : WorldState) (buses : List Bus) (x : Item) (behind : List Item) → w.bench.lanes ≡ lanes_in buses → w.bench.queue ≡ x ∷ behind → IsReached w.bench
+    → AllByRecursion (λ (b : Bus). b.lane.channel ≢ channel_of x) buses → ⊥
+never_nowhere w buses x behind lanes at reached all =
+    let tidy : IsTidy w.bench = reached_tidy w.bench reached in
+    let known : AllByRecursion (λ y. Stands (channel_of y) (channels_in w.bench.lanes)) (x ∷ behind) = subst (AllByRecursion (λ y. Stands (channel_of y) (channels_in w.bench.lanes))) at tidy.known in
+    nowhere buses (channel_of x) known.0.0 all (ap (λ (ls : List Lane). slice_get (channels_in ls) known.0.0) (sym lanes) ∙ known.0.1)
+
+pub few_packets : (slots : ℕ) (builders : List Held) (bytes : List ℕ) (count : ℕ) (w : WorldState) → IsKept slots builders bytes count w → count ≤ 8000008
+few_packets slots builders bytes count w is =
+    let most = packets_at_most w.format w.bench (reached_tidy w.bench is.reached) is.made is.few in omega (arith, is.packets, most)
+
+-- ---- an offer that may fail
+
+module _ {U E : Type 0} (f : Format) (prologue : List ℕ) (buses : List Bus) (capacity : ℕ) (queue taken : List Item) (i : ℕ) (old v : Bus) (more : List Item) (at : slice_get buses i ≡ Some old)
+    (same : v.actions ≡ old.actions) where
+  pub offer_done : (r : Result U E) (now : WorldState) → state f prologue buses capacity queue taken ≡ now
+      → OnOk r (v.lane ≡ after_next old.lane (next_in old.lane) (ltb (length queue) capacity))
+      → OnOk r (more ≡ queue ++ option_to_list (queued_next old.lane (next_in old.lane) (ltb (length queue) capacity)))
+      → OnOk r (state f prologue (slice_set buses i v) capacity more taken ≡ with_bench now (offered i now.bench))
+  offer_done (Ok u) now view lane items =
+      offer_state f prologue buses capacity queue taken i old v more at same lane items ∙ ap (λ (w : WorldState). with_bench w (offered i w.bench)) view
+  offer_done (Err e) now view lane items = tt
+
+  pub offer_keeps : (r : Result U E) (slots : ℕ) (builders : List Held) (bytes : List ℕ) (count after : ℕ) → after ≡ slots
+      → OnOk r (v.lane ≡ after_next old.lane (next_in old.lane) (ltb (length queue) capacity))
+      → OnOk r (more ≡ queue ++ option_to_list (queued_next old.lane (next_in old.lane) (ltb (length queue) capacity)))
+      → OnOk r (IsMade v.lane) → OnErr r (v ≡ old) → OnErr r (more ≡ queue)
+      → IsKept slots builders bytes count (state f prologue buses capacity queue taken) → IsKept after builders bytes count (state f prologue (slice_set buses i v) capacity more taken)
+  offer_keeps (Ok u) slots builders bytes count after room lane items made one none is =
+      let w : WorldState = state f prologue buses capacity queue taken in
+      let l : slice_get w.bench.lanes i ≡ Some old.lane = map_at (λ (b : Bus). b.lane) buses i old at in
+      subst (λ (k : ℕ). IsKept k builders bytes count (state f prologue (slice_set buses i v) capacity more taken)) (sym room)
+      (subst (IsKept slots builders bytes count) (sym (offer_state f prologue buses capacity queue taken i old v more at same lane items))
+      (offer_kept slots builders bytes count w i old.lane l (subst IsMade lane made) is))
+  offer_keeps (Err e) slots builders bytes count after room lane items made one none is =
+      let buses_same : slice_set buses i v ≡ buses = ap (slice_set buses i) one ∙ set_same buses i old at in
+      subst (λ (k : ℕ). IsKept k builders bytes count (state f prologue (slice_set buses i v) capacity more taken)) (sym room)
+      (subst (λ (bs : List Bus). IsKept slots builders bytes count (state f prologue bs capacity more taken)) (sym buses_same)
+      (subst (λ (q : List Item). IsKept slots builders bytes count (state f prologue buses capacity q taken)) (sym none) is))
+
+-- ---- what stands in front is taken
+
+is_within : {X : Type 0} (xs : List X) (i : ℕ) (x : X) → slice_get xs i ≡ Some x → i < length xs
+is_within [] i x at = absurd cc
+is_within (y ∷ xs) zero x at = omega arith
+is_within (y ∷ xs) (suc i) x at = let rest = is_within xs i x at in omega (arith, rest)
+
+one_most : (b : Bool) → cond b 1 0 ≤ 1
+one_most true = omega arith
+one_most false = omega arith
+
+pub counts_one : (b : Bool) (n : ℕ) → n ≡ cond b 1 0 → n ≤ 1
+counts_one b n is = omega (arith, is, one_most b)
+
+pub front_done : (f : Format) (prologue : List ℕ) (buses : List Bus) (capacity : ℕ) (queue taken : List Item) (x : Item) (behind later all : List Item) (now : WorldState)
+    → queue ≡ x ∷ behind → state f prologue buses capacity queue taken ≡ now → later ≡ behind → all ≡ taken ++ x ∷ []
+    → state f prologue buses capacity later all ≡ with_bench now (taken_from now.bench.queue now.bench)
+front_done f prologue buses capacity queue taken x behind later all now at view rest more =
+    let b : Bench = record { lanes = lanes_in buses; capacity = capacity; queue = queue; taken = taken } in
+    ap (λ (q : List Item). state f prologue buses capacity q all) rest
+    ∙ ap (λ (xs : List Item). state f prologue buses capacity behind xs) more
+    ∙ ap (λ (c : Bench). record { format = f; prologue = prologue; actions = map (λ (y : Bus). y.actions) buses; bench = c }) (took_is b x behind at)
+    ∙ ap (λ (w : WorldState). with_bench w (taken_from w.bench.queue w.bench)) view
+
+module _ (slots : ℕ) (builders : List Held) (bytes : List ℕ) (count : ℕ) (f : Format) (prologue : List ℕ) (buses : List Bus) (capacity : ℕ) (queue taken : List Item) (x : Item) (behind : List Item) (i : ℕ)
+    (at : queue ≡ x ∷ behind) (is : IsKept slots builders bytes count (state f prologue buses capacity queue taken)) where
+  pub front_somewhere : AllByRecursion (λ (b : Bus). b.lane.channel ≢ channel_of x) buses → ⊥
+  front_somewhere none = never_nowhere (state f prologue buses capacity queue taken) buses x behind refl at is.reached none
+
+  module _ (placed : slice_get (map (λ (l : Lane). l.channel) (lanes_in buses)) i ≡ Some (channel_of x)) where
+    its_builder : (h d : Held) (l : Lane) → slice_get (lanes_in buses) i ≡ Some l → h ≡ slice_index_or builders i d → h ≡ held_in f l.channel taken
+    its_builder h d l here from =
+        from ∙ ap (λ (hs : List Held). slice_index_or hs i d) is.held
+        ∙ got (holds f taken (lanes_in buses)) i (held_in f l.channel taken) d (map_at (λ (k : Lane). held_in f k.channel taken) (lanes_in buses) i l here)
+
+    pub front_index : i < length builders
+    front_index =
+        let found = which (λ (l : Lane). l.channel) (lanes_in buses) i (channel_of x) placed in
+        subst (λ (hs : List Held). i < length hs) (sym is.held)
+        (is_within (holds f taken (lanes_in buses)) i (held_in f found.0.channel taken) (map_at (λ (k : Lane). held_in f k.channel taken) (lanes_in buses) i found.0 found.1))
+
+    pub front_may : FileGoesOn → PacketsGoOn → LatestIsLast → (h d : Held) → h ≡ slice_index_or builders i d → MayCome h x
+    front_may goes more latest h d from =
+        let found = which (λ (l : Lane). l.channel) (lanes_in buses) i (channel_of x) placed in
+        take_may goes more latest slots builders bytes count (state f prologue buses capacity queue taken) x behind i found.0 h at found.1 found.2 (its_builder h d found.0 found.1 from) is
+
+    pub front_kept : FileGoesOn → PacketsGoOn → LatestIsLast → (h d k : Held) (room : ℕ) (hs : List Held) (file : List ℕ) (packets : ℕ) (later all : List Item) → h ≡ slice_index_or builders i d → k ≡ met h x
+        → room ≡ slots → hs ≡ slice_set builders i k → file ≡ bytes ++ closing h x → packets ≡ count + cond (closes h x) 1 0 → later ≡ behind → all ≡ taken ++ x ∷ []
+        → IsKept room hs file packets (state f prologue buses capacity later all)
+    front_kept goes more latest h d k room hs file packets later all from next same_room set written counted rest items =
+        let found = which (λ (l : Lane). l.channel) (lanes_in buses) i (channel_of x) placed in
+        let kept : IsKept slots (slice_set builders i k) (bytes ++ closing h x) (count + cond (closes h x) 1 0) (state f prologue buses capacity behind (taken ++ x ∷ [])) =
+        take_kept goes more latest slots builders bytes count (state f prologue buses capacity queue taken) x behind i found.0 h k at found.1 found.2 (its_builder h d found.0 found.1 from) next is in
+        subst (λ (n : ℕ). IsKept n hs file packets (state f prologue buses capacity later all)) (sym same_room)
+        (subst (λ (ks : List Held). IsKept slots ks file packets (state f prologue buses capacity later all)) (sym set)
+        (subst (λ (bs : List ℕ). IsKept slots (slice_set builders i k) bs packets (state f prologue buses capacity later all)) (sym written)
+        (subst (λ (n : ℕ). IsKept slots (slice_set builders i k) (bytes ++ closing h x) n (state f prologue buses capacity later all)) (sym counted)
+        (subst (λ (q : List Item). IsKept slots (slice_set builders i k) (bytes ++ closing h x) (count + cond (closes h x) 1 0) (state f prologue buses capacity q all)) (sym rest)
+        (subst (λ (xs : List Item). IsKept slots (slice_set builders i k) (bytes ++ closing h x) (count + cond (closes h x) 1 0) (state f prologue buses capacity behind xs)) (sym items) kept)))))

@@ -1,0 +1,167 @@
+-- What a channel offers, and what that makes of the bench.
+use Rattle.std.proofs.Common.{◌≡◌, ℕ, zero, suc, ◌+◌, ◌<◌, ◌≤◌, Bool, true, false, not, ◌||◌, cond, List, [], ◌∷◌, ◌++◌, length, map, take, slice_get, slice_set, slice_index_or, Option, Some, None, refl, sym, ap, ◌∙◌, arith, subst}
+use Rattle.std.specs.Option.{option_to_list}
+use Rattle.std.specs.List.{AllByRecursion}
+use Rattle.std.proofs.lemmas.List.{append-nil}
+use Rattle.mil_monitor.specs.declared.Record.{Record}
+use Rattle.bench_report.specs.Reports.{Rises}
+use Rattle.ch11_builder.specs.Recorded.{IsRecorded}
+use Rattle.ch11_recording.specs.declared.item.Item.{Item}
+use Rattle.ch11_recording.specs.declared.item.Item.TheVariants as item
+use Rattle.ch11_recording.specs.Items.{numbered}
+use Rattle.bench_core.specs.Bench.{Lane, Bench, has_room, with_message, with_end, message_of, next_offered, lane_offers, offered}
+use Rattle.bench_core.specs.Channels.{after_next, queued_next, next_in}
+
+-- ---- a channel's numbers and records
+
+pub rises_more : (above most : ℕ) (ns : List ℕ) → Rises above most ns → Rises above (most + 1) ns
+rises_more above most [] all = tt
+rises_more above most (n ∷ ns) all = (all.0, omega (arith, all.1), rises_more n most ns all.2)
+
+pub rises_next : (above most : ℕ) (ns : List ℕ) → above ≤ most → Rises above most ns → Rises above (most + 1) (ns ++ (most + 1) ∷ [])
+rises_next above most [] low all = (omega (arith, low), omega arith, tt)
+rises_next above most (n ∷ ns) low all = (all.0, omega (arith, all.1), rises_next n most ns all.1 all.2)
+
+abbrev pub AreRecorded : List Record → Type 0
+AreRecorded rs = AllByRecursion (λ r. IsRecorded (numbered 0 r)) rs
+
+pub recorded_next : (rs : List Record) (made : ℕ) (r : Record) → slice_get rs made ≡ Some r → AreRecorded (take made rs) → IsRecorded (numbered 0 r) → AreRecorded (take (made + 1) rs)
+recorded_next [] made r at all last = absurd cc
+recorded_next (x ∷ rs) zero r at all last = let same : r ≡ x = cc in (subst (λ (y : Record). IsRecorded (numbered 0 y)) same last, tt)
+recorded_next (x ∷ rs) (suc made) r at all last =
+    let longer : suc (made + 1) ≡ suc made + 1 = omega arith in
+    subst (λ (k : ℕ). AreRecorded (take k (x ∷ rs))) longer (all.0, recorded_next rs made r at all.1 last)
+
+pub past_end : (rs : List Record) (made : ℕ) → made ≡ length rs → slice_get rs made ≡ None
+past_end [] made is = refl
+past_end (r ∷ rs) zero is = absurd (omega (arith, is))
+past_end (r ∷ rs) (suc made) is = past_end rs made (omega (arith, is))
+
+-- ---- lists, one of them changed
+
+module _ {X Y : Type 0} where
+  pub map_set : (g : X → Y) (xs : List X) (i : ℕ) (v : X) → map g (slice_set xs i v) ≡ slice_set (map g xs) i (g v)
+  map_set g [] i v = refl
+  map_set g (x ∷ xs) zero v = refl
+  map_set g (x ∷ xs) (suc i) v = ap (λ (ys : List Y). g x ∷ ys) (map_set g xs i v)
+
+  pub map_at : (g : X → Y) (xs : List X) (i : ℕ) (x : X) → slice_get xs i ≡ Some x → slice_get (map g xs) i ≡ Some (g x)
+  map_at g [] i x at = absurd cc
+  map_at g (y ∷ xs) zero x at = let same : y ≡ x = cc in ap (λ (z : X). Some (g z)) same
+  map_at g (y ∷ xs) (suc i) x at = map_at g xs i x at
+
+  pub map_kept : (g : X → Y) (xs : List X) (i : ℕ) (x v : X) → slice_get xs i ≡ Some x → g v ≡ g x → map g (slice_set xs i v) ≡ map g xs
+  map_kept g [] i x v at same = refl
+  map_kept g (y ∷ xs) zero x v at same = let here : x ≡ y = cc in ap (λ (z : Y). z ∷ map g xs) (same ∙ ap g here)
+  map_kept g (y ∷ xs) (suc i) x v at same = ap (λ (ys : List Y). g y ∷ ys) (map_kept g xs i x v at same)
+
+  pub map_same : (g k : X → Y) (xs : List X) → ((x : X) → g x ≡ k x) → map g xs ≡ map k xs
+  map_same g k [] same = refl
+  map_same g k (x ∷ xs) same = ap (λ (y : Y). y ∷ map g xs) (same x) ∙ ap (λ (ys : List Y). k x ∷ ys) (map_same g k xs same)
+
+  pub length_map : (g : X → Y) (xs : List X) → length (map g xs) ≡ length xs
+  length_map g [] = refl
+  length_map g (x ∷ xs) = ap suc (length_map g xs)
+
+pub set_same : {X : Type 0} (xs : List X) (i : ℕ) (x : X) → slice_get xs i ≡ Some x → slice_set xs i x ≡ xs
+set_same [] i x at = refl
+set_same {X} (y ∷ xs) zero x at = let here : x ≡ y = cc in ap (λ (z : X). z ∷ xs) here
+set_same {X} (y ∷ xs) (suc i) x at = ap (λ (zs : List X). y ∷ zs) (set_same xs i x at)
+
+pub all_set_to : {X : Type 0} (P : X → Type 0) (xs : List X) (i : ℕ) (v : X) → AllByRecursion P xs → P v → AllByRecursion P (slice_set xs i v)
+all_set_to P [] i v all new = tt
+all_set_to P (x ∷ xs) zero v all new = (new, all.1)
+all_set_to P (x ∷ xs) (suc i) v all new = (all.0, all_set_to P xs i v all.1 new)
+
+-- ---- the bench after an offer
+
+abbrev pub offer_made : ℕ → Bench → Lane → Option Item → Bench
+offer_made i b l queued = record { lanes = slice_set b.lanes i l; capacity = b.capacity; queue = b.queue ++ option_to_list queued; taken = b.taken }
+
+message_made : (i : ℕ) (b : Bench) (l : Lane) (r : Record) (room : Bool)
+    → offer_made i b (with_message l room) (cond room (Some (message_of l r)) None)
+    ≡ record { lanes = slice_set b.lanes i (with_message l room); capacity = b.capacity; queue = cond room (b.queue ++ message_of l r ∷ []) b.queue; taken = b.taken }
+message_made i b l r true = refl
+message_made i b l r false =
+    ap (λ (q : List Item). record { lanes = slice_set b.lanes i (with_message l false); capacity = b.capacity; queue = q; taken = b.taken }) (append-nil b.queue)
+
+end_made : (i : ℕ) (b : Bench) (l : Lane) (stays : Bool) → slice_get b.lanes i ≡ Some l
+    → offer_made i b (cond stays l (with_end l)) (cond stays None (Some (item.End l.channel)))
+    ≡ cond stays b (record { lanes = slice_set b.lanes i (with_end l); capacity = b.capacity; queue = b.queue ++ item.End l.channel ∷ []; taken = b.taken })
+end_made i b l true at =
+    ap (λ (q : List Item). record { lanes = slice_set b.lanes i l; capacity = b.capacity; queue = q; taken = b.taken }) (append-nil b.queue)
+    ∙ ap (λ (ls : List Lane). record { lanes = ls; capacity = b.capacity; queue = b.queue; taken = b.taken }) (set_same b.lanes i l at)
+end_made i b l false at = refl
+
+next_made : (i : ℕ) (b : Bench) (l : Lane) (next : Option Record) → slice_get b.lanes i ≡ Some l
+    → offer_made i b (after_next l next (has_room b)) (queued_next l next (has_room b)) ≡ next_offered i l next b
+next_made i b l (Some r) at = message_made i b l r (has_room b)
+next_made i b l None at = end_made i b l (l.ended || not (has_room b)) at
+
+pub offer_is : (i : ℕ) (b : Bench) (l : Lane) → slice_get b.lanes i ≡ Some l
+    → offer_made i b (after_next l (next_in l) (has_room b)) (queued_next l (next_in l) (has_room b)) ≡ offered i b
+offer_is i b l at = next_made i b l (next_in l) at ∙ ap (λ (o : Option Lane). lane_offers i o b) (sym at)
+
+pub offer_of_none : (i : ℕ) (b : Bench) → length b.lanes ≤ i → b ≡ offered i b
+offer_of_none i b high = ap (λ (o : Option Lane). lane_offers i o b) (sym (nothing b.lanes i high))
+  where
+    nothing : (lanes : List Lane) (j : ℕ) → length lanes ≤ j → slice_get lanes j ≡ None
+    nothing [] j le = refl
+    nothing (l ∷ lanes) zero le = absurd (omega (arith, le))
+    nothing (l ∷ lanes) (suc j) le = nothing lanes j (omega (arith, le))
+
+-- ---- a channel after its last message, and after a message
+
+ended_shape : (l : Lane) (e room : Bool)
+    → ◌≡◌ {A = Lane} (record { channel = l.channel; records = l.records; made = l.made; refused = l.refused; ended = e || room })
+    (cond (e || not room) (record { channel = l.channel; records = l.records; made = l.made; refused = l.refused; ended = e }) (with_end l))
+ended_shape l true room = refl
+ended_shape l false true = refl
+ended_shape l false false = refl
+
+pub ended_lane : (l : Lane) (room : Bool) (made : ℕ) (refused : List ℕ) (ended : Bool) → next_in l ≡ None → made ≡ l.made → refused ≡ l.refused → ended ≡ (l.ended || room)
+    → ◌≡◌ {A = Lane} (record { channel = l.channel; records = l.records; made = made; refused = refused; ended = ended }) (after_next l (next_in l) room)
+ended_lane l room made refused ended none is same marked =
+    ap (λ (k : ℕ). record { channel = l.channel; records = l.records; made = k; refused = refused; ended = ended }) is
+    ∙ ap (λ (ns : List ℕ). record { channel = l.channel; records = l.records; made = l.made; refused = ns; ended = ended }) same
+    ∙ ap (λ (e : Bool). record { channel = l.channel; records = l.records; made = l.made; refused = l.refused; ended = e }) marked
+    ∙ ended_shape l l.ended room
+    ∙ sym (ap (λ (o : Option Record). after_next l o room) none)
+
+pub ended_item : (l : Lane) (room : Bool) → next_in l ≡ None → cond (l.ended || not room) None (Some (item.End l.channel)) ≡ queued_next l (next_in l) room
+ended_item l room none = sym (ap (λ (o : Option Record). queued_next l o room) none)
+
+message_shape : (l : Lane) (r : Record) (room : Bool)
+    → ◌≡◌ {A = Lane} (record { channel = l.channel; records = l.records; made = l.made + 1; refused = cond room l.refused (l.refused ++ (l.made + 1) ∷ []); ended = l.ended }) (with_message l room)
+message_shape l r room = refl
+
+pub message_lane : (l : Lane) (r : Record) (room : Bool) (made number : ℕ) (old refused : List ℕ) → next_in l ≡ Some r → made ≡ l.made + 1 → number ≡ made → old ≡ l.refused
+    → refused ≡ cond room old (old ++ number ∷ [])
+    → ◌≡◌ {A = Lane} (record { channel = l.channel; records = l.records; made = made; refused = refused; ended = l.ended }) (after_next l (next_in l) room)
+message_lane l r room made number old refused at is same kept listed =
+    ap (λ (ns : List ℕ). record { channel = l.channel; records = l.records; made = made; refused = ns; ended = l.ended })
+    (listed ∙ ap (λ (k : ℕ). cond room old (old ++ k ∷ [])) same ∙ ap (λ (ns : List ℕ). cond room ns (ns ++ made ∷ [])) kept)
+    ∙ ap (λ (k : ℕ). record { channel = l.channel; records = l.records; made = k; refused = cond room l.refused (l.refused ++ k ∷ []); ended = l.ended }) is
+    ∙ message_shape l r room
+    ∙ sym (ap (λ (o : Option Record). after_next l o room) at)
+
+pub message_item : (l : Lane) (r : Record) (room : Bool) (number : ℕ) → next_in l ≡ Some r → number ≡ l.made + 1
+    → cond room (Some (item.Message l.channel number r)) None ≡ queued_next l (next_in l) room
+message_item l r room number at is =
+    ap (λ (k : ℕ). cond room (Some (item.Message l.channel k r)) None) is ∙ sym (ap (λ (o : Option Record). queued_next l o room) at)
+
+rises_either : (room : Bool) (most : ℕ) (ns : List ℕ) → Rises 0 most ns → Rises 0 (most + 1) (cond room ns (ns ++ (most + 1) ∷ []))
+rises_either true most ns all = rises_more 0 most ns all
+rises_either false most ns all = rises_next 0 most ns (omega arith) all
+
+pub rises_message : (room : Bool) (most made number : ℕ) (old ns refused : List ℕ) → made ≡ most + 1 → number ≡ made → refused ≡ old → Rises 0 most old
+    → ns ≡ cond room refused (refused ++ number ∷ []) → Rises 0 made ns
+rises_message room most made number old ns refused is same kept all listed =
+    let whole : ns ≡ cond room old (old ++ (most + 1) ∷ []) =
+    listed ∙ ap (λ (k : ℕ). cond room refused (refused ++ k ∷ [])) (same ∙ is) ∙ ap (λ (xs : List ℕ). cond room xs (xs ++ (most + 1) ∷ [])) kept in
+    subst (λ (k : ℕ). Rises 0 k ns) (sym is) (subst (Rises 0 (most + 1)) (sym whole) (rises_either room most old all))
+
+pub there : {X : Type 0} (xs : List X) (i : ℕ) (x d : X) → i < length xs → x ≡ slice_index_or xs i d → slice_get xs i ≡ Some x
+there [] i x d low is = absurd (omega (arith, low))
+there {X} (y ∷ xs) zero x d low is = ap (λ (z : X). Some z) (sym is)
+there (y ∷ xs) (suc i) x d low is = there xs i x d (omega (arith, low)) is

@@ -1,0 +1,27 @@
+use Rattle.std.proofs.Common.{◌≡◌, ◌≤◌, ℕ, List, length, map, ap, ◌∙◌, arith}
+use Rattle.std.specs.VecDeque.{deque_capacity}
+use Rattle.std.proofs.lemmas.List.{take_all}
+use Rattle.bench_report.specs.Reports.{ChannelPart}
+use Rattle.bench_core.specs.Channels.{Bus, part_of}
+use Rattle.bench_core.specs.World.{state_in, report_of, parts_of}
+use Rattle.bench_core.proofs.Worlds.{parts_are}
+use Rattle.bench_core.proofs.Fields.{few_packets}
+use Rattle.bench_core.proofs.world.World.report.Goals as goal
+
+pub make-requires : goal.make-requires
+make-requires c =
+    let w = c.self.inside in
+    let few = few_packets (deque_capacity w.queue) w.builders.items w.file.items w.packets (state_in w) c.self.invariant in
+    omega (arith, few)
+
+pub returns : goal.returns
+returns c =
+    let w = c.self.inside in
+    let buses = w.lanes.items in
+    let lanes : c.deref-lane-items.result.now ≡ buses = c.deref-lane-items.ensures.value in
+    let low : length buses ≤ c.loop-lane.lane-index = omega (arith, c.loop-lane-test.false, ap (λ (bs : List Bus). length bs) lanes) in
+    let all : c.loop-lane.channels.items ≡ map part_of buses = c.loop-lane.invariant ∙ ap (map part_of) (take_all c.loop-lane.lane-index buses low) in
+    c.make.ensures
+    ∙ ap (λ (ps : List ChannelPart). record { channels = ps; packets = w.packets }) (all ∙ parts_are buses)
+    ∙ ap (λ (n : ℕ). record { channels = parts_of (state_in w).bench.lanes (state_in w).actions; packets = n }) c.self.invariant.packets
+    ∙ ap report_of c.self.view_is

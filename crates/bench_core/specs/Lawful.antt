@@ -1,0 +1,44 @@
+-- Which jobs and settings may be run (own choice).
+use Rattle.std.specs.Prelude.{ℕ, ◌≤◌, List, length, map, codes}
+use Rattle.job_file.specs.Jobs.{JobState}
+use Rattle.ch11_recording.specs.WrittenFile.{Format}
+use Rattle.ch11_recording.specs.Recording.{AreDistinct}
+use Rattle.ch11_recording.specs.Laws.{IsPrologue}
+use Rattle.bench_core.specs.declared.settings.Settings.{Settings}
+use Rattle.bench_core.specs.declared.settings.WorldError.{WorldError}
+use Rattle.bench_core.specs.declared.settings.WorldError.TheVariants as fault
+
+abbrev pub format_of : Settings → Format
+format_of s = record { version = s.version; limit = s.limit }
+
+abbrev pub channels_of : List JobState → List ℕ
+channels_of jobs = map (λ (j : JobState). j.channel) jobs
+
+-- one to eight jobs, and each setting in its range
+pub record AreInRange (jobs : List JobState) (s : Settings) : Type 0 where
+  pub some : 1 ≤ length jobs
+  pub few : length jobs ≤ 8
+  pub limit_low : 256 ≤ s.limit
+  pub limit_high : s.limit ≤ 524288
+  pub queue_low : 1 ≤ s.queue
+  pub queue_high : s.queue ≤ 4096
+  pub posts : s.posts ≤ 65536
+
+-- they may be run: no channel is named by two jobs, and the prologue is one of sound packets without one of MIL-STD-1553 messages
+pub record AreLawful (jobs : List JobState) (s : Settings) : Type 0 where
+  pub ranges : AreInRange jobs s
+  pub distinct : AreDistinct (channels_of jobs)
+  pub prologue : IsPrologue s.prologue.items
+
+-- the fault is the first of theirs
+abbrev pub Refuses : List JobState → Settings → WorldError → Type 0
+Refuses jobs s fault.Settings = ¬ AreInRange jobs s
+Refuses jobs s fault.ChannelTwice = AreInRange jobs s × ¬ AreDistinct (channels_of jobs)
+Refuses jobs s fault.Prologue = AreInRange jobs s × AreDistinct (channels_of jobs) × ¬ IsPrologue s.prologue.items
+Refuses jobs s fault.Memory = AreInRange jobs s × AreDistinct (channels_of jobs)
+
+abbrev pub code_of : WorldError → List ℕ
+code_of fault.Settings = codes "U2"
+code_of fault.ChannelTwice = codes "U1"
+code_of fault.Prologue = codes "U5"
+code_of fault.Memory = codes "U3"

@@ -1,0 +1,140 @@
+//! One channel of a world: its controller, and what became of its messages.
+ghost use Rattle.std.specs.Prelude.{◌≡◌, ◌<◌, ◌≤◌, ◌^◌, ◌||◌, not, if◌then◌else◌, [], ◌∷◌, ◌++◌, vec_len, Some, None, IfOk, OnOk, OnErr};
+ghost use Rattle.std.specs.Vec.{vec_capacity};
+ghost use Rattle.ch11_recording.specs.declared.item.Item.TheVariants as item;
+ghost use Rattle.ch11_builder.specs.Recorded.{IsRecorded};
+ghost use Rattle.ch11_recording.specs.Items.{numbered};
+ghost use Rattle.bench_core.specs.Channels.{lane_of, after_next, queued_next, next_in, part_of, IsMade};
+
+use crate::parts::channel_report;
+use crate::placing::ordered_actions;
+use bc_machine::{Machine, Placed};
+use bench_report::ChannelReport;
+use ch11_recording::Item;
+use job_file::{Job, next_record};
+use mil_monitor::Record;
+use std::alloc::{AllocError, Global};
+use std::marker::Model;
+use std::snapshot::Snapshot;
+
+/// A channel's controller, the numbers that a full queue refused, whether the end mark was queued, and its job's actions by
+/// rising number. Contracts see the job itself too, of which no byte is kept.
+#[derive(Drop)]
+pub(crate) struct Lane {
+    channel: u16,
+    machine: Machine,
+    refused: Vec<u32>,
+    ended: bool,
+    placed: Vec<Placed>,
+    job: Snapshot<Job>,
+}
+
+impl Model for Lane {
+    ghost use Rattle.bench_core.specs.Channels.{Bus, bus_in, IsBus};
+
+    ghost Value = { Bus };
+
+    ghost view = { bus_in };
+
+    ghost invariant = { IsBus };
+}
+
+/// A record of a bus monitor fits a recording, where its stamp does.
+fn fits(message: &Record)
+    requires { message.now.stamp < 2 ^ 48 }
+    ensures { IsRecorded (numbered 0 message.now) }
+{
+    let _block = message.block;
+    let _gaps = message.gaps;
+    let _words = message.words.as_slice();
+}
+
+/// The end mark of a channel, once and where there is room.
+fn end_mark(ended: &mut bool, channel: u16, room: bool) -> Option<Item>
+    ensures ended { ended.new ≡ (ended.old || room) }
+    ensures item { result ≡ (if ended.old || not room then None else Some (item.End channel)) }
+{
+    if *ended || !room {
+        return None;
+    }
+    *ended = true;
+    Some(Item::End { channel })
+}
+
+/// A message of a channel, where there is room; else its number is listed, for which memory is reserved.
+fn message(
+    refused: &mut Vec<u32>,
+    channel: u16,
+    number: u32,
+    seen: Record,
+    room: bool,
+) -> Option<Item>
+    requires { vec_len refused.old < vec_capacity refused.old }
+    ensures refused { refused.new.items ≡ (if room then refused.old.items else (refused.old.items ++ number ∷ [])) }
+    ensures item { result ≡ (if room then Some (item.Message channel number seen) else None) }
+{
+    if room {
+        return Some(Item::Message {
+            record: seen,
+            channel,
+            number: u64::from(number),
+        });
+    }
+    refused.push_reserved(number);
+    None
+}
+
+impl Lane {
+    /// The channel of a job, before any message. It fails for want of memory alone.
+    pub(crate) fn make(alloc: Global, job: &Job) -> Result<Lane, AllocError>
+        ensures { IfOk result (λ b. b ≡ record { lane = lane_of job.now; actions = job.now.actions }) }
+    {
+        let machine = job.machine(alloc, job.actions())?;
+        let placed = ordered_actions(alloc, job)?;
+        let _sound = job.program();
+        Ok(Lane {
+            channel: job.channel(),
+            machine,
+            refused: Vec::new(alloc),
+            ended: false,
+            placed,
+            job: Snapshot::of(job),
+        })
+    }
+
+    /// The number of the channel, 1 to 65,535.
+    pub(crate) fn channel(&self) -> u16
+        ensures { result ≡ self.now.lane.channel }
+    {
+        self.channel
+    }
+
+    /// Makes the channel's next message, or ends the channel behind its last one: gives what goes into the queue, where that has
+    /// room, and lists a number that does not. It fails for want of memory alone, and then nothing was done.
+    pub(crate) fn advance(&mut self, room: bool) -> Result<Option<Item>, AllocError>
+        ensures lane { OnOk result (self.new.lane ≡ after_next self.old.lane (next_in self.old.lane) room) }
+        ensures item { IfOk result (λ queued. queued ≡ queued_next self.old.lane (next_in self.old.lane) room) }
+        ensures made { OnOk result (IsMade self.new.lane) }
+        ensures actions { self.new.actions ≡ self.old.actions }
+        ensures err { OnErr result (self.new ≡ self.old) }
+    {
+        self.refused.reserve(1)?;
+        let next = next_record(&mut self.machine);
+        let number = self.machine.number();
+        let Some(made) = next else {
+            return Ok(end_mark(&mut self.ended, self.channel, room));
+        };
+        fits(&made);
+        Ok(message(&mut self.refused, self.channel, number, made, room))
+    }
+
+    /// What a report says of the channel. It fails for want of memory alone.
+    pub(crate) fn report(&self, alloc: Global) -> Result<ChannelReport, AllocError>
+        ensures { IfOk result (λ r. r ≡ part_of self.now) }
+    {
+        let made = self.machine.number();
+        let refused = self.refused.clone()?;
+        let placed = self.placed.iter().map(|one| one.copy()).collect(alloc)?;
+        Ok(channel_report(self.channel, made, refused, placed))
+    }
+}

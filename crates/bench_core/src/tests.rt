@@ -1,0 +1,3 @@
+//! What the bench answers, by worked values.
+mod placing;
+mod world;
