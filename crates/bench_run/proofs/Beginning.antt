@@ -1,0 +1,48 @@
+-- How a run begins and ends.
+use Rattle.std.proofs.Common.{◌≡◌, ℕ, zero, suc, ◌+◌, ◌<◌, ◌≤◌, Bool, true, false, true≢false, not, ◌||◌, cond, List, [], ◌∷◌, ◌++◌, length, map, take, slice_get, Option, Some, None, refl, sym, ap, ◌∙◌, subst, arith, append-nil}
+use Rattle.std.specs.Io.KnownBytes.{Appends}
+use Rattle.mil_trunk.specs.Tags.{bound_of}
+use Rattle.mil_trunk.specs.Views.{with_tag}
+use Rattle.job_file.specs.Jobs.{JobState}
+use Rattle.bench_report.specs.Reports.{ChannelPart}
+use Rattle.bench_run.specs.declared.entry.Entry.{Entry}
+use Rattle.bench_run.specs.Entries.{index_of}
+use Rattle.bench_run.specs.Runs.{ArePairs, most_items}
+use Rattle.bench_run.specs.Threads.{IsCountedIn, AreJoined}
+use Rattle.bench_run.specs.Ending.{IsAll}
+
+-- a sink that was not called has taken nothing
+pub nothing_taken : (known : Option (List ℕ)) (bytes : List ℕ) → Appends known known (take 0 bytes)
+nothing_taken None bytes = tt
+nothing_taken (Some xs) bytes = sym (append-nil xs)
+
+-- a first failure
+pub first_rises : (old new : Bool) (a b : ℕ) → old ≡ false → b ≡ cond (old || not new) a (a + 1) → (new ≡ true → a < b) × (a ≤ b)
+first_rises true new a b sound e = absurd (true≢false sound)
+first_rises false true a b sound e = ((λ failed. omega (arith, e)), omega (arith, e))
+first_rises false false a b sound e = ((λ failed. absurd (true≢false (sym failed))), omega (arith, e))
+
+low_place : {X : Type 0} (xs : List X) (k : ℕ) (x : X) → slice_get xs k ≡ Some x → k < length xs
+low_place [] k x at = absurd cc
+low_place (y ∷ xs) zero x at = omega arith
+low_place (y ∷ xs) (suc k) x at = let low = low_place xs k x at in omega (arith, low)
+
+no_bound : (jobs : List JobState) (t : ℕ) → length jobs ≤ t → bound_of (map most_items jobs) t ≡ 0
+no_bound [] t high = refl
+no_bound (j ∷ jobs) zero high = absurd (omega (arith, high))
+no_bound (j ∷ jobs) (suc t) high = no_bound jobs t (omega (arith, high))
+
+-- where all that was sent was received, each job's part is known
+pub all_got : (capacity queue : ℕ) (jobs : List JobState) (parts : List ChannelPart) (sent got : List Entry) (bounds : List ℕ)
+    → capacity ≡ queue → length jobs ≤ 8 → bounds ≡ map most_items jobs
+    → ArePairs (IsCountedIn capacity jobs) jobs parts → AreJoined capacity sent jobs parts
+    → ((t : ℕ) → t < 64 → with_tag index_of t sent ≡ with_tag index_of t got)
+    → ((t : ℕ) → bound_of bounds t ≡ 0 → with_tag index_of t got ≡ [])
+    → IsAll queue jobs parts got
+all_got capacity queue jobs parts sent got bounds same few bounds_are counted joined settled barred = record {
+  counted = subst (λ n. ArePairs (IsCountedIn n jobs) jobs parts) same counted;
+  own = λ k job part at at'.
+      let low = low_place jobs k job at in
+      sym (settled k (omega (arith, low, few))) ∙ (joined k job part at at').1;
+  others = λ t high. barred t (ap (λ bs. bound_of bs t) bounds_are ∙ no_bound jobs t high);
+}

@@ -1,0 +1,16 @@
+pub mod Offering
+pub mod Rows
+pub mod Sent
+pub mod Taken
+pub mod Stages
+pub mod Sums
+pub mod Channels
+pub mod Ended
+pub mod Jobs
+pub mod Logged
+pub mod Tagged
+pub mod Limits
+pub mod Pairs
+pub mod Endings
+pub mod Concluding
+pub mod Beginning

@@ -1,0 +1,24 @@
+-- How many items all channels may send together.
+use Rattle.std.proofs.Common.{◌≡◌, ℕ, zero, suc, ◌+◌, ◌*◌, ◌<◌, ◌≤◌, ◌^◌, List, [], ◌∷◌, ◌++◌, length, sum, All, slice_index_or, arith}
+use Rattle.std.specs.List.{AllByRecursion}
+use Rattle.std.proofs.lemmas.List.Sums.{sum_by-cons}
+
+-- a channel sends at most 1,000,000 messages and its end mark
+abbrev pub AreLow : List ℕ → Type 0
+AreLow bounds = AllByRecursion (λ b. b ≤ 1000001) bounds
+
+pub low_more : (bounds : List ℕ) (b : ℕ) → AreLow bounds → b ≤ 1000001 → AreLow (bounds ++ b ∷ [])
+low_more [] b all low = (low, tt)
+low_more (c ∷ bounds) b all low = (all.0, low_more bounds b all.1 low)
+
+pub each_low : (bounds : List ℕ) → AreLow bounds → All (λ b. b ≤ 2 ^ 55) bounds
+each_low [] all k d lt = absurd (omega (arith, lt))
+each_low (b ∷ bounds) all zero d lt = omega (arith, all.0)
+each_low (b ∷ bounds) all (suc k) d lt = each_low bounds all.1 k d (omega (arith, lt))
+
+pub sum_low : (bounds : List ℕ) → AreLow bounds → sum bounds ≤ 1000001 * length bounds
+sum_low [] all = omega arith
+sum_low (b ∷ bounds) all =
+    let rest = sum_low bounds all.1 in
+    let one = sum_by-cons (λ n. n) b bounds in
+    omega (arith, rest, one, all.0)

@@ -1,0 +1,80 @@
+-- An entry and a controller may go to another thread, and a job may be seen by one.
+use denote.Param.Send.{IsSend, IsSync, sendable}
+use Rattle.std.proofs.Crossing.{crosses}
+use Rattle.std.proofs.MapsCrossing as maps
+use Rattle.frame_load.specs.contracts.Program as program
+use Rattle.mil_line.specs.contracts.plans.Plan as plan
+use Rattle.mil_terminal.specs.contracts.blocks.Block as block
+use Rattle.mil_terminal.specs.contracts.terminals.Terminal as terminal
+use Rattle.mil_bus.specs.contracts.terminals.Terminals as terminals
+use Rattle.mil_bus.specs.contracts.buses.Bus as bus
+use Rattle.bc_machine.specs.contracts.placed.Placed as placed
+use Rattle.bc_machine.specs.contracts.schedule.Schedule as schedule
+use Rattle.bc_machine.specs.contracts.counters.Counters as counters
+use Rattle.bc_machine.specs.contracts.parts.Parts as parts
+use Rattle.bc_machine.specs.contracts.machine.Machine as machine
+use Rattle.job_file.specs.contracts.jobs.Job as job
+use Rattle.bench_run.specs.contracts.entry.Entry as entry
+use Rattle.bench_run.specs.contracts.entry.EntryTagged.TheImpl.{ghosts}
+use Rattle.bench_run.specs.contracts.channel.Room as room
+use Rattle.atomic_table.proofs.shared.Seat.TheSendSync as seat
+use Rattle.mil_trunk.specs.contracts.trunk.Trunk as trunk
+use Rattle.mil_trunk.proofs.trunk.Trunk.TheSendSync as crossing
+use Rattle.mil_trunk.specs.contracts.trunk.Ticket as ticket
+
+pub entry_send : IsSend entry.the_row
+entry_send = search (sendable, crosses) depth 40 fits 10000
+
+program_send : IsSend program.the_row
+program_send = search (sendable, crosses) depth 40 fits 10000
+
+placed_send : IsSend placed.the_row
+placed_send = search (sendable, crosses) depth 40 fits 10000
+
+plan_send : IsSend plan.the_row
+plan_send = search (maps.crosses, sendable, crosses) depth 40 fits 10000
+
+block_send : IsSend block.the_row
+block_send = search (sendable, crosses) depth 40 fits 10000
+
+terminal_send : IsSend terminal.the_row
+terminal_send = search (block_send, sendable, crosses) depth 40 fits 10000
+
+terminals_send : IsSend terminals.the_row
+terminals_send = search (terminal_send, sendable, crosses) depth 40 fits 10000
+
+bus_send : IsSend bus.the_row
+bus_send = search (terminals_send, sendable, crosses) depth 40 fits 10000
+
+counters_send : IsSend counters.the_row
+counters_send = search (sendable, crosses) depth 40 fits 10000
+
+schedule_send : IsSend schedule.the_row
+schedule_send = search (placed_send, sendable, crosses) depth 40 fits 10000
+
+parts_send : IsSend parts.the_row
+parts_send = search (program_send, plan_send, bus_send, counters_send, schedule_send, sendable, crosses) depth 40 fits 10000
+
+pub machine_send : IsSend machine.the_row
+machine_send = search (parts_send, sendable, crosses) depth 40 fits 10000
+
+program_sync : IsSync program.the_row
+program_sync = search (sendable, crosses) depth 40 fits 10000
+
+placed_sync : IsSync placed.the_row
+placed_sync = search (sendable, crosses) depth 40 fits 10000
+
+plan_sync : IsSync plan.the_row
+plan_sync = search (maps.crosses, sendable, crosses) depth 40 fits 10000
+
+pub job_sync : IsSync job.the_row
+job_sync = search (program_sync, placed_sync, plan_sync, sendable, crosses) depth 40 fits 10000
+
+pub room_send : IsSend room.the_row
+room_send = search (machine_send, placed_send, sendable, crosses) depth 40 fits 10000
+
+pub trunk_sync : IsSync (trunk.the_row entry.the_row ghosts)
+trunk_sync = search (entry_send, crossing.the_sync, crossing.the_field_sync, sendable, crosses) depth 40 fits 10000
+
+pub ticket_send : IsSend (ticket.the_row entry.the_row)
+ticket_send = search (entry_send, seat.the_send, sendable, crosses) depth 40 fits 10000

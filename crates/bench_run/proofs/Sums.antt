@@ -1,0 +1,70 @@
+-- What the other channels may send, and the entries of one index.
+use Rattle.std.proofs.Common.{◌≡◌, ◌≢◌, ℕ, zero, suc, ◌+◌, List, [], ◌∷◌, ◌++◌, length, map, sum, refl, sym, ap, ◌∙◌, subst, arith}
+use Rattle.std.specs.Prelude.{Some, slice_get}
+use Rattle.std.specs.List.{AllByRecursion}
+use Rattle.std.proofs.lemmas.Bool.{eq-eqb, ne_eqb}
+use Rattle.std.proofs.lemmas.List.Sums.{sum_by-cons}
+use Rattle.mil_trunk.specs.Tags.{bound_of, bounds_outside}
+use Rattle.mil_trunk.specs.Views.{with_tag}
+use Rattle.mil_trunk.proofs.Bounds.{bounds_outside-one}
+use Rattle.job_file.specs.Jobs.{JobState}
+use Rattle.ch11_builder.specs.Packet.{Numbered}
+use Rattle.ch11_recording.specs.Recording.{AreDistinct}
+use Rattle.bench_core.specs.Lawful.{channels_of}
+use Rattle.bench_run.specs.declared.entry.Entry.{Entry}
+use Rattle.bench_run.specs.Entries.{index_of, entry_of, entries_to_the_end}
+use Rattle.bench_run.specs.Runs.{most_items, most_in_all, others_than}
+use Rattle.bench_run.specs.Threads.{HasOnly}
+
+-- ---- bounds
+
+sum_of_bounds : (jobs : List JobState) → sum (map most_items jobs) ≡ most_in_all jobs
+unfolding most_in_all
+sum_of_bounds [] = refl
+sum_of_bounds (j ∷ jobs) = sum_by-cons (λ n. n) (most_items j) (map most_items jobs) ∙ ap (λ n. most_items j + n) (sum_of_bounds jobs)
+
+pub bound_at : (jobs : List JobState) (k : ℕ) (job : JobState) → slice_get jobs k ≡ Some job → bound_of (map most_items jobs) k ≡ most_items job
+bound_at [] k job at = absurd cc
+bound_at (j ∷ jobs) zero job at = let is : j ≡ job = cc in ap most_items is
+bound_at (j ∷ jobs) (suc k) job at = bound_at jobs k job at
+
+apart_at : (channel : ℕ) (jobs : List JobState) (k : ℕ) (job : JobState) → AllByRecursion (λ other. other ≢ channel) (channels_of jobs) → slice_get jobs k ≡ Some job → job.channel ≢ channel
+apart_at channel [] k job apart at = absurd cc
+apart_at channel (j ∷ jobs) zero job apart at = let is : j ≡ job = cc in subst (λ (x : JobState). x.channel ≢ channel) is apart.0
+apart_at channel (j ∷ jobs) (suc k) job apart at = apart_at channel jobs k job apart.1 at
+
+-- none of the jobs is of the channel
+no_other : (channel : ℕ) (jobs : List JobState) → AllByRecursion (λ other. other ≢ channel) (channels_of jobs) → others_than channel jobs ≡ jobs
+no_other channel [] apart = refl
+no_other channel (j ∷ jobs) apart = rw (ne_eqb j.channel channel apart.0) (ap (λ (l : List JobState). j ∷ l) (no_other channel jobs apart.1))
+
+pub own_and_others : (jobs : List JobState) (k : ℕ) (job : JobState) → AreDistinct (channels_of jobs) → slice_get jobs k ≡ Some job
+    → most_in_all jobs ≡ most_items job + most_in_all (others_than job.channel jobs)
+unfolding most_in_all
+own_and_others [] k job distinct at = absurd cc
+own_and_others (j ∷ jobs) zero job distinct at =
+    let is : j ≡ job = cc in
+    subst (λ (x : JobState). most_items j + most_in_all jobs ≡ most_items x + most_in_all (others_than x.channel (j ∷ jobs))) is
+    (rw (eq-eqb j.channel j.channel refl, no_other j.channel jobs distinct.0) refl)
+own_and_others (j ∷ jobs) (suc k) job distinct at =
+    let rest = own_and_others jobs k job distinct.1 at in
+    let ne : j.channel ≢ job.channel = λ e. apart_at j.channel jobs k job distinct.0 at (sym e) in
+    rw (ne_eqb j.channel job.channel ne) (omega (arith, rest))
+
+-- for the ticket of one tag the bounds of the others are those of the other channels
+pub others_bounds : (jobs : List JobState) (k tags : ℕ) (job : JobState) → AreDistinct (channels_of jobs) → slice_get jobs k ≡ Some job → HasOnly k tags
+    → bounds_outside tags (map most_items jobs) ≡ most_in_all (others_than job.channel jobs)
+others_bounds jobs k tags job distinct at only =
+    let all = bounds_outside-one k tags (map most_items jobs) only.0 only.1 in
+    let mine = own_and_others jobs k job distinct at in
+    omega (arith, all, mine, bound_at jobs k job at, sum_of_bounds jobs)
+
+-- ---- entries of one index
+
+pub own_entries : (k : ℕ) (ns : List Numbered) → with_tag index_of k (entries_to_the_end k ns) ≡ entries_to_the_end k ns
+own_entries k [] = rw (eq-eqb k k refl) refl
+own_entries k (n ∷ ns) = rw (eq-eqb k k refl) (ap (λ (l : List Entry). entry_of k n ∷ l) (own_entries k ns))
+
+pub other_entries : (k t : ℕ) (ns : List Numbered) → k ≢ t → with_tag index_of t (entries_to_the_end k ns) ≡ []
+other_entries k t [] ne = rw (ne_eqb k t ne) refl
+other_entries k t (n ∷ ns) ne = rw (ne_eqb k t ne) (other_entries k t ns ne)

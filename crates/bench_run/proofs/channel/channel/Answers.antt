@@ -1,0 +1,97 @@
+use Rattle.std.proofs.Common.{rules, arith, ap, sym, ◌∙◌, ◌≡◌, ◌≤◌, ◌<◌, ◌+◌, ◌-◌, ◌++◌, ◌∷◌, ℕ, [], true, length, vec_len, vec_capacity, subst, refl}
+use Rattle.std.specs.Prelude.{Some, slice_get}
+use Rattle.frame_asm.specs.Shapes.{code_of}
+use Rattle.frame_load.specs.Budget.{worst_messages}
+use Rattle.mil_trunk.specs.Tags.{has, bound_of}
+use Rattle.mil_trunk.specs.Ends.{tags_of, bounds_of, sent}
+use Rattle.job_file.specs.Jobs.{tree_in, job_in}
+use Rattle.bench_report.specs.Reports.{Rises}
+use Rattle.bench_run.specs.Runs.{records_of, most_items}
+use Rattle.bench_run.specs.Threads.{SoFar}
+use Rattle.bench_run.proofs.Stages.{first_stage, last_stage, few_sent, by_ticket, by_given}
+use Rattle.bench_run.proofs.channel.channel.Goals as goal
+
+pub messages-init : goal.messages-init
+messages-init g c = record {
+  of = c.requires.room.machine;
+  so_far = first_stage c.args.trunk.now (tags_of c.args.ticket) (bounds_of c.args.ticket) c.args.index c.args.job.now c.args.room.machine.point.number c.args.ticket c.args.room.refused.items c.requires.room.first c.requires.room.empty c.requires.ticket.0 refl refl c.requires.ticket.1;
+  room = refl;
+}
+
+pub offer_message-requires-clause-so_far : goal.offer_message-requires-clause-so_far
+offer_message-requires-clause-so_far g c κs within =
+    let is = c.number-number.ensures.value ∙ c.in-Some.ensures.number in
+    by_ticket c.args.trunk.now (tags_of c.args.ticket) (bounds_of c.args.ticket) c.args.index c.args.job.now c.messages.machine.point.number c.number-number.result c.messages.ticket c.messages.refused.items is c.messages.invariant.so_far
+
+pub offer_message-requires-clause-tag : goal.offer_message-requires-clause-tag
+offer_message-requires-clause-tag g c κs within = ap (λ tags. has tags c.args.index) c.messages.invariant.so_far.tags ∙ c.requires.tag
+
+pub offer_message-requires-clause-bound : goal.offer_message-requires-clause-bound
+offer_message-requires-clause-bound g c κs within =
+    let job = c.args.job.now in
+    let new = c.next_record.new.machine in
+    let of = c.next_record.ensures.of_job (job_in job) job.actions c.messages.invariant.of in
+    let top : new.point.number ≤ worst_messages (code_of (tree_in job)).operations = subst (λ code. new.point.number ≤ worst_messages code.operations) of.code of.under_way.messages in
+    let bound : bound_of (bounds_of c.messages.ticket) c.args.index ≡ most_items job = ap (λ l. bound_of l c.args.index) c.messages.invariant.so_far.bounds ∙ c.requires.bound in
+    omega (arith, top, bound, c.number-number.ensures.value)
+
+pub offer_message-requires-clause-message : goal.offer_message-requires-clause-message
+offer_message-requires-clause-message g c κs within =
+    let job = c.args.job.now in
+    let n = c.messages.machine.point.number in
+    let is : n ≡ c.number-number.result - 1 = omega (arith, c.number-number.ensures.value, c.in-Some.ensures.number) in
+    subst (λ k. slice_get (records_of job) k ≡ Some c.in-Some.record) is (c.in-Some.ensures.record (job_in job) job.actions c.program-sound.ensures.sound c.messages.invariant.of)
+
+pub offer_message-requires-clause-room : goal.offer_message-requires-clause-room
+offer_message-requires-clause-room g c κs within =
+    let job = c.args.job.now in
+    let new = c.next_record.new.machine in
+    let of = c.next_record.ensures.of_job (job_in job) job.actions c.messages.invariant.of in
+    let top : new.point.number ≤ worst_messages (code_of (tree_in job)).operations = subst (λ code. new.point.number ≤ worst_messages code.operations) of.code of.under_way.messages in
+    omega (arith, top, c.requires.room.capacity, c.messages.invariant.room, c.number-number.ensures.value)
+
+pub messages-preserved : goal.messages-preserved
+messages-preserved g c =
+    let job = c.args.job.now in
+    let st = c.messages.invariant.so_far in
+    let next = by_given c.args.trunk.now (tags_of c.args.ticket) (bounds_of c.args.ticket) c.args.index job c.number-number.result c.messages.ticket c.offer_message.new.ticket c.offer_message.new.refused.items st.tags st.bounds c.offer_message.ensures.so_far in
+    record {
+      of = c.next_record.ensures.of_job (job_in job) job.actions c.messages.invariant.of;
+      so_far = subst (λ k. SoFar c.args.trunk.now (tags_of c.args.ticket) (bounds_of c.args.ticket) c.args.index job k c.offer_message.new.ticket c.offer_message.new.refused.items) c.number-number.ensures.value next;
+      room = c.offer_message.ensures.room ∙ c.messages.invariant.room;
+    }
+
+pub offer_end-requires-clause-tag : goal.offer_end-requires-clause-tag
+offer_end-requires-clause-tag g c κs within = ap (λ tags. has tags c.args.index) c.messages.invariant.so_far.tags ∙ c.requires.tag
+
+pub offer_end-requires-clause-bound : goal.offer_end-requires-clause-bound
+offer_end-requires-clause-bound g c κs within =
+    let job = c.args.job.now in
+    let n = c.messages.machine.point.number in
+    let of = c.messages.invariant.of in
+    let st = c.messages.invariant.so_far in
+    let top : n ≤ worst_messages (code_of (tree_in job)).operations = subst (λ code. n ≤ worst_messages code.operations) of.code of.under_way.messages in
+    let bound : bound_of (bounds_of c.messages.ticket) c.args.index ≡ most_items job = ap (λ l. bound_of l c.args.index) st.bounds ∙ c.requires.bound in
+    let few = few_sent c.args.trunk.now (tags_of c.args.ticket) (bounds_of c.args.ticket) c.args.index job n c.messages.ticket c.messages.refused.items st in
+    omega (arith, top, bound, few)
+
+pub channel_report-requires-clause-refused : goal.channel_report-requires-clause-refused
+channel_report-requires-clause-refused g c =
+    let made : c.number-2.result ≡ c.messages.machine.point.number = c.number-2.ensures.value ∙ c.in_default.ensures.same in
+    subst (λ n. Rises 0 n c.messages.refused.items) (sym made) c.messages.invariant.so_far.rising
+
+pub returns : goal.returns
+returns g c =
+    let job = c.args.job.now in
+    let n = c.messages.machine.point.number in
+    let of = c.messages.invariant.of in
+    let st = c.messages.invariant.so_far in
+    let whole : n ≡ length (records_of job) = c.in_default.ensures.all (job_in job) job.actions c.program-sound.ensures.sound c.messages.invariant.of in
+    let made : c.number-2.result ≡ n = c.number-2.ensures.value ∙ c.in_default.ensures.same in
+    let top : n ≤ worst_messages (code_of (tree_in job)).operations = subst (λ code. n ≤ worst_messages code.operations) of.code of.under_way.messages in
+    let end = c.offer_end.ensures in
+    let part = c.channel_report.ensures in
+    last_stage c.args.trunk.now c.args.ticket c.args.index job c.number-2.result c.messages.ticket c.offer_end.new.ticket c.messages.refused.items c.channel_report.result
+    (subst (λ k. SoFar c.args.trunk.now (tags_of c.args.ticket) (bounds_of c.args.ticket) c.args.index job k c.messages.ticket c.messages.refused.items) (sym made) st) (made ∙ whole) end.ticket end.tags end.bounds end.sent
+    (part.channel ∙ c.channel-3.ensures.value) part.made part.refused (part.placed job.actions c.requires.room.ordered)
+    (omega (arith, c.channel-3.ensures.value)) (omega (arith, c.number-2.ensures.range)) (omega (arith, made, top))

@@ -1,0 +1,82 @@
+use Rattle.std.proofs.Common.{rules, arith, refl, sym, ap, ◌∙◌, ◌≡◌, ◌<◌, ◌≤◌, ◌+◌, ℕ, suc, List, [], length, map, vec_len, subst}
+use Rattle.std.specs.Prelude.{Some, slice_get}
+use Rattle.std.proofs.lemmas.Option.{slice_get_read}
+use Rattle.std.specs.Vec.Iter.{into_iter_items}
+use Rattle.mil_trunk.specs.Tags.{bound_of}
+use Rattle.mil_trunk.specs.Ends.{bounds_of, tags_of}
+use Rattle.mil_trunk.specs.declared.trunk.Ticket.{Ticket}
+use Rattle.job_file.specs.Jobs.{JobState}
+use Rattle.bench_run.specs.declared.entry.Entry.{Entry}
+use Rattle.bench_run.specs.Threads.{IsRoom, IsPromised, HasOnly}
+use Rattle.bench_run.specs.Runs.{most_items}
+use Rattle.bench_run.proofs.Rows.{row_push, row_first, row_rest, pair_at, pairs_length, none_at}
+use Rattle.bench_run.proofs.Sums.{bound_at}
+use Rattle.bench_run.proofs.threads.start_all.Goals as goal
+
+pub loop-room-init : goal.loop-room-init
+loop-room-init g c =
+    let jobs = c.args.jobs.now in
+    let long = pairs_length IsRoom jobs c.args.rooms.items c.requires.rooms in
+    let all : length c.args.rooms.items ≡ vec_len c.args.rooms = search rules in
+    let none : length c.args.handles.items ≡ vec_len c.args.handles = search rules in
+    let empty = ap length c.requires.handles.0 in
+    let gives = c.into_iter-room-iterator.ensures.into_iter_gives in
+    record {
+      ours = (c.requires.ticket.0, c.requires.ticket.1, refl);
+      left = omega (arith, long, all, none, empty, gives.1);
+      tags = λ t low high. c.requires.tags t low;
+      capacity = c.requires.handles.1;
+      rooms = λ k room at job at_job. pair_at IsRoom jobs c.args.rooms.items c.requires.rooms k job room (subst (λ m. slice_get jobs m ≡ Some job) (let z : vec_len c.args.handles + k ≡ k = omega (arith, none, empty) in z) at_job) (ap (λ l. slice_get l k) (sym gives.0) ∙ at);
+      promised = λ k h at. absurd (none_at c.args.handles.items k h c.requires.handles.0 at);
+    }
+
+pub start-requires-clause-room : goal.start-requires-clause-room
+start-requires-clause-room g c κs within =
+    let step = c.in-Some.ensures.steps in
+    let jobs = c.args.jobs.now in
+    let n = vec_len c.loop-room.handles in
+    let first = row_first (λ k room. (job : JobState) → slice_get jobs (n + k) ≡ Some job → IsRoom job room) _ _ c.in-Some.room step.0 c.loop-room.invariant.rooms in
+    let same : c.len-index.result ≡ n + 0 = omega (arith, c.len-index.ensures) in
+    let lt : c.len-index.result < length jobs = omega (arith, c.len-index.ensures, step.1, c.loop-room.invariant.left) in
+    let at : slice_get jobs c.len-index.result ≡ Some c.index-jobs-index.result = slice_get_read jobs (length jobs) c.len-index.result c.index-jobs-index.result refl lt c.index-jobs-index.is in
+    first c.index-jobs-index.result (subst (λ m. slice_get jobs m ≡ Some c.index-jobs-index.result) same at)
+
+pub start-requires-clause-bound : goal.start-requires-clause-bound
+start-requires-clause-bound g c κs within =
+    let step = c.in-Some.ensures.steps in
+    let jobs = c.args.jobs.now in
+    let n = vec_len c.loop-room.handles in
+    let lt : c.len-index.result < length jobs = omega (arith, c.len-index.ensures, step.1, c.loop-room.invariant.left) in
+    let at : slice_get jobs c.len-index.result ≡ Some c.index-jobs-index.result = slice_get_read jobs (length jobs) c.len-index.result c.index-jobs-index.result refl lt c.index-jobs-index.is in
+    ap (λ l. bound_of l c.len-index.result) (c.part_off-ticket.ensures.bounds.1 ∙ c.loop-room.invariant.ours.2 ∙ c.requires.bounds) ∙ bound_at jobs c.len-index.result c.index-jobs-index.result at
+
+pub loop-room-preserved : goal.loop-room-preserved
+loop-room-preserved g c =
+    let was = c.loop-room.invariant in
+    let step = c.in-Some.ensures.steps in
+    let pushed = c.push_reserved.ensures in
+    let start = c.in-Some-start.ensures in
+    let part = c.part_off-ticket.ensures in
+    let jobs = c.args.jobs.now in
+    let n = vec_len c.loop-room.handles in
+    let long : length c.loop-room.handles.items ≡ n = search rules in
+    let is : c.len-index.result ≡ n = c.len-index.ensures in
+    let lt : c.len-index.result < length jobs = omega (arith, c.len-index.ensures, step.1, c.loop-room.invariant.left) in
+    let at : slice_get jobs c.len-index.result ≡ Some c.index-jobs-index.result = slice_get_read jobs (length jobs) c.len-index.result c.index-jobs-index.result refl lt c.index-jobs-index.is in
+    record {
+      ours = (part.tickets.0, part.sent.0, part.bounds.0 ∙ was.ours.2);
+      left = omega (arith, pushed.len, step.1, was.left);
+      tags = λ t low high. part.left t (λ e. absurd (omega (arith, pushed.len, is, e, high))) ∙ was.tags t low (omega (arith, pushed.len, high));
+      capacity = omega (arith, pushed.capacity, was.capacity);
+      rooms = λ k room at_room job at_job. row_rest (λ i x. (j : JobState) → slice_get jobs (n + i) ≡ Some j → IsRoom j x) _ _ c.in-Some.room step.0 was.rooms k room at_room job
+          (let more : vec_len c.push_reserved.new.self + k ≡ n + suc k = omega (arith, pushed.len) in subst (λ m. slice_get jobs m ≡ Some job) more at_job);
+      promised = row_push (λ k h. IsPromised c.args.trunk.now (bounds_of c.args.rest.now) jobs k h.promise) n c.loop-room.handles.items c.push_reserved.new.self.items c.in-Some-start.handle
+          long pushed.items was.promised
+          (record {
+            trunk_is = start.0;
+            index_is = start.2 ∙ is;
+            job_is = subst (λ m. slice_get jobs m ≡ Some c.index-jobs-index.result) is at ∙ ap (λ (j : JobState). Some j) (sym start.3);
+            tags = subst (λ (y : Ticket Entry × ℕ). HasOnly y.1 (tags_of y.0)) (λ i. (sym start.1 i, is i)) part.tags;
+            bounds_are = ap bounds_of start.1 ∙ part.bounds.1 ∙ was.ours.2;
+          });
+    }

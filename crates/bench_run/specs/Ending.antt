@@ -1,0 +1,37 @@
+-- The end of a run: every channel has ended, and the writer has received all that was sent.
+use Rattle.std.specs.Prelude.{◌≡◌, ℕ, ◌<◌, ◌≤◌, true, List, [], Some, length, map, sum, slice_get}
+use Rattle.job_file.specs.Jobs.{JobState}
+use Rattle.mil_trunk.specs.Views.{with_tag}
+use Rattle.mil_trunk.specs.Tags.{has}
+use Rattle.mil_trunk.specs.Ends.{IsTicketOf, IsTakerOf, capacity_of, tags_of, bounds_of, bounds_in, sent, received}
+use Rattle.bench_report.specs.Reports.{ChannelPart}
+use Rattle.bench_core.specs.Lawful.{channels_of}
+use Rattle.bench_core.specs.Settled.{kept}
+use Rattle.bench_run.specs.declared.entry.Entry.{Entry}
+use Rattle.bench_run.specs.Entries.{index_of, entries_to_the_end}
+use Rattle.bench_run.specs.declared.ready.Shared.{Shared}
+use Rattle.bench_run.specs.declared.ready.Own.{Own}
+use Rattle.bench_run.specs.Runs.{ArePairs, records_of, most_items}
+use Rattle.bench_run.specs.Threads.{IsRoom, IsCountedIn}
+
+-- what the writer received: of each job its records but for the refused, and its end mark, and nothing else
+pub record IsAll (capacity : ℕ) (jobs : List JobState) (parts : List ChannelPart) (got : List Entry) : Type 0 where
+  pub counted : ArePairs (IsCountedIn capacity jobs) jobs parts
+  pub own : (k : ℕ) (job : JobState) (part : ChannelPart) → slice_get jobs k ≡ Some job → slice_get parts k ≡ Some part
+      → with_tag index_of k got ≡ entries_to_the_end k (kept part.refused (records_of job))
+  pub others : (t : ℕ) → length jobs ≤ t → with_tag index_of t got ≡ []
+
+-- What a run begins with: a trunk of the queue's capacity with nothing in it, the ticket of all tags and the taker, a thread's room
+-- for each job, and the jobs' channels.
+pub record IsReady (capacity : ℕ) (jobs : List JobState) (shared : Shared) (own : Own) : Type 0 where
+  pub ticket : IsTicketOf shared.trunk own.ticket
+  pub taker : IsTakerOf shared.trunk own.taker
+  pub capacity_is : capacity_of shared.trunk ≡ capacity
+  pub unsent : sent own.ticket ≡ []
+  pub unreceived : received own.taker ≡ []
+  pub tags : (t : ℕ) → t < 64 → has (tags_of own.ticket) t ≡ true
+  pub bounds : bounds_of own.ticket ≡ map most_items jobs
+  pub taker_bounds : bounds_in own.taker ≡ map most_items jobs
+  pub few : sum (map most_items jobs) ≤ 8000008
+  pub rooms : ArePairs IsRoom jobs own.rooms.items
+  pub channels : shared.channels.items ≡ channels_of jobs

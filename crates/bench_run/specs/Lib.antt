@@ -1,0 +1,5 @@
+pub mod Entries
+pub mod Runs
+pub mod Threads
+pub mod Writer
+pub mod Ending

@@ -1,0 +1,103 @@
+-- What a run of jobs came to (own choice): the items that the writer took, the file of these, and the report.
+use Rattle.std.specs.Prelude.{◌≡◌, ℕ, ◌+◌, ◌-◌, ◌<◌, ◌≤◌, ◌==◌, Bool, not, List, [], ◌∷◌, length, map, take, Option, Ok}
+use Rattle.std.specs.List.{AllByRecursion, filter}
+use Rattle.std.specs.Io.KnownBytes.{Appends}
+use Rattle.mil_monitor.specs.declared.Record.{Record}
+use Rattle.frame_asm.specs.Shapes.{code_of}
+use Rattle.frame_load.specs.Budget.{worst_messages}
+use Rattle.job_file.specs.Jobs.{JobState, tree_in, job_in}
+use Rattle.job_file.specs.Meaning.{records}
+use Rattle.ch11_f1.specs.Again.{as_message}
+use Rattle.ch11_builder.specs.Packet.{messages_of}
+use Rattle.ch11_reader.specs.Recording.{Found, packets_in}
+use Rattle.ch11_reader.specs.Contents.{reading}
+use Rattle.ch11_recording.specs.declared.item.Item.{Item}
+use Rattle.ch11_recording.specs.Items.{part_of, to_the_end}
+use Rattle.ch11_recording.specs.WrittenFile.{written_file, closed_packets, whole_packets}
+use Rattle.ch11_recording.specs.Recording.{AreDistinct}
+use Rattle.ch11_recording.specs.Laws.{IsPrologue}
+use Rattle.bench_report.specs.Reports.{ChannelPart, RunReport, Rises}
+use Rattle.bench_core.specs.declared.settings.Settings.{Settings}
+use Rattle.bench_core.specs.Lawful.{format_of, channels_of, AreInRange}
+use Rattle.bench_core.specs.Placing.{placed_up_to}
+use Rattle.bench_core.specs.Settled.{kept}
+use Rattle.bench_run.specs.declared.error.RunError.{RunError}
+use Rattle.bench_run.specs.declared.error.RunError.TheVariants as fault
+
+-- the records that a job means under its own actions
+abbrev pub records_of : JobState → List Record
+records_of job = records (job_in job) job.actions
+
+-- how many items a channel offers at most: its messages and its end mark
+abbrev pub most_items : JobState → ℕ
+most_items job = worst_messages (code_of (tree_in job)).operations + 1
+
+unfoldable pub most_in_all : List JobState → ℕ
+most_in_all [] = 0
+most_in_all (job ∷ jobs) = most_items job + most_in_all jobs
+
+-- the jobs of the other channels
+abbrev pub others_than : ℕ → List JobState → List JobState
+others_than channel jobs = filter (λ (j : JobState). not (j.channel == channel)) jobs
+
+-- the records of a channel, with their numbers, below the record of a number, but for the refused
+abbrev pub kept_below : ℕ → List ℕ → JobState → ℕ
+kept_below number refused job = length (kept refused (take (number - 1) (records_of job)))
+
+-- A job and its channel's part of the report: all of its messages were made, and the actions placed at them are the job's; the
+-- items taken of the channel are those messages, in order and once, but for the refused, and its end mark. A message is refused
+-- only where the queue may be full: its capacity is at most what the channel kept before and what the others may have sent.
+pub record IsPartOf (jobs : List JobState) (s : Settings) (items : List Item) (job : JobState) (part : ChannelPart) : Type 0 where
+  pub channel : part.channel ≡ job.channel
+  pub made : part.made ≡ length (records_of job)
+  pub placed : part.placed ≡ placed_up_to part.made job.actions
+  pub rising : Rises 0 part.made part.refused
+  pub taken : part_of job.channel items ≡ to_the_end job.channel (kept part.refused (records_of job))
+  pub full : AllByRecursion (λ n. s.queue ≤ kept_below n part.refused job + most_in_all (others_than job.channel jobs)) part.refused
+
+-- what the file gives for the channel are these records
+abbrev pub IsReadAs : List Found → JobState → ChannelPart → Type 0
+IsReadAs ps job part = reading ps job.channel ≡ map as_message (messages_of (kept part.refused (records_of job)))
+
+-- the lists are as long, and what stands at the same place belongs together
+abbrev pub ArePairs : {X Y : Type 0} → (X → Y → Type 0) → List X → List Y → Type 0
+ArePairs P [] [] = Unit {0}
+ArePairs P (x ∷ xs) (y ∷ ys) = P x y × ArePairs P xs ys
+ArePairs P [] (y ∷ ys) = ⊥
+ArePairs P (x ∷ xs) [] = ⊥
+
+-- A finished run: one list of items was taken, and the bytes are their file, which is readable and gives each channel's messages.
+pub record IsRun (jobs : List JobState) (s : Settings) (report : RunReport) (bytes : List ℕ) : Type 0 where
+  pub items : List Item
+  pub file : bytes ≡ written_file (format_of s) s.prologue.items items
+  pub parts : ArePairs (IsPartOf jobs s items) jobs report.channels
+  pub packets : report.packets ≡ length (closed_packets (format_of s) items)
+  pub found : List Found
+  pub readable : packets_in bytes ≡ Ok found
+  pub read : ArePairs (IsReadAs found) jobs report.channels
+
+-- the sink took the file of a finished run
+abbrev pub Ran : {S : Type 0} → (S → Option (List ℕ)) → List JobState → Settings → S → RunReport → S → Type 0
+Ran taken jobs s before report after = (bytes : List ℕ) × Appends (taken before) (taken after) bytes × IsRun jobs s report bytes
+
+-- the sink took the first bytes of the file of some items
+abbrev pub TookPart : {S : Type 0} → (S → Option (List ℕ)) → Settings → List Item → ℕ → S → S → Type 0
+TookPart taken s items count before after = Appends (taken before) (taken after) (take count (written_file (format_of s) s.prologue.items items))
+
+-- A run whose sink failed: all items were taken and the report tells of them, with the packets that the sink took whole.
+pub record IsCut {S : Type 0} (taken : S → Option (List ℕ)) (jobs : List JobState) (s : Settings) (before : S) (report : RunReport) (count : ℕ) (after : S) : Type 0 where
+  pub items : List Item
+  pub bytes : TookPart taken s items count before after
+  pub parts : ArePairs (IsPartOf jobs s items) jobs report.channels
+  pub packets : report.packets ≡ whole_packets (count - length s.prologue.items) (closed_packets (format_of s) items)
+
+-- What a refusal says and leaves: U2, U1 and U5 put nothing into the sink; U3 leaves a part of a recording there, and so does U4,
+-- which stands only where the sink failed.
+abbrev pub Leaves : {S : Type 0} → (S → Option (List ℕ)) → (S → ℕ) → List JobState → Settings → S → RunError S → Type 0
+Leaves taken failures jobs s before (fault.Settings sink) = (sink ≡ before) × ¬ AreInRange jobs s
+Leaves taken failures jobs s before (fault.ChannelTwice sink) = (sink ≡ before) × AreInRange jobs s × ¬ AreDistinct (channels_of jobs)
+Leaves taken failures jobs s before (fault.Prologue sink) =
+    (sink ≡ before) × AreInRange jobs s × AreDistinct (channels_of jobs) × ¬ IsPrologue s.prologue.items
+Leaves taken failures jobs s before (fault.Memory sink) = (items : List Item) × (count : ℕ) × TookPart taken s items count before sink
+Leaves taken failures jobs s before (fault.Sink sink report count) =
+    (failures before < failures sink) × IsCut taken jobs s before report count sink

@@ -1,0 +1,95 @@
+-- What a channel's thread promises of what it returns, and what is known of all threads of a run.
+use Rattle.std.specs.Prelude.{◌≡◌, ◌≢◌, ℕ, ◌+◌, ◌≤◌, ◌<◌, ◌^◌, true, false, List, [], Some, length, map, take, slice_get, vec_capacity}
+use Rattle.std.specs.List.{AllByRecursion}
+use Rattle.std.specs.declared.thread.PromisedHandle.{PromisedHandle}
+use Rattle.mil_trunk.specs.declared.trunk.Trunk.{Trunk}
+use Rattle.mil_trunk.specs.declared.trunk.Ticket.{Ticket}
+use Rattle.mil_trunk.specs.Tags.{has, bounds_outside}
+use Rattle.mil_trunk.specs.Views.{with_tag}
+use Rattle.mil_trunk.specs.Ends.{IsTicketOf, capacity_of, tags_of, bounds_of, sent}
+use Rattle.frame_asm.specs.Shapes.{code_of}
+use Rattle.frame_load.specs.Budget.{worst_messages}
+use Rattle.job_file.specs.Jobs.{JobState, tree_in, job_in}
+use Rattle.job_file.specs.Machines.{IsOf}
+use Rattle.ch11_builder.specs.Recorded.{IsRecorded}
+use Rattle.ch11_recording.specs.Items.{numbered}
+use Rattle.bench_report.specs.Reports.{ChannelPart, Rises}
+use Rattle.bench_core.specs.Placing.{placed_up_to, IsOrdered}
+use Rattle.bench_core.specs.Settled.{kept}
+use Rattle.bench_run.specs.declared.entry.Entry.{Entry}
+use Rattle.bench_run.specs.declared.channel.Ended.{Ended}
+use Rattle.bench_run.specs.declared.threads.Offers.{Offers}
+use Rattle.bench_run.specs.declared.channel.Room.{Room}
+use Rattle.bench_run.specs.Entries.{index_of, entry_of, entries_to_the_end}
+use Rattle.bench_run.specs.Runs.{records_of, kept_below, most_items, most_in_all, others_than}
+
+-- What the thread of a job reports: all of the job's messages were made, and they are a bus monitor's; the placed actions are the
+-- job's; a message was refused only where the capacity is at most what the channel kept before and what the others may have sent.
+pub record IsCounted (capacity others : ℕ) (job : JobState) (part : ChannelPart) : Type 0 where
+  pub channel : part.channel ≡ job.channel
+  pub channel_high : job.channel ≤ 65535
+  pub made : part.made ≡ length (records_of job)
+  pub made_high : part.made ≤ 1000000
+  pub within : length (records_of job) < most_items job
+  pub placed : part.placed ≡ placed_up_to part.made job.actions
+  pub rising : Rises 0 part.made part.refused
+  pub full : AllByRecursion (λ n. capacity ≤ kept_below n part.refused job + others) part.refused
+  pub recorded : AllByRecursion (λ m. IsRecorded (numbered 0 m)) (records_of job)
+
+-- a job of a run and what its thread reports
+abbrev pub IsCountedIn : ℕ → List JobState → JobState → ChannelPart → Type 0
+IsCountedIn capacity jobs job part = IsCounted capacity (most_in_all (others_than job.channel jobs)) job part
+
+-- The thread of a job offered each of its records once, in order: its ticket sent those that were not refused, and then the end
+-- mark. `given` is the ticket as the thread got it.
+pub record Offered (trunk : Trunk Entry) (given : Ticket Entry) (index : ℕ) (job : JobState) (r : Ended) : Type 0 where
+  pub ours : IsTicketOf trunk r.ticket
+  pub tags : tags_of r.ticket ≡ tags_of given
+  pub bounds : bounds_of r.ticket ≡ bounds_of given
+  pub all_sent : sent r.ticket ≡ entries_to_the_end index (kept r.part.refused (records_of job))
+  pub counted : IsCounted (capacity_of trunk) (bounds_outside (tags_of given) (bounds_of given)) job r.part
+
+-- The same of the first `made` records, where these are the tags and bounds of the thread's ticket.
+pub record SoFar (trunk : Trunk Entry) (own : ℕ) (limits : List ℕ) (index : ℕ) (job : JobState) (made : ℕ) (t : Ticket Entry) (refused : List ℕ) : Type 0 where
+  pub ours : IsTicketOf trunk t
+  pub tags : tags_of t ≡ own
+  pub bounds : bounds_of t ≡ limits
+  pub all_sent : sent t ≡ map (entry_of index) (kept refused (take made (records_of job)))
+  pub count : length (take made (records_of job)) ≡ made
+  pub rising : Rises 0 made refused
+  pub full : AllByRecursion (λ n. capacity_of trunk ≤ kept_below n refused job + bounds_outside own limits) refused
+  pub recorded : AllByRecursion (λ m. IsRecorded (numbered 0 m)) (take made (records_of job))
+
+-- what a thread takes along fits its job: the controller at the job's beginning, an empty list with room for all numbers, and the
+-- job's actions in their order
+pub record IsRoom (job : JobState) (room : Room) : Type 0 where
+  pub machine : IsOf (job_in job) job.actions room.machine
+  pub first : room.machine.point.number ≡ 0
+  pub empty : room.refused.items ≡ []
+  pub capacity : worst_messages (code_of (tree_in job)).operations ≤ vec_capacity room.refused
+  pub ordered : room.ordered.items ≡ placed_up_to 1000000 job.actions
+  pub fit : IsOrdered room.ordered.items
+
+-- the set has one tag alone
+abbrev pub HasOnly : ℕ → ℕ → Type 0
+HasOnly index tags = (has tags index ≡ true) × ((t : ℕ) → t ≢ index → has tags t ≡ false)
+
+-- it is the promise of the thread of the job at an index
+pub record IsPromised (trunk : Trunk Entry) (bounds : List ℕ) (jobs : List JobState) (index : ℕ) (p : Offers) : Type 0 where
+  pub trunk_is : p.trunk.now ≡ trunk
+  pub index_is : p.index ≡ index
+  pub job_is : slice_get jobs index ≡ Some p.job.now
+  pub tags : HasOnly index (tags_of p.ticket.value)
+  pub bounds_are : bounds_of p.ticket.value ≡ bounds
+
+-- the handles are those of the threads of the first jobs
+abbrev pub ArePromised : Trunk Entry → List ℕ → List JobState → List (PromisedHandle Ended Offers) → Type 0
+ArePromised trunk bounds jobs handles =
+    (k : ℕ) (h : PromisedHandle Ended Offers) → slice_get handles k ≡ Some h → IsPromised trunk bounds jobs k h.promise
+
+-- Each job whose thread was joined has the part of it, and the entries of its index are its records but for the refused, and then
+-- its end mark.
+abbrev pub AreJoined : ℕ → List Entry → List JobState → List ChannelPart → Type 0
+AreJoined capacity entries jobs parts =
+    (k : ℕ) (job : JobState) (part : ChannelPart) → slice_get jobs k ≡ Some job → slice_get parts k ≡ Some part
+    → IsCountedIn capacity jobs job part × (with_tag index_of k entries ≡ entries_to_the_end k (kept part.refused (records_of job)))

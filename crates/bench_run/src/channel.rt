@@ -1,0 +1,168 @@
+//! One channel's thread.
+ghost use Rattle.std.specs.Prelude.{◌≡◌, ◌<◌, ◌≤◌, ◌-◌, ◌^◌, ◌++◌, ◌∷◌, [], true, length, vec_capacity, slice_get, Some};
+ghost use Rattle.frame_asm.specs.Shapes.{code_of};
+ghost use Rattle.frame_load.specs.Budget.{worst_messages};
+ghost use Rattle.mil_trunk.specs.Tags.{has, bound_of};
+ghost use Rattle.mil_trunk.specs.Ends.{IsTicketOf, tags_of, bounds_of, sent};
+ghost use Rattle.job_file.specs.Jobs.{tree_in, job_in};
+ghost use Rattle.job_file.specs.Machines.{IsOf};
+ghost use Rattle.bench_run.specs.Runs.{records_of, most_items};
+ghost use Rattle.ch11_builder.specs.Recorded.{IsRecorded};
+ghost use Rattle.ch11_recording.specs.Items.{numbered};
+ghost use Rattle.bench_run.specs.Threads.{IsRoom, Offered, SoFar};
+ghost use Rattle.bench_run.specs.declared.entry.Entry.TheVariants.{End};
+
+use crate::entry::Entry;
+use crate::gate::Gate;
+use bc_machine::{Machine, Placed};
+use bench_core::channel_report;
+use bench_report::ChannelReport;
+use job_file::{Job, next_record};
+use mil_monitor::Record;
+use mil_trunk::{Ticket, Trunk};
+use std::sync::Wait;
+use std::thread;
+
+/// What a channel's thread takes along: its job's controller, an empty list with room for the numbers of all messages, and the
+/// job's actions in the order in which its messages meet them.
+#[derive(Drop)]
+pub(crate) struct Room {
+    pub(crate) machine: Machine,
+    pub(crate) refused: Vec<u32>,
+    pub(crate) ordered: Vec<Placed>,
+}
+
+/// What a channel's thread returns: its ticket, and the channel's part of the report.
+#[derive(Drop)]
+pub(crate) struct Ended {
+    pub(crate) ticket: Ticket<Entry>,
+    pub(crate) part: ChannelReport,
+}
+
+/// Runs a job's controller to its end. Each message is offered once, and the numbers of those that come back are listed; then the
+/// end mark is offered until it is kept. It takes no memory and no lock.
+pub(crate) fn channel<R: Wait, G: Gate>(
+    rt: &R,
+    trunk: &Trunk<Entry>,
+    gate: &G,
+    index: u8,
+    job: &Job,
+    ticket: Ticket<Entry>,
+    room: Room,
+) -> Ended
+    requires ticket { IsTicketOf trunk.now ticket × (sent ticket ≡ []) }
+    requires tag { has (tags_of ticket) index ≡ true }
+    requires bound { bound_of (bounds_of ticket) index ≡ most_items job.now }
+    requires room { IsRoom job.now room }
+    ensures { Offered trunk.now ticket index job.now result }
+{
+    let Room {
+        mut machine,
+        mut refused,
+        ordered,
+    } = room;
+    let mut ticket = ticket;
+    let _sound = job.program();
+    'messages: loop {
+        gate.before_message(job.channel(), machine.number() + 1);
+        let Some(record) = next_record(&mut machine) else {
+            break;
+        };
+        let number = machine.number();
+        fits(&record);
+        offer_message(
+            rt,
+            trunk,
+            gate,
+            index,
+            job,
+            number,
+            record,
+            &mut ticket,
+            &mut refused,
+        );
+    }
+    offer_end(rt, trunk, gate, index, job.channel(), &mut ticket);
+    Ended {
+        ticket,
+        part: channel_report(job.channel(), machine.number(), refused, ordered),
+    }
+}
+
+// A record of a bus monitor fits a recording, where its stamp does.
+fn fits(message: &Record)
+    requires { message.now.stamp < 2 ^ 48 }
+    ensures { IsRecorded (numbered 0 message.now) }
+{
+    let _block = message.block;
+    let _gaps = message.gaps;
+    let _words = message.words.as_slice();
+}
+
+// Offers a message once. Where it comes back, its number joins the list.
+fn offer_message<R: Wait, G: Gate>(
+    rt: &R,
+    trunk: &Trunk<Entry>,
+    gate: &G,
+    index: u8,
+    job: &Job,
+    number: u32,
+    message: Record,
+    ticket: &mut Ticket<Entry>,
+    refused: &mut Vec<u32>,
+)
+    requires so_far { SoFar trunk.now (tags_of ticket.old) (bounds_of ticket.old) index job.now (number - 1) ticket.old refused.old.items }
+    requires tag { has (tags_of ticket.old) index ≡ true }
+    requires bound { number < bound_of (bounds_of ticket.old) index }
+    requires number { 1 ≤ number }
+    requires message { slice_get (records_of job.now) (number - 1) ≡ Some message }
+    requires recorded { IsRecorded (numbered 0 message) }
+    requires room { number ≤ vec_capacity refused.old }
+    ensures so_far { SoFar trunk.now (tags_of ticket.old) (bounds_of ticket.old) index job.now number ticket.new refused.new.items }
+    ensures room { vec_capacity refused.new ≡ vec_capacity refused.old }
+{
+    let entry = Entry::Message {
+        index,
+        number,
+        record: message,
+    };
+    match trunk.offer(rt, ticket, entry) {
+        Ok(()) => gate.after_offer(job.channel(), number, true),
+        Err(_) => {
+            refused.push_reserved(number);
+            gate.after_offer(job.channel(), number, false);
+        }
+    }
+}
+
+// Offers the end mark until it is kept.
+fn offer_end<R: Wait, G: Gate>(
+    rt: &R,
+    trunk: &Trunk<Entry>,
+    gate: &G,
+    index: u8,
+    channel: u16,
+    ticket: &mut Ticket<Entry>,
+)
+    requires ticket { IsTicketOf trunk.now ticket.old }
+    requires tag { has (tags_of ticket.old) index ≡ true }
+    requires bound { length (sent ticket.old) < bound_of (bounds_of ticket.old) index }
+    ensures ticket { IsTicketOf trunk.now ticket.new }
+    ensures tags { tags_of ticket.new ≡ tags_of ticket.old }
+    ensures bounds { bounds_of ticket.new ≡ bounds_of ticket.old }
+    ensures sent { sent ticket.new ≡ sent ticket.old ++ End index ∷ [] }
+{
+    for _ in rt.forever() {
+        match trunk.offer(rt, ticket, Entry::End { index }) {
+            Ok(()) => {
+                gate.after_offer(channel, 0, true);
+                return;
+            }
+            Err(_) => {
+                gate.after_offer(channel, 0, false);
+                thread::yield_now();
+            }
+        }
+    }
+    unreachable!()
+}

@@ -1,0 +1,25 @@
+//! Points of a run at which its threads may be held.
+
+/// What is called at points of a run, on the thread that is there. It may wait, so that tests fix the order of the threads.
+pub trait Gate: Sync {
+    /// Before the steps that may make the message of a number, 1 and up, of a channel; also where the script ends instead.
+    fn before_message(&self, channel: u16, number: u32);
+
+    /// After each offer: of a message with its number, of an end mark with 0; and whether the queue kept it.
+    fn after_offer(&self, channel: u16, number: u32, kept: bool);
+
+    /// After each item that the writer took, before it takes the next: of a message with its number, of an end mark with 0.
+    fn after_take(&self, channel: u16, number: u32);
+}
+
+/// A gate that holds nothing: the queue alone orders the threads.
+#[derive(Clone, Copy, Debug)]
+pub struct OpenGate;
+
+impl Gate for OpenGate {
+    fn before_message(&self, _channel: u16, _number: u32) {}
+
+    fn after_offer(&self, _channel: u16, _number: u32, _kept: bool) {}
+
+    fn after_take(&self, _channel: u16, _number: u32) {}
+}

@@ -1,0 +1,59 @@
+//! What a run needs before its threads start.
+ghost use Rattle.std.specs.Prelude.{◌≡◌, ◌≤◌, length, map, All, IfOk};
+ghost use Rattle.mil_trunk.specs.Ends.{IsCapacity};
+ghost use Rattle.bench_core.specs.Lawful.{channels_of};
+ghost use Rattle.bench_run.specs.Ending.{IsReady};
+
+use crate::channel::Room;
+use crate::entry::Entry;
+use crate::threads::{bounds, rooms};
+use job_file::Job;
+use mil_trunk::{Taker, Ticket, Trunk};
+use std::alloc::{AllocError, Global};
+
+/// What the threads and the writer share: the trunk, and the numbers of the channels in the order of the jobs.
+#[derive(Drop)]
+pub(crate) struct Shared {
+    pub(crate) trunk: Trunk<Entry>,
+    pub(crate) channels: Vec<u16>,
+}
+
+/// What the writer owns, and hands to the threads in part.
+#[derive(Drop)]
+pub(crate) struct Own {
+    pub(crate) ticket: Ticket<Entry>,
+    pub(crate) taker: Taker<Entry>,
+    pub(crate) rooms: Vec<Room>,
+}
+
+/// All that a run needs, but for its recorder and the lists of its threads. All memory of the threads is taken here.
+pub(crate) fn ready(alloc: Global, jobs: &[Job], queue: u32) -> Result<(Shared, Own), AllocError>
+    requires few { length jobs.now ≤ 8 }
+    ensures { IfOk result (λ r. IsReady queue jobs.now r.0 r.1) }
+{
+    let bounds = bounds(alloc, jobs)?;
+    let rooms = rooms(alloc, jobs)?;
+    let channels = channels(alloc, jobs)?;
+    match Trunk::make(alloc, queue, &bounds) {
+        Ok((trunk, ticket, taker)) => Ok((
+            Shared { trunk, channels },
+            Own {
+                ticket,
+                taker,
+                rooms,
+            },
+        )),
+        Err(_) => Err(AllocError),
+    }
+}
+
+/// The numbers of the jobs' channels.
+fn channels(alloc: Global, jobs: &[Job]) -> Result<Vec<u16>, AllocError>
+    ensures { IfOk result (λ v. v.items ≡ channels_of jobs.now) }
+{
+    let mut channels = Vec::with_capacity(alloc, jobs.len())?;
+    for job in jobs {
+        channels.push_reserved(job.channel());
+    }
+    Ok(channels)
+}

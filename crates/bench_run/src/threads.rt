@@ -1,0 +1,204 @@
+//! The threads of a run: each is started with its job, and joined again.
+ghost use Rattle.std.specs.Prelude.{◌≡◌, ◌≢◌, ℕ, ◌<◌, ◌≤◌, ◌++◌, ◌||◌, [], true, Some, length, map, slice_get, vec_len, vec_capacity, IfSome, IfOk};
+ghost use Rattle.std.specs.List.{AllByRecursion};
+ghost use Rattle.frame_asm.specs.Shapes.{code_of};
+ghost use Rattle.frame_load.specs.Budget.{worst_messages};
+ghost use Rattle.mil_trunk.specs.Tags.{has, bound_of, bounds_outside};
+ghost use Rattle.mil_trunk.specs.Views.{with_tag};
+ghost use Rattle.mil_trunk.specs.Ends.{IsTicketOf, capacity_of, tags_of, bounds_of, sent};
+ghost use Rattle.job_file.specs.Jobs.{tree_in, job_in};
+ghost use Rattle.job_file.specs.Machines.{IsOf};
+ghost use Rattle.ch11_recording.specs.Recording.{AreDistinct};
+ghost use Rattle.bench_core.specs.Lawful.{channels_of};
+ghost use Rattle.bench_core.specs.Settled.{kept};
+ghost use Rattle.bench_run.specs.Entries.{index_of, entries_to_the_end};
+ghost use Rattle.bench_run.specs.Runs.{ArePairs, records_of, most_items};
+ghost use Rattle.bench_run.specs.Threads.{Offered, IsRoom, HasOnly, ArePromised, IsCounted, IsCountedIn, AreJoined};
+
+use crate::channel::{Ended, Room, channel};
+use crate::entry::Entry;
+use crate::gate::Gate;
+use bench_core::ordered_actions;
+use bench_report::ChannelReport;
+use job_file::Job;
+use mil_trunk::{Tags, Ticket, Trunk};
+use std::alloc::{AllocError, Global};
+use std::snapshot::Snapshot;
+use std::sync::Wait;
+use std::thread::{Promise, PromisedHandle, Scope, Threads};
+
+/// What a channel's thread promises of what it returns. No contract but those of the threads speaks of it.
+#[derive(Drop)]
+pub struct Offers<'a> {
+    trunk: &'a Trunk<Entry>,
+    ticket: Snapshot<Ticket<Entry>>,
+    index: u8,
+    job: &'a Job,
+}
+
+impl<'a> Promise<Ended> for Offers<'a> {
+    ghost use Rattle.bench_run.specs.Threads.{Offered};
+
+    ghost kept_by = { λ p r. Offered p.trunk.now p.ticket.value p.index p.job.now r };
+}
+
+/// How many items each channel may send: its messages, and its end mark.
+pub(crate) fn bounds(alloc: Global, jobs: &[Job]) -> Result<Vec<u64>, AllocError>
+    ensures bounds { IfOk result (λ v. v.items ≡ map most_items jobs.now) }
+    ensures low { IfOk result (λ v. AllByRecursion (λ b. b ≤ 1000001) v.items) }
+{
+    let mut bounds = Vec::with_capacity(alloc, jobs.len())?;
+    for job in jobs {
+        bounds.push_reserved(job.program().worst_messages() + 1);
+    }
+    Ok(bounds)
+}
+
+/// What each thread takes along, in the order of the jobs. All memory that the threads need is taken here.
+pub(crate) fn rooms(alloc: Global, jobs: &[Job]) -> Result<Vec<Room>, AllocError>
+    ensures { IfOk result (λ v. ArePairs IsRoom jobs.now v.items) }
+{
+    let mut rooms = Vec::with_capacity(alloc, jobs.len())?;
+    for job in jobs {
+        rooms.push_reserved(room_for(alloc, job)?);
+    }
+    Ok(rooms)
+}
+
+fn room_for(alloc: Global, job: &Job) -> Result<Room, AllocError>
+    ensures { IfOk result (λ room. IsRoom job.now room) }
+{
+    Ok(Room {
+        machine: job.machine(alloc, job.actions())?,
+        refused: Vec::with_capacity(alloc, job.program().worst_messages() as usize)?,
+        ordered: ordered_actions(alloc, job)?,
+    })
+}
+
+// Parts off the ticket with the tag of an index alone.
+fn part_off(trunk: &Trunk<Entry>, rest: &mut Ticket<Entry>, index: u8) -> Ticket<Entry>
+    requires ticket { IsTicketOf trunk.now rest.old × (sent rest.old ≡ []) }
+    requires tag { (index < 64) × (has (tags_of rest.old) index ≡ true) }
+    ensures tickets { IsTicketOf trunk.now rest.new × IsTicketOf trunk.now result }
+    ensures sent { (sent rest.new ≡ []) × (sent result ≡ []) }
+    ensures bounds { (bounds_of rest.new ≡ bounds_of rest.old) × (bounds_of result ≡ bounds_of rest.old) }
+    ensures tags { HasOnly index (tags_of result) }
+    ensures left { (t : ℕ) → t ≢ index → has (tags_of rest.new) t ≡ has (tags_of rest.old) t }
+{
+    trunk.split(rest, Tags::none().with(index))
+}
+
+// Starts the thread of a job; None where it cannot be started.
+fn start<'s, E, R: Wait + Sync, G: Gate>(
+    scope: &Scope<'s, E>,
+    rt: &'s R,
+    trunk: &'s Trunk<Entry>,
+    gate: &'s G,
+    index: u8,
+    job: &'s Job,
+    ticket: Ticket<Entry>,
+    room: Room,
+) -> Option<PromisedHandle<Ended, Offers<'s>>>
+    requires ticket { IsTicketOf trunk.now ticket × (sent ticket ≡ []) }
+    requires tag { has (tags_of ticket) index ≡ true }
+    requires bound { bound_of (bounds_of ticket) index ≡ most_items job.now }
+    requires room { IsRoom job.now room }
+    ensures { IfSome result (λ h. (h.promise.trunk.now ≡ trunk.now) × (h.promise.ticket.value ≡ ticket) × (h.promise.index ≡ index) × (h.promise.job.now ≡ job.now)) }
+{
+    let promise = Offers {
+        trunk,
+        ticket: Snapshot::of(&ticket),
+        index,
+        job,
+    };
+    let started = scope.spawn_with(
+        promise,
+        move || -> Ended
+            requires { IsTicketOf trunk.now ticket × (sent ticket ≡ []) × (has (tags_of ticket) index ≡ true) × (bound_of (bounds_of ticket) index ≡ most_items job.now) × IsRoom job.now room }
+            ensures { Offered trunk.entry.now ticket index job.entry.now result }
+        { channel(rt, trunk, gate, index, job, ticket, room) },
+    );
+    started.ok()
+}
+
+/// Starts the threads of the jobs 0, 1, .. with their rooms, up to the first that cannot be started. The handles stand in the
+/// order of the jobs, in memory that was reserved; the ticket keeps the tags that no thread was given.
+pub(crate) fn start_all<'s, E, R: Wait + Sync, G: Gate>(
+    scope: &Scope<'s, E>,
+    rt: &'s R,
+    trunk: &'s Trunk<Entry>,
+    gate: &'s G,
+    jobs: &'s [Job],
+    rooms: Vec<Room>,
+    rest: &mut Ticket<Entry>,
+    mut handles: Vec<PromisedHandle<Ended, Offers<'s>>>,
+) -> Vec<PromisedHandle<Ended, Offers<'s>>>
+    requires ticket { IsTicketOf trunk.now rest.old × (sent rest.old ≡ []) }
+    requires tags { (t : ℕ) → t < 64 → has (tags_of rest.old) t ≡ true }
+    requires few { length jobs.now ≤ 8 }
+    requires bounds { bounds_of rest.old ≡ map most_items jobs.now }
+    requires rooms { ArePairs IsRoom jobs.now rooms.items }
+    requires handles { (handles.items ≡ []) × (length jobs.now ≤ vec_capacity handles) }
+    ensures ticket { IsTicketOf trunk.now rest.new × (sent rest.new ≡ []) × (bounds_of rest.new ≡ bounds_of rest.old) }
+    ensures started { vec_len result ≤ length jobs.now }
+    ensures tags { (t : ℕ) → t < 64 → length jobs.now ≤ t → has (tags_of rest.new) t ≡ true }
+    ensures promised { ArePromised trunk.now (bounds_of rest.old) jobs.now result.items }
+{
+    for room in rooms {
+        let index = handles.len();
+        let ticket = part_off(trunk, rest, index as u8);
+        let job = &jobs[index];
+        match start(scope, rt, trunk, gate, index as u8, job, ticket, room) {
+            Some(handle) => handles.push_reserved(handle),
+            None => return handles,
+        }
+    }
+    handles
+}
+
+// Waits for a thread, and takes its ticket in.
+fn join_one<R: Threads>(
+    rt: &R,
+    trunk: &Trunk<Entry>,
+    handle: PromisedHandle<Ended, Offers<'_>>,
+    rest: &mut Ticket<Entry>,
+) -> ChannelReport
+    requires ticket { IsTicketOf trunk.now rest.old × (handle.promise.trunk.now ≡ trunk.now) }
+    ensures ticket { IsTicketOf trunk.now rest.new × (bounds_of rest.new ≡ bounds_of rest.old) }
+    ensures tags { (t : ℕ) → has (tags_of rest.new) t ≡ (has (tags_of rest.old) t || has (tags_of handle.entry.promise.ticket.value) t) }
+    ensures sent { sent rest.new ≡ sent rest.old ++ entries_to_the_end handle.entry.promise.index (kept result.refused (records_of handle.entry.promise.job.now)) }
+    ensures counted { IsCounted (capacity_of trunk.now) (bounds_outside (tags_of handle.entry.promise.ticket.value) (bounds_of handle.entry.promise.ticket.value)) handle.entry.promise.job.now result }
+{
+    let Ended { ticket, part } = handle.join(rt);
+    trunk.take_in(rest, ticket);
+    part
+}
+
+/// Waits for the threads of the jobs 0, 1, .., takes their tickets in, and gives their parts of the report, in the order of the
+/// jobs and in memory that was reserved.
+pub(crate) fn join_all<R: Threads>(
+    rt: &R,
+    trunk: &Trunk<Entry>,
+    jobs: &[Job],
+    handles: Vec<PromisedHandle<Ended, Offers<'_>>>,
+    rest: &mut Ticket<Entry>,
+    mut parts: Vec<ChannelReport>,
+) -> Vec<ChannelReport>
+    requires ticket { IsTicketOf trunk.now rest.old × (sent rest.old ≡ []) }
+    requires bounds { bounds_of rest.old ≡ map most_items jobs.now }
+    requires distinct { AreDistinct (channels_of jobs.now) }
+    requires promised { ArePromised trunk.now (bounds_of rest.old) jobs.now handles.items }
+    requires parts { (parts.items ≡ []) × (vec_len handles ≤ vec_capacity parts) }
+    ensures ticket { IsTicketOf trunk.now rest.new × (bounds_of rest.new ≡ bounds_of rest.old) }
+    ensures held { (t : ℕ) → has (tags_of rest.old) t ≡ true → has (tags_of rest.new) t ≡ true }
+    ensures gained { (t : ℕ) → t < vec_len handles.entry → has (tags_of rest.new) t ≡ true }
+    ensures len { vec_len result ≡ vec_len handles.entry }
+    ensures joined { AreJoined (capacity_of trunk.now) (sent rest.new) jobs.now result.items }
+    ensures counted { vec_len handles.entry ≡ length jobs.now → ArePairs (IsCountedIn (capacity_of trunk.now) jobs.now) jobs.now result.items }
+    ensures unsent { (t : ℕ) → vec_len handles.entry ≤ t → with_tag index_of t (sent rest.new) ≡ [] }
+{
+    for handle in handles {
+        parts.push_reserved(join_one(rt, trunk, handle, rest));
+    }
+    parts
+}
