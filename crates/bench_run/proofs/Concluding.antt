@@ -107,6 +107,7 @@ module _ {S : Type 0} (taken : S → Option (List ℕ)) (failures : S → ℕ) (
   cut r count is same = record {
     items = map (item_of (channels_of jobs)) got;
     bytes = rw same is.written.taken;
+    within = omega (arith, same, is.written.within);
     parts = parts_are s.queue jobs parts got all s refl lawful.distinct;
     packets = is.packets ∙ ap (λ n. whole_packets (n - length s.prologue.items) (closed_packets (format_of s) (map (item_of (channels_of jobs)) got))) (sym same);
   }

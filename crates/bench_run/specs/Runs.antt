@@ -18,7 +18,7 @@ use Rattle.ch11_recording.specs.Recording.{AreDistinct}
 use Rattle.ch11_recording.specs.Laws.{IsPrologue}
 use Rattle.bench_report.specs.Reports.{ChannelPart, RunReport, Rises}
 use Rattle.bench_core.specs.declared.settings.Settings.{Settings}
-use Rattle.bench_core.specs.Lawful.{format_of, channels_of, AreInRange}
+use Rattle.bench_core.specs.Lawful.{format_of, channels_of, AreInRange, AreLawful}
 use Rattle.bench_core.specs.Placing.{placed_up_to}
 use Rattle.bench_core.specs.Settled.{kept}
 use Rattle.bench_run.specs.declared.error.RunError.{RunError}
@@ -84,20 +84,23 @@ Ran taken jobs s before report after = (bytes : List ℕ) × Appends (taken befo
 abbrev pub TookPart : {S : Type 0} → (S → Option (List ℕ)) → Settings → List Item → ℕ → S → S → Type 0
 TookPart taken s items count before after = Appends (taken before) (taken after) (take count (written_file (format_of s) s.prologue.items items))
 
--- A run whose sink failed: all items were taken and the report tells of them, with the packets that the sink took whole.
+-- A run whose sink failed: all items were taken and the report tells of them, with the packets that the sink took whole. What it
+-- took is no longer than the file.
 pub record IsCut {S : Type 0} (taken : S → Option (List ℕ)) (jobs : List JobState) (s : Settings) (before : S) (report : RunReport) (count : ℕ) (after : S) : Type 0 where
   pub items : List Item
   pub bytes : TookPart taken s items count before after
+  pub within : count ≤ length (written_file (format_of s) s.prologue.items items)
   pub parts : ArePairs (IsPartOf jobs s items) jobs report.channels
   pub packets : report.packets ≡ whole_packets (count - length s.prologue.items) (closed_packets (format_of s) items)
 
--- What a refusal says and leaves: U2, U1 and U5 put nothing into the sink; U3 leaves a part of a recording there, and so does U4,
--- which stands only where the sink failed.
+-- What a refusal says and leaves: U2, U1 and U5 put nothing into the sink; U3 comes only where none of U2 and U1 does, and leaves a
+-- part of a recording there, and so does U4, which stands only where the run is lawful and the sink failed.
 abbrev pub Leaves : {S : Type 0} → (S → Option (List ℕ)) → (S → ℕ) → List JobState → Settings → S → RunError S → Type 0
 Leaves taken failures jobs s before (fault.Settings sink) = (sink ≡ before) × ¬ AreInRange jobs s
 Leaves taken failures jobs s before (fault.ChannelTwice sink) = (sink ≡ before) × AreInRange jobs s × ¬ AreDistinct (channels_of jobs)
 Leaves taken failures jobs s before (fault.Prologue sink) =
     (sink ≡ before) × AreInRange jobs s × AreDistinct (channels_of jobs) × ¬ IsPrologue s.prologue.items
-Leaves taken failures jobs s before (fault.Memory sink) = (items : List Item) × (count : ℕ) × TookPart taken s items count before sink
+Leaves taken failures jobs s before (fault.Memory sink) =
+    AreInRange jobs s × AreDistinct (channels_of jobs) × ((items : List Item) × (count : ℕ) × TookPart taken s items count before sink)
 Leaves taken failures jobs s before (fault.Sink sink report count) =
-    (failures before < failures sink) × IsCut taken jobs s before report count sink
+    AreLawful jobs s × (failures before < failures sink) × IsCut taken jobs s before report count sink

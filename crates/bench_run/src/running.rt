@@ -2,7 +2,6 @@
 ghost use Rattle.std.specs.Prelude.{◌≡◌, ℕ, List, ◌-◌, ◌<◌, ◌≤◌, ◌^◌, [], false, IfOk, IfErr};
 ghost use Rattle.std.specs.List.{AllByRecursion};
 ghost use Rattle.mil_trunk.specs.Ends.{received};
-ghost use Rattle.job_file.specs.Jobs.{JobState};
 ghost use Rattle.ch11_recording.specs.Recording.{IsRecordingOf};
 ghost use Rattle.bench_core.specs.Lawful.{AreLawful, channels_of, format_of};
 ghost use Rattle.bench_run.specs.declared.entry.Entry.{Entry};
@@ -96,10 +95,10 @@ fn on_threads<'s, E, R: Threads + Wait + Sync, G: Gate, S: Sink + Drop>(
     } = own;
     let (mut rest, mut taker, mut log) = (ticket, taker, log);
     let Ok(handles) = Vec::with_capacity(alloc, jobs.len()) else {
-        return Err(stopped(settings, before, log));
+        return Err(stopped(jobs, settings, before, log));
     };
     let Ok(parts) = Vec::with_capacity(alloc, jobs.len()) else {
-        return Err(stopped(settings, before, log));
+        return Err(stopped(jobs, settings, before, log));
     };
     let Shared { trunk, channels } = shared;
     let handles = start_all(scope, rt, trunk, gate, jobs, rooms, &mut rest, handles);
@@ -107,18 +106,24 @@ fn on_threads<'s, E, R: Threads + Wait + Sync, G: Gate, S: Sink + Drop>(
     write(rt, trunk, gate, channels, &mut taker, &mut log, started);
     let parts = join_all(rt, trunk, jobs, handles, &mut rest, parts);
     if started < jobs.len() {
-        return Err(stopped(settings, before, log));
+        return Err(stopped(jobs, settings, before, log));
     }
     let (_, taker) = settle(rt, trunk, gate, channels, rest, taker, &mut log);
     conclude(jobs, settings, before, taker, log, parts)
 }
 
 /// A run that was refused memory or a thread hands the sink back as it stands.
-fn stopped<S: Sink>(settings: &Settings, before: Snapshot<S>, log: Log<S>) -> RunError<S>
+fn stopped<S: Sink>(
+    jobs: &[Job],
+    settings: &Settings,
+    before: Snapshot<S>,
+    log: Log<S>,
+) -> RunError<S>
+    requires lawful { AreLawful jobs.now settings.now }
     requires logged { (channels : List ℕ) × (got : List Entry) × IsLogged S.taken S.failures (format_of settings.now) settings.now.prologue.items before.value channels got log.recorder log.whole }
-    ensures { (jobs : List JobState) → Leaves S.taken S.failures jobs settings.now before.value result }
+    ensures { Leaves S.taken S.failures jobs.now settings.now before.value result }
 {
-    let _ = (settings, before);
+    let _ = (jobs, settings, before);
     let Log { recorder, whole: _ } = log;
     RunError::Memory {
         sink: recorder.into_sink(),

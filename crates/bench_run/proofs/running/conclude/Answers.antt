@@ -64,6 +64,7 @@ returns-clause-refused g c =
     let part = cut taken failures jobs s before parts got old c.args.log.whole c.requires.lawful c.version_fits.ensures c.requires.all logged r c.in-Err.fault.taken of c.in-Err.ensures.fault in
     let up = rose taken failures jobs s before parts got old c.args.log.whole c.requires.lawful c.version_fits.ensures c.requires.all logged false (failures old.writing.sink) (failures r.writing.sink) c.in-Err.ensures.failures refl refl in
     let report : c.make-report.result ≡ record { channels = parts; packets = r.packets } = c.make-report.ensures ∙ ap (λ n. record { channels = parts; packets = n }) c.packets.ensures in (
+      c.requires.lawful,
       subst (λ x. failures before < failures x) (sym c.into_sink-sink.ensures) up,
       subst (λ (z : RunReport × _). IsCut taken jobs s before z.0 c.in-Err.fault.taken z.1) (λ i. (sym report i, sym c.into_sink-sink.ensures i)) part,
     )

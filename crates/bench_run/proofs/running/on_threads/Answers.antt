@@ -5,13 +5,13 @@ use Rattle.bench_run.proofs.Beginning.{all_got}
 use Rattle.bench_run.proofs.running.on_threads.Goals as goal
 
 pub returns-in_default-clause-refused : goal.returns-in_default-clause-refused
-returns-in_default-clause-refused g c = c.stopped.ensures c.args.jobs.now
+returns-in_default-clause-refused g c = c.stopped.ensures
 
 pub returns-in_default-with_capacity-clause-refused : goal.returns-in_default-with_capacity-clause-refused
-returns-in_default-with_capacity-clause-refused g c = c.stopped-in_default-with_capacity.ensures c.args.jobs.now
+returns-in_default-with_capacity-clause-refused g c = c.stopped-in_default-with_capacity.ensures
 
 pub returns-then-started-jobs-clause-refused : goal.returns-then-started-jobs-clause-refused
-returns-then-started-jobs-clause-refused g c = c.stopped-then-started-jobs.ensures c.args.jobs.now
+returns-then-started-jobs-clause-refused g c = c.stopped-then-started-jobs.ensures
 
 pub join_all-parts-requires-clause-promised : goal.join_all-parts-requires-clause-promised
 join_all-parts-requires-clause-promised g c k h at =

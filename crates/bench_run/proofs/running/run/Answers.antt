@@ -1,19 +1,31 @@
 use Rattle.std.proofs.Common.{[], sym, subst}
 use Rattle.std.specs.Io.KnownBytes.{Appends}
-use Rattle.bench_core.specs.Lawful.{format_of}
+use Rattle.bench_core.specs.declared.settings.WorldError.TheVariants as fault
+use Rattle.bench_core.specs.Lawful.{format_of, Refuses}
 use Rattle.ch11_recording.specs.WrittenFile.{written_file}
 use Rattle.bench_run.proofs.Beginning.{nothing_taken}
 use Rattle.bench_run.proofs.running.run.Goals as goal
 
 pub returns-in-Err-Memory-clause-refused : goal.returns-in-Err-Memory-clause-refused
 returns-in-Err-Memory-clause-refused g c =
-    ([], 0, nothing_taken (g.S.Sink.taken c.args.sink) (written_file (format_of c.args.settings.now) c.args.settings.now.prologue.items []))
+    let fits : Refuses c.args.jobs.now c.args.settings.now fault.Memory =
+    subst (Refuses c.args.jobs.now c.args.settings.now) c.in-Err-Memory.field-0-is c.in-Err-Memory.ensures.refused in (
+      fits.0,
+      fits.1,
+      ([], 0, nothing_taken (g.S.Sink.taken c.args.sink) (written_file (format_of c.args.settings.now) c.args.settings.now.prologue.items [])),
+    )
 
 pub returns-in_default-clause-refused : goal.returns-in_default-clause-refused
-returns-in_default-clause-refused g c =
-    ([], 0, nothing_taken (g.S.Sink.taken c.args.sink) (written_file (format_of c.args.settings.now) c.args.settings.now.prologue.items []))
+returns-in_default-clause-refused g c = (
+  c.in-Ok.ensures.lawful.ranges,
+  c.in-Ok.ensures.lawful.distinct,
+  ([], 0, nothing_taken (g.S.Sink.taken c.args.sink) (written_file (format_of c.args.settings.now) c.args.settings.now.prologue.items [])),
+)
 
 pub returns-clause-refused : goal.returns-clause-refused
 returns-clause-refused g c =
-    let bytes = written_file (format_of c.args.settings.now) c.args.settings.now.prologue.items [] in
-    ([], 0, rw c.in-Err.ensures.back (nothing_taken (g.S.Sink.taken c.args.sink) bytes))
+    let bytes = written_file (format_of c.args.settings.now) c.args.settings.now.prologue.items [] in (
+      c.in-Ok.ensures.lawful.ranges,
+      c.in-Ok.ensures.lawful.distinct,
+      ([], 0, rw c.in-Err.ensures.back (nothing_taken (g.S.Sink.taken c.args.sink) bytes)),
+    )

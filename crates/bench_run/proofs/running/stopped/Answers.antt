@@ -2,7 +2,10 @@ use Rattle.std.proofs.Common.{◌≡◌, refl, sym, ap, ◌∙◌, subst}
 use Rattle.bench_run.proofs.running.stopped.Goals as goal
 
 pub returns : goal.returns
-returns g c jobs =
+returns g c =
     let is = c.requires.logged.2 in
-    let written = is.recording.written in
-    (is.items, c.args.log.recorder.writing.taken, rw c.into_sink.ensures written.taken)
+    let written = is.recording.written in (
+      c.requires.lawful.ranges,
+      c.requires.lawful.distinct,
+      (is.items, c.args.log.recorder.writing.taken, rw c.into_sink.ensures written.taken),
+    )
