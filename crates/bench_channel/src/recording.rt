@@ -4,8 +4,6 @@ ghost use Rattle.std.specs.Io.KnownBytes.{Appends};
 ghost use Rattle.job_file.specs.Jobs.{job_in};
 ghost use Rattle.job_file.specs.Meaning.{records};
 ghost use Rattle.job_file.specs.Machines.{IsOf};
-ghost use Rattle.ch11_builder.specs.Recorded.{IsRecorded};
-ghost use Rattle.ch11_recording.specs.Items.{numbered};
 ghost use Rattle.ch11_recording.specs.Recording.{IsRecordingOf};
 ghost use Rattle.bench_channel.specs.Channel.{format_of, channel_file, IsReadAs};
 ghost use Rattle.bench_channel.specs.Faults.{Leaves, IsOutOfRange};
@@ -13,21 +11,10 @@ ghost use Rattle.bench_channel.specs.Faults.{Leaves, IsOutOfRange};
 use crate::fault::ChannelFault;
 use bc_machine::Machine;
 use ch11_builder::run_gives_the_packets;
-use ch11_recording::{Recorder, recording_is_read_again};
+use ch11_recording::{Recorder, record_fits, recording_is_read_again};
 use ch11_writer::Sink;
 use job_file::{Job, next_record};
-use mil_monitor::Record;
 use std::alloc::Global;
-
-/// A record of a bus monitor fits a recording, where its stamp does.
-fn fits(number: u32, message: &Record)
-    requires { message.now.stamp < 2 ^ 48 }
-    ensures { IsRecorded (numbered number message.now) }
-{
-    let _block = message.block;
-    let _gaps = message.gaps;
-    let _words = message.words.as_slice();
-}
 
 /// Records every message of a job, from its first on.
 fn record_all<S: Sink>(
@@ -58,7 +45,7 @@ fn record_all<S: Sink>(
     recording_is_read_again();
     while let Some(record) = next_record(&mut machine) {
         let number = machine.number();
-        fits(number, &record);
+        record_fits(&record);
         recorder.keep(0, u64::from(number), &record);
     }
     recorder.end(0);

@@ -1,16 +1,14 @@
 //! One channel of a world: its controller, and what became of its messages.
-ghost use Rattle.std.specs.Prelude.{◌≡◌, ◌<◌, ◌≤◌, ◌^◌, ◌||◌, not, if◌then◌else◌, [], ◌∷◌, ◌++◌, vec_len, Some, None, IfOk, OnOk, OnErr};
+ghost use Rattle.std.specs.Prelude.{◌≡◌, ◌<◌, ◌≤◌, ◌||◌, not, if◌then◌else◌, [], ◌∷◌, ◌++◌, vec_len, Some, None, IfOk, OnOk, OnErr};
 ghost use Rattle.std.specs.Vec.{vec_capacity};
 ghost use Rattle.ch11_recording.specs.declared.item.Item.TheVariants as item;
-ghost use Rattle.ch11_builder.specs.Recorded.{IsRecorded};
-ghost use Rattle.ch11_recording.specs.Items.{numbered};
 ghost use Rattle.bench_core.specs.Channels.{lane_of, after_next, queued_next, next_in, part_of, IsMade};
 
 use crate::parts::channel_report;
 use crate::placing::ordered_actions;
 use bc_machine::{Machine, Placed};
 use bench_report::ChannelReport;
-use ch11_recording::Item;
+use ch11_recording::{Item, record_fits};
 use job_file::{Job, next_record};
 use mil_monitor::Record;
 use std::alloc::{AllocError, Global};
@@ -37,16 +35,6 @@ impl Model for Lane {
     ghost view = { bus_in };
 
     ghost invariant = { IsBus };
-}
-
-/// A record of a bus monitor fits a recording, where its stamp does.
-fn fits(message: &Record)
-    requires { message.now.stamp < 2 ^ 48 }
-    ensures { IsRecorded (numbered 0 message.now) }
-{
-    let _block = message.block;
-    let _gaps = message.gaps;
-    let _words = message.words.as_slice();
 }
 
 /// The end mark of a channel, once and where there is room.
@@ -124,7 +112,7 @@ impl Lane {
         let Some(made) = next else {
             return Ok(end_mark(&mut self.ended, self.channel, room));
         };
-        fits(&made);
+        record_fits(&made);
         Ok(message(&mut self.refused, self.channel, number, made, room))
     }
 

@@ -1,5 +1,5 @@
 //! One channel's thread.
-ghost use Rattle.std.specs.Prelude.{◌≡◌, ◌<◌, ◌≤◌, ◌-◌, ◌^◌, ◌++◌, ◌∷◌, [], true, length, vec_capacity, slice_get, Some};
+ghost use Rattle.std.specs.Prelude.{◌≡◌, ◌<◌, ◌≤◌, ◌-◌, ◌++◌, ◌∷◌, [], true, length, vec_capacity, slice_get, Some};
 ghost use Rattle.frame_asm.specs.Shapes.{code_of};
 ghost use Rattle.frame_load.specs.Budget.{worst_messages};
 ghost use Rattle.mil_trunk.specs.Tags.{has, bound_of};
@@ -17,6 +17,7 @@ use crate::gate::Gate;
 use bc_machine::{Machine, Placed};
 use bench_core::channel_report;
 use bench_report::ChannelReport;
+use ch11_recording::record_fits;
 use job_file::{Job, next_record};
 use mil_monitor::Record;
 use mil_trunk::{Ticket, Trunk};
@@ -69,7 +70,7 @@ pub(crate) fn channel<R: Wait, G: Gate>(
             break;
         };
         let number = machine.number();
-        fits(&record);
+        record_fits(&record);
         offer_message(
             rt,
             trunk,
@@ -87,16 +88,6 @@ pub(crate) fn channel<R: Wait, G: Gate>(
         ticket,
         part: channel_report(job.channel(), machine.number(), refused, ordered),
     }
-}
-
-// A record of a bus monitor fits a recording, where its stamp does.
-fn fits(message: &Record)
-    requires { message.now.stamp < 2 ^ 48 }
-    ensures { IsRecorded (numbered 0 message.now) }
-{
-    let _block = message.block;
-    let _gaps = message.gaps;
-    let _words = message.words.as_slice();
 }
 
 // Offers a message once. Where it comes back, its number joins the list.

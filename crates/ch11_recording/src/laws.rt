@@ -1,8 +1,12 @@
 //! Laws of the definitions of this crate, each the contract of a function that does nothing.
+ghost use Rattle.std.specs.Prelude.{ℕ, ◌<◌, ◌^◌};
+ghost use Rattle.ch11_builder.specs.Recorded.{IsRecorded};
+ghost use Rattle.ch11_recording.specs.Items.{numbered};
 ghost use Rattle.ch11_recording.specs.Laws.{RecordingIsRead, RecordsAreKept, EndedIsClosed, FileGoesOn, LatestIsLast, FileIsPackets, PacketsHaveBytes, AllPacketsAreWhole, PacketsGoOn};
 
 use ch11_builder::{packet_is_read_again, run_gives_the_packets};
 use ch11_reader::recordings_join;
+use mil_monitor::Record;
 
 /// A recording is read again as the records of its closed packets: for each channel in order and once. Where a channel has
 /// ended, those are all of its records. Conditions: the prologue is a list of sound packets without one of MIL-STD-1553
@@ -36,4 +40,14 @@ pub fn file_is_packets()
     ensures goes_on { PacketsGoOn }
 {
     packet_is_read_again();
+}
+
+/// A record of a bus monitor goes into a packet under every number. Condition: its stamp is below 2^48.
+pub fn record_fits(message: &Record)
+    requires { message.now.stamp < 2 ^ 48 }
+    ensures { (number : ℕ) → IsRecorded (numbered number message.now) }
+{
+    let _block = message.block;
+    let _gaps = message.gaps;
+    let _words = message.words.as_slice();
 }

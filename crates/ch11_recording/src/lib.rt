@@ -8,7 +8,9 @@ mod packet_writer;
 mod recorder;
 
 pub use item::Item;
-pub use laws::{file_is_packets, latest_is_last, recording_goes_on, recording_is_read_again};
+pub use laws::{
+    file_is_packets, latest_is_last, record_fits, recording_goes_on, recording_is_read_again,
+};
 pub use recorder::Recorder;
 
 #[cfg(test)]

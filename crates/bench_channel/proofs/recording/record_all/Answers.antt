@@ -19,7 +19,7 @@ loop-record-preserved g c =
     let st = c.loop-record.invariant.stage in
     let number : c.from.result ≡ c.next_record.new.machine.point.number = c.from.ensures ∙ c.number-number.ensures.value in
     let is : c.from.result ≡ n + 1 = number ∙ c.in-Some.ensures.number in
-    let fits : IsRecorded (numbered c.from.result c.in-Some.record) = subst (λ i. IsRecorded (numbered i c.in-Some.record)) (sym c.from.ensures) c.fits.ensures in
+    let fits : IsRecorded (numbered c.from.result c.in-Some.record) = c.record_fits.ensures c.from.result in
     let low = is_next taken failures job placed c.args.version c.args.limit before n c.loop-record.recorder (holding taken failures job placed c.args.version c.args.limit before n) st
     (lane_now taken failures job placed c.args.version c.args.limit before n c.loop-record.recorder st) in
     let kept : c.keep.result ≡ true =

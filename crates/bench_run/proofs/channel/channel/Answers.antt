@@ -95,3 +95,6 @@ returns g c =
     (subst (λ k. SoFar c.args.trunk.now (tags_of c.args.ticket) (bounds_of c.args.ticket) c.args.index job k c.messages.ticket c.messages.refused.items) (sym made) st) (made ∙ whole) end.ticket end.tags end.bounds end.sent
     (part.channel ∙ c.channel-3.ensures.value) part.made part.refused (part.placed job.actions c.requires.room.ordered)
     (omega (arith, c.channel-3.ensures.value)) (omega (arith, c.number-2.ensures.range)) (omega (arith, made, top))
+
+pub offer_message-requires-clause-recorded : goal.offer_message-requires-clause-recorded
+offer_message-requires-clause-recorded g c κs within = c.record_fits.ensures 0

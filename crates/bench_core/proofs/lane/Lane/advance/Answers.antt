@@ -48,7 +48,7 @@ invariant_of-self-2 c =
       refused = rises_message c.args.room l.machine.point.number _ _ l.refused.items _ _ c.in-Some.ensures.number c.number-number.ensures.value c.reserve.ensures.items c.self.invariant.refused c.message.ensures.refused;
       placed = c.self.invariant.placed;
       ordered = c.self.invariant.ordered;
-      recorded = subst (λ (k : ℕ). AreRecorded (take k rs)) (sym c.in-Some.ensures.number) (recorded_next rs l.machine.point.number c.in-Some.made at c.self.invariant.recorded c.fits.ensures);
+      recorded = subst (λ (k : ℕ). AreRecorded (take k rs)) (sym c.in-Some.ensures.number) (recorded_next rs l.machine.point.number c.in-Some.made at c.self.invariant.recorded (c.record_fits.ensures 0));
     }
 
 pub returns-clause-lane : goal.returns-clause-lane
@@ -71,6 +71,6 @@ returns-clause-made c =
     let rs = records (job_in l.job.value) l.job.value.actions in
     let at = c.in-Some.ensures.record (job_in l.job.value) l.job.value.actions c.self.invariant.sound c.self.invariant.controller in
     record {
-      recorded = subst (λ (k : ℕ). AreRecorded (take k rs)) (sym c.in-Some.ensures.number) (recorded_next rs l.machine.point.number c.in-Some.made at c.self.invariant.recorded c.fits.ensures);
+      recorded = subst (λ (k : ℕ). AreRecorded (take k rs)) (sym c.in-Some.ensures.number) (recorded_next rs l.machine.point.number c.in-Some.made at c.self.invariant.recorded (c.record_fits.ensures 0));
       few = omega (arith, c.number-number.ensures.value, c.number-number.ensures.range);
     }
