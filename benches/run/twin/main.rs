@@ -1,8 +1,8 @@
 // The same in plain Rust: buses on threads of their own, and one recording of them all, timed alike. Its bus is that of the twin
 // of benches/exchange. No code of the repository is in it.
-//   twin run CHANNELS TIMES ROUNDS memory|FILE      the nanoseconds of a run, and its messages, refused ones and packets
-//   twin compare FILE FILE                          whether two recordings give the same for each channel
-//   twin count FILE                                 how many messages a recording has
+//   twin CHANNELS TIMES ROUNDS open|paced memory|FILE      the nanoseconds of a run, and its messages, refused ones and packets
+//   twin compare FILE FILE                                 whether two recordings give the same for each channel
+//   twin count FILE                                        how many messages a recording has
 #[path = "../../exchange/twin/buses.rs"]
 mod buses;
 mod controller;
@@ -39,8 +39,9 @@ fn main() -> io::Result<()> {
     let words: Vec<&str> = words.iter().map(String::as_str).collect();
     let number = |word: &str| word.parse::<u16>().expect("a number");
     match words[..] {
-        ["run", channels, times, rounds, place] => {
-            let load = Load { channels: number(channels).min(8) as u8, times: number(times), rounds: number(rounds) };
+        [channels, times, rounds, gate, place] => {
+            let channels = number(channels).min(8) as u8;
+            let load = Load { channels, times: number(times), rounds: number(rounds), paced: gate == "paced" };
             if place == "memory" { timed(load, Vec::new()) } else { timed(load, File::create(place)?) }
         }
         ["compare", ours, twin] => reading::compare(&std::fs::read(ours)?, &std::fs::read(twin)?),

@@ -13,6 +13,7 @@ pub struct Load {
     pub channels: u8,
     pub times: u16,
     pub rounds: u16,
+    pub paced: bool,
 }
 
 pub struct Report {
@@ -26,15 +27,17 @@ pub enum Entry {
     End { index: u8 },
 }
 
-// Offers each message once, and lists the numbers of those that a full queue refused.
-fn channel(index: u8, mut controller: Controller, queue: SyncSender<Entry>) -> (u32, Vec<u32>) {
+// Sends each message: where it is paced, it waits for room in the queue; else it offers the message once, and lists the numbers of
+// those that a full queue refused.
+fn channel(index: u8, mut controller: Controller, queue: SyncSender<Entry>, paced: bool) -> (u32, Vec<u32>) {
     let mut refused = Vec::new();
     while let Some(record) = controller.next() {
         let number = controller.number;
-        match queue.try_send(Entry::Message { index, number, record }) {
-            Ok(()) => {}
-            Err(TrySendError::Full(_)) => refused.push(number),
-            Err(TrySendError::Disconnected(_)) => break,
+        let entry = Entry::Message { index, number, record };
+        if paced {
+            queue.send(entry).expect("a writer");
+        } else if let Err(TrySendError::Full(_)) = queue.try_send(entry) {
+            refused.push(number);
         }
     }
     let _ = queue.send(Entry::End { index });
@@ -59,7 +62,7 @@ pub fn run<W: Write>(load: Load, sink: W) -> io::Result<(Report, W)> {
         let handles: Vec<_> = (0..load.channels)
             .map(|index| {
                 let sender = sender.clone();
-                scope.spawn(move || channel(index, Controller::new(load.times, load.rounds), sender))
+                scope.spawn(move || channel(index, Controller::new(load.times, load.rounds), sender, load.paced))
             })
             .collect();
         drop(sender);

@@ -1,15 +1,18 @@
 //! Times runs of 1 to 8 jobs of 31 terminals, for `benches/run`: the nanoseconds of a run, and how many messages were made, how
-//! many of these a full queue refused, and how many packets were written.
+//! many of these a full queue refused, and how many packets were written. Its arguments are the channels, two numbers that multiply
+//! to the rounds of each (a message to each terminal), `open` or `paced`, and `memory` or the name of a file.
 #![tactic(auto)]
 
 ghost use Rattle.std.specs.Prelude.{◌<◌, ◌-◌, ◌^◌};
 
+mod gate;
 mod jobs;
 
 use bench_core::Settings;
 use bench_report::Report;
-use bench_run::{OpenGate, RunError, run};
+use bench_run::{Gate, OpenGate, RunError, run};
 use ch11_writer::{MemorySink, Sink, StdSink};
+use gate::PacedGate;
 use job_file::Job;
 use jobs::{Load, jobs_of};
 use std::env::Env;
@@ -59,9 +62,10 @@ fn timing_of(report: &Report, nanos: u128) -> Timing {
 }
 
 /// Runs the jobs into a sink, and times that. None where the run gave no recording.
-fn measure<R: Threads + Wait + Sync + Clock + AllocGlobal, S: Sink + Drop>(
+fn measure<R: Threads + Wait + Sync + Clock + AllocGlobal, G: Gate, S: Sink + Drop>(
     rt: &R,
     jobs: &[Job],
+    gate: &G,
     sink: S,
 ) -> io::Result<Option<Timing>>
     requires { S.failures sink < 2 ^ 64 - 1 }
@@ -74,7 +78,7 @@ fn measure<R: Threads + Wait + Sync + Clock + AllocGlobal, S: Sink + Drop>(
         posts: 0,
     };
     let start = Instant::now(rt)?;
-    let ran = run(rt, rt.alloc(), jobs, &settings, &OpenGate, sink);
+    let ran = run(rt, rt.alloc(), jobs, &settings, gate, sink);
     let nanos = start.elapsed(rt)?.as_nanos();
     match report_of(ran) {
         Some(report) => Ok(Some(timing_of(&report, nanos))),
@@ -82,15 +86,60 @@ fn measure<R: Threads + Wait + Sync + Clock + AllocGlobal, S: Sink + Drop>(
     }
 }
 
-/// The load and the place of the recording that the arguments name; None where they are not CHANNELS TIMES ROUNDS PLACE.
-fn read_arguments<R: Env + AllocGlobal>(rt: &R) -> io::Result<Option<(Load, String)>> {
+/// Measures the jobs at a gate into memory, where the place is `memory`, and else into a file of that name.
+fn measure_at<R: Threads + Wait + Sync + Clock + Files + AllocGlobal, G: Gate>(
+    rt: &R,
+    jobs: &[Job],
+    gate: &G,
+    place: &str,
+) -> io::Result<Option<Timing>> {
+    if place == "memory" {
+        measure(rt, jobs, gate, MemorySink::make(rt.alloc()))
+    } else {
+        let file = fs::create(rt, place)?;
+        measure(rt, jobs, gate, StdSink::make(file))
+    }
+}
+
+/// Measures a load: paced, so that the queue refuses no message, or as fast as its channels go.
+fn measure_load<R: Threads + Wait + Sync + Clock + Files + AllocGlobal>(
+    rt: &R,
+    asked: &Asked,
+) -> io::Result<Option<Timing>> {
+    let Some(jobs) = jobs_of(rt.alloc(), asked.load) else {
+        return Ok(None);
+    };
+    let place = asked.place.as_str();
+    match asked.gate.as_str() {
+        "paced" => {
+            measure_at(
+                rt,
+                &jobs,
+                &PacedGate::among(asked.load.channels, QUEUE),
+                place,
+            )
+        }
+        "open" => measure_at(rt, &jobs, &OpenGate, place),
+        _ => Ok(None),
+    }
+}
+
+/// What the arguments ask for.
+#[derive(Drop)]
+struct Asked {
+    load: Load,
+    gate: String,
+    place: String,
+}
+
+/// What the arguments ask for; None where they are not CHANNELS TIMES ROUNDS GATE PLACE.
+fn read_arguments<R: Env + AllocGlobal>(rt: &R) -> io::Result<Option<Asked>> {
     let mut words = env::args(rt)?.skip(1);
-    let (Some(channels), Some(times), Some(rounds), Some(place)) = (
-        words.next(),
-        words.next(),
-        words.next(),
-        words.next(),
-    ) else {
+    let (Some(channels), Some(times), Some(rounds)) = (words.next(), words.next(), words.next())
+    else {
+        return Ok(None);
+    };
+    let (Some(gate), Some(place)) = (words.next(), words.next()) else {
         return Ok(None);
     };
     let (Ok(channels), Ok(times), Ok(rounds)) = (
@@ -105,32 +154,15 @@ fn read_arguments<R: Env + AllocGlobal>(rt: &R) -> io::Result<Option<(Load, Stri
         times,
         rounds,
     };
-    Ok(Some((load, place)))
-}
-
-/// Measures a load into memory, where the place is `memory`, and else into a file of that name.
-fn measured<R: Threads + Wait + Sync + Clock + Files + AllocGlobal>(
-    rt: &R,
-    load: Load,
-    place: &str,
-) -> io::Result<Option<Timing>> {
-    let Some(jobs) = jobs_of(rt.alloc(), load) else {
-        return Ok(None);
-    };
-    if place == "memory" {
-        measure(rt, &jobs, MemorySink::make(rt.alloc()))
-    } else {
-        let file = fs::create(rt, place)?;
-        measure(rt, &jobs, StdSink::make(file))
-    }
+    Ok(Some(Asked { load, gate, place }))
 }
 
 // With no arguments it does nothing, so that its run as a test is always the same.
 fn main(rt: HostRuntime) -> io::Result<()> {
-    let Some((load, place)) = read_arguments(&rt)? else {
+    let Some(asked) = read_arguments(&rt)? else {
         return Ok(());
     };
-    match measured(&rt, load, place.as_str())? {
+    match measure_load(&rt, &asked)? {
         Some(m) => println!(rt; "{} {} {} {}", m.nanos, m.made, m.refused, m.packets),
         None => Ok(()),
     }
