@@ -20,6 +20,7 @@ pub struct Controller {
     pub place: usize,
     pub counters: Vec<u16>,
     pub number: u32,
+    pub failed: bool,
 }
 
 const WORDS: [u16; 32] = [
@@ -46,6 +47,7 @@ impl Controller {
             place: 0,
             counters: Vec::with_capacity(16),
             number: 0,
+            failed: false,
         }
     }
     pub fn next(&mut self) -> Option<Record> {
@@ -76,6 +78,8 @@ impl Controller {
             Ok(place) => self.faults[place].1.as_slice(),
             Err(_) => &[],
         };
-        self.bus.exchange(Line::A, &self.messages[index as usize], 40, faults).observe()
+        let record = self.bus.exchange(Line::A, &self.messages[index as usize], 40, faults).observe();
+        self.failed = record.block & 0x1000 != 0;
+        record
     }
 }
