@@ -7,6 +7,8 @@ mod error;
 mod gate;
 mod ready;
 mod running;
+#[cfg(test)]
+mod tests;
 mod threads;
 mod writer;
 

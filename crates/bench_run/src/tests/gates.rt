@@ -1,0 +1,242 @@
+//! Gates that hold threads until others have come to a place. Each wait has a limit, so that every test ends.
+use crate::Gate;
+use std::sync::atomic::{AtomicU32, Ordering};
+use std::thread;
+
+/// How often a thread looks for what it waits for, before it goes on all the same.
+const TURNS: u32 = 10_000_000;
+
+/// Whether a number comes to one that is wanted, or is above it, within the turns.
+fn comes_to(number: &AtomicU32, wanted: u32) -> bool {
+    for _ in 0..TURNS {
+        if number.load(Ordering::SeqCst) >= wanted {
+            return true;
+        }
+        thread::yield_now();
+    }
+    false
+}
+
+/// Whether a gate waited for something that did not come.
+#[derive(Drop)]
+pub(super) struct Waits {
+    missed: AtomicU32,
+}
+
+impl Waits {
+    fn make() -> Waits {
+        Waits {
+            missed: AtomicU32::new(0),
+        }
+    }
+
+    fn until(&self, number: &AtomicU32, wanted: u32) {
+        if !comes_to(number, wanted) {
+            self.missed.store(1, Ordering::SeqCst);
+        }
+    }
+
+    /// Whether all that was waited for came within the turns.
+    pub(super) fn all_came(&self) -> bool {
+        self.missed.load(Ordering::SeqCst) == 0
+    }
+}
+
+/// Channel 1 waits before message 1 until the end mark of channel 2 was taken, before 2 until 1 was taken, and before 5 until 2
+/// was taken; the writer waits after taking message 1 of channel 1 until 4 was offered.
+#[derive(Drop)]
+pub(super) struct HeldWriter {
+    pub(super) waits: Waits,
+    ended: AtomicU32,
+    taken: AtomicU32,
+    offered: AtomicU32,
+}
+
+impl HeldWriter {
+    pub(super) fn make() -> HeldWriter {
+        HeldWriter {
+            waits: Waits::make(),
+            ended: AtomicU32::new(0),
+            taken: AtomicU32::new(0),
+            offered: AtomicU32::new(0),
+        }
+    }
+}
+
+impl Gate for HeldWriter {
+    fn before_message(&self, channel: u16, number: u32) {
+        match (channel, number) {
+            (1, 1) => self.waits.until(&self.ended, 1),
+            (1, 2) => self.waits.until(&self.taken, 1),
+            (1, 5) => self.waits.until(&self.taken, 2),
+            _ => {}
+        }
+    }
+
+    fn after_offer(&self, channel: u16, number: u32, _kept: bool) {
+        if channel == 1 && number > 0 {
+            self.offered.store(number, Ordering::SeqCst);
+        }
+    }
+
+    fn after_take(&self, channel: u16, number: u32) {
+        match (channel, number) {
+            (2, 0) => self.ended.store(1, Ordering::SeqCst),
+            (1, 1) => {
+                self.taken.store(1, Ordering::SeqCst);
+                self.waits.until(&self.offered, 4);
+            }
+            (1, 2) => self.taken.store(2, Ordering::SeqCst),
+            _ => {}
+        }
+    }
+}
+
+/// Two channels of ten messages take turns: each message waits until all before it, in the order 1 of channel 1, 1 of channel 2,
+/// 2 of channel 1, .., were taken, and the last of channel 2 also until the end mark of channel 1 was.
+#[derive(Drop)]
+pub(super) struct InTurn {
+    pub(super) waits: Waits,
+    taken: AtomicU32,
+    ended: AtomicU32,
+}
+
+impl InTurn {
+    pub(super) fn make() -> InTurn {
+        InTurn {
+            waits: Waits::make(),
+            taken: AtomicU32::new(0),
+            ended: AtomicU32::new(0),
+        }
+    }
+}
+
+impl Gate for InTurn {
+    fn before_message(&self, channel: u16, number: u32) {
+        if number > 10 {
+            return;
+        }
+        let before = (2 * number + u32::from(channel)).saturating_sub(3);
+        self.waits.until(&self.taken, before);
+        if channel == 2 && number == 10 {
+            self.waits.until(&self.ended, 1);
+        }
+    }
+
+    fn after_offer(&self, _channel: u16, _number: u32, _kept: bool) {}
+
+    fn after_take(&self, channel: u16, number: u32) {
+        if number > 0 {
+            self.taken.fetch_add(1, Ordering::SeqCst);
+        } else if channel == 1 {
+            self.ended.store(1, Ordering::SeqCst);
+        }
+    }
+}
+
+/// The first messages of channels 1 and 2 meet: before its own, each channel waits until the other has come to that place.
+#[derive(Drop)]
+pub(super) struct Meeting {
+    pub(super) waits: Waits,
+    first: AtomicU32,
+    second: AtomicU32,
+}
+
+impl Meeting {
+    pub(super) fn make() -> Meeting {
+        Meeting {
+            waits: Waits::make(),
+            first: AtomicU32::new(0),
+            second: AtomicU32::new(0),
+        }
+    }
+
+    /// Whether both channels came to their first message.
+    pub(super) fn both_came(&self) -> bool {
+        self.first.load(Ordering::SeqCst) == 1 && self.second.load(Ordering::SeqCst) == 1
+    }
+}
+
+impl Gate for Meeting {
+    fn before_message(&self, channel: u16, number: u32) {
+        match (channel, number) {
+            (1, 1) => {
+                self.first.store(1, Ordering::SeqCst);
+                self.waits.until(&self.second, 1);
+            }
+            (2, 1) => {
+                self.second.store(1, Ordering::SeqCst);
+                self.waits.until(&self.first, 1);
+            }
+            _ => {}
+        }
+    }
+
+    fn after_offer(&self, _channel: u16, _number: u32, _kept: bool) {}
+
+    fn after_take(&self, _channel: u16, _number: u32) {}
+}
+
+/// A channel goes first: each message of another waits until its end mark was taken.
+#[derive(Drop)]
+pub(super) struct GoesFirst {
+    pub(super) waits: Waits,
+    channel: u16,
+    ended: AtomicU32,
+}
+
+impl GoesFirst {
+    pub(super) fn make(channel: u16) -> GoesFirst {
+        GoesFirst {
+            waits: Waits::make(),
+            channel,
+            ended: AtomicU32::new(0),
+        }
+    }
+}
+
+impl Gate for GoesFirst {
+    fn before_message(&self, channel: u16, _number: u32) {
+        if channel != self.channel {
+            self.waits.until(&self.ended, 1);
+        }
+    }
+
+    fn after_offer(&self, _channel: u16, _number: u32, _kept: bool) {}
+
+    fn after_take(&self, channel: u16, number: u32) {
+        if channel == self.channel && number == 0 {
+            self.ended.store(1, Ordering::SeqCst);
+        }
+    }
+}
+
+/// The writer waits after its first item until two end marks were kept, so that the queue holds all that two channels send.
+#[derive(Drop)]
+pub(super) struct Backlog {
+    pub(super) waits: Waits,
+    ended: AtomicU32,
+}
+
+impl Backlog {
+    pub(super) fn make() -> Backlog {
+        Backlog {
+            waits: Waits::make(),
+            ended: AtomicU32::new(0),
+        }
+    }
+}
+
+impl Gate for Backlog {
+    fn before_message(&self, _channel: u16, _number: u32) {}
+
+    fn after_offer(&self, _channel: u16, number: u32, kept: bool) {
+        if number == 0 && kept {
+            self.ended.fetch_add(1, Ordering::SeqCst);
+        }
+    }
+
+    fn after_take(&self, _channel: u16, _number: u32) {
+        self.waits.until(&self.ended, 2);
+    }
+}

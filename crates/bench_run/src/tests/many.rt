@@ -1,0 +1,98 @@
+//! Many runs of eight channels on short queues: what is read back is what was made, but for what the report lists.
+use super::{STEP, done, settings_of};
+use crate::{OpenGate, run};
+use bench_core::Settings;
+use bench_report::{ChannelReport, Report};
+use ch11_reader::Index;
+use ch11_writer::MemorySink;
+use job_file::{Job, read_job};
+use std::alloc::Global;
+use std::sync::Wait;
+use std::test::Fail;
+use std::thread::Threads;
+
+/// How many runs there are with a queue of each length.
+const RUNS: u32 = 125;
+
+/// How many messages the channels 1 to 8 make.
+const COUNTS: [u32; 8] = [2, 3, 4, 2, 3, 4, 2, 3];
+
+/// Eight jobs of so many messages, each a step later than the one before it.
+fn eight_jobs(alloc: Global) -> Result<Vec<Job>, Fail> {
+    let mut jobs = Vec::new(alloc);
+    for (count, channel) in COUNTS.iter().zip(1u32..9) {
+        let text = format!(in alloc;
+            "channel {channel}\nterminal 5\nscript\nrepeat {count} {{ send A rx 5 1 [0001] }}\n"
+        )?;
+        let job = read_job(alloc, text.as_bytes()).ok().ok_or("a job")?;
+        jobs.push(job)?;
+    }
+    Ok(jobs)
+}
+
+/// How many messages of a channel were kept, where the file holds in their order those that were made but for the refused.
+fn kept_of(index: &Index<'_>, part: &ChannelReport) -> Option<u64> {
+    let mut messages = index.channel(part.channel());
+    let mut kept = 0u64;
+    for place in 0..part.made() {
+        if part.refused().contains(&(place + 1)) {
+            continue;
+        }
+        let seen = messages.next()?;
+        if seen.stamp != STEP * u64::from(place) {
+            return None;
+        }
+        kept = kept.wrapping_add(1);
+    }
+    match messages.next() {
+        Some(_) => None,
+        None => Some(kept),
+    }
+}
+
+/// Whether a file holds of each channel what its report says, and nothing else.
+fn agrees(index: &Index<'_>, report: &Report) -> bool {
+    let mut total = 0u64;
+    for (part, count) in report.channels().iter().zip(&COUNTS) {
+        if part.made() != *count {
+            return false;
+        }
+        let Some(kept) = kept_of(index, part) else {
+            return false;
+        };
+        total = total.wrapping_add(kept);
+    }
+    report.channels().len() == COUNTS.len() && index.total() == total
+}
+
+/// Runs the jobs so many times, and counts the runs whose file is not what the report says.
+fn wrong_runs<R: Threads + Wait + Sync>(
+    rt: &R,
+    alloc: Global,
+    jobs: &[Job],
+    settings: &Settings,
+    runs: u32,
+) -> Result<u32, Fail> {
+    let mut wrong = 0u32;
+    for _ in 0..runs {
+        let sink = MemorySink::make(alloc);
+        let (report, sink) = done(run(rt, alloc, jobs, settings, &OpenGate, sink))?;
+        let index = Index::build(alloc, sink.bytes()).ok().ok_or("readable")?;
+        if !agrees(&index, &report) {
+            wrong = wrong.wrapping_add(1);
+        }
+    }
+    Ok(wrong)
+}
+
+#[test]
+fn a_thousand_runs(rt: HostRuntime) -> Result<(), Fail> {
+    let alloc = rt.alloc();
+    let jobs = eight_jobs(alloc)?;
+    for queue in 1..=8u32 {
+        let settings = settings_of(alloc, queue, &[])?;
+        let wrong = wrong_runs(&rt, alloc, &jobs, &settings, RUNS)?;
+        assert_eq!(rt; wrong, 0, "with a queue of {queue}");
+    }
+    Ok(())
+}
