@@ -1,0 +1,7 @@
+use Rattle.std.proofs.Common.{◌≡◌, take}
+use Rattle.bench_record.specs.Counted.{messages_of}
+use Rattle.bench_record.proofs.counts.Counts.of_report.Given as goal
+
+-- the messages of the channels so far
+abbrev pub invariant-loop-channel : goal.invariant-loop-channel
+invariant-loop-channel l = l.messages ≡ messages_of (take l.channel-index l.channel-items)

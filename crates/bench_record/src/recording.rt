@@ -1,0 +1,60 @@
+//! Jobs recorded, with or without a word on how far the recording has come.
+ghost use Rattle.std.specs.Prelude.{◌≡◌, ◌-◌, ◌<◌, ◌≤◌, ◌^◌, [], IfOk, IfErr};
+ghost use Rattle.std.specs.List.{AllByRecursion};
+ghost use Rattle.bench_run.specs.Runs.{Ran, Leaves, most_in_all};
+
+use crate::progress::Progress;
+use bench_core::Settings;
+use bench_report::Report;
+use bench_run::{OpenGate, RunError, run};
+use ch11_writer::Sink;
+use job_file::Job;
+use std::alloc::Global;
+use std::io::IsTerminal;
+use std::rt::Clock;
+use std::sync::Wait;
+use std::thread::Threads;
+
+/// Runs the jobs, each on a thread of its own, while the calling thread writes their messages into one recording; the queue
+/// alone orders the threads. In order: U2 where there are not 1 to 8 jobs or a setting is out of its range, U1 where a channel
+/// stands twice, U5 where the prologue is no list of sound packets or has one of MIL-STD-1553 messages, U3 where memory or a
+/// thread is refused, U4 where the sink fails. Each hands the sink back; U2, U1 and U5 put nothing into it.
+pub fn record_jobs<R: Threads + Wait + Sync, S: Sink + Drop>(
+    rt: &R,
+    alloc: Global,
+    jobs: &[Job],
+    settings: &Settings,
+    sink: S,
+) -> Result<(Report, S), RunError<S>>
+    requires countable { S.failures sink < 2 ^ 64 - 1 }
+    ensures ran { IfOk result (λ r. Ran S.taken jobs.now settings.now sink r.0 r.1) }
+    ensures room { IfOk result (λ r. most_in_all jobs.now ≤ settings.now.queue → AllByRecursion (λ part. part.refused ≡ []) r.0.channels) }
+    ensures refused { IfErr result (Leaves S.taken S.failures jobs.now settings.now sink) }
+{
+    run(rt, alloc, jobs, settings, &OpenGate, sink)
+}
+
+/// The same, and where these errors go to a terminal, a line there says from the second second on how many messages the writer
+/// has taken. It answers and refuses as `record_jobs` does.
+pub fn record_jobs_with_progress<
+    R: Threads + Wait + Clock + Sync,
+    E: Eprint + IsTerminal + Sync,
+    S: Sink + Drop,
+>(
+    rt: &R,
+    alloc: Global,
+    errors: &E,
+    jobs: &[Job],
+    settings: &Settings,
+    sink: S,
+) -> Result<(Report, S), RunError<S>>
+    requires countable { S.failures sink < 2 ^ 64 - 1 }
+    ensures ran { IfOk result (λ r. Ran S.taken jobs.now settings.now sink r.0 r.1) }
+    ensures room { IfOk result (λ r. most_in_all jobs.now ≤ settings.now.queue → AllByRecursion (λ part. part.refused ≡ []) r.0.channels) }
+    ensures refused { IfErr result (Leaves S.taken S.failures jobs.now settings.now sink) }
+{
+    let progress = Progress::begin(rt, errors);
+    let answer = run(rt, alloc, jobs, settings, &progress, sink);
+    progress.end();
+    answer
+}
