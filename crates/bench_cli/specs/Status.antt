@@ -1,13 +1,27 @@
 -- The exit status of a fault (own choice); 0 is done and 2 usage.
 use Rattle.std.specs.Prelude.{ℕ}
+use Rattle.bench_core.specs.declared.settings.WorldError.TheVariants as world
+use Rattle.bench_run.specs.declared.error.RunError.{RunError}
+use Rattle.bench_run.specs.declared.error.RunError.TheVariants as run
 use Rattle.bench_cli.specs.declared.fault.Fault.{Fault}
-use Rattle.bench_cli.specs.declared.fault.Fault.TheVariants.{Text, Script, Recording, Device, Memory}
+use Rattle.bench_cli.specs.declared.fault.Fault.TheVariants.{Text, Script, Recording, Job, Run, Sink, Device, Memory}
 
 abbrev pub status_of : Fault → ℕ
 -- the input was refused
 status_of (Text fault) = 1
 status_of (Script fault) = 1
 status_of (Recording refusal) = 1
+status_of (Job fault) = 1
+status_of (Run fault) = 1
 -- a file or a stream failed
+status_of (Sink taken) = 3
 status_of (Device name) = 3
 status_of Memory = 4
+
+-- the fault of a run that gave no recording
+abbrev pub fault_of : {S : Type 0} → RunError S → Fault
+fault_of (run.Settings sink) = Run world.Settings
+fault_of (run.ChannelTwice sink) = Run world.ChannelTwice
+fault_of (run.Prologue sink) = Run world.Prologue
+fault_of (run.Memory sink) = Memory
+fault_of (run.Sink sink report taken) = Sink taken

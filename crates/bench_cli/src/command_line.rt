@@ -4,7 +4,7 @@ use clap::{Arg, ArgMatches, Command, Error, value_parser};
 use std::alloc::{AllocError, Global};
 
 /// What a command line asks.
-#[derive(Clone, Copy, Debug)]
+#[derive(Debug, Drop)]
 pub enum Request<'a> {
     /// One message on fresh terminals, printed as a packet of this channel and data type version.
     One {
@@ -17,10 +17,31 @@ pub enum Request<'a> {
         script: &'a str,
         image: &'a str,
     },
+    /// Jobs, recorded into a file.
+    Run(RunRequest<'a>),
     /// The packets and messages of a recording, printed as lines.
     Dump {
         recording: &'a str,
     },
+}
+
+/// What is to be recorded, and where to.
+#[derive(Debug, Drop)]
+pub struct RunRequest<'a> {
+    /// The data type version in each packet header.
+    pub version: u8,
+    /// How many bytes a packet has at most, in range or not.
+    pub limit: u32,
+    /// How many items the queue holds at most, in range or not.
+    pub queue: u32,
+    /// The file of the packets that stand in front of all others.
+    pub prologue: Option<&'a str>,
+    /// The file to write the recording to.
+    pub out: &'a str,
+    /// The file to write the report to.
+    pub report: &'a str,
+    /// The files of the jobs, however many.
+    pub jobs: Vec<&'a str>,
 }
 
 /// What the words ask, the program's name first. An error is a usage fault, the help or the version that was asked for, or
@@ -32,6 +53,7 @@ pub fn read<'a>(alloc: Global, words: &'a [String]) -> Result<Request<'a>, Error
             script: given.get_str("SCRIPT").unwrap_or(""),
             image: given.get_str("IMAGE").unwrap_or(""),
         },
+        Some(("run", given)) => Request::Run(run_request(alloc, given)?),
         Some(("dump", given)) => Request::Dump {
             recording: given.get_str("RECORDING").unwrap_or(""),
         },
@@ -54,6 +76,7 @@ fn bench_command<'a>(alloc: Global) -> Result<Command<'a>, AllocError> {
         )
         .subcommand(one_command(alloc)?)?
         .subcommand(assemble_command(alloc)?)?
+        .subcommand(run_command(alloc)?)?
         .subcommand(dump_command(alloc)?)
 }
 
@@ -69,6 +92,74 @@ fn assemble_command<'a>(alloc: Global) -> Result<Command<'a>, AllocError> {
         .after_help("Example:\n  bench assemble poll.script poll.bc")
         .arg(script)?
         .arg(image)
+}
+
+fn run_command<'a>(alloc: Global) -> Result<Command<'a>, AllocError> {
+    let jobs = Arg::new(alloc, "JOB").num_args(0usize..).help(
+        "The job of a channel, as a text; 1 to 8 of them, each of another channel",
+    );
+    Command::new(alloc, "run")
+        .about("Runs jobs, each on a thread of its own, and records them all into one file")
+        .disable_version_flag(true)
+        .after_help(
+            "Prints how many packets and messages the recording has. A message that finds the queue full is refused, and listed in the report.\n\nExample:\n  bench run --version 6 --limit 4096 --queue 4096 --out flight.ch11 --report flight.report avionics.job stores.job",
+        )
+        .arg(version(
+            alloc,
+            "The packets' data type version, 0 to 255; 6 is that of IRIG 106-17",
+        ))?
+        .arg(setting(
+            alloc,
+            "limit",
+            "How many bytes a packet has at most, 256 to 524288",
+        ))?
+        .arg(setting(
+            alloc,
+            "queue",
+            "How many messages may wait to be written at most, 1 to 4096",
+        ))?
+        .arg(file(
+            alloc,
+            "prologue",
+            "Packets to put in front of all others, with none of MIL-STD-1553 messages",
+        ))?
+        .arg(file(alloc, "out", "The file to write the recording to").required(true))?
+        .arg(file(
+            alloc,
+            "report",
+            "The file to write the report to; it is written only where the recording is whole",
+        )
+        .required(true))?
+        .arg(jobs)
+}
+
+/// An option whose number the command judges.
+fn setting<'a>(alloc: Global, name: &'a str, help: &'a str) -> Arg<'a> {
+    Arg::new(alloc, name)
+        .long(name)
+        .value_name("N")
+        .required(true)
+        .value_parser(value_parser!(u32).range(0..=4_294_967_295))
+        .allow_negative_numbers(true)
+        .help(help)
+}
+
+/// An option with the name of a file.
+fn file<'a>(alloc: Global, name: &'a str, help: &'a str) -> Arg<'a> {
+    Arg::new(alloc, name)
+        .long(name)
+        .value_name("FILE")
+        .help(help)
+}
+
+fn version<'a>(alloc: Global, help: &'a str) -> Arg<'a> {
+    Arg::new(alloc, "version")
+        .long("version")
+        .value_name("N")
+        .required(true)
+        .value_parser(value_parser!(u8).range(0..=255))
+        .allow_negative_numbers(true)
+        .help(help)
 }
 
 fn dump_command<'a>(alloc: Global) -> Result<Command<'a>, AllocError> {
@@ -89,13 +180,6 @@ fn one_command<'a>(alloc: Global) -> Result<Command<'a>, AllocError> {
         .value_parser(value_parser!(u16).range(1..=65535))
         .allow_negative_numbers(true)
         .help("The packet's channel, 1 to 65535");
-    let version = Arg::new(alloc, "version")
-        .long("version")
-        .value_name("N")
-        .required(true)
-        .value_parser(value_parser!(u8).range(0..=255))
-        .allow_negative_numbers(true)
-        .help("The packet's data type version, 0 to 255; 6 is that of IRIG 106-17");
     let text = Arg::new(alloc, "TEXT").required(true).help(
         "The line, A or B, and the message, as in \"A rx 5 1 [0001]\"",
     );
@@ -104,7 +188,10 @@ fn one_command<'a>(alloc: Global) -> Result<Command<'a>, AllocError> {
         .disable_version_flag(true)
         .after_help("Example:\n  bench one --channel 1 --version 6 \"A rx 5 1 [0001 0002 0003]\"")
         .arg(channel)?
-        .arg(version)?
+        .arg(version(
+            alloc,
+            "The packet's data type version, 0 to 255; 6 is that of IRIG 106-17",
+        ))?
         .arg(text)
 }
 
@@ -114,4 +201,18 @@ fn one_request<'a>(given: &ArgMatches<'a>) -> Request<'a> {
         version: given.get_one::<u8>("version").unwrap_or(0),
         text: given.get_str("TEXT").unwrap_or(""),
     }
+}
+
+fn run_request<'a>(alloc: Global, given: &ArgMatches<'a>) -> Result<RunRequest<'a>, AllocError> {
+    let mut jobs = Vec::new(alloc);
+    jobs.extend_from_slice(given.get_strs("JOB").unwrap_or(&[]))?;
+    Ok(RunRequest {
+        version: given.get_one::<u8>("version").unwrap_or(0),
+        limit: given.get_one::<u32>("limit").unwrap_or(0),
+        queue: given.get_one::<u32>("queue").unwrap_or(0),
+        prologue: given.get_str("prologue"),
+        out: given.get_str("out").unwrap_or(""),
+        report: given.get_str("report").unwrap_or(""),
+        jobs,
+    })
 }

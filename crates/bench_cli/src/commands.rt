@@ -3,23 +3,30 @@
 use crate::command_line::{self, Request};
 use crate::fault::Fault;
 use crate::files::{read_whole, write_whole};
+use crate::recording::run_jobs;
 use bench_assemble::{AssembleFault, Sizes, assemble_text, print_sizes};
 use bench_dump::{DumpFault, dump};
 use bench_one::{OneFault, one, print_bytes};
 use clap::Error;
 use clap::error::ErrorKind;
-use std::io::{BufWriter, Write};
+use std::io::{BufWriter, IsTerminal, Write};
 use std::process::ExitCode;
-use std::rt::{Env, Files};
+use std::rt::{Clock, Env, Files};
+use std::sync::Wait;
+use std::thread::Threads;
 use std::{env, io};
 
-/// Reads the command line, does what it asks, and says how the process ends.
-pub fn run<R: Env + Files + AllocGlobal + Input + Print + Eprint>(rt: &R) -> ExitCode {
+/// Reads the command line, does what it asks, and says how the process ends. What it says of faults and of its progress goes to
+/// `errors`.
+pub fn run<
+    R: Env + Files + AllocGlobal + Input + Print + Clock + Threads + Wait + Sync,
+    E: Eprint + IsTerminal + Sync,
+>(rt: &R, errors: &E) -> ExitCode {
     match words_of(rt) {
-        Ok(words) => run_words(rt, words.as_slice()),
-        Err(error) if error.kind() == io::ErrorKind::OutOfMemory => stop(rt, &Fault::Memory),
+        Ok(words) => run_words(rt, errors, words.as_slice()),
+        Err(error) if error.kind() == io::ErrorKind::OutOfMemory => stop(errors, &Fault::Memory),
         Err(error) => {
-            let _ = eprintln!(rt; "bench: reading the command line: {error}");
+            let _ = eprintln!(errors; "bench: reading the command line: {error}");
             ExitCode::from(2)
         }
     }
@@ -29,50 +36,52 @@ fn words_of<R: Env + AllocGlobal>(rt: &R) -> io::Result<Vec<String>> {
     Ok(env::args(rt)?.collect(rt.alloc())?)
 }
 
-fn run_words<R: Files + AllocGlobal + Input + Print + Eprint>(
-    rt: &R,
-    words: &[String],
-) -> ExitCode {
+fn run_words<
+    R: Files + AllocGlobal + Input + Print + Clock + Threads + Wait + Sync,
+    E: Eprint + IsTerminal + Sync,
+>(rt: &R, errors: &E, words: &[String]) -> ExitCode {
     match command_line::read(rt.alloc(), words) {
-        Ok(request) => match obey(rt, request) {
+        Ok(request) => match obey(rt, errors, &request) {
             Ok(()) => ExitCode::SUCCESS,
-            Err(fault) => stop(rt, &fault),
+            Err(fault) => stop(errors, &fault),
         },
-        Err(error) => explain(rt, &error),
+        Err(error) => explain(rt, errors, &error),
     }
 }
 
 /// Prints help and version to the standard output, and a usage fault to the standard error.
-fn explain<R: Print + Eprint>(rt: &R, error: &Error) -> ExitCode {
+fn explain<R: Print, E: Eprint>(rt: &R, errors: &E, error: &Error) -> ExitCode {
     if matches!(error.kind(), ErrorKind::OutOfMemory) {
-        return stop(rt, &Fault::Memory);
+        return stop(errors, &Fault::Memory);
     }
     if error.use_stderr() {
-        let _ = eprint!(rt; "{error}");
+        let _ = eprint!(errors; "{error}");
         return ExitCode::from(2);
     }
     match print!(rt; "{error}") {
         Ok(()) => ExitCode::SUCCESS,
-        Err(fault) => stop(rt, &Fault::of_stream("-", &fault)),
+        Err(fault) => stop(errors, &Fault::of_stream("-", &fault)),
     }
 }
 
-fn stop<R: Eprint>(rt: &R, fault: &Fault<'_>) -> ExitCode {
-    let _ = eprintln!(rt; "bench: {fault}");
+fn stop<E: Eprint>(errors: &E, fault: &Fault<'_>) -> ExitCode {
+    let _ = eprintln!(errors; "bench: {fault}");
     ExitCode::from(fault.status())
 }
 
-fn obey<'a, R: Files + AllocGlobal + Input + Print>(
-    rt: &R,
-    request: Request<'a>,
-) -> Result<(), Fault<'a>> {
+fn obey<
+    'a,
+    R: Files + AllocGlobal + Input + Print + Clock + Threads + Wait + Sync,
+    E: Eprint + IsTerminal + Sync,
+>(rt: &R, errors: &E, request: &Request<'a>) -> Result<(), Fault<'a>> {
     match request {
         Request::One {
             channel,
             version,
             text,
-        } => run_one(rt, channel, version, text),
+        } => run_one(rt, *channel, *version, text),
         Request::Assemble { script, image } => run_assemble(rt, script, image),
+        Request::Run(request) => run_jobs(rt, errors, request),
         Request::Dump { recording } => show(rt, recording),
     }
 }

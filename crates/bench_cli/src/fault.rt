@@ -1,10 +1,14 @@
 //! Why `bench` stops, and with which exit status.
 ghost use Rattle.std.specs.Prelude.{◌≡◌};
-ghost use Rattle.bench_cli.specs.Status.{status_of};
+ghost use Rattle.bench_cli.specs.Status.{status_of, fault_of};
 
 use bench_assemble::AssembleFault;
+use bench_core::WorldError;
 use bench_one::OneFault;
+use bench_run::RunError;
 use ch11_reader::Refusal;
+use job_file::JobError;
+use std::alloc::AllocError;
 use std::io;
 use thiserror::Error;
 
@@ -20,6 +24,15 @@ pub enum Fault<'a> {
     /// A recording was refused.
     #[error("{0}")]
     Recording(Refusal),
+    /// The text of a job was refused.
+    #[error("{0}")]
+    Job(JobError),
+    /// Jobs, settings or a prologue were refused before anything was run.
+    #[error("{0}")]
+    Run(WorldError),
+    /// The out file failed once it had taken so many bytes of the recording.
+    #[error("U4 taken {taken}")]
+    Sink { taken: u64 },
     /// A file or a stream failed; its name as given, `-` for standard input and output.
     #[error("device {0}")]
     Device(&'a str),
@@ -35,8 +48,22 @@ impl<'a> Fault<'a> {
     {
         match self {
             Fault::Text(_) | Fault::Script(_) | Fault::Recording(_) => 1,
-            Fault::Device(_) => 3,
+            Fault::Job(_) | Fault::Run(_) => 1,
+            Fault::Sink { .. } | Fault::Device(_) => 3,
             Fault::Memory => 4,
+        }
+    }
+
+    /// The fault of a run that gave no recording.
+    pub fn of_run<S>(error: &RunError<S>) -> Fault<'a>
+        ensures { result ≡ fault_of error.now }
+    {
+        match error {
+            RunError::Settings { .. } => Fault::Run(WorldError::Settings),
+            RunError::ChannelTwice { .. } => Fault::Run(WorldError::ChannelTwice),
+            RunError::Prologue { .. } => Fault::Run(WorldError::Prologue),
+            RunError::Memory { .. } => Fault::Memory,
+            RunError::Sink { taken, .. } => Fault::Sink { taken: *taken },
         }
     }
 
@@ -47,5 +74,11 @@ impl<'a> Fault<'a> {
         } else {
             Fault::Device(name)
         }
+    }
+}
+
+impl<'a> From<AllocError> for Fault<'a> {
+    fn from(_: AllocError) -> Fault<'a> {
+        Fault::Memory
     }
 }

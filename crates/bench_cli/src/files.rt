@@ -23,12 +23,17 @@ pub fn read_whole<'a, R: Files + AllocGlobal>(rt: &R, name: &'a str) -> Result<V
 /// Makes a file of these bytes, in the place of one that is there. One that cannot be made or written is a device fault with its
 /// name as given.
 pub fn write_whole<'a, R: Files>(rt: &R, name: &'a str, bytes: &[u8]) -> Result<(), Fault<'a>> {
-    let mut file = match fs::create(rt, name) {
-        Ok(file) => file,
-        Err(error) => return Err(Fault::of_stream(name, &error)),
-    };
+    let mut file = create(rt, name)?;
     match file.write_all(bytes) {
         Ok(()) => Ok(()),
+        Err(error) => Err(Fault::of_stream(name, &error)),
+    }
+}
+
+/// An empty file, in the place of one that is there. One that cannot be made is a device fault with its name as given.
+pub fn create<'a, R: Files>(rt: &R, name: &'a str) -> Result<R::File, Fault<'a>> {
+    match fs::create(rt, name) {
+        Ok(file) => Ok(file),
         Err(error) => Err(Fault::of_stream(name, &error)),
     }
 }

@@ -5,9 +5,10 @@ mod command_line;
 mod commands;
 mod fault;
 mod files;
+mod recording;
 
 use std::process::ExitCode;
 
 fn main(rt: HostRuntime) -> ExitCode {
-    commands::run(&rt)
+    commands::run(&rt, &rt.stderr())
 }
