@@ -30,8 +30,9 @@ impl Waits {
         }
     }
 
+    /// Waits, unless a wait has already been in vain.
     fn until(&self, number: &AtomicU32, wanted: u32) {
-        if !comes_to(number, wanted) {
+        if self.all_came() && !comes_to(number, wanted) {
             self.missed.store(1, Ordering::SeqCst);
         }
     }

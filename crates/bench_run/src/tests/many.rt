@@ -1,4 +1,4 @@
-//! Many runs of eight channels on short queues: what is read back is what was made, but for what the report lists.
+//! A thousand runs of eight channels on short queues: what is read back is what was made, but for what the report lists.
 use super::{STEP, done, settings_of};
 use crate::{OpenGate, run};
 use bench_core::Settings;
@@ -7,11 +7,12 @@ use ch11_reader::Index;
 use ch11_writer::MemorySink;
 use job_file::{Job, read_job};
 use std::alloc::Global;
+use std::process::Abort;
 use std::sync::Wait;
 use std::test::Fail;
 use std::thread::Threads;
 
-/// How many runs there are with a queue of each length.
+/// How many runs there are on a queue of each length, 1 to 8.
 const RUNS: u32 = 125;
 
 /// How many messages the channels 1 to 8 make.
@@ -65,16 +66,15 @@ fn agrees(index: &Index<'_>, report: &Report) -> bool {
     report.channels().len() == COUNTS.len() && index.total() == total
 }
 
-/// Runs the jobs so many times, and counts the runs whose file is not what the report says.
+/// Runs the jobs 125 times, and counts the runs whose file is not what the report says.
 fn wrong_runs<R: Threads + Wait + Sync>(
     rt: &R,
     alloc: Global,
     jobs: &[Job],
     settings: &Settings,
-    runs: u32,
 ) -> Result<u32, Fail> {
     let mut wrong = 0u32;
-    for _ in 0..runs {
+    for _ in 0..RUNS {
         let sink = MemorySink::make(alloc);
         let (report, sink) = done(run(rt, alloc, jobs, settings, &OpenGate, sink))?;
         let index = Index::build(alloc, sink.bytes()).ok().ok_or("readable")?;
@@ -85,14 +85,37 @@ fn wrong_runs<R: Threads + Wait + Sync>(
     Ok(wrong)
 }
 
-#[test]
-fn a_thousand_runs(rt: HostRuntime) -> Result<(), Fail> {
-    let alloc = rt.alloc();
+/// Each of 125 runs on a queue of each of these lengths agrees with its report.
+fn all_agree<R: Threads + Wait + Abort + Sync>(
+    rt: &R,
+    alloc: Global,
+    queues: [u32; 2],
+) -> Result<(), Fail> {
     let jobs = eight_jobs(alloc)?;
-    for queue in 1..=8u32 {
+    for queue in queues {
         let settings = settings_of(alloc, queue, &[])?;
-        let wrong = wrong_runs(&rt, alloc, &jobs, &settings, RUNS)?;
+        let wrong = wrong_runs(rt, alloc, &jobs, &settings)?;
         assert_eq!(rt; wrong, 0, "with a queue of {queue}");
     }
     Ok(())
+}
+
+#[test]
+fn queues_of_one_and_two(rt: HostRuntime) -> Result<(), Fail> {
+    all_agree(&rt, rt.alloc(), [1, 2])
+}
+
+#[test]
+fn queues_of_three_and_four(rt: HostRuntime) -> Result<(), Fail> {
+    all_agree(&rt, rt.alloc(), [3, 4])
+}
+
+#[test]
+fn queues_of_five_and_six(rt: HostRuntime) -> Result<(), Fail> {
+    all_agree(&rt, rt.alloc(), [5, 6])
+}
+
+#[test]
+fn queues_of_seven_and_eight(rt: HostRuntime) -> Result<(), Fail> {
+    all_agree(&rt, rt.alloc(), [7, 8])
 }
