@@ -128,3 +128,12 @@ fn the_first_fault_counts(rt: HostRuntime) -> Result<(), Fail> {
     assert_eq!(rt; text.as_str(), "U5");
     Ok(())
 }
+
+#[test]
+fn want_of_memory_prints_its_number(rt: HostRuntime) -> Result<(), Fail> {
+    let fault = RunError::Memory {
+        sink: MemorySink::make(rt.alloc()),
+    };
+    assert_eq!(rt; fault.to_string(rt.alloc())?.as_str(), "U3");
+    Ok(())
+}
