@@ -94,43 +94,43 @@ fn assemble_command<'a>(alloc: Global) -> Result<Command<'a>, AllocError> {
         .arg(image)
 }
 
+/// What the help of `bench run` ends with.
+const RUN_NOTES: &str = "\
+Prints how many packets and messages the recording has. A message that finds the queue full is refused,
+and listed in the report; nothing is refused where the queue has room for all that the jobs may send.
+
+Example:
+  bench run --version 6 --limit 4096 --queue 4096 --out flight.ch11 --report flight.report avionics.job stores.job";
+
 fn run_command<'a>(alloc: Global) -> Result<Command<'a>, AllocError> {
     let jobs = Arg::new(alloc, "JOB").num_args(0usize..).help(
         "The job of a channel, as a text; 1 to 8 of them, each of another channel",
     );
-    Command::new(alloc, "run")
+    let command = Command::new(alloc, "run")
         .about("Runs jobs, each on a thread of its own, and records them all into one file")
         .disable_version_flag(true)
-        .after_help(
-            "Prints how many packets and messages the recording has. A message that finds the queue full is refused, and listed in the report.\n\nExample:\n  bench run --version 6 --limit 4096 --queue 4096 --out flight.ch11 --report flight.report avionics.job stores.job",
-        )
-        .arg(version(
-            alloc,
-            "The packets' data type version, 0 to 255; 6 is that of IRIG 106-17",
-        ))?
-        .arg(setting(
-            alloc,
-            "limit",
-            "How many bytes a packet has at most, 256 to 524288",
-        ))?
-        .arg(setting(
-            alloc,
-            "queue",
-            "How many messages may wait to be written at most, 1 to 4096",
-        ))?
-        .arg(file(
-            alloc,
-            "prologue",
-            "Packets to put in front of all others, with none of MIL-STD-1553 messages",
-        ))?
+        .after_help(RUN_NOTES);
+    with_files(alloc, with_settings(alloc, command)?)?.arg(jobs)
+}
+
+/// The settings of a run.
+fn with_settings<'a>(alloc: Global, command: Command<'a>) -> Result<Command<'a>, AllocError> {
+    let limit = "How many bytes a packet has at most, 256 to 524288";
+    let queue = "How many messages may wait to be written at most, 1 to 4096";
+    command
+        .arg(version(alloc))?
+        .arg(setting(alloc, "limit", limit))?
+        .arg(setting(alloc, "queue", queue))
+}
+
+/// The files of a run but its jobs.
+fn with_files<'a>(alloc: Global, command: Command<'a>) -> Result<Command<'a>, AllocError> {
+    let prologue = "Packets to put in front of all others, with none of MIL-STD-1553 messages";
+    let report = "The file to write the report to; it is written only where the recording is whole";
+    command
+        .arg(file(alloc, "prologue", prologue))?
         .arg(file(alloc, "out", "The file to write the recording to").required(true))?
-        .arg(file(
-            alloc,
-            "report",
-            "The file to write the report to; it is written only where the recording is whole",
-        )
-        .required(true))?
-        .arg(jobs)
+        .arg(file(alloc, "report", report).required(true))
 }
 
 /// An option whose number the command judges.
@@ -152,14 +152,15 @@ fn file<'a>(alloc: Global, name: &'a str, help: &'a str) -> Arg<'a> {
         .help(help)
 }
 
-fn version<'a>(alloc: Global, help: &'a str) -> Arg<'a> {
+/// The data type version of what is written.
+fn version<'a>(alloc: Global) -> Arg<'a> {
     Arg::new(alloc, "version")
         .long("version")
         .value_name("N")
         .required(true)
         .value_parser(value_parser!(u8).range(0..=255))
         .allow_negative_numbers(true)
-        .help(help)
+        .help("The data type version of each packet, 0 to 255; 6 is that of IRIG 106-17")
 }
 
 fn dump_command<'a>(alloc: Global) -> Result<Command<'a>, AllocError> {
@@ -188,10 +189,7 @@ fn one_command<'a>(alloc: Global) -> Result<Command<'a>, AllocError> {
         .disable_version_flag(true)
         .after_help("Example:\n  bench one --channel 1 --version 6 \"A rx 5 1 [0001 0002 0003]\"")
         .arg(channel)?
-        .arg(version(
-            alloc,
-            "The packet's data type version, 0 to 255; 6 is that of IRIG 106-17",
-        ))?
+        .arg(version(alloc))?
         .arg(text)
 }
 

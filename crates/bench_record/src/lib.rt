@@ -8,5 +8,4 @@ mod recording;
 mod tests;
 
 pub use counts::{Counts, print_counts};
-pub use progress::Progress;
 pub use recording::{record_jobs, record_jobs_with_progress};

@@ -34,8 +34,8 @@ pub fn record_jobs<R: Threads + Wait + Sync, S: Sink + Drop>(
     run(rt, alloc, jobs, settings, &OpenGate, sink)
 }
 
-/// The same, and where these errors go to a terminal, a line there says from the second second on how many messages the writer
-/// has taken. It answers and refuses as `record_jobs` does.
+/// The same, and where these errors go to a terminal and the run takes more than two seconds, a line there says how many messages
+/// the writer has taken. It answers and refuses as `record_jobs` does.
 pub fn record_jobs_with_progress<
     R: Threads + Wait + Clock + Sync,
     E: Eprint + IsTerminal + Sync,
