@@ -1,7 +1,6 @@
 -- What a run leaves: the file of what was received, or its beginning.
-use Rattle.std.proofs.Common.{◌≡◌, ℕ, zero, suc, ◌+◌, ◌-◌, ◌*◌, ◌<◌, ◌≤◌, ◌^◌, Bool, true, false, ◌||◌, cond, List, [], ◌∷◌, ◌++◌, length, map, take, nat_le, Option, refl, sym, ap, ◌∙◌, subst, arith, length-append}
-use Rattle.std.specs.Prelude.{Ok}
-use Rattle.std.specs.List.{AllByRecursion, concat}
+use Rattle.std.proofs.Common.{◌≡◌, ℕ, suc, ◌+◌, ◌-◌, ◌<◌, ◌≤◌, ◌^◌, Bool, true, false, ◌||◌, cond, List, [], ◌∷◌, ◌++◌, length, map, nat_le, Option, refl, sym, ap, ◌∙◌, subst, arith, length-append}
+use Rattle.std.specs.List.{concat}
 use Rattle.std.specs.Io.KnownBytes.{Appends}
 use Rattle.std.proofs.lemmas.List.{take_all}
 use Rattle.job_file.specs.Jobs.{JobState}
@@ -11,13 +10,13 @@ use Rattle.ch11_recording.specs.Items.{channel_of}
 use Rattle.ch11_recording.specs.WrittenFile.{Format, held_in, closes, closed_by, closed_packets_behind, closed_packets, whole_packets, written_file}
 use Rattle.ch11_recording.specs.Recording.{Recording, IsRecordingOf}
 use Rattle.ch11_recording.specs.Laws.{RecordingIsRead, EndedIsClosed, FileIsPackets, AllPacketsAreWhole}
-use Rattle.bench_report.specs.Reports.{ChannelPart, RunReport}
+use Rattle.bench_report.specs.Reports.{ChannelPart}
 use Rattle.bench_core.specs.declared.settings.Settings.{Settings}
 use Rattle.bench_core.specs.Lawful.{AreLawful, channels_of, format_of}
 use Rattle.bench_run.specs.declared.entry.Entry.{Entry}
 use Rattle.bench_run.specs.Entries.{item_of}
 use Rattle.bench_run.specs.Runs.{Ran, IsCut}
-use Rattle.bench_run.specs.Writer.{IsUnfit, IsLogged}
+use Rattle.bench_run.specs.Writer.{IsLogged}
 use Rattle.bench_run.specs.Ending.{IsAll}
 use Rattle.bench_run.proofs.Endings.{items_sound, nothing_unfit, got_few, parts_are, read_are}
 

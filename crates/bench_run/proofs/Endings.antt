@@ -1,5 +1,5 @@
 -- What is known at the end of a run.
-use Rattle.std.proofs.Common.{◌≡◌, ◌≢◌, ℕ, zero, suc, ◌+◌, ◌-◌, ◌*◌, ◌<◌, ◌≤◌, ◌^◌, Bool, true, false, cond, List, [], ◌∷◌, ◌++◌, length, map, take, sum, slice_get, slice_index, Option, Some, None, ⊎_elim, refl, sym, ap, ◌∙◌, subst, arith, length-append}
+use Rattle.std.proofs.Common.{◌≡◌, ℕ, zero, suc, ◌+◌, ◌-◌, ◌*◌, ◌<◌, ◌≤◌, ◌^◌, Bool, true, false, cond, List, [], ◌∷◌, length, map, take, slice_get, slice_index, Option, Some, None, ⊎_elim, refl, sym, ap, ◌∙◌, subst, arith, length-append}
 use Rattle.std.proofs.lemmas.List.{length-map}
 use Rattle.std.specs.List.{AllByRecursion, filter}
 use Rattle.std.proofs.lemmas.Bool.{cases_lt}
@@ -12,9 +12,8 @@ use Rattle.job_file.specs.Jobs.{JobState}
 use Rattle.ch11_f1.specs.Again.{as_message}
 use Rattle.ch11_builder.specs.Packet.{Numbered, messages_of}
 use Rattle.ch11_builder.specs.Recorded.{IsRecorded}
-use Rattle.ch11_reader.specs.Recording.{Found, packets_in}
+use Rattle.ch11_reader.specs.Recording.{Found}
 use Rattle.ch11_reader.specs.Contents.{reading}
-use Rattle.ch11_recording.specs.declared.item.Item.{Item}
 use Rattle.ch11_recording.specs.Items.{numbered, numbered_from, part_of, to_the_end}
 use Rattle.ch11_recording.specs.WrittenFile.{Format, closed_records}
 use Rattle.ch11_recording.specs.Recording.{AreDistinct}
@@ -27,7 +26,7 @@ use Rattle.bench_run.specs.declared.entry.Entry.{Entry}
 use Rattle.bench_run.specs.declared.entry.Entry.TheVariants as entry
 use Rattle.bench_run.specs.Entries.{index_of, item_of, entry_of, entries_to_the_end}
 use Rattle.bench_run.specs.Runs.{ArePairs, IsPartOf, IsReadAs, records_of, kept_below, most_items, most_in_all, others_than}
-use Rattle.bench_run.specs.Threads.{IsCounted, IsCountedIn}
+use Rattle.bench_run.specs.Threads.{IsCountedIn}
 use Rattle.bench_run.specs.Writer.{IsUnfit, AreOrdered}
 use Rattle.bench_run.specs.Ending.{IsAll}
 use Rattle.bench_run.proofs.Tagged.{all_by_index}

@@ -1,19 +1,16 @@
 -- What a channel has offered, one message more at a time.
-use Rattle.std.proofs.Common.{◌≡◌, ℕ, zero, suc, ◌+◌, ◌-◌, ◌<◌, ◌≤◌, ◌^◌, Bool, true, false, not, ◌||◌, eqb, List, [], ◌∷◌, ◌++◌, length, map, take, refl, sym, ap, ◌∙◌, subst, arith}
+use Rattle.std.proofs.Common.{◌≡◌, ℕ, zero, suc, ◌+◌, ◌-◌, ◌≤◌, Bool, true, false, not, ◌||◌, eqb, List, [], ◌∷◌, ◌++◌, length, map, take, refl, ap, ◌∙◌, arith}
 use Rattle.std.specs.Prelude.{Some, slice_get}
 use Rattle.std.specs.List.{AllByRecursion, filter, list_any}
 use Rattle.std.proofs.lemmas.Bool.{ne_eqb}
-use Rattle.std.proofs.lemmas.List.{map-append, length-append, length-map, take_all}
+use Rattle.std.proofs.lemmas.List.{length-map}
 use Rattle.std.proofs.lemmas.List.Folds.{list_any-append}
 use Rattle.mil_monitor.specs.declared.Record.{Record}
 use Rattle.mil_trunk.proofs.Tagging.{length-filter_le}
-use Rattle.ch11_builder.specs.Packet.{Numbered}
 use Rattle.ch11_recording.specs.Items.{numbered, numbered_from}
 use Rattle.bench_report.specs.Reports.{Rises}
 use Rattle.bench_core.specs.Settled.{is_kept, kept}
-use Rattle.bench_core.proofs.Lists.{NoneAbove, kept_more, kept_same}
-use Rattle.bench_run.specs.declared.entry.Entry.{Entry}
-use Rattle.bench_run.specs.declared.entry.Entry.TheVariants as entry
+use Rattle.bench_core.proofs.Lists.{NoneAbove}
 use Rattle.bench_run.specs.Entries.{entry_of}
 
 -- ---- lists

@@ -1,6 +1,6 @@
 -- The stages of a channel's thread.
-use Rattle.std.proofs.Common.{◌≡◌, ℕ, zero, ◌+◌, ◌-◌, ◌<◌, ◌≤◌, ◌^◌, List, [], ◌∷◌, ◌++◌, length, map, take, refl, sym, ap, ◌∙◌, subst, arith, Global}
-use Rattle.std.specs.Prelude.{◌==◌, Some, slice_get, Vec}
+use Rattle.std.proofs.Common.{◌≡◌, ℕ, ◌+◌, ◌-◌, ◌<◌, ◌≤◌, List, [], ◌∷◌, ◌++◌, length, map, take, refl, sym, ap, ◌∙◌, subst, arith}
+use Rattle.std.specs.Prelude.{◌==◌, Some, slice_get}
 use Rattle.std.specs.List.{AllByRecursion}
 use Rattle.std.proofs.lemmas.List.{map-append, length-append, length-map, take_all}
 use Rattle.mil_monitor.specs.declared.Record.{Record}
@@ -17,7 +17,6 @@ use Rattle.bench_report.specs.Reports.{ChannelPart, Rises}
 use Rattle.bench_core.specs.Placing.{placed_up_to}
 use Rattle.bench_core.specs.Settled.{kept}
 use Rattle.bench_core.proofs.Lists.{kept_more, kept_same}
-use Rattle.bench_run.specs.declared.channel.Ended.{Ended}
 use Rattle.bench_run.specs.declared.entry.Entry.{Entry}
 use Rattle.bench_run.specs.declared.entry.Entry.TheVariants as entry
 use Rattle.bench_run.specs.Entries.{index_of, entry_of}

@@ -1,9 +1,9 @@
-use Rattle.std.proofs.Common.{rules, arith, ap, sym, ◌∙◌, ◌≡◌, ◌≤◌, ◌<◌, ◌+◌, ◌-◌, ◌++◌, ◌∷◌, ℕ, [], true, length, vec_len, vec_capacity, subst, refl}
+use Rattle.std.proofs.Common.{arith, ap, sym, ◌∙◌, ◌≡◌, ◌≤◌, ◌-◌, length, subst, refl}
 use Rattle.std.specs.Prelude.{Some, slice_get}
 use Rattle.frame_asm.specs.Shapes.{code_of}
 use Rattle.frame_load.specs.Budget.{worst_messages}
 use Rattle.mil_trunk.specs.Tags.{has, bound_of}
-use Rattle.mil_trunk.specs.Ends.{tags_of, bounds_of, sent}
+use Rattle.mil_trunk.specs.Ends.{tags_of, bounds_of}
 use Rattle.job_file.specs.Jobs.{tree_in, job_in}
 use Rattle.bench_report.specs.Reports.{Rises}
 use Rattle.bench_run.specs.Runs.{records_of, most_items}

@@ -1,10 +1,6 @@
-use Rattle.std.proofs.Common.{rules, arith, ap, sym, ◌∙◌, ◌≡◌, ◌≤◌, ◌<◌, ◌+◌, ◌-◌, ◌++◌, ◌∷◌, ℕ, [], length, vec_len, subst, refl}
-use Rattle.std.specs.Prelude.{Some, slice_get}
+use Rattle.std.proofs.Common.{rules, arith, ap, sym, ◌∙◌, ◌≡◌, ◌+◌, ◌-◌, ◌++◌, ◌∷◌, [], length, vec_len, subst}
 use Rattle.mil_trunk.specs.Ends.{tags_of, bounds_of, sent}
-use Rattle.mil_trunk.specs.declared.trunk.Ticket.{Ticket}
-use Rattle.bench_run.specs.declared.entry.Entry.{Entry}
 use Rattle.bench_run.specs.declared.entry.Entry.TheVariants as entry
-use Rattle.bench_run.specs.Runs.{records_of}
 use Rattle.bench_run.specs.Threads.{SoFar}
 use Rattle.bench_run.proofs.Stages.{kept_stage, refused_stage, few_of_tag, few_refused}
 use Rattle.bench_run.proofs.channel.offer_message.Goals as goal

@@ -1,4 +1,4 @@
-use Rattle.std.proofs.Common.{◌≡◌, ◌∙◌, ◌≤◌, ◌*◌, arith, length, map, sum, subst}
+use Rattle.std.proofs.Common.{◌∙◌, arith, map, subst}
 use Rattle.std.proofs.lemmas.List.{length-map}
 use Rattle.bench_run.specs.Runs.{most_items}
 use Rattle.bench_run.proofs.Limits.{AreLow, each_low, sum_low}

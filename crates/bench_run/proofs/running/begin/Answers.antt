@@ -1,4 +1,4 @@
-use Rattle.std.proofs.Common.{◌≡◌, ◌<◌, ◌≤◌, ◌+◌, ◌*◌, ℕ, [], true, false, true≢false, length, refl, sym, ap, ◌∙◌, subst, arith}
+use Rattle.std.proofs.Common.{[], true≢false, length, refl, ap, subst, arith}
 use Rattle.ch11_recording.specs.Recording.{IsRecordingOf}
 use Rattle.bench_core.specs.Lawful.{format_of}
 use Rattle.bench_run.proofs.Beginning.{first_rises}

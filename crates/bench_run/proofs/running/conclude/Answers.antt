@@ -1,4 +1,4 @@
-use Rattle.std.proofs.Common.{◌≡◌, ◌<◌, ◌≤◌, ◌^◌, ℕ, List, [], refl, sym, ap, ◌∙◌, subst, arith, false}
+use Rattle.std.proofs.Common.{◌≡◌, ◌<◌, refl, sym, ap, ◌∙◌, subst, arith, false}
 use Rattle.mil_trunk.specs.Ends.{received}
 use Rattle.bench_report.specs.Reports.{RunReport}
 use Rattle.bench_core.specs.Lawful.{channels_of, format_of}

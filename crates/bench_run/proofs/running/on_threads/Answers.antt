@@ -1,4 +1,4 @@
-use Rattle.std.proofs.Common.{◌≡◌, ◌∙◌, ◌<◌, ◌≤◌, ℕ, sym, subst, ap, arith, length}
+use Rattle.std.proofs.Common.{◌∙◌, sym, subst, arith}
 use Rattle.mil_trunk.specs.Ends.{capacity_of, bounds_of, sent, received}
 use Rattle.bench_run.specs.Threads.{IsPromised}
 use Rattle.bench_run.proofs.Beginning.{all_got}

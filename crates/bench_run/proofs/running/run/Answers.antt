@@ -1,5 +1,4 @@
-use Rattle.std.proofs.Common.{[], sym, subst}
-use Rattle.std.specs.Io.KnownBytes.{Appends}
+use Rattle.std.proofs.Common.{[], subst}
 use Rattle.bench_core.specs.declared.settings.WorldError.TheVariants as fault
 use Rattle.bench_core.specs.Lawful.{format_of, Refuses}
 use Rattle.ch11_recording.specs.WrittenFile.{written_file}

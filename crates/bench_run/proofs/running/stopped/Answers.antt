@@ -1,4 +1,3 @@
-use Rattle.std.proofs.Common.{◌≡◌, refl, sym, ap, ◌∙◌, subst}
 use Rattle.bench_run.proofs.running.stopped.Goals as goal
 
 pub returns : goal.returns

@@ -1,8 +1,7 @@
-use Rattle.std.proofs.Common.{rules, arith, refl, sym, ap, ◌∙◌, ◌≡◌, ◌≢◌, ◌<◌, ◌≤◌, ◌+◌, ◌++◌, ◌∷◌, ◌||◌, ℕ, List, [], true, length, map, vec_len, subst, append-nil, ⊎_elim, suc}
+use Rattle.std.proofs.Common.{rules, arith, refl, sym, ap, ◌∙◌, ◌≡◌, ◌≢◌, ◌<◌, ◌≤◌, ◌+◌, ◌++◌, ◌||◌, ℕ, List, true, length, vec_len, subst, append-nil, ⊎_elim, suc}
 use Rattle.std.proofs.Math.Bool.{or-true}
 use Rattle.std.proofs.lemmas.Bool.{cases_lt}
 use Rattle.std.specs.Prelude.{Some, slice_get}
-use Rattle.std.specs.Vec.Iter.{into_iter_items}
 use Rattle.mil_trunk.specs.Ends.{bounds_of, tags_of, sent, capacity_of}
 use Rattle.mil_trunk.specs.Tags.{has, bounds_outside}
 use Rattle.mil_trunk.specs.Views.{with_tag}
@@ -12,7 +11,7 @@ use Rattle.bench_core.specs.Settled.{kept}
 use Rattle.bench_run.specs.declared.entry.Entry.{Entry}
 use Rattle.bench_run.specs.Entries.{index_of, entries_to_the_end}
 use Rattle.bench_run.specs.Runs.{records_of, most_in_all, others_than}
-use Rattle.bench_run.specs.Threads.{IsPromised, HasOnly, IsCounted, IsCountedIn}
+use Rattle.bench_run.specs.Threads.{IsPromised, IsCounted, IsCountedIn}
 use Rattle.bench_run.proofs.Rows.{row_push, row_first, row_rest, pairs_of, place_below, same_some, none_at}
 use Rattle.bench_run.proofs.Sums.{others_bounds, own_entries, other_entries}
 use Rattle.bench_run.proofs.threads.join_all.Goals as goal

@@ -1,4 +1,4 @@
-use Rattle.std.proofs.Common.{◌≡◌, ◌≤◌, ◌<◌, ℕ, length, vec_len, vec_capacity}
+use Rattle.std.proofs.Common.{◌≡◌, ◌≤◌, ℕ, length, vec_len, vec_capacity}
 use Rattle.std.specs.Prelude.{Some, slice_get}
 use Rattle.bench_run.specs.Threads.{IsRoom}
 use Rattle.bench_run.proofs.threads.rooms.Given as goal

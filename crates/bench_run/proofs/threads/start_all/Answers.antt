@@ -1,14 +1,12 @@
-use Rattle.std.proofs.Common.{rules, arith, refl, sym, ap, ◌∙◌, ◌≡◌, ◌<◌, ◌≤◌, ◌+◌, ℕ, suc, List, [], length, map, vec_len, subst}
+use Rattle.std.proofs.Common.{rules, arith, refl, sym, ap, ◌∙◌, ◌≡◌, ◌<◌, ◌+◌, ℕ, suc, length, vec_len, subst}
 use Rattle.std.specs.Prelude.{Some, slice_get}
 use Rattle.std.proofs.lemmas.Option.{slice_get_read}
-use Rattle.std.specs.Vec.Iter.{into_iter_items}
 use Rattle.mil_trunk.specs.Tags.{bound_of}
 use Rattle.mil_trunk.specs.Ends.{bounds_of, tags_of}
 use Rattle.mil_trunk.specs.declared.trunk.Ticket.{Ticket}
 use Rattle.job_file.specs.Jobs.{JobState}
 use Rattle.bench_run.specs.declared.entry.Entry.{Entry}
 use Rattle.bench_run.specs.Threads.{IsRoom, IsPromised, HasOnly}
-use Rattle.bench_run.specs.Runs.{most_items}
 use Rattle.bench_run.proofs.Rows.{row_push, row_first, row_rest, pair_at, pairs_length, none_at}
 use Rattle.bench_run.proofs.Sums.{bound_at}
 use Rattle.bench_run.proofs.threads.start_all.Goals as goal
