@@ -24,7 +24,7 @@ use frame_code::Op;
 use frame_load::Program;
 use mil_bus::{Bus, Outcome};
 use mil_line::{Gap, Plan};
-use mil_monitor::observe;
+use mil_monitor::observe_by;
 use mil_word::Line;
 use std::alloc::{AllocError, Global};
 use std::marker::Model;
@@ -203,11 +203,12 @@ impl Parts {
             message,
             self.gap,
         );
-        self.last = Some(talk.outcome());
+        let seen = talk.seen();
+        self.last = Some(talk.outcome_by(&seen));
         self.line = line;
         self.place += 1;
         self.taken += 1;
-        Stepped::Sent(observe(&talk))
+        Stepped::Sent(observe_by(&talk, &seen))
     }
 
     /// One step: one row of the operation table.

@@ -90,7 +90,7 @@ pub(crate) fn channel<R: Wait, G: Gate>(
     }
 }
 
-// Offers a message once. Where it comes back, its number joins the list.
+// Offers a message once. Where it comes back, its number joins the list, and the thread gives way, so that the writer may come on.
 fn offer_message<R: Wait, G: Gate>(
     rt: &R,
     trunk: &Trunk<Entry>,
@@ -122,6 +122,7 @@ fn offer_message<R: Wait, G: Gate>(
         Err(_) => {
             refused.push_reserved(number);
             gate.after_offer(job.channel(), number, false);
+            thread::yield_now();
         }
     }
 }

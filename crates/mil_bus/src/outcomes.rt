@@ -184,17 +184,8 @@ impl Talk {
     pub fn seen(&self) -> Seen
         ensures { result ≡ seen_of self.now.message self.now.sent.items }
     {
-        self.seen_with(due_of(&self.message))
-    }
-
-    /// The same, where these replies are due.
-    fn seen_with(&self, due: DueReplies) -> Seen
-        requires count { due.count ≡ length (replies_due self.now.message) }
-        requires few { due.count ≤ 2 }
-        ensures { result ≡ seen_of self.now.message self.now.sent.items }
-    {
         let commands = if is_transfer(&self.message) { 2 } else { 1 };
-        counted(commands, due.count, self.sent.as_slice())
+        counted(commands, due_of(&self.message).count, self.sent.as_slice())
     }
 
     /// The block status word, from what is seen of this talk.
@@ -212,14 +203,21 @@ impl Talk {
     }
 
     /// Whether this talk failed, whether no reply came that was due, and the status bits that came.
-    #[tactic(auto, unfolding(crate::specs::BlockStatus::outcome_of))]
     pub fn outcome(&self) -> Outcome
         ensures { result ≡ outcome_of self.now.message self.now.sent.items }
     {
+        self.outcome_by(&self.seen())
+    }
+
+    /// The same, from what is seen of this talk.
+    #[tactic(auto, unfolding(crate::specs::BlockStatus::outcome_of))]
+    pub fn outcome_by(&self, seen: &Seen) -> Outcome
+        requires seen { seen.now ≡ seen_of self.now.message self.now.sent.items }
+        ensures { result ≡ outcome_of self.now.message self.now.sent.items }
+    {
         let due = due_of(&self.message);
-        let seen = self.seen_with(due);
         Outcome {
-            failed: judged(&self.message, due, &seen).any,
+            failed: judged(&self.message, due, seen).any,
             silent: due.first.is_some() && seen.one.is_none(),
             bits: came_bits(due.first, seen.one) | came_bits(due.second, seen.two),
         }

@@ -1,10 +1,11 @@
 //! The record of a finished talk.
 ghost use Rattle.std.specs.Prelude.{◌≡◌, ◌<◌};
+ghost use Rattle.mil_bus.specs.Counts.{seen_of};
 ghost use Rattle.mil_monitor.specs.Observed.{observed, gap_half};
 
 use crate::Record;
 use arrayvec::ArrayVec;
-use mil_bus::{Came, Talk};
+use mil_bus::{Came, Seen, Talk};
 use mil_word::raw_bits;
 
 /// The gap of a reply as a record has it, in ticks: 0 where it did not come, 255 where it is more.
@@ -22,15 +23,22 @@ fn gap_half(came: Option<Came>) -> u16
 pub fn observe(talk: &Talk) -> Record
     ensures { result ≡ observed talk.now }
 {
+    observe_by(talk, &talk.seen())
+}
+
+/// The same, from what is seen of the talk.
+pub fn observe_by(talk: &Talk, seen: &Seen) -> Record
+    requires seen { seen.now ≡ seen_of talk.now.message talk.now.sent.items }
+    ensures { result ≡ observed talk.now }
+{
     let sent = talk.sent.as_slice();
-    let seen = talk.seen();
     let mut words = ArrayVec::new();
     for word in sent {
         words.push(raw_bits(word.wave));
     }
     Record {
         stamp: talk.start,
-        block: talk.block(&seen),
+        block: talk.block(seen),
         gaps: gap_half(seen.two) * 256 + gap_half(seen.one),
         words,
     }

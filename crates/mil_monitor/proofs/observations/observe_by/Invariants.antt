@@ -1,7 +1,7 @@
 use Rattle.std.proofs.Common.{◌≡◌, ◌≤◌, map, take, length}
 use Rattle.mil_word.specs.Wave.{raw_of}
 use Rattle.mil_bus.specs.declared.talks.Sent.{Sent}
-use Rattle.mil_monitor.proofs.observations.observe.Given as goal
+use Rattle.mil_monitor.proofs.observations.observe_by.Given as goal
 
 -- what was looked at is recorded
 abbrev pub invariant-loop-word : goal.invariant-loop-word
