@@ -72,3 +72,21 @@ part_is channels t (x ∷ got) distinct low all = part_more channels t x got (eq
 pub ended_is : (channels : List ℕ) (t : ℕ) (ns : List Numbered) → map (item_of channels) (entries_to_the_end t ns) ≡ to_the_end (slice_index channels t) ns
 ended_is channels t [] = refl
 ended_is channels t (n ∷ ns) = ap (λ (items : List Item). item_of channels (entry_of t n) ∷ items) (ended_is channels t ns)
+
+-- ---- a channel that no job has
+
+other_test : (channels : List ℕ) (channel : ℕ) (x : Entry) → AllByRecursion (λ c. c ≢ channel) channels → index_of x < length channels
+    → eqb (channel_of (item_of channels x)) channel ≡ false
+other_test channels channel x other low =
+    ap (λ c. eqb c channel) (channel_is channels x)
+    ∙ ne_eqb (slice_index channels (index_of x)) channel (one_of_all (λ c. c ≢ channel) channels (index_of x) other low)
+
+pub no_part : (channels : List ℕ) (channel : ℕ) (got : List Entry) → AllByRecursion (λ c. c ≢ channel) channels → AllByRecursion (λ x. index_of x < length channels) got
+    → part_of channel (map (item_of channels) got) ≡ []
+no_part channels channel [] other all = refl
+no_part channels channel (x ∷ got) other all = rw (other_test channels channel x other all.0) (no_part channels channel got other all.1)
+
+pub no_records : (channels : List ℕ) (channel : ℕ) (got : List Entry) → AllByRecursion (λ c. c ≢ channel) channels → AllByRecursion (λ x. index_of x < length channels) got
+    → records_in channel (map (item_of channels) got) ≡ []
+no_records channels channel [] other all = refl
+no_records channels channel (x ∷ got) other all = rw (other_test channels channel x other all.0) (no_records channels channel got other all.1)

@@ -9,7 +9,7 @@ use Rattle.ch11_recording.specs.declared.item.Item.{Item}
 use Rattle.ch11_recording.specs.Items.{channel_of}
 use Rattle.ch11_recording.specs.WrittenFile.{Format, held_in, closes, closed_by, closed_packets_behind, closed_packets, whole_packets, written_file}
 use Rattle.ch11_recording.specs.Recording.{Recording, IsRecordingOf}
-use Rattle.ch11_recording.specs.Laws.{RecordingIsRead, EndedIsClosed, FileIsPackets, AllPacketsAreWhole}
+use Rattle.ch11_recording.specs.Laws.{RecordingIsRead, RecordsAreKept, EndedIsClosed, FileIsPackets, AllPacketsAreWhole}
 use Rattle.bench_report.specs.Reports.{ChannelPart}
 use Rattle.bench_core.specs.declared.settings.Settings.{Settings}
 use Rattle.bench_core.specs.Lawful.{AreLawful, channels_of, format_of}
@@ -18,7 +18,7 @@ use Rattle.bench_run.specs.Entries.{item_of}
 use Rattle.bench_run.specs.Runs.{Ran, IsCut}
 use Rattle.bench_run.specs.Writer.{IsLogged}
 use Rattle.bench_run.specs.Ending.{IsAll}
-use Rattle.bench_run.proofs.Endings.{items_sound, nothing_unfit, got_few, parts_are, read_are}
+use Rattle.bench_run.proofs.Endings.{items_sound, nothing_unfit, got_few, parts_are, read_are, others_none, others_silent}
 
 -- ---- packets
 
@@ -75,7 +75,7 @@ module _ {S : Type 0} (taken : S → Option (List ℕ)) (failures : S → ℕ) (
       let fewest = whole_few (r.writing.taken - length s.prologue.items) (closed_packets (format_of s) items) in
       omega (arith, few, fewer, fewest, is.packets, length-mapped (item_of (channels_of jobs)) got, lawful.ranges.few)
 
-  module _ (read : RecordingIsRead) (closed : EndedIsClosed) (file : FileIsPackets) (packets : AllPacketsAreWhole) where
+  module _ (read : RecordingIsRead) (keeps : RecordsAreKept) (closed : EndedIsClosed) (file : FileIsPackets) (packets : AllPacketsAreWhole) where
     -- the sink took the whole file
     pub ran : (r : Recording S) → IsRecorded_ r → r.writing.failed ≡ false → Ran taken jobs s before (record { channels = parts; packets = r.packets }) r.writing.sink
     ran r is sound =
@@ -94,10 +94,12 @@ module _ {S : Type 0} (taken : S → Option (List ℕ)) (failures : S → ℕ) (
             items = items;
             file = refl;
             parts = parts_are s.queue jobs parts got all s refl lawful.distinct;
+            others = others_none s.queue jobs parts got all;
             packets = is.packets ∙ ap (λ n. whole_packets n (closed_packets f items)) rest ∙ packets f items;
             found = rs.0;
             readable = rs.1;
             read = read_are s.queue jobs parts got all closed f rs.0 lawful.distinct rs.2;
+            silent = others_silent s.queue jobs parts got all keeps f rs.0 rs.2;
           },
         )
 
@@ -108,6 +110,7 @@ module _ {S : Type 0} (taken : S → Option (List ℕ)) (failures : S → ℕ) (
     bytes = rw same is.written.taken;
     within = omega (arith, same, is.written.within);
     parts = parts_are s.queue jobs parts got all s refl lawful.distinct;
+    others = others_none s.queue jobs parts got all;
     packets = is.packets ∙ ap (λ n. whole_packets (n - length s.prologue.items) (closed_packets (format_of s) (map (item_of (channels_of jobs)) got))) (sym same);
   }
 

@@ -1,5 +1,5 @@
 -- What is known at the end of a run.
-use Rattle.std.proofs.Common.{◌≡◌, ℕ, zero, suc, ◌+◌, ◌-◌, ◌*◌, ◌<◌, ◌≤◌, ◌^◌, Bool, true, false, cond, List, [], ◌∷◌, length, map, take, slice_get, slice_index, Option, Some, None, ⊎_elim, refl, sym, ap, ◌∙◌, subst, arith, length-append}
+use Rattle.std.proofs.Common.{◌≡◌, ℕ, zero, suc, ◌+◌, ◌-◌, ◌*◌, ◌<◌, ◌≤◌, ◌^◌, Bool, true, false, cond, List, [], ◌∷◌, ◌++◌, length, map, take, slice_get, slice_index, Option, Some, None, ⊎_elim, refl, sym, ap, ◌∙◌, subst, arith, length-append}
 use Rattle.std.proofs.lemmas.List.{length-map}
 use Rattle.std.specs.List.{AllByRecursion, filter}
 use Rattle.std.proofs.lemmas.Bool.{cases_lt}
@@ -15,9 +15,9 @@ use Rattle.ch11_builder.specs.Recorded.{IsRecorded}
 use Rattle.ch11_reader.specs.Recording.{Found}
 use Rattle.ch11_reader.specs.Contents.{reading}
 use Rattle.ch11_recording.specs.Items.{numbered, numbered_from, part_of, to_the_end}
-use Rattle.ch11_recording.specs.WrittenFile.{Format, closed_records}
+use Rattle.ch11_recording.specs.WrittenFile.{Format, held_in, closed_records}
 use Rattle.ch11_recording.specs.Recording.{AreDistinct}
-use Rattle.ch11_recording.specs.Laws.{IsItem, EndedIsClosed}
+use Rattle.ch11_recording.specs.Laws.{IsItem, RecordsAreKept, EndedIsClosed}
 use Rattle.bench_report.specs.Reports.{ChannelPart, Rises}
 use Rattle.bench_core.specs.declared.settings.Settings.{Settings}
 use Rattle.bench_core.specs.Lawful.{channels_of}
@@ -25,12 +25,12 @@ use Rattle.bench_core.specs.Settled.{kept, is_kept}
 use Rattle.bench_run.specs.declared.entry.Entry.{Entry}
 use Rattle.bench_run.specs.declared.entry.Entry.TheVariants as entry
 use Rattle.bench_run.specs.Entries.{index_of, item_of, entry_of, entries_to_the_end}
-use Rattle.bench_run.specs.Runs.{ArePairs, IsPartOf, IsReadAs, records_of, kept_below, most_items, most_in_all, others_than}
+use Rattle.bench_run.specs.Runs.{ArePairs, IsPartOf, IsReadAs, records_of, kept_below, most_items, most_in_all, others_than, IsOther}
 use Rattle.bench_run.specs.Threads.{IsCountedIn}
 use Rattle.bench_run.specs.Writer.{IsUnfit, AreOrdered}
 use Rattle.bench_run.specs.Ending.{IsAll}
 use Rattle.bench_run.proofs.Tagged.{all_by_index}
-use Rattle.bench_run.proofs.Channels.{part_is, ended_is}
+use Rattle.bench_run.proofs.Channels.{part_is, ended_is, no_part, no_records}
 use Rattle.bench_run.proofs.Pairs.{pairs_with, seconds_with, pair_at}
 use Rattle.bench_run.proofs.Sums.{own_and_others}
 use Rattle.bench_run.proofs.Offering.{length-kept}
@@ -60,6 +60,10 @@ all_entries channels t (n ∷ ns) low all = ((low, (all.0, tt)), all_entries cha
 all_mapped : (channels : List ℕ) (got : List Entry) → AllByRecursion (λ x. IsItem (item_of channels x)) got → AllByRecursion IsItem (map (item_of channels) got)
 all_mapped channels [] all = tt
 all_mapped channels (x ∷ got) all = (all.0, all_mapped channels got all.1)
+
+first_none : (ns later : List Numbered) → ns ++ later ≡ [] → ns ≡ []
+first_none [] later none = refl
+first_none (n ∷ ns) later none = absurd cc
 
 -- ---- channels
 
@@ -129,6 +133,19 @@ module _ (capacity : ℕ) (jobs : List JobState) (parts : List ChannelPart) (got
       (λ k job part at at' p. read job.channel
       ∙ ap (λ (ns : List Numbered). map as_message (messages_of ns))
       (closed f job.channel (map (item_of (channels_of jobs)) got) (kept part.refused (records_of job)) (part_taken distinct k job part at at')))
+
+  -- nothing is recorded, and nothing read, of a channel that no job has
+  pub others_none : (channel : ℕ) → IsOther jobs channel → part_of channel (map (item_of (channels_of jobs)) got) ≡ []
+  others_none channel other = no_part (channels_of jobs) channel got other indexed
+
+  pub others_silent : RecordsAreKept → (f : Format) (found : List Found)
+      → ((channel : ℕ) → reading found channel ≡ map as_message (messages_of (closed_records f channel (map (item_of (channels_of jobs)) got))))
+      → (channel : ℕ) → IsOther jobs channel → reading found channel ≡ []
+  others_silent keeps f found read channel other =
+      let items = map (item_of (channels_of jobs)) got in
+      read channel
+      ∙ ap (λ (ns : List Numbered). map as_message (messages_of ns))
+      (first_none (closed_records f channel items) (held_in f channel items).records (keeps f channel items ∙ no_records (channels_of jobs) channel got other indexed))
 
   -- all that was received could be recorded
   abbrev sent_of : Option JobState → Option ChannelPart → List Numbered

@@ -1,5 +1,5 @@
 -- What a run of jobs came to (own choice): the items that the writer took, the file of these, and the report.
-use Rattle.std.specs.Prelude.{◌≡◌, ℕ, ◌+◌, ◌-◌, ◌<◌, ◌≤◌, ◌==◌, not, List, [], ◌∷◌, length, map, take, Option, Ok}
+use Rattle.std.specs.Prelude.{◌≡◌, ◌≢◌, ℕ, ◌+◌, ◌-◌, ◌<◌, ◌≤◌, ◌==◌, not, List, [], ◌∷◌, length, map, take, Option, Ok}
 use Rattle.std.specs.List.{AllByRecursion, filter}
 use Rattle.std.specs.Io.KnownBytes.{Appends}
 use Rattle.mil_monitor.specs.declared.Record.{Record}
@@ -66,15 +66,22 @@ ArePairs P (x ∷ xs) (y ∷ ys) = P x y × ArePairs P xs ys
 ArePairs P [] (y ∷ ys) = ⊥
 ArePairs P (x ∷ xs) [] = ⊥
 
--- A finished run: one list of items was taken, and the bytes are their file, which is readable and gives each channel's messages.
+-- no job has the channel
+abbrev pub IsOther : List JobState → ℕ → Type 0
+IsOther jobs channel = AllByRecursion (λ c. c ≢ channel) (channels_of jobs)
+
+-- A finished run: one list of items was taken, none of them of another channel than the jobs', and the bytes are their file, which is
+-- readable and gives each channel's messages, and none of another channel.
 pub record IsRun (jobs : List JobState) (s : Settings) (report : RunReport) (bytes : List ℕ) : Type 0 where
   pub items : List Item
   pub file : bytes ≡ written_file (format_of s) s.prologue.items items
   pub parts : ArePairs (IsPartOf jobs s items) jobs report.channels
+  pub others : (channel : ℕ) → IsOther jobs channel → part_of channel items ≡ []
   pub packets : report.packets ≡ length (closed_packets (format_of s) items)
   pub found : List Found
   pub readable : packets_in bytes ≡ Ok found
   pub read : ArePairs (IsReadAs found) jobs report.channels
+  pub silent : (channel : ℕ) → IsOther jobs channel → reading found channel ≡ []
 
 -- the sink took the file of a finished run
 abbrev pub Ran : {S : Type 0} → (S → Option (List ℕ)) → List JobState → Settings → S → RunReport → S → Type 0
@@ -91,6 +98,7 @@ pub record IsCut {S : Type 0} (taken : S → Option (List ℕ)) (jobs : List Job
   pub bytes : TookPart taken s items count before after
   pub within : count ≤ length (written_file (format_of s) s.prologue.items items)
   pub parts : ArePairs (IsPartOf jobs s items) jobs report.channels
+  pub others : (channel : ℕ) → IsOther jobs channel → part_of channel items ≡ []
   pub packets : report.packets ≡ whole_packets (count - length s.prologue.items) (closed_packets (format_of s) items)
 
 -- What a refusal says and leaves: U2, U1 and U5 put nothing into the sink; U3 comes only where none of U2 and U1 does, and leaves a

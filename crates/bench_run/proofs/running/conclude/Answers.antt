@@ -39,7 +39,7 @@ returns-in-Ok-clause-ran g c =
     let of = of_all taken failures jobs s before parts got old c.args.log.whole c.requires.lawful c.version_fits.ensures c.requires.all logged r
     (c.finish-ended.ensures.same (format_of s) s.prologue.items (taken before) (channels_of jobs) logged.items logged.recording) in
     let done = ran taken failures jobs s before parts got old c.args.log.whole c.requires.lawful c.version_fits.ensures c.requires.all logged
-    c.recording_is_read_again.ensures.read c.recording_is_read_again.ensures.ended c.file_is_packets.ensures.file c.file_is_packets.ensures.whole r of (c.in-Ok.ensures.ok.0 refl) in
+    c.recording_is_read_again.ensures.read c.recording_is_read_again.ensures.kept c.recording_is_read_again.ensures.ended c.file_is_packets.ensures.file c.file_is_packets.ensures.whole r of (c.in-Ok.ensures.ok.0 refl) in
     let report : c.make-report.result ≡ record { channels = parts; packets = r.packets } = c.make-report.ensures ∙ ap (λ n. record { channels = parts; packets = n }) c.packets.ensures in
     subst (λ (z : RunReport × _). Ran taken jobs s before z.0 z.1) (λ i. (sym report i, sym c.into_sink-sink.ensures i)) done
 
