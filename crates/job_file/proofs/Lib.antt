@@ -8,3 +8,4 @@ pub mod Limits
 pub mod Growth
 pub mod JobRuns
 pub mod Nexts
+pub mod TextLemmas

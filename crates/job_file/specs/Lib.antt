@@ -12,3 +12,4 @@ pub mod Jobs
 pub mod Kept
 pub mod Meaning
 pub mod Machines
+pub mod Texts

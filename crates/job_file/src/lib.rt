@@ -14,9 +14,11 @@ mod stepping;
 #[cfg(test)]
 mod tests;
 mod text_lines;
+mod texts;
 
 pub use error::{JobError, LineFault};
 pub use jobs::Job;
 pub use laws::job_runs;
 pub use reading::read_job;
 pub use stepping::next_record;
+pub use texts::{JobsError, read_jobs};

@@ -1,0 +1,47 @@
+//! The jobs of several texts.
+ghost use Rattle.std.specs.Prelude.{map, IfOk, IfErr};
+ghost use Rattle.job_file.specs.Jobs.{job_in};
+ghost use Rattle.job_file.specs.Texts.{AreSpelled, IsFirstRefused};
+
+use crate::error::JobError;
+use crate::jobs::Job;
+use crate::reading::read_job;
+use std::alloc::Global;
+use std::fmt::{self, Display, Formatter, Write};
+
+/// The first text that spells no job, or needs too much: its place in the list, from 0 on, and its fault.
+#[derive(Clone, Copy, Debug, PartialEq, Eq)]
+pub struct JobsError {
+    pub index: usize,
+    pub fault: JobError,
+}
+
+/// The fault as it stands for one text.
+impl Display for JobsError {
+    fn fmt<W: Write>(&self, f: &mut Formatter<W>) -> fmt::Result {
+        write!(f, "{}", self.fault)
+    }
+}
+
+/// The jobs that texts spell, in their order. The texts are judged in their order: the first that is refused is answered, with its
+/// place in the list and with J1 to J8 as `read_job` has them.
+pub fn read_jobs(alloc: Global, texts: &[&[u8]]) -> Result<Vec<Job>, JobsError>
+    ensures jobs { IfOk result (λ jobs. AreSpelled (map (λ text. text.now) texts.now) (map job_in jobs.items)) }
+    ensures refused { IfErr result (λ e. IsFirstRefused (map (λ text. text.now) texts.now) e.index e.fault) }
+{
+    let mut jobs = Vec::new(alloc);
+    for (index, text) in texts.iter().enumerate() {
+        match read_job(alloc, text) {
+            Ok(job) => {
+                if jobs.push(job).is_err() {
+                    return Err(JobsError {
+                        index,
+                        fault: JobError::Memory,
+                    });
+                }
+            }
+            Err(fault) => return Err(JobsError { index, fault }),
+        }
+    }
+    Ok(jobs)
+}
