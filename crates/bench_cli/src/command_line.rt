@@ -160,7 +160,7 @@ fn version<'a>(alloc: Global) -> Arg<'a> {
         .required(true)
         .value_parser(value_parser!(u8).range(0..=255))
         .allow_negative_numbers(true)
-        .help("The data type version of each packet, 0 to 255; 6 is that of IRIG 106-17")
+        .help("The data type version in each packet's header, 0 to 255, as you choose it")
 }
 
 fn dump_command<'a>(alloc: Global) -> Result<Command<'a>, AllocError> {

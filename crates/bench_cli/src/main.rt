@@ -5,6 +5,7 @@ mod command_line;
 mod commands;
 mod fault;
 mod files;
+mod jobs;
 mod recording;
 
 use std::process::ExitCode;

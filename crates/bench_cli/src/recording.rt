@@ -1,15 +1,15 @@
 //! `bench run`: jobs recorded into a file, and their report beside it.
-ghost use Rattle.std.specs.Prelude.{◌-◌, ◌<◌, ◌^◌};
+ghost use Rattle.std.specs.Prelude.{◌≡◌, ◌-◌, ◌<◌, ◌^◌};
 
 use crate::command_line::RunRequest;
 use crate::fault::Fault;
 use crate::files::{create, read_whole, write_whole};
+use crate::jobs::read_jobs;
 use bench_core::Settings;
 use bench_record::{Counts, print_counts, record_jobs_with_progress};
 use bench_report::{Report, print_report};
 use ch11_writer::{Sink, StdSink};
-use job_file::{Job, JobError, read_job};
-use std::alloc::Global;
+use job_file::Job;
 use std::io;
 use std::io::{BufWriter, IsTerminal, Write};
 use std::rt::{Clock, Files};
@@ -28,13 +28,7 @@ pub fn run_jobs<
         None => Vec::new(rt.alloc()),
     };
     let jobs = read_jobs(rt, &request.jobs)?;
-    let settings = Settings {
-        version: request.version,
-        limit: request.limit,
-        queue: request.queue,
-        prologue,
-        posts: 0,
-    };
+    let settings = settings_of(request, prologue);
     let sink = StdSink::make(create(rt, request.out)?);
     let report = record(rt, errors, &jobs, &settings, sink)?;
     let text = print_report(rt.alloc(), &report)?;
@@ -45,27 +39,21 @@ pub fn run_jobs<
     }
 }
 
-/// The jobs of these files: all are read, and then judged in their order.
-fn read_jobs<'a, R: Files + AllocGlobal>(rt: &R, names: &[&'a str]) -> Result<Vec<Job>, Fault<'a>> {
-    let mut texts = Vec::new(rt.alloc());
-    for name in names {
-        let text = read_whole(rt, name)?;
-        texts.push(text).map_err(|_| Fault::Memory)?;
+/// The settings that a request asks for, with the bytes of its prologue. No host posts actions.
+fn settings_of(request: &RunRequest<'_>, prologue: Vec<u8>) -> Settings
+    ensures version { result.version ≡ request.now.version }
+    ensures limit { result.limit ≡ request.now.limit }
+    ensures queue { result.queue ≡ request.now.queue }
+    ensures prologue { result.prologue.items ≡ prologue.items }
+    ensures posts { result.posts ≡ 0 }
+{
+    Settings {
+        version: request.version,
+        limit: request.limit,
+        queue: request.queue,
+        prologue,
+        posts: 0,
     }
-    judge(rt.alloc(), &texts)
-}
-
-/// The jobs that these texts spell, or the fault of the first that spells none.
-fn judge<'a>(alloc: Global, texts: &[Vec<u8>]) -> Result<Vec<Job>, Fault<'a>> {
-    let mut jobs = Vec::new(alloc);
-    for text in texts {
-        match read_job(alloc, text) {
-            Ok(job) => jobs.push(job).map_err(|_| Fault::Memory)?,
-            Err(JobError::Memory) => return Err(Fault::Memory),
-            Err(fault) => return Err(Fault::Job(fault)),
-        }
-    }
-    Ok(jobs)
 }
 
 /// The report of a recording that is whole. The sink is let go, which closes a file.
