@@ -1,4 +1,6 @@
 //! What the host of a remote terminal sets: its actions, and the texts that spell them.
+//!
+//! Its tests are in `mil_tests`.
 #![tactic(auto)]
 
 mod actions;
@@ -6,8 +8,6 @@ mod data_words;
 mod names;
 mod printing;
 mod reading;
-#[cfg(test)]
-mod tests;
 mod values;
 mod words;
 

@@ -3,3 +3,4 @@ pub mod Faults
 pub mod Plans
 pub mod Kept
 pub mod StandsFor
+pub mod Codes

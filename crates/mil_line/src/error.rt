@@ -12,12 +12,18 @@ pub enum LineError {
     Memory,
 }
 
+/// `L1` to `L3`.
 impl Display for LineError {
+    ghost use Rattle.std.specs.Prelude.{Some};
+    ghost use Rattle.mil_line.specs.Codes.{code_of};
+
+    ghost output = { λ fault. Some (code_of fault) };
+
     fn fmt<W: Write>(&self, f: &mut Formatter<W>) -> fmt::Result {
-        match self {
-            LineError::TooMany => f.write_str("L1"),
-            LineError::OutOfRange => f.write_str("L2"),
-            LineError::Memory => f.write_str("L3"),
-        }
+        f.write_str(match self {
+            LineError::TooMany => "L1",
+            LineError::OutOfRange => "L2",
+            LineError::Memory => "L3",
+        })
     }
 }

@@ -1,5 +1,7 @@
 //! The messages of a MIL-STD-1553B data bus: the ten message forms, what the controller sends for each, and which
 //! replies are due (MIL-STD-1553B 4.3.3.6, with Notice 2).
+//!
+//! Its tests are in `mil_tests`.
 #![tactic(auto)]
 
 mod command;
@@ -15,6 +17,3 @@ pub use drafts::{Draft, ModeSubaddress};
 pub use faults::BadMessage;
 pub use forms::{Commands, Due, Form};
 pub use messages::Message;
-
-#[cfg(test)]
-mod tests;

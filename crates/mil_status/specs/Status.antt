@@ -1,5 +1,5 @@
 -- The status word (MIL-STD-1553B 4.3.3.5.3): the bits that have a meaning, their places and their names.
-use Rattle.std.specs.Prelude.{ℕ, ◌+◌, ◌*◌, ◌/◌, ◌%◌, ◌^◌, List, [], ◌∷◌, Option, Some, None, codes, if◌then◌else◌}
+use Rattle.std.specs.Prelude.{ℕ, ◌+◌, ◌*◌, ◌/◌, ◌%◌, ◌^◌, List, [], ◌∷◌, Option, Some, None, codes, if◌then◌else◌, sum, map}
 use Rattle.std.specs.Str.{bytes_eq}
 
 -- a name and the number of its bit alone, which is 2 to the power of its place
@@ -26,6 +26,14 @@ status_bits =
     -- terminal flag (4.3.3.5.3.11)
     ∷ (codes "terminal", 1)
     ∷ []
+
+-- the bits of a table, each once
+abbrev pub all_of : List Row → ℕ
+all_of rows = sum (map (λ row. row.1) rows)
+
+-- the eight bits together
+abbrev pub all_status_bits : ℕ
+all_status_bits = all_of status_bits
 
 abbrev pub bit_in : List Row → List ℕ → Option ℕ
 bit_in [] name = None

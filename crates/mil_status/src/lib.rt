@@ -1,5 +1,7 @@
 //! The bits of status words (MIL-STD-1553B 4.3.3.5.3) and of the block status words of a recording (IRIG 106-17
 //! Chapter 11, MIL-STD-1553 bus data packets, Format 1).
+//!
+//! Its tests are in `mil_tests`.
 #![tactic(auto)]
 
 pub mod block;
@@ -7,6 +9,3 @@ pub mod status;
 
 pub use block::BlockBits;
 pub use status::{StatusBits, bit_named, status_word};
-
-#[cfg(test)]
-mod tests;

@@ -61,6 +61,8 @@ impl StatusBits {
     pub const CONTROL: StatusBits = StatusBits(2);
     /// A fault in the terminal (4.3.3.5.3.11).
     pub const TERMINAL: StatusBits = StatusBits(1);
+    /// All eight.
+    pub const ALL: StatusBits = StatusBits(0x071F);
 }
 
 impl Flags for StatusBits {

@@ -12,3 +12,4 @@ pub mod Phases
 pub mod Updates
 pub mod StandsFor
 pub mod Log
+pub mod Codes

@@ -1,10 +1,13 @@
 //! A remote terminal of MIL-STD-1553B with Notice 2.
+//!
+//! Its tests are in `mil_tests`.
 #![tactic(auto)]
 
 mod addresses;
 mod blocks;
 mod commands;
 mod conditions;
+mod error;
 mod events;
 mod host;
 mod log;
@@ -16,10 +19,9 @@ mod sounds;
 mod switches;
 mod synced;
 mod terminals;
-#[cfg(test)]
-mod tests;
 
 pub use conditions::Conditions;
+pub use error::TerminalError;
 pub use events::Event;
 pub use replies::Reply;
-pub use terminals::{Terminal, TerminalError};
+pub use terminals::Terminal;

@@ -10,6 +10,7 @@ ghost use Rattle.mil_terminal.specs.Windows as windows;
 ghost use Rattle.mil_terminal.specs.Station.{after};
 ghost use Rattle.mil_terminal.specs.Log.{events};
 
+use crate::TerminalError;
 use crate::addresses::Address;
 use crate::log::{Link, Log, log_after};
 use crate::registers::Registers;
@@ -21,26 +22,6 @@ use mil_word::{Line, Wave, Word, decode};
 use std::alloc::{AllocError, Global};
 use std::marker::Model;
 use std::snapshot::Snapshot;
-
-/// Why there is no such terminal.
-#[derive(Clone, Copy, Debug, PartialEq, Eq)]
-pub enum TerminalError {
-    /// Z1: the address is over 30.
-    Address,
-    /// Z2: memory was refused.
-    Memory,
-}
-
-impl From<AllocError> for TerminalError {
-    ghost use Rattle.std.specs.Prelude.{◌≡◌};
-    ghost use Rattle.mil_terminal.specs.declared.terminals.TerminalError.TheVariants.{Memory};
-
-    ghost from_gives = { λ _ e. e ≡ Memory };
-
-    fn from(_: AllocError) -> TerminalError {
-        TerminalError::Memory
-    }
-}
 
 /// A remote terminal. Contracts see its address and the history of what it has met, the newest event first; it holds no
 /// list of events, and each of its readers and replies is a query on that history, whatever the history is.

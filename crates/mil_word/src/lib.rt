@@ -1,10 +1,11 @@
 //! The words of a MIL-STD-1553B data bus: a word and its wave of forty half bits, and the fields of
 //! command and status words.
+//!
+//! Its tests are in `mil_tests`.
 #![tactic(auto)]
 
 pub mod code;
 pub mod commands;
-pub mod plain;
 pub mod statuses;
 mod tables;
 pub mod waves;
@@ -50,6 +51,3 @@ impl Default for Word {
         }
     }
 }
-
-#[cfg(test)]
-mod tests;

@@ -1,0 +1,38 @@
+//! Why there is no such terminal.
+use std::alloc::AllocError;
+use std::fmt::{self, Display, Formatter, Write};
+
+/// Why `Terminal::make` refuses.
+#[derive(Clone, Copy, Debug, PartialEq, Eq)]
+pub enum TerminalError {
+    /// An address over 30 (Z1).
+    Address,
+    /// Memory (Z2).
+    Memory,
+}
+
+/// `Z1` and `Z2`.
+impl Display for TerminalError {
+    ghost use Rattle.std.specs.Prelude.{Some};
+    ghost use Rattle.mil_terminal.specs.Codes.{code_of};
+
+    ghost output = { λ fault. Some (code_of fault) };
+
+    fn fmt<W: Write>(&self, f: &mut Formatter<W>) -> fmt::Result {
+        f.write_str(match self {
+            TerminalError::Address => "Z1",
+            TerminalError::Memory => "Z2",
+        })
+    }
+}
+
+impl From<AllocError> for TerminalError {
+    ghost use Rattle.std.specs.Prelude.{◌≡◌};
+    ghost use Rattle.mil_terminal.specs.declared.error.TerminalError.TheVariants.{Memory};
+
+    ghost from_gives = { λ _ e. e ≡ Memory };
+
+    fn from(_: AllocError) -> TerminalError {
+        TerminalError::Memory
+    }
+}
