@@ -1,12 +1,14 @@
 -- The block status word of a finished talk, and its outcome (IRIG 106-17 Chapter 11, MIL-STD-1553 bus data packets,
 -- Format 1, block status word; which errors set which bit, and the outcome, are own choices).
-use Rattle.std.specs.Prelude.{ℕ, ◌+◌, ◌^◌, ◌==◌, nat_lt, bit_and, bit_or, if◌then◌else◌, Bool, true, false, ◌&&◌, ◌||◌, not, List, [], ◌∷◌, length, Option, Some, None}
+use Rattle.std.specs.Prelude.{ℕ, ◌+◌, ◌==◌, nat_lt, bit_and, bit_or, if◌then◌else◌, Bool, true, false, ◌&&◌, ◌||◌, not, List, [], ◌∷◌, length, Option, Some, None}
 use Rattle.std.specs.Option.{is_none, is_some}
 use Rattle.mil_word.specs.declared.Line.{Line}
 use Rattle.mil_word.specs.declared.Line.TheVariants.{A, B}
 use Rattle.mil_word.specs.declared.Word.{Word}
 use Rattle.mil_word.specs.Words.{is_command_sync}
 use Rattle.mil_word.specs.Fields.{address_of, has_message_error, has_busy}
+use Rattle.mil_status.specs.Block as table
+use Rattle.mil_status.specs.Status.{all_status_bits}
 use Rattle.mil_message.specs.declared.forms.Due.{Due}
 use Rattle.mil_message.specs.declared.forms.Form.{Form}
 use Rattle.mil_message.specs.Forms.{second_command, replies_due, controller_words}
@@ -52,9 +54,9 @@ has_other_address None came = false
 has_other_address (Some due) None = false
 has_other_address (Some due) (Some came) = is_from_other due.address came.first
 
-abbrev pub bit : Bool → ℕ → ℕ
-bit true place = 2 ^ place
-bit false place = 0
+-- a bit, where it is on
+abbrev pub bit_if : Bool → ℕ → ℕ
+bit_if on bit = if on then bit else 0
 
 abbrev pub is_line_b : Line → Bool
 is_line_b A = false
@@ -64,35 +66,36 @@ is_line_b B = true
 abbrev pub is_transfer : Form → Bool
 is_transfer form = is_some (second_command form)
 
--- bit 9: fewer replies than due, or a late one
+-- fewer replies than due, or a late one
 abbrev pub has_response_time_out : Form → Seen → Bool
 has_response_time_out form seen =
     is_late (first_due (replies_due form)) seen.one || is_late (second_due (replies_due form)) seen.two
 
--- bit 5: the controller or a due reply has another number of words
+-- the controller or a due reply has another number of words
 abbrev pub has_word_count_error : Form → Seen → Bool
 has_word_count_error form seen =
     not (seen.controllers == length (controller_words form))
     || is_miscounted (first_due (replies_due form)) seen.one || is_miscounted (second_due (replies_due form)) seen.two
 
--- bit 12: any error
+-- any error
 abbrev pub has_error : Form → Seen → Bool
 has_error form seen =
     has_response_time_out form seen || has_word_count_error form seen || seen.other_sync || seen.unsound
     || has_other_address (first_due (replies_due form)) seen.one || has_other_address (second_due (replies_due form)) seen.two
     || seen.beyond
 
--- bit 13 line B, 12 any error, 11 between terminals, 9 response time, 5 word count, 4 sync, 3 invalid word; 10 is never set
+-- the bits of the errors, of the line and of the kind of message; a format error is never told
 abbrev pub block_of : Line → Form → Seen → ℕ
 block_of line form seen =
-    bit (is_line_b line) 13 + bit (has_error form seen) 12 + bit (is_transfer form) 11 + bit (has_response_time_out form seen) 9
-    + bit (has_word_count_error form seen) 5 + bit seen.other_sync 4 + bit seen.unsound 3
+    bit_if (is_line_b line) table.line_b + bit_if (has_error form seen) table.message_error
+    + bit_if (is_transfer form) table.terminal_to_terminal + bit_if (has_response_time_out form seen) table.response_timeout
+    + bit_if (has_word_count_error form seen) table.word_count_error + bit_if seen.other_sync table.sync_type_error
+    + bit_if seen.unsound table.invalid_word_error
 
--- the status bits of a word: message error 10, instrumentation 9, service request 8, broadcast received 4, busy 3,
--- subsystem flag 2, dynamic bus control acceptance 1, terminal flag 0 (4.3.3.5.3)
+-- the status bits of a word (4.3.3.5.3)
 abbrev pub status_bits : Option Word → ℕ
 status_bits None = 0
-status_bits (Some word) = if is_command_sync word.sync then bit_and word.value 0x071F else 0
+status_bits (Some word) = if is_command_sync word.sync then bit_and word.value all_status_bits else 0
 
 -- those of a due reply that came
 abbrev pub came_bits : Option Due → Option Came → ℕ

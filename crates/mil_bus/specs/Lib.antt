@@ -6,7 +6,7 @@ pub mod Exchange
 pub mod Offers
 pub mod Actions
 pub mod Addresses
-pub mod Past
 pub mod KeepsTimes
 pub mod Index
 pub mod Enough
+pub mod Codes

@@ -9,11 +9,11 @@ ghost use Rattle.mil_bus.specs.Exchange.{exchanged, talk_of, next_start, clock_o
 
 use crate::addresses::is_fit;
 use crate::offers::Offered;
-use crate::past::{Past, no_talks, one_more, same};
 use crate::runs::all_runs;
 use crate::terminals::Terminals;
 use crate::{BusError, Source, Talk};
 use arrayvec::ArrayVec;
+use history::History;
 use mil_host::Action;
 use mil_line::{Fault, Gap};
 use mil_message::Message;
@@ -21,7 +21,6 @@ use mil_terminal::Terminal;
 use mil_word::Line;
 use std::alloc::{AllocError, Global};
 use std::marker::Model;
-use std::snapshot::Snapshot;
 
 /// Up to 31 terminals on the two lines of a bus. Contracts see the start tick, the talks so far, the latest first, and the
 /// terminals' addresses and histories, in order of address; no value holds a list of talks.
@@ -33,7 +32,7 @@ pub struct Bus {
     on_a: Option<u64>,
     on_b: Option<u64>,
     terminals: Terminals,
-    past: Snapshot<Past>,
+    past: History<Talk>,
 }
 
 impl Model for Bus {
@@ -42,9 +41,9 @@ impl Model for Bus {
 
     ghost Value = { BusState };
 
-    ghost view = { λ b. record { start = b.begin; talks = b.past.value.0; stations = b.terminals } };
+    ghost view = { λ b. record { start = b.begin; talks = b.past; stations = b.terminals } };
 
-    ghost invariant = { λ b. KeepsTimes b.begin b.clock b.least b.on_a b.on_b b.past.value.0 };
+    ghost invariant = { λ b. KeepsTimes b.begin b.clock b.least b.on_a b.on_b b.past };
 }
 
 /// The least gap after a talk, in ticks.
@@ -88,7 +87,7 @@ impl Bus {
                 on_a: None,
                 on_b: None,
                 terminals,
-                past: no_talks(),
+                past: History::none(),
             }),
             Err(_) => Err(BusError::Memory),
         }
@@ -143,7 +142,7 @@ impl Bus {
                 Line::B => self.on_b = Some(end),
             }
         }
-        self.past = one_more(talk, &self.past);
+        self.past = self.past.put_before(talk);
     }
 
     /// The exchange of one message on a line, at a gap of ticks from the last word on either line, which is raised to 180
@@ -207,7 +206,7 @@ impl Bus {
             on_a: self.on_a,
             on_b: self.on_b,
             terminals,
-            past: same(&self.past),
+            past: self.past.same(),
         })
     }
 }

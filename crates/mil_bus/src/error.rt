@@ -10,7 +10,13 @@ pub enum BusError {
     Memory,
 }
 
+/// `B1` and `B2`.
 impl Display for BusError {
+    ghost use Rattle.std.specs.Prelude.{Some};
+    ghost use Rattle.mil_bus.specs.Codes.{code_of};
+
+    ghost output = { λ fault. Some (code_of fault) };
+
     fn fmt<W: Write>(&self, f: &mut Formatter<W>) -> fmt::Result {
         f.write_str(match self {
             BusError::Addresses => "B1",

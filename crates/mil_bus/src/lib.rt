@@ -1,4 +1,6 @@
 //! A bus: terminals that hear and answer what a controller sends, and the talks that come of it.
+//!
+//! Its tests are in `mil_tests`.
 #![tactic(auto)]
 
 mod addresses;
@@ -11,7 +13,6 @@ mod hearing;
 pub mod laws;
 mod offers;
 pub mod outcomes;
-mod past;
 mod quieting;
 mod runs;
 pub mod talks;

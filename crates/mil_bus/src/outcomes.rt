@@ -1,12 +1,13 @@
 //! The block status word of a finished talk, and what a program learns of it.
-ghost use Rattle.std.specs.Prelude.{◌≡◌, ◌<◌, ◌≤◌, ◌^◌, length};
-ghost use Rattle.mil_bus.specs.BlockStatus.{first_due, second_due, is_late, is_excuse, is_miscounted, has_other_address, bit, is_line_b, is_transfer, has_response_time_out, has_word_count_error, has_error, block_of, came_bits, outcome_of};
+ghost use Rattle.std.specs.Prelude.{◌≡◌, ◌≤◌, length};
+ghost use Rattle.mil_bus.specs.BlockStatus.{first_due, second_due, is_late, is_excuse, is_miscounted, has_other_address, bit_if, is_line_b, is_transfer, has_response_time_out, has_word_count_error, has_error, block_of, came_bits, outcome_of};
 ghost use Rattle.mil_bus.specs.Counts.{seen_of};
 ghost use Rattle.mil_message.specs.Forms.{replies_due};
 
 use crate::Talk;
 use crate::counts::{Came, Seen, counted, is_command};
 use mil_message::{Due, Message};
+use mil_status::{BlockBits, StatusBits};
 use mil_word::{Line, Status, Word};
 
 /// What a program learns of a talk.
@@ -109,7 +110,7 @@ fn came_bits(due: Option<Due>, came: Option<Came>) -> u16
                 None => 0,
                 Some(word) => {
                     if is_command(word) {
-                        word.value & 0x071F
+                        word.value & StatusBits::ALL.0
                     } else {
                         0
                     }
@@ -119,12 +120,11 @@ fn came_bits(due: Option<Due>, came: Option<Came>) -> u16
     }
 }
 
-fn bit(on: bool, place: u32) -> u16
-    requires { place < 14 }
-    ensures value { result ≡ bit on place }
-    ensures small { result ≤ 2 ^ place }
+/// A bit of the block status word, where it is on.
+fn bit_if(on: bool, bit: BlockBits) -> u16
+    ensures { result ≡ bit_if on bit.0 }
 {
-    if on { 1 << place } else { 0 }
+    if on { bit.0 } else { 0 }
 }
 
 fn is_line_b(line: Line) -> bool
@@ -193,13 +193,13 @@ impl Talk {
         ensures { result ≡ block_of self.now.line self.now.message seen.now }
     {
         let errors = judged(&self.message, due_of(&self.message), seen);
-        bit(is_line_b(self.line), 13)
-            + bit(errors.any, 12)
-            + bit(is_transfer(&self.message), 11)
-            + bit(errors.late, 9)
-            + bit(errors.miscounted, 5)
-            + bit(seen.other_sync, 4)
-            + bit(seen.unsound, 3)
+        bit_if(is_line_b(self.line), BlockBits::LINE_B)
+            + bit_if(errors.any, BlockBits::MESSAGE_ERROR)
+            + bit_if(is_transfer(&self.message), BlockBits::TERMINAL_TO_TERMINAL)
+            + bit_if(errors.late, BlockBits::RESPONSE_TIMEOUT)
+            + bit_if(errors.miscounted, BlockBits::WORD_COUNT_ERROR)
+            + bit_if(seen.other_sync, BlockBits::SYNC_TYPE_ERROR)
+            + bit_if(seen.unsound, BlockBits::INVALID_WORD_ERROR)
     }
 
     /// Whether this talk failed, whether no reply came that was due, and the status bits that came.

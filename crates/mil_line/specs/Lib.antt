@@ -1,6 +1,5 @@
 pub mod Ranges
 pub mod Faults
 pub mod Plans
-pub mod Kept
 pub mod StandsFor
 pub mod Codes

@@ -6,7 +6,6 @@
 pub mod error;
 pub mod faults;
 pub mod gaps;
-mod kept;
 pub mod on_line;
 pub mod plans;
 

@@ -4,20 +4,19 @@ ghost use Rattle.std.specs.List.{list_all};
 ghost use Rattle.mil_line.specs.Plans.{faults_of};
 ghost use Rattle.mil_line.specs.Ranges.{is_in_range, is_number};
 
-use crate::kept::{Log, nothing, one_more, same};
 use crate::{Fault, LineError};
 use arrayvec::ArrayVec;
+use history::History;
 use std::alloc::{AllocError, Global};
 use std::collections::BTreeMap;
 use std::marker::Model;
-use std::snapshot::Snapshot;
 
 /// Faults by the number of their message; contracts see the list of (number, fault) in the order in which they were
 /// added. A look-up takes time by the logarithm of how many messages have faults.
 #[derive(Drop)]
 pub struct Plan {
     by_number: BTreeMap<u32, ArrayVec<Fault, 4>>,
-    added: Snapshot<Log>,
+    added: History<(u32, Fault)>,
 }
 
 impl Model for Plan {
@@ -27,9 +26,9 @@ impl Model for Plan {
 
     ghost Value = { List Planned };
 
-    ghost view = { λ p. p.added.value.0 };
+    ghost view = { λ p. p.added };
 
-    ghost invariant = { λ p. StandsFor p.by_number p.added.value.0 };
+    ghost invariant = { λ p. StandsFor p.by_number p.added };
 }
 
 /// Whether the number of a message is 1 to 1,000,000, and the fault's place and value are in their ranges.
@@ -46,7 +45,7 @@ impl Plan {
     {
         Plan {
             by_number: BTreeMap::new(alloc),
-            added: nothing(),
+            added: History::none(),
         }
     }
 
@@ -68,7 +67,7 @@ impl Plan {
         faults.push(fault);
         match self.by_number.insert(number, faults) {
             Ok(_) => {
-                self.added = one_more(&self.added, number, fault);
+                self.added = self.added.put_behind(&(number, fault));
                 Ok(())
             }
             Err(_) => Err(LineError::Memory),
@@ -96,7 +95,7 @@ impl Plan {
         let by_number = self.by_number.clone()?;
         Ok(Plan {
             by_number,
-            added: same(&self.added),
+            added: self.added.same(),
         })
     }
 }

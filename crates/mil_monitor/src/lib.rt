@@ -1,4 +1,6 @@
 //! What a bus monitor keeps of a message: one record for each message on the bus.
+//!
+//! Its tests are in `mil_tests`.
 #![tactic(auto)]
 
 pub mod observations;
@@ -21,6 +23,3 @@ pub struct Record {
     /// The 16 information bits of each word, in the order on the bus; at most forty are recorded.
     pub words: ArrayVec<u16, 40>,
 }
-
-#[cfg(test)]
-mod tests;

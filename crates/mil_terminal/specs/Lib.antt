@@ -11,5 +11,4 @@ pub mod Marking
 pub mod Phases
 pub mod Updates
 pub mod StandsFor
-pub mod Log
 pub mod Codes

@@ -3,7 +3,7 @@ use mil_host::Action;
 use mil_line::Gap;
 use mil_word::{Line, Wave};
 
-/// What a remote terminal can meet. No program makes one: contracts speak of lists of them, the newest first.
+/// What a remote terminal can meet. No program keeps one: contracts speak of lists of them, the newest first.
 #[derive(Debug, Drop)]
 pub enum Event {
     /// A word on a line, and the gap before it.

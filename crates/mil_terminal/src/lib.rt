@@ -10,7 +10,6 @@ mod conditions;
 mod error;
 mod events;
 mod host;
-mod log;
 mod marks;
 mod pending;
 mod registers;

@@ -8,27 +8,25 @@ ghost use Rattle.mil_terminal.specs.Replies as replies;
 ghost use Rattle.mil_terminal.specs.Status as statuses;
 ghost use Rattle.mil_terminal.specs.Windows as windows;
 ghost use Rattle.mil_terminal.specs.Station.{after};
-ghost use Rattle.mil_terminal.specs.Log.{events};
 
-use crate::TerminalError;
 use crate::addresses::Address;
-use crate::log::{Link, Log, log_after};
 use crate::registers::Registers;
 use crate::replies::Reply;
 use crate::sounds::Sound;
+use crate::{Event, TerminalError};
+use history::History;
 use mil_host::Action;
 use mil_line::Gap;
 use mil_word::{Line, Wave, Word, decode};
 use std::alloc::{AllocError, Global};
 use std::marker::Model;
-use std::snapshot::Snapshot;
 
 /// A remote terminal. Contracts see its address and the history of what it has met, the newest event first; it holds no
 /// list of events, and each of its readers and replies is a query on that history, whatever the history is.
 #[derive(Drop)]
 pub struct Terminal {
     registers: Registers,
-    past: Snapshot<Log>,
+    past: History<Event>,
 }
 
 impl Model for Terminal {
@@ -37,9 +35,9 @@ impl Model for Terminal {
 
     ghost Value = { Station };
 
-    ghost view = { λ t. record { own = t.registers.own; history = t.past.value.0 } };
+    ghost view = { λ t. record { own = t.registers.own; history = t.past } };
 
-    ghost invariant = { λ t. StandsFor t.registers t.past.value.0 };
+    ghost invariant = { λ t. StandsFor t.registers t.past };
 }
 
 impl Terminal {
@@ -54,7 +52,7 @@ impl Terminal {
         let registers = Registers::make(alloc, Address::of(address))?;
         Ok(Terminal {
             registers,
-            past: log_after(Link::Start),
+            past: History::none(),
         })
     }
 
@@ -78,8 +76,7 @@ impl Terminal {
         ensures { self.new ≡ after self.old (Heard line wave gap) }
     {
         self.registers.hear(line, &Sound::of(wave, decoded), gap);
-        let past = log_after(Link::Same(Snapshot::of(&self.past)));
-        self.past = log_after(Link::Heard(line, wave, gap, past));
+        self.past = self.past.put_before(&Event::Heard { line, wave, gap });
     }
 
     /// The same, for a word that is no command to this terminal or to all, on a line where this terminal is not listening:
@@ -91,8 +88,8 @@ impl Terminal {
         ensures after { self.new ≡ after self.old (Heard line wave gap) }
         ensures listening { (l : LineValue) → windows.is_listening self.new.own l self.new.history ≡ windows.is_listening self.old.own l self.old.history }
     {
-        let before = log_after(Link::Same(Snapshot::of(&self.past)));
-        self.past = log_after(Link::Heard(line, wave, gap, before));
+        let heard = Event::Heard { line, wave, gap };
+        self.past = self.past.put_before(&heard);
     }
 
     /// A line that fell quiet where this terminal is not listening: it answers nothing, and this costs nothing.
@@ -103,8 +100,8 @@ impl Terminal {
         ensures silent { replies.reply self.old.own line self.old.history ≡ None }
         ensures listening { (l : LineValue) → windows.is_listening self.new.own l self.new.history ≡ windows.is_listening self.old.own l self.old.history }
     {
-        let before = log_after(Link::Same(Snapshot::of(&self.past)));
-        self.past = log_after(Link::Quiet(line, before));
+        let quiet = Event::Quiet(line);
+        self.past = self.past.put_before(&quiet);
     }
 
     /// A line that fell quiet after words, and what the terminal answers.
@@ -113,8 +110,7 @@ impl Terminal {
         ensures reply { result ≡ replies.reply self.old.own line self.old.history }
     {
         let reply = self.registers.quiet(line);
-        let past = log_after(Link::Same(Snapshot::of(&self.past)));
-        self.past = log_after(Link::Quiet(line, past));
+        self.past = self.past.put_before(&Event::Quiet(line));
         reply
     }
 
@@ -123,8 +119,7 @@ impl Terminal {
         ensures { self.new ≡ after self.old (Host action.now) }
     {
         self.registers.act(action);
-        let past = log_after(Link::Same(Snapshot::of(&self.past)));
-        self.past = log_after(Link::Host(Snapshot::of(action), past));
+        self.past = self.past.put_before(&Event::Host(action.copy()));
     }
 
     /// Whether a window is open on the line that is not decided yet.
@@ -142,7 +137,7 @@ impl Terminal {
         let registers = self.registers.copy()?;
         Ok(Terminal {
             registers,
-            past: log_after(Link::Same(Snapshot::of(&self.past))),
+            past: self.past.same(),
         })
     }
 

@@ -1,6 +1,6 @@
 //! Why no trunk was made.
 use std::error::Error;
-use std::fmt;
+use std::fmt::{self, Display, Formatter, Write};
 
 /// Why no trunk was made.
 #[derive(Clone, Copy, Debug, PartialEq, Eq)]
@@ -11,12 +11,18 @@ pub enum TrunkError {
     Memory,
 }
 
-impl fmt::Display for TrunkError {
-    fn fmt<W: fmt::Write>(&self, f: &mut fmt::Formatter<W>) -> fmt::Result {
-        match self {
-            TrunkError::Capacity => write!(f, "Q1"),
-            TrunkError::Memory => write!(f, "Q2"),
-        }
+/// `Q1` and `Q2`.
+impl Display for TrunkError {
+    ghost use Rattle.std.specs.Prelude.{Some};
+    ghost use Rattle.mil_trunk.specs.Codes.{code_of};
+
+    ghost output = { λ fault. Some (code_of fault) };
+
+    fn fmt<W: Write>(&self, f: &mut Formatter<W>) -> fmt::Result {
+        f.write_str(match self {
+            TrunkError::Capacity => "Q1",
+            TrunkError::Memory => "Q2",
+        })
     }
 }
 

@@ -5,11 +5,11 @@ use Rattle.mil_terminal.proofs.terminals.Terminal.pass.Goals as goal
 
 pub invariant_of-self : goal.invariant_of-self
 invariant_of-self c =
-    rw (c.log_after.ensures, c.log_after-before.ensures, c.of.ensures)
-    (passes_word c.self.inside.registers c.args.line c.args.wave c.args.gap c.self.inside.past.value.0 (rw (← c.self.view_is) at c.requires.other) (rw (← c.self.view_is) at c.requires.closed) c.self.invariant)
+    rw c.put_before.ensures
+    (passes_word c.self.inside.registers c.args.line c.args.wave c.args.gap c.self.inside.past (rw (← c.self.view_is) at c.requires.other) (rw (← c.self.view_is) at c.requires.closed) c.self.invariant)
 
 pub returns-clause-listening : goal.returns-clause-listening
 returns-clause-listening c =
-    rw (c.log_after.ensures, c.log_after-before.ensures, c.of.ensures, ← c.self.view_is)
-    (listening_stays c.self.inside.registers c.self.inside.past.value.0 (Heard c.args.line c.args.wave c.args.gap ∷ c.self.inside.past.value.0) c.self.invariant
-    (passes_word c.self.inside.registers c.args.line c.args.wave c.args.gap c.self.inside.past.value.0 (rw (← c.self.view_is) at c.requires.other) (rw (← c.self.view_is) at c.requires.closed) c.self.invariant))
+    rw (c.put_before.ensures, ← c.self.view_is)
+    (listening_stays c.self.inside.registers c.self.inside.past (Heard c.args.line c.args.wave c.args.gap ∷ c.self.inside.past) c.self.invariant
+    (passes_word c.self.inside.registers c.args.line c.args.wave c.args.gap c.self.inside.past (rw (← c.self.view_is) at c.requires.other) (rw (← c.self.view_is) at c.requires.closed) c.self.invariant))

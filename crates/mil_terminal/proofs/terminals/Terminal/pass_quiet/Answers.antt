@@ -5,16 +5,16 @@ use Rattle.mil_terminal.proofs.terminals.Terminal.pass_quiet.Goals as goal
 
 pub invariant_of-self : goal.invariant_of-self
 invariant_of-self c =
-    rw (c.log_after.ensures, c.log_after-before.ensures, c.of.ensures)
-    (passes_quiet c.self.inside.registers c.args.line c.self.inside.past.value.0 (rw (← c.self.view_is) at c.requires) c.self.invariant).stands
+    rw c.put_before.ensures
+    (passes_quiet c.self.inside.registers c.args.line c.self.inside.past (rw (← c.self.view_is) at c.requires) c.self.invariant).stands
 
 pub returns-clause-silent : goal.returns-clause-silent
 returns-clause-silent c =
     rw (← c.self.view_is)
-    (sym (passes_quiet c.self.inside.registers c.args.line c.self.inside.past.value.0 (rw (← c.self.view_is) at c.requires) c.self.invariant).silent)
+    (sym (passes_quiet c.self.inside.registers c.args.line c.self.inside.past (rw (← c.self.view_is) at c.requires) c.self.invariant).silent)
 
 pub returns-clause-listening : goal.returns-clause-listening
 returns-clause-listening c =
-    rw (c.log_after.ensures, c.log_after-before.ensures, c.of.ensures, ← c.self.view_is)
-    (listening_stays c.self.inside.registers c.self.inside.past.value.0 (Quiet c.args.line ∷ c.self.inside.past.value.0) c.self.invariant
-    (passes_quiet c.self.inside.registers c.args.line c.self.inside.past.value.0 (rw (← c.self.view_is) at c.requires) c.self.invariant).stands)
+    rw (c.put_before.ensures, ← c.self.view_is)
+    (listening_stays c.self.inside.registers c.self.inside.past (Quiet c.args.line ∷ c.self.inside.past) c.self.invariant
+    (passes_quiet c.self.inside.registers c.args.line c.self.inside.past (rw (← c.self.view_is) at c.requires) c.self.invariant).stands)
