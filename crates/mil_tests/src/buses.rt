@@ -10,7 +10,6 @@ use mil_monitor::{Record, observe};
 use mil_word::Line;
 use std::alloc::Global;
 use std::process::Abort;
-use std::test::Fail;
 
 mod addresses;
 mod faults;
@@ -25,62 +24,56 @@ struct Setting {
 }
 
 /// New terminals of these addresses, and no fault.
-fn fresh(alloc: Global, addresses: &[u8]) -> Result<Setting, Fail> {
-    Ok(Setting {
-        bus: Bus::make(alloc, 0, addresses)?,
+fn fresh(rt: &impl Abort, alloc: Global, addresses: &[u8]) -> Setting {
+    Setting {
+        bus: Bus::make(alloc, 0, addresses).expect(rt, "a bus"),
         plan: Plan::make(alloc),
         number: 0,
-    })
+    }
 }
 
-/// Terminal 5 alone, with a fault of the first message.
-fn with_fault(alloc: Global, fault: Fault) -> Result<Setting, Fail> {
-    let mut alone = fresh(alloc, &[5])?;
-    alone.plan.add(1, fault)?;
-    Ok(alone)
+/// New terminal 5 alone, with a fault of the first message.
+fn with_fault(rt: &impl Abort, alloc: Global, fault: Fault) -> Setting {
+    let mut alone = fresh(rt, alloc, &[5]);
+    alone.plan.add(1, fault).expect(rt, "a fault in range");
+    alone
 }
 
 impl Setting {
     /// The record of the next message.
-    fn send(&mut self, line: Line, draft: Draft<'_>) -> Result<Record, Fail> {
-        let message = Message::check(draft)?;
-        if self.bus.clock() >= 1 << 60 {
-            return Err("the clock is too late".into());
-        }
+    fn send(&mut self, rt: &impl Abort, line: Line, draft: Draft<'_>) -> Record {
+        let message = Message::check(draft).expect(rt, "a draft in range");
+        assert!(rt; self.bus.clock() < 1 << 60);
         self.number = self.number.wrapping_add(1);
         let faults = self.plan.faults(self.number);
         let talk = self
             .bus
             .exchange(line, &message, Gap::of(40), faults.as_slice());
-        Ok(observe(&talk))
+        observe(&talk)
     }
 
     /// An action of a terminal's host, by its text.
-    fn act(&mut self, address: u8, text: &[u8]) -> Result<(), Fail> {
-        let action = read_action(text)?;
-        if self.bus.act(address, &action) {
-            Ok(())
-        } else {
-            Err("no such terminal".into())
-        }
+    fn act(&mut self, rt: &impl Abort, address: u8, text: &[u8]) {
+        let action = read_action(text).expect(rt, "an action");
+        assert!(rt; self.bus.act(address, &action), "no such terminal");
     }
 
     /// The words that a receive command to a terminal left there.
-    fn received(&self, address: u8, subaddress: u8) -> Result<&[u16], Fail>
+    fn received(&self, rt: &impl Abort, address: u8, subaddress: u8) -> &[u16]
         requires low { 1 ≤ subaddress }
         requires high { subaddress ≤ 30 }
     {
-        let terminal = self.bus.terminal(address).ok_or("no such terminal")?;
-        Ok(terminal.received(subaddress))
+        let terminal = self.bus.terminal(address).expect(rt, "no such terminal");
+        terminal.received(subaddress)
     }
 
     /// Those that a receive command to all left there.
-    fn received_from_all(&self, address: u8, subaddress: u8) -> Result<&[u16], Fail>
+    fn received_from_all(&self, rt: &impl Abort, address: u8, subaddress: u8) -> &[u16]
         requires low { 1 ≤ subaddress }
         requires high { subaddress ≤ 30 }
     {
-        let terminal = self.bus.terminal(address).ok_or("no such terminal")?;
-        Ok(terminal.received_from_all(subaddress))
+        let terminal = self.bus.terminal(address).expect(rt, "no such terminal");
+        terminal.received_from_all(subaddress)
     }
 }
 
@@ -123,4 +116,20 @@ fn is(rt: &impl Abort, record: &Record, stamp: u64, block: u16, gaps: u16, words
     assert_eq!(rt; record.block, block);
     assert_eq!(rt; record.gaps, gaps);
     assert_eq!(rt; record.words.as_slice(), words);
+}
+
+/// The words of a record.
+fn has_words(rt: &impl Abort, record: &Record, words: &[u16]) {
+    assert_eq!(rt; record.words.as_slice(), words);
+}
+
+/// The block status and the gaps of a record.
+fn has_block(rt: &impl Abort, record: &Record, block: u16, gaps: u16) {
+    assert_eq!(rt; record.block, block);
+    assert_eq!(rt; record.gaps, gaps);
+}
+
+/// The words are these.
+fn are(rt: &impl Abort, words: &[u16], wanted: &[u16]) {
+    assert_eq!(rt; words, wanted);
 }

@@ -1,9 +1,26 @@
 //! A plan takes four faults of a message and no fifth, and only those that are in range.
 use mil_line::{Fault, Gap, LineError, Plan};
 use mil_word::{Sync, Wave, Word};
+use std::process::Abort;
 
 fn late(ticks: u32) -> Fault {
     Fault::Late { run: 1, ticks }
+}
+
+/// What the plan says to one more fault of a message.
+fn answered(
+    rt: &impl Abort,
+    plan: &mut Plan,
+    number: u32,
+    fault: Fault,
+    answer: Result<(), LineError>,
+) {
+    assert_eq!(rt; plan.add(number, fault), answer);
+}
+
+/// How many faults of a message the plan has.
+fn has(rt: &impl Abort, plan: &Plan, number: u32, count: usize) {
+    assert_eq!(rt; plan.faults(number).len(), count);
 }
 
 #[test]
@@ -28,25 +45,34 @@ fn four_faults_of_a_message_and_no_fifth(rt: HostRuntime) {
         late(170),
     ];
     for fault in faults {
-        assert_eq!(rt; plan.add(1, *fault), Ok(()));
+        answered(&rt, &mut plan, 1, *fault, Ok(()));
     }
-    assert_eq!(rt; plan.add(1, late(171)), Err(LineError::TooMany));
-    assert_eq!(rt; plan.add(1, late(120)), Err(LineError::TooMany));
-    assert_eq!(rt; plan.add(2, late(120)), Err(LineError::OutOfRange));
-    assert_eq!(rt; plan.add(2, late(256)), Err(LineError::OutOfRange));
-    assert_eq!(rt;
-        plan.add(2, Fault::Mute { run: 0 }),
-        Err(LineError::OutOfRange)
+    answered(&rt, &mut plan, 1, late(171), Err(LineError::TooMany));
+    answered(&rt, &mut plan, 1, late(120), Err(LineError::TooMany));
+    answered(&rt, &mut plan, 2, late(120), Err(LineError::OutOfRange));
+    answered(&rt, &mut plan, 2, late(256), Err(LineError::OutOfRange));
+    answered(
+        &rt,
+        &mut plan,
+        2,
+        Fault::Mute { run: 0 },
+        Err(LineError::OutOfRange),
     );
-    assert_eq!(rt; plan.add(0, late(121)), Err(LineError::OutOfRange));
-    assert_eq!(rt; plan.add(1_000_001, late(121)), Err(LineError::OutOfRange));
-    assert_eq!(rt; plan.add(1_000_000, late(121)), Ok(()));
+    answered(&rt, &mut plan, 0, late(121), Err(LineError::OutOfRange));
+    answered(
+        &rt,
+        &mut plan,
+        1_000_001,
+        late(121),
+        Err(LineError::OutOfRange),
+    );
+    answered(&rt, &mut plan, 1_000_000, late(121), Ok(()));
 
     let kept = plan.copy().expect(&rt, "a copy");
     assert_eq!(rt; kept.faults(1).as_slice(), faults);
-    assert_eq!(rt; plan.faults(1).len(), 4);
-    assert_eq!(rt; plan.faults(2).len(), 0);
-    assert_eq!(rt; kept.faults(1_000_000).len(), 1);
+    has(&rt, &plan, 1, 4);
+    has(&rt, &plan, 2, 0);
+    has(&rt, &kept, 1_000_000, 1);
 }
 
 #[test]

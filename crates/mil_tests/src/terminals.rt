@@ -4,7 +4,8 @@ use mil_host::{Action, Mark, TransmitWords};
 use mil_line::Gap;
 use mil_terminal::{Reply, Terminal, TerminalError};
 use mil_word::{Line, Sync, Wave, Word, encode};
-use std::test::Fail;
+use std::alloc::Global;
+use std::process::Abort;
 
 fn command(value: u16) -> Wave {
     encode(Word {
@@ -37,170 +38,160 @@ fn words(reply: &Option<Reply>) -> &[u16] {
     }
 }
 
+/// A new terminal of an address.
+fn fresh(rt: &impl Abort, alloc: Global, address: u8) -> Terminal {
+    Terminal::make(alloc, address).expect(rt, "a terminal")
+}
+
+/// The words are these.
+fn are(rt: &impl Abort, words: &[u16], wanted: &[u16]) {
+    assert_eq!(rt; words, wanted);
+}
+
+/// What is said is answered with these words.
+fn answers(
+    rt: &impl Abort,
+    terminal: &mut Terminal,
+    line: Line,
+    value: u16,
+    sent: &[u16],
+    reply: &[u16],
+) {
+    assert_eq!(rt; words(&say(terminal, line, value, sent)), reply);
+}
+
+/// What is said is not answered.
+fn is_silent(rt: &impl Abort, terminal: &mut Terminal, line: Line, value: u16, sent: &[u16]) {
+    assert!(rt; say(terminal, line, value, sent).is_none());
+}
+
 #[test]
-fn answers_zeros_where_nothing_was_put_up(rt: HostRuntime) -> Result<(), Fail> {
-    let mut terminal = Terminal::make(rt.alloc(), 5)?;
+fn answers_zeros_where_nothing_was_put_up(rt: HostRuntime) {
+    let mut terminal = fresh(&rt, rt.alloc(), 5);
     terminal.hear(Line::A, command(0x2c41), Gap::of(65535));
-    let reply = terminal.quiet(Line::A).ok_or("no reply")?;
+    let reply = terminal.quiet(Line::A).expect(&rt, "a reply");
     assert_eq!(rt; reply.words.as_slice(), [0x2800, 0].as_slice());
     assert_eq!(rt; reply.gap.ticks(), 80);
-    Ok(())
 }
 
 #[test]
-fn a_command_on_the_other_line_cuts_a_window_short(rt: HostRuntime) -> Result<(), Fail> {
-    let mut terminal = Terminal::make(rt.alloc(), 5)?;
+fn a_command_on_the_other_line_cuts_a_window_short(rt: HostRuntime) {
+    let mut terminal = fresh(&rt, rt.alloc(), 5);
     terminal.hear(Line::A, command(0x2823), Gap::of(65535));
     terminal.hear(Line::A, data(1), Gap::contiguous());
-    assert_eq!(rt;
-        words(&say(&mut terminal, Line::B, 0x2fe2, &[])),
-        [0x2c00].as_slice()
-    );
+    answers(&rt, &mut terminal, Line::B, 0x2fe2, &[], &[0x2c00]);
     assert!(rt; terminal.quiet(Line::A).is_none());
-    Ok(())
 }
 
 #[test]
-fn a_receive_command_alone_leaves_a_message_error(rt: HostRuntime) -> Result<(), Fail> {
-    let mut terminal = Terminal::make(rt.alloc(), 5)?;
-    assert!(rt; say(&mut terminal, Line::A, 0x2823, &[]).is_none());
+fn a_receive_command_alone_leaves_a_message_error(rt: HostRuntime) {
+    let mut terminal = fresh(&rt, rt.alloc(), 5);
+    is_silent(&rt, &mut terminal, Line::A, 0x2823, &[]);
     assert_eq!(rt; terminal.status(), 0x2c00);
-    Ok(())
 }
 
 #[test]
-fn a_broadcast_is_told_until_the_next_command(rt: HostRuntime) -> Result<(), Fail> {
-    let mut terminal = Terminal::make(rt.alloc(), 5)?;
-    assert!(rt; say(&mut terminal, Line::A, 0xffe1, &[]).is_none());
-    assert_eq!(rt;
-        words(&say(&mut terminal, Line::A, 0x2fe2, &[])),
-        [0x2810].as_slice()
-    );
-    assert_eq!(rt;
-        words(&say(&mut terminal, Line::A, 0x2fe2, &[])),
-        [0x2810].as_slice()
-    );
-    assert_eq!(rt;
-        words(&say(&mut terminal, Line::A, 0x2fe1, &[])),
-        [0x2800].as_slice()
-    );
-    Ok(())
+fn a_broadcast_is_told_until_the_next_command(rt: HostRuntime) {
+    let mut terminal = fresh(&rt, rt.alloc(), 5);
+    is_silent(&rt, &mut terminal, Line::A, 0xffe1, &[]);
+    answers(&rt, &mut terminal, Line::A, 0x2fe2, &[], &[0x2810]);
+    answers(&rt, &mut terminal, Line::A, 0x2fe2, &[], &[0x2810]);
+    answers(&rt, &mut terminal, Line::A, 0x2fe1, &[], &[0x2800]);
 }
 
 #[test]
-fn a_shutdown_silences_the_other_line(rt: HostRuntime) -> Result<(), Fail> {
-    let mut terminal = Terminal::make(rt.alloc(), 5)?;
-    assert_eq!(rt;
-        words(&say(&mut terminal, Line::A, 0x2fe4, &[])),
-        [0x2800].as_slice()
-    );
+fn a_shutdown_silences_the_other_line(rt: HostRuntime) {
+    let mut terminal = fresh(&rt, rt.alloc(), 5);
+    answers(&rt, &mut terminal, Line::A, 0x2fe4, &[], &[0x2800]);
     assert!(rt; terminal.transmitter_on(Line::A));
     assert!(rt; !terminal.transmitter_on(Line::B));
-    assert!(rt; say(&mut terminal, Line::B, 0x2821, &[1]).is_none());
-    assert_eq!(rt; terminal.received(1), [1].as_slice());
-    assert_eq!(rt;
-        words(&say(&mut terminal, Line::A, 0x2fe5, &[])),
-        [0x2800].as_slice()
-    );
-    assert_eq!(rt;
-        words(&say(&mut terminal, Line::B, 0x2821, &[1])),
-        [0x2800].as_slice()
-    );
-    Ok(())
+    is_silent(&rt, &mut terminal, Line::B, 0x2821, &[1]);
+    are(&rt, terminal.received(1), &[1]);
+    answers(&rt, &mut terminal, Line::A, 0x2fe5, &[], &[0x2800]);
+    answers(&rt, &mut terminal, Line::B, 0x2821, &[1], &[0x2800]);
 }
 
 #[test]
-fn an_inhibited_flag_comes_back_after_a_reset(rt: HostRuntime) -> Result<(), Fail> {
-    let mut terminal = Terminal::make(rt.alloc(), 5)?;
+fn an_inhibited_flag_comes_back_after_a_reset(rt: HostRuntime) {
+    let mut terminal = fresh(&rt, rt.alloc(), 5);
     terminal.act(&Action::Fault(true));
-    assert_eq!(rt;
-        words(&say(&mut terminal, Line::A, 0x2fe6, &[])),
-        [0x2800].as_slice()
-    );
+    answers(&rt, &mut terminal, Line::A, 0x2fe6, &[], &[0x2800]);
     assert!(rt; terminal.flag_inhibited());
-    assert_eq!(rt;
-        words(&say(&mut terminal, Line::A, 0x2fe1, &[])),
-        [0x2800].as_slice()
-    );
-    assert_eq!(rt;
-        words(&say(&mut terminal, Line::A, 0x2fe8, &[])),
-        [0x2800].as_slice()
-    );
-    assert_eq!(rt;
-        words(&say(&mut terminal, Line::A, 0x2fe1, &[])),
-        [0x2801].as_slice()
-    );
-    Ok(())
+    answers(&rt, &mut terminal, Line::A, 0x2fe1, &[], &[0x2800]);
+    answers(&rt, &mut terminal, Line::A, 0x2fe8, &[], &[0x2800]);
+    answers(&rt, &mut terminal, Line::A, 0x2fe1, &[], &[0x2801]);
 }
 
 #[test]
-fn a_busy_terminal_tells_its_last_command(rt: HostRuntime) -> Result<(), Fail> {
-    let mut terminal = Terminal::make(rt.alloc(), 5)?;
+fn a_busy_terminal_tells_its_last_command(rt: HostRuntime) {
+    let mut terminal = fresh(&rt, rt.alloc(), 5);
     terminal.act(&Action::Busy(true));
-    assert_eq!(rt;
-        words(&say(&mut terminal, Line::A, 0x2c41, &[])),
-        [0x2808].as_slice()
-    );
-    assert_eq!(rt;
-        words(&say(&mut terminal, Line::A, 0x2ff2, &[])),
-        [0x2808, 0x2c41].as_slice()
-    );
+    answers(&rt, &mut terminal, Line::A, 0x2c41, &[], &[0x2808]);
+    answers(&rt, &mut terminal, Line::A, 0x2ff2, &[], &[0x2808, 0x2c41]);
     assert_eq!(rt; terminal.last_command(), 0x2c41);
-    Ok(())
 }
 
 #[test]
-fn subaddress_30_wraps_around_and_broadcast_is_kept_apart(rt: HostRuntime) -> Result<(), Fail> {
-    let mut terminal = Terminal::make(rt.alloc(), 5)?;
-    assert_eq!(rt;
-        words(&say(&mut terminal, Line::A, 0x2bc2, &[0xbeef, 0xcafe])),
-        [0x2800].as_slice()
+fn subaddress_30_wraps_around_and_broadcast_is_kept_apart(rt: HostRuntime) {
+    let mut terminal = fresh(&rt, rt.alloc(), 5);
+    answers(
+        &rt,
+        &mut terminal,
+        Line::A,
+        0x2bc2,
+        &[0xbeef, 0xcafe],
+        &[0x2800],
     );
-    assert_eq!(rt;
-        words(&say(&mut terminal, Line::A, 0x2fc2, &[])),
-        [0x2800, 0xbeef, 0xcafe].as_slice()
+    answers(
+        &rt,
+        &mut terminal,
+        Line::A,
+        0x2fc2,
+        &[],
+        &[0x2800, 0xbeef, 0xcafe],
     );
-    assert!(rt; say(&mut terminal, Line::A, 0xf821, &[0xaa]).is_none());
-    assert_eq!(rt; terminal.received_from_all(1), [0xaa].as_slice());
-    assert!(rt; terminal.received(1).is_empty());
-    assert_eq!(rt;
-        words(&say(&mut terminal, Line::A, 0x2fe2, &[])),
-        [0x2810].as_slice()
-    );
-    let copied = terminal.copy()?;
-    assert_eq!(rt; copied.transmit_words(30), [0xbeef, 0xcafe].as_slice());
-    Ok(())
+    is_silent(&rt, &mut terminal, Line::A, 0xf821, &[0xaa]);
+    are(&rt, terminal.received_from_all(1), &[0xaa]);
+    are(&rt, terminal.received(1), &[]);
+    answers(&rt, &mut terminal, Line::A, 0x2fe2, &[], &[0x2810]);
+    let copied = terminal.copy().expect(&rt, "memory");
+    are(&rt, copied.transmit_words(30), &[0xbeef, 0xcafe]);
 }
 
 #[test]
-fn a_marked_command_is_answered_with_a_message_error(rt: HostRuntime) -> Result<(), Fail> {
-    let mut terminal = Terminal::make(rt.alloc(), 5)?;
+fn a_marked_command_is_answered_with_a_message_error(rt: HostRuntime) {
+    let mut terminal = fresh(&rt, rt.alloc(), 5);
     terminal.act(&Action::Illegal(Mark::make(false, 3, 4)));
-    assert_eq!(rt;
-        words(&say(&mut terminal, Line::A, 0x2864, &[1, 2, 3, 4])),
-        [0x2c00].as_slice()
+    answers(
+        &rt,
+        &mut terminal,
+        Line::A,
+        0x2864,
+        &[1, 2, 3, 4],
+        &[0x2c00],
     );
-    assert!(rt; terminal.received(3).is_empty());
-    Ok(())
+    are(&rt, terminal.received(3), &[]);
 }
 
 #[test]
-fn words_that_were_put_up_are_sent(rt: HostRuntime) -> Result<(), Fail> {
-    let mut terminal = Terminal::make(rt.alloc(), 7)?;
+fn words_that_were_put_up_are_sent(rt: HostRuntime) {
+    let mut terminal = fresh(&rt, rt.alloc(), 7);
     let mut put = ArrayVec::new();
     put.push(0xaaaa);
     put.push(0x5555);
     terminal.act(&Action::Transmit(TransmitWords::make(1, put)));
-    assert_eq!(rt;
-        words(&say(&mut terminal, Line::A, 0x3c22, &[])),
-        [0x3800, 0xaaaa, 0x5555].as_slice()
+    answers(
+        &rt,
+        &mut terminal,
+        Line::A,
+        0x3c22,
+        &[],
+        &[0x3800, 0xaaaa, 0x5555],
     );
-    Ok(())
 }
 
 #[test]
-fn address_31_is_no_terminal(rt: HostRuntime) -> Result<(), Fail> {
+fn address_31_is_no_terminal(rt: HostRuntime) {
     let refused = Terminal::make(rt.alloc(), 31);
     assert!(rt; matches!(&refused, Err(TerminalError::Address)));
-    Ok(())
 }

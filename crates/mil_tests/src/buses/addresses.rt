@@ -1,10 +1,9 @@
 //! Which terminals a bus has, and 31 of them at once.
-use super::{fresh, is, mode_of};
+use super::{are, fresh, has_block, has_words, is, mode_of};
 use mil_bus::{Bus, BusError};
 use mil_host::Action;
 use mil_message::Draft;
 use mil_word::Line;
-use std::test::Fail;
 
 /// All addresses that a terminal can have.
 const ALL: &[u8] = &[
@@ -23,49 +22,42 @@ fn no_bus_has_an_address_twice_or_over_30(rt: HostRuntime) {
 }
 
 #[test]
-fn a_refusal_prints_its_code(rt: HostRuntime) -> Result<(), Fail> {
+fn a_refusal_prints_its_code(rt: HostRuntime) {
     for (refusal, code) in [(BusError::Addresses, "B1"), (BusError::Memory, "B2")] {
-        let text = format!(in rt.alloc(); "{refusal}")?;
+        let text = format!(in rt.alloc(); "{refusal}").expect(&rt, "memory");
         assert_eq!(rt; text.as_str(), code);
     }
-    Ok(())
 }
 
 #[test]
-fn an_action_of_no_terminal_is_refused(rt: HostRuntime) -> Result<(), Fail> {
-    let mut alone = fresh(rt.alloc(), &[5])?;
+fn an_action_of_no_terminal_is_refused(rt: HostRuntime) {
+    let mut alone = fresh(&rt, rt.alloc(), &[5]);
     assert!(rt; !alone.bus.act(6, &Action::Busy(true)));
     assert!(rt; alone.bus.terminal(6).is_none());
     assert!(rt; alone.bus.act(5, &Action::Busy(true)));
-    Ok(())
 }
 
 #[test]
-fn each_of_31_terminals_answers_for_itself(rt: HostRuntime) -> Result<(), Fail> {
-    let mut all = fresh(rt.alloc(), ALL)?;
+fn each_of_31_terminals_answers_for_itself(rt: HostRuntime) {
+    let mut all = fresh(&rt, rt.alloc(), ALL);
     for address in ALL {
         let own = u16::from(*address) << 11;
-        let record = all.send(Line::A, mode_of(u32::from(*address), 2))?;
-        assert_eq!(rt;
-            (record.block, record.gaps),
-            (0x0000, 0x0050),
-            "terminal {address}"
-        );
-        assert_eq!(rt; record.words.as_slice(), [own | 0x07e2, own].as_slice());
+        let record = all.send(&rt, Line::A, mode_of(u32::from(*address), 2));
+        has_words(&rt, &record, &[own | 0x07e2, own]);
+        has_block(&rt, &record, 0x0000, 0x0050);
     }
-    Ok(())
 }
 
 #[test]
-fn each_of_31_terminals_hears_a_broadcast(rt: HostRuntime) -> Result<(), Fail> {
-    let mut all = fresh(rt.alloc(), ALL)?;
+fn each_of_31_terminals_hears_a_broadcast(rt: HostRuntime) {
+    let mut all = fresh(&rt, rt.alloc(), ALL);
     let to_all = Draft::ToAll {
         subaddress: 1,
         words: &[0x00aa, 0x0055],
     };
     is(
         &rt,
-        &all.send(Line::B, to_all)?,
+        &all.send(&rt, Line::B, to_all),
         0,
         0x2000,
         0x0000,
@@ -73,30 +65,27 @@ fn each_of_31_terminals_hears_a_broadcast(rt: HostRuntime) -> Result<(), Fail> {
     );
     for address in ALL {
         let own = u16::from(*address) << 11;
-        assert_eq!(rt;
-            all.received_from_all(*address, 1)?,
-            [0x00aa, 0x0055].as_slice()
+        are(
+            &rt,
+            all.received_from_all(&rt, *address, 1),
+            &[0x00aa, 0x0055],
         );
-        let record = all.send(Line::A, mode_of(u32::from(*address), 2))?;
-        assert_eq!(rt;
-            record.words.as_slice(),
-            [own | 0x07e2, own | 0x0010].as_slice()
-        );
+        let record = all.send(&rt, Line::A, mode_of(u32::from(*address), 2));
+        has_words(&rt, &record, &[own | 0x07e2, own | 0x0010]);
     }
-    Ok(())
 }
 
 #[test]
-fn a_terminal_sends_to_30_others(rt: HostRuntime) -> Result<(), Fail> {
-    let mut all = fresh(rt.alloc(), ALL)?;
-    all.act(7, b"transmit 1 AAAA 5555")?;
+fn a_terminal_sends_to_30_others(rt: HostRuntime) {
+    let mut all = fresh(&rt, rt.alloc(), ALL);
+    all.act(&rt, 7, b"transmit 1 AAAA 5555");
     let to_others = Draft::BetweenAll {
         sender: 7,
         sender_subaddress: 1,
         receiver_subaddress: 4,
         count: 2,
     };
-    let record = all.send(Line::A, to_others)?;
+    let record = all.send(&rt, Line::A, to_others);
     is(
         &rt,
         &record,
@@ -112,10 +101,9 @@ fn a_terminal_sends_to_30_others(rt: HostRuntime) -> Result<(), Fail> {
             &[0xaaaa, 0x5555]
         };
         assert_eq!(rt;
-            all.received_from_all(*address, 4)?,
+            all.received_from_all(&rt, *address, 4),
             expected,
             "terminal {address}"
         );
     }
-    Ok(())
 }

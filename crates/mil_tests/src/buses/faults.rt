@@ -1,16 +1,16 @@
 //! Messages with planned faults.
-use super::{Setting, fresh, is, mode, mode_of, receive, with_fault};
+use super::{Setting, are, fresh, has_words, is, mode, mode_of, receive, with_fault};
 use mil_line::{Fault, LineError};
 use mil_message::Draft;
 use mil_word::{Line, Sync, Wave, Word};
 use std::alloc::Global;
-use std::test::Fail;
+use std::process::Abort;
 
 /// Terminals 3 and 7, where terminal 7 has two words to send.
-fn two_terminals(alloc: Global) -> Result<Setting, Fail> {
-    let mut two = fresh(alloc, &[3, 7])?;
-    two.act(7, b"transmit 1 AAAA 5555")?;
-    Ok(two)
+fn two_terminals(rt: &impl Abort, alloc: Global) -> Setting {
+    let mut two = fresh(rt, alloc, &[3, 7]);
+    two.act(rt, 7, b"transmit 1 AAAA 5555");
+    two
 }
 
 /// The two words go from terminal 7 to terminal 3.
@@ -28,28 +28,30 @@ fn between() -> Draft<'static> {
 const SIX: &[u16] = &[0x1882, 0x3c22, 0x3800, 0xaaaa, 0x5555, 0x1800];
 
 #[test]
-fn a_transfer_between_terminals(rt: HostRuntime) -> Result<(), Fail> {
-    let mut two = two_terminals(rt.alloc())?;
-    let record = two.send(Line::A, between())?;
+fn a_transfer_between_terminals(rt: HostRuntime) {
+    let mut two = two_terminals(&rt, rt.alloc());
+    let record = two.send(&rt, Line::A, between());
     is(&rt, &record, 0, 0x0800, 0x5050, SIX);
-    assert_eq!(rt; two.received(3, 4)?, [0xaaaa, 0x5555].as_slice());
-    Ok(())
+    are(&rt, two.received(&rt, 3, 4), &[0xaaaa, 0x5555]);
 }
 
 #[test]
-fn a_transfer_whose_sender_answers_late(rt: HostRuntime) -> Result<(), Fail> {
-    let mut late = two_terminals(rt.alloc())?;
-    late.plan.add(1, Fault::Late { run: 1, ticks: 170 })?;
-    let record = late.send(Line::A, between())?;
+fn a_transfer_whose_sender_answers_late(rt: HostRuntime) {
+    let mut late = two_terminals(&rt, rt.alloc());
+    late.plan
+        .add(1, Fault::Late { run: 1, ticks: 170 })
+        .expect(&rt, "a fault in range");
+    let record = late.send(&rt, Line::A, between());
     is(&rt, &record, 0, 0x1a00, 0x50aa, SIX);
-    Ok(())
 }
 
 #[test]
-fn a_transfer_whose_sender_answers_too_late(rt: HostRuntime) -> Result<(), Fail> {
-    let mut late = two_terminals(rt.alloc())?;
-    late.plan.add(1, Fault::Late { run: 1, ticks: 171 })?;
-    let record = late.send(Line::A, between())?;
+fn a_transfer_whose_sender_answers_too_late(rt: HostRuntime) {
+    let mut late = two_terminals(&rt, rt.alloc());
+    late.plan
+        .add(1, Fault::Late { run: 1, ticks: 171 })
+        .expect(&rt, "a fault in range");
+    let record = late.send(&rt, Line::A, between());
     is(
         &rt,
         &record,
@@ -58,27 +60,25 @@ fn a_transfer_whose_sender_answers_too_late(rt: HostRuntime) -> Result<(), Fail>
         0x00ab,
         &[0x1882, 0x3c22, 0x3800, 0xaaaa, 0x5555],
     );
-    assert!(rt; late.received(3, 4)?.is_empty());
-    let question = late.send(Line::A, mode_of(3, 2))?;
-    assert_eq!(rt; question.words.as_slice(), [0x1fe2, 0x1c00].as_slice());
-    Ok(())
+    are(&rt, late.received(&rt, 3, 4), &[]);
+    let question = late.send(&rt, Line::A, mode_of(3, 2));
+    has_words(&rt, &question, &[0x1fe2, 0x1c00]);
 }
 
 #[test]
-fn a_word_that_is_dropped(rt: HostRuntime) -> Result<(), Fail> {
-    let mut alone = with_fault(rt.alloc(), Fault::Drop { run: 0, index: 3 })?;
-    let first = alone.send(Line::A, receive(&[1, 2, 3]))?;
+fn a_word_that_is_dropped(rt: HostRuntime) {
+    let mut alone = with_fault(&rt, rt.alloc(), Fault::Drop { run: 0, index: 3 });
+    let first = alone.send(&rt, Line::A, receive(&[1, 2, 3]));
     is(&rt, &first, 0, 0x1220, 0x0000, &[0x2823, 1, 2]);
-    assert!(rt; alone.received(5, 1)?.is_empty());
+    are(&rt, alone.received(&rt, 5, 1), &[]);
     for stamp in [760, 1240] {
-        let question = alone.send(Line::A, mode(2))?;
+        let question = alone.send(&rt, Line::A, mode(2));
         is(&rt, &question, stamp, 0x0000, 0x0050, &[0x2fe2, 0x2c00]);
     }
-    Ok(())
 }
 
 #[test]
-fn a_word_that_is_added(rt: HostRuntime) -> Result<(), Fail> {
+fn a_word_that_is_added(rt: HostRuntime) {
     let word = Word {
         sync: Sync::DataSync,
         value: 4,
@@ -88,71 +88,72 @@ fn a_word_that_is_added(rt: HostRuntime) -> Result<(), Fail> {
         index: 3,
         word,
     };
-    let mut alone = with_fault(rt.alloc(), fault)?;
-    let record = alone.send(Line::A, receive(&[1, 2, 3]))?;
+    let mut alone = with_fault(&rt, rt.alloc(), fault);
+    let record = alone.send(&rt, Line::A, receive(&[1, 2, 3]));
     is(&rt, &record, 0, 0x1220, 0x0000, &[0x2823, 1, 2, 3, 4]);
     // it follows the word before at once, so the clock stands at five words
     assert_eq!(rt; alone.bus.clock(), 1000);
-    Ok(())
 }
 
 #[test]
-fn a_word_with_a_half_bit_inverted(rt: HostRuntime) -> Result<(), Fail> {
+fn a_word_with_a_half_bit_inverted(rt: HostRuntime) {
     let fault = Fault::Mask {
         run: 0,
         index: 1,
         half_bits: Wave::of(4),
     };
-    let mut alone = with_fault(rt.alloc(), fault)?;
-    let record = alone.send(Line::A, receive(&[1, 2, 3]))?;
+    let mut alone = with_fault(&rt, rt.alloc(), fault);
+    let record = alone.send(&rt, Line::A, receive(&[1, 2, 3]));
     is(&rt, &record, 0, 0x1208, 0x0000, &[0x2823, 1, 2, 3]);
-    Ok(())
 }
 
 #[test]
-fn a_message_of_which_no_word_is_sent(rt: HostRuntime) -> Result<(), Fail> {
-    let mut alone = with_fault(rt.alloc(), Fault::Drop { run: 0, index: 0 })?;
-    let none = alone.send(Line::A, mode(1))?;
+fn a_message_of_which_no_word_is_sent(rt: HostRuntime) {
+    let mut alone = with_fault(&rt, rt.alloc(), Fault::Drop { run: 0, index: 0 });
+    let none = alone.send(&rt, Line::A, mode(1));
     is(&rt, &none, 0, 0x1220, 0x0000, &[]);
-    let next = alone.send(Line::A, mode(1))?;
+    let next = alone.send(&rt, Line::A, mode(1));
     is(&rt, &next, 160, 0x0000, 0x0050, &[0x2fe1, 0x2800]);
-    Ok(())
 }
 
 #[test]
-fn a_reply_that_is_muted(rt: HostRuntime) -> Result<(), Fail> {
-    let mut alone = with_fault(rt.alloc(), Fault::Mute { run: 1 })?;
-    let record = alone.send(Line::A, mode(1))?;
+fn a_reply_that_is_muted(rt: HostRuntime) {
+    let mut alone = with_fault(&rt, rt.alloc(), Fault::Mute { run: 1 });
+    let record = alone.send(&rt, Line::A, mode(1));
     is(&rt, &record, 0, 0x1200, 0x0000, &[0x2fe1]);
-    Ok(())
 }
 
 #[test]
-fn a_message_has_four_faults_and_no_fifth(rt: HostRuntime) -> Result<(), Fail> {
-    let mut alone = fresh(rt.alloc(), &[5])?;
+fn a_message_has_four_faults_and_no_fifth(rt: HostRuntime) {
+    let mut alone = fresh(&rt, rt.alloc(), &[5]);
     for index in 0..4 {
-        alone.plan.add(1, Fault::Drop { run: 0, index })?;
+        alone
+            .plan
+            .add(1, Fault::Drop { run: 0, index })
+            .expect(&rt, "a fault in range");
     }
     let fifth = Fault::Drop { run: 0, index: 4 };
     assert_eq!(rt; alone.plan.add(1, fifth), Err(LineError::TooMany));
     assert_eq!(rt; alone.plan.faults(1).len(), 4);
-    Ok(())
 }
 
 #[test]
-fn a_copied_bus_and_plan_go_on_alike(rt: HostRuntime) -> Result<(), Fail> {
-    let mut first = with_fault(rt.alloc(), Fault::Drop { run: 0, index: 3 })?;
-    first.plan.add(2, Fault::Mute { run: 1 })?;
-    let _ = first.send(Line::A, receive(&[1, 2, 3]))?;
+fn a_copied_bus_and_plan_go_on_alike(rt: HostRuntime) {
+    let mut first = with_fault(&rt, rt.alloc(), Fault::Drop { run: 0, index: 3 });
+    first
+        .plan
+        .add(2, Fault::Mute { run: 1 })
+        .expect(&rt, "a fault in range");
+    let _ = first.send(&rt, Line::A, receive(&[1, 2, 3]));
     let mut second = Setting {
-        bus: first.bus.copy()?,
-        plan: first.plan.copy()?,
+        bus: first.bus.copy().expect(&rt, "memory"),
+        plan: first.plan.copy().expect(&rt, "memory"),
         number: first.number,
     };
     // the first goes on alone, and the copy is as it was
     is(
         &rt,
-        &first.send(Line::A, mode(2))?,
+        &first.send(&rt, Line::A, mode(2)),
         760,
         0x1200,
         0x0000,
@@ -160,7 +161,7 @@ fn a_copied_bus_and_plan_go_on_alike(rt: HostRuntime) -> Result<(), Fail> {
     );
     is(
         &rt,
-        &second.send(Line::A, mode(2))?,
+        &second.send(&rt, Line::A, mode(2)),
         760,
         0x1200,
         0x0000,
@@ -168,11 +169,10 @@ fn a_copied_bus_and_plan_go_on_alike(rt: HostRuntime) -> Result<(), Fail> {
     );
     is(
         &rt,
-        &second.send(Line::A, mode(2))?,
+        &second.send(&rt, Line::A, mode(2)),
         1120,
         0x0000,
         0x0050,
         &[0x2fe2, 0x2c00],
     );
-    Ok(())
 }
