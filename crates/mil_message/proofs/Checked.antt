@@ -1,6 +1,6 @@
 -- A request that is accepted is the request for its form, which is lawful.
-use Rattle.std.proofs.Common.{◌≡◌, ℕ, List, [], ◌∷◌, length, refl, ap, sym, ◌∙◌, arith}
-use Rattle.std.specs.Prelude.{Bool, true, false, Option, Some, None, Result, Ok, Err, ◌==◌, ◌↔◌}
+use Rattle.std.proofs.Common.{◌≡◌, ℕ, List, [], ◌∷◌, refl, ap, sym, ◌∙◌, arith}
+use Rattle.std.specs.Prelude.{Bool, true, false, Option, Some, None, Result, Ok, ◌↔◌}
 use Rattle.std.proofs.lemmas.Bool.{eqb-true}
 use Rattle.mil_message.specs.declared.faults.BadMessage.{BadMessage}
 use Rattle.mil_message.specs.declared.faults.BadMessage.TheVariants.{Address, CountOrCode, ModeWord}

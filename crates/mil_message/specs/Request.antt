@@ -1,5 +1,5 @@
 -- What a draft asks for, as plain data: its numbers, and its data words wherever they lie in memory.
-use Rattle.std.specs.Prelude.{ℕ, Bool, List, Option, Some, None, ◌&&◌, ◌||◌, ◌==◌, nat_le, if◌then◌else◌, option_map}
+use Rattle.std.specs.Prelude.{ℕ, Bool, List, Option, Some, None, ◌||◌, ◌==◌, nat_le, if◌then◌else◌, option_map}
 use Rattle.std.specs.Borrow.{Bor}
 use Rattle.mil_message.specs.declared.drafts.ModeSubaddress.{ModeSubaddress}
 use Rattle.mil_message.specs.declared.drafts.Draft.{Draft}

@@ -1,5 +1,4 @@
-use Rattle.std.proofs.Common.{◌≡◌, sym}
-use Rattle.std.specs.Prelude.{Ok, Err}
+use Rattle.std.proofs.Common.{sym}
 use Rattle.mil_message.specs.Request.{request_of}
 use Rattle.mil_message.proofs.Checked.{lawful-checked, accepts}
 use Rattle.mil_message.proofs.messages.Message.check.Goals as goal

@@ -1,6 +1,6 @@
 use Rattle.std.proofs.Common.{◌≡◌, map, take, ◌++◌}
 use Rattle.mil_word.specs.Words.{command_wave, data_wave}
-use Rattle.mil_message.specs.Forms.{commands, data_words}
+use Rattle.mil_message.specs.Forms.{commands}
 use Rattle.mil_message.proofs.messages.Message.controller_waves.Given as goal
 
 abbrev pub invariant-loop-value : goal.invariant-loop-value

@@ -1,5 +1,5 @@
 use Rattle.std.proofs.Common.{◌≡◌, map, take, ◌++◌}
-use Rattle.mil_message.specs.Forms.{commands, data_words, command_of, data_of}
+use Rattle.mil_message.specs.Forms.{commands, command_of, data_of}
 use Rattle.mil_message.proofs.messages.Message.controller_words.Given as goal
 
 abbrev pub invariant-loop-value : goal.invariant-loop-value

@@ -1,4 +1,4 @@
-use Rattle.mil_message.proofs.ReadBack.{no_request, is_refused, has_other_parts, has_these_parts}
+use Rattle.mil_message.proofs.ReadBack.{is_refused}
 use Rattle.mil_message.proofs.messages.Message.of_parts.Goals as goal
 
 pub returns-in-Err : goal.returns-in-Err
