@@ -1,4 +1,4 @@
-//! The bus controller (own choice): a loaded program under way on a real bus, step by step.
+//! The bus controller (own choice): a loaded program under way on a real bus, step by step. Its tests are in `frame_tests`.
 #![tactic(auto)]
 
 mod begun;
@@ -10,8 +10,6 @@ mod outcomes;
 mod parts;
 mod placed;
 mod schedule;
-#[cfg(test)]
-mod tests;
 
 pub use laws::controller_runs;
 pub use machine::Machine;

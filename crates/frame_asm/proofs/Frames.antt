@@ -3,20 +3,13 @@ use Rattle.std.proofs.Common.{◌≡◌, ℕ, ◌+◌, ◌<◌, ◌≤◌, List,
 use Rattle.std.proofs.lemmas.List.{append-nil}
 use Rattle.mil_word.specs.declared.Line.{Line}
 use Rattle.mil_message.specs.declared.messages.Message.{Message}
-use Rattle.frame_tree.specs.Tree.{Test, Tree, repeat, choose, nothing, first, chain, test_of, tree_of}
-use Rattle.frame_tree.specs.declared.Cond.{Cond}
-use Rattle.frame_tree.specs.declared.Frame.{Frame, Repeat, If, Seq, the_lemmas}
+use Rattle.frame_tree.specs.Tree.{Test, Tree, repeat, choose, nothing, chained, chain, test_of, tree_of}
+use Rattle.frame_tree.specs.declared.Frame.{Frame}
 use Rattle.frame_code.specs.declared.Op.{Op}
 use Rattle.frame_code.specs.declared.Op.TheVariants as op
 use Rattle.frame_asm.specs.Shapes.{branch_size, branch, size, entries, messages_of, shape}
 use Rattle.frame_asm.proofs.Lengths.{length_branch, length_shape, length_messages_of}
 use Rattle.frame_asm.proofs.Chains.{front, front_more}
-
-pub tree_repeat : {A : Type 0} (n : ℕ) (b : Box (Frame A) A) → tree_of (Repeat n b) ≡ repeat n (tree_of b.value)
-tree_repeat n b = search (rules, the_lemmas)
-
-pub tree_if : {A : Type 0} (c : Cond A) (a b : Box (Frame A) A) → tree_of (If c a b) ≡ choose (test_of c) (tree_of a.value) (tree_of b.value)
-tree_if c a b = search (rules, the_lemmas)
 
 pub length_put : {X : Type 0} (c0 c1 : List X) (x : X) → c1 ≡ c0 ++ x ∷ [] → length c1 ≡ length c0 + 1
 length_put c0 c1 x e = ap length e ∙ length-append c0 (x ∷ [])

@@ -1,6 +1,6 @@
 -- How many operations and messages a frame has.
 use Rattle.std.proofs.Common.{◌≡◌, ℕ, ◌+◌, ◌<◌, ◌≤◌, List, [], ◌∷◌, ◌++◌, length, refl, ap, ap₂, ◌∙◌, arith, length-append}
-use Rattle.frame_tree.specs.Tree.{Test, failed, silent, bit, negated, both, either, Tree, send, retry, gap, repeat, choose, nothing, first}
+use Rattle.frame_tree.specs.Tree.{Test, failed, silent, bit, negated, both, either, Tree, send, retry, gap, repeat, choose, nothing, chained}
 use Rattle.frame_code.specs.declared.Op.TheVariants as op
 use Rattle.frame_asm.specs.Shapes.{branch_size, probe, branch, size, messages_of, entries, retry_shape, shape}
 
@@ -24,7 +24,7 @@ length_shape (choose c a b) p m =
     let rest = op.Jump (f + size b) ∷ shape f (m + entries a) b in
     omega (arith, length-append (branch p c t f) (shape t m a ++ rest), length-append (shape t m a) rest, length_branch c p t f, length_shape a t m, length_shape b f (m + entries a))
 length_shape nothing p m = refl
-length_shape (first a b) p m =
+length_shape (chained a b) p m =
     omega (arith, length-append (shape p m a) (shape (p + size a) (m + entries a) b), length_shape a p m, length_shape b (p + size a) (m + entries a))
 
 pub length_messages_of : (t : Tree) → length (messages_of t) ≡ entries t
@@ -34,4 +34,4 @@ length_messages_of (gap t) = refl
 length_messages_of (repeat n b) = length_messages_of b
 length_messages_of (choose c a b) = omega (arith, length-append (messages_of a) (messages_of b), length_messages_of a, length_messages_of b)
 length_messages_of nothing = refl
-length_messages_of (first a b) = omega (arith, length-append (messages_of a) (messages_of b), length_messages_of a, length_messages_of b)
+length_messages_of (chained a b) = omega (arith, length-append (messages_of a) (messages_of b), length_messages_of a, length_messages_of b)

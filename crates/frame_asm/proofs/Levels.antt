@@ -1,7 +1,7 @@
 -- The loops that are open behind a frame's operations are those that were open before.
 use Rattle.std.proofs.Common.{◌≡◌, ℕ, zero, suc, ◌+◌, ◌<◌, ◌≤◌, List, [], ◌∷◌, ◌++◌, length, Some, refl, sym, ap, ◌∙◌, subst, arith, length-append}
 use Rattle.std.specs.Prelude.{slice_get}
-use Rattle.frame_tree.specs.Tree.{Test, failed, silent, bit, negated, both, either, Tree, send, retry, gap, repeat, choose, nothing, first}
+use Rattle.frame_tree.specs.Tree.{Test, failed, silent, bit, negated, both, either, Tree, send, retry, gap, repeat, choose, nothing, chained, bit_number}
 use Rattle.frame_code.specs.declared.Op.{Op}
 use Rattle.frame_code.specs.declared.Op.TheVariants as op
 use Rattle.frame_code.specs.Loadable.{tail, after, open_at}
@@ -27,7 +27,7 @@ module _ (os : List Op) where
   pub branch_level : (p t f : ℕ) (c : Test) → HasAt os p (branch p c t f) → open_at os (p + branch_size c) ≡ open_at os p
   branch_level p t f failed h = flat p (probe 0 t f) h (λ q st. refl, (λ q st. refl, (λ q st. refl, tt)))
   branch_level p t f silent h = flat p (probe 1 t f) h (λ q st. refl, (λ q st. refl, (λ q st. refl, tt)))
-  branch_level p t f (bit b) h = flat p (probe (16 + b) t f) h (λ q st. refl, (λ q st. refl, (λ q st. refl, tt)))
+  branch_level p t f (bit bits) h = flat p (probe (16 + bit_number bits) t f) h (λ q st. refl, (λ q st. refl, (λ q st. refl, tt)))
   branch_level p t f (negated c) h = branch_level p f t c h
   branch_level p t f (both a b) h =
       let m = p + branch_size a in
@@ -42,7 +42,7 @@ module _ (os : List Op) where
   level p m (send l x) h = next p (op.Send m) h.0
   level p m (gap t) h = next p (op.SetGap t) h.0
   level p m nothing h = let s : p + 0 ≡ p = omega arith in ap (open_at os) s
-  level p m (first a b) h =
+  level p m (chained a b) h =
       let q = p + size a in
       let s : p + (size a + size b) ≡ q + size b = omega arith in
       ap (open_at os) s ∙ level q (m + entries a) b (has_back os p q (shape p m a) (shape q (m + entries a) b) (omega (arith, length_shape a p m)) h) ∙ level p m a (has_front os p (shape p m a) (shape q (m + entries a) b) h)

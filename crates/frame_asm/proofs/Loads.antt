@@ -1,7 +1,7 @@
 -- The code of a sound tree keeps the loader's rules.
 use Rattle.std.proofs.Common.{◌≡◌, ℕ, zero, suc, ◌+◌, ◌<◌, ◌≤◌, max, List, [], ◌∷◌, ◌++◌, length, Some, refl, sym, ap, ◌∙◌, subst, arith, length-append}
 use Rattle.std.specs.Prelude.{slice_get, Result, Ok, Err, IfOk}
-use Rattle.frame_tree.specs.Tree.{Test, failed, silent, bit, negated, both, either, Tree, send, retry, gap, repeat, choose, nothing, first}
+use Rattle.frame_tree.specs.Tree.{Test, failed, silent, bit, negated, both, either, Tree, send, retry, gap, repeat, choose, nothing, chained, bit_number}
 use Rattle.frame_tree.specs.Bounds.{depth, IsSound}
 use Rattle.frame_code.specs.declared.Op.{Op}
 use Rattle.frame_code.specs.declared.Op.TheVariants as op
@@ -23,7 +23,7 @@ loops_in (gap t) = 0
 loops_in (repeat n b) = 1 + loops_in b
 loops_in (choose c a b) = max (loops_in a) (loops_in b)
 loops_in nothing = 0
-loops_in (first a b) = max (loops_in a) (loops_in b)
+loops_in (chained a b) = max (loops_in a) (loops_in b)
 
 few_loops : (t : Tree) → loops_in t ≤ depth t + 1
 few_loops (send l x) = omega arith
@@ -32,7 +32,7 @@ few_loops (gap t) = omega arith
 few_loops (repeat n b) = omega (arith, few_loops b)
 few_loops (choose c a b) = omega (arith, few_loops a, few_loops b)
 few_loops nothing = omega arith
-few_loops (first a b) = omega (arith, few_loops a, few_loops b)
+few_loops (chained a b) = omega (arith, few_loops a, few_loops b)
 
 -- the rules for one operation
 record IsGood (os : List Op) (n p : ℕ) (o : Op) : Type 0 where
@@ -84,7 +84,7 @@ module _ (os : List Op) (n : ℕ) where
   good_branch : (c : Test) (p t f : ℕ) → HasAt os p (branch p c t f) → IsTarget p (branch_size c) t → IsTarget p (branch_size c) f → AreGood os n p (branch p c t f)
   good_branch failed p t f h ht hf = good_probe p 0 t f h ht hf
   good_branch silent p t f h ht hf = good_probe p 1 t f h ht hf
-  good_branch (bit b) p t f h ht hf = good_probe p (16 + b) t f h ht hf
+  good_branch (bit bits) p t f h ht hf = good_probe p (16 + bit_number bits) t f h ht hf
   good_branch (negated c) p t f h ht hf = good_branch c p f t h hf ht
   good_branch (both a b) p t f h ht hf =
       let m = p + branch_size a in
@@ -173,7 +173,7 @@ module _ (os : List Op) (n : ℕ) where
       (good_shape a t m ha (omega (arith, ap length et)) (omega arith) (omega arith))
       (jump (t + size a) (f + size b) (omega arith) (omega arith) (eb ∙ ef), good_shape b f (m + entries a) h2.1 (omega (arith, ap length all)) (omega arith) (omega arith)))
   good_shape nothing p m h room inside table = tt
-  good_shape (first a b) p m h room inside table =
+  good_shape (chained a b) p m h room inside table =
       let q = p + size a in
       let ha = has_front os p (shape p m a) (shape q (m + entries a) b) h in
       let hb = has_back os p q (shape p m a) (shape q (m + entries a) b) (omega (arith, length_shape a p m)) h in

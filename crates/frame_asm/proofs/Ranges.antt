@@ -4,7 +4,7 @@ use Rattle.std.specs.Prelude.{IsTrue}
 use Rattle.std.proofs.lemmas.Bool.Decides.{nat_tests}
 use Rattle.mil_word.specs.declared.Line.{Line}
 use Rattle.mil_message.specs.declared.messages.Message.{Message}
-use Rattle.frame_tree.specs.Tree.{Test, failed, silent, bit, negated, both, either, Tree, send, retry, gap, repeat, choose, nothing, first}
+use Rattle.frame_tree.specs.Tree.{Test, failed, silent, bit, negated, both, either, Tree, send, retry, gap, repeat, choose, nothing, chained, bit_number}
 use Rattle.frame_tree.specs.Bounds.{IsNamedBit, HasNamedBits, IsCondition, IsInRange, IsSound}
 use Rattle.frame_code.specs.declared.Op.{Op}
 use Rattle.frame_code.specs.declared.Op.TheVariants as op
@@ -36,7 +36,7 @@ both_in (o ∷ a) b h k = (h.0, both_in a b h.1 k)
 branch_in : (c : Test) (p t f : ℕ) → HasNamedBits c → p + branch_size c ≤ 65535 → t < 65536 → f < 65536 → AreInRange (branch p c t f)
 branch_in failed p t f s h ht hf = (search rules, (index_in f hf, (index_in t ht, tt)))
 branch_in silent p t f s h ht hf = (search rules, (index_in f hf, (index_in t ht, tt)))
-branch_in (bit b) p t f s h ht hf = (test_in b s, (index_in f hf, (index_in t ht, tt)))
+branch_in (bit bits) p t f s h ht hf = (test_in (bit_number bits) s, (index_in f hf, (index_in t ht, tt)))
 branch_in (negated c) p t f s h ht hf = branch_in c p f t s h hf ht
 branch_in (both a b) p t f s h ht hf = both_in (branch p a (p + branch_size a) f) _ (branch_in a p _ f s.0 (omega arith) (omega arith) hf) (branch_in b _ t f s.1 (omega arith) ht hf)
 branch_in (either a b) p t f s h ht hf = both_in (branch p a t (p + branch_size a)) _ (branch_in a p t _ s.0 (omega arith) ht (omega arith)) (branch_in b _ t f s.1 (omega arith) ht hf)
@@ -53,7 +53,7 @@ shape_in (choose c a b) p m s h k =
     both_in (branch p c t f) _ (branch_in c p t f s.0.1 (omega arith) (omega arith) (omega arith))
     (both_in (shape t m a) _ (shape_in a t m s.1 (omega arith) (omega arith)) (index_in (f + size b) (omega arith), shape_in b f (m + entries a) s.2 (omega arith) (omega arith)))
 shape_in nothing p m s h k = tt
-shape_in (first a b) p m s h k = both_in (shape p m a) _ (shape_in a p m s.0 (omega arith) (omega arith)) (shape_in b _ _ s.1 (omega arith) (omega arith))
+shape_in (chained a b) p m s h k = both_in (shape p m a) _ (shape_in a p m s.0 (omega arith) (omega arith)) (shape_in b _ _ s.1 (omega arith) (omega arith))
 
 pub code_is_image : (t : Tree) → IsInRange t → size t ≤ 4095 → entries t ≤ 1024 → IsImage (code_of t)
 code_is_image t s h k = record {

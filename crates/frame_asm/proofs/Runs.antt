@@ -6,7 +6,7 @@ use Rattle.std.proofs.lemmas.Option.{slice_get-get_or}
 use Rattle.mil_word.specs.declared.Line.{Line}
 use Rattle.mil_message.specs.declared.messages.Message.{Message}
 use Rattle.mil_message.specs.World.{World, Point, other_line, sent, asks}
-use Rattle.frame_tree.specs.Tree.{Test, failed, silent, bit, negated, both, either, Tree, send, retry, gap, repeat, choose, nothing, first}
+use Rattle.frame_tree.specs.Tree.{Test, failed, silent, bit, negated, both, either, Tree, send, retry, gap, repeat, choose, nothing, chained, bit_number}
 use Rattle.frame_tree.specs.Meaning.{times, test_meaning, attempts, meaning}
 use Rattle.frame_code.specs.declared.Op.{Op}
 use Rattle.frame_code.specs.declared.Op.TheVariants as op
@@ -114,7 +114,7 @@ module _ {State Outcome : Type 0} (w : World State Outcome) (code : Code) where
   branch_runs : (c : Test) (i t f : ℕ) (cs : List ℕ) (p : Point State Outcome) → HasAt code.operations i (branch i c t f) → Does i cs p (cond (test_meaning w c p) t f) cs p
   branch_runs failed i t f cs p h = probe_runs 0 i t f cs p h
   branch_runs silent i t f cs p h = probe_runs 1 i t f cs p h
-  branch_runs (bit b) i t f cs p h = probe_runs (16 + b) i t f cs p h
+  branch_runs (bit bits) i t f cs p h = probe_runs (16 + bit_number bits) i t f cs p h
   branch_runs (negated c) i t f cs p h = λ f0 l.
       at_end i _ _ cs cs f0 l p p (cond-not (test_meaning w c p) t f) (branch_runs c i f t cs p h f0 l)
   branch_runs (both a b) i t f cs p h =
@@ -264,7 +264,7 @@ module _ {State Outcome : Type 0} (w : World State Outcome) (code : Code) where
       (tree_runs b f (m + entries a) cs p n.2 hr.1 (has_back code.messages m (m + entries a) (messages_of a) (messages_of b) (ap (λ z. m + z) (length_messages_of a)) g))
       f0 l0)
   tree_runs nothing i m cs p c h g f l0 = let e : i ≡ i + 0 = omega arith in here i (i + 0) cs f l0 p e
-  tree_runs (first a b) i m cs p c h g f l0 =
+  tree_runs (chained a b) i m cs p c h g f l0 =
       let e : i + size a + size b ≡ i + (size a + size b) = omega arith in
       at_end i _ _ cs cs f l0 p _ e
       (both_do i (i + size a) (i + size a + size b) cs cs cs f l0 p _ _

@@ -2,7 +2,7 @@
 use Rattle.std.specs.Prelude.{ℕ, ◌+◌, List, [], ◌∷◌, ◌++◌}
 use Rattle.mil_word.specs.declared.Line.{Line}
 use Rattle.mil_message.specs.declared.messages.Message.{Message}
-use Rattle.frame_tree.specs.Tree.{Test, failed, silent, bit, negated, both, either, Tree, send, retry, gap, repeat, choose, nothing, first}
+use Rattle.frame_tree.specs.Tree.{Test, failed, silent, bit, negated, both, either, Tree, send, retry, gap, repeat, choose, nothing, chained, bit_number}
 use Rattle.frame_code.specs.declared.Op.{Op}
 use Rattle.frame_code.specs.declared.Op.TheVariants as op
 use Rattle.frame_code.specs.Table.{Code}
@@ -11,7 +11,7 @@ use Rattle.frame_code.specs.Table.{Code}
 abbrev pub branch_size : Test → ℕ
 branch_size failed = 3
 branch_size silent = 3
-branch_size (bit b) = 3
+branch_size (bit bits) = 3
 branch_size (negated c) = branch_size c
 branch_size (both a b) = branch_size a + branch_size b
 branch_size (either a b) = branch_size a + branch_size b
@@ -24,7 +24,7 @@ probe k t f = op.Test k ∷ op.JumpFalse f ∷ op.Jump t ∷ []
 abbrev pub branch : ℕ → Test → ℕ → ℕ → List Op
 branch p failed t f = probe 0 t f
 branch p silent t f = probe 1 t f
-branch p (bit b) t f = probe (16 + b) t f
+branch p (bit bits) t f = probe (16 + bit_number bits) t f
 branch p (negated c) t f = branch p c f t
 branch p (both a b) t f = branch p a (p + branch_size a) f ++ branch (p + branch_size a) b t f
 branch p (either a b) t f = branch p a t (p + branch_size a) ++ branch (p + branch_size a) b t f
@@ -37,7 +37,7 @@ size (gap t) = 1
 size (repeat n b) = size b + 2
 size (choose c a b) = branch_size c + size a + 1 + size b
 size nothing = 0
-size (first a b) = size a + size b
+size (chained a b) = size a + size b
 
 -- the messages in the order of the text, one for each send and retry, none shared
 abbrev pub messages_of : Tree → List (Line × Message)
@@ -47,7 +47,7 @@ messages_of (gap t) = []
 messages_of (repeat n b) = messages_of b
 messages_of (choose c a b) = messages_of a ++ messages_of b
 messages_of nothing = []
-messages_of (first a b) = messages_of a ++ messages_of b
+messages_of (chained a b) = messages_of a ++ messages_of b
 
 -- how many they are
 abbrev pub entries : Tree → ℕ
@@ -57,7 +57,7 @@ entries (gap t) = 0
 entries (repeat n b) = entries b
 entries (choose c a b) = entries a + entries b
 entries nothing = 0
-entries (first a b) = entries a + entries b
+entries (chained a b) = entries a + entries b
 
 -- the first attempt, and a loop of the further ones, each on the other_line line, that is left where one did not fail
 abbrev pub retry_shape : ℕ → ℕ → ℕ → List Op
@@ -75,7 +75,7 @@ shape p m (choose c a b) =
     let f = t + size a + 1 in
     branch p c t f ++ (shape t m a ++ (op.Jump (f + size b) ∷ shape f (m + entries a) b))
 shape p m nothing = []
-shape p m (first a b) = shape p m a ++ shape (p + size a) (m + entries a) b
+shape p m (chained a b) = shape p m a ++ shape (p + size a) (m + entries a) b
 
 -- the code of a tree
 abbrev pub code_of : Tree → Code

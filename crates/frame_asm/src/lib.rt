@@ -1,4 +1,4 @@
-//! The assembler (own choice): the image of a frame, whose code does in any world what the frame means.
+//! The assembler (own choice): the image of a frame, whose code does in any world what the frame means. Its tests are in `frame_tests`.
 #![tactic(auto)]
 
 ghost use Rattle.std.specs.Prelude.{◌≡◌, ◌<◌, ◌≤◌, ◌↔◌, length, IfOk, Err};
@@ -12,8 +12,6 @@ ghost use Rattle.frame_asm.specs.Behaves.{Behaves};
 
 mod emission;
 mod sizes;
-#[cfg(test)]
-mod tests;
 
 use frame_code::{Image, Op, Setting};
 use frame_tree::Frame;

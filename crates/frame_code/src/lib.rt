@@ -1,4 +1,4 @@
-//! The code of the bus controller (own choice): ten operations, images of them, and the bytes of an image.
+//! The code of the bus controller (own choice): ten operations, images of them, and the bytes of an image. Its tests are in `frame_tests`.
 #![tactic(auto)]
 
 ghost use Rattle.std.specs.Prelude.{◌≡◌, IfOk};
@@ -6,8 +6,6 @@ ghost use Rattle.frame_code.specs.Ranges.{IsImage};
 
 mod fields;
 mod reading;
-#[cfg(test)]
-mod tests;
 mod writing;
 
 use mil_message::Message;

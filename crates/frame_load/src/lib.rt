@@ -1,5 +1,5 @@
 //! The loader (own choice): which images the controller may run, how many steps a run takes, and how many messages it
-//! sends.
+//! sends. Its tests are in `frame_tests`.
 #![tactic(auto)]
 
 ghost use Rattle.std.specs.Prelude.{◌+◌, ◌≡◌, ◌≢◌, ◌≤◌, ◌<◌, ◌↔◌, ℕ, length, slice_get, Some, Err, IfOk};
@@ -14,8 +14,6 @@ ghost use Rattle.frame_load.specs.declared.LoadError.{LoadError};
 
 mod checks;
 mod sums;
-#[cfg(test)]
-mod tests;
 
 use frame_code::{Image, Setting};
 use std::alloc::{AllocError, Global};

@@ -1,21 +1,14 @@
 //! Controllers on real buses, against worked records.
 
-use super::*;
+use crate::worked::LOOPS;
+use bc_machine::{Machine, Placed, Stepped};
 use frame_code::read_image;
 use frame_load::load;
 use mil_bus::Bus;
 use mil_host::Action;
 use mil_line::{Fault, Plan};
+use mil_monitor::Record;
 use std::test::*;
-
-/// `repeat 3 { retry 2 send A rx 9 1 [0001] }`
-const LOOPS: [u8; 62] = [
-    0x42, 0x43, 0x30, 0x31, 11, 0, 1, 0, // the mark and the counts
-    4, 0, 3, 0, 1, 0, 0, 0, 4, 0, 2, 0, 8, 0, 0, 0, // Loop 3, Send 0, Loop 2, Test 0
-    9, 0, 7, 0, 2, 0, 0, 0, 7, 0, 8, 0, 6, 0, 9, 0, // JumpFalse 7, Alt 0, Jump 8, Leave 9
-    5, 0, 3, 0, 5, 0, 1, 0, 0, 0, 0, 0, // Again 3, Again 1, Halt
-    0, 0, 0x21, 0x48, 0, 0, 1, 0, 1, 0, // the message
-];
 
 /// `send A rx 5 1 [0001 0002 0003] send A mode 5 2 send A mode 5 2`
 const WRITTEN: [u8; 46] = [

@@ -1,5 +1,5 @@
 //! The first fault of a text, with its line.
-use crate::{JobError, LineFault, read_job};
+use job_file::{JobError, LineFault, read_job};
 use std::alloc::Global;
 use std::test::Fail;
 

@@ -1,5 +1,5 @@
 //! Jobs played to their end, record by record.
-use crate::{Job, job_runs, read_job};
+use job_file::{Job, job_runs, read_job};
 use bc_machine::Stepped;
 use std::alloc::Global;
 use std::process::Abort;

@@ -1,17 +1,11 @@
+//! Images that are loaded, with their sums, and images that are refused.
+
 ghost use Rattle.std.specs.Prelude.{◌≤◌};
 
-use super::*;
+use crate::worked::LOOPS;
 use frame_code::{Op, read_image};
+use frame_load::{LoadError, load};
 use std::test::*;
-
-/// `repeat 3 { retry 2 send A rx 9 1 [0001] }`
-const LOOPS: [u8; 62] = [
-    0x42, 0x43, 0x30, 0x31, 11, 0, 1, 0, // the mark and the counts
-    4, 0, 3, 0, 1, 0, 0, 0, 4, 0, 2, 0, 8, 0, 0, 0, // Loop 3, Send 0, Loop 2, Test 0
-    9, 0, 7, 0, 2, 0, 0, 0, 7, 0, 8, 0, 6, 0, 9, 0, // JumpFalse 7, Alt 0, Jump 8, Leave 9
-    5, 0, 3, 0, 5, 0, 1, 0, 0, 0, 0, 0, // Again 3, Again 1, Halt
-    0, 0, 0x21, 0x48, 0, 0, 1, 0, 1, 0, // the message
-];
 
 // Why the image with these bytes is not loaded; None where they are no image.
 fn refusal(rt: &HostRuntime, bytes: &[u8]) -> Option<LoadError> {

@@ -1,5 +1,5 @@
 //! Texts with each fault at the first, a middle and the last place where it may stand; lines and columns are counted by hand.
-use crate::{parse, read_send};
+use frame_text::{parse, read_send};
 use std::alloc::Global;
 use std::process::Abort;
 use std::test::Fail;

@@ -1,5 +1,5 @@
 //! What frames print as.
-use crate::{parse, print};
+use frame_text::{parse, print};
 use bumpalo::Bump;
 use frame_tree::{Cond, Frame};
 use mil_status::StatusBits;

@@ -1,5 +1,5 @@
 //! The sizes of what is read.
-use crate::{parse, read_cond};
+use frame_text::{parse, read_cond};
 use std::test::Fail;
 
 #[test]

@@ -1,5 +1,5 @@
-//! A script with a retry in a repeat.
-use crate::{Cond, Frame, number_of_bit};
+//! Trees: a script with a retry in a repeat.
+use frame_tree::{Cond, Frame, number_of_bit};
 use mil_message::{Draft, Message};
 use mil_status::StatusBits;
 use mil_word::Line;

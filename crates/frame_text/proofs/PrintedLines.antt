@@ -2,9 +2,7 @@
 use Rattle.std.proofs.Common.{rules, Box, ◌≡◌, ℕ, zero, suc, ◌+◌, List, ◌++◌, Bool, true, false, refl, sym, ap, ◌∙◌, append_assoc, add-one}
 use Rattle.std.specs.Prelude.{codes, ◌&&◌}
 use Rattle.std.proofs.lemmas.List.{append-nil}
-use Rattle.frame_tree.specs.Tree.{Test, Tree, nothing, first, choose, test_of, tree_of}
-use Rattle.frame_tree.specs.declared.Cond.{Cond}
-use Rattle.frame_tree.specs.declared.Frame.{Frame, If, the_lemmas}
+use Rattle.frame_tree.specs.Tree.{Test, Tree, nothing, chained, choose, test_of, tree_of}
 use Rattle.frame_text.specs.PrintedConditions.{condition_text}
 use Rattle.frame_text.specs.Printing.{indent, is_empty, block_text, else_text, lines}
 
@@ -16,16 +14,16 @@ pub indent_more : (n : ℕ) (before now more : List ℕ) → now ≡ before ++ i
 indent_more n before now more e h =
     h ∙ ap (λ xs. xs ++ codes "  ") e ∙ append_assoc before (indent n) (codes "  ") ∙ ap (λ xs. before ++ xs) (indent_suc n ∙ ap indent (sym (add-one n)))
 
-pub empty_more : (t a b : Tree) (whole : Bool) → t ≡ first a b → true ≡ is_empty a → is_empty t ≡ whole → is_empty b ≡ whole
+pub empty_more : (t a b : Tree) (whole : Bool) → t ≡ chained a b → true ≡ is_empty a → is_empty t ≡ whole → is_empty b ≡ whole
 empty_more t a b whole e h i = ap (λ x. x && is_empty b) h ∙ sym (ap is_empty e) ∙ i
 
-pub empty_fails : (t a b : Tree) (whole : Bool) → t ≡ first a b → false ≡ is_empty a → is_empty t ≡ whole → false ≡ whole
+pub empty_fails : (t a b : Tree) (whole : Bool) → t ≡ chained a b → false ≡ is_empty a → is_empty t ≡ whole → false ≡ whole
 empty_fails t a b whole e h i = ap (λ x. x && is_empty b) h ∙ sym (ap is_empty e) ∙ i
 
 pub empty_done : (t : Tree) (whole : Bool) → t ≡ nothing → is_empty t ≡ whole → true ≡ whole
 empty_done t whole e i = sym (ap is_empty e) ∙ i
 
-pub lines_more : (depth : ℕ) (t a b : Tree) (now more whole : List ℕ) → t ≡ first a b → more ≡ now ++ lines depth a → now ++ lines depth t ≡ whole → more ++ lines depth b ≡ whole
+pub lines_more : (depth : ℕ) (t a b : Tree) (now more whole : List ℕ) → t ≡ chained a b → more ≡ now ++ lines depth a → now ++ lines depth t ≡ whole → more ++ lines depth b ≡ whole
 unfolding lines
 lines_more depth t a b now more whole e h i =
     ap (λ xs. xs ++ lines depth b) h ∙ append_assoc now (lines depth a) (lines depth b) ∙ sym (ap (λ u. now ++ lines depth u) e) ∙ i
@@ -37,9 +35,6 @@ lines_done depth t now whole e i = sym (append-nil now) ∙ sym (ap (λ u. now +
 -- one piece more in front of what was written last
 piece : (before a now rest end : List ℕ) → now ≡ before ++ a → end ≡ now ++ rest → end ≡ before ++ (a ++ rest)
 piece before a now rest end e h = h ∙ ap (λ xs. xs ++ rest) e ∙ append_assoc before a rest
-
-pub tree_if : {A : Type 0} (c : Cond A) (a b : Box (Frame A) A) → tree_of (If c a b) ≡ choose (test_of c) (tree_of a.value) (tree_of b.value)
-tree_if c a b = search (rules, the_lemmas)
 
 -- an if, piece by piece
 pub if_line : (depth : ℕ) (t : Tree) (c : Test) (a b : Tree) (before indented tested closed end : List ℕ) → t ≡ choose c a b

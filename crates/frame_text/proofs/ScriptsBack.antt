@@ -2,7 +2,7 @@
 use Rattle.std.proofs.Common.{◌≡◌, ℕ, zero, suc, ◌<◌, ◌≤◌, Bool, true, false, cond, List, [], ◌∷◌, length, Ok, refl, ap, ◌∙◌, arith}
 use Rattle.std.specs.Prelude.{codes, decimal, ◌&&◌}
 use Rattle.std.proofs.lemmas.Bool.{le-leb}
-use Rattle.frame_tree.specs.Tree.{Test, Tree, send, retry, gap, repeat, choose, nothing, first}
+use Rattle.frame_tree.specs.Tree.{Test, Tree, send, retry, gap, repeat, choose, nothing, chained}
 use Rattle.frame_tree.specs.Bounds.{depth, IsInRange, operators, HasNamedBits}
 use Rattle.frame_text.specs.Reading.{Tokens, ◌>>=◌, same, past}
 use Rattle.frame_text.specs.Words.{number_within}
@@ -40,7 +40,7 @@ frame_not_empty (gap n) e r i = absurd (cc)
 frame_not_empty (repeat n b) e r i = absurd (cc)
 frame_not_empty (choose c a b) e r i = absurd (cc)
 frame_not_empty nothing e r i = r
-frame_not_empty (first a b) e r i = r
+frame_not_empty (chained a b) e r i = r
 
 close_back : (frame : Reader) (n : ℕ) (ts : Tokens) → length (codes "}" ∷ ts) ≤ n → frames_at frame n (codes "}" ∷ ts) ≡ Ok (nothing, ts)
 unfolding frames_at
@@ -48,16 +48,16 @@ close_back frame zero ts s = absurd (omega (arith, s))
 close_back frame (suc n) ts s = refl
 
 first_back : (frame : Reader) (n : ℕ) (w : List ℕ) (text us rest ts : Tokens) (a b : Tree) → text ≡ w ∷ us → same w (codes "}") ≡ false → length text ≤ n → length rest < length text
-    → frame text ≡ Ok (a, rest) → ((m : ℕ) → length rest ≤ m → frames_at frame m rest ≡ Ok (b, ts)) → frames_at frame n text ≡ Ok (first a b, ts)
+    → frame text ≡ Ok (a, rest) → ((m : ℕ) → length rest ≤ m → frames_at frame m rest ≡ Ok (b, ts)) → frames_at frame n text ≡ Ok (chained a b, ts)
 first_back frame zero w text us rest ts a b is e s k one more = absurd (omega (arith, s, k))
 first_back frame (suc n) w text us rest ts a b is e s k one more =
     frames_on frame n w text us is e
-    ∙ ap (λ r. r >>= (λ x. frames_at frame n x.1 >>= (λ y. Ok (first x.0 y.0, y.1)))) one
-    ∙ ap (λ r. r >>= (λ y. Ok (first a y.0, y.1))) (more n (omega (arith, s, k)))
+    ∙ ap (λ r. r >>= (λ x. frames_at frame n x.1 >>= (λ y. Ok (chained x.0 y.0, y.1)))) one
+    ∙ ap (λ r. r >>= (λ y. Ok (chained a y.0, y.1))) (more n (omega (arith, s, k)))
 
 empty_is : (t : Tree) → IsRead true t → is_empty t ≡ true → nothing ≡ t
 empty_is nothing r e = refl
-empty_is (first a b) r e = absurd (frame_not_empty a (is_empty b) r.0 e)
+empty_is (chained a b) r e = absurd (frame_not_empty a (is_empty b) r.0 e)
 empty_is (send line m) r e = absurd r
 empty_is (retry n line m) r e = absurd r
 empty_is (gap n) r e = absurd r
@@ -96,9 +96,9 @@ back false (choose c a b) zero r h l = absurd (omega (arith, l))
 back false (choose c a b) (suc d) r h l = λ ts f.
     choose_back d c a b ts h.0.0 h.0.1 r.1 f (back true a d r.0 h.1 (omega (arith, l))) (back true b d r.1 h.2 (omega (arith, l)))
 back false nothing d r h l = absurd r
-back false (first a b) d r h l = absurd r
+back false (chained a b) d r h l = absurd r
 back true nothing d r h l = λ n ts s. close_back (frame_at d) n ts s
-back true (first a b) d r h l = λ n ts s.
+back true (chained a b) d r h l = λ n ts s.
     let rest = tree_then b (codes "}" ∷ ts) in
     let after : MayFollow rest = follows b r.1 (codes "}" ∷ ts) (refl, refl) in
     let one = back false a d r.0 h.0 (omega (arith, l)) in
@@ -115,14 +115,14 @@ back true (choose c a b) d r h l = absurd r
 pub script_back : (t : Tree) → IsRead true t → IsInRange t → depth t ≤ 16 → (n : ℕ) → length (tree_then t []) ≤ n → script_at n (tree_then t []) ≡ Ok t
 unfolding script_at
 script_back nothing r h l n s = refl
-script_back (first a b) r h l zero s = let k = longer a r.0 (tree_then b []) in absurd (omega (arith, s, k))
-script_back (first a b) r h l (suc n) s =
+script_back (chained a b) r h l zero s = let k = longer a r.0 (tree_then b []) in absurd (omega (arith, s, k))
+script_back (chained a b) r h l (suc n) s =
     let rest = tree_then b [] in
     let k = longer a r.0 rest in
     let g = begins a r.0 rest in
     script_on n g.word (tree_then a rest) g.more g.is
-    ∙ ap (λ z. z >>= (λ x. script_at n x.1 >>= (λ t. Ok (first x.0 t)))) (back false a 16 r.0 h.0 (omega (arith, l)) rest (follows b r.1 [] tt))
-    ∙ ap (λ z. z >>= (λ t. Ok (first a t))) (script_back b r.1 h.1 (omega (arith, l)) n (omega (arith, s, k)))
+    ∙ ap (λ z. z >>= (λ x. script_at n x.1 >>= (λ t. Ok (chained x.0 t)))) (back false a 16 r.0 h.0 (omega (arith, l)) rest (follows b r.1 [] tt))
+    ∙ ap (λ z. z >>= (λ t. Ok (chained a t))) (script_back b r.1 h.1 (omega (arith, l)) n (omega (arith, s, k)))
 script_back (send line m) r h l n s = absurd r
 script_back (retry k line m) r h l n s = absurd r
 script_back (gap k) r h l n s = absurd r

@@ -4,7 +4,7 @@ use Rattle.std.specs.Prelude.{nat_le, ◌&&◌, codes}
 use Rattle.std.specs.Str.{bytes_eq}
 use Rattle.std.proofs.lemmas.Bool.Decides.{nat_tests}
 use Rattle.mil_status.specs.Status.{bit_of_name, bit_in, status_bits, Row}
-use Rattle.frame_tree.specs.Tree.{Test, Tree, bit_number, nothing, first}
+use Rattle.frame_tree.specs.Tree.{Test, Tree, bit_number, nothing, chained}
 use Rattle.frame_tree.specs.Bounds.{depth, worst_messages, operators, HasNamedBits, IsNamedBit, IsInRange, IsSound}
 use Rattle.frame_text.specs.Reading.{◌>>=◌, Tokens, Reading, same, misplaced, past}
 use Rattle.frame_text.specs.Words.{number_at, number_within}
@@ -67,13 +67,13 @@ low n a = inl a
 all_named : AllNamed status_bits
 all_named = (high 10 (omega arith) (omega arith), (high 9 (omega arith) (omega arith), (high 8 (omega arith) (omega arith), (low 4 (omega arith), (low 3 (omega arith), (low 2 (omega arith), (low 1 (omega arith), (low 0 (omega arith), tt))))))))
 
-name_ok : (ts : Tokens) (n : ℕ × Tokens) → name_at ts ≡ Ok n → IsNamedBit n.0
+name_ok : (ts : Tokens) (n : ℕ × Tokens) → name_at ts ≡ Ok n → IsNamedBit (bit_number n.0)
 unfolding name_at
 name_ok [] n e = absurd (cc)
 name_ok (w ∷ ts) n e = by (bit_of_name w) refl e
   where
-    by : (o : Option ℕ) → bit_of_name w ≡ o → named w o ts ≡ Ok n → IsNamedBit n.0
-    by (Some bits) i h = let j : bit_number bits ≡ n.0 = ap (λ m. m.0) (ok_is _ n h) in subst IsNamedBit j (named_in status_bits w bits all_named i)
+    by : (o : Option ℕ) → bit_of_name w ≡ o → named w o ts ≡ Ok n → IsNamedBit (bit_number n.0)
+    by (Some bits) i h = let j : bits ≡ n.0 = ap (λ m. m.0) (ok_is _ n h) in subst (λ (x : ℕ). IsNamedBit (bit_number x)) j (named_in status_bits w bits all_named i)
     by None i h = absurd (cc)
 
 -- a condition with at most so many operators above a test
@@ -192,7 +192,7 @@ frames_ok d frame sound n [] x e = absurd (cc)
 frames_ok d frame sound zero (w ∷ ts) x e = absurd (cc)
 frames_ok d frame sound (suc n) (w ∷ ts) x e = by (same w (codes "}")) (λ us y i. frames_ok d frame sound n us y i) e
   where
-    by : (t : Bool) → ReadsTrees d (frames_at frame n) → cond t (Ok (nothing, ts)) (frame (w ∷ ts) >>= (λ y. frames_at frame n y.1 >>= (λ z. Ok (first y.0 z.0, z.1)))) ≡ Ok x → IsTreeWithin d x.0
+    by : (t : Bool) → ReadsTrees d (frames_at frame n) → cond t (Ok (nothing, ts)) (frame (w ∷ ts) >>= (λ y. frames_at frame n y.1 >>= (λ z. Ok (chained y.0 z.0, z.1)))) ≡ Ok x → IsTreeWithin d x.0
     by true more i = subst (λ (z : Tree × Tokens). IsTreeWithin d z.0) (ok_is _ x i) (omega arith, tt)
     by false more i =
         let a = bind_ok (frame (w ∷ ts)) _ x i in

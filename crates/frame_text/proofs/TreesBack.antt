@@ -3,7 +3,7 @@ use Rattle.std.proofs.Common.{◌≡◌, ℕ, ◌+◌, ◌<◌, ◌≤◌, ◌^�
 use Rattle.std.specs.Prelude.{codes, decimal}
 use Rattle.mil_message.specs.declared.forms.Form.{Form}
 use Rattle.mil_message.specs.declared.forms.Form.TheVariants.{ToTerminal, FromTerminal, Between, Mode, ModeFrom, ModeTo, ToAll, BetweenAll, ModeAll, ModeAllTo}
-use Rattle.frame_tree.specs.Tree.{Test, Tree, send, retry, gap, repeat, choose, nothing, first}
+use Rattle.frame_tree.specs.Tree.{Test, Tree, send, retry, gap, repeat, choose, nothing, chained}
 use Rattle.frame_tree.specs.Bounds.{IsInRange}
 use Rattle.frame_text.specs.Reading.{Tokens, same}
 use Rattle.frame_text.specs.PrintedMessages.{line_text}
@@ -16,14 +16,14 @@ use Rattle.frame_text.proofs.ConditionsBack.{condition_then, condition_spells, c
 -- argument tells whether a chain or one frame is asked for.
 abbrev pub IsRead : Bool → Tree → Type 0
 IsRead true nothing = Unit {0}
-IsRead true (first a b) = IsRead false a × IsRead true b
+IsRead true (chained a b) = IsRead false a × IsRead true b
 IsRead true (send line m) = ⊥
 IsRead true (retry n line m) = ⊥
 IsRead true (gap n) = ⊥
 IsRead true (repeat n b) = ⊥
 IsRead true (choose c a b) = ⊥
 IsRead false nothing = ⊥
-IsRead false (first a b) = ⊥
+IsRead false (chained a b) = ⊥
 IsRead false (send line m) = IsReadable m
 IsRead false (retry n line m) = IsReadable m
 IsRead false (gap n) = Unit {0}
@@ -39,7 +39,7 @@ tree_then (repeat n b) ts = codes "repeat" ∷ decimal n ∷ codes "{" ∷ tree_
 tree_then (choose c a b) ts =
     codes "if" ∷ condition_then c (codes "{" ∷ tree_then a (codes "}" ∷ cond (is_empty b) ts (codes "else" ∷ codes "{" ∷ tree_then b (codes "}" ∷ ts))))
 tree_then nothing ts = ts
-tree_then (first a b) ts = tree_then a (tree_then b ts)
+tree_then (chained a b) ts = tree_then a (tree_then b ts)
 
 pub number_spelled : (n k : ℕ) → k ≤ 65535 → n ≤ k → Small n
 number_spelled n k h l = omega (arith, h, l)
@@ -68,9 +68,9 @@ tree_spells false (choose c a b) d r h =
     by true p q = line_spells (block_spells d p)
     by false p q = spaced_lines (block_spells d p) (spaced_lines (word_spells (codes "else") (omega arith) (refl, (refl, (refl, (refl, tt))))) (line_spells (block_spells d q)))
 tree_spells false nothing d r h = absurd r
-tree_spells false (first a b) d r h = absurd r
+tree_spells false (chained a b) d r h = absurd r
 tree_spells true nothing d r h = no_lines
-tree_spells true (first a b) d r h = lines_spell (tree_spells false a d r.0 h.0) (tree_spells true b d r.1 h.1)
+tree_spells true (chained a b) d r h = lines_spell (tree_spells false a d r.0 h.0) (tree_spells true b d r.1 h.1)
 tree_spells true (send line m) d r h = absurd r
 tree_spells true (retry n line m) d r h = absurd r
 tree_spells true (gap n) d r h = absurd r
@@ -108,7 +108,7 @@ grows (gap n) ts = omega arith
 grows (repeat n b) ts = omega (arith, grows b (codes "}" ∷ ts))
 grows (choose c a b) ts = omega (arith, choose_longer (is_empty b) c a b ts (grows b (codes "}" ∷ ts)) (grows a))
 grows nothing ts = omega arith
-grows (first a b) ts = omega (arith, grows a (tree_then b ts), grows b ts)
+grows (chained a b) ts = omega (arith, grows a (tree_then b ts), grows b ts)
 
 -- the first token of a frame
 pub record Begins (ts : Tokens) : Type 0 where
@@ -126,12 +126,12 @@ begins (gap n) r ts = record { word = codes "gap"; more = decimal n ∷ ts; is =
 begins (repeat n b) r ts = record { word = codes "repeat"; more = decimal n ∷ codes "{" ∷ tree_then b (codes "}" ∷ ts); is = refl; goes = refl; no_bracket = refl; no_else = refl }
 begins (choose c a b) r ts = record { word = codes "if"; more = condition_then c (codes "{" ∷ tree_then a (codes "}" ∷ cond (is_empty b) ts (codes "else" ∷ codes "{" ∷ tree_then b (codes "}" ∷ ts)))); is = refl; goes = refl; no_bracket = refl; no_else = refl }
 begins nothing r ts = absurd r
-begins (first a b) r ts = absurd r
+begins (chained a b) r ts = absurd r
 
 -- what stands behind a frame in its chain may stand there
 pub follows : (t : Tree) → IsRead true t → (ts : Tokens) → MayFollow ts → MayFollow (tree_then t ts)
 follows nothing r ts f = f
-follows (first a b) r ts f = let g = begins a r.0 (tree_then b ts) in subst MayFollow (sym g.is) (g.no_bracket, g.no_else)
+follows (chained a b) r ts f = let g = begins a r.0 (tree_then b ts) in subst MayFollow (sym g.is) (g.no_bracket, g.no_else)
 follows (send line m) r ts f = absurd r
 follows (retry n line m) r ts f = absurd r
 follows (gap n) r ts f = absurd r
@@ -146,4 +146,4 @@ longer (gap n) r ts = omega arith
 longer (repeat n b) r ts = omega (arith, grows b (codes "}" ∷ ts))
 longer (choose c a b) r ts = choose_longer (is_empty b) c a b ts (grows b (codes "}" ∷ ts)) (grows a)
 longer nothing r ts = absurd r
-longer (first a b) r ts = absurd r
+longer (chained a b) r ts = absurd r

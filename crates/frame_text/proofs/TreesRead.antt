@@ -2,7 +2,7 @@
 use Rattle.std.proofs.Common.{◌≡◌, ℕ, zero, suc, ◌≤◌, Bool, true, false, cond, List, [], ◌∷◌, length, Ok, Err, refl, sym, ap, ◌∙◌, subst, arith}
 use Rattle.std.specs.Prelude.{codes, nat_le}
 use Rattle.std.proofs.lemmas.Bool.{leb-true, le-leb}
-use Rattle.frame_tree.specs.Tree.{Tree, nothing, first}
+use Rattle.frame_tree.specs.Tree.{Tree, nothing, chained}
 use Rattle.frame_tree.specs.Bounds.{IsSound, worst_messages}
 use Rattle.frame_text.specs.Tokens.{lex, tokens}
 use Rattle.frame_text.specs.Reading.{Tokens, ◌>>=◌, same, misplaced, past}
@@ -68,7 +68,7 @@ frames_read frame reads n [] x e = absurd (cc)
 frames_read frame reads zero (w ∷ ts) x e = absurd (cc)
 frames_read frame reads (suc n) (w ∷ ts) x e = by (same w (codes "}")) (λ us y i. frames_read frame reads n us y i) e
   where
-    by : (t : Bool) → Reads true (frames_at frame n) → cond t (Ok (nothing, ts)) (frame (w ∷ ts) >>= (λ y. frames_at frame n y.1 >>= (λ z. Ok (first y.0 z.0, z.1)))) ≡ Ok x → IsRead true x.0
+    by : (t : Bool) → Reads true (frames_at frame n) → cond t (Ok (nothing, ts)) (frame (w ∷ ts) >>= (λ y. frames_at frame n y.1 >>= (λ z. Ok (chained y.0 z.0, z.1)))) ≡ Ok x → IsRead true x.0
     by true more i = subst (λ (z : Tree × Tokens). IsRead true z.0) (ok_is _ x i) tt
     by false more i =
         let a = bind_ok (frame (w ∷ ts)) _ x i in

@@ -1,7 +1,7 @@
 -- The text of a condition (own choice).
 use Rattle.std.specs.Prelude.{ℕ, zero, suc, if◌then◌else◌, List, [], ◌∷◌, Option, Some, None, Result, Ok, Err, codes}
 use Rattle.mil_status.specs.Status.{bit_of_name}
-use Rattle.frame_tree.specs.Tree.{Test, failed, silent, bit, negated, both, either, bit_number}
+use Rattle.frame_tree.specs.Tree.{Test, failed, silent, bit, negated, both, either}
 use Rattle.frame_text.specs.Tokens.{tokens}
 use Rattle.frame_text.specs.Reading.{Tokens, Reading, ◌>>=◌, same, misplaced, past, to_the_end}
 use Rattle.frame_text.specs.declared.faults.Cause.{Cause}
@@ -19,9 +19,9 @@ condition_word w =
     if same w (codes "any") then word.Any else
     word.NoCondition
 
--- the status bit of a name
+-- the status bit of a name, as the value of its set
 abbrev pub named : List ℕ → Option ℕ → Tokens → Reading ℕ
-named w (Some bits) ts = Ok (bit_number bits, ts)
+named w (Some bits) ts = Ok (bits, ts)
 named w None ts = Err (misplaced w)
 
 unfoldable pub name_at : Tokens → Reading ℕ

@@ -1,6 +1,6 @@
 -- The text of frames: the grammar of a script (own choice), and the tree of a text or its first fault.
 use Rattle.std.specs.Prelude.{ℕ, zero, suc, nat_le, if◌then◌else◌, List, [], ◌∷◌, length, Result, Ok, Err, codes}
-use Rattle.frame_tree.specs.Tree.{Tree, send, retry, gap, repeat, choose, nothing, first}
+use Rattle.frame_tree.specs.Tree.{Tree, send, retry, gap, repeat, choose, nothing, chained}
 use Rattle.frame_tree.specs.Bounds.{worst_messages}
 use Rattle.frame_text.specs.Tokens.{tokens}
 use Rattle.frame_text.specs.Reading.{Tokens, Reading, ◌>>=◌, same, misplaced, past}
@@ -59,7 +59,7 @@ frames_at frame n [] = Err cause.End
 frames_at frame zero (w ∷ ts) = Err cause.End
 frames_at frame (suc n) (w ∷ ts) =
     if same w (codes "}") then Ok (nothing, ts)
-    else (frame (w ∷ ts) >>= (λ x. frames_at frame n x.1 >>= (λ y. Ok (first x.0 y.0, y.1))))
+    else (frame (w ∷ ts) >>= (λ x. frames_at frame n x.1 >>= (λ y. Ok (chained x.0 y.0, y.1))))
 
 -- a block in its braces, inside the opening brace what inner reads
 unfoldable pub block_from : Result Reader Cause → Reader
@@ -82,7 +82,7 @@ frame_at d ts = frame_from (block_at d) ts
 unfoldable pub script_at : ℕ → Tokens → Result Tree Cause
 script_at n [] = Ok nothing
 script_at zero (w ∷ ts) = Err cause.End
-script_at (suc n) (w ∷ ts) = frame_at 16 (w ∷ ts) >>= (λ x. script_at n x.1 >>= (λ t. Ok (first x.0 t)))
+script_at (suc n) (w ∷ ts) = frame_at 16 (w ∷ ts) >>= (λ x. script_at n x.1 >>= (λ t. Ok (chained x.0 t)))
 
 -- a script sends at most 1,000,000 messages at worst
 abbrev pub bounded : Tree → Result Tree Cause

@@ -1,6 +1,6 @@
 -- The text that a tree is printed as: one frame a line, two spaces for each open block (own choice).
 use Rattle.std.specs.Prelude.{ℕ, zero, suc, ◌+◌, Bool, true, false, ◌&&◌, List, [], ◌++◌, codes, decimal}
-use Rattle.frame_tree.specs.Tree.{Tree, send, retry, gap, repeat, choose, nothing, first}
+use Rattle.frame_tree.specs.Tree.{Tree, send, retry, gap, repeat, choose, nothing, chained}
 use Rattle.frame_text.specs.PrintedMessages.{send_text}
 use Rattle.frame_text.specs.PrintedConditions.{condition_text}
 
@@ -11,7 +11,7 @@ indent (suc depth) = codes "  " ++ indent depth
 -- whether a tree has no frame but empty sequences
 abbrev pub is_empty : Tree → Bool
 is_empty nothing = true
-is_empty (first a b) = is_empty a && is_empty b
+is_empty (chained a b) = is_empty a && is_empty b
 is_empty _ = false
 
 -- a block with these lines in it
@@ -32,7 +32,7 @@ lines depth (repeat count body) = indent depth ++ (codes "repeat " ++ (decimal c
 lines depth (choose c a b) =
     indent depth ++ (codes "if " ++ (condition_text c ++ (codes " " ++ (block_text depth (lines (depth + 1) a) ++ (else_text depth (is_empty b) (lines (depth + 1) b) ++ codes "\n")))))
 lines depth nothing = []
-lines depth (first a b) = lines depth a ++ lines depth b
+lines depth (chained a b) = lines depth a ++ lines depth b
 
 -- the text of a tree
 abbrev pub printed : Tree → List ℕ

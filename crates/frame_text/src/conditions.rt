@@ -1,7 +1,7 @@
 //! The text of a condition.
 
 ghost use Rattle.std.specs.Prelude.{◌≡◌, ◌<◌, ◌-◌, length, IfOk};
-ghost use Rattle.frame_tree.specs.Tree.{test_of, bit_number};
+ghost use Rattle.frame_tree.specs.Tree.{test_of};
 ghost use Rattle.frame_text.specs.Tokens.{tokens};
 ghost use Rattle.frame_text.specs.Reading.{Gives};
 ghost use Rattle.frame_text.specs.Conditions.{name_at, pair_at, condition_at, below_at};
@@ -17,7 +17,7 @@ use std::alloc::Allocator;
 // The status bit of a name.
 #[tactic(auto, unfolding(crate::specs::Conditions::name_at))]
 fn name(text: &[u8]) -> Result<(StatusBits, &[u8]), Fault>
-    ensures tree { Gives (λ x. (bit_number x.0.0, tokens x.1.now)) result (name_at (tokens text.now)) }
+    ensures tree { Gives (λ x. (x.0.0, tokens x.1.now)) result (name_at (tokens text.now)) }
     ensures fewer { IfOk result (λ x. length (tokens x.1.now) < length (tokens text.now)) }
 {
     let Some((word, rest)) = next(text) else {

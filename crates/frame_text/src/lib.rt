@@ -1,5 +1,5 @@
 //! Scripts: frames as text (own choice). A text has at most one tree, and every other text is refused by its first fault
-//! from left to right.
+//! from left to right. Its tests are in `frame_tests`.
 #![tactic(auto)]
 
 ghost use Rattle.std.specs.Prelude.{◌≡◌, ℕ, List, Ok, IfOk, IfErr, string_bytes};
@@ -22,8 +22,6 @@ mod places;
 mod printed_conditions;
 mod printed_frames;
 mod printed_messages;
-#[cfg(test)]
-mod tests;
 mod tokens;
 mod whole;
 mod words;

@@ -1,26 +1,26 @@
 //! Conditions as text.
 
 ghost use Rattle.std.specs.Prelude.{◌≡◌, ◌++◌, OnOk, string_bytes};
-ghost use Rattle.frame_tree.specs.Tree.{test_of, bit_number};
+ghost use Rattle.frame_tree.specs.Tree.{test_of};
 ghost use Rattle.frame_text.specs.PrintedConditions as texts;
 
-use frame_tree::{Cond, number_of_bit};
+use frame_tree::Cond;
 use mil_status::StatusBits;
 use std::alloc::{AllocError, Allocator};
 
 // The name of a status bit.
 fn name_of_bit(bit: StatusBits) -> &'static str
-    ensures { result.now ≡ texts.name_of_bit (bit_number bit.0) }
+    ensures { result.now ≡ texts.name_of_bit bit.0 }
 {
-    match number_of_bit(bit) {
-        0 => "terminal",
-        1 => "control",
-        2 => "subsystem",
-        3 => "busy",
-        4 => "broadcast",
-        8 => "service_request",
-        9 => "instrumentation",
-        10 => "message_error",
+    match bit.0 {
+        1 => "terminal",
+        2 => "control",
+        4 => "subsystem",
+        8 => "busy",
+        16 => "broadcast",
+        256 => "service_request",
+        512 => "instrumentation",
+        1024 => "message_error",
         _ => "unnamed",
     }
 }

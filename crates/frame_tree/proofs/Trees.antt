@@ -1,13 +1,20 @@
 -- A frame, level by level.
-use Rattle.std.proofs.Common.{◌≡◌, ℕ, ◌+◌, ◌<◌, ◌≤◌, ◌↔◌, min, max, IsTrue, true, false, arith, subst, length, get_or, List, [], ◌∷◌, ◌++◌, map, take, drop, refl, sym, ap, ap₂, ◌∙◌, rules, Vec, add-one}
+use Rattle.std.proofs.Common.{◌≡◌, ℕ, ◌+◌, ◌<◌, ◌≤◌, ◌↔◌, min, max, IsTrue, true, false, arith, subst, length, get_or, List, [], ◌∷◌, ◌++◌, map, take, drop, refl, sym, ap, ap₂, ◌∙◌, rules, Vec, Box, add-one}
 use Rattle.std.proofs.lemmas.List.{take_more, drop_all, map-append}
 use Rattle.std.proofs.Math.Seq.{drop-cons}
-use Rattle.frame_tree.specs.Tree.{Tree, chain, tree_of, nothing, first}
+use Rattle.frame_tree.specs.Tree.{Tree, chain, test_of, tree_of, repeat, choose, nothing, chained}
+use Rattle.frame_tree.specs.declared.Cond.{Cond}
 use Rattle.frame_tree.specs.Bounds.{depth, worst_messages, IsInRange}
-use Rattle.frame_tree.specs.declared.Frame.{Frame, Seq, the_lemmas}
+use Rattle.frame_tree.specs.declared.Frame.{Frame, Repeat, If, Seq, the_lemmas}
 
-pub tree-Seq : {A : Type 0} → (v : Vec (Frame A) A) → tree_of (Seq v) ≡ chain (map tree_of v.items)
-tree-Seq v = search (rules, the_lemmas)
+pub tree_seq : {A : Type 0} → (v : Vec (Frame A) A) → tree_of (Seq v) ≡ chain (map tree_of v.items)
+tree_seq v = search (rules, the_lemmas)
+
+pub tree_repeat : {A : Type 0} (n : ℕ) (b : Box (Frame A) A) → tree_of (Repeat n b) ≡ repeat n (tree_of b.value)
+tree_repeat n b = search (rules, the_lemmas)
+
+pub tree_if : {A : Type 0} (c : Cond A) (a b : Box (Frame A) A) → tree_of (If c a b) ≡ choose (test_of c) (tree_of a.value) (tree_of b.value)
+tree_if c a b = search (rules, the_lemmas)
 
 -- one more copy
 pub one_more : {A B : Type 0} → (done : List (Frame B)) (all : List (Frame A)) (i : ℕ) (y : Frame B) (x : Frame A) → i < length all → x ≡ get_or all i x → map tree_of done ≡ map tree_of (take i all) → tree_of y ≡ tree_of x → map tree_of (done ++ y ∷ []) ≡ map tree_of (take (i + 1) all)
@@ -25,33 +32,33 @@ left_from i all = chain (map tree_of (drop i all))
 pub left_all : {A : Type 0} → (all : List (Frame A)) → left_from 0 all ≡ chain (map tree_of all)
 left_all all = refl
 
-pub left_first : {A : Type 0} → (all : List (Frame A)) (i : ℕ) (x : Frame A) → i < length all → x ≡ get_or all i x → left_from i all ≡ first (tree_of x) (left_from (i + 1) all)
+pub left_first : {A : Type 0} → (all : List (Frame A)) (i : ℕ) (x : Frame A) → i < length all → x ≡ get_or all i x → left_from i all ≡ chained (tree_of x) (left_from (i + 1) all)
 left_first all i x h is =
     ap (λ xs. chain (map tree_of xs)) (drop-cons all i x h)
-    ∙ ap₂ (λ y j. first (tree_of y) (left_from j all)) (sym is) (sym (add-one i))
+    ∙ ap₂ (λ y j. chained (tree_of y) (left_from j all)) (sym is) (sym (add-one i))
 
 pub left_none : {A : Type 0} → (all : List (Frame A)) (i : ℕ) → length all ≤ i → left_from i all ≡ nothing
 left_none all i h = ap (λ xs. chain (map tree_of xs)) (drop_all i all h)
 
 pub seq_tree : {A : Type 0} → (self : Frame A) (v : Vec (Frame A) A) (all : List (Frame A)) → self ≡ Seq v → all ≡ v.items → left_from 0 all ≡ tree_of self
-seq_tree self v all is e = ap (λ xs. chain (map tree_of xs)) e ∙ sym (tree-Seq v) ∙ sym (ap tree_of is)
+seq_tree self v all is e = ap (λ xs. chain (map tree_of xs)) e ∙ sym (tree_seq v) ∙ sym (ap tree_of is)
 
-pub depth_more : (t a b : Tree) (so_far one new d : ℕ) → t ≡ first a b → one ≡ min 17 (depth a) → new ≡ max one so_far → min 17 (max so_far (depth t)) ≡ d → min 17 (max new (depth b)) ≡ d
+pub depth_more : (t a b : Tree) (so_far one new d : ℕ) → t ≡ chained a b → one ≡ min 17 (depth a) → new ≡ max one so_far → min 17 (max so_far (depth t)) ≡ d → min 17 (max new (depth b)) ≡ d
 depth_more t a b so_far one new d e h n i = omega (arith, ap depth e, h, n, i)
 
 pub depth_done : (t u : Tree) (so_far : ℕ) → t ≡ nothing → so_far ≤ 17 → min 17 (max so_far (depth t)) ≡ min 17 (depth u) → so_far ≡ min 17 (depth u)
 depth_done t u so_far e s i = omega (arith, ap depth e, i)
 
-pub messages_more : (t a b : Tree) (so_far one new d : ℕ) → t ≡ first a b → one ≡ min 1000001 (worst_messages a) → new ≡ min (so_far + one) 1000001 → min 1000001 (so_far + worst_messages t) ≡ d → min 1000001 (new + worst_messages b) ≡ d
+pub messages_more : (t a b : Tree) (so_far one new d : ℕ) → t ≡ chained a b → one ≡ min 1000001 (worst_messages a) → new ≡ min (so_far + one) 1000001 → min 1000001 (so_far + worst_messages t) ≡ d → min 1000001 (new + worst_messages b) ≡ d
 messages_more t a b so_far one new d e h n i = omega (arith, ap worst_messages e, h, n, i)
 
 pub messages_done : (t u : Tree) (so_far : ℕ) → t ≡ nothing → so_far ≤ 1000001 → min 1000001 (so_far + worst_messages t) ≡ min 1000001 (worst_messages u) → so_far ≡ min 1000001 (worst_messages u)
 messages_done t u so_far e s i = omega (arith, ap worst_messages e, i)
 
-pub range_more : (t a b : Tree) (P : Type 0) → t ≡ first a b → IsInRange a → IsInRange t ↔ P → IsInRange b ↔ P
+pub range_more : (t a b : Tree) (P : Type 0) → t ≡ chained a b → IsInRange a → IsInRange t ↔ P → IsInRange b ↔ P
 range_more t a b P e h i = (λ r. i.0 (subst IsInRange (sym e) (h, r)), λ p. (subst IsInRange e (i.1 p)).1)
 
-pub range_fails : (t a b u : Tree) → t ≡ first a b → (IsInRange a → ⊥) → IsInRange t ↔ IsInRange u → IsTrue false ↔ IsInRange u
+pub range_fails : (t a b u : Tree) → t ≡ chained a b → (IsInRange a → ⊥) → IsInRange t ↔ IsInRange u → IsTrue false ↔ IsInRange u
 range_fails t a b u e h i = (λ x. absurd (cc), λ r. absurd (h (subst IsInRange e (i.1 r)).0))
 
 pub range_done : (t u : Tree) → t ≡ nothing → IsInRange t ↔ IsInRange u → IsTrue true ↔ IsInRange u

@@ -1,6 +1,6 @@
 -- How large a tree is, and which trees are sound (own choice).
 use Rattle.std.specs.Prelude.{ℕ, ◌+◌, ◌*◌, ◌≤◌, ◌⊎◌, max}
-use Rattle.frame_tree.specs.Tree.{Test, failed, silent, bit, negated, both, either, Tree, send, retry, gap, repeat, choose, nothing, first}
+use Rattle.frame_tree.specs.Tree.{Test, failed, silent, bit, negated, both, either, Tree, send, retry, gap, repeat, choose, nothing, chained, bit_number}
 
 -- how many messages a tree sends at most: every retry is used up, and an if takes the branch with more
 abbrev pub worst_messages : Tree → ℕ
@@ -10,7 +10,7 @@ worst_messages (gap t) = 0
 worst_messages (repeat n b) = n * worst_messages b
 worst_messages (choose c a b) = max (worst_messages a) (worst_messages b)
 worst_messages nothing = 0
-worst_messages (first a b) = worst_messages a + worst_messages b
+worst_messages (chained a b) = worst_messages a + worst_messages b
 
 -- how many repeats and ifs stand in one another
 abbrev pub depth : Tree → ℕ
@@ -20,13 +20,13 @@ depth (gap t) = 0
 depth (repeat n b) = 1 + depth b
 depth (choose c a b) = 1 + max (depth a) (depth b)
 depth nothing = 0
-depth (first a b) = max (depth a) (depth b)
+depth (chained a b) = max (depth a) (depth b)
 
 -- how many operators stand above a test at most
 abbrev pub operators : Test → ℕ
 operators failed = 0
 operators silent = 0
-operators (bit b) = 0
+operators (bit bits) = 0
 operators (negated c) = 1 + operators c
 operators (both a b) = 1 + max (operators a) (operators b)
 operators (either a b) = 1 + max (operators a) (operators b)
@@ -38,7 +38,7 @@ IsNamedBit b = (b ≤ 4) ⊎ ((8 ≤ b) × (b ≤ 10))
 abbrev pub HasNamedBits : Test → Type 0
 HasNamedBits failed = Unit {0}
 HasNamedBits silent = Unit {0}
-HasNamedBits (bit b) = IsNamedBit b
+HasNamedBits (bit bits) = IsNamedBit (bit_number bits)
 HasNamedBits (negated c) = HasNamedBits c
 HasNamedBits (both a b) = HasNamedBits a × HasNamedBits b
 HasNamedBits (either a b) = HasNamedBits a × HasNamedBits b
@@ -55,7 +55,7 @@ IsInRange (gap t) = (40 ≤ t) × (t ≤ 65535)
 IsInRange (repeat n b) = (1 ≤ n) × (n ≤ 10000) × IsInRange b
 IsInRange (choose c a b) = IsCondition c × IsInRange a × IsInRange b
 IsInRange nothing = Unit {0}
-IsInRange (first a b) = IsInRange a × IsInRange b
+IsInRange (chained a b) = IsInRange a × IsInRange b
 
 -- a tree that may be assembled
 pub record IsSound (t : Tree) : Type 0 where

@@ -3,7 +3,7 @@ use Rattle.std.specs.Prelude.{ℕ, zero, suc, ◌+◌, Bool, not, ◌&&◌, ◌|
 use Rattle.mil_word.specs.declared.Line.{Line}
 use Rattle.mil_message.specs.declared.messages.Message.{Message}
 use Rattle.mil_message.specs.World.{World, Point, other_line, sent, asks}
-use Rattle.frame_tree.specs.Tree.{Test, failed, silent, bit, negated, both, either, Tree, send, retry, gap, repeat, choose, nothing, first}
+use Rattle.frame_tree.specs.Tree.{Test, failed, silent, bit, negated, both, either, Tree, send, retry, gap, repeat, choose, nothing, chained, bit_number}
 
 -- n times in a row
 abbrev pub times : {X : Type 0} → ℕ → (X → X) → X → X
@@ -11,11 +11,11 @@ times zero f x = x
 times (suc n) f x = times n f (f x)
 
 module _ {State Outcome : Type 0} (w : World State Outcome) where
-  -- what a test says of the last outcome
+  -- what a test says of the last outcome; a set that is not one named bit is no bit of it, and false
   abbrev pub test_meaning : Test → Point State Outcome → Bool
   test_meaning failed p = asks w 0 p
   test_meaning silent p = asks w 1 p
-  test_meaning (bit b) p = asks w (16 + b) p
+  test_meaning (bit bits) p = asks w (16 + bit_number bits) p
   test_meaning (negated c) p = not (test_meaning c p)
   test_meaning (both a b) p = test_meaning a p && test_meaning b p
   test_meaning (either a b) p = test_meaning a p || test_meaning b p
@@ -34,4 +34,4 @@ module _ {State Outcome : Type 0} (w : World State Outcome) where
   meaning (repeat n body) p = times n (meaning body) p
   meaning (choose c a b) p = if test_meaning c p then meaning a p else meaning b p
   meaning nothing p = p
-  meaning (first a b) p = meaning b (meaning a p)
+  meaning (chained a b) p = meaning b (meaning a p)

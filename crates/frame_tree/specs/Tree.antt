@@ -7,7 +7,7 @@ use Rattle.frame_tree.specs.declared.Cond.TheVariants.{Fail, Silent, Bit, Not', 
 use Rattle.frame_tree.specs.declared.Frame.{Frame, fold-Frame}
 use Rattle.frame_tree.specs.declared.Frame.TheOpen.{Frame-F}
 
--- a test of the last outcome; a status bit is given by its number, 0 (terminal flag) to 10 (message error)
+-- a test of the last outcome; bits of the status word are given as the value of their set
 pub data Test : Type 0 where
   failed : Test
   silent : Test
@@ -16,7 +16,7 @@ pub data Test : Type 0 where
   both : Test → Test → Test
   either : Test → Test → Test
 
--- frames one after the other are a chain: the first and those after it, ended by nothing
+-- frames one after the other are chained: one and the chain of those after it, ended by nothing
 pub data Tree : Type 0 where
   send : Line → Message → Tree
   retry : ℕ → Line → Message → Tree
@@ -24,11 +24,11 @@ pub data Tree : Type 0 where
   repeat : ℕ → Tree → Tree
   choose : Test → Tree → Tree → Tree
   nothing : Tree
-  first : Tree → Tree → Tree
+  chained : Tree → Tree → Tree
 
 abbrev pub chain : List Tree → Tree
 chain [] = nothing
-chain (t ∷ ts) = first t (chain ts)
+chain (t ∷ ts) = chained t (chain ts)
 
 -- the number of the one status bit in this set, least significant first (MIL-STD-1553B 4.3.3.5.3); 16 for a set that is
 -- not one named bit
@@ -47,7 +47,7 @@ bit_number bits =
 abbrev pub test_of : {A : Type 0} → Cond A → Test
 test_of Fail = failed
 test_of Silent = silent
-test_of (Bit b) = bit (bit_number b.0)
+test_of (Bit b) = bit b.0
 test_of (Not' p c) = negated (test_of c)
 test_of (And' p a q b) = both (test_of a) (test_of b)
 test_of (Or' p a q b) = either (test_of a) (test_of b)

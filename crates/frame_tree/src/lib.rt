@@ -1,11 +1,9 @@
 //! Frames, the programs of a bus controller, as trees under any allocator (own choice): what a script says, before it is
-//! assembled.
+//! assembled. Its tests are in `frame_tests`.
 #![tactic(auto)]
 
 mod conditions;
 mod frames;
-#[cfg(test)]
-mod tests;
 
 pub use conditions::number_of_bit;
 use mil_message::Message;

@@ -1,4 +1,4 @@
-//! Jobs: all that is to be known of a channel's bus, as one text (own choice).
+//! Jobs: all that is to be known of a channel's bus, as one text (own choice). Its tests are in `frame_tests`.
 #![tactic(auto)]
 
 mod drafts;
@@ -11,8 +11,6 @@ mod numbers;
 mod reading;
 mod scripts;
 mod stepping;
-#[cfg(test)]
-mod tests;
 mod text_lines;
 mod texts;
 

@@ -1,8 +1,8 @@
 use Rattle.std.proofs.Common.{◌++◌, string_bytes, sym, ap, ap₂, ◌∙◌}
 use Rattle.frame_tree.specs.Tree.{test_of, tree_of, choose}
-use Rattle.frame_tree.proofs.Trees.{left_first, left_none, seq_tree}
+use Rattle.frame_tree.proofs.Trees.{left_first, left_none, seq_tree, tree_if}
 use Rattle.frame_text.specs.Printing.{lines}
-use Rattle.frame_text.proofs.PrintedLines.{lines_more, lines_done, if_line, tree_if}
+use Rattle.frame_text.proofs.PrintedLines.{lines_more, lines_done, if_line}
 use Rattle.frame_text.proofs.printed_frames.+lines.Goals as goal
 
 pub put_lines-loop-one-preserved : goal.put_lines-loop-one-preserved

@@ -1,7 +1,7 @@
 use Rattle.std.proofs.Common.{map, sym, ap, ◌∙◌, arith}
 use Rattle.std.proofs.lemmas.List.{take_all}
 use Rattle.frame_tree.specs.Tree.{tree_of, chain}
-use Rattle.frame_tree.proofs.Trees.{tree-Seq, one_more}
+use Rattle.frame_tree.proofs.Trees.{tree_seq, one_more}
 use Rattle.frame_tree.proofs.Frame.+copied.Goals as goal
 
 pub loop-frame-preserved : goal.loop-frame-preserved
@@ -11,7 +11,7 @@ loop-frame-preserved g t c =
 
 pub returns-after-loop-frame : goal.returns-after-loop-frame
 returns-after-loop-frame g t c =
-    tree-Seq c.loop-frame.copies
+    tree_seq c.loop-frame.copies
     ∙ ap chain (c.loop-frame.invariant ∙ ap (map tree_of) (take_all c.loop-frame.frame-index c.deref-frame-items.result.now (omega arith) ∙ c.deref-frame-items.ensures.value))
-    ∙ sym (tree-Seq c.in-Seq.frames)
+    ∙ sym (tree_seq c.in-Seq.frames)
     ∙ ap tree_of (sym c.in-Seq.is)
