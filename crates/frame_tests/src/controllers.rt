@@ -1,5 +1,6 @@
 //! Controllers on real buses, against worked records.
 
+use crate::records::{Row, are_rows};
 use crate::worked::LOOPS;
 use bc_machine::{Machine, Placed, Stepped};
 use frame_code::read_image;
@@ -8,7 +9,9 @@ use mil_bus::Bus;
 use mil_host::Action;
 use mil_line::{Fault, Plan};
 use mil_monitor::Record;
-use std::test::*;
+use std::alloc::Global;
+use std::process::Abort;
+use std::test::Fail;
 
 /// `send A rx 5 1 [0001 0002 0003] send A mode 5 2 send A mode 5 2`
 const WRITTEN: [u8; 46] = [
@@ -35,16 +38,21 @@ const CHOSEN: [u8; 40] = [
 ];
 
 // A controller of the image with these bytes, on a bus with terminal 5 alone, at tick 0.
-fn controller(rt: &HostRuntime, image: &[u8], plan: Plan, placed: Vec<Placed>) -> Option<Machine> {
-    let image = read_image(rt.alloc(), image).ok()?;
-    let program = load(rt.alloc(), image).ok()?;
-    let bus = Bus::make(rt.alloc(), 0, &[5]).ok()?;
-    Some(Machine::start(program, bus, plan, placed))
+fn controller(
+    alloc: Global,
+    image: &[u8],
+    plan: Plan,
+    placed: Vec<Placed>,
+) -> Result<Machine, Fail> {
+    let image = read_image(alloc, image).map_err(|_| Fail::from("no image"))?;
+    let program = load(alloc, image).map_err(|_| Fail::from("not loaded"))?;
+    let bus = Bus::make(alloc, 0, &[5]).map_err(|_| Fail::from("no bus"))?;
+    Ok(Machine::start(program, bus, plan, placed))
 }
 
 // What so many steps send.
-fn sent(rt: &HostRuntime, machine: &mut Machine, steps: u32) -> Result<Vec<Record>, Fail> {
-    let mut records = Vec::new(rt.alloc());
+fn sent(alloc: Global, machine: &mut Machine, steps: u32) -> Result<Vec<Record>, Fail> {
+    let mut records = Vec::new(alloc);
     for _ in 0..steps {
         if let Stepped::Sent(record) = machine.step() {
             records.push(record)?;
@@ -53,92 +61,91 @@ fn sent(rt: &HostRuntime, machine: &mut Machine, steps: u32) -> Result<Vec<Recor
     Ok(records)
 }
 
+fn has_ended(rt: &impl Abort, machine: &mut Machine, number: u32) {
+    assert!(rt; matches!(machine.step(), Stepped::Halted));
+    assert_eq!(rt; machine.number(), number);
+}
+
 #[test]
 fn retries_take_turns_on_the_lines(rt: HostRuntime) -> Result<(), Fail> {
-    let mut machine = controller(&rt, &LOOPS, Plan::make(rt.alloc()), Vec::new(rt.alloc())).expect(
-        &rt,
-        "the controller",
-    );
-    let records = sent(&rt, &mut machine, 47)?;
-    assert_eq!(rt; records.len(), 9);
-    let on_b = [false, true, false, false, true, false, false, true, false];
-    let mut stamp = 0;
-    for (record, on_b) in records.iter().zip(on_b.as_slice()) {
-        assert_eq!(rt; record.stamp, stamp);
-        assert_eq!(rt; record.block, if *on_b { 0x3200 } else { 0x1200 });
-        assert_eq!(rt; record.words.as_slice(), [0x4821, 0x0001].as_slice());
-        if stamp < 10_000 {
-            stamp += 560;
-        }
-    }
-    assert_eq!(rt; machine.step(), Stepped::Halted);
-    assert_eq!(rt; machine.number(), 9);
+    let alloc = rt.alloc();
+    let mut machine = controller(alloc, &LOOPS, Plan::make(alloc), Vec::new(alloc))?;
+    let records = sent(alloc, &mut machine, 47)?;
+    let words: &'static [u16] = &[0x4821, 0x0001];
+    let rows: [Row; 9] = [
+        (Some(0), Some((0x1200, 0)), words),
+        (Some(560), Some((0x3200, 0)), words),
+        (Some(1120), Some((0x1200, 0)), words),
+        (Some(1680), Some((0x1200, 0)), words),
+        (Some(2240), Some((0x3200, 0)), words),
+        (Some(2800), Some((0x1200, 0)), words),
+        (Some(3360), Some((0x1200, 0)), words),
+        (Some(3920), Some((0x3200, 0)), words),
+        (Some(4480), Some((0x1200, 0)), words),
+    ];
+    are_rows(&rt, records.as_slice(), rows.as_slice());
+    has_ended(&rt, &mut machine, 9);
     Ok(())
 }
 
 #[test]
 fn faults_of_the_first_message_alone(rt: HostRuntime) -> Result<(), Fail> {
-    let mut plan = Plan::make(rt.alloc());
+    let alloc = rt.alloc();
+    let mut plan = Plan::make(alloc);
     assert!(rt; plan.add(1, Fault::Drop { run: 0, index: 3 }).is_ok());
-    let mut machine = controller(&rt, &WRITTEN, plan, Vec::new(rt.alloc())).expect(
-        &rt,
-        "the controller",
-    );
-    let records = sent(&rt, &mut machine, 4)?;
-    let expected: [(u64, u16, u16, &[u16]); 3] = [
-        (0, 0x1220, 0x0000, &[0x2823, 0x0001, 0x0002]),
-        (760, 0x0000, 0x0050, &[0x2FE2, 0x2C00]),
-        (1240, 0x0000, 0x0050, &[0x2FE2, 0x2C00]),
+    let mut machine = controller(alloc, &WRITTEN, plan, Vec::new(alloc))?;
+    let records = sent(alloc, &mut machine, 4)?;
+    let rows: [Row; 3] = [
+        (Some(0), Some((0x1220, 0x0000)), &[0x2823, 0x0001, 0x0002]),
+        (Some(760), Some((0x0000, 0x0050)), &[0x2FE2, 0x2C00]),
+        (Some(1240), Some((0x0000, 0x0050)), &[0x2FE2, 0x2C00]),
     ];
-    assert_eq!(rt; records.len(), expected.len());
-    for (record, row) in records.iter().zip(expected.as_slice()) {
-        assert_eq!(rt; record.stamp, row.0);
-        assert_eq!(rt; record.block, row.1);
-        assert_eq!(rt; record.gaps, row.2);
-        assert_eq!(rt; record.words.as_slice(), row.3);
-    }
+    are_rows(&rt, records.as_slice(), rows.as_slice());
     assert_eq!(rt; machine.bus().clock(), 1240 + 460);
     Ok(())
 }
 
+// The last outcome: terminal 5 was busy, and answered.
+fn was_busy(rt: &impl Abort, machine: &Machine) {
+    match machine.last_outcome() {
+        None => assert!(rt; false),
+        Some(last) => {
+            assert_eq!(rt; last.bits, 0x0008);
+            assert!(rt; !last.failed && !last.silent);
+        }
+    }
+}
+
+// Its action comes before the first message, also in a copy that was made before.
 #[test]
 fn an_action_before_the_first_message(rt: HostRuntime) -> Result<(), Fail> {
-    let mut placed = Vec::new(rt.alloc());
+    let alloc = rt.alloc();
+    let mut placed = Vec::new(alloc);
     placed.push(Placed {
         number: 1,
         address: 5,
         action: Action::Busy(true),
     })?;
-    let mut machine = controller(&rt, &ASKED, Plan::make(rt.alloc()), placed).expect(
-        &rt,
-        "the controller",
-    );
+    let mut machine = controller(alloc, &ASKED, Plan::make(alloc), placed)?;
     assert_eq!(rt; machine.last_outcome(), None);
     let mut other = machine.copy()?;
-    let records = sent(&rt, &mut machine, 3)?;
-    let copied = sent(&rt, &mut other, 3)?;
-    let expected: [&[u16]; 2] = [&[0x2C41, 0x2808], &[0x2FF2, 0x2808, 0x2C41]];
-    assert_eq!(rt; records.len(), expected.len());
-    for (record, words) in records.iter().zip(expected.as_slice()) {
-        assert_eq!(rt; record.block, 0x0000);
-        assert_eq!(rt; record.gaps, 0x0050);
-        assert_eq!(rt; record.words.as_slice(), *words);
-    }
+    let rows: [Row; 2] = [
+        (None, Some((0x0000, 0x0050)), &[0x2C41, 0x2808]),
+        (None, Some((0x0000, 0x0050)), &[0x2FF2, 0x2808, 0x2C41]),
+    ];
+    let records = sent(alloc, &mut machine, 3)?;
+    are_rows(&rt, records.as_slice(), rows.as_slice());
+    let copied = sent(alloc, &mut other, 3)?;
     assert_eq!(rt; copied.as_slice(), records.as_slice());
-    let last = machine.last_outcome().expect(&rt, "an outcome");
-    assert_eq!(rt; last.bits, 0x0008);
-    assert!(rt; !last.failed && !last.silent);
+    was_busy(&rt, &machine);
     Ok(())
 }
 
 #[test]
 fn before_any_message_each_test_is_false(rt: HostRuntime) -> Result<(), Fail> {
-    let mut machine = controller(&rt, &CHOSEN, Plan::make(rt.alloc()), Vec::new(rt.alloc())).expect(
-        &rt,
-        "the controller",
-    );
-    assert_eq!(rt; sent(&rt, &mut machine, 6)?.len(), 0);
-    assert_eq!(rt; machine.step(), Stepped::Halted);
-    assert_eq!(rt; machine.number(), 0);
+    let alloc = rt.alloc();
+    let mut machine = controller(alloc, &CHOSEN, Plan::make(alloc), Vec::new(alloc))?;
+    assert_eq!(rt; sent(alloc, &mut machine, 6)?.len(), 0);
+    has_ended(&rt, &mut machine, 0);
     Ok(())
 }

@@ -1,12 +1,11 @@
 //! Jobs played to their end, record by record.
+use crate::records::{Row, are_rows};
+use bc_machine::{Machine, Stepped};
 use job_file::{Job, job_runs, read_job};
-use bc_machine::Stepped;
+use mil_monitor::Record;
 use std::alloc::Global;
 use std::process::Abort;
 use std::test::Fail;
-
-/// A record as it is expected: its stamp, block status and gap times, where they are told, and its words.
-type Expected = (Option<u64>, Option<(u16, u16)>, &'static [u16]);
 
 fn job_of(alloc: Global, text: &str) -> Result<Job, Fail> {
     match read_job(alloc, text.as_bytes()) {
@@ -15,29 +14,39 @@ fn job_of(alloc: Global, text: &str) -> Result<Job, Fail> {
     }
 }
 
-/// Plays a job under its own actions, and compares each record.
-fn plays(rt: &impl Abort, alloc: Global, text: &str, expected: &[Expected]) -> Result<(), Fail> {
-    let job = job_of(alloc, text)?;
-    let mut machine = job.machine(alloc, job.actions())?;
-    let mut seen = 0;
+/// What a machine sends until it halts.
+fn played(alloc: Global, machine: &mut Machine) -> Result<Vec<Record>, Fail> {
+    let mut records = Vec::new(alloc);
     for _ in 0..1_000u32 {
         match machine.step() {
             Stepped::Ran => {}
             Stepped::Halted => break,
-            Stepped::Sent(record) => {
-                assert!(rt; seen < expected.len());
-                let (stamp, fields, words) = expected[seen];
-                assert_eq!(rt; record.stamp, stamp.unwrap_or(record.stamp));
-                let (block, gaps) = fields.unwrap_or((record.block, record.gaps));
-                assert_eq!(rt; record.block, block);
-                assert_eq!(rt; record.gaps, gaps);
-                assert_eq!(rt; record.words.as_slice(), words);
-                seen += 1;
-            }
+            Stepped::Sent(record) => records.push(record)?,
         }
     }
-    assert_eq!(rt; seen, expected.len());
+    Ok(records)
+}
+
+/// Plays a job under its own actions, and compares each record.
+fn plays(rt: &impl Abort, alloc: Global, text: &str, expected: &[Row]) -> Result<(), Fail> {
+    let job = job_of(alloc, text)?;
+    let mut machine = job.machine(alloc, job.actions())?;
+    let records = played(alloc, &mut machine)?;
+    are_rows(rt, records.as_slice(), expected);
     Ok(())
+}
+
+fn acts_once(rt: &impl Abort, job: &Job) {
+    assert_eq!(rt; job.addresses(), [5u8, 30].as_slice());
+    assert_eq!(rt; job.actions().len(), 1);
+    assert_eq!(rt; job.actions()[0].number, 2);
+    assert_eq!(rt; job.actions()[0].address, 30);
+}
+
+fn has_one_fault(rt: &impl Abort, job: &Job) {
+    assert_eq!(rt; job.plan().faults(3).len(), 1);
+    assert_eq!(rt; job.plan().faults(1).len(), 0);
+    assert_eq!(rt; job.program().worst_messages(), 1);
 }
 
 #[test]
@@ -48,13 +57,8 @@ fn accessors_of_a_job(rt: HostRuntime) -> Result<(), Fail> {
     job_runs();
     assert_eq!(rt; job.channel(), 7);
     assert_eq!(rt; job.start(), 140_737_488_355_328);
-    assert_eq!(rt; job.addresses(), [5u8, 30].as_slice());
-    assert_eq!(rt; job.actions().len(), 1);
-    assert_eq!(rt; job.actions()[0].number, 2);
-    assert_eq!(rt; job.actions()[0].address, 30);
-    assert_eq!(rt; job.plan().faults(3).len(), 1);
-    assert_eq!(rt; job.plan().faults(1).len(), 0);
-    assert_eq!(rt; job.program().worst_messages(), 1);
+    acts_once(&rt, &job);
+    has_one_fault(&rt, &job);
     Ok(())
 }
 

@@ -15,6 +15,8 @@ mod jobs;
 #[cfg(test)]
 mod loading;
 #[cfg(test)]
+mod records;
+#[cfg(test)]
 mod text_faults;
 #[cfg(test)]
 mod text_printing;

@@ -1,6 +1,6 @@
 //! What frames print as.
-use frame_text::{parse, print};
 use bumpalo::Bump;
+use frame_text::{parse, print};
 use frame_tree::{Cond, Frame};
 use mil_status::StatusBits;
 use std::alloc::Global;
