@@ -13,7 +13,7 @@ use Rattle.bc_machine.specs.declared.Stepped.{Stepped}
 use Rattle.bc_machine.specs.declared.Stepped.TheVariants.{Ran, Sent, Halted}
 use Rattle.bc_machine.specs.Running.{MachineState, world_in, beginning, turn_of, moved_by, stepped, answered, clock_in}
 use Rattle.bc_machine.specs.UnderWay.{IsUnderWay, Tells}
-use Rattle.bc_machine.specs.Able.{IsAble}
+use Rattle.bc_machine.specs.MayStep.{IsAble}
 use Rattle.bc_machine.proofs.Runs.{run_more, before_end}
 use Rattle.bc_machine.proofs.Told.{told}
 

@@ -4,7 +4,7 @@ pub mod Rising
 pub mod Running
 pub mod UnderWay
 pub mod Moves
-pub mod Able
+pub mod MayStep
 pub mod Counters
-pub mod Begun
-pub mod Seeing
+pub mod StartingBus
+pub mod PlainMachine

@@ -1,6 +1,6 @@
 //! What proofs know of the bus that a controller began with; no byte of it is kept at run time.
 ghost use Rattle.std.specs.Prelude.{◌≡◌};
-ghost use Rattle.bc_machine.specs.Begun.{bus_in};
+ghost use Rattle.bc_machine.specs.StartingBus.{bus_in};
 
 use mil_bus::Bus;
 use std::marker::Model;
@@ -26,7 +26,7 @@ impl Model for Begun {
 
     ghost Value = { BusState × ℕ };
 
-    ghost use Rattle.bc_machine.specs.Begun.{bus_in};
+    ghost use Rattle.bc_machine.specs.StartingBus.{bus_in};
 
     ghost view = { λ b. bus_in b.link };
 

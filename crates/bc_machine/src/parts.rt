@@ -12,7 +12,7 @@ ghost use Rattle.bc_machine.specs.Running.{started, moved_by, stepped, answered,
 ghost use Rattle.bc_machine.specs.Outcomes.{test_of};
 ghost use Rattle.bc_machine.specs.Moves as moves;
 ghost use Rattle.bc_machine.specs.Moves.{line_of};
-ghost use Rattle.bc_machine.specs.Able.{IsAble};
+ghost use Rattle.bc_machine.specs.MayStep.{IsAble};
 
 use crate::begun::{Begun, begun_with, same};
 use crate::counters::Counters;
@@ -53,7 +53,7 @@ impl Model for Parts {
 
     ghost Value = { MachineState };
 
-    ghost use Rattle.bc_machine.specs.Seeing.{state_in};
+    ghost use Rattle.bc_machine.specs.PlainMachine.{state_in};
 
     ghost view = { state_in };
 }

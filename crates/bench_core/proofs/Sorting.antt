@@ -12,7 +12,7 @@ use Rattle.mil_bus.specs.Addresses.{is_fit}
 use Rattle.bc_machine.specs.declared.placed.Placed.{Placed}
 use Rattle.bc_machine.specs.Controller.{placed_at}
 use Rattle.bc_machine.proofs.Around.{stop}
-use Rattle.job_file.specs.Fits.{may_act}
+use Rattle.job_file.specs.JobRanges.{may_act}
 use Rattle.bench_report.specs.Reports.{IsPlace, NeverFalls}
 use Rattle.bench_core.specs.Placing.{placed_up_to, IsOrdered}
 use Rattle.bench_core.proofs.Ordered.{AreUpTo, AreFrom, from_least, up_to_same, up_to_itself, at_up_to}

@@ -1,7 +1,7 @@
 //! Frames as text, one a line.
 
 ghost use Rattle.std.specs.Prelude.{◌≡◌, ◌+◌, ◌++◌, OnOk, string_bytes, codes};
-ghost use Rattle.frame_tree.specs.Tree.{test_of, tree_of};
+ghost use Rattle.frame_tree.specs.Tree.{test_of, tree_of, retry, gap};
 ghost use Rattle.frame_text.specs.PrintedConditions.{condition_text};
 ghost use Rattle.frame_text.specs.PrintedMessages.{send_text};
 ghost use Rattle.frame_text.specs.Printing as texts;
@@ -47,6 +47,31 @@ fn put_send_line(out: &mut String, line: Line, message: &Message) -> Result<(), 
 {
     put_send(out, line, message)?;
     out.push_str("\n")
+}
+
+// A message that is sent again, on its line.
+#[tactic(auto, unfolding(crate::specs::Printing::lines))]
+fn put_retry(
+    out: &mut String,
+    count: u8,
+    line: Line,
+    message: &Message,
+    depth: usize,
+) -> Result<(), AllocError>
+    ensures { OnOk result (string_bytes out.new ≡ string_bytes out.old ++ texts.lines depth (retry count line message.now)) }
+{
+    put_indent(out, depth)?;
+    write!(out, "retry {count} ")?;
+    put_send_line(out, line, message)
+}
+
+// A gap, on its line.
+#[tactic(auto, unfolding(crate::specs::Printing::lines))]
+fn put_gap(out: &mut String, ticks: u16, depth: usize) -> Result<(), AllocError>
+    ensures { OnOk result (string_bytes out.new ≡ string_bytes out.old ++ texts.lines depth (gap ticks)) }
+{
+    put_indent(out, depth)?;
+    write!(out, "gap {ticks}\n")
 }
 
 // What stands in front of the first block of an if.
@@ -97,15 +122,8 @@ pub fn put_lines<A: Allocator + Clone>(
             count,
             line,
             message,
-        } => {
-            put_indent(out, depth)?;
-            write!(out, "retry {count} ")?;
-            put_send_line(out, *line, message)
-        }
-        Frame::Gap(ticks) => {
-            put_indent(out, depth)?;
-            write!(out, "gap {ticks}\n")
-        }
+        } => put_retry(out, *count, *line, message, depth),
+        Frame::Gap(ticks) => put_gap(out, *ticks, depth),
         Frame::Repeat { count, body } => {
             put_indent(out, depth)?;
             write!(out, "repeat {count} ")?;

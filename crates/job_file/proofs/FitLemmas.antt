@@ -14,8 +14,8 @@ use Rattle.mil_bus.specs.Addresses.{is_fit}
 use Rattle.bc_machine.specs.declared.placed.Placed.{Placed}
 use Rattle.job_file.specs.Lines.{Said, blank, script, channel, start, terminal, action, fault}
 use Rattle.job_file.specs.Entries.{IsInRange}
-use Rattle.job_file.specs.Heads.{Head, has, placing, may_stand, is_none_yet}
-use Rattle.job_file.specs.Fits.{may_act, IsFit}
+use Rattle.job_file.specs.HeadLines.{Head, has, placing, may_stand, is_none_yet}
+use Rattle.job_file.specs.JobRanges.{may_act, IsFit}
 use Rattle.job_file.specs.Drafts.{with_line}
 
 and_left : (a b : Bool) → (a && b) ≡ true → a ≡ true

@@ -9,11 +9,11 @@ use Rattle.mil_host.specs.Words.{Text}
 use Rattle.mil_host.specs.Reading.{in_words}
 use Rattle.job_file.specs.Options.{◌>>=◌}
 use Rattle.job_file.specs.Lines.{Said, blank, script, channel, start, terminal, action, fault, said, said_in}
-use Rattle.job_file.specs.Heads.{Head, head_of, placed_of, placing, may_stand, are_lawful}
+use Rattle.job_file.specs.HeadLines.{Head, head_of, placed_of, placing, may_stand, are_lawful}
 use Rattle.job_file.specs.Drafts.{with_line}
 use Rattle.job_file.specs.Spelled.{ChannelJob, is_line_end, lines_of, text_of, is_script, with_line_above, parted, all_said, lawful, job_of, spelled}
 use Rattle.job_file.specs.Errors.{IsOfLine}
-use Rattle.job_file.specs.Fits.{IsFit}
+use Rattle.job_file.specs.JobRanges.{IsFit}
 use Rattle.job_file.specs.Reading.{stands, TakesLine, IsRefusal, AreInRange}
 use Rattle.job_file.specs.declared.drafts.Taken.{Taken}
 use Rattle.job_file.specs.declared.drafts.Taken.TheVariants as taken

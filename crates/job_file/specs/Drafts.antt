@@ -3,7 +3,7 @@ use Rattle.std.specs.Prelude.{◌≡◌, true, false, [], ◌∷◌, ◌++◌, R
 use Rattle.std.specs.Option.{option_to_list}
 use Rattle.mil_host.specs.Reading.{in_words}
 use Rattle.job_file.specs.Lines.{Said, blank, script, channel, start, terminal, action, fault}
-use Rattle.job_file.specs.Heads.{Head, placing, may_stand}
+use Rattle.job_file.specs.HeadLines.{Head, placing, may_stand}
 use Rattle.job_file.specs.declared.drafts.Draft.{Draft}
 use Rattle.job_file.specs.declared.error.Refusal.{Refusal}
 use Rattle.job_file.specs.declared.error.Refusal.TheVariants as refusal

@@ -8,7 +8,7 @@ use Rattle.frame_tree.specs.Bounds.{IsSound}
 use Rattle.frame_code.specs.Table.{Code}
 use Rattle.frame_asm.specs.Shapes.{code_of}
 use Rattle.bc_machine.specs.declared.placed.Placed.{Placed}
-use Rattle.job_file.specs.Fits.{may_act}
+use Rattle.job_file.specs.JobRanges.{may_act}
 use Rattle.job_file.specs.Spelled.{ChannelJob}
 use Rattle.job_file.specs.declared.scripts.Script.{Script}
 

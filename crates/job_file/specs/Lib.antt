@@ -2,14 +2,14 @@ pub mod Options
 pub mod Numbers
 pub mod Lines
 pub mod Entries
-pub mod Heads
-pub mod Fits
+pub mod HeadLines
+pub mod JobRanges
 pub mod Errors
 pub mod Drafts
 pub mod Spelled
 pub mod Reading
 pub mod Jobs
-pub mod Kept
+pub mod PlainJob
 pub mod Meaning
 pub mod Machines
 pub mod Texts

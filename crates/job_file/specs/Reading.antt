@@ -11,7 +11,7 @@ use Rattle.frame_load.specs.declared.LoadError.{LoadError}
 use Rattle.frame_load.specs.declared.LoadError.TheVariants as loader
 use Rattle.job_file.specs.Lines.{Said}
 use Rattle.job_file.specs.Entries.{IsInRange}
-use Rattle.job_file.specs.Heads.{Head, may_stand}
+use Rattle.job_file.specs.HeadLines.{Head, may_stand}
 use Rattle.job_file.specs.Drafts.{with_line}
 use Rattle.job_file.specs.Spelled.{ChannelJob, is_script}
 use Rattle.job_file.specs.declared.error.Refusal.{Refusal}

@@ -8,7 +8,7 @@ use Rattle.frame_tree.specs.Tree.{Tree}
 use Rattle.frame_text.specs.Frames.{tree_of_text}
 use Rattle.job_file.specs.Options.{◌>>=◌}
 use Rattle.job_file.specs.Lines.{Said, script, said}
-use Rattle.job_file.specs.Heads.{Head, head_of, are_lawful}
+use Rattle.job_file.specs.HeadLines.{Head, head_of, are_lawful}
 use Rattle.bc_machine.specs.declared.placed.Placed.{Placed}
 
 -- all that is to be known of a channel's bus

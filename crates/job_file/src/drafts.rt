@@ -1,7 +1,7 @@
 //! A job as far as its lines were read.
 ghost use Rattle.std.specs.Prelude.{◌≡◌, [], Some, OnOk};
 ghost use Rattle.mil_host.specs.Words.{words};
-ghost use Rattle.job_file.specs.Heads.{has};
+ghost use Rattle.job_file.specs.HeadLines.{has};
 ghost use Rattle.job_file.specs.Lines.{channel, start, terminal, action, said};
 ghost use Rattle.job_file.specs.Lines as says;
 ghost use Rattle.job_file.specs.Entries.{said_by};

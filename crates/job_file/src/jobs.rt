@@ -6,7 +6,7 @@ ghost use Rattle.frame_tree.specs.Tree.{tree_of};
 ghost use Rattle.frame_tree.specs.Bounds.{IsSound};
 ghost use Rattle.frame_asm.specs.Shapes.{code_of};
 ghost use Rattle.bc_machine.specs.Running.{started};
-ghost use Rattle.job_file.specs.Fits.{may_act, IsFit};
+ghost use Rattle.job_file.specs.JobRanges.{may_act, IsFit};
 ghost use Rattle.job_file.specs.Drafts.{shown};
 ghost use Rattle.job_file.specs.Spelled.{first_or};
 ghost use Rattle.job_file.specs.Jobs.{tree_in, job_in};
@@ -45,7 +45,7 @@ impl Model for Job {
 
     ghost coded = { Prim.hlevel (codes, scripts.the_row.coded) };
 
-    ghost use Rattle.job_file.specs.Kept.{state_in, IsKept};
+    ghost use Rattle.job_file.specs.PlainJob.{state_in, IsKept};
 
     ghost view = { state_in };
 

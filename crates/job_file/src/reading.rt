@@ -5,7 +5,7 @@ ghost use Rattle.frame_tree.specs.Bounds.{IsSound};
 ghost use Rattle.frame_text.specs.Frames.{tree_of_text};
 ghost use Rattle.frame_asm.specs.Shapes.{code_of};
 ghost use Rattle.job_file.specs.Drafts.{shown};
-ghost use Rattle.job_file.specs.Fits.{IsFit};
+ghost use Rattle.job_file.specs.JobRanges.{IsFit};
 ghost use Rattle.job_file.specs.Spelled.{spelled, job_of};
 ghost use Rattle.job_file.specs.Reading.{IsRefusal, IsScriptRefusal, IsCodeRefusal};
 ghost use Rattle.job_file.specs.Jobs.{job_in};

@@ -1,8 +1,8 @@
 use Rattle.std.proofs.Common.{◌≡◌, List, length}
 use Rattle.job_file.specs.Lines.{Said}
-use Rattle.job_file.specs.Heads.{head_of}
+use Rattle.job_file.specs.HeadLines.{head_of}
 use Rattle.job_file.specs.Drafts.{shown}
-use Rattle.job_file.specs.Fits.{IsFit}
+use Rattle.job_file.specs.JobRanges.{IsFit}
 use Rattle.job_file.specs.Spelled.{spelled}
 use Rattle.job_file.proofs.HeadLemmas.{job_left}
 use Rattle.job_file.proofs.reading.read_head.Given as goal

@@ -2,7 +2,7 @@
 use Rattle.std.specs.Prelude.{◌≡◌, ℕ, ◌≤◌, nat_le, Bool, true, ◌&&◌, List}
 use Rattle.std.specs.List.{list_all, AllByRecursion}
 use Rattle.mil_bus.specs.Addresses.{is_fit}
-use Rattle.job_file.specs.Heads.{Head, has}
+use Rattle.job_file.specs.HeadLines.{Head, has}
 use Rattle.bc_machine.specs.declared.placed.Placed.{Placed}
 
 -- an action of one of these terminals, at a message that a channel may have
