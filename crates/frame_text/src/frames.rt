@@ -17,7 +17,6 @@ use frame_tree::Frame;
 use std::alloc::Allocator;
 
 /// Frames one after the other.
-#[tactic(auto, using(frame_tree::proofs::Trees::tree_seq))]
 pub fn seq<A: Allocator + Clone>(frames: Vec<Frame<A>, A>) -> Frame<A>
     ensures { tree_of result ≡ chain (map tree_of frames.items) }
 {

@@ -151,8 +151,7 @@ fn boxed<A: Allocator + Clone>(alloc: &A, frame: Frame<A>) -> Result<Box<Frame<A
 
 // A product, 1,000,001 where it is more than that.
 fn times_capped(count: u16, messages: u32) -> u32
-    requires { messages ≤ 1000001 }
     ensures { result ≡ min 1000001 (count * messages) }
 {
-    (u64::from(count) * u64::from(messages)).min(1_000_001) as u32
+    u32::from(count).saturating_mul(messages).min(1_000_001)
 }
