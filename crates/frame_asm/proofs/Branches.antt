@@ -1,5 +1,5 @@
 -- The operations of a condition in two parts.
-use Rattle.std.proofs.Common.{◌≡◌, ℕ, ◌+◌, ◌≤◌, List, [], ◌∷◌, ◌++◌, length, refl, sym, ap, ap₂, ◌∙◌, arith, append_assoc, length-append}
+use Rattle.std.proofs.Common.{◌≡◌, ℕ, ◌+◌, List, ◌++◌, length, sym, ap, ap₂, ◌∙◌, append_assoc, length-append}
 use Rattle.frame_tree.specs.Tree.{Test, both, either}
 use Rattle.frame_code.specs.declared.Op.{Op}
 use Rattle.frame_asm.specs.Shapes.{branch_size, branch}

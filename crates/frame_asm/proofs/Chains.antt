@@ -1,10 +1,10 @@
 -- A chain that grows at its end.
-use Rattle.std.proofs.Common.{◌≡◌, ℕ, ◌+◌, ◌<◌, ◌≤◌, List, [], ◌∷◌, ◌++◌, length, get_or, map, take, min, refl, sym, ap, ap₂, ◌∙◌, arith, rules, Vec, append_assoc}
+use Rattle.std.proofs.Common.{◌≡◌, ℕ, ◌+◌, ◌<◌, ◌≤◌, List, [], ◌∷◌, ◌++◌, length, get_or, map, take, sym, ap, ◌∙◌, arith, Vec}
 use Rattle.std.proofs.lemmas.List.{take_more, take_all, map-append}
 use Rattle.frame_tree.specs.Tree.{Tree, chain, tree_of}
 use Rattle.frame_tree.specs.declared.Frame.{Frame, Seq}
 use Rattle.frame_tree.proofs.Trees.{tree_seq}
-use Rattle.frame_asm.specs.Shapes.{size, entries, shape, messages_of}
+use Rattle.frame_asm.specs.Shapes.{size, entries}
 
 pub size_more : (ts : List Tree) (t : Tree) → size (chain (ts ++ t ∷ [])) ≡ size (chain ts) + size t
 size_more [] t = omega arith

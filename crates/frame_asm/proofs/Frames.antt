@@ -1,9 +1,9 @@
 -- The operations of a frame in parts.
-use Rattle.std.proofs.Common.{◌≡◌, ℕ, ◌+◌, ◌<◌, ◌≤◌, List, [], ◌∷◌, ◌++◌, length, get_or, map, take, refl, sym, ap, ap₂, ◌∙◌, arith, rules, append_assoc, length-append, Vec, Box, zero, suc, subst}
+use Rattle.std.proofs.Common.{◌≡◌, ℕ, ◌+◌, ◌<◌, ◌≤◌, List, [], ◌∷◌, ◌++◌, length, get_or, map, take, sym, ap, ap₂, ◌∙◌, arith, append_assoc, length-append, zero, suc}
 use Rattle.std.proofs.lemmas.List.{append-nil}
 use Rattle.mil_word.specs.declared.Line.{Line}
 use Rattle.mil_message.specs.declared.messages.Message.{Message}
-use Rattle.frame_tree.specs.Tree.{Test, Tree, repeat, choose, nothing, chained, chain, test_of, tree_of}
+use Rattle.frame_tree.specs.Tree.{Test, Tree, repeat, choose, chain, tree_of}
 use Rattle.frame_tree.specs.declared.Frame.{Frame}
 use Rattle.frame_code.specs.declared.Op.{Op}
 use Rattle.frame_code.specs.declared.Op.TheVariants as op

@@ -1,8 +1,8 @@
 -- How many operations and messages a frame has.
-use Rattle.std.proofs.Common.{◌≡◌, ℕ, ◌+◌, ◌<◌, ◌≤◌, List, [], ◌∷◌, ◌++◌, length, refl, ap, ap₂, ◌∙◌, arith, length-append}
+use Rattle.std.proofs.Common.{◌≡◌, ℕ, ◌+◌, [], ◌∷◌, ◌++◌, length, refl, ap₂, ◌∙◌, arith, length-append}
 use Rattle.frame_tree.specs.Tree.{Test, failed, silent, bit, negated, both, either, Tree, send, retry, gap, repeat, choose, nothing, chained}
 use Rattle.frame_code.specs.declared.Op.TheVariants as op
-use Rattle.frame_asm.specs.Shapes.{branch_size, probe, branch, size, messages_of, entries, retry_shape, shape}
+use Rattle.frame_asm.specs.Shapes.{branch_size, branch, size, messages_of, entries, shape}
 
 pub length_branch : (c : Test) (p t f : ℕ) → length (branch p c t f) ≡ branch_size c
 length_branch failed p t f = refl

@@ -1,5 +1,5 @@
 -- The loops that are open behind a frame's operations are those that were open before.
-use Rattle.std.proofs.Common.{◌≡◌, ℕ, zero, suc, ◌+◌, ◌<◌, ◌≤◌, List, [], ◌∷◌, ◌++◌, length, Some, refl, sym, ap, ◌∙◌, subst, arith, length-append}
+use Rattle.std.proofs.Common.{◌≡◌, ℕ, suc, ◌+◌, List, [], ◌∷◌, ◌++◌, length, Some, refl, ap, ◌∙◌, arith}
 use Rattle.std.specs.Prelude.{slice_get}
 use Rattle.frame_tree.specs.Tree.{Test, failed, silent, bit, negated, both, either, Tree, send, retry, gap, repeat, choose, nothing, chained, bit_number}
 use Rattle.frame_code.specs.declared.Op.{Op}
@@ -7,7 +7,7 @@ use Rattle.frame_code.specs.declared.Op.TheVariants as op
 use Rattle.frame_code.specs.Loadable.{tail, after, open_at}
 use Rattle.frame_asm.proofs.Runs.{HasAt, has_front, has_back}
 use Rattle.frame_asm.proofs.Lengths.{length_branch, length_shape}
-use Rattle.frame_asm.specs.Shapes.{branch_size, probe, branch, size, entries, retry_shape, shape}
+use Rattle.frame_asm.specs.Shapes.{branch_size, probe, branch, size, entries, shape}
 
 abbrev pub AllFlat : List Op → Type 0
 AllFlat [] = Unit {0}

@@ -5,7 +5,7 @@ use Rattle.frame_tree.specs.Tree.{Test, failed, silent, bit, negated, both, eith
 use Rattle.frame_tree.specs.Bounds.{depth, IsSound}
 use Rattle.frame_code.specs.declared.Op.{Op}
 use Rattle.frame_code.specs.declared.Op.TheVariants as op
-use Rattle.frame_code.specs.Loadable.{tail, after, open_at, IsPaired, GoesWell, HasMessage, Each, IsLoadable}
+use Rattle.frame_code.specs.Loadable.{open_at, IsPaired, GoesWell, HasMessage, IsLoadable}
 use Rattle.frame_asm.proofs.Runs.{HasAt, has_front, has_back, has_all}
 use Rattle.frame_asm.proofs.Lengths.{length_branch, length_shape, length_messages_of}
 use Rattle.frame_asm.proofs.Levels.{next, branch_level, level}

@@ -1,11 +1,11 @@
 -- The code of a sound tree is an image.
-use Rattle.std.proofs.Common.{◌≡◌, ℕ, ◌+◌, ◌<◌, ◌≤◌, List, [], ◌∷◌, ◌++◌, length, ap, ap₂, ◌∙◌, subst, sym, ◌⊎◌, inl, inr, arith, rules, tests, length-append}
+use Rattle.std.proofs.Common.{◌≡◌, ℕ, ◌+◌, ◌<◌, ◌≤◌, List, [], ◌∷◌, ◌++◌, length, ap, ap₂, ◌∙◌, inl, inr, arith, rules, tests, length-append}
 use Rattle.std.specs.Prelude.{IsTrue}
 use Rattle.std.proofs.lemmas.Bool.Decides.{nat_tests}
 use Rattle.mil_word.specs.declared.Line.{Line}
 use Rattle.mil_message.specs.declared.messages.Message.{Message}
 use Rattle.frame_tree.specs.Tree.{Test, failed, silent, bit, negated, both, either, Tree, send, retry, gap, repeat, choose, nothing, chained, bit_number}
-use Rattle.frame_tree.specs.Bounds.{IsNamedBit, HasNamedBits, IsCondition, IsInRange, IsSound}
+use Rattle.frame_tree.specs.Bounds.{IsNamedBit, HasNamedBits, IsInRange}
 use Rattle.frame_code.specs.declared.Op.{Op}
 use Rattle.frame_code.specs.declared.Op.TheVariants as op
 use Rattle.frame_code.specs.Table.{Code}

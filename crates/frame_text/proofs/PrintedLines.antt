@@ -1,8 +1,8 @@
 -- Printed frames one by one.
-use Rattle.std.proofs.Common.{rules, Box, ◌≡◌, ℕ, zero, suc, ◌+◌, List, ◌++◌, Bool, true, false, refl, sym, ap, ◌∙◌, append_assoc, add-one}
+use Rattle.std.proofs.Common.{◌≡◌, ℕ, zero, suc, ◌+◌, List, ◌++◌, Bool, true, false, refl, sym, ap, ◌∙◌, append_assoc, add-one}
 use Rattle.std.specs.Prelude.{codes, ◌&&◌}
 use Rattle.std.proofs.lemmas.List.{append-nil}
-use Rattle.frame_tree.specs.Tree.{Test, Tree, nothing, chained, choose, test_of, tree_of}
+use Rattle.frame_tree.specs.Tree.{Test, Tree, nothing, chained, choose}
 use Rattle.frame_text.specs.PrintedConditions.{condition_text}
 use Rattle.frame_text.specs.Printing.{indent, is_empty, block_text, else_text, lines}
 

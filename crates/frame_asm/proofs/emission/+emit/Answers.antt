@@ -1,11 +1,11 @@
-use Rattle.std.proofs.Common.{◌≡◌, ◌+◌, ◌≤◌, ◌<◌, ◌++◌, length, map, sym, ap, ◌∙◌, subst, arith, rules}
+use Rattle.std.proofs.Common.{◌≡◌, ◌+◌, ◌<◌, ◌++◌, length, map, sym, ap, ◌∙◌, arith, rules}
 use Rattle.std.proofs.lemmas.List.{get_or_read}
 use Rattle.std.proofs.lemmas.Grind.{common_steps}
 use Rattle.std.proofs.lemmas.Result.{on_ok_weaker}
-use Rattle.frame_tree.specs.Tree.{Tree, repeat, choose, chain, test_of, tree_of}
+use Rattle.frame_tree.specs.Tree.{repeat, choose, chain, test_of, tree_of}
 use Rattle.frame_tree.specs.declared.Frame.{the_lemmas}
 use Rattle.frame_tree.proofs.Trees.{tree_seq, tree_repeat, tree_if}
-use Rattle.frame_asm.specs.Shapes.{branch_size, branch, size, entries, shape, messages_of}
+use Rattle.frame_asm.specs.Shapes.{branch_size, size, entries, shape, messages_of}
 use Rattle.frame_asm.proofs.Chains.{front, front_all}
 use Rattle.frame_asm.proofs.Frames.{length_put, length_branched, length_grown, length_entered, repeat_done, choose_done, messages_done, room_at, table_at, front_done, front_entered}
 use Rattle.frame_asm.proofs.emission.+emit.Goals as goal

@@ -1,7 +1,7 @@
-use Rattle.std.proofs.Common.{◌≡◌, ◌+◌, ◌≤◌, ◌++◌, length, min, sym, ap, ◌∙◌, subst, arith, rules}
-use Rattle.frame_tree.specs.Tree.{Test, both, either, test_of}
+use Rattle.std.proofs.Common.{◌≡◌, ◌+◌, ◌≤◌, length, ap, arith, rules}
+use Rattle.frame_tree.specs.Tree.{both, either, test_of}
 use Rattle.frame_tree.specs.declared.Cond.{the_lemmas}
-use Rattle.frame_asm.specs.Shapes.{branch_size, branch}
+use Rattle.frame_asm.specs.Shapes.{branch_size}
 use Rattle.frame_asm.proofs.Branches.{length_after, and_done, or_done}
 use Rattle.std.proofs.lemmas.Result.{on_ok_weaker}
 use Rattle.frame_asm.proofs.emission.+emit_branch.Goals as goal
