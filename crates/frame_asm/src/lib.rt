@@ -1,4 +1,5 @@
-//! The assembler (own choice): the image of a frame, whose code does in any world what the frame means. Its tests are in `frame_tests`.
+//! The assembler (own choice): the image of a frame, whose code does in any world what the frame means. Its tests
+//! are in `frame_tests`.
 #![tactic(auto)]
 
 ghost use Rattle.std.specs.Prelude.{◌≡◌, ◌<◌, ◌≤◌, ◌↔◌, length, IfOk, Err};

@@ -1,4 +1,5 @@
-//! The code of the bus controller (own choice): ten operations, images of them, and the bytes of an image. Its tests are in `frame_tests`.
+//! The code of the bus controller (own choice): ten operations, images of them, and the bytes of an image. Its tests
+//! are in `frame_tests`.
 #![tactic(auto)]
 
 ghost use Rattle.std.specs.Prelude.{◌≡◌, IfOk};
