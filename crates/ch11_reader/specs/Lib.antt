@@ -3,6 +3,5 @@ pub mod Contents
 pub mod Listing
 pub mod Indexed
 pub mod Examples
-pub mod Written
 pub mod Joined
 pub mod Codes

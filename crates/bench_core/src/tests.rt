@@ -1,3 +1,0 @@
-//! What the bench answers, by worked values.
-mod placing;
-mod world;

@@ -1,0 +1,23 @@
+//! Recordings with no MIL-STD-1553 messages.
+ghost use Rattle.std.specs.Prelude.{◌↔◌, IsTrue};
+ghost use Rattle.ch11_reader.specs.Recording.{HoldsNoMessages};
+
+use crate::packet::{MESSAGES_KIND, check_packet};
+
+/// Whether a recording can be read and none of its packets is of MIL-STD-1553 messages. It takes no memory.
+pub fn holds_no_messages(file: &[u8]) -> bool
+    ensures { IsTrue result ↔ HoldsNoMessages file.now }
+{
+    let mut rest = file;
+    while !rest.is_empty() {
+        let Ok(checked) = check_packet(rest) else {
+            return false;
+        };
+        if checked.header.kind == MESSAGES_KIND {
+            return false;
+        }
+        let (_, after) = rest.split_at(checked.header.packet_length as usize);
+        rest = after;
+    }
+    true
+}
