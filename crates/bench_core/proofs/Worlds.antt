@@ -5,7 +5,7 @@ use Rattle.ch11_builder.specs.Held.{Held}
 use Rattle.bench_core.specs.declared.step.Step.{Step}
 use Rattle.bench_core.specs.Bench.{Lane, Bench, begun, stepped, after_steps}
 use Rattle.bench_core.specs.Settled.{IsSettled, HasRecorded, ReadsBack, SettledAfterEachStep, ReadsBackAfterEachStep}
-use Rattle.bench_core.specs.Channels.{Bus, part_of, IsMade}
+use Rattle.bench_core.specs.Channels.{Bus, report_part, IsMade}
 use Rattle.bench_core.specs.World.{WorldState, with_bench, IsReached, IsKept, IsWhole, parts_of, lanes_in}
 use Rattle.bench_core.proofs.Steps.{IsBench, at_first, after_all}
 use Rattle.bench_core.proofs.Tidy.{IsTidy, tidy_first, tidy_all}
@@ -56,9 +56,9 @@ module _ {X : Type 0} where
 
 -- ---- reports
 
-pub parts_are : (buses : List Bus) → map part_of buses ≡ parts_of (lanes_in buses) (map (λ (b : Bus). b.actions) buses)
+pub parts_are : (buses : List Bus) → map report_part buses ≡ parts_of (lanes_in buses) (map (λ (b : Bus). b.actions) buses)
 parts_are [] = refl
-parts_are (b ∷ buses) = ap (λ ps. part_of b ∷ ps) (parts_are buses)
+parts_are (b ∷ buses) = ap (λ ps. report_part b ∷ ps) (parts_are buses)
 
 -- ---- one step more of a list
 

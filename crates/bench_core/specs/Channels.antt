@@ -42,8 +42,8 @@ pub record IsMade (l : Lane) : Type 0 where
   pub few : l.made ≤ 1000000
 
 -- what a report says of it
-abbrev pub part_of : Bus → ChannelPart
-part_of b = record { channel = b.lane.channel; made = b.lane.made; refused = b.lane.refused; placed = placed_up_to b.lane.made b.actions }
+abbrev pub report_part : Bus → ChannelPart
+report_part b = record { channel = b.lane.channel; made = b.lane.made; refused = b.lane.refused; placed = placed_up_to b.lane.made b.actions }
 
 -- ---- what its fields keep
 

@@ -30,12 +30,12 @@ pub record AreLawful (jobs : List JobState) (s : Settings) : Type 0 where
   pub distinct : AreDistinct (channels_of jobs)
   pub prologue : IsPrologue s.prologue.items
 
--- the fault is the first of theirs
+-- the fault is the first of theirs; memory is refused only to what may be run
 abbrev pub Refuses : List JobState → Settings → WorldError → Type 0
 Refuses jobs s fault.Settings = ¬ AreInRange jobs s
 Refuses jobs s fault.ChannelTwice = AreInRange jobs s × ¬ AreDistinct (channels_of jobs)
 Refuses jobs s fault.Prologue = AreInRange jobs s × AreDistinct (channels_of jobs) × ¬ IsPrologue s.prologue.items
-Refuses jobs s fault.Memory = AreInRange jobs s × AreDistinct (channels_of jobs)
+Refuses jobs s fault.Memory = AreLawful jobs s
 
 abbrev pub code_of : WorldError → List ℕ
 code_of fault.Settings = codes "U2"

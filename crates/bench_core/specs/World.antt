@@ -17,7 +17,7 @@ use Rattle.bench_core.specs.declared.fault.PlayError.TheVariants as fault
 use Rattle.bench_core.specs.Lawful.{format_of}
 use Rattle.bench_core.specs.Bench.{Lane, Bench, begun, after_steps}
 use Rattle.bench_core.specs.Settled.{IsSettled, IsFresh, ReadsBack}
-use Rattle.bench_core.specs.Channels.{Bus, lane_of, part_of, IsMade}
+use Rattle.bench_core.specs.Channels.{Bus, lane_of, report_part, IsMade}
 use Rattle.bench_core.specs.declared.world.World.TheInside.{Inside}
 
 -- the format and the prologue of its file, the actions of each channel's job, and the bench
@@ -47,15 +47,15 @@ IsStep channels Take = Unit {0}
 abbrev pub AreSteps : ℕ → List Step → Type 0
 AreSteps channels steps = AllByRecursion (IsStep channels) steps
 
-abbrev pub channels_of : WorldState → ℕ
-channels_of w = length w.bench.lanes
+abbrev pub channel_count : WorldState → ℕ
+channel_count w = length w.bench.lanes
 
 -- what steps leave: O1 nothing done, O2 the bench after the steps before the refused one
 abbrev pub Plays : List Step → WorldState → {U : Type 0} → Result U PlayError → WorldState → Type 0
-Plays steps old (Ok u) new = AreSteps (channels_of old) steps × (new ≡ with_bench old (after_steps steps old.bench))
-Plays steps old (Err fault.Index) new = (AreSteps (channels_of old) steps → ⊥) × (new ≡ old)
+Plays steps old (Ok u) new = AreSteps (channel_count old) steps × (new ≡ with_bench old (after_steps steps old.bench))
+Plays steps old (Err fault.Index) new = (AreSteps (channel_count old) steps → ⊥) × (new ≡ old)
 Plays steps old (Err (fault.Memory done)) new =
-    AreSteps (channels_of old) steps × (done < length steps) × (new ≡ with_bench old (after_steps (take done steps) old.bench))
+    AreSteps (channel_count old) steps × (done < length steps) × (new ≡ with_bench old (after_steps (take done steps) old.bench))
 
 -- nothing is lost, doubled or out of order, in what was taken and queued and in the file read back
 pub record IsWhole (w : WorldState) : Type 0 where
@@ -71,7 +71,7 @@ packets_of w = closed_packets w.format w.bench.taken
 
 -- what a report says of channels, each with the actions of its job
 abbrev pub parts_of : List Lane → List (List Placed) → List ChannelPart
-parts_of (lane ∷ lanes) (actions ∷ others) = part_of (record { lane = lane; actions = actions }) ∷ parts_of lanes others
+parts_of (lane ∷ lanes) (actions ∷ others) = report_part (record { lane = lane; actions = actions }) ∷ parts_of lanes others
 parts_of lanes others = []
 
 abbrev pub report_of : WorldState → RunReport

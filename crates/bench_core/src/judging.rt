@@ -1,19 +1,18 @@
 //! Which jobs may be run, and with which settings.
-ghost use Rattle.std.specs.Prelude.{◌≡◌, ◌↔◌, ◌==◌, false, IsTrue, OnOk, IfErr};
-ghost use Rattle.std.specs.List.{AllByRecursion, list_any};
-ghost use Rattle.ch11_reader.specs.Recording.{holds_messages};
+ghost use Rattle.std.specs.Prelude.{◌≡◌, ◌↔◌, ◌==◌, IsTrue, IsOk, OnOk, IfErr};
+ghost use Rattle.std.specs.List.{list_any};
 ghost use Rattle.ch11_recording.specs.Recording.{AreDistinct};
 ghost use Rattle.job_file.specs.Jobs.{JobState};
 ghost use Rattle.bench_core.specs.Lawful.{AreInRange, AreLawful, Refuses, channels_of};
 
 use crate::settings::{Settings, WorldError};
-use ch11_reader::{Index, MESSAGES_KIND, ReadError};
+use ch11_reader::holds_no_messages;
 use job_file::Job;
-use std::alloc::Global;
 
-/// Whether these jobs may be run with these settings: U2, then U1, then U5, then U3 where memory is refused.
-pub fn judge(alloc: Global, jobs: &[Job], settings: &Settings) -> Result<(), WorldError>
+/// Whether these jobs may be run with these settings: U2, then U1, then U5. It takes no memory.
+pub fn judge(jobs: &[Job], settings: &Settings) -> Result<(), WorldError>
     ensures lawful { OnOk result (AreLawful jobs.now settings.now) }
+    ensures accepted { AreLawful jobs.now settings.now → IsOk result }
     ensures refused { IfErr result (Refuses jobs.now settings.now) }
 {
     if !in_range(jobs, settings) {
@@ -22,11 +21,10 @@ pub fn judge(alloc: Global, jobs: &[Job], settings: &Settings) -> Result<(), Wor
     if !all_differ(jobs) {
         return Err(WorldError::ChannelTwice);
     }
-    match Index::build(alloc, &settings.prologue) {
-        Ok(index) if has_no_messages(&index) => Ok(()),
-        Err(ReadError::Memory) => Err(WorldError::Memory),
-        Ok(_) | Err(ReadError::Refused(_)) => Err(WorldError::Prologue),
+    if !holds_no_messages(&settings.prologue) {
+        return Err(WorldError::Prologue);
     }
+    Ok(())
 }
 
 /// Whether there are one to eight jobs, and each setting is in its range.
@@ -58,14 +56,4 @@ fn has(jobs: &[Job], channel: u16) -> bool
     ensures { result ≡ list_any (λ (j : JobState). j.channel == channel) jobs.now }
 {
     jobs.iter().any(|job| job.channel() == channel)
-}
-
-/// Whether no packet is one of MIL-STD-1553 messages.
-fn has_no_messages(index: &Index<'_>) -> bool
-    ensures { IsTrue result ↔ AllByRecursion (λ p. holds_messages p.header ≡ false) index.now }
-{
-    index
-        .packets()
-        .iter()
-        .all(|packet| packet.header.kind != MESSAGES_KIND)
 }

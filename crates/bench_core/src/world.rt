@@ -134,7 +134,7 @@ impl World {
         ensures lawful { OnOk result (AreLawful jobs.now settings.now) }
         ensures refused { IfErr result (Refuses jobs.now settings.now) }
     {
-        judge(alloc, jobs, settings)?;
+        judge(jobs, settings)?;
         match World::begin(alloc, jobs, settings) {
             Ok(world) => Ok(world),
             Err(_) => Err(WorldError::Memory),

@@ -4,12 +4,12 @@ use Rattle.std.specs.List.{sum_by}
 use Rattle.bench_report.specs.Reports.{ChannelPart}
 
 -- the messages of a channel that are in the recording: all that it made, but for those that a full queue refused
-abbrev pub kept_of : ChannelPart → ℕ
-kept_of part = part.made - length part.refused
+abbrev pub kept_count : ChannelPart → ℕ
+kept_count part = part.made - length part.refused
 
 -- the messages of all channels, as far as 64 bits count them
 abbrev pub messages_of : List ChannelPart → ℕ
-messages_of parts = min (sum_by kept_of parts) (2 ^ 64 - 1)
+messages_of parts = min (sum_by kept_count parts) (2 ^ 64 - 1)
 
 abbrev pub counts_line : ℕ → ℕ → List ℕ
 counts_line packets messages = codes "packets " ++ decimal packets ++ codes " messages " ++ decimal messages

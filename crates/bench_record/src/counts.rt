@@ -1,7 +1,7 @@
 //! How much a recording holds.
 ghost use Rattle.std.specs.Prelude.{◌≡◌, ◌++◌, ◌∷◌, [], OnOk};
 ghost use Rattle.std.specs.Io.KnownBytes.{Appends};
-ghost use Rattle.bench_record.specs.Counted.{kept_of, messages_of, counts_line};
+ghost use Rattle.bench_record.specs.Counted.{kept_count, messages_of, counts_line};
 
 use bench_report::{ChannelReport, Report};
 use std::io::Write;
@@ -36,7 +36,7 @@ impl Counts {
 
 /// How many messages of a channel are in the recording.
 fn kept(channel: &ChannelReport) -> u64
-    ensures { result ≡ kept_of channel.now }
+    ensures { result ≡ kept_count channel.now }
 {
     u64::from(channel.made()).saturating_sub(channel.refused().len() as u64)
 }

@@ -1,7 +1,7 @@
 //! Jobs recorded, with or without a word on how far the recording has come.
-ghost use Rattle.std.specs.Prelude.{◌≡◌, ◌-◌, ◌<◌, ◌≤◌, ◌^◌, [], IfOk, IfErr};
-ghost use Rattle.std.specs.List.{AllByRecursion};
-ghost use Rattle.bench_run.specs.Runs.{Ran, Leaves, most_in_all};
+ghost use Rattle.std.specs.Prelude.{◌-◌, ◌<◌, ◌^◌, IfOk, IfErr, OnOk};
+ghost use Rattle.bench_core.specs.Lawful.{AreLawful};
+ghost use Rattle.bench_run.specs.Runs.{Ran, RefusesNoneWithRoom, Leaves};
 
 use crate::progress::Progress;
 use bench_core::Settings;
@@ -27,8 +27,9 @@ pub fn record_jobs<R: Threads + Wait + Sync, S: Sink + Drop>(
     sink: S,
 ) -> Result<(Report, S), RunError<S>>
     requires countable { S.failures sink < 2 ^ 64 - 1 }
+    ensures lawful { OnOk result (AreLawful jobs.now settings.now) }
     ensures ran { IfOk result (λ r. Ran S.taken jobs.now settings.now sink r.0 r.1) }
-    ensures room { IfOk result (λ r. most_in_all jobs.now ≤ settings.now.queue → AllByRecursion (λ part. part.refused ≡ []) r.0.channels) }
+    ensures room { IfOk result (λ r. RefusesNoneWithRoom jobs.now settings.now r.0) }
     ensures refused { IfErr result (Leaves S.taken S.failures jobs.now settings.now sink) }
 {
     run(rt, alloc, jobs, settings, &OpenGate, sink)
@@ -49,8 +50,9 @@ pub fn record_jobs_with_progress<
     sink: S,
 ) -> Result<(Report, S), RunError<S>>
     requires countable { S.failures sink < 2 ^ 64 - 1 }
+    ensures lawful { OnOk result (AreLawful jobs.now settings.now) }
     ensures ran { IfOk result (λ r. Ran S.taken jobs.now settings.now sink r.0 r.1) }
-    ensures room { IfOk result (λ r. most_in_all jobs.now ≤ settings.now.queue → AllByRecursion (λ part. part.refused ≡ []) r.0.channels) }
+    ensures room { IfOk result (λ r. RefusesNoneWithRoom jobs.now settings.now r.0) }
     ensures refused { IfErr result (Leaves S.taken S.failures jobs.now settings.now sink) }
 {
     let progress = Progress::begin(rt, errors);

@@ -18,10 +18,8 @@ use Rattle.bench_run.specs.Threads.{HasOnly}
 
 -- ---- bounds
 
-sum_of_bounds : (jobs : List JobState) → sum (map most_items jobs) ≡ most_in_all jobs
-unfolding most_in_all
-sum_of_bounds [] = refl
-sum_of_bounds (j ∷ jobs) = sum_by-cons (λ n. n) (most_items j) (map most_items jobs) ∙ ap (λ n. most_items j + n) (sum_of_bounds jobs)
+one_more : (j : JobState) (jobs : List JobState) → most_in_all (j ∷ jobs) ≡ most_items j + most_in_all jobs
+one_more j jobs = sum_by-cons (λ n. n) (most_items j) (map most_items jobs)
 
 pub bound_at : (jobs : List JobState) (k : ℕ) (job : JobState) → slice_get jobs k ≡ Some job → bound_of (map most_items jobs) k ≡ most_items job
 bound_at [] k job at = absurd cc
@@ -40,16 +38,15 @@ no_other channel (j ∷ jobs) apart = rw (ne_eqb j.channel channel apart.0) (ap 
 
 pub own_and_others : (jobs : List JobState) (k : ℕ) (job : JobState) → AreDistinct (channels_of jobs) → slice_get jobs k ≡ Some job
     → most_in_all jobs ≡ most_items job + most_in_all (others_than job.channel jobs)
-unfolding most_in_all
 own_and_others [] k job distinct at = absurd cc
 own_and_others (j ∷ jobs) zero job distinct at =
     let is : j ≡ job = cc in
-    subst (λ (x : JobState). most_items j + most_in_all jobs ≡ most_items x + most_in_all (others_than x.channel (j ∷ jobs))) is
+    one_more j jobs ∙ subst (λ (x : JobState). most_items j + most_in_all jobs ≡ most_items x + most_in_all (others_than x.channel (j ∷ jobs))) is
     (rw (eq-eqb j.channel j.channel refl, no_other j.channel jobs distinct.0) refl)
 own_and_others (j ∷ jobs) (suc k) job distinct at =
     let rest = own_and_others jobs k job distinct.1 at in
     let ne : j.channel ≢ job.channel = λ e. apart_at j.channel jobs k job distinct.0 at (sym e) in
-    rw (ne_eqb j.channel job.channel ne) (omega (arith, rest))
+    rw (ne_eqb j.channel job.channel ne) (omega (arith, rest, one_more j jobs, one_more j (others_than job.channel jobs)))
 
 -- for the ticket of one tag the bounds of the others are those of the other channels
 pub others_bounds : (jobs : List JobState) (k tags : ℕ) (job : JobState) → AreDistinct (channels_of jobs) → slice_get jobs k ≡ Some job → HasOnly k tags
@@ -57,7 +54,7 @@ pub others_bounds : (jobs : List JobState) (k tags : ℕ) (job : JobState) → A
 others_bounds jobs k tags job distinct at only =
     let all = bounds_outside-one k tags (map most_items jobs) only.0 only.1 in
     let mine = own_and_others jobs k job distinct at in
-    omega (arith, all, mine, bound_at jobs k job at, sum_of_bounds jobs)
+    omega (arith, all, mine, bound_at jobs k job at)
 
 -- ---- entries of one index
 

@@ -11,7 +11,7 @@ use Rattle.bench_run.specs.declared.entry.Entry.{Entry}
 use Rattle.bench_run.specs.Entries.{index_of, entries_to_the_end}
 use Rattle.bench_run.specs.declared.ready.Shared.{Shared}
 use Rattle.bench_run.specs.declared.ready.Own.{Own}
-use Rattle.bench_run.specs.Runs.{ArePairs, records_of, most_items}
+use Rattle.bench_run.specs.Runs.{ArePairs, records_of, most_items, most_in_all}
 use Rattle.bench_run.specs.Threads.{IsRoom, IsCountedIn}
 
 -- what the writer received: of each job its records but for the refused, and its end mark, and nothing else
@@ -32,6 +32,6 @@ pub record IsReady (capacity : ℕ) (jobs : List JobState) (shared : Shared) (ow
   pub tags : (t : ℕ) → t < 64 → has (tags_of own.ticket) t ≡ true
   pub bounds : bounds_of own.ticket ≡ map most_items jobs
   pub taker_bounds : bounds_in own.taker ≡ map most_items jobs
-  pub few : sum (map most_items jobs) ≤ 8000008
+  pub few : most_in_all jobs ≤ 8000008
   pub rooms : ArePairs IsRoom jobs own.rooms.items
   pub channels : shared.channels.items ≡ channels_of jobs

@@ -1,5 +1,5 @@
 -- What a run of jobs came to (own choice): the items that the writer took, the file of these, and the report.
-use Rattle.std.specs.Prelude.{◌≡◌, ◌≢◌, ℕ, ◌+◌, ◌-◌, ◌<◌, ◌≤◌, ◌==◌, not, List, [], ◌∷◌, length, map, take, Option, Ok}
+use Rattle.std.specs.Prelude.{◌≡◌, ◌≢◌, ℕ, ◌+◌, ◌-◌, ◌<◌, ◌≤◌, ◌==◌, not, List, [], ◌∷◌, length, map, sum, take, Option, Ok}
 use Rattle.std.specs.List.{AllByRecursion, filter}
 use Rattle.std.specs.Io.KnownBytes.{Appends}
 use Rattle.mil_monitor.specs.declared.Record.{Record}
@@ -32,9 +32,9 @@ records_of job = records (job_in job) job.actions
 abbrev pub most_items : JobState → ℕ
 most_items job = worst_messages (code_of (tree_in job)).operations + 1
 
-unfoldable pub most_in_all : List JobState → ℕ
-most_in_all [] = 0
-most_in_all (job ∷ jobs) = most_items job + most_in_all jobs
+-- how many items the jobs offer together at most
+abbrev pub most_in_all : List JobState → ℕ
+most_in_all jobs = sum (map most_items jobs)
 
 -- the jobs of the other channels
 abbrev pub others_than : ℕ → List JobState → List JobState
@@ -83,6 +83,10 @@ pub record IsRun (jobs : List JobState) (s : Settings) (report : RunReport) (byt
   pub read : ArePairs (IsReadAs found) jobs report.channels
   pub silent : (channel : ℕ) → IsOther jobs channel → reading found channel ≡ []
 
+-- a queue with room for all that the jobs may send refuses none
+abbrev pub RefusesNoneWithRoom : List JobState → Settings → RunReport → Type 0
+RefusesNoneWithRoom jobs s report = most_in_all jobs ≤ s.queue → AllByRecursion (λ part. part.refused ≡ []) report.channels
+
 -- the sink took the file of a finished run
 abbrev pub Ran : {S : Type 0} → (S → Option (List ℕ)) → List JobState → Settings → S → RunReport → S → Type 0
 Ran taken jobs s before report after = (bytes : List ℕ) × Appends (taken before) (taken after) bytes × IsRun jobs s report bytes
@@ -101,14 +105,14 @@ pub record IsCut {S : Type 0} (taken : S → Option (List ℕ)) (jobs : List Job
   pub others : (channel : ℕ) → IsOther jobs channel → part_of channel items ≡ []
   pub packets : report.packets ≡ whole_packets (count - length s.prologue.items) (closed_packets (format_of s) items)
 
--- What a refusal says and leaves: U2, U1 and U5 put nothing into the sink; U3 comes only where none of U2 and U1 does, and leaves a
--- part of a recording there, and so does U4, which stands only where the run is lawful and the sink failed.
+-- What a refusal says and leaves: U2, U1 and U5 put nothing into the sink; U3 and U4 come only where none of these does and leave a
+-- part of a recording there, and U4 stands only where the sink failed.
 abbrev pub Leaves : {S : Type 0} → (S → Option (List ℕ)) → (S → ℕ) → List JobState → Settings → S → RunError S → Type 0
 Leaves taken failures jobs s before (fault.Settings sink) = (sink ≡ before) × ¬ AreInRange jobs s
 Leaves taken failures jobs s before (fault.ChannelTwice sink) = (sink ≡ before) × AreInRange jobs s × ¬ AreDistinct (channels_of jobs)
 Leaves taken failures jobs s before (fault.Prologue sink) =
     (sink ≡ before) × AreInRange jobs s × AreDistinct (channels_of jobs) × ¬ IsPrologue s.prologue.items
 Leaves taken failures jobs s before (fault.Memory sink) =
-    AreInRange jobs s × AreDistinct (channels_of jobs) × ((items : List Item) × (count : ℕ) × TookPart taken s items count before sink)
+    AreLawful jobs s × ((items : List Item) × (count : ℕ) × TookPart taken s items count before sink)
 Leaves taken failures jobs s before (fault.Sink sink report count) =
     AreLawful jobs s × (failures before < failures sink) × IsCut taken jobs s before report count sink

@@ -1,11 +1,11 @@
 //! Jobs on threads of their own, and one recording of them all.
-ghost use Rattle.std.specs.Prelude.{◌≡◌, ℕ, List, ◌-◌, ◌<◌, ◌≤◌, ◌^◌, [], false, IfOk, IfErr};
+ghost use Rattle.std.specs.Prelude.{◌≡◌, ℕ, List, ◌-◌, ◌<◌, ◌≤◌, ◌^◌, [], false, IfOk, IfErr, OnOk};
 ghost use Rattle.std.specs.List.{AllByRecursion};
 ghost use Rattle.mil_trunk.specs.Ends.{received};
 ghost use Rattle.ch11_recording.specs.Recording.{IsRecordingOf};
 ghost use Rattle.bench_core.specs.Lawful.{AreLawful, channels_of, format_of};
 ghost use Rattle.bench_run.specs.declared.entry.Entry.{Entry};
-ghost use Rattle.bench_run.specs.Runs.{Ran, Leaves, most_in_all};
+ghost use Rattle.bench_run.specs.Runs.{Ran, RefusesNoneWithRoom, Leaves};
 ghost use Rattle.bench_run.specs.Writer.{IsLogged};
 ghost use Rattle.bench_run.specs.Ending.{IsAll, IsReady};
 
@@ -47,7 +47,7 @@ fn conclude<S: Sink>(
     requires all { IsAll settings.now.queue jobs.now parts.items (received taker) }
     requires logged { IsLogged S.taken S.failures (format_of settings.now) settings.now.prologue.items before.value (channels_of jobs.now) (received taker) log.recorder log.whole }
     ensures ran { IfOk result (λ r. Ran S.taken jobs.now settings.now before.value r.0 r.1) }
-    ensures room { IfOk result (λ r. most_in_all jobs.now ≤ settings.now.queue → AllByRecursion (λ part. part.refused ≡ []) r.0.channels) }
+    ensures room { IfOk result (λ r. RefusesNoneWithRoom jobs.now settings.now r.0) }
     ensures refused { IfErr result (Leaves S.taken S.failures jobs.now settings.now before.value) }
 {
     recording_is_read_again();
@@ -85,7 +85,7 @@ fn on_threads<'s, E, R: Threads + Wait + Sync, G: Gate, S: Sink + Drop>(
     requires ready { IsReady settings.now.queue jobs.now shared.now own }
     requires logged { IsLogged S.taken S.failures (format_of settings.now) settings.now.prologue.items before.value (channels_of jobs.now) [] log.recorder log.whole }
     ensures ran { IfOk result (λ r. Ran S.taken jobs.now settings.now before.value r.0 r.1) }
-    ensures room { IfOk result (λ r. most_in_all jobs.now ≤ settings.now.queue → AllByRecursion (λ part. part.refused ≡ []) r.0.channels) }
+    ensures room { IfOk result (λ r. RefusesNoneWithRoom jobs.now settings.now r.0) }
     ensures refused { IfErr result (Leaves S.taken S.failures jobs.now settings.now before.value) }
 {
     let Own {
@@ -167,7 +167,7 @@ fn run_ready<R: Threads + Wait + Sync, G: Gate, S: Sink + Drop>(
     requires ready { IsReady settings.now.queue jobs.now shared.now own }
     requires logged { IsLogged S.taken S.failures (format_of settings.now) settings.now.prologue.items before.value (channels_of jobs.now) [] log.recorder log.whole }
     ensures ran { IfOk result (λ r. Ran S.taken jobs.now settings.now before.value r.0 r.1) }
-    ensures room { IfOk result (λ r. most_in_all jobs.now ≤ settings.now.queue → AllByRecursion (λ part. part.refused ≡ []) r.0.channels) }
+    ensures room { IfOk result (λ r. RefusesNoneWithRoom jobs.now settings.now r.0) }
     ensures refused { IfErr result (Leaves S.taken S.failures jobs.now settings.now before.value) }
 {
     thread::scope(
@@ -175,7 +175,7 @@ fn run_ready<R: Threads + Wait + Sync, G: Gate, S: Sink + Drop>(
         rt,
         move |scope| -> Result<(Report, S), RunError<S>>
             requires { AreLawful jobs.now settings.now × IsReady settings.now.queue jobs.now shared.now own × IsLogged S.taken S.failures (format_of settings.now) settings.now.prologue.items before.value (channels_of jobs.now) [] log.recorder log.whole }
-            ensures { IfOk result (λ r. Ran S.taken jobs.entry.now settings.entry.now before.value r.0 r.1) × IfOk result (λ r. most_in_all jobs.entry.now ≤ settings.entry.now.queue → AllByRecursion (λ part. part.refused ≡ []) r.0.channels) × IfErr result (Leaves S.taken S.failures jobs.entry.now settings.entry.now before.value) }
+            ensures { IfOk result (λ r. Ran S.taken jobs.entry.now settings.entry.now before.value r.0 r.1) × IfOk result (λ r. RefusesNoneWithRoom jobs.entry.now settings.entry.now r.0) × IfErr result (Leaves S.taken S.failures jobs.entry.now settings.entry.now before.value) }
         {
             on_threads(
                 scope, rt, alloc, shared, gate, jobs, settings, before, own, log,
@@ -201,11 +201,12 @@ pub fn run<R: Threads + Wait + Sync, G: Gate, S: Sink + Drop>(
     sink: S,
 ) -> Result<(Report, S), RunError<S>>
     requires countable { S.failures sink < 2 ^ 64 - 1 }
+    ensures lawful { OnOk result (AreLawful jobs.now settings.now) }
     ensures ran { IfOk result (λ r. Ran S.taken jobs.now settings.now sink r.0 r.1) }
-    ensures room { IfOk result (λ r. most_in_all jobs.now ≤ settings.now.queue → AllByRecursion (λ part. part.refused ≡ []) r.0.channels) }
+    ensures room { IfOk result (λ r. RefusesNoneWithRoom jobs.now settings.now r.0) }
     ensures refused { IfErr result (Leaves S.taken S.failures jobs.now settings.now sink) }
 {
-    match judge(alloc, jobs, settings) {
+    match judge(jobs, settings) {
         Ok(()) => {}
         Err(WorldError::Settings) => return Err(RunError::Settings { sink }),
         Err(WorldError::ChannelTwice) => return Err(RunError::ChannelTwice { sink }),

@@ -9,22 +9,19 @@ pub returns-in-Err-Memory-clause-refused : goal.returns-in-Err-Memory-clause-ref
 returns-in-Err-Memory-clause-refused g c =
     let fits : Refuses c.args.jobs.now c.args.settings.now fault.Memory =
     subst (Refuses c.args.jobs.now c.args.settings.now) c.in-Err-Memory.field-0-is c.in-Err-Memory.ensures.refused in (
-      fits.0,
-      fits.1,
+      fits,
       ([], 0, nothing_taken (g.S.Sink.taken c.args.sink) (written_file (format_of c.args.settings.now) c.args.settings.now.prologue.items [])),
     )
 
 pub returns-in_default-clause-refused : goal.returns-in_default-clause-refused
 returns-in_default-clause-refused g c = (
-  c.in-Ok.ensures.lawful.ranges,
-  c.in-Ok.ensures.lawful.distinct,
+  c.in-Ok.ensures.lawful,
   ([], 0, nothing_taken (g.S.Sink.taken c.args.sink) (written_file (format_of c.args.settings.now) c.args.settings.now.prologue.items [])),
 )
 
 pub returns-clause-refused : goal.returns-clause-refused
 returns-clause-refused g c =
     let bytes = written_file (format_of c.args.settings.now) c.args.settings.now.prologue.items [] in (
-      c.in-Ok.ensures.lawful.ranges,
-      c.in-Ok.ensures.lawful.distinct,
+      c.in-Ok.ensures.lawful,
       ([], 0, rw c.in-Err.ensures.back (nothing_taken (g.S.Sink.taken c.args.sink) bytes)),
     )

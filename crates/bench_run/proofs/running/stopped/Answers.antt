@@ -4,7 +4,6 @@ pub returns : goal.returns
 returns g c =
     let is = c.requires.logged.2 in
     let written = is.recording.written in (
-      c.requires.lawful.ranges,
-      c.requires.lawful.distinct,
+      c.requires.lawful,
       (is.items, c.args.log.recorder.writing.taken, rw c.into_sink.ensures written.taken),
     )

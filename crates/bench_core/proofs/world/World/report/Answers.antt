@@ -2,7 +2,7 @@ use Rattle.std.proofs.Common.{◌≡◌, ◌≤◌, ℕ, List, length, map, ap, 
 use Rattle.std.specs.VecDeque.{deque_capacity}
 use Rattle.std.proofs.lemmas.List.{take_all}
 use Rattle.bench_report.specs.Reports.{ChannelPart}
-use Rattle.bench_core.specs.Channels.{Bus, part_of}
+use Rattle.bench_core.specs.Channels.{Bus, report_part}
 use Rattle.bench_core.specs.World.{state_in, report_of, parts_of}
 use Rattle.bench_core.proofs.Worlds.{parts_are}
 use Rattle.bench_core.proofs.Fields.{few_packets}
@@ -20,7 +20,7 @@ returns c =
     let buses = w.lanes.items in
     let lanes : c.deref-lane-items.result.now ≡ buses = c.deref-lane-items.ensures.value in
     let low : length buses ≤ c.loop-lane.lane-index = omega (arith, c.loop-lane-test.false, ap (λ (bs : List Bus). length bs) lanes) in
-    let all : c.loop-lane.channels.items ≡ map part_of buses = c.loop-lane.invariant ∙ ap (map part_of) (take_all c.loop-lane.lane-index buses low) in
+    let all : c.loop-lane.channels.items ≡ map report_part buses = c.loop-lane.invariant ∙ ap (map report_part) (take_all c.loop-lane.lane-index buses low) in
     c.make.ensures
     ∙ ap (λ (ps : List ChannelPart). record { channels = ps; packets = w.packets }) (all ∙ parts_are buses)
     ∙ ap (λ (n : ℕ). record { channels = parts_of (state_in w).bench.lanes (state_in w).actions; packets = n }) c.self.invariant.packets
