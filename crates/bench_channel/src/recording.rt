@@ -1,16 +1,16 @@
 //! One channel's recording.
-ghost use Rattle.std.specs.Prelude.{◌≡◌, ◌-◌, ◌<◌, ◌≤◌, ◌^◌, ◌∷◌, [], false, IsErr, IfOk, IfErr};
+ghost use Rattle.std.specs.Prelude.{◌≡◌, ◌-◌, ◌<◌, ◌≤◌, ◌^◌, ◌∷◌, [], false, IfOk, IfErr, OnOk};
 ghost use Rattle.std.specs.Io.KnownBytes.{Appends};
 ghost use Rattle.job_file.specs.Jobs.{job_in};
 ghost use Rattle.job_file.specs.Meaning.{records};
 ghost use Rattle.job_file.specs.Machines.{IsOf};
-ghost use Rattle.ch11_recording.specs.Recording.{IsRecordingOf};
+ghost use Rattle.ch11_recording.specs.Recording.{IsLimit, IsRecordingOf};
 ghost use Rattle.bench_channel.specs.Channel.{format_of, channel_file, IsReadAs};
-ghost use Rattle.bench_channel.specs.Faults.{Leaves, IsOutOfRange};
+ghost use Rattle.bench_channel.specs.Faults.{Leaves};
 
 use crate::fault::ChannelFault;
 use bc_machine::Machine;
-use ch11_builder::run_gives_the_packets;
+use ch11_builder::{BuilderError, run_gives_the_packets};
 use ch11_recording::{Recorder, record_fits, recording_is_read_again};
 use ch11_writer::Sink;
 use job_file::{Job, next_record};
@@ -74,16 +74,14 @@ pub fn one_channel<S: Sink>(
         (channel_file job.now.channel version limit (records (job_in job.now) job.now.actions))) }
     ensures read { IfOk result (λ _. IsReadAs job.now.channel (records (job_in job.now) job.now.actions)
         (channel_file job.now.channel version limit (records (job_in job.now) job.now.actions))) }
-    ensures limit { IsOutOfRange limit → IsErr result }
+    ensures limit { OnOk result (IsLimit limit) }
     ensures refused { IfErr result (Leaves S.taken S.failures limit
         (channel_file job.now.channel version limit (records (job_in job.now) job.now.actions)) sink) }
 {
-    if limit < 256 || 524_288 < limit {
-        return Err(ChannelFault::Limit { sink });
-    }
     let recorder = match Recorder::make(alloc, version, limit, &[job.channel()], sink) {
         Ok(recorder) => recorder,
-        Err((_, sink)) => return Err(ChannelFault::Memory { sink }),
+        Err((BuilderError::Limit, sink)) => return Err(ChannelFault::Limit { sink }),
+        Err((BuilderError::Memory, sink)) => return Err(ChannelFault::Memory { sink }),
     };
     match job.machine(alloc, job.actions()) {
         Ok(machine) => record_all(job, version, limit, machine, recorder),

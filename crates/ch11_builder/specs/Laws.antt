@@ -8,7 +8,7 @@ use Rattle.ch11_f1.specs.Again.{as_message}
 use Rattle.ch11_builder.specs.Packet.{Numbered, Channel, messages_of, size_of, packet_length, header_of, packet}
 use Rattle.ch11_builder.specs.Cutting.{is_piece, IsCutting, NeverFall, cut, packets}
 use Rattle.ch11_builder.specs.Held.{Held, fresh, fits, pushed, packet_of, latest_number}
-use Rattle.ch11_builder.specs.Run.{after, closed_packets, last_packet}
+use Rattle.ch11_builder.specs.Run.{after, closed_by_pushes, last_packet}
 use Rattle.ch11_builder.specs.Recorded.{IsRecorded, IsChannel}
 
 -- what is computed is a cutting
@@ -27,14 +27,14 @@ CuttingIsTheCut =
 abbrev pub RunGivesThePackets : Type 0
 RunGivesThePackets =
     (c : Channel) (ns : List Numbered)
-    → closed_packets (fresh c) ns ++ last_packet (after (fresh c) ns) ≡ packets c ns
+    → closed_by_pushes (fresh c) ns ++ last_packet (after (fresh c) ns) ≡ packets c ns
 
 -- one more record at the end of a run
 abbrev pub RunGoesOn : Type 0
 RunGoesOn =
     (s : Held) (ns : List Numbered) (n : Numbered)
     → (after s (ns ++ n ∷ []) ≡ pushed (after s ns) n)
-    × (closed_packets s (ns ++ n ∷ []) ≡ closed_packets s ns ++ (if fits (after s ns) n then [] else (packet_of (after s ns) ∷ [])))
+    × (closed_by_pushes s (ns ++ n ∷ []) ≡ closed_by_pushes s ns ++ (if fits (after s ns) n then [] else (packet_of (after s ns) ∷ [])))
 
 -- the record that was pushed last has the latest number
 abbrev pub PushedIsLatest : Type 0

@@ -10,9 +10,9 @@ after s [] = s
 after s (n ∷ ns) = after (pushed s n) ns
 
 -- the packets that were closed by the records
-abbrev pub closed_packets : Held → List Numbered → List (List ℕ)
-closed_packets s [] = []
-closed_packets s (n ∷ ns) = (if fits s n then [] else (packet_of s ∷ [])) ++ closed_packets (pushed s n) ns
+abbrev pub closed_by_pushes : Held → List Numbered → List (List ℕ)
+closed_by_pushes s [] = []
+closed_by_pushes s (n ∷ ns) = (if fits s n then [] else (packet_of s ∷ [])) ++ closed_by_pushes (pushed s n) ns
 
 -- the packet that closing gives then, where a record is open
 abbrev pub last_packet : Held → List (List ℕ)

@@ -1,5 +1,5 @@
 -- A recording that is being written: what its builders hold, how far its writer came, and how many packets the sink took whole.
-use Rattle.std.specs.Prelude.{◌≡◌, ◌≢◌, ℕ, ◌-◌, List, [], ◌∷◌, ◌++◌, length, map, slice_get, Option, Some}
+use Rattle.std.specs.Prelude.{◌≡◌, ◌≢◌, ℕ, ◌-◌, ◌≤◌, List, [], ◌∷◌, ◌++◌, length, map, slice_get, Option, Some}
 use Rattle.std.specs.List.{AllByRecursion}
 use Rattle.ch11_writer.specs.Writing.{Writing, IsWritten, progress_of}
 use Rattle.ch11_builder.specs.Held.{Held}
@@ -11,6 +11,10 @@ pub record Recording (S : Type 0) : Type 0 where
   pub lanes : List Held
   pub writing : Writing S
   pub packets : ℕ
+
+-- how many bytes a packet may have at most
+abbrev pub IsLimit : ℕ → Type 0
+IsLimit limit = (256 ≤ limit) × (limit ≤ 524288)
 
 -- The recording of these items: each channel holds what it does after them, their file was put, and of its packets behind the
 -- prologue those are counted that the sink took whole. `before` is what the sink had taken when the recording began, and

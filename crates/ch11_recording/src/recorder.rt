@@ -4,7 +4,7 @@ ghost use Rattle.ch11_builder.specs.Held.{Held, fresh, latest_number};
 ghost use Rattle.ch11_recording.specs.declared.item.Item.TheVariants as item;
 ghost use Rattle.ch11_recording.specs.declared.item.Item.{Item};
 ghost use Rattle.ch11_recording.specs.WrittenFile.{Format, channel_in};
-ghost use Rattle.ch11_recording.specs.Recording.{IsRecordingOf, GoesOn};
+ghost use Rattle.ch11_recording.specs.Recording.{IsLimit, IsRecordingOf, GoesOn};
 
 use crate::lane::Lane;
 use crate::packet_writer::PacketWriter;
@@ -30,7 +30,7 @@ impl<S: Sink> Model for Recorder<S> {
     ghost view = { λ r. record { lanes = r.lanes.items; writing = r.writer.writing; packets = r.writer.packets } };
 }
 
-/// A lane for each channel.
+/// A lane for each channel. It fails for want of memory, where the limit is in its range.
 fn lanes_of(
     alloc: Global,
     version: u8,
@@ -50,8 +50,8 @@ fn lanes_of(
 }
 
 impl<S: Sink> Recorder<S> {
-    /// A recording of these channels with nothing in it. G1 where the limit is outside 256 to 524,288 and there is a channel,
-    /// then G2 where memory is refused; each hands the sink back, which took nothing.
+    /// A recording of these channels with nothing in it. G1 where the limit is outside 256 to 524,288, then G2 where memory is
+    /// refused; each hands the sink back, which took nothing.
     pub fn make(
         alloc: Global,
         version: u8,
@@ -62,14 +62,19 @@ impl<S: Sink> Recorder<S> {
         requires countable { S.failures sink < 2 ^ 64 - 1 }
         ensures writing { IfOk result (λ r. r.writing ≡ record { sink = sink; taken = 0; failed = false; finished = false }) }
         ensures begun { IfOk result (λ r. IsRecordingOf S.taken (record { version = version; limit = limit }) [] (S.taken sink) channels.now [] r) }
+        ensures in_range { OnOk result (IsLimit limit) }
+        ensures limit { IfErr result (λ e. (e.0 ≡ BuilderError.Limit) ↔ (¬ IsLimit limit)) }
         ensures back { IfErr result (λ e. e.1 ≡ sink) }
     {
+        if !(256..=524_288).contains(&limit) {
+            return Err((BuilderError::Limit, sink));
+        }
         match lanes_of(alloc, version, limit, channels) {
             Ok(lanes) => Ok(Recorder {
                 lanes,
                 writer: PacketWriter::make(sink),
             }),
-            Err(fault) => Err((fault, sink)),
+            Err(_) => Err((BuilderError::Memory, sink)),
         }
     }
 

@@ -72,6 +72,8 @@ returns-clause-refused g c =
     let done = c.finish.ensures.same (format_of c.args.version c.args.limit) [] (taken before) (job.channel ∷ []) (to_the_end job.channel (numbered_from 1 (records job placed))) last in
     let up = rises taken failures job placed c.args.version c.args.limit before c.loop-record.recorder.writing.failed c.end.new.self.writing.failed _ _ c.end.ensures.failures st.rose st.kept in
     let rose = rose_at_end (failures before) _ _ c.end.new.self.writing.failed false c.in-Err.ensures.failures refl up.0 up.1 in (
+      (c.requires.low, c.requires.high),
       subst (λ s. failures before < failures s) (sym c.into_sink-in-Err.ensures) rose,
+      rw c.in-Err.ensures.fault done.written.within,
       took_part taken _ (taken before) c.finish.new.self.writing c.into_sink-in-Err.result c.in-Err.fault.taken done.written c.in-Err.ensures.fault c.into_sink-in-Err.ensures,
     )
