@@ -1,5 +1,5 @@
 //! A file read whole.
-ghost use Rattle.std.specs.Prelude.{◌≡◌, ◌<◌, length, IfOk, IfSome, OnOk};
+ghost use Rattle.std.specs.Prelude.{◌≡◌, ◌+◌, ◌*◌, ◌<◌, ◌≤◌, length, IfOk, IfSome, OnOk};
 ghost use Rattle.std.specs.Io.KnownBytes.{IsAtEnd};
 ghost use Rattle.bench_dump.specs.Reads.{IsRead};
 
@@ -21,7 +21,8 @@ fn read_piece<R: Read>(
     bytes: &mut Vec<u8>,
 ) -> Result<bool, DumpFault>
     requires { 0 < length piece.old }
-    ensures { IfOk result (IsRead (R.remaining input.old) (R.remaining input.new) bytes.old.items bytes.new.items) }
+    ensures read { IfOk result (IsRead (R.remaining input.old) (R.remaining input.new) bytes.old.items bytes.new.items) }
+    ensures few { OnOk result (length bytes.new.items ≤ length bytes.old.items + length piece.old) }
 {
     match input.read(piece) {
         Ok(0) => Ok(false),
@@ -39,10 +40,11 @@ fn read_piece<R: Read>(
 pub fn read_all<R: Read>(alloc: Global, input: &mut R) -> Result<Vec<u8>, DumpFault>
     ensures whole { IfOk result (λ bytes. IfSome (R.remaining input.old) (λ xs. bytes.items ≡ xs)) }
     ensures end { OnOk result (IsAtEnd (R.remaining input.new)) }
+    ensures few { IfOk result (λ bytes. length bytes.items ≤ READS * PIECE) }
 {
     let mut piece = [0u8; PIECE];
     let mut bytes = Vec::new(alloc);
-    'reads: for _ in 0..READS {
+    'reads: for _made in 0..READS {
         if !read_piece(input, &mut piece, &mut bytes)? {
             return Ok(bytes);
         }
