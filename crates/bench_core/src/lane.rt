@@ -2,7 +2,7 @@
 ghost use Rattle.std.specs.Prelude.{◌≡◌, ◌<◌, ◌≤◌, ◌||◌, not, if◌then◌else◌, [], ◌∷◌, ◌++◌, vec_len, Some, None, IfOk, OnOk, OnErr};
 ghost use Rattle.std.specs.Vec.{vec_capacity};
 ghost use Rattle.ch11_recording.specs.declared.item.Item.TheVariants as item;
-ghost use Rattle.bench_core.specs.Channels.{lane_of, after_next, queued_next, next_in, part_of, IsMade};
+ghost use Rattle.bench_core.specs.Channels.{lane_of, after_next, queued_next, next_in, report_part, IsMade};
 
 use crate::parts::channel_report;
 use crate::placing::ordered_actions;
@@ -118,7 +118,7 @@ impl Lane {
 
     /// What a report says of the channel. It fails for want of memory alone.
     pub(crate) fn report(&self, alloc: Global) -> Result<ChannelReport, AllocError>
-        ensures { IfOk result (λ r. r ≡ part_of self.now) }
+        ensures { IfOk result (λ r. r ≡ report_part self.now) }
     {
         let made = self.machine.number();
         let refused = self.refused.clone()?;

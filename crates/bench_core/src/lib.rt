@@ -1,4 +1,5 @@
 //! The pure bench: every interleaving of buses and writer, one step at a time.
+//! Its tests are in `bench_tests`.
 #![tactic(auto)]
 
 mod fault;
@@ -11,8 +12,6 @@ mod play;
 mod settings;
 mod step;
 mod taken;
-#[cfg(test)]
-mod tests;
 mod world;
 mod writing;
 

@@ -1,4 +1,5 @@
 //! The command `bench dump`: a recording as lines of text.
+//! Its tests are in `ch11_tests`.
 #![tactic(auto)]
 
 mod fault;
@@ -9,6 +10,3 @@ mod output;
 pub use fault::DumpFault;
 pub use input::read_all;
 pub use output::dump;
-
-#[cfg(test)]
-mod tests;

@@ -17,7 +17,7 @@ const STRIDE: u64 = 2048;
 /// A gate that holds nothing, and shows how many messages the writer has taken: one line that is written again and again once
 /// the recording has taken two seconds, and only where the errors go to a terminal and there is a clock.
 #[derive(Drop)]
-pub(crate) struct Progress<'a, C, E> {
+pub struct Progress<'a, C, E> {
     clock: &'a C,
     errors: &'a E,
     /// When the recording began, where anything may be shown.
@@ -30,7 +30,7 @@ pub(crate) struct Progress<'a, C, E> {
 
 impl<'a, C: Clock, E: Eprint + IsTerminal> Progress<'a, C, E> {
     /// The progress of a recording that begins now.
-    pub(crate) fn begin(clock: &'a C, errors: &'a E) -> Progress<'a, C, E> {
+    pub fn begin(clock: &'a C, errors: &'a E) -> Progress<'a, C, E> {
         let began = if errors.is_terminal() {
             clock.monotonic().ok()
         } else {
@@ -46,7 +46,7 @@ impl<'a, C: Clock, E: Eprint + IsTerminal> Progress<'a, C, E> {
     }
 
     /// Ends the line, where there is one, with the number of all messages that were taken.
-    pub(crate) fn end(&self) {
+    pub fn end(&self) {
         if self.due.load(Ordering::Relaxed) > QUIET {
             let taken = self.taken.load(Ordering::Relaxed);
             let _ = eprintln!(self.errors; "\r{taken} messages");

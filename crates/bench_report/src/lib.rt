@@ -1,4 +1,5 @@
 //! The report of a run as a value and as text.
+//! Its tests are in `bench_tests`.
 #![tactic(auto)]
 
 mod channels;
@@ -11,8 +12,6 @@ mod printing;
 mod reading;
 mod reports;
 mod stages;
-#[cfg(test)]
-mod tests;
 mod text_lines;
 
 pub use channels::ChannelReport;

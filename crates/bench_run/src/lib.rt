@@ -1,4 +1,5 @@
 //! Jobs on threads of their own, one for each bus, and one recording of them all.
+//! Its tests are in `run_tests`.
 #![tactic(auto)]
 
 mod channel;
@@ -7,8 +8,6 @@ mod error;
 mod gate;
 mod ready;
 mod running;
-#[cfg(test)]
-mod tests;
 mod threads;
 mod writer;
 

@@ -1,5 +1,5 @@
 //! Recordings of one channel, byte by byte and read back.
-use crate::{ChannelFault, one_channel};
+use bench_channel::{ChannelFault, one_channel};
 use ch11_reader::Index;
 use ch11_writer::{FuseSink, MemorySink, Sink};
 use job_file::{Job, read_job};

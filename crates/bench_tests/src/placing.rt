@@ -1,6 +1,6 @@
 //! A job's actions by rising number, and those that a channel's part of a report has.
-use crate::{channel_report, ordered_actions};
 use bc_machine::Placed;
+use bench_core::{channel_report, ordered_actions};
 use job_file::{Job, read_job};
 use std::alloc::Global;
 use std::test::Fail;

@@ -1,6 +1,6 @@
 //! Texts of reports: what is expected stands in the format's own words.
-use crate::{ChannelReport, Report, ReportError, ReportFault, print_report, read_report};
 use bc_machine::Placed;
+use bench_report::{ChannelReport, Report, ReportError, ReportFault, print_report, read_report};
 use mil_host::{Action, Mark};
 use std::test::Fail;
 

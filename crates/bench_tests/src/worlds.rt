@@ -1,5 +1,5 @@
 //! Steps of a bench: its file, its report, and what is refused.
-use crate::{PlayError, Settings, Step, World, WorldError};
+use bench_core::{PlayError, Settings, Step, World, WorldError};
 use bench_report::print_report;
 use ch11_header::read_header;
 use ch11_reader::Index;

@@ -1,4 +1,5 @@
 //! The records of a channel as packets (IRIG 106-17 Chapter 11, MIL-STD-1553 bus data packets, Format 1).
+//! Its tests are in `ch11_tests`.
 #![tactic(auto)]
 
 mod builder;
@@ -11,6 +12,3 @@ mod sealing;
 pub use builder::{Builder, Pushed};
 pub use fault::BuilderError;
 pub use laws::{cutting_is_one, packet_is_read_again, run_gives_the_packets};
-
-#[cfg(test)]
-mod tests;

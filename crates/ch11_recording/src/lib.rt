@@ -1,4 +1,5 @@
 //! A recording as a whole (IRIG 106-17 Chapter 11): which packets stand in it, how it is written, and what it is read as.
+//! Its tests are in `ch11_tests`.
 #![tactic(auto)]
 
 mod item;
@@ -12,6 +13,3 @@ pub use laws::{
     file_is_packets, latest_is_last, record_fits, recording_goes_on, recording_is_read_again,
 };
 pub use recorder::Recorder;
-
-#[cfg(test)]
-mod tests;

@@ -1,8 +1,8 @@
 //! Bodies against the worked one of a message of five words.
 
-use crate::body::messages;
-use crate::{BodyError, put_record};
 use arrayvec::ArrayVec;
+use ch11_f1::body::messages;
+use ch11_f1::{BodyError, put_record};
 use mil_monitor::Record;
 use std::test::Fail;
 

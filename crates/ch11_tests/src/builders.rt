@@ -1,9 +1,11 @@
+//! Packets of a channel, against worked bytes and at their limits.
 ghost use Rattle.std.specs.Prelude.{◌≡◌};
 
-use super::*;
 use arrayvec::ArrayVec;
+use ch11_builder::{Builder, BuilderError, Pushed, run_gives_the_packets};
+use ch11_header::read_header;
 use mil_monitor::Record;
-use std::test::*;
+use std::test::Fail;
 
 #[test]
 fn one_message(rt: HostRuntime) -> Result<(), Fail> {
@@ -53,7 +55,7 @@ fn long_message(stamp: u64) -> Record
 
 /// Length, data length, sequence and flags of a packet: none where its header can't be read.
 fn shape_of(packet: &[u8]) -> Option<(usize, u32, u8, u8)> {
-    let header = ch11_header::read_header(packet).ok()?;
+    let header = read_header(packet).ok()?;
     Some((
         packet.len(),
         header.data_length,
@@ -71,8 +73,8 @@ fn closed_shape(pushed: Pushed<'_>) -> Option<(usize, u32, u8, u8)> {
 }
 
 #[test]
-#[tactic(auto, using(crate::proofs::OneMore::latest_pushed))]
 fn packets_end_at_their_limit(rt: HostRuntime) -> Result<(), Fail> {
+    run_gives_the_packets();
     let mut builder = Builder::make(rt.alloc(), 1, 6, 256).ok().ok_or("memory")?;
     let first = closed_shape(builder.push(1, &long_message(0)));
     assert_eq!(rt; first, None);
@@ -90,8 +92,8 @@ fn packets_end_at_their_limit(rt: HostRuntime) -> Result<(), Fail> {
 }
 
 #[test]
-#[tactic(auto, using(crate::proofs::OneMore::latest_pushed))]
 fn packets_span_less_than_a_tenth_of_a_second(rt: HostRuntime) -> Result<(), Fail> {
+    run_gives_the_packets();
     let mut near = Builder::make(rt.alloc(), 1, 6, 256).ok().ok_or("memory")?;
     let near_first = closed_shape(near.push(1, &long_message(0)));
     assert_eq!(rt; near_first, None);

@@ -1,31 +1,25 @@
 //! Dumps against the worked one.
 
-use crate::{DumpFault, dump, read_all};
+use crate::readers::FOREIGN;
+use bench_dump::{DumpFault, dump, read_all};
 use std::io;
 use std::io::Read;
 use std::test::Fail;
-
-/// A setup record on channel 0, and a message of channel 1 behind a secondary header.
-const FOREIGN: [u8; 96] = [
-    0x25, 0xEB, 0x00, 0x00, 0x20, 0x00, 0x00, 0x00, 0x06, 0x00, 0x00, 0x00, 0x06, 0x00, 0x00, 0x01,
-    0x00, 0x00, 0x00, 0x00, 0x00, 0x00, 0x51, 0xEC, 0x00, 0x00, 0x00, 0x00, 0x41, 0x42, 0x00, 0x00,
-    0x25, 0xEB, 0x01, 0x00, 0x40, 0x00, 0x00, 0x00, 0x1C, 0x00, 0x00, 0x00, 0x06, 0x00, 0x80, 0x19,
-    0x00, 0x00, 0x00, 0x00, 0x00, 0x00, 0x08, 0x05, 0x00, 0x00, 0x00, 0x00, 0x00, 0x00, 0x00, 0x00,
-    0x00, 0x00, 0x00, 0x00, 0x01, 0x00, 0x00, 0x40, 0x00, 0x00, 0x00, 0x00, 0x00, 0x00, 0x00, 0x00,
-    0x00, 0x00, 0x50, 0x00, 0x0A, 0x00, 0x23, 0x28, 0x01, 0x00, 0x02, 0x00, 0x03, 0x00, 0x00, 0x28,
-];
 
 const PRINTED: &str = "packet 0 channel 0 type 01 skipped
 packet 32 channel 1 type 19 seq 0 flags 80 messages 1
 message 1 channel 1 stamp 0 block 0000 gaps 0050 words 2823 0001 0002 0003 2800
 ";
 
-/// A reader that never ends and gives nothing but one byte a read.
+/// A reader that never ends and gives nothing but one byte a read. It counts its reads.
 #[derive(Drop)]
-struct Endless;
+struct Endless {
+    reads: u32,
+}
 
 impl Read for Endless {
     fn read(&mut self, buf: &mut [u8]) -> io::Result<usize> {
+        self.reads = self.reads.saturating_add(1);
         Ok(if buf.is_empty() { 0 } else { 1 })
     }
 }
@@ -54,9 +48,26 @@ fn reads_a_file_whole(rt: HostRuntime) -> Result<(), Fail> {
     let mut input = FOREIGN.as_slice();
     let bytes = read_all(rt.alloc(), &mut input).ok().ok_or("fault")?;
     assert_eq!(rt; bytes.as_slice(), FOREIGN.as_slice());
-    assert_eq!(rt;
-        read_all(rt.alloc(), &mut Endless).err(),
-        Some(DumpFault::Device)
-    );
     Ok(())
+}
+
+/// More bytes than three reads give.
+#[test]
+fn reads_a_long_file_whole(rt: HostRuntime) -> Result<(), Fail> {
+    let mut file = Vec::new(rt.alloc());
+    for number in 0..200_000u32 {
+        file.push((number % 251) as u8)?;
+    }
+    let mut input = file.as_slice();
+    let bytes = read_all(rt.alloc(), &mut input).ok().ok_or("fault")?;
+    assert_eq!(rt; bytes.as_slice(), file.as_slice());
+    Ok(())
+}
+
+#[test]
+fn gives_up_after_a_million_reads(rt: HostRuntime) {
+    let mut input = Endless { reads: 0 };
+    let answer = read_all(rt.alloc(), &mut input);
+    assert_eq!(rt; answer.err(), Some(DumpFault::Device));
+    assert_eq!(rt; input.reads, 1_000_000);
 }

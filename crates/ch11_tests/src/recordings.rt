@@ -1,13 +1,14 @@
+//! Recordings of several channels, as their packets close, and sinks that fail.
 ghost use Rattle.std.specs.Prelude.{◌≡◌};
 
-use super::*;
 use arrayvec::ArrayVec;
 use ch11_builder::BuilderError;
 use ch11_header::read_header;
 use ch11_reader::Index;
+use ch11_recording::Recorder;
 use ch11_writer::{FuseSink, MemorySink, WriteFault};
 use mil_monitor::Record;
-use std::test::*;
+use std::test::Fail;
 
 /// A receive command for one word, the word, and the status of terminal 5.
 fn received(stamp: u64) -> Record

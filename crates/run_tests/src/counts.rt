@@ -1,5 +1,5 @@
 //! The counts of a report, and their line.
-use crate::{Counts, print_counts};
+use bench_record::{Counts, print_counts};
 use bench_report::read_report;
 use std::test::Fail;
 

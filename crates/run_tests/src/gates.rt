@@ -1,5 +1,5 @@
 //! Gates that hold threads until others have come to a place. Each wait has a limit, so that every test ends.
-use crate::Gate;
+use bench_run::Gate;
 use std::sync::atomic::{AtomicU32, Ordering};
 use std::thread;
 

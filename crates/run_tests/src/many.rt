@@ -1,8 +1,8 @@
 //! A thousand runs of eight channels on short queues: what is read back is what was made, but for what the report lists.
-use super::{STEP, done, settings_of};
-use crate::{OpenGate, run};
+use crate::fixtures::{STEP, done, settings_of};
 use bench_core::Settings;
 use bench_report::{ChannelReport, Report};
+use bench_run::{OpenGate, run};
 use ch11_reader::Index;
 use ch11_writer::MemorySink;
 use job_file::{Job, read_job};

@@ -1,5 +1,5 @@
 //! What is shown on a terminal while a recording is made.
-use crate::progress::Progress;
+use bench_record::Progress;
 use bench_run::Gate;
 use std::fmt::Display;
 use std::io::{self, IsTerminal};

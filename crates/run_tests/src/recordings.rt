@@ -1,39 +1,13 @@
 //! Jobs on threads, into a sink in memory.
-use crate::{Counts, record_jobs, record_jobs_with_progress};
-use bench_core::Settings;
+use crate::fixtures::{TEN_MESSAGES, jobs_of, settings_of};
+use bench_record::{Counts, record_jobs, record_jobs_with_progress};
 use bench_report::{Report, print_report};
 use bench_run::RunError;
 use ch11_reader::Index;
 use ch11_writer::{FuseSink, MemorySink, Sink};
-use job_file::{Job, read_job};
 use std::alloc::Global;
 use std::process::Abort;
 use std::test::Fail;
-
-/// Two channels of ten messages each.
-const TEN_MESSAGES: [&str; 2] = [
-    "channel 1\nterminal 5\nscript\nrepeat 10 { send A rx 5 1 [0001] }\n",
-    "channel 2\nterminal 5\nscript\nrepeat 10 { send A rx 5 1 [0001] }\n",
-];
-
-fn jobs_of(alloc: Global, texts: &[&str]) -> Result<Vec<Job>, Fail> {
-    let mut jobs = Vec::new(alloc);
-    for text in texts {
-        let job = read_job(alloc, text.as_bytes()).ok().ok_or("a job")?;
-        jobs.push(job)?;
-    }
-    Ok(jobs)
-}
-
-fn settings_of(alloc: Global, queue: u32) -> Settings {
-    Settings {
-        version: 6,
-        limit: 4096,
-        queue,
-        prologue: Vec::new(alloc),
-        posts: 0,
-    }
-}
 
 /// What is printed of a fault.
 fn told<S>(alloc: Global, fault: &RunError<S>) -> Result<String, Fail> {
@@ -71,7 +45,7 @@ fn check_both<R: Abort + AllocGlobal>(
 fn two_channels_of_ten_messages(rt: HostRuntime) -> Result<(), Fail> {
     let alloc = rt.alloc();
     let jobs = jobs_of(alloc, &TEN_MESSAGES)?;
-    let settings = settings_of(alloc, 4096);
+    let settings = settings_of(alloc, 4096, &[])?;
     let answer = record_jobs(&rt, alloc, &jobs, &settings, MemorySink::make(alloc));
     match &answer {
         Ok(made) => check_both(&rt, &made.0, &made.1)?,
@@ -84,7 +58,7 @@ fn two_channels_of_ten_messages(rt: HostRuntime) -> Result<(), Fail> {
 fn two_channels_with_progress(rt: HostRuntime) -> Result<(), Fail> {
     let alloc = rt.alloc();
     let jobs = jobs_of(alloc, &TEN_MESSAGES)?;
-    let settings = settings_of(alloc, 4096);
+    let settings = settings_of(alloc, 4096, &[])?;
     let errors = rt.stderr();
     let sink = MemorySink::make(alloc);
     let answer = record_jobs_with_progress(&rt, alloc, &errors, &jobs, &settings, sink);
@@ -99,7 +73,7 @@ fn two_channels_with_progress(rt: HostRuntime) -> Result<(), Fail> {
 fn one_channel_twice(rt: HostRuntime) -> Result<(), Fail> {
     let alloc = rt.alloc();
     let jobs = jobs_of(alloc, &[TEN_MESSAGES[0], TEN_MESSAGES[0]])?;
-    let settings = settings_of(alloc, 4096);
+    let settings = settings_of(alloc, 4096, &[])?;
     let answer = record_jobs(&rt, alloc, &jobs, &settings, MemorySink::make(alloc));
     match &answer {
         Ok(_) => assert!(rt; false, "no fault"),
@@ -111,7 +85,7 @@ fn one_channel_twice(rt: HostRuntime) -> Result<(), Fail> {
 #[test]
 fn no_job(rt: HostRuntime) -> Result<(), Fail> {
     let alloc = rt.alloc();
-    let settings = settings_of(alloc, 4096);
+    let settings = settings_of(alloc, 4096, &[])?;
     match record_jobs(&rt, alloc, &[], &settings, MemorySink::make(alloc)) {
         Ok(_) => assert!(rt; false, "no fault"),
         Err(fault) => assert_eq!(rt; told(alloc, &fault)?.as_str(), "U2"),
@@ -123,7 +97,7 @@ fn no_job(rt: HostRuntime) -> Result<(), Fail> {
 fn a_sink_of_a_hundred_bytes(rt: HostRuntime) -> Result<(), Fail> {
     let alloc = rt.alloc();
     let jobs = jobs_of(alloc, &TEN_MESSAGES)?;
-    let settings = settings_of(alloc, 4096);
+    let settings = settings_of(alloc, 4096, &[])?;
     let errors = rt.stderr();
     let sink = FuseSink::make(alloc, 100);
     let answer = record_jobs_with_progress(&rt, alloc, &errors, &jobs, &settings, sink);

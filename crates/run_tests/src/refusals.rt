@@ -1,7 +1,7 @@
 //! What is not run, and what each fault prints: the sink comes back as it was.
-use super::{FOREIGN, TEN_MESSAGES, jobs_of, settings_of};
-use crate::{OpenGate, RunError, run};
+use crate::fixtures::{FOREIGN, TEN_MESSAGES, jobs_of, settings_of};
 use bench_core::Settings;
+use bench_run::{OpenGate, RunError, run};
 use ch11_writer::MemorySink;
 use std::alloc::Global;
 use std::sync::Wait;

@@ -1,7 +1,7 @@
 //! Sinks that fail: the channels run to their ends all the same.
-use super::{TEN_MESSAGES, done, jobs_of, settings_of};
-use crate::{OpenGate, RunError, run};
+use crate::fixtures::{TEN_MESSAGES, done, jobs_of, settings_of};
 use bench_report::print_report;
+use bench_run::{OpenGate, RunError, run};
 use ch11_writer::FuseSink;
 use std::alloc::Global;
 use std::sync::Wait;

@@ -1,13 +1,7 @@
-//! Runs on threads, against worked values: gates fix the order of the threads where a value hangs on it.
-mod gates;
-mod many;
-mod refusals;
-mod rows;
-mod sinks;
-
-use crate::{Gate, RunError, run};
+//! Jobs and settings of the runs, and what is asked of a file.
 use bench_core::Settings;
 use bench_report::Report;
+use bench_run::{Gate, RunError, run};
 use ch11_reader::Index;
 use ch11_writer::{MemorySink, Sink};
 use job_file::{Job, read_job};
@@ -17,16 +11,16 @@ use std::test::Fail;
 use std::thread::Threads;
 
 /// Two channels of ten messages each, at 0, 680, .. 6120.
-const TEN_MESSAGES: [&str; 2] = [
+pub(crate) const TEN_MESSAGES: [&str; 2] = [
     "channel 1\nterminal 5\nscript\nrepeat 10 { send A rx 5 1 [0001] }\n",
     "channel 2\nterminal 5\nscript\nrepeat 10 { send A rx 5 1 [0001] }\n",
 ];
 
 /// How much later than the one before it a message `send A rx 5 1 [0001]` begins, in ticks of 0.1 µs.
-const STEP: u64 = 680;
+pub(crate) const STEP: u64 = 680;
 
 /// A setup record on channel 0, then a packet with one MIL-STD-1553 message: the first 32 bytes are a lawful prologue.
-const FOREIGN: [u8; 96] = [
+pub(crate) const FOREIGN: [u8; 96] = [
     0x25, 0xEB, 0x00, 0x00, 0x20, 0x00, 0x00, 0x00, 0x06, 0x00, 0x00, 0x00, 0x06, 0x00, 0x00, 0x01,
     0x00, 0x00, 0x00, 0x00, 0x00, 0x00, 0x51, 0xEC, 0x00, 0x00, 0x00, 0x00, 0x41, 0x42, 0x00, 0x00,
     0x25, 0xEB, 0x01, 0x00, 0x40, 0x00, 0x00, 0x00, 0x1C, 0x00, 0x00, 0x00, 0x06, 0x00, 0x80, 0x19,
@@ -35,7 +29,7 @@ const FOREIGN: [u8; 96] = [
     0x00, 0x00, 0x50, 0x00, 0x0A, 0x00, 0x23, 0x28, 0x01, 0x00, 0x02, 0x00, 0x03, 0x00, 0x00, 0x28,
 ];
 
-fn jobs_of(alloc: Global, texts: &[&str]) -> Result<Vec<Job>, Fail> {
+pub(crate) fn jobs_of(alloc: Global, texts: &[&str]) -> Result<Vec<Job>, Fail> {
     let mut jobs = Vec::new(alloc);
     for text in texts {
         let job = read_job(alloc, text.as_bytes()).ok().ok_or("a job")?;
@@ -45,7 +39,7 @@ fn jobs_of(alloc: Global, texts: &[&str]) -> Result<Vec<Job>, Fail> {
 }
 
 /// Packets of at most 4096 bytes, a queue of so many items, and a prologue.
-fn settings_of(alloc: Global, queue: u32, prologue: &[u8]) -> Result<Settings, AllocError> {
+pub(crate) fn settings_of(alloc: Global, queue: u32, prologue: &[u8]) -> Result<Settings, AllocError> {
     let mut bytes = Vec::new(alloc);
     bytes.extend_from_slice(prologue)?;
     Ok(Settings {
@@ -58,13 +52,13 @@ fn settings_of(alloc: Global, queue: u32, prologue: &[u8]) -> Result<Settings, A
 }
 
 /// What a run that ended well came to.
-fn done<S: Drop>(ran: Result<(Report, S), RunError<S>>) -> Result<(Report, S), Fail> {
+pub(crate) fn done<S: Drop>(ran: Result<(Report, S), RunError<S>>) -> Result<(Report, S), Fail> {
     let (report, sink) = ran.ok().ok_or("a run that ends well")?;
     Ok((report, sink))
 }
 
 /// Runs jobs of these texts into memory, with no prologue.
-fn recorded<R: Threads + Wait + Sync, G: Gate>(
+pub(crate) fn recorded<R: Threads + Wait + Sync, G: Gate>(
     rt: &R,
     alloc: Global,
     texts: &[&str],
@@ -78,7 +72,7 @@ fn recorded<R: Threads + Wait + Sync, G: Gate>(
 }
 
 /// Channel, length in bytes and flags of each packet of a file.
-fn shapes_of(alloc: Global, file: &[u8]) -> Result<Vec<(u16, u32, u8)>, Fail> {
+pub(crate) fn shapes_of(alloc: Global, file: &[u8]) -> Result<Vec<(u16, u32, u8)>, Fail> {
     let index = Index::build(alloc, file).ok().ok_or("readable")?;
     let mut shapes = Vec::new(alloc);
     for packet in index.packets() {
@@ -89,7 +83,7 @@ fn shapes_of(alloc: Global, file: &[u8]) -> Result<Vec<(u16, u32, u8)>, Fail> {
 }
 
 /// The stamps of a channel's messages, in the file's order.
-fn stamps_of(alloc: Global, file: &[u8], channel: u16) -> Result<Vec<u64>, Fail> {
+pub(crate) fn stamps_of(alloc: Global, file: &[u8], channel: u16) -> Result<Vec<u64>, Fail> {
     let index = Index::build(alloc, file).ok().ok_or("readable")?;
     let mut stamps = Vec::new(alloc);
     for seen in index.channel(channel) {

@@ -1,0 +1,12 @@
+//! Tests of the bench that start no thread, against worked values: the steps of `bench_core`, one channel of `bench_channel`, and
+//! the reports of `bench_report`.
+#![tactic(auto)]
+
+#[cfg(test)]
+mod channels;
+#[cfg(test)]
+mod placing;
+#[cfg(test)]
+mod reports;
+#[cfg(test)]
+mod worlds;

@@ -1,0 +1,14 @@
+//! Tests of Chapter 11 files, against worked bytes: bodies of `ch11_f1`, packets of `ch11_builder`, recordings of `ch11_recording`,
+//! what `ch11_reader` reads of them, and what `bench_dump` prints.
+#![tactic(auto)]
+
+#[cfg(test)]
+mod bodies;
+#[cfg(test)]
+mod builders;
+#[cfg(test)]
+mod dumps;
+#[cfg(test)]
+mod readers;
+#[cfg(test)]
+mod recordings;

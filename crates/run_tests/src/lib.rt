@@ -1,0 +1,22 @@
+//! Tests of the calls that start threads, `run` of `bench_run` and `record_jobs` of `bench_record`, against worked values: gates
+//! fix the order of the threads where a value hangs on it.
+#![tactic(auto)]
+
+#[cfg(test)]
+mod counts;
+#[cfg(test)]
+mod fixtures;
+#[cfg(test)]
+mod gates;
+#[cfg(test)]
+mod many;
+#[cfg(test)]
+mod progress;
+#[cfg(test)]
+mod recordings;
+#[cfg(test)]
+mod refusals;
+#[cfg(test)]
+mod rows;
+#[cfg(test)]
+mod sinks;
