@@ -39,7 +39,11 @@ pub(crate) fn jobs_of(alloc: Global, texts: &[&str]) -> Result<Vec<Job>, Fail> {
 }
 
 /// Packets of at most 4096 bytes, a queue of so many items, and a prologue.
-pub(crate) fn settings_of(alloc: Global, queue: u32, prologue: &[u8]) -> Result<Settings, AllocError> {
+pub(crate) fn settings_of(
+    alloc: Global,
+    queue: u32,
+    prologue: &[u8],
+) -> Result<Settings, AllocError> {
     let mut bytes = Vec::new(alloc);
     bytes.extend_from_slice(prologue)?;
     Ok(Settings {

@@ -1,6 +1,8 @@
 //! Worked runs: which messages are kept, the packets of the file, and the report.
+use crate::fixtures::{
+    FOREIGN, TEN_MESSAGES, done, jobs_of, recorded, settings_of, shapes_of, stamps_of,
+};
 use crate::gates::{Backlog, GoesFirst, HeldWriter, InTurn, Meeting};
-use crate::fixtures::{FOREIGN, TEN_MESSAGES, done, jobs_of, recorded, settings_of, shapes_of, stamps_of};
 use bench_report::{Report, print_report};
 use bench_run::{Gate, OpenGate, run};
 use ch11_writer::MemorySink;

@@ -15,7 +15,7 @@ loop-rest-preserved c =
     let earlier = c.loop-rest.invariant.0 in (
       next_found file rest h ∷ earlier,
       rw c.split_at.ensures.back (goes_on file rest earlier h c.in-Ok.ensures.read c.in-Ok.ensures.whole.0 c.in-Ok.ensures.whole.1 c.loop-rest.invariant.1),
-      (ne_eqb h.kind 0x19 c.if-checked-eq-MESSAGES_KIND.false, c.loop-rest.invariant.2),
+      (ne_eqb h.kind _ c.if-checked-eq-MESSAGES_KIND.false, c.loop-rest.invariant.2),
     )
 
 pub returns-in_default : goal.returns-in_default
@@ -35,7 +35,7 @@ returns-then-checked-eq-MESSAGES_KIND c =
     let earlier = c.loop-rest.invariant.0 in
     let going = goes_on file rest earlier h c.in-Ok.ensures.read c.in-Ok.ensures.whole.0 c.in-Ok.ensures.whole.1 c.loop-rest.invariant.1 in (
       λ wrong. search rules,
-      λ is. absurd (one_of_messages file _ earlier (next_found file rest h) (eq-eqb h.kind 0x19 c.if-checked-eq-MESSAGES_KIND.true) going is),
+      λ is. absurd (one_of_messages file _ earlier (next_found file rest h) (eq-eqb h.kind _ c.if-checked-eq-MESSAGES_KIND.true) going is),
     )
 
 pub returns : goal.returns
