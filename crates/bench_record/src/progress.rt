@@ -47,8 +47,8 @@ impl<'a, C: Clock, E: Eprint + IsTerminal> Progress<'a, C, E> {
 
     /// Ends the line, where there is one, with the number of all messages that were taken.
     pub fn end(&self) {
-        if self.due.load(Ordering::Relaxed) > QUIET {
-            let taken = self.taken.load(Ordering::Relaxed);
+        if self.due.load(Ordering::SeqCst) > QUIET {
+            let taken = self.taken.load(Ordering::SeqCst);
             let _ = eprintln!(self.errors; "\r{taken} messages");
         }
     }
@@ -59,10 +59,10 @@ impl<'a, C: Clock, E: Eprint + IsTerminal> Progress<'a, C, E> {
             return;
         };
         let passed = milliseconds(now.saturating_sub(began));
-        if passed >= self.due.load(Ordering::Relaxed) {
+        if passed >= self.due.load(Ordering::SeqCst) {
             let _ = eprint!(self.errors; "\r{taken} messages");
             self.due
-                .store(passed.saturating_add(PAUSE), Ordering::Relaxed);
+                .store(passed.saturating_add(PAUSE), Ordering::SeqCst);
         }
     }
 }
@@ -78,7 +78,7 @@ impl<C: Clock + Sync, E: Eprint + IsTerminal + Sync> Gate for Progress<'_, C, E>
             return;
         };
         if number > 0 {
-            let taken = self.taken.fetch_add(1, Ordering::Relaxed).wrapping_add(1);
+            let taken = self.taken.fetch_add(1, Ordering::SeqCst).wrapping_add(1);
             if taken % STRIDE == 0 {
                 self.show(began, taken);
             }

@@ -23,13 +23,13 @@ impl Standing {
     }
 
     fn set(&self, now: u64) {
-        self.now.store(now, Ordering::Relaxed);
+        self.now.store(now, Ordering::SeqCst);
     }
 }
 
 impl Clock for Standing {
     fn monotonic(&self) -> io::Result<Duration> {
-        Ok(Duration::from_millis(self.now.load(Ordering::Relaxed)))
+        Ok(Duration::from_millis(self.now.load(Ordering::SeqCst)))
     }
 
     fn since_1970(&self) -> io::Result<Duration> {
