@@ -1,9 +1,12 @@
 -- The controller of a job, and what is known of it as it goes on.
-use Rattle.std.specs.Prelude.{◌≡◌, List, length, take}
+use Rattle.std.specs.Prelude.{◌≡◌, List, [], ◌∷◌, length, take, Option, Some, None}
+use Rattle.mil_bus.specs.declared.talks.Talk.{Talk}
+use Rattle.mil_bus.specs.declared.outcomes.Outcome.{Outcome}
 use Rattle.frame_tree.specs.Bounds.{IsSound}
 use Rattle.frame_code.specs.Table.{halted}
 use Rattle.frame_asm.specs.Shapes.{code_of}
 use Rattle.bc_machine.specs.declared.placed.Placed.{Placed}
+use Rattle.bc_machine.specs.Controller.{outcome_in}
 use Rattle.bc_machine.specs.Running.{MachineState, started, stepped, turn_of}
 use Rattle.bc_machine.specs.UnderWay.{IsUnderWay}
 use Rattle.job_file.specs.Spelled.{ChannelJob}
@@ -16,6 +19,15 @@ pub record IsOf (job : ChannelJob) (placed : List Placed) (m : MachineState) : T
   pub actions : m.placed ≡ placed
   pub begun : m.begun ≡ bus_of job
   pub under_way : IsUnderWay m
+
+-- what the latest talk of a bus came to, which stands first; nothing before any
+abbrev pub latest_outcome : List Talk → Option Outcome
+latest_outcome [] = None
+latest_outcome (talk ∷ earlier) = Some (outcome_in talk)
+
+-- the last outcome is that of the latest talk
+abbrev pub IsTold : MachineState → Type 0
+IsTold m = m.point.last ≡ latest_outcome m.point.state.talks
 
 -- its controller at the beginning is the job's
 abbrev pub Starts : Type 0

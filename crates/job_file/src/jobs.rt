@@ -11,7 +11,7 @@ ghost use Rattle.job_file.specs.Drafts.{shown};
 ghost use Rattle.job_file.specs.Spelled.{first_or};
 ghost use Rattle.job_file.specs.Jobs.{tree_in, job_in};
 ghost use Rattle.job_file.specs.Meaning.{bus_of};
-ghost use Rattle.job_file.specs.Machines.{IsOf};
+ghost use Rattle.job_file.specs.Machines.{IsOf, IsTold};
 
 use crate::drafts::Draft;
 use crate::scripts::Script;
@@ -132,6 +132,7 @@ impl Job {
     pub fn machine(&self, alloc: Global, placed: &[Placed]) -> Result<Machine, AllocError>
         ensures value { IfOk result (λ m. m ≡ started (code_of (tree_in self.now)) (bus_of (job_in self.now)) self.now.plan placed.now) }
         ensures of_job { IfOk result (λ m. IsOf (job_in self.now) placed.now m) }
+        ensures told { IfOk result (λ m. IsTold m) }
     {
         let program = self.program.copy()?;
         let plan = self.plan.copy()?;

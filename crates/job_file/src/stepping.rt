@@ -7,7 +7,7 @@ ghost use Rattle.bc_machine.specs.Running.{clock_in, turn_of};
 ghost use Rattle.bc_machine.specs.UnderWay.{IsUnderWay};
 ghost use Rattle.job_file.specs.Spelled.{ChannelJob};
 ghost use Rattle.job_file.specs.Meaning.{records};
-ghost use Rattle.job_file.specs.Machines.{IsOf};
+ghost use Rattle.job_file.specs.Machines.{IsOf, IsTold};
 
 use crate::laws::job_runs;
 use bc_machine::{Machine, Stepped};
@@ -19,6 +19,7 @@ use mil_monitor::Record;
 pub fn next_record(machine: &mut Machine) -> Option<Record>
     ensures under_way { IsUnderWay machine.new }
     ensures of_job { (job : ChannelJob) (placed : List Placed) → IsOf job placed machine.old → IsOf job placed machine.new }
+    ensures told { IsTold machine.old → IsTold machine.new }
     ensures record { IfSome result (λ r. (job : ChannelJob) (placed : List Placed) → IsSound job.tree → IsOf job placed machine.old
         → slice_get (records job placed) machine.old.point.number ≡ Some r) }
     ensures number { IfSome result (λ _. machine.new.point.number ≡ machine.old.point.number + 1) }

@@ -9,6 +9,7 @@ use Rattle.job_file.proofs.stepping.next_record.Given as goal
 abbrev pub invariant-steps : goal.invariant-steps
 invariant-steps l = record {
   state : l.machine.point.state ≡ l.initial.machine.point.state;
+  last : l.machine.point.last ≡ l.initial.machine.point.last;
   number : l.machine.point.number ≡ l.initial.machine.point.number;
   of : (job : ChannelJob) (placed : List Placed) → IsOf job placed l.initial.machine → IsOf job placed l.machine;
 }
