@@ -1,0 +1,6 @@
+pub mod Codes
+pub mod Accord
+pub mod Differences
+pub mod Places
+pub mod Moves
+pub mod Kept

@@ -1,0 +1,92 @@
+-- A recording under the debugger, and what moves of it come to (own choice).
+use Rattle.std.specs.Prelude.{◌≡◌, ℕ, suc, ◌<◌, Bool, true, List, length, slice_get, Some}
+use Rattle.mil_message.specs.World.{Point}
+use Rattle.mil_bus.specs.declared.outcomes.Outcome.{Outcome}
+use Rattle.mil_bus.specs.Exchange.{BusState}
+use Rattle.frame_tree.specs.Tree.{Test}
+use Rattle.frame_tree.specs.Meaning.{test_meaning}
+use Rattle.job_file.specs.Jobs.{JobState, job_in}
+use Rattle.job_file.specs.Meaning.{world_at, bus_after}
+use Rattle.job_file.specs.Machines.{latest_outcome}
+use Rattle.ch11_reader.specs.Recording.{Found}
+use Rattle.bench_report.specs.Reports.{ChannelPart}
+use Rattle.replay.specs.declared.error.ReplayError.{ReplayError}
+use Rattle.replay.specs.declared.error.ReplayError.TheVariants as error
+use Rattle.replay.specs.Accord.{Agrees}
+use Rattle.replay.specs.Differences.{IsFirstDifference}
+use Rattle.replay.specs.Places.{heard_channels, number_at}
+
+-- the jobs, their parts of the report, the packets of the file, and behind how many of its messages the debugger stands
+pub record ReplayState : Type 0 where
+  pub jobs : List JobState
+  pub parts : List ChannelPart
+  pub found : List Found
+  pub place : ℕ
+
+abbrev pub at_place : ℕ → ReplayState → ReplayState
+at_place place s = record { jobs = s.jobs; parts = s.parts; found = s.found; place = place }
+
+-- how many messages the file has
+abbrev pub total_of : ReplayState → ℕ
+total_of s = length (heard_channels s.found)
+
+-- what holds of the job at an index with its part of the report
+abbrev pub OfJob : ReplayState → ℕ → (JobState → ChannelPart → Type 0) → Type 0
+OfJob s index P = (job : JobState) (part : ChannelPart) → slice_get s.jobs index ≡ Some job → slice_get s.parts index ≡ Some part → P job part
+
+-- ---- conditions
+
+-- where a job is after so many messages; a condition looks at the last outcome alone
+abbrev pub point_after : JobState → ChannelPart → ℕ → Point BusState Outcome
+point_after job part number =
+    let bus = bus_after (job_in job) part.placed number in
+    record { state = bus; number = number; gap = 40; last = latest_outcome bus.talks }
+
+-- what a test says of the outcome of that message
+abbrev pub says : Test → JobState → ChannelPart → ℕ → Bool
+says test job part number = test_meaning (world_at (job_in job) part.placed) test (point_after job part number)
+
+-- message n of the file, counted from 1, is of a job for whose outcome the test is true
+pub record IsMet (s : ReplayState) (test : Test) (n : ℕ) : Type 0 where
+  pub index : ℕ
+  pub job : JobState
+  pub part : ChannelPart
+  pub job_there : slice_get s.jobs index ≡ Some job
+  pub part_there : slice_get s.parts index ≡ Some part
+  pub before : ℕ
+  pub next : n ≡ suc before
+  pub channel : slice_get (heard_channels s.found) before ≡ Some job.channel
+  pub true_there : says test job part (number_at s.found n job part) ≡ true
+
+-- the first such message past the place
+pub record IsNextMet (s : ReplayState) (test : Test) (n : ℕ) : Type 0 where
+  pub past : s.place < n
+  pub met : IsMet s test n
+  pub first : (m : ℕ) → s.place < m → m < n → ¬ IsMet s test m
+
+-- there is none
+abbrev pub IsNowhere : ReplayState → Test → Type 0
+IsNowhere s test = (m : ℕ) → s.place < m → ¬ IsMet s test m
+
+-- ---- refusals
+
+-- Y1, only at the first difference, or want of memory
+abbrev pub OpensNot : List JobState → List ChannelPart → List Found → ReplayError → Type 0
+OpensNot jobs parts found (error.Mismatch channel number) = IsFirstDifference jobs parts found channel number
+OpensNot jobs parts found error.Past = ⊥
+OpensNot jobs parts found error.Start = ⊥
+OpensNot jobs parts found error.Memory = Unit {0}
+
+-- Y2, only where there is nowhere to go to, or want of memory
+abbrev pub PastWhere : Type 0 → ReplayError → Type 0
+PastWhere P (error.Mismatch channel number) = ⊥
+PastWhere P error.Past = P
+PastWhere P error.Start = ⊥
+PastWhere P error.Memory = Unit {0}
+
+-- Y3, only where there is nowhere to go back to, or want of memory
+abbrev pub StartWhere : Type 0 → ReplayError → Type 0
+StartWhere P (error.Mismatch channel number) = ⊥
+StartWhere P error.Past = ⊥
+StartWhere P error.Start = P
+StartWhere P error.Memory = Unit {0}

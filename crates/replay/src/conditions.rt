@@ -1,0 +1,1 @@
+//! Conditions on the outcome of a message.

@@ -1,0 +1,13 @@
+//! The debugger of recordings: jobs and the report of a run played again, place by place of the recording.
+#![tactic(auto)]
+
+mod conditions;
+mod error;
+mod laws;
+mod opening;
+mod replaying;
+mod tracks;
+
+pub use error::ReplayError;
+pub use laws::difference_excludes_accord;
+pub use replaying::Replay;

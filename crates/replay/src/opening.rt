@@ -1,0 +1,1 @@
+//! Opening a recording: do jobs, report and recording agree?

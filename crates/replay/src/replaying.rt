@@ -1,0 +1,169 @@
+//! The debugger: a recording, and behind how many of its messages it stands.
+ghost use Rattle.std.specs.Prelude.{◌≡◌, ◌+◌, ◌-◌, ◌<◌, ◌≤◌, ◌==◌, count_by, length, slice_get, Some, IfOk, IfErr, OnOk, OnErr};
+ghost use Rattle.frame_tree.specs.Tree.{test_of};
+ghost use Rattle.job_file.specs.Jobs.{JobState, job_in};
+ghost use Rattle.job_file.specs.Meaning.{bus_after};
+ghost use Rattle.job_file.specs.Machines.{IsOf, IsTold};
+ghost use Rattle.replay.specs.Accord.{Agrees};
+ghost use Rattle.replay.specs.Places.{number_at};
+ghost use Rattle.replay.specs.Moves.{at_place, total_of, OfJob, IsNextMet, IsNowhere, OpensNot, PastWhere, StartWhere};
+
+use crate::error::ReplayError;
+use crate::tracks::Track;
+use bc_machine::Machine;
+use bench_report::Report;
+use ch11_reader::Index;
+use frame_tree::Cond;
+use job_file::Job;
+use std::alloc::{Allocator, Global};
+use std::marker::Model;
+
+/// A recording under the debugger, with the jobs and the report of its run, which agree with it. Contracts see the jobs, their
+/// parts of the report, the packets of the file, and the place: behind how many messages of the file it stands.
+#[derive(Drop)]
+pub struct Replay<'a> {
+    tracks: Vec<Track>,
+    index: Index<'a>,
+    channels: Vec<u16>,
+    place: u64,
+}
+
+impl<'a> Model for Replay<'a> {
+    ghost use Rattle.job_file.specs.contracts.scripts.Script as scripts;
+    ghost use Rattle.std.specs.Coded.{codes};
+    ghost use Rattle.replay.specs.Moves.{ReplayState};
+    ghost use Rattle.replay.specs.Kept.{jobs_in, parts_in, IsReplay};
+
+    ghost Value = { ReplayState };
+
+    ghost coded = { Prim.hlevel (codes, scripts.the_row.coded) };
+
+    ghost view = { λ r. record { jobs = jobs_in r.tracks.items; parts = parts_in r.tracks.items; found = r.index; place = r.place } };
+
+    ghost invariant = { λ r. IsReplay (record { jobs = jobs_in r.tracks.items; parts = parts_in r.tracks.items; found = r.index; place = r.place }) r.channels.items };
+}
+
+/// How many of the numbers are this one.
+fn count(channels: &[u16], channel: u16) -> usize
+    ensures { result ≡ count_by (λ c. c == channel) channels.now }
+{
+    channels.iter().filter(|one| **one == channel).count()
+}
+
+impl<'a> Replay<'a> {
+    /// Plays the jobs again, each under the actions that the report says were placed, and compares report and recording with
+    /// them. It stands before the first message.
+    ///
+    /// Y1 names the first difference, and comes only where they do not agree: the channels of jobs and report are compared
+    /// first, then those of the recording's packets of MIL-STD-1553 messages, then the messages of job after job.
+    pub fn open(
+        alloc: Global,
+        jobs: &[Job],
+        report: &Report,
+        index: Index<'a>,
+    ) -> Result<Replay<'a>, ReplayError>
+        ensures ok { IfOk result (λ r. r ≡ record { jobs = jobs.now; parts = report.now.channels; found = index.entry; place = 0 }) }
+        ensures agrees { OnOk result (Agrees jobs.now report.now.channels index.entry) }
+        ensures mismatch { IfErr result (λ e. OpensNot jobs.now report.now.channels index.entry e) }
+    {
+        Err(ReplayError::Memory)
+    }
+
+    /// To the next message of the file. Y2 where there is none; a refusal leaves all as it was.
+    pub fn forward(&mut self) -> Result<(), ReplayError>
+        ensures there { OnOk result (self.old.place < total_of self.old) }
+        ensures moved { OnOk result (self.new ≡ at_place (self.old.place + 1) self.old) }
+        ensures refused { IfErr result (λ e. PastWhere (total_of self.old ≤ self.old.place) e) }
+        ensures same { OnErr result (self.new ≡ self.old) }
+    {
+        if self.place >= self.total() {
+            return Err(ReplayError::Past);
+        }
+        self.place += 1;
+        Ok(())
+    }
+
+    /// To the message before. Y3 at the start; a refusal leaves all as it was.
+    pub fn back(&mut self) -> Result<(), ReplayError>
+        ensures there { OnOk result (0 < self.old.place) }
+        ensures moved { OnOk result (self.new ≡ at_place (self.old.place - 1) self.old) }
+        ensures refused { IfErr result (λ e. StartWhere (self.old.place ≡ 0) e) }
+        ensures same { OnErr result (self.new ≡ self.old) }
+    {
+        if self.place == 0 {
+            return Err(ReplayError::Start);
+        }
+        self.place -= 1;
+        Ok(())
+    }
+
+    /// To the place behind so many messages of the file. Y2 where it has fewer; a refusal leaves all as it was.
+    pub fn go(&mut self, n: u64) -> Result<(), ReplayError>
+        ensures there { OnOk result (n ≤ total_of self.old) }
+        ensures moved { OnOk result (self.new ≡ at_place n self.old) }
+        ensures refused { IfErr result (λ e. PastWhere (total_of self.old < n) e) }
+        ensures same { OnErr result (self.new ≡ self.old) }
+    {
+        if n > self.total() {
+            return Err(ReplayError::Past);
+        }
+        self.place = n;
+        Ok(())
+    }
+
+    /// To the first message past the place whose outcome makes the condition true. Y2 where there is none; a refusal leaves
+    /// all as it was.
+    pub fn find<A: Allocator + Clone>(&mut self, condition: &Cond<A>) -> Result<(), ReplayError>
+        ensures there { OnOk result (IsNextMet self.old (test_of condition.now) self.new.place) }
+        ensures moved { OnOk result (self.new ≡ at_place self.new.place self.old) }
+        ensures refused { IfErr result (λ e. PastWhere (IsNowhere self.old (test_of condition.now)) e) }
+        ensures same { OnErr result (self.new ≡ self.old) }
+    {
+        Err(ReplayError::Memory)
+    }
+
+    /// Behind how many messages of the file the debugger stands, 0 to all of them.
+    pub fn place(&self) -> u64
+        ensures value { result ≡ self.now.place }
+        ensures within { result ≤ total_of self.now }
+    {
+        self.place
+    }
+
+    /// How many messages the file has.
+    pub fn total(&self) -> u64
+        ensures { result ≡ total_of self.now }
+    {
+        self.channels.len() as u64
+    }
+
+    /// How many jobs there are.
+    pub fn jobs(&self) -> usize
+        ensures value { result ≡ length self.now.jobs }
+        ensures agrees { Agrees self.now.jobs self.now.parts self.now.found }
+    {
+        self.tracks.len()
+    }
+
+    /// The channel of the job at an index, 1 to 65,535. Condition: there is such a job.
+    pub fn channel(&self, index: usize) -> u16
+        requires { index < length self.now.jobs }
+        ensures { (job : JobState) → slice_get self.now.jobs index ≡ Some job → result ≡ job.channel }
+    {
+        self.tracks[index].channel()
+    }
+
+    /// The controller of the job at an index as it was behind the latest message of its channel among those before the place,
+    /// and before any where there is none. Condition: there is such a job.
+    pub fn state(&self, index: usize) -> &Machine
+        requires { index < length self.now.jobs }
+        ensures of_job { OfJob self.now index (λ job part. IsOf (job_in job) part.placed result.now) }
+        ensures number { OfJob self.now index (λ job part. result.now.point.number ≡ number_at self.now.found self.now.place job part) }
+        ensures bus { OfJob self.now index (λ job part. result.now.point.state ≡ bus_after (job_in job) part.placed (number_at self.now.found self.now.place job part)) }
+        ensures outcome { IsTold result.now }
+    {
+        let track = &self.tracks[index];
+        let heard = count(&self.channels[..self.place as usize], track.channel());
+        track.state(heard)
+    }
+}
