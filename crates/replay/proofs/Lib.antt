@@ -1,3 +1,4 @@
 pub mod Counting
 pub mod Excluding
 pub mod States
+pub mod Refused
