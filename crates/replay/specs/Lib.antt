@@ -4,3 +4,5 @@ pub mod Differences
 pub mod Places
 pub mod Moves
 pub mod Kept
+pub mod Playing
+pub mod Opening

@@ -6,6 +6,7 @@ mod conditions;
 mod error;
 mod laws;
 mod opening;
+mod playing;
 mod replaying;
 mod tracks;
 

@@ -9,6 +9,7 @@ ghost use Rattle.replay.specs.Places.{number_at};
 ghost use Rattle.replay.specs.Moves.{at_place, total_of, OfJob, IsNextMet, IsNowhere, OpensNot, PastWhere, StartWhere};
 
 use crate::error::ReplayError;
+use crate::opening::{compare_channels, message_channels, tracks};
 use crate::tracks::Track;
 use bc_machine::Machine;
 use bench_report::Report;
@@ -44,7 +45,7 @@ impl<'a> Model for Replay<'a> {
 }
 
 /// How many of the numbers are this one.
-fn count(channels: &[u16], channel: u16) -> usize
+pub(crate) fn count(channels: &[u16], channel: u16) -> usize
     ensures { result ≡ count_by (λ c. c == channel) channels.now }
 {
     channels.iter().filter(|one| **one == channel).count()
@@ -66,7 +67,16 @@ impl<'a> Replay<'a> {
         ensures agrees { OnOk result (Agrees jobs.now report.now.channels index.entry) }
         ensures mismatch { IfErr result (λ e. OpensNot jobs.now report.now.channels index.entry e) }
     {
-        Err(ReplayError::Memory)
+        let parts = report.channels();
+        compare_channels(alloc, jobs, parts, &index)?;
+        let tracks = tracks(alloc, jobs, parts, &index)?;
+        let channels = message_channels(alloc, &index)?;
+        Ok(Replay {
+            tracks,
+            index,
+            channels,
+            place: 0,
+        })
     }
 
     /// To the next message of the file. Y2 where there is none; a refusal leaves all as it was.

@@ -1,12 +1,17 @@
 //! One job under the debugger.
-ghost use Rattle.std.specs.Prelude.{◌≡◌, ◌≤◌, length, take};
+ghost use Rattle.std.specs.Prelude.{◌≡◌, ◌≤◌, length, take, IfOk, IfErr, OnOk};
 ghost use Rattle.ch11_recording.specs.Items.{last_number};
-ghost use Rattle.replay.specs.Accord.{kept_in};
+ghost use Rattle.replay.specs.Accord.{kept_in, AgreesOn};
+ghost use Rattle.replay.specs.Playing.{FailsAt};
 ghost use Rattle.replay.specs.Places.{IsAfter};
 
+use crate::error::ReplayError;
+use crate::playing::play;
 use bc_machine::Machine;
 use bench_report::ChannelReport;
+use ch11_reader::Index;
 use job_file::{Job, job_runs};
+use std::alloc::Global;
 use std::marker::Model;
 use std::snapshot::Snapshot;
 
@@ -35,6 +40,25 @@ impl Model for Track {
 }
 
 impl Track {
+    /// Plays a job again with its part of the report, and compares the file with it. Y1 names the first number at fault.
+    pub(crate) fn play(
+        alloc: Global,
+        job: &Job,
+        part: &ChannelReport,
+        index: &Index<'_>,
+    ) -> Result<Track, ReplayError>
+        ensures track { IfOk result (λ t. t ≡ record { job = job.now; part = part.now }) }
+        ensures agrees { OnOk result (AgreesOn index.now job.now part.now) }
+        ensures fault { IfErr result (λ e. FailsAt index.now job.now part.now e) }
+    {
+        Ok(Track {
+            channel: job.channel(),
+            states: play(alloc, job, part, index)?,
+            job: Snapshot::of(job),
+            part: Snapshot::of(part),
+        })
+    }
+
     /// The number of the job's channel, 1 to 65,535.
     pub(crate) fn channel(&self) -> u16
         ensures { result ≡ self.now.job.channel }

@@ -1,0 +1,102 @@
+//! A job that is played again beside the messages of its channel in the file.
+ghost use Rattle.std.specs.Prelude.{◌≡◌, MatchBool, IfOk, IfErr, OnOk};
+ghost use Rattle.frame_tree.specs.Bounds.{IsSound};
+ghost use Rattle.job_file.specs.Jobs.{tree_in};
+ghost use Rattle.replay.specs.Accord.{AgreesOn, kept_in};
+ghost use Rattle.replay.specs.Kept.{IsThere, AreStates};
+ghost use Rattle.replay.specs.Playing.{Tells, IsOver, GoesOn, FailsAt};
+
+use crate::comparing::{is_record, is_refused};
+use crate::error::ReplayError;
+use bc_machine::Machine;
+use bench_report::ChannelReport;
+use ch11_reader::{ChannelMessages, Index};
+use job_file::{Job, next_record};
+use std::alloc::Global;
+
+/// What became of the next message of a job.
+enum Played {
+    /// The file has it next.
+    Kept,
+    /// The report lists it as refused.
+    Refused,
+    /// There is none, or the file has none or another one next.
+    Unlike,
+}
+
+/// Plays the next message of a job beside the messages of its channel that are still to come in the file.
+fn play_next(
+    machine: &mut Machine,
+    job: &Job,
+    part: &ChannelReport,
+    heard: &mut ChannelMessages<'_, '_>,
+) -> Played
+    requires { IsThere job.now part.now machine.old.point.number machine.old }
+    ensures { Tells job.now part.now machine.old.point.number result machine.new heard.old heard.new }
+{
+    // Its contract says that the script is sound.
+    let _sound = job.program();
+    let Some(made) = next_record(machine) else {
+        return Played::Unlike;
+    };
+    if is_refused(part, machine.number()) {
+        return Played::Refused;
+    }
+    match heard.next() {
+        Some(seen) if is_record(&seen, &made) => Played::Kept,
+        _ => Played::Unlike,
+    }
+}
+
+/// Whether a job makes no more messages, and its channel has none in the file that is still to come.
+fn is_over(
+    machine: &mut Machine,
+    job: &Job,
+    part: &ChannelReport,
+    heard: &mut ChannelMessages<'_, '_>,
+) -> bool
+    requires { IsThere job.now part.now machine.old.point.number machine.old }
+    ensures { MatchBool result (IsOver job.now part.now machine.old.point.number heard.old) (GoesOn job.now part.now machine.old.point.number heard.old) }
+{
+    let _sound = job.program();
+    match next_record(machine) {
+        Some(_) => false,
+        None => heard.next().is_none(),
+    }
+}
+
+/// Plays a job again, under the actions that its part of the report says were placed, and compares part and file with it: its
+/// controller before any message, and behind each that was kept. Y1 names the first number at fault.
+pub(crate) fn play(
+    alloc: Global,
+    job: &Job,
+    part: &ChannelReport,
+    index: &Index<'_>,
+) -> Result<Vec<Machine>, ReplayError>
+    ensures sound { OnOk result (IsSound (tree_in job.now)) }
+    ensures states { IfOk result (λ v. AreStates job.now part.now (kept_in job.now part.now) v.items) }
+    ensures agrees { OnOk result (AgreesOn index.now job.now part.now) }
+    ensures fault { IfErr result (λ e. FailsAt index.now job.now part.now e) }
+{
+    let channel = job.channel();
+    let _sound = job.program();
+    let mut machine = job.machine(alloc, part.placed())?;
+    let mut heard = index.channel(channel);
+    let mut states = Vec::new(alloc);
+    states.push(machine.copy()?)?;
+    for played in 0..part.made() {
+        match play_next(&mut machine, job, part, &mut heard) {
+            Played::Kept => states.push(machine.copy()?)?,
+            Played::Refused => {}
+            Played::Unlike => {
+                let number = played + 1;
+                return Err(ReplayError::Mismatch { channel, number });
+            }
+        }
+    }
+    if !is_over(&mut machine, job, part, &mut heard) {
+        let number = part.made() + 1;
+        return Err(ReplayError::Mismatch { channel, number });
+    }
+    Ok(states)
+}
