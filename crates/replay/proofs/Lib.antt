@@ -6,3 +6,5 @@ pub mod KeptLists
 pub mod PlayingOn
 pub mod PlayingNext
 pub mod Channels
+pub mod FirstMet
+pub mod Finds

@@ -6,3 +6,5 @@ pub mod Moves
 pub mod Kept
 pub mod Playing
 pub mod Opening
+pub mod Conditions
+pub mod Finding

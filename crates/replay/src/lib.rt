@@ -4,6 +4,7 @@
 mod comparing;
 mod conditions;
 mod error;
+mod finding;
 mod laws;
 mod opening;
 mod playing;

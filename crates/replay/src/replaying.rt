@@ -9,6 +9,7 @@ ghost use Rattle.replay.specs.Places.{number_at};
 ghost use Rattle.replay.specs.Moves.{at_place, total_of, OfJob, IsNextMet, IsNowhere, OpensNot, PastWhere, StartWhere};
 
 use crate::error::ReplayError;
+use crate::finding::first_met;
 use crate::opening::{compare_channels, message_channels, tracks};
 use crate::tracks::Track;
 use bc_machine::Machine;
@@ -129,7 +130,13 @@ impl<'a> Replay<'a> {
         ensures refused { IfErr result (λ e. PastWhere (IsNowhere self.old (test_of condition.now)) e) }
         ensures same { OnErr result (self.new ≡ self.old) }
     {
-        Err(ReplayError::Memory)
+        match first_met(&self.tracks, &self.channels, self.place as usize, condition) {
+            None => Err(ReplayError::Past),
+            Some(n) => {
+                self.place = n as u64;
+                Ok(())
+            }
+        }
     }
 
     /// Behind how many messages of the file the debugger stands, 0 to all of them.

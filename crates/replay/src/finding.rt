@@ -1,0 +1,67 @@
+//! The first message past a place whose outcome makes a condition true.
+ghost use Rattle.std.specs.Prelude.{◌≡◌, ◌≤◌, length};
+ghost use Rattle.std.specs.List.{AllByRecursion};
+ghost use Rattle.frame_tree.specs.Tree.{test_of};
+ghost use Rattle.replay.specs.Accord.{kept_in};
+ghost use Rattle.replay.specs.Finding.{count_to, earlier, IsMetBy, IsMetIn, Finds};
+ghost use Rattle.replay.specs.Kept.{Pair};
+
+use crate::conditions::holds;
+use crate::replaying::count;
+use crate::tracks::Track;
+use frame_tree::Cond;
+use std::alloc::Allocator;
+
+/// The first message past a place that is of the job, and whose outcome makes the condition true. Conditions: the place is not
+/// past the end, and there are no more messages of the job's channel than were kept.
+fn first_of_job<A: Allocator + Clone>(
+    track: &Track,
+    channels: &[u16],
+    place: usize,
+    condition: &Cond<A>,
+) -> Option<usize>
+    requires place { place ≤ length channels.now }
+    requires room { count_to channels.now (length channels.now) track.now.job.channel ≤ length (kept_in track.now.job track.now.part) }
+    ensures { Finds place (IsMetBy channels.now (test_of condition.now) track.now) result }
+{
+    let channel = track.channel();
+    let mut heard = count(&channels[..place], channel);
+    for before in place..channels.len() {
+        if channels[before] == channel {
+            heard += 1;
+            if holds(condition, track.state(heard).last_outcome()) {
+                return Some(before + 1);
+            }
+        }
+    }
+    None
+}
+
+/// The earlier of two numbers, as far as they are there.
+fn earlier(first: Option<usize>, other: Option<usize>) -> Option<usize>
+    ensures { result ≡ earlier first other }
+{
+    match (first, other) {
+        (None, other) => other,
+        (first, None) => first,
+        (Some(a), Some(b)) => Some(a.min(b)),
+    }
+}
+
+/// The first message past a place that is of one of the jobs, and whose outcome makes the condition true. Conditions: as for one job.
+pub(crate) fn first_met<A: Allocator + Clone>(
+    tracks: &[Track],
+    channels: &[u16],
+    place: usize,
+    condition: &Cond<A>,
+) -> Option<usize>
+    requires place { place ≤ length channels.now }
+    requires room { AllByRecursion (λ (p : Pair). count_to channels.now (length channels.now) p.job.channel ≤ length (kept_in p.job p.part)) tracks.now }
+    ensures { Finds place (IsMetIn channels.now (test_of condition.now) tracks.now) result }
+{
+    let mut first = None;
+    for track in tracks {
+        first = earlier(first, first_of_job(track, channels, place, condition));
+    }
+    first
+}
