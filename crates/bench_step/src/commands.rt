@@ -1,0 +1,110 @@
+//! What a line of a session asks.
+ghost use Rattle.std.specs.Prelude.{◌≡◌, ◌≤◌, ◌<◌, ◌^◌, true, length, IfOk, MatchOption};
+ghost use Rattle.std.specs.Str.Parse.{digits_value};
+ghost use Rattle.mil_host.specs.Reading.{are_digits};
+ghost use Rattle.mil_host.specs.Words.{words};
+ghost use Rattle.frame_text.specs.Conditions.{condition_of_text};
+ghost use Rattle.bench_step.specs.Commands.{asked, asked_of, alone, going, finding};
+
+use crate::words::split_word;
+use frame_text::{ScriptError, read_cond};
+use frame_tree::Cond;
+use mil_host::next_word;
+use std::alloc::{AllocError, Global};
+
+/// What a line of a session asks.
+#[derive(Drop)]
+pub enum Command {
+    /// One message of the recording on.
+    Forward,
+    /// One message back.
+    Back,
+    /// To the place where so many messages of the recording are past.
+    Go(u64),
+    /// On to the next message whose outcome makes the condition true.
+    Find(Cond<Global>),
+    /// What the terminals hold.
+    State,
+    /// Nothing that a line may ask.
+    Unknown,
+}
+
+/// The number that decimal digits spell, at most ten of them.
+fn value_of(word: &[u8]) -> u64
+    requires few { length word.now ≤ 10 }
+    requires digits { are_digits 10 word.now ≡ true }
+    ensures { result ≡ digits_value 10 word.now }
+{
+    let mut total = 0u64;
+    for byte in word {
+        total = total * 10 + u64::from(*byte - b'0');
+    }
+    total
+}
+
+/// Whether each byte is a decimal digit.
+fn all_digits(word: &[u8]) -> bool
+    ensures { result ≡ are_digits 10 word.now }
+{
+    word.iter().all(|byte| byte.is_ascii_digit())
+}
+
+/// A command that no word may follow.
+fn alone(command: Command, rest: &[u8]) -> Command
+    ensures { asked_of result ≡ alone (asked_of command) (words rest.now) }
+{
+    match next_word(rest) {
+        Some(_) => Command::Unknown,
+        None => command,
+    }
+}
+
+/// A place: one word of one to ten decimal digits.
+fn going(rest: &[u8]) -> Command
+    ensures { asked_of result ≡ going (words rest.now) }
+{
+    let Some((word, behind)) = next_word(rest) else {
+        return Command::Unknown;
+    };
+    if next_word(behind).is_some() {
+        return Command::Unknown;
+    }
+    if all_digits(word) && 1 <= word.len() && word.len() <= 10 {
+        Command::Go(value_of(word))
+    } else {
+        Command::Unknown
+    }
+}
+
+/// A condition.
+fn finding(alloc: Global, rest: &[u8]) -> Result<Command, AllocError>
+    ensures { IfOk result (λ c. asked_of c ≡ finding (condition_of_text rest.now)) }
+{
+    match read_cond(alloc, rest) {
+        Ok(condition) => Ok(Command::Find(condition)),
+        Err(ScriptError::Text { .. }) => Ok(Command::Unknown),
+        Err(ScriptError::Memory { .. }) => Err(AllocError),
+    }
+}
+
+/// What a line asks: `forward`, `back`, `go N`, `find COND` or `state`. Spaces alone part its words; a number has one to ten
+/// digits; the condition is all that stands behind `find`. Memory is taken for a condition alone.
+#[tactic(auto, unfolding(crate::specs::Commands::asked))]
+pub fn read_command(alloc: Global, line: &[u8]) -> Result<Command, AllocError>
+    ensures { IfOk result (λ c. asked_of c ≡ asked line.now) }
+{
+    let (word, rest) = split_word(line);
+    if word == b"forward".as_slice() {
+        Ok(alone(Command::Forward, rest))
+    } else if word == b"back".as_slice() {
+        Ok(alone(Command::Back, rest))
+    } else if word == b"go".as_slice() {
+        Ok(going(rest))
+    } else if word == b"find".as_slice() {
+        finding(alloc, rest)
+    } else if word == b"state".as_slice() {
+        Ok(alone(Command::State, rest))
+    } else {
+        Ok(Command::Unknown)
+    }
+}

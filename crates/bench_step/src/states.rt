@@ -1,0 +1,98 @@
+//! What the terminals of a channel hold, as lines.
+ghost use Rattle.std.specs.Prelude.{◌≡◌, ◌++◌, OnOk, codes};
+ghost use Rattle.std.specs.Io.KnownBytes.{Appends};
+ghost use Rattle.bench_step.specs.StateText.{channel_text, field, lines_below, off_text, terminal_line, terminal_lines};
+
+use bc_machine::Machine;
+use mil_bus::Bus;
+use mil_terminal::Terminal;
+use mil_word::Line;
+use std::io::Write;
+use std::{fmt, io};
+
+/// A word that prints as four upper-case hexadecimal digits.
+#[derive(Clone, Copy)]
+struct Digits(u16);
+
+impl fmt::Display for Digits {
+    ghost use Rattle.std.specs.Prelude.{Some};
+    ghost use Rattle.mil_host.specs.Printing.{data_text};
+
+    ghost output = { λ w. Some (data_text w.0) };
+
+    fn fmt<W: fmt::Write>(&self, f: &mut fmt::Formatter<W>) -> fmt::Result {
+        let high = self.0 / 256;
+        let low = self.0 % 256;
+        write!(f, "{high:02X}{low:02X}")
+    }
+}
+
+/// The transmitters that are off, where these are on.
+fn off(a: bool, b: bool) -> &'static str
+    ensures { result.now ≡ off_text a b }
+{
+    match (a, b) {
+        (true, true) => "-",
+        (false, true) => "A",
+        (true, false) => "B",
+        (false, false) => "AB",
+    }
+}
+
+/// Prints a name and a register.
+fn print_field<W: Write>(out: &mut W, name: &str, value: u16) -> io::Result<()>
+    ensures { OnOk result (Appends (W.contents out.old) (W.contents out.new) (field name.now value)) }
+{
+    let digits = Digits(value);
+    write!(out, "{name}{digits}")
+}
+
+/// Prints which transmitters are off, and the end of the line.
+fn print_off<W: Write>(out: &mut W, a: bool, b: bool) -> io::Result<()>
+    ensures { OnOk result (Appends (W.contents out.old) (W.contents out.new) (codes " off " ++ off_text a b ++ codes "\n")) }
+{
+    let off = off(a, b);
+    writeln!(out, " off {off}")
+}
+
+/// Prints the line of a terminal, as
+/// `terminal 5 status 2800 last 2823 vector 0000 bit 0000 sync 0000 off -`.
+fn print_terminal<W: Write>(out: &mut W, terminal: &Terminal) -> io::Result<()>
+    ensures { OnOk result (Appends (W.contents out.old) (W.contents out.new) (terminal_line terminal.now)) }
+{
+    write!(out, "terminal {}", terminal.address())?;
+    print_field(out, " status ", terminal.status())?;
+    print_field(out, " last ", terminal.last_command())?;
+    print_field(out, " vector ", terminal.vector())?;
+    print_field(out, " bit ", terminal.bit_word())?;
+    print_field(out, " sync ", terminal.sync_word())?;
+    print_off(
+        out,
+        terminal.transmitter_on(Line::A),
+        terminal.transmitter_on(Line::B),
+    )
+}
+
+/// Prints a line for each terminal of a bus, in order of address.
+#[tactic(auto, unfolding(crate::specs::StateText::terminal_lines))]
+fn print_terminals<W: Write>(out: &mut W, bus: &Bus) -> io::Result<()>
+    ensures { OnOk result (Appends (W.contents out.old) (W.contents out.new) (terminal_lines bus.now)) }
+{
+    for address in 0..31u8 {
+        if let Some(terminal) = bus.terminal(address) {
+            print_terminal(out, terminal)?;
+        }
+    }
+    Ok(())
+}
+
+/// Prints what the terminals of a channel hold: a line for the channel, with the number of the last message that its bus has met,
+/// and one for each terminal. It takes no memory.
+#[tactic(auto, unfolding(crate::specs::StateText::channel_line))]
+pub fn print_channel<W: Write>(out: &mut W, channel: u16, machine: &Machine) -> io::Result<()>
+    ensures { OnOk result (Appends (W.contents out.old) (W.contents out.new) (channel_text channel machine.now.point.number machine.now.point.state)) }
+{
+    let number = machine.number();
+    writeln!(out, "channel {channel} number {number}")?;
+    print_terminals(out, machine.bus())
+}
