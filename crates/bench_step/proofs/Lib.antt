@@ -1,1 +1,5 @@
 pub mod Appending
+pub mod Asking
+pub mod Pairs
+pub mod Lines
+pub mod GoingOn

@@ -69,6 +69,15 @@ asked_by word rest =
 unfoldable pub asked : Text → Asked
 asked line = asked_by (first_word line) (behind_word line)
 
+-- memory is taken for what stands behind `find` alone, also where that is no condition
+abbrev pub TakesMemory : Asked → Type 0
+TakesMemory forward = ⊥
+TakesMemory back = ⊥
+TakesMemory (go place) = ⊥
+TakesMemory (find test) = Unit {0}
+TakesMemory state = ⊥
+TakesMemory unknown = Unit {0}
+
 -- what a command asks, whatever memory its condition lies in
 abbrev pub asked_of : Command → Asked
 asked_of command.Forward = forward

@@ -1,2 +1,5 @@
 pub mod Commands
 pub mod StateText
+pub mod Session
+pub mod Answering
+pub mod FaultText

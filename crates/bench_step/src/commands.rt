@@ -1,10 +1,10 @@
 //! What a line of a session asks.
-ghost use Rattle.std.specs.Prelude.{◌≡◌, ◌≤◌, ◌<◌, ◌^◌, true, length, IfOk, MatchOption};
+ghost use Rattle.std.specs.Prelude.{◌≡◌, ◌≤◌, ◌<◌, ◌^◌, true, length, IfOk, OnErr};
 ghost use Rattle.std.specs.Str.Parse.{digits_value};
 ghost use Rattle.mil_host.specs.Reading.{are_digits};
 ghost use Rattle.mil_host.specs.Words.{words};
 ghost use Rattle.frame_text.specs.Conditions.{condition_of_text};
-ghost use Rattle.bench_step.specs.Commands.{asked, asked_of, alone, going, finding};
+ghost use Rattle.bench_step.specs.Commands.{asked, asked_of, alone, going, finding, TakesMemory};
 
 use crate::words::split_word;
 use frame_text::{ScriptError, read_cond};
@@ -77,8 +77,10 @@ fn going(rest: &[u8]) -> Command
 }
 
 /// A condition.
+#[tactic(auto, using(crate::proofs::Asking::finding_takes))]
 fn finding(alloc: Global, rest: &[u8]) -> Result<Command, AllocError>
-    ensures { IfOk result (λ c. asked_of c ≡ finding (condition_of_text rest.now)) }
+    ensures read { IfOk result (λ c. asked_of c ≡ finding (condition_of_text rest.now)) }
+    ensures memory { OnErr result (TakesMemory (finding (condition_of_text rest.now))) }
 {
     match read_cond(alloc, rest) {
         Ok(condition) => Ok(Command::Find(condition)),
@@ -91,7 +93,8 @@ fn finding(alloc: Global, rest: &[u8]) -> Result<Command, AllocError>
 /// digits; the condition is all that stands behind `find`. Memory is taken for a condition alone.
 #[tactic(auto, unfolding(crate::specs::Commands::asked))]
 pub fn read_command(alloc: Global, line: &[u8]) -> Result<Command, AllocError>
-    ensures { IfOk result (λ c. asked_of c ≡ asked line.now) }
+    ensures read { IfOk result (λ c. asked_of c ≡ asked line.now) }
+    ensures memory { OnErr result (TakesMemory (asked line.now)) }
 {
     let (word, rest) = split_word(line);
     if word == b"forward".as_slice() {

@@ -2,5 +2,13 @@
 #![tactic(auto)]
 
 mod commands;
+mod fault;
+mod replies;
+mod sessions;
 mod states;
 mod words;
+
+pub use commands::{Command, read_command};
+pub use fault::StepFault;
+pub use replies::Reply;
+pub use sessions::{answer, step};

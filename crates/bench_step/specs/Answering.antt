@@ -1,0 +1,105 @@
+-- What a session reads and writes.
+use Rattle.std.specs.Prelude.{◌≡◌, ℕ, Bool, false, List, [], ◌++◌, ◌⊎◌, Option, Some, IfSome, Ok, Err}
+use Rattle.std.specs.Io.KnownBytes.{Appends}
+use Rattle.mil_host.specs.Words.{Text}
+use Rattle.job_file.specs.Jobs.{JobState}
+use Rattle.bench_report.specs.Reports.{ChannelPart}
+use Rattle.bench_report.specs.Spelling.{text_lines}
+use Rattle.ch11_reader.specs.Recording.{packets_in}
+use Rattle.ch11_reader.specs.Indexed.{found_in}
+use Rattle.replay.specs.Accord.{Agrees}
+use Rattle.replay.specs.Differences.{IsFirstDifference}
+use Rattle.replay.specs.Moves.{ReplayState}
+use Rattle.bench_step.specs.Commands.{asked}
+use Rattle.bench_step.specs.Session.{Replies, after_reply, reply_text, is_memory, AreReplies, after_replies, session_text, any_memory}
+use Rattle.bench_step.specs.declared.replies.Reply.{Reply}
+use Rattle.bench_step.specs.declared.fault.StepFault.{StepFault}
+use Rattle.bench_step.specs.declared.fault.StepFault.TheVariants as fault
+
+-- a line was answered: from one state to the next, with what the writer got, and whether memory was refused
+pub record IsAnswered (old new : ReplayState) (line : Text) (got gets : Option (List ℕ)) (refused : Bool) : Type 0 where
+  pub reply : Reply
+  pub lawful : Replies old (asked line) reply
+  pub after : new ≡ after_reply reply old
+  pub printed : Appends got gets (reply_text reply new)
+  pub memory : refused ≡ is_memory reply
+
+-- Lines were answered from a state on. Where the reader's bytes are known, they are the first lines of its text, and these bytes
+-- are left of it.
+pub record IsSession (s new : ReplayState) (left leaves got gets : Option (List ℕ)) (refused : Bool) : Type 0 where
+  pub lines : List Text
+  pub replies : List Reply
+  pub read : IfSome left (λ text. (rest : List ℕ) × (leaves ≡ Some rest) × (text_lines text ≡ lines ++ text_lines rest))
+  pub lawful : AreReplies s lines replies
+  pub after : new ≡ after_replies replies s
+  pub printed : Appends got gets (session_text replies s)
+  pub memory : refused ≡ any_memory replies
+
+-- the state in which a debugger is opened
+abbrev pub opened : List JobState → List ChannelPart → List ℕ → ReplayState
+opened jobs parts recording = record { jobs = jobs; parts = parts; found = found_in recording; place = 0 }
+
+-- jobs, report and recording are accepted
+pub record IsAccepted (jobs : List JobState) (parts : List ChannelPart) (recording : List ℕ) : Type 0 where
+  pub readable : packets_in recording ≡ Ok (found_in recording)
+  pub agrees : Agrees jobs parts (found_in recording)
+
+-- where the reader's bytes are known, none is left
+abbrev pub IsEnded : Option (List ℕ) → Option (List ℕ) → Type 0
+IsEnded left leaves = IfSome left (λ text. leaves ≡ Some [])
+
+-- they were, and all lines were answered, for none of which memory was refused
+pub record IsWhole (jobs : List JobState) (parts : List ChannelPart) (recording : List ℕ) (left leaves got gets : Option (List ℕ)) : Type 0 where
+  pub accepted : IsAccepted jobs parts recording
+  pub last : ReplayState
+  pub session : IsSession (opened jobs parts recording) last left leaves got gets false
+  pub all : IfSome left (λ text. session.lines ≡ text_lines text)
+  pub ended : IsEnded left leaves
+
+-- the fault of a reader
+abbrev pub IsReaders : StepFault → Type 0
+IsReaders (fault.Refused r) = ⊥
+IsReaders (fault.Mismatch channel number) = ⊥
+IsReaders fault.Memory = Unit {0}
+IsReaders fault.Input = Unit {0}
+IsReaders fault.Output = ⊥
+
+-- the first lines were answered, and the writer got no more than their answers
+pub record IsFront (s : ReplayState) (left got gets : Option (List ℕ)) : Type 0 where
+  pub last : ReplayState
+  pub leaves : Option (List ℕ)
+  pub refused : Bool
+  pub session : IsSession s last left leaves got gets refused
+
+-- a session was cut short by its reader, or by its writer, of which nothing more is known
+abbrev pub IsCutShort : ReplayState → Option (List ℕ) → Option (List ℕ) → Option (List ℕ) → StepFault → Type 0
+IsCutShort s left got gets (fault.Refused r) = ⊥
+IsCutShort s left got gets (fault.Mismatch channel number) = ⊥
+IsCutShort s left got gets fault.Memory = IsFront s left got gets
+IsCutShort s left got gets fault.Input = IsFront s left got gets
+IsCutShort s left got gets fault.Output = Unit {0}
+
+-- Why a debugger was not opened. The recording's fault comes first, and only where it has one; then the first difference between
+-- jobs, report and recording; want of memory where the recording can be read.
+abbrev pub IsRefusal : List JobState → List ChannelPart → List ℕ → StepFault → Type 0
+IsRefusal jobs parts recording (fault.Refused r) = packets_in recording ≡ Err r
+IsRefusal jobs parts recording (fault.Mismatch channel number) =
+    (packets_in recording ≡ Ok (found_in recording)) × IsFirstDifference jobs parts (found_in recording) channel number
+IsRefusal jobs parts recording fault.Memory = packets_in recording ≡ Ok (found_in recording)
+IsRefusal jobs parts recording fault.Input = ⊥
+IsRefusal jobs parts recording fault.Output = ⊥
+
+-- nothing was read, and nothing printed
+pub record IsUntouched (left leaves got gets : Option (List ℕ)) : Type 0 where
+  pub reader : leaves ≡ left
+  pub writer : gets ≡ got
+
+-- they were accepted, and the session was cut short
+abbrev pub IsBegun : List JobState → List ChannelPart → List ℕ → Option (List ℕ) → Option (List ℕ) → Option (List ℕ) → StepFault → Type 0
+IsBegun jobs parts recording left got gets f = IsAccepted jobs parts recording × IsCutShort (opened jobs parts recording) left got gets f
+
+-- The debugger was not opened, and no line was read; or its session was cut short; or memory was refused for what some line asks,
+-- and all other lines were answered.
+abbrev pub Ends : List JobState → List ChannelPart → List ℕ → Option (List ℕ) → Option (List ℕ) → Option (List ℕ) → Option (List ℕ) → StepFault → Type 0
+Ends jobs parts recording left leaves got gets f =
+    (IsRefusal jobs parts recording f × IsUntouched left leaves got gets) ⊎ IsBegun jobs parts recording left got gets f

@@ -1,0 +1,58 @@
+//! Why a session ended before its lines did, or with a refusal for memory.
+ghost use Rattle.bench_step.specs.Answering.{IsReaders};
+
+use ch11_reader::Refusal;
+use std::{fmt, io};
+
+/// Why a session ended before its lines did, or with a refusal for memory.
+#[derive(Clone, Copy, Debug, PartialEq, Eq)]
+pub enum StepFault {
+    /// The recording can't be read: K1 to K5, N2 or F1 to F3 with the packet's offset. No line was read.
+    Refused(Refusal),
+    /// Y1: jobs, report and recording do not agree, and this is the first difference. No line was read.
+    Mismatch {
+        /// The number of the channel.
+        channel: u16,
+        /// The number of the message in its channel, counted from 1; 0 where the channels themselves disagree.
+        number: u32,
+    },
+    /// Memory was refused: before the first line, for a line as it was read, or for what a line asked, where all other lines were
+    /// answered.
+    Memory,
+    /// The lines could not be read.
+    Input,
+    /// The writer failed, which may have got some of an answer.
+    Output,
+}
+
+/// `K3 offset 0`, `Y1 channel 1 number 3`, `memory`, `device -`.
+impl fmt::Display for StepFault {
+    ghost use Rattle.std.specs.Prelude.{Some};
+    ghost use Rattle.bench_step.specs.FaultText.{fault_text};
+
+    ghost output = { λ e. Some (fault_text e) };
+
+    fn fmt<W: fmt::Write>(&self, f: &mut fmt::Formatter<W>) -> fmt::Result {
+        match self {
+            StepFault::Refused(refusal) => write!(f, "{refusal}"),
+            StepFault::Mismatch { channel, number } => {
+                write!(f, "Y1 channel {channel} number {number}")
+            }
+            StepFault::Memory => write!(f, "memory"),
+            StepFault::Input | StepFault::Output => write!(f, "device -"),
+        }
+    }
+}
+
+impl StepFault {
+    /// The fault of a reader.
+    pub(crate) fn of_reader(error: &io::Error) -> StepFault
+        ensures { IsReaders result }
+    {
+        if error.kind() == io::ErrorKind::OutOfMemory {
+            StepFault::Memory
+        } else {
+            StepFault::Input
+        }
+    }
+}
