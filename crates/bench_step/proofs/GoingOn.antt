@@ -6,12 +6,14 @@ use Rattle.std.specs.List.{before_first}
 use Rattle.std.specs.Io.KnownBytes.{IsAtEnd}
 use Rattle.std.specs.Io.BufRead.{take_through, drop_through, DropsThrough}
 use Rattle.mil_host.specs.Words.{Text}
+use Rattle.job_file.specs.Jobs.{JobState}
+use Rattle.bench_report.specs.Reports.{ChannelPart}
 use Rattle.bench_report.specs.Spelling.{is_line_end, text_lines}
 use Rattle.bench_report.proofs.LineLemmas.{text_lines-none}
 use Rattle.replay.specs.Moves.{ReplayState}
 use Rattle.bench_step.specs.Commands.{asked}
 use Rattle.bench_step.specs.Session.{Replies, after_reply, reply_text, is_memory, AreReplies, after_replies, session_text, any_memory}
-use Rattle.bench_step.specs.Answering.{IsAnswered, IsSession, IsEnded, IsReaders, IsCutShort}
+use Rattle.bench_step.specs.Answering.{IsAnswered, IsSession, IsAccepted, IsWhole, IsEnded, IsReaders, IsCutShort, opened}
 use Rattle.bench_step.specs.declared.replies.Reply.{Reply}
 use Rattle.bench_step.specs.declared.fault.StepFault.{StepFault}
 use Rattle.bench_step.specs.declared.fault.StepFault.TheVariants as fault
@@ -122,3 +124,16 @@ cut_short s last left leaves got gets refused (fault.Mismatch channel number) h 
 cut_short s last left leaves got gets refused fault.Memory h is = record { last = last; leaves = leaves; refused = refused; session = h }
 cut_short s last left leaves got gets refused fault.Input h is = record { last = last; leaves = leaves; refused = refused; session = h }
 cut_short s last left leaves got gets refused fault.Output h is = absurd is
+
+-- a session of all lines, for none of which memory was refused
+pub whole : (jobs : List JobState) (parts : List ChannelPart) (recording : List ℕ) (s last : ReplayState) (left leaves got gets : Option (List ℕ)) (refused : Bool) → IsAccepted jobs parts recording → s ≡ opened jobs parts recording
+    → refused ≡ false → IsSession s last left leaves got gets refused → IsEnded left leaves → IsWhole jobs parts recording left leaves got gets
+whole jobs parts recording s last left leaves got gets refused accepted is none h end =
+    let session : IsSession (opened jobs parts recording) last left leaves got gets false = rw (is, none) at h in
+    record {
+      accepted = accepted;
+      last = last;
+      session = session;
+      all = all_read (opened jobs parts recording) last left leaves got gets false session end;
+      ended = end;
+    }

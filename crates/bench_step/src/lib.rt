@@ -2,6 +2,7 @@
 #![tactic(auto)]
 
 mod commands;
+mod console;
 mod fault;
 mod replies;
 mod sessions;
@@ -9,6 +10,7 @@ mod states;
 mod words;
 
 pub use commands::{Command, read_command};
+pub use console::Prompted;
 pub use fault::StepFault;
 pub use replies::Reply;
 pub use sessions::{answer, step};
