@@ -23,6 +23,19 @@ pub enum Request<'a> {
     Dump {
         recording: &'a str,
     },
+    /// A recording, walked through by lines of the standard input.
+    Step(StepRequest<'a>),
+}
+
+/// What is to be walked through.
+#[derive(Debug, Drop)]
+pub struct StepRequest<'a> {
+    /// The file of the recording.
+    pub recording: &'a str,
+    /// The file of the report of its run.
+    pub report: &'a str,
+    /// The files of the jobs that were run, however many.
+    pub jobs: Vec<&'a str>,
 }
 
 /// What is to be recorded, and where to.
@@ -57,6 +70,7 @@ pub fn read<'a>(alloc: Global, words: &'a [String]) -> Result<Request<'a>, Error
         Some(("dump", given)) => Request::Dump {
             recording: given.get_str("RECORDING").unwrap_or(""),
         },
+        Some(("step", given)) => Request::Step(step_request(alloc, given)?),
         Some((_, given)) => one_request(given),
         None => one_request(&matches),
     })
@@ -77,7 +91,8 @@ fn bench_command<'a>(alloc: Global) -> Result<Command<'a>, AllocError> {
         .subcommand(one_command(alloc)?)?
         .subcommand(assemble_command(alloc)?)?
         .subcommand(run_command(alloc)?)?
-        .subcommand(dump_command(alloc)?)
+        .subcommand(dump_command(alloc)?)?
+        .subcommand(step_command(alloc)?)
 }
 
 fn assemble_command<'a>(alloc: Global) -> Result<Command<'a>, AllocError> {
@@ -171,6 +186,51 @@ fn dump_command<'a>(alloc: Global) -> Result<Command<'a>, AllocError> {
         .about("Shows the packets and messages of a recording, or its first fault")
         .after_help("Example:\n  bench dump flight.ch11")
         .arg(recording)
+}
+
+/// What the help of `bench step` ends with.
+const STEP_NOTES: &str = "\
+Reads commands from standard input, one a line, and answers each at once. A place is how many messages of
+the recording are past.
+
+  forward, back   one message on, or back
+  go N            to place N; 0 is the beginning
+  find COND       on to the next message whose outcome makes a condition true: fail, silent, bit NAME,
+                  not COND, all ( COND COND ), any ( COND COND )
+  state           for each channel the number of its last message, and the registers of its terminals
+
+A move prints the place, as in `at 7`; Y2 where there is no such message, Y3 at the beginning. Another line
+prints `unknown`.
+
+Example:
+  printf 'find fail\\nstate\\n' | bench step flight.ch11 flight.report avionics.job stores.job";
+
+fn step_command<'a>(alloc: Global) -> Result<Command<'a>, AllocError> {
+    let recording = Arg::new(alloc, "RECORDING")
+        .required(true)
+        .help("The Chapter 11 file to walk through");
+    let report = Arg::new(alloc, "REPORT")
+        .required(true)
+        .help("The report of the run that recorded it");
+    let jobs = Arg::new(alloc, "JOB")
+        .num_args(0usize..)
+        .help("The jobs of that run, in their order");
+    Command::new(alloc, "step")
+        .about("Walks through a recording, and shows what the terminals hold at each message")
+        .after_help(STEP_NOTES)
+        .arg(recording)?
+        .arg(report)?
+        .arg(jobs)
+}
+
+fn step_request<'a>(alloc: Global, given: &ArgMatches<'a>) -> Result<StepRequest<'a>, AllocError> {
+    let mut jobs = Vec::new(alloc);
+    jobs.extend_from_slice(given.get_strs("JOB").unwrap_or(&[]))?;
+    Ok(StepRequest {
+        recording: given.get_str("RECORDING").unwrap_or(""),
+        report: given.get_str("REPORT").unwrap_or(""),
+        jobs,
+    })
 }
 
 fn one_command<'a>(alloc: Global) -> Result<Command<'a>, AllocError> {

@@ -4,6 +4,7 @@ use crate::command_line::{self, Request};
 use crate::fault::Fault;
 use crate::files::{read_whole, write_whole};
 use crate::recording::run_jobs;
+use crate::stepping::step_through;
 use bench_assemble::{AssembleFault, Sizes, assemble_text, print_sizes};
 use bench_dump::{DumpFault, dump};
 use bench_one::{OneFault, one, print_bytes};
@@ -21,7 +22,10 @@ use std::{env, io};
 pub fn run<
     R: Env + Files + AllocGlobal + Input + Print + Clock + Threads + Wait + Sync,
     E: Eprint + IsTerminal + Sync,
->(rt: &R, errors: &E) -> ExitCode {
+>(rt: &R, errors: &E) -> ExitCode
+where
+    R::Reader: IsTerminal,
+{
     match words_of(rt) {
         Ok(words) => run_words(rt, errors, words.as_slice()),
         Err(error) if error.kind() == io::ErrorKind::OutOfMemory => stop(errors, &Fault::Memory),
@@ -39,7 +43,10 @@ fn words_of<R: Env + AllocGlobal>(rt: &R) -> io::Result<Vec<String>> {
 fn run_words<
     R: Files + AllocGlobal + Input + Print + Clock + Threads + Wait + Sync,
     E: Eprint + IsTerminal + Sync,
->(rt: &R, errors: &E, words: &[String]) -> ExitCode {
+>(rt: &R, errors: &E, words: &[String]) -> ExitCode
+where
+    R::Reader: IsTerminal,
+{
     match command_line::read(rt.alloc(), words) {
         Ok(request) => match obey(rt, errors, &request) {
             Ok(()) => ExitCode::SUCCESS,
@@ -73,7 +80,10 @@ fn obey<
     'a,
     R: Files + AllocGlobal + Input + Print + Clock + Threads + Wait + Sync,
     E: Eprint + IsTerminal + Sync,
->(rt: &R, errors: &E, request: &Request<'a>) -> Result<(), Fault<'a>> {
+>(rt: &R, errors: &E, request: &Request<'a>) -> Result<(), Fault<'a>>
+where
+    R::Reader: IsTerminal,
+{
     match request {
         Request::One {
             channel,
@@ -83,6 +93,7 @@ fn obey<
         Request::Assemble { script, image } => run_assemble(rt, script, image),
         Request::Run(request) => run_jobs(rt, errors, request),
         Request::Dump { recording } => show(rt, recording),
+        Request::Step(request) => step_through(rt, errors, request),
     }
 }
 

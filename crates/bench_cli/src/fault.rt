@@ -1,11 +1,13 @@
 //! Why `bench` stops, and with which exit status.
 ghost use Rattle.std.specs.Prelude.{◌≡◌};
-ghost use Rattle.bench_cli.specs.Status.{status_of, fault_of};
+ghost use Rattle.bench_cli.specs.Status.{status_of, fault_of, IsOfStep};
 
 use bench_assemble::AssembleFault;
 use bench_core::WorldError;
 use bench_one::OneFault;
+use bench_report::ReportError;
 use bench_run::RunError;
+use bench_step::StepFault;
 use ch11_reader::Refusal;
 use job_file::JobError;
 use std::alloc::AllocError;
@@ -24,6 +26,12 @@ pub enum Fault<'a> {
     /// A recording was refused.
     #[error("{0}")]
     Recording(Refusal),
+    /// The text of a report was refused.
+    #[error("{0}")]
+    Report(ReportError),
+    /// Jobs, report and recording do not agree, and this is the first difference.
+    #[error("Y1 channel {channel} number {number}")]
+    Mismatch { channel: u16, number: u32 },
     /// The text of a job was refused.
     #[error("{0}")]
     Job(JobError),
@@ -49,6 +57,7 @@ impl<'a> Fault<'a> {
         match self {
             Fault::Text(_) | Fault::Script(_) | Fault::Recording(_) => 1,
             Fault::Job(_) | Fault::Run(_) => 1,
+            Fault::Report(_) | Fault::Mismatch { .. } => 1,
             Fault::Sink { .. } | Fault::Device(_) => 3,
             Fault::Memory => 4,
         }
@@ -64,6 +73,21 @@ impl<'a> Fault<'a> {
             RunError::Prologue { .. } => Fault::Run(WorldError::Prologue),
             RunError::Memory { .. } => Fault::Memory,
             RunError::Sink { taken, .. } => Fault::Sink { taken: *taken },
+        }
+    }
+
+    /// The fault of a session that ended before its lines did, or with a refusal for memory.
+    pub fn of_step(fault: &StepFault) -> Fault<'a>
+        ensures { IsOfStep fault.now result }
+    {
+        match fault {
+            StepFault::Refused(refusal) => Fault::Recording(*refusal),
+            StepFault::Mismatch { channel, number } => Fault::Mismatch {
+                channel: *channel,
+                number: *number,
+            },
+            StepFault::Memory => Fault::Memory,
+            StepFault::Input | StepFault::Output => Fault::Device("-"),
         }
     }
 

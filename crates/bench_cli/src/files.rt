@@ -20,6 +20,19 @@ pub fn read_whole<'a, R: Files + AllocGlobal>(rt: &R, name: &'a str) -> Result<V
     }
 }
 
+/// All bytes of each of these files, which are read in their order.
+pub fn read_texts<'a, R: Files + AllocGlobal>(
+    rt: &R,
+    names: &[&'a str],
+) -> Result<Vec<Vec<u8>>, Fault<'a>> {
+    let mut texts = Vec::new(rt.alloc());
+    for name in names {
+        let text = read_whole(rt, name)?;
+        texts.push(text).map_err(|_| Fault::Memory)?;
+    }
+    Ok(texts)
+}
+
 /// Makes a file of these bytes, in the place of one that is there. One that cannot be made or written is a device fault with its
 /// name as given.
 pub fn write_whole<'a, R: Files>(rt: &R, name: &'a str, bytes: &[u8]) -> Result<(), Fault<'a>> {

@@ -1,27 +1,12 @@
-//! The jobs that files spell.
+//! Jobs, judged once their files are read.
 ghost use Rattle.std.specs.Prelude.{◌≡◌, map, IfOk, IfErr};
 ghost use Rattle.job_file.specs.Jobs.{job_in};
 ghost use Rattle.job_file.specs.Texts.{AreSpelled};
 ghost use Rattle.bench_cli.specs.Requests.{IsRefusedJob};
 
 use crate::fault::Fault;
-use crate::files::read_whole;
 use job_file::{Job, JobError};
 use std::alloc::{AllocError, Global};
-use std::rt::Files;
-
-/// The jobs of these files: all are read, and then judged in their order.
-pub fn read_jobs<'a, R: Files + AllocGlobal>(
-    rt: &R,
-    names: &[&'a str],
-) -> Result<Vec<Job>, Fault<'a>> {
-    let mut texts = Vec::new(rt.alloc());
-    for name in names {
-        let text = read_whole(rt, name)?;
-        texts.push(text).map_err(|_| Fault::Memory)?;
-    }
-    jobs_of(rt.alloc(), &texts)
-}
 
 /// The texts as they stand, each lent out.
 fn lent(alloc: Global, texts: &[Vec<u8>]) -> Result<Vec<&[u8]>, AllocError>

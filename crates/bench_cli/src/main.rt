@@ -7,6 +7,7 @@ mod fault;
 mod files;
 mod jobs;
 mod recording;
+mod stepping;
 
 use std::process::ExitCode;
 

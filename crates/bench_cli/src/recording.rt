@@ -3,8 +3,8 @@ ghost use Rattle.std.specs.Prelude.{◌≡◌, ◌-◌, ◌<◌, ◌^◌};
 
 use crate::command_line::RunRequest;
 use crate::fault::Fault;
-use crate::files::{create, read_whole, write_whole};
-use crate::jobs::read_jobs;
+use crate::files::{create, read_texts, read_whole, write_whole};
+use crate::jobs::jobs_of;
 use bench_core::Settings;
 use bench_record::{Counts, print_counts, record_jobs_with_progress};
 use bench_report::{Report, print_report};
@@ -27,7 +27,8 @@ pub fn run_jobs<
         Some(name) => read_whole(rt, name)?,
         None => Vec::new(rt.alloc()),
     };
-    let jobs = read_jobs(rt, &request.jobs)?;
+    let texts = read_texts(rt, &request.jobs)?;
+    let jobs = jobs_of(rt.alloc(), &texts)?;
     let settings = settings_of(request, prologue);
     let sink = StdSink::make(create(rt, request.out)?);
     let report = record(rt, errors, &jobs, &settings, sink)?;

@@ -1,0 +1,80 @@
+//! `bench step`: a recording, walked through by lines of the standard input.
+
+use crate::command_line::StepRequest;
+use crate::fault::Fault;
+use crate::files::{read_texts, read_whole};
+use crate::jobs::jobs_of;
+use bench_report::{Report, ReportError, ReportFault, read_report};
+use bench_step::{Prompted, step};
+use ch11_reader::{Index, ReadError};
+use job_file::Job;
+use std::alloc::Global;
+use std::io;
+use std::io::{BufReader, BufWriter, Input, IsTerminal};
+use std::rt::Files;
+
+/// Walks through a recording as the lines of the standard input ask, and answers each of them on the standard output. All files are
+/// read before the first of them is judged: the recording, then the report, then the jobs.
+pub fn step_through<'a, R: Files + AllocGlobal + Input + Print, E: Eprint + IsTerminal>(
+    rt: &R,
+    errors: &E,
+    request: &StepRequest<'a>,
+) -> Result<(), Fault<'a>>
+where
+    R::Reader: IsTerminal,
+{
+    let recording = read_whole(rt, request.recording)?;
+    let report = read_whole(rt, request.report)?;
+    let texts = read_texts(rt, &request.jobs)?;
+    judge_recording(rt.alloc(), &recording)?;
+    let report = judge_report(rt.alloc(), &report)?;
+    let jobs = jobs_of(rt.alloc(), &texts)?;
+    walk(rt, errors, &jobs, &report, &recording)
+}
+
+/// A recording is judged before the report and the jobs are.
+fn judge_recording<'a>(alloc: Global, recording: &[u8]) -> Result<(), Fault<'a>> {
+    match Index::build(alloc, recording) {
+        Ok(_) => Ok(()),
+        Err(ReadError::Refused(refusal)) => Err(Fault::Recording(refusal)),
+        Err(ReadError::Memory) => Err(Fault::Memory),
+    }
+}
+
+fn judge_report<'a>(alloc: Global, text: &[u8]) -> Result<Report, Fault<'a>> {
+    match read_report(alloc, text) {
+        Ok(report) => Ok(report),
+        Err(
+            ReportError {
+                fault: ReportFault::Memory,
+                ..
+            },
+        ) => Err(Fault::Memory),
+        Err(fault) => Err(Fault::Report(fault)),
+    }
+}
+
+fn walk<'a, R: AllocGlobal + Input + Print, E: Eprint + IsTerminal>(
+    rt: &R,
+    errors: &E,
+    jobs: &[Job],
+    report: &Report,
+    recording: &[u8],
+) -> Result<(), Fault<'a>>
+where
+    R::Reader: IsTerminal,
+{
+    let lines = Prompted::begin(rt.reader(), errors);
+    let mut input = match BufReader::new(rt.alloc(), lines) {
+        Ok(input) => input,
+        Err(error) => return Err(Fault::of_stream("-", &error)),
+    };
+    let mut out = match BufWriter::new(rt.alloc(), io::writer(rt)) {
+        Ok(out) => out,
+        Err(error) => return Err(Fault::of_stream("-", &error)),
+    };
+    match step(rt.alloc(), jobs, report, recording, &mut input, &mut out) {
+        Ok(()) => Ok(()),
+        Err(fault) => Err(Fault::of_step(&fault)),
+    }
+}
