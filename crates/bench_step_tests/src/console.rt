@@ -1,0 +1,117 @@
+//! What a session shows at a terminal.
+use bench_step::Prompted;
+use std::fmt::Display;
+use std::io::{self, IsTerminal, Read};
+use std::sync::{Mutex, Wait};
+use std::test::Fail;
+
+/// What is written to the errors is kept.
+#[derive(Drop)]
+struct Screen<'a, R: Wait + AllocGlobal> {
+    rt: &'a R,
+    text: Mutex<String>,
+}
+
+impl<'a, R: Wait + AllocGlobal> Screen<'a, R> {
+    fn make(rt: &'a R) -> Screen<'a, R> {
+        Screen {
+            rt,
+            text: Mutex::new(String::new(rt.alloc())),
+        }
+    }
+
+    fn shows(&self, text: &str) -> bool {
+        self.text.lock(self.rt).as_str() == text
+    }
+
+    fn add(&self, text: &str) -> io::Result<()> {
+        self.text.lock(self.rt).push_str(text)?;
+        Ok(())
+    }
+}
+
+impl<R: Wait + AllocGlobal> Eprint for Screen<'_, R> {
+    fn eprint<D: Display + Drop>(&self, value: D) -> io::Result<()> {
+        let text = format!(in self.rt.alloc(); "{value}")?;
+        self.add(text.as_str())
+    }
+
+    fn eprintln<D: Display + Drop>(&self, value: D) -> io::Result<()> {
+        let text = format!(in self.rt.alloc(); "{value}\n")?;
+        self.add(text.as_str())
+    }
+}
+
+impl<R: Wait + AllocGlobal> IsTerminal for Screen<'_, R> {
+    fn is_terminal(&self) -> bool {
+        true
+    }
+}
+
+/// Lines that are typed, or come from a file, one a read.
+#[derive(Drop)]
+struct Keys {
+    left: u32,
+    typed: bool,
+}
+
+impl Read for Keys {
+    fn read(&mut self, buf: &mut [u8]) -> io::Result<usize> {
+        if self.left == 0 || buf.is_empty() {
+            return Ok(0);
+        }
+        self.left -= 1;
+        buf[0] = b'\n';
+        Ok(1)
+    }
+}
+
+impl IsTerminal for Keys {
+    fn is_terminal(&self) -> bool {
+        self.typed
+    }
+}
+
+/// Reads two lines and the end.
+fn read_on<S: Read>(lines: &mut S) -> io::Result<()> {
+    let mut piece = [0u8; 8];
+    for _ in 0..3 {
+        lines.read(&mut piece)?;
+    }
+    Ok(())
+}
+
+const COMMANDS: &str = "\
+forward, back   one message of the recording on, or back
+go N            to the place where N messages are past, 0 for the beginning
+find COND       on to the next message whose outcome makes a condition true, as in: find any ( fail silent )
+state           the channels, and the registers of their terminals
+";
+
+#[test]
+fn a_terminal_shows_commands_and_prompts(rt: HostRuntime) -> Result<(), Fail> {
+    let screen = Screen::make(&rt);
+    let keys = Keys {
+        left: 2,
+        typed: true,
+    };
+    let mut lines = Prompted::begin(keys, &screen);
+    assert!(rt; screen.shows(COMMANDS));
+    assert!(rt; read_on(&mut lines).is_ok());
+    let whole = format!(in rt.alloc(); "{COMMANDS}step> step> step> \n")?;
+    assert!(rt; screen.shows(whole.as_str()));
+    Ok(())
+}
+
+#[test]
+fn a_file_shows_nothing(rt: HostRuntime) -> Result<(), Fail> {
+    let screen = Screen::make(&rt);
+    let keys = Keys {
+        left: 2,
+        typed: false,
+    };
+    let mut lines = Prompted::begin(keys, &screen);
+    assert!(rt; read_on(&mut lines).is_ok());
+    assert!(rt; screen.shows(""));
+    Ok(())
+}

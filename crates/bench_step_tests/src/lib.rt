@@ -1,0 +1,11 @@
+//! Tests of sessions of the debugger. The crate that they test has none of its own, so that it is proved once.
+#![tactic(auto)]
+
+#[cfg(test)]
+mod console;
+#[cfg(test)]
+mod made;
+#[cfg(test)]
+mod refusals;
+#[cfg(test)]
+mod sessions;
