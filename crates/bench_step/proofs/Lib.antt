@@ -3,3 +3,4 @@ pub mod Asking
 pub mod Pairs
 pub mod Lines
 pub mod GoingOn
+pub mod Determined

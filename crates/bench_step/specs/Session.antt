@@ -97,3 +97,8 @@ session_text (r ∷ rs) s = reply_text r (after_reply r s) ++ session_text rs (a
 -- memory was refused at some line
 abbrev pub any_memory : List Reply → Bool
 any_memory replies = list_any is_memory replies
+
+-- where memory is refused for no line, what is replied to the lines is determined
+abbrev pub RepliesAreDetermined : Type 0
+RepliesAreDetermined =
+    (s : ReplayState) (lines : List Text) (replies others : List Reply) → AreReplies s lines replies → AreReplies s lines others → any_memory replies ≡ false → any_memory others ≡ false → replies ≡ others

@@ -4,6 +4,7 @@
 mod commands;
 mod console;
 mod fault;
+mod laws;
 mod replies;
 mod sessions;
 mod states;
@@ -12,5 +13,6 @@ mod words;
 pub use commands::{Command, read_command};
 pub use console::Prompted;
 pub use fault::StepFault;
+pub use laws::replies_are_determined;
 pub use replies::Reply;
 pub use sessions::{answer, step};

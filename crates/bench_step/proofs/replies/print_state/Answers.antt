@@ -13,7 +13,7 @@ loop-index-preserved g c =
     let printed =
     rw (c.channel.ensures pair.job pair.job_there, c.state.ensures.number pair.job pair.part pair.job_there pair.part_there, c.state.ensures.bus pair.job pair.part pair.job_there pair.part_there)
     at c.in_ok-print_channel.ensures in
-    rw (add-one, pair.more (λ (p : Pair). job_text s p.0 p.1)) (Appends-trans _ _ _ _ _ c.loop-index.invariant printed)
+    rw (add-one, pair.more (λ (p : Pair). job_text s p.0 p.1)) (Appends-trans (g.W.Write.contents c.args.out.now) (g.W.Write.contents c.loop-index.out) (g.W.Write.contents c.print_channel.new.out) _ _ c.loop-index.invariant printed)
 
 pub returns : goal.returns
 unfolding state_text
