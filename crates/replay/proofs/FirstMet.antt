@@ -33,14 +33,14 @@ use Rattle.replay.proofs.KeptLists.{in_front, at_seam}
 
 -- ---- what a condition says
 
-asks_is : (plan : List Planned) (placed : List Placed) (k : ℕ) (p : Point BusState Outcome) → asks (world_of plan placed) k p ≡ outcomes.test_of k p.last
+pub asks_is : (plan : List Planned) (placed : List Placed) (k : ℕ) (p : Point BusState Outcome) → asks (world_of plan placed) k p ≡ outcomes.test_of k p.last
 asks_is plan placed k p = by_case p.last
   where
     by_case : (last : Option Outcome) → asks (world_of plan placed) k (record { state = p.state; number = p.number; gap = p.gap; last = last }) ≡ outcomes.test_of k last
     by_case None = refl
     by_case (Some o) = refl
 
-meaning_is : (plan : List Planned) (placed : List Placed) (t : Test) (p : Point BusState Outcome) → test_meaning (world_of plan placed) t p ≡ answer_of t p.last
+pub meaning_is : (plan : List Planned) (placed : List Placed) (t : Test) (p : Point BusState Outcome) → test_meaning (world_of plan placed) t p ≡ answer_of t p.last
 meaning_is plan placed failed p = asks_is plan placed 0 p
 meaning_is plan placed silent p = asks_is plan placed 1 p
 meaning_is plan placed (bit b) p = asks_is plan placed (16 + b) p

@@ -8,3 +8,4 @@ pub mod PlayingNext
 pub mod Channels
 pub mod FirstMet
 pub mod Finds
+pub mod PlacedLists

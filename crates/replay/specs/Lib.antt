@@ -8,3 +8,4 @@ pub mod Playing
 pub mod Opening
 pub mod Conditions
 pub mod Finding
+pub mod PlacedActions

@@ -12,5 +12,5 @@ mod replaying;
 mod tracks;
 
 pub use error::ReplayError;
-pub use laws::difference_excludes_accord;
+pub use laws::{difference_excludes_accord, placed_actions_suffice};
 pub use replaying::Replay;

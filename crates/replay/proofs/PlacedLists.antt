@@ -1,0 +1,176 @@
+-- Two lists of placed actions that are alike up to the last message give the same messages.
+use Rattle.std.proofs.Common.{◌≡◌, ◌≢◌, ℕ, zero, suc, ◌+◌, ◌<◌, ◌≤◌, Bool, true, false, cond, eqb, List, [], ◌∷◌, ◌++◌, length, refl, sym, ap, ◌∙◌, subst, ⊎_elim, arith}
+use Rattle.std.specs.List.{filter}
+use Rattle.std.proofs.lemmas.Bool.{eq-eqb, eqb-true, ne_eqb, cases_lt}
+use Rattle.std.proofs.lemmas.List.{append-nil}
+use Rattle.std.proofs.lemmas.List.Elements.{filter-append}
+use Rattle.mil_word.specs.declared.Line.{Line}
+use Rattle.mil_message.specs.declared.messages.Message.{Message}
+use Rattle.mil_message.specs.World.{World, Point, other_line, sent, asks}
+use Rattle.mil_line.specs.Plans.{Planned}
+use Rattle.mil_bus.specs.declared.outcomes.Outcome.{Outcome}
+use Rattle.mil_bus.specs.Exchange.{BusState}
+use Rattle.frame_tree.specs.Tree.{Test, failed, silent, bit, negated, both, either, Tree, send, retry, gap, repeat, choose, nothing, first}
+use Rattle.frame_tree.specs.Meaning.{test_meaning, times, attempts, meaning}
+use Rattle.bc_machine.specs.declared.placed.Placed.{Placed}
+use Rattle.bc_machine.specs.Controller.{placed_at, all_acted, ready, world_of}
+use Rattle.bc_machine.specs.Running.{beginning}
+use Rattle.job_file.specs.Spelled.{ChannelJob}
+use Rattle.job_file.specs.Meaning.{bus_of, world_at, end_of, records_in, records}
+use Rattle.job_file.proofs.Growth.{Grows, grows_same, grows_gap, grows_through, grows_message, records_count}
+use Rattle.bench_core.specs.Placing.{placed_up_to}
+use Rattle.replay.proofs.FirstMet.{asks_is, meaning_is}
+
+abbrev BusPoint : Type 0
+BusPoint = Point BusState Outcome
+
+-- ---- the actions at a number
+
+at_own : (n k : ℕ) (xs : List Placed) → n ≡ k → placed_at n (placed_at k xs) ≡ placed_at n xs
+at_own n k [] same = refl
+at_own n k (x ∷ xs) same = by_case (eqb x.number n) refl (eqb x.number k) refl (at_own n k xs same)
+  where
+    by_case : (a : Bool) → eqb x.number n ≡ a → (b : Bool) → eqb x.number k ≡ b → placed_at n (placed_at k xs) ≡ placed_at n xs
+        → placed_at n (cond b (x ∷ placed_at k xs) (placed_at k xs)) ≡ cond a (x ∷ placed_at n xs) (placed_at n xs)
+    by_case true e true h later = rw e (ap (λ (ps : List Placed). x ∷ ps) later)
+    by_case true e false h later = absurd (let wrong : true ≡ false = sym (eq-eqb x.number k (eqb-true x.number n e ∙ same)) ∙ h in cc)
+    by_case false e true h later = absurd (let wrong : true ≡ false = sym (eq-eqb x.number n (eqb-true x.number k h ∙ sym same)) ∙ e in cc)
+    by_case false e false h later = later
+
+at_other : (n k : ℕ) (xs : List Placed) → n ≢ k → placed_at n (placed_at k xs) ≡ []
+at_other n k [] other = refl
+at_other n k (x ∷ xs) other = by_case (eqb x.number k) refl (at_other n k xs other)
+  where
+    by_case : (b : Bool) → eqb x.number k ≡ b → placed_at n (placed_at k xs) ≡ [] → placed_at n (cond b (x ∷ placed_at k xs) (placed_at k xs)) ≡ []
+    by_case true h later = rw (ne_eqb x.number n (λ e. other (sym e ∙ eqb-true x.number k h))) later
+    by_case false h later = later
+
+none_above : (n made : ℕ) (actions : List Placed) → made < n → placed_at n (placed_up_to made actions) ≡ []
+unfolding placed_up_to
+none_above n zero actions less = refl
+none_above n (suc made) actions less =
+    filter-append (λ (p : Placed). eqb p.number n) (placed_up_to made actions) (placed_at (suc made) actions)
+    ∙ ap (λ (ps : List Placed). ps ++ placed_at n (placed_at (suc made) actions)) (none_above n made actions (omega (arith, less)))
+    ∙ at_other n (suc made) actions (λ e. absurd (omega (arith, less, e)))
+
+same_at : (n made : ℕ) (actions : List Placed) → 1 ≤ n → n ≤ made → placed_at n (placed_up_to made actions) ≡ placed_at n actions
+unfolding placed_up_to
+same_at n zero actions low high = absurd (omega (arith, low, high))
+same_at n (suc made) actions low high =
+    filter-append (λ (p : Placed). eqb p.number n) (placed_up_to made actions) (placed_at (suc made) actions)
+    ∙ ⊎_elim
+    (λ less.
+    ap (λ (ps : List Placed). placed_at n (placed_up_to made actions) ++ ps) (at_other n (suc made) actions (λ e. absurd (omega (arith, less, e))))
+    ∙ append-nil (placed_at n (placed_up_to made actions))
+    ∙ same_at n made actions low (omega (arith, less)))
+    (λ le.
+    let here : n ≡ suc made = omega (arith, le, high) in
+    ap (λ (ps : List Placed). ps ++ placed_at n (placed_at (suc made) actions)) (none_above n made actions (omega (arith, le)))
+    ∙ at_own n (suc made) actions here)
+    (cases_lt n (suc made))
+
+same_ready : (made : ℕ) (actions : List Placed) (n : ℕ) (b : BusState) → 1 ≤ n → n ≤ made → ready (placed_up_to made actions) n b ≡ ready actions n b
+unfolding ready
+same_ready made actions n b low high = ap (all_acted b) (same_at n made actions low high)
+
+-- ---- what every tree keeps
+
+module _ (w : World BusState Outcome) (R : BusPoint → BusPoint → Type 0) (same : (p : BusPoint) → R p p) (gaps : (p : BusPoint) (t : ℕ) → R p (record p { gap = t }))
+    (message : (line : Line) (m : Message) (p : BusPoint) → R p (sent w line m p)) (through : (p q s : BusPoint) → R p q → R q s → R p s) where
+  attempts_keep : (n : ℕ) (line : Line) (m : Message) (p : BusPoint) → R p (attempts w n line m p)
+  attempts_keep zero line m p = same p
+  attempts_keep (suc n) line m p = by_case (asks w 0 p) (attempts_keep n (other_line line) m (sent w (other_line line) m p))
+    where
+      by_case : (b : Bool) → R (sent w (other_line line) m p) (attempts w n (other_line line) m (sent w (other_line line) m p))
+          → R p (cond b (attempts w n (other_line line) m (sent w (other_line line) m p)) p)
+      by_case true later = through p (sent w (other_line line) m p) (attempts w n (other_line line) m (sent w (other_line line) m p)) (message (other_line line) m p) later
+      by_case false later = same p
+
+  times_keep : (n : ℕ) (f : BusPoint → BusPoint) → ((p : BusPoint) → R p (f p)) → (p : BusPoint) → R p (times n f p)
+  times_keep zero f keeps p = same p
+  times_keep (suc n) f keeps p = through p (f p) (times n f (f p)) (keeps p) (times_keep n f keeps (f p))
+
+  tree_keeps : (t : Tree) (p : BusPoint) → R p (meaning w t p)
+  tree_keeps (send line m) p = message line m p
+  tree_keeps (retry n line m) p = through p (sent w line m p) (attempts w n line m (sent w line m p)) (message line m p) (attempts_keep n line m (sent w line m p))
+  tree_keeps (gap t) p = gaps p t
+  tree_keeps (repeat n b) p = times_keep n (meaning w b) (λ q. tree_keeps b q) p
+  tree_keeps (choose c a b) p = by_case (test_meaning w c p) (tree_keeps a p) (tree_keeps b p)
+    where
+      by_case : (x : Bool) → R p (meaning w a p) → R p (meaning w b p) → R p (cond x (meaning w a p) (meaning w b p))
+      by_case true l r = l
+      by_case false l r = r
+  tree_keeps nothing p = same p
+  tree_keeps (first a b) p = through p (meaning w a p) (meaning w b (meaning w a p)) (tree_keeps a p) (tree_keeps b (meaning w a p))
+
+-- ---- the same in both worlds, as far as the lists are alike
+
+module _ (plan : List Planned) (made : ℕ) (actions : List Placed) where
+  abbrev w : World BusState Outcome
+  w = world_of plan actions
+
+  abbrev v : World BusState Outcome
+  v = world_of plan (placed_up_to made actions)
+
+  abbrev Rises : BusPoint → BusPoint → Type 0
+  Rises p q = p.number ≤ q.number
+
+  tree_rises : (t : Tree) (p : BusPoint) → p.number ≤ (meaning w t p).number
+  tree_rises = tree_keeps w Rises (λ p. omega arith) (λ p t. omega arith) (λ line m p. omega arith) (λ p q s a b. omega (arith, a, b))
+
+  attempts_rise : (n : ℕ) (line : Line) (m : Message) (p : BusPoint) → p.number ≤ (attempts w n line m p).number
+  attempts_rise = attempts_keep w Rises (λ p. omega arith) (λ p t. omega arith) (λ line m p. omega arith) (λ p q s a b. omega (arith, a, b))
+
+  times_rise : (n : ℕ) (f : BusPoint → BusPoint) → ((p : BusPoint) → p.number ≤ (f p).number) → (p : BusPoint) → p.number ≤ (times n f p).number
+  times_rise = times_keep w Rises (λ p. omega arith) (λ p t. omega arith) (λ line m p. omega arith) (λ p q s a b. omega (arith, a, b))
+
+  sent_agrees : (line : Line) (m : Message) (p : BusPoint) → p.number + 1 ≤ made → sent v line m p ≡ sent w line m p
+  sent_agrees line m p le = rw (same_ready made actions (p.number + 1) p.state (omega arith) le) refl
+
+  attempts_agree : (n : ℕ) (line : Line) (m : Message) (p : BusPoint) → (attempts w n line m p).number ≤ made → attempts v n line m p ≡ attempts w n line m p
+  attempts_agree zero line m p le = refl
+  attempts_agree (suc n) line m p le =
+      ap (λ x. cond x (attempts v n (other_line line) m (sent v (other_line line) m p)) p) (asks_is plan (placed_up_to made actions) 0 p ∙ sym (asks_is plan actions 0 p))
+      ∙ by_case (asks w 0 p) le (λ h. attempts_agree n (other_line line) m (sent w (other_line line) m p) h)
+    where
+      by_case : (b : Bool) → (cond b (attempts w n (other_line line) m (sent w (other_line line) m p)) p).number ≤ made
+          → ((attempts w n (other_line line) m (sent w (other_line line) m p)).number ≤ made → attempts v n (other_line line) m (sent w (other_line line) m p) ≡ attempts w n (other_line line) m (sent w (other_line line) m p))
+          → cond b (attempts v n (other_line line) m (sent v (other_line line) m p)) p ≡ cond b (attempts w n (other_line line) m (sent w (other_line line) m p)) p
+      by_case true h later =
+          let rise : p.number + 1 ≤ (attempts w n (other_line line) m (sent w (other_line line) m p)).number = attempts_rise n (other_line line) m (sent w (other_line line) m p) in
+          ap (attempts v n (other_line line) m) (sent_agrees (other_line line) m p (omega (arith, rise, h))) ∙ later h
+      by_case false h later = refl
+
+  times_agree : (n : ℕ) (f g : BusPoint → BusPoint) → ((p : BusPoint) → p.number ≤ (f p).number) → ((p : BusPoint) → (f p).number ≤ made → g p ≡ f p)
+      → (p : BusPoint) → (times n f p).number ≤ made → times n g p ≡ times n f p
+  times_agree zero f g rises agree p le = refl
+  times_agree (suc n) f g rises agree p le =
+      let rise : (f p).number ≤ (times n f (f p)).number = times_rise n f rises (f p) in
+      ap (times n g) (agree p (omega (arith, rise, le))) ∙ times_agree n f g rises agree (f p) le
+
+  tree_agrees : (t : Tree) (p : BusPoint) → (meaning w t p).number ≤ made → meaning v t p ≡ meaning w t p
+  tree_agrees (send line m) p le = sent_agrees line m p le
+  tree_agrees (retry n line m) p le =
+      let rise : p.number + 1 ≤ (attempts w n line m (sent w line m p)).number = attempts_rise n line m (sent w line m p) in
+      ap (attempts v n line m) (sent_agrees line m p (omega (arith, rise, le))) ∙ attempts_agree n line m (sent w line m p) le
+  tree_agrees (gap t) p le = refl
+  tree_agrees (repeat n b) p le = times_agree n (meaning w b) (meaning v b) (λ q. tree_rises b q) (λ q h. tree_agrees b q h) p le
+  tree_agrees (choose c a b) p le =
+      ap (λ x. cond x (meaning v a p) (meaning v b p)) (meaning_is plan (placed_up_to made actions) c p ∙ sym (meaning_is plan actions c p))
+      ∙ by_case (test_meaning w c p) le (λ h. tree_agrees a p h) (λ h. tree_agrees b p h)
+    where
+      by_case : (x : Bool) → (cond x (meaning w a p) (meaning w b p)).number ≤ made → ((meaning w a p).number ≤ made → meaning v a p ≡ meaning w a p)
+          → ((meaning w b p).number ≤ made → meaning v b p ≡ meaning w b p) → cond x (meaning v a p) (meaning v b p) ≡ cond x (meaning w a p) (meaning w b p)
+      by_case true h l r = l h
+      by_case false h l r = r h
+  tree_agrees nothing p le = refl
+  tree_agrees (first a b) p le =
+      let rise : (meaning w a p).number ≤ (meaning w b (meaning w a p)).number = tree_rises b (meaning w a p) in
+      ap (meaning v b) (tree_agrees a p (omega (arith, rise, le))) ∙ tree_agrees b (meaning w a p) le
+
+pub suffices : (job : ChannelJob) (actions : List Placed) (made : ℕ) → length (records job actions) ≤ made → records job (placed_up_to made actions) ≡ records job actions
+suffices job actions made le =
+    let grown : Grows (beginning (bus_of job)) (end_of job actions) =
+    tree_keeps (world_at job actions) Grows grows_same grows_gap (grows_message job.plan actions) grows_through job.tree (beginning (bus_of job)) in
+    let count : (end_of job actions).number ≡ length (records job actions) = records_count (beginning (bus_of job)) (end_of job actions) refl refl grown in
+    ap (λ (p : BusPoint). records_in p.state) (tree_agrees job.plan made actions job.tree (beginning (bus_of job)) (omega (arith, count, le)))
