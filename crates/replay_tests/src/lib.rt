@@ -1,0 +1,5 @@
+//! What the debugger of recordings answers, by worked values.
+#![tactic(auto)]
+
+#[cfg(test)]
+mod tests;

@@ -1,0 +1,4 @@
+//! Worked recordings under the debugger.
+mod moves;
+mod openings;
+mod recordings;
