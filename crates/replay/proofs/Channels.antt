@@ -1,10 +1,10 @@
 -- Channels compared, and jobs played one after the other.
-use Rattle.std.proofs.Common.{◌≡◌, ◌≢◌, ℕ, zero, suc, ◌+◌, ◌<◌, ◌≤◌, Bool, true, false, eqb, List, [], ◌∷◌, ◌++◌, length, map, take, drop, replicate, get_or, Option, Some, None, refl, sym, ap, ◌∙◌, subst, ⊎_elim, arith}
+use Rattle.std.proofs.Common.{◌≡◌, ℕ, zero, suc, ◌+◌, ◌<◌, ◌≤◌, true, false, List, [], ◌∷◌, ◌++◌, length, map, take, drop, replicate, get_or, Option, Some, None, refl, sym, ap, ◌∙◌, subst, ⊎_elim, arith}
 use Rattle.std.specs.Option.{MatchOption}
-use Rattle.std.specs.List.{AllByRecursion, slice_get, list_any, flat_map}
+use Rattle.std.specs.List.{slice_get}
 use Rattle.std.proofs.lemmas.Bool.{eq-eqb, eqb-true, cases_lt}
-use Rattle.std.proofs.lemmas.List.{take_all, map-append, take_more, length-take-le}
-use Rattle.std.proofs.lemmas.Option.{slice_get-get_or, slice_get_read, get_or_from_slice_get}
+use Rattle.std.proofs.lemmas.List.{take_all, map-append, take_more}
+use Rattle.std.proofs.lemmas.Option.{slice_get_read, get_or_from_slice_get}
 use Rattle.job_file.specs.Jobs.{JobState}
 use Rattle.ch11_f1.specs.BodyReading.{Message}
 use Rattle.ch11_reader.specs.declared.packet.Packet.{Packet}
@@ -15,7 +15,7 @@ use Rattle.bench_report.specs.Reports.{ChannelPart}
 use Rattle.replay.specs.declared.error.ReplayError.{ReplayError}
 use Rattle.replay.specs.declared.error.ReplayError.TheVariants as error
 use Rattle.replay.specs.Accord.{is_one, AreOfChannels, AgreesOn}
-use Rattle.replay.specs.Differences.{first_of, IsWrongChannel, IsStranger, IsFirstJob}
+use Rattle.replay.specs.Differences.{IsWrongChannel, IsStranger}
 use Rattle.replay.specs.Places.{heard_channels}
 use Rattle.replay.specs.Kept.{Pair, jobs_in, parts_in}
 use Rattle.replay.specs.Playing.{FailsAt}

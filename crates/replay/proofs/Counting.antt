@@ -1,9 +1,8 @@
 -- How many messages of a channel stand before a place.
-use Rattle.std.proofs.Common.{◌≡◌, ℕ, suc, ◌+◌, ◌<◌, ◌≤◌, Bool, true, false, cond, eqb, List, [], ◌∷◌, ◌++◌, length, map, take, refl, sym, ap, ◌∙◌, arith}
+use Rattle.std.proofs.Common.{◌≡◌, ℕ, ◌+◌, ◌≤◌, Bool, true, false, cond, eqb, List, [], ◌∷◌, ◌++◌, length, map, refl, sym, ap, ◌∙◌, arith}
 use Rattle.std.specs.List.{count_by}
 use Rattle.std.proofs.lemmas.List.{length-map, length-append, map-append}
 use Rattle.std.proofs.lemmas.List.Sums.{sum_by-append, sum_by-cons, sum_by-take-le}
-use Rattle.mil_monitor.specs.declared.Record.{Record}
 use Rattle.job_file.specs.Jobs.{JobState}
 use Rattle.ch11_f1.specs.BodyReading.{Message}
 use Rattle.ch11_f1.specs.Again.{as_message}
@@ -11,10 +10,9 @@ use Rattle.ch11_builder.specs.Packet.{Numbered, messages_of}
 use Rattle.ch11_reader.specs.Recording.{Found}
 use Rattle.ch11_reader.specs.Contents.{reading, heard_of, heard_in}
 use Rattle.bench_report.specs.Reports.{ChannelPart}
-use Rattle.replay.specs.Accord.{kept_in, AgreesOn, Agrees}
+use Rattle.replay.specs.Accord.{kept_in, AgreesOn}
 use Rattle.replay.specs.Places as place
 use Rattle.replay.specs.Places.{heard_channels}
-use Rattle.replay.specs.Kept.{Pair, jobs_in, parts_in}
 
 abbrev pub is_of : ℕ → ℕ → Bool
 is_of channel c = eqb c channel

@@ -1,8 +1,7 @@
 -- Where there is a first difference, there is no accord.
-use Rattle.std.proofs.Common.{◌≡◌, ℕ, ◌+◌, ◌<◌, ◌≤◌, true, false, min, List, [], ◌∷◌, ◌++◌, length, map, take, Some, refl, sym, ap, ◌∙◌, subst, ⊎_elim, arith}
-use Rattle.std.specs.List.{AllByRecursion, slice_get}
+use Rattle.std.proofs.Common.{◌≡◌, ℕ, ◌≤◌, true, false, List, [], ◌∷◌, ◌++◌, length, Some, sym, ap, ◌∙◌, subst, ⊎_elim, arith}
+use Rattle.std.specs.List.{slice_get}
 use Rattle.std.proofs.lemmas.List.{length-map, take_all}
-use Rattle.std.proofs.lemmas.Option.{slice_get-map}
 use Rattle.job_file.specs.Jobs.{JobState}
 use Rattle.ch11_f1.specs.Again.{as_message}
 use Rattle.ch11_builder.specs.Packet.{Numbered, messages_of}
@@ -13,7 +12,7 @@ use Rattle.bench_core.specs.Lawful.{channels_of}
 use Rattle.bench_core.specs.Settled.{kept}
 use Rattle.bench_core.proofs.Offers.{map_at}
 use Rattle.replay.specs.Accord.{reported, played, kept_in, is_one, AreOfChannels, AgreesOn, Agrees}
-use Rattle.replay.specs.Differences.{IsWrongChannel, IsStranger, awaited, IsUnlike, IsLeftOver, IsMiscounted, IsAtFault, IsFirstFault, IsFirstJob, IsFirstDifference}
+use Rattle.replay.specs.Differences.{IsWrongChannel, IsStranger, awaited, IsUnlike, IsLeftOver, IsMiscounted, IsAtFault, IsFirstJob, IsFirstDifference}
 
 -- what is said of all holds of one
 behind : (channels : List ℕ) (before : List Found) (p : Found) (later : List Found) → AreOfChannels channels (before ++ p ∷ later)

@@ -1,12 +1,12 @@
 -- A recording under the debugger goes to the first message that is met.
-use Rattle.std.proofs.Common.{◌≡◌, ℕ, zero, suc, ◌<◌, ◌≤◌, List, [], ◌∷◌, length, Option, Some, None, refl, sym, ap, ◌∙◌, subst}
+use Rattle.std.proofs.Common.{◌≡◌, ℕ, suc, ◌≤◌, List, [], ◌∷◌, length, Option, Some, None, refl, sym, ◌∙◌, subst}
 use Rattle.std.specs.List.{AllByRecursion, slice_get}
 use Rattle.frame_tree.specs.Tree.{Test}
 use Rattle.ch11_reader.specs.Recording.{Found}
 use Rattle.bench_core.proofs.Offers.{map_at}
 use Rattle.replay.specs.Accord.{kept_in, Agrees}
 use Rattle.replay.specs.Places.{heard_channels}
-use Rattle.replay.specs.Moves.{ReplayState, IsNextMet, IsNowhere}
+use Rattle.replay.specs.Moves.{IsNextMet, IsNowhere}
 use Rattle.replay.specs.Kept.{Pair, jobs_in, parts_in, IsReplay}
 use Rattle.replay.specs.Finding.{count_to, IsMetIn, IsFirst, Finds}
 use Rattle.replay.proofs.Counting.{room}

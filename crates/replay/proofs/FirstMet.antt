@@ -1,6 +1,6 @@
 -- The first message whose outcome makes a condition true: of one job, and of all.
-use Rattle.std.proofs.Common.{◌≡◌, ◌≢◌, ℕ, zero, suc, ◌+◌, ◌<◌, ◌≤◌, Bool, true, false, not, ◌&&◌, ◌||◌, eqb, min, List, [], ◌∷◌, ◌++◌, length, map, take, get_or, Option, Some, None, refl, sym, ap, ◌∙◌, subst, ◌⊎◌, ⊎_elim, inl, inr, arith}
-use Rattle.std.specs.List.{slice_get, count_by}
+use Rattle.std.proofs.Common.{◌≡◌, ◌≢◌, ℕ, zero, suc, ◌+◌, ◌<◌, ◌≤◌, Bool, true, false, not, ◌&&◌, ◌||◌, eqb, min, List, [], ◌∷◌, ◌++◌, length, take, get_or, Option, Some, None, refl, sym, ap, ◌∙◌, subst, ◌⊎◌, ⊎_elim, inl, inr, arith}
+use Rattle.std.specs.List.{slice_get}
 use Rattle.std.proofs.lemmas.Bool.{eq-eqb, ne_eqb, cases_lt}
 use Rattle.std.proofs.lemmas.Grind.{get_or_default_zero}
 use Rattle.std.proofs.lemmas.List.{take_more, take_all, length-append}
@@ -16,8 +16,7 @@ use Rattle.bc_machine.specs.declared.placed.Placed.{Placed}
 use Rattle.bc_machine.specs.Controller.{world_of}
 use Rattle.bc_machine.specs.Running.{MachineState}
 use Rattle.bc_machine.specs.Outcomes as outcomes
-use Rattle.job_file.specs.Jobs.{JobState, job_in}
-use Rattle.job_file.specs.Meaning.{world_at}
+use Rattle.job_file.specs.Jobs.{JobState}
 use Rattle.job_file.specs.Machines.{latest_outcome}
 use Rattle.ch11_recording.specs.Items.{last_number}
 use Rattle.ch11_reader.specs.Recording.{Found}

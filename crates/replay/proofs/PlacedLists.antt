@@ -1,6 +1,5 @@
 -- Two lists of placed actions that are alike up to the last message give the same messages.
-use Rattle.std.proofs.Common.{◌≡◌, ◌≢◌, ℕ, zero, suc, ◌+◌, ◌<◌, ◌≤◌, Bool, true, false, cond, eqb, List, [], ◌∷◌, ◌++◌, length, refl, sym, ap, ◌∙◌, subst, ⊎_elim, arith}
-use Rattle.std.specs.List.{filter}
+use Rattle.std.proofs.Common.{◌≡◌, ◌≢◌, ℕ, zero, suc, ◌+◌, ◌<◌, ◌≤◌, Bool, true, false, cond, eqb, List, [], ◌∷◌, ◌++◌, length, refl, sym, ap, ◌∙◌, ⊎_elim, arith}
 use Rattle.std.proofs.lemmas.Bool.{eq-eqb, eqb-true, ne_eqb, cases_lt}
 use Rattle.std.proofs.lemmas.List.{append-nil}
 use Rattle.std.proofs.lemmas.List.Elements.{filter-append}
@@ -10,7 +9,7 @@ use Rattle.mil_message.specs.World.{World, Point, other_line, sent, asks}
 use Rattle.mil_line.specs.Plans.{Planned}
 use Rattle.mil_bus.specs.declared.outcomes.Outcome.{Outcome}
 use Rattle.mil_bus.specs.Exchange.{BusState}
-use Rattle.frame_tree.specs.Tree.{Test, failed, silent, bit, negated, both, either, Tree, send, retry, gap, repeat, choose, nothing, first}
+use Rattle.frame_tree.specs.Tree.{Tree, send, retry, gap, repeat, choose, nothing, first}
 use Rattle.frame_tree.specs.Meaning.{test_meaning, times, attempts, meaning}
 use Rattle.bc_machine.specs.declared.placed.Placed.{Placed}
 use Rattle.bc_machine.specs.Controller.{placed_at, all_acted, ready, world_of}

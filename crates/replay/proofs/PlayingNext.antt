@@ -1,6 +1,5 @@
 -- What became of one message of a job.
 use Rattle.std.proofs.Common.{◌≡◌, ◌≢◌, ℕ, ◌+◌, Bool, true, false, eqb, List, [], ◌∷◌, Some, None, refl, sym, ap, ◌∙◌}
-use Rattle.std.specs.Bool.{IsTrue}
 use Rattle.std.specs.List.{slice_get, list_any}
 use Rattle.mil_monitor.specs.declared.Record.{Record}
 use Rattle.bc_machine.specs.Running.{MachineState}
@@ -10,7 +9,6 @@ use Rattle.ch11_f1.specs.BodyReading.{Message}
 use Rattle.ch11_f1.specs.Again.{as_message}
 use Rattle.bench_report.specs.Reports.{ChannelPart}
 use Rattle.replay.specs.Accord.{played}
-use Rattle.replay.specs.Kept.{IsThere}
 use Rattle.replay.specs.Playing.{is_listed, IsKept, IsPassed, IsOther}
 
 module _ (job : JobState) (part : ChannelPart) (n : ℕ) (r : Record) (comes : slice_get (played job part) n ≡ Some r)

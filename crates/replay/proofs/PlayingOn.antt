@@ -1,12 +1,12 @@
 -- A job that is played again, message by message, and what is at fault where it stops.
-use Rattle.std.proofs.Common.{◌≡◌, ◌≢◌, ℕ, zero, suc, ◌+◌, ◌<◌, ◌≤◌, Bool, true, false, min, List, [], ◌∷◌, ◌++◌, length, map, take, Some, None, refl, sym, ap, ◌∙◌, subst, append_assoc, ◌⊎◌, ⊎_elim, inl, inr, arith}
+use Rattle.std.proofs.Common.{◌≡◌, ℕ, suc, ◌+◌, ◌<◌, ◌≤◌, List, [], ◌∷◌, ◌++◌, length, take, Some, refl, sym, ap, ◌∙◌, subst, append_assoc, ◌⊎◌, ⊎_elim, inl, inr, arith}
 use Rattle.std.specs.List.{slice_get}
 use Rattle.std.proofs.lemmas.Bool.{cases_lt}
 use Rattle.std.proofs.lemmas.List.{append-nil, length-append, take-append-le, take_all}
-use Rattle.std.proofs.lemmas.Option.{slice_get_within, slice_get_past}
+use Rattle.std.proofs.lemmas.Option.{slice_get_within}
 use Rattle.mil_monitor.specs.declared.Record.{Record}
 use Rattle.bc_machine.specs.Running.{MachineState}
-use Rattle.job_file.specs.Jobs.{JobState, job_in}
+use Rattle.job_file.specs.Jobs.{JobState}
 use Rattle.ch11_f1.specs.BodyReading.{Message}
 use Rattle.ch11_f1.specs.Again.{as_message}
 use Rattle.ch11_builder.specs.Packet.{Numbered, messages_of}
@@ -20,8 +20,8 @@ use Rattle.bench_core.proofs.Offers.{map_at}
 use Rattle.replay.specs.Accord.{played, kept_in, AgreesOn}
 use Rattle.replay.specs.Differences.{awaited, IsUnlike, IsLeftOver, IsMiscounted, IsAtFault, IsFirstFault}
 use Rattle.replay.specs.Kept.{IsThere, AreStates}
-use Rattle.replay.specs.Playing.{is_listed, IsKept, IsPassed, IsOther, IsOver, GoesOn, IsPlaying}
-use Rattle.replay.proofs.KeptLists.{heard, heard_both, heard_length, kept_next, kept_same, AreFrom, HasMore, has_more, in_front, at_seam, stands_early}
+use Rattle.replay.specs.Playing.{IsKept, IsPassed, IsOther, IsOver, GoesOn, IsPlaying}
+use Rattle.replay.proofs.KeptLists.{heard, heard_both, heard_length, kept_next, kept_same, HasMore, has_more, in_front, at_seam, stands_early}
 
 last_is : (before : ℕ) (ns : List Numbered) (x : Numbered) → packet.last_number before (ns ++ x ∷ []) ≡ x.number
 last_is before [] x = refl

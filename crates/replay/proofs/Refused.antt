@@ -1,7 +1,7 @@
 -- The refused numbers of a report rise, so that one of them is found by halving.
-use Rattle.std.proofs.Common.{◌≡◌, ℕ, zero, suc, ◌<◌, ◌≤◌, false, true, List, [], ◌∷◌, length, get_or, eqb, Result, Ok, Err, is_ok, refl, sym, ⊎_elim, arith}
+use Rattle.std.proofs.Common.{◌≡◌, ℕ, zero, suc, ◌<◌, ◌≤◌, List, [], ◌∷◌, length, get_or, eqb, Result, Ok, Err, is_ok, sym, ⊎_elim, arith}
 use Rattle.std.specs.Ordering.{nat_cmp}
-use Rattle.std.specs.List.{list_any, All}
+use Rattle.std.specs.List.{list_any}
 use Rattle.std.specs.List.Sorted.{IsBinarySearchResult}
 use Rattle.std.proofs.lemmas.Bool.{eq-eqb, ne_eqb, cases_lt}
 use Rattle.std.proofs.lemmas.Grind.{get_or_default_zero}

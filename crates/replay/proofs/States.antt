@@ -1,20 +1,18 @@
 -- The controllers of a job, found by place.
-use Rattle.std.proofs.Common.{◌≡◌, ℕ, suc, ◌<◌, ◌≤◌, List, length, map, take, Some, get_or, refl, sym, ap, ◌∙◌, subst, arith}
+use Rattle.std.proofs.Common.{◌≡◌, ℕ, ◌<◌, ◌≤◌, List, length, take, Some, get_or, refl, ap, ◌∙◌, subst, arith}
 use Rattle.std.specs.List.{slice_get, count_by}
 use Rattle.std.proofs.lemmas.Option.{slice_get_read}
 use Rattle.bc_machine.specs.Running.{MachineState}
 use Rattle.job_file.specs.Jobs.{JobState, job_in}
 use Rattle.job_file.specs.Meaning.{bus_after}
 use Rattle.job_file.specs.Machines.{BusSoFar}
-use Rattle.ch11_builder.specs.Packet.{Numbered}
 use Rattle.ch11_recording.specs.Items.{last_number}
 use Rattle.ch11_reader.specs.Recording.{Found}
 use Rattle.bench_report.specs.Reports.{ChannelPart}
 use Rattle.bench_core.proofs.Offers.{map_at}
 use Rattle.replay.specs.Accord.{kept_in}
 use Rattle.replay.specs.Places.{heard_channels, heard_of, number_at, IsAfter}
-use Rattle.replay.specs.Moves.{ReplayState}
-use Rattle.replay.specs.Kept.{Pair, jobs_in, parts_in, IsThere, AreStates, IsTrack, IsReplay}
+use Rattle.replay.specs.Kept.{Pair, jobs_in, parts_in, IsThere, IsTrack, IsReplay}
 use Rattle.replay.proofs.Counting.{is_of, room}
 
 -- ---- one job

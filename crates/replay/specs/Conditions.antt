@@ -1,5 +1,5 @@
 -- What a condition says of the last outcome.
-use Rattle.std.specs.Prelude.{ℕ, ◌+◌, Bool, not, ◌&&◌, ◌||◌, Option}
+use Rattle.std.specs.Prelude.{◌+◌, Bool, not, ◌&&◌, ◌||◌, Option}
 use Rattle.mil_bus.specs.declared.outcomes.Outcome.{Outcome}
 use Rattle.frame_tree.specs.Tree.{Test, failed, silent, bit, negated, both, either}
 use Rattle.bc_machine.specs.Outcomes as outcomes

@@ -12,7 +12,6 @@ use Rattle.ch11_reader.specs.Recording.{Found}
 use Rattle.bench_report.specs.Reports.{ChannelPart}
 use Rattle.replay.specs.declared.error.ReplayError.{ReplayError}
 use Rattle.replay.specs.declared.error.ReplayError.TheVariants as error
-use Rattle.replay.specs.Accord.{Agrees}
 use Rattle.replay.specs.Differences.{IsFirstDifference}
 use Rattle.replay.specs.Places.{heard_channels, number_at}
 

@@ -1,4 +1,4 @@
-use Rattle.std.proofs.Common.{◌≡◌, ℕ, List, eqb, subst, ap, sym, ◌∙◌}
+use Rattle.std.proofs.Common.{ℕ, eqb, subst, ap, sym, ◌∙◌}
 use Rattle.std.specs.List.{list_any}
 use Rattle.bench_report.specs.Reports.{Rises}
 use Rattle.replay.proofs.Refused.{found}

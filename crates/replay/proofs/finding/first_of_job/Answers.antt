@@ -1,4 +1,4 @@
-use Rattle.std.proofs.Common.{◌≡◌, ◌<◌, ◌≤◌, ◌+◌, sym, ◌∙◌, arith}
+use Rattle.std.proofs.Common.{◌≤◌, ◌∙◌, arith}
 use Rattle.frame_tree.specs.Tree.{test_of}
 use Rattle.replay.proofs.FirstMet.{counts_more, counts_same, says_there, met_here, not_true, not_own, none_next, met_within}
 use Rattle.replay.proofs.finding.first_of_job.Goals.{then-channels-before+else-holds, else-channels-before}

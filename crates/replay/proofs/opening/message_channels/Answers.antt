@@ -1,5 +1,4 @@
 use Rattle.std.proofs.Common.{◌≤◌, length, subst}
-use Rattle.ch11_reader.specs.Listing.{listing}
 use Rattle.replay.proofs.Channels.{spread_whole}
 use Rattle.replay.proofs.opening.message_channels.Goals as goal
 

@@ -1,4 +1,4 @@
-use Rattle.std.proofs.Common.{◌≡◌, ◌≢◌, ℕ, ◌+◌, true, false, List, [], Option, Some, None, sym, ap, ◌∙◌, inl, inr, rules}
+use Rattle.std.proofs.Common.{◌≡◌, false, List, [], Option, Some, None, ◌∙◌, inl, inr, rules}
 use Rattle.std.specs.Bool.{IsTrue}
 use Rattle.std.specs.Iterator.{YieldsFirstBy}
 use Rattle.ch11_f1.specs.declared.seen.Seen.{Seen}
