@@ -10,7 +10,7 @@ use Rattle.mil_message.specs.World.{Point, asks}
 use Rattle.mil_line.specs.Plans.{Planned}
 use Rattle.mil_bus.specs.declared.outcomes.Outcome.{Outcome}
 use Rattle.mil_bus.specs.Exchange.{BusState}
-use Rattle.frame_tree.specs.Tree.{Test, failed, silent, bit, negated, both, either}
+use Rattle.frame_tree.specs.Tree.{Test, failed, silent, bit, negated, both, either, bit_number}
 use Rattle.frame_tree.specs.Meaning.{test_meaning}
 use Rattle.bc_machine.specs.declared.placed.Placed.{Placed}
 use Rattle.bc_machine.specs.Controller.{world_of}
@@ -42,7 +42,7 @@ asks_is plan placed k p = by_case p.last
 pub meaning_is : (plan : List Planned) (placed : List Placed) (t : Test) (p : Point BusState Outcome) → test_meaning (world_of plan placed) t p ≡ answer_of t p.last
 meaning_is plan placed failed p = asks_is plan placed 0 p
 meaning_is plan placed silent p = asks_is plan placed 1 p
-meaning_is plan placed (bit b) p = asks_is plan placed (16 + b) p
+meaning_is plan placed (bit bits) p = asks_is plan placed (16 + bit_number bits) p
 meaning_is plan placed (negated c) p = ap not (meaning_is plan placed c p)
 meaning_is plan placed (both a b) p = ap (λ x. x && test_meaning (world_of plan placed) b p) (meaning_is plan placed a p) ∙ ap (λ x. answer_of a p.last && x) (meaning_is plan placed b p)
 meaning_is plan placed (either a b) p = ap (λ x. x || test_meaning (world_of plan placed) b p) (meaning_is plan placed a p) ∙ ap (λ x. answer_of a p.last || x) (meaning_is plan placed b p)

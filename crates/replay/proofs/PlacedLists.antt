@@ -9,7 +9,7 @@ use Rattle.mil_message.specs.World.{World, Point, other_line, sent, asks}
 use Rattle.mil_line.specs.Plans.{Planned}
 use Rattle.mil_bus.specs.declared.outcomes.Outcome.{Outcome}
 use Rattle.mil_bus.specs.Exchange.{BusState}
-use Rattle.frame_tree.specs.Tree.{Tree, send, retry, gap, repeat, choose, nothing, first}
+use Rattle.frame_tree.specs.Tree.{Tree, send, retry, gap, repeat, choose, nothing, chained}
 use Rattle.frame_tree.specs.Meaning.{test_meaning, times, attempts, meaning}
 use Rattle.bc_machine.specs.declared.placed.Placed.{Placed}
 use Rattle.bc_machine.specs.Controller.{placed_at, all_acted, ready, world_of}
@@ -100,7 +100,7 @@ module _ (w : World BusState Outcome) (R : BusPoint → BusPoint → Type 0) (sa
       by_case true l r = l
       by_case false l r = r
   tree_keeps nothing p = same p
-  tree_keeps (first a b) p = through p (meaning w a p) (meaning w b (meaning w a p)) (tree_keeps a p) (tree_keeps b (meaning w a p))
+  tree_keeps (chained a b) p = through p (meaning w a p) (meaning w b (meaning w a p)) (tree_keeps a p) (tree_keeps b (meaning w a p))
 
 -- ---- the same in both worlds, as far as the lists are alike
 
@@ -163,7 +163,7 @@ module _ (plan : List Planned) (made : ℕ) (actions : List Placed) where
       by_case true h l r = l h
       by_case false h l r = r h
   tree_agrees nothing p le = refl
-  tree_agrees (first a b) p le =
+  tree_agrees (chained a b) p le =
       let rise : (meaning w a p).number ≤ (meaning w b (meaning w a p)).number = tree_rises b (meaning w a p) in
       ap (meaning v b) (tree_agrees a p (omega (arith, rise, le))) ∙ tree_agrees b (meaning w a p) le
 
