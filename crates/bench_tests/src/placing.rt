@@ -1,97 +1,98 @@
 //! A job's actions by rising number, and those that a channel's part of a report has.
 use bc_machine::Placed;
 use bench_core::{channel_report, ordered_actions};
+use bench_report::ChannelReport;
 use job_file::{Job, read_job};
 use std::alloc::Global;
-use std::test::Fail;
+use std::process::Abort;
 
 /// Two actions at message 3, two at message 1, and a script of three messages.
 const FOUR_ACTIONS: &str =
     "channel 1\nterminal 5\nterminal 6\nat 3 5 busy on\nat 1 6 fault on\nat 3 6 service on\nat 1 5 busy off\nscript\nrepeat 3 { send A rx 5 1 [0001] }\n";
 
-fn job_of(alloc: Global, text: &str) -> Result<Job, Fail> {
-    match read_job(alloc, text.as_bytes()) {
-        Ok(job) => Ok(job),
-        Err(_) => Err(Fail::from("refused")),
-    }
+/// Those at message 1, and then those at message 3, as they are shown.
+const ALL_SHOWN: &str = "1 6 fault on, 1 5 busy off, 3 5 busy on, 3 6 service on, ";
+
+fn job_of(rt: &impl Abort, alloc: Global, text: &str) -> Job {
+    read_job(alloc, text.as_bytes()).ok().expect(rt, "a job")
 }
 
-/// Placed actions, each as its number, its address and what it does.
-fn shown(alloc: Global, placed: &[Placed]) -> Result<String, Fail> {
+/// A job's actions in their order.
+fn ordered_of(rt: &impl Abort, alloc: Global, text: &str) -> Vec<Placed> {
+    let job = job_of(rt, alloc, text);
+    ordered_actions(alloc, &job).expect(rt, "memory")
+}
+
+/// Adds a placed action as its number, its address and what it does.
+fn add_shown(rt: &impl Abort, alloc: Global, text: &mut String, one: &Placed) {
+    let line = format!(in alloc; "{} {} {}, ", one.number, one.address, one.action).expect(
+        rt, "memory",
+    );
+    text.push_str(&line).expect(rt, "memory");
+}
+
+/// Placed actions are shown as this text.
+fn are_shown(rt: &impl Abort, alloc: Global, placed: &[Placed], wanted: &str) {
     let mut text = String::new(alloc);
     for one in placed {
-        let line = format!(in alloc; "{} {} {}, ", one.number, one.address, one.action)?;
-        text.push_str(&line)?;
+        add_shown(rt, alloc, &mut text, one);
     }
-    Ok(text)
+    assert_eq!(rt; text.as_str(), wanted);
 }
 
-/// What the part of a report shows that made so many messages, none of them refused.
-fn shown_up_to(alloc: Global, made: u16) -> Result<String, Fail> {
-    let job = job_of(alloc, FOUR_ACTIONS)?;
-    let part = channel_report(
-        1,
-        u32::from(made),
-        Vec::new(alloc),
-        ordered_actions(alloc, &job)?,
-    );
-    shown(alloc, part.placed())
+/// The part of a report that made so many messages, none of them refused.
+fn part_up_to(rt: &impl Abort, alloc: Global, made: u16) -> ChannelReport {
+    let job = job_of(rt, alloc, FOUR_ACTIONS);
+    let ordered = ordered_actions(alloc, &job).expect(rt, "memory");
+    channel_report(1, u32::from(made), Vec::new(alloc), ordered)
 }
 
-#[test]
-fn actions_by_number(rt: HostRuntime) -> Result<(), Fail> {
-    let alloc = rt.alloc();
-    let job = job_of(alloc, FOUR_ACTIONS)?;
-    let ordered = ordered_actions(alloc, &job)?;
-    let text = shown(alloc, &ordered)?;
-    assert_eq!(rt;
-        text.as_str(),
-        "1 6 fault on, 1 5 busy off, 3 5 busy on, 3 6 service on, "
-    );
-    Ok(())
-}
-
-#[test]
-fn no_actions(rt: HostRuntime) -> Result<(), Fail> {
-    let alloc = rt.alloc();
-    let job = job_of(
-        alloc,
-        "channel 1\nterminal 5\nscript\nsend A rx 5 1 [0001]\n",
-    )?;
-    assert!(rt; ordered_actions(alloc, &job)?.is_empty());
-    Ok(())
-}
-
-#[test]
-fn part_of_a_channel(rt: HostRuntime) -> Result<(), Fail> {
-    let alloc = rt.alloc();
-    let job = job_of(alloc, FOUR_ACTIONS)?;
+/// The part of the last channel's report that made two messages, of which the second was refused.
+fn part_with_refused(rt: &impl Abort, alloc: Global) -> ChannelReport {
+    let job = job_of(rt, alloc, FOUR_ACTIONS);
+    let ordered = ordered_actions(alloc, &job).expect(rt, "memory");
     let mut refused = Vec::new(alloc);
-    refused.push(2)?;
-    let part = channel_report(65535, 2, refused, ordered_actions(alloc, &job)?);
+    refused.push(2).expect(rt, "memory");
+    channel_report(65535, 2, refused, ordered)
+}
+
+/// What the part of a report shows that made so many messages.
+fn shows(rt: &impl Abort, alloc: Global, made: u16, wanted: &str) {
+    let part = part_up_to(rt, alloc, made);
+    are_shown(rt, alloc, part.placed(), wanted);
+}
+
+#[test]
+fn actions_by_number(rt: HostRuntime) {
+    let ordered = ordered_of(&rt, rt.alloc(), FOUR_ACTIONS);
+    are_shown(&rt, rt.alloc(), &ordered, ALL_SHOWN);
+}
+
+#[test]
+fn no_actions(rt: HostRuntime) {
+    let text = "channel 1\nterminal 5\nscript\nsend A rx 5 1 [0001]\n";
+    let ordered = ordered_of(&rt, rt.alloc(), text);
+    assert!(rt; ordered.is_empty());
+}
+
+#[test]
+fn part_of_a_channel(rt: HostRuntime) {
+    let part = part_with_refused(&rt, rt.alloc());
     assert_eq!(rt; part.channel(), 65535);
     assert_eq!(rt; part.made(), 2);
     assert_eq!(rt; part.refused(), [2].as_slice());
-    let text = shown(alloc, part.placed())?;
-    assert_eq!(rt; text.as_str(), "1 6 fault on, 1 5 busy off, ");
-    Ok(())
+    are_shown(
+        &rt,
+        rt.alloc(),
+        part.placed(),
+        "1 6 fault on, 1 5 busy off, ",
+    );
 }
 
 #[test]
-fn actions_up_to_the_number_made(rt: HostRuntime) -> Result<(), Fail> {
-    let alloc = rt.alloc();
-    assert_eq!(rt; shown_up_to(alloc, 0)?.as_str(), "");
-    assert_eq!(rt;
-        shown_up_to(alloc, 1)?.as_str(),
-        "1 6 fault on, 1 5 busy off, "
-    );
-    assert_eq!(rt;
-        shown_up_to(alloc, 3)?.as_str(),
-        "1 6 fault on, 1 5 busy off, 3 5 busy on, 3 6 service on, "
-    );
-    assert_eq!(rt;
-        shown_up_to(alloc, 65_535)?.as_str(),
-        "1 6 fault on, 1 5 busy off, 3 5 busy on, 3 6 service on, "
-    );
-    Ok(())
+fn actions_up_to_the_number_made(rt: HostRuntime) {
+    shows(&rt, rt.alloc(), 0, "");
+    shows(&rt, rt.alloc(), 1, "1 6 fault on, 1 5 busy off, ");
+    shows(&rt, rt.alloc(), 3, ALL_SHOWN);
+    shows(&rt, rt.alloc(), 65_535, ALL_SHOWN);
 }

@@ -2,187 +2,222 @@
 use bc_machine::Placed;
 use bench_report::{ChannelReport, Report, ReportError, ReportFault, print_report, read_report};
 use mil_host::{Action, Mark};
-use std::test::Fail;
+use std::alloc::Global;
+use std::process::Abort;
 
 /// A channel of five messages, of which two were refused, and one of a single message, in two packets.
 const TWO_CHANNELS: &str =
     "channel 1\nmade 5\nrefused 3\nrefused 4\nchannel 2\nmade 1\npackets 2\n";
 
+/// Two placed actions of a channel at the ends of their ranges, and the largest number of packets.
+const TWO_PLACED: &str =
+    "channel 65535\nmade 0\nplaced 1 30 fault on\nplaced 1000000 0 illegal receive 3 4\npackets 9999999999\n";
+
+/// Texts that spell a report, whatever later readers say.
+const ACCEPTED: &[&str] = &[
+    "packets 0\n",
+    "packets 7",
+    "channel 3\nmade 1\nchannel 3\nmade 0\npackets 1\n",
+    "channel 3\nmade 1\nplaced 9 4 busy on\npackets 1\n",
+    "channel 3\nmade 1\nplaced 2 4 busy on\nplaced 2 4 busy off\npackets 1\n",
+    "  channel   3  \nmade  0001\npackets 0000000002\n",
+];
+
+/// Texts with a word too few, too many or another, and what is printed of each.
+const WORDS: &[(&str, &str)] = &[
+    ("\n", "X1 line 1"),
+    ("packets 1\n\n", "X1 line 2"),
+    ("frames 1\n", "X1 line 1"),
+    ("channel\n", "X1 line 1"),
+    ("channel 1 2\n", "X1 line 1"),
+    ("channel 1\nmade\n", "X1 line 2"),
+    ("channel 1\nmade 1 1\n", "X1 line 2"),
+    ("channel 1\nmade 1\nrefused\n", "X1 line 3"),
+    ("channel 1\nmade 1\nrefused 1 1\n", "X1 line 3"),
+    ("channel 1\nmade 1\nplaced\n", "X1 line 3"),
+    ("channel 1\nmade 1\nplaced 1\n", "X1 line 3"),
+    ("channel 1\nmade 1\nplaced 1 5\n", "X1 line 3"),
+    ("channel 1\nmade 1\nplaced 1 5 busy maybe\n", "X1 line 3"),
+    ("channel 1\nmade 1\nplaced 1 5 vector 12\n", "X1 line 3"),
+    ("channel 1\nmade 1\nplaced 0 31 response 39\n", "X1 line 3"),
+    ("packets\n", "X1 line 1"),
+    ("packets 1 1\n", "X1 line 1"),
+    ("packets 1\nframes\n", "X1 line 2"),
+    ("channel\t1\n", "X1 line 1"),
+    ("channel x y\n", "X1 line 1"),
+];
+
+/// Texts with a number out of range, and what is printed of each.
+const NUMBERS: &[(&str, &str)] = &[
+    ("channel 0\n", "X2 line 1"),
+    ("channel 65536\n", "X2 line 1"),
+    ("channel 00000001\n", "X2 line 1"),
+    ("channel -1\n", "X2 line 1"),
+    ("channel 1\r\n", "X2 line 1"),
+    ("channel 1\nmade 1000001\n", "X2 line 2"),
+    ("channel 1\nmade x\n", "X2 line 2"),
+    ("channel 1\nmade 5\nrefused 0\n", "X2 line 3"),
+    ("channel 1\nmade 5\nrefused 1000001\n", "X2 line 3"),
+    ("channel 1\nmade 5\nplaced 0 5 busy on\n", "X2 line 3"),
+    ("channel 1\nmade 5\nplaced 1000001 5 busy on\n", "X2 line 3"),
+    ("channel 1\nmade 5\nplaced 1 31 busy on\n", "X2 line 3"),
+    ("channel 1\nmade 5\nplaced 1 x busy on\n", "X2 line 3"),
+    ("packets 10000000000\n", "X2 line 1"),
+    ("packets A\n", "X2 line 1"),
+    ("made 1000001\n", "X2 line 1"),
+];
+
+/// Texts with a line out of its place, and what is printed of each.
+const ORDERS: &[(&str, &str)] = &[
+    ("", "X3 line 1"),
+    ("channel 1\n", "X3 line 2"),
+    ("channel 1\nmade 5\n", "X3 line 3"),
+    ("channel 1\nchannel 2\n", "X3 line 2"),
+    ("channel 1\npackets 1\n", "X3 line 2"),
+    ("made 5\n", "X3 line 1"),
+    ("channel 1\nmade 5\nmade 5\n", "X3 line 3"),
+    ("refused 1\n", "X3 line 1"),
+    ("channel 1\nrefused 1\nmade 30\n", "X3 line 2"),
+    ("channel 1\nmade 5\nrefused 6\n", "X3 line 3"),
+    ("channel 1\nmade 5\nrefused 2\nrefused 2\n", "X3 line 4"),
+    (
+        "channel 1\nmade 5\nplaced 1 5 busy on\nrefused 2\n",
+        "X3 line 4",
+    ),
+    ("placed 1 5 busy on\n", "X3 line 1"),
+    ("channel 1\nplaced 1 5 busy on\n", "X3 line 2"),
+    (
+        "channel 1\nmade 5\nplaced 3 5 busy on\nplaced 2 5 busy on\n",
+        "X3 line 4",
+    ),
+    ("packets 1\npackets 1\n", "X3 line 2"),
+    ("packets 1\nchannel 1\n", "X3 line 2"),
+];
+
+fn report_of(rt: &impl Abort, alloc: Global, text: &str) -> Report {
+    read_report(alloc, text.as_bytes())
+        .ok()
+        .expect(rt, "a report")
+}
+
 /// The fault of a text, printed; nothing where it spells a report.
-fn fault(rt: &HostRuntime, text: &str) -> Result<String, Fail> {
-    match read_report(rt.alloc(), text.as_bytes()) {
-        Ok(_) => Ok(String::new(rt.alloc())),
-        Err(fault) => Ok(fault.to_string(rt.alloc())?),
+fn fault(rt: &impl Abort, alloc: Global, text: &str) -> String {
+    match read_report(alloc, text.as_bytes()) {
+        Ok(_) => String::new(alloc),
+        Err(fault) => fault.to_string(alloc).expect(rt, "memory"),
     }
 }
 
-#[test]
-fn reads_and_prints_a_report(rt: HostRuntime) -> Result<(), Fail> {
-    let report = read_report(rt.alloc(), TWO_CHANNELS.as_bytes()).map_err(|_| "refused")?;
-    assert_eq!(rt; report.packets(), 2);
-    let channels = report.channels();
-    assert_eq!(rt; channels.len(), 2);
-    assert_eq!(rt; channels[0].channel(), 1);
-    assert_eq!(rt; channels[0].made(), 5);
-    assert_eq!(rt; channels[0].refused(), [3, 4].as_slice());
-    assert!(rt; channels[0].placed().is_empty());
-    assert_eq!(rt; channels[1].channel(), 2);
-    assert_eq!(rt; channels[1].made(), 1);
-    assert!(rt; channels[1].refused().is_empty());
-    let printed = print_report(rt.alloc(), &report)?;
-    assert_eq!(rt; printed.as_str(), TWO_CHANNELS);
-    Ok(())
+/// What is printed of a text's fault.
+fn is_fault(rt: &impl Abort, alloc: Global, text: &str, wanted: &str) {
+    let printed = fault(rt, alloc, text);
+    assert_eq!(rt; printed.as_str(), wanted);
+}
+
+/// What is printed of the fault of each text.
+fn are_faults(rt: &impl Abort, alloc: Global, texts: &[(&str, &str)]) {
+    for (text, wanted) in texts {
+        is_fault(rt, alloc, text, wanted);
+    }
+}
+
+/// A report is printed as this text.
+fn is_printed(rt: &impl Abort, alloc: Global, report: &Report, wanted: &str) {
+    let printed = print_report(alloc, report).expect(rt, "memory");
+    assert_eq!(rt; printed.as_str(), wanted);
+}
+
+/// The part of a report of a channel without placed actions.
+fn is_part(rt: &impl Abort, part: &ChannelReport, channel: u16, made: u32, refused: &[u32]) {
+    assert_eq!(rt; (part.channel(), part.made()), (channel, made));
+    assert_eq!(rt; part.refused(), refused);
+    assert!(rt; part.placed().is_empty());
 }
 
 #[test]
-fn prints_placed_actions(rt: HostRuntime) -> Result<(), Fail> {
-    let alloc = rt.alloc();
+fn reads_and_prints_a_report(rt: HostRuntime) {
+    let report = report_of(&rt, rt.alloc(), TWO_CHANNELS);
+    assert_eq!(rt; report.packets(), 2);
+    let channels = report.channels();
+    assert_eq!(rt; channels.len(), 2);
+    is_part(&rt, &channels[0], 1, 5, &[3, 4]);
+    is_part(&rt, &channels[1], 2, 1, &[]);
+    is_printed(&rt, rt.alloc(), &report, TWO_CHANNELS);
+}
+
+/// The report with two placed actions.
+fn report_with_placed(rt: &impl Abort, alloc: Global) -> Report {
     let mut placed = Vec::new(alloc);
-    placed.push(Placed {
+    let first = Placed {
         number: 1,
         address: 30,
         action: Action::Fault(true),
-    })?;
-    placed.push(Placed {
+    };
+    placed.push(first).expect(rt, "memory");
+    let second = Placed {
         number: 1000000,
         address: 0,
         action: Action::Illegal(Mark::make(false, 3, 4)),
-    })?;
-    let channel = ChannelReport::make(65535, 0, Vec::new(alloc), placed);
+    };
+    placed.push(second).expect(rt, "memory");
     let mut channels = Vec::new(alloc);
-    channels.push(channel)?;
-    let report = Report::make(channels, 9999999999);
-    let text =
-        "channel 65535\nmade 0\nplaced 1 30 fault on\nplaced 1000000 0 illegal receive 3 4\npackets 9999999999\n";
-    let printed = print_report(alloc, &report)?;
-    assert_eq!(rt; printed.as_str(), text);
-    let read = read_report(alloc, text.as_bytes()).map_err(|_| "refused")?;
+    channels
+        .push(ChannelReport::make(65535, 0, Vec::new(alloc), placed))
+        .expect(rt, "memory");
+    Report::make(channels, 9999999999)
+}
+
+/// The lists of a channel that refused nothing and has the two placed actions.
+fn has_placed(rt: &impl Abort, channel: ChannelReport) {
+    assert_eq!(rt; channel.channel(), 65535);
+    let (refused, placed) = channel.into_lists();
+    assert!(rt; refused.is_empty());
+    assert_eq!(rt; placed.len(), 2);
+    assert_eq!(rt; (placed[1].number, placed[1].address), (1000000, 0));
+    assert!(rt; matches!(&placed[0].action, Action::Fault(true)));
+}
+
+#[test]
+fn prints_placed_actions(rt: HostRuntime) {
+    let report = report_with_placed(&rt, rt.alloc());
+    is_printed(&rt, rt.alloc(), &report, TWO_PLACED);
+    let read = report_of(&rt, rt.alloc(), TWO_PLACED);
     assert_eq!(rt; read.packets(), 9999999999);
     let channels = read.into_channels();
     assert_eq!(rt; channels.len(), 1);
     for channel in channels {
-        assert_eq!(rt; channel.channel(), 65535);
-        let (refused, placed) = channel.into_lists();
-        assert!(rt; refused.is_empty());
-        assert_eq!(rt; placed.len(), 2);
-        assert_eq!(rt; placed[1].number, 1000000);
-        assert_eq!(rt; placed[1].address, 0);
-        assert!(rt; matches!(&placed[0].action, Action::Fault(true)));
+        has_placed(&rt, channel);
     }
-    Ok(())
 }
 
 #[test]
-fn accepts_what_later_readers_judge(rt: HostRuntime) -> Result<(), Fail> {
-    let texts = [
-        "packets 0\n",
-        "packets 7",
-        "channel 3\nmade 1\nchannel 3\nmade 0\npackets 1\n",
-        "channel 3\nmade 1\nplaced 9 4 busy on\npackets 1\n",
-        "channel 3\nmade 1\nplaced 2 4 busy on\nplaced 2 4 busy off\npackets 1\n",
-        "  channel   3  \nmade  0001\npackets 0000000002\n",
-    ];
-    for text in texts {
-        assert_eq!(rt; fault(&rt, text)?.as_str(), "");
+fn accepts_what_later_readers_judge(rt: HostRuntime) {
+    for text in ACCEPTED {
+        is_fault(&rt, rt.alloc(), text, "");
     }
-    Ok(())
 }
 
 #[test]
-fn refuses_words(rt: HostRuntime) -> Result<(), Fail> {
-    let texts = [
-        ("\n", "X1 line 1"),
-        ("packets 1\n\n", "X1 line 2"),
-        ("frames 1\n", "X1 line 1"),
-        ("channel\n", "X1 line 1"),
-        ("channel 1 2\n", "X1 line 1"),
-        ("channel 1\nmade\n", "X1 line 2"),
-        ("channel 1\nmade 1 1\n", "X1 line 2"),
-        ("channel 1\nmade 1\nrefused\n", "X1 line 3"),
-        ("channel 1\nmade 1\nrefused 1 1\n", "X1 line 3"),
-        ("channel 1\nmade 1\nplaced\n", "X1 line 3"),
-        ("channel 1\nmade 1\nplaced 1\n", "X1 line 3"),
-        ("channel 1\nmade 1\nplaced 1 5\n", "X1 line 3"),
-        ("channel 1\nmade 1\nplaced 1 5 busy maybe\n", "X1 line 3"),
-        ("channel 1\nmade 1\nplaced 1 5 vector 12\n", "X1 line 3"),
-        ("channel 1\nmade 1\nplaced 0 31 response 39\n", "X1 line 3"),
-        ("packets\n", "X1 line 1"),
-        ("packets 1 1\n", "X1 line 1"),
-        ("packets 1\nframes\n", "X1 line 2"),
-        ("channel\t1\n", "X1 line 1"),
-        ("channel x y\n", "X1 line 1"),
-    ];
-    for (text, printed) in texts {
-        assert_eq!(rt; fault(&rt, text)?.as_str(), printed);
-    }
-    Ok(())
+fn refuses_words(rt: HostRuntime) {
+    are_faults(&rt, rt.alloc(), WORDS);
 }
 
 #[test]
-fn refuses_numbers(rt: HostRuntime) -> Result<(), Fail> {
-    let texts = [
-        ("channel 0\n", "X2 line 1"),
-        ("channel 65536\n", "X2 line 1"),
-        ("channel 00000001\n", "X2 line 1"),
-        ("channel -1\n", "X2 line 1"),
-        ("channel 1\r\n", "X2 line 1"),
-        ("channel 1\nmade 1000001\n", "X2 line 2"),
-        ("channel 1\nmade x\n", "X2 line 2"),
-        ("channel 1\nmade 5\nrefused 0\n", "X2 line 3"),
-        ("channel 1\nmade 5\nrefused 1000001\n", "X2 line 3"),
-        ("channel 1\nmade 5\nplaced 0 5 busy on\n", "X2 line 3"),
-        ("channel 1\nmade 5\nplaced 1000001 5 busy on\n", "X2 line 3"),
-        ("channel 1\nmade 5\nplaced 1 31 busy on\n", "X2 line 3"),
-        ("channel 1\nmade 5\nplaced 1 x busy on\n", "X2 line 3"),
-        ("packets 10000000000\n", "X2 line 1"),
-        ("packets A\n", "X2 line 1"),
-        ("made 1000001\n", "X2 line 1"),
-    ];
-    for (text, printed) in texts {
-        assert_eq!(rt; fault(&rt, text)?.as_str(), printed);
-    }
-    Ok(())
+fn refuses_numbers(rt: HostRuntime) {
+    are_faults(&rt, rt.alloc(), NUMBERS);
 }
 
 #[test]
-fn refuses_lines_out_of_order(rt: HostRuntime) -> Result<(), Fail> {
-    let texts = [
-        ("", "X3 line 1"),
-        ("channel 1\n", "X3 line 2"),
-        ("channel 1\nmade 5\n", "X3 line 3"),
-        ("channel 1\nchannel 2\n", "X3 line 2"),
-        ("channel 1\npackets 1\n", "X3 line 2"),
-        ("made 5\n", "X3 line 1"),
-        ("channel 1\nmade 5\nmade 5\n", "X3 line 3"),
-        ("refused 1\n", "X3 line 1"),
-        ("channel 1\nrefused 1\nmade 30\n", "X3 line 2"),
-        ("channel 1\nmade 5\nrefused 6\n", "X3 line 3"),
-        ("channel 1\nmade 5\nrefused 2\nrefused 2\n", "X3 line 4"),
-        (
-            "channel 1\nmade 5\nplaced 1 5 busy on\nrefused 2\n",
-            "X3 line 4",
-        ),
-        ("placed 1 5 busy on\n", "X3 line 1"),
-        ("channel 1\nplaced 1 5 busy on\n", "X3 line 2"),
-        (
-            "channel 1\nmade 5\nplaced 3 5 busy on\nplaced 2 5 busy on\n",
-            "X3 line 4",
-        ),
-        ("packets 1\npackets 1\n", "X3 line 2"),
-        ("packets 1\nchannel 1\n", "X3 line 2"),
-    ];
-    for (text, printed) in texts {
-        assert_eq!(rt; fault(&rt, text)?.as_str(), printed);
-    }
-    Ok(())
+fn refuses_lines_out_of_order(rt: HostRuntime) {
+    are_faults(&rt, rt.alloc(), ORDERS);
 }
 
 #[test]
-fn prints_want_of_memory(rt: HostRuntime) -> Result<(), Fail> {
+fn prints_want_of_memory(rt: HostRuntime) {
     let error = ReportError {
         fault: ReportFault::Memory,
         line: 7,
     };
-    assert_eq!(rt; error.to_string(rt.alloc())?.as_str(), "X4 line 7");
-    Ok(())
+    let printed = error.to_string(rt.alloc()).expect(&rt, "memory");
+    assert_eq!(rt; printed.as_str(), "X4 line 7");
 }
