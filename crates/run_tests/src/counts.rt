@@ -1,10 +1,19 @@
 //! The counts of a report, and their line.
 use bench_record::{Counts, print_counts};
 use bench_report::read_report;
-use std::test::Fail;
+use std::alloc::Global;
+use std::process::Abort;
+
+/// The counts of the report that a text spells.
+fn has_counts(rt: &impl Abort, alloc: Global, text: &str, packets: u64, messages: u64) {
+    let report = read_report(alloc, text.as_bytes())
+        .ok()
+        .expect(rt, "a report");
+    assert_eq!(rt; Counts::of_report(&report), Counts { packets, messages });
+}
 
 #[test]
-fn the_line(rt: HostRuntime) -> Result<(), Fail> {
+fn the_line(rt: HostRuntime) {
     let mut line = Vec::new(rt.alloc());
     let counts = Counts {
         packets: 4,
@@ -12,34 +21,15 @@ fn the_line(rt: HostRuntime) -> Result<(), Fail> {
     };
     assert!(rt; print_counts(&mut line, &counts).is_ok());
     assert_eq!(rt; line.as_slice(), b"packets 4 messages 32\n".as_slice());
-    Ok(())
 }
 
 #[test]
-fn refused_messages_are_not_in_the_recording(rt: HostRuntime) -> Result<(), Fail> {
-    let text = b"channel 1\nmade 5\nrefused 3\nrefused 4\nchannel 2\nmade 1\npackets 2\n";
-    let report = read_report(rt.alloc(), text).ok().ok_or("a report")?;
-    assert_eq!(rt;
-        Counts::of_report(&report),
-        Counts {
-            packets: 2,
-            messages: 4
-        }
-    );
-    Ok(())
+fn refused_messages_are_not_in_the_recording(rt: HostRuntime) {
+    let text = "channel 1\nmade 5\nrefused 3\nrefused 4\nchannel 2\nmade 1\npackets 2\n";
+    has_counts(&rt, rt.alloc(), text, 2, 4);
 }
 
 #[test]
-fn an_empty_report(rt: HostRuntime) -> Result<(), Fail> {
-    let report = read_report(rt.alloc(), b"packets 0\n")
-        .ok()
-        .ok_or("a report")?;
-    assert_eq!(rt;
-        Counts::of_report(&report),
-        Counts {
-            packets: 0,
-            messages: 0
-        }
-    );
-    Ok(())
+fn an_empty_report(rt: HostRuntime) {
+    has_counts(&rt, rt.alloc(), "packets 0\n", 0, 0);
 }

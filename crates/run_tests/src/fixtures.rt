@@ -1,13 +1,13 @@
 //! Jobs and settings of the runs, and what is asked of a file.
 use bench_core::Settings;
-use bench_report::Report;
+use bench_report::{Report, print_report};
 use bench_run::{Gate, RunError, run};
 use ch11_reader::Index;
-use ch11_writer::{MemorySink, Sink};
+use ch11_writer::MemorySink;
 use job_file::{Job, read_job};
-use std::alloc::{AllocError, Global};
+use std::alloc::Global;
+use std::process::Abort;
 use std::sync::Wait;
-use std::test::Fail;
 use std::thread::Threads;
 
 /// Two channels of ten messages each, at 0, 680, .. 6120.
@@ -29,69 +29,118 @@ pub(crate) const FOREIGN: [u8; 96] = [
     0x00, 0x00, 0x50, 0x00, 0x0A, 0x00, 0x23, 0x28, 0x01, 0x00, 0x02, 0x00, 0x03, 0x00, 0x00, 0x28,
 ];
 
-pub(crate) fn jobs_of(alloc: Global, texts: &[&str]) -> Result<Vec<Job>, Fail> {
+/// The report of two channels of ten messages, of which none was refused.
+pub(crate) const TEN_REPORT: &str = "channel 1\nmade 10\nchannel 2\nmade 10\npackets 2\n";
+
+pub(crate) fn jobs_of(rt: &impl Abort, alloc: Global, texts: &[&str]) -> Vec<Job> {
     let mut jobs = Vec::new(alloc);
     for text in texts {
-        let job = read_job(alloc, text.as_bytes()).ok().ok_or("a job")?;
-        jobs.push(job)?;
+        let job = read_job(alloc, text.as_bytes()).ok().expect(rt, "a job");
+        jobs.push(job).expect(rt, "memory");
     }
-    Ok(jobs)
+    jobs
 }
 
 /// Packets of at most 4096 bytes, a queue of so many items, and a prologue.
-pub(crate) fn settings_of(
-    alloc: Global,
-    queue: u32,
-    prologue: &[u8],
-) -> Result<Settings, AllocError> {
+pub(crate) fn settings_of(rt: &impl Abort, alloc: Global, queue: u32, prologue: &[u8]) -> Settings {
     let mut bytes = Vec::new(alloc);
-    bytes.extend_from_slice(prologue)?;
-    Ok(Settings {
+    bytes.extend_from_slice(prologue).expect(rt, "memory");
+    Settings {
         version: 6,
         limit: 4096,
         queue,
         prologue: bytes,
         posts: 65_536,
-    })
+    }
 }
 
-/// What a run that ended well came to.
-pub(crate) fn done<S: Drop>(ran: Result<(Report, S), RunError<S>>) -> Result<(Report, S), Fail> {
-    let (report, sink) = ran.ok().ok_or("a run that ends well")?;
-    Ok((report, sink))
+/// What a run into memory of jobs of these texts comes to.
+pub(crate) fn ran<R: Threads + Wait + Abort + Sync, G: Gate>(
+    rt: &R,
+    alloc: Global,
+    texts: &[&str],
+    settings: &Settings,
+    gate: &G,
+) -> Result<(Report, MemorySink), RunError<MemorySink>> {
+    let jobs = jobs_of(rt, alloc, texts);
+    run(rt, alloc, &jobs, settings, gate, MemorySink::make(alloc))
 }
 
-/// Runs jobs of these texts into memory, with no prologue.
-pub(crate) fn recorded<R: Threads + Wait + Sync, G: Gate>(
+/// Runs jobs of these texts into memory, and ends well.
+pub(crate) fn recorded<R: Threads + Wait + Abort + Sync, G: Gate>(
     rt: &R,
     alloc: Global,
     texts: &[&str],
     queue: u32,
+    prologue: &[u8],
     gate: &G,
-) -> Result<(Report, MemorySink), Fail> {
-    let jobs = jobs_of(alloc, texts)?;
-    let settings = settings_of(alloc, queue, &[])?;
-    let sink = MemorySink::make(alloc);
-    done(run(rt, alloc, &jobs, &settings, gate, sink))
+) -> (Report, MemorySink) {
+    let settings = settings_of(rt, alloc, queue, prologue);
+    let answer = ran(rt, alloc, texts, &settings, gate);
+    answer.ok().expect(rt, "a run that ends well")
+}
+
+/// A report is printed as this text.
+pub(crate) fn is_printed(rt: &impl Abort, alloc: Global, report: &Report, wanted: &str) {
+    let printed = print_report(alloc, report).expect(rt, "memory");
+    assert_eq!(rt; printed.as_str(), wanted);
 }
 
 /// Channel, length in bytes and flags of each packet of a file.
-pub(crate) fn shapes_of(alloc: Global, file: &[u8]) -> Result<Vec<(u16, u32, u8)>, Fail> {
-    let index = Index::build(alloc, file).ok().ok_or("readable")?;
+fn shapes_of(rt: &impl Abort, alloc: Global, file: &[u8]) -> Vec<(u16, u32, u8)> {
+    let index = Index::build(alloc, file).ok().expect(rt, "readable");
     let mut shapes = Vec::new(alloc);
     for packet in index.packets() {
         let header = packet.header;
-        shapes.push((header.channel, header.packet_length, header.flags))?;
+        let shape = (header.channel, header.packet_length, header.flags);
+        shapes.push(shape).expect(rt, "memory");
     }
-    Ok(shapes)
+    shapes
 }
 
 /// The stamps of a channel's messages, in the file's order.
-pub(crate) fn stamps_of(alloc: Global, file: &[u8], channel: u16) -> Result<Vec<u64>, Fail> {
-    let index = Index::build(alloc, file).ok().ok_or("readable")?;
+fn stamps_of(rt: &impl Abort, alloc: Global, file: &[u8], channel: u16) -> Vec<u64> {
+    let index = Index::build(alloc, file).ok().expect(rt, "readable");
     let mut stamps = Vec::new(alloc);
     for seen in index.channel(channel) {
-        stamps.push(seen.stamp)?;
+        stamps.push(seen.stamp).expect(rt, "memory");
     }
-    Ok(stamps)
+    stamps
+}
+
+/// The packets of a file, each by its channel, its length in bytes and its flags.
+pub(crate) fn has_shapes(rt: &impl Abort, alloc: Global, file: &[u8], wanted: &[(u16, u32, u8)]) {
+    let shapes = shapes_of(rt, alloc, file);
+    assert_eq!(rt; shapes.as_slice(), wanted);
+}
+
+/// Each packet of a file has this length in bytes and these flags.
+pub(crate) fn has_packets_of(rt: &impl Abort, alloc: Global, file: &[u8], length: u32, flags: u8) {
+    for shape in shapes_of(rt, alloc, file) {
+        assert_eq!(rt; (shape.1, shape.2), (length, flags));
+    }
+}
+
+/// The stamps of a channel's messages in a file.
+pub(crate) fn has_stamps(
+    rt: &impl Abort,
+    alloc: Global,
+    file: &[u8],
+    channel: u16,
+    wanted: &[u64],
+) {
+    let stamps = stamps_of(rt, alloc, file, channel);
+    assert_eq!(rt; stamps.as_slice(), wanted);
+}
+
+/// How many messages of a channel a file has.
+pub(crate) fn has_messages(
+    rt: &impl Abort,
+    alloc: Global,
+    file: &[u8],
+    channel: u16,
+    count: usize,
+) {
+    let stamps = stamps_of(rt, alloc, file, channel);
+    assert_eq!(rt; stamps.len(), count);
 }

@@ -1,5 +1,5 @@
 //! A thousand runs of eight channels on short queues: what is read back is what was made, but for what the report lists.
-use crate::fixtures::{STEP, done, settings_of};
+use crate::fixtures::{STEP, settings_of};
 use bench_core::Settings;
 use bench_report::{ChannelReport, Report};
 use bench_run::{OpenGate, run};
@@ -9,7 +9,6 @@ use job_file::{Job, read_job};
 use std::alloc::Global;
 use std::process::Abort;
 use std::sync::Wait;
-use std::test::Fail;
 use std::thread::Threads;
 
 /// How many runs there are on a queue of each length, 1 to 8.
@@ -18,17 +17,22 @@ const RUNS: u32 = 125;
 /// How many messages the channels 1 to 8 make.
 const COUNTS: [u32; 8] = [2, 3, 4, 2, 3, 4, 2, 3];
 
-/// Eight jobs of so many messages, each a step later than the one before it.
-fn eight_jobs(alloc: Global) -> Result<Vec<Job>, Fail> {
+/// A job of so many messages, each a step later than the one before it.
+fn job_of(rt: &impl Abort, alloc: Global, channel: u32, count: u32) -> Job {
+    let text = format!(in alloc;
+        "channel {channel}\nterminal 5\nscript\nrepeat {count} {{ send A rx 5 1 [0001] }}\n"
+    ).expect(rt, "memory");
+    read_job(alloc, text.as_bytes()).ok().expect(rt, "a job")
+}
+
+/// A job for each channel.
+fn eight_jobs(rt: &impl Abort, alloc: Global) -> Vec<Job> {
     let mut jobs = Vec::new(alloc);
     for (count, channel) in COUNTS.iter().zip(1u32..9) {
-        let text = format!(in alloc;
-            "channel {channel}\nterminal 5\nscript\nrepeat {count} {{ send A rx 5 1 [0001] }}\n"
-        )?;
-        let job = read_job(alloc, text.as_bytes()).ok().ok_or("a job")?;
-        jobs.push(job)?;
+        let job = job_of(rt, alloc, channel, *count);
+        jobs.push(job).expect(rt, "memory");
     }
-    Ok(jobs)
+    jobs
 }
 
 /// How many messages of a channel were kept, where the file holds in their order those that were made but for the refused.
@@ -66,56 +70,75 @@ fn agrees(index: &Index<'_>, report: &Report) -> bool {
     report.channels().len() == COUNTS.len() && index.total() == total
 }
 
-/// Runs the jobs 125 times, and counts the runs whose file is not what the report says.
-fn wrong_runs<R: Threads + Wait + Sync>(
+/// Whether a file can be read, and holds what its report says.
+fn is_read_as(rt: &impl Abort, alloc: Global, file: &[u8], report: &Report) -> bool {
+    let index = Index::build(alloc, file).ok().expect(rt, "readable");
+    agrees(&index, report)
+}
+
+/// Runs the jobs once: whether the file is what the report says.
+fn run_agrees<R: Threads + Wait + Abort + Sync>(
     rt: &R,
     alloc: Global,
     jobs: &[Job],
     settings: &Settings,
-) -> Result<u32, Fail> {
+) -> bool {
+    let answer = run(
+        rt,
+        alloc,
+        jobs,
+        settings,
+        &OpenGate,
+        MemorySink::make(alloc),
+    );
+    let (report, sink) = answer.ok().expect(rt, "a run that ends well");
+    is_read_as(rt, alloc, sink.bytes(), &report)
+}
+
+/// Runs the jobs 125 times, and counts the runs whose file is not what the report says.
+fn wrong_runs<R: Threads + Wait + Abort + Sync>(
+    rt: &R,
+    alloc: Global,
+    jobs: &[Job],
+    settings: &Settings,
+) -> u32 {
     let mut wrong = 0u32;
     for _ in 0..RUNS {
-        let sink = MemorySink::make(alloc);
-        let (report, sink) = done(run(rt, alloc, jobs, settings, &OpenGate, sink))?;
-        let index = Index::build(alloc, sink.bytes()).ok().ok_or("readable")?;
-        if !agrees(&index, &report) {
+        if !run_agrees(rt, alloc, jobs, settings) {
             wrong = wrong.wrapping_add(1);
         }
     }
-    Ok(wrong)
+    wrong
 }
 
-/// Each of 125 runs on a queue of each of these lengths agrees with its report.
-fn all_agree<R: Threads + Wait + Abort + Sync>(
-    rt: &R,
-    alloc: Global,
-    queues: [u32; 2],
-) -> Result<(), Fail> {
-    let jobs = eight_jobs(alloc)?;
-    for queue in queues {
-        let settings = settings_of(alloc, queue, &[])?;
-        let wrong = wrong_runs(rt, alloc, &jobs, &settings)?;
-        assert_eq!(rt; wrong, 0, "with a queue of {queue}");
-    }
-    Ok(())
+/// Each of 125 runs on a queue of this length agrees with its report.
+fn all_agree<R: Threads + Wait + Abort + Sync>(rt: &R, alloc: Global, queue: u32) {
+    let jobs = eight_jobs(rt, alloc);
+    let settings = settings_of(rt, alloc, queue, &[]);
+    let wrong = wrong_runs(rt, alloc, &jobs, &settings);
+    assert_eq!(rt; wrong, 0, "with a queue of {queue}");
 }
 
 #[test]
-fn queues_of_one_and_two(rt: HostRuntime) -> Result<(), Fail> {
-    all_agree(&rt, rt.alloc(), [1, 2])
+fn queues_of_one_and_two(rt: HostRuntime) {
+    all_agree(&rt, rt.alloc(), 1);
+    all_agree(&rt, rt.alloc(), 2);
 }
 
 #[test]
-fn queues_of_three_and_four(rt: HostRuntime) -> Result<(), Fail> {
-    all_agree(&rt, rt.alloc(), [3, 4])
+fn queues_of_three_and_four(rt: HostRuntime) {
+    all_agree(&rt, rt.alloc(), 3);
+    all_agree(&rt, rt.alloc(), 4);
 }
 
 #[test]
-fn queues_of_five_and_six(rt: HostRuntime) -> Result<(), Fail> {
-    all_agree(&rt, rt.alloc(), [5, 6])
+fn queues_of_five_and_six(rt: HostRuntime) {
+    all_agree(&rt, rt.alloc(), 5);
+    all_agree(&rt, rt.alloc(), 6);
 }
 
 #[test]
-fn queues_of_seven_and_eight(rt: HostRuntime) -> Result<(), Fail> {
-    all_agree(&rt, rt.alloc(), [7, 8])
+fn queues_of_seven_and_eight(rt: HostRuntime) {
+    all_agree(&rt, rt.alloc(), 7);
+    all_agree(&rt, rt.alloc(), 8);
 }

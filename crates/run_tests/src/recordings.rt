@@ -1,119 +1,122 @@
 //! Jobs on threads, into a sink in memory.
-use crate::fixtures::{TEN_MESSAGES, jobs_of, settings_of};
+use crate::fixtures::{TEN_MESSAGES, TEN_REPORT, is_printed, jobs_of, settings_of};
 use bench_record::{Counts, record_jobs, record_jobs_with_progress};
-use bench_report::{Report, print_report};
+use bench_report::Report;
 use bench_run::RunError;
 use ch11_reader::Index;
 use ch11_writer::{FuseSink, MemorySink, Sink};
 use std::alloc::Global;
+use std::io::IsTerminal;
 use std::process::Abort;
-use std::test::Fail;
+use std::rt::Clock;
+use std::sync::Wait;
+use std::thread::Threads;
+
+/// Jobs of these texts, recorded in memory.
+fn recorded<R: Threads + Wait + Abort + Sync>(
+    rt: &R,
+    alloc: Global,
+    texts: &[&str],
+) -> Result<(Report, MemorySink), RunError<MemorySink>> {
+    let jobs = jobs_of(rt, alloc, texts);
+    let settings = settings_of(rt, alloc, 4096, &[]);
+    record_jobs(rt, alloc, &jobs, &settings, MemorySink::make(alloc))
+}
+
+/// Two channels of ten messages, recorded in memory while the progress is shown.
+fn shown<R: Threads + Wait + Clock + Abort + Sync, E: Eprint + IsTerminal + Sync>(
+    rt: &R,
+    alloc: Global,
+    errors: &E,
+) -> Result<(Report, MemorySink), RunError<MemorySink>> {
+    let jobs = jobs_of(rt, alloc, &TEN_MESSAGES);
+    let settings = settings_of(rt, alloc, 4096, &[]);
+    let sink = MemorySink::make(alloc);
+    record_jobs_with_progress(rt, alloc, errors, &jobs, &settings, sink)
+}
+
+/// The same into a sink of a hundred bytes.
+fn shown_to_fuse<R: Threads + Wait + Clock + Abort + Sync, E: Eprint + IsTerminal + Sync>(
+    rt: &R,
+    alloc: Global,
+    errors: &E,
+) -> Result<(Report, FuseSink), RunError<FuseSink>> {
+    let jobs = jobs_of(rt, alloc, &TEN_MESSAGES);
+    let settings = settings_of(rt, alloc, 4096, &[]);
+    let sink = FuseSink::make(alloc, 100);
+    record_jobs_with_progress(rt, alloc, errors, &jobs, &settings, sink)
+}
 
 /// What is printed of a fault.
-fn told<S>(alloc: Global, fault: &RunError<S>) -> Result<String, Fail> {
-    Ok(format!(in alloc; "{fault}")?)
+fn is_told<S>(rt: &impl Abort, alloc: Global, fault: &RunError<S>, wanted: &str) {
+    let text = fault.to_string(alloc).expect(rt, "memory");
+    assert_eq!(rt; text.as_str(), wanted);
 }
 
-/// All that a recording of the two channels has to be.
-fn check_both<R: Abort + AllocGlobal>(
-    rt: &R,
-    report: &Report,
-    sink: &MemorySink,
-) -> Result<(), Fail> {
-    assert_eq!(rt; sink.bytes().len(), 456);
-    let counts = Counts::of_report(report);
-    assert_eq!(rt;
-        counts,
-        Counts {
-            packets: 2,
-            messages: 20
-        }
-    );
-    let text = print_report(rt.alloc(), report)?;
-    assert_eq!(rt;
-        text.as_str(),
-        "channel 1\nmade 10\nchannel 2\nmade 10\npackets 2\n"
-    );
-    let index = Index::build(rt.alloc(), sink.bytes())
-        .ok()
-        .ok_or("readable")?;
+/// The report of two channels of ten messages, and what it counts.
+fn reports_both(rt: &impl Abort, alloc: Global, report: &Report) {
+    let counts = Counts {
+        packets: 2,
+        messages: 20,
+    };
+    assert_eq!(rt; Counts::of_report(report), counts);
+    is_printed(rt, alloc, report, TEN_REPORT);
+}
+
+/// The file of two channels of ten messages.
+fn holds_both(rt: &impl Abort, alloc: Global, file: &[u8]) {
+    assert_eq!(rt; file.len(), 456);
+    let index = Index::build(alloc, file).ok().expect(rt, "readable");
     assert_eq!(rt; index.total(), 20);
-    Ok(())
 }
 
 #[test]
-fn two_channels_of_ten_messages(rt: HostRuntime) -> Result<(), Fail> {
-    let alloc = rt.alloc();
-    let jobs = jobs_of(alloc, &TEN_MESSAGES)?;
-    let settings = settings_of(alloc, 4096, &[])?;
-    let answer = record_jobs(&rt, alloc, &jobs, &settings, MemorySink::make(alloc));
-    match &answer {
-        Ok(made) => check_both(&rt, &made.0, &made.1)?,
-        Err(_) => assert!(rt; false, "a fault"),
-    }
-    Ok(())
+fn two_channels_of_ten_messages(rt: HostRuntime) {
+    let answer = recorded(&rt, rt.alloc(), &TEN_MESSAGES);
+    let (report, sink) = answer.ok().expect(&rt, "no fault");
+    reports_both(&rt, rt.alloc(), &report);
+    holds_both(&rt, rt.alloc(), sink.bytes());
 }
 
 #[test]
-fn two_channels_with_progress(rt: HostRuntime) -> Result<(), Fail> {
-    let alloc = rt.alloc();
-    let jobs = jobs_of(alloc, &TEN_MESSAGES)?;
-    let settings = settings_of(alloc, 4096, &[])?;
-    let errors = rt.stderr();
-    let sink = MemorySink::make(alloc);
-    let answer = record_jobs_with_progress(&rt, alloc, &errors, &jobs, &settings, sink);
-    match &answer {
-        Ok(made) => check_both(&rt, &made.0, &made.1)?,
-        Err(_) => assert!(rt; false, "a fault"),
-    }
-    Ok(())
+fn two_channels_with_progress(rt: HostRuntime) {
+    let (report, sink) = shown(&rt, rt.alloc(), &rt.stderr())
+        .ok()
+        .expect(&rt, "no fault");
+    reports_both(&rt, rt.alloc(), &report);
+    holds_both(&rt, rt.alloc(), sink.bytes());
 }
 
 #[test]
-fn one_channel_twice(rt: HostRuntime) -> Result<(), Fail> {
-    let alloc = rt.alloc();
-    let jobs = jobs_of(alloc, &[TEN_MESSAGES[0], TEN_MESSAGES[0]])?;
-    let settings = settings_of(alloc, 4096, &[])?;
-    let answer = record_jobs(&rt, alloc, &jobs, &settings, MemorySink::make(alloc));
-    match &answer {
-        Ok(_) => assert!(rt; false, "no fault"),
-        Err(fault) => assert_eq!(rt; told(alloc, fault)?.as_str(), "U1"),
-    }
-    Ok(())
+fn one_channel_twice(rt: HostRuntime) {
+    let answer = recorded(&rt, rt.alloc(), &[TEN_MESSAGES[0], TEN_MESSAGES[0]]);
+    let fault = answer.err().expect(&rt, "a fault");
+    is_told(&rt, rt.alloc(), &fault, "U1");
 }
 
 #[test]
-fn no_job(rt: HostRuntime) -> Result<(), Fail> {
-    let alloc = rt.alloc();
-    let settings = settings_of(alloc, 4096, &[])?;
-    match record_jobs(&rt, alloc, &[], &settings, MemorySink::make(alloc)) {
-        Ok(_) => assert!(rt; false, "no fault"),
-        Err(fault) => assert_eq!(rt; told(alloc, &fault)?.as_str(), "U2"),
+fn no_job(rt: HostRuntime) {
+    let answer = recorded(&rt, rt.alloc(), &[]);
+    let fault = answer.err().expect(&rt, "a fault");
+    is_told(&rt, rt.alloc(), &fault, "U2");
+}
+
+/// The sink and the report that a failing sink's fault hands back.
+fn handed_back(fault: &RunError<FuseSink>) -> Option<(&FuseSink, &Report)> {
+    match fault {
+        RunError::Sink { sink, report, .. } => Some((sink, report)),
+        _ => None,
     }
-    Ok(())
 }
 
 #[test]
-fn a_sink_of_a_hundred_bytes(rt: HostRuntime) -> Result<(), Fail> {
-    let alloc = rt.alloc();
-    let jobs = jobs_of(alloc, &TEN_MESSAGES)?;
-    let settings = settings_of(alloc, 4096, &[])?;
-    let errors = rt.stderr();
-    let sink = FuseSink::make(alloc, 100);
-    let answer = record_jobs_with_progress(&rt, alloc, &errors, &jobs, &settings, sink);
-    match &answer {
-        Ok(_) => assert!(rt; false, "no fault"),
-        Err(fault) => {
-            assert_eq!(rt; told(alloc, fault)?.as_str(), "U4 taken 100");
-            match fault {
-                RunError::Sink { sink, report, .. } => {
-                    assert_eq!(rt; sink.bytes().len(), 100);
-                    assert!(rt; sink.failures() > 0);
-                    assert_eq!(rt; report.packets(), 0);
-                }
-                _ => assert!(rt; false, "another fault"),
-            }
-        }
-    }
-    Ok(())
+fn a_sink_of_a_hundred_bytes(rt: HostRuntime) {
+    let fault = shown_to_fuse(&rt, rt.alloc(), &rt.stderr())
+        .err()
+        .expect(&rt, "a fault");
+    is_told(&rt, rt.alloc(), &fault, "U4 taken 100");
+    let (sink, report) = handed_back(&fault).expect(&rt, "the fault of a sink");
+    assert_eq!(rt; sink.bytes().len(), 100);
+    assert!(rt; sink.failures() > 0);
+    assert_eq!(rt; report.packets(), 0);
 }

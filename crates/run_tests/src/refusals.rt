@@ -1,11 +1,11 @@
 //! What is not run, and what each fault prints: the sink comes back as it was.
-use crate::fixtures::{FOREIGN, TEN_MESSAGES, jobs_of, settings_of};
+use crate::fixtures::{FOREIGN, TEN_MESSAGES, ran, settings_of};
 use bench_core::Settings;
-use bench_run::{OpenGate, RunError, run};
+use bench_run::{OpenGate, RunError};
 use ch11_writer::MemorySink;
 use std::alloc::Global;
+use std::process::Abort;
 use std::sync::Wait;
-use std::test::Fail;
 use std::thread::Threads;
 
 const ONE_MESSAGE: &str = "channel 1\nterminal 5\nscript\nsend A rx 5 1 [0001]\n";
@@ -35,25 +35,51 @@ fn taken_by(fault: &RunError<MemorySink>) -> usize {
 }
 
 /// What is printed of the fault of a run, and how many bytes the sink has then taken; `ok` where there is no fault.
-fn refusal_of<R: Threads + Wait + Sync>(
+fn refusal_of<R: Threads + Wait + Abort + Sync>(
     rt: &R,
     alloc: Global,
     texts: &[&str],
     settings: &Settings,
-) -> Result<(String, usize), Fail> {
-    let jobs = jobs_of(alloc, texts)?;
-    let sink = MemorySink::make(alloc);
-    match run(rt, alloc, &jobs, settings, &OpenGate, sink) {
-        Ok((_, sink)) => Ok((String::from_str(alloc, "ok")?, sink.bytes().len())),
+) -> (String, usize) {
+    match ran(rt, alloc, texts, settings, &OpenGate) {
+        Ok((_, sink)) => {
+            let ok = String::from_str(alloc, "ok").expect(rt, "memory");
+            (ok, sink.bytes().len())
+        }
         Err(fault) => {
-            let taken = taken_by(&fault);
-            Ok((fault.to_string(alloc)?, taken))
+            let text = fault.to_string(alloc).expect(rt, "memory");
+            (text, taken_by(&fault))
         }
     }
 }
 
+/// What a run comes to is printed as this text; how many bytes the sink has then taken.
+fn taken_with<R: Threads + Wait + Abort + Sync>(
+    rt: &R,
+    alloc: Global,
+    texts: &[&str],
+    settings: &Settings,
+    wanted: &str,
+) -> usize {
+    let (text, taken) = refusal_of(rt, alloc, texts, settings);
+    assert_eq!(rt; text.as_str(), wanted);
+    taken
+}
+
+/// A run of these jobs is refused with this text, and its sink takes nothing.
+fn is_refused<R: Threads + Wait + Abort + Sync>(
+    rt: &R,
+    alloc: Global,
+    texts: &[&str],
+    settings: &Settings,
+    wanted: &str,
+) {
+    let taken = taken_with(rt, alloc, texts, settings, wanted);
+    assert_eq!(rt; taken, 0);
+}
+
 /// Limit, queue, posts, and what is printed.
-const RANGES: [(u32, u32, u32, &str); 9] = [
+const RANGES: &[(u32, u32, u32, &str)] = &[
     (255, 1, 0, "U2"),
     (524_289, 1, 0, "U2"),
     (4096, 0, 0, "U2"),
@@ -65,75 +91,78 @@ const RANGES: [(u32, u32, u32, &str); 9] = [
     (4096, 1, 65_536, "ok"),
 ];
 
+/// What a run of one message comes to with these settings: the sink takes something where it is not refused.
+fn is_judged<R: Threads + Wait + Abort + Sync>(
+    rt: &R,
+    alloc: Global,
+    limit: u32,
+    queue: u32,
+    posts: u32,
+    wanted: &str,
+) {
+    let mut settings = settings_of(rt, alloc, queue, &[]);
+    settings.limit = limit;
+    settings.posts = posts;
+    let taken = taken_with(rt, alloc, &[ONE_MESSAGE], &settings, wanted);
+    assert_eq!(rt; taken == 0, wanted == "U2", "at {limit} {queue} {posts}");
+}
+
 #[test]
-fn settings_out_of_range(rt: HostRuntime) -> Result<(), Fail> {
-    let alloc = rt.alloc();
+fn settings_out_of_range(rt: HostRuntime) {
     for (limit, queue, posts, wanted) in RANGES {
-        let mut settings = settings_of(alloc, queue, &[])?;
-        settings.limit = limit;
-        settings.posts = posts;
-        let (text, taken) = refusal_of(&rt, alloc, &[ONE_MESSAGE], &settings)?;
-        assert_eq!(rt; text.as_str(), wanted, "at {limit} {queue} {posts}");
-        assert_eq!(rt; taken == 0, wanted == "U2", "at {limit} {queue} {posts}");
+        is_judged(&rt, rt.alloc(), *limit, *queue, *posts, wanted);
     }
-    Ok(())
 }
 
 #[test]
-fn no_job_nine_jobs_and_a_channel_twice(rt: HostRuntime) -> Result<(), Fail> {
+fn no_job_nine_jobs_and_a_channel_twice(rt: HostRuntime) {
     let alloc = rt.alloc();
-    let settings = settings_of(alloc, 4096, &[])?;
-    let (text, taken) = refusal_of(&rt, alloc, &[], &settings)?;
-    assert_eq!(rt; (text.as_str(), taken), ("U2", 0));
-    let (text, taken) = refusal_of(&rt, alloc, &NINE_CHANNELS, &settings)?;
-    assert_eq!(rt; (text.as_str(), taken), ("U2", 0));
-    let eight = NINE_CHANNELS.get(..8).ok_or("eight jobs")?;
-    let (text, _) = refusal_of(&rt, alloc, eight, &settings)?;
-    assert_eq!(rt; text.as_str(), "ok");
-    let twice = [ONE_MESSAGE, ONE_MESSAGE];
-    let (text, taken) = refusal_of(&rt, alloc, &twice, &settings)?;
-    assert_eq!(rt; (text.as_str(), taken), ("U1", 0));
-    Ok(())
+    let settings = settings_of(&rt, alloc, 4096, &[]);
+    is_refused(&rt, alloc, &[], &settings, "U2");
+    is_refused(&rt, alloc, &NINE_CHANNELS, &settings, "U2");
+    let taken = taken_with(&rt, alloc, &NINE_CHANNELS[..8], &settings, "ok");
+    assert!(rt; taken > 0);
+    let twice = &[ONE_MESSAGE, ONE_MESSAGE];
+    is_refused(&rt, alloc, twice, &settings, "U1");
+}
+
+/// What a run of two channels of ten messages comes to behind a prologue, and how many bytes the sink takes.
+fn with_prologue<R: Threads + Wait + Abort + Sync>(
+    rt: &R,
+    alloc: Global,
+    prologue: &[u8],
+    wanted: &str,
+    bytes: usize,
+) {
+    let settings = settings_of(rt, alloc, 4096, prologue);
+    let taken = taken_with(rt, alloc, &TEN_MESSAGES, &settings, wanted);
+    assert_eq!(rt; taken, bytes);
 }
 
 #[test]
-fn prologues(rt: HostRuntime) -> Result<(), Fail> {
-    let alloc = rt.alloc();
-    for (length, wanted) in [(30usize, "U5"), (96, "U5"), (32, "ok")] {
-        let prologue = FOREIGN.get(..length).ok_or("bytes")?;
-        let settings = settings_of(alloc, 4096, prologue)?;
-        let (text, taken) = refusal_of(&rt, alloc, &TEN_MESSAGES, &settings)?;
-        assert_eq!(rt; text.as_str(), wanted, "{length} bytes");
-        assert_eq!(rt;
-            taken,
-            if wanted == "ok" { 488 } else { 0 },
-            "{length} bytes"
-        );
-    }
-    Ok(())
+fn prologues(rt: HostRuntime) {
+    with_prologue(&rt, rt.alloc(), &FOREIGN[..30], "U5", 0);
+    with_prologue(&rt, rt.alloc(), &FOREIGN, "U5", 0);
+    with_prologue(&rt, rt.alloc(), &FOREIGN[..32], "ok", 488);
 }
 
 /// Of several faults the first in this order counts: U2, U1, U5.
 #[test]
-fn the_first_fault_counts(rt: HostRuntime) -> Result<(), Fail> {
+fn the_first_fault_counts(rt: HostRuntime) {
     let alloc = rt.alloc();
-    let twice = [ONE_MESSAGE, ONE_MESSAGE];
-    let all = settings_of(alloc, 0, &FOREIGN)?;
-    let (text, _) = refusal_of(&rt, alloc, &twice, &all)?;
-    assert_eq!(rt; text.as_str(), "U2");
-    let two = settings_of(alloc, 1, &FOREIGN)?;
-    let (text, _) = refusal_of(&rt, alloc, &twice, &two)?;
-    assert_eq!(rt; text.as_str(), "U1");
-    let (text, _) = refusal_of(&rt, alloc, &[ONE_MESSAGE], &two)?;
-    assert_eq!(rt; text.as_str(), "U5");
-    Ok(())
+    let twice = &[ONE_MESSAGE, ONE_MESSAGE];
+    let all = settings_of(&rt, alloc, 0, &FOREIGN);
+    is_refused(&rt, alloc, twice, &all, "U2");
+    let two = settings_of(&rt, alloc, 1, &FOREIGN);
+    is_refused(&rt, alloc, twice, &two, "U1");
+    is_refused(&rt, alloc, &[ONE_MESSAGE], &two, "U5");
 }
 
 #[test]
-fn want_of_memory_prints_its_number(rt: HostRuntime) -> Result<(), Fail> {
+fn want_of_memory_prints_its_number(rt: HostRuntime) {
     let fault = RunError::Memory {
         sink: MemorySink::make(rt.alloc()),
     };
-    assert_eq!(rt; fault.to_string(rt.alloc())?.as_str(), "U3");
-    Ok(())
+    let text = fault.to_string(rt.alloc()).expect(&rt, "memory");
+    assert_eq!(rt; text.as_str(), "U3");
 }

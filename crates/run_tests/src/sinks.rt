@@ -1,49 +1,77 @@
 //! Sinks that fail: the channels run to their ends all the same.
-use crate::fixtures::{TEN_MESSAGES, done, jobs_of, settings_of};
-use bench_report::print_report;
+use crate::fixtures::{TEN_MESSAGES, is_printed, jobs_of, settings_of};
+use bench_report::Report;
 use bench_run::{OpenGate, RunError, run};
 use ch11_writer::FuseSink;
 use std::alloc::Global;
+use std::process::Abort;
 use std::sync::Wait;
-use std::test::Fail;
 use std::thread::Threads;
 
+/// No packet was taken whole.
+const NONE_WHOLE: &str = "channel 1\nmade 10\nchannel 2\nmade 10\npackets 0\n";
+
+/// The first packet was taken whole.
+const ONE_WHOLE: &str = "channel 1\nmade 10\nchannel 2\nmade 10\npackets 1\n";
+
 /// Runs two channels of ten messages into a sink of so many bytes.
-fn into_fuse<R: Threads + Wait + Sync>(
+fn into_fuse<R: Threads + Wait + Abort + Sync>(
     rt: &R,
     alloc: Global,
     room: usize,
-) -> Result<Result<(bench_report::Report, FuseSink), RunError<FuseSink>>, Fail> {
-    let jobs = jobs_of(alloc, &TEN_MESSAGES)?;
-    let settings = settings_of(alloc, 4096, &[])?;
+) -> Result<(Report, FuseSink), RunError<FuseSink>> {
+    let jobs = jobs_of(rt, alloc, &TEN_MESSAGES);
+    let settings = settings_of(rt, alloc, 4096, &[]);
     let sink = FuseSink::make(alloc, room);
-    Ok(run(rt, alloc, &jobs, &settings, &OpenGate, sink))
+    run(rt, alloc, &jobs, &settings, &OpenGate, sink)
 }
 
-#[test]
-fn sinks_that_fail(rt: HostRuntime) -> Result<(), Fail> {
-    let alloc = rt.alloc();
-    for (room, packets) in [(0usize, 0u64), (100, 0), (227, 0), (228, 1), (455, 1)] {
-        let fault = into_fuse(&rt, alloc, room)?.err().ok_or("a fault")?;
-        let wanted = format!(in alloc; "U4 taken {room}")?;
-        assert_eq!(rt; fault.to_string(alloc)?.as_str(), wanted.as_str());
-        let RunError::Sink { sink, report, .. } = &fault else {
-            return Err(Fail::from("another fault"));
-        };
-        assert_eq!(rt; sink.bytes().len(), room);
-        let text = print_report(alloc, report)?;
-        let told = format!(in alloc;
-            "channel 1\nmade 10\nchannel 2\nmade 10\npackets {packets}\n"
-        )?;
-        assert_eq!(rt; text.as_str(), told.as_str(), "with room for {room}");
+/// The fault of a sink: what is printed of it, how many bytes the sink holds, and the report.
+fn is_fault(
+    rt: &impl Abort,
+    alloc: Global,
+    fault: &RunError<FuseSink>,
+    wanted: &str,
+    room: usize,
+    told: &str,
+) {
+    let text = fault.to_string(alloc).expect(rt, "memory");
+    assert_eq!(rt; text.as_str(), wanted);
+    match fault {
+        RunError::Sink { sink, report, .. } => {
+            assert_eq!(rt; sink.bytes().len(), room);
+            is_printed(rt, alloc, report, told);
+        }
+        _ => assert!(rt; false, "another fault"),
     }
-    Ok(())
+}
+
+/// A run into a sink with so much room fails.
+fn fails<R: Threads + Wait + Abort + Sync>(
+    rt: &R,
+    alloc: Global,
+    room: usize,
+    wanted: &str,
+    told: &str,
+) {
+    let answer = into_fuse(rt, alloc, room);
+    let fault = answer.err().expect(rt, "a fault");
+    is_fault(rt, alloc, &fault, wanted, room, told);
 }
 
 #[test]
-fn a_sink_with_room_for_the_file(rt: HostRuntime) -> Result<(), Fail> {
-    let (report, sink) = done(into_fuse(&rt, rt.alloc(), 456)?)?;
+fn sinks_that_fail(rt: HostRuntime) {
+    fails(&rt, rt.alloc(), 0, "U4 taken 0", NONE_WHOLE);
+    fails(&rt, rt.alloc(), 100, "U4 taken 100", NONE_WHOLE);
+    fails(&rt, rt.alloc(), 227, "U4 taken 227", NONE_WHOLE);
+    fails(&rt, rt.alloc(), 228, "U4 taken 228", ONE_WHOLE);
+    fails(&rt, rt.alloc(), 455, "U4 taken 455", ONE_WHOLE);
+}
+
+#[test]
+fn a_sink_with_room_for_the_file(rt: HostRuntime) {
+    let answer = into_fuse(&rt, rt.alloc(), 456);
+    let (report, sink) = answer.ok().expect(&rt, "no fault");
     assert_eq!(rt; report.packets(), 2);
     assert_eq!(rt; sink.bytes().len(), 456);
-    Ok(())
 }
