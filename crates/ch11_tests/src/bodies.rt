@@ -4,20 +4,25 @@ use arrayvec::ArrayVec;
 use ch11_f1::body::messages;
 use ch11_f1::{BodyError, put_record};
 use mil_monitor::Record;
-use std::test::Fail;
+use std::process::Abort;
 
 const WORKED: [u8; 28] = [
     0x01, 0x00, 0x00, 0x40, 0x00, 0x00, 0x00, 0x00, 0x00, 0x00, 0x00, 0x00, 0x00, 0x00, 0x50, 0x00,
     0x0A, 0x00, 0x23, 0x28, 0x01, 0x00, 0x02, 0x00, 0x03, 0x00, 0x00, 0x28,
 ];
 
+/// The fault of a body, or that it has none.
+fn has_fault(rt: &impl Abort, body: &[u8], fault: Option<BodyError>) {
+    assert_eq!(rt; messages(body).err(), fault);
+}
+
 /// The fault of the worked body with one byte made another.
-fn fault_with(place: usize, byte: u8) -> Option<BodyError> {
+fn has_fault_with(rt: &impl Abort, place: usize, byte: u8, fault: Option<BodyError>) {
     let mut body = WORKED;
     if place < body.len() {
         body[place] = byte;
     }
-    messages(&body).err()
+    has_fault(rt, &body, fault);
 }
 
 #[test]
@@ -40,25 +45,24 @@ fn puts_the_worked_record(rt: HostRuntime) {
 }
 
 #[test]
-fn reads_the_worked_body(rt: HostRuntime) -> Result<(), Fail> {
-    let mut found = messages(&WORKED).ok().ok_or("no body")?;
+fn reads_the_worked_body(rt: HostRuntime) {
+    let mut found = messages(&WORKED).ok().expect(&rt, "a body");
     assert_eq!(rt; found.left(), 1);
-    let seen = found.next().ok_or("no message")?;
+    let seen = found.next().expect(&rt, "a message");
     assert_eq!(rt; (seen.stamp, seen.block, seen.gaps), (0, 0, 0x50));
     assert_eq!(rt; seen.words, &WORKED[18..]);
     assert!(rt; found.next().is_none());
     assert!(rt; found.next().is_none());
-    Ok(())
 }
 
 #[test]
 fn names_the_first_fault(rt: HostRuntime) {
-    assert_eq!(rt; messages(&WORKED[..3]).err(), Some(BodyError::Short));
-    assert_eq!(rt; messages(&WORKED[..27]).err(), Some(BodyError::End));
-    assert_eq!(rt; fault_with(0, 2), Some(BodyError::End));
-    assert_eq!(rt; fault_with(0, 0), None);
-    assert_eq!(rt; fault_with(3, 0x80), None);
-    assert_eq!(rt; fault_with(16, 0x0B), Some(BodyError::Odd));
-    assert_eq!(rt; fault_with(16, 0x0C), Some(BodyError::End));
-    assert_eq!(rt; fault_with(16, 0x08), None);
+    has_fault(&rt, &WORKED[..3], Some(BodyError::Short));
+    has_fault(&rt, &WORKED[..27], Some(BodyError::End));
+    has_fault_with(&rt, 0, 2, Some(BodyError::End));
+    has_fault_with(&rt, 0, 0, None);
+    has_fault_with(&rt, 3, 0x80, None);
+    has_fault_with(&rt, 16, 0x0B, Some(BodyError::Odd));
+    has_fault_with(&rt, 16, 0x0C, Some(BodyError::End));
+    has_fault_with(&rt, 16, 0x08, None);
 }

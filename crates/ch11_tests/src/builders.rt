@@ -5,36 +5,45 @@ use arrayvec::ArrayVec;
 use ch11_builder::{Builder, BuilderError, Pushed, run_gives_the_packets};
 use ch11_header::read_header;
 use mil_monitor::Record;
-use std::test::Fail;
+use std::alloc::Global;
+use std::process::Abort;
 
-#[test]
-fn one_message(rt: HostRuntime) -> Result<(), Fail> {
-    let mut builder = Builder::make(rt.alloc(), 1, 6, 4096).ok().ok_or("memory")?;
+/// The packet of a message of five words.
+const ONE_PACKET: [u8; 52] = [
+    0x25, 0xEB, 0x01, 0x00, 0x34, 0x00, 0x00, 0x00, 0x1C, 0x00, 0x00, 0x00, 0x06, 0x00, 0x00, 0x19,
+    0x00, 0x00, 0x00, 0x00, 0x00, 0x00, 0x7C, 0x04, 0x01, 0x00, 0x00, 0x40, 0x00, 0x00, 0x00, 0x00,
+    0x00, 0x00, 0x00, 0x00, 0x00, 0x00, 0x50, 0x00, 0x0A, 0x00, 0x23, 0x28, 0x01, 0x00, 0x02, 0x00,
+    0x03, 0x00, 0x00, 0x28,
+];
+
+/// A message of five words.
+fn short_message() -> Record
+    ensures { result.stamp ≡ 0 }
+{
     let mut words = ArrayVec::new();
     words.push(0x2823u16);
     words.push(1);
     words.push(2);
     words.push(3);
     words.push(0x2800);
-    let message = Record {
+    Record {
         stamp: 0,
         block: 0,
         gaps: 0x50,
         words,
-    };
-    let kept = matches!(builder.push(1, &message), Pushed::Kept);
+    }
+}
+
+#[test]
+fn one_message(rt: HostRuntime) {
+    let made = Builder::make(rt.alloc(), 1, 6, 4096);
+    let mut builder = made.ok().expect(&rt, "a builder");
+    let kept = matches!(builder.push(1, &short_message()), Pushed::Kept);
     assert!(rt; kept);
-    let bytes = builder.close().ok_or("a packet")?;
-    let expected = [
-        0x25u8, 0xEB, 0x01, 0x00, 0x34, 0x00, 0x00, 0x00, 0x1C, 0x00, 0x00, 0x00, 0x06, 0x00, 0x00,
-        0x19, 0x00, 0x00, 0x00, 0x00, 0x00, 0x00, 0x7C, 0x04, 0x01, 0x00, 0x00, 0x40, 0x00, 0x00,
-        0x00, 0x00, 0x00, 0x00, 0x00, 0x00, 0x00, 0x00, 0x50, 0x00, 0x0A, 0x00, 0x23, 0x28, 0x01,
-        0x00, 0x02, 0x00, 0x03, 0x00, 0x00, 0x28,
-    ];
-    assert_eq!(rt; bytes, expected.as_slice());
+    let bytes = builder.close().expect(&rt, "a packet");
+    assert_eq!(rt; bytes, ONE_PACKET.as_slice());
     let none = builder.close().is_none();
     assert!(rt; none);
-    Ok(())
 }
 
 /// A message of 36 words.
@@ -72,56 +81,78 @@ fn closed_shape(pushed: Pushed<'_>) -> Option<(usize, u32, u8, u8)> {
     }
 }
 
+/// The shape of the packet that a push closed, if any.
+fn has_closed(
+    rt: &impl Abort,
+    shape: Option<(usize, u32, u8, u8)>,
+    wanted: Option<(usize, u32, u8, u8)>,
+) {
+    assert_eq!(rt; shape, wanted);
+}
+
+/// The last packet of a builder.
+fn ends_with(rt: &impl Abort, builder: &mut Builder, wanted: (usize, u32, u8, u8)) {
+    let packet = builder.close().expect(rt, "a packet");
+    assert_eq!(rt; shape_of(packet), Some(wanted));
+}
+
 #[test]
-fn packets_end_at_their_limit(rt: HostRuntime) -> Result<(), Fail> {
+fn packets_end_at_their_limit(rt: HostRuntime) {
     run_gives_the_packets();
-    let mut builder = Builder::make(rt.alloc(), 1, 6, 256).ok().ok_or("memory")?;
+    let made = Builder::make(rt.alloc(), 1, 6, 256);
+    let mut builder = made.ok().expect(&rt, "a builder");
     let first = closed_shape(builder.push(1, &long_message(0)));
-    assert_eq!(rt; first, None);
+    has_closed(&rt, first, None);
     let second = closed_shape(builder.push(2, &long_message(10_000)));
-    assert_eq!(rt; second, None);
+    has_closed(&rt, second, None);
     let third = closed_shape(builder.push(3, &long_message(20_000)));
-    assert_eq!(rt; third, Some((200, 176, 0, 0)));
+    has_closed(&rt, third, Some((200, 176, 0, 0)));
     let fourth = closed_shape(builder.push(4, &long_message(30_000)));
-    assert_eq!(rt; fourth, None);
+    has_closed(&rt, fourth, None);
     let fifth = closed_shape(builder.push(5, &long_message(40_000)));
-    assert_eq!(rt; fifth, Some((200, 176, 1, 0)));
-    let last = builder.close().ok_or("a packet")?;
-    assert_eq!(rt; shape_of(last), Some((116, 90, 2, 0)));
-    Ok(())
+    has_closed(&rt, fifth, Some((200, 176, 1, 0)));
+    ends_with(&rt, &mut builder, (116, 90, 2, 0));
 }
 
-#[test]
-fn packets_span_less_than_a_tenth_of_a_second(rt: HostRuntime) -> Result<(), Fail> {
+/// A message at 0 and one so much later: what the second closes, and the last packet.
+fn are_packed(
+    rt: &impl Abort,
+    alloc: Global,
+    later: u32,
+    wanted: Option<(usize, u32, u8, u8)>,
+    last: (usize, u32, u8, u8),
+) {
     run_gives_the_packets();
-    let mut near = Builder::make(rt.alloc(), 1, 6, 256).ok().ok_or("memory")?;
-    let near_first = closed_shape(near.push(1, &long_message(0)));
-    assert_eq!(rt; near_first, None);
-    let near_second = closed_shape(near.push(2, &long_message(999_999)));
-    assert_eq!(rt; near_second, None);
-    let one = near.close().ok_or("a packet")?;
-    assert_eq!(rt; shape_of(one), Some((200, 176, 0, 0)));
-    let mut far = Builder::make(rt.alloc(), 1, 6, 256).ok().ok_or("memory")?;
-    let far_first = closed_shape(far.push(1, &long_message(0)));
-    assert_eq!(rt; far_first, None);
-    let far_second = closed_shape(far.push(2, &long_message(1_000_000)));
-    assert_eq!(rt; far_second, Some((116, 90, 0, 0)));
-    let two = far.close().ok_or("a packet")?;
-    assert_eq!(rt; shape_of(two), Some((116, 90, 1, 0)));
-    Ok(())
+    let made = Builder::make(alloc, 1, 6, 256);
+    let mut builder = made.ok().expect(rt, "a builder");
+    let first = closed_shape(builder.push(1, &long_message(0)));
+    has_closed(rt, first, None);
+    let second = closed_shape(builder.push(2, &long_message(u64::from(later))));
+    has_closed(rt, second, wanted);
+    ends_with(rt, &mut builder, last);
 }
 
 #[test]
-fn limits_outside_their_range(rt: HostRuntime) -> Result<(), Fail> {
-    let short = Builder::make(rt.alloc(), 1, 6, 255).err().ok_or("a fault")?;
-    assert_eq!(rt; short, BuilderError::Limit);
-    let long = Builder::make(rt.alloc(), 1, 6, 524_289)
-        .err()
-        .ok_or("a fault")?;
-    assert_eq!(rt; long, BuilderError::Limit);
+fn packets_span_less_than_a_tenth_of_a_second(rt: HostRuntime) {
+    are_packed(&rt, rt.alloc(), 999_999, None, (200, 176, 0, 0));
+    let closed = Some((116, 90, 0, 0));
+    are_packed(&rt, rt.alloc(), 1_000_000, closed, (116, 90, 1, 0));
+}
+
+/// A limit outside its range is refused.
+fn is_no_limit(rt: &impl Abort, alloc: Global, limit: u32) {
+    let fault = Builder::make(alloc, 1, 6, limit).err();
+    assert_eq!(rt; fault, Some(BuilderError::Limit));
+}
+
+#[test]
+fn limits_outside_their_range(rt: HostRuntime) {
+    is_no_limit(&rt, rt.alloc(), 255);
+    is_no_limit(&rt, rt.alloc(), 524_289);
     let longest = Builder::make(rt.alloc(), 1, 6, 524_288).is_ok();
     assert!(rt; longest);
-    let text = format!(in rt.alloc(); "{} {}", BuilderError::Limit, BuilderError::Memory)?;
+    let text = format!(in rt.alloc(); "{} {}", BuilderError::Limit, BuilderError::Memory).expect(
+        &rt, "memory",
+    );
     assert_eq!(rt; text.as_str(), "G1 G2");
-    Ok(())
 }

@@ -4,7 +4,6 @@ use crate::readers::FOREIGN;
 use bench_dump::{DumpFault, dump, read_all};
 use std::io;
 use std::io::Read;
-use std::test::Fail;
 
 const PRINTED: &str = "packet 0 channel 0 type 01 skipped
 packet 32 channel 1 type 19 seq 0 flags 80 messages 1
@@ -25,43 +24,45 @@ impl Read for Endless {
 }
 
 #[test]
-fn prints_the_foreign_file(rt: HostRuntime) -> Result<(), Fail> {
+fn prints_the_foreign_file(rt: HostRuntime) {
     let mut out = Vec::new(rt.alloc());
     assert_eq!(rt; dump(rt.alloc(), &FOREIGN, &mut out), Ok(()));
     assert_eq!(rt; out.as_slice(), PRINTED.as_bytes());
-    Ok(())
 }
 
 #[test]
-fn prints_nothing_of_a_refused_file(rt: HostRuntime) -> Result<(), Fail> {
+fn prints_nothing_of_a_refused_file(rt: HostRuntime) {
     let mut file = FOREIGN;
     file[32] = 0;
     let mut out = Vec::new(rt.alloc());
-    let fault = dump(rt.alloc(), &file, &mut out).err().ok_or("printed")?;
-    assert_eq!(rt; format!(in rt.alloc(); "{fault}")?.as_str(), "K2 offset 32");
+    let answer = dump(rt.alloc(), &file, &mut out);
     assert!(rt; out.is_empty());
-    Ok(())
+    let fault = answer.err().expect(&rt, "a fault");
+    let text = fault.to_string(rt.alloc()).expect(&rt, "memory");
+    assert_eq!(rt; text.as_str(), "K2 offset 32");
 }
 
 #[test]
-fn reads_a_file_whole(rt: HostRuntime) -> Result<(), Fail> {
+fn reads_a_file_whole(rt: HostRuntime) {
     let mut input = FOREIGN.as_slice();
-    let bytes = read_all(rt.alloc(), &mut input).ok().ok_or("fault")?;
+    let bytes = read_all(rt.alloc(), &mut input)
+        .ok()
+        .expect(&rt, "the bytes");
     assert_eq!(rt; bytes.as_slice(), FOREIGN.as_slice());
-    Ok(())
 }
 
 /// More bytes than three reads give.
 #[test]
-fn reads_a_long_file_whole(rt: HostRuntime) -> Result<(), Fail> {
+fn reads_a_long_file_whole(rt: HostRuntime) {
     let mut file = Vec::new(rt.alloc());
     for number in 0..200_000u32 {
-        file.push((number % 251) as u8)?;
+        file.push((number % 251) as u8).expect(&rt, "memory");
     }
     let mut input = file.as_slice();
-    let bytes = read_all(rt.alloc(), &mut input).ok().ok_or("fault")?;
+    let bytes = read_all(rt.alloc(), &mut input)
+        .ok()
+        .expect(&rt, "the bytes");
     assert_eq!(rt; bytes.as_slice(), file.as_slice());
-    Ok(())
 }
 
 #[test]

@@ -4,7 +4,7 @@ use ch11_f1::BodyError;
 use ch11_header::{Header, HeaderError, write_header};
 use ch11_reader::{Fault, Index, ReadError, Refusal};
 use std::alloc::{AllocError, Global};
-use std::test::Fail;
+use std::process::Abort;
 
 /// A packet of 52 bytes on channel 1 with a message of five words.
 const ONE_MESSAGE: [u8; 52] = [
@@ -46,54 +46,68 @@ fn at_start(fault: Fault) -> Result<u64, ReadError> {
     Err(ReadError::Refused(Refusal { offset: 0, fault }))
 }
 
-#[test]
-fn reads_the_foreign_file(rt: HostRuntime) -> Result<(), Fail> {
-    let index = Index::build(rt.alloc(), &FOREIGN).ok().ok_or("refused")?;
-    let packets = index.packets();
-    assert_eq!(rt; packets.len(), 2);
-    let (first, second) = (packets[0], packets[1]);
+/// A packet of an index: where it stands, its channel, its kind or flags, and how many messages it holds.
+fn is_packet(rt: &impl Abort, index: &Index<'_>, place: usize, wanted: (usize, u16, u8, u8, u64)) {
+    let packet = index.packets().get(place).expect(rt, "a packet");
+    let header = packet.header;
     assert_eq!(rt;
         (
-            first.offset,
-            first.header.channel,
-            first.header.kind,
-            first.count
+            packet.offset,
+            header.channel,
+            header.kind,
+            header.flags,
+            packet.count
         ),
-        (0, 0, 1, 0)
+        wanted
     );
-    assert_eq!(rt;
-        (
-            second.offset,
-            second.header.channel,
-            second.header.flags,
-            second.count
-        ),
-        (32, 1, 0x80, 1)
-    );
-    assert!(rt; !first.sequence_jump && !second.sequence_jump);
+    assert!(rt; !packet.sequence_jump);
+}
+
+/// The one message of the foreign file, on channel 1.
+fn has_one_message(rt: &impl Abort, index: &Index<'_>) {
     assert_eq!(rt; index.total(), 1);
     assert!(rt; index.message(0).is_none() && index.message(2).is_none());
-    let (channel, seen) = index.message(1).ok_or("no message")?;
+    let (channel, seen) = index.message(1).expect(rt, "a message");
     assert_eq!(rt; channel, 1);
     assert_eq!(rt; seen.words, &FOREIGN[86..]);
-    assert_eq!(rt; count_of(&index, 1), 1);
-    assert_eq!(rt; count_of(&index, 0), 0);
+}
+
+/// How many messages a channel has.
+fn has_count(rt: &impl Abort, index: &Index<'_>, channel: u16, count: u64) {
+    assert_eq!(rt; count_of(index, channel), count);
+}
+
+#[test]
+fn reads_the_foreign_file(rt: HostRuntime) {
+    let index = Index::build(rt.alloc(), &FOREIGN)
+        .ok()
+        .expect(&rt, "readable");
+    assert_eq!(rt; index.packets().len(), 2);
+    is_packet(&rt, &index, 0, (0, 0, 0x01, 0x00, 0));
+    is_packet(&rt, &index, 1, (32, 1, 0x19, 0x80, 1));
+    has_one_message(&rt, &index);
+    has_count(&rt, &index, 1, 1);
+    has_count(&rt, &index, 0, 0);
     assert_eq!(rt; index.messages_in(1).left(), 1);
-    Ok(())
+}
+
+/// The answer to a file.
+fn is_answered(rt: &impl Abort, alloc: Global, file: &[u8], wanted: Result<u64, ReadError>) {
+    assert_eq!(rt; answer(alloc, file), wanted);
 }
 
 #[test]
 fn reads_or_refuses_each_cut(rt: HostRuntime) {
-    assert_eq!(rt; answer(rt.alloc(), &[]), Ok(0));
+    is_answered(&rt, rt.alloc(), &[], Ok(0));
     for length in 1..52 {
         let fault = if length < 24 {
             Fault::Header(HeaderError::Short)
         } else {
             Fault::End
         };
-        assert_eq!(rt; answer(rt.alloc(), &ONE_MESSAGE[..length]), at_start(fault));
+        is_answered(&rt, rt.alloc(), &ONE_MESSAGE[..length], at_start(fault));
     }
-    assert_eq!(rt; answer(rt.alloc(), &ONE_MESSAGE), Ok(1));
+    is_answered(&rt, rt.alloc(), &ONE_MESSAGE, Ok(1));
 }
 
 #[test]
@@ -108,7 +122,7 @@ fn reads_or_refuses_each_change(rt: HostRuntime) {
             40 => at_start(Fault::Body(BodyError::Odd)),
             _ => Ok(1),
         };
-        assert_eq!(rt; answer(rt.alloc(), &file), wanted);
+        is_answered(&rt, rt.alloc(), &file, wanted);
     }
 }
 
@@ -120,7 +134,7 @@ fn names_the_fault_of_a_later_packet(rt: HostRuntime) {
         offset: 32,
         fault: Fault::Header(HeaderError::Sync),
     };
-    assert_eq!(rt; answer(rt.alloc(), &file), Err(ReadError::Refused(refusal)));
+    is_answered(&rt, rt.alloc(), &file, Err(ReadError::Refused(refusal)));
 }
 
 /// A packet of channel 7 with a kind and a sequence number, and a message's body.
@@ -139,27 +153,39 @@ fn add_packet(file: &mut Vec<u8>, kind: u8, sequence: u8) -> Result<(), AllocErr
     file.extend_from_slice(&ONE_MESSAGE[24..])
 }
 
-#[test]
-fn reads_ten_thousand_packets_of_all_kinds(rt: HostRuntime) -> Result<(), Fail> {
-    let mut file = Vec::new(rt.alloc());
+/// Ten thousand packets, of which each has the next kind and sequence number, but the last one the number 0.
+fn long_file(rt: &impl Abort, alloc: Global) -> Vec<u8> {
+    let mut file = Vec::new(alloc);
     for number in 0..10000u32 {
         let kind = (number % 256) as u8;
         let sequence = if number == 9999 { 0 } else { kind };
-        add_packet(&mut file, kind, sequence)?;
+        add_packet(&mut file, kind, sequence).expect(rt, "memory");
     }
-    let index = Index::build(rt.alloc(), &file).ok().ok_or("refused")?;
-    assert_eq!(rt; index.packets().len(), 10000);
-    assert_eq!(rt;
-        index
-            .packets()
-            .iter()
-            .filter(|packet| packet.sequence_jump)
-            .count(),
-        1
-    );
+    file
+}
+
+/// How many packets have a number that does not follow.
+fn jumps_of(index: &Index<'_>) -> usize {
+    index
+        .packets()
+        .iter()
+        .filter(|packet| packet.sequence_jump)
+        .count()
+}
+
+/// The messages of the ten thousand packets.
+fn has_39_messages(rt: &impl Abort, index: &Index<'_>) {
     assert_eq!(rt; index.total(), 39);
-    assert_eq!(rt; count_of(&index, 7), 39);
     assert_eq!(rt; index.message(39).map(|found| found.0), Some(7));
     assert!(rt; index.message(40).is_none());
-    Ok(())
+}
+
+#[test]
+fn reads_ten_thousand_packets_of_all_kinds(rt: HostRuntime) {
+    let file = long_file(&rt, rt.alloc());
+    let index = Index::build(rt.alloc(), &file).ok().expect(&rt, "readable");
+    assert_eq!(rt; index.packets().len(), 10000);
+    assert_eq!(rt; jumps_of(&index), 1);
+    has_39_messages(&rt, &index);
+    has_count(&rt, &index, 7, 39);
 }

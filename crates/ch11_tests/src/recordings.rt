@@ -8,7 +8,8 @@ use ch11_reader::Index;
 use ch11_recording::Recorder;
 use ch11_writer::{FuseSink, MemorySink, WriteFault};
 use mil_monitor::Record;
-use std::test::Fail;
+use std::alloc::Global;
+use std::process::Abort;
 
 /// A receive command for one word, the word, and the status of terminal 5.
 fn received(stamp: u64) -> Record
@@ -37,12 +38,28 @@ fn shape_of(bytes: &[u8]) -> Option<(u16, u32, u8, u8)> {
     ))
 }
 
+/// A packet of channel 2 with 48 bytes, then one of channel 1 with 88.
+fn has_two_packets(rt: &impl Abort, file: &[u8]) {
+    assert_eq!(rt; file.len(), 136);
+    assert_eq!(rt; shape_of(file), Some((2, 48, 0, 0)));
+    let second = file.get(48..).expect(rt, "a second packet");
+    assert_eq!(rt; shape_of(second), Some((1, 88, 0, 0x10)));
+}
+
+/// Four messages, of which the last is of channel 1 at 2720.
+fn has_four_messages(rt: &impl Abort, alloc: Global, file: &[u8]) {
+    let index = Index::build(alloc, file).ok().expect(rt, "readable");
+    assert_eq!(rt; index.total(), 4);
+    let (channel, seen) = index.message(4).expect(rt, "a fourth message");
+    assert_eq!(rt; (channel, seen.stamp), (1, 2720));
+}
+
 #[test]
-fn packets_stand_as_they_close(rt: HostRuntime) -> Result<(), Fail> {
+fn packets_stand_as_they_close(rt: HostRuntime) {
     let sink = MemorySink::make(rt.alloc());
     let mut recorder = Recorder::make(rt.alloc(), 6, 4096, &[1, 2], sink)
         .ok()
-        .ok_or("memory")?;
+        .expect(&rt, "a recorder");
     let kept = recorder.keep(1, 1, &received(0));
     assert!(rt; kept);
     let ended = recorder.end(1);
@@ -63,24 +80,16 @@ fn packets_stand_as_they_close(rt: HostRuntime) -> Result<(), Fail> {
     assert_eq!(rt; recorder.finish(), Ok(()));
     assert_eq!(rt; recorder.packets(), 2);
     let sink = recorder.into_sink();
-    let file = sink.bytes();
-    assert_eq!(rt; file.len(), 136);
-    assert_eq!(rt; shape_of(file), Some((2, 48, 0, 0)));
-    let second = file.get(48..).ok_or("a second packet")?;
-    assert_eq!(rt; shape_of(second), Some((1, 88, 0, 0x10)));
-    let index = Index::build(rt.alloc(), file).ok().ok_or("readable")?;
-    let third = index.message(4).ok_or("a fourth message")?;
-    assert_eq!(rt; (third.0, third.1.stamp), (1, 2720));
-    assert_eq!(rt; index.total(), 4);
-    Ok(())
+    has_two_packets(&rt, sink.bytes());
+    has_four_messages(&rt, rt.alloc(), sink.bytes());
 }
 
 #[test]
-fn a_prologue_stands_first(rt: HostRuntime) -> Result<(), Fail> {
+fn a_prologue_stands_first(rt: HostRuntime) {
     let sink = MemorySink::make(rt.alloc());
     let mut recorder = Recorder::make(rt.alloc(), 6, 4096, &[1], sink)
         .ok()
-        .ok_or("memory")?;
+        .expect(&rt, "a recorder");
     recorder.prologue(&[7, 8, 9]);
     let ended = recorder.end(0);
     assert!(rt; ended);
@@ -88,16 +97,15 @@ fn a_prologue_stands_first(rt: HostRuntime) -> Result<(), Fail> {
     assert_eq!(rt; recorder.packets(), 0);
     let sink = recorder.into_sink();
     assert_eq!(rt; sink.bytes(), [7u8, 8, 9].as_slice());
-    Ok(())
 }
 
 #[test]
-fn a_failing_sink_keeps_what_it_took(rt: HostRuntime) -> Result<(), Fail> {
+fn a_failing_sink_keeps_what_it_took(rt: HostRuntime) {
     for k in 0..49usize {
         let sink = FuseSink::make(rt.alloc(), k);
         let mut recorder = Recorder::make(rt.alloc(), 6, 4096, &[1], sink)
             .ok()
-            .ok_or("memory")?;
+            .expect(&rt, "a recorder");
         let kept = recorder.keep(0, 1, &received(0));
         assert!(rt; kept);
         let ended = recorder.end(0);
@@ -109,16 +117,15 @@ fn a_failing_sink_keeps_what_it_took(rt: HostRuntime) -> Result<(), Fail> {
         let sink = recorder.into_sink();
         assert_eq!(rt; sink.bytes().len(), k);
     }
-    Ok(())
 }
 
 #[test]
-fn a_prologue_is_no_packet_of_the_count(rt: HostRuntime) -> Result<(), Fail> {
+fn a_prologue_is_no_packet_of_the_count(rt: HostRuntime) {
     for k in 0..52usize {
         let sink = FuseSink::make(rt.alloc(), k);
         let mut recorder = Recorder::make(rt.alloc(), 6, 4096, &[1], sink)
             .ok()
-            .ok_or("memory")?;
+            .expect(&rt, "a recorder");
         recorder.prologue(&[7, 8, 9]);
         let kept = recorder.keep(0, 1, &received(0));
         assert!(rt; kept);
@@ -126,16 +133,14 @@ fn a_prologue_is_no_packet_of_the_count(rt: HostRuntime) -> Result<(), Fail> {
         assert!(rt; ended);
         assert_eq!(rt; recorder.packets(), if k < 51 { 0 } else { 1 });
     }
-    Ok(())
 }
 
 #[test]
-fn a_limit_out_of_range_hands_the_sink_back(rt: HostRuntime) -> Result<(), Fail> {
+fn a_limit_out_of_range_hands_the_sink_back(rt: HostRuntime) {
     let sink = FuseSink::make(rt.alloc(), 3);
     let refused = Recorder::make(rt.alloc(), 6, 255, &[1], sink)
         .err()
-        .ok_or("a fault")?;
+        .expect(&rt, "a fault");
     assert_eq!(rt; refused.0, BuilderError::Limit);
     assert_eq!(rt; refused.1.bytes().len(), 0);
-    Ok(())
 }
