@@ -54,32 +54,47 @@ fn has_four_messages(rt: &impl Abort, alloc: Global, file: &[u8]) {
     assert_eq!(rt; (channel, seen.stamp), (1, 2720));
 }
 
-#[test]
-fn packets_stand_as_they_close(rt: HostRuntime) {
-    let sink = MemorySink::make(rt.alloc());
-    let mut recorder = Recorder::make(rt.alloc(), 6, 4096, &[1, 2], sink)
+/// What a recorder answers.
+fn are(rt: &impl Abort, answers: &[bool], wanted: &[bool]) {
+    assert_eq!(rt; answers, wanted);
+}
+
+/// How many packets a sink took whole.
+fn is_count(rt: &impl Abort, packets: u64, wanted: u64) {
+    assert_eq!(rt; packets, wanted);
+}
+
+/// The sink of two channels: a number that does not rise and a channel that is not there are refused.
+fn two_channels(rt: &impl Abort, alloc: Global) -> MemorySink {
+    let sink = MemorySink::make(alloc);
+    let mut recorder = Recorder::make(alloc, 6, 4096, &[1, 2], sink)
         .ok()
-        .expect(&rt, "a recorder");
-    let kept = recorder.keep(1, 1, &received(0));
-    assert!(rt; kept);
-    let ended = recorder.end(1);
-    assert!(rt; ended);
-    let kept = recorder.keep(0, 1, &received(0));
-    assert!(rt; kept);
-    let kept = recorder.keep(0, 2, &received(680));
-    assert!(rt; kept);
+        .expect(rt, "a recorder");
+    let answers = [
+        recorder.keep(1, 1, &received(0)),
+        recorder.end(1),
+        recorder.keep(0, 1, &received(0)),
+        recorder.keep(0, 2, &received(680)),
+    ];
+    are(rt, &answers, &[true, true, true, true]);
     let again = recorder.keep(0, 2, &received(2000));
-    assert_eq!(rt; again, false);
+    assert!(rt; !again);
     let nowhere = recorder.keep(2, 3, &received(2000));
-    assert_eq!(rt; nowhere, false);
+    assert!(rt; !nowhere);
     let kept = recorder.keep(0, 5, &received(2720));
     assert!(rt; kept);
-    assert_eq!(rt; recorder.packets(), 1);
+    is_count(rt, recorder.packets(), 1);
     let ended = recorder.end(0);
     assert!(rt; ended);
-    assert_eq!(rt; recorder.finish(), Ok(()));
-    assert_eq!(rt; recorder.packets(), 2);
-    let sink = recorder.into_sink();
+    let finished = recorder.finish().is_ok();
+    assert!(rt; finished);
+    is_count(rt, recorder.packets(), 2);
+    recorder.into_sink()
+}
+
+#[test]
+fn packets_stand_as_they_close(rt: HostRuntime) {
+    let sink = two_channels(&rt, rt.alloc());
     has_two_packets(&rt, sink.bytes());
     has_four_messages(&rt, rt.alloc(), sink.bytes());
 }
@@ -99,40 +114,58 @@ fn a_prologue_stands_first(rt: HostRuntime) {
     assert_eq!(rt; sink.bytes(), [7u8, 8, 9].as_slice());
 }
 
+/// How a recording of one message ends.
+fn is_end(rt: &impl Abort, end: Result<(), WriteFault>, wanted: Result<(), WriteFault>) {
+    assert_eq!(rt; end, wanted);
+}
+
+/// One message and its end are kept in a sink of so many bytes: how the recording ends, and how many packets it has.
+fn ends_in_fuse(
+    rt: &impl Abort,
+    alloc: Global,
+    room: usize,
+    wanted: Result<(), WriteFault>,
+    packets: u64,
+) {
+    let sink = FuseSink::make(alloc, room);
+    let mut recorder = Recorder::make(alloc, 6, 4096, &[1], sink)
+        .ok()
+        .expect(rt, "a recorder");
+    let answers = [recorder.keep(0, 1, &received(0)), recorder.end(0)];
+    are(rt, &answers, &[true, true]);
+    is_end(rt, recorder.finish(), wanted);
+    is_count(rt, recorder.packets(), packets);
+    let sink = recorder.into_sink();
+    assert_eq!(rt; sink.bytes().len(), room);
+}
+
 #[test]
 fn a_failing_sink_keeps_what_it_took(rt: HostRuntime) {
-    for k in 0..49usize {
-        let sink = FuseSink::make(rt.alloc(), k);
-        let mut recorder = Recorder::make(rt.alloc(), 6, 4096, &[1], sink)
-            .ok()
-            .expect(&rt, "a recorder");
-        let kept = recorder.keep(0, 1, &received(0));
-        assert!(rt; kept);
-        let ended = recorder.end(0);
-        assert!(rt; ended);
-        let last = recorder.finish();
-        let fault = Err(WriteFault { taken: k as u64 });
-        assert_eq!(rt; last, if k < 48 { fault } else { Ok(()) });
-        assert_eq!(rt; recorder.packets(), if k < 48 { 0 } else { 1 });
-        let sink = recorder.into_sink();
-        assert_eq!(rt; sink.bytes().len(), k);
+    for room in 0..48usize {
+        let fault = WriteFault { taken: room as u64 };
+        ends_in_fuse(&rt, rt.alloc(), room, Err(fault), 0);
     }
+    ends_in_fuse(&rt, rt.alloc(), 48, Ok(()), 1);
+}
+
+/// A prologue of three bytes and one message are kept in a sink of so many bytes.
+fn counts_in_fuse(rt: &impl Abort, alloc: Global, room: usize, packets: u64) {
+    let sink = FuseSink::make(alloc, room);
+    let mut recorder = Recorder::make(alloc, 6, 4096, &[1], sink)
+        .ok()
+        .expect(rt, "a recorder");
+    recorder.prologue(&[7, 8, 9]);
+    let answers = [recorder.keep(0, 1, &received(0)), recorder.end(0)];
+    are(rt, &answers, &[true, true]);
+    is_count(rt, recorder.packets(), packets);
 }
 
 #[test]
 fn a_prologue_is_no_packet_of_the_count(rt: HostRuntime) {
-    for k in 0..52usize {
-        let sink = FuseSink::make(rt.alloc(), k);
-        let mut recorder = Recorder::make(rt.alloc(), 6, 4096, &[1], sink)
-            .ok()
-            .expect(&rt, "a recorder");
-        recorder.prologue(&[7, 8, 9]);
-        let kept = recorder.keep(0, 1, &received(0));
-        assert!(rt; kept);
-        let ended = recorder.end(0);
-        assert!(rt; ended);
-        assert_eq!(rt; recorder.packets(), if k < 51 { 0 } else { 1 });
+    for room in 0..51usize {
+        counts_in_fuse(&rt, rt.alloc(), room, 0);
     }
+    counts_in_fuse(&rt, rt.alloc(), 51, 1);
 }
 
 #[test]

@@ -6,7 +6,6 @@ use std::io::{self, IsTerminal};
 use std::rt::Clock;
 use std::sync::atomic::{AtomicU64, Ordering};
 use std::sync::{Mutex, Wait};
-use std::test::Fail;
 use std::time::Duration;
 
 /// A clock that stands where it was set, in milliseconds.
@@ -90,7 +89,7 @@ fn take<G: Gate>(gate: &G, count: u32) {
 }
 
 #[test]
-fn a_long_recording_shows_a_line(rt: HostRuntime) -> Result<(), Fail> {
+fn a_long_recording_shows_a_line(rt: HostRuntime) {
     let clock = Standing::at(5000);
     let screen = Screen::make(&rt, true);
     let progress = Progress::begin(&clock, &screen);
@@ -112,11 +111,10 @@ fn a_long_recording_shows_a_line(rt: HostRuntime) -> Result<(), Fail> {
     take(&progress, 5);
     progress.end();
     assert!(rt; screen.shows("\r6144 messages\r10240 messages\r10245 messages\n"));
-    Ok(())
 }
 
 #[test]
-fn a_short_recording_shows_nothing(rt: HostRuntime) -> Result<(), Fail> {
+fn a_short_recording_shows_nothing(rt: HostRuntime) {
     let clock = Standing::at(0);
     let screen = Screen::make(&rt, true);
     let progress = Progress::begin(&clock, &screen);
@@ -124,11 +122,10 @@ fn a_short_recording_shows_nothing(rt: HostRuntime) -> Result<(), Fail> {
     take(&progress, 8192);
     progress.end();
     assert!(rt; screen.shows(""));
-    Ok(())
 }
 
 #[test]
-fn a_file_shows_nothing(rt: HostRuntime) -> Result<(), Fail> {
+fn a_file_shows_nothing(rt: HostRuntime) {
     let clock = Standing::at(0);
     let screen = Screen::make(&rt, false);
     let progress = Progress::begin(&clock, &screen);
@@ -136,5 +133,4 @@ fn a_file_shows_nothing(rt: HostRuntime) -> Result<(), Fail> {
     take(&progress, 8192);
     progress.end();
     assert!(rt; screen.shows(""));
-    Ok(())
 }

@@ -101,22 +101,22 @@ fn no_job(rt: HostRuntime) {
     is_told(&rt, rt.alloc(), &fault, "U2");
 }
 
-/// The sink and the report that a failing sink's fault hands back.
-fn handed_back(fault: &RunError<FuseSink>) -> Option<(&FuseSink, &Report)> {
+/// The fault of a sink that took a hundred bytes, and no packet whole.
+fn is_of_full_sink(rt: &impl Abort, fault: &RunError<FuseSink>) {
     match fault {
-        RunError::Sink { sink, report, .. } => Some((sink, report)),
-        _ => None,
+        RunError::Sink { sink, report, .. } => {
+            assert_eq!(rt; sink.bytes().len(), 100);
+            assert!(rt; sink.failures() > 0);
+            assert_eq!(rt; report.packets(), 0);
+        }
+        _ => assert!(rt; false, "another fault"),
     }
 }
 
 #[test]
 fn a_sink_of_a_hundred_bytes(rt: HostRuntime) {
-    let fault = shown_to_fuse(&rt, rt.alloc(), &rt.stderr())
-        .err()
-        .expect(&rt, "a fault");
+    let answer = shown_to_fuse(&rt, rt.alloc(), &rt.stderr());
+    let fault = answer.err().expect(&rt, "a fault");
     is_told(&rt, rt.alloc(), &fault, "U4 taken 100");
-    let (sink, report) = handed_back(&fault).expect(&rt, "the fault of a sink");
-    assert_eq!(rt; sink.bytes().len(), 100);
-    assert!(rt; sink.failures() > 0);
-    assert_eq!(rt; report.packets(), 0);
+    is_of_full_sink(&rt, &fault);
 }
