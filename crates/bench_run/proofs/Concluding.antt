@@ -9,7 +9,7 @@ use Rattle.ch11_recording.specs.declared.item.Item.{Item}
 use Rattle.ch11_recording.specs.Items.{channel_of}
 use Rattle.ch11_recording.specs.WrittenFile.{Format, held_in, closes, closed_by, closed_packets_behind, closed_packets, whole_packets, written_file}
 use Rattle.ch11_recording.specs.Recording.{Recording, IsRecordingOf}
-use Rattle.ch11_recording.specs.Laws.{RecordingIsRead, RecordsAreKept, EndedIsClosed, FileIsPackets, AllPacketsAreWhole}
+use Rattle.ch11_recording.specs.Laws.{IsFormat, RecordingIsRead, RecordsAreKept, EndedIsClosed, FileIsPackets, AllPacketsAreWhole}
 use Rattle.bench_report.specs.Reports.{ChannelPart}
 use Rattle.bench_core.specs.declared.settings.Settings.{Settings}
 use Rattle.bench_core.specs.Lawful.{AreLawful, channels_of, format_of}
@@ -84,7 +84,9 @@ module _ {S : Type 0} (taken : S → Option (List ℕ)) (failures : S → ℕ) (
         let items : List Item = map (item_of (channels_of jobs)) got in
         let bytes : List ℕ = written_file f prologue items in
         let long : r.writing.taken ≡ length bytes = is.written.whole sound in
-        let rs = read f prologue items (record { version = small; low = lawful.ranges.limit_low; high = lawful.ranges.limit_high }) lawful.prologue (items_sound s.queue jobs parts got all) in
+        let good : IsFormat f = record { version = small; low = lawful.ranges.limit_low; high = lawful.ranges.limit_high } in
+        let sound_items = items_sound s.queue jobs parts got all in
+        let rs = read f prologue items good lawful.prologue sound_items in
         let joined = ap (λ (bs : List ℕ). length bs) (file f prologue items) in
         let rest : r.writing.taken - length prologue ≡ length (concat (closed_packets f items)) =
         omega (arith, long, joined, length-append prologue (concat (closed_packets f items))) in (
@@ -92,6 +94,8 @@ module _ {S : Type 0} (taken : S → Option (List ℕ)) (failures : S → ℕ) (
           subst (Appends (taken before) (taken r.writing.sink)) (take_all r.writing.taken bytes (omega (arith, long))) is.written.taken,
           record {
             items = items;
+            format = good;
+            sound = sound_items;
             file = refl;
             parts = parts_are s.queue jobs parts got all s refl lawful.distinct;
             others = others_none s.queue jobs parts got all;

@@ -15,7 +15,7 @@ use Rattle.ch11_recording.specs.declared.item.Item.{Item}
 use Rattle.ch11_recording.specs.Items.{part_of, to_the_end}
 use Rattle.ch11_recording.specs.WrittenFile.{written_file, closed_packets, whole_packets}
 use Rattle.ch11_recording.specs.Recording.{AreDistinct}
-use Rattle.ch11_recording.specs.Laws.{IsPrologue}
+use Rattle.ch11_recording.specs.Laws.{IsFormat, IsPrologue, IsItem}
 use Rattle.bench_report.specs.Reports.{ChannelPart, RunReport, Rises}
 use Rattle.bench_core.specs.declared.settings.Settings.{Settings}
 use Rattle.bench_core.specs.Lawful.{format_of, channels_of, AreInRange, AreLawful}
@@ -70,10 +70,13 @@ ArePairs P (x ∷ xs) [] = ⊥
 abbrev pub IsOther : List JobState → ℕ → Type 0
 IsOther jobs channel = AllByRecursion (λ c. c ≢ channel) (channels_of jobs)
 
--- A finished run: one list of items was taken, none of them of another channel than the jobs', and the bytes are their file, which is
--- readable and gives each channel's messages, and none of another channel.
+-- A finished run: one list of items was taken, each of them with a channel and a message that fit a packet, none of them of another
+-- channel than the jobs', and the bytes are their file, which is readable and gives each channel's messages, and none of another
+-- channel.
 pub record IsRun (jobs : List JobState) (s : Settings) (report : RunReport) (bytes : List ℕ) : Type 0 where
   pub items : List Item
+  pub format : IsFormat (format_of s)
+  pub sound : AllByRecursion IsItem items
   pub file : bytes ≡ written_file (format_of s) s.prologue.items items
   pub parts : ArePairs (IsPartOf jobs s items) jobs report.channels
   pub others : (channel : ℕ) → IsOther jobs channel → part_of channel items ≡ []

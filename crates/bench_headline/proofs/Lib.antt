@@ -1,0 +1,5 @@
+pub mod Held
+pub mod Packets
+pub mod Written
+pub mod Channels
+pub mod Agreeing
