@@ -167,9 +167,29 @@ fn recording() -> Vec<u8> {
     file
 }
 
+// 100 MB of headers one behind the other. Each says that its packet goes on to the end of the file, and what is a header to one is a
+// message of 24 bytes to those before it; so each body is walked to the end of the file before it turns out to have a fault.
+fn headers() -> Vec<u8> {
+    let mut file = Vec::new();
+    let count = 100_000_000usize / 24;
+    for number in 0..count {
+        let mut head = vec![0x25, 0xEB, 0xFF, 0];
+        let rest = 24 * (count - number) as u32;
+        head.extend_from_slice(&rest.to_le_bytes());
+        head.extend_from_slice(&(rest - 24).to_le_bytes());
+        head.extend_from_slice(&[6, 0, 0, 0x19, 10, 0, 0, 0, 0, 0]);
+        let sum: u32 = head.chunks_exact(2).map(|w| u32::from(u16::from_le_bytes([w[0], w[1]]))).sum();
+        head.extend_from_slice(&(sum as u16).to_le_bytes());
+        file.extend_from_slice(&head);
+    }
+    file
+}
+
 fn main() {
     let words: Vec<String> = std::env::args().collect();
     if words[1] == "make" { std::fs::write(&words[2], recording()).unwrap(); return; }
+    if words[1] == "headers" { std::fs::write(&words[2], headers()).unwrap(); return; }
+    if words[1] == "syncs" { std::fs::write(&words[2], [0x25, 0xEB].repeat(50_000_000)).unwrap(); return; }
     let bytes = std::fs::read(&words[2]).unwrap();
     let (mut best_build, mut best_dump, mut total, mut counter) = (u128::MAX, u128::MAX, 0, Counter { bytes: 0 });
     for _ in 0..ROUNDS {

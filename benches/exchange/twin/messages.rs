@@ -7,9 +7,11 @@ pub struct Due {
     pub words: u8,
 }
 
+#[allow(dead_code)]
 #[derive(Clone, Copy)]
 pub enum Message {
     ToTerminal { address: u8, sub: u8, words: List<u16, 32> },
+    FromTerminal { address: u8, sub: u8, count: u8 },
     Between { sender: u8, sender_sub: u8, receiver: u8, receiver_sub: u8, count: u8 },
 }
 
@@ -21,6 +23,7 @@ impl Message {
     pub fn commands(&self) -> (u16, Option<u16>) {
         match self {
             Message::ToTerminal { address, sub, words } => (command(*address, false, *sub, words.len), None),
+            Message::FromTerminal { address, sub, count } => (command(*address, true, *sub, usize::from(*count)), None),
             Message::Between { sender, sender_sub, receiver, receiver_sub, count } => (
                 command(*receiver, false, *receiver_sub, usize::from(*count)),
                 Some(command(*sender, true, *sender_sub, usize::from(*count))),
@@ -30,28 +33,40 @@ impl Message {
     pub fn data_words(&self) -> &[u16] {
         match self {
             Message::ToTerminal { words, .. } => words.as_slice(),
-            Message::Between { .. } => &[],
+            Message::FromTerminal { .. } | Message::Between { .. } => &[],
         }
     }
     pub fn due(&self) -> (Option<Due>, Option<Due>) {
         match self {
             Message::ToTerminal { address, .. } => (Some(Due { address: *address, words: 0 }), None),
+            Message::FromTerminal { address, count, .. } => (Some(Due { address: *address, words: *count }), None),
             Message::Between { sender, receiver, count, .. } => {
                 (Some(Due { address: *sender, words: *count }), Some(Due { address: *receiver, words: 0 }))
             }
         }
     }
-    pub fn waves(&self) -> List<u64, 34> {
-        let mut waves = List::new();
-        let (first, second) = self.commands();
-        waves.push(encode(Word { is_command: true, value: first }));
+}
+
+// A message, and what is known of it before it is sent: the values of its words, commands first, and the replies that are due.
+pub struct Ready {
+    pub values: List<u16, 34>,
+    pub commands: usize,
+    pub due: (Option<Due>, Option<Due>),
+}
+
+impl Ready {
+    pub fn of(message: &Message) -> Ready {
+        let (first, second) = message.commands();
+        let mut values = List::new();
+        values.push(first);
         if let Some(second) = second {
-            waves.push(encode(Word { is_command: true, value: second }));
+            values.push(second);
         }
-        for value in self.data_words() {
-            waves.push(encode(Word { is_command: false, value: *value }));
-        }
-        waves
+        values.extend(message.data_words());
+        Ready { values, commands: 1 + usize::from(second.is_some()), due: message.due() }
+    }
+    pub fn due_count(&self) -> u8 {
+        u8::from(self.due.0.is_some()) + u8::from(self.due.1.is_some())
     }
 }
 

@@ -1,7 +1,7 @@
 // What is seen of a talk: its outcome and its record.
 use crate::buses::Talk;
 use crate::messages::Due;
-use crate::words::{Line, List, Word, address, decode, raw_bits};
+use crate::words::{Line, List, Word, address};
 
 #[derive(Clone, Copy)]
 pub struct Came {
@@ -57,68 +57,72 @@ pub struct Record {
     pub words: List<u16, 40>,
 }
 
-impl Talk {
-    pub fn seen(&self) -> Seen {
-        let (first, second) = self.message.due();
-        let due = u8::from(first.is_some()) + u8::from(second.is_some());
-        let commands = 1 + u8::from(self.message.commands().1.is_some());
-        let mut seen = Seen::default();
-        for sent in self.sent.as_slice() {
-            let word = decode(sent.wave);
-            let takes_command = match sent.run {
-                0 => seen.controllers < commands,
-                1 => due >= 1 && seen.one.is_none(),
-                run => run <= due && seen.two.is_none(),
-            };
-            seen.other_sync |= word.is_some_and(|w| w.is_command != takes_command);
-            seen.unsound |= word.is_none();
-            seen.beyond |= due < sent.run;
-            match sent.run {
-                0 => seen.controllers += 1,
-                1 => one_more(&mut seen.one, sent.gap, word),
-                2 => one_more(&mut seen.two, sent.gap, word),
-                _ => {}
-            }
+impl Seen {
+    // One word.
+    pub fn note(&mut self, commands: usize, due: u8, run: u8, gap: u16, word: Option<Word>) {
+        let takes_command = match run {
+            0 => usize::from(self.controllers) < commands,
+            1 => due >= 1 && self.one.is_none(),
+            run => run <= due && self.two.is_none(),
+        };
+        self.other_sync |= word.is_some_and(|w| w.is_command != takes_command);
+        self.unsound |= word.is_none();
+        self.beyond |= due < run;
+        match run {
+            0 => self.controllers += 1,
+            1 => one_more(&mut self.one, gap, word),
+            2 => one_more(&mut self.two, gap, word),
+            _ => {}
         }
-        seen
     }
-    pub fn errors(&self, seen: &Seen) -> (bool, bool, bool) {
-        let (first, second) = self.message.due();
-        let controllers = 1 + usize::from(self.message.commands().1.is_some()) + self.message.data_words().len();
+    // A whole run without a fault, which begins with this word: of the controller, or a status word with its data words.
+    pub fn note_run(&mut self, due: u8, run: u8, gap: u16, first: u16, count: usize) {
+        let came = Some(Came { gap, first: Some(Word { is_command: true, value: first }), count: count as u8 });
+        match run {
+            0 => self.controllers = count as u8,
+            1 => self.one = came,
+            2 => self.two = came,
+            _ => {}
+        }
+        self.beyond |= due < run;
+        self.other_sync |= due < run;
+    }
+}
+
+impl Talk<'_> {
+    pub fn errors(&self) -> (bool, bool, bool) {
+        let seen = &self.seen;
+        let (first, second) = self.ready.due;
         let late = is_late(first, seen.one) || is_late(second, seen.two);
-        let miscounted = usize::from(seen.controllers) != controllers || is_miscounted(first, seen.one) || is_miscounted(second, seen.two);
+        let miscounted =
+            usize::from(seen.controllers) != self.ready.values.len || is_miscounted(first, seen.one) || is_miscounted(second, seen.two);
         let other = has_other_address(first, seen.one) || has_other_address(second, seen.two);
         (late, miscounted, late || miscounted || seen.other_sync || seen.unsound || other || seen.beyond)
     }
+    #[allow(dead_code)]
     pub fn outcome(&self) -> Outcome {
-        let seen = self.seen();
-        let (first, second) = self.message.due();
+        let (first, second) = self.ready.due;
         Outcome {
-            failed: self.errors(&seen).2,
-            silent: first.is_some() && seen.one.is_none(),
-            bits: came_bits(first, seen.one) | came_bits(second, seen.two),
+            failed: self.errors().2,
+            silent: first.is_some() && self.seen.one.is_none(),
+            bits: came_bits(first, self.seen.one) | came_bits(second, self.seen.two),
         }
     }
-    pub fn observe(&self) -> Record {
-        let seen = self.seen();
-        let (late, miscounted, any) = self.errors(&seen);
-        let mut words = List::new();
-        for sent in self.sent.as_slice() {
-            words.push(raw_bits(sent.wave));
-        }
+    pub fn observe(self) -> Record {
+        let (late, miscounted, any) = self.errors();
         let half = |came: Option<Came>| came.map_or(0, |came| came.gap.min(255));
         let bit = |on: bool, place: u16| u16::from(on) << place;
         Record {
             stamp: self.start,
             block: bit(self.line == Line::B, 13)
                 | bit(any, 12)
-                | bit(self.message.commands().1.is_some(), 11)
+                | bit(self.ready.commands == 2, 11)
                 | bit(late, 9)
                 | bit(miscounted, 5)
-                | bit(seen.other_sync, 4)
-                | bit(seen.unsound, 3),
-            gaps: half(seen.two) << 8 | half(seen.one),
-            words,
+                | bit(self.seen.other_sync, 4)
+                | bit(self.seen.unsound, 3),
+            gaps: half(self.seen.two) << 8 | half(self.seen.one),
+            words: self.values,
         }
     }
 }

@@ -59,6 +59,19 @@ impl Pending {
             Phase::LostTransfer | Phase::Lost => {}
         }
     }
+    // Contiguous data words, at least one.
+    pub fn take_data(&mut self, values: &[u16]) {
+        match self.phase {
+            Phase::Start | Phase::Taking => {
+                let taken = values.len().min(words_due(self.command) - self.words.len);
+                self.words.extend(&values[..taken]);
+                self.phase = if taken < values.len() { Phase::Lost } else { Phase::Taking };
+            }
+            Phase::Called(_) => self.phase = Phase::LostTransfer,
+            Phase::Waiting(_) => self.phase = Phase::Lost,
+            Phase::LostTransfer | Phase::Lost => {}
+        }
+    }
     pub fn take_quiet(&mut self) -> Option<bool> {
         match self.phase {
             Phase::Start => Some(words_due(self.command) == 0),

@@ -14,6 +14,10 @@ impl<T: Copy + Default, const N: usize> List<T, N> {
         self.items[self.len] = item;
         self.len += 1;
     }
+    pub fn extend(&mut self, items: &[T]) {
+        self.items[self.len..self.len + items.len()].copy_from_slice(items);
+        self.len += items.len();
+    }
     pub fn as_slice(&self) -> &[T] {
         &self.items[..self.len]
     }

@@ -1,6 +1,6 @@
 // A bus controller: operations over a list of messages, as an assembler would make them of a script.
 use crate::buses::Bus;
-use crate::messages::{Fault, Message};
+use crate::messages::{Fault, Message, Ready};
 use crate::records::Record;
 use crate::words::{Line, List};
 
@@ -14,7 +14,7 @@ pub enum Op {
 
 pub struct Controller {
     pub ops: Vec<Op>,
-    pub messages: Vec<Message>,
+    pub messages: Vec<Ready>,
     pub faults: Vec<(u32, Vec<Fault>)>,
     pub bus: Bus,
     pub place: usize,
@@ -41,7 +41,7 @@ impl Controller {
         ops.extend([Op::Again(2), Op::Again(1), Op::Halt]);
         Controller {
             ops,
-            messages: all.iter().map(|address| Message::ToTerminal { address: *address, sub: 1, words }).collect(),
+            messages: all.iter().map(|address| Ready::of(&Message::ToTerminal { address: *address, sub: 1, words })).collect(),
             faults: Vec::new(),
             bus: Bus::new(0, &all),
             place: 0,

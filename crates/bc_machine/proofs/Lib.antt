@@ -1,5 +1,6 @@
 pub mod Stacks
 pub mod Acts
+pub mod Posted
 pub mod Around
 pub mod Runs
 pub mod Steps

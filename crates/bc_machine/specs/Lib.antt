@@ -8,3 +8,6 @@ pub mod MayStep
 pub mod Counters
 pub mod StartingBus
 pub mod PlainMachine
+pub mod Posting
+pub mod SavedMachine
+pub mod Alike

@@ -1,4 +1,5 @@
 -- A controller's fields as plain data.
+use Rattle.std.specs.Prelude.{◌++◌}
 use Rattle.bc_machine.specs.Running.{MachineState}
 use Rattle.bc_machine.specs.declared.parts.Parts.TheInside.{Inside}
 
@@ -6,7 +7,7 @@ abbrev pub state_in : Inside → MachineState
 state_in m = record {
   code = m.program;
   plan = m.plan;
-  placed = m.placed;
+  placed = m.placed ++ m.posted;
   begun = m.begun.value.0;
   taken = m.taken;
   at = record { place = m.place; counters = m.counters; flag = m.flag; line = m.line };

@@ -7,6 +7,7 @@ ghost use Rattle.frame_code.specs.Loadable.{IsLoadable};
 ghost use Rattle.frame_load.specs.Budget.{budget, worst_messages};
 ghost use Rattle.bc_machine.specs.declared.placed.Placed.{Placed};
 ghost use Rattle.bc_machine.specs.Running.{started, after_steps, turn_of};
+ghost use Rattle.bc_machine.specs.Posting.{ActionsToComeAreFree, HaltsAlike};
 
 use frame_code::Setting;
 use frame_load::loadable_runs;
@@ -36,3 +37,10 @@ pub fn controller_runs()
 {
     loadable_runs::<BusSetting>();
 }
+
+/// Law: the actions that are placed at messages to come leave no trace. With others at these, a controller under way stands where
+/// it stood, and has halted where it had.
+pub fn actions_to_come_are_free()
+    ensures free { ActionsToComeAreFree }
+    ensures halts { HaltsAlike }
+{}

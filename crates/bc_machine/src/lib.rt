@@ -9,12 +9,15 @@ mod messages;
 mod outcomes;
 mod parts;
 mod placed;
+mod posting;
+mod saved;
 mod schedule;
 
-pub use laws::controller_runs;
+pub use laws::{actions_to_come_are_free, controller_runs};
 pub use machine::Machine;
 use mil_monitor::Record;
 pub use placed::Placed;
+pub use saved::Saved;
 
 /// What a step came to.
 #[derive(Debug, Drop, PartialEq, Eq)]

@@ -1,17 +1,19 @@
 //! A controller whose program is under way.
-ghost use Rattle.std.specs.Prelude.{◌≡◌, ◌≤◌, ◌^◌, IfOk};
+ghost use Rattle.std.specs.Prelude.{◌≡◌, ◌≤◌, ◌^◌, IfOk, OnOk, OnErr};
 ghost use Rattle.mil_bus.specs.Exchange.{clock_of};
 ghost use Rattle.bc_machine.specs.Running.{started, stepped, answered};
 ghost use Rattle.bc_machine.specs.UnderWay.{IsUnderWay, Tells};
+ghost use Rattle.bc_machine.specs.Alike.{AreAlike};
 
 use crate::counters::Counters;
 use crate::laws::BusSetting;
 use crate::parts::Parts;
+use crate::saved::Saved;
 use crate::{Placed, Stepped};
 use frame_load::{Program, loadable_runs};
 use mil_bus::{Bus, Outcome};
 use mil_line::Plan;
-use std::alloc::AllocError;
+use std::alloc::{AllocError, Global};
 use std::marker::Model;
 
 /// A program under way on a bus. Contracts see its code, the plan, the placed actions, the bus that it began with, how many
@@ -19,7 +21,7 @@ use std::marker::Model;
 /// outcome.
 #[derive(Drop)]
 pub struct Machine {
-    parts: Parts,
+    pub(crate) parts: Parts,
 }
 
 impl Model for Machine {
@@ -89,5 +91,24 @@ impl Machine {
         Ok(Machine {
             parts: self.parts.copy()?,
         })
+    }
+
+    /// The controller as it is now, without its program, plan and placed actions, which fails for want of memory alone.
+    pub fn save(&self, _alloc: Global) -> Result<Saved, AllocError>
+        ensures { IfOk result (λ s. s ≡ self.now) }
+    {
+        Ok(Saved {
+            parts: self.parts.save()?,
+        })
+    }
+
+    /// Goes to what was saved, back or on. It fails for want of memory alone, and then changes nothing. Condition: it was saved
+    /// from a controller that was started with the same program, bus, plan and placed actions.
+    pub fn restore(&mut self, saved: &Saved) -> Result<(), AllocError>
+        requires { AreAlike self.old saved.now }
+        ensures restored { OnOk result (self.new ≡ saved.now) }
+        ensures same { OnErr result (self.new ≡ self.old) }
+    {
+        self.parts.restore(&saved.parts)
     }
 }

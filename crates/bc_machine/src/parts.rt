@@ -1,5 +1,5 @@
 //! A controller's parts, wherever its program stands.
-ghost use Rattle.std.specs.Prelude.{◌≡◌, ◌<◌, ◌≤◌, ◌+◌, ◌^◌, Some, if◌then◌else◌, slice_get, length, IfOk, IsTrue, [], ◌∷◌};
+ghost use Rattle.std.specs.Prelude.{◌≡◌, ◌<◌, ◌≤◌, ◌+◌, ◌^◌, Some, if◌then◌else◌, slice_get, length, IfOk, OnOk, OnErr, IsTrue, [], ◌∷◌};
 ghost use Rattle.mil_word.specs.declared.Line.{Line};
 ghost use Rattle.mil_message.specs.declared.messages.Message.{Message};
 ghost use Rattle.mil_message.specs.World.{sent, other_line};
@@ -13,16 +13,18 @@ ghost use Rattle.bc_machine.specs.Outcomes.{test_of};
 ghost use Rattle.bc_machine.specs.Moves as moves;
 ghost use Rattle.bc_machine.specs.Moves.{line_of};
 ghost use Rattle.bc_machine.specs.MayStep.{IsAble};
+ghost use Rattle.bc_machine.specs.Alike.{AreAlike};
 
 use crate::begun::{Begun, begun_with, same};
 use crate::counters::Counters;
 use crate::messages::exchange;
 use crate::outcomes::{asks, other};
+use crate::saved::SavedParts;
 use crate::schedule::Schedule;
 use crate::{Placed, Stepped};
 use frame_code::Op;
 use frame_load::Program;
-use mil_bus::{Bus, Outcome};
+use mil_bus::{Bus, Outcome, Seen};
 use mil_line::{Gap, Plan};
 use mil_monitor::observe_by;
 use mil_word::Line;
@@ -36,6 +38,7 @@ pub struct Parts {
     program: Program,
     plan: Plan,
     placed: Schedule,
+    pub(crate) posted: Schedule,
     begun: Snapshot<Begun>,
     taken: u32,
     place: u16,
@@ -43,7 +46,7 @@ pub struct Parts {
     flag: bool,
     line: Line,
     bus: Bus,
-    number: u32,
+    pub(crate) number: u32,
     gap: Gap,
     last: Option<Outcome>,
 }
@@ -67,10 +70,13 @@ impl Parts {
     {
         let _image = program.image();
         let begun = begun_with(&bus);
+        let placed = Schedule::of(placed);
+        let posted = Schedule::none(placed.allocator());
         Parts {
             program,
             plan,
-            placed: Schedule::of(placed),
+            placed,
+            posted,
             begun,
             taken: 0,
             place: 0,
@@ -194,16 +200,18 @@ impl Parts {
         let (own, message) = &self.program.image().messages()[index as usize];
         let line = if alternates { other(self.line) } else { *own };
         self.number += 1;
+        let mut seen = Seen::none();
         let talk = exchange(
             &mut self.bus,
             &self.plan,
             &self.placed,
+            &self.posted,
             self.number,
             line,
             message,
             self.gap,
+            &mut seen,
         );
-        let seen = talk.seen();
         self.last = Some(talk.outcome_by(&seen));
         self.line = line;
         self.place += 1;
@@ -270,6 +278,7 @@ impl Parts {
             program: self.program.copy()?,
             plan: self.plan.copy()?,
             placed: self.placed.copy()?,
+            posted: self.posted.copy()?,
             begun: same(&self.begun),
             taken: self.taken,
             place: self.place,
@@ -281,5 +290,46 @@ impl Parts {
             gap: self.gap,
             last: self.last,
         })
+    }
+
+    /// What steps change, as it is now.
+    pub fn save(&self) -> Result<SavedParts, AllocError>
+        ensures { IfOk result (λ s. s ≡ self.now) }
+    {
+        let taken = self.taken;
+        Ok(SavedParts {
+            program: Snapshot::of(&self.program),
+            plan: Snapshot::of(&self.plan),
+            placed: Snapshot::of(&self.placed),
+            posted: Snapshot::of(&self.posted),
+            begun: same(&self.begun),
+            taken,
+            place: self.place,
+            counters: self.counters.copy(),
+            flag: self.flag,
+            line: self.line,
+            bus: self.bus.copy()?,
+            number: self.number,
+            gap: self.gap,
+            last: self.last,
+        })
+    }
+
+    /// Goes back to what was saved.
+    pub fn restore(&mut self, saved: &SavedParts) -> Result<(), AllocError>
+        requires { AreAlike self.old saved.now }
+        ensures restored { OnOk result (self.new ≡ saved.now) }
+        ensures same { OnErr result (self.new ≡ self.old) }
+    {
+        self.bus = saved.bus.copy()?;
+        self.taken = saved.taken;
+        self.place = saved.place;
+        self.counters = saved.counters.copy();
+        self.flag = saved.flag;
+        self.line = saved.line;
+        self.number = saved.number;
+        self.gap = saved.gap;
+        self.last = saved.last;
+        Ok(())
     }
 }

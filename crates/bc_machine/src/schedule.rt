@@ -1,11 +1,11 @@
 //! The placed actions of a controller.
-ghost use Rattle.std.specs.Prelude.{◌≡◌, ◌↔◌, ◌+◌, ◌<◌, ◌^◌, IfOk, IsTrue};
+ghost use Rattle.std.specs.Prelude.{◌≡◌, ◌↔◌, ◌+◌, ◌<◌, ◌^◌, ◌++◌, ◌∷◌, [], IfOk, IfErr, OnOk, OnErr, IsTrue};
 ghost use Rattle.bc_machine.specs.Controller.{placed_at};
 ghost use Rattle.bc_machine.specs.Rising.{IsRising};
 
 use crate::Placed;
 use crate::placed::copied;
-use std::alloc::AllocError;
+use std::alloc::{AllocError, Global};
 use std::marker::Model;
 
 /// Placed actions, in their order; contracts see the list. Where their numbers never fall, those of one number are found
@@ -52,6 +52,16 @@ fn part(placed: &[Placed], number: u32) -> &[Placed]
     &rest[..to]
 }
 
+// Whether an action has a number that is not below that of the last one.
+fn follows(placed: &[Placed], one: &Placed) -> bool
+    ensures { IsTrue result → IsRising placed.now → IsRising (placed.now ++ one.now ∷ []) }
+{
+    match placed.last() {
+        Some(last) => last.number <= one.number,
+        None => true,
+    }
+}
+
 impl Schedule {
     /// These actions. It takes no memory.
     pub fn of(placed: Vec<Placed>) -> Schedule
@@ -59,6 +69,42 @@ impl Schedule {
     {
         let rising = is_rising(placed.as_slice());
         Schedule { placed, rising }
+    }
+
+    /// No action. It takes no memory.
+    pub fn none(alloc: Global) -> Schedule
+        ensures { result ≡ [] }
+    {
+        Schedule {
+            placed: Vec::new(alloc),
+            rising: true,
+        }
+    }
+
+    /// The allocator that the actions came from.
+    pub fn allocator(&self) -> Global {
+        *self.placed.allocator()
+    }
+
+    /// Makes room for so many actions more. It fails for want of memory alone.
+    pub fn room(&mut self, count: u32) -> Result<(), AllocError>
+        ensures { self.new ≡ self.old }
+    {
+        self.placed.reserve(count as usize)
+    }
+
+    /// Puts an action behind the others, where room was made for it; else it comes back. It takes no memory.
+    pub fn add(&mut self, one: Placed) -> Result<(), Placed>
+        ensures added { OnOk result (self.new ≡ self.old ++ one ∷ []) }
+        ensures back { IfErr result (λ back. back ≡ one) }
+        ensures same { OnErr result (self.new ≡ self.old) }
+    {
+        if self.placed.len() >= self.placed.capacity() {
+            return Err(one);
+        }
+        self.rising = self.rising && follows(self.placed.as_slice(), &one);
+        self.placed.push_reserved(one);
+        Ok(())
     }
 
     /// A part of the actions that has all that are placed at a number.

@@ -1,6 +1,8 @@
 //! The command line of `bench`: its commands, their arguments with their ranges, and their help.
 
-use clap::{Arg, ArgMatches, Command, Error, value_parser};
+use crate::fault::Fault;
+use clap::error::ErrorKind;
+use clap::{Arg, ArgAction, ArgMatches, Command, Error, value_parser};
 use std::alloc::{AllocError, Global};
 
 /// What a command line asks.
@@ -19,12 +21,27 @@ pub enum Request<'a> {
     },
     /// Jobs, recorded into a file.
     Run(RunRequest<'a>),
-    /// The packets and messages of a recording, printed as lines.
+    /// The packets and messages of a recording, printed as lines, or with `skip` whatever is sound of it.
     Dump {
         recording: &'a str,
+        skip: bool,
     },
     /// A recording, walked through by lines of the standard input.
     Step(StepRequest<'a>),
+    /// The figures of a recording: aligned for people, or as rows of comma-separated values.
+    Stat {
+        recording: &'a str,
+        rows: bool,
+    },
+    /// The messages of a recording, written to a file as rows of comma-separated values.
+    Export {
+        recording: &'a str,
+        out: &'a str,
+    },
+    /// What a code means, or all codes.
+    Explain {
+        code: Option<&'a str>,
+    },
 }
 
 /// What is to be walked through.
@@ -69,11 +86,29 @@ pub fn read<'a>(alloc: Global, words: &'a [String]) -> Result<Request<'a>, Error
         Some(("run", given)) => Request::Run(run_request(alloc, given)?),
         Some(("dump", given)) => Request::Dump {
             recording: given.get_str("RECORDING").unwrap_or(""),
+            skip: given.get_flag("skip"),
         },
         Some(("step", given)) => Request::Step(step_request(alloc, given)?),
+        Some(("stat", given)) => Request::Stat {
+            recording: given.get_str("RECORDING").unwrap_or(""),
+            rows: given.get_flag("csv"),
+        },
+        Some(("export", given)) => Request::Export {
+            recording: given.get_str("RECORDING").unwrap_or(""),
+            out: given.get_str("out").unwrap_or(""),
+        },
+        Some(("explain", given)) => Request::Explain {
+            code: given.get_str("CODE"),
+        },
         Some((_, given)) => one_request(given),
         None => one_request(&matches),
     })
+}
+
+/// A usage fault that the files show, and not the words.
+pub fn misused(alloc: Global, fault: &Fault<'_>) -> Result<Error, AllocError> {
+    let text = format!(in alloc; "{fault}")?;
+    bench_command(alloc)?.error(ErrorKind::ArgumentConflict, text.as_str())
 }
 
 fn bench_command<'a>(alloc: Global) -> Result<Command<'a>, AllocError> {
@@ -92,7 +127,10 @@ fn bench_command<'a>(alloc: Global) -> Result<Command<'a>, AllocError> {
         .subcommand(assemble_command(alloc)?)?
         .subcommand(run_command(alloc)?)?
         .subcommand(dump_command(alloc)?)?
-        .subcommand(step_command(alloc)?)
+        .subcommand(step_command(alloc)?)?
+        .subcommand(stat_command(alloc)?)?
+        .subcommand(export_command(alloc)?)?
+        .subcommand(explain_command(alloc)?)
 }
 
 fn assemble_command<'a>(alloc: Global) -> Result<Command<'a>, AllocError> {
@@ -100,7 +138,7 @@ fn assemble_command<'a>(alloc: Global) -> Result<Command<'a>, AllocError> {
         .required(true)
         .help("The script to assemble, as a text");
     let image = Arg::new(alloc, "IMAGE").required(true).help(
-        "The file to write the image to; it is written only where the script is accepted",
+        "The file to write the image to, which is not the script; it is written only where the script is accepted",
     );
     Command::new(alloc, "assemble")
         .about("Assembles a script into an image for the bus controller, and prints its sizes")
@@ -112,14 +150,18 @@ fn assemble_command<'a>(alloc: Global) -> Result<Command<'a>, AllocError> {
 /// What the help of `bench run` ends with.
 const RUN_NOTES: &str = "\
 Prints how many packets and messages the recording has. A message that finds the queue full is refused,
-and listed in the report; nothing is refused where the queue has room for all that the jobs may send.
+and listed in the report by its number in its channel; nothing is refused where the queue has room for all
+that the jobs may send (the guide says how much that is).
+
+No file is written over that is read, or written twice. A recording that is there stays as it is where the
+jobs or settings are refused (U1, U2, U5); the report of an earlier run is emptied when the recording begins.
 
 Example:
-  bench run --version 6 --limit 4096 --queue 4096 --out flight.ch11 --report flight.report avionics.job stores.job";
+  bench run --out flight.ch11 --report flight.report avionics.job stores.job";
 
 fn run_command<'a>(alloc: Global) -> Result<Command<'a>, AllocError> {
     let jobs = Arg::new(alloc, "JOB").num_args(0usize..).help(
-        "The job of a channel, as a text; 1 to 8 of them, each of another channel",
+        "The job of a channel, as a text; 1 to 32 of them, each of another channel",
     );
     let command = Command::new(alloc, "run")
         .about("Runs jobs, each on a thread of its own, and records them all into one file")
@@ -131,16 +173,17 @@ fn run_command<'a>(alloc: Global) -> Result<Command<'a>, AllocError> {
 /// The settings of a run.
 fn with_settings<'a>(alloc: Global, command: Command<'a>) -> Result<Command<'a>, AllocError> {
     let limit = "How many bytes a packet has at most, 256 to 524288";
-    let queue = "How many messages may wait to be written at most, 1 to 4096";
+    let queue = "How many messages may wait in the queue at most, 1 to 4096";
     command
-        .arg(version(alloc))?
-        .arg(setting(alloc, "limit", limit))?
-        .arg(setting(alloc, "queue", queue))
+        .arg(version(alloc).default_value("6"))?
+        .arg(setting(alloc, "limit", limit).default_value("65536"))?
+        .arg(setting(alloc, "queue", queue).default_value("4096"))
 }
 
 /// The files of a run but its jobs.
 fn with_files<'a>(alloc: Global, command: Command<'a>) -> Result<Command<'a>, AllocError> {
-    let prologue = "Packets to put in front of all others, with none of MIL-STD-1553 messages";
+    let prologue =
+        "Packets to put in front of all others, such as a setup record (TMATS); none of MIL-STD-1553 messages";
     let report = "The file to write the report to; it is written only where the recording is whole";
     command
         .arg(file(alloc, "prologue", prologue))?
@@ -153,7 +196,6 @@ fn setting<'a>(alloc: Global, name: &'a str, help: &'a str) -> Arg<'a> {
     Arg::new(alloc, name)
         .long(name)
         .value_name("N")
-        .required(true)
         .value_parser(value_parser!(u32).range(0..=4_294_967_295))
         .allow_negative_numbers(true)
         .help(help)
@@ -172,19 +214,43 @@ fn version<'a>(alloc: Global) -> Arg<'a> {
     Arg::new(alloc, "version")
         .long("version")
         .value_name("N")
-        .required(true)
         .value_parser(value_parser!(u8).range(0..=255))
         .allow_negative_numbers(true)
         .help("The data type version in each packet's header, 0 to 255, as you choose it")
 }
 
+/// What the help of `bench dump` ends with.
+const DUMP_NOTES: &str = "\
+Each message is shown with its number in the file, the channel, the time stamp in ticks of 0.1 us, the block
+status word, the gap times word and the bus words. Block status word, in hexadecimal digits that add up:
+
+  2000  bus B                       0020  word count error
+  1000  message error (any below)   0010  sync type error
+  0800  terminal-to-terminal        0008  invalid word error
+  0200  response time-out
+
+Gap times word: the last two digits are the response time of the first reply in ticks, the first two that of
+the second.
+
+A recording with a fault is refused, and nothing is shown, unless --skip is given: then a line
+`skipped OFFSET length LENGTH FAULT` stands in the place of the bytes that are no packet.
+
+Example:
+  bench dump flight.ch11
+  bench dump --skip cut.ch11";
+
 fn dump_command<'a>(alloc: Global) -> Result<Command<'a>, AllocError> {
+    let skip = Arg::new(alloc, "skip")
+        .long("skip")
+        .action(ArgAction::SetTrue)
+        .help("Shows all packets that are sound, and what was skipped between them");
     let recording = Arg::new(alloc, "RECORDING")
         .required(true)
         .help("The Chapter 11 file to show");
     Command::new(alloc, "dump")
         .about("Shows the packets and messages of a recording, or its first fault")
-        .after_help("Example:\n  bench dump flight.ch11")
+        .after_help(DUMP_NOTES)
+        .arg(skip)?
         .arg(recording)
 }
 
@@ -195,8 +261,8 @@ the recording are past.
 
   forward, back   one message on, or back
   go N            to place N; 0 is the beginning
-  find COND       on to the next message whose outcome makes a condition true: fail, silent, bit NAME,
-                  not COND, all ( COND COND ), any ( COND COND )
+  find COND       on to the next message whose outcome makes a condition true: fail (message error), silent
+                  (no response), bit NAME (of a status word), not COND, all ( COND COND ), any ( COND COND )
   state           for each channel the number of its last message, and the registers of its terminals
 
 A move prints the place, as in `at 7`; Y2 where there is no such message, Y3 at the beginning. Another line
@@ -242,14 +308,14 @@ fn one_command<'a>(alloc: Global) -> Result<Command<'a>, AllocError> {
         .allow_negative_numbers(true)
         .help("The packet's channel, 1 to 65535");
     let text = Arg::new(alloc, "TEXT").required(true).help(
-        "The line, A or B, and the message, as in \"A rx 5 1 [0001]\"",
+        "The line (bus), A or B, and the message, as in \"A rx 5 1 [0001]\"",
     );
     Command::new(alloc, "one")
         .about("Runs one message on fresh terminals and prints its packet")
         .disable_version_flag(true)
         .after_help("Example:\n  bench one --channel 1 --version 6 \"A rx 5 1 [0001 0002 0003]\"")
         .arg(channel)?
-        .arg(version(alloc))?
+        .arg(version(alloc).required(true))?
         .arg(text)
 }
 
@@ -265,12 +331,49 @@ fn run_request<'a>(alloc: Global, given: &ArgMatches<'a>) -> Result<RunRequest<'
     let mut jobs = Vec::new(alloc);
     jobs.extend_from_slice(given.get_strs("JOB").unwrap_or(&[]))?;
     Ok(RunRequest {
-        version: given.get_one::<u8>("version").unwrap_or(0),
-        limit: given.get_one::<u32>("limit").unwrap_or(0),
-        queue: given.get_one::<u32>("queue").unwrap_or(0),
+        version: given.get_one::<u8>("version").unwrap_or(6),
+        limit: given.get_one::<u32>("limit").unwrap_or(65536),
+        queue: given.get_one::<u32>("queue").unwrap_or(4096),
         prologue: given.get_str("prologue"),
         out: given.get_str("out").unwrap_or(""),
         report: given.get_str("report").unwrap_or(""),
         jobs,
     })
+}
+
+fn stat_command<'a>(alloc: Global) -> Result<Command<'a>, AllocError> {
+    let recording = Arg::new(alloc, "RECORDING")
+        .required(true)
+        .help("The Chapter 11 file to count in");
+    let rows = Arg::new(alloc, "csv")
+        .long("csv")
+        .action(ArgAction::SetTrue)
+        .help("One row of comma-separated values a terminal");
+    Command::new(alloc, "stat")
+        .about("Shows bus load, errors, retries and response times of a recording")
+        .after_help("Example:\n  bench stat flight.ch11")
+        .arg(rows)?
+        .arg(recording)
+}
+
+fn export_command<'a>(alloc: Global) -> Result<Command<'a>, AllocError> {
+    let recording = Arg::new(alloc, "RECORDING")
+        .required(true)
+        .help("The Chapter 11 file to export");
+    let out = file(alloc, "out", "The file to write the rows to").required(true);
+    Command::new(alloc, "export")
+        .about("Writes one row of comma-separated values a message")
+        .after_help("Example:\n  bench export flight.ch11 --out flight.csv")
+        .arg(recording)?
+        .arg(out)
+}
+
+fn explain_command<'a>(alloc: Global) -> Result<Command<'a>, AllocError> {
+    let code = Arg::new(alloc, "CODE").help(
+        "The code to explain, as in S7; all codes where there is none",
+    );
+    Command::new(alloc, "explain")
+        .about("Says what a fault means, and what to do")
+        .after_help("Example:\n  bench explain S7")
+        .arg(code)
 }

@@ -1,8 +1,11 @@
 //! The commands of `bench`: each reads its files, calls one proved function, and prints.
 
+use crate::apart::told_apart;
 use crate::command_line::{self, Request};
 use crate::fault::Fault;
 use crate::files::{read_whole, write_whole};
+use crate::looking::{export_rows, show_explanation, show_statistics};
+use crate::pointing::point;
 use crate::recording::run_jobs;
 use crate::stepping::step_through;
 use bench_assemble::{AssembleFault, Sizes, assemble_text, print_sizes};
@@ -50,7 +53,12 @@ where
     match command_line::read(rt.alloc(), words) {
         Ok(request) => match obey(rt, errors, &request) {
             Ok(()) => ExitCode::SUCCESS,
-            Err(fault) => stop(errors, &fault),
+            Err(fault @ Fault::OneFile { .. }) => misused(rt, errors, &fault),
+            Err(fault) => {
+                let status = stop(errors, &fault);
+                point(rt, errors, &request, &fault);
+                status
+            }
         },
         Err(error) => explain(rt, errors, &error),
     }
@@ -68,6 +76,14 @@ fn explain<R: Print, E: Eprint>(rt: &R, errors: &E, error: &Error) -> ExitCode {
     match print!(rt; "{error}") {
         Ok(()) => ExitCode::SUCCESS,
         Err(fault) => stop(errors, &Fault::of_stream("-", &fault)),
+    }
+}
+
+/// Prints a usage fault that the files of the command line have, as one that its words have.
+fn misused<R: AllocGlobal + Print, E: Eprint>(rt: &R, errors: &E, fault: &Fault<'_>) -> ExitCode {
+    match command_line::misused(rt.alloc(), fault) {
+        Ok(error) => explain(rt, errors, &error),
+        Err(_) => stop(errors, &Fault::Memory),
     }
 }
 
@@ -92,8 +108,11 @@ where
         } => run_one(rt, *channel, *version, text),
         Request::Assemble { script, image } => run_assemble(rt, script, image),
         Request::Run(request) => run_jobs(rt, errors, request),
-        Request::Dump { recording } => show(rt, recording),
+        Request::Dump { recording, skip } => show(rt, recording, *skip),
         Request::Step(request) => step_through(rt, errors, request),
+        Request::Stat { recording, rows } => show_statistics(rt, recording, *rows),
+        Request::Export { recording, out } => export_rows(rt, recording, out),
+        Request::Explain { code } => show_explanation(rt, *code),
     }
 }
 
@@ -125,6 +144,7 @@ fn run_assemble<'a, R: Files + AllocGlobal + Print>(
     script: &'a str,
     image: &'a str,
 ) -> Result<(), Fault<'a>> {
+    told_apart(rt, &[image], &[script])?;
     let text = read_whole(rt, script)?;
     let (bytes, sizes) = match assemble_text(rt.alloc(), text.as_slice()) {
         Ok(made) => made,
@@ -144,9 +164,13 @@ fn print_sizes_to_output<R: AllocGlobal + Print>(rt: &R, sizes: &Sizes) -> io::R
     out.flush()
 }
 
-fn show<'a, R: Files + AllocGlobal + Print>(rt: &R, recording: &'a str) -> Result<(), Fault<'a>> {
+fn show<'a, R: Files + AllocGlobal + Print>(
+    rt: &R,
+    recording: &'a str,
+    skip: bool,
+) -> Result<(), Fault<'a>> {
     let bytes = read_whole(rt, recording)?;
-    match dump(rt.alloc(), bytes.as_slice(), &mut io::writer(rt)) {
+    match dump(rt.alloc(), bytes.as_slice(), &mut io::writer(rt), skip) {
         Ok(()) => Ok(()),
         Err(DumpFault::Refused(refusal)) => Err(Fault::Recording(refusal)),
         Err(DumpFault::Memory) => Err(Fault::Memory),

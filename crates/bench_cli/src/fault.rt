@@ -1,6 +1,6 @@
 //! Why `bench` stops, and with which exit status.
 ghost use Rattle.std.specs.Prelude.{◌≡◌};
-ghost use Rattle.bench_cli.specs.Status.{status_of, fault_of, IsOfStep};
+ghost use Rattle.bench_cli.specs.Status.{status_of, fault_of, fault_of_settings, IsOfStep};
 
 use bench_assemble::AssembleFault;
 use bench_core::WorldError;
@@ -44,13 +44,22 @@ pub enum Fault<'a> {
     /// A file or a stream failed; its name as given, `-` for standard input and output.
     #[error("device {0}")]
     Device(&'a str),
+    /// The system refused a file or a stream, with a number that has words of its own.
+    #[error("device {name}")]
+    System { name: &'a str, code: i32 },
+    /// There is no such code to explain.
+    #[error("unknown {0}")]
+    Unknown(&'a str),
     /// Memory was refused.
     #[error("memory")]
     Memory,
+    /// A usage fault: this file would be written over, since it is also the other one.
+    #[error("'{written}' and '{other}' are one file, which would be written over")]
+    OneFile { written: &'a str, other: &'a str },
 }
 
 impl<'a> Fault<'a> {
-    /// The exit status: 1 input refused, 3 device, 4 memory.
+    /// The exit status: 1 input refused, 2 usage, 3 device, 4 memory.
     pub fn status(&self) -> u8
         ensures { result ≡ status_of self.now }
     {
@@ -58,8 +67,21 @@ impl<'a> Fault<'a> {
             Fault::Text(_) | Fault::Script(_) | Fault::Recording(_) => 1,
             Fault::Job(_) | Fault::Run(_) => 1,
             Fault::Report(_) | Fault::Mismatch { .. } => 1,
+            Fault::Unknown(_) => 1,
             Fault::Sink { .. } | Fault::Device(_) => 3,
+            Fault::System { .. } => 3,
             Fault::Memory => 4,
+            Fault::OneFile { .. } => 2,
+        }
+    }
+
+    /// The fault of jobs and settings that may not be run.
+    pub fn of_settings(error: WorldError) -> Fault<'a>
+        ensures { result ≡ fault_of_settings error }
+    {
+        match error {
+            WorldError::Memory => Fault::Memory,
+            refused => Fault::Run(refused),
         }
     }
 
@@ -94,9 +116,11 @@ impl<'a> Fault<'a> {
     /// The fault of a file or stream with this name.
     pub fn of_stream(name: &'a str, error: &io::Error) -> Fault<'a> {
         if error.kind() == io::ErrorKind::OutOfMemory {
-            Fault::Memory
-        } else {
-            Fault::Device(name)
+            return Fault::Memory;
+        }
+        match error.raw_os_error() {
+            Some(code) => Fault::System { name, code },
+            None => Fault::Device(name),
         }
     }
 }

@@ -1,11 +1,14 @@
 //! `bench`: a test bench for MIL-STD-1553B data buses with a recorder of IRIG 106-17 Chapter 11.
 #![tactic(auto)]
 
+mod apart;
 mod command_line;
 mod commands;
 mod fault;
 mod files;
 mod jobs;
+mod looking;
+mod pointing;
 mod recording;
 mod stepping;
 

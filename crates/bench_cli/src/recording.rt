@@ -1,28 +1,40 @@
 //! `bench run`: jobs recorded into a file, and their report beside it.
 ghost use Rattle.std.specs.Prelude.{◌≡◌, ◌-◌, ◌<◌, ◌^◌};
 
+use crate::apart::{told_apart, told_apart_from_open};
 use crate::command_line::RunRequest;
 use crate::fault::Fault;
-use crate::files::{create, read_texts, read_whole, write_whole};
+use crate::files::{
+    empty_if_there, empty_open, open_as_it_is, read_texts, read_whole, write_whole,
+};
 use crate::jobs::jobs_of;
-use bench_core::Settings;
+use bench_core::{Settings, judge};
 use bench_record::{Counts, print_counts, record_jobs_with_progress};
 use bench_report::{Report, print_report};
 use ch11_writer::{Sink, StdSink};
 use job_file::Job;
+use std::alloc::{AllocError, Global};
+use std::fs::OpenFile;
 use std::io;
 use std::io::{BufWriter, IsTerminal, Write};
 use std::rt::{Clock, Files};
 use std::sync::Wait;
 use std::thread::Threads;
 
-/// Records the jobs into the out file; once that is whole, writes the report and prints how much was recorded. All files are read
-/// before the first of them is judged, and the out file is made once every job was accepted.
+/// Records the jobs into the out file; once that is whole, writes the report and prints how much was recorded. Before anything else
+/// the files that are written are told apart from one another and from those that are read. Then all files are read before the first
+/// of them is judged. Jobs and settings are judged before a file that is there is touched; the out file is made, and a report of an
+/// earlier run is emptied, before the first message is recorded.
 pub fn run_jobs<
     'a,
     R: Files + AllocGlobal + Print + Clock + Threads + Wait + Sync,
     E: Eprint + IsTerminal + Sync,
 >(rt: &R, errors: &E, request: &RunRequest<'a>) -> Result<(), Fault<'a>> {
+    told_apart(
+        rt,
+        &[request.out, request.report],
+        &files_read(rt.alloc(), request)?,
+    )?;
     let prologue = match request.prologue {
         Some(name) => read_whole(rt, name)?,
         None => Vec::new(rt.alloc()),
@@ -30,7 +42,12 @@ pub fn run_jobs<
     let texts = read_texts(rt, &request.jobs)?;
     let jobs = jobs_of(rt.alloc(), &texts)?;
     let settings = settings_of(request, prologue);
-    let sink = StdSink::make(create(rt, request.out)?);
+    let out = open_as_it_is(rt, request.out)?;
+    if let Err(refused) = judge(&jobs, &settings) {
+        return Err(Fault::of_settings(refused));
+    }
+    make_room(rt, request, &out)?;
+    let sink = StdSink::make(out);
     let report = record(rt, errors, &jobs, &settings, sink)?;
     let text = print_report(rt.alloc(), &report)?;
     write_whole(rt, request.report, text.as_bytes())?;
@@ -38,6 +55,29 @@ pub fn run_jobs<
         Ok(()) => Ok(()),
         Err(error) => Err(Fault::of_stream("-", &error)),
     }
+}
+
+/// The files that a run reads.
+fn files_read<'a>(alloc: Global, request: &RunRequest<'a>) -> Result<Vec<&'a str>, AllocError> {
+    let mut names = Vec::new(alloc);
+    names.extend_from_slice(&request.jobs)?;
+    if let Some(prologue) = request.prologue {
+        names.push(prologue)?;
+    }
+    Ok(names)
+}
+
+/// Takes the bytes of an earlier run out of its report and then out of the out file, which is open.
+fn make_room<'a, R: Files>(
+    rt: &R,
+    request: &RunRequest<'a>,
+    out: &R::File,
+) -> Result<(), Fault<'a>> {
+    if let Ok(metadata) = out.metadata() {
+        told_apart_from_open(rt, &metadata, request.out, request.report)?;
+    }
+    empty_if_there(rt, request.report)?;
+    empty_open(out, request.out)
 }
 
 /// The settings that a request asks for, with the bytes of its prologue. No host posts actions.

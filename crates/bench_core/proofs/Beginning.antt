@@ -55,7 +55,7 @@ unfolding closed_packets
 no_packets f = refl
 
 pub begun_kept : (f : Format) (prologue : List ℕ) (jobs : List JobState) (capacity slots : ℕ) → AllByRecursion (λ (j : JobState). j.channel < 2 ^ 16) jobs → AreDistinct (channels_of jobs)
-    → IsFormat f → IsPrologue prologue → length jobs ≤ 8 → capacity ≤ slots
+    → IsFormat f → IsPrologue prologue → length jobs ≤ 32 → capacity ≤ slots
     → IsKept slots (map (λ (j : JobState). fresh (channel_in f j.channel)) jobs) prologue 0 (state f prologue (buses_of jobs) capacity [] [])
 begun_kept f prologue jobs capacity slots low distinct format first few room = record {
   reached = record {
@@ -89,7 +89,7 @@ module _ (f : Format) (prologue : List ℕ) (jobs : List JobState) (capacity : �
       ∙ ap (λ (ls : List Lane). record { format = f; prologue = prologue; actions = map (λ (j : JobState). j.actions) jobs; bench = begun capacity ls }) (same_lanes jobs)
 
   pub begun_fields : (slots : ℕ) (builders : List Held) (bytes : List ℕ) → builders ≡ map (λ (j : JobState). fresh (channel_in f j.channel)) jobs → bytes ≡ prologue
-      → AllByRecursion (λ (j : JobState). j.channel < 2 ^ 16) jobs → AreDistinct (channels_of jobs) → IsFormat f → IsPrologue prologue → length jobs ≤ 8 → capacity ≤ slots
+      → AllByRecursion (λ (j : JobState). j.channel < 2 ^ 16) jobs → AreDistinct (channels_of jobs) → IsFormat f → IsPrologue prologue → length jobs ≤ 32 → capacity ≤ slots
       → IsKept slots builders bytes 0 (state f shown buses capacity queue taken)
   begun_fields slots builders bytes held file low distinct format first few room =
       subst (λ (ps : List ℕ). IsKept slots builders bytes 0 (state f ps buses capacity queue taken)) (sym same)

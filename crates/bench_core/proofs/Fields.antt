@@ -160,7 +160,7 @@ never_nowhere w buses x behind lanes at reached all =
     let known : AllByRecursion (λ y. Stands (channel_of y) (channels_in w.bench.lanes)) (x ∷ behind) = subst (AllByRecursion (λ y. Stands (channel_of y) (channels_in w.bench.lanes))) at tidy.known in
     nowhere buses (channel_of x) known.0.0 all (ap (λ (ls : List Lane). slice_get (channels_in ls) known.0.0) (sym lanes) ∙ known.0.1)
 
-pub few_packets : (slots : ℕ) (builders : List Held) (bytes : List ℕ) (count : ℕ) (w : WorldState) → IsKept slots builders bytes count w → count ≤ 8000008
+pub few_packets : (slots : ℕ) (builders : List Held) (bytes : List ℕ) (count : ℕ) (w : WorldState) → IsKept slots builders bytes count w → count ≤ 32000032
 few_packets slots builders bytes count w is =
     let most = packets_at_most w.format w.bench (reached_tidy w.bench is.reached) is.made is.few in omega (arith, is.packets, most)
 

@@ -138,6 +138,6 @@ packets_few : (f : Format) (items : List Item) → length (closed_packets f item
 unfolding closed_packets
 packets_few f items = behind_few f [] items
 
-pub packets_at_most : (f : Format) (b : Bench) → IsTidy b → AllByRecursion IsMade b.lanes → length b.lanes ≤ 8 → length (closed_packets f b.taken) ≤ 8000008
+pub packets_at_most : (f : Format) (b : Bench) → IsTidy b → AllByRecursion IsMade b.lanes → length b.lanes ≤ 32 → length (closed_packets f b.taken) ≤ 32000032
 packets_at_most f b is made few =
     let most = total_few b.lanes made in omega (arith, most, packets_few f b.taken, is.count, few)

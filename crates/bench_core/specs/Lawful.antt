@@ -14,10 +14,10 @@ format_of s = record { version = s.version; limit = s.limit }
 abbrev pub channels_of : List JobState → List ℕ
 channels_of jobs = map (λ (j : JobState). j.channel) jobs
 
--- one to eight jobs, and each setting in its range
+-- 1 to 32 jobs, and each setting in its range
 pub record AreInRange (jobs : List JobState) (s : Settings) : Type 0 where
   pub some : 1 ≤ length jobs
-  pub few : length jobs ≤ 8
+  pub few : length jobs ≤ 32
   pub limit_low : 256 ≤ s.limit
   pub limit_high : s.limit ≤ 524288
   pub queue_low : 1 ≤ s.queue

@@ -111,7 +111,7 @@ pub record IsKept (slots : ℕ) (builders : List Held) (bytes : List ℕ) (count
   pub held : builders ≡ map (λ (l : Lane). held_in w.format l.channel w.bench.taken) w.bench.lanes
   pub file : bytes ≡ file_of w
   pub packets : count ≡ length (packets_of w)
-  pub few : length w.bench.lanes ≤ 8
+  pub few : length w.bench.lanes ≤ 32
   pub room : w.bench.capacity ≤ slots
 
 abbrev pub IsWorld : Inside → Type 0

@@ -27,11 +27,11 @@ pub fn judge(jobs: &[Job], settings: &Settings) -> Result<(), WorldError>
     Ok(())
 }
 
-/// Whether there are one to eight jobs, and each setting is in its range.
+/// Whether there are 1 to 32 jobs, and each setting is in its range.
 fn in_range(jobs: &[Job], settings: &Settings) -> bool
     ensures { IsTrue result ↔ AreInRange jobs.now settings.now }
 {
-    (1..=8).contains(&jobs.len())
+    (1..=32).contains(&jobs.len())
         && (256..=524_288).contains(&settings.limit)
         && (1..=4096).contains(&settings.queue)
         && settings.posts <= 65_536

@@ -20,7 +20,7 @@ pub struct Settings {
 /// Why nothing was run.
 #[derive(Clone, Copy, Debug, PartialEq, Eq)]
 pub enum WorldError {
-    /// U2: there is no job or more than 8, or a setting is out of its range.
+    /// U2: there is no job or more than 32, or a setting is out of its range.
     Settings,
     /// U1: two jobs have the same channel.
     ChannelTwice,

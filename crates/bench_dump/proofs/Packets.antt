@@ -1,17 +1,18 @@
 -- Packets of a dump, one after the other.
-use Rattle.std.proofs.Common.{◌≡◌, false, ℕ, zero, suc, ◌+◌, ◌-◌, ◌≤◌, ◌<◌, List, [], ◌∷◌, ◌++◌, length, take, drop, Option, None, Some, get_or, refl, sym, ap, subst, ◌∙◌, append_assoc, add-one, arith}
+use Rattle.std.proofs.Common.{◌≡◌, false, ℕ, zero, suc, ◌+◌, ◌≤◌, ◌<◌, List, [], ◌∷◌, ◌++◌, length, take, drop, Option, None, Some, get_or, refl, sym, ap, subst, ◌∙◌, append_assoc, add-one, arith}
 use Rattle.std.specs.Prelude.{slice_get}
 use Rattle.std.proofs.lemmas.Option.{slice_get-get_or}
-use Rattle.std.proofs.lemmas.List.{append-nil, drop_all}
+use Rattle.std.proofs.lemmas.List.{drop_all}
 use Rattle.std.specs.Io.KnownBytes.{Appends, Keeps}
-use Rattle.ch11_header.specs.declared.header.Header.{Header}
 use Rattle.ch11_reader.specs.declared.packet.Packet.{Packet}
 use Rattle.ch11_reader.specs.Recording.{Found}
 use Rattle.ch11_reader.specs.Contents.{total_in}
 use Rattle.ch11_reader.specs.Listing.{listed_behind, listing_behind, listing}
+use Rattle.ch11_reader.specs.declared.skip.Skip.{Skip}
 use Rattle.bench_dump.specs.DumpText.{packet_line, message_lines, packet_lines, dump_text}
+use Rattle.bench_dump.specs.SkippingText.{skip_lines, skips_before, skips_behind, lines_in_order, skipping_text}
 use Rattle.bench_dump.specs.Printing.{Carries}
-use Rattle.bench_dump.proofs.Steps.{appends_both, carries_on, carries_nothing}
+use Rattle.bench_dump.proofs.Steps.{appends_both, carries_nothing}
 
 -- the packet at a place, with what its entry tells, behind so many messages
 pub record IsAt (earlier : ℕ) (ps : List Found) (i : ℕ) (e : Packet) : Type 0 where
@@ -76,31 +77,43 @@ length_listing earlier (p ∷ ps) = ap suc (length_listing (p ∷ earlier) ps)
 pub same_count : (ps : List Found) (entries : List Packet) → entries ≡ listing ps → length entries ≡ length ps
 same_count ps entries listed = ap length listed ∙ length_listing [] ps
 
--- the lines of the packets before a place were put
-pub record IsPrinting (got gets : Option (List ℕ)) (waits : List ℕ) (place : ℕ) (ps : List Found) : Type 0 where
+-- the lines of the packets before a place, and of the skips in front of them, were put
+pub record IsPrinting (got gets : Option (List ℕ)) (waits : List ℕ) (place : ℕ) (rest : List Skip) (skips : List Skip) (ps : List Found) : Type 0 where
   pub more : List ℕ
   pub carried : Carries got [] gets waits more
-  pub lines : more ++ packet_lines (total_in (take place ps)) (drop place ps) ≡ dump_text ps
+  pub lines : more ++ lines_in_order (total_in (take place ps)) rest (drop place ps) ≡ skipping_text skips ps
 
-pub begins : (got : Option (List ℕ)) (waits : List ℕ) (ps : List Found) → waits ≡ [] → IsPrinting got got waits 0 ps
-begins got waits ps none = record { more = []; carried = rw none (carries_nothing got []); lines = refl }
+pub begins : (got : Option (List ℕ)) (waits : List ℕ) (skips : List Skip) (ps : List Found) → waits ≡ [] → IsPrinting got got waits 0 skips skips ps
+begins got waits skips ps none = record { more = []; carried = rw none (carries_nothing got []); lines = refl }
 
-regroup : (more packet messages rest : List ℕ) → (more ++ (packet ++ messages)) ++ rest ≡ more ++ (packet ++ (messages ++ rest))
-regroup more packet messages rest = simp append_assoc
+regroup : (more front packet messages rest : List ℕ) → (more ++ (front ++ (packet ++ messages))) ++ rest ≡ more ++ (front ++ (packet ++ (messages ++ rest)))
+regroup more front packet messages rest = simp append_assoc
 
-pub goes_on : (got mid gets : Option (List ℕ)) (waits put then : List ℕ) (place : ℕ) (ps : List Found) (e : Packet) → (a : IsAt 0 ps place e) → IsPrinting got mid waits place ps
-    → put ≡ waits ++ packet_line e.offset e.header e.count → Carries mid put gets then (message_lines e.before e.header.channel a.packet.messages) → IsPrinting got gets then (place + 1) ps
-goes_on got mid gets waits put then place ps e a g line on = record {
-  more = g.more ++ (packet_line e.offset e.header e.count ++ message_lines e.before e.header.channel a.packet.messages);
-  carried = record {
-    sent = g.carried.sent ++ on.sent;
-    taken = appends_both got mid gets g.carried.sent on.sent g.carried.taken on.taken;
-    kept = append_assoc g.carried.sent on.sent then ∙ ap (λ (l : List ℕ). g.carried.sent ++ l) (on.kept ∙ ap (λ (l : List ℕ). l ++ messages) line ∙ append_assoc waits packet messages)
-        ∙ sym (append_assoc g.carried.sent waits (packet ++ messages)) ∙ ap (λ (l : List ℕ). l ++ (packet ++ messages)) g.carried.kept;
-  };
-  lines = regroup g.more packet messages (packet_lines (total_in (take (place + 1) ps)) (drop (place + 1) ps)) ∙ ap (λ (l : List ℕ). g.more ++ l) here ∙ g.lines;
+-- text that was carried on twice
+pub carries_both : (got mid gets : Option (List ℕ)) (waiting waits then more line : List ℕ) → Carries got waiting mid waits more → Carries mid waits gets then line → Carries got waiting gets then (more ++ line)
+carries_both got mid gets waiting waits then more line a b = record {
+  sent = a.sent ++ b.sent;
+  taken = appends_both got mid gets a.sent b.sent a.taken b.taken;
+  kept = append_assoc a.sent b.sent then ∙ ap (λ (l : List ℕ). a.sent ++ l) b.kept ∙ sym (append_assoc a.sent waits line) ∙ ap (λ (l : List ℕ). l ++ line) a.kept ∙ append_assoc waiting more line;
+}
+
+-- text that was put, and then carried on with more
+pub puts_and_carries : (mid gets : Option (List ℕ)) (waits put then packet messages : List ℕ) → put ≡ waits ++ packet → Carries mid put gets then messages → Carries mid waits gets then (packet ++ messages)
+puts_and_carries mid gets waits put then packet messages line on =
+    record { sent = on.sent; taken = on.taken; kept = on.kept ∙ ap (λ (l : List ℕ). l ++ messages) line ∙ append_assoc waits packet messages }
+
+pub goes_on : (got mid middle gets : Option (List ℕ)) (waits between put then : List ℕ) (place : ℕ) (rest behind skips : List Skip) (ps : List Found) (e : Packet) → (a : IsAt 0 ps place e) → IsPrinting got mid waits place rest skips ps
+    → Carries mid waits middle between (skip_lines (skips_before e.offset rest)) → behind ≡ skips_behind e.offset rest
+    → put ≡ between ++ packet_line e.offset e.header e.count → Carries middle put gets then (message_lines e.before e.header.channel a.packet.messages) → IsPrinting got gets then (place + 1) behind skips ps
+goes_on got mid middle gets waits between put then place rest behind skips ps e a g over left line on = record {
+  more = g.more ++ (front ++ (packet ++ messages));
+  carried = carries_both got mid gets [] waits then g.more (front ++ (packet ++ messages)) g.carried (carries_both mid middle gets waits between then front (packet ++ messages) over (puts_and_carries middle gets between put then packet messages line on));
+  lines = regroup g.more front packet messages (lines_in_order (total_in (take (place + 1) ps)) behind (drop (place + 1) ps)) ∙ ap (λ (l : List ℕ). g.more ++ l) here ∙ g.lines;
 }
   where
+    front : List ℕ
+    front = skip_lines (skips_before e.offset rest)
+
     packet : List ℕ
     packet = packet_line e.offset e.header e.count
 
@@ -110,13 +123,24 @@ goes_on got mid gets waits put then place ps e a g line on = record {
     before : e.before ≡ total_in (take place ps)
     before = omega (arith, a.before)
 
-    here : packet_line e.offset e.header e.count ++ (message_lines e.before e.header.channel a.packet.messages ++ packet_lines (total_in (take (place + 1) ps)) (drop (place + 1) ps)) ≡ packet_lines (total_in (take place ps)) (drop place ps)
-    here = rw (add-one, a.split, a.next, a.offset, a.header, a.count, before) refl
+    here : skip_lines (skips_before e.offset rest) ++ (packet_line e.offset e.header e.count ++ (message_lines e.before e.header.channel a.packet.messages ++ lines_in_order (total_in (take (place + 1) ps)) behind (drop (place + 1) ps)))
+        ≡ lines_in_order (total_in (take place ps)) rest (drop place ps)
+    here = rw (add-one, a.split, a.next, left, a.offset, a.header, a.count, before) refl
 
-pub ends : (got mid gets : Option (List ℕ)) (waits : List ℕ) (place : ℕ) (ps : List Found) → length ps ≤ place → IsPrinting got mid waits place ps → Appends mid gets waits → Appends got gets (dump_text ps)
-ends got mid gets waits place ps past g last =
-    let whole : g.more ≡ dump_text ps = sym (append-nil g.more) ∙ ap (λ (qs : List Found). g.more ++ packet_lines (total_in (take place ps)) qs) (sym (drop_all place ps past)) ∙ g.lines in
-    subst (Appends got gets) (g.carried.kept ∙ whole) (appends_both got mid gets g.carried.sent waits g.carried.taken last)
+pub ends : (got mid middle gets : Option (List ℕ)) (waits last : List ℕ) (place : ℕ) (rest skips : List Skip) (ps : List Found) → length ps ≤ place → IsPrinting got mid waits place rest skips ps
+    → Carries mid waits middle last (skip_lines rest) → Appends middle gets last → Appends got gets (skipping_text skips ps)
+ends got mid middle gets waits last place rest skips ps past g over then =
+    let whole : g.more ++ skip_lines rest ≡ skipping_text skips ps = ap (λ (qs : List Found). g.more ++ lines_in_order (total_in (take place ps)) rest qs) (sym (drop_all place ps past)) ∙ g.lines in
+    let all = carries_both got mid middle [] waits last g.more (skip_lines rest) g.carried over in
+    subst (Appends got gets) (all.kept ∙ whole) (appends_both got middle gets all.sent last all.taken then)
+
+-- where nothing was skipped, the dump is that of the packets
+no_skips : (before : ℕ) (ps : List Found) → lines_in_order before [] ps ≡ packet_lines before ps
+no_skips before [] = refl
+no_skips before (p ∷ ps) = rw (no_skips (before + length p.messages) ps) refl
+
+pub nothing_skipped : (ps : List Found) → skipping_text [] ps ≡ dump_text ps
+nothing_skipped ps = no_skips 0 ps
 
 -- a flush keeps what the writer got
 pub kept : (old mid new : Option (List ℕ)) (text : List ℕ) → Appends old mid text → Keeps mid new → Appends old new text

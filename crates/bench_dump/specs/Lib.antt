@@ -2,3 +2,4 @@ pub mod DumpText
 pub mod Printing
 pub mod Reads
 pub mod FaultText
+pub mod SkippingText

@@ -1,5 +1,5 @@
 -- Text on its way to a writer.
-use Rattle.std.specs.Prelude.{◌≡◌, ℕ, List, ◌++◌, Option, Result, Ok, Err}
+use Rattle.std.specs.Prelude.{◌≡◌, ℕ, Bool, true, false, List, ◌++◌, Option, Result, Ok, Err}
 use Rattle.std.specs.Io.KnownBytes.{Appends}
 use Rattle.ch11_reader.specs.declared.fault.Refusal.{Refusal}
 use Rattle.ch11_reader.specs.Recording.{Found, found_or_none}
@@ -25,3 +25,9 @@ abbrev pub IsOther : DumpFault → Type 0
 IsOther (faults.Refused r) = ⊥
 IsOther faults.Memory = Unit {0}
 IsOther faults.Device = Unit {0}
+
+-- a dump that skips is refused by no recording
+abbrev pub IsAnswerBy : {A : Type 0} → Bool → Result A DumpFault → Result (List Found) Refusal → Type 0
+IsAnswerBy false result read = IsAnswer result read
+IsAnswerBy true (Ok x) read = Unit {0}
+IsAnswerBy true (Err e) read = IsOther e

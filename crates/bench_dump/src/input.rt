@@ -1,5 +1,5 @@
 //! A file read whole.
-ghost use Rattle.std.specs.Prelude.{◌≡◌, ◌+◌, ◌*◌, ◌<◌, ◌≤◌, length, IfOk, IfSome, OnOk};
+ghost use Rattle.std.specs.Prelude.{◌≡◌, ◌+◌, ◌*◌, ◌<◌, ◌≤◌, length, [], IfOk, IfSome, OnOk};
 ghost use Rattle.std.specs.Io.KnownBytes.{IsAtEnd};
 ghost use Rattle.bench_dump.specs.Reads.{IsRead};
 
@@ -35,6 +35,22 @@ fn read_piece<R: Read>(
     }
 }
 
+/// Reads a file to its end behind no bytes yet.
+fn read_to_end<R: Read>(input: &mut R, mut bytes: Vec<u8>) -> Result<Vec<u8>, DumpFault>
+    requires { bytes.items ≡ [] }
+    ensures whole { IfOk result (λ bytes. IfSome (R.remaining input.old) (λ xs. bytes.items ≡ xs)) }
+    ensures end { OnOk result (IsAtEnd (R.remaining input.new)) }
+    ensures few { IfOk result (λ bytes. length bytes.items ≤ READS * PIECE) }
+{
+    let mut piece = [0u8; PIECE];
+    'reads: for _made in 0..READS {
+        if !read_piece(input, &mut piece, &mut bytes)? {
+            return Ok(bytes);
+        }
+    }
+    Err(DumpFault::Device)
+}
+
 /// Reads a file to its end, in at most 1,000,000 reads of up to 65,536 bytes: one more is a device fault,
 /// as an error of the reader is. A read that was interrupted counts and is made again.
 pub fn read_all<R: Read>(alloc: Global, input: &mut R) -> Result<Vec<u8>, DumpFault>
@@ -42,12 +58,16 @@ pub fn read_all<R: Read>(alloc: Global, input: &mut R) -> Result<Vec<u8>, DumpFa
     ensures end { OnOk result (IsAtEnd (R.remaining input.new)) }
     ensures few { IfOk result (λ bytes. length bytes.items ≤ READS * PIECE) }
 {
-    let mut piece = [0u8; PIECE];
-    let mut bytes = Vec::new(alloc);
-    'reads: for _made in 0..READS {
-        if !read_piece(input, &mut piece, &mut bytes)? {
-            return Ok(bytes);
-        }
-    }
-    Err(DumpFault::Device)
+    read_to_end(input, Vec::new(alloc))
+}
+
+/// The same for a file that is said to have so many bytes: room for all of them is asked for at once, before the first is read,
+/// so that a file larger than memory is refused and not read into the last of it. The file may have more bytes or fewer.
+pub fn read_sized<R: Read>(alloc: Global, input: &mut R, size: u64) -> Result<Vec<u8>, DumpFault>
+    ensures whole { IfOk result (λ bytes. IfSome (R.remaining input.old) (λ xs. bytes.items ≡ xs)) }
+    ensures end { OnOk result (IsAtEnd (R.remaining input.new)) }
+    ensures few { IfOk result (λ bytes. length bytes.items ≤ READS * PIECE) }
+{
+    let bytes = Vec::with_capacity(alloc, size as usize)?;
+    read_to_end(input, bytes)
 }

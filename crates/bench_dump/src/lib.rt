@@ -6,7 +6,9 @@ mod fault;
 mod input;
 mod lines;
 mod output;
+mod skips;
 
 pub use fault::DumpFault;
-pub use input::read_all;
+pub use input::{read_all, read_sized};
+pub use lines::put_words;
 pub use output::dump;

@@ -42,7 +42,7 @@ fn digits_of_word(word: u16) -> [u8; 4]
 }
 
 /// Appends a label and a number.
-fn put_number(text: &mut Vec<u8>, label: &[u8], number: u64) -> Result<(), AllocError>
+pub(crate) fn put_number(text: &mut Vec<u8>, label: &[u8], number: u64) -> Result<(), AllocError>
     ensures { OnOk result (text.new.items ≡ text.old.items ++ (label.now ++ decimal number)) }
 {
     let mut buffer = Buffer::new();
@@ -58,8 +58,8 @@ fn put_word(text: &mut Vec<u8>, label: &[u8], word: u16) -> Result<(), AllocErro
     text.extend_from_slice(&digits_of_word(word))
 }
 
-/// Appends bus words, each a space and four digits.
-fn put_words(text: &mut Vec<u8>, words: &[u8]) -> Result<(), AllocError>
+/// Appends bus words, two bytes each with the low one first: a space and four upper-case hexadecimal digits for each.
+pub fn put_words(text: &mut Vec<u8>, words: &[u8]) -> Result<(), AllocError>
     ensures { OnOk result (text.new.items ≡ text.old.items ++ bus_words words.now) }
 {
     let mut rest = words;

@@ -1,16 +1,18 @@
 //! The whole dump, through one buffer.
-ghost use Rattle.std.specs.Prelude.{◌≡◌, ◌+◌, ◌<◌, ◌^◌, length, [], OnOk, IfErr, Err};
+ghost use Rattle.std.specs.Prelude.{◌≡◌, ◌+◌, ◌<◌, ◌^◌, length, false, [], OnOk, IfErr, Err};
 ghost use Rattle.std.specs.Io.KnownBytes.{Appends};
 ghost use Rattle.ch11_reader.specs.declared.fault.Refusal.{Refusal};
 ghost use Rattle.ch11_reader.specs.Recording.{packets_in};
-ghost use Rattle.ch11_reader.specs.Indexed.{found_in};
-ghost use Rattle.bench_dump.specs.DumpText.{dump_text, message_lines};
-ghost use Rattle.bench_dump.specs.Printing.{Carries, IsAnswer, IsOther};
+ghost use Rattle.ch11_reader.specs.Skipping.{packets_read, skips_in};
+ghost use Rattle.bench_dump.specs.DumpText.{message_lines};
+ghost use Rattle.bench_dump.specs.SkippingText.{skipping_text, text_of};
+ghost use Rattle.bench_dump.specs.Printing.{Carries, IsAnswerBy, IsOther};
 
 use crate::fault::DumpFault;
 use crate::lines::{put_message_line, put_packet_line};
+use crate::skips::{dump_skips, dump_skips_before};
 use ch11_f1::Messages;
-use ch11_reader::{Index, ReadError};
+use ch11_reader::{Index, ReadError, Skip};
 use std::alloc::Global;
 use std::io::Write;
 
@@ -18,7 +20,7 @@ use std::io::Write;
 const PIECE: usize = 65536;
 
 /// Hands the text on to the writer where it is long enough.
-fn hand_on<W: Write>(text: &mut Vec<u8>, out: &mut W) -> Result<(), DumpFault>
+pub(crate) fn hand_on<W: Write>(text: &mut Vec<u8>, out: &mut W) -> Result<(), DumpFault>
     ensures handed { OnOk result (Carries (W.contents out.old) text.old.items (W.contents out.new) text.new.items []) }
     ensures failed { IfErr result IsOther }
 {
@@ -52,29 +54,52 @@ fn dump_messages<W: Write>(
 }
 
 /// Prints a recording: a line for each packet, and behind it a line for each of its messages, numbered from
-/// 1 over the file. A recording that can't be read is refused with its first fault, and nothing is printed.
-pub fn dump<W: Write>(alloc: Global, bytes: &[u8], out: &mut W) -> Result<(), DumpFault>
-    ensures answer { IsAnswer result (packets_in bytes.now) }
-    ensures printed { OnOk result (Appends (W.contents out.old) (W.contents out.new) (dump_text (found_in bytes.now))) }
-    ensures refused { (r : Refusal) → packets_in bytes.now ≡ Err r → out.new ≡ out.old }
+/// 1 over the file. A recording that can't be read is refused with its first fault, and nothing is printed; but
+/// with `skip` it is read as far as it is sound, and a line for each skip stands among the others in the order of
+/// their offsets.
+pub fn dump<W: Write>(alloc: Global, bytes: &[u8], out: &mut W, skip: bool) -> Result<(), DumpFault>
+    ensures answer { IsAnswerBy skip result (packets_in bytes.now) }
+    ensures printed { OnOk result (Appends (W.contents out.old) (W.contents out.new) (text_of skip bytes.now)) }
+    ensures refused { (r : Refusal) → skip ≡ false → packets_in bytes.now ≡ Err r → out.new ≡ out.old }
 {
+    if skip {
+        return dump_skipping(alloc, bytes, out);
+    }
     let index = match Index::build(alloc, bytes) {
         Ok(index) => index,
         Err(ReadError::Refused(refusal)) => return Err(DumpFault::Refused(refusal)),
         Err(ReadError::Memory) => return Err(DumpFault::Memory),
     };
-    dump_index(alloc, &index, out)
+    dump_index(alloc, &index, &[], out)
 }
 
-/// Prints the packets of a recording that was read.
-fn dump_index<W: Write>(alloc: Global, index: &Index<'_>, out: &mut W) -> Result<(), DumpFault>
-    ensures printed { OnOk result (Appends (W.contents out.old) (W.contents out.new) (dump_text index.now)) }
+/// Prints whatever is sound in a recording.
+fn dump_skipping<W: Write>(alloc: Global, bytes: &[u8], out: &mut W) -> Result<(), DumpFault>
+    ensures printed { OnOk result (Appends (W.contents out.old) (W.contents out.new) (skipping_text (skips_in bytes.now) (packets_read bytes.now))) }
+    ensures failed { IfErr result IsOther }
+{
+    match Index::build_skipping(alloc, bytes) {
+        Ok(found) => dump_index(alloc, &found.index, &found.skips, out),
+        Err(_) => Err(DumpFault::Memory),
+    }
+}
+
+/// Prints the packets of a recording that was read, and the skips among them.
+fn dump_index<W: Write>(
+    alloc: Global,
+    index: &Index<'_>,
+    skips: &[Skip],
+    out: &mut W,
+) -> Result<(), DumpFault>
+    ensures printed { OnOk result (Appends (W.contents out.old) (W.contents out.new) (skipping_text skips.now index.now)) }
     ensures failed { IfErr result IsOther }
 {
     let mut text = Vec::new(alloc);
     let packets = index.packets();
+    let mut rest = skips;
     'packets: for place in 0..packets.len() {
         let packet = &packets[place];
+        rest = dump_skips_before(&mut text, out, rest, packet.offset)?;
         put_packet_line(&mut text, packet)?;
         dump_messages(
             &mut text,
@@ -84,6 +109,7 @@ fn dump_index<W: Write>(alloc: Global, index: &Index<'_>, out: &mut W) -> Result
             index.messages_in(place),
         )?;
     }
+    dump_skips(&mut text, out, rest)?;
     out.write_all(&text)?;
     out.flush()?;
     Ok(())

@@ -13,7 +13,7 @@ pub struct Counts {
     /// How many packets were written behind the prologue.
     pub packets: u64,
     /// How many messages of all channels together are in them: those that were made, but for those that a full queue refused.
-    /// At most 2^64 - 1; a run makes 8,000,000 at most.
+    /// At most 2^64 - 1; a run makes 32,000,000 at most.
     pub messages: u64,
 }
 

@@ -16,7 +16,7 @@ use std::sync::Wait;
 use std::thread::Threads;
 
 /// Runs the jobs, each on a thread of its own, while the calling thread writes their messages into one recording; the queue
-/// alone orders the threads. In order: U2 where there are not 1 to 8 jobs or a setting is out of its range, U1 where a channel
+/// alone orders the threads. In order: U2 where there are not 1 to 32 jobs or a setting is out of its range, U1 where a channel
 /// stands twice, U5 where the prologue is no list of sound packets or has one of MIL-STD-1553 messages, U3 where memory or a
 /// thread is refused, U4 where the sink fails. Each hands the sink back; U2, U1 and U5 put nothing into it.
 pub fn record_jobs<R: Threads + Wait + Sync, S: Sink + Drop>(

@@ -92,7 +92,7 @@ one_step done (Named c) (line.Placed x) some = cc
 one_step done (Body p) (line.Placed x) some = placed_step done p x some
 one_step done (End k) (line.Placed x) some = cc
 
-next_lines : (d d' : Draft) (l : Line) → with_line d l ≡ Some d' → draft_lines d' ≡ draft_lines d ++ l ∷ []
+pub next_lines : (d d' : Draft) (l : Line) → with_line d l ≡ Some d' → draft_lines d' ≡ draft_lines d ++ l ∷ []
 next_lines d d' l is =
     let some : IsSome (with_line d l) = rw is refl in
     let says : lines_or_none (with_line d l) ≡ draft_lines d' = rw is refl in

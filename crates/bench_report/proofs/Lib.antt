@@ -5,3 +5,5 @@ pub mod PrintLemmas
 pub mod Drafted
 pub mod Taken
 pub mod PrintedSpells
+pub mod FirstFaults
+pub mod ReadLines

@@ -7,7 +7,8 @@ use Rattle.std.proofs.lemmas.List.{map-append}
 use Rattle.std.proofs.lemmas.List.Elements.{All-tail}
 use Rattle.bc_machine.specs.declared.placed.Placed.{Placed}
 use Rattle.mil_host.specs.Words.{Text}
-use Rattle.bench_report.specs.Reports.{ChannelPart, RunReport, IsPart, IsReport, Rises, NeverFalls}
+use Rattle.bench_report.specs.Reports.{ChannelPart, RunReport, IsReport, Rises, NeverFalls}
+use Rattle.bench_report.specs.Faults.{IsInOrder}
 use Rattle.bench_report.specs.Lines.{said}
 use Rattle.bench_report.specs.Spelling.{part_lines, report_lines, text_lines, Spells}
 use Rattle.bench_report.specs.Drafts.{Draft, no_lines, with_line, with_lines, option_bind, closed, made_of, last_number, numbers}
@@ -16,7 +17,7 @@ use Rattle.bench_report.specs.declared.lines.Line.TheVariants as line
 use Rattle.bench_report.specs.declared.stages.Stage.TheVariants.{Body, End}
 
 -- a draft with more lines
-abbrev with_all : List Line → Draft → Option Draft
+abbrev pub with_all : List Line → Draft → Option Draft
 with_all [] d = Some d
 with_all (l ∷ ls) d = option_bind (with_line d l) (with_all ls)
 
@@ -29,7 +30,7 @@ tail_of [] = []
 tail_of (x ∷ xs) = xs
 
 -- texts that say lines are taken in as these
-texts_as_lines : (texts : List Text) (ls : List Line) (d : Draft) → map said texts ≡ map Some ls → with_lines texts d ≡ with_all ls d
+pub texts_as_lines : (texts : List Text) (ls : List Line) (d : Draft) → map said texts ≡ map Some ls → with_lines texts d ≡ with_all ls d
 texts_as_lines [] [] d are = refl
 texts_as_lines [] (l ∷ ls) d are = cc
 texts_as_lines (text ∷ texts) [] d are = cc
@@ -42,7 +43,7 @@ texts_as_lines (text ∷ texts) (l ∷ ls) d are =
     go None same = refl
     go (Some e) same = same e
 
-all-append : (xs ys : List Line) (d e : Draft) → with_all xs d ≡ Some e → with_all (xs ++ ys) d ≡ with_all ys e
+pub all-append : (xs ys : List Line) (d e : Draft) → with_all xs d ≡ Some e → with_all (xs ++ ys) d ≡ with_all ys e
 all-append [] ys d e is = ap (λ (m : Option Draft). option_bind m (with_all ys)) is
 all-append (x ∷ xs) ys d e is = go (with_line d x) is (λ f. all-append xs ys f e)
   where
@@ -79,13 +80,13 @@ all_placed done channel made refused before (p ∷ ps) order =
     rw at_least (all_placed done channel made refused (before ++ p ∷ []) ps later ∙ (rw (append_assoc before (p ∷ []) ps) refl))
 
 -- the lines of a channel, where they may begin
-one_part : (d : Draft) (done : List ChannelPart) (p : ChannelPart) → closed d.done d.stage ≡ Some done → IsPart p
+one_part : (d : Draft) (done : List ChannelPart) (p : ChannelPart) → closed d.done d.stage ≡ Some done → IsInOrder p
     → with_all (part_lines p) d ≡ Some (record { done = done; stage = Body p })
 one_part d done p free is =
     rw free
     (all-append (map line.Refused p.refused) (map line.Placed p.placed) (in_part done p.channel p.made [] []) (in_part done p.channel p.made p.refused [])
     (all_refused done p.channel p.made [] p.refused is.refused)
-    ∙ all_placed done p.channel p.made p.refused [] p.placed is.order)
+    ∙ all_placed done p.channel p.made p.refused [] p.placed is.placed)
 
 -- a draft behind the lines of channels
 record IsBehind (ps : List ChannelPart) (d : Draft) (done : List ChannelPart) : Type 0 where
@@ -93,25 +94,29 @@ record IsBehind (ps : List ChannelPart) (d : Draft) (done : List ChannelPart) : 
   taken : with_all (flat_map part_lines ps) d ≡ Some draft
   free : closed draft.done draft.stage ≡ Some (done ++ ps)
 
-all_parts : (ps : List ChannelPart) (d : Draft) (done : List ChannelPart) → closed d.done d.stage ≡ Some done → All IsPart ps → IsBehind ps d done
+all_parts : (ps : List ChannelPart) (d : Draft) (done : List ChannelPart) → closed d.done d.stage ≡ Some done → All IsInOrder ps → IsBehind ps d done
 all_parts [] d done free are = record { draft = d; taken = refl; free = rw (append-nil done) free }
 all_parts (p ∷ ps) d done free are =
-    let behind = all_parts ps (record { done = done; stage = Body p }) (done ++ p ∷ []) refl (All-tail IsPart p ps are) in
+    let behind = all_parts ps (record { done = done; stage = Body p }) (done ++ p ∷ []) refl (All-tail IsInOrder p ps are) in
     record {
       draft = behind.draft;
       taken = all-append (part_lines p) (flat_map part_lines ps) d (record { done = done; stage = Body p }) (one_part d done p free (are 0 p (omega arith))) ∙ behind.taken;
       free = rw (append_assoc done (p ∷ []) ps) at behind.free;
     }
 
-all_lines : (r : RunReport) → IsReport r → with_all (report_lines r) no_lines ≡ Some (record { done = r.channels; stage = End r.packets })
+pub all_lines : (r : RunReport) → All IsInOrder r.channels → with_all (report_lines r) no_lines ≡ Some (record { done = r.channels; stage = End r.packets })
 all_lines r is =
-    let behind = all_parts r.channels no_lines [] refl is.parts in
+    let behind = all_parts r.channels no_lines [] refl is in
     all-append (flat_map part_lines r.channels) (line.Packets r.packets ∷ []) no_lines behind.draft behind.taken ∙ (rw behind.free refl)
+
+-- the channels of a report are in order
+pub report_in_order : (r : RunReport) → IsReport r → All IsInOrder r.channels
+report_in_order r is = λ k d within. record { refused = (is.parts k d within).refused; placed = (is.parts k d within).order }
 
 -- a text that spells a report makes it
 pub made : (text : Text) (r : RunReport) → IsReport r → Spells text r → made_of text ≡ Some r
 unfolding Spells
-made text r is spells = rw (texts_as_lines (text_lines text) (report_lines r) no_lines spells, all_lines r is) refl
+made text r is spells = rw (texts_as_lines (text_lines text) (report_lines r) no_lines spells, all_lines r (report_in_order r is)) refl
 
 -- a text that makes no report spells none
 pub spells_none : (text : Text) → made_of text ≡ None → (r : RunReport) → IsReport r → Spells text r → ⊥

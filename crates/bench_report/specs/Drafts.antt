@@ -1,10 +1,11 @@
 -- A report as far as its lines have come, and one more line (inside the crate).
-use Rattle.std.specs.Prelude.{◌≡◌, ℕ, ◌≤◌, Bool, true, false, ◌&&◌, nat_le, nat_lt, if◌then◌else◌, List, [], ◌∷◌, ◌++◌, map, Option, Some, None, Result, Ok, Err}
+use Rattle.std.specs.Prelude.{◌≡◌, ℕ, ◌≤◌, Bool, true, false, ◌&&◌, nat_le, nat_lt, if◌then◌else◌, List, [], ◌∷◌, ◌++◌, map, Option, Some, None, IsSome, Result, Ok, Err}
 use Rattle.bc_machine.specs.declared.placed.Placed.{Placed}
-use Rattle.mil_host.specs.Words.{Text}
+use Rattle.mil_host.specs.Words.{Text, words}
 use Rattle.bench_report.specs.Reports.{ChannelPart, RunReport}
 use Rattle.bench_report.specs.Lines.{said}
 use Rattle.bench_report.specs.Spelling.{text_lines}
+use Rattle.bench_report.specs.Faults.{are_line_words}
 use Rattle.bench_report.specs.declared.fault.ReportFault.{ReportFault}
 use Rattle.bench_report.specs.declared.fault.ReportFault.TheVariants as fault
 use Rattle.bench_report.specs.declared.lines.Line.{Line}
@@ -124,10 +125,32 @@ IsRefusal fault.Number = Unit {0}
 IsRefusal fault.Order = Unit {0}
 IsRefusal fault.Memory = ⊥
 
--- what a call answers that takes something in: the new value, or that there is none, but for want of memory
+-- what a call answers that takes something in: the new value; or that it has no place, or that it has one and memory was refused
 abbrev pub Takes : {X U : Type 0} → Result U ReportFault → Option X → X → Type 0
 Takes (Ok u) after new = after ≡ Some new
-Takes (Err fault) after new = IsRefusal fault → after ≡ None
+Takes (Err fault.Word) after new = ⊥
+Takes (Err fault.Number) after new = ⊥
+Takes (Err fault.Order) after new = after ≡ None
+Takes (Err fault.Memory) after new = IsSome after
+
+-- what is wrong with the words of a line, or with a number of it
+abbrev pub IsBad : Bool → ReportFault → Type 0
+IsBad well fault.Word = well ≡ false
+IsBad well fault.Number = well ≡ true
+IsBad well fault.Order = ⊥
+IsBad well fault.Memory = ⊥
+
+-- what is wrong with a line behind a draft
+abbrev pub IsRefusedLine : Draft → Text → ReportFault → Type 0
+IsRefusedLine d text fault.Word = (are_line_words (words text) ≡ false) × (said text ≡ None)
+IsRefusedLine d text fault.Number = (are_line_words (words text) ≡ true) × (said text ≡ None)
+IsRefusedLine d text fault.Order = IsSome (said text) × (with_said d (said text) ≡ None)
+IsRefusedLine d text fault.Memory = IsSome (with_said d (said text))
+
+-- what a call answers that takes in the line of a text
+abbrev pub TakesText : {U : Type 0} → Result U ReportFault → Text → Draft → Draft → Type 0
+TakesText (Ok u) text d new = with_said d (said text) ≡ Some new
+TakesText (Err fault) text d new = IsRefusedLine d text fault
 
 -- what a call answers that reads
 abbrev pub Reads : {X Y : Type 0} → (X → Y) → Result X ReportFault → Option Y → Type 0

@@ -1,7 +1,8 @@
 //! A report as far as its lines have come.
-ghost use Rattle.std.specs.Prelude.{◌≡◌};
+ghost use Rattle.std.specs.Prelude.{◌≡◌, IfErr};
+ghost use Rattle.bench_report.specs.declared.fault.ReportFault.TheVariants.{Order};
 ghost use Rattle.bench_report.specs.Lines.{IsLine, said};
-ghost use Rattle.bench_report.specs.Drafts.{Takes, Reads, no_lines, closed, made_line, refused_line, placed_line, with_line, with_said, finished};
+ghost use Rattle.bench_report.specs.Drafts.{Takes, TakesText, Reads, no_lines, closed, made_line, refused_line, placed_line, with_line, finished};
 
 use crate::channels::ChannelReport;
 use crate::fault::ReportFault;
@@ -44,7 +45,7 @@ impl Draft {
 
     /// The line of a text.
     pub fn take_text(&mut self, text: &[u8]) -> Result<(), ReportFault>
-        ensures { Takes result (with_said self.old (said text.now)) self.new }
+        ensures { TakesText result text.now self.old self.new }
     {
         let line = read_line(text)?;
         self.take(line)
@@ -100,7 +101,8 @@ impl Draft {
 
     /// The report, once its last line has come.
     pub fn finish(self) -> Result<Report, ReportFault>
-        ensures { Reads (λ r. r) result (finished self) }
+        ensures value { Reads (λ r. r) result (finished self) }
+        ensures order { IfErr result (λ f. f ≡ Order) }
     {
         match self.stage {
             Stage::End(packets) => Ok(Report::make(self.done, packets)),

@@ -1,9 +1,10 @@
 //! The lines of a report.
-ghost use Rattle.std.specs.Prelude.{◌≡◌, ◌≤◌, IfOk};
+ghost use Rattle.std.specs.Prelude.{◌≡◌, ◌≤◌, IfOk, IfErr};
 ghost use Rattle.mil_host.specs.Words.{words};
 ghost use Rattle.bench_report.specs.Lines.{placed_in, said, IsLine};
 ghost use Rattle.bench_report.specs.Reports.{IsPlaced};
-ghost use Rattle.bench_report.specs.Drafts.{Reads};
+ghost use Rattle.bench_report.specs.Faults.{are_line_words, are_placed_words};
+ghost use Rattle.bench_report.specs.Drafts.{Reads, IsBad};
 
 use crate::fault::ReportFault;
 use crate::numbers::{number, only_number_in};
@@ -30,6 +31,7 @@ pub enum Line {
 fn read_placed(rest: &[u8]) -> Result<Placed, ReportFault>
     ensures value { Reads Line.Placed result (placed_in (words rest.now)) }
     ensures range { IfOk result IsPlaced }
+    ensures fault { IfErr result (λ f. IsBad (are_placed_words (words rest.now)) f) }
 {
     let Some((number_word, behind)) = next_word(rest) else {
         return Err(ReportFault::Word);
@@ -55,6 +57,7 @@ fn read_placed(rest: &[u8]) -> Result<Placed, ReportFault>
 pub fn read_line(text: &[u8]) -> Result<Line, ReportFault>
     ensures value { Reads (λ l. l) result (said text.now) }
     ensures range { IfOk result IsLine }
+    ensures fault { IfErr result (λ f. IsBad (are_line_words (words text.now)) f) }
 {
     let Some((word, rest)) = next_word(text) else {
         return Err(ReportFault::Word);

@@ -1,10 +1,12 @@
 //! Numbers in the lines of a report.
-ghost use Rattle.std.specs.Prelude.{◌≡◌, ◌≤◌, ◌<◌, true, length, IfOk};
+ghost use Rattle.std.specs.Prelude.{◌≡◌, ◌≤◌, ◌<◌, true, length, IfOk, IfErr};
 ghost use Rattle.std.specs.Str.Parse.{digits_value};
 ghost use Rattle.mil_host.specs.Reading.{are_digits};
 ghost use Rattle.mil_host.specs.Words.{words};
 ghost use Rattle.bench_report.specs.Lines.{number_of, only_number};
-ghost use Rattle.bench_report.specs.Drafts.{Reads};
+ghost use Rattle.bench_report.specs.Faults.{is_one_word};
+ghost use Rattle.bench_report.specs.Drafts.{Reads, IsBad};
+ghost use Rattle.bench_report.specs.declared.fault.ReportFault.TheVariants.{Number};
 
 use crate::fault::ReportFault;
 use mil_host::next_word;
@@ -34,6 +36,7 @@ pub fn number(word: &[u8], most: usize, low: u64, high: u64) -> Result<u64, Repo
     requires { most ≤ 10 }
     ensures value { Reads (λ n. n) result (number_of most low high word.now) }
     ensures range { IfOk result (λ n. (low ≤ n) × (n ≤ high)) }
+    ensures fault { IfErr result (λ f. f ≡ Number) }
 {
     if !(all_digits(word) && 1 <= word.len() && word.len() <= most) {
         return Err(ReportFault::Number);
@@ -51,6 +54,7 @@ pub fn only_number_in(rest: &[u8], most: usize, low: u64, high: u64) -> Result<u
     requires { most ≤ 10 }
     ensures value { Reads (λ n. n) result (only_number most low high (words rest.now)) }
     ensures range { IfOk result (λ n. (low ≤ n) × (n ≤ high)) }
+    ensures fault { IfErr result (λ f. IsBad (is_one_word (words rest.now)) f) }
 {
     let Some((word, behind)) = next_word(rest) else {
         return Err(ReportFault::Word);

@@ -2,6 +2,7 @@
 ghost use Rattle.std.specs.Prelude.{◌≡◌, IfOk, IfErr};
 ghost use Rattle.bench_report.specs.Reports.{RunReport, IsReport};
 ghost use Rattle.bench_report.specs.Spelling.{Spells};
+ghost use Rattle.bench_report.specs.Faults.{IsFirstFault};
 ghost use Rattle.bench_report.specs.Drafts.{IsRefusal};
 
 use crate::drafts::Draft;
@@ -16,6 +17,7 @@ use std::alloc::Global;
 pub fn read_report(alloc: Global, text: &[u8]) -> Result<Report, ReportError>
     ensures spelled { IfOk result (λ r. Spells text.now r) }
     ensures refused { IfErr result (λ e. IsRefusal e.fault → (r : RunReport) → IsReport r → Spells text.now r → ⊥) }
+    ensures first { IfErr result (λ e. IsFirstFault text.now e.fault e.line) }
 {
     let mut draft = Draft::empty(alloc);
     let mut rest = text;

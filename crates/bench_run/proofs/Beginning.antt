@@ -34,7 +34,7 @@ no_bound (j ∷ jobs) (suc t) high = no_bound jobs t (omega (arith, high))
 
 -- where all that was sent was received, each job's part is known
 pub all_got : (capacity queue : ℕ) (jobs : List JobState) (parts : List ChannelPart) (sent got : List Entry) (bounds : List ℕ)
-    → capacity ≡ queue → length jobs ≤ 8 → bounds ≡ map most_items jobs
+    → capacity ≡ queue → length jobs ≤ 32 → bounds ≡ map most_items jobs
     → ArePairs (IsCountedIn capacity jobs) jobs parts → AreJoined capacity sent jobs parts
     → ((t : ℕ) → t < 64 → with_tag index_of t sent ≡ with_tag index_of t got)
     → ((t : ℕ) → bound_of bounds t ≡ 0 → with_tag index_of t got ≡ [])

@@ -177,7 +177,7 @@ module _ (capacity : ℕ) (jobs : List JobState) (parts : List ChannelPart) (got
       let p = pair_at (IsCountedIn capacity jobs) jobs parts t all.counted (omega (arith, low, length-map jobs (λ (j : JobState). j.channel))) in
       subst (AreOrdered 0) (sym (sent_is t p.0 p.1 p.2 p.3)) (kept_ordered (p.1).refused (records_of p.0) (all_small (records_of p.0) (p.4).recorded)))
 
-  -- no more was received than eight channels can send
+  -- no more was received than the channels can send
   abbrev tops : List JobState → List ℕ
   tops js = map (λ (j : JobState). 1000001) js
 

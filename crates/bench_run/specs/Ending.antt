@@ -32,6 +32,6 @@ pub record IsReady (capacity : ℕ) (jobs : List JobState) (shared : Shared) (ow
   pub tags : (t : ℕ) → t < 64 → has (tags_of own.ticket) t ≡ true
   pub bounds : bounds_of own.ticket ≡ map most_items jobs
   pub taker_bounds : bounds_in own.taker ≡ map most_items jobs
-  pub few : most_in_all jobs ≤ 8000008
+  pub few : most_in_all jobs ≤ 32000032
   pub rooms : ArePairs IsRoom jobs own.rooms.items
   pub channels : shared.channels.items ≡ channels_of jobs

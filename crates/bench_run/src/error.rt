@@ -5,7 +5,7 @@ use std::fmt::{self, Display, Formatter, Write};
 /// Why a run gave no recording; each fault hands the sink back.
 #[derive(Drop)]
 pub enum RunError<S> {
-    /// U2: there is no job or more than 8, or a setting is out of its range. Nothing was put into the sink.
+    /// U2: there is no job or more than 32, or a setting is out of its range. Nothing was put into the sink.
     Settings { sink: S },
     /// U1: two jobs have the same channel. Nothing was put into the sink.
     ChannelTwice { sink: S },

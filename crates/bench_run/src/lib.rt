@@ -6,6 +6,8 @@ mod channel;
 mod entry;
 mod error;
 mod gate;
+mod mail_error;
+mod mailbox;
 mod ready;
 mod running;
 mod threads;
@@ -13,4 +15,6 @@ mod writer;
 
 pub use error::RunError;
 pub use gate::{Gate, OpenGate};
+pub use mail_error::{MailError, PostError};
+pub use mailbox::{Inbox, Mailbox, Post, Poster};
 pub use running::run;

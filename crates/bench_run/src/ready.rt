@@ -28,7 +28,7 @@ pub(crate) struct Own {
 
 /// All that a run needs, but for its recorder and the lists of its threads. All memory of the threads is taken here.
 pub(crate) fn ready(alloc: Global, jobs: &[Job], queue: u32) -> Result<(Shared, Own), AllocError>
-    requires few { length jobs.now ≤ 8 }
+    requires few { length jobs.now ≤ 32 }
     ensures { IfOk result (λ r. IsReady queue jobs.now r.0 r.1) }
 {
     let bounds = bounds(alloc, jobs)?;

@@ -185,7 +185,7 @@ fn run_ready<R: Threads + Wait + Sync, G: Gate, S: Sink + Drop>(
 }
 
 /// Runs the jobs, each on a thread of its own, while the calling thread writes their messages into one recording. In order: U2
-/// where there are not 1 to 8 jobs or a setting is out of its range, U1 where a channel stands twice, U5 where the prologue is no
+/// where there are not 1 to 32 jobs or a setting is out of its range, U1 where a channel stands twice, U5 where the prologue is no
 /// list of sound packets or has one of MIL-STD-1553 messages, U3 where memory or a thread is refused, U4 where the sink fails. Each
 /// hands the sink back; U2, U1 and U5 put nothing into it. After a fault of the sink, or where a thread cannot be started, the
 /// channels that were started run to their ends.

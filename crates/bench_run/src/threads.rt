@@ -135,7 +135,7 @@ pub(crate) fn start_all<'s, E, R: Wait + Sync, G: Gate>(
 ) -> Vec<PromisedHandle<Ended, Offers<'s>>>
     requires ticket { IsTicketOf trunk.now rest.old × (sent rest.old ≡ []) }
     requires tags { (t : ℕ) → t < 64 → has (tags_of rest.old) t ≡ true }
-    requires few { length jobs.now ≤ 8 }
+    requires few { length jobs.now ≤ 32 }
     requires bounds { bounds_of rest.old ≡ map most_items jobs.now }
     requires rooms { ArePairs IsRoom jobs.now rooms.items }
     requires handles { (handles.items ≡ []) × (length jobs.now ≤ vec_capacity handles) }

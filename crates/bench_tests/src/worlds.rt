@@ -271,7 +271,7 @@ fn are_refused(rt: &impl Abort, alloc: Global, texts: &[&str], wanted: WorldErro
 fn what_is_not_run(rt: HostRuntime) {
     let alloc = rt.alloc();
     are_refused(&rt, alloc, &[], WorldError::Settings);
-    are_refused(&rt, alloc, &[ONE_MESSAGE; 9], WorldError::Settings);
+    are_refused(&rt, alloc, &[ONE_MESSAGE; 33], WorldError::Settings);
     let twice = &[ONE_MESSAGE, ONE_MESSAGE];
     are_refused(&rt, alloc, twice, WorldError::ChannelTwice);
     is_out_of_range(&rt, alloc, 255, 1, 65_536);

@@ -21,7 +21,7 @@ from_front : (n i : ℕ) (xs r : List ℕ) → i + n ≤ length xs → little_fr
 from_front zero i xs r le = refl
 from_front (suc n) i xs r le = rw (get_or_append_left xs r 0 i (omega (arith, le)), from_front n (suc i) xs r (omega (arith, le))) refl
 
-number_front : (place size : ℕ) (xs r : List ℕ) → place + size ≤ length xs → number_at place size (xs ++ r) ≡ number_at place size xs
+pub number_front : (place size : ℕ) (xs r : List ℕ) → place + size ≤ length xs → number_at place size (xs ++ r) ≡ number_at place size xs
 number_front place size xs r le =
     rw (drop-append-le place xs r (omega (arith, le))) (from_front size 0 (drop place xs) r (omega (arith, le, length-drop place xs)))
 
@@ -153,15 +153,15 @@ packet_front bytes r h is =
 
 -- ---- packets
 
-abbrev found_at : ℕ → Header → List ℕ → Found
+abbrev pub found_at : ℕ → Header → List ℕ → Found
 found_at offset h bytes = record { offset = offset; header = h; messages = messages_of h bytes }
 
-record IsFirst (most offset : ℕ) (bytes : List ℕ) (ps : List Found) : Type 0 where
-  header : Header
-  others : List Found
-  is : packet_at bytes ≡ Ok header
-  behind : packets_from most (offset + header.packet_length) (drop header.packet_length bytes) ≡ Ok others
-  all : ps ≡ found_at offset header bytes ∷ others
+pub record IsFirst (most offset : ℕ) (bytes : List ℕ) (ps : List Found) : Type 0 where
+  pub header : Header
+  pub others : List Found
+  pub is : packet_at bytes ≡ Ok header
+  pub behind : packets_from most (offset + header.packet_length) (drop header.packet_length bytes) ≡ Ok others
+  pub all : ps ≡ found_at offset header bytes ∷ others
 
 pub ok_same : {A E : Type 0} (x y : A) (r : Result A E) → r ≡ Ok x → r ≡ Ok y → x ≡ y
 ok_same x y r a b = cc
@@ -179,7 +179,7 @@ first_found : (most offset : ℕ) (bytes : List ℕ) (ps : List Found) (read : R
 first_found most offset bytes ps (Err e) at is = cc
 first_found most offset bytes ps (Ok h) at is = rest_found most offset bytes h ps _ refl at is
 
-first_of : (most offset b : ℕ) (bs : List ℕ) (ps : List Found) → packets_from (suc most) offset (b ∷ bs) ≡ Ok ps → IsFirst most offset (b ∷ bs) ps
+pub first_of : (most offset b : ℕ) (bs : List ℕ) (ps : List Found) → packets_from (suc most) offset (b ∷ bs) ≡ Ok ps → IsFirst most offset (b ∷ bs) ps
 unfolding packets_from
 first_of most offset b bs ps is = first_found most offset (b ∷ bs) ps (packet_at (b ∷ bs)) refl is
 
@@ -189,7 +189,7 @@ from_first : (most offset b : ℕ) (bs : List ℕ) (h : Header) (others : List F
 unfolding packets_from
 from_first most offset b bs h others at behind = rw (at, behind) refl
 
-nothing_found : (most offset : ℕ) (ps : List Found) → packets_from most offset [] ≡ Ok ps → ps ≡ []
+pub nothing_found : (most offset : ℕ) (ps : List Found) → packets_from most offset [] ≡ Ok ps → ps ≡ []
 unfolding packets_from
 nothing_found zero offset ps is = cc
 nothing_found (suc most) offset ps is = cc

@@ -1,5 +1,5 @@
 -- Reading packets one after the other.
-use Rattle.std.proofs.Common.{◌≡◌, ◌≢◌, ◌⊎◌, inl, inr, ℕ, zero, suc, ◌-◌, ◌+◌, ◌≤◌, ◌<◌, Bool, true, false, eqb, eq-eqb, List, [], ◌∷◌, ◌++◌, length, drop, map, set, replicate, Option, None, Some, get_or, Result, Ok, Err, refl, sym, ap, ◌∙◌, append_assoc, arith}
+use Rattle.std.proofs.Common.{◌≡◌, ◌≢◌, ◌⊎◌, inl, inr, ℕ, zero, suc, ◌-◌, ◌+◌, ◌≤◌, ◌<◌, Bool, true, false, eqb, eq-eqb, List, [], ◌∷◌, ◌++◌, length, drop, set, replicate, Option, None, Some, get_or, Result, Ok, Err, refl, sym, ap, ◌∙◌, append_assoc, arith}
 use Rattle.std.proofs.lemmas.Bool.{cases_eq, ne_eqb}
 use Rattle.std.proofs.lemmas.List.{append-nil, length-drop, length-set, length-replicate, drop-drop, get_or-replicate, get_or-set_same, get_or-set_other, map_push}
 use Rattle.ch11_header.specs.HeaderReading.{body_start}
@@ -7,10 +7,10 @@ use Rattle.ch11_header.specs.declared.header.Header.{Header}
 use Rattle.ch11_reader.specs.declared.fault.Fault.{Fault}
 use Rattle.ch11_reader.specs.declared.fault.Refusal.{Refusal}
 use Rattle.ch11_reader.specs.declared.packet.Packet.{Packet}
-use Rattle.ch11_reader.specs.Recording.{◌>>=◌, Found, messages_of, packet_at, packets_from, packets_in, found_or_none}
+use Rattle.ch11_reader.specs.Recording.{◌>>=◌, Found, messages_of, packet_at, packets_from, packets_in}
 use Rattle.ch11_reader.specs.Contents.{total_in}
 use Rattle.ch11_reader.specs.Listing.{jumps, latest_sequence, listed_behind, listing_behind, listing}
-use Rattle.ch11_reader.specs.Indexed.{AreWithin, IsIndex, found_in, found_of}
+use Rattle.ch11_reader.specs.Indexed.{AreWithin, IsIndex, found_of, indexed}
 
 -- earlier packets, newest first, and then others
 abbrev pub in_order : List Found → List Found → List Found
@@ -101,22 +101,28 @@ ends file [] earlier none g = go g.most g.so_far
 
 -- ---- the entries
 
--- the bytes that are left, the entries so far and the latest sequence numbers fit the packets read so far
-pub record Building (file rest : List ℕ) (entries : List Packet) (before : ℕ) (latest : List (Option ℕ)) : Type 0 where
-  pub earlier : List Found
-  pub going : Going file rest earlier
+-- the bytes that are left, the entries so far and the latest sequence numbers fit the packets so far, newest first
+pub record Entered (file rest : List ℕ) (earlier : List Found) (entries : List Packet) (before : ℕ) (latest : List (Option ℕ)) : Type 0 where
+  pub shorter : length rest ≤ length file
+  pub place : rest ≡ drop (length file - length rest) file
   pub listed : (ps : List Found) → listing (in_order earlier ps) ≡ entries ++ listing_behind earlier ps
   pub counted : before ≡ total_in earlier
   pub few : before ≤ length file - length rest
   pub sequences : (channel : ℕ) → channel < 65536 → get_or latest channel None ≡ latest_sequence channel earlier
   pub table : length latest ≡ 65536
-  pub found : (ps : List Found) → in_order earlier ps ≡ map (found_of file) entries ++ ps
+  pub found : (ps : List Found) → in_order earlier ps ≡ indexed file entries ++ ps
   pub within : AreWithin file entries
 
-pub starts : (file : List ℕ) (latest : List (Option ℕ)) → latest ≡ replicate 65536 None → Building file file [] 0 latest
-starts file latest none = record {
-  earlier = [];
-  going = begins file;
+-- the entries are those of the packets read so far
+pub record Building (file rest : List ℕ) (entries : List Packet) (before : ℕ) (latest : List (Option ℕ)) : Type 0 where
+  pub earlier : List Found
+  pub going : Going file rest earlier
+  pub entered : Entered file rest earlier entries before latest
+
+pub nothing_entered : (file : List ℕ) (latest : List (Option ℕ)) → latest ≡ replicate 65536 None → Entered file file [] [] 0 latest
+nothing_entered file latest none = record {
+  shorter = omega arith;
+  place = rw at_start refl;
   listed = λ ps. refl;
   counted = refl;
   few = omega arith;
@@ -125,6 +131,12 @@ starts file latest none = record {
   found = λ ps. refl;
   within = tt;
 }
+  where
+    at_start : length file - length file ≡ 0
+    at_start = omega arith
+
+pub starts : (file : List ℕ) (latest : List (Option ℕ)) → latest ≡ replicate 65536 None → Building file file [] 0 latest
+starts file latest none = record { earlier = []; going = begins file; entered = nothing_entered file latest none }
 
 -- a packet and its entry more
 pub entry_behind : List Found → List ℕ → List ℕ → Header → Packet
@@ -165,46 +177,81 @@ pub record IsNext (file rest : List ℕ) (h : Header) (counted : ℕ) : Type 0 w
 abbrev pub next_entry : List ℕ → List ℕ → ℕ → Header → ℕ → Bool → Packet
 next_entry file rest before h counted jump = record { offset = length file - length rest; header = h; before = before; count = counted; sequence_jump = jump }
 
-entry_is : (file rest : List ℕ) (entries : List Packet) (before : ℕ) (latest : List (Option ℕ)) (h : Header) (counted : ℕ) (jump : Bool) → IsNext file rest h counted → (b : Building file rest entries before latest)
-    → jump ≡ jumps (get_or latest h.channel None) h.sequence → next_entry file rest before h counted jump ≡ listed_behind b.earlier (next_found file rest h)
-entry_is file rest entries before latest h counted jump next b is = rw (is, b.sequences h.channel next.channel, b.counted, next.count) refl
+entry_is : (file rest : List ℕ) (earlier : List Found) (entries : List Packet) (before : ℕ) (latest : List (Option ℕ)) (h : Header) (counted : ℕ) (jump : Bool) → IsNext file rest h counted → (b : Entered file rest earlier entries before latest)
+    → jump ≡ jumps (get_or latest h.channel None) h.sequence → next_entry file rest before h counted jump ≡ listed_behind earlier (next_found file rest h)
+entry_is file rest earlier entries before latest h counted jump next b is = rw (is, b.sequences h.channel next.channel, b.counted, next.count) refl
 
-pub builds_on : (file rest : List ℕ) (entries : List Packet) (before : ℕ) (latest : List (Option ℕ)) (h : Header) (counted : ℕ) (jump : Bool) → IsNext file rest h counted → (b : Building file rest entries before latest)
-    → jump ≡ jumps (get_or latest h.channel None) h.sequence → Building file (drop h.packet_length rest) (entries ++ next_entry file rest before h counted jump ∷ []) (before + counted) (noted latest h)
-builds_on file rest entries before latest h counted jump next b known = record {
-  earlier = next_found file rest h ∷ b.earlier;
-  going = goes_on file rest b.earlier h next.read next.long next.whole b.going;
-  listed = λ ps. b.listed (next_found file rest h ∷ ps) ∙ ap (λ (x : Packet). entries ++ (x ∷ listing_behind (next_found file rest h ∷ b.earlier) ps)) (sym is) ∙ sym (append_assoc entries (e ∷ []) (listing_behind (next_found file rest h ∷ b.earlier) ps));
+-- the packet that begins what is left was entered
+pub one_entered : (file rest : List ℕ) (earlier : List Found) (entries : List Packet) (before : ℕ) (latest : List (Option ℕ)) (h : Header) (counted : ℕ) (jump : Bool) → IsNext file rest h counted → (b : Entered file rest earlier entries before latest)
+    → jump ≡ jumps (get_or latest h.channel None) h.sequence
+    → Entered file (drop h.packet_length rest) (next_found file rest h ∷ earlier) (entries ++ next_entry file rest before h counted jump ∷ []) (before + counted) (noted latest h)
+one_entered file rest earlier entries before latest h counted jump next b known = record {
+  shorter = omega (arith, length-drop h.packet_length rest, b.shorter);
+  place = rw past (ap (drop h.packet_length) b.place ∙ drop-drop h.packet_length (length file - length rest) file);
+  listed = λ ps. b.listed (next_found file rest h ∷ ps) ∙ ap (λ (x : Packet). entries ++ (x ∷ listing_behind (next_found file rest h ∷ earlier) ps)) (sym is) ∙ sym (append_assoc entries (e ∷ []) (listing_behind (next_found file rest h ∷ earlier) ps));
   counted = omega (arith, b.counted, next.count);
-  few = omega (arith, b.few, next.few, next.whole, b.going.shorter, length-drop h.packet_length rest);
-  sequences = sequences_on latest b.earlier (next_found file rest h) b.table next.channel b.sequences;
+  few = omega (arith, b.few, next.few, next.whole, b.shorter, length-drop h.packet_length rest);
+  sequences = sequences_on latest earlier (next_found file rest h) b.table next.channel b.sequences;
   table = length-set latest h.channel (Some h.sequence) ∙ b.table;
-  found = λ ps. b.found (next_found file rest h ∷ ps) ∙ ap (λ (x : Found). map (found_of file) entries ++ (x ∷ ps)) here ∙ sym (append_assoc (map (found_of file) entries) (found_of file e ∷ []) ps) ∙ ap (λ (xs : List Found). xs ++ ps) (sym (map_push (found_of file) entries e));
-  within = within_more file entries e b.within (omega (arith, next.body, next.whole, b.going.shorter));
+  found = λ ps. b.found (next_found file rest h ∷ ps) ∙ ap (λ (x : Found). indexed file entries ++ (x ∷ ps)) here ∙ sym (append_assoc (indexed file entries) (found_of file e ∷ []) ps) ∙ ap (λ (xs : List Found). xs ++ ps) (sym (map_push (found_of file) entries e));
+  within = within_more file entries e b.within (omega (arith, next.body, next.whole, b.shorter));
 }
   where
     e : Packet
     e = next_entry file rest before h counted jump
 
-    is : e ≡ listed_behind b.earlier (next_found file rest h)
-    is = entry_is file rest entries before latest h counted jump next b known
+    is : e ≡ listed_behind earlier (next_found file rest h)
+    is = entry_is file rest earlier entries before latest h counted jump next b known
 
     here : next_found file rest h ≡ found_of file e
-    here = ap (λ (bytes : List ℕ). record { offset = length file - length rest; header = h; messages = messages_of h bytes }) b.going.place
+    here = ap (λ (bytes : List ℕ). record { offset = length file - length rest; header = h; messages = messages_of h bytes }) b.place
+
+    past : length file - length (drop h.packet_length rest) ≡ length file - length rest + h.packet_length
+    past = omega (arith, length-drop h.packet_length rest, next.whole, b.shorter)
+
+-- bytes were passed over that are no packet
+pub none_entered : (file rest : List ℕ) (earlier : List Found) (entries : List Packet) (before : ℕ) (latest : List (Option ℕ)) (n : ℕ) → n ≤ length rest
+    → Entered file rest earlier entries before latest → Entered file (drop n rest) earlier entries before latest
+none_entered file rest earlier entries before latest n fits b = record {
+  shorter = omega (arith, length-drop n rest, b.shorter);
+  place = rw past (ap (drop n) b.place ∙ drop-drop n (length file - length rest) file);
+  listed = b.listed;
+  counted = b.counted;
+  few = omega (arith, b.few, fits, b.shorter, length-drop n rest);
+  sequences = b.sequences;
+  table = b.table;
+  found = b.found;
+  within = b.within;
+}
+  where
+    past : length file - length (drop n rest) ≡ length file - length rest + n
+    past = omega (arith, length-drop n rest, fits, b.shorter)
+
+pub builds_on : (file rest : List ℕ) (entries : List Packet) (before : ℕ) (latest : List (Option ℕ)) (h : Header) (counted : ℕ) (jump : Bool) → IsNext file rest h counted → Building file rest entries before latest
+    → jump ≡ jumps (get_or latest h.channel None) h.sequence → Building file (drop h.packet_length rest) (entries ++ next_entry file rest before h counted jump ∷ []) (before + counted) (noted latest h)
+builds_on file rest entries before latest h counted jump next b known = record {
+  earlier = next_found file rest h ∷ b.earlier;
+  going = goes_on file rest b.earlier h next.read next.long next.whole b.going;
+  entered = one_entered file rest b.earlier entries before latest h counted jump next b.entered known;
+}
 
 total_in_order : (earlier ps : List Found) → total_in (in_order earlier ps) ≡ total_in earlier + total_in ps
 total_in_order [] ps = omega arith
 total_in_order (p ∷ earlier) ps = omega (arith, total_in_order earlier (p ∷ ps))
 
-pub is_built : (file rest : List ℕ) (entries : List Packet) (before : ℕ) (latest : List (Option ℕ)) → length rest ≡ 0 → Building file rest entries before latest → IsIndex file entries before
-is_built file rest entries before latest none b =
-    let read : packets_in file ≡ Ok (in_order b.earlier []) = ends file rest b.earlier none b.going in
-    let all : found_in file ≡ in_order b.earlier [] = ap found_or_none read in
+-- the packets of the entries are those so far
+pub all_entered : (file rest : List ℕ) (earlier : List Found) (entries : List Packet) (before : ℕ) (latest : List (Option ℕ)) → Entered file rest earlier entries before latest → in_order earlier [] ≡ indexed file entries
+all_entered file rest earlier entries before latest b = b.found [] ∙ append-nil (indexed file entries)
+
+pub entries_index : (file rest : List ℕ) (earlier : List Found) (entries : List Packet) (before : ℕ) (latest : List (Option ℕ)) → Entered file rest earlier entries before latest → IsIndex file entries before
+entries_index file rest earlier entries before latest b =
+    let all = all_entered file rest earlier entries before latest b in
     record {
-      readable = rw all read;
-      listed = rw all (sym (b.listed [] ∙ append-nil entries));
-      counted = rw all (omega (arith, b.counted, total_in_order b.earlier []));
+      listed = sym (ap listing (sym all) ∙ b.listed [] ∙ append-nil entries);
+      counted = omega (arith, b.counted, total_in_order earlier [], ap total_in all);
       few = omega (arith, b.few);
-      found = rw all (sym (b.found [] ∙ append-nil (map (found_of file) entries)));
       within = b.within;
     }
+
+pub is_read : (file rest : List ℕ) (entries : List Packet) (before : ℕ) (latest : List (Option ℕ)) → length rest ≡ 0 → (b : Building file rest entries before latest) → packets_in file ≡ Ok (indexed file entries)
+is_read file rest entries before latest none b = ends file rest b.earlier none b.going ∙ ap Ok (all_entered file rest b.earlier entries before latest b.entered)

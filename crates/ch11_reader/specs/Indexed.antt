@@ -1,5 +1,5 @@
 -- What the fields of an index say of the recording.
-use Rattle.std.specs.Prelude.{◌≡◌, ℕ, ◌+◌, ◌≤◌, List, [], ◌∷◌, length, drop, map, Ok}
+use Rattle.std.specs.Prelude.{◌≡◌, ℕ, ◌+◌, ◌≤◌, List, [], ◌∷◌, length, drop, map}
 use Rattle.ch11_header.specs.HeaderReading.{body_start}
 use Rattle.ch11_reader.specs.declared.packet.Packet.{Packet}
 use Rattle.ch11_reader.specs.Recording.{Found, messages_of, packets_in, found_or_none}
@@ -19,11 +19,13 @@ abbrev pub AreWithin : List ℕ → List Packet → Type 0
 AreWithin file [] = Unit {0}
 AreWithin file (e ∷ es) = (e.offset + (body_start e.header + e.header.data_length) ≤ length file) × AreWithin file es
 
--- the entries are the listing of the file's packets, and the total is theirs
+-- the packets of the entries
+abbrev pub indexed : List ℕ → List Packet → List Found
+indexed file entries = map (found_of file) entries
+
+-- the entries are the listing of their packets, and the total is theirs
 pub record IsIndex (file : List ℕ) (entries : List Packet) (total : ℕ) : Type 0 where
-  pub readable : packets_in file ≡ Ok (found_in file)
-  pub listed : entries ≡ listing (found_in file)
-  pub counted : total ≡ total_in (found_in file)
+  pub listed : entries ≡ listing (indexed file entries)
+  pub counted : total ≡ total_in (indexed file entries)
   pub few : total ≤ length file
-  pub found : map (found_of file) entries ≡ found_in file
   pub within : AreWithin file entries

@@ -4,4 +4,6 @@ pub mod Listing
 pub mod Indexed
 pub mod Examples
 pub mod Joined
+pub mod Skipping
 pub mod Codes
+pub mod Walking

@@ -14,7 +14,7 @@ use std::alloc::{AllocError, Global};
 const CHANNELS: usize = 65536;
 
 /// A channel's latest sequence number, for each channel: none yet.
-fn no_sequences(alloc: Global) -> Result<Vec<Option<u8>>, AllocError>
+pub(crate) fn no_sequences(alloc: Global) -> Result<Vec<Option<u8>>, AllocError>
     ensures items { IfOk result (λ v. v.items ≡ replicate CHANNELS None) }
     ensures len { IfOk result (λ v. vec_len v ≡ CHANNELS) }
 {
@@ -23,7 +23,7 @@ fn no_sequences(alloc: Global) -> Result<Vec<Option<u8>>, AllocError>
 }
 
 /// Whether a packet breaks its channel's sequence. Its number becomes the channel's latest.
-fn note_sequence(latest: &mut [Option<u8>], channel: u16, sequence: u8) -> bool
+pub(crate) fn note_sequence(latest: &mut [Option<u8>], channel: u16, sequence: u8) -> bool
     requires { length latest.old ≡ CHANNELS }
     ensures answer { result ≡ jumps (slice_index_or latest.old channel None) sequence }
     ensures noted { latest.new ≡ slice_set latest.old channel (Some sequence) }

@@ -1,15 +1,18 @@
 //! The packets of a recording that was read.
-ghost use Rattle.std.specs.Prelude.{◌≡◌, ◌<◌, ◌^◌, length, slice_get, Some, option_map};
+ghost use Rattle.std.specs.Prelude.{◌≡◌, ◌<◌, ◌^◌, length, slice_get, Some, IfOk, IfErr, option_map};
 ghost use Rattle.ch11_f1.specs.Views.{message_of};
 ghost use Rattle.ch11_reader.specs.Recording.{Found, Gives, packets_in};
 ghost use Rattle.ch11_reader.specs.Contents.{message_numbered, reading, total_in};
 ghost use Rattle.ch11_reader.specs.Listing.{listing};
+ghost use Rattle.ch11_reader.specs.Skipping.{packets_read, skips_in};
+ghost use Rattle.ch11_reader.specs.declared.fault.ReadError.TheVariants.{Memory};
 
 use crate::build::{fault_or_memory, read_packets};
 use crate::channel::ChannelMessages;
 use crate::fault::ReadError;
 use crate::packet::{Packet, message_in_packet, messages_in_packet};
 use crate::search::packet_with;
+use crate::skipping::{SkippingIndex, read_skipping};
 use ch11_f1::{Messages, Seen};
 use std::alloc::Global;
 use std::marker::Model;
@@ -26,11 +29,11 @@ pub struct Index<'a> {
 impl<'a> Model for Index<'a> {
     ghost use Rattle.std.specs.Prelude.{List};
     ghost use Rattle.ch11_reader.specs.Recording.{Found};
-    ghost use Rattle.ch11_reader.specs.Indexed.{IsIndex, found_in};
+    ghost use Rattle.ch11_reader.specs.Indexed.{IsIndex, indexed};
 
     ghost Value = { List Found };
 
-    ghost view = { λ i. found_in i.file.now };
+    ghost view = { λ i. indexed i.file.now i.packets.items };
 
     ghost invariant = { λ i. IsIndex i.file.now i.packets.items i.total };
 }
@@ -45,6 +48,17 @@ impl<'a> Index<'a> {
             Err(ReadError::Memory) => Err(fault_or_memory(file)),
             answer => answer,
         }
+    }
+
+    /// Reads a recording as far as it is sound: where a packet without a fault begins, it is read, and the reading goes on behind it;
+    /// elsewhere all bytes up to the next such packet, or up to the end, are skipped, with the first fault at the first of them. The
+    /// only refusal is want of memory. A recording that `build` reads is read alike, and nothing of it is skipped.
+    pub fn build_skipping(alloc: Global, file: &'a [u8]) -> Result<SkippingIndex<'a>, ReadError>
+        ensures read { IfOk result (λ found. found.index ≡ packets_read file.now) }
+        ensures skipped { IfOk result (λ found. found.skips.items ≡ skips_in file.now) }
+        ensures memory { IfErr result (λ e. e ≡ Memory) }
+    {
+        read_skipping(alloc, file)
     }
 
     /// The messages of a channel, in the file's order.

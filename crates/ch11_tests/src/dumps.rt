@@ -26,7 +26,7 @@ impl Read for Endless {
 #[test]
 fn prints_the_foreign_file(rt: HostRuntime) {
     let mut out = Vec::new(rt.alloc());
-    assert_eq!(rt; dump(rt.alloc(), &FOREIGN, &mut out), Ok(()));
+    assert_eq!(rt; dump(rt.alloc(), &FOREIGN, &mut out, false), Ok(()));
     assert_eq!(rt; out.as_slice(), PRINTED.as_bytes());
 }
 
@@ -35,7 +35,7 @@ fn prints_nothing_of_a_refused_file(rt: HostRuntime) {
     let mut file = FOREIGN;
     file[32] = 0;
     let mut out = Vec::new(rt.alloc());
-    let answer = dump(rt.alloc(), &file, &mut out);
+    let answer = dump(rt.alloc(), &file, &mut out, false);
     assert!(rt; out.is_empty());
     let fault = answer.err().expect(&rt, "a fault");
     let text = fault.to_string(rt.alloc()).expect(&rt, "memory");

@@ -12,3 +12,5 @@ mod dumps;
 mod readers;
 #[cfg(test)]
 mod recordings;
+#[cfg(test)]
+mod skips;

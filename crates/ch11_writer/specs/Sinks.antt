@@ -20,3 +20,11 @@ pub record Device (W : Type 0) : Type 0 where
   pub writer : W
   pub failures : ℕ
   pub finished : Bool
+
+-- a sink in memory that fails at one of its takes alone, and how often it was asked to take
+pub record Flaky : Type 0 where
+  pub bytes : List ℕ
+  pub fails_at : ℕ
+  pub takes : ℕ
+  pub failures : ℕ
+  pub finished : Bool

@@ -1,4 +1,4 @@
-//! Times the index and the dump of a recording that is named on the command line, and prints bytes a second.
+//! Times the index of a recording that is named on the command line, its dump, and its dump with what is damaged skipped.
 #![tactic(auto)]
 
 use bench_dump::{dump, read_all};
@@ -36,8 +36,10 @@ fn speeds(rt: &HostRuntime, path: &str) -> io::Result<()> {
     };
     let mut build = u128::MAX;
     let mut print = u128::MAX;
+    let mut skip = u128::MAX;
     let mut total = 0u64;
     let mut counter = Counter { bytes: 0 };
+    let mut skipped = Counter { bytes: 0 };
     for _ in 0..ROUNDS {
         let start = Instant::now(rt)?;
         if let Ok(index) = Index::build(rt.alloc(), &bytes) {
@@ -45,11 +47,14 @@ fn speeds(rt: &HostRuntime, path: &str) -> io::Result<()> {
         }
         build = build.min(start.elapsed(rt)?.as_nanos());
         let start = Instant::now(rt)?;
-        let _ = dump(rt.alloc(), &bytes, &mut counter);
+        let _ = dump(rt.alloc(), &bytes, &mut counter, false);
         print = print.min(start.elapsed(rt)?.as_nanos());
+        let start = Instant::now(rt)?;
+        let _ = dump(rt.alloc(), &bytes, &mut skipped, true);
+        skip = skip.min(start.elapsed(rt)?.as_nanos());
     }
     println!(rt;
-        "{} {build} {print} {total} {}",
+        "{} {build} {print} {skip} {total} {}",
         bytes.len(),
         counter.bytes / u64::from(ROUNDS)
     )

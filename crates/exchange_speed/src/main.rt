@@ -1,12 +1,13 @@
 //! Times exchanges on a bus of few and of 31 terminals, for `benches/exchange`: a line for each kind of message and each number
 //! of terminals, with the kind, the number, the nanoseconds that the best round took, without and with the records, and two
-//! sums that a twin has to come to as well.
+//! sums that a twin has to come to as well. With two numbers it makes so many exchanges, each with its record, of the kind of
+//! the first number (0 to 3) on 31 terminals, for a count of instructions.
 #![tactic(auto)]
 
-use mil_bus::Bus;
+use mil_bus::{Bus, Seen};
 use mil_line::Gap;
 use mil_message::{Draft, Message};
-use mil_monitor::observe;
+use mil_monitor::observe_by;
 use mil_word::Line;
 use std::rt::Clock;
 use std::time::Instant;
@@ -34,10 +35,38 @@ const WORDS: &[u16] = &[
     0x1d1e, 0x1f20, 0x2122, 0x2324, 0x2526, 0x2728, 0x292a, 0x2b2c,
 ];
 
-/// The exchanges of a round: what the words of their talks come to.
-fn round(bus: &mut Bus, message: &Message) -> u64 {
+/// The message of a kind: a receive command of one and of 32 words, a transmit command of 32, and a transfer of 32.
+fn draft_of(kind: usize) -> Draft<'static> {
+    match kind {
+        0 => Draft::ToTerminal {
+            address: 5,
+            subaddress: 1,
+            words: WORD,
+        },
+        1 => Draft::ToTerminal {
+            address: 5,
+            subaddress: 1,
+            words: WORDS,
+        },
+        2 => Draft::FromTerminal {
+            address: 5,
+            subaddress: 1,
+            count: 32,
+        },
+        _ => Draft::Between {
+            sender: 7,
+            sender_subaddress: 1,
+            receiver: 5,
+            receiver_subaddress: 2,
+            count: 32,
+        },
+    }
+}
+
+/// So many exchanges: what the words of their talks come to.
+fn round(bus: &mut Bus, message: &Message, exchanges: u32) -> u64 {
     let mut sum = 0u64;
-    for _ in 0..EXCHANGES {
+    for _ in 0..exchanges {
         if bus.clock() < 1 << 60 {
             let talk = bus.exchange(Line::A, message, Gap::of(40), &[]);
             sum = sum.wrapping_add(talk.sent.len() as u64);
@@ -47,12 +76,13 @@ fn round(bus: &mut Bus, message: &Message) -> u64 {
 }
 
 /// The same, with the record of each talk.
-fn observed_round(bus: &mut Bus, message: &Message) -> u64 {
+fn observed_round(bus: &mut Bus, message: &Message, exchanges: u32) -> u64 {
     let mut sum = 0u64;
-    for _ in 0..EXCHANGES {
+    for _ in 0..exchanges {
         if bus.clock() < 1 << 60 {
-            let talk = bus.exchange(Line::A, message, Gap::of(40), &[]);
-            let record = observe(&talk);
+            let mut seen = Seen::none();
+            let talk = bus.exchange_seen(Line::A, message, Gap::of(40), &[], &mut seen);
+            let record = observe_by(&talk, &seen);
             sum = sum.wrapping_add(record.stamp);
             sum = sum.wrapping_add(u64::from(record.block));
             sum = sum.wrapping_add(u64::from(record.gaps));
@@ -76,10 +106,10 @@ fn speed(rt: &HostRuntime, name: &str, addresses: &[u8], draft: Draft<'_>) -> io
     let mut gaps = 0;
     for _ in 0..ROUNDS {
         let start = Instant::now(rt)?;
-        words = round(&mut bus, &message);
+        words = round(&mut bus, &message, EXCHANGES);
         exchanges = exchanges.min(start.elapsed(rt)?.as_nanos());
         let start = Instant::now(rt)?;
-        gaps = observed_round(&mut bus, &message);
+        gaps = observed_round(&mut bus, &message, EXCHANGES);
         records = records.min(start.elapsed(rt)?.as_nanos());
     }
     println!(rt;
@@ -93,35 +123,38 @@ fn speed(rt: &HostRuntime, name: &str, addresses: &[u8], draft: Draft<'_>) -> io
 fn main(rt: HostRuntime) -> io::Result<()> {
     let mut words = env::args(&rt)?;
     let _ = words.next();
-    match words.next() {
-        Some(_) => speeds(&rt),
-        None => Ok(()),
+    match (words.next(), words.next()) {
+        (Some(kind), Some(exchanges)) => {
+            match (kind.parse::<usize>(), exchanges.parse::<u32>()) {
+                (Ok(kind), Ok(exchanges)) => count(&rt, kind, exchanges),
+                _ => Ok(()),
+            }
+        }
+        (Some(_), None) => speeds(&rt),
+        (None, _) => Ok(()),
     }
+}
+
+/// So many exchanges of one kind on 31 terminals, with their records; prints what they come to.
+fn count(rt: &HostRuntime, kind: usize, exchanges: u32) -> io::Result<()> {
+    let (Ok(mut bus), Ok(message)) = (
+        Bus::make(rt.alloc(), 0, ALL),
+        Message::check(draft_of(kind)),
+    ) else {
+        return Ok(());
+    };
+    let sum = observed_round(&mut bus, &message, exchanges);
+    println!(rt; "{sum} {}", bus.clock())
 }
 
 /// All lines.
 fn speeds(rt: &HostRuntime) -> io::Result<()> {
-    let one = Draft::ToTerminal {
-        address: 5,
-        subaddress: 1,
-        words: WORD,
-    };
-    let many = Draft::ToTerminal {
-        address: 5,
-        subaddress: 1,
-        words: WORDS,
-    };
-    let transfer = Draft::Between {
-        sender: 7,
-        sender_subaddress: 1,
-        receiver: 5,
-        receiver_subaddress: 2,
-        count: 32,
-    };
-    speed(rt, "receive-1", &[5], one)?;
-    speed(rt, "receive-1", ALL, one)?;
-    speed(rt, "receive-32", &[5], many)?;
-    speed(rt, "receive-32", ALL, many)?;
-    speed(rt, "transfer-32", &[5, 7], transfer)?;
-    speed(rt, "transfer-32", ALL, transfer)
+    speed(rt, "receive-1", &[5], draft_of(0))?;
+    speed(rt, "receive-1", ALL, draft_of(0))?;
+    speed(rt, "receive-32", &[5], draft_of(1))?;
+    speed(rt, "receive-32", ALL, draft_of(1))?;
+    speed(rt, "transmit-32", &[5], draft_of(2))?;
+    speed(rt, "transmit-32", ALL, draft_of(2))?;
+    speed(rt, "transfer-32", &[5, 7], draft_of(3))?;
+    speed(rt, "transfer-32", ALL, draft_of(3))
 }

@@ -3,7 +3,7 @@ use Rattle.std.proofs.Common.{◌≡◌, ℕ, ◌+◌, ◌<◌, ◌≤◌, List,
 use Rattle.std.proofs.lemmas.List.{append-nil}
 use Rattle.mil_word.specs.declared.Line.{Line}
 use Rattle.mil_message.specs.declared.messages.Message.{Message}
-use Rattle.frame_tree.specs.Tree.{Test, Tree, repeat, choose, chain, tree_of}
+use Rattle.frame_tree.specs.Tree.{Test, Tree, repeat, choose, until, chain, tree_of}
 use Rattle.frame_tree.specs.declared.Frame.{Frame}
 use Rattle.frame_code.specs.declared.Op.{Op}
 use Rattle.frame_code.specs.declared.Op.TheVariants as op
@@ -31,6 +31,29 @@ repeat_done tree b b1 n c0 c1 c2 c3 m i is ib ii e1 e2 e3 =
     let all : c3 ≡ ((c0 ++ op.Loop n ∷ []) ++ shape (length c0 + 1) m b) ++ op.Again (length c0 + 1) ∷ [] = cc in
     let flat : ((c0 ++ op.Loop n ∷ []) ++ shape (length c0 + 1) m b) ++ op.Again (length c0 + 1) ∷ [] ≡ c0 ++ op.Loop n ∷ (shape (length c0 + 1) m b ++ op.Again (length c0 + 1) ∷ []) = simp append_assoc in
     all ∙ flat ∙ ap (λ t. c0 ++ shape (length c0) m t) (sym is)
+
+pub until_done : (tree b b1 : Tree) (c k : Test) (n : ℕ) (c0 c1 c2 c3 c4 c5 : List Op) (m a l e : ℕ) → tree ≡ until c n b → k ≡ c → b1 ≡ b → a ≡ length c0 + 1 → l ≡ a + branch_size c → e ≡ l + size b + 2
+    → c1 ≡ c0 ++ op.Loop n ∷ [] → c2 ≡ c1 ++ branch (length c1) k l (l + 1) → c3 ≡ c2 ++ op.Leave e ∷ [] → c4 ≡ c3 ++ shape (length c3) m b1 → c5 ≡ c4 ++ op.Again a ∷ []
+    → c5 ≡ c0 ++ shape (length c0) m tree
+until_done tree b b1 c k n c0 c1 c2 c3 c4 c5 m a l e is ik ib ia il ie e1 e2 e3 e4 e5 =
+    let p = length c0 in
+    let l0 = p + 1 + branch_size c in
+    let l1 : length c1 ≡ p + 1 = length_put c0 c1 (op.Loop n) e1 in
+    let l2 : length c2 ≡ length c1 + branch_size c = length_branched k c1 c2 (length c1) l (l + 1) e2 ∙ ap (λ z. length c1 + branch_size z) ik in
+    let l3 : length c3 ≡ l0 + 1 = omega (arith, length_put c2 c3 (op.Leave e) e3, l2, l1) in
+    let il0 : l ≡ l0 = il ∙ ap (λ z. z + branch_size c) ia in
+    let ie0 : e ≡ l0 + size b + 2 = ie ∙ ap (λ z. z + size b + 2) il0 in
+    let pa = op.Loop n in
+    let pb = branch (p + 1) c l0 (l0 + 1) in
+    let pc = op.Leave (l0 + size b + 2) in
+    let pd = shape (l0 + 1) m b in
+    let pe = op.Again (p + 1) in
+    let d2 : c2 ≡ (c0 ++ pa ∷ []) ++ pb = e2 ∙ ap₂ (λ x y. x ++ branch y k l (l + 1)) e1 l1 ∙ ap (λ z. (c0 ++ pa ∷ []) ++ branch (p + 1) z l (l + 1)) ik ∙ ap (λ z. (c0 ++ pa ∷ []) ++ branch (p + 1) c z (z + 1)) il0 in
+    let d3 : c3 ≡ ((c0 ++ pa ∷ []) ++ pb) ++ pc ∷ [] = e3 ∙ ap₂ (λ x y. x ++ op.Leave y ∷ []) d2 ie0 in
+    let d4 : c4 ≡ (((c0 ++ pa ∷ []) ++ pb) ++ pc ∷ []) ++ pd = e4 ∙ ap₂ (λ x y. x ++ shape y m b1) d3 l3 ∙ ap (λ z. (((c0 ++ pa ∷ []) ++ pb) ++ pc ∷ []) ++ shape (l0 + 1) m z) ib in
+    let d5 : c5 ≡ ((((c0 ++ pa ∷ []) ++ pb) ++ pc ∷ []) ++ pd) ++ pe ∷ [] = e5 ∙ ap₂ (λ x y. x ++ op.Again y ∷ []) d4 ia in
+    let flat : ((((c0 ++ pa ∷ []) ++ pb) ++ pc ∷ []) ++ pd) ++ pe ∷ [] ≡ c0 ++ pa ∷ (pb ++ (pc ∷ (pd ++ pe ∷ []))) = simp append_assoc in
+    d5 ∙ flat ∙ ap (λ t. c0 ++ shape p m t) (sym is)
 
 pub choose_done : (tree a a1 b b1 : Tree) (c k : Test) (c0 c1 c2 c3 c4 : List Op) (m0 m1 : List (Line × Message)) (t f e : ℕ)
     → tree ≡ choose c a b → k ≡ c → a1 ≡ a → b1 ≡ b → t ≡ length c0 + branch_size c → f ≡ t + size a + 1 → e ≡ f + size b

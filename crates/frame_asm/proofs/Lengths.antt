@@ -1,6 +1,6 @@
 -- How many operations and messages a frame has.
 use Rattle.std.proofs.Common.{◌≡◌, ℕ, ◌+◌, [], ◌∷◌, ◌++◌, length, refl, ap₂, ◌∙◌, arith, length-append}
-use Rattle.frame_tree.specs.Tree.{Test, failed, silent, bit, negated, both, either, Tree, send, retry, gap, repeat, choose, nothing, chained}
+use Rattle.frame_tree.specs.Tree.{Test, failed, silent, bit, negated, both, either, Tree, send, retry, gap, repeat, choose, until, nothing, chained}
 use Rattle.frame_code.specs.declared.Op.TheVariants as op
 use Rattle.frame_asm.specs.Shapes.{branch_size, branch, size, messages_of, entries, shape}
 
@@ -23,6 +23,11 @@ length_shape (choose c a b) p m =
     let f = t + size a + 1 in
     let rest = op.Jump (f + size b) ∷ shape f (m + entries a) b in
     omega (arith, length-append (branch p c t f) (shape t m a ++ rest), length-append (shape t m a) rest, length_branch c p t f, length_shape a t m, length_shape b f (m + entries a))
+length_shape (until c n b) p m =
+    let l = p + 1 + branch_size c in
+    let body = shape (l + 1) m b in
+    let rest = op.Leave (l + size b + 2) ∷ (body ++ op.Again (p + 1) ∷ []) in
+    omega (arith, length-append (branch (p + 1) c l (l + 1)) rest, length-append body (op.Again (p + 1) ∷ []), length_branch c (p + 1) l (l + 1), length_shape b (l + 1) m)
 length_shape nothing p m = refl
 length_shape (chained a b) p m =
     omega (arith, length-append (shape p m a) (shape (p + size a) (m + entries a) b), length_shape a p m, length_shape b (p + size a) (m + entries a))
@@ -33,5 +38,6 @@ length_messages_of (retry n l x) = refl
 length_messages_of (gap t) = refl
 length_messages_of (repeat n b) = length_messages_of b
 length_messages_of (choose c a b) = omega (arith, length-append (messages_of a) (messages_of b), length_messages_of a, length_messages_of b)
+length_messages_of (until c n b) = length_messages_of b
 length_messages_of nothing = refl
 length_messages_of (chained a b) = omega (arith, length-append (messages_of a) (messages_of b), length_messages_of a, length_messages_of b)

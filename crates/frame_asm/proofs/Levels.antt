@@ -1,7 +1,7 @@
 -- The loops that are open behind a frame's operations are those that were open before.
 use Rattle.std.proofs.Common.{◌≡◌, ℕ, suc, ◌+◌, List, [], ◌∷◌, ◌++◌, length, Some, refl, ap, ◌∙◌, arith}
 use Rattle.std.specs.Prelude.{slice_get}
-use Rattle.frame_tree.specs.Tree.{Test, failed, silent, bit, negated, both, either, Tree, send, retry, gap, repeat, choose, nothing, chained, bit_number}
+use Rattle.frame_tree.specs.Tree.{Test, failed, silent, bit, negated, both, either, Tree, send, retry, gap, repeat, choose, until, nothing, chained, bit_number}
 use Rattle.frame_code.specs.declared.Op.{Op}
 use Rattle.frame_code.specs.declared.Op.TheVariants as op
 use Rattle.frame_code.specs.Loadable.{tail, after, open_at}
@@ -52,6 +52,19 @@ module _ (os : List Op) where
       let inside = level (p + 1) m b (has_front os (p + 1) (shape (p + 1) m b) (op.Again (p + 1) ∷ []) h.1) in
       let back = has_back os (p + 1) q (shape (p + 1) m b) (op.Again (p + 1) ∷ []) (omega (arith, length_shape b (p + 1) m)) h.1 in
       ap (open_at os) s ∙ next q (op.Again (p + 1)) back.0 ∙ ap tail (inside ∙ next p (op.Loop n) h.0)
+  level p m (until c n b) h =
+      let l = p + 1 + branch_size c in
+      let test = branch (p + 1) c l (l + 1) in
+      let body = shape (l + 1) m b in
+      let back = op.Again (p + 1) ∷ [] in
+      let rest = op.Leave (l + size b + 2) ∷ (body ++ back) in
+      let q = l + 1 + size b in
+      let s : p + (branch_size c + size b + 3) ≡ q + 1 = omega arith in
+      let hr = has_back os (p + 1) l test rest (omega (arith, length_branch c (p + 1) l (l + 1))) h.1 in
+      let tested = branch_level (p + 1) l (l + 1) c (has_front os (p + 1) test rest h.1) in
+      let inside = level (l + 1) m b (has_front os (l + 1) body back hr.1) in
+      let end = has_back os (l + 1) q body back (omega (arith, length_shape b (l + 1) m)) hr.1 in
+      ap (open_at os) s ∙ next q (op.Again (p + 1)) end.0 ∙ ap tail (inside ∙ next l (op.Leave (l + size b + 2)) hr.0 ∙ tested ∙ next p (op.Loop n) h.0)
   level p m (retry n l x) h =
       let a = p + 1 + 1 in
       let ops = op.Test 0 ∷ op.JumpFalse (p + 6) ∷ op.Alt m ∷ op.Jump (p + 7) ∷ op.Leave (p + 8) ∷ [] in

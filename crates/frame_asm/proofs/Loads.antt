@@ -1,7 +1,7 @@
 -- The code of a sound tree keeps the loader's rules.
 use Rattle.std.proofs.Common.{◌≡◌, ℕ, zero, suc, ◌+◌, ◌<◌, ◌≤◌, max, List, [], ◌∷◌, ◌++◌, length, Some, refl, sym, ap, ◌∙◌, subst, arith, length-append}
 use Rattle.std.specs.Prelude.{slice_get, Result, Ok, Err, IfOk}
-use Rattle.frame_tree.specs.Tree.{Test, failed, silent, bit, negated, both, either, Tree, send, retry, gap, repeat, choose, nothing, chained, bit_number}
+use Rattle.frame_tree.specs.Tree.{Test, failed, silent, bit, negated, both, either, Tree, send, retry, gap, repeat, choose, until, nothing, chained, bit_number}
 use Rattle.frame_tree.specs.Bounds.{depth, IsSound}
 use Rattle.frame_code.specs.declared.Op.{Op}
 use Rattle.frame_code.specs.declared.Op.TheVariants as op
@@ -22,6 +22,7 @@ loops_in (retry n l x) = 1
 loops_in (gap t) = 0
 loops_in (repeat n b) = 1 + loops_in b
 loops_in (choose c a b) = max (loops_in a) (loops_in b)
+loops_in (until c n b) = 1 + loops_in b
 loops_in nothing = 0
 loops_in (chained a b) = max (loops_in a) (loops_in b)
 
@@ -31,6 +32,7 @@ few_loops (retry n l x) = omega arith
 few_loops (gap t) = omega arith
 few_loops (repeat n b) = omega (arith, few_loops b)
 few_loops (choose c a b) = omega (arith, few_loops a, few_loops b)
+few_loops (until c n b) = omega (arith, few_loops b)
 few_loops nothing = omega arith
 few_loops (chained a b) = omega (arith, few_loops a, few_loops b)
 
@@ -172,6 +174,31 @@ module _ (os : List Op) (n : ℕ) where
       (good_both t (t + size a) (shape t m a) last (omega (arith, length_shape a t m))
       (good_shape a t m ha (omega (arith, ap length et)) (omega arith) (omega arith))
       (jump (t + size a) (f + size b) (omega arith) (omega arith) (eb ∙ ef), good_shape b f (m + entries a) h2.1 (omega (arith, ap length all)) (omega arith) (omega arith)))
+  good_shape (until c k b) p m h room inside table =
+      let l = p + 1 + branch_size c in
+      let probes = branch (p + 1) c l (l + 1) in
+      let body = shape (l + 1) m b in
+      let back = op.Again (p + 1) ∷ [] in
+      let last = op.Leave (l + size b + 2) ∷ (body ++ back) in
+      let q = l + 1 + size b in
+      let st = open_at os p in
+      let hc = has_front os (p + 1) probes last h.1 in
+      let hr = has_back os (p + 1) l probes last (omega (arith, length_branch c (p + 1) l (l + 1))) h.1 in
+      let hb = has_front os (l + 1) body back hr.1 in
+      let ha = has_back os (l + 1) q body back (omega (arith, length_shape b (l + 1) m)) hr.1 in
+      let e1 : open_at os (p + 1) ≡ p ∷ st = next os p (op.Loop k) h.0 in
+      let el : open_at os l ≡ p ∷ st = branch_level os (p + 1) l (l + 1) c hc ∙ e1 in
+      let eb : open_at os (l + 1) ≡ p ∷ st = next os l (op.Leave (l + size b + 2)) hr.0 ∙ el in
+      let eq : open_at os q ≡ p ∷ st = level os (l + 1) m b hb ∙ eb in (
+        record { paired = omega arith; goes = tt; has = tt },
+        good_both (p + 1) l probes last (omega (arith, length_branch c (p + 1) l (l + 1)))
+            (good_branch c (p + 1) l (l + 1) hc (record { behind = omega arith; inside = omega arith; same = el ∙ sym e1 }) (record { behind = omega arith; inside = omega arith; same = eb ∙ sym e1 })) (
+              record { paired = omega (arith, ap length el); goes = (q, p + 1, omega arith, ha.0, eq ∙ sym el); has = tt },
+              good_both (l + 1) q body back (omega (arith, length_shape b (l + 1) m))
+                  (good_shape b (l + 1) m hb (omega (arith, ap length eb)) (omega arith) table)
+                  (record { paired = omega (arith, ap length eq); goes = (p, st, eq, omega arith); has = tt }, tt),
+            ),
+      )
   good_shape nothing p m h room inside table = tt
   good_shape (chained a b) p m h room inside table =
       let q = p + size a in

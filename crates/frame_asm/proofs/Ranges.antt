@@ -4,7 +4,7 @@ use Rattle.std.specs.Prelude.{IsTrue}
 use Rattle.std.proofs.lemmas.Bool.Decides.{nat_tests}
 use Rattle.mil_word.specs.declared.Line.{Line}
 use Rattle.mil_message.specs.declared.messages.Message.{Message}
-use Rattle.frame_tree.specs.Tree.{Test, failed, silent, bit, negated, both, either, Tree, send, retry, gap, repeat, choose, nothing, chained, bit_number}
+use Rattle.frame_tree.specs.Tree.{Test, failed, silent, bit, negated, both, either, Tree, send, retry, gap, repeat, choose, until, nothing, chained, bit_number}
 use Rattle.frame_tree.specs.Bounds.{IsNamedBit, HasNamedBits, IsInRange}
 use Rattle.frame_code.specs.declared.Op.{Op}
 use Rattle.frame_code.specs.declared.Op.TheVariants as op
@@ -52,6 +52,12 @@ shape_in (choose c a b) p m s h k =
     let f = t + size a + 1 in
     both_in (branch p c t f) _ (branch_in c p t f s.0.1 (omega arith) (omega arith) (omega arith))
     (both_in (shape t m a) _ (shape_in a t m s.1 (omega arith) (omega arith)) (index_in (f + size b) (omega arith), shape_in b f (m + entries a) s.2 (omega arith) (omega arith)))
+shape_in (until c n b) p m s h k =
+    let l = p + 1 + branch_size c in (
+      count_in n s.1 s.2,
+      both_in (branch (p + 1) c l (l + 1)) _ (branch_in c (p + 1) l (l + 1) s.0.1 (omega arith) (omega arith) (omega arith))
+          (index_in (l + size b + 2) (omega arith), both_in (shape (l + 1) m b) _ (shape_in b (l + 1) m s.3 (omega arith) k) (index_in (p + 1) (omega arith), tt)),
+    )
 shape_in nothing p m s h k = tt
 shape_in (chained a b) p m s h k = both_in (shape p m a) _ (shape_in a p m s.0 (omega arith) (omega arith)) (shape_in b _ _ s.1 (omega arith) (omega arith))
 

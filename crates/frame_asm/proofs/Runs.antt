@@ -6,8 +6,8 @@ use Rattle.std.proofs.lemmas.Option.{slice_get-get_or}
 use Rattle.mil_word.specs.declared.Line.{Line}
 use Rattle.mil_message.specs.declared.messages.Message.{Message}
 use Rattle.mil_message.specs.World.{World, Point, other_line, sent, asks}
-use Rattle.frame_tree.specs.Tree.{Test, failed, silent, bit, negated, both, either, Tree, send, retry, gap, repeat, choose, nothing, chained, bit_number}
-use Rattle.frame_tree.specs.Meaning.{times, test_meaning, attempts, meaning}
+use Rattle.frame_tree.specs.Tree.{Test, failed, silent, bit, negated, both, either, Tree, send, retry, gap, repeat, choose, until, nothing, chained, bit_number}
+use Rattle.frame_tree.specs.Meaning.{times, test_meaning, attempts, turns_until, meaning}
 use Rattle.frame_code.specs.declared.Op.{Op}
 use Rattle.frame_code.specs.declared.Op.TheVariants as op
 use Rattle.frame_code.specs.Table.{Code, Registers, sends, counted, act, then_run, run, start}
@@ -239,6 +239,39 @@ module _ {State Outcome : Type 0} (w : World State Outcome) (code : Code) where
       (λ f1 l1. both_do t j e cs cs cs f1 l1 p pa pa (da f1 l1) (λ f2 l2. next j e e cs cs cs f2 f2 l2 l2 pa pa pa (one j cs f2 l2 pa (op.Jump e) h) (here e e cs f2 l2 pa refl)))
   choose_runs false i t f e cs p pa pb j dc da h db f0 l = both_do i f e cs cs cs f0 l p p pb (dc f0 l) db
 
+  -- turns until a condition holds: the condition from a, a Leave at l, the body behind it, and the Again at e
+  module _ (a l e : ℕ) (cs : List ℕ) (c : Test) (body : Point State Outcome → Point State Outcome)
+      (tests : (ns : List ℕ) (p : Point State Outcome) → Does a ns p (cond (test_meaning w c p) l (l + 1)) ns p)
+      (at_leave : slice_get code.operations l ≡ Some (op.Leave (e + 1))) (at_again : slice_get code.operations e ≡ Some (op.Again a))
+      (runs : (n : ℕ) (p : Point State Outcome) → Does (l + 1) (n ∷ cs) p e (n ∷ cs) (body p)) where
+    decided : (n : ℕ) → ((q : Point State Outcome) → Does e (suc n ∷ cs) q (e + 1) cs (turns_until w n c body q)) → (p : Point State Outcome)
+        → (b : Bool) → Does (cond b l (l + 1)) (suc n ∷ cs) p (e + 1) cs (cond b p (turns_until w n c body (body p)))
+    decided n rest p true f l1 =
+        next l (e + 1) (e + 1) (suc n ∷ cs) cs cs f f l1 l1 p p p (one l (suc n ∷ cs) f l1 p (op.Leave (e + 1)) at_leave) (here (e + 1) (e + 1) cs f l1 p refl)
+    decided n rest p false f l1 = both_do (l + 1) e (e + 1) (suc n ∷ cs) (suc n ∷ cs) cs f l1 p (body p) _ (runs (suc n) p f l1) (rest (body p))
+
+    one_turn : (n : ℕ) → ((q : Point State Outcome) → Does e (suc n ∷ cs) q (e + 1) cs (turns_until w n c body q)) → (p : Point State Outcome) → Does a (suc n ∷ cs) p (e + 1) cs (turns_until w (suc n) c body p)
+    one_turn n rest p f l1 =
+        both_do a (cond (test_meaning w c p) l (l + 1)) (e + 1) (suc n ∷ cs) (suc n ∷ cs) cs f l1 p p _ (tests (suc n ∷ cs) p f l1) (decided n rest p (test_meaning w c p))
+
+    until_turns : (n : ℕ) (p : Point State Outcome) → Does a (suc n ∷ cs) p (e + 1) cs (turns_until w (suc n) c body p)
+    until_turns zero p =
+        one_turn zero (λ q f l1. next e (e + 1) (e + 1) (1 ∷ cs) cs cs f f l1 l1 q q q (again_runs zero e a cs f l1 q at_again) (here (e + 1) (e + 1) cs f l1 q refl)) p
+    until_turns (suc n) p =
+        one_turn (suc n) (λ q f l1. next e a (e + 1) (suc (suc n) ∷ cs) (suc n ∷ cs) cs f f l1 l1 q q _ (again_runs (suc n) e a cs f l1 q at_again) (until_turns n q f l1)) p
+
+  until_runs : (n i s z : ℕ) (cs : List ℕ) (c : Test) (body : Point State Outcome → Point State Outcome) (p : Point State Outcome) → 1 ≤ n → slice_get code.operations i ≡ Some (op.Loop n)
+      → ((ns : List ℕ) (p : Point State Outcome) → Does (i + 1) ns p (cond (test_meaning w c p) (i + 1 + s) (i + 1 + s + 1)) ns p)
+      → slice_get code.operations (i + 1 + s) ≡ Some (op.Leave (i + 1 + s + z + 2)) → slice_get code.operations (i + 1 + s + 1 + z) ≡ Some (op.Again (i + 1))
+      → ((k : ℕ) (p : Point State Outcome) → Does (i + 1 + s + 1) (k ∷ cs) p (i + 1 + s + 1 + z) (k ∷ cs) (body p)) → Does i cs p (i + (s + z + 3)) cs (turns_until w n c body p)
+  until_runs zero i s z cs c body p k h tests hl ha d f l = absurd (omega arith)
+  until_runs (suc n) i s z cs c body p k h tests hl ha d f l =
+      let e : i + 1 + s + 1 + z + 1 ≡ i + (s + z + 3) = omega arith in
+      let e' : i + 1 + s + z + 2 ≡ i + 1 + s + 1 + z + 1 = omega arith in
+      at_end i _ _ cs cs f l p _ e
+      (next i (i + 1) _ cs (suc n ∷ cs) cs f f l l p p _ (one i cs f l p (op.Loop (suc n)) h)
+      (until_turns (i + 1) (i + 1 + s) (i + 1 + s + 1 + z) cs c body tests (subst (λ v. slice_get code.operations (i + 1 + s) ≡ Some (op.Leave v)) e' hl) ha d n p f l))
+
   tree_runs : (t : Tree) (i m : ℕ) (cs : List ℕ) (p : Point State Outcome) → IsInRange t → HasAt code.operations i (shape i m t) → HasAt code.messages m (messages_of t) → Does i cs p (i + size t) cs (meaning w t p)
   tree_runs (send l x) i m cs p c h g f l0 =
       next i (i + 1) (i + 1) cs cs cs f f l0 l p _ _ (send_runs i m cs p l x h.0 g.0 f l0) (here (i + 1) (i + 1) cs f l _ refl)
@@ -263,6 +296,19 @@ module _ {State Outcome : Type 0} (w : World State Outcome) (code : Code) where
       hr.0
       (tree_runs b f (m + entries a) cs p n.2 hr.1 (has_back code.messages m (m + entries a) (messages_of a) (messages_of b) (ap (λ z. m + z) (length_messages_of a)) g))
       f0 l0)
+  tree_runs (until c n b) i m cs p s h g f l0 =
+      let l = i + 1 + branch_size c in
+      let test = branch (i + 1) c l (l + 1) in
+      let body = shape (l + 1) m b in
+      let back = op.Again (i + 1) ∷ [] in
+      let rest = op.Leave (l + size b + 2) ∷ (body ++ back) in
+      let hr = has_back code.operations (i + 1) l test rest (ap (λ z. i + 1 + z) (length_branch c (i + 1) l (l + 1))) h.1 in
+      until_runs n i (branch_size c) (size b) cs c (meaning w b) p s.1 h.0
+      (λ ns q. branch_runs c (i + 1) l (l + 1) ns q (has_front code.operations (i + 1) test rest h.1))
+      hr.0
+      (has_back code.operations (l + 1) (l + 1 + size b) body back (ap (λ z. l + 1 + z) (length_shape b (l + 1) m)) hr.1).0
+      (λ k q. tree_runs b (l + 1) m (k ∷ cs) q s.3 (has_front code.operations (l + 1) body back hr.1) g)
+      f l0
   tree_runs nothing i m cs p c h g f l0 = let e : i ≡ i + 0 = omega arith in here i (i + 0) cs f l0 p e
   tree_runs (chained a b) i m cs p c h g f l0 =
       let e : i + size a + size b ≡ i + (size a + size b) = omega arith in

@@ -2,7 +2,7 @@
 use Rattle.std.specs.Prelude.{ℕ, ◌+◌, List, [], ◌∷◌, ◌++◌}
 use Rattle.mil_word.specs.declared.Line.{Line}
 use Rattle.mil_message.specs.declared.messages.Message.{Message}
-use Rattle.frame_tree.specs.Tree.{Test, failed, silent, bit, negated, both, either, Tree, send, retry, gap, repeat, choose, nothing, chained, bit_number}
+use Rattle.frame_tree.specs.Tree.{Test, failed, silent, bit, negated, both, either, Tree, send, retry, gap, repeat, choose, until, nothing, chained, bit_number}
 use Rattle.frame_code.specs.declared.Op.{Op}
 use Rattle.frame_code.specs.declared.Op.TheVariants as op
 use Rattle.frame_code.specs.Table.{Code}
@@ -36,6 +36,7 @@ size (retry n l x) = 8
 size (gap t) = 1
 size (repeat n b) = size b + 2
 size (choose c a b) = branch_size c + size a + 1 + size b
+size (until c n b) = branch_size c + size b + 3
 size nothing = 0
 size (chained a b) = size a + size b
 
@@ -46,6 +47,7 @@ messages_of (retry n l x) = (l, x) ∷ []
 messages_of (gap t) = []
 messages_of (repeat n b) = messages_of b
 messages_of (choose c a b) = messages_of a ++ messages_of b
+messages_of (until c n b) = messages_of b
 messages_of nothing = []
 messages_of (chained a b) = messages_of a ++ messages_of b
 
@@ -56,6 +58,7 @@ entries (retry n l x) = 1
 entries (gap t) = 0
 entries (repeat n b) = entries b
 entries (choose c a b) = entries a + entries b
+entries (until c n b) = entries b
 entries nothing = 0
 entries (chained a b) = entries a + entries b
 
@@ -74,6 +77,9 @@ shape p m (choose c a b) =
     let t = p + branch_size c in
     let f = t + size a + 1 in
     branch p c t f ++ (shape t m a ++ (op.Jump (f + size b) ∷ shape f (m + entries a) b))
+shape p m (until c n b) =
+    let l = p + 1 + branch_size c in
+    op.Loop n ∷ (branch (p + 1) c l (l + 1) ++ (op.Leave (l + size b + 2) ∷ (shape (l + 1) m b ++ op.Again (p + 1) ∷ [])))
 shape p m nothing = []
 shape p m (chained a b) = shape p m a ++ shape (p + size a) (m + entries a) b
 

@@ -139,6 +139,21 @@ pub fn emit<A: Allocator + Clone>(
             put(operations, Op::Jump(end))?;
             emit(operations, messages, otherwise)
         }
+        Frame::Until {
+            condition,
+            count,
+            body,
+        } => {
+            let test_at = operations.len() as u16 + 1;
+            let leave = test_at + branch_len(condition);
+            let end = leave + operation_count(body) + 2;
+            let turns = *count;
+            put(operations, Op::Loop(turns))?;
+            emit_branch(operations, condition, leave, leave + 1)?;
+            put(operations, Op::Leave(end))?;
+            emit(operations, messages, body)?;
+            put(operations, Op::Again(test_at))
+        }
         Frame::Seq(frames) => {
             for frame in frames {
                 emit(operations, messages, frame)?;

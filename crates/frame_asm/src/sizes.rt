@@ -37,6 +37,14 @@ pub fn operation_count<A: Allocator + Clone>(frame: &Frame<A>) -> u16
                 + operation_count(otherwise);
             all.min(4096)
         }
+        Frame::Until {
+            condition,
+            body,
+            ..
+        } => {
+            let all = branch_len(condition) + operation_count(body) + 3;
+            all.min(4096)
+        }
         Frame::Seq(frames) => {
             let mut total = 0;
             for frame in frames {
@@ -54,7 +62,7 @@ pub fn entry_count<A: Allocator + Clone>(frame: &Frame<A>) -> u16
     match frame {
         Frame::Send { .. } | Frame::Retry { .. } => 1,
         Frame::Gap(_) => 0,
-        Frame::Repeat { body, .. } => entry_count(body),
+        Frame::Repeat { body, .. } | Frame::Until { body, .. } => entry_count(body),
         Frame::If {
             then,
             otherwise,

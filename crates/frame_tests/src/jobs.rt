@@ -262,3 +262,49 @@ fn no_message_where_no_test_holds(rt: HostRuntime) -> Result<(), Fail> {
         &[],
     )
 }
+
+// A poll is repeated twice, and then until one fails, at most three times.
+#[test]
+fn polls_until_one_fails(rt: HostRuntime) -> Result<(), Fail> {
+    let script =
+        "script\nrepeat 2 { retry 1 send A mode 5 1 }\nuntil fail at most 3 { retry 1 send A mode 5 1 }";
+    let answered: &'static [u16] = &[0x2fe1, 0x2800];
+    let silent: &'static [u16] = &[0x2fe1];
+    let text = format!(in rt.alloc(); "channel 1\nterminal 5\n{script}")?;
+    plays(
+        &rt,
+        rt.alloc(),
+        text.as_str(),
+        &[
+            (Some(0), Some((0, 0x50)), answered),
+            (Some(480), Some((0, 0x50)), answered),
+            (Some(960), Some((0, 0x50)), answered),
+            (Some(1440), Some((0, 0x50)), answered),
+            (Some(1920), Some((0, 0x50)), answered),
+        ],
+    )?;
+    let text = format!(in rt.alloc(); "channel 1\n{script}")?;
+    plays(
+        &rt,
+        rt.alloc(),
+        text.as_str(),
+        &[
+            (Some(0), Some((0x1200, 0)), silent),
+            (Some(360), Some((0x3200, 0)), silent),
+            (Some(720), Some((0x1200, 0)), silent),
+            (Some(1080), Some((0x3200, 0)), silent),
+        ],
+    )
+}
+
+// Before any message no test holds; the condition is looked at before each turn.
+#[test]
+fn turns_end_where_the_condition_holds(rt: HostRuntime) -> Result<(), Fail> {
+    let answered: &'static [u16] = &[0x2fe1, 0x2800];
+    plays(
+        &rt,
+        rt.alloc(),
+        "channel 1\nterminal 5\nscript\nuntil not fail at most 3 { send A mode 5 1 }\nsend A mode 9 1\nuntil not fail at most 3 { send A mode 5 1 }",
+        &[(Some(0), None, &[0x4fe1]), (Some(360), None, answered)],
+    )
+}

@@ -13,6 +13,8 @@ mod job_refusals;
 #[cfg(test)]
 mod jobs;
 #[cfg(test)]
+mod jobs_together;
+#[cfg(test)]
 mod loading;
 #[cfg(test)]
 mod records;

@@ -38,6 +38,8 @@ fn misplaced(rt: HostRuntime) -> Result<(), Fail> {
             (b"gap 50\n\telse { } gap 60", "S2 line 2 column 2"),
             (b"if all ( fail silent silent ) { }", "S2 line 1 column 22"),
             (b"gap 50 }", "S2 line 1 column 8"),
+            (b"until fail 3 { }", "S2 line 1 column 12"),
+            (b"until fail at least 3 { }", "S2 line 1 column 15"),
         ],
     )
 }
@@ -98,6 +100,8 @@ fn ranges(rt: HostRuntime) -> Result<(), Fail> {
             (b"retry 0 send A mode 5 1", "S7 line 1 column 7"),
             (b"repeat 10001 { }", "S7 line 1 column 8"),
             (b"gap 65536", "S7 line 1 column 5"),
+            (b"until fail at most 0 { }", "S7 line 1 column 20"),
+            (b"until fail at most 10001 { @", "S7 line 1 column 20"),
             (b"gap 40 gap 65535 repeat 1 { } repeat 10000 { }", "none"),
             (
                 b"repeat 10000 { repeat 100 { send A mode 5 1 } } send A mode 5 1",

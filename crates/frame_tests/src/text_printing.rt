@@ -39,6 +39,12 @@ fn blocks(rt: HostRuntime) -> Result<(), Fail> {
     prints_as(
         &rt,
         alloc,
+        b"until not fail at most 0003{until silent at most 1{}gap 50}",
+        "until not fail at most 3 {\n  until silent at most 1 {\n  }\n  gap 50\n}\n",
+    )?;
+    prints_as(
+        &rt,
+        alloc,
         b"if fail{gap 50}else{if silent{}else{gap 60 gap 70}}gap 80",
         "if fail {\n  gap 50\n} else {\n  if silent {\n  } else {\n    gap 60\n    gap 70\n  }\n}\ngap 80\n",
     )

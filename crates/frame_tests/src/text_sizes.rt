@@ -8,6 +8,12 @@ fn frames(rt: HostRuntime) -> Result<(), Fail> {
     let frame = parse(alloc, b"repeat 10000 { repeat 100 { send A mode 5 1 } }")?;
     assert_eq!(rt; frame.worst_messages(), 1_000_000);
     assert_eq!(rt; frame.depth(), 2);
+    let frame = parse(
+        alloc,
+        b"until fail at most 10000 { retry 1 send A mode 5 1 }",
+    )?;
+    assert_eq!(rt; frame.worst_messages(), 20_000);
+    assert_eq!(rt; frame.depth(), 1);
     let frame = parse(alloc, b"repeat 3 { retry 2 send A rx 9 1 [0001] }")?;
     assert_eq!(rt; frame.depth(), 1);
     assert_eq!(rt; frame.worst_messages(), 9);

@@ -2,7 +2,7 @@
 use Rattle.std.proofs.Common.{◌≡◌, ℕ, zero, suc, ◌<◌, ◌≤◌, Bool, true, false, cond, List, [], ◌∷◌, length, Ok, refl, ap, ◌∙◌, arith}
 use Rattle.std.specs.Prelude.{codes, decimal, ◌&&◌}
 use Rattle.std.proofs.lemmas.Bool.{le-leb}
-use Rattle.frame_tree.specs.Tree.{Test, Tree, send, retry, gap, repeat, choose, nothing, chained}
+use Rattle.frame_tree.specs.Tree.{Test, Tree, send, retry, gap, repeat, choose, until, nothing, chained}
 use Rattle.frame_tree.specs.Bounds.{depth, IsInRange, operators, HasNamedBits}
 use Rattle.frame_text.specs.Reading.{Tokens, ◌>>=◌, same, past}
 use Rattle.frame_text.specs.Words.{number_within}
@@ -39,6 +39,7 @@ frame_not_empty (retry n line m) e r i = absurd (cc)
 frame_not_empty (gap n) e r i = absurd (cc)
 frame_not_empty (repeat n b) e r i = absurd (cc)
 frame_not_empty (choose c a b) e r i = absurd (cc)
+frame_not_empty (until c n b) e r i = absurd (cc)
 frame_not_empty nothing e r i = r
 frame_not_empty (chained a b) e r i = r
 
@@ -63,6 +64,7 @@ empty_is (retry n line m) r e = absurd r
 empty_is (gap n) r e = absurd r
 empty_is (repeat n b) r e = absurd r
 empty_is (choose c a b) r e = absurd r
+empty_is (until c n b) r e = absurd r
 
 else_back : (d : ℕ) (b : Tree) (ts : Tokens) → IsRead true b → MayFollow ts → Back true d b → (e : Bool) → is_empty b ≡ e
     → else_at (block_at (suc d)) (cond e ts (codes "else" ∷ codes "{" ∷ tree_then b (codes "}" ∷ ts))) ≡ Ok (b, ts)
@@ -80,6 +82,17 @@ choose_back d c a b ts o h r f p q =
     ∙ ap (λ z. z >>= (λ v. else_at (block_at (suc d)) v.1 >>= (λ w. Ok (choose c v.0 w.0, w.1)))) (block_back d a behind p)
     ∙ ap (λ z. z >>= (λ w. Ok (choose c a w.0, w.1))) (else_back d b ts r f q (is_empty b) refl)
 
+-- an until, of which the block reads back
+until_back : (d : ℕ) (c : Test) (n : ℕ) (b : Tree) (ts : Tokens) → operators c ≤ 16 → HasNamedBits c → 1 ≤ n → n ≤ 10000 → Back true d b
+    → frame_at (suc d) (tree_then (until c n b) ts) ≡ Ok (until c n b, ts)
+unfolding frame_from frame_of frame_word past
+until_back d c n b ts o h low high q =
+    let body : Tokens = codes "{" ∷ tree_then b (codes "}" ∷ ts) in
+    ap (λ z. z >>= (λ u. past (codes "at") u.1 >>= (λ us. past (codes "most") us >>= (λ vs. number_within 1 10000 vs >>= (λ k. block_at (suc d) k.1 >>= (λ x. Ok (until u.0 k.0 x.0, x.1)))))))
+    (condition_back c 16 o h (codes "at" ∷ codes "most" ∷ decimal n ∷ body))
+    ∙ ap (λ z. z >>= (λ k. block_at (suc d) k.1 >>= (λ x. Ok (until c k.0 x.0, x.1)))) (within_back 1 10000 n body (omega arith) low high)
+    ∙ ap (λ z. z >>= (λ x. Ok (until c n x.0, x.1))) (block_back d b ts q)
+
 -- a frame, and a chain of frames in a block
 back : (k : Bool) (t : Tree) (d : ℕ) → IsRead k t → IsInRange t → depth t ≤ d → Back k d t
 unfolding frame_from frame_of frame_word past
@@ -95,6 +108,8 @@ back false (repeat n b) (suc d) r h l = λ ts f.
 back false (choose c a b) zero r h l = absurd (omega (arith, l))
 back false (choose c a b) (suc d) r h l = λ ts f.
     choose_back d c a b ts h.0.0 h.0.1 r.1 f (back true a d r.0 h.1 (omega (arith, l))) (back true b d r.1 h.2 (omega (arith, l)))
+back false (until c n b) zero r h l = absurd (omega (arith, l))
+back false (until c n b) (suc d) r h l = λ ts f. until_back d c n b ts h.0.0 h.0.1 h.1 h.2 (back true b d r h.3 (omega (arith, l)))
 back false nothing d r h l = absurd r
 back false (chained a b) d r h l = absurd r
 back true nothing d r h l = λ n ts s. close_back (frame_at d) n ts s
@@ -110,6 +125,7 @@ back true (retry n line m) d r h l = absurd r
 back true (gap n) d r h l = absurd r
 back true (repeat n b) d r h l = absurd r
 back true (choose c a b) d r h l = absurd r
+back true (until c n b) d r h l = absurd r
 
 -- a whole script
 pub script_back : (t : Tree) → IsRead true t → IsInRange t → depth t ≤ 16 → (n : ℕ) → length (tree_then t []) ≤ n → script_at n (tree_then t []) ≡ Ok t
@@ -128,3 +144,4 @@ script_back (retry k line m) r h l n s = absurd r
 script_back (gap k) r h l n s = absurd r
 script_back (repeat k b) r h l n s = absurd r
 script_back (choose c a b) r h l n s = absurd r
+script_back (until c k b) r h l n s = absurd r

@@ -179,6 +179,15 @@ word_ok d block sound word.If w ts x e =
     let s = sound c.0.1 a.0 a.1 in
     let u = else_ok d block sound (omega (arith, s.0)) a.0.1 b.0 b.1 in
     subst (λ (z : Tree × Tokens). IsTreeWithin d z.0) (ok_is _ x b.2) (omega (arith, s.0, u.0), (condition_ok 16 ts c.0 c.1, s.1, u.1))
+word_ok d block sound word.Until w ts x e =
+    let c = bind_ok (condition_at 16 ts) _ x e in
+    let u = bind_ok (past (codes "at") c.0.1) _ x c.2 in
+    let v = bind_ok (past (codes "most") u.0) _ x u.2 in
+    let n = bind_ok (number_within 1 10000 v.0) _ x v.2 in
+    let b = bind_ok (block n.0.1) _ x n.2 in
+    let s = sound n.0.1 b.0 b.1 in
+    let r = number_ok 1 10000 v.0 n.0 n.1 in
+    subst (λ (z : Tree × Tokens). IsTreeWithin d z.0) (ok_is _ x b.2) (s.0, (condition_ok 16 ts c.0 c.1, r.0, r.1, s.1))
 word_ok d block sound word.NoFrame w ts x e = absurd (cc)
 
 frame_ok : (d : ℕ) (block : Reader) → ReadsBlocks d block → ReadsTrees d (frame_from block)

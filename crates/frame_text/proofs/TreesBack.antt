@@ -3,7 +3,7 @@ use Rattle.std.proofs.Common.{◌≡◌, ℕ, ◌+◌, ◌<◌, ◌≤◌, ◌^�
 use Rattle.std.specs.Prelude.{codes, decimal}
 use Rattle.mil_message.specs.declared.forms.Form.{Form}
 use Rattle.mil_message.specs.declared.forms.Form.TheVariants.{ToTerminal, FromTerminal, Between, Mode, ModeFrom, ModeTo, ToAll, BetweenAll, ModeAll, ModeAllTo}
-use Rattle.frame_tree.specs.Tree.{Test, Tree, send, retry, gap, repeat, choose, nothing, chained}
+use Rattle.frame_tree.specs.Tree.{Test, Tree, send, retry, gap, repeat, choose, until, nothing, chained}
 use Rattle.frame_tree.specs.Bounds.{IsInRange}
 use Rattle.frame_text.specs.Reading.{Tokens, same}
 use Rattle.frame_text.specs.PrintedMessages.{line_text}
@@ -22,6 +22,7 @@ IsRead true (retry n line m) = ⊥
 IsRead true (gap n) = ⊥
 IsRead true (repeat n b) = ⊥
 IsRead true (choose c a b) = ⊥
+IsRead true (until c n b) = ⊥
 IsRead false nothing = ⊥
 IsRead false (chained a b) = ⊥
 IsRead false (send line m) = IsReadable m
@@ -29,6 +30,7 @@ IsRead false (retry n line m) = IsReadable m
 IsRead false (gap n) = Unit {0}
 IsRead false (repeat n b) = IsRead true b
 IsRead false (choose c a b) = IsRead true a × IsRead true b
+IsRead false (until c n b) = IsRead true b
 
 -- the tokens of a tree, in front of others
 abbrev pub tree_then : Tree → Tokens → Tokens
@@ -38,6 +40,7 @@ tree_then (gap n) ts = codes "gap" ∷ decimal n ∷ ts
 tree_then (repeat n b) ts = codes "repeat" ∷ decimal n ∷ codes "{" ∷ tree_then b (codes "}" ∷ ts)
 tree_then (choose c a b) ts =
     codes "if" ∷ condition_then c (codes "{" ∷ tree_then a (codes "}" ∷ cond (is_empty b) ts (codes "else" ∷ codes "{" ∷ tree_then b (codes "}" ∷ ts))))
+tree_then (until c n b) ts = codes "until" ∷ condition_then c (codes "at" ∷ codes "most" ∷ decimal n ∷ codes "{" ∷ tree_then b (codes "}" ∷ ts))
 tree_then nothing ts = ts
 tree_then (chained a b) ts = tree_then a (tree_then b ts)
 
@@ -67,6 +70,12 @@ tree_spells false (choose c a b) d r h =
         (λ ts. codes "{" ∷ tree_then a (codes "}" ∷ cond e ts (codes "else" ∷ codes "{" ∷ tree_then b (codes "}" ∷ ts))))
     by true p q = line_spells (block_spells d p)
     by false p q = spaced_lines (block_spells d p) (spaced_lines (word_spells (codes "else") (omega arith) (refl, (refl, (refl, (refl, tt))))) (line_spells (block_spells d q)))
+tree_spells false (until c n b) d r h =
+    indent_spells d (spaced_lines (word_spells (codes "until") (omega arith) (refl, (refl, (refl, (refl, (refl, tt))))))
+    (spaced_lines (condition_spells c h.0.1)
+    (spaced_lines (word_spells (codes "at") (omega arith) (refl, (refl, tt)))
+    (spaced_lines (word_spells (codes "most") (omega arith) (refl, (refl, (refl, (refl, tt)))))
+    (spaced_lines (number_spells n (spelled n 10000 (omega arith) h.2)) (line_spells (block_spells d (tree_spells true b (d + 1) r h.3))))))))
 tree_spells false nothing d r h = absurd r
 tree_spells false (chained a b) d r h = absurd r
 tree_spells true nothing d r h = no_lines
@@ -76,6 +85,7 @@ tree_spells true (retry n line m) d r h = absurd r
 tree_spells true (gap n) d r h = absurd r
 tree_spells true (repeat n b) d r h = absurd r
 tree_spells true (choose c a b) d r h = absurd r
+tree_spells true (until c n b) d r h = absurd r
 
 words_grow : (ws : List ℕ) (ts : Tokens) → length ts ≤ length (words_then ws ts)
 words_grow [] ts = omega arith
@@ -100,6 +110,10 @@ choose_longer false c a b ts q p =
     let behind : Tokens = codes "}" ∷ codes "else" ∷ codes "{" ∷ tree_then b (codes "}" ∷ ts) in
     omega (arith, condition_grows c (codes "{" ∷ tree_then a behind), p behind, q)
 
+until_longer : (c : Test) (n : ℕ) (b : Tree) (ts : Tokens) → length (codes "}" ∷ ts) ≤ length (tree_then b (codes "}" ∷ ts))
+    → length ts < length (codes "until" ∷ condition_then c (codes "at" ∷ codes "most" ∷ decimal n ∷ codes "{" ∷ tree_then b (codes "}" ∷ ts)))
+until_longer c n b ts q = omega (arith, condition_grows c (codes "at" ∷ codes "most" ∷ decimal n ∷ codes "{" ∷ tree_then b (codes "}" ∷ ts)), q)
+
 -- a tree has no fewer tokens than stand behind it
 grows : (t : Tree) (ts : Tokens) → length ts ≤ length (tree_then t ts)
 grows (send line m) ts = omega (arith, message_grows m ts)
@@ -107,6 +121,7 @@ grows (retry n line m) ts = omega (arith, message_grows m ts)
 grows (gap n) ts = omega arith
 grows (repeat n b) ts = omega (arith, grows b (codes "}" ∷ ts))
 grows (choose c a b) ts = omega (arith, choose_longer (is_empty b) c a b ts (grows b (codes "}" ∷ ts)) (grows a))
+grows (until c n b) ts = omega (arith, until_longer c n b ts (grows b (codes "}" ∷ ts)))
 grows nothing ts = omega arith
 grows (chained a b) ts = omega (arith, grows a (tree_then b ts), grows b ts)
 
@@ -125,6 +140,7 @@ begins (retry n line m) r ts = record { word = codes "retry"; more = decimal n �
 begins (gap n) r ts = record { word = codes "gap"; more = decimal n ∷ ts; is = refl; goes = refl; no_bracket = refl; no_else = refl }
 begins (repeat n b) r ts = record { word = codes "repeat"; more = decimal n ∷ codes "{" ∷ tree_then b (codes "}" ∷ ts); is = refl; goes = refl; no_bracket = refl; no_else = refl }
 begins (choose c a b) r ts = record { word = codes "if"; more = condition_then c (codes "{" ∷ tree_then a (codes "}" ∷ cond (is_empty b) ts (codes "else" ∷ codes "{" ∷ tree_then b (codes "}" ∷ ts)))); is = refl; goes = refl; no_bracket = refl; no_else = refl }
+begins (until c n b) r ts = record { word = codes "until"; more = condition_then c (codes "at" ∷ codes "most" ∷ decimal n ∷ codes "{" ∷ tree_then b (codes "}" ∷ ts)); is = refl; goes = refl; no_bracket = refl; no_else = refl }
 begins nothing r ts = absurd r
 begins (chained a b) r ts = absurd r
 
@@ -137,6 +153,7 @@ follows (retry n line m) r ts f = absurd r
 follows (gap n) r ts f = absurd r
 follows (repeat n b) r ts f = absurd r
 follows (choose c a b) r ts f = absurd r
+follows (until c n b) r ts f = absurd r
 
 -- a frame has at least one token
 pub longer : (t : Tree) → IsRead false t → (ts : Tokens) → length ts < length (tree_then t ts)
@@ -145,5 +162,6 @@ longer (retry n line m) r ts = omega (arith, message_grows m ts)
 longer (gap n) r ts = omega arith
 longer (repeat n b) r ts = omega (arith, grows b (codes "}" ∷ ts))
 longer (choose c a b) r ts = choose_longer (is_empty b) c a b ts (grows b (codes "}" ∷ ts)) (grows a)
+longer (until c n b) r ts = until_longer c n b ts (grows b (codes "}" ∷ ts))
 longer nothing r ts = absurd r
 longer (chained a b) r ts = absurd r

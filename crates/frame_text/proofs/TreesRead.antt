@@ -55,6 +55,13 @@ word_read block reads word.If w ts x e =
     let a = bind_ok (block c.0.1) _ x c.2 in
     let b = bind_ok (else_at block a.0.1) _ x a.2 in
     subst (λ (z : Tree × Tokens). IsRead false z.0) (ok_is _ x b.2) (reads c.0.1 a.0 a.1, else_read block reads a.0.1 b.0 b.1)
+word_read block reads word.Until w ts x e =
+    let c = bind_ok (condition_at 16 ts) _ x e in
+    let u = bind_ok (past (codes "at") c.0.1) _ x c.2 in
+    let v = bind_ok (past (codes "most") u.0) _ x u.2 in
+    let n = bind_ok (number_within 1 10000 v.0) _ x v.2 in
+    let b = bind_ok (block n.0.1) _ x n.2 in
+    subst (λ (z : Tree × Tokens). IsRead false z.0) (ok_is _ x b.2) (reads n.0.1 b.0 b.1)
 word_read block reads word.NoFrame w ts x e = absurd (cc)
 
 frame_read : (block : Reader) → Reads true block → Reads false (frame_from block)

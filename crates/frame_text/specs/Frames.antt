@@ -1,6 +1,6 @@
 -- The text of frames: the grammar of a script (own choice), and the tree of a text or its first fault.
 use Rattle.std.specs.Prelude.{ℕ, zero, suc, nat_le, if◌then◌else◌, List, [], ◌∷◌, length, Result, Ok, Err, codes}
-use Rattle.frame_tree.specs.Tree.{Tree, send, retry, gap, repeat, choose, nothing, chained}
+use Rattle.frame_tree.specs.Tree.{Tree, send, retry, gap, repeat, choose, until, nothing, chained}
 use Rattle.frame_tree.specs.Bounds.{worst_messages}
 use Rattle.frame_text.specs.Tokens.{tokens}
 use Rattle.frame_text.specs.Reading.{Tokens, Reading, ◌>>=◌, same, misplaced, past}
@@ -19,6 +19,7 @@ frame_word w =
     if same w (codes "gap") then word.Gap else
     if same w (codes "repeat") then word.Repeat else
     if same w (codes "if") then word.If else
+    if same w (codes "until") then word.Until else
     word.NoFrame
 
 abbrev pub Reader : Type 0
@@ -29,8 +30,8 @@ unfoldable pub else_at : Reader → Reader
 else_at block [] = Ok (nothing, [])
 else_at block (w ∷ ts) = if same w (codes "else") then block ts else Ok (nothing, w ∷ ts)
 
--- behind the first word of a frame: what is sent once and again, what is repeated, what is chosen; block reads a block in
--- its braces
+-- behind the first word of a frame: what is sent once and again, what is repeated, what is chosen, what runs until a
+-- condition holds; block reads a block in its braces
 abbrev pub retry_at : Reader
 retry_at ts = number_within 1 8 ts >>= (λ n. past (codes "send") n.1 >>= (λ us. send_at us >>= (λ x. Ok (retry n.0 x.0.0 x.0.1, x.1))))
 
@@ -40,6 +41,11 @@ repeat_at block ts = number_within 1 10000 ts >>= (λ n. block n.1 >>= (λ b. Ok
 abbrev pub choice_at : Reader → Reader
 choice_at block ts = condition_at 16 ts >>= (λ c. block c.1 >>= (λ a. else_at block a.1 >>= (λ b. Ok (choose c.0 a.0 b.0, b.1))))
 
+abbrev pub until_at : Reader → Reader
+until_at block ts =
+    condition_at 16 ts
+    >>= (λ c. past (codes "at") c.1 >>= (λ us. past (codes "most") us >>= (λ vs. number_within 1 10000 vs >>= (λ n. block n.1 >>= (λ b. Ok (until c.0 n.0 b.0, b.1))))))
+
 -- a frame by its first word
 unfoldable pub frame_of : Reader → FrameWord → List ℕ → Tokens → Reading Tree
 frame_of block word.Send w ts = send_at ts >>= (λ x. Ok (send x.0.0 x.0.1, x.1))
@@ -47,6 +53,7 @@ frame_of block word.Retry w ts = retry_at ts
 frame_of block word.Gap w ts = number_within 40 65535 ts >>= (λ n. Ok (gap n.0, n.1))
 frame_of block word.Repeat w ts = repeat_at block ts
 frame_of block word.If w ts = choice_at block ts
+frame_of block word.Until w ts = until_at block ts
 frame_of block word.NoFrame w ts = Err (misplaced w)
 
 unfoldable pub frame_from : Reader → Reader

@@ -1,6 +1,6 @@
 -- The text that a tree is printed as: one frame a line, two spaces for each open block (own choice).
 use Rattle.std.specs.Prelude.{ℕ, zero, suc, ◌+◌, Bool, true, false, ◌&&◌, List, [], ◌++◌, codes, decimal}
-use Rattle.frame_tree.specs.Tree.{Tree, send, retry, gap, repeat, choose, nothing, chained}
+use Rattle.frame_tree.specs.Tree.{Tree, send, retry, gap, repeat, choose, until, nothing, chained}
 use Rattle.frame_text.specs.PrintedMessages.{send_text}
 use Rattle.frame_text.specs.PrintedConditions.{condition_text}
 
@@ -31,6 +31,8 @@ lines depth (gap ticks) = indent depth ++ (codes "gap " ++ (decimal ticks ++ cod
 lines depth (repeat count body) = indent depth ++ (codes "repeat " ++ (decimal count ++ (codes " " ++ (block_text depth (lines (depth + 1) body) ++ codes "\n"))))
 lines depth (choose c a b) =
     indent depth ++ (codes "if " ++ (condition_text c ++ (codes " " ++ (block_text depth (lines (depth + 1) a) ++ (else_text depth (is_empty b) (lines (depth + 1) b) ++ codes "\n")))))
+lines depth (until c count body) =
+    indent depth ++ (codes "until " ++ (condition_text c ++ (codes " at most " ++ (decimal count ++ (codes " " ++ (block_text depth (lines (depth + 1) body) ++ codes "\n"))))))
 lines depth nothing = []
 lines depth (chained a b) = lines depth a ++ lines depth b
 

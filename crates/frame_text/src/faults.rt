@@ -19,7 +19,8 @@ pub enum Cause {
     /// S6: more than 16 blocks in one another, at the opening brace, or more than 16 operators above a test of a
     /// condition, at the operator.
     Depth,
-    /// S7: a number out of its range: a repeat outside 1 to 10,000, a retry outside 1 to 8, a gap outside 40 to 65,535.
+    /// S7: a number out of its range: a repeat or an until outside 1 to 10,000, a retry outside 1 to 8, a gap outside 40 to
+    /// 65,535.
     Range,
     /// S8: more than 1,000,000 messages at worst, at line 1 column 1, once the text is read to its end.
     Messages,

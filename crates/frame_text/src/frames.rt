@@ -4,7 +4,7 @@ ghost use Rattle.std.specs.Prelude.{◌≡◌, ◌<◌, ◌≤◌, length, map, 
 ghost use Rattle.frame_tree.specs.Tree.{tree_of, chain, nothing};
 ghost use Rattle.frame_text.specs.Tokens.{tokens};
 ghost use Rattle.frame_text.specs.Reading.{Gives};
-ghost use Rattle.frame_text.specs.Frames.{else_at, retry_at, repeat_at, choice_at, frame_at, frames_at, block_at, inner_at, script_at};
+ghost use Rattle.frame_text.specs.Frames.{else_at, retry_at, repeat_at, choice_at, until_at, frame_at, frames_at, block_at, inner_at, script_at};
 
 use crate::conditions::condition;
 use crate::faults::{Cause, Fault};
@@ -177,6 +177,34 @@ fn choice<'a, A: Allocator + Clone>(
     ))
 }
 
+// A block that runs until a condition holds, at most so many times, behind its first word.
+#[cycle(frames)]
+fn until<'a, A: Allocator + Clone>(
+    alloc: &A,
+    text: &'a [u8],
+    depth: u8,
+) -> Result<(Frame<A>, &'a [u8]), Fault>
+    ensures tree { Gives (λ x. (tree_of x.0, tokens x.1.now)) result (until_at (block_at depth) (tokens text.now)) }
+    ensures fewer { IfOk result (λ x. length (tokens x.1.now) < length (tokens text.now)) }
+{
+    let (condition, rest) = condition(alloc, text, 16)?;
+    let rest = after_token(rest, b"at")?;
+    let rest = after_token(rest, b"most")?;
+    let (count, rest) = number_in_range(rest, 1, 10_000)?;
+    let (body, rest) = block(alloc, rest, depth)?;
+    let own = or_refused!(alloc.clone(), rest);
+    let body = or_refused!(Box::new(own, body), rest);
+    let count = count as u16;
+    Ok((
+        Frame::Until {
+            condition,
+            count,
+            body,
+        },
+        rest,
+    ))
+}
+
 /// A frame with at most `depth` blocks in one another.
 #[cycle(frames)]
 #[tactic(auto, unfolding(crate::specs::Frames::frame_from, crate::specs::Frames::frame_of))]
@@ -203,6 +231,7 @@ pub fn frame<'a, A: Allocator + Clone>(
         }
         FrameWord::Repeat => repeat(alloc, rest, depth),
         FrameWord::If => choice(alloc, rest, depth),
+        FrameWord::Until => until(alloc, rest, depth),
         FrameWord::NoFrame => Err(fault(misplaced(word), text)),
     }
 }

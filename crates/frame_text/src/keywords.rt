@@ -44,6 +44,7 @@ pub enum FrameWord {
     Gap,
     Repeat,
     If,
+    Until,
     NoFrame,
 }
 
@@ -173,6 +174,9 @@ pub fn frame_word(word: &[u8]) -> FrameWord
     }
     if is(word, b"if") {
         return FrameWord::If;
+    }
+    if is(word, b"until") {
+        return FrameWord::Until;
     }
     FrameWord::NoFrame
 }

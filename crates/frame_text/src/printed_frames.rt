@@ -1,6 +1,6 @@
 //! Frames as text, one a line.
 
-ghost use Rattle.std.specs.Prelude.{◌≡◌, ◌+◌, ◌++◌, OnOk, string_bytes, codes};
+ghost use Rattle.std.specs.Prelude.{◌≡◌, ◌+◌, ◌++◌, OnOk, string_bytes, codes, decimal};
 ghost use Rattle.frame_tree.specs.Tree.{test_of, tree_of, retry, gap};
 ghost use Rattle.frame_text.specs.PrintedConditions.{condition_text};
 ghost use Rattle.frame_text.specs.PrintedMessages.{send_text};
@@ -86,6 +86,19 @@ fn put_if_condition<A: Allocator + Clone>(
     out.push_str(" ")
 }
 
+// What stands in front of the block of an until.
+fn put_until_condition<A: Allocator + Clone>(
+    out: &mut String,
+    condition: &Cond<A>,
+    count: u16,
+) -> Result<(), AllocError>
+    ensures { OnOk result (string_bytes out.new ≡ string_bytes out.old ++ (codes "until " ++ (condition_text (test_of condition.now) ++ (codes " at most " ++ (decimal count ++ codes " "))))) }
+{
+    out.push_str("until ")?;
+    put_condition(out, condition)?;
+    write!(out, " at most {count} ")
+}
+
 // A block of frames, behind what opens it on its line.
 #[cycle(lines)]
 fn put_block<A: Allocator + Clone>(
@@ -140,6 +153,16 @@ pub fn put_lines<A: Allocator + Clone>(
             put_block(out, then, depth)?;
             put_else(out, otherwise, depth)?;
             Ok(())
+        }
+        Frame::Until {
+            condition,
+            count,
+            body,
+        } => {
+            put_indent(out, depth)?;
+            put_until_condition(out, condition, *count)?;
+            put_block(out, body, depth)?;
+            out.push_str("\n")
         }
         Frame::Seq(frames) => {
             for one in frames {

@@ -2,10 +2,10 @@
 use Rattle.std.proofs.Common.{◌≡◌, ℕ, ◌+◌, ◌<◌, ◌≤◌, ◌↔◌, min, max, IsTrue, true, false, arith, subst, length, get_or, List, [], ◌∷◌, ◌++◌, map, take, drop, refl, sym, ap, ap₂, ◌∙◌, rules, Vec, Box, add-one}
 use Rattle.std.proofs.lemmas.List.{take_more, drop_all, map-append}
 use Rattle.std.proofs.Math.Seq.{drop-cons}
-use Rattle.frame_tree.specs.Tree.{Tree, chain, test_of, tree_of, repeat, choose, nothing, chained}
+use Rattle.frame_tree.specs.Tree.{Tree, chain, test_of, tree_of, repeat, choose, until, nothing, chained}
 use Rattle.frame_tree.specs.declared.Cond.{Cond}
 use Rattle.frame_tree.specs.Bounds.{depth, worst_messages, IsInRange}
-use Rattle.frame_tree.specs.declared.Frame.{Frame, Repeat, If, Seq, the_lemmas}
+use Rattle.frame_tree.specs.declared.Frame.{Frame, Repeat, If, Until, Seq, the_lemmas}
 
 pub tree_seq : {A : Type 0} → (v : Vec (Frame A) A) → tree_of (Seq v) ≡ chain (map tree_of v.items)
 tree_seq v = search (rules, the_lemmas)
@@ -15,6 +15,9 @@ tree_repeat n b = search (rules, the_lemmas)
 
 pub tree_if : {A : Type 0} (c : Cond A) (a b : Box (Frame A) A) → tree_of (If c a b) ≡ choose (test_of c) (tree_of a.value) (tree_of b.value)
 tree_if c a b = search (rules, the_lemmas)
+
+pub tree_until : {A : Type 0} (c : Cond A) (n : ℕ) (b : Box (Frame A) A) → tree_of (Until c n b) ≡ until (test_of c) n (tree_of b.value)
+tree_until c n b = search (rules, the_lemmas)
 
 -- one more copy
 pub one_more : {A B : Type 0} → (done : List (Frame B)) (all : List (Frame A)) (i : ℕ) (y : Frame B) (x : Frame A) → i < length all → x ≡ get_or all i x → map tree_of done ≡ map tree_of (take i all) → tree_of y ≡ tree_of x → map tree_of (done ++ y ∷ []) ≡ map tree_of (take (i + 1) all)

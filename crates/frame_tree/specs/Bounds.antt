@@ -1,24 +1,27 @@
 -- How large a tree is, and which trees are sound (own choice).
 use Rattle.std.specs.Prelude.{ℕ, ◌+◌, ◌*◌, ◌≤◌, ◌⊎◌, max}
-use Rattle.frame_tree.specs.Tree.{Test, failed, silent, bit, negated, both, either, Tree, send, retry, gap, repeat, choose, nothing, chained, bit_number}
+use Rattle.frame_tree.specs.Tree.{Test, failed, silent, bit, negated, both, either, Tree, send, retry, gap, repeat, choose, until, nothing, chained, bit_number}
 
--- how many messages a tree sends at most: every retry is used up, and an if takes the branch with more
+-- how many messages a tree sends at most: every retry is used up, an until runs all its turns, and an if takes the branch
+-- with more
 abbrev pub worst_messages : Tree → ℕ
 worst_messages (send l m) = 1
 worst_messages (retry n l m) = 1 + n
 worst_messages (gap t) = 0
 worst_messages (repeat n b) = n * worst_messages b
 worst_messages (choose c a b) = max (worst_messages a) (worst_messages b)
+worst_messages (until c n b) = n * worst_messages b
 worst_messages nothing = 0
 worst_messages (chained a b) = worst_messages a + worst_messages b
 
--- how many repeats and ifs stand in one another
+-- how many repeats, ifs and untils stand in one another
 abbrev pub depth : Tree → ℕ
 depth (send l m) = 0
 depth (retry n l m) = 0
 depth (gap t) = 0
 depth (repeat n b) = 1 + depth b
 depth (choose c a b) = 1 + max (depth a) (depth b)
+depth (until c n b) = 1 + depth b
 depth nothing = 0
 depth (chained a b) = max (depth a) (depth b)
 
@@ -54,6 +57,7 @@ IsInRange (retry n l m) = (1 ≤ n) × (n ≤ 8)
 IsInRange (gap t) = (40 ≤ t) × (t ≤ 65535)
 IsInRange (repeat n b) = (1 ≤ n) × (n ≤ 10000) × IsInRange b
 IsInRange (choose c a b) = IsCondition c × IsInRange a × IsInRange b
+IsInRange (until c n b) = IsCondition c × (1 ≤ n) × (n ≤ 10000) × IsInRange b
 IsInRange nothing = Unit {0}
 IsInRange (chained a b) = IsInRange a × IsInRange b
 

@@ -3,7 +3,7 @@ use Rattle.std.specs.Prelude.{ℕ, zero, suc, ◌+◌, Bool, not, ◌&&◌, ◌|
 use Rattle.mil_word.specs.declared.Line.{Line}
 use Rattle.mil_message.specs.declared.messages.Message.{Message}
 use Rattle.mil_message.specs.World.{World, Point, other_line, sent, asks}
-use Rattle.frame_tree.specs.Tree.{Test, failed, silent, bit, negated, both, either, Tree, send, retry, gap, repeat, choose, nothing, chained, bit_number}
+use Rattle.frame_tree.specs.Tree.{Test, failed, silent, bit, negated, both, either, Tree, send, retry, gap, repeat, choose, until, nothing, chained, bit_number}
 
 -- n times in a row
 abbrev pub times : {X : Type 0} → ℕ → (X → X) → X → X
@@ -26,6 +26,11 @@ module _ {State Outcome : Type 0} (w : World State Outcome) where
   attempts (suc n) line message p =
       if asks w 0 p then attempts n (other_line line) message (sent w (other_line line) message p) else p
 
+  -- at most n turns of a body, while a condition that is looked at before each turn does not hold
+  abbrev pub turns_until : ℕ → Test → (Point State Outcome → Point State Outcome) → Point State Outcome → Point State Outcome
+  turns_until zero c body p = p
+  turns_until (suc n) c body p = if test_meaning c p then p else turns_until n c body (body p)
+
   -- where a run is after a frame
   abbrev pub meaning : Tree → Point State Outcome → Point State Outcome
   meaning (send line message) p = sent w line message p
@@ -33,5 +38,6 @@ module _ {State Outcome : Type 0} (w : World State Outcome) where
   meaning (gap t) p = record p { gap = t }
   meaning (repeat n body) p = times n (meaning body) p
   meaning (choose c a b) p = if test_meaning c p then meaning a p else meaning b p
+  meaning (until c n body) p = turns_until n c (meaning body) p
   meaning nothing p = p
   meaning (chained a b) p = meaning b (meaning a p)

@@ -23,6 +23,7 @@ pub data Tree : Type 0 where
   gap : ℕ → Tree
   repeat : ℕ → Tree → Tree
   choose : Test → Tree → Tree → Tree
+  until : Test → ℕ → Tree → Tree
   nothing : Tree
   chained : Tree → Tree → Tree
 
@@ -59,6 +60,7 @@ tree_step (Frame-F.Retry n l m) = retry n l m
 tree_step (Frame-F.Gap t) = gap t
 tree_step (Frame-F.Repeat n b) = repeat n b.value
 tree_step (Frame-F.If c a b) = choose (test_of c) a.value b.value
+tree_step (Frame-F.Until c n b) = until (test_of c) n b.value
 tree_step (Frame-F.Seq v) = chain v.items
 
 -- a frame as plain data

@@ -46,6 +46,15 @@ impl<A: Allocator + Clone> Frame<A> {
                 then: boxed(alloc, then.copied(alloc)?)?,
                 otherwise: boxed(alloc, otherwise.copied(alloc)?)?,
             }),
+            Frame::Until {
+                condition,
+                count,
+                body,
+            } => Ok(Frame::Until {
+                condition: condition.copy_in(alloc)?,
+                count: *count,
+                body: boxed(alloc, body.copied(alloc)?)?,
+            }),
             Frame::Seq(frames) => {
                 let mut copies = Vec::new(alloc.clone()?);
                 for frame in frames {
@@ -56,8 +65,8 @@ impl<A: Allocator + Clone> Frame<A> {
         }
     }
 
-    /// How many messages it sends at most, 1,000,001 where it is more than 1,000,000: every retry is used up, and an `if`
-    /// takes the branch with more.
+    /// How many messages it sends at most, 1,000,001 where it is more than 1,000,000: every retry is used up, an `until` runs
+    /// all its turns, and an `if` takes the branch with more.
     pub fn worst_messages(&self) -> u32
         ensures { result ≡ min 1000001 (worst_messages (tree_of self.now)) }
     {
@@ -66,6 +75,7 @@ impl<A: Allocator + Clone> Frame<A> {
             Frame::Retry { count, .. } => u32::from(*count) + 1,
             Frame::Gap(_) => 0,
             Frame::Repeat { count, body } => times_capped(*count, body.worst_messages()),
+            Frame::Until { count, body, .. } => times_capped(*count, body.worst_messages()),
             Frame::If {
                 then,
                 otherwise,
@@ -81,13 +91,14 @@ impl<A: Allocator + Clone> Frame<A> {
         }
     }
 
-    /// How many repeats and ifs stand in one another, 17 where it is more than 16.
+    /// How many repeats, ifs and untils stand in one another, 17 where it is more than 16.
     pub fn depth(&self) -> u32
         ensures { result ≡ min 17 (depth (tree_of self.now)) }
     {
         match self {
             Frame::Send { .. } | Frame::Retry { .. } | Frame::Gap(_) => 0,
             Frame::Repeat { body, .. } => (body.depth() + 1).min(17),
+            Frame::Until { body, .. } => (body.depth() + 1).min(17),
             Frame::If {
                 then,
                 otherwise,
@@ -129,6 +140,17 @@ impl<A: Allocator + Clone> Frame<A> {
                     && condition.has_named_bits()
                     && then.is_in_range()
                     && otherwise.is_in_range()
+            }
+            Frame::Until {
+                condition,
+                count,
+                body,
+            } => {
+                condition.operators() <= 16
+                    && condition.has_named_bits()
+                    && 1 <= *count
+                    && *count <= 10_000
+                    && body.is_in_range()
             }
             Frame::Seq(frames) => {
                 for frame in frames {

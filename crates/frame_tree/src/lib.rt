@@ -56,6 +56,13 @@ pub enum Frame<A: Allocator + Clone> {
         then: Box<Frame<A>, A>,
         otherwise: Box<Frame<A>, A>,
     },
+    /// Looks at the condition before each turn, and runs the body while it does not hold and fewer than `count` (1 to
+    /// 10,000) turns ran.
+    Until {
+        condition: Cond<A>,
+        count: u16,
+        body: Box<Frame<A>, A>,
+    },
     /// Runs frames one after the other.
     Seq(Vec<Frame<A>, A>),
 }

@@ -1,5 +1,5 @@
 -- Line by line to the job of a text.
-use Rattle.std.proofs.Common.{◌≡◌, List, [], ◌∷◌, ◌++◌, length, refl, sym, ap, ◌∙◌, append_assoc, arith, inl, inr}
+use Rattle.std.proofs.Common.{◌≡◌, ℕ, List, [], ◌∷◌, ◌++◌, length, refl, sym, ap, ◌∙◌, append_assoc, arith, inl, inr}
 use Rattle.std.specs.Prelude.{Bool, true, false, cond, Option, Some, None, Result, Ok, Err}
 use Rattle.std.specs.Option.{option_to_list}
 use Rattle.std.specs.List.{filter_map, before_first, after_first}
@@ -81,7 +81,7 @@ kept f s None e = rw e refl
 kept f s (Some y) e = rw e refl
 
 -- one more line in a head
-head_with : (above : List Said) (s : Said) → head_of (above ++ s ∷ []) ≡ with_line s (head_of above)
+pub head_with : (above : List Said) (s : Said) → head_of (above ++ s ∷ []) ≡ with_line s (head_of above)
 head_with above blank = simp (filter_map-append, append-nil)
 head_with above script = simp (filter_map-append, append-nil)
 head_with above (channel n) = simp (filter_map-append, append-nil)
@@ -157,19 +157,19 @@ module _ (text rest line behind : Text) (above : List Said) (old new : Head) (sh
       )
 
   -- a line that was refused
-  pub line_refused : (r : Result Taken Refusal) (why : Refusal) (e : JobError) → r ≡ Err why → TakesLine (said line) old new r → IsOfLine why e → IsRefusal (spelled text) e
-  line_refused r (refusal.Line f) (error.Line n g) is takes of =
+  pub line_refused : (n : ℕ) (r : Result Taken Refusal) (why : Refusal) (e : JobError) → r ≡ Err why → TakesLine (said line) old new r → IsOfLine n why e → IsRefusal (spelled text) e
+  line_refused n r (refusal.Line f) (error.Line m g) is takes of =
       let t : TakesLine (said line) old new (Err (refusal.Line f)) = rw is at takes in
       left ∙ at_bad above rest (rw first at t.0) (rw (first, shows) at t.1)
-  line_refused r (refusal.Line f) (error.Script cause place) is takes of = absurd of
-  line_refused r (refusal.Line f) (error.Assembly n g) is takes of = absurd of
-  line_refused r (refusal.Line f) (error.Loading n g) is takes of = absurd of
-  line_refused r (refusal.Line f) error.Memory is takes of = absurd of
-  line_refused r refusal.Memory (error.Line n g) is takes of = absurd of
-  line_refused r refusal.Memory (error.Script cause place) is takes of = absurd of
-  line_refused r refusal.Memory (error.Assembly n g) is takes of = absurd of
-  line_refused r refusal.Memory (error.Loading n g) is takes of = absurd of
-  line_refused r refusal.Memory error.Memory is takes of = tt
+  line_refused n r (refusal.Line f) (error.Script cause place) is takes of = absurd of
+  line_refused n r (refusal.Line f) (error.Assembly m g) is takes of = absurd of
+  line_refused n r (refusal.Line f) (error.Loading m g) is takes of = absurd of
+  line_refused n r (refusal.Line f) error.Memory is takes of = absurd of
+  line_refused n r refusal.Memory (error.Line m g) is takes of = absurd of
+  line_refused n r refusal.Memory (error.Script cause place) is takes of = absurd of
+  line_refused n r refusal.Memory (error.Assembly m g) is takes of = absurd of
+  line_refused n r refusal.Memory (error.Loading m g) is takes of = absurd of
+  line_refused n r refusal.Memory error.Memory is takes of = tt
 
 pub fit_at_first : (h : Head) → h ≡ record { channels = []; starts = []; addresses = []; actions = []; plan = [] } → IsFit h
 fit_at_first h e = rw e (record { channels = tt; starts = tt; addresses = refl; actions = refl })

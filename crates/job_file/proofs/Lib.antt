@@ -9,3 +9,4 @@ pub mod Growth
 pub mod JobRuns
 pub mod Nexts
 pub mod TextLemmas
+pub mod FirstFaults

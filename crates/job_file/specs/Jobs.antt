@@ -3,12 +3,11 @@ use Rattle.std.specs.Prelude.{◌≡◌, ℕ, ◌≤◌, true, List}
 use Rattle.std.specs.List.{list_all}
 use Rattle.mil_line.specs.Plans.{Planned}
 use Rattle.mil_bus.specs.Addresses.{is_fit}
-use Rattle.frame_tree.specs.Tree.{Tree, tree_of}
-use Rattle.frame_tree.specs.Bounds.{IsSound}
+use Rattle.frame_tree.specs.Tree.{Tree}
 use Rattle.frame_code.specs.Table.{Code}
-use Rattle.frame_asm.specs.Shapes.{code_of}
 use Rattle.bc_machine.specs.declared.placed.Placed.{Placed}
 use Rattle.job_file.specs.JobRanges.{may_act}
+use Rattle.job_file.specs.Scripts.{tree_spelled, IsProgramOf}
 use Rattle.job_file.specs.Spelled.{ChannelJob}
 use Rattle.job_file.specs.declared.scripts.Script.{Script}
 
@@ -22,9 +21,9 @@ pub record JobState : Type 0 where
 
 -- what the script spells
 abbrev pub tree_in : JobState → Tree
-tree_in job = tree_of job.script.frame
+tree_in job = tree_spelled job.script.text
 
--- the job, whatever memory its script lies in
+-- the job with the tree of its script
 abbrev pub job_in : JobState → ChannelJob
 job_in job = record {
   channel = job.channel;
@@ -35,12 +34,11 @@ job_in job = record {
   tree = tree_in job;
 }
 
--- its numbers are in their ranges, its script is sound, and the program is the script's
+-- its numbers are in their ranges, its script has a sound tree, and the program is that tree's
 pub record IsJob (job : JobState) (program : Code) : Type 0 where
   pub channel_low : 1 ≤ job.channel
   pub channel_high : job.channel ≤ 65535
   pub start_high : job.start ≤ 140737488355328
   pub addresses : is_fit job.addresses ≡ true
   pub actions : list_all (may_act job.addresses) job.actions ≡ true
-  pub sound : IsSound (tree_in job)
-  pub program_is : program ≡ code_of (tree_in job)
+  pub program_is : IsProgramOf job.script.text program

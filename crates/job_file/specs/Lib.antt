@@ -8,6 +8,8 @@ pub mod Errors
 pub mod Drafts
 pub mod Spelled
 pub mod Reading
+pub mod Faults
+pub mod Scripts
 pub mod Jobs
 pub mod PlainJob
 pub mod Meaning

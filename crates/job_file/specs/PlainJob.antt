@@ -9,7 +9,7 @@ state_in j = record {
   addresses = j.addresses.items;
   actions = j.actions.items;
   plan = j.plan;
-  script = j.script.value;
+  script = j.script;
 }
 
 abbrev pub IsKept : Inside → Type 0

@@ -1,5 +1,5 @@
 //! A job as far as its lines were read.
-ghost use Rattle.std.specs.Prelude.{◌≡◌, [], Some, OnOk};
+ghost use Rattle.std.specs.Prelude.{◌≡◌, true, [], Some, OnOk, IfErr};
 ghost use Rattle.mil_host.specs.Words.{words};
 ghost use Rattle.job_file.specs.HeadLines.{has};
 ghost use Rattle.job_file.specs.Lines.{channel, start, terminal, action, said};
@@ -7,6 +7,7 @@ ghost use Rattle.job_file.specs.Lines as says;
 ghost use Rattle.job_file.specs.Entries.{said_by};
 ghost use Rattle.job_file.specs.Drafts.{shown, Takes};
 ghost use Rattle.job_file.specs.Reading.{TakesLine, AreInRange};
+ghost use Rattle.job_file.specs.Faults.{IsEntryRefused, IsLineRefused, are_line_words};
 
 use crate::error::{LineFault, Refusal};
 use crate::lines::{Entry, read_line};
@@ -55,7 +56,8 @@ impl Draft {
     }
 
     fn name_channel(&mut self, number: u16) -> Result<(), Refusal>
-        ensures { Takes (channel number) (shown self.old) (shown self.new) result }
+        ensures takes { Takes (channel number) (shown self.old) (shown self.new) result }
+        ensures refused { IfErr result (IsEntryRefused (channel number) (shown self.old)) }
     {
         if self.channel.is_some() {
             return Err(Refusal::Line(LineFault::Order));
@@ -65,7 +67,8 @@ impl Draft {
     }
 
     fn start_at(&mut self, tick: u64) -> Result<(), Refusal>
-        ensures { Takes (start tick) (shown self.old) (shown self.new) result }
+        ensures takes { Takes (start tick) (shown self.old) (shown self.new) result }
+        ensures refused { IfErr result (IsEntryRefused (start tick) (shown self.old)) }
     {
         if self.start.is_some() {
             return Err(Refusal::Line(LineFault::Order));
@@ -75,7 +78,8 @@ impl Draft {
     }
 
     fn add_terminal(&mut self, address: u8) -> Result<(), Refusal>
-        ensures { Takes (terminal address) (shown self.old) (shown self.new) result }
+        ensures takes { Takes (terminal address) (shown self.old) (shown self.new) result }
+        ensures refused { IfErr result (IsEntryRefused (terminal address) (shown self.old)) }
     {
         if self.has(address) {
             return Err(Refusal::Line(LineFault::Terminal));
@@ -88,7 +92,8 @@ impl Draft {
 
     #[tactic(auto, unfolding(mil_host::specs::Reading::action_in))]
     fn place(&mut self, number: u32, address: u8, text: &[u8]) -> Result<(), Refusal>
-        ensures { Takes (action number address (words text.now)) (shown self.old) (shown self.new) result }
+        ensures takes { Takes (action number address (words text.now)) (shown self.old) (shown self.new) result }
+        ensures refused { IfErr result (IsEntryRefused (action number address (words text.now)) (shown self.old)) }
     {
         if !self.has(address) {
             return Err(Refusal::Line(LineFault::Terminal));
@@ -109,7 +114,8 @@ impl Draft {
     }
 
     fn plan_fault(&mut self, number: u32, fault: Fault) -> Result<(), Refusal>
-        ensures { Takes (says.fault number fault) (shown self.old) (shown self.new) result }
+        ensures takes { Takes (says.fault number fault) (shown self.old) (shown self.new) result }
+        ensures refused { IfErr result (IsEntryRefused (says.fault number fault) (shown self.old)) }
     {
         match self.plan.add(number, fault) {
             Ok(()) => Ok(()),
@@ -120,7 +126,8 @@ impl Draft {
 
     /// Takes in what a line says; the line of the script leaves the draft as it is.
     fn take(&mut self, entry: &Entry<'_>) -> Result<Taken, Refusal>
-        ensures { TakesLine (Some (said_by entry.now)) (shown self.old) (shown self.new) result }
+        ensures takes { TakesLine (Some (said_by entry.now)) (shown self.old) (shown self.new) result }
+        ensures refused { IfErr result (IsEntryRefused (said_by entry.now) (shown self.old)) }
     {
         match entry {
             Entry::Script => return Ok(Taken::Script),
@@ -142,6 +149,8 @@ impl Draft {
     pub fn take_line(&mut self, line: &[u8]) -> Result<Taken, Refusal>
         ensures taken { TakesLine (said line.now) (shown self.old) (shown self.new) result }
         ensures range { OnOk result (AreInRange (said line.now)) }
+        ensures words { OnOk result (are_line_words (words line.now) ≡ true) }
+        ensures refused { IfErr result (IsLineRefused line.now (shown self.old)) }
     {
         match read_line(line) {
             Ok(entry) => self.take(&entry),

@@ -61,8 +61,8 @@ pub enum JobError {
 
 impl JobError {
     /// What became of a line that was not taken in.
-    pub fn of_line(line: u64, refusal: Refusal) -> JobError
-        ensures { IsOfLine refusal result }
+    pub(crate) fn of_line(line: u64, refusal: Refusal) -> JobError
+        ensures { IsOfLine line refusal result }
     {
         match refusal {
             Refusal::Line(fault) => JobError::Line { line, fault },

@@ -2,13 +2,13 @@
 ghost use Rattle.std.specs.Prelude.{◌≡◌, ◌≤◌, true, Some, IfOk};
 ghost use Rattle.std.specs.List.{list_all};
 ghost use Rattle.mil_bus.specs.Addresses.{is_fit};
-ghost use Rattle.frame_tree.specs.Tree.{tree_of};
 ghost use Rattle.frame_tree.specs.Bounds.{IsSound};
 ghost use Rattle.frame_asm.specs.Shapes.{code_of};
 ghost use Rattle.bc_machine.specs.Running.{started};
 ghost use Rattle.job_file.specs.JobRanges.{may_act, IsFit};
 ghost use Rattle.job_file.specs.Drafts.{shown};
 ghost use Rattle.job_file.specs.Spelled.{first_or};
+ghost use Rattle.job_file.specs.Scripts.{tree_spelled, IsProgramOf};
 ghost use Rattle.job_file.specs.Jobs.{tree_in, job_in};
 ghost use Rattle.job_file.specs.Meaning.{bus_of};
 ghost use Rattle.job_file.specs.Machines.{IsOf, IsTold};
@@ -21,10 +21,9 @@ use mil_bus::Bus;
 use mil_line::Plan;
 use std::alloc::{AllocError, Global};
 use std::marker::Model;
-use std::snapshot::Snapshot;
 
 /// A job: the number of a channel, when its first message starts, its terminals, what their hosts do, the faults that are
-/// planned, and the program of its script. Contracts see the script itself too, of which no byte is kept.
+/// planned, and the program of its script. Contracts see the script's text too, of which no byte is kept.
 #[derive(Drop)]
 pub struct Job {
     channel: u16,
@@ -33,7 +32,7 @@ pub struct Job {
     actions: Vec<Placed>,
     plan: Plan,
     program: Program,
-    script: Snapshot<Script>,
+    script: Script,
 }
 
 impl Model for Job {
@@ -54,18 +53,17 @@ impl Model for Job {
 
 impl Job {
     /// The job of a draft that names its channel, with the program of its script.
-    pub(crate) fn make(channel: u16, draft: Draft, program: Program, script: &Script) -> Job
+    pub(crate) fn make(channel: u16, draft: Draft, program: Program, script: Script) -> Job
         requires channel { draft.channel ≡ Some channel }
         requires fit { IsFit (shown draft) }
-        requires sound { IsSound (tree_of script.now.frame) }
-        requires program { program ≡ code_of (tree_of script.now.frame) }
+        requires program { IsProgramOf script.text program }
         ensures { job_in result ≡ record {
           channel = channel;
           start = first_or 0 (shown draft).starts;
           addresses = (shown draft).addresses;
           actions = (shown draft).actions;
           plan = draft.plan;
-          tree = tree_of script.now.frame;
+          tree = tree_spelled script.text;
         } }
     {
         Job {
@@ -75,7 +73,7 @@ impl Job {
             actions: draft.actions,
             plan: draft.plan,
             program,
-            script: Snapshot::of(script),
+            script,
         }
     }
 

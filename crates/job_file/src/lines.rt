@@ -1,9 +1,14 @@
 //! What a line of a job says, by itself: whether it may stand where it does is judged elsewhere.
-ghost use Rattle.std.specs.Prelude.{◌≡◌, ◌≤◌, IfOk};
+ghost use Rattle.std.specs.Prelude.{◌≡◌, ◌≤◌, IfOk, IfErr};
+ghost use Rattle.std.specs.Option.{is_some};
 ghost use Rattle.mil_host.specs.Words.{words};
 ghost use Rattle.job_file.specs.Options.{Reads};
 ghost use Rattle.job_file.specs.Lines as lines;
 ghost use Rattle.job_file.specs.Entries.{said_by, IsInRange};
+ghost use Rattle.job_file.specs.Faults.{Judges, are_fault_words, are_words_behind, are_line_words};
+ghost use Rattle.job_file.specs.declared.error.LineFault.TheVariants.{Word as BadWord};
+ghost use Rattle.job_file.specs.declared.keywords.FaultWord.TheVariants as kinds;
+ghost use Rattle.job_file.specs.declared.keywords.Keyword.TheVariants as keywords;
 
 use crate::error::LineFault;
 use crate::keywords::{FaultWord, Keyword, fault_word_in, keyword_in, sync_in};
@@ -40,7 +45,8 @@ pub enum Entry<'a> {
 
 /// The first word, and what comes after it.
 fn first_word(text: &[u8]) -> Result<(&[u8], &[u8]), LineFault>
-    ensures { Reads (λ x. (x.0.now, words x.1.now)) result (lines.first (words text.now)) }
+    ensures value { Reads (λ x. (x.0.now, words x.1.now)) result (lines.first (words text.now)) }
+    ensures words { IfErr result (λ f. f ≡ BadWord) }
 {
     match next_word(text) {
         Some(split) => Ok(split),
@@ -50,7 +56,8 @@ fn first_word(text: &[u8]) -> Result<(&[u8], &[u8]), LineFault>
 
 /// No word is left.
 fn end(text: &[u8]) -> Result<(), LineFault>
-    ensures { Reads (λ x. x) result (lines.ended (words text.now) tt) }
+    ensures value { Reads (λ x. x) result (lines.ended (words text.now) tt) }
+    ensures words { IfErr result (λ f. f ≡ BadWord) }
 {
     match next_word(text) {
         Some(_) => Err(LineFault::Word),
@@ -61,7 +68,8 @@ fn end(text: &[u8]) -> Result<(), LineFault>
 /// The only word.
 #[tactic(auto, unfolding(crate::specs::Lines::one))]
 fn one_word(text: &[u8]) -> Result<&[u8], LineFault>
-    ensures { Reads (λ x. x.now) result (lines.one (words text.now)) }
+    ensures value { Reads (λ x. x.now) result (lines.one (words text.now)) }
+    ensures words { IfErr result (λ f. f ≡ BadWord) }
 {
     let (word, rest) = first_word(text)?;
     end(rest)?;
@@ -71,7 +79,8 @@ fn one_word(text: &[u8]) -> Result<&[u8], LineFault>
 /// The only two words.
 #[tactic(auto, unfolding(crate::specs::Lines::two))]
 fn two_words(text: &[u8]) -> Result<(&[u8], &[u8]), LineFault>
-    ensures { Reads (λ x. (x.0.now, x.1.now)) result (lines.two (words text.now)) }
+    ensures value { Reads (λ x. (x.0.now, x.1.now)) result (lines.two (words text.now)) }
+    ensures words { IfErr result (λ f. f ≡ BadWord) }
 {
     let (first, rest) = first_word(text)?;
     let second = one_word(rest)?;
@@ -81,7 +90,8 @@ fn two_words(text: &[u8]) -> Result<(&[u8], &[u8]), LineFault>
 /// The only three words.
 #[tactic(auto, unfolding(crate::specs::Lines::three))]
 fn three_words(text: &[u8]) -> Result<(&[u8], &[u8], &[u8]), LineFault>
-    ensures { Reads (λ x. (x.0.now, x.1.now, x.2.now)) result (lines.three (words text.now)) }
+    ensures value { Reads (λ x. (x.0.now, x.1.now, x.2.now)) result (lines.three (words text.now)) }
+    ensures words { IfErr result (λ f. f ≡ BadWord) }
 {
     let (first, rest) = first_word(text)?;
     let (second, third) = two_words(rest)?;
@@ -91,7 +101,8 @@ fn three_words(text: &[u8]) -> Result<(&[u8], &[u8], &[u8]), LineFault>
 /// The only four words.
 #[tactic(auto, unfolding(crate::specs::Lines::four))]
 fn four_words(text: &[u8]) -> Result<(&[u8], &[u8], &[u8], &[u8]), LineFault>
-    ensures { Reads (λ x. (x.0.now, x.1.now, x.2.now, x.3.now)) result (lines.four (words text.now)) }
+    ensures value { Reads (λ x. (x.0.now, x.1.now, x.2.now, x.3.now)) result (lines.four (words text.now)) }
+    ensures words { IfErr result (λ f. f ≡ BadWord) }
 {
     let (first, rest) = first_word(text)?;
     let (second, third, fourth) = three_words(rest)?;
@@ -100,7 +111,8 @@ fn four_words(text: &[u8]) -> Result<(&[u8], &[u8], &[u8], &[u8]), LineFault>
 
 #[tactic(auto, unfolding(crate::specs::Lines::mask_in))]
 fn mask(text: &[u8]) -> Result<Fault, LineFault>
-    ensures { Reads (λ f. f) result (lines.mask_in (words text.now)) }
+    ensures value { Reads (λ f. f) result (lines.mask_in (words text.now)) }
+    ensures words { Judges result (are_fault_words kinds.Mask (words text.now)) }
 {
     let (run, index, mask) = three_words(text)?;
     let run = number(run)?;
@@ -115,7 +127,8 @@ fn mask(text: &[u8]) -> Result<Fault, LineFault>
 
 #[tactic(auto, unfolding(crate::specs::Lines::drop_in))]
 fn dropped(text: &[u8]) -> Result<Fault, LineFault>
-    ensures { Reads (λ f. f) result (lines.drop_in (words text.now)) }
+    ensures value { Reads (λ f. f) result (lines.drop_in (words text.now)) }
+    ensures words { Judges result (are_fault_words kinds.Drop (words text.now)) }
 {
     let (run, index) = two_words(text)?;
     let run = number(run)?;
@@ -125,7 +138,8 @@ fn dropped(text: &[u8]) -> Result<Fault, LineFault>
 
 #[tactic(auto, unfolding(crate::specs::Lines::add_in))]
 fn added(text: &[u8]) -> Result<Fault, LineFault>
-    ensures { Reads (λ f. f) result (lines.add_in (words text.now)) }
+    ensures value { Reads (λ f. f) result (lines.add_in (words text.now)) }
+    ensures words { Judges result (are_fault_words kinds.Add (words text.now)) }
 {
     let (run, index, name, value) = four_words(text)?;
     let sync = sync_in(name)?;
@@ -141,7 +155,8 @@ fn added(text: &[u8]) -> Result<Fault, LineFault>
 
 #[tactic(auto, unfolding(crate::specs::Lines::late_in))]
 fn late(text: &[u8]) -> Result<Fault, LineFault>
-    ensures { Reads (λ f. f) result (lines.late_in (words text.now)) }
+    ensures value { Reads (λ f. f) result (lines.late_in (words text.now)) }
+    ensures words { Judges result (are_fault_words kinds.Late (words text.now)) }
 {
     let (run, ticks) = two_words(text)?;
     let run = number(run)?;
@@ -151,7 +166,8 @@ fn late(text: &[u8]) -> Result<Fault, LineFault>
 
 #[tactic(auto, unfolding(crate::specs::Lines::mute_in))]
 fn muted(text: &[u8]) -> Result<Fault, LineFault>
-    ensures { Reads (λ f. f) result (lines.mute_in (words text.now)) }
+    ensures value { Reads (λ f. f) result (lines.mute_in (words text.now)) }
+    ensures words { Judges result (are_fault_words kinds.Mute (words text.now)) }
 {
     let run = one_word(text)?;
     let run = number(run)?;
@@ -160,7 +176,8 @@ fn muted(text: &[u8]) -> Result<Fault, LineFault>
 
 #[tactic(auto, unfolding(crate::specs::Lines::fault_of))]
 fn fault_named(kind: FaultWord, text: &[u8]) -> Result<Fault, LineFault>
-    ensures { Reads (λ f. f) result (lines.fault_of kind (words text.now)) }
+    ensures value { Reads (λ f. f) result (lines.fault_of kind (words text.now)) }
+    ensures words { Judges result (are_fault_words kind (words text.now)) }
 {
     match kind {
         FaultWord::Mask => mask(text),
@@ -175,6 +192,7 @@ fn fault_named(kind: FaultWord, text: &[u8]) -> Result<Fault, LineFault>
 fn channel(text: &[u8]) -> Result<Entry<'_>, LineFault>
     ensures said { Reads said_by result (lines.channel_in (words text.now)) }
     ensures range { IfOk result (λ e. IsInRange (said_by e)) }
+    ensures words { Judges result (are_words_behind keywords.Channel (words text.now)) }
 {
     let word = one_word(text)?;
     let channel = number_within(word, 1, 65_535)?;
@@ -185,6 +203,7 @@ fn channel(text: &[u8]) -> Result<Entry<'_>, LineFault>
 fn start(text: &[u8]) -> Result<Entry<'_>, LineFault>
     ensures said { Reads said_by result (lines.start_in (words text.now)) }
     ensures range { IfOk result (λ e. IsInRange (said_by e)) }
+    ensures words { Judges result (are_words_behind keywords.Start (words text.now)) }
 {
     let word = one_word(text)?;
     let start = start_tick(word)?;
@@ -195,6 +214,7 @@ fn start(text: &[u8]) -> Result<Entry<'_>, LineFault>
 fn terminal(text: &[u8]) -> Result<Entry<'_>, LineFault>
     ensures said { Reads said_by result (lines.terminal_in (words text.now)) }
     ensures range { IfOk result (λ e. IsInRange (said_by e)) }
+    ensures words { Judges result (are_words_behind keywords.Terminal (words text.now)) }
 {
     let word = one_word(text)?;
     let address = number_within(word, 0, 30)?;
@@ -205,6 +225,7 @@ fn terminal(text: &[u8]) -> Result<Entry<'_>, LineFault>
 fn action(text: &[u8]) -> Result<Entry<'_>, LineFault>
     ensures said { Reads said_by result (lines.action_in (words text.now)) }
     ensures range { IfOk result (λ e. IsInRange (said_by e)) }
+    ensures words { Judges result (are_words_behind keywords.At (words text.now)) }
 {
     let (number, rest) = first_word(text)?;
     let (address, text) = first_word(rest)?;
@@ -222,6 +243,7 @@ fn action(text: &[u8]) -> Result<Entry<'_>, LineFault>
 fn fault(text: &[u8]) -> Result<Entry<'_>, LineFault>
     ensures said { Reads said_by result (lines.fault_in (words text.now)) }
     ensures range { IfOk result (λ e. IsInRange (said_by e)) }
+    ensures words { Judges result (are_words_behind keywords.Fault (words text.now)) }
 {
     let (message, rest) = first_word(text)?;
     let (name, rest) = first_word(rest)?;
@@ -234,6 +256,7 @@ fn fault(text: &[u8]) -> Result<Entry<'_>, LineFault>
 fn script(text: &[u8]) -> Result<Entry<'_>, LineFault>
     ensures said { Reads said_by result (lines.ended (words text.now) lines.script) }
     ensures range { IfOk result (λ e. IsInRange (said_by e)) }
+    ensures words { Judges result (are_words_behind keywords.Script (words text.now)) }
 {
     end(text)?;
     Ok(Entry::Script)
@@ -243,6 +266,7 @@ fn script(text: &[u8]) -> Result<Entry<'_>, LineFault>
 fn after_keyword(keyword: Keyword, text: &[u8]) -> Result<Entry<'_>, LineFault>
     ensures said { Reads said_by result (lines.of_keyword keyword (words text.now)) }
     ensures range { IfOk result (λ e. IsInRange (said_by e)) }
+    ensures words { Judges result (are_words_behind keyword (words text.now)) }
 {
     match keyword {
         Keyword::Channel => channel(text),
@@ -269,6 +293,7 @@ fn is_comment(word: &[u8]) -> bool
 pub fn read_line(line: &[u8]) -> Result<Entry<'_>, LineFault>
     ensures said { Reads said_by result (lines.said line.now) }
     ensures range { IfOk result (λ e. IsInRange (said_by e)) }
+    ensures words { Judges result (are_line_words (words line.now)) }
 {
     let Some((word, rest)) = next_word(line) else {
         return Ok(Entry::Blank);

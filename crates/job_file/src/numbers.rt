@@ -1,8 +1,9 @@
 //! Numbers in the lines of a job.
-ghost use Rattle.std.specs.Prelude.{◌≡◌, ◌≤◌, ◌<◌, ◌^◌, IfOk, IfSome};
+ghost use Rattle.std.specs.Prelude.{◌≡◌, ◌≤◌, ◌<◌, ◌^◌, IfOk, IfErr, IfSome};
 ghost use Rattle.std.specs.Char.{digit_value};
 ghost use Rattle.job_file.specs.Options.{Reads};
 ghost use Rattle.job_file.specs.Numbers.{spelled, number_of, number_within, data_word_of, half_bits_of, start_of};
+ghost use Rattle.job_file.specs.declared.error.LineFault.TheVariants.{Number};
 
 use crate::error::LineFault;
 use mil_word::Wave;
@@ -26,6 +27,7 @@ fn spelled(base: u8, least: usize, most: usize, word: &[u8]) -> Result<u64, Line
     requires few { most ≤ 15 }
     ensures value { Reads (λ n. n) result (spelled base least most word.now) }
     ensures small { IfOk result (λ n. n < 16 ^ most) }
+    ensures fault { IfErr result (λ f. f ≡ Number) }
 {
     if word.len() < least || most < word.len() {
         return Err(LineFault::Number);
@@ -43,7 +45,8 @@ fn spelled(base: u8, least: usize, most: usize, word: &[u8]) -> Result<u64, Line
 
 /// A number of one to seven decimal digits.
 pub fn number(word: &[u8]) -> Result<u32, LineFault>
-    ensures { Reads (λ n. n) result (number_of word.now) }
+    ensures value { Reads (λ n. n) result (number_of word.now) }
+    ensures fault { IfErr result (λ f. f ≡ Number) }
 {
     let value = spelled(10, 1, 7, word)?;
     Ok(value as u32)
@@ -54,6 +57,7 @@ pub fn number_within(word: &[u8], low: u32, high: u32) -> Result<u32, LineFault>
     ensures value { Reads (λ n. n) result (number_within low high word.now) }
     ensures low { IfOk result (λ n. low ≤ n) }
     ensures high { IfOk result (λ n. n ≤ high) }
+    ensures fault { IfErr result (λ f. f ≡ Number) }
 {
     let value = number(word)?;
     if low <= value && value <= high {
@@ -67,6 +71,7 @@ pub fn number_within(word: &[u8], low: u32, high: u32) -> Result<u32, LineFault>
 pub fn start_tick(word: &[u8]) -> Result<u64, LineFault>
     ensures value { Reads (λ n. n) result (start_of word.now) }
     ensures high { IfOk result (λ n. n ≤ 140737488355328) }
+    ensures fault { IfErr result (λ f. f ≡ Number) }
 {
     let value = spelled(10, 1, 15, word)?;
     if value <= 140_737_488_355_328 {
@@ -78,7 +83,8 @@ pub fn start_tick(word: &[u8]) -> Result<u64, LineFault>
 
 /// A data word of four hexadecimal digits.
 pub fn data_word(word: &[u8]) -> Result<u16, LineFault>
-    ensures { Reads (λ n. n) result (data_word_of word.now) }
+    ensures value { Reads (λ n. n) result (data_word_of word.now) }
+    ensures fault { IfErr result (λ f. f ≡ Number) }
 {
     let value = spelled(16, 4, 4, word)?;
     Ok(value as u16)
@@ -86,7 +92,8 @@ pub fn data_word(word: &[u8]) -> Result<u16, LineFault>
 
 /// Forty half bits as ten hexadecimal digits.
 pub fn half_bits(word: &[u8]) -> Result<Wave, LineFault>
-    ensures { Reads (λ n. n) result (half_bits_of word.now) }
+    ensures value { Reads (λ n. n) result (half_bits_of word.now) }
+    ensures fault { IfErr result (λ f. f ≡ Number) }
 {
     let value = spelled(16, 10, 10, word)?;
     Ok(Wave::of(value))

@@ -8,6 +8,7 @@ ghost use Rattle.job_file.specs.Drafts.{shown};
 ghost use Rattle.job_file.specs.JobRanges.{IsFit};
 ghost use Rattle.job_file.specs.Spelled.{spelled, job_of};
 ghost use Rattle.job_file.specs.Reading.{IsRefusal, IsScriptRefusal, IsCodeRefusal};
+ghost use Rattle.job_file.specs.Faults.{IsHead, IsFirstFault, IsScriptRefused, IsLineOf};
 ghost use Rattle.job_file.specs.Jobs.{job_in};
 
 use crate::drafts::{Draft, Taken};
@@ -15,6 +16,7 @@ use crate::error::{JobError, LineFault};
 use crate::jobs::Job;
 use crate::scripts::Script;
 use crate::text_lines::next_line;
+use bumpalo::Bump;
 use frame_asm::{AsmError, assemble};
 use frame_load::{LoadError, Program, load};
 use frame_text::{Place, ScriptError, parse};
@@ -33,6 +35,8 @@ struct Head<'a> {
 fn read_head(alloc: Global, text: &[u8]) -> Result<Head<'_>, JobError>
     ensures read { MatchResult result (λ h. spelled text.now ≡ job_of (shown h.draft) h.script.now) (IsRefusal (spelled text.now)) }
     ensures fit { IfOk result (λ h. IsFit (shown h.draft)) }
+    ensures head { IfOk result (λ h. IsHead text.now (shown h.draft) h.line h.script.now) }
+    ensures first { IfErr result (IsFirstFault text.now) }
 {
     let mut draft = Draft::make(alloc);
     let mut rest = text;
@@ -51,7 +55,7 @@ fn read_head(alloc: Global, text: &[u8]) -> Result<Head<'_>, JobError>
             Err(refusal) => return Err(JobError::of_line(line, refusal)),
         }
         rest = behind;
-        line = line.saturating_add(1);
+        line += 1;
     }
     Err(JobError::Line {
         line,
@@ -67,13 +71,13 @@ fn placed(line: u64, place: Place) -> Place {
     }
 }
 
-/// The frame of a script that begins behind a line.
-fn read_script(alloc: Global, line: u64, text: &[u8]) -> Result<Frame<Global>, JobError>
+/// The frame of a script that begins behind a line, in an arena.
+fn read_script<'a>(arena: &'a Bump, line: u64, text: &[u8]) -> Result<Frame<&'a Bump>, JobError>
     ensures tree { IfOk result (λ f. tree_of_text text.now ≡ Ok (tree_of f)) }
     ensures refused { IfErr result (IsScriptRefusal (tree_of_text text.now)) }
     ensures sound { IfOk result (λ f. IsSound (tree_of f)) }
 {
-    match parse(alloc, text) {
+    match parse(arena, text) {
         Ok(frame) => Ok(frame),
         Err(ScriptError::Text { cause, place }) => Err(JobError::Script {
             cause,
@@ -84,10 +88,11 @@ fn read_script(alloc: Global, line: u64, text: &[u8]) -> Result<Frame<Global>, J
 }
 
 /// The program of a frame; a refusal stands at the line of the script.
-fn program(alloc: Global, line: u64, frame: &Frame<Global>) -> Result<Program, JobError>
+fn program(alloc: Global, line: u64, frame: &Frame<&Bump>) -> Result<Program, JobError>
     requires { IsSound (tree_of frame.now) }
     ensures program { IfOk result (λ p. p ≡ code_of (tree_of frame.now)) }
     ensures refused { IfErr result (IsCodeRefusal (code_of (tree_of frame.now))) }
+    ensures line { IfErr result (IsLineOf line) }
 {
     let image = match assemble(alloc, frame) {
         Ok(image) => image,
@@ -101,11 +106,26 @@ fn program(alloc: Global, line: u64, frame: &Frame<Global>) -> Result<Program, J
     }
 }
 
-/// The job of the lines above a script, and of the script, which begins behind a line.
-fn finish(alloc: Global, draft: Draft, line: u64, script: &[u8]) -> Result<Job, JobError>
+/// Gives up all that stands in an arena; where that is refused, a new arena takes its place.
+fn give_up(alloc: Global, arena: &mut Bump) {
+    if arena.reset().is_err() {
+        *arena = Bump::new(alloc);
+    }
+}
+
+/// The job of the lines above a script, and of the script, which begins behind a line. The script's tree stands in the arena until
+/// its image is made.
+fn finish(
+    alloc: Global,
+    arena: &mut Bump,
+    draft: Draft,
+    line: u64,
+    script: &[u8],
+) -> Result<Job, JobError>
     requires { IsFit (shown draft) }
     ensures job { IfOk result (λ j. job_of (shown draft) script.now ≡ Some (job_in j)) }
     ensures refused { IfErr result (IsRefusal (job_of (shown draft) script.now)) }
+    ensures first { IfErr result (IsScriptRefused (shown draft) line script.now) }
 {
     let Some(channel) = draft.channel else {
         return Err(JobError::Line {
@@ -113,23 +133,35 @@ fn finish(alloc: Global, draft: Draft, line: u64, script: &[u8]) -> Result<Job, 
             fault: LineFault::Order,
         });
     };
-    let frame = read_script(alloc, line, script)?;
+    let frame = read_script(arena, line, script)?;
     let program = program(alloc, line, &frame)?;
-    let script = Script { frame };
-    Ok(Job::make(channel, draft, program, &script))
+    drop(frame);
+    give_up(alloc, arena);
+    Ok(Job::make(channel, draft, program, Script::of(script)))
 }
 
-/// The job that a text spells: lines `channel N`, `start TICK`, `terminal ADDRESS`, `at NUMBER ADDRESS ACTION` and
-/// `fault NUMBER FAULT`, and below a line `script` the script. The first fault is answered, line by line: J1 to J6, then J7 of the
-/// script, and J8 where memory is refused.
-pub fn read_job(alloc: Global, text: &[u8]) -> Result<Job, JobError>
+/// The job that a text spells, whose script's tree stands in the arena meanwhile.
+pub(crate) fn read_in(alloc: Global, arena: &mut Bump, text: &[u8]) -> Result<Job, JobError>
     ensures job { IfOk result (λ j. spelled text.now ≡ Some (job_in j)) }
     ensures refused { IfErr result (IsRefusal (spelled text.now)) }
+    ensures first { IfErr result (IsFirstFault text.now) }
 {
     let Head {
         draft,
         line,
         script,
     } = read_head(alloc, text)?;
-    finish(alloc, draft, line, script)
+    finish(alloc, arena, draft, line, script)
+}
+
+/// The job that a text spells: lines `channel N`, `start TICK`, `terminal ADDRESS`, `at NUMBER ADDRESS ACTION` and
+/// `fault NUMBER FAULT`, and below a line `script` the script. The first fault is answered, line by line: J1 to J6, then J7 of the
+/// script, and J8 where memory is refused. The script's tree stands in an arena, which is given up once the image is made.
+pub fn read_job(alloc: Global, text: &[u8]) -> Result<Job, JobError>
+    ensures job { IfOk result (λ j. spelled text.now ≡ Some (job_in j)) }
+    ensures refused { IfErr result (IsRefusal (spelled text.now)) }
+    ensures first { IfErr result (IsFirstFault text.now) }
+{
+    let mut arena = Bump::new(alloc);
+    read_in(alloc, &mut arena, text)
 }

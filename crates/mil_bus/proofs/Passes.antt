@@ -26,7 +26,7 @@ length-push_if : (b : Bool) (ws : List Sent) (w : Sent) → length (ws ++ (if b 
 length-push_if true ws w = length-append ws (w ∷ [])
 length-push_if false ws w = length-append ws [] ∙ omega arith
 
-or_false : (a : Bool) → (a || false) ≡ a
+pub or_false : (a : Bool) → (a || false) ≡ a
 or_false true = refl
 or_false false = refl
 

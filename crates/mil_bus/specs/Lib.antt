@@ -1,6 +1,7 @@
 pub mod Times
 pub mod Counts
 pub mod Pass
+pub mod Lengthened
 pub mod BlockStatus
 pub mod Exchange
 pub mod Offers
@@ -8,5 +9,6 @@ pub mod Actions
 pub mod Addresses
 pub mod KeepsTimes
 pub mod Index
+pub mod DataRuns
 pub mod Enough
 pub mod Codes

@@ -5,13 +5,14 @@ ghost use Rattle.std.specs.Option.{is_some, option_copied};
 ghost use Rattle.mil_line.specs.Ranges.{is_in_range};
 ghost use Rattle.mil_bus.specs.Actions.{place_of, station_of, acted};
 ghost use Rattle.mil_bus.specs.Addresses.{is_fit, stations_of};
+ghost use Rattle.mil_bus.specs.Counts.{seen_of};
 ghost use Rattle.mil_bus.specs.Exchange.{exchanged, talk_of, next_start, clock_of, last_on, gap_since, least_after};
 
 use crate::addresses::is_fit;
 use crate::offers::Offered;
 use crate::runs::all_runs;
 use crate::terminals::Terminals;
-use crate::{BusError, Source, Talk};
+use crate::{BusError, Seen, Source, Talk};
 use arrayvec::ArrayVec;
 use history::History;
 use mil_host::Action;
@@ -46,11 +47,12 @@ impl Model for Bus {
     ghost invariant = { λ b. KeepsTimes b.begin b.clock b.least b.on_a b.on_b b.past };
 }
 
-/// The least gap after a talk, in ticks.
-fn least_gap(talk: &Talk) -> u16
+/// The least gap after a talk, in ticks, from what is seen of it.
+fn least_gap(talk: &Talk, seen: &Seen) -> u16
+    requires seen { seen.now ≡ seen_of talk.now.message talk.now.sent.items }
     ensures value { result ≡ least_after talk.now }
 {
-    if talk.outcome().failed || talk.is_controllers_last() {
+    if talk.outcome_by(seen).failed || talk.is_controllers_last() {
         180
     } else {
         40
@@ -127,7 +129,8 @@ impl Bus {
     }
 
     /// Keeps what the next exchange needs of a talk.
-    fn note(&mut self, talk: &Talk)
+    fn note(&mut self, talk: &Talk, seen: &Seen)
+        requires seen { seen.now ≡ seen_of talk.now.message talk.now.sent.items }
         requires small { talk.now.start < 2 ^ 61 }
         requires after { clock_of self.old.start self.old.talks ≤ talk.now.start }
         ensures soon { clock_of self.new.start self.new.talks ≤ talk.now.start + 2 ^ 23 }
@@ -135,7 +138,7 @@ impl Bus {
     {
         let end = talk.end();
         self.clock = end;
-        self.least = Some(least_gap(talk));
+        self.least = Some(least_gap(talk, seen));
         if !talk.sent.is_empty() {
             match talk.line {
                 Line::A => self.on_a = Some(end),
@@ -154,6 +157,27 @@ impl Bus {
         requires in_range { list_all is_in_range faults.now ≡ true }
         ensures bus { self.new ≡ exchanged self.old line message.now gap faults.now }
         ensures talk { result ≡ talk_of self.old line message.now gap faults.now }
+        ensures soon { clock_of self.new.start self.new.talks ≤ clock_of self.old.start self.old.talks + 2 ^ 24 }
+    {
+        let mut seen = Seen::none();
+        self.exchange_seen(line, message, gap, faults, &mut seen)
+    }
+
+    /// The same, with what is seen of the talk in the place of what was seen before, so that an outcome and a record of it need
+    /// not look at its words again.
+    pub fn exchange_seen(
+        &mut self,
+        line: Line,
+        message: &Message,
+        gap: Gap,
+        faults: &[Fault],
+        seen: &mut Seen,
+    ) -> Talk
+        requires clock { clock_of self.old.start self.old.talks < 2 ^ 60 }
+        requires in_range { list_all is_in_range faults.now ≡ true }
+        ensures bus { self.new ≡ exchanged self.old line message.now gap faults.now }
+        ensures talk { result ≡ talk_of self.old line message.now gap faults.now }
+        ensures seen { seen.new ≡ seen_of result.message result.sent.items }
         ensures soon { clock_of self.new.start self.new.talks ≤ clock_of self.old.start self.old.talks + 2 ^ 24 }
     {
         let start = self.next_start(gap);
@@ -175,7 +199,8 @@ impl Bus {
             faults,
             &mut offer,
         );
-        self.note(&talk);
+        *seen = talk.seen();
+        self.note(&talk, seen);
         talk
     }
 

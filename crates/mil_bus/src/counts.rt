@@ -1,7 +1,8 @@
 //! What one pass over the words of a talk counts.
-ghost use Rattle.std.specs.Prelude.{◌≡◌, ◌<◌, ◌≤◌, length};
+ghost use Rattle.std.specs.Prelude.{◌≡◌, ℕ, ◌+◌, ◌<◌, ◌≤◌, [], length};
 ghost use Rattle.mil_bus.specs.Counts.{counts_of, takes_command, differs};
 ghost use Rattle.mil_bus.specs.Pass.{noted, one_more, words_in, place_in};
+ghost use Rattle.mil_bus.specs.Lengthened.{is_data, AreLike, longer, goes_on, lengthened};
 ghost use Rattle.mil_word.specs.Words.{is_command_sync};
 
 use crate::Sent;
@@ -73,6 +74,32 @@ fn differs(command: bool, word: Option<Word>) -> bool
     }
 }
 
+/// Whether this is a sound data word.
+#[inline]
+fn is_data(word: Option<Word>) -> bool
+    ensures { result ≡ is_data word }
+{
+    match word {
+        None => false,
+        Some(word) => !is_command(word),
+    }
+}
+
+/// A reply with so many words more.
+fn longer(came: Option<Came>, more: u8) -> Option<Came>
+    requires { words_in came + more < 256 }
+    ensures { result ≡ longer came more }
+{
+    match came {
+        None => None,
+        Some(came) => Some(Came {
+            gap: came.gap,
+            first: came.first,
+            count: came.count + more,
+        }),
+    }
+}
+
 /// A reply with one more word.
 fn one_more(came: Option<Came>, gap: Gap, word: Option<Word>) -> Option<Came>
     requires { words_in came < 100 }
@@ -103,6 +130,21 @@ fn words_in(came: Option<Came>) -> u8
 }
 
 impl Seen {
+    /// What is seen where no word was sent.
+    #[tactic(auto, unfolding(crate::specs::Counts::counts_of))]
+    pub fn none() -> Seen
+        ensures { (commands due : ℕ) → result ≡ counts_of commands due [] }
+    {
+        Seen {
+            controllers: 0,
+            one: None,
+            two: None,
+            beyond: false,
+            unsound: false,
+            other_sync: false,
+        }
+    }
+
     /// Where the next word of a run stands in it, as far as that matters.
     fn place(&self, run: u8) -> u8
         ensures { result ≡ place_in self.now run }
@@ -116,6 +158,37 @@ impl Seen {
         }
     }
 
+    /// Whether a further data word of a run is in its place.
+    fn goes_on(&self, commands: u8, due: u8, run: u8) -> bool
+        ensures { result ≡ goes_on commands due self.now run }
+    {
+        if run == 0 {
+            !(self.controllers < commands)
+        } else if run == 1 {
+            0 < words_in(self.one) && (self.beyond || !(due < 1))
+        } else if run == 2 {
+            0 < words_in(self.two) && (self.beyond || !(due < 2))
+        } else {
+            false
+        }
+    }
+
+    /// Counts so many data words more, each in its place.
+    fn lengthen(&mut self, run: u8, more: u8)
+        requires controllers { self.old.controllers + more < 256 }
+        requires one { words_in self.old.one + more < 256 }
+        requires two { words_in self.old.two + more < 256 }
+        ensures { self.new ≡ lengthened self.old run more }
+    {
+        if run == 0 {
+            self.controllers += more;
+        } else if run == 1 {
+            self.one = longer(self.one, more);
+        } else if run == 2 {
+            self.two = longer(self.two, more);
+        }
+    }
+
     /// Counts one more word.
     fn note(&mut self, commands: u8, due: u8, sent: &Sent)
         requires controllers { self.old.controllers < 100 }
@@ -124,39 +197,60 @@ impl Seen {
         ensures { self.new ≡ noted commands due self.old sent.now }
     {
         let word = decode(sent.wave);
-        let place = self.place(sent.run);
-        self.other_sync = self.other_sync
-            || differs(takes_command(commands, due, sent.run, place), word);
         self.unsound = self.unsound || word.is_none();
-        self.beyond = self.beyond || due < sent.run;
         if sent.run == 0 {
+            self.other_sync = self.other_sync || differs(self.controllers < commands, word);
             self.controllers += 1;
+            return;
         }
+        self.other_sync = self.other_sync
+            || differs(
+                takes_command(commands, due, sent.run, self.place(sent.run)),
+                word,
+            );
+        self.beyond = self.beyond || due < sent.run;
         if sent.run == 1 {
             self.one = one_more(self.one, sent.gap, word);
-        }
-        if sent.run == 2 {
+        } else if sent.run == 2 {
             self.two = one_more(self.two, sent.gap, word);
         }
     }
 }
 
-/// One pass over the words of a talk, where so many commands are sent and so many replies are due.
+/// How many words at the beginning of these are sound data words of a run.
+fn count_like(run: u8, words: &[Sent]) -> usize
+    ensures within { result ≤ length words.now }
+    ensures like { AreLike run result words.now }
+{
+    for i in 0..words.len() {
+        if words[i].run != run || !is_data(decode(words[i].wave)) {
+            return i;
+        }
+    }
+    words.len()
+}
+
+/// One pass over the words of a talk, where so many commands are sent and so many replies are due. The data words of a run,
+/// once the first is in its place, are counted together.
 pub fn counted(commands: u8, due: u8, sent: &[Sent]) -> Seen
     requires few { length sent.now ≤ 40 }
     requires two { due ≤ 2 }
     ensures { result ≡ counts_of commands due sent.now }
 {
-    let mut seen = Seen {
-        controllers: 0,
-        one: None,
-        two: None,
-        beyond: false,
-        unsound: false,
-        other_sync: false,
-    };
-    for word in sent {
-        seen.note(commands, due, word);
+    let mut seen = Seen::none();
+    let mut from = 0;
+    for _step in 0..40_usize {
+        if from == sent.len() {
+            return seen;
+        }
+        let run = sent[from].run;
+        seen.note(commands, due, &sent[from]);
+        from += 1;
+        if seen.goes_on(commands, due, run) {
+            let more = count_like(run, &sent[from..]);
+            seen.lengthen(run, more as u8);
+            from += more;
+        }
     }
     seen
 }

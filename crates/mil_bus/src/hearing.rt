@@ -36,7 +36,8 @@ pub fn concerned(places: &[u8; 32], opened: u32, decoded: Option<Word>) -> u32
 }
 
 /// Whether a word is this terminal's own.
-fn is_sender(source: Source, own: u8) -> bool
+#[inline]
+pub fn is_sender(source: Source, own: u8) -> bool
     ensures { result ≡ sends source own }
 {
     match source {
@@ -59,7 +60,7 @@ fn tell(terminal: &mut Terminal, line: Line, sent: &Sent, decoded: Option<Word>)
 
 /// A word that does not concern a terminal comes to it: its history alone grows, which costs nothing.
 #[inline]
-fn pass(terminal: &mut Terminal, line: Line, sent: &Sent)
+pub fn pass(terminal: &mut Terminal, line: Line, sent: &Sent)
     requires other { opens terminal.old.own (Heard line sent.now.wave sent.now.gap) ≡ false }
     requires closed { IsClosed terminal.old }
     ensures after { terminal.new ≡ hearing line sent.now terminal.old }

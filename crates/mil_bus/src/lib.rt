@@ -8,6 +8,7 @@ mod bits;
 pub mod buses;
 mod copies;
 pub mod counts;
+mod data_runs;
 pub mod error;
 mod hearing;
 pub mod laws;

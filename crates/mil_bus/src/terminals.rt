@@ -4,12 +4,14 @@ ghost use Rattle.std.specs.Option.{is_some, option_copied};
 ghost use Rattle.mil_bus.specs.Actions.{place_of, station_of, acting};
 ghost use Rattle.mil_bus.specs.Addresses.{stations_of};
 ghost use Rattle.mil_bus.specs.Exchange.{hearing, all_hearing, quieted, first_reply};
+ghost use Rattle.mil_bus.specs.DataRuns.{hearing_all, AreNoCommands};
 ghost use Rattle.mil_bus.specs.Offers.{given};
 
 use crate::Sent;
 use crate::addresses::fresh;
 use crate::bits::with_bit;
 use crate::copies::copied;
+use crate::data_runs::{count_to_commands, tell_data};
 use crate::hearing::{concerned, tell_all};
 use crate::offers::Offered;
 use crate::quieting::quiet_all;
@@ -65,13 +67,30 @@ impl Terminals {
         self.opened = tell_all(&mut self.list, mask, line, sent, decoded);
     }
 
-    /// Words come to all terminals.
-    pub fn hear_all(&mut self, line: Line, sent: &[Sent])
+    /// Words come to all terminals, one after the other.
+    fn hear_each(&mut self, line: Line, sent: &[Sent])
         ensures { self.new ≡ all_hearing line sent.now self.old }
     {
         for word in sent {
             self.hear(line, word);
         }
+    }
+
+    /// Words that are no commands come to all terminals. They concern those alone that have an open window.
+    fn hear_data(&mut self, line: Line, sent: &[Sent])
+        requires { AreNoCommands 0 sent.now }
+        ensures { self.new ≡ map (hearing_all line sent.now) self.old }
+    {
+        self.opened = tell_data(&mut self.list, self.opened, line, sent);
+    }
+
+    /// Words come to all terminals: those up to the last command one after the other, and those behind it as a whole.
+    pub fn hear_all(&mut self, line: Line, sent: &[Sent])
+        ensures { self.new ≡ all_hearing line sent.now self.old }
+    {
+        let count = count_to_commands(sent);
+        self.hear_each(line, &sent[..count]);
+        self.hear_data(line, &sent[count..]);
     }
 
     /// A quiet comes to all terminals, and the first to answer, in order of address, gives the next words; whether one does.

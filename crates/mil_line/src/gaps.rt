@@ -1,26 +1,31 @@
 //! The gap before a word.
 ghost use Rattle.std.specs.Prelude.{◌≡◌, ◌≤◌, ◌==◌};
+ghost use Rattle.std.specs.Cmp.Rules.{comparing};
+ghost use Rattle.std.proofs.Common.{rules};
 
 use std::marker::Model;
 
 /// The gap before a word, 20 to 65,535 ticks of 0.1 µs; contracts see the number. It runs from the middle of the
 /// parity bit of the word before to the middle of the word's sync (MIL-STD-1553B 4.3.3.7, 4.3.3.8), so contiguous
 /// words have a gap of 20, and 65,535 stands for all longer ones.
-#[derive(Clone, Copy, Debug, PartialEq, Eq)]
+#[derive(Clone, Copy, Debug)]
 pub struct Gap {
-    ticks: u16,
+    /// The ticks over 20, so that rooms for words that have the gap of contiguous ones are all zeros.
+    over: u16,
 }
 
 impl Model for Gap {
-    ghost use Rattle.std.specs.Prelude.{ℕ, ◌<◌, ◌≤◌, ◌^◌};
+    ghost use Rattle.std.specs.Prelude.{◌≡◌, ℕ, ◌+◌, ◌-◌, ◌<◌, ◌^◌};
 
     ghost Value = { ℕ };
 
-    ghost view = { λ g. g.ticks };
+    ghost view = { λ g. g.over + 20 };
 
-    ghost invariant = { λ g. (20 ≤ g.ticks) × (g.ticks < 2 ^ 16) };
+    ghost invariant = { λ g. (g.over + 20 < 2 ^ 16) × (g.over + 20 - 20 ≡ g.over) };
 
-    ghost inverse = { λ n. record { ticks = n } };
+    ghost inverse = { λ n. record { over = n - 20 } };
+
+    ghost inverse_ok = { λ g h i. record { over = h.1 i } };
 }
 
 impl Gap {
@@ -30,7 +35,7 @@ impl Gap {
         requires { 20 ≤ ticks }
         ensures { result ≡ ticks }
     {
-        Gap { ticks }
+        Gap { over: ticks - 20 }
     }
 
     /// The gap of a word that follows the one before at once.
@@ -38,7 +43,7 @@ impl Gap {
     pub fn contiguous() -> Gap
         ensures { result ≡ 20 }
     {
-        Gap { ticks: 20 }
+        Gap { over: 0 }
     }
 
     /// The ticks of this gap.
@@ -47,7 +52,7 @@ impl Gap {
         ensures value { result ≡ self }
         ensures at_least { 20 ≤ result }
     {
-        self.ticks
+        self.over + 20
     }
 
     /// Whether a word with this gap follows the one before at once.
@@ -55,8 +60,23 @@ impl Gap {
     pub fn is_contiguous(self) -> bool
         ensures { result ≡ (self == 20) }
     {
-        self.ticks == 20
+        self.over == 0
     }
+}
+
+/// Two gaps are equal where their ticks are.
+impl PartialEq for Gap {
+    ghost eq = { λ a b. a == b };
+
+    ghost laws = { Prim.search (comparing, rules) };
+
+    fn eq(&self, other: &Gap) -> bool {
+        self.ticks() == other.ticks()
+    }
+}
+
+impl Eq for Gap {
+    ghost laws = { Prim.search (comparing, rules) };
 }
 
 /// The gap of a word that follows the one before at once.
@@ -66,6 +86,6 @@ impl Default for Gap {
     fn default() -> Gap
         ensures { result ≡ 20 }
     {
-        Gap { ticks: 20 }
+        Gap { over: 0 }
     }
 }

@@ -73,14 +73,38 @@ pub enum Form {
     },
 }
 
+/// The same words once more, copied as a whole.
+fn copied(words: &ArrayVec<u16, 32>) -> ArrayVec<u16, 32>
+    ensures { result ≡ words.now }
+{
+    let mut copied = ArrayVec::new();
+    let _ = copied.try_extend_from_slice(words.as_slice());
+    copied
+}
+
 impl Form {
     /// The same form once more, which takes no memory.
     pub fn copy(&self) -> Form
         ensures { result ≡ self.now }
     {
-        match self.clone() {
-            Ok(form) => form,
-            Err(_) => unreachable!(),
+        match self {
+            Form::ToTerminal {
+                address,
+                subaddress,
+                words,
+            } => Form::ToTerminal {
+                address: *address,
+                subaddress: *subaddress,
+                words: copied(words),
+            },
+            Form::ToAll { subaddress, words } => Form::ToAll {
+                subaddress: *subaddress,
+                words: copied(words),
+            },
+            _ => match self.clone() {
+                Ok(form) => form,
+                Err(_) => unreachable!(),
+            },
         }
     }
 }

@@ -10,70 +10,25 @@ use crate::ranges::{
 use crate::{BadMessage, Draft, Form, ModeSubaddress};
 
 /// The form that the draft asks for, or the first fault that it has.
+#[rattlefmt::skip]
 pub fn form(draft: Draft<'_>) -> Result<Form, BadMessage>
     ensures { result ≡ checked (asks.request_of draft.entry) }
 {
     match draft {
-        Draft::ToTerminal {
-            address,
-            subaddress,
-            words,
-        } => to_terminal(address, subaddress, words),
-        Draft::FromTerminal {
-            address,
-            subaddress,
-            count,
-        } => from_terminal(address, subaddress, count),
-        Draft::Between {
-            sender,
-            sender_subaddress,
-            receiver,
-            receiver_subaddress,
-            count,
-        } => {
-            between(
-                sender,
-                sender_subaddress,
-                receiver,
-                receiver_subaddress,
-                count,
-            )
+        Draft::ToTerminal { address, subaddress, words } => to_terminal(address, subaddress, words),
+        Draft::FromTerminal { address, subaddress, count } => from_terminal(address, subaddress, count),
+        Draft::Between { sender, sender_subaddress, receiver, receiver_subaddress, count } => {
+            between(sender, sender_subaddress, receiver, receiver_subaddress, count)
         }
-        Draft::Mode {
-            address,
-            subaddress,
-            code,
-            words,
-        } => mode(address, subaddress, code, words),
-        Draft::ModeFrom {
-            address,
-            subaddress,
-            code,
-            words,
-        } => mode_from(address, subaddress, code, words),
-        Draft::ModeTo {
-            address,
-            subaddress,
-            code,
-            words,
-        } => mode_to(address, subaddress, code, words),
+        Draft::Mode { address, subaddress, code, words } => mode(address, subaddress, code, words),
+        Draft::ModeFrom { address, subaddress, code, words } => mode_from(address, subaddress, code, words),
+        Draft::ModeTo { address, subaddress, code, words } => mode_to(address, subaddress, code, words),
         Draft::ToAll { subaddress, words } => to_all(subaddress, words),
-        Draft::BetweenAll {
-            sender,
-            sender_subaddress,
-            receiver_subaddress,
-            count,
-        } => { between_all(sender, sender_subaddress, receiver_subaddress, count) }
-        Draft::ModeAll {
-            subaddress,
-            code,
-            words,
-        } => mode_all(subaddress, code, words),
-        Draft::ModeAllTo {
-            subaddress,
-            code,
-            words,
-        } => mode_all_to(subaddress, code, words),
+        Draft::BetweenAll { sender, sender_subaddress, receiver_subaddress, count } => {
+            between_all(sender, sender_subaddress, receiver_subaddress, count)
+        }
+        Draft::ModeAll { subaddress, code, words } => mode_all(subaddress, code, words),
+        Draft::ModeAllTo { subaddress, code, words } => mode_all_to(subaddress, code, words),
     }
 }
 

@@ -86,57 +86,22 @@ impl Message {
     }
 
     /// The first command word.
+    #[rattlefmt::skip]
     fn first_command(&self) -> Command
         ensures { result ≡ first_command self.now }
     {
         match &self.form {
-            Form::ToTerminal {
-                address,
-                subaddress,
-                words,
-            } => receive_command(*address, *subaddress, words.len() as u8),
-            Form::FromTerminal {
-                address,
-                subaddress,
-                count,
-            } => transmit_command(*address, *subaddress, *count),
-            Form::Between {
-                receiver,
-                receiver_subaddress,
-                count,
-                ..
-            } => receive_command(*receiver, *receiver_subaddress, *count),
-            Form::Mode {
-                address,
-                subaddress,
-                code,
+            Form::ToTerminal { address, subaddress, words } => receive_command(*address, *subaddress, words.len() as u8),
+            Form::FromTerminal { address, subaddress, count } => transmit_command(*address, *subaddress, *count),
+            Form::Between { receiver, receiver_subaddress, count, .. } => receive_command(*receiver, *receiver_subaddress, *count),
+            Form::Mode { address, subaddress, code } | Form::ModeFrom { address, subaddress, code } => {
+                mode_command(*address, true, *subaddress, *code)
             }
-            | Form::ModeFrom {
-                address,
-                subaddress,
-                code,
-            } => mode_command(*address, true, *subaddress, *code),
-            Form::ModeTo {
-                address,
-                subaddress,
-                code,
-                ..
-            } => mode_command(*address, false, *subaddress, *code),
-            Form::ToAll { subaddress, words } => receive_command_to_all(
-                *subaddress,
-                words.len() as u8,
-            ),
-            Form::BetweenAll {
-                receiver_subaddress,
-                count,
-                ..
-            } => receive_command_to_all(*receiver_subaddress, *count),
+            Form::ModeTo { address, subaddress, code, .. } => mode_command(*address, false, *subaddress, *code),
+            Form::ToAll { subaddress, words } => receive_command_to_all(*subaddress, words.len() as u8),
+            Form::BetweenAll { receiver_subaddress, count, .. } => receive_command_to_all(*receiver_subaddress, *count),
             Form::ModeAll { subaddress, code } => mode_command_to_all(true, *subaddress, *code),
-            Form::ModeAllTo {
-                subaddress,
-                code,
-                ..
-            } => mode_command_to_all(false, *subaddress, *code),
+            Form::ModeAllTo { subaddress, code, .. } => mode_command_to_all(false, *subaddress, *code),
         }
     }
 

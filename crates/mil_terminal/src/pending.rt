@@ -1,7 +1,7 @@
 //! An undecided window, by a small state for each word.
 ghost use Rattle.std.specs.Prelude.{◌≡◌, ℕ, ◌<◌, ◌≤◌, List, [], ◌∷◌, ◌++◌, Some, None, IfSome, IfNone, true, false, if◌then◌else◌};
 ghost use Rattle.std.specs.List.{filter_map};
-ghost use Rattle.mil_word.specs.Words.{same_line as same};
+ghost use Rattle.mil_word.specs.Words.{same_line as same, command_in};
 ghost use Rattle.mil_terminal.specs.declared.events.Event.{Event};
 ghost use Rattle.mil_terminal.specs.declared.events.Event.TheVariants.{Heard, Quiet};
 ghost use Rattle.mil_terminal.specs.Windows as windows;
@@ -42,6 +42,7 @@ pub struct Pending {
 }
 
 /// Whether two lines are one.
+#[inline]
 pub fn same_line(one: Line, other: Line) -> bool
     ensures { result ≡ same one other }
 {
@@ -52,6 +53,7 @@ pub fn same_line(one: Line, other: Line) -> bool
 }
 
 /// The data words that a command announces, 0 to 32.
+#[inline]
 pub fn words_due(command: Command) -> usize
     ensures value { result ≡ verdicts.words_due command }
     ensures few { result ≤ 32 }
@@ -127,6 +129,7 @@ impl Pending {
     }
 
     /// A word in a place where a due word may stand.
+    #[inline]
     fn take_due(&mut self, sound: &Sound, gap: Gap)
         ensures { self.new ≡ with_due (due_value self.old sound.now gap) self.old }
     {
@@ -152,6 +155,18 @@ impl Pending {
         ensures command { self.new.command ≡ self.old.command }
     {
         self.follow_word(own, sound, gap);
+    }
+
+    /// One more word on the line, which is no command and no status.
+    #[inline]
+    pub fn take_data(&mut self, own: Address, sound: &Sound, gap: Gap)
+        requires { command_in sound.now ≡ None }
+        ensures pending { (items : List Event) → IsPending own self.old items
+            → IsPending own self.new (items ++ Heard self.old.line sound.now gap ∷ []) }
+        ensures line { self.new.line ≡ self.old.line }
+        ensures command { self.new.command ≡ self.old.command }
+    {
+        self.follow_data(own, sound, gap);
     }
 
     /// A quiet on the line: the shape of the window, where it decides it.
@@ -187,6 +202,20 @@ impl Pending {
                 None
             }
             Phase::Lost => Some(false),
+        }
+    }
+
+    #[inline]
+    fn follow_data(&mut self, own: Address, sound: &Sound, gap: Gap)
+        requires { command_in sound.now ≡ None }
+        ensures { self.new ≡ after_word own self.old self.old.phase sound.now gap }
+    {
+        let _ = own;
+        match self.phase {
+            Phase::Start | Phase::Taking => self.take_due(sound, gap),
+            Phase::Called(_) => self.phase = Phase::LostTransfer,
+            Phase::Waiting(_) => self.phase = Phase::Lost,
+            Phase::LostTransfer | Phase::Lost => {}
         }
     }
 

@@ -8,6 +8,7 @@ ghost use Rattle.mil_terminal.specs.Status.{status};
 ghost use Rattle.mil_terminal.specs.Replies as replies;
 ghost use Rattle.mil_terminal.specs.Replies.{exactly};
 ghost use Rattle.mil_word.specs.Fields.{address_of};
+ghost use Rattle.mil_word.specs.Words.{command_in};
 ghost use Rattle.mil_terminal.specs.Windows.{is_listening};
 ghost use Rattle.std.specs.Option.{option_to_list};
 ghost use Rattle.arrayvec.specs.ArrayVec.{array_vec_len};
@@ -76,6 +77,20 @@ impl Registers {
                         pending.take_word(self.own, sound, gap);
                     }
                 }
+            }
+        }
+    }
+
+    /// A word on a line that is no command and no status.
+    #[inline]
+    pub fn hear_data(&mut self, line: Line, sound: &Sound, gap: Gap)
+        requires { command_in sound.now ≡ None }
+        ensures stands { (h : History) → StandsFor self.old h → StandsFor self.new (Heard line sound.now gap ∷ h) }
+        ensures own { self.new.own ≡ self.old.own }
+    {
+        if let Some(pending) = &mut self.window {
+            if same_line(line, pending.line) {
+                pending.take_data(self.own, sound, gap);
             }
         }
     }

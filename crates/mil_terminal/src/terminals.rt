@@ -2,6 +2,7 @@
 ghost use Rattle.std.specs.Prelude.{◌≡◌, ◌<◌, ◌≤◌, ◌↔◌, ◌/◌, ◌%◌, ◌^◌, ◌==◌, Err, None, [], ◌∷◌, true, false, IfOk};
 ghost use Rattle.mil_word.specs.declared.Line.{Line as LineValue};
 ghost use Rattle.mil_word.specs.Wave.{word_of};
+ghost use Rattle.mil_word.specs.Words.{command_in};
 ghost use Rattle.mil_terminal.specs.declared.events.Event.TheVariants.{Heard, Quiet, Host};
 ghost use Rattle.mil_terminal.specs.Registers as registers;
 ghost use Rattle.mil_terminal.specs.Replies as replies;
@@ -76,6 +77,18 @@ impl Terminal {
         ensures { self.new ≡ after self.old (Heard line wave gap) }
     {
         self.registers.hear(line, &Sound::of(wave, decoded), gap);
+        self.past = self.past.put_before(&Event::Heard { line, wave, gap });
+    }
+
+    /// The same, for a wave that was decoded before and is no command and no status.
+    #[inline]
+    pub fn hear_data(&mut self, line: Line, wave: Wave, decoded: Option<Word>, gap: Gap)
+        requires decoded { decoded ≡ word_of wave }
+        requires data { command_in wave ≡ None }
+        ensures { self.new ≡ after self.old (Heard line wave gap) }
+    {
+        self.registers
+            .hear_data(line, &Sound::of(wave, decoded), gap);
         self.past = self.past.put_before(&Event::Heard { line, wave, gap });
     }
 

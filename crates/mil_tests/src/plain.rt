@@ -62,7 +62,8 @@ pub fn raw_bits(wave: Wave) -> u16
 
 /// The sync of a sound wave.
 fn sync_of(wave: Wave) -> Sync
-    ensures { result ≡ (if wave / 2 ^ 34 == 56 then CommandSync else DataSync) }
+    ensures sync { result ≡ (if wave / 2 ^ 34 == 56 then CommandSync else DataSync) }
+    ensures small { wave < 2 ^ 40 }
 {
     if wave.half_bits() >> 34 == 0b111000 {
         Sync::CommandSync

@@ -1,6 +1,7 @@
 //! A plan takes four faults of a message and no fifth, and only those that are in range.
 use mil_line::{Fault, Gap, LineError, Plan};
 use mil_word::{Sync, Wave, Word};
+use std::alloc::Global;
 use std::process::Abort;
 
 fn late(ticks: u32) -> Fault {
@@ -23,56 +24,61 @@ fn has(rt: &impl Abort, plan: &Plan, number: u32, count: usize) {
     assert_eq!(rt; plan.faults(number).len(), count);
 }
 
-#[test]
-fn four_faults_of_a_message_and_no_fifth(rt: HostRuntime) {
-    let mut plan = Plan::make(rt.alloc());
-    let added = Word {
+/// Four faults of one message.
+fn four_faults() -> [Fault; 4] {
+    let word = Word {
         sync: Sync::DataSync,
         value: 4,
     };
-    let faults: &[Fault] = &[
+    let half_bits = Wave::of(4);
+    [
         Fault::Drop { run: 0, index: 3 },
         Fault::Mask {
             run: 0,
             index: 1,
-            half_bits: Wave::of(4),
+            half_bits,
         },
         Fault::Add {
             run: 0,
             index: 3,
-            word: added,
+            word,
         },
         late(170),
-    ];
-    for fault in faults {
-        answered(&rt, &mut plan, 1, *fault, Ok(()));
+    ]
+}
+
+/// A plan in which message 1 has these four.
+fn full(rt: &impl Abort, alloc: Global) -> Plan {
+    let mut plan = Plan::make(alloc);
+    for fault in four_faults() {
+        answered(rt, &mut plan, 1, fault, Ok(()));
     }
+    plan
+}
+
+#[test]
+fn four_faults_of_a_message_and_no_fifth(rt: HostRuntime) {
+    let mut plan = full(&rt, rt.alloc());
     answered(&rt, &mut plan, 1, late(171), Err(LineError::TooMany));
     answered(&rt, &mut plan, 1, late(120), Err(LineError::TooMany));
-    answered(&rt, &mut plan, 2, late(120), Err(LineError::OutOfRange));
-    answered(&rt, &mut plan, 2, late(256), Err(LineError::OutOfRange));
-    answered(
-        &rt,
-        &mut plan,
-        2,
-        Fault::Mute { run: 0 },
-        Err(LineError::OutOfRange),
-    );
-    answered(&rt, &mut plan, 0, late(121), Err(LineError::OutOfRange));
-    answered(
-        &rt,
-        &mut plan,
-        1_000_001,
-        late(121),
-        Err(LineError::OutOfRange),
-    );
     answered(&rt, &mut plan, 1_000_000, late(121), Ok(()));
-
     let kept = plan.copy().expect(&rt, "a copy");
-    assert_eq!(rt; kept.faults(1).as_slice(), faults);
+    assert_eq!(rt; kept.faults(1).as_slice(), four_faults().as_slice());
+    has(&rt, &plan, 1, 4);
+    has(&rt, &kept, 1_000_000, 1);
+}
+
+#[test]
+fn faults_out_of_their_ranges(rt: HostRuntime) {
+    let refused = Err(LineError::OutOfRange);
+    let mut plan = full(&rt, rt.alloc());
+    answered(&rt, &mut plan, 2, late(120), refused);
+    answered(&rt, &mut plan, 2, late(256), refused);
+    answered(&rt, &mut plan, 2, Fault::Mute { run: 0 }, refused);
+    answered(&rt, &mut plan, 0, late(121), refused);
+    answered(&rt, &mut plan, 1_000_001, late(121), refused);
     has(&rt, &plan, 1, 4);
     has(&rt, &plan, 2, 0);
-    has(&rt, &kept, 1_000_000, 1);
 }
 
 #[test]

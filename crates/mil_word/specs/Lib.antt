@@ -1,3 +1,4 @@
 pub mod Wave
 pub mod Words
 pub mod Fields
+pub mod Kept

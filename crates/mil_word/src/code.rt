@@ -29,9 +29,10 @@ fn joined(sync: u64, high: u64, low: u64, last: u64) -> u64
     sync << 34 | (high << 18 | (low << 2 | last))
 }
 
-/// The wave of a word (MIL-STD-1553B 4.3.3.2, 4.3.3.5).
-pub fn encode(word: Word) -> Wave
-    ensures { result ≡ wave_of word }
+/// The half bits of a word (MIL-STD-1553B 4.3.3.2, 4.3.3.5).
+pub(crate) fn half_bits_of(word: Word) -> u64
+    ensures value { result ≡ wave_of word }
+    ensures small { result < 2 ^ 40 }
 {
     let sync: u64 = match word.sync {
         Sync::CommandSync => 0b111000,
@@ -40,7 +41,15 @@ pub fn encode(word: Word) -> Wave
     let high = pairs_of((word.value >> 8) as u8);
     let low = pairs_of((word.value & 0xff) as u8);
     let last = u64::from((word.value.count_ones() + 1) % 2) + 1;
-    Wave::of(joined(sync, high, low, last))
+    joined(sync, high, low, last)
+}
+
+/// The wave of a word (MIL-STD-1553B 4.3.3.2, 4.3.3.5). Its half bits are worked out where they are asked for.
+#[inline]
+pub fn encode(word: Word) -> Wave
+    ensures { result ≡ wave_of word }
+{
+    Wave::of_word(word)
 }
 
 /// The first halves of the four pairs in eight half bits.
@@ -64,11 +73,10 @@ fn nibbles(a: u16, b: u16, c: u16, d: u16) -> u16
     a << 12 | (b << 8 | (c << 4 | d))
 }
 
-/// The first half of each of the 16 information pairs, sound or not.
-pub fn raw_bits(wave: Wave) -> u16
-    ensures { result ≡ raw_of wave }
+/// The first half of each of the 16 information pairs of these half bits.
+fn raw_in(half_bits: u64) -> u16
+    ensures { result ≡ raw_of half_bits }
 {
-    let half_bits = wave.half_bits();
     nibbles(
         firsts_of((half_bits >> 26 & 0xff) as u8),
         firsts_of((half_bits >> 18 & 0xff) as u8),
@@ -77,36 +85,49 @@ pub fn raw_bits(wave: Wave) -> u16
     )
 }
 
-/// The sync of a sound wave.
-fn sync_of(wave: Wave) -> Sync
-    ensures { result ≡ (if wave / 2 ^ 34 == 56 then CommandSync else DataSync) }
+/// The first half of each of the 16 information pairs, sound or not.
+#[inline]
+pub fn raw_bits(wave: Wave) -> u16
+    ensures { result ≡ raw_of wave }
 {
-    if wave.half_bits() >> 34 == 0b111000 {
+    match decode(wave) {
+        Some(word) => word.value,
+        None => raw_in(wave.half_bits()),
+    }
+}
+
+/// The sync of a sound wave.
+fn sync_of(half_bits: u64) -> Sync
+    ensures { result ≡ (if half_bits / 2 ^ 34 == 56 then CommandSync else DataSync) }
+{
+    if half_bits >> 34 == 0b111000 {
         Sync::CommandSync
     } else {
         Sync::DataSync
     }
 }
 
-/// Whether a wave is that of a word.
-fn is_wave_of(wave: Wave, word: Word) -> bool
-    ensures { result ≡ (wave_of word == wave) }
-{
-    encode(word) == wave
-}
-
-/// The word whose wave this is; None where the sync, a pair or the parity is wrong (MIL-STD-1553B 4.4.1.1).
-pub fn decode(wave: Wave) -> Option<Word>
-    ensures read { result ≡ word_of wave }
-    ensures sound { (word : Word) → word.value < 2 ^ 16 → ((result ≡ Some word) ↔ (wave ≡ wave_of word)) }
+/// The word that these half bits are; None where the sync, a pair or the parity is wrong (MIL-STD-1553B 4.4.1.1).
+pub(crate) fn read(half_bits: u64) -> Option<Word>
+    requires { half_bits < 2 ^ 40 }
+    ensures { result ≡ word_of half_bits }
 {
     let word = Word {
-        sync: sync_of(wave),
-        value: raw_bits(wave),
+        sync: sync_of(half_bits),
+        value: raw_in(half_bits),
     };
-    if is_wave_of(wave, word) {
+    if half_bits_of(word) == half_bits {
         Some(word)
     } else {
         None
     }
+}
+
+/// The word whose wave this is; None where the sync, a pair or the parity is wrong (MIL-STD-1553B 4.4.1.1).
+#[inline]
+pub fn decode(wave: Wave) -> Option<Word>
+    ensures read { result ≡ word_of wave }
+    ensures sound { (word : Word) → word.value < 2 ^ 16 → ((result ≡ Some word) ↔ (wave ≡ wave_of word)) }
+{
+    wave.word()
 }

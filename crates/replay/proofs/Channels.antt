@@ -17,9 +17,9 @@ use Rattle.replay.specs.declared.error.ReplayError.TheVariants as error
 use Rattle.replay.specs.Accord.{is_one, AreOfChannels, AgreesOn}
 use Rattle.replay.specs.Differences.{IsWrongChannel, IsStranger}
 use Rattle.replay.specs.Places.{heard_channels}
-use Rattle.replay.specs.Kept.{Pair, jobs_in, parts_in}
+use Rattle.replay.specs.Tracks.{Pair, jobs_in, parts_in}
 use Rattle.replay.specs.Playing.{FailsAt}
-use Rattle.replay.specs.Opening.{AgreeBefore, FailsIn, spread}
+use Rattle.replay.specs.Opening.{AgreeBefore, FailsIn, channels_in}
 
 -- ---- channels of jobs and report
 
@@ -105,15 +105,15 @@ own_channel : (channel : ℕ) (ms : List Message) → replicate (length ms) chan
 own_channel channel [] = refl
 own_channel channel (m ∷ ms) = ap (λ (cs : List ℕ). channel ∷ cs) (own_channel channel ms)
 
-spread_is : (earlier ps : List Found) → spread (listing_behind earlier ps) ≡ heard_channels ps
-spread_is earlier [] = refl
-spread_is earlier (p ∷ ps) =
-    ap (λ (cs : List ℕ). cs ++ spread (listing_behind (p ∷ earlier) ps)) (own_channel p.header.channel p.messages)
-    ∙ ap (λ (cs : List ℕ). map (λ (h : ℕ × Message). h.0) (heard_of p) ++ cs) (spread_is (p ∷ earlier) ps)
+channels_are : (earlier ps : List Found) → channels_in (listing_behind earlier ps) ≡ heard_channels ps
+channels_are earlier [] = refl
+channels_are earlier (p ∷ ps) =
+    ap (λ (cs : List ℕ). cs ++ channels_in (listing_behind (p ∷ earlier) ps)) (own_channel p.header.channel p.messages)
+    ∙ ap (λ (cs : List ℕ). map (λ (h : ℕ × Message). h.0) (heard_of p) ++ cs) (channels_are (p ∷ earlier) ps)
     ∙ sym (map-append (λ (h : ℕ × Message). h.0) (heard_of p) (heard_in ps))
 
-pub spread_whole : (found : List Found) (n : ℕ) (cs : List ℕ) → cs ≡ spread (take n (listing found)) → length (listing found) ≤ n → cs ≡ heard_channels found
-spread_whole found n cs is le = is ∙ ap spread (take_all n (listing found) le) ∙ spread_is [] found
+pub channels_whole : (found : List Found) (n : ℕ) (cs : List ℕ) → cs ≡ channels_in (take n (listing found)) → length (listing found) ≤ n → cs ≡ heard_channels found
+channels_whole found n cs is le = is ∙ ap channels_in (take_all n (listing found) le) ∙ channels_are [] found
 
 -- ---- job after job
 

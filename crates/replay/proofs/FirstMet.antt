@@ -25,7 +25,7 @@ use Rattle.bench_core.proofs.Offers.{map_at}
 use Rattle.replay.specs.Accord.{kept_in}
 use Rattle.replay.specs.Places.{heard_channels, IsAfter}
 use Rattle.replay.specs.Moves.{ReplayState, point_after, says, IsMet, IsNextMet, IsNowhere}
-use Rattle.replay.specs.Kept.{Pair, jobs_in, parts_in}
+use Rattle.replay.specs.Tracks.{Pair, jobs_in, parts_in}
 use Rattle.replay.specs.Conditions.{answer_of}
 use Rattle.replay.specs.Finding.{count_to, IsMetBy, IsMetIn, IsFirst, Finds, earlier}
 use Rattle.replay.proofs.KeptLists.{in_front, at_seam}

@@ -7,7 +7,8 @@ use Rattle.mil_monitor.specs.declared.Record.{Record}
 use Rattle.ch11_f1.specs.BodyReading.{Message}
 use Rattle.ch11_f1.specs.Again.{as_message}
 use Rattle.ch11_builder.specs.Packet.{Numbered, messages_of}
-use Rattle.ch11_recording.specs.Items.{numbered, numbered_from}
+use Rattle.ch11_builder.specs.Packet as packet
+use Rattle.ch11_recording.specs.Items.{numbered, numbered_from, last_number}
 use Rattle.bench_core.specs.Settled.{is_kept, kept}
 use Rattle.bench_core.proofs.Lists.{numbered_more}
 
@@ -110,3 +111,69 @@ stands_early [] (y ∷ ys) low zero x all at less = let same : y ≡ x = cc in a
 stands_early [] (y ∷ ys) low (suc i) x all at less = absurd (let wrong : i < length (let none : List Numbered = [] in none) = stands_early [] ys low i x all.1 at less in omega (arith, wrong))
 stands_early (z ∷ xs) ys low zero x all at less = omega arith
 stands_early (z ∷ xs) ys low (suc i) x all at less = let later : i < length xs = stands_early xs ys low i x all at less in omega (arith, later)
+
+-- ---- the number of the last of so many
+
+-- these numbers rise from one on
+abbrev Rises : ℕ → List Numbered → Type 0
+Rises low [] = Unit {0}
+Rises low (n ∷ ns) = (low ≤ n.number) × Rises n.number ns
+
+rises_less : (low next : ℕ) (ns : List Numbered) → low ≤ next → Rises next ns → Rises low ns
+rises_less low next [] le all = tt
+rises_less low next (n ∷ ns) le all = (omega (arith, le, all.0), all.1)
+
+filter_rises : (refused : List ℕ) (low : ℕ) (ns : List Numbered) → Rises low ns → Rises low (filter (is_kept refused) ns)
+filter_rises refused low [] all = tt
+filter_rises refused low (n ∷ ns) all = by_case (is_kept refused n) (filter_rises refused n.number ns all.1)
+  where
+    by_case : (b : Bool) → Rises n.number (filter (is_kept refused) ns) → Rises low (cond b (n ∷ filter (is_kept refused) ns) (filter (is_kept refused) ns))
+    by_case true later = (all.0, later)
+    by_case false later = rises_less low n.number (filter (is_kept refused) ns) all.0 later
+
+numbers_rise : (number : ℕ) (rs : List Record) → Rises number (numbered_from number rs)
+numbers_rise number [] = tt
+numbers_rise number (r ∷ rs) = (omega arith, rises_less number (suc number) (numbered_from (suc number) rs) (omega arith) (numbers_rise (suc number) rs))
+
+not_before : (low k : ℕ) (ns : List Numbered) → Rises low ns → low ≤ packet.last_number low (take k ns)
+not_before low zero ns all = omega arith
+not_before low (suc k) [] all = omega arith
+not_before low (suc k) (n ∷ ns) all = omega (arith, all.0, not_before n.number k ns all.1)
+
+last_rises : (low j k : ℕ) (ns : List Numbered) → Rises low ns → j ≤ k → packet.last_number low (take j ns) ≤ packet.last_number low (take k ns)
+last_rises low zero k ns all le = not_before low k ns all
+last_rises low (suc j) zero ns all le = absurd (omega (arith, le))
+last_rises low (suc j) (suc k) [] all le = omega arith
+last_rises low (suc j) (suc k) (n ∷ ns) all le = last_rises n.number j k ns all.1 (omega (arith, le))
+
+-- these numbers are below one
+abbrev AreBelow : ℕ → List Numbered → Type 0
+AreBelow high ns = AllByRecursion (λ (n : Numbered). n.number < high) ns
+
+filter_below : (refused : List ℕ) (high : ℕ) (ns : List Numbered) → AreBelow high ns → AreBelow high (filter (is_kept refused) ns)
+filter_below refused high [] all = tt
+filter_below refused high (n ∷ ns) all = by_case (is_kept refused n) (filter_below refused high ns all.1)
+  where
+    by_case : (b : Bool) → AreBelow high (filter (is_kept refused) ns) → AreBelow high (cond b (n ∷ filter (is_kept refused) ns) (filter (is_kept refused) ns))
+    by_case true later = (all.0, later)
+    by_case false later = later
+
+numbers_below : (number high : ℕ) (rs : List Record) → number + length rs ≤ high → AreBelow high (numbered_from number rs)
+numbers_below number high [] le = tt
+numbers_below number high (r ∷ rs) le = (omega (arith, le), numbers_below (suc number) high rs (omega (arith, le)))
+
+last_below : (low high k : ℕ) (ns : List Numbered) → low < high → AreBelow high ns → packet.last_number low (take k ns) < high
+last_below low high zero ns less all = less
+last_below low high (suc k) [] less all = less
+last_below low high (suc k) (n ∷ ns) less all = last_below n.number high k ns all.0 all.1
+
+module _ (refused : List ℕ) (rs : List Record) where
+  -- the last of more of them has no smaller number
+  pub later_number : (j k : ℕ) → j ≤ k → last_number (take j (kept refused rs)) ≤ last_number (take k (kept refused rs))
+  later_number j k le = last_rises 0 j k (kept refused rs) (filter_rises refused 0 (numbered_from 1 rs) (rises_less 0 1 (numbered_from 1 rs) (omega arith) (numbers_rise 1 rs))) le
+
+  -- nor one above as many as there are
+  pub number_within : (k : ℕ) → last_number (take k (kept refused rs)) ≤ length rs
+  number_within k =
+      let below : last_number (take k (kept refused rs)) < suc (length rs) = last_below 0 (suc (length rs)) k (kept refused rs) (omega arith) (filter_below refused (suc (length rs)) (numbered_from 1 rs) (numbers_below 1 (suc (length rs)) rs (omega arith))) in
+      omega (arith, below)

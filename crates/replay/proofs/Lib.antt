@@ -9,3 +9,7 @@ pub mod Channels
 pub mod FirstMet
 pub mod Finds
 pub mod PlacedLists
+pub mod Lists
+pub mod Standing
+pub mod Stops
+pub mod Replayed

@@ -9,8 +9,8 @@ use Rattle.mil_message.specs.World.{World, Point, other_line, sent, asks}
 use Rattle.mil_line.specs.Plans.{Planned}
 use Rattle.mil_bus.specs.declared.outcomes.Outcome.{Outcome}
 use Rattle.mil_bus.specs.Exchange.{BusState}
-use Rattle.frame_tree.specs.Tree.{Tree, send, retry, gap, repeat, choose, nothing, chained}
-use Rattle.frame_tree.specs.Meaning.{test_meaning, times, attempts, meaning}
+use Rattle.frame_tree.specs.Tree.{Test, Tree, send, retry, gap, repeat, choose, until, nothing, chained}
+use Rattle.frame_tree.specs.Meaning.{test_meaning, times, attempts, turns_until, meaning}
 use Rattle.bc_machine.specs.declared.placed.Placed.{Placed}
 use Rattle.bc_machine.specs.Controller.{placed_at, all_acted, ready, world_of}
 use Rattle.bc_machine.specs.Running.{beginning}
@@ -89,6 +89,14 @@ module _ (w : World BusState Outcome) (R : BusPoint → BusPoint → Type 0) (sa
   times_keep zero f keeps p = same p
   times_keep (suc n) f keeps p = through p (f p) (times n f (f p)) (keeps p) (times_keep n f keeps (f p))
 
+  turns_keep : (n : ℕ) (c : Test) (f : BusPoint → BusPoint) → ((p : BusPoint) → R p (f p)) → (p : BusPoint) → R p (turns_until w n c f p)
+  turns_keep zero c f keeps p = same p
+  turns_keep (suc n) c f keeps p = by_case (test_meaning w c p) (through p (f p) (turns_until w n c f (f p)) (keeps p) (turns_keep n c f keeps (f p)))
+    where
+      by_case : (b : Bool) → R p (turns_until w n c f (f p)) → R p (cond b p (turns_until w n c f (f p)))
+      by_case true later = same p
+      by_case false later = later
+
   tree_keeps : (t : Tree) (p : BusPoint) → R p (meaning w t p)
   tree_keeps (send line m) p = message line m p
   tree_keeps (retry n line m) p = through p (sent w line m p) (attempts w n line m (sent w line m p)) (message line m p) (attempts_keep n line m (sent w line m p))
@@ -99,6 +107,7 @@ module _ (w : World BusState Outcome) (R : BusPoint → BusPoint → Type 0) (sa
       by_case : (x : Bool) → R p (meaning w a p) → R p (meaning w b p) → R p (cond x (meaning w a p) (meaning w b p))
       by_case true l r = l
       by_case false l r = r
+  tree_keeps (until c n b) p = turns_keep n c (meaning w b) (λ q. tree_keeps b q) p
   tree_keeps nothing p = same p
   tree_keeps (chained a b) p = through p (meaning w a p) (meaning w b (meaning w a p)) (tree_keeps a p) (tree_keeps b (meaning w a p))
 
@@ -147,6 +156,24 @@ module _ (plan : List Planned) (made : ℕ) (actions : List Placed) where
       let rise : (f p).number ≤ (times n f (f p)).number = times_rise n f rises (f p) in
       ap (times n g) (agree p (omega (arith, rise, le))) ∙ times_agree n f g rises agree (f p) le
 
+  turns_rise : (n : ℕ) (c : Test) (f : BusPoint → BusPoint) → ((p : BusPoint) → p.number ≤ (f p).number) → (p : BusPoint) → p.number ≤ (turns_until w n c f p).number
+  turns_rise = turns_keep w Rises (λ p. omega arith) (λ p t. omega arith) (λ line m p. omega arith) (λ p q s a b. omega (arith, a, b))
+
+  turns_agree : (n : ℕ) (c : Test) (f g : BusPoint → BusPoint) → ((p : BusPoint) → p.number ≤ (f p).number) → ((p : BusPoint) → (f p).number ≤ made → g p ≡ f p)
+      → (p : BusPoint) → (turns_until w n c f p).number ≤ made → turns_until v n c g p ≡ turns_until w n c f p
+  turns_agree zero c f g rises agree p le = refl
+  turns_agree (suc n) c f g rises agree p le =
+      ap (λ x. cond x p (turns_until v n c g (g p))) (meaning_is plan (placed_up_to made actions) c p ∙ sym (meaning_is plan actions c p))
+      ∙ by_case (test_meaning w c p) le
+      (λ h.
+      let rise : (f p).number ≤ (turns_until w n c f (f p)).number = turns_rise n c f rises (f p) in
+      ap (turns_until v n c g) (agree p (omega (arith, rise, h))) ∙ turns_agree n c f g rises agree (f p) h)
+    where
+      by_case : (x : Bool) → (cond x p (turns_until w n c f (f p))).number ≤ made → ((turns_until w n c f (f p)).number ≤ made → turns_until v n c g (g p) ≡ turns_until w n c f (f p))
+          → cond x p (turns_until v n c g (g p)) ≡ cond x p (turns_until w n c f (f p))
+      by_case true h later = refl
+      by_case false h later = later h
+
   tree_agrees : (t : Tree) (p : BusPoint) → (meaning w t p).number ≤ made → meaning v t p ≡ meaning w t p
   tree_agrees (send line m) p le = sent_agrees line m p le
   tree_agrees (retry n line m) p le =
@@ -162,6 +189,7 @@ module _ (plan : List Planned) (made : ℕ) (actions : List Placed) where
           → ((meaning w b p).number ≤ made → meaning v b p ≡ meaning w b p) → cond x (meaning v a p) (meaning v b p) ≡ cond x (meaning w a p) (meaning w b p)
       by_case true h l r = l h
       by_case false h l r = r h
+  tree_agrees (until c n b) p le = turns_agree n c (meaning w b) (meaning v b) (λ q. tree_rises b q) (λ q h. tree_agrees b q h) p le
   tree_agrees nothing p le = refl
   tree_agrees (chained a b) p le =
       let rise : (meaning w a p).number ≤ (meaning w b (meaning w a p)).number = tree_rises b (meaning w a p) in

@@ -19,7 +19,8 @@ use Rattle.bench_core.specs.Settled.{kept}
 use Rattle.bench_core.proofs.Offers.{map_at}
 use Rattle.replay.specs.Accord.{played, kept_in, AgreesOn}
 use Rattle.replay.specs.Differences.{awaited, IsUnlike, IsLeftOver, IsMiscounted, IsAtFault, IsFirstFault}
-use Rattle.replay.specs.Kept.{IsThere, AreStates}
+use Rattle.replay.specs.declared.tracks.Mark.{Mark}
+use Rattle.replay.specs.Tracks.{IsMarked, AreMarks}
 use Rattle.replay.specs.Playing.{IsKept, IsPassed, IsOther, IsOver, GoesOn, IsPlaying}
 use Rattle.replay.proofs.KeptLists.{heard, heard_both, heard_length, kept_next, kept_same, HasMore, has_more, in_front, at_seam, stands_early}
 
@@ -36,8 +37,8 @@ module _ (found : List Found) (job : JobState) (part : ChannelPart) where
 
   -- ---- one message more
 
-  more_states : (ns : List Numbered) (x : Numbered) (states : List MachineState) (m : MachineState) → AreStates job part ns states → IsThere job part x.number m
-      → AreStates job part (ns ++ x ∷ []) (states ++ m ∷ [])
+  more_states : (ns : List Numbered) (x : Numbered) (states : List Mark) (m : Mark) → AreMarks job part ns states → IsMarked job part x.number m
+      → AreMarks job part (ns ++ x ∷ []) (states ++ m ∷ [])
   more_states ns x states m all there = record {
     counted = length-append states (m ∷ []) ∙ ap (λ k. k + 1) all.counted ∙ longer;
     each = λ k s at. ⊎_elim (earlier k s at) (latest k s at) (cases_lt k (length states));
@@ -46,40 +47,40 @@ module _ (found : List Found) (job : JobState) (part : ChannelPart) where
       longer : suc (length ns) + 1 ≡ suc (length (ns ++ x ∷ []))
       longer = omega (arith, length-append ns (x ∷ []))
 
-      earlier : (k : ℕ) (s : MachineState) → slice_get (states ++ m ∷ []) k ≡ Some s → k < length states → IsThere job part (last_number (take k (ns ++ x ∷ []))) s
+      earlier : (k : ℕ) (s : Mark) → slice_get (states ++ m ∷ []) k ≡ Some s → k < length states → IsMarked job part (last_number (take k (ns ++ x ∷ []))) s
       earlier k s at less =
           let short : k ≤ length ns = omega (arith, less, all.counted) in
-          subst (λ (ms : List Numbered). IsThere job part (last_number ms) s) (sym (take-append-le k ns (x ∷ []) short)) (all.each k s (sym (in_front states (m ∷ []) k less) ∙ at))
+          subst (λ (ms : List Numbered). IsMarked job part (last_number ms) s) (sym (take-append-le k ns (x ∷ []) short)) (all.each k s (sym (in_front states (m ∷ []) k less) ∙ at))
 
-      latest : (k : ℕ) (s : MachineState) → slice_get (states ++ m ∷ []) k ≡ Some s → length states ≤ k → IsThere job part (last_number (take k (ns ++ x ∷ []))) s
+      latest : (k : ℕ) (s : Mark) → slice_get (states ++ m ∷ []) k ≡ Some s → length states ≤ k → IsMarked job part (last_number (take k (ns ++ x ∷ []))) s
       latest k s at le =
           let within : k < length (states ++ m ∷ []) = slice_get_within (states ++ m ∷ []) k s at in
           let here : k ≡ length states = omega (arith, within, length-append states (m ∷ []), le) in
           let same : m ≡ s = let there : slice_get (states ++ m ∷ []) (length states) ≡ Some s = ap (slice_get (states ++ m ∷ [])) (sym here) ∙ at in let seam = at_seam states (m ∷ []) in cc in
           let whole : take k (ns ++ x ∷ []) ≡ ns ++ x ∷ [] = take_all k (ns ++ x ∷ []) (omega (arith, here, all.counted, length-append ns (x ∷ []))) in
-          subst (λ (n : ℕ). IsThere job part n s) (sym (ap last_number whole ∙ last_is 0 ns x)) (subst (IsThere job part x.number) same there)
+          subst (λ (n : ℕ). IsMarked job part n s) (sym (ap last_number whole ∙ last_is 0 ns x)) (subst (IsMarked job part x.number) same there)
 
-  pub keeps : (n : ℕ) (m next : MachineState) (hs rest : List Message) (states : List MachineState) → IsPlaying found job part n m hs states → IsKept job part n next hs rest
-      → IsPlaying found job part (n + 1) next rest (states ++ next ∷ [])
-  keeps n m next hs rest states is kept = record {
+  pub keeps : (n : ℕ) (m next : MachineState) (hs rest : List Message) (states : List Mark) (mark : Mark) → IsPlaying found job part n m hs states → IsKept job part n next hs rest
+      → IsMarked job part (n + 1) mark → IsPlaying found job part (n + 1) next rest (states ++ mark ∷ [])
+  keeps n m next hs rest states mark is kept marked = record {
     there = kept.there;
     read =
         is.read
         ∙ ap (λ (xs : List Message). heard (so_far n) ++ xs) kept.heard_is
         ∙ sym (append_assoc (heard (so_far n)) (as_message kept.message ∷ []) rest)
         ∙ ap (λ (xs : List Message). xs ++ rest) (sym (heard_both (so_far n) (numbered (n + 1) kept.message ∷ [])) ∙ ap heard (sym longer));
-    all = subst (λ (ns : List Numbered). AreStates job part ns (states ++ next ∷ [])) (sym longer) (more_states (so_far n) (numbered (n + 1) kept.message) states next is.all kept.there);
+    all = subst (λ (ns : List Numbered). AreMarks job part ns (states ++ mark ∷ [])) (sym longer) (more_states (so_far n) (numbered (n + 1) kept.message) states mark is.all marked);
   }
     where
       longer : so_far (n + 1) ≡ so_far n ++ numbered (n + 1) kept.message ∷ []
       longer = kept_next part.refused n rs kept.message kept.comes kept.listed
 
-  pub passes : (n : ℕ) (m next : MachineState) (hs rest : List Message) (states : List MachineState) → IsPlaying found job part n m hs states → IsPassed job part n next hs rest
+  pub passes : (n : ℕ) (m next : MachineState) (hs rest : List Message) (states : List Mark) → IsPlaying found job part n m hs states → IsPassed job part n next hs rest
       → IsPlaying found job part (n + 1) next rest states
   passes n m next hs rest states is passed = record {
     there = passed.there;
     read = is.read ∙ ap (λ (xs : List Message). heard (so_far n) ++ xs) passed.heard_is ∙ ap (λ (ns : List Numbered). heard ns ++ rest) (sym same);
-    all = subst (λ (ns : List Numbered). AreStates job part ns states) (sym same) is.all;
+    all = subst (λ (ns : List Numbered). AreMarks job part ns states) (sym same) is.all;
   }
     where
       same : so_far (n + 1) ≡ so_far n
@@ -161,30 +162,32 @@ module _ (found : List Found) (job : JobState) (part : ChannelPart) where
     read = read ∙ append-nil (heard (so_far part.made)) ∙ ap heard (whole all);
   }
 
-  pub all_states : (states : List MachineState) → AreStates job part (so_far part.made) states → part.made ≡ length rs → AreStates job part (kept_in job part) states
-  all_states states are all = subst (λ (ns : List Numbered). AreStates job part ns states) (whole all) are
+  pub all_states : (states : List Mark) → AreMarks job part (so_far part.made) states → part.made ≡ length rs → AreMarks job part (kept_in job part) states
+  all_states states are all = subst (λ (ns : List Numbered). AreMarks job part ns states) (whole all) are
 
   -- ---- as the code meets them
 
-  pub keeps_at : (n : ℕ) (m next copy : MachineState) (hs rest : List Message) (states others : List MachineState) → IsPlaying found job part n m hs states
-      → IsKept job part m.point.number next hs rest → copy ≡ next → others ≡ states ++ copy ∷ [] → IsPlaying found job part (n + 1) next rest others
-  keeps_at n m next copy hs rest states others is kept same pushed =
-      subst (λ (ms : List MachineState). IsPlaying found job part (n + 1) next rest ms) (sym (pushed ∙ ap (λ (s : MachineState). states ++ s ∷ []) same))
-      (keeps n m next hs rest states is (subst (λ (k : ℕ). IsKept job part k next hs rest) is.there.number_is kept))
+  pub keeps_at : (n : ℕ) (m next : MachineState) (mark : Mark) (hs rest : List Message) (states others : List Mark) → IsPlaying found job part n m hs states
+      → IsKept job part m.point.number next hs rest → mark.number ≡ next.point.number → mark.last ≡ next.point.last → others ≡ states ++ mark ∷ []
+      → IsPlaying found job part (n + 1) next rest others
+  keeps_at n m next mark hs rest states others is kept number last pushed =
+      let here : IsKept job part n next hs rest = subst (λ (k : ℕ). IsKept job part k next hs rest) is.there.number_is kept in
+      subst (λ (ms : List Mark). IsPlaying found job part (n + 1) next rest ms) (sym pushed)
+      (keeps n m next hs rest states mark is here (record { machine = next; there = here.there; number_is = number; last_is = last }))
 
-  pub passes_at : (n : ℕ) (m next : MachineState) (hs rest : List Message) (states : List MachineState) → IsPlaying found job part n m hs states
+  pub passes_at : (n : ℕ) (m next : MachineState) (hs rest : List Message) (states : List Mark) → IsPlaying found job part n m hs states
       → IsPassed job part m.point.number next hs rest → IsPlaying found job part (n + 1) next rest states
   passes_at n m next hs rest states is passed =
       passes n m next hs rest states is (subst (λ (k : ℕ). IsPassed job part k next hs rest) is.there.number_is passed)
 
-  pub stops_at : (n : ℕ) (m : MachineState) (hs : List Message) (states : List MachineState) → IsPlaying found job part n m hs states → n < part.made
+  pub stops_at : (n : ℕ) (m : MachineState) (hs : List Message) (states : List Mark) → IsPlaying found job part n m hs states → n < part.made
       → (m.point.number ≡ length rs) ⊎ IsOther job part m.point.number hs → IsFirstFault found job part (n + 1)
   stops_at n m hs states is less told =
       ⊎_elim
       (λ last. ends_early n hs is.read less (sym is.there.number_is ∙ last))
       (λ (other : IsOther job part m.point.number hs). differs n hs is.read less (subst (λ (k : ℕ). IsOther job part k hs) is.there.number_is other)) told
 
-  pub ends_at : (n : ℕ) (m : MachineState) (hs : List Message) (states : List MachineState) → IsPlaying found job part n m hs states → n ≡ part.made
+  pub ends_at : (n : ℕ) (m : MachineState) (hs : List Message) (states : List Mark) → IsPlaying found job part n m hs states → n ≡ part.made
       → GoesOn job part m.point.number hs → IsFirstFault found job part (part.made + 1)
   ends_at n m hs states is all told =
       ⊎_elim
@@ -197,11 +200,11 @@ module _ (found : List Found) (job : JobState) (part : ChannelPart) where
       read : reading found job.channel ≡ heard (so_far part.made) ++ hs
       read = subst (λ (k : ℕ). reading found job.channel ≡ heard (so_far k) ++ hs) all is.read
 
-  pub accords_at : (n : ℕ) (m : MachineState) (hs : List Message) (states : List MachineState) → IsPlaying found job part n m hs states → n ≡ part.made
-      → IsOver job part m.point.number hs → AgreesOn found job part × AreStates job part (kept_in job part) states
+  pub accords_at : (n : ℕ) (m : MachineState) (hs : List Message) (states : List Mark) → IsPlaying found job part n m hs states → n ≡ part.made
+      → IsOver job part m.point.number hs → AgreesOn found job part × AreMarks job part (kept_in job part) states
   accords_at n m hs states is all over = (
     accords (subst (λ (k : ℕ). reading found job.channel ≡ heard (so_far k) ++ []) all (is.read ∙ ap (λ (ms : List Message). heard (so_far n) ++ ms) over.1)) made,
-    all_states states (subst (λ (k : ℕ). AreStates job part (so_far k) states) all is.all) made,
+    all_states states (subst (λ (k : ℕ). AreMarks job part (so_far k) states) all is.all) made,
   )
     where
       made : part.made ≡ length rs

@@ -3,37 +3,60 @@ use Rattle.std.proofs.Common.{◌≡◌, ℕ, ◌<◌, ◌≤◌, List, length, 
 use Rattle.std.specs.List.{slice_get, count_by}
 use Rattle.std.proofs.lemmas.Option.{slice_get_read}
 use Rattle.bc_machine.specs.Running.{MachineState}
-use Rattle.job_file.specs.Jobs.{JobState, job_in}
+use Rattle.frame_tree.specs.Bounds.{IsSound}
+use Rattle.job_file.specs.Machines.{IsTold}
+use Rattle.job_file.specs.Jobs.{JobState, tree_in, job_in}
 use Rattle.job_file.specs.Meaning.{bus_after}
 use Rattle.job_file.specs.Machines.{BusSoFar}
 use Rattle.ch11_recording.specs.Items.{last_number}
 use Rattle.ch11_reader.specs.Recording.{Found}
 use Rattle.bench_report.specs.Reports.{ChannelPart}
 use Rattle.bench_core.proofs.Offers.{map_at}
-use Rattle.replay.specs.Accord.{kept_in}
+use Rattle.replay.specs.Accord.{kept_in, Agrees}
 use Rattle.replay.specs.Places.{heard_channels, heard_of, number_at, IsAfter}
-use Rattle.replay.specs.Kept.{Pair, jobs_in, parts_in, IsThere, IsTrack, IsReplay}
+use Rattle.replay.specs.declared.tracks.Mark.{Mark}
+use Rattle.replay.specs.declared.standings.Standing.{Standing}
+use Rattle.replay.specs.declared.timeline.Timeline.{Timeline}
+use Rattle.replay.specs.Finding.{count_to}
+use Rattle.replay.specs.Replaying.{IsReplay}
+use Rattle.replay.specs.Tracks.{Pair, jobs_in, parts_in, IsThere, IsMarked, IsTrack, IsLast}
 use Rattle.replay.proofs.Counting.{is_of, room}
 
 -- ---- one job
 
-after : BusSoFar → (job : JobState) (part : ChannelPart) (channel number : ℕ) (states : List MachineState) (m : MachineState)
-    → IsTrack job part channel states → IsThere job part number m → IsAfter job part number m
-after law job part channel number states m track there = record {
+-- a controller of a job that stands behind a message is the job's after it
+pub after : BusSoFar → (job : JobState) (part : ChannelPart) (number : ℕ) (m : MachineState) → IsSound (tree_in job) → IsThere job part number m → IsAfter job part number m
+after law job part number m sound there = record {
   of_job = there.of_job;
   number_is = there.number_is;
-  bus = law (job_in job) part.placed m track.sound there.of_job ∙ ap (bus_after (job_in job) part.placed) there.number_is;
+  bus = law (job_in job) part.placed m sound there.of_job ∙ ap (bus_after (job_in job) part.placed) there.number_is;
   told = there.told;
 }
 
-pub track_state : BusSoFar → (job : JobState) (part : ChannelPart) (channel : ℕ) (states : List MachineState) (p : Pair) (k : ℕ) (m : MachineState)
-    → IsTrack job part channel states → record { job = job; part = part } ≡ p → k ≤ length (kept_in p.job p.part) → m ≡ get_or states k m
-    → IsAfter p.job p.part (last_number (take k (kept_in p.job p.part))) m
-track_state law job part channel states p k m track same =
-    subst (λ (v : Pair). k ≤ length (kept_in v.job v.part) → m ≡ get_or states k m → IsAfter v.job v.part (last_number (take k (kept_in v.job v.part))) m) same
-    (λ short at.
-    let less : k < length states = omega (arith, short, track.all.counted) in
-    after law job part channel (last_number (take k (kept_in job part))) states m track (track.all.each k m (slice_get_read states (length states) k m refl less at)))
+pub sound_pair : (job : JobState) (part : ChannelPart) (p : Pair) → IsSound (tree_in job) → record { job = job; part = part } ≡ p → IsSound (tree_in p.job)
+sound_pair job part p sound same = subst (λ (v : Pair). IsSound (tree_in v.job)) same sound
+
+pub channel_pair : (job : JobState) (part : ChannelPart) (p : Pair) (channel : ℕ) → channel ≡ job.channel → record { job = job; part = part } ≡ p → channel ≡ p.job.channel
+channel_pair job part p channel is same = subst (λ (v : Pair). channel ≡ v.job.channel) same is
+
+module _ (job : JobState) (part : ChannelPart) (channel : ℕ) (marks : List Mark) (p : Pair) (k : ℕ) (mark : Mark) (track : IsTrack job part channel marks)
+    (same : record { job = job; part = part } ≡ p) (short : k ≤ length (kept_in p.job p.part)) (at : mark ≡ get_or marks k mark) where
+  pub marked : IsMarked p.job p.part (last_number (take k (kept_in p.job p.part))) mark
+  marked =
+      subst (λ (v : Pair). k ≤ length (kept_in v.job v.part) → IsMarked v.job v.part (last_number (take k (kept_in v.job v.part))) mark) same
+      (λ low.
+      let less : k < length marks = omega (arith, low, track.all.counted) in
+      track.all.each k mark (slice_get_read marks (length marks) k mark refl less at)) short
+
+  sound_of : IsSound (tree_in p.job)
+  sound_of = sound_pair job part p track.sound same
+
+  pub last_of : BusSoFar → IsLast p.job p.part (last_number (take k (kept_in p.job p.part))) mark.last
+  last_of law = record {
+    machine = marked.machine;
+    after = after law p.job p.part (last_number (take k (kept_in p.job p.part))) marked.machine sound_of marked.there;
+    told = marked.last_is;
+  }
 
 -- ---- of all jobs
 
@@ -49,11 +72,10 @@ same_part pairs index p part at there = let mapped = map_at (λ (q : Pair). q.pa
 
 -- no more of its messages stand before the place than were kept
 pub room_of : (pairs : List Pair) (found : List Found) (place : ℕ) (channels : List ℕ) (index : ℕ) (p : Pair)
-    → IsReplay (record { jobs = jobs_in pairs; parts = parts_in pairs; found = found; place = place }) channels
-    → slice_get pairs index ≡ Some p → heard_of found place p.job.channel ≤ length (kept_in p.job p.part)
-room_of pairs found place channels index p is at =
+    → Agrees (jobs_in pairs) (parts_in pairs) found → slice_get pairs index ≡ Some p → heard_of found place p.job.channel ≤ length (kept_in p.job p.part)
+room_of pairs found place channels index p agrees at =
     room found place p.job p.part
-    (is.agrees.each index p.job p.part (map_at (λ (q : Pair). q.job) pairs index p at) (map_at (λ (q : Pair). q.part) pairs index p at))
+    (agrees.each index p.job p.part (map_at (λ (q : Pair). q.job) pairs index p at) (map_at (λ (q : Pair). q.part) pairs index p at))
 
 -- so many of them are counted
 pub heard_is : (found : List Found) (place channel own heard : ℕ) (cs channels : List ℕ)
@@ -68,3 +90,28 @@ after_there found place p job part k m is count same_job same_part =
     subst (λ (v : ChannelPart). IsAfter job v (number_at found place job v) m) same_part
     (subst (λ (v : JobState). IsAfter v p.part (number_at found place v p.part) m) same_job
     (subst (λ (n : ℕ). IsAfter p.job p.part (last_number (take n (kept_in p.job p.part))) m) count is))
+
+-- the controller that stands at a place is the job's after the messages before it
+pub shown : (t : Timeline) (found : List Found) (place replayed index : ℕ) (p : Pair) (standing : Standing) (m : MachineState) (job : JobState) (part : ChannelPart)
+    → IsReplay (record { jobs = jobs_in t.tracks.items; parts = parts_in t.tracks.items; found = found; place = place }) t replayed
+    → p ≡ get_or t.tracks.items index p → standing ≡ get_or t.live.items index standing → index < length t.tracks.items
+    → ((number : ℕ) → IsThere p.job p.part number standing.machine → IsAfter p.job p.part number m)
+    → slice_get (jobs_in t.tracks.items) index ≡ Some job → slice_get (parts_in t.tracks.items) index ≡ Some part → IsAfter job part (number_at found place job part) m
+shown t found place replayed index p standing m job part is at_p at_standing less law j q =
+    let there : slice_get t.tracks.items index ≡ Some p = slice_get_read t.tracks.items (length t.tracks.items) index p refl less at_p in
+    let stands : slice_get t.live.items index ≡ Some standing = slice_get_read t.live.items (length t.live.items) index standing refl (omega (arith, less, is.stands.live.long)) at_standing in
+    let here = is.stands.live.each index p standing there stands in
+    after_there found place p job part standing.heard m (law (last_number (take standing.heard (kept_in p.job p.part))) here.there)
+    (here.heard_is ∙ ap (λ (cs : List ℕ). count_to cs place p.job.channel) is.channels_are)
+    (same_job t.tracks.items index p job there j) (same_part t.tracks.items index p part there q)
+
+-- and it has what its latest message came to
+pub told_at : (t : Timeline) (found : List Found) (place replayed index : ℕ) (p : Pair) (standing : Standing) (m : MachineState)
+    → IsReplay (record { jobs = jobs_in t.tracks.items; parts = parts_in t.tracks.items; found = found; place = place }) t replayed
+    → p ≡ get_or t.tracks.items index p → standing ≡ get_or t.live.items index standing → index < length t.tracks.items
+    → ((number : ℕ) → IsThere p.job p.part number standing.machine → IsAfter p.job p.part number m) → IsTold m
+told_at t found place replayed index p standing m is at_p at_standing less law =
+    let there : slice_get t.tracks.items index ≡ Some p = slice_get_read t.tracks.items (length t.tracks.items) index p refl less at_p in
+    let stands : slice_get t.live.items index ≡ Some standing = slice_get_read t.live.items (length t.live.items) index standing refl (omega (arith, less, is.stands.live.long)) at_standing in
+    let here = is.stands.live.each index p standing there stands in
+    (law (last_number (take standing.heard (kept_in p.job p.part))) here.there).told

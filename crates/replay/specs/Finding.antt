@@ -5,7 +5,7 @@ use Rattle.frame_tree.specs.Tree.{Test}
 use Rattle.ch11_recording.specs.Items.{last_number}
 use Rattle.replay.specs.Accord.{kept_in}
 use Rattle.replay.specs.Moves.{says}
-use Rattle.replay.specs.Kept.{Pair}
+use Rattle.replay.specs.Tracks.{Pair}
 
 -- how many of the first messages are of a channel, where these are the channels of all
 abbrev pub count_to : List ℕ → ℕ → ℕ → ℕ

@@ -3,9 +3,11 @@ pub mod Accord
 pub mod Differences
 pub mod Places
 pub mod Moves
-pub mod Kept
+pub mod Tracks
 pub mod Playing
 pub mod Opening
 pub mod Conditions
 pub mod Finding
+pub mod Standings
+pub mod Replaying
 pub mod PlacedActions

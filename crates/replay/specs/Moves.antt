@@ -89,3 +89,7 @@ StartWhere P (error.Mismatch channel number) = ⊥
 StartWhere P error.Past = ⊥
 StartWhere P error.Start = P
 StartWhere P error.Memory = Unit {0}
+
+-- want of memory alone
+abbrev pub IsMemory : ReplayError → Type 0
+IsMemory e = e ≡ error.Memory

@@ -23,5 +23,5 @@ FailsIn jobs parts found error.Start = ⊥
 FailsIn jobs parts found error.Memory = Unit {0}
 
 -- the channel of each message of packets, as they are listed
-abbrev pub spread : List Packet → List ℕ
-spread packets = flat_map (λ (e : Packet). replicate e.count e.header.channel) packets
+abbrev pub channels_in : List Packet → List ℕ
+channels_in packets = flat_map (λ (e : Packet). replicate e.count e.header.channel) packets

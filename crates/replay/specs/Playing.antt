@@ -17,7 +17,8 @@ use Rattle.replay.specs.declared.playing.Played.{Played}
 use Rattle.replay.specs.declared.playing.Played.TheVariants.{Kept, Refused, Unlike}
 use Rattle.replay.specs.Accord.{played}
 use Rattle.replay.specs.Differences.{IsFirstFault}
-use Rattle.replay.specs.Kept.{IsThere, AreStates}
+use Rattle.replay.specs.declared.tracks.Mark.{Mark}
+use Rattle.replay.specs.Tracks.{IsThere, AreMarks}
 
 -- the report lists the number as refused
 abbrev pub is_listed : ChannelPart → ℕ → Bool
@@ -62,11 +63,11 @@ GoesOn job part n heard =
     ((message : Record) × (slice_get (played job part) n ≡ Some message))
     ⊎ ((n ≡ length (played job part)) × ((message : Message) × (rest : List Message) × (heard ≡ message ∷ rest)))
 
--- So many messages were played: those that were kept stood first in the file, and each of them has its controller.
-pub record IsPlaying (found : List Found) (job : JobState) (part : ChannelPart) (n : ℕ) (m : MachineState) (heard : List Message) (states : List MachineState) : Type 0 where
+-- So many messages were played: those that were kept stood first in the file, and each of them has left its mark.
+pub record IsPlaying (found : List Found) (job : JobState) (part : ChannelPart) (n : ℕ) (m : MachineState) (heard : List Message) (marks : List Mark) : Type 0 where
   pub there : IsThere job part n m
   pub read : reading found job.channel ≡ map as_message (messages_of (kept part.refused (take n (played job part)))) ++ heard
-  pub all : AreStates job part (kept part.refused (take n (played job part))) states
+  pub all : AreMarks job part (kept part.refused (take n (played job part))) marks
 
 -- Y1 only at the first number at fault, or want of memory
 abbrev pub FailsAt : List Found → JobState → ChannelPart → ReplayError → Type 0

@@ -4,11 +4,10 @@ ghost use Rattle.std.specs.List.{AllByRecursion};
 ghost use Rattle.frame_tree.specs.Tree.{test_of};
 ghost use Rattle.replay.specs.Accord.{kept_in};
 ghost use Rattle.replay.specs.Finding.{count_to, earlier, IsMetBy, IsMetIn, Finds};
-ghost use Rattle.replay.specs.Kept.{Pair};
+ghost use Rattle.replay.specs.Tracks.{Pair};
 
 use crate::conditions::holds;
-use crate::replaying::count;
-use crate::tracks::Track;
+use crate::tracks::{Track, count};
 use frame_tree::Cond;
 use std::alloc::Allocator;
 
@@ -29,7 +28,7 @@ fn first_of_job<A: Allocator + Clone>(
     for before in place..channels.len() {
         if channels[before] == channel {
             heard += 1;
-            if holds(condition, track.state(heard).last_outcome()) {
+            if holds(condition, track.outcome(heard)) {
                 return Some(before + 1);
             }
         }

@@ -9,6 +9,8 @@ mod laws;
 mod opening;
 mod playing;
 mod replaying;
+mod standings;
+mod timeline;
 mod tracks;
 
 pub use error::ReplayError;

@@ -4,7 +4,7 @@ ghost use Rattle.bench_core.specs.Lawful.{channels_of};
 ghost use Rattle.replay.specs.Accord.{reported, AreOfChannels};
 ghost use Rattle.replay.specs.Differences.{IsWrongChannel, IsStranger};
 ghost use Rattle.replay.specs.Places.{heard_channels};
-ghost use Rattle.replay.specs.Kept.{jobs_in, parts_in};
+ghost use Rattle.replay.specs.Tracks.{jobs_in, parts_in};
 ghost use Rattle.replay.specs.Moves.{OpensNot};
 ghost use Rattle.replay.specs.Opening.{AgreeBefore, FailsIn};
 

@@ -3,11 +3,12 @@ ghost use Rattle.std.specs.Prelude.{◌≡◌, MatchBool, IfOk, IfErr, OnOk};
 ghost use Rattle.frame_tree.specs.Bounds.{IsSound};
 ghost use Rattle.job_file.specs.Jobs.{tree_in};
 ghost use Rattle.replay.specs.Accord.{AgreesOn, kept_in};
-ghost use Rattle.replay.specs.Kept.{IsThere, AreStates};
+ghost use Rattle.replay.specs.Tracks.{IsThere, AreMarks};
 ghost use Rattle.replay.specs.Playing.{Tells, IsOver, GoesOn, FailsAt};
 
 use crate::comparing::{is_record, is_refused};
 use crate::error::ReplayError;
+use crate::tracks::Mark;
 use bc_machine::Machine;
 use bench_report::ChannelReport;
 use ch11_reader::{ChannelMessages, Index};
@@ -65,16 +66,27 @@ fn is_over(
     }
 }
 
-/// Plays a job again, under the actions that its part of the report says were placed, and compares part and file with it: its
-/// controller before any message, and behind each that was kept. Y1 names the first number at fault.
+/// What is kept of the message that a controller stands behind.
+fn mark(machine: &Machine) -> Mark
+    ensures number { result.number ≡ machine.now.point.number }
+    ensures last { result.last ≡ machine.now.point.last }
+{
+    Mark {
+        number: machine.number(),
+        last: machine.last_outcome(),
+    }
+}
+
+/// Plays a job again, under the actions that its part of the report says were placed, and compares part and file with it: a
+/// mark before any message, and behind each that was kept. Y1 names the first number at fault.
 pub(crate) fn play(
     alloc: Global,
     job: &Job,
     part: &ChannelReport,
     index: &Index<'_>,
-) -> Result<Vec<Machine>, ReplayError>
+) -> Result<Vec<Mark>, ReplayError>
     ensures sound { OnOk result (IsSound (tree_in job.now)) }
-    ensures states { IfOk result (λ v. AreStates job.now part.now (kept_in job.now part.now) v.items) }
+    ensures marks { IfOk result (λ v. AreMarks job.now part.now (kept_in job.now part.now) v.items) }
     ensures agrees { OnOk result (AgreesOn index.now job.now part.now) }
     ensures fault { IfErr result (λ e. FailsAt index.now job.now part.now e) }
 {
@@ -82,11 +94,11 @@ pub(crate) fn play(
     let _sound = job.program();
     let mut machine = job.machine(alloc, part.placed())?;
     let mut heard = index.channel(channel);
-    let mut states = Vec::new(alloc);
-    states.push(machine.copy()?)?;
+    let mut marks = Vec::new(alloc);
+    marks.push(mark(&machine))?;
     for played in 0..part.made() {
         match play_next(&mut machine, job, part, &mut heard) {
-            Played::Kept => states.push(machine.copy()?)?,
+            Played::Kept => marks.push(mark(&machine))?,
             Played::Refused => {}
             Played::Unlike => {
                 let number = played + 1;
@@ -98,5 +110,5 @@ pub(crate) fn play(
         let number = part.made() + 1;
         return Err(ReplayError::Mismatch { channel, number });
     }
-    Ok(states)
+    Ok(marks)
 }

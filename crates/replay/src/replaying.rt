@@ -1,17 +1,18 @@
 //! The debugger: a recording, and behind how many of its messages it stands.
-ghost use Rattle.std.specs.Prelude.{◌≡◌, ◌+◌, ◌-◌, ◌<◌, ◌≤◌, ◌==◌, count_by, length, slice_get, Some, IfOk, IfErr, OnOk, OnErr};
+ghost use Rattle.std.specs.Prelude.{◌≡◌, ◌+◌, ◌-◌, ◌<◌, ◌≤◌, ◌%◌, length, slice_get, Some, IfOk, IfErr, OnOk, OnErr};
 ghost use Rattle.frame_tree.specs.Tree.{test_of};
 ghost use Rattle.job_file.specs.Jobs.{JobState, job_in};
 ghost use Rattle.job_file.specs.Meaning.{bus_after};
 ghost use Rattle.job_file.specs.Machines.{IsOf, IsTold};
 ghost use Rattle.replay.specs.Accord.{Agrees};
 ghost use Rattle.replay.specs.Places.{number_at};
-ghost use Rattle.replay.specs.Moves.{at_place, total_of, OfJob, IsNextMet, IsNowhere, OpensNot, PastWhere, StartWhere};
+ghost use Rattle.replay.specs.Moves.{at_place, total_of, OfJob, IsNextMet, IsNowhere, OpensNot, PastWhere, StartWhere, IsMemory};
 
 use crate::error::ReplayError;
 use crate::finding::first_met;
 use crate::opening::{compare_channels, message_channels, tracks};
-use crate::tracks::Track;
+use crate::standings::begin_all;
+use crate::timeline::Timeline;
 use bc_machine::Machine;
 use bench_report::Report;
 use ch11_reader::Index;
@@ -24,32 +25,26 @@ use std::marker::Model;
 /// parts of the report, the packets of the file, and the place: behind how many messages of the file it stands.
 #[derive(Drop)]
 pub struct Replay<'a> {
-    tracks: Vec<Track>,
     index: Index<'a>,
-    channels: Vec<u16>,
+    timeline: Timeline,
     place: u64,
+    replayed: u64,
 }
 
 impl<'a> Model for Replay<'a> {
     ghost use Rattle.job_file.specs.contracts.scripts.Script as scripts;
     ghost use Rattle.std.specs.Coded.{codes};
     ghost use Rattle.replay.specs.Moves.{ReplayState};
-    ghost use Rattle.replay.specs.Kept.{jobs_in, parts_in, IsReplay};
+    ghost use Rattle.replay.specs.Tracks.{jobs_in, parts_in};
+    ghost use Rattle.replay.specs.Replaying.{IsReplay};
 
     ghost Value = { ReplayState };
 
     ghost coded = { Prim.hlevel (codes, scripts.the_row.coded) };
 
-    ghost view = { λ r. record { jobs = jobs_in r.tracks.items; parts = parts_in r.tracks.items; found = r.index; place = r.place } };
+    ghost view = { λ r. record { jobs = jobs_in r.timeline.tracks.items; parts = parts_in r.timeline.tracks.items; found = r.index; place = r.place } };
 
-    ghost invariant = { λ r. IsReplay (record { jobs = jobs_in r.tracks.items; parts = parts_in r.tracks.items; found = r.index; place = r.place }) r.channels.items };
-}
-
-/// How many of the numbers are this one.
-pub(crate) fn count(channels: &[u16], channel: u16) -> usize
-    ensures { result ≡ count_by (λ c. c == channel) channels.now }
-{
-    channels.iter().filter(|one| **one == channel).count()
+    ghost invariant = { λ r. IsReplay (record { jobs = jobs_in r.timeline.tracks.items; parts = parts_in r.timeline.tracks.items; found = r.index; place = r.place }) r.timeline r.replayed };
 }
 
 impl<'a> Replay<'a> {
@@ -72,12 +67,32 @@ impl<'a> Replay<'a> {
         compare_channels(alloc, jobs, parts, &index)?;
         let tracks = tracks(alloc, jobs, parts, &index)?;
         let channels = message_channels(alloc, &index)?;
+        let live = begin_all(alloc, jobs, parts)?;
+        let other = begin_all(alloc, jobs, parts)?;
+        let timeline = Timeline::open(alloc, tracks, channels, live, other)?;
         Ok(Replay {
-            tracks,
             index,
-            channels,
+            timeline,
             place: 0,
+            replayed: 0,
         })
+    }
+
+    /// To a place behind so many messages of the file. Condition: it has as many. Y4 leaves all as it was.
+    fn move_to(&mut self, n: u64) -> Result<(), ReplayError>
+        requires { n ≤ total_of self.old }
+        ensures moved { OnOk result (self.new ≡ at_place n self.old) }
+        ensures refused { IfErr result (λ e. IsMemory e) }
+        ensures same { OnErr result (self.new ≡ self.old) }
+    {
+        match self.timeline.travel(self.place as usize, n as usize) {
+            Ok(played) => {
+                self.place = n;
+                self.replayed = played as u64;
+                Ok(())
+            }
+            Err(_) => Err(ReplayError::Memory),
+        }
     }
 
     /// To the next message of the file. Y2 where there is none; a refusal leaves all as it was.
@@ -90,8 +105,7 @@ impl<'a> Replay<'a> {
         if self.place >= self.total() {
             return Err(ReplayError::Past);
         }
-        self.place += 1;
-        Ok(())
+        self.move_to(self.place + 1)
     }
 
     /// To the message before. Y3 at the start; a refusal leaves all as it was.
@@ -104,8 +118,7 @@ impl<'a> Replay<'a> {
         if self.place == 0 {
             return Err(ReplayError::Start);
         }
-        self.place -= 1;
-        Ok(())
+        self.move_to(self.place - 1)
     }
 
     /// To the place behind so many messages of the file. Y2 where it has fewer; a refusal leaves all as it was.
@@ -118,8 +131,7 @@ impl<'a> Replay<'a> {
         if n > self.total() {
             return Err(ReplayError::Past);
         }
-        self.place = n;
-        Ok(())
+        self.move_to(n)
     }
 
     /// To the first message past the place whose outcome makes the condition true. Y2 where there is none; a refusal leaves
@@ -130,12 +142,15 @@ impl<'a> Replay<'a> {
         ensures refused { IfErr result (λ e. PastWhere (IsNowhere self.old (test_of condition.now)) e) }
         ensures same { OnErr result (self.new ≡ self.old) }
     {
-        match first_met(&self.tracks, &self.channels, self.place as usize, condition) {
+        let timeline = &self.timeline;
+        match first_met(
+            &timeline.tracks,
+            &timeline.channels,
+            self.place as usize,
+            condition,
+        ) {
             None => Err(ReplayError::Past),
-            Some(n) => {
-                self.place = n as u64;
-                Ok(())
-            }
+            Some(n) => self.move_to(n as u64),
         }
     }
 
@@ -147,11 +162,19 @@ impl<'a> Replay<'a> {
         self.place
     }
 
+    /// How many messages of the file the last move that succeeded has played, from the nearest state that was kept: no more than
+    /// stand behind the place since the last multiple of 64, so 63 at most, and none before any move.
+    pub fn replayed(&self) -> u64
+        ensures few { result ≤ self.now.place % 64 }
+    {
+        self.replayed
+    }
+
     /// How many messages the file has.
     pub fn total(&self) -> u64
         ensures { result ≡ total_of self.now }
     {
-        self.channels.len() as u64
+        self.timeline.channels.len() as u64
     }
 
     /// How many jobs there are.
@@ -159,7 +182,7 @@ impl<'a> Replay<'a> {
         ensures value { result ≡ length self.now.jobs }
         ensures agrees { Agrees self.now.jobs self.now.parts self.now.found }
     {
-        self.tracks.len()
+        self.timeline.tracks.len()
     }
 
     /// The channel of the job at an index, 1 to 65,535. Condition: there is such a job.
@@ -167,7 +190,7 @@ impl<'a> Replay<'a> {
         requires { index < length self.now.jobs }
         ensures { (job : JobState) → slice_get self.now.jobs index ≡ Some job → result ≡ job.channel }
     {
-        self.tracks[index].channel()
+        self.timeline.tracks[index].channel()
     }
 
     /// The controller of the job at an index as it was behind the latest message of its channel among those before the place,
@@ -179,8 +202,7 @@ impl<'a> Replay<'a> {
         ensures bus { OfJob self.now index (λ job part. result.now.point.state ≡ bus_after (job_in job) part.placed (number_at self.now.found self.now.place job part)) }
         ensures outcome { IsTold result.now }
     {
-        let track = &self.tracks[index];
-        let heard = count(&self.channels[..self.place as usize], track.channel());
-        track.state(heard)
+        let track = &self.timeline.tracks[index];
+        track.machine(&self.timeline.live[index])
     }
 }

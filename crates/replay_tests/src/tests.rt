@@ -1,4 +1,5 @@
 //! Worked recordings under the debugger.
+mod checkpoints;
 mod moves;
 mod openings;
 mod recordings;

@@ -32,6 +32,7 @@ pub(crate) const FOREIGN: [u8; 96] = [
 /// The report of two channels of ten messages, of which none was refused.
 pub(crate) const TEN_REPORT: &str = "channel 1\nmade 10\nchannel 2\nmade 10\npackets 2\n";
 
+/// The jobs of these texts, in their order.
 pub(crate) fn jobs_of(rt: &impl Abort, alloc: Global, texts: &[&str]) -> Vec<Job> {
     let mut jobs = Vec::new(alloc);
     for text in texts {
@@ -39,6 +40,14 @@ pub(crate) fn jobs_of(rt: &impl Abort, alloc: Global, texts: &[&str]) -> Vec<Job
         jobs.push(job).expect(rt, "memory");
     }
     jobs
+}
+
+/// A job of so many messages, each a step later than the one before it.
+pub(crate) fn job_of(rt: &impl Abort, alloc: Global, channel: u32, count: u32) -> Job {
+    let text = format!(in alloc;
+        "channel {channel}\nterminal 5\nscript\nrepeat {count} {{ send A rx 5 1 [0001] }}\n"
+    ).expect(rt, "memory");
+    read_job(alloc, text.as_bytes()).ok().expect(rt, "a job")
 }
 
 /// Packets of at most 4096 bytes, a queue of so many items, and a prologue.

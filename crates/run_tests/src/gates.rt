@@ -54,6 +54,7 @@ pub(super) struct HeldWriter {
 }
 
 impl HeldWriter {
+    /// The gate before anything has passed it.
     pub(super) fn make() -> HeldWriter {
         HeldWriter {
             waits: Waits::make(),
@@ -103,6 +104,7 @@ pub(super) struct InTurn {
 }
 
 impl InTurn {
+    /// The gate before anything has passed it.
     pub(super) fn make() -> InTurn {
         InTurn {
             waits: Waits::make(),
@@ -144,6 +146,7 @@ pub(super) struct Meeting {
 }
 
 impl Meeting {
+    /// The gate before anything has passed it.
     pub(super) fn make() -> Meeting {
         Meeting {
             waits: Waits::make(),
@@ -187,6 +190,7 @@ pub(super) struct GoesFirst {
 }
 
 impl GoesFirst {
+    /// The gate before anything has passed it, for this channel.
     pub(super) fn make(channel: u16) -> GoesFirst {
         GoesFirst {
             waits: Waits::make(),
@@ -220,6 +224,7 @@ pub(super) struct Backlog {
 }
 
 impl Backlog {
+    /// The gate before anything has passed it.
     pub(super) fn make() -> Backlog {
         Backlog {
             waits: Waits::make(),

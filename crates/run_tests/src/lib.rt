@@ -1,13 +1,17 @@
-//! Tests of the calls that start threads, `run` of `bench_run` and `record_jobs` of `bench_record`, against worked values: gates
-//! fix the order of the threads where a value hangs on it.
+//! Tests of the calls that start threads, `run` of `bench_run` and `record_jobs` of `bench_record`, and of mailboxes, against worked
+//! values: gates fix the order of the threads where a value hangs on it.
 #![tactic(auto)]
 
+#[cfg(test)]
+mod channels;
 #[cfg(test)]
 mod counts;
 #[cfg(test)]
 mod fixtures;
 #[cfg(test)]
 mod gates;
+#[cfg(test)]
+mod mailboxes;
 #[cfg(test)]
 mod many;
 #[cfg(test)]

@@ -1,11 +1,11 @@
 //! A thousand runs of eight channels on short queues: what is read back is what was made, but for what the report lists.
-use crate::fixtures::{STEP, settings_of};
+use crate::fixtures::{STEP, job_of, settings_of};
 use bench_core::Settings;
 use bench_report::{ChannelReport, Report};
 use bench_run::{OpenGate, run};
 use ch11_reader::Index;
 use ch11_writer::MemorySink;
-use job_file::{Job, read_job};
+use job_file::Job;
 use std::alloc::Global;
 use std::process::Abort;
 use std::sync::Wait;
@@ -16,14 +16,6 @@ const RUNS: u32 = 125;
 
 /// How many messages the channels 1 to 8 make.
 const COUNTS: [u32; 8] = [2, 3, 4, 2, 3, 4, 2, 3];
-
-/// A job of so many messages, each a step later than the one before it.
-fn job_of(rt: &impl Abort, alloc: Global, channel: u32, count: u32) -> Job {
-    let text = format!(in alloc;
-        "channel {channel}\nterminal 5\nscript\nrepeat {count} {{ send A rx 5 1 [0001] }}\n"
-    ).expect(rt, "memory");
-    read_job(alloc, text.as_bytes()).ok().expect(rt, "a job")
-}
 
 /// A job for each channel.
 fn eight_jobs(rt: &impl Abort, alloc: Global) -> Vec<Job> {

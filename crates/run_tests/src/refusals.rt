@@ -10,19 +10,6 @@ use std::thread::Threads;
 
 const ONE_MESSAGE: &str = "channel 1\nterminal 5\nscript\nsend A rx 5 1 [0001]\n";
 
-/// Nine channels, one more than a run has.
-const NINE_CHANNELS: [&str; 9] = [
-    "channel 1\nterminal 5\nscript\nsend A mode 5 1\n",
-    "channel 2\nterminal 5\nscript\nsend A mode 5 1\n",
-    "channel 3\nterminal 5\nscript\nsend A mode 5 1\n",
-    "channel 4\nterminal 5\nscript\nsend A mode 5 1\n",
-    "channel 5\nterminal 5\nscript\nsend A mode 5 1\n",
-    "channel 6\nterminal 5\nscript\nsend A mode 5 1\n",
-    "channel 7\nterminal 5\nscript\nsend A mode 5 1\n",
-    "channel 8\nterminal 5\nscript\nsend A mode 5 1\n",
-    "channel 9\nterminal 5\nscript\nsend A mode 5 1\n",
-];
-
 /// How many bytes the sink took that a fault hands back.
 fn taken_by(fault: &RunError<MemorySink>) -> usize {
     match fault {
@@ -115,13 +102,10 @@ fn settings_out_of_range(rt: HostRuntime) {
 }
 
 #[test]
-fn no_job_nine_jobs_and_a_channel_twice(rt: HostRuntime) {
+fn no_job_and_a_channel_twice(rt: HostRuntime) {
     let alloc = rt.alloc();
     let settings = settings_of(&rt, alloc, 4096, &[]);
     is_refused(&rt, alloc, &[], &settings, "U2");
-    is_refused(&rt, alloc, &NINE_CHANNELS, &settings, "U2");
-    let taken = taken_with(&rt, alloc, &NINE_CHANNELS[..8], &settings, "ok");
-    assert!(rt; taken > 0);
     let twice = &[ONE_MESSAGE, ONE_MESSAGE];
     is_refused(&rt, alloc, twice, &settings, "U1");
 }

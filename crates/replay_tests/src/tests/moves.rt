@@ -19,7 +19,7 @@ const FIVE_MESSAGES: &str =
     "channel 1\nterminal 5\nat 3 5 busy on\nscript\nrepeat 5 { send A rx 5 1 [0001] }\n";
 
 /// Number, status and last command of terminal 5.
-fn shown(machine: &Machine) -> Option<(u32, u16, u16)> {
+pub fn shown(machine: &Machine) -> Option<(u32, u16, u16)> {
     let terminal = machine.bus().terminal(5)?;
     Some((machine.number(), terminal.status(), terminal.last_command()))
 }
@@ -31,7 +31,7 @@ fn condition(alloc: Global, text: &str) -> Result<Cond<Global>, Fail> {
     }
 }
 
-fn opened<'a>(
+pub fn opened<'a>(
     alloc: Global,
     one: &super::recordings::Recorded,
     file: &'a [u8],

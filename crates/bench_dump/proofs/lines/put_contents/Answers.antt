@@ -1,4 +1,4 @@
-use Rattle.std.proofs.Common.{◌≡◌, Bool, true, eqb, eq-eqb, append_assoc}
+use Rattle.std.proofs.Common.{◌≡◌, true, eqb, eq-eqb, append_assoc}
 use Rattle.bench_dump.specs.DumpText.{packet_contents}
 use Rattle.bench_dump.proofs.lines.put_contents.Goals as goal
 

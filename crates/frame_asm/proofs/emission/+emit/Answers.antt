@@ -2,12 +2,12 @@ use Rattle.std.proofs.Common.{◌≡◌, ◌+◌, ◌<◌, ◌++◌, length, map
 use Rattle.std.proofs.lemmas.List.{get_or_read}
 use Rattle.std.proofs.lemmas.Grind.{common_steps}
 use Rattle.std.proofs.lemmas.Result.{on_ok_weaker}
-use Rattle.frame_tree.specs.Tree.{repeat, choose, chain, test_of, tree_of}
+use Rattle.frame_tree.specs.Tree.{repeat, choose, until, chain, test_of, tree_of}
 use Rattle.frame_tree.specs.declared.Frame.{the_lemmas}
-use Rattle.frame_tree.proofs.Trees.{tree_seq, tree_repeat, tree_if}
+use Rattle.frame_tree.proofs.Trees.{tree_seq, tree_repeat, tree_if, tree_until}
 use Rattle.frame_asm.specs.Shapes.{branch_size, size, entries, shape, messages_of}
 use Rattle.frame_asm.proofs.Chains.{front, front_all}
-use Rattle.frame_asm.proofs.Frames.{length_put, length_branched, length_grown, length_entered, repeat_done, choose_done, messages_done, room_at, table_at, front_done, front_entered}
+use Rattle.frame_asm.proofs.Frames.{length_put, length_branched, length_grown, length_entered, repeat_done, until_done, choose_done, messages_done, room_at, table_at, front_done, front_entered}
 use Rattle.frame_asm.proofs.emission.+emit.Goals as goal
 
 pub emit-requires-in-If : goal.emit-requires-in-If
@@ -27,6 +27,15 @@ emit-requires-in-If-2 g t c κs within =
     let three = length_put c.emit-in-If.new.operations.items c.put-in-If.new.operations.items _ c.in_ok-put-in-If.ensures in
     let four = length_entered (tree_of c.deref-in-If-3.result.now) c.args.messages.now.items c.emit-in-If.new.messages.items c.in_ok-emit-in-If.ensures.messages in
     (search (rules, the_lemmas), (search rules, (omega (arith, c.requires.room, ap size is, ap size now, ap size before, one, two, three), omega (arith, c.requires.table, ap entries is, ap entries now, ap entries before, four))))
+
+pub emit-requires-in-Until : goal.emit-requires-in-Until
+emit-requires-in-Until g t c κs within =
+    let is : tree_of c.args.frame.now ≡ until (test_of c.in-Until.condition) c.in-Until.count (tree_of c.in-Until.body.value) = ap tree_of c.in-Until.is ∙ tree_until c.in-Until.condition c.in-Until.count c.in-Until.body in
+    let now : tree_of c.deref-in-Until-2.result.now ≡ tree_of c.in-Until.body.value = ap tree_of c.deref-in-Until-2.ensures in
+    let one = length_put c.args.operations.now.items c.put-in-Until.new.operations.items _ c.in_ok-put-in-Until.ensures in
+    let two = length_branched (test_of c.in-Until.condition) c.put-in-Until.new.operations.items c.emit_branch-in-Until.new.operations.items _ _ _ c.in_ok-emit_branch-in-Until.ensures in
+    let three = length_put c.emit_branch-in-Until.new.operations.items c.put-in-Until-2.new.operations.items _ c.in_ok-put-in-Until-2.ensures in
+    (search (rules, the_lemmas), (search rules, (omega (arith, c.requires.room, ap size is, ap size now, one, two, three), omega (arith, c.requires.table, ap entries is, ap entries now))))
 
 pub emit-requires-in-loop-frame : goal.emit-requires-in-loop-frame
 emit-requires-in-loop-frame g t c κs within =
@@ -53,6 +62,19 @@ pub returns-in_ok-emit-in-Repeat-clause-operations : goal.returns-in_ok-emit-in-
 returns-in_ok-emit-in-Repeat-clause-operations g t c =
     let is : tree_of c.args.frame.now ≡ repeat c.in-Repeat.count (tree_of c.in-Repeat.body.value) = ap tree_of c.in-Repeat.is ∙ tree_repeat c.in-Repeat.count c.in-Repeat.body in
     on_ok_weaker _ (repeat_done _ _ _ c.in-Repeat.count c.args.operations.now.items c.put-in-Repeat.new.operations.items c.emit.new.operations.items _ _ _ is (ap tree_of c.deref.ensures) (omega (arith, c.len.ensures, c.args.operations.now.ok.0)) c.in_ok-put-in-Repeat.ensures c.in_ok-emit-in-Repeat.ensures.operations) c.put-in-Repeat-2.ensures
+
+pub returns-in_ok-emit-in-Until-clause-operations : goal.returns-in_ok-emit-in-Until-clause-operations
+returns-in_ok-emit-in-Until-clause-operations g t c =
+    let b = tree_of c.in-Until.body.value in
+    let k = test_of c.in-Until.condition in
+    let is : tree_of c.args.frame.now ≡ until k c.in-Until.count b = ap tree_of c.in-Until.is ∙ tree_until c.in-Until.condition c.in-Until.count c.in-Until.body in
+    let room = c.requires.room in
+    let counted : size (tree_of c.deref-in-Until.result.now) ≡ size b = ap (λ f. size (tree_of f)) c.deref-in-Until.ensures in
+    let long : size (tree_of c.args.frame.now) ≡ branch_size k + size b + 3 = ap size is in
+    let test_at : c.len-in-Until.result + 1 ≡ length c.args.operations.now.items + 1 = omega (arith, c.len-in-Until.ensures, c.args.operations.now.ok.0) in
+    let leave : c.len-in-Until.result + 1 + c.branch_len-in-Until.result ≡ c.len-in-Until.result + 1 + branch_size k = omega (arith, c.branch_len-in-Until.ensures) in
+    let end : c.len-in-Until.result + 1 + c.branch_len-in-Until.result + c.operation_count-in-Until.result + 2 ≡ c.len-in-Until.result + 1 + c.branch_len-in-Until.result + size b + 2 = omega (arith, c.operation_count-in-Until.ensures) in
+    on_ok_weaker _ (until_done _ b _ k k c.in-Until.count c.args.operations.now.items c.put-in-Until.new.operations.items c.emit_branch-in-Until.new.operations.items c.put-in-Until-2.new.operations.items c.emit-in-Until.new.operations.items _ _ _ _ _ is (λ i. k) (ap tree_of c.deref-in-Until-2.ensures) test_at leave end c.in_ok-put-in-Until.ensures c.in_ok-emit_branch-in-Until.ensures c.in_ok-put-in-Until-2.ensures c.in_ok-emit-in-Until.ensures.operations) c.put-in-Until-3.ensures
 
 pub returns-in_ok-put-in-If-clause-operations : goal.returns-in_ok-put-in-If-clause-operations
 returns-in_ok-put-in-If-clause-operations g t c =

@@ -1,6 +1,8 @@
-use Rattle.std.proofs.Common.{map, sym, ap, ◌∙◌, arith}
+use Rattle.std.proofs.Common.{map, sym, ap, ◌∙◌, arith, rules}
+use Rattle.std.proofs.lemmas.Grind.{common_steps}
 use Rattle.std.proofs.lemmas.List.{take_all}
 use Rattle.frame_tree.specs.Tree.{tree_of, chain}
+use Rattle.frame_tree.specs.declared.Frame.{the_lemmas}
 use Rattle.frame_tree.proofs.Trees.{tree_seq, one_more}
 use Rattle.frame_tree.proofs.Frame.+copied.Goals as goal
 
@@ -15,3 +17,6 @@ returns-after-loop-frame g t c =
     ∙ ap chain (c.loop-frame.invariant ∙ ap (map tree_of) (take_all c.loop-frame.frame-index c.deref-frame-items.result.now (omega arith) ∙ c.deref-frame-items.ensures.value))
     ∙ sym (tree_seq c.in-Seq.frames)
     ∙ ap tree_of (sym c.in-Seq.is)
+
+pub copied-requires-in-loop-frame : goal.copied-requires-in-loop-frame
+copied-requires-in-loop-frame g t c κs within = (grind (the_lemmas, arith, common_steps) steps 12000000, search rules)

@@ -1,21 +1,5 @@
-use Rattle.std.proofs.Common.{◌∙◌, sym, arith}
-use Rattle.std.specs.Prelude.{true, false}
-use Rattle.mil_word.specs.declared.Word.{Word}
-use Rattle.mil_word.proofs.Reading.{found_is, word_of_is}
+use Rattle.mil_word.proofs.Reading.{word_of_is}
 use Rattle.mil_word.proofs.code.decode.Goals as goal
 
-pub returns-then-is_wave_of-clause-read : goal.returns-then-is_wave_of-clause-read
-returns-then-is_wave_of-clause-read c =
-    let read : Word = record { sync = c.sync_of.result; value = c.raw_bits.result } in
-    found_is c.args.wave read true (omega arith) c.sync_of.ensures c.raw_bits.ensures (sym c.if-is_wave_of.true ∙ c.is_wave_of.ensures)
-
-pub returns-else-is_wave_of-clause-read : goal.returns-else-is_wave_of-clause-read
-returns-else-is_wave_of-clause-read c =
-    let read : Word = record { sync = c.sync_of.result; value = c.raw_bits.result } in
-    found_is c.args.wave read false (omega arith) c.sync_of.ensures c.raw_bits.ensures (sym c.if-is_wave_of.false ∙ c.is_wave_of.ensures)
-
-pub returns-then-is_wave_of-clause-sound : goal.returns-then-is_wave_of-clause-sound
-returns-then-is_wave_of-clause-sound c = λ word small. word_of_is c.args.wave _ word (omega arith) (returns-then-is_wave_of-clause-read c) small
-
-pub returns-else-is_wave_of-clause-sound : goal.returns-else-is_wave_of-clause-sound
-returns-else-is_wave_of-clause-sound c = λ word small. word_of_is c.args.wave _ word (omega arith) (returns-else-is_wave_of-clause-read c) small
+pub returns-clause-sound : goal.returns-clause-sound
+returns-clause-sound c = λ word fits. word_of_is c.args.wave c.word.result word c.word.ensures.small c.word.ensures.value fits

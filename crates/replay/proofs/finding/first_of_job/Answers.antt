@@ -9,8 +9,8 @@ returns-then-holds g c = record {
   past = omega (arith, c.loop-before.invariant.from);
   met =
       met_here c.args.channels.now (test_of c.args.condition.now) c.args.track.now c.loop-before.before c.channel-channel.result c.loop-before-test.true c.channel-channel.ensures c.if-channels-before.true
-      (says_there c.args.channels.now (test_of c.args.condition.now) c.args.track.now c.loop-before.before c.loop-before.heard c.channel-channel.result c.state.result.now c.last_outcome.result _
-      c.loop-before-test.true c.loop-before.invariant.heard c.channel-channel.ensures c.if-channels-before.true c.state.ensures c.last_outcome.ensures c.if-holds.ensures);
+      (says_there c.args.channels.now (test_of c.args.condition.now) c.args.track.now c.loop-before.before c.loop-before.heard c.channel-channel.result c.outcome.ensures.machine c.outcome.result _
+      c.loop-before-test.true c.loop-before.invariant.heard c.channel-channel.ensures c.if-channels-before.true c.outcome.ensures.after c.outcome.ensures.told c.if-holds.ensures);
   first = λ m past less. c.loop-before.invariant.none m past (omega (arith, less));
 }
 
@@ -23,8 +23,8 @@ loop-before-preserved g c =
         none =
             none_next c.args.channels.now (test_of c.args.condition.now) c.args.track.now c.loop-before.before c.args.place c.loop-before.invariant.none
             (not_true c.args.channels.now (test_of c.args.condition.now) c.args.track.now c.loop-before.before
-            (says_there c.args.channels.now (test_of c.args.condition.now) c.args.track.now c.loop-before.before c.loop-before.heard c.channel-channel.result w.state.result.now w.last_outcome.result _
-            c.loop-before-test.true c.loop-before.invariant.heard c.channel-channel.ensures w.if-channels-before.true w.state.ensures w.last_outcome.ensures w.if-holds.ensures));
+            (says_there c.args.channels.now (test_of c.args.condition.now) c.args.track.now c.loop-before.before c.loop-before.heard c.channel-channel.result w.outcome.ensures.machine w.outcome.result _
+            c.loop-before-test.true c.loop-before.invariant.heard c.channel-channel.ensures w.if-channels-before.true w.outcome.ensures.after w.outcome.ensures.told w.if-holds.ensures));
       }
       | else-channels-before w ↦ record {
         from = omega (arith, c.loop-before.invariant.from);

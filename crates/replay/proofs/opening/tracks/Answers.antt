@@ -1,6 +1,6 @@
 use Rattle.std.proofs.Common.{◌<◌, length, ap, arith}
 use Rattle.std.proofs.lemmas.Result.{err_from_is_err_and}
-use Rattle.replay.specs.Kept.{Pair}
+use Rattle.replay.specs.Tracks.{Pair}
 use Rattle.replay.proofs.Channels.{fails_in, agree_next, jobs_next, parts_next}
 use Rattle.replay.proofs.opening.tracks.Goals as goal
 

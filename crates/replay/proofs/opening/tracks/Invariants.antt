@@ -1,5 +1,5 @@
 use Rattle.std.proofs.Common.{◌≡◌, take}
-use Rattle.replay.specs.Kept.{jobs_in, parts_in}
+use Rattle.replay.specs.Tracks.{jobs_in, parts_in}
 use Rattle.replay.specs.Opening.{AgreeBefore}
 use Rattle.replay.proofs.opening.tracks.Given as goal
 

@@ -1,11 +1,11 @@
 use Rattle.std.proofs.Common.{◌-◌, None, Some, sym, arith}
-use Rattle.ch11_reader.specs.Indexed.{found_in}
+use Rattle.ch11_reader.specs.Indexed.{indexed}
 use Rattle.ch11_reader.proofs.Entries.{first_at, within_at, entry_read, message_is, none_at_zero, none_past}
 use Rattle.ch11_reader.proofs.index.Index.message.Goals as goal
 use Rattle.ch11_reader.proofs.index.Index.message.Goals.{then-n-eq0-via-then-n-eq0, then-n-eq0-via-else-n-eq0+then-self-n}
 
 pub returns-then-n-eq0 : goal.returns-then-n-eq0
-returns-then-n-eq0 c = elim c.then-n-eq0.branch [ then-n-eq0-via-then-n-eq0 w ↦ sym (none_at_zero c.args.self.now c.args.n w.if-n-eq0.true) | then-n-eq0-via-else-n-eq0+then-self-n w ↦ sym (rw c.self.view_is at (none_past (found_in c.self.inside.file.now) c.args.n (omega (arith, c.self.invariant.counted, w.if-self-n.true)))) ]
+returns-then-n-eq0 c = elim c.then-n-eq0.branch [ then-n-eq0-via-then-n-eq0 w ↦ sym (none_at_zero c.args.self.now c.args.n w.if-n-eq0.true) | then-n-eq0-via-else-n-eq0+then-self-n w ↦ sym (rw c.self.view_is at (none_past (indexed c.self.inside.file.now c.self.inside.packets.items) c.args.n (omega (arith, c.self.invariant.counted, w.if-self-n.true)))) ]
 
 pub packet_with-place-requires-clause-first : goal.packet_with-place-requires-clause-first
 packet_with-place-requires-clause-first c e h = first_at c.self.inside.file.now c.self.inside.packets.items c.self.inside.total (c.args.n - 1) e c.self.invariant (rw c.deref.ensures.value at h)

@@ -1,26 +1,22 @@
 use Rattle.std.proofs.Common.{subst}
 use Rattle.frame_tree.specs.Tree.{test_of}
 use Rattle.replay.specs.Moves.{ReplayState, IsNextMet, IsNowhere}
-use Rattle.replay.proofs.Finds.{rooms, goes_there, stays, stands}
+use Rattle.replay.proofs.Finds.{rooms, goes_there, stays, stops_there}
 use Rattle.replay.proofs.replaying.Replay.find.Goals as goal
 
 pub first_met-requires-clause-room : goal.first_met-requires-clause-room
 first_met-requires-clause-room g c =
-    rooms c.self.inside.tracks.items c.deref.result.now c.self.inside.index c.self.inside.channels.items c.deref-2.result.now c.deref.ensures.value c.deref-2.ensures.value c.self.invariant.agrees c.self.invariant.channels_are
-
-pub invariant_of-self : goal.invariant_of-self
-invariant_of-self g c =
-    stands c.self.inside.tracks.items c.deref.result.now c.self.inside.index c.self.inside.place c.self.inside.channels.items c.deref-2.result.now c.deref.ensures.value c.deref-2.ensures.value
-    (test_of c.args.condition.now) c.self.invariant c.in-Some.n c.in-Some.ensures
+    rooms c.self.inside.timeline.tracks.items c.deref.result.now c.self.inside.index c.self.inside.timeline.channels.items c.deref-2.result.now c.deref.ensures.value c.deref-2.ensures.value c.self.invariant.agrees c.self.invariant.channels_are
 
 pub returns-in-None-clause-refused : goal.returns-in-None-clause-refused
 returns-in-None-clause-refused g c =
     subst (λ (s : ReplayState). IsNowhere s (test_of c.args.condition.now)) c.self.view_is
-    (stays c.self.inside.tracks.items c.deref.result.now c.self.inside.index c.self.inside.place c.self.inside.channels.items c.deref-2.result.now c.deref.ensures.value c.deref-2.ensures.value
-    (test_of c.args.condition.now) c.self.invariant c.in-None.ensures)
+    (stays c.self.inside.timeline.tracks.items c.deref.result.now c.self.inside.index c.self.inside.place c.self.inside.timeline.channels.items c.deref-2.result.now c.deref.ensures.value c.deref-2.ensures.value
+    (test_of c.args.condition.now) c.self.invariant.channels_are c.in-None.ensures)
 
 pub returns-in-Some-clause-there : goal.returns-in-Some-clause-there
 returns-in-Some-clause-there g c =
-    subst (λ (s : ReplayState). IsNextMet s (test_of c.args.condition.now) c.in-Some.n) c.self.view_is
-    (goes_there c.self.inside.tracks.items c.deref.result.now c.self.inside.index c.self.inside.place c.self.inside.channels.items c.deref-2.result.now c.deref.ensures.value c.deref-2.ensures.value
-    (test_of c.args.condition.now) c.self.invariant c.in-Some.n c.in-Some.ensures)
+    stops_there c.move_to.result c.args.self.now c.move_to.new.self (test_of c.args.condition.now) c.in-Some.n c.move_to.ensures.moved
+    (subst (λ (s : ReplayState). IsNextMet s (test_of c.args.condition.now) c.in-Some.n) c.self.view_is
+    (goes_there c.self.inside.timeline.tracks.items c.deref.result.now c.self.inside.index c.self.inside.place c.self.inside.timeline.channels.items c.deref-2.result.now c.deref.ensures.value c.deref-2.ensures.value
+    (test_of c.args.condition.now) c.self.invariant.channels_are c.in-Some.n c.in-Some.ensures))

@@ -1,0 +1,28 @@
+-- Actions that are placed while a controller is under way.
+use Rattle.std.specs.Prelude.{◌≡◌, ℕ, ◌+◌, ◌≤◌, List}
+use Rattle.mil_host.specs.declared.actions.Action.{Action}
+use Rattle.frame_code.specs.Table.{halted}
+use Rattle.bc_machine.specs.declared.placed.Placed.{Placed}
+use Rattle.bc_machine.specs.Controller.{placed_at}
+use Rattle.bc_machine.specs.Running.{MachineState, turn_of}
+use Rattle.bc_machine.specs.UnderWay.{IsUnderWay}
+
+-- the controller with other placed actions
+abbrev pub with_placed : MachineState → List Placed → MachineState
+with_placed m placed = record { code = m.code; plan = m.plan; placed = placed; begun = m.begun; taken = m.taken; at = m.at; point = m.point }
+
+-- an action at its next message
+abbrev pub at_next : MachineState → ℕ → Action → Placed
+at_next m address action = record { number = m.point.number + 1; address = address; action = action }
+
+-- the same actions are placed at the messages that were sent
+abbrev pub AreAlikeSoFar : MachineState → List Placed → Type 0
+AreAlikeSoFar m placed = (n : ℕ) → 1 ≤ n → n ≤ m.point.number → placed_at n placed ≡ placed_at n m.placed
+
+-- actions at messages to come leave no trace: with others at these, a controller under way stands where it stood
+abbrev pub ActionsToComeAreFree : Type 0
+ActionsToComeAreFree = (m : MachineState) (placed : List Placed) → IsUnderWay m → AreAlikeSoFar m placed → IsUnderWay (with_placed m placed)
+
+-- nor do they keep it from its end
+abbrev pub HaltsAlike : Type 0
+HaltsAlike = (m : MachineState) (placed : List Placed) → turn_of m ≡ halted → turn_of (with_placed m placed) ≡ halted

@@ -1,0 +1,15 @@
+-- What is kept of a controller, as plain data.
+use Rattle.std.specs.Prelude.{◌++◌}
+use Rattle.bc_machine.specs.Running.{MachineState}
+use Rattle.bc_machine.specs.declared.saved.SavedParts.TheInside.{Inside}
+
+abbrev pub state_kept : Inside → MachineState
+state_kept s = record {
+  code = s.program.value;
+  plan = s.plan.value;
+  placed = s.placed.value ++ s.posted.value;
+  begun = s.begun.value.0;
+  taken = s.taken;
+  at = record { place = s.place; counters = s.counters; flag = s.flag; line = s.line };
+  point = record { state = s.bus; number = s.number; gap = s.gap; last = s.last };
+}

@@ -1,0 +1,146 @@
+//! Messages as bars.
+use crate::picture::Picture;
+use crate::scale::{LEFT, Run, Scale, runs_of};
+use ch11_f1::Seen;
+use ch11_layout::{Role, is_set, word_at};
+use std::alloc::{AllocError, Global};
+
+/// How many words a tip shows at most.
+const TIP: usize = 40;
+
+/// Where a bar stands: its upper edge, in pixels from the top.
+#[derive(Clone, Copy)]
+pub(crate) struct Lane {
+    pub(crate) top: u64,
+}
+
+fn color(role: Role) -> &'static str {
+    match role {
+        Role::Command => "#2a5caa",
+        Role::Status => "#e08a1e",
+        Role::Data => "#8fc1a9",
+    }
+}
+
+/// The kind of a message's error in a few letters, none where it has none.
+pub(crate) fn error_of(block: u16) -> Option<&'static str> {
+    if !is_set(block, 12) {
+        return None;
+    }
+    Some(if is_set(block, 9) {
+        "NR"
+    } else if is_set(block, 5) {
+        "WC"
+    } else if is_set(block, 4) {
+        "SY"
+    } else if is_set(block, 3) {
+        "UW"
+    } else {
+        "E"
+    })
+}
+
+/// Draws a message: a bar for the words of each role, the address on a reply, a mark where there is an error, and a tip.
+pub(crate) fn draw_bar(
+    alloc: Global,
+    picture: &mut Picture,
+    scale: &Scale,
+    lane: Lane,
+    number: u64,
+    channel: u16,
+    seen: &Seen<'_>,
+) -> Result<(), AllocError> {
+    let mut text = String::new(alloc);
+    text.push_str("<g>")?;
+    put_tip(&mut text, number, channel, seen)?;
+    let mut before = 0usize;
+    for run in runs_of(seen) {
+        if run.words > 0 {
+            let first = word_at(seen.words, before);
+            put_run(&mut text, scale, lane, &run, first)?;
+        }
+        before = before.saturating_add(run.words as usize);
+    }
+    put_error(&mut text, scale, lane, seen)?;
+    text.push_str("</g>\n")?;
+    picture.put(text.as_str())
+}
+
+/// The message's line of a dump, cut behind forty words.
+fn put_tip(
+    text: &mut String,
+    number: u64,
+    channel: u16,
+    seen: &Seen<'_>,
+) -> Result<(), AllocError> {
+    let (stamp, block, gaps) = (seen.stamp, seen.block, seen.gaps);
+    write!(
+        text,
+        "<title>message {number} channel {channel} stamp {stamp} block {block:04X} gaps {gaps:04X} words"
+    )?;
+    let words = seen.words.len() / 2;
+    for place in 0..words.min(TIP) {
+        let word = word_at(seen.words, place);
+        write!(text, " {word:04X}")?;
+    }
+    if words > TIP {
+        text.push_str(" ..")?;
+    }
+    text.push_str("</title>")
+}
+
+fn put_run(
+    text: &mut String,
+    scale: &Scale,
+    lane: Lane,
+    run: &Run,
+    first: u16,
+) -> Result<(), AllocError> {
+    let left = scale.tenths(run.begin);
+    let width = scale.tenths(run.end()).saturating_sub(left).max(5);
+    let (x, x_part) = (LEFT.saturating_add(left / 10), left % 10);
+    let (wide, wide_part) = (width / 10, width % 10);
+    let (top, fill) = (lane.top, color(run.role));
+    write!(
+        text,
+        "<rect x=\"{x}.{x_part}\" y=\"{top}\" width=\"{wide}.{wide_part}\" height=\"22\" fill=\"{fill}\"/>"
+    )?;
+    if wide >= 16 && !matches!(run.role, Role::Data) {
+        let address = first / 2048;
+        let (middle, base) = (x.saturating_add(wide / 2), top.saturating_add(15));
+        write!(
+            text,
+            "<text x=\"{middle}\" y=\"{base}\" class=\"a\">{address}</text>"
+        )?;
+    }
+    Ok(())
+}
+
+fn put_error(
+    text: &mut String,
+    scale: &Scale,
+    lane: Lane,
+    seen: &Seen<'_>,
+) -> Result<(), AllocError> {
+    let Some(kind) = error_of(seen.block) else {
+        return Ok(());
+    };
+    let left = scale.tenths(seen.stamp);
+    let width = scale
+        .tenths(crate::scale::end_of(seen))
+        .saturating_sub(left);
+    let (x, wide) = (LEFT.saturating_add(left / 10), (width / 10).max(2));
+    let top = lane.top.saturating_sub(3);
+    write!(
+        text,
+        "<rect x=\"{x}\" y=\"{top}\" width=\"{wide}\" height=\"3\" fill=\"#c22\"/>"
+    )?;
+    if wide >= 16 {
+        let base = lane.top.saturating_sub(5);
+        write!(
+            text,
+            "<text x=\"{x}\" y=\"{base}\" class=\"e\">{kind}</text>"
+        )?;
+    }
+    Ok(())
+}

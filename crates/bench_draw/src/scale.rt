@@ -1,0 +1,100 @@
+//! Times as places in the picture.
+use ch11_f1::Seen;
+use ch11_layout::{Layout, Role, first_gap, is_set, second_gap};
+
+/// How many pixels the time takes from left to right.
+pub(crate) const WIDTH: u64 = 1200;
+
+/// Where the time begins, in pixels from the left.
+pub(crate) const LEFT: u64 = 90;
+
+/// How many ticks a word takes.
+const WORD: u64 = 200;
+
+/// From which tick to which the picture goes.
+#[derive(Clone, Copy)]
+pub(crate) struct Scale {
+    pub(crate) begin: u64,
+    pub(crate) span: u64,
+}
+
+impl Scale {
+    /// The scale of a time that begins and ends there, of at least one tick.
+    pub(crate) fn of(begin: u64, end: u64) -> Scale {
+        Scale {
+            begin,
+            span: end.saturating_sub(begin).max(1),
+        }
+    }
+
+    /// The place of a tick in tenths of a pixel from the left of the time.
+    pub(crate) fn tenths(&self, tick: u64) -> u64 {
+        let behind = u128::from(tick.saturating_sub(self.begin));
+        let place = behind * 10 * u128::from(WIDTH) / u128::from(self.span.max(1));
+        u64::try_from(place).unwrap_or(u64::MAX).min(10 * WIDTH)
+    }
+}
+
+/// Words of one role behind one another: when the first begins, and how many there are.
+#[derive(Clone, Copy)]
+pub(crate) struct Run {
+    pub(crate) begin: u64,
+    pub(crate) words: u64,
+    pub(crate) role: Role,
+}
+
+impl Run {
+    pub(crate) fn end(&self) -> u64 {
+        self.begin.saturating_add(self.words.saturating_mul(WORD))
+    }
+}
+
+/// What lies between two words with this gap, in ticks.
+fn pause(gap: u8) -> u64 {
+    u64::from(gap.saturating_sub(20))
+}
+
+/// The runs of a message: commands, a status word in front of the data words, data words, a status word behind them. Runs without
+/// words are there too.
+pub(crate) fn runs_of(seen: &Seen<'_>) -> [Run; 4] {
+    let layout = Layout::of(seen);
+    let between = is_set(seen.block, 11);
+    let front = layout.data_start.saturating_sub(layout.commands) as u64;
+    let back = layout.words.saturating_sub(layout.data_end) as u64;
+    let last = if between {
+        second_gap(seen)
+    } else {
+        first_gap(seen)
+    };
+    let commands = Run {
+        begin: seen.stamp,
+        words: layout.commands as u64,
+        role: Role::Command,
+    };
+    let status = Run {
+        begin: commands
+            .end()
+            .saturating_add(if front > 0 { pause(first_gap(seen)) } else { 0 }),
+        words: front,
+        role: Role::Status,
+    };
+    let carried = Run {
+        begin: status.end(),
+        words: layout.data_end.saturating_sub(layout.data_start) as u64,
+        role: Role::Data,
+    };
+    let reply = Run {
+        begin: carried
+            .end()
+            .saturating_add(if back > 0 { pause(last) } else { 0 }),
+        words: back,
+        role: Role::Status,
+    };
+    [commands, status, carried, reply]
+}
+
+/// The end of a message, in ticks.
+pub(crate) fn end_of(seen: &Seen<'_>) -> u64 {
+    let [_, _, _, last] = runs_of(seen);
+    last.end()
+}

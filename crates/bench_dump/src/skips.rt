@@ -1,0 +1,86 @@
+//! The lines of skipped bytes.
+ghost use Rattle.std.specs.Prelude.{◌≡◌, ◌++◌, OnOk, IfOk, IfErr};
+ghost use Rattle.std.specs.Io.KnownBytes.{Appends};
+ghost use Rattle.ch11_reader.specs.Codes.{code_of};
+ghost use Rattle.bench_dump.specs.SkippingText.{skip_line, skip_lines, skips_before, skips_behind};
+ghost use Rattle.bench_dump.specs.Printing.{Carries, IsOther};
+
+use crate::fault::DumpFault;
+use crate::lines::put_number;
+use crate::output::hand_on;
+use ch11_f1::BodyError;
+use ch11_header::HeaderError;
+use ch11_reader::{Fault, Skip};
+use std::alloc::AllocError;
+use std::io::Write;
+
+/// The letters of a fault.
+fn letters(fault: &Fault) -> &'static [u8]
+    ensures { result.now ≡ code_of fault.now }
+{
+    match fault {
+        Fault::Header(HeaderError::Short) => b"K1",
+        Fault::Header(HeaderError::Sync) => b"K2",
+        Fault::Header(HeaderError::Checksum) => b"K3",
+        Fault::Header(HeaderError::PacketLength) => b"K4",
+        Fault::Header(HeaderError::DataLength) => b"K5",
+        Fault::End => b"N2",
+        Fault::Body(BodyError::Short) => b"F1",
+        Fault::Body(BodyError::Odd) => b"F2",
+        Fault::Body(BodyError::End) => b"F3",
+    }
+}
+
+/// Appends the line of a skip.
+#[tactic(auto, unfolding(crate::specs::SkippingText::skip_line))]
+fn put_skip_line(text: &mut Vec<u8>, skip: &Skip) -> Result<(), AllocError>
+    ensures { OnOk result (text.new.items ≡ text.old.items ++ skip_line skip.now) }
+{
+    put_number(text, b"skipped ", skip.offset as u64)?;
+    put_number(text, b" length ", skip.length as u64)?;
+    text.extend_from_slice(b" ")?;
+    text.extend_from_slice(letters(&skip.fault))?;
+    text.extend_from_slice(b"\n")?;
+    Ok(())
+}
+
+/// Prints the first skips, as long as they lie in front of an offset, and answers those behind them.
+pub(crate) fn dump_skips_before<'s, W: Write>(
+    text: &mut Vec<u8>,
+    out: &mut W,
+    skips: &'s [Skip],
+    offset: usize,
+) -> Result<&'s [Skip], DumpFault>
+    ensures printed { IfOk result (λ behind. Carries (W.contents out.old) text.old.items (W.contents out.new) text.new.items (skip_lines (skips_before offset skips.now))) }
+    ensures behind { IfOk result (λ behind. behind.now ≡ skips_behind offset skips.now) }
+    ensures failed { IfErr result IsOther }
+{
+    let mut rest = skips;
+    'skips: while let Some((skip, others)) = rest.split_first() {
+        if skip.offset >= offset {
+            break;
+        }
+        put_skip_line(text, skip)?;
+        hand_on(text, out)?;
+        rest = others;
+    }
+    Ok(rest)
+}
+
+/// Prints all these skips.
+pub(crate) fn dump_skips<W: Write>(
+    text: &mut Vec<u8>,
+    out: &mut W,
+    skips: &[Skip],
+) -> Result<(), DumpFault>
+    ensures printed { OnOk result (Carries (W.contents out.old) text.old.items (W.contents out.new) text.new.items (skip_lines skips.now)) }
+    ensures failed { IfErr result IsOther }
+{
+    let mut rest = skips;
+    'skips: while let Some((skip, others)) = rest.split_first() {
+        put_skip_line(text, skip)?;
+        hand_on(text, out)?;
+        rest = others;
+    }
+    Ok(())
+}

@@ -1,0 +1,16 @@
+//! The command `bench explain`: what a fault code means, and what to do.
+//! Its tests are in `look_tests`.
+#![tactic(auto)]
+
+mod buses;
+mod explanation;
+mod explanations;
+mod jobs;
+mod printing;
+mod recordings;
+mod runs;
+mod scripts;
+
+pub use explanation::Explanation;
+pub use explanations::{explain, groups};
+pub use printing::{print_explanation, print_list};

@@ -1,0 +1,10 @@
+use Rattle.csv.specs.Writing.{text_written}
+use Rattle.ch11_f1.specs.Views.{message_of}
+use Rattle.bench_export.proofs.Written.{goes_on}
+use Rattle.bench_export.proofs.messages.write_messages.Goals as goal
+
+pub rows-preserved : goal.rows-preserved
+rows-preserved g c = record {
+  going = goes_on _ _ _ c.args.before c.rows.number c.args.channel c.args.messages c.rows.rest c.next.new.self (message_of c.in-Some.seen) c.rows.invariant.going c.in-Some.ensures.steps (rw c.in_ok-fill.ensures at c.in_ok-write_row.ensures.written);
+  between = c.in_ok-write_row.ensures.between;
+}

@@ -1,0 +1,10 @@
+-- A writer of comma-separated values between two rows.
+use Rattle.std.specs.Prelude.{◌≡◌, false}
+use Rattle.csv.specs.declared.writer.Writer.{Writer}
+use Rattle.csv.specs.Writing.{default_writer, writer_setup, fields_written, has_written}
+
+-- it has its first settings, and nothing of a row was written
+pub record IsBetween {W : Type 0} (w : Writer W) : Type 0 where
+  pub setup : writer_setup w ≡ default_writer
+  pub fields : fields_written w ≡ 0
+  pub wrote : has_written w ≡ false

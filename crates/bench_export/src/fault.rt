@@ -1,0 +1,29 @@
+//! Why a recording was not exported, or not to its end.
+use csv::ErrorKind;
+use std::alloc::AllocError;
+
+/// Why an export failed.
+#[derive(Clone, Copy, Debug, PartialEq, Eq)]
+pub enum ExportFault {
+    /// Memory was refused.
+    Memory,
+
+    /// The writer failed, which may have got some of the text.
+    Device,
+}
+
+impl ExportFault {
+    /// What an error of a writer of comma-separated values is.
+    pub(crate) fn of(error: &csv::Error) -> ExportFault {
+        match error.kind() {
+            ErrorKind::OutOfMemory => ExportFault::Memory,
+            _ => ExportFault::Device,
+        }
+    }
+}
+
+impl From<AllocError> for ExportFault {
+    fn from(_: AllocError) -> ExportFault {
+        ExportFault::Memory
+    }
+}

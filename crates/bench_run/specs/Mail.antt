@@ -1,0 +1,56 @@
+-- What a contract says of a mailbox, its posters and its inbox.
+use Rattle.std.specs.Prelude.{◌≡◌, ℕ, ◌+◌, ◌≤◌, ◌==◌, Bool, true, false, List, length}
+use Rattle.std.specs.List.{list_any}
+use Rattle.mil_host.specs.declared.actions.Action.{Action}
+use Rattle.mil_trunk.specs.Tags.{bounds_outside}
+use Rattle.mil_trunk.specs.Ends.{IsTicketOf, IsTakerOf, capacity_of, tags_of, bounds_of, sent, received}
+use Rattle.job_file.specs.Jobs.{JobState}
+use Rattle.bench_run.specs.declared.mailbox.Post.{Post}
+use Rattle.bench_run.specs.declared.mailbox.Mailbox.{Mailbox}
+use Rattle.bench_run.specs.declared.mailbox.Poster.{Poster}
+use Rattle.bench_run.specs.declared.mailbox.Inbox.{Inbox}
+use Rattle.bench_run.specs.declared.mail_error.PostError.{PostError}
+use Rattle.bench_run.specs.declared.mail_error.PostError.TheVariants as fault
+
+-- how many posts the mailbox holds at most
+abbrev pub room_of : Mailbox → ℕ
+room_of box = capacity_of box.trunk
+
+-- the hosts that the poster posts for
+abbrev pub hosts_of : Poster → ℕ
+hosts_of p = tags_of p.ticket
+
+-- how many actions each host may post in all
+abbrev pub limits_of : Poster → List ℕ
+limits_of p = bounds_of p.ticket
+
+-- what was posted with the poster, oldest first
+abbrev pub posted : Poster → List Post
+posted p = sent p.ticket
+
+-- what was received with the inbox, oldest first
+abbrev pub received_by : Inbox → List Post
+received_by i = received i.taker
+
+-- the poster is one of this mailbox
+abbrev pub IsPosterOf : Mailbox → Poster → Type 0
+IsPosterOf box p = IsTicketOf box.trunk p.ticket
+
+-- the inbox is that of this mailbox
+abbrev pub IsInboxOf : Mailbox → Inbox → Type 0
+IsInboxOf box i = IsTakerOf box.trunk i.taker
+
+-- whether there is a terminal at an address
+abbrev pub stands_in : Mailbox → ℕ → Bool
+stands_in box address = list_any (λ a. a == address) box.addresses.items
+
+-- it was made for the channel and the terminals of this job
+abbrev pub IsMadeFor : Mailbox → JobState → Type 0
+IsMadeFor box job = (box.channel ≡ job.channel) × (box.addresses.items ≡ job.addresses)
+
+-- what a refusal hands back and leaves: where there is a terminal, the mailbox was full
+abbrev pub Returns : Mailbox → Poster → Poster → ℕ → Action → PostError → Type 0
+Returns box old new address action (fault.NoTerminal back) = (back ≡ action) × (stands_in box address ≡ false) × (posted new ≡ posted old)
+Returns box old new address action (fault.Full back) =
+    (back ≡ action) × (stands_in box address ≡ true) × (posted new ≡ posted old)
+    × (room_of box ≤ length (posted old) + bounds_outside (hosts_of old) (limits_of old))

@@ -1,0 +1,7 @@
+-- What hosts post.
+use Rattle.std.specs.Prelude.{ℕ}
+use Rattle.bench_run.specs.declared.mailbox.Post.{Post}
+
+-- the host that asks for the action
+abbrev pub host_of : Post → ℕ
+host_of p = p.host

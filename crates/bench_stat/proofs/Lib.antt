@@ -1,0 +1,4 @@
+pub mod Counting
+pub mod Addresses
+pub mod Present
+pub mod Histories

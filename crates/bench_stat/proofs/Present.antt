@@ -1,0 +1,114 @@
+-- The channels of a recording.
+use Rattle.std.proofs.Common.{◌≡◌, ◌⊎◌, inl, inr, ℕ, ◌+◌, ◌<◌, get_or, set, take, length, List, [], ◌∷◌, ◌++◌, Bool, true, false, cond, map, refl, sym, ap, ◌∙◌, arith}
+use Rattle.std.specs.List.{filter, range_with_len}
+use Rattle.std.proofs.lemmas.List.{append-nil, map-id, map_push, map_more, get_or-set_same, get_or-set_other}
+use Rattle.std.proofs.lemmas.List.Folds.{list_any-append}
+use Rattle.std.proofs.lemmas.Bool.{cases_eq, eq-eqb, ne_eqb}
+use Rattle.std.specs.Prelude.{◌||◌, ◌&&◌, ◌==◌}
+use Rattle.std.proofs.lemmas.List.FromFn.{map-range_with_len_more}
+use Rattle.std.proofs.lemmas.List.Elements.{filter-append}
+use Rattle.ch11_header.specs.declared.header.Header.{Header}
+use Rattle.ch11_reader.specs.declared.packet.Packet.{Packet}
+use Rattle.ch11_reader.specs.Recording.{Found, holds_messages}
+use Rattle.ch11_reader.specs.Listing.{listed_behind, listing_behind, listing}
+use Rattle.bench_stat.specs.declared.channels.ChannelFigures.{ChannelFigures}
+use Rattle.bench_stat.specs.Figures.{ArePresent, headers, headers_listed, has_channel, channels_below, figures_of_channel, history_of, figures_among}
+
+headers_behind : (earlier ps : List Found) → headers_listed (listing_behind earlier ps) ≡ headers ps
+headers_behind earlier [] = refl
+headers_behind earlier (p ∷ ps) = ap (λ (hs : List Header). p.header ∷ hs) (headers_behind (p ∷ earlier) ps)
+
+-- an index lists the headers of its packets
+pub same_headers : (ps : List Found) (entries : List Packet) → entries ≡ listing ps → headers_listed entries ≡ headers ps
+same_headers ps entries is = ap headers_listed is ∙ headers_behind [] ps
+
+numbers_more : (n : ℕ) → range_with_len 0 (n + 1) ≡ range_with_len 0 n ++ n ∷ []
+numbers_more n = sym (map-id (range_with_len 0 (n + 1))) ∙ map-range_with_len_more (λ (x : ℕ). x) 0 n n (omega arith) ∙ ap (λ (xs : List ℕ). xs ++ n ∷ []) (map-id (range_with_len 0 n))
+
+channels_more : (n : ℕ) (hs : List Header) → channels_below (n + 1) hs ≡ channels_below n hs ++ filter (λ (channel : ℕ). has_channel channel hs) (n ∷ [])
+unfolding channels_below
+channels_more n hs =
+    ap (filter (λ (channel : ℕ). has_channel channel hs)) (numbers_more n) ∙ filter-append (λ (channel : ℕ). has_channel channel hs) (range_with_len 0 n) (n ∷ [])
+
+pub no_channels : (hs : List Header) → channels_below 0 hs ≡ []
+unfolding channels_below
+no_channels hs = refl
+
+pub channel_absent : (n : ℕ) (hs : List Header) → has_channel n hs ≡ false → channels_below (n + 1) hs ≡ channels_below n hs
+channel_absent n hs absent = channels_more n hs ∙ ap (λ (b : Bool). channels_below n hs ++ cond b (n ∷ []) []) absent ∙ append-nil (channels_below n hs)
+
+pub channel_present : (n : ℕ) (hs : List Header) → has_channel n hs ≡ true → channels_below (n + 1) hs ≡ channels_below n hs ++ n ∷ []
+channel_present n hs present = channels_more n hs ∙ ap (λ (b : Bool). channels_below n hs ++ cond b (n ∷ []) []) present
+
+-- one more channel, of which there are no packets of messages
+pub goes_by : (n : ℕ) (ps : List Found) (entries : List Packet) (marks : List Bool) (mark : Bool) (figures : List ChannelFigures)
+    → entries ≡ listing ps → ArePresent marks (headers_listed entries) → n < 65536 → mark ≡ get_or marks n false → mark ≡ false
+    → figures ≡ figures_among (channels_below n (headers ps)) ps → figures ≡ figures_among (channels_below (n + 1) (headers ps)) ps
+goes_by n ps entries marks mark figures listed present below marked absent is =
+    is ∙ ap (λ (cs : List ℕ). figures_among cs ps) (sym (channel_absent n (headers ps) (ap (has_channel n) (sym (same_headers ps entries listed)) ∙ sym (present n below) ∙ sym marked ∙ absent)))
+
+-- one more channel, of which there are some
+pub goes_on : (n : ℕ) (ps : List Found) (entries : List Packet) (marks : List Bool) (mark : Bool) (figures : List ChannelFigures) (more : ChannelFigures)
+    → entries ≡ listing ps → ArePresent marks (headers_listed entries) → n < 65536 → mark ≡ get_or marks n false → mark ≡ true
+    → more ≡ figures_of_channel n (history_of ps n) → figures ≡ figures_among (channels_below n (headers ps)) ps → figures ++ more ∷ [] ≡ figures_among (channels_below (n + 1) (headers ps)) ps
+goes_on n ps entries marks mark figures more listed present below marked there one is =
+    ap (λ (x : ChannelFigures). figures ++ x ∷ []) one ∙ ap (λ (xs : List ChannelFigures). xs ++ figures_of_channel n (history_of ps n) ∷ []) is
+    ∙ sym (map_push (λ (channel : ℕ). figures_of_channel channel (history_of ps channel)) (channels_below n (headers ps)) n)
+    ∙ ap (λ (cs : List ℕ). figures_among cs ps) (sym (channel_present n (headers ps) (ap (has_channel n) (sym (same_headers ps entries listed)) ∙ sym (present n below) ∙ sym marked ∙ there)))
+
+or_false : (b : Bool) → (b || false) ≡ b
+or_false true = refl
+or_false false = refl
+
+or_true : (b : Bool) → (b || true) ≡ true
+or_true true = refl
+or_true false = refl
+
+or_neither : (a b : Bool) → (a || (b && false)) ≡ a
+or_neither true true = refl
+or_neither true false = refl
+or_neither false true = refl
+or_neither false false = refl
+
+has_one_more : (c : ℕ) (hs : List Header) (h : Header) → has_channel c (hs ++ h ∷ []) ≡ (has_channel c hs || (holds_messages h && (h.channel == c)))
+has_one_more c hs h =
+    list_any-append (λ (x : Header). holds_messages x && (x.channel == c)) hs (h ∷ []) ∙ ap (λ (b : Bool). has_channel c hs || b) (or_false (holds_messages h && (h.channel == c)))
+
+at_channel : (c : ℕ) (hs : List Header) (h : Header) → h.kind ≡ 25 → h.channel ≡ c → has_channel c (hs ++ h ∷ []) ≡ true
+at_channel c hs h kind here = has_one_more c hs h ∙ rw (eq-eqb h.kind 25 kind, eq-eqb h.channel c here) (or_true (has_channel c hs))
+
+of_other_channel : (c : ℕ) (hs : List Header) (h : Header) → (h.channel ≡ c → ⊥) → has_channel c (hs ++ h ∷ []) ≡ has_channel c hs
+of_other_channel c hs h other = has_one_more c hs h ∙ rw (ne_eqb h.channel c other) (or_neither (has_channel c hs) (holds_messages h))
+
+of_other_kind : (c : ℕ) (hs : List Header) (h : Header) → (h.kind ≡ 25 → ⊥) → has_channel c (hs ++ h ∷ []) ≡ has_channel c hs
+of_other_kind c hs h other = has_one_more c hs h ∙ rw (ne_eqb h.kind 25 other) (or_false (has_channel c hs))
+
+-- what a place past the end is read as
+abbrev pub no_packet : Packet
+no_packet = record {
+  offset = 0;
+  header = record { channel = 0; packet_length = 0; data_length = 0; version = 0; sequence = 0; flags = 0; kind = 0; counter = 0 };
+  before = 0;
+  count = 0;
+  sequence_jump = false;
+}
+
+header_at : (es : List Packet) (i : ℕ) → i < length es → headers_listed (take (i + 1) es) ≡ headers_listed (take i es) ++ (get_or es i no_packet).header ∷ []
+header_at es i within = map_more (λ (e : Packet). e.header) es i no_packet within
+
+pub marks_more : (es : List Packet) (i : ℕ) (marks : List Bool) → i < length es → length marks ≡ 65536 → ArePresent marks (headers_listed (take i es)) → (get_or es i no_packet).header.kind ≡ 25
+    → ArePresent (set marks (get_or es i no_packet).header.channel true) (headers_listed (take (i + 1) es))
+marks_more es i marks within long present kind c below = rw (header_at es i within) (elim (cases_eq h.channel c) [
+  | inl e ↦ ap (λ (k : ℕ). get_or (set marks h.channel true) k false) (sym e) ∙ get_or-set_same marks h.channel true false (omega (arith, e, long)) ∙ sym (at_channel c hs h kind e)
+  | inr n ↦ get_or-set_other marks h.channel c true false (λ e. n (sym e)) ∙ present c below ∙ sym (of_other_channel c hs h n)
+])
+  where
+    h : Header
+    h = (get_or es i no_packet).header
+
+    hs : List Header
+    hs = headers_listed (take i es)
+
+pub marks_same : (es : List Packet) (i : ℕ) (marks : List Bool) → i < length es → ArePresent marks (headers_listed (take i es)) → ((get_or es i no_packet).header.kind ≡ 25 → ⊥)
+    → ArePresent marks (headers_listed (take (i + 1) es))
+marks_same es i marks within present other c below = rw (header_at es i within) (present c below ∙ sym (of_other_kind c (headers_listed (take i es)) (get_or es i no_packet).header other))

@@ -1,0 +1,158 @@
+-- What is counted of a channel's messages, which stand newest first (own choice). Counts and sums go as far as 64 bits
+-- count them.
+use Rattle.std.specs.Prelude.{◌≡◌, ◌<◌, slice_index_or, ℕ, ◌+◌, ◌*◌, ◌-◌, ◌^◌, ◌==◌, Bool, true, false, not, ◌&&◌, ◌||◌, if◌then◌else◌, List, [], ◌∷◌, length, map, reverse, min, max}
+use Rattle.std.specs.List.{sum_by, count_by, filter, list_any, range_with_len}
+use Rattle.mil_word.specs.Fields.{has_bit}
+use Rattle.ch11_header.specs.declared.header.Header.{Header}
+use Rattle.ch11_f1.specs.BodyReading.{Message}
+use Rattle.ch11_reader.specs.declared.packet.Packet.{Packet}
+use Rattle.ch11_reader.specs.Recording.{Found, holds_messages}
+use Rattle.ch11_reader.specs.Contents.{reading}
+use Rattle.ch11_layout.specs.Layouts.{size_of, first_gap, second_gap}
+use Rattle.bench_stat.specs.declared.calls.Call.{Call}
+use Rattle.bench_stat.specs.declared.calls.CallKind.{CallKind}
+use Rattle.bench_stat.specs.declared.calls.CallKind.TheVariants.{Receive, Transmit, Mode}
+use Rattle.bench_stat.specs.declared.terminals.TerminalFigures.{TerminalFigures}
+use Rattle.bench_stat.specs.declared.traffic.Traffic.{Traffic}
+use Rattle.bench_stat.specs.declared.errors.Errors.{Errors}
+use Rattle.bench_stat.specs.declared.channels.ChannelFigures.{ChannelFigures}
+use Rattle.bench_stat.specs.Sendings.{calls, is_failed, is_retry_behind, latest, sending_of}
+
+abbrev pub capped : ℕ → ℕ
+capped n = min n (2 ^ 64 - 1)
+
+abbrev pub one_if : Bool → ℕ
+one_if b = if b then 1 else 0
+
+-- how long a message takes, in ticks: 200 a word, and what lies between its words. A gap is measured from the middle
+-- of a parity bit to the middle of a sync, which is 20 ticks where nothing lies between (4.3.3.7, 4.3.3.8).
+abbrev pub duration : Message → ℕ
+duration m = 200 * size_of m + ((first_gap m - 20) + (second_gap m - 20))
+
+-- the least number of a list, or a bound
+abbrev pub least : ℕ → List ℕ → ℕ
+least bound [] = bound
+least bound (n ∷ ns) = min n (least bound ns)
+
+-- the greatest number of a list, 0 where it is empty
+abbrev pub greatest : List ℕ → ℕ
+greatest [] = 0
+greatest (n ∷ ns) = max n (greatest ns)
+
+-- messages, words and times of a channel: from the least stamp to the greatest end of a message
+abbrev pub traffic_of : List Message → Traffic
+traffic_of history = record {
+  messages = capped (length history);
+  words = capped (sum_by size_of history);
+  busy = capped (sum_by duration history);
+  begin = least (2 ^ 64 - 1) (map (λ (m : Message). m.stamp) history);
+  «end» = greatest (map (λ (m : Message). capped (m.stamp + duration m)) history);
+}
+
+-- errors by their kind, one message under each kind that its block status word names
+abbrev pub is_silent : Message → Bool
+is_silent m = has_bit 9 m.block
+
+abbrev pub is_miscounted : Message → Bool
+is_miscounted m = has_bit 5 m.block
+
+abbrev pub is_of_other_sync : Message → Bool
+is_of_other_sync m = has_bit 4 m.block
+
+abbrev pub is_unsound : Message → Bool
+is_unsound m = has_bit 3 m.block
+
+-- an error of none of these kinds
+abbrev pub is_otherwise_failed : Message → Bool
+is_otherwise_failed m = is_failed m && not (is_silent m || (is_miscounted m || (is_of_other_sync m || is_unsound m)))
+
+abbrev pub errors_of : List Message → Errors
+errors_of history = record {
+  messages = capped (count_by is_failed history);
+  response = capped (count_by is_silent history);
+  word_count = capped (count_by is_miscounted history);
+  sync = capped (count_by is_of_other_sync history);
+  unsound = capped (count_by is_unsound history);
+  other = capped (count_by is_otherwise_failed history);
+}
+
+-- the calls of a kind
+abbrev pub is_receive_call : Call → Bool
+is_receive_call c = elim c.kind [ Receive ↦ true | Transmit ↦ false | Mode ↦ false ]
+
+abbrev pub is_transmit_call : Call → Bool
+is_transmit_call c = elim c.kind [ Receive ↦ false | Transmit ↦ true | Mode ↦ false ]
+
+abbrev pub is_mode_call : Call → Bool
+is_mode_call c = elim c.kind [ Receive ↦ false | Transmit ↦ false | Mode ↦ true ]
+
+-- the response times, where there was a response
+abbrev pub responses : List Call → List ℕ
+responses [] = []
+responses (c ∷ cs) = if c.response == 0 then responses cs else c.response ∷ responses cs
+
+-- the figures of a terminal that was called so
+abbrev pub figures_of : List Call → TerminalFigures
+figures_of cs = record {
+  receive = capped (count_by is_receive_call cs);
+  transmit = capped (count_by is_transmit_call cs);
+  mode = capped (count_by is_mode_call cs);
+  errors = capped (count_by (λ (c : Call). c.failed) cs);
+  responses = capped (length (responses cs));
+  total = capped (sum_by (λ n. n) (responses cs));
+  least = least 255 (responses cs);
+  greatest = greatest (responses cs);
+}
+
+-- the calls of a terminal address
+abbrev pub calls_to : ℕ → List Call → List Call
+calls_to address cs = filter (λ (c : Call). c.address == address) cs
+
+-- the figures of each address, 0 to 31
+unfoldable pub terminals_of : List Call → List TerminalFigures
+terminals_of cs = map (λ address. figures_of (calls_to address cs)) (range_with_len 0 32)
+
+-- how many messages are a retry on the other line of the one before
+abbrev pub retries : List Message → ℕ
+retries [] = 0
+retries (m ∷ earlier) = one_if (is_retry_behind (latest earlier) (sending_of m)) + retries earlier
+
+abbrev pub figures_of_channel : ℕ → List Message → ChannelFigures
+figures_of_channel channel history = record {
+  channel = channel;
+  traffic = traffic_of history;
+  errors = errors_of history;
+  retries = capped (retries history);
+  terminals = terminals_of (calls history);
+}
+
+-- a packet of MIL-STD-1553 messages is of the channel
+abbrev pub has_channel : ℕ → List Header → Bool
+has_channel channel hs = list_any (λ (h : Header). holds_messages h && (h.channel == channel)) hs
+
+abbrev pub headers : List Found → List Header
+headers ps = map (λ (p : Found). p.header) ps
+
+-- the headers that an index lists
+abbrev pub headers_listed : List Packet → List Header
+headers_listed entries = map (λ (e : Packet). e.header) entries
+
+-- there is a mark at each channel that has such packets, and at no other
+abbrev pub ArePresent : List Bool → List Header → Type 0
+ArePresent marks hs = (c : ℕ) → c < 65536 → slice_index_or marks c false ≡ has_channel c hs
+
+-- the channels below a number of which there are such packets, in rising order
+unfoldable pub channels_below : ℕ → List Header → List ℕ
+channels_below bound hs = filter (λ channel. has_channel channel hs) (range_with_len 0 bound)
+
+-- the messages of a channel, newest first
+abbrev pub history_of : List Found → ℕ → List Message
+history_of ps channel = reverse (reading ps channel)
+
+-- the figures of these channels
+abbrev pub figures_among : List ℕ → List Found → List ChannelFigures
+figures_among channels ps = map (λ channel. figures_of_channel channel (history_of ps channel)) channels
+
+-- the figures of all channels of a recording, in rising order of their numbers
+abbrev pub statistics : List Found → List ChannelFigures
+statistics ps = figures_among (channels_below 65536 (headers ps)) ps

@@ -1,0 +1,4 @@
+pub mod Sendings
+pub mod Figures
+pub mod Steps
+pub mod Answers

@@ -1,0 +1,54 @@
+-- The figures with one more call or message.
+use Rattle.std.specs.Prelude.{ℕ, ◌+◌, ◌^◌, ◌-◌, ◌==◌, if◌then◌else◌, List, length, min, max, Option, Some, slice_set, slice_index_or}
+use Rattle.ch11_f1.specs.BodyReading.{Message}
+use Rattle.ch11_layout.specs.Layouts.{size_of}
+use Rattle.bench_stat.specs.declared.sendings.Sending.{Sending}
+use Rattle.bench_stat.specs.declared.calls.Call.{Call}
+use Rattle.bench_stat.specs.declared.terminals.TerminalFigures.{TerminalFigures}
+use Rattle.bench_stat.specs.declared.traffic.Traffic.{Traffic}
+use Rattle.bench_stat.specs.declared.errors.Errors.{Errors}
+use Rattle.bench_stat.specs.declared.tally.Tally.{Tally}
+use Rattle.bench_stat.specs.Sendings.{is_failed, sending_of, latest}
+use Rattle.bench_stat.specs.Figures.{capped, one_if, duration, is_silent, is_miscounted, is_of_other_sync, is_unsound, is_otherwise_failed, is_receive_call, is_transmit_call, is_mode_call, figures_of_channel}
+
+abbrev pub with_kind : Call → TerminalFigures → TerminalFigures
+with_kind c f = record f {
+  receive = capped (f.receive + one_if (is_receive_call c));
+  transmit = capped (f.transmit + one_if (is_transmit_call c));
+  mode = capped (f.mode + one_if (is_mode_call c));
+  errors = capped (f.errors + one_if c.failed);
+}
+
+abbrev pub with_response : ℕ → TerminalFigures → TerminalFigures
+with_response n f = record f {
+  responses = capped (f.responses + 1);
+  total = capped (f.total + n);
+  least = min n f.least;
+  greatest = max n f.greatest;
+}
+
+abbrev pub with_call : Call → TerminalFigures → TerminalFigures
+with_call c f = if c.response == 0 then with_kind c f else with_response c.response (with_kind c f)
+
+abbrev pub with_traffic : Message → Traffic → Traffic
+with_traffic m t = record {
+  messages = capped (t.messages + 1);
+  words = capped (t.words + size_of m);
+  busy = capped (t.busy + duration m);
+  begin = min m.stamp t.begin;
+  «end» = max (capped (m.stamp + duration m)) t.«end»;
+}
+
+abbrev pub with_errors : Message → Errors → Errors
+with_errors m e = record {
+  messages = capped (e.messages + one_if (is_failed m));
+  response = capped (e.response + one_if (is_silent m));
+  word_count = capped (e.word_count + one_if (is_miscounted m));
+  sync = capped (e.sync + one_if (is_of_other_sync m));
+  unsound = capped (e.unsound + one_if (is_unsound m));
+  other = capped (e.other + one_if (is_otherwise_failed m));
+}
+
+-- a channel's figures so far, and how its latest message was sent
+abbrev pub tally_of : ℕ → List Message → Tally
+tally_of channel history = record { figures = figures_of_channel channel history; latest = latest history }

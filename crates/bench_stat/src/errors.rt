@@ -1,0 +1,61 @@
+//! The errors of a channel, by their kind.
+ghost use Rattle.std.specs.Prelude.{◌≡◌, []};
+ghost use Rattle.ch11_f1.specs.Views.{message_of};
+ghost use Rattle.bench_stat.specs.Figures.{errors_of};
+ghost use Rattle.bench_stat.specs.Steps.{with_errors};
+
+use crate::counts::counted;
+use ch11_f1::Seen;
+use ch11_layout::is_set;
+
+/// How many messages had which error, by the block status word (IRIG 106-17 Chapter 11). A message counts under each kind
+/// that it has. Counts go as far as 64 bits count.
+#[derive(Clone, Copy, Debug, PartialEq, Eq)]
+pub struct Errors {
+    /// Messages with an error of whatever kind: bit 12.
+    pub messages: u64,
+    /// No response, or a late one: bit 9.
+    pub response: u64,
+    /// Another number of words than due: bit 5.
+    pub word_count: u64,
+    /// A word with the other sync than its place has: bit 4.
+    pub sync: u64,
+    /// A word that is not sound: bit 3.
+    pub unsound: u64,
+    /// An error of none of these kinds, such as a status word of another terminal.
+    pub other: u64,
+}
+
+impl Errors {
+    /// No errors.
+    pub fn none() -> Errors
+        ensures { result ≡ errors_of [] }
+    {
+        Errors {
+            messages: 0,
+            response: 0,
+            word_count: 0,
+            sync: 0,
+            unsound: 0,
+            other: 0,
+        }
+    }
+
+    /// One more message.
+    pub(crate) fn note(&mut self, seen: &Seen<'_>)
+        ensures { self.new ≡ with_errors (message_of seen.now) self.old }
+    {
+        let failed = is_set(seen.block, 12);
+        let silent = is_set(seen.block, 9);
+        let miscounted = is_set(seen.block, 5);
+        let of_other_sync = is_set(seen.block, 4);
+        let unsound = is_set(seen.block, 3);
+        let named = silent || miscounted || of_other_sync || unsound;
+        self.messages = counted(self.messages, failed);
+        self.response = counted(self.response, silent);
+        self.word_count = counted(self.word_count, miscounted);
+        self.sync = counted(self.sync, of_other_sync);
+        self.unsound = counted(self.unsound, unsound);
+        self.other = counted(self.other, failed && !named);
+    }
+}

@@ -1,0 +1,166 @@
+//! The figures as text: aligned for people, or rows of comma-separated values.
+
+use crate::channels::ChannelFigures;
+use crate::errors::Errors;
+use crate::terminals::TerminalFigures;
+use crate::traffic::Traffic;
+use std::io;
+use std::io::Write;
+
+/// The columns of the terminals of a channel.
+const COLUMNS: &str =
+    "  terminal    receive   transmit       mode     errors  responses  least us   mean us  greatest us";
+
+/// The columns of the rows of comma-separated values.
+const NAMES: &str =
+    "channel,terminal,receive,transmit,mode,errors,responses,least_us,mean_us,greatest_us";
+
+/// A number with its last digits behind a point: tenths, or hundredths.
+#[derive(Clone, Copy)]
+struct Parts {
+    whole: u64,
+    part: u64,
+}
+
+impl Parts {
+    fn of_tenths(number: u64) -> Parts {
+        Parts {
+            whole: number / 10,
+            part: number % 10,
+        }
+    }
+
+    fn of_hundredths(number: u64) -> Parts {
+        Parts {
+            whole: number / 100,
+            part: number % 100,
+        }
+    }
+}
+
+/// Writes the figures of each channel as lines aligned for people. A fault is the writer's.
+pub fn print_statistics<W: Write>(out: &mut W, figures: &[ChannelFigures]) -> io::Result<()> {
+    for channel in figures {
+        print_channel(out, channel)?;
+    }
+    Ok(())
+}
+
+/// Writes a row of comma-separated values for each terminal address that was called, behind a row with the names of the columns.
+/// A fault is the writer's.
+pub fn print_rows<W: Write>(out: &mut W, figures: &[ChannelFigures]) -> io::Result<()> {
+    writeln!(out, "{NAMES}")?;
+    for channel in figures {
+        for (address, terminal) in channel.terminals.iter().enumerate() {
+            if terminal.commands() > 0 {
+                print_row(out, channel.channel, address, terminal)?;
+            }
+        }
+    }
+    Ok(())
+}
+
+fn print_channel<W: Write>(out: &mut W, figures: &ChannelFigures) -> io::Result<()> {
+    let channel = figures.channel;
+    writeln!(out, "channel {channel}")?;
+    print_traffic(out, &figures.traffic)?;
+    print_errors(out, &figures.errors)?;
+    let retries = figures.retries;
+    writeln!(out, "  retries   {retries} on the other line")?;
+    print_terminals(out, &figures.terminals)
+}
+
+fn print_traffic<W: Write>(out: &mut W, traffic: &Traffic) -> io::Result<()> {
+    let span = Parts::of_tenths(traffic.span());
+    let (whole, part) = (span.whole, span.part);
+    writeln!(out, "  span      {whole}.{part} us")?;
+    let (messages, words) = (traffic.messages, traffic.words);
+    writeln!(out, "  messages  {messages}")?;
+    writeln!(out, "  words     {words}")?;
+    match traffic.load() {
+        Some(load) => {
+            let load = Parts::of_hundredths(load);
+            let (whole, part) = (load.whole, load.part);
+            writeln!(out, "  bus load  {whole}.{part:02} %")
+        }
+        None => writeln!(out, "  bus load  -"),
+    }
+}
+
+fn print_errors<W: Write>(out: &mut W, errors: &Errors) -> io::Result<()> {
+    let (messages, response, words) = (errors.messages, errors.response, errors.word_count);
+    let (sync, unsound, other) = (errors.sync, errors.unsound, errors.other);
+    writeln!(
+        out,
+        "  errors    {messages} messages: no response or late {response}, word count {words}, sync {sync}, unsound word {unsound}, other {other}"
+    )
+}
+
+fn print_terminals<W: Write>(out: &mut W, terminals: &[TerminalFigures]) -> io::Result<()> {
+    let called = terminals.iter().any(|terminal| terminal.commands() > 0);
+    if called {
+        writeln!(out, "{COLUMNS}")?;
+    }
+    for (address, terminal) in terminals.iter().enumerate() {
+        if terminal.commands() > 0 {
+            print_terminal(out, address, terminal)?;
+        }
+    }
+    Ok(())
+}
+
+fn print_terminal<W: Write>(
+    out: &mut W,
+    address: usize,
+    terminal: &TerminalFigures,
+) -> io::Result<()> {
+    if address == 31 {
+        write!(out, "       all")?;
+    } else {
+        write!(out, "{address:>10}")?;
+    }
+    let (receive, transmit, mode) = (terminal.receive, terminal.transmit, terminal.mode);
+    let (errors, responses) = (terminal.errors, terminal.responses);
+    write!(
+        out,
+        " {receive:>10} {transmit:>10} {mode:>10} {errors:>10} {responses:>10}"
+    )?;
+    let Some(mean) = terminal.mean() else {
+        return writeln!(out, "         -         -            -");
+    };
+    let least = Parts::of_tenths(u64::from(terminal.least));
+    let mean = Parts::of_hundredths(mean);
+    let greatest = Parts::of_tenths(u64::from(terminal.greatest));
+    let (whole, part) = (least.whole, least.part);
+    write!(out, " {whole:>7}.{part}")?;
+    let (whole, part) = (mean.whole, mean.part);
+    write!(out, " {whole:>6}.{part:02}")?;
+    let (whole, part) = (greatest.whole, greatest.part);
+    writeln!(out, " {whole:>10}.{part}")
+}
+
+fn print_row<W: Write>(
+    out: &mut W,
+    channel: u16,
+    address: usize,
+    terminal: &TerminalFigures,
+) -> io::Result<()> {
+    let (receive, transmit, mode) = (terminal.receive, terminal.transmit, terminal.mode);
+    let (errors, responses) = (terminal.errors, terminal.responses);
+    write!(
+        out,
+        "{channel},{address},{receive},{transmit},{mode},{errors},{responses},"
+    )?;
+    let Some(mean) = terminal.mean() else {
+        return writeln!(out, ",,");
+    };
+    let least = Parts::of_tenths(u64::from(terminal.least));
+    let mean = Parts::of_hundredths(mean);
+    let greatest = Parts::of_tenths(u64::from(terminal.greatest));
+    let (whole, part) = (least.whole, least.part);
+    write!(out, "{whole}.{part},")?;
+    let (whole, part) = (mean.whole, mean.part);
+    write!(out, "{whole}.{part:02},")?;
+    let (whole, part) = (greatest.whole, greatest.part);
+    writeln!(out, "{whole}.{part}")
+}

@@ -1,0 +1,72 @@
+//! How a recorded message was sent.
+ghost use Rattle.std.specs.Prelude.{◌≡◌, ◌/◌, nat_lt, length, if◌then◌else◌};
+ghost use Rattle.ch11_f1.specs.Views.{message_of};
+ghost use Rattle.ch11_layout.specs.Layouts.{word_of};
+ghost use Rattle.bench_stat.specs.Sendings as spec;
+
+use ch11_f1::Seen;
+use ch11_layout::{is_set, word_at};
+
+/// Line, error and command words of a recorded message.
+#[derive(Clone, Copy, Debug, PartialEq, Eq)]
+pub struct Sending {
+    /// Whether it was sent on line B: bit 13 of the block status word.
+    pub line_b: bool,
+    /// Whether it had an error: bit 12.
+    pub failed: bool,
+    /// Its first word, a command word.
+    pub first: Option<u16>,
+    /// Its second word, where bit 11 says that it is a transfer between terminals: the command to the sender.
+    pub second: Option<u16>,
+}
+
+impl Sending {
+    /// How the message was sent.
+    pub fn of(seen: &Seen<'_>) -> Sending
+        ensures { result ≡ spec.sending_of (message_of seen.now) }
+    {
+        let second = if is_set(seen.block, 11) {
+            command_at(seen.words, 1)
+        } else {
+            None
+        };
+        Sending {
+            line_b: is_set(seen.block, 13),
+            failed: is_set(seen.block, 12),
+            first: command_at(seen.words, 0),
+            second,
+        }
+    }
+
+    /// Whether it is a retry, on the other line, of the message before it.
+    pub fn is_retry_of(&self, before: &Sending) -> bool
+        ensures { result ≡ spec.is_retry before.now self.now }
+    {
+        before.failed
+            && before.line_b != self.line_b
+            && is_same_word(before.first, self.first)
+            && is_same_word(before.second, self.second)
+    }
+}
+
+/// The bus word at a place, if there is one.
+fn command_at(words: &[u8], place: usize) -> Option<u16>
+    ensures { result ≡ (if nat_lt place (length words.now / 2) then Some (word_of words.now place) else None) }
+{
+    if place < words.len() / 2 {
+        Some(word_at(words, place))
+    } else {
+        None
+    }
+}
+
+/// Whether both are absent, or the same word.
+fn is_same_word(a: Option<u16>, b: Option<u16>) -> bool
+    ensures { result ≡ spec.is_same_word a b }
+{
+    match (a, b) {
+        (None, None) => true,
+        (Some(a), Some(b)) => a == b,
+        (None, Some(_)) | (Some(_), None) => false,
+    }
+}

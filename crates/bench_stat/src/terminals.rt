@@ -1,0 +1,130 @@
+//! The figures of a terminal.
+ghost use Rattle.std.specs.Prelude.{◌≡◌, ◌<◌, ◌∷◌, [], List, length};
+ghost use Rattle.bench_stat.specs.declared.calls.Call.{Call as CallValue};
+ghost use Rattle.bench_stat.specs.Figures.{figures_of, terminals_of, is_receive_call, is_transmit_call, is_mode_call};
+ghost use Rattle.bench_stat.specs.Steps.{with_kind, with_response, with_call};
+
+use crate::calls::{Call, CallKind};
+use crate::counts::{counted, more};
+
+/// How many terminal addresses there are, that of all terminals among them.
+pub(crate) const ADDRESSES: usize = 32;
+
+/// What is counted of a terminal address. Counts go as far as 64 bits count.
+#[derive(Clone, Copy, Debug, PartialEq, Eq)]
+pub struct TerminalFigures {
+    /// How often it was told to receive data words.
+    pub receive: u64,
+    /// How often it was told to transmit data words.
+    pub transmit: u64,
+    /// How many mode commands it got.
+    pub mode: u64,
+    /// How many of these commands stood in a message with an error.
+    pub errors: u64,
+    /// How many of them it answered, by the gap times word.
+    pub responses: u64,
+    /// The sum of its response times, in ticks of 0.1 µs.
+    pub total: u64,
+    /// The least response time in ticks, 255 where there was none. The gap times word has 255 for longer ones too.
+    pub least: u8,
+    /// The greatest response time in ticks, 0 where there was none.
+    pub greatest: u8,
+}
+
+impl TerminalFigures {
+    /// The figures of a terminal that was never called.
+    pub fn none() -> TerminalFigures
+        ensures { result ≡ figures_of [] }
+    {
+        TerminalFigures {
+            receive: 0,
+            transmit: 0,
+            mode: 0,
+            errors: 0,
+            responses: 0,
+            total: 0,
+            least: 255,
+            greatest: 0,
+        }
+    }
+
+    /// How many commands it got, as far as 64 bits count.
+    pub fn commands(&self) -> u64 {
+        more(more(self.receive, self.transmit), self.mode)
+    }
+
+    /// The mean response time in hundredths of a µs, rounded down; None where there was no response.
+    pub fn mean(&self) -> Option<u64> {
+        if self.responses == 0 {
+            return None;
+        }
+        let mean = u128::from(self.total) * 10 / u128::from(self.responses);
+        Some(u64::try_from(mean).unwrap_or(u64::MAX))
+    }
+
+    fn note_kind(&mut self, call: &Call)
+        ensures { self.new ≡ with_kind call.now self.old }
+    {
+        self.receive = counted(self.receive, is_receive(call));
+        self.transmit = counted(self.transmit, is_transmit(call));
+        self.mode = counted(self.mode, is_mode(call));
+        self.errors = counted(self.errors, call.failed);
+    }
+
+    fn note_response(&mut self, response: u8)
+        ensures { self.new ≡ with_response response self.old }
+    {
+        self.responses = more(self.responses, 1);
+        self.total = more(self.total, u64::from(response));
+        self.least = response.min(self.least);
+        self.greatest = response.max(self.greatest);
+    }
+
+    /// One more call.
+    fn note(&mut self, call: &Call)
+        ensures { self.new ≡ with_call call.now self.old }
+    {
+        self.note_kind(call);
+        if call.response != 0 {
+            self.note_response(call.response);
+        }
+    }
+}
+
+fn is_receive(call: &Call) -> bool
+    ensures { result ≡ is_receive_call call.now }
+{
+    matches!(call.kind, CallKind::Receive)
+}
+
+fn is_transmit(call: &Call) -> bool
+    ensures { result ≡ is_transmit_call call.now }
+{
+    matches!(call.kind, CallKind::Transmit)
+}
+
+fn is_mode(call: &Call) -> bool
+    ensures { result ≡ is_mode_call call.now }
+{
+    matches!(call.kind, CallKind::Mode)
+}
+
+/// The figures of all addresses before any call.
+pub(crate) fn no_calls() -> [TerminalFigures; 32]
+    ensures { result ≡ terminals_of [] }
+{
+    [TerminalFigures::none(); 32]
+}
+
+/// One more call, for the address that it calls.
+pub(crate) fn note_call(terminals: &mut [TerminalFigures], call: &Call)
+    requires many { length terminals.old ≡ 32 }
+    requires range { call.now.address < 32 }
+    ensures noted { (calls : List CallValue) → terminals.old ≡ terminals_of calls → terminals.new ≡ terminals_of (call.now ∷ calls) }
+    ensures many { length terminals.new ≡ 32 }
+{
+    let place = usize::from(call.address);
+    let mut figures = terminals[place];
+    figures.note(call);
+    terminals[place] = figures;
+}

@@ -1,0 +1,77 @@
+//! Messages, words and times of a channel.
+ghost use Rattle.std.specs.Prelude.{◌≡◌, []};
+ghost use Rattle.ch11_f1.specs.Views.{message_of};
+ghost use Rattle.bench_stat.specs.Figures.{traffic_of, capped, duration};
+ghost use Rattle.bench_stat.specs.Steps.{with_traffic};
+
+use crate::counts::more;
+use ch11_f1::Seen;
+use ch11_layout::{first_gap, second_gap};
+
+/// How much a channel carried, and when. Counts and times go as far as 64 bits count; times are ticks of 0.1 µs.
+#[derive(Clone, Copy, Debug, PartialEq, Eq)]
+pub struct Traffic {
+    /// How many messages.
+    pub messages: u64,
+    /// How many bus words.
+    pub words: u64,
+    /// How long the bus was busy: 200 ticks a word, and what lies between the words of a message.
+    pub busy: u64,
+    /// The least stamp, 2^64 - 1 where there is no message.
+    pub begin: u64,
+    /// The greatest end of a message, 0 where there is none.
+    pub end: u64,
+}
+
+impl Traffic {
+    /// The traffic of a channel without messages.
+    pub fn none() -> Traffic
+        ensures { result ≡ traffic_of [] }
+    {
+        Traffic {
+            messages: 0,
+            words: 0,
+            busy: 0,
+            begin: u64::MAX,
+            end: 0,
+        }
+    }
+
+    /// The time from the first message's first word to the last message's end, in ticks.
+    pub fn span(&self) -> u64 {
+        self.end.saturating_sub(self.begin)
+    }
+
+    /// The share of the span in which the bus was busy, in hundredths of a per cent; None where there is no span.
+    pub fn load(&self) -> Option<u64> {
+        let span = u128::from(self.span());
+        if span == 0 {
+            return None;
+        }
+        let share = u128::from(self.busy) * 10_000 / span;
+        Some(u64::try_from(share).unwrap_or(u64::MAX))
+    }
+
+    /// One more message.
+    pub(crate) fn note(&mut self, seen: &Seen<'_>)
+        ensures { self.new ≡ with_traffic (message_of seen.now) self.old }
+    {
+        let words = seen.words.len() as u64 / 2;
+        let time = time_of(seen);
+        self.messages = more(self.messages, 1);
+        self.words = more(self.words, words);
+        self.busy = more(self.busy, time);
+        self.begin = seen.stamp.min(self.begin);
+        self.end = more(seen.stamp, time).max(self.end);
+    }
+}
+
+/// How long a message takes, in ticks, as far as 64 bits count.
+fn time_of(seen: &Seen<'_>) -> u64
+    ensures { result ≡ capped (duration (message_of seen.now)) }
+{
+    let (first, second) = (first_gap(seen), second_gap(seen));
+    let pauses = u64::from(first.saturating_sub(20)) + u64::from(second.saturating_sub(20));
+    let words = seen.words.len() as u64 / 2;
+    more(words.saturating_mul(200), pauses)
+}

@@ -1,0 +1,417 @@
+//! Damaged recordings, read both ways: by the reading that stops at the first fault, and by the one that skips.
+
+use crate::readers::{FOREIGN, ONE_MESSAGE};
+use bench_dump::dump;
+use ch11_f1::BodyError;
+use ch11_header::{Header, HeaderError, write_header};
+use ch11_reader::{Fault, Index, ReadError, Refusal, Skip, SkippingIndex};
+use std::alloc::{AllocError, Global};
+use std::process::Abort;
+
+/// The skipping reading of a file.
+fn skipping<'a>(rt: &impl Abort, alloc: Global, file: &'a [u8]) -> SkippingIndex<'a> {
+    Index::build_skipping(alloc, file).ok().expect(rt, "memory")
+}
+
+/// The first fault of a file, which is where the first skip begins; nothing is skipped where there is none.
+fn first_of(found: &SkippingIndex<'_>) -> Option<Refusal> {
+    found.skipped().first().map(|skip| Refusal {
+        offset: skip.offset,
+        fault: skip.fault,
+    })
+}
+
+/// Where the reading that stops at the first fault stops.
+fn refusal_of(alloc: Global, file: &[u8]) -> Option<Refusal> {
+    match Index::build(alloc, file) {
+        Err(ReadError::Refused(refusal)) => Some(refusal),
+        _ => None,
+    }
+}
+
+/// Whether both readings of a file stop alike.
+fn is_read_alike(rt: &impl Abort, alloc: Global, file: &[u8]) -> bool {
+    first_of(&skipping(rt, alloc, file)) == refusal_of(alloc, file)
+}
+
+/// What the skipping reading of a file gives: how many packets and messages, and the skips.
+fn is_found(
+    rt: &impl Abort,
+    alloc: Global,
+    file: &[u8],
+    packets: usize,
+    messages: u64,
+    skips: &[Skip],
+) {
+    let found = skipping(rt, alloc, file);
+    assert_eq!(rt; found.index.packets().len(), packets);
+    assert_eq!(rt; found.index.total(), messages);
+    assert_eq!(rt; found.skipped(), skips);
+}
+
+/// A file that is one packet: its messages, or its fault, by both readings.
+fn is_one(rt: &impl Abort, alloc: Global, file: &[u8], wanted: Result<u64, Fault>) {
+    assert!(rt; is_read_alike(rt, alloc, file));
+    match wanted {
+        Ok(messages) => is_found(rt, alloc, file, 1, messages, &[]),
+        Err(fault) => is_found(
+            rt,
+            alloc,
+            file,
+            0,
+            0,
+            &[Skip {
+                offset: 0,
+                length: file.len(),
+                fault,
+            }],
+        ),
+    }
+}
+
+/// The worked packet with two of its bytes made others.
+fn changed(first: usize, byte: u8, second: usize, other: u8) -> [u8; 52] {
+    let mut file = ONE_MESSAGE;
+    if first < 52 {
+        file[first] = byte;
+    }
+    if second < 52 {
+        file[second] = other;
+    }
+    file
+}
+
+/// The worked packet with one of its bytes made another: its messages, or its fault.
+fn is_changed(rt: &impl Abort, alloc: Global, place: usize, byte: u8, wanted: Result<u64, Fault>) {
+    is_one(rt, alloc, &changed(place, byte, 52, 0), wanted);
+}
+
+#[test]
+fn reads_the_rows_of_bodies_both_ways(rt: HostRuntime) {
+    is_changed(&rt, rt.alloc(), 27, 0x80, Ok(1));
+    is_changed(&rt, rt.alloc(), 27, 0x4F, Ok(1));
+    is_changed(&rt, rt.alloc(), 24, 0x00, Ok(0));
+    is_changed(&rt, rt.alloc(), 24, 0x02, Err(Fault::Body(BodyError::End)));
+    is_changed(&rt, rt.alloc(), 40, 0x0B, Err(Fault::Body(BodyError::Odd)));
+    is_changed(&rt, rt.alloc(), 40, 0x0C, Err(Fault::Body(BodyError::End)));
+    is_changed(&rt, rt.alloc(), 40, 0x08, Ok(1));
+}
+
+#[test]
+fn reads_the_rows_of_headers_both_ways(rt: HostRuntime) {
+    is_one(
+        &rt,
+        rt.alloc(),
+        &changed(8, 0x02, 22, 0x62),
+        Err(Fault::Body(BodyError::Short)),
+    );
+    is_one(
+        &rt,
+        rt.alloc(),
+        &changed(4, 0x35, 22, 0x7D),
+        Err(Fault::Header(HeaderError::PacketLength)),
+    );
+    is_one(
+        &rt,
+        rt.alloc(),
+        &changed(8, 0x1D, 22, 0x7D),
+        Err(Fault::Header(HeaderError::DataLength)),
+    );
+}
+
+/// The words of the one message that is left where its length says 8 bytes.
+#[test]
+fn reads_a_message_without_its_status(rt: HostRuntime) {
+    let file = changed(40, 0x08, 52, 0);
+    let found = skipping(&rt, rt.alloc(), &file);
+    let (_, seen) = found.index.message(1).expect(&rt, "a message");
+    assert_eq!(rt; seen.words, &ONE_MESSAGE[42..50]);
+}
+
+/// A file of two parts.
+fn joined(alloc: Global, first: &[u8], second: &[u8]) -> Result<Vec<u8>, AllocError> {
+    let mut file = Vec::new(alloc);
+    file.extend_from_slice(first)?;
+    file.extend_from_slice(second)?;
+    Ok(file)
+}
+
+#[test]
+fn skips_the_bytes_behind_a_packet(rt: HostRuntime) {
+    let file = joined(rt.alloc(), &ONE_MESSAGE, &[0, 0, 0])
+        .ok()
+        .expect(&rt, "memory");
+    let fault = Fault::Header(HeaderError::Short);
+    assert_eq!(rt;
+        refusal_of(rt.alloc(), &file),
+        Some(Refusal { offset: 52, fault })
+    );
+    is_found(
+        &rt,
+        rt.alloc(),
+        &file,
+        1,
+        1,
+        &[Skip {
+            offset: 52,
+            length: 3,
+            fault,
+        }],
+    );
+}
+
+#[test]
+fn skips_a_packet_in_front_of_another(rt: HostRuntime) {
+    let file = joined(rt.alloc(), &changed(22, 0x7D, 52, 0), &ONE_MESSAGE)
+        .ok()
+        .expect(&rt, "memory");
+    let fault = Fault::Header(HeaderError::Checksum);
+    assert_eq!(rt;
+        refusal_of(rt.alloc(), &file),
+        Some(Refusal { offset: 0, fault })
+    );
+    is_found(
+        &rt,
+        rt.alloc(),
+        &file,
+        1,
+        1,
+        &[Skip {
+            offset: 0,
+            length: 52,
+            fault,
+        }],
+    );
+    let mut out = Vec::new(rt.alloc());
+    assert_eq!(rt; dump(rt.alloc(), &file, &mut out, true), Ok(()));
+    assert_eq!(rt; out.as_slice(), PRINTED.as_bytes());
+}
+
+const PRINTED: &str = "skipped 0 length 52 K3
+packet 52 channel 1 type 19 seq 0 flags 00 messages 1
+message 1 channel 1 stamp 0 block 0000 gaps 0050 words 2823 0001 0002 0003 2800
+";
+
+#[test]
+fn reads_the_foreign_file_damaged(rt: HostRuntime) {
+    let mut file = FOREIGN;
+    is_found(&rt, rt.alloc(), &file, 2, 1, &[]);
+    file[32] = 0;
+    let fault = Fault::Header(HeaderError::Sync);
+    is_found(
+        &rt,
+        rt.alloc(),
+        &file,
+        1,
+        0,
+        &[Skip {
+            offset: 32,
+            length: 64,
+            fault,
+        }],
+    );
+    let mut out = Vec::new(rt.alloc());
+    assert_eq!(rt; dump(rt.alloc(), &file, &mut out, true), Ok(()));
+    assert_eq!(rt;
+        out.as_slice(),
+        b"packet 0 channel 0 type 01 skipped\nskipped 32 length 64 K2\n".as_slice()
+    );
+}
+
+/// A sound file is dumped alike with and without skipping.
+#[test]
+fn prints_a_sound_file_alike(rt: HostRuntime) {
+    let mut plain = Vec::new(rt.alloc());
+    let mut skipped = Vec::new(rt.alloc());
+    assert_eq!(rt; dump(rt.alloc(), &FOREIGN, &mut plain, false), Ok(()));
+    assert_eq!(rt; dump(rt.alloc(), &FOREIGN, &mut skipped, true), Ok(()));
+    assert_eq!(rt; plain.as_slice(), skipped.as_slice());
+}
+
+#[test]
+fn reads_each_prefix_of_the_foreign_file_both_ways(rt: HostRuntime) {
+    for length in 0..97 {
+        assert!(rt; is_read_alike(&rt, rt.alloc(), &FOREIGN[..length]));
+    }
+}
+
+/// Each change of one of these bytes of the foreign file is read both ways.
+fn changes_are_read_alike(rt: &impl Abort, alloc: Global, from: usize, to: usize) {
+    for place in from..to {
+        for change in 1..=255u8 {
+            let mut file = FOREIGN;
+            if let Some(byte) = file.get_mut(place) {
+                *byte ^= change;
+            }
+            assert!(rt; is_read_alike(rt, alloc, &file));
+        }
+    }
+}
+
+#[test]
+fn reads_each_change_of_the_first_header_both_ways(rt: HostRuntime) {
+    changes_are_read_alike(&rt, rt.alloc(), 0, 24);
+}
+
+#[test]
+fn reads_each_change_of_the_first_body_both_ways(rt: HostRuntime) {
+    changes_are_read_alike(&rt, rt.alloc(), 24, 44);
+}
+
+#[test]
+fn reads_each_change_of_the_second_header_both_ways(rt: HostRuntime) {
+    changes_are_read_alike(&rt, rt.alloc(), 44, 68);
+}
+
+#[test]
+fn reads_each_change_of_the_second_body_both_ways(rt: HostRuntime) {
+    changes_are_read_alike(&rt, rt.alloc(), 68, 96);
+}
+
+/// Thirty packets of 52 bytes on three channels in turn.
+fn three_channels(alloc: Global) -> Result<Vec<u8>, AllocError> {
+    let mut file = Vec::new(alloc);
+    for number in 0..30u8 {
+        let header = Header {
+            channel: 1 + (number % 3) as u16,
+            packet_length: 52,
+            data_length: 28,
+            version: 6,
+            sequence: number / 3,
+            flags: 0,
+            kind: 0x19,
+            counter: 680 * number as u64,
+        };
+        file.extend_from_slice(&write_header(&header))?;
+        file.extend_from_slice(&ONE_MESSAGE[24..])?;
+    }
+    Ok(file)
+}
+
+/// The next number of a row of numbers that look random.
+fn next_number(seed: &mut u64) -> usize {
+    *seed = seed
+        .wrapping_mul(6364136223846793005)
+        .wrapping_add(1442695040888963407);
+    (*seed >> 33) as usize
+}
+
+/// Overwrites up to 64 bytes with others, and answers where they begin and end.
+fn damage(file: &mut [u8], seed: &mut u64) -> (usize, usize) {
+    let start = next_number(seed) % 1560;
+    let end = start.saturating_add(1 + next_number(seed) % 64);
+    for place in start..end {
+        if let Some(byte) = file.get_mut(place) {
+            *byte = (next_number(seed) % 256) as u8;
+        }
+    }
+    (start, end)
+}
+
+/// How many of the thirty packets lie wholly in front of or behind some bytes.
+fn untouched(start: usize, end: usize) -> usize {
+    let mut count = 0usize;
+    for number in 0..30usize {
+        if 52 * number + 52 <= start || end <= 52 * number {
+            count = count.wrapping_add(1);
+        }
+    }
+    count
+}
+
+/// How many of those were read.
+fn untouched_read(found: &SkippingIndex<'_>, start: usize, end: usize) -> usize {
+    let mut count = 0usize;
+    for packet in found.index.packets() {
+        let outside = packet.offset.saturating_add(52) <= start || end <= packet.offset;
+        if outside && packet.offset % 52 == 0 && packet.header.packet_length == 52 {
+            count = count.wrapping_add(1);
+        }
+    }
+    count
+}
+
+/// Whether a damaged copy of the file is read alike both ways up to its first fault, and gives all packets that were not touched.
+fn is_salvaged(rt: &impl Abort, alloc: Global, file: &[u8], start: usize, end: usize) -> bool {
+    let found = skipping(rt, alloc, file);
+    first_of(&found) == refusal_of(alloc, file)
+        && untouched_read(&found, start, end) == untouched(start, end)
+}
+
+/// Two thousand random damages, each of a sound copy.
+fn damages_are_salvaged(rt: &impl Abort, alloc: Global, first: u64) {
+    let sound = three_channels(alloc).ok().expect(rt, "memory");
+    let mut file = Vec::new(alloc);
+    let mut seed = first;
+    for _ in 0..2_000 {
+        file.clear();
+        file.extend_from_slice(&sound).expect(rt, "memory");
+        let (start, end) = damage(&mut file, &mut seed);
+        assert!(rt; is_salvaged(rt, alloc, &file, start, end));
+    }
+}
+
+#[test]
+fn gives_what_two_thousand_damages_did_not_touch(rt: HostRuntime) {
+    damages_are_salvaged(&rt, rt.alloc(), 1);
+}
+
+#[test]
+fn gives_what_two_thousand_other_damages_did_not_touch(rt: HostRuntime) {
+    damages_are_salvaged(&rt, rt.alloc(), 2);
+}
+
+#[test]
+fn gives_what_a_third_two_thousand_did_not_touch(rt: HostRuntime) {
+    damages_are_salvaged(&rt, rt.alloc(), 3);
+}
+
+#[test]
+fn gives_what_a_fourth_two_thousand_did_not_touch(rt: HostRuntime) {
+    damages_are_salvaged(&rt, rt.alloc(), 4);
+}
+
+#[test]
+fn gives_what_a_fifth_two_thousand_did_not_touch(rt: HostRuntime) {
+    damages_are_salvaged(&rt, rt.alloc(), 5);
+}
+
+/// Two thousand headers one behind the other, each of which says that its packet holds all the others: what is a header to one is a
+/// message to those before it. A sound packet stands behind them.
+fn headers_alone(alloc: Global) -> Result<Vec<u8>, AllocError> {
+    let mut file = Vec::new(alloc);
+    for number in 0..2000u32 {
+        let header = Header {
+            channel: 1,
+            packet_length: 48052 - 24 * number,
+            data_length: 48028 - 24 * number,
+            version: 6,
+            sequence: 0,
+            flags: 0,
+            kind: 0x19,
+            counter: 10,
+        };
+        file.extend_from_slice(&write_header(&header))?;
+    }
+    file.extend_from_slice(&ONE_MESSAGE)?;
+    Ok(file)
+}
+
+#[test]
+fn skips_headers_that_lie(rt: HostRuntime) {
+    let file = headers_alone(rt.alloc()).ok().expect(&rt, "memory");
+    let fault = Fault::Body(BodyError::Odd);
+    assert!(rt; is_read_alike(&rt, rt.alloc(), &file));
+    is_found(
+        &rt,
+        rt.alloc(),
+        &file,
+        1,
+        1,
+        &[Skip {
+            offset: 0,
+            length: 48000,
+            fault,
+        }],
+    );
+}

@@ -1,0 +1,69 @@
+//! What `bench explain` says.
+use bench_explain::{explain, groups, print_explanation, print_list};
+use std::test::Fail;
+
+/// Every code that a crate of the program prints, and the words that stand for one.
+const CODES: [&str; 79] = [
+    "S1", "S2", "S3", "S4", "S5", "S6", "S7", "S8", "S9", "M1", "M2", "M3", "M4", "M5", "A1", "A2",
+    "A3", "P1", "P2", "P3", "P4", "P5", "P6", "C1", "C2", "C3", "C4", "C5", "J1", "J2", "J3", "J4",
+    "J5", "J6", "J7", "J8", "H1", "H2", "H3", "L1", "L2", "L3", "K1", "K2", "K3", "K4", "K5", "N1",
+    "N2", "F1", "F2", "F3", "G1", "G2", "V1", "U1", "U2", "U3", "U4", "U5", "X1", "X2", "X3", "X4",
+    "Y1", "Y2", "Y3", "Y4", "O1", "O2", "Q1", "Q2", "Z1", "Z2", "B1", "B2", "device", "memory",
+    "unknown",
+];
+
+#[test]
+fn every_code_has_a_text(rt: HostRuntime) {
+    for code in CODES {
+        let said = match explain(code) {
+            Some(explanation) => !explanation.means.is_empty()
+                && !explanation.remedy.is_empty()
+                && !explanation.example.is_empty(),
+            None => false,
+        };
+        assert!(rt; said, "{code}");
+    }
+}
+
+#[test]
+fn no_code_stands_twice(rt: HostRuntime) {
+    let mut count = 0usize;
+    for group in groups() {
+        count = count.wrapping_add(group.len());
+    }
+    assert_eq!(rt; count, CODES.len());
+}
+
+#[test]
+fn another_word_has_none(rt: HostRuntime) {
+    assert!(rt; explain("S10").is_none());
+    assert!(rt; explain("").is_none());
+}
+
+#[test]
+fn a_code_is_printed_with_what_to_do(rt: HostRuntime) -> Result<(), Fail> {
+    let mut out = Vec::new(rt.alloc());
+    let explanation = explain("S7").ok_or("an explanation")?;
+    print_explanation(&mut out, explanation)
+        .ok()
+        .ok_or("memory")?;
+    assert_eq!(rt;
+        out.as_slice(),
+        "S7: a number out of its range: repeat 1 to 10000, retry 1 to 8, gap 40 to 65535.\nChoose a number in the range; loops in one another multiply.\nExample: repeat 0 { send A mode 5 1 }\n".as_bytes()
+    );
+    Ok(())
+}
+
+#[test]
+fn the_list_has_a_line_a_code(rt: HostRuntime) -> Result<(), Fail> {
+    let mut out = Vec::new(rt.alloc());
+    print_list(&mut out).ok().ok_or("memory")?;
+    let mut lines = 0usize;
+    for byte in &out {
+        if *byte == b'\n' {
+            lines = lines.wrapping_add(1);
+        }
+    }
+    assert_eq!(rt; lines, CODES.len());
+    Ok(())
+}

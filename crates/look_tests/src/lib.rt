@@ -1,0 +1,11 @@
+//! Tests of the commands for people who look: `bench_stat`, `bench_export` and `bench_explain`, and with them of `ch11_layout`.
+#![tactic(auto)]
+
+#[cfg(test)]
+mod explanations;
+#[cfg(test)]
+mod exports;
+#[cfg(test)]
+mod made;
+#[cfg(test)]
+mod statistics;

@@ -1,0 +1,40 @@
+//! Recordings of sample jobs, and a file of another recorder.
+use bench_channel::one_channel;
+use ch11_writer::{MemorySink, Sink};
+use job_file::read_job;
+use std::alloc::Global;
+use std::test::Fail;
+
+/// The job of examples/retry.job: three errors, each with a retry on the other line.
+pub(crate) const RETRY: &str =
+    "channel 1\nterminal 5\nfault 1 mute 1\nfault 3 late 1 171\nfault 5 drop 0 3\nscript\nrepeat 3 {\n  retry 2 send A rx 5 1 [0001 0002 0003]\n}\n";
+
+/// The job of examples/transfer.job: a transfer from terminal to terminal, and a mode command.
+pub(crate) const TRANSFER: &str =
+    "channel 1\nterminal 3\nterminal 7\nat 1 7 transmit 1 AAAA 5555\nscript\nsend A rt 7 1 3 4 2\nsend A mode 3 2\n";
+
+/// A job of every other form of message.
+pub(crate) const FORMS: &str =
+    "channel 9\nterminal 5\nscript\nsend A tx 5 2 2\nsend B mode 5 17 [00AA]\nsend A mode 5 16\nsend A brx 1 [00BB]\nsend A brt 5 1 4 2\nsend A bmode 1\n";
+
+/// A setup record on channel 0, and a message behind a secondary header.
+pub(crate) const FOREIGN: [u8; 96] = [
+    0x25, 0xEB, 0x00, 0x00, 0x20, 0x00, 0x00, 0x00, 0x06, 0x00, 0x00, 0x00, 0x06, 0x00, 0x00, 0x01,
+    0x00, 0x00, 0x00, 0x00, 0x00, 0x00, 0x51, 0xEC, 0x00, 0x00, 0x00, 0x00, 0x41, 0x42, 0x00, 0x00,
+    0x25, 0xEB, 0x01, 0x00, 0x40, 0x00, 0x00, 0x00, 0x1C, 0x00, 0x00, 0x00, 0x06, 0x00, 0x80, 0x19,
+    0x00, 0x00, 0x00, 0x00, 0x00, 0x00, 0x08, 0x05, 0x00, 0x00, 0x00, 0x00, 0x00, 0x00, 0x00, 0x00,
+    0x00, 0x00, 0x00, 0x00, 0x01, 0x00, 0x00, 0x40, 0x00, 0x00, 0x00, 0x00, 0x00, 0x00, 0x00, 0x00,
+    0x00, 0x00, 0x50, 0x00, 0x0A, 0x00, 0x23, 0x28, 0x01, 0x00, 0x02, 0x00, 0x03, 0x00, 0x00, 0x28,
+];
+
+/// The recordings of jobs of these texts, one behind the other.
+pub(crate) fn recorded(alloc: Global, texts: &[&str]) -> Result<Vec<u8>, Fail> {
+    let mut file = Vec::new(alloc);
+    for text in texts {
+        let job = read_job(alloc, text.as_bytes()).ok().ok_or("a job")?;
+        let sink = one_channel(alloc, &job, 6, 4096, MemorySink::make(alloc));
+        let sink = sink.ok().ok_or("a recording")?;
+        file.extend_from_slice(sink.bytes())?;
+    }
+    Ok(file)
+}

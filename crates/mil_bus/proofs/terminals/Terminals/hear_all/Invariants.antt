@@ -1,6 +1,0 @@
-use Rattle.std.proofs.Common.{◌≡◌, drop}
-use Rattle.mil_bus.specs.Exchange.{all_hearing}
-use Rattle.mil_bus.proofs.terminals.Terminals.hear_all.Given as goal
-
-abbrev pub invariant-loop-word : goal.invariant-loop-word
-invariant-loop-word l = all_hearing l.line (drop l.word-index l.sent) l.self ≡ all_hearing l.line l.sent l.fn.self

@@ -1,0 +1,31 @@
+# Completions of bench for bash: source this file.
+_bench() {
+    local word=${COMP_WORDS[COMP_CWORD]} before=${COMP_WORDS[COMP_CWORD - 1]} command=${COMP_WORDS[1]}
+    if [ "$COMP_CWORD" -eq 1 ]; then
+        mapfile -t COMPREPLY < <(compgen -W "one assemble run dump step stat export explain help --help --version" -- "$word")
+        return
+    fi
+    case $before in
+        --out | --report | --prologue)
+            mapfile -t COMPREPLY < <(compgen -f -- "$word")
+            return
+            ;;
+        --version | --limit | --queue | --channel)
+            COMPREPLY=()
+            return
+            ;;
+    esac
+    local options=--help
+    case $command in
+        one) options="--channel --version --help" ;;
+        run) options="--version --limit --queue --prologue --out --report --help" ;;
+        stat) options="--csv --help" ;;
+        export) options="--out --help" ;;
+    esac
+    if [ "${word#-}" != "$word" ]; then
+        mapfile -t COMPREPLY < <(compgen -W "$options" -- "$word")
+    else
+        mapfile -t COMPREPLY < <(compgen -f -- "$word")
+    fi
+}
+complete -F _bench bench
