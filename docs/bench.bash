@@ -19,6 +19,7 @@ _bench() {
     case $command in
         one) options="--channel --version --help" ;;
         run) options="--version --limit --queue --prologue --out --report --help" ;;
+        dump) options="--skip --help" ;;
         stat) options="--csv --help" ;;
         export) options="--out --help" ;;
     esac
