@@ -9,6 +9,8 @@ mod counts;
 #[cfg(test)]
 mod fixtures;
 #[cfg(test)]
+mod full_queues;
+#[cfg(test)]
 mod gates;
 #[cfg(test)]
 mod mailboxes;
