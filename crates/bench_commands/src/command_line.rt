@@ -1,6 +1,9 @@
 //! The command line of `bench`: its commands, their arguments with their ranges, and their help.
 
 use crate::fault::Fault;
+use crate::looking_line::{
+    draw_command, draw_request, explain_command, export_command, stat_command,
+};
 use clap::error::ErrorKind;
 use clap::{Arg, ArgAction, ArgMatches, Command, Error, value_parser};
 use std::alloc::{AllocError, Global};
@@ -38,10 +41,27 @@ pub enum Request<'a> {
         recording: &'a str,
         out: &'a str,
     },
+    /// The messages of a recording over time, written to a file as a picture.
+    Draw(DrawRequest<'a>),
     /// What a code means, or all codes.
     Explain {
         code: Option<&'a str>,
     },
+}
+
+/// What is to be drawn, and where to.
+#[derive(Debug, Drop)]
+pub struct DrawRequest<'a> {
+    /// The file of the recording.
+    pub recording: &'a str,
+    /// The file to write the picture to.
+    pub out: &'a str,
+    /// The only channel to draw, if not all.
+    pub channel: Option<u16>,
+    /// The number of the first message to draw, counted from 1 over the file.
+    pub from: u32,
+    /// The number of the last one.
+    pub to: u32,
 }
 
 /// What is to be walked through.
@@ -74,8 +94,8 @@ pub struct RunRequest<'a> {
     pub jobs: Vec<&'a str>,
 }
 
-/// What the words ask, the program's name first. An error is a usage fault, the help or the version that was asked for, or
-/// want of memory: its kind says which.
+/// What the words ask, the program's name first. An error is a usage fault, the help or the version that was asked
+/// for, or want of memory: its kind says which.
 pub fn read<'a>(alloc: Global, words: &'a [String]) -> Result<Request<'a>, Error> {
     let matches = bench_command(alloc)?.try_get_matches_from(words)?;
     Ok(match matches.subcommand() {
@@ -97,6 +117,7 @@ pub fn read<'a>(alloc: Global, words: &'a [String]) -> Result<Request<'a>, Error
             recording: given.get_str("RECORDING").unwrap_or(""),
             out: given.get_str("out").unwrap_or(""),
         },
+        Some(("draw", given)) => Request::Draw(draw_request(given)),
         Some(("explain", given)) => Request::Explain {
             code: given.get_str("CODE"),
         },
@@ -130,6 +151,7 @@ fn bench_command<'a>(alloc: Global) -> Result<Command<'a>, AllocError> {
         .subcommand(step_command(alloc)?)?
         .subcommand(stat_command(alloc)?)?
         .subcommand(export_command(alloc)?)?
+        .subcommand(draw_command(alloc)?)?
         .subcommand(explain_command(alloc)?)
 }
 
@@ -202,7 +224,7 @@ fn setting<'a>(alloc: Global, name: &'a str, help: &'a str) -> Arg<'a> {
 }
 
 /// An option with the name of a file.
-fn file<'a>(alloc: Global, name: &'a str, help: &'a str) -> Arg<'a> {
+pub(crate) fn file<'a>(alloc: Global, name: &'a str, help: &'a str) -> Arg<'a> {
     Arg::new(alloc, name)
         .long(name)
         .value_name("FILE")
@@ -339,41 +361,4 @@ fn run_request<'a>(alloc: Global, given: &ArgMatches<'a>) -> Result<RunRequest<'
         report: given.get_str("report").unwrap_or(""),
         jobs,
     })
-}
-
-fn stat_command<'a>(alloc: Global) -> Result<Command<'a>, AllocError> {
-    let recording = Arg::new(alloc, "RECORDING")
-        .required(true)
-        .help("The Chapter 11 file to count in");
-    let rows = Arg::new(alloc, "csv")
-        .long("csv")
-        .action(ArgAction::SetTrue)
-        .help("One row of comma-separated values a terminal");
-    Command::new(alloc, "stat")
-        .about("Shows bus load, errors, retries and response times of a recording")
-        .after_help("Example:\n  bench stat flight.ch11")
-        .arg(rows)?
-        .arg(recording)
-}
-
-fn export_command<'a>(alloc: Global) -> Result<Command<'a>, AllocError> {
-    let recording = Arg::new(alloc, "RECORDING")
-        .required(true)
-        .help("The Chapter 11 file to export");
-    let out = file(alloc, "out", "The file to write the rows to").required(true);
-    Command::new(alloc, "export")
-        .about("Writes one row of comma-separated values a message")
-        .after_help("Example:\n  bench export flight.ch11 --out flight.csv")
-        .arg(recording)?
-        .arg(out)
-}
-
-fn explain_command<'a>(alloc: Global) -> Result<Command<'a>, AllocError> {
-    let code = Arg::new(alloc, "CODE").help(
-        "The code to explain, as in S7; all codes where there is none",
-    );
-    Command::new(alloc, "explain")
-        .about("Says what a fault means, and what to do")
-        .after_help("Example:\n  bench explain S7")
-        .arg(code)
 }
