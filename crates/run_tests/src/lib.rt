@@ -11,6 +11,8 @@ mod fixtures;
 #[cfg(test)]
 mod gates;
 #[cfg(test)]
+mod held;
+#[cfg(test)]
 mod mailboxes;
 #[cfg(test)]
 mod many;
