@@ -16,11 +16,13 @@ use std::sync::Wait;
 use std::thread::Threads;
 
 /// The report of eight channels of fifty messages, of which none was refused.
-const WHOLE: &str = "channel 1\nmade 50\nchannel 2\nmade 50\nchannel 3\nmade 50\nchannel 4\nmade 50\n\
+const WHOLE: &str =
+    "channel 1\nmade 50\nchannel 2\nmade 50\nchannel 3\nmade 50\nchannel 4\nmade 50\n\
     channel 5\nmade 50\nchannel 6\nmade 50\nchannel 7\nmade 50\nchannel 8\nmade 50\npackets 8\n";
 
 /// The same where no packet was taken whole.
-const NONE_WHOLE: &str = "channel 1\nmade 50\nchannel 2\nmade 50\nchannel 3\nmade 50\nchannel 4\nmade 50\n\
+const NONE_WHOLE: &str =
+    "channel 1\nmade 50\nchannel 2\nmade 50\nchannel 3\nmade 50\nchannel 4\nmade 50\n\
     channel 5\nmade 50\nchannel 6\nmade 50\nchannel 7\nmade 50\nchannel 8\nmade 50\npackets 0\n";
 
 /// Eight channels of fifty messages each.
@@ -34,11 +36,13 @@ fn eight_jobs(rt: &impl Abort, alloc: Global) -> Vec<Job> {
 }
 
 /// What eight channels come to that are held on a queue of so many items.
-fn held<
-    R: Threads + Wait + Clock + Abort + Sync,
-    E: Eprint + IsTerminal + Sync,
-    S: Sink + Drop,
->(rt: &R, alloc: Global, errors: &E, queue: u32, sink: S) -> Result<(Report, S), RunError<S>>
+fn held<R: Threads + Wait + Clock + Abort + Sync, E: Eprint + IsTerminal + Sync, S: Sink + Drop>(
+    rt: &R,
+    alloc: Global,
+    errors: &E,
+    queue: u32,
+    sink: S,
+) -> Result<(Report, S), RunError<S>>
     requires { S.failures sink < 2 ^ 64 - 1 }
 {
     let jobs = eight_jobs(rt, alloc);
