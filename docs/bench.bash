@@ -18,7 +18,8 @@ _bench() {
     local options=--help
     case $command in
         one) options="--channel --version --help" ;;
-        run) options="--version --limit --queue --prologue --out --report --help" ;;
+        run) options="--version --limit --queue --hold --prologue --out --report --help" ;;
+        dump) options="--skip --help" ;;
         stat) options="--csv --help" ;;
         export) options="--out --help" ;;
         draw) options="--out --channel --from --to --help" ;;

@@ -308,7 +308,7 @@ impl Parts {
             counters: self.counters.copy(),
             flag: self.flag,
             line: self.line,
-            bus: self.bus.copy()?,
+            bus: self.bus.save()?,
             number: self.number,
             gap: self.gap,
             last: self.last,
@@ -321,7 +321,7 @@ impl Parts {
         ensures restored { OnOk result (self.new ≡ saved.now) }
         ensures same { OnErr result (self.new ≡ self.old) }
     {
-        self.bus = saved.bus.copy()?;
+        self.bus.restore(&saved.bus)?;
         self.taken = saved.taken;
         self.place = saved.place;
         self.counters = saved.counters.copy();

@@ -3,7 +3,7 @@ use crate::begun::Begun;
 use crate::counters::Counters;
 use crate::schedule::Schedule;
 use frame_load::Program;
-use mil_bus::{Bus, Outcome};
+use mil_bus::{Outcome, SavedBus};
 use mil_line::{Gap, Plan};
 use mil_word::Line;
 use std::marker::Model;
@@ -23,7 +23,7 @@ pub struct SavedParts {
     pub counters: Counters,
     pub flag: bool,
     pub line: Line,
-    pub bus: Bus,
+    pub bus: SavedBus,
     pub number: u32,
     pub gap: Gap,
     pub last: Option<Outcome>,

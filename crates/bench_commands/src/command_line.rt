@@ -84,6 +84,8 @@ pub struct RunRequest<'a> {
     pub limit: u32,
     /// How many items the queue holds at most, in range or not.
     pub queue: u32,
+    /// Whether buses wait while the queue is full, so that no message is refused.
+    pub hold: bool,
     /// The file of the packets that stand in front of all others.
     pub prologue: Option<&'a str>,
     /// The file to write the recording to.
@@ -172,8 +174,8 @@ fn assemble_command<'a>(alloc: Global) -> Result<Command<'a>, AllocError> {
 /// What the help of `bench run` ends with.
 const RUN_NOTES: &str = "\
 Prints how many packets and messages the recording has. A message that finds the queue full is refused,
-and listed in the report by its number in its channel; nothing is refused where the queue has room for all
-that the jobs may send (the guide says how much that is).
+and listed in the report by its number in its channel; nothing is refused with --hold, or where the queue has
+room for all that the jobs may send (the guide says how much that is).
 
 No file is written over that is read, or written twice. A recording that is there stays as it is where the
 jobs or settings are refused (U1, U2, U5); the report of an earlier run is emptied when the recording begins.
@@ -196,10 +198,15 @@ fn run_command<'a>(alloc: Global) -> Result<Command<'a>, AllocError> {
 fn with_settings<'a>(alloc: Global, command: Command<'a>) -> Result<Command<'a>, AllocError> {
     let limit = "How many bytes a packet has at most, 256 to 524288";
     let queue = "How many messages may wait in the queue at most, 1 to 4096";
+    let hold = Arg::new(alloc, "hold")
+        .long("hold")
+        .action(ArgAction::SetTrue)
+        .help("Buses wait while the queue is full, so that no message is refused");
     command
         .arg(version(alloc).default_value("6"))?
         .arg(setting(alloc, "limit", limit).default_value("65536"))?
-        .arg(setting(alloc, "queue", queue).default_value("4096"))
+        .arg(setting(alloc, "queue", queue).default_value("4096"))?
+        .arg(hold)
 }
 
 /// The files of a run but its jobs.
@@ -356,6 +363,7 @@ fn run_request<'a>(alloc: Global, given: &ArgMatches<'a>) -> Result<RunRequest<'
         version: given.get_one::<u8>("version").unwrap_or(6),
         limit: given.get_one::<u32>("limit").unwrap_or(65536),
         queue: given.get_one::<u32>("queue").unwrap_or(4096),
+        hold: given.get_flag("hold"),
         prologue: given.get_str("prologue"),
         out: given.get_str("out").unwrap_or(""),
         report: given.get_str("report").unwrap_or(""),

@@ -61,6 +61,50 @@ fn memory_and_a_writer_take_all(rt: HostRuntime) -> Result<(), Fail> {
     Ok(())
 }
 
+#[test]
+fn one_byte_a_call(rt: HostRuntime) -> Result<(), Fail> {
+    let mut writer = Writer::make(DripSink::make(rt.alloc()));
+    assert_eq!(rt; writer.prologue(&[1, 2]), Ok(()));
+    assert_eq!(rt; writer.put(&[3, 4, 5]), Ok(()));
+    assert_eq!(rt; writer.finish(), Ok(()));
+    let mut sink = writer.into_sink();
+    assert_eq!(rt; sink.bytes(), [1u8, 2, 3, 4, 5].as_slice());
+    assert_eq!(rt; sink.take(&[6, 7]), Ok(1));
+    assert_eq!(rt; sink.bytes().len(), 6);
+    assert_eq!(rt; sink.failures(), 0);
+    Ok(())
+}
+
+/// The packet of the message `A rx 5 1 [0001 0002 0003]`.
+const PACKET: [u8; 52] = [
+    0x25, 0xEB, 0x01, 0x00, 0x34, 0x00, 0x00, 0x00, 0x1C, 0x00, 0x00, 0x00, 0x06, 0x00, 0x00, 0x19,
+    0x00, 0x00, 0x00, 0x00, 0x00, 0x00, 0x7C, 0x04, 0x01, 0x00, 0x00, 0x40, 0x00, 0x00, 0x00, 0x00,
+    0x00, 0x00, 0x00, 0x00, 0x00, 0x00, 0x50, 0x00, 0x0A, 0x00, 0x23, 0x28, 0x01, 0x00, 0x02, 0x00,
+    0x03, 0x00, 0x00, 0x28,
+];
+
+/// The packet is put twice into a sink that fails at one of its takes: a fault counts what was taken, and the sink that failed is
+/// asked no more.
+#[test]
+fn a_sink_that_fails_once(rt: HostRuntime) -> Result<(), Fail> {
+    for (fails_at, first, second, takes, held) in [
+        (1u64, Some(0u64), Some(0u64), 1u64, 0usize),
+        (2, None, Some(52), 2, 52),
+        (3, None, None, 2, 104),
+    ] {
+        let mut writer = Writer::make(FlakySink::make(rt.alloc(), fails_at));
+        let first_put = writer.put(&PACKET);
+        let second_put = writer.put(&PACKET);
+        let sink = writer.into_sink();
+        assert_eq!(rt; first_put.err(), first.map(|taken| WriteFault { taken }));
+        assert_eq!(rt; second_put.err(), second.map(|taken| WriteFault { taken }));
+        assert_eq!(rt; sink.takes(), takes);
+        assert_eq!(rt; sink.failures(), u64::from(second.is_some()));
+        assert_eq!(rt; sink.bytes().len(), held);
+    }
+    Ok(())
+}
+
 /// A writer that takes one byte a call until it has taken so many. Then it answers 0, or an error. It counts its calls.
 #[derive(Drop)]
 struct Reluctant {

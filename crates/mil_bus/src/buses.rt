@@ -27,13 +27,13 @@ use std::marker::Model;
 /// terminals' addresses and histories, in order of address; no value holds a list of talks.
 #[derive(Drop)]
 pub struct Bus {
-    begin: u64,
-    clock: u64,
-    least: Option<u16>,
-    on_a: Option<u64>,
-    on_b: Option<u64>,
-    terminals: Terminals,
-    past: History<Talk>,
+    pub(crate) begin: u64,
+    pub(crate) clock: u64,
+    pub(crate) least: Option<u16>,
+    pub(crate) on_a: Option<u64>,
+    pub(crate) on_b: Option<u64>,
+    pub(crate) terminals: Terminals,
+    pub(crate) past: History<Talk>,
 }
 
 impl Model for Bus {

@@ -16,6 +16,8 @@ mod offers;
 pub mod outcomes;
 mod quieting;
 mod runs;
+mod saved;
+mod saved_terminals;
 pub mod talks;
 mod terminals;
 
@@ -23,4 +25,5 @@ pub use buses::Bus;
 pub use counts::{Came, Seen};
 pub use error::BusError;
 pub use outcomes::Outcome;
+pub use saved::SavedBus;
 pub use talks::{Sent, Source, Talk};

@@ -25,11 +25,11 @@ use std::marker::Model;
 /// costs nothing. Contracts see their addresses and histories.
 #[derive(Drop)]
 pub struct Terminals {
-    list: Vec<Terminal>,
+    pub(crate) list: Vec<Terminal>,
     /// Under each address the place of its terminal in the list.
-    places: [u8; 32],
+    pub(crate) places: [u8; 32],
     /// A bit for each place, clear only where no window is open.
-    opened: u32,
+    pub(crate) opened: u32,
 }
 
 impl Model for Terminals {

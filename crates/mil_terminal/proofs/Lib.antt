@@ -12,3 +12,4 @@ pub mod SlotLemmas
 pub mod Setting
 pub mod Acts
 pub mod Passing
+pub mod Packing

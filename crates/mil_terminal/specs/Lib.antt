@@ -12,3 +12,5 @@ pub mod Phases
 pub mod Updates
 pub mod StandsFor
 pub mod Codes
+pub mod SavingHost
+pub mod Saving

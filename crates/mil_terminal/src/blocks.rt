@@ -8,8 +8,8 @@ use std::marker::Model;
 /// all, and those put up.
 #[derive(Drop)]
 pub struct Block {
-    words: Vec<u16>,
-    counts: [u8; 96],
+    pub(crate) words: Vec<u16>,
+    pub(crate) counts: [u8; 96],
 }
 
 impl Model for Block {

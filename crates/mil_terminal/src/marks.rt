@@ -1,5 +1,5 @@
 //! The commands that the host has marked as illegal.
-ghost use Rattle.std.specs.Prelude.{◌≡◌, ℕ, ◌+◌, Bool, false, ◌<◌, ◌≤◌, if◌then◌else◌};
+ghost use Rattle.std.specs.Prelude.{◌≡◌, ℕ, ◌+◌, Bool, true, false, replicate, ◌<◌, ◌≤◌, if◌then◌else◌};
 ghost use Rattle.mil_terminal.specs.Host.{is_mark};
 
 use mil_host::Mark;
@@ -27,7 +27,8 @@ impl Marks {
 
     /// Nothing is marked.
     pub fn none() -> Marks
-        ensures { (t : Bool) (s n : ℕ) → is_set result t s n ≡ false }
+        ensures rows { result ≡ record { rows = replicate 64 0 } }
+        ensures none { (t : Bool) (s n : ℕ) → is_set result t s n ≡ false }
     {
         Marks { rows: [0; 64] }
     }
@@ -54,6 +55,13 @@ impl Marks {
         ensures { result ≡ is_set self.now transmit sub count }
     {
         self.rows[row_of(transmit, sub)] >> (count - 1) & 1 == 1
+    }
+
+    /// Whether none is set.
+    pub fn is_empty(&self) -> bool
+        ensures { result ≡ true → self.now ≡ record { rows = replicate 64 0 } }
+    {
+        self.rows == [0; 64]
     }
 
     /// The same marks.

@@ -26,8 +26,8 @@ use std::marker::Model;
 /// list of events, and each of its readers and replies is a query on that history, whatever the history is.
 #[derive(Drop)]
 pub struct Terminal {
-    registers: Registers,
-    past: History<Event>,
+    pub(crate) registers: Registers,
+    pub(crate) past: History<Event>,
 }
 
 impl Model for Terminal {

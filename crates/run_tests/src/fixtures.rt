@@ -108,7 +108,7 @@ fn shapes_of(rt: &impl Abort, alloc: Global, file: &[u8]) -> Vec<(u16, u32, u8)>
 }
 
 /// The stamps of a channel's messages, in the file's order.
-fn stamps_of(rt: &impl Abort, alloc: Global, file: &[u8], channel: u16) -> Vec<u64> {
+pub(crate) fn stamps_of(rt: &impl Abort, alloc: Global, file: &[u8], channel: u16) -> Vec<u64> {
     let index = Index::build(alloc, file).ok().expect(rt, "readable");
     let mut stamps = Vec::new(alloc);
     for seen in index.channel(channel) {

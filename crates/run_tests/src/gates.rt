@@ -246,3 +246,39 @@ impl Gate for Backlog {
         self.waits.until(&self.ended, 2);
     }
 }
+
+/// The writer waits after its first item until channels 1 and 2 have both offered their tenth message.
+#[derive(Drop)]
+pub(super) struct HeldFromTheFirst {
+    pub(super) waits: Waits,
+    first: AtomicU32,
+    second: AtomicU32,
+}
+
+impl HeldFromTheFirst {
+    /// The gate before anything has passed it.
+    pub(super) fn make() -> HeldFromTheFirst {
+        HeldFromTheFirst {
+            waits: Waits::make(),
+            first: AtomicU32::new(0),
+            second: AtomicU32::new(0),
+        }
+    }
+}
+
+impl Gate for HeldFromTheFirst {
+    fn before_message(&self, _channel: u16, _number: u32) {}
+
+    fn after_offer(&self, channel: u16, number: u32, _kept: bool) {
+        match (channel, number) {
+            (1, 10) => self.first.store(1, Ordering::SeqCst),
+            (2, 10) => self.second.store(1, Ordering::SeqCst),
+            _ => {}
+        }
+    }
+
+    fn after_take(&self, _channel: u16, _number: u32) {
+        self.waits.until(&self.first, 1);
+        self.waits.until(&self.second, 1);
+    }
+}

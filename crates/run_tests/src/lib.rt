@@ -9,7 +9,11 @@ mod counts;
 #[cfg(test)]
 mod fixtures;
 #[cfg(test)]
+mod full_queues;
+#[cfg(test)]
 mod gates;
+#[cfg(test)]
+mod held;
 #[cfg(test)]
 mod mailboxes;
 #[cfg(test)]

@@ -2,7 +2,7 @@
 use crate::fixtures::{TEN_MESSAGES, is_printed, jobs_of, settings_of};
 use bench_report::Report;
 use bench_run::{OpenGate, RunError, run};
-use ch11_writer::FuseSink;
+use ch11_writer::{DripSink, FuseSink};
 use std::alloc::Global;
 use std::process::Abort;
 use std::sync::Wait;
@@ -27,7 +27,7 @@ fn into_fuse<R: Threads + Wait + Abort + Sync>(
 }
 
 /// The fault of a sink: what is printed of it, how many bytes the sink holds, and the report.
-fn is_fault(
+pub(crate) fn is_fault(
     rt: &impl Abort,
     alloc: Global,
     fault: &RunError<FuseSink>,
@@ -71,6 +71,17 @@ fn sinks_that_fail(rt: HostRuntime) {
 #[test]
 fn a_sink_with_room_for_the_file(rt: HostRuntime) {
     let answer = into_fuse(&rt, rt.alloc(), 456);
+    let (report, sink) = answer.ok().expect(&rt, "no fault");
+    assert_eq!(rt; report.packets(), 2);
+    assert_eq!(rt; sink.bytes().len(), 456);
+}
+
+#[test]
+fn a_sink_of_one_byte_a_call(rt: HostRuntime) {
+    let jobs = jobs_of(&rt, rt.alloc(), &TEN_MESSAGES);
+    let settings = settings_of(&rt, rt.alloc(), 4096, &[]);
+    let sink = DripSink::make(rt.alloc());
+    let answer = run(&rt, rt.alloc(), &jobs, &settings, &OpenGate, sink);
     let (report, sink) = answer.ok().expect(&rt, "no fault");
     assert_eq!(rt; report.packets(), 2);
     assert_eq!(rt; sink.bytes().len(), 456);

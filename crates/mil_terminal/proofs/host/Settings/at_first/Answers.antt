@@ -13,5 +13,5 @@ returns c = record {
   vector = refl;
   self_test = refl;
   response = c.of.ensures;
-  marks = λ t sub n _ _ _. c.none.ensures t sub n;
+  marks = λ t sub n _ _ _. c.none.ensures.none t sub n;
 }

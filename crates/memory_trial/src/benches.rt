@@ -1,0 +1,98 @@
+//! Calls on the bench one step at a time.
+use crate::told::Told;
+use crate::worked::{FIVE, ONE, jobs_of};
+use bench_core::{PlayError, Settings, Step, World, WorldError};
+use std::alloc::Global;
+
+/// The steps of a queue of one item between a channel of five messages and one of one; a take is None.
+const STEPS: [Option<u8>; 14] = [
+    Some(1),
+    None,
+    Some(1),
+    None,
+    Some(0),
+    None,
+    Some(0),
+    Some(0),
+    Some(0),
+    None,
+    Some(0),
+    None,
+    Some(0),
+    None,
+];
+
+/// How many bytes the file has behind these steps.
+const WHOLE: usize = 136;
+
+/// What two channels and a queue of one item make; None where memory is refused before.
+fn made_of_two(alloc: Global) -> Option<Result<World, WorldError>> {
+    let jobs = jobs_of(alloc, [FIVE, ONE])?;
+    let settings = Settings {
+        version: 6,
+        limit: 4096,
+        queue: 1,
+        prologue: Vec::new(alloc),
+        posts: 0,
+    };
+    Some(World::make(alloc, &jobs, &settings))
+}
+
+/// A world of two channels; None where memory is refused.
+fn world(alloc: Global) -> Option<World> {
+    made_of_two(alloc)?.ok()
+}
+
+/// The steps; None where memory is refused.
+fn steps(alloc: Global) -> Option<Vec<Step>> {
+    let mut steps = Vec::new(alloc);
+    for step in STEPS {
+        let next = match step {
+            Some(index) => Step::Offer(index),
+            None => Step::Take,
+        };
+        steps.push(next).ok()?;
+    }
+    Some(steps)
+}
+
+pub(crate) fn made(alloc: Global) -> Told {
+    match made_of_two(alloc) {
+        None => Told::Early,
+        Some(Ok(_)) => Told::Well,
+        Some(Err(WorldError::Memory)) => Told::Refused,
+        Some(Err(_)) => Told::Wrong,
+    }
+}
+
+/// Plays steps; where one is refused memory, those before it stand, so that it and those behind it lead to the same file.
+fn play(world: &mut World, steps: &[Step]) -> Told {
+    match world.play(steps) {
+        Ok(()) => Told::well(world.file().len() == WHOLE),
+        Err(PlayError::Memory { done }) => {
+            let rest = steps.get(done..).unwrap_or(&[]);
+            let on = world.play(rest).is_ok();
+            Told::refused(on && world.file().len() == WHOLE)
+        }
+        Err(_) => Told::Wrong,
+    }
+}
+
+pub(crate) fn played(alloc: Global) -> Told {
+    match (world(alloc), steps(alloc)) {
+        (Some(mut world), Some(steps)) => play(&mut world, &steps),
+        _ => Told::Early,
+    }
+}
+
+pub(crate) fn reported(alloc: Global) -> Told {
+    match (world(alloc), steps(alloc)) {
+        (Some(mut world), Some(steps)) => {
+            if world.play(&steps).is_err() {
+                return Told::Early;
+            }
+            Told::of(world.report(alloc).is_ok())
+        }
+        _ => Told::Early,
+    }
+}

@@ -1,0 +1,65 @@
+//! Calls on terminals, plans and buses.
+use crate::told::Told;
+use mil_bus::{Bus, BusError};
+use mil_line::{Fault, LineError, Plan};
+use mil_terminal::{Terminal, TerminalError};
+use std::alloc::Global;
+
+/// The fault that is planned.
+const MUTED: Fault = Fault::Mute { run: 1 };
+
+pub(crate) fn terminal_make(alloc: Global) -> Told {
+    match Terminal::make(alloc, 5) {
+        Ok(_) => Told::Well,
+        Err(TerminalError::Memory) => Told::Refused,
+        Err(TerminalError::Address) => Told::Wrong,
+    }
+}
+
+pub(crate) fn terminal_copy(alloc: Global) -> Told {
+    match Terminal::make(alloc, 5) {
+        Ok(terminal) => Told::of(terminal.copy().is_ok()),
+        Err(_) => Told::Early,
+    }
+}
+
+/// Plans a fault for each message of 1 to 20, up to a refusal, behind which all up to the message before are planned.
+pub(crate) fn plan_add(alloc: Global) -> Told {
+    let mut plan = Plan::make(alloc);
+    for number in 1..=20u32 {
+        match plan.add(number, MUTED) {
+            Ok(()) => {}
+            Err(LineError::Memory) => {
+                let planned = number == 1 || plan.faults(number - 1).len() == 1;
+                return Told::refused(planned && plan.faults(number).is_empty());
+            }
+            Err(_) => return Told::Wrong,
+        }
+    }
+    Told::Well
+}
+
+pub(crate) fn plan_copy(alloc: Global) -> Told {
+    let mut plan = Plan::make(alloc);
+    for number in 1..=20u32 {
+        if plan.add(number, MUTED).is_err() {
+            return Told::Early;
+        }
+    }
+    Told::of(plan.copy().is_ok())
+}
+
+pub(crate) fn bus_make(alloc: Global) -> Told {
+    match Bus::make(alloc, 0, &[3, 5, 7]) {
+        Ok(_) => Told::Well,
+        Err(BusError::Memory) => Told::Refused,
+        Err(BusError::Addresses) => Told::Wrong,
+    }
+}
+
+pub(crate) fn bus_copy(alloc: Global) -> Told {
+    match Bus::make(alloc, 0, &[3, 5, 7]) {
+        Ok(bus) => Told::of(bus.copy().is_ok()),
+        Err(_) => Told::Early,
+    }
+}

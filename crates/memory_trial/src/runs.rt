@@ -1,0 +1,102 @@
+//! Calls on queues and on runs.
+ghost use Rattle.std.specs.Prelude.{◌≡◌};
+
+use crate::told::Told;
+use crate::worked::{FIVE, ONE, job_of, jobs_of};
+use bench_channel::{ChannelFault, one_channel};
+use bench_core::Settings;
+use bench_run::{MailError, Mailbox, OpenGate, RunError, run};
+use ch11_writer::MemorySink;
+use job_file::Job;
+use mil_trunk::{Tagged, Trunk, TrunkError};
+use std::alloc::Global;
+use std::sync::Wait;
+use std::thread::Threads;
+
+/// An item of tag 0.
+#[derive(Clone, Copy)]
+struct Item;
+
+impl Tagged for Item {
+    ghost tag_of = { λ _. 0 };
+
+    fn tag(&self) -> u8 {
+        0
+    }
+}
+
+pub(crate) fn trunk(alloc: Global) -> Told {
+    match Trunk::<Item>::make(alloc, 2, &[1024]) {
+        Ok(_) => Told::Well,
+        Err(TrunkError::Memory) => Told::Refused,
+        Err(TrunkError::Capacity) => Told::Wrong,
+    }
+}
+
+pub(crate) fn mailbox(alloc: Global) -> Told {
+    let Some(job) = job_of(alloc, FIVE) else {
+        return Told::Early;
+    };
+    match Mailbox::make(alloc, &job, 2) {
+        Ok(_) => Told::Well,
+        Err(MailError::Memory) => Told::Refused,
+        Err(MailError::Capacity) => Told::Wrong,
+    }
+}
+
+/// What a refused channel came to: a growth of its own, or one of its sink, which is a fault of the sink.
+fn channel_refused(fault: &ChannelFault<MemorySink>) -> Told {
+    match fault {
+        ChannelFault::Memory { sink } => Told::refused(sink.bytes().is_empty()),
+        ChannelFault::Sink { sink, taken } => Told::refused(sink.bytes().len() as u64 == *taken),
+        ChannelFault::Limit { .. } => Told::Wrong,
+    }
+}
+
+pub(crate) fn one_channel_recorded(alloc: Global) -> Told {
+    let Some(job) = job_of(alloc, FIVE) else {
+        return Told::Early;
+    };
+    match one_channel(alloc, &job, 6, 4096, MemorySink::make(alloc)) {
+        Ok(sink) => Told::well(sink.bytes().len() == 128),
+        Err(fault) => channel_refused(&fault),
+    }
+}
+
+/// What a refused run came to.
+fn run_refused(fault: &RunError<MemorySink>) -> Told {
+    match fault {
+        RunError::Memory { .. } => Told::Refused,
+        RunError::Sink { sink, taken, .. } => Told::refused(sink.bytes().len() as u64 == *taken),
+        _ => Told::Wrong,
+    }
+}
+
+/// A run of jobs into memory, with a queue that has room for all.
+fn ran<R: Threads + Wait + Sync>(rt: &R, alloc: Global, jobs: &[Job]) -> Told {
+    let settings = Settings {
+        version: 6,
+        limit: 4096,
+        queue: 64,
+        prologue: Vec::new(alloc),
+        posts: 0,
+    };
+    match run(
+        rt,
+        alloc,
+        jobs,
+        &settings,
+        &OpenGate,
+        MemorySink::make(alloc),
+    ) {
+        Ok(whole) => Told::well(whole.1.bytes().len() == 176),
+        Err(fault) => run_refused(&fault),
+    }
+}
+
+pub(crate) fn two_channels<R: Threads + Wait + Sync>(rt: &R, alloc: Global) -> Told {
+    match jobs_of(alloc, [FIVE, ONE]) {
+        Some(jobs) => ran(rt, alloc, &jobs),
+        None => Told::Early,
+    }
+}

@@ -1,0 +1,52 @@
+//! Texts and bytes that the calls are made with.
+use job_file::{Job, read_job};
+use std::alloc::Global;
+
+/// A script of frames of every kind.
+pub(crate) const SCRIPT: &[u8] =
+    b"repeat 3 { if any ( fail not silent ) { retry 2 send A rx 9 1 [0001 0002] } else { gap 50 } }";
+
+/// The bytes of the image of `repeat 3 { retry 2 send A rx 9 1 [0001] }`, worked by hand.
+pub(crate) const LOOPS: [u8; 62] = [
+    0x42, 0x43, 0x30, 0x31, 11, 0, 1, 0, // the mark and the counts
+    4, 0, 3, 0, 1, 0, 0, 0, 4, 0, 2, 0, 8, 0, 0, 0, // Loop 3, Send 0, Loop 2, Test 0
+    9, 0, 7, 0, 2, 0, 0, 0, 7, 0, 8, 0, 6, 0, 9, 0, // JumpFalse 7, Alt 0, Jump 8, Leave 9
+    5, 0, 3, 0, 5, 0, 1, 0, 0, 0, 0, 0, // Again 3, Again 1, Halt
+    0, 0, 0x21, 0x48, 0, 0, 1, 0, 1, 0, // the message
+];
+
+/// A job with a planned fault, two actions and a hundred messages; one of one channel more, and one of yet another.
+pub(crate) const HUNDRED: &str =
+    "channel 1\nterminal 5\nterminal 9\nfault 1 drop 0 1\nat 3 5 busy on\nat 70 5 busy off\nscript\nrepeat 50 { send A rx 5 1 [0001] retry 1 send B tx 9 2 4 }\n";
+
+pub(crate) const FIVE: &str = "channel 1\nterminal 5\nscript\nrepeat 5 { send A rx 5 1 [0001] }\n";
+
+pub(crate) const ONE: &str = "channel 2\nterminal 5\nscript\nsend A rx 5 1 [0001]\n";
+
+/// A setup record on channel 0, then a packet with one MIL-STD-1553 message.
+pub(crate) const FOREIGN: [u8; 96] = [
+    0x25, 0xEB, 0x00, 0x00, 0x20, 0x00, 0x00, 0x00, 0x06, 0x00, 0x00, 0x00, 0x06, 0x00, 0x00, 0x01,
+    0x00, 0x00, 0x00, 0x00, 0x00, 0x00, 0x51, 0xEC, 0x00, 0x00, 0x00, 0x00, 0x41, 0x42, 0x00, 0x00,
+    0x25, 0xEB, 0x01, 0x00, 0x40, 0x00, 0x00, 0x00, 0x1C, 0x00, 0x00, 0x00, 0x06, 0x00, 0x80, 0x19,
+    0x00, 0x00, 0x00, 0x00, 0x00, 0x00, 0x08, 0x05, 0x00, 0x00, 0x00, 0x00, 0x00, 0x00, 0x00, 0x00,
+    0x00, 0x00, 0x00, 0x00, 0x01, 0x00, 0x00, 0x40, 0x00, 0x00, 0x00, 0x00, 0x00, 0x00, 0x00, 0x00,
+    0x00, 0x00, 0x50, 0x00, 0x0A, 0x00, 0x23, 0x28, 0x01, 0x00, 0x02, 0x00, 0x03, 0x00, 0x00, 0x28,
+];
+
+/// A report with refused messages and placed actions.
+pub(crate) const REPORT: &str =
+    "channel 1\nmade 5\nrefused 3\nrefused 4\nplaced 1 5 busy on\nplaced 2 5 transmit 1 AAAA 5555\nchannel 2\nmade 1\npackets 2\n";
+
+/// The job of a text; None where memory is refused.
+pub(crate) fn job_of(alloc: Global, text: &str) -> Option<Job> {
+    read_job(alloc, text.as_bytes()).ok()
+}
+
+/// The jobs of two texts; None where memory is refused.
+pub(crate) fn jobs_of(alloc: Global, texts: [&str; 2]) -> Option<Vec<Job>> {
+    let mut jobs = Vec::new(alloc);
+    for text in texts {
+        jobs.push(job_of(alloc, text)?).ok()?;
+    }
+    Some(jobs)
+}

@@ -1,0 +1,16 @@
+-- What is kept of a terminal, as its registers (inside the terminal).
+use Rattle.mil_terminal.specs.SavingHost.{unboxed}
+use Rattle.mil_terminal.specs.declared.registers.Registers.{Registers}
+use Rattle.mil_terminal.specs.declared.saved_registers.SavedRegisters.TheInside.{Inside}
+
+abbrev pub registers_kept : Inside → Registers
+registers_kept s = record {
+  own = s.own;
+  window = unboxed s.window;
+  host = s.host;
+  conditions = s.conditions;
+  switches = s.switches;
+  synced = s.synced;
+  last_command = s.last_command;
+  block = s.block;
+}
