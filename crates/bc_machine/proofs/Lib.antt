@@ -7,3 +7,4 @@ pub mod Steps
 pub mod Rows
 pub mod Told
 pub mod Next
+pub mod Coming

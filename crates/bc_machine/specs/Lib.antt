@@ -11,3 +11,4 @@ pub mod PlainMachine
 pub mod Posting
 pub mod SavedMachine
 pub mod Alike
+pub mod Coming

@@ -12,12 +12,14 @@ mod placed;
 mod posting;
 mod saved;
 mod schedule;
+mod upcoming;
 
 pub use laws::{actions_to_come_are_free, controller_runs};
 pub use machine::Machine;
 use mil_monitor::Record;
 pub use placed::Placed;
 pub use saved::Saved;
+pub use upcoming::Upcoming;
 
 /// What a step came to.
 #[derive(Debug, Drop, PartialEq, Eq)]

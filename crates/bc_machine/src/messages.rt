@@ -12,7 +12,7 @@ use mil_message::Message;
 use mil_word::Line;
 
 // The actions that are placed at a number act: those of the beginning, and then those that were placed later.
-fn act_both(bus: &mut Bus, placed: &Schedule, posted: &Schedule, number: u32)
+pub fn act_both(bus: &mut Bus, placed: &Schedule, posted: &Schedule, number: u32)
     ensures bus { bus.new ≡ ready (placed.now ++ posted.now) number bus.old }
     ensures clock { clock_of bus.new.start bus.new.talks ≡ clock_of bus.old.start bus.old.talks }
 {

@@ -35,19 +35,19 @@ use std::snapshot::Snapshot;
 /// What a controller has; contracts see it as plain data.
 #[derive(Drop)]
 pub struct Parts {
-    program: Program,
-    plan: Plan,
-    placed: Schedule,
+    pub(crate) program: Program,
+    pub(crate) plan: Plan,
+    pub(crate) placed: Schedule,
     pub(crate) posted: Schedule,
     begun: Snapshot<Begun>,
     taken: u32,
     place: u16,
     counters: Counters,
     flag: bool,
-    line: Line,
-    bus: Bus,
+    pub(crate) line: Line,
+    pub(crate) bus: Bus,
     pub(crate) number: u32,
-    gap: Gap,
+    pub(crate) gap: Gap,
     last: Option<Outcome>,
 }
 
@@ -91,7 +91,7 @@ impl Parts {
     }
 
     /// The operation that is next.
-    fn op(&self) -> Op
+    pub(crate) fn op(&self) -> Op
         requires { self.now.at.place < length self.now.code.operations }
         ensures { slice_get self.now.code.operations self.now.at.place ≡ Some result }
     {

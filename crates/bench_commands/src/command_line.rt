@@ -1,6 +1,9 @@
 //! The command line of `bench`: its commands, their arguments with their ranges, and their help.
 
 use crate::fault::Fault;
+use crate::looking_line::{
+    draw_command, draw_request, explain_command, export_command, stat_command,
+};
 use clap::error::ErrorKind;
 use clap::{Arg, ArgAction, ArgMatches, Command, Error, value_parser};
 use std::alloc::{AllocError, Global};
@@ -38,10 +41,27 @@ pub enum Request<'a> {
         recording: &'a str,
         out: &'a str,
     },
+    /// The messages of a recording over time, written to a file as a picture.
+    Draw(DrawRequest<'a>),
     /// What a code means, or all codes.
     Explain {
         code: Option<&'a str>,
     },
+}
+
+/// What is to be drawn, and where to.
+#[derive(Debug, Drop)]
+pub struct DrawRequest<'a> {
+    /// The file of the recording.
+    pub recording: &'a str,
+    /// The file to write the picture to.
+    pub out: &'a str,
+    /// The only channel to draw, if not all.
+    pub channel: Option<u16>,
+    /// The number of the first message to draw, counted from 1 over the file.
+    pub from: u32,
+    /// The number of the last one.
+    pub to: u32,
 }
 
 /// What is to be walked through.
@@ -64,6 +84,8 @@ pub struct RunRequest<'a> {
     pub limit: u32,
     /// How many items the queue holds at most, in range or not.
     pub queue: u32,
+    /// Whether buses wait while the queue is full, so that no message is refused.
+    pub hold: bool,
     /// The file of the packets that stand in front of all others.
     pub prologue: Option<&'a str>,
     /// The file to write the recording to.
@@ -74,8 +96,8 @@ pub struct RunRequest<'a> {
     pub jobs: Vec<&'a str>,
 }
 
-/// What the words ask, the program's name first. An error is a usage fault, the help or the version that was asked for, or
-/// want of memory: its kind says which.
+/// What the words ask, the program's name first. An error is a usage fault, the help or the version that was asked
+/// for, or want of memory: its kind says which.
 pub fn read<'a>(alloc: Global, words: &'a [String]) -> Result<Request<'a>, Error> {
     let matches = bench_command(alloc)?.try_get_matches_from(words)?;
     Ok(match matches.subcommand() {
@@ -97,6 +119,7 @@ pub fn read<'a>(alloc: Global, words: &'a [String]) -> Result<Request<'a>, Error
             recording: given.get_str("RECORDING").unwrap_or(""),
             out: given.get_str("out").unwrap_or(""),
         },
+        Some(("draw", given)) => Request::Draw(draw_request(given)),
         Some(("explain", given)) => Request::Explain {
             code: given.get_str("CODE"),
         },
@@ -130,6 +153,7 @@ fn bench_command<'a>(alloc: Global) -> Result<Command<'a>, AllocError> {
         .subcommand(step_command(alloc)?)?
         .subcommand(stat_command(alloc)?)?
         .subcommand(export_command(alloc)?)?
+        .subcommand(draw_command(alloc)?)?
         .subcommand(explain_command(alloc)?)
 }
 
@@ -150,8 +174,8 @@ fn assemble_command<'a>(alloc: Global) -> Result<Command<'a>, AllocError> {
 /// What the help of `bench run` ends with.
 const RUN_NOTES: &str = "\
 Prints how many packets and messages the recording has. A message that finds the queue full is refused,
-and listed in the report by its number in its channel; nothing is refused where the queue has room for all
-that the jobs may send (the guide says how much that is).
+and listed in the report by its number in its channel; nothing is refused with --hold, or where the queue has
+room for all that the jobs may send (the guide says how much that is).
 
 No file is written over that is read, or written twice. A recording that is there stays as it is where the
 jobs or settings are refused (U1, U2, U5); the report of an earlier run is emptied when the recording begins.
@@ -174,10 +198,15 @@ fn run_command<'a>(alloc: Global) -> Result<Command<'a>, AllocError> {
 fn with_settings<'a>(alloc: Global, command: Command<'a>) -> Result<Command<'a>, AllocError> {
     let limit = "How many bytes a packet has at most, 256 to 524288";
     let queue = "How many messages may wait in the queue at most, 1 to 4096";
+    let hold = Arg::new(alloc, "hold")
+        .long("hold")
+        .action(ArgAction::SetTrue)
+        .help("Buses wait while the queue is full, so that no message is refused");
     command
         .arg(version(alloc).default_value("6"))?
         .arg(setting(alloc, "limit", limit).default_value("65536"))?
-        .arg(setting(alloc, "queue", queue).default_value("4096"))
+        .arg(setting(alloc, "queue", queue).default_value("4096"))?
+        .arg(hold)
 }
 
 /// The files of a run but its jobs.
@@ -202,7 +231,7 @@ fn setting<'a>(alloc: Global, name: &'a str, help: &'a str) -> Arg<'a> {
 }
 
 /// An option with the name of a file.
-fn file<'a>(alloc: Global, name: &'a str, help: &'a str) -> Arg<'a> {
+pub(crate) fn file<'a>(alloc: Global, name: &'a str, help: &'a str) -> Arg<'a> {
     Arg::new(alloc, name)
         .long(name)
         .value_name("FILE")
@@ -334,46 +363,10 @@ fn run_request<'a>(alloc: Global, given: &ArgMatches<'a>) -> Result<RunRequest<'
         version: given.get_one::<u8>("version").unwrap_or(6),
         limit: given.get_one::<u32>("limit").unwrap_or(65536),
         queue: given.get_one::<u32>("queue").unwrap_or(4096),
+        hold: given.get_flag("hold"),
         prologue: given.get_str("prologue"),
         out: given.get_str("out").unwrap_or(""),
         report: given.get_str("report").unwrap_or(""),
         jobs,
     })
-}
-
-fn stat_command<'a>(alloc: Global) -> Result<Command<'a>, AllocError> {
-    let recording = Arg::new(alloc, "RECORDING")
-        .required(true)
-        .help("The Chapter 11 file to count in");
-    let rows = Arg::new(alloc, "csv")
-        .long("csv")
-        .action(ArgAction::SetTrue)
-        .help("One row of comma-separated values a terminal");
-    Command::new(alloc, "stat")
-        .about("Shows bus load, errors, retries and response times of a recording")
-        .after_help("Example:\n  bench stat flight.ch11")
-        .arg(rows)?
-        .arg(recording)
-}
-
-fn export_command<'a>(alloc: Global) -> Result<Command<'a>, AllocError> {
-    let recording = Arg::new(alloc, "RECORDING")
-        .required(true)
-        .help("The Chapter 11 file to export");
-    let out = file(alloc, "out", "The file to write the rows to").required(true);
-    Command::new(alloc, "export")
-        .about("Writes one row of comma-separated values a message")
-        .after_help("Example:\n  bench export flight.ch11 --out flight.csv")
-        .arg(recording)?
-        .arg(out)
-}
-
-fn explain_command<'a>(alloc: Global) -> Result<Command<'a>, AllocError> {
-    let code = Arg::new(alloc, "CODE").help(
-        "The code to explain, as in S7; all codes where there is none",
-    );
-    Command::new(alloc, "explain")
-        .about("Says what a fault means, and what to do")
-        .after_help("Example:\n  bench explain S7")
-        .arg(code)
 }

@@ -4,7 +4,7 @@ use crate::apart::told_apart;
 use crate::command_line::{self, Request};
 use crate::fault::Fault;
 use crate::files::{read_whole, write_whole};
-use crate::looking::{export_rows, show_explanation, show_statistics};
+use crate::looking::{draw_picture, export_rows, show_explanation, show_statistics};
 use crate::pointing::point;
 use crate::recording::run_jobs;
 use crate::stepping::step_through;
@@ -20,8 +20,8 @@ use std::sync::Wait;
 use std::thread::Threads;
 use std::{env, io};
 
-/// Reads the command line, does what it asks, and says how the process ends. What it says of faults and of its progress goes to
-/// `errors`.
+/// Reads the command line, does what it asks, and says how the process ends. What it says of faults and of its
+/// progress goes to `errors`.
 pub fn run<
     R: Env + Files + AllocGlobal + Input + Print + Clock + Threads + Wait + Sync,
     E: Eprint + IsTerminal + Sync,
@@ -112,6 +112,7 @@ where
         Request::Step(request) => step_through(rt, errors, request),
         Request::Stat { recording, rows } => show_statistics(rt, recording, *rows),
         Request::Export { recording, out } => export_rows(rt, recording, out),
+        Request::Draw(request) => draw_picture(rt, request),
         Request::Explain { code } => show_explanation(rt, *code),
     }
 }

@@ -1,5 +1,5 @@
-//! The commands of `bench`: the command line, the files, the faults and the exit statuses; each command calls one proved function of
-//! a crate below.
+//! The commands of `bench`: the command line, the files, the faults and the exit statuses; each command calls one
+//! proved function of a crate below.
 #![tactic(auto)]
 
 mod apart;
@@ -9,6 +9,7 @@ mod fault;
 mod files;
 mod jobs;
 mod looking;
+mod looking_line;
 mod pointing;
 mod recording;
 mod stepping;

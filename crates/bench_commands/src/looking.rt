@@ -1,12 +1,16 @@
-//! `bench stat`, `bench export` and `bench explain`: what there is to see in a recording, and what a fault means.
+//! `bench stat`, `bench export`, `bench draw` and `bench explain`: what there is to see in a recording, and what a
+//! fault means.
 
 use crate::apart::told_apart;
+use crate::command_line::DrawRequest;
 use crate::fault::Fault;
-use crate::files::{create, read_whole};
+use crate::files::{create, read_whole, write_whole};
+use bench_draw::{Selection, draw};
 use bench_explain::{explain, print_explanation, print_list};
 use bench_export::{ExportFault, export};
 use bench_stat::{ChannelFigures, print_rows, print_statistics, stat};
 use ch11_reader::{Index, ReadError};
+use std::alloc::Global;
 use std::io;
 use std::io::{BufWriter, Write};
 use std::rt::Files;
@@ -43,8 +47,8 @@ fn print_figures<R: AllocGlobal + Print>(
     out.flush()
 }
 
-/// Writes the messages of a recording as rows of comma-separated values. The out file is made once the recording was accepted; it may not be
-/// the recording itself.
+/// Writes the messages of a recording as rows of comma-separated values. The out file is made once the recording was
+/// accepted; it may not be the recording itself.
 pub fn export_rows<'a, R: Files + AllocGlobal>(
     rt: &R,
     recording: &'a str,
@@ -52,16 +56,39 @@ pub fn export_rows<'a, R: Files + AllocGlobal>(
 ) -> Result<(), Fault<'a>> {
     told_apart(rt, &[out], &[recording])?;
     let bytes = read_whole(rt, recording)?;
-    let index = match Index::build(rt.alloc(), bytes.as_slice()) {
-        Ok(index) => index,
-        Err(ReadError::Refused(refusal)) => return Err(Fault::Recording(refusal)),
-        Err(ReadError::Memory) => return Err(Fault::Memory),
-    };
+    let index = index_of(rt.alloc(), bytes.as_slice())?;
     match export(rt.alloc(), &index, create(rt, out)?) {
         Ok(_) => Ok(()),
         Err(ExportFault::Memory) => Err(Fault::Memory),
         Err(ExportFault::Device) => Err(Fault::Device(out)),
     }
+}
+
+/// The packets of a recording, or why it is refused.
+fn index_of<'a, 'b>(alloc: Global, recording: &'b [u8]) -> Result<Index<'b>, Fault<'a>> {
+    match Index::build(alloc, recording) {
+        Ok(index) => Ok(index),
+        Err(ReadError::Refused(refusal)) => Err(Fault::Recording(refusal)),
+        Err(ReadError::Memory) => Err(Fault::Memory),
+    }
+}
+
+/// Writes the messages of a recording, or those that were selected, as a picture. The out file is made once the
+/// picture is whole; it may not be the recording itself.
+pub fn draw_picture<'a, R: Files + AllocGlobal>(
+    rt: &R,
+    request: &DrawRequest<'a>,
+) -> Result<(), Fault<'a>> {
+    told_apart(rt, &[request.out], &[request.recording])?;
+    let bytes = read_whole(rt, request.recording)?;
+    let index = index_of(rt.alloc(), bytes.as_slice())?;
+    let selection = Selection {
+        channel: request.channel,
+        from: u64::from(request.from),
+        to: u64::from(request.to),
+    };
+    let picture = draw(rt.alloc(), &index, &selection)?;
+    write_whole(rt, request.out, picture.as_slice())
 }
 
 /// Prints what a code means, or a line for each code where none is given. A code that there is not is refused.

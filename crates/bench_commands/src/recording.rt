@@ -9,7 +9,7 @@ use crate::files::{
 };
 use crate::jobs::jobs_of;
 use bench_core::{Settings, judge};
-use bench_record::{Counts, print_counts, record_jobs_with_progress};
+use bench_record::{Counts, print_counts, record_jobs_held, record_jobs_with_progress};
 use bench_report::{Report, print_report};
 use ch11_writer::{Sink, StdSink};
 use job_file::Job;
@@ -48,7 +48,7 @@ pub fn run_jobs<
     }
     make_room(rt, request, &out)?;
     let sink = StdSink::make(out);
-    let report = record(rt, errors, &jobs, &settings, sink)?;
+    let report = record(rt, errors, request.hold, &jobs, &settings, sink)?;
     let text = print_report(rt.alloc(), &report)?;
     write_whole(rt, request.report, text.as_bytes())?;
     match print_counts_to_output(rt, &Counts::of_report(&report)) {
@@ -97,16 +97,28 @@ fn settings_of(request: &RunRequest<'_>, prologue: Vec<u8>) -> Settings
     }
 }
 
-/// The report of a recording that is whole. The sink is let go, which closes a file.
+/// The report of a recording that is whole, with buses that are held where that is asked. The sink is let go, which closes a file.
 fn record<
     'a,
     R: AllocGlobal + Clock + Threads + Wait + Sync,
     E: Eprint + IsTerminal + Sync,
     S: Sink + Drop,
->(rt: &R, errors: &E, jobs: &[Job], settings: &Settings, sink: S) -> Result<Report, Fault<'a>>
+>(
+    rt: &R,
+    errors: &E,
+    hold: bool,
+    jobs: &[Job],
+    settings: &Settings,
+    sink: S,
+) -> Result<Report, Fault<'a>>
     requires countable { S.failures sink < 2 ^ 64 - 1 }
 {
-    match record_jobs_with_progress(rt, rt.alloc(), errors, jobs, settings, sink) {
+    let answer = if hold {
+        record_jobs_held(rt, rt.alloc(), errors, jobs, settings, sink)
+    } else {
+        record_jobs_with_progress(rt, rt.alloc(), errors, jobs, settings, sink)
+    };
+    match answer {
         Ok((report, _)) => Ok(report),
         Err(error) => Err(Fault::of_run(&error)),
     }

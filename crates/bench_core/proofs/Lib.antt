@@ -3,6 +3,7 @@ pub mod Steps
 pub mod Reading
 pub mod Ordered
 pub mod Sorting
+pub mod Adding
 pub mod Judged
 pub mod Tidy
 pub mod Coming

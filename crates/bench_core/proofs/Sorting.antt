@@ -78,7 +78,7 @@ places_of addresses (p ∷ ps) fit all =
 
 -- ---- a job's actions, sorted
 
-up_to_last : (ps : List Placed) → AllByRecursion IsPlace ps → AreUpTo 1000000 ps
+pub up_to_last : (ps : List Placed) → AllByRecursion IsPlace ps → AreUpTo 1000000 ps
 up_to_last [] all = tt
 up_to_last (p ∷ ps) all = ((all.0.number_low, all.0.number_high), up_to_last ps all.1)
 

@@ -22,7 +22,7 @@ pub use fault::PlayError;
 pub use judging::judge;
 pub use laws::bench_is_settled;
 pub use parts::channel_report;
-pub use placing::ordered_actions;
+pub use placing::{add_action, ordered_actions};
 pub use settings::{Settings, WorldError};
 pub use step::Step;
 pub use world::World;

@@ -1,5 +1,8 @@
-//! A job's actions in the order in which its messages meet them.
-ghost use Rattle.std.specs.Prelude.{◌≡◌, IfOk};
+//! Actions in the order in which a channel's messages meet them.
+ghost use Rattle.std.specs.Prelude.{◌≡◌, ◌<◌, ◌++◌, ◌∷◌, [], List, vec_len, IfOk};
+ghost use Rattle.std.specs.Vec.{vec_capacity};
+ghost use Rattle.bc_machine.specs.declared.placed.Placed.{Placed};
+ghost use Rattle.bench_report.specs.Reports.{IsPlace};
 ghost use Rattle.bench_core.specs.Placing.{placed_up_to, IsOrdered};
 
 use bc_machine::Placed;
@@ -16,6 +19,19 @@ pub fn ordered_actions(alloc: Global, job: &Job) -> Result<Vec<Placed>, AllocErr
     let mut actions = copied(alloc, job.actions())?;
     actions.sort_by_key(|one| one.number)?;
     Ok(actions)
+}
+
+/// Adds an action to ordered ones, behind those of its number, in room that was made for it. It takes no memory.
+pub fn add_action(ordered: &mut Vec<Placed>, one: Placed)
+    requires place { IsPlace one }
+    requires ordered { IsOrdered ordered.old.items }
+    requires room { vec_len ordered.old < vec_capacity ordered.old }
+    ensures ordered { (actions : List Placed) → ordered.old.items ≡ placed_up_to 1000000 actions → ordered.new.items ≡ placed_up_to 1000000 (actions ++ one ∷ []) }
+    ensures fit { IsOrdered ordered.new.items }
+{
+    let number = one.number;
+    let behind = ordered.partition_point(|other| other.number <= number);
+    let _ = ordered.insert(behind, one);
 }
 
 /// The same actions, placed alike.

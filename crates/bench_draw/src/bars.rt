@@ -1,6 +1,7 @@
 //! Messages as bars.
+
 use crate::picture::Picture;
-use crate::scale::{LEFT, Run, Scale, runs_of};
+use crate::scale::{LEFT, Run, Scale, end_of, runs_of};
 use ch11_f1::Seen;
 use ch11_layout::{Role, is_set, word_at};
 use std::alloc::{AllocError, Global};
@@ -22,25 +23,8 @@ fn color(role: Role) -> &'static str {
     }
 }
 
-/// The kind of a message's error in a few letters, none where it has none.
-pub(crate) fn error_of(block: u16) -> Option<&'static str> {
-    if !is_set(block, 12) {
-        return None;
-    }
-    Some(if is_set(block, 9) {
-        "NR"
-    } else if is_set(block, 5) {
-        "WC"
-    } else if is_set(block, 4) {
-        "SY"
-    } else if is_set(block, 3) {
-        "UW"
-    } else {
-        "E"
-    })
-}
-
-/// Draws a message: a bar for the words of each role, the address on a reply, a mark where there is an error, and a tip.
+/// Draws a message: a bar for the words of each role, the address on a command or status word, a mark where there is
+/// an error, and a tip.
 pub(crate) fn draw_bar(
     alloc: Global,
     picture: &mut Picture,
@@ -103,8 +87,9 @@ fn put_run(
     let (top, fill) = (lane.top, color(run.role));
     write!(
         text,
-        "<rect x=\"{x}.{x_part}\" y=\"{top}\" width=\"{wide}.{wide_part}\" height=\"22\" fill=\"{fill}\"/>"
+        "<rect x=\"{x}.{x_part}\" y=\"{top}\" width=\"{wide}.{wide_part}\" height=\"22\""
     )?;
+    write!(text, " class=\"b\" fill=\"{fill}\"/>")?;
     if wide >= 16 && !matches!(run.role, Role::Data) {
         let address = first / 2048;
         let (middle, base) = (x.saturating_add(wide / 2), top.saturating_add(15));
@@ -116,31 +101,53 @@ fn put_run(
     Ok(())
 }
 
+/// Puts a mark over a message that has an error, with the kinds of its errors where there is room.
 fn put_error(
     text: &mut String,
     scale: &Scale,
     lane: Lane,
     seen: &Seen<'_>,
 ) -> Result<(), AllocError> {
-    let Some(kind) = error_of(seen.block) else {
+    if !is_set(seen.block, 12) {
         return Ok(());
-    };
+    }
     let left = scale.tenths(seen.stamp);
-    let width = scale
-        .tenths(crate::scale::end_of(seen))
-        .saturating_sub(left);
+    let width = scale.tenths(end_of(seen)).saturating_sub(left);
     let (x, wide) = (LEFT.saturating_add(left / 10), (width / 10).max(2));
     let top = lane.top.saturating_sub(3);
     write!(
         text,
         "<rect x=\"{x}\" y=\"{top}\" width=\"{wide}\" height=\"3\" fill=\"#c22\"/>"
     )?;
-    if wide >= 16 {
+    if wide >= KIND {
         let base = lane.top.saturating_sub(5);
-        write!(
-            text,
-            "<text x=\"{x}\" y=\"{base}\" class=\"e\">{kind}</text>"
-        )?;
+        write!(text, "<text x=\"{x}\" y=\"{base}\" class=\"e\">")?;
+        put_kinds(text, seen.block, wide)?;
+        text.push_str("</text>")?;
+    }
+    Ok(())
+}
+
+/// How many pixels the letters of a kind of error take.
+const KIND: u64 = 16;
+
+/// Puts the kinds of errors that a block status word tells of, as many as there is room for in so many pixels.
+fn put_kinds(text: &mut String, block: u16, wide: u64) -> Result<(), AllocError> {
+    let kinds = [
+        (is_set(block, 9), "NR "),
+        (is_set(block, 5), "WC "),
+        (is_set(block, 4), "SY "),
+        (is_set(block, 3), "UW "),
+    ];
+    let mut used = 0u64;
+    for (told, kind) in kinds {
+        if told && used.saturating_add(KIND) <= wide {
+            text.push_str(kind)?;
+            used = used.saturating_add(KIND);
+        }
+    }
+    if used == 0 {
+        text.push_str("E")?;
     }
     Ok(())
 }

@@ -1,4 +1,5 @@
 //! Messages that are too close, as density.
+
 use crate::bars::Lane;
 use crate::picture::Picture;
 use crate::scale::{LEFT, Scale, WIDTH};
@@ -7,30 +8,35 @@ use std::alloc::{AllocError, Global};
 /// How many columns there are, one a pixel.
 const COLUMNS: usize = 1200;
 
-/// How busy a line is in each column, and where there are errors.
+/// How busy a line is in each column, in ticks, and the number of the first message there that has an error, 0 where
+/// none has.
 #[derive(Drop)]
 pub(crate) struct Density {
     busy: Vec<u64>,
-    errors: Vec<bool>,
+    errors: Vec<u64>,
 }
 
 impl Density {
     pub(crate) fn new(alloc: Global) -> Result<Density, AllocError> {
         Ok(Density {
             busy: vec![in alloc; 0; COLUMNS]?,
-            errors: vec![in alloc; false; COLUMNS]?,
+            errors: vec![in alloc; 0; COLUMNS]?,
         })
     }
 
-    /// One more message that takes so many ticks from there on.
-    pub(crate) fn add(&mut self, scale: &Scale, begin: u64, ticks: u64, failed: bool) {
-        let column = (scale.tenths(begin) / 10) as usize;
-        let column = column.min(COLUMNS - 1);
-        if let Some(busy) = self.busy.get_mut(column) {
+    /// One more message, which takes so many ticks from there on.
+    pub(crate) fn add(&mut self, scale: &Scale, begin: u64, ticks: u64) {
+        if let Some(busy) = self.busy.get_mut(column_of(scale, begin)) {
             *busy = busy.saturating_add(ticks);
         }
-        if failed && let Some(error) = self.errors.get_mut(column) {
-            *error = true;
+    }
+
+    /// The message of this number, which begins there, has an error.
+    pub(crate) fn fail(&mut self, scale: &Scale, begin: u64, number: u64) {
+        if let Some(error) = self.errors.get_mut(column_of(scale, begin))
+            && *error == 0
+        {
+            *error = number;
         }
     }
 
@@ -44,13 +50,6 @@ impl Density {
         }
         let share = u128::from(*busy) * 4 * u128::from(WIDTH) / u128::from(scale.span.max(1));
         u64::try_from(share).unwrap_or(4).clamp(1, 4)
-    }
-
-    fn has_error(&self, column: usize) -> bool {
-        match self.errors.get(column) {
-            Some(error) => *error,
-            None => false,
-        }
     }
 
     /// Draws the columns, neighbours of one darkness as one bar, and a mark where there are errors.
@@ -71,15 +70,21 @@ impl Density {
                 level = next;
             }
         }
-        for column in 0..COLUMNS {
-            if self.has_error(column) {
-                draw_mark(alloc, picture, lane, column)?;
+        for (column, number) in self.errors.iter().enumerate() {
+            if *number != 0 {
+                draw_mark(alloc, picture, lane, column, *number)?;
             }
         }
         Ok(())
     }
 }
 
+/// The column of a tick.
+fn column_of(scale: &Scale, tick: u64) -> usize {
+    ((scale.tenths(tick) / 10) as usize).min(COLUMNS - 1)
+}
+
+/// Draws the columns from one up to another, at least two pixels wide.
 fn draw_columns(
     alloc: Global,
     picture: &mut Picture,
@@ -92,11 +97,11 @@ fn draw_columns(
         return Ok(());
     }
     let x = LEFT.saturating_add(from as u64);
-    let wide = to.saturating_sub(from);
+    let wide = to.saturating_sub(from).max(2);
     let fill = match level {
-        1 => "#c9d6ea",
-        2 => "#93aed6",
-        3 => "#5f85bf",
+        1 => "#9db8df",
+        2 => "#7799cf",
+        3 => "#5079bd",
         _ => "#2a5caa",
     };
     let top = lane.top;
@@ -106,16 +111,18 @@ fn draw_columns(
     picture.put(text.as_str())
 }
 
+/// Draws the mark of an error, whose tip is the number of its message.
 fn draw_mark(
     alloc: Global,
     picture: &mut Picture,
     lane: Lane,
     column: usize,
+    number: u64,
 ) -> Result<(), AllocError> {
-    let x = LEFT.saturating_add(column as u64);
-    let top = lane.top.saturating_sub(3);
+    let x = LEFT.saturating_add(column as u64).saturating_sub(1);
+    let top = lane.top.saturating_sub(6);
     let text = format!(in alloc;
-        "<rect x=\"{x}\" y=\"{top}\" width=\"2\" height=\"3\" fill=\"#c22\"/>\n"
+        "<rect x=\"{x}\" y=\"{top}\" width=\"3\" height=\"6\" fill=\"#c22\"><title>message {number}</title></rect>\n"
     )?;
     picture.put(text.as_str())
 }

@@ -3,7 +3,7 @@ ghost use Rattle.std.specs.Prelude.{◌≤◌, vec_len, IfOk};
 
 use crate::bars::draw_bar;
 use crate::density::Density;
-use crate::frame::{draw_head, draw_names, draw_scale, lane};
+use crate::frame::{draw_head, draw_names, draw_nothing, draw_scale, lane};
 use crate::picture::{MOST_BYTES, Picture};
 use crate::scale::{Scale, end_of};
 use crate::selection::Selection;
@@ -26,9 +26,9 @@ struct Extent {
     end: u64,
 }
 
-/// Draws the selected messages of a recording as SVG: a lane for each line of each channel in rising order (the first 32 of them),
-/// each message a bar over the time that it took; messages too close for bars as density. It has at most 5,000,000 bytes: what
-/// there is no room for is left out.
+/// Draws the selected messages of a recording as SVG: a lane for each line of each channel in rising order (the first
+/// 32 of them that the file has), each message a bar over the time that it took; messages too close for bars as
+/// density. It has at most 5,000,000 bytes: what there is no room for is left out.
 pub fn draw(alloc: Global, index: &Index<'_>, selection: &Selection) -> Result<Vec<u8>, AllocError>
     ensures { IfOk result (λ text. vec_len text ≤ MOST_BYTES) }
 {
@@ -37,6 +37,10 @@ pub fn draw(alloc: Global, index: &Index<'_>, selection: &Selection) -> Result<V
     let mut picture = Picture::new(alloc);
     let count = extent.channels.len() as u64;
     draw_head(alloc, &mut picture, count)?;
+    if count == 0 {
+        draw_nothing(&mut picture)?;
+        return picture.end();
+    }
     draw_scale(alloc, &mut picture, &scale, count)?;
     for (place, channel) in extent.channels.iter().enumerate() {
         draw_channel(
@@ -172,7 +176,7 @@ fn draw_messages(
                 let lane = lane(lanes.place, is_set(seen.block, 13));
                 draw_bar(alloc, picture, scale, lane, number, channel, &seen)?;
             } else {
-                add_to(lanes, scale, &seen);
+                add_to(lanes, scale, number, &seen);
             }
         }
     }
@@ -180,12 +184,15 @@ fn draw_messages(
 }
 
 /// Adds a message to the density of its lane.
-fn add_to(lanes: &mut Lanes, scale: &Scale, seen: &Seen<'_>) {
+fn add_to(lanes: &mut Lanes, scale: &Scale, number: u64, seen: &Seen<'_>) {
     let ticks = end_of(seen).saturating_sub(seen.stamp);
-    let failed = is_set(seen.block, 12);
-    if is_set(seen.block, 13) {
-        lanes.on_b.add(scale, seen.stamp, ticks, failed);
+    let density = if is_set(seen.block, 13) {
+        &mut lanes.on_b
     } else {
-        lanes.on_a.add(scale, seen.stamp, ticks, failed);
+        &mut lanes.on_a
+    };
+    density.add(scale, seen.stamp, ticks);
+    if is_set(seen.block, 12) {
+        density.fail(scale, seen.stamp, number);
     }
 }

@@ -1,14 +1,39 @@
 //! What stands round the bars: head, legend, scale and the names of lanes.
+
 use crate::bars::Lane;
 use crate::picture::Picture;
 use crate::scale::{LEFT, Scale, WIDTH};
 use std::alloc::{AllocError, Global};
 
 /// Where the first channel begins, in pixels from the top.
-const TOP: u64 = 80;
+const TOP: u64 = 90;
 
 /// How high a channel is with both its lines.
 const CHANNEL: u64 = 104;
+
+/// How texts and bars look.
+const STYLE: &str = "<style>
+text{font-size:11px;fill:#333}
+.a{font-size:10px;fill:#fff;text-anchor:middle}
+.e{font-size:9px;fill:#c22}
+.t{text-anchor:middle}
+.b{stroke:#fff;stroke-width:.5}
+</style>
+";
+
+/// What colors and letters say.
+const LEGEND: &str = "<rect x=\"90\" y=\"14\" width=\"14\" height=\"12\" fill=\"#2a5caa\"/>
+<text x=\"109\" y=\"24\">command, with its terminal</text>
+<rect x=\"300\" y=\"14\" width=\"14\" height=\"12\" fill=\"#8fc1a9\"/>
+<text x=\"319\" y=\"24\">data</text>
+<rect x=\"380\" y=\"14\" width=\"14\" height=\"12\" fill=\"#e08a1e\"/>
+<text x=\"399\" y=\"24\">status, with its terminal</text>
+<rect x=\"580\" y=\"14\" width=\"14\" height=\"12\" fill=\"#9db8df\"/>
+<rect x=\"594\" y=\"14\" width=\"14\" height=\"12\" fill=\"#2a5caa\"/>
+<text x=\"613\" y=\"24\">messages too close for bars: the darker, the busier</text>
+<rect x=\"90\" y=\"37\" width=\"14\" height=\"3\" fill=\"#c22\"/>
+<text x=\"109\" y=\"42\">error: NR no response or late, WC word count, SY sync, UW unsound word, E other</text>
+";
 
 /// The head of a picture of so many channels, with the legend.
 pub(crate) fn draw_head(
@@ -19,15 +44,20 @@ pub(crate) fn draw_head(
     let wide = WIDTH + LEFT + 40;
     let high = TOP + channels.min(1000) * CHANNEL + 30;
     let text = format!(in alloc;
-        "<svg xmlns=\"http://www.w3.org/2000/svg\" width=\"{wide}\" height=\"{high}\" viewBox=\"0 0 {wide} {high}\" font-family=\"sans-serif\">\n<style>text{{font-size:11px;fill:#333}}.a{{font-size:10px;fill:#fff;text-anchor:middle}}.e{{font-size:9px;fill:#c22}}.t{{text-anchor:middle}}</style>\n<rect width=\"{wide}\" height=\"{high}\" fill=\"#fff\"/>\n"
+        "<svg xmlns=\"http://www.w3.org/2000/svg\" width=\"{wide}\" height=\"{high}\"
+ viewBox=\"0 0 {wide} {high}\" font-family=\"Arial, Helvetica, sans-serif\">
+<rect width=\"{wide}\" height=\"{high}\" fill=\"#fff\"/>
+"
     )?;
     picture.put(text.as_str())?;
+    picture.put(STYLE)?;
     picture.put(LEGEND)
 }
 
-/// What colors and letters say.
-const LEGEND: &str =
-    "<rect x=\"90\" y=\"14\" width=\"14\" height=\"12\" fill=\"#2a5caa\"/><text x=\"109\" y=\"24\">command, with its terminal</text>\n<rect x=\"270\" y=\"14\" width=\"14\" height=\"12\" fill=\"#8fc1a9\"/><text x=\"289\" y=\"24\">data</text>\n<rect x=\"340\" y=\"14\" width=\"14\" height=\"12\" fill=\"#e08a1e\"/><text x=\"359\" y=\"24\">status, with its terminal</text>\n<rect x=\"510\" y=\"18\" width=\"14\" height=\"3\" fill=\"#c22\"/><text x=\"529\" y=\"24\">error: NR no response or late, WC word count, SY sync, UW unsound word, E other</text>\n<rect x=\"1010\" y=\"14\" width=\"14\" height=\"12\" fill=\"#93aed6\"/><text x=\"1029\" y=\"24\">many messages; darker is busier</text>\n";
+/// What a picture says that has no message.
+pub(crate) fn draw_nothing(picture: &mut Picture) -> Result<(), AllocError> {
+    picture.put("<text x=\"90\" y=\"76\">no message is selected</text>\n")
+}
 
 /// The lane of line A or B of the channel at a place.
 pub(crate) fn lane(place: u64, line_b: bool) -> Lane {
@@ -56,7 +86,10 @@ pub(crate) fn draw_names(
     let (under_a, under_b) = (a.saturating_add(23), b.saturating_add(23));
     let right = LEFT + WIDTH;
     let text = format!(in alloc;
-        "<text x=\"8\" y=\"{name}\">channel {channel}</text><text x=\"72\" y=\"{low_a}\">A</text><text x=\"72\" y=\"{low_b}\">B</text><path d=\"M{LEFT} {under_a}H{right}M{LEFT} {under_b}H{right}\" stroke=\"#bbb\" fill=\"none\"/>\n"
+        "<text x=\"8\" y=\"{name}\">channel {channel}</text>
+<text x=\"72\" y=\"{low_a}\">A</text><text x=\"72\" y=\"{low_b}\">B</text>
+<path d=\"M{LEFT} {under_a}H{right}M{LEFT} {under_b}H{right}\" stroke=\"#bbb\" fill=\"none\"/>
+"
     )?;
     picture.put(text.as_str())
 }
@@ -95,14 +128,16 @@ pub(crate) fn draw_scale(
             let x = LEFT.saturating_add(place);
             let (whole, part) = (behind / 10, behind % 10);
             let text = format!(in alloc;
-                "<path d=\"M{x} 66V{low}\" stroke=\"#e4e4e4\"/><text x=\"{x}\" y=\"60\" class=\"t\">{whole}.{part}</text>\n"
+                "<path d=\"M{x} 82V{low}\" stroke=\"#e4e4e4\"/>
+<text x=\"{x}\" y=\"78\" class=\"t\">{whole}.{part}</text>
+"
             )?;
             picture.put(text.as_str())?;
         }
     }
     let (whole, part) = (scale.begin / 10, scale.begin % 10);
     let text = format!(in alloc;
-        "<text x=\"8\" y=\"60\">\u{b5}s behind</text><text x=\"8\" y=\"44\">{whole}.{part} \u{b5}s</text>\n"
+        "<text x=\"90\" y=\"60\">\u{b5}s from the start of the first message, at {whole}.{part} \u{b5}s</text>\n"
     )?;
     picture.put(text.as_str())
 }

@@ -1,4 +1,5 @@
 //! Times as places in the picture.
+
 use ch11_f1::Seen;
 use ch11_layout::{Layout, Role, first_gap, is_set, second_gap};
 
@@ -54,9 +55,9 @@ fn pause(gap: u8) -> u64 {
     u64::from(gap.saturating_sub(20))
 }
 
-/// The runs of a message: commands, a status word in front of the data words, data words, a status word behind them. Runs without
-/// words are there too.
-pub(crate) fn runs_of(seen: &Seen<'_>) -> [Run; 4] {
+/// The runs of a message: a command, a second one, a status word in front of the data words, data words, a status
+/// word behind them. Runs without words are there too.
+pub(crate) fn runs_of(seen: &Seen<'_>) -> [Run; 5] {
     let layout = Layout::of(seen);
     let between = is_set(seen.block, 11);
     let front = layout.data_start.saturating_sub(layout.commands) as u64;
@@ -66,13 +67,18 @@ pub(crate) fn runs_of(seen: &Seen<'_>) -> [Run; 4] {
     } else {
         first_gap(seen)
     };
-    let commands = Run {
+    let command = Run {
         begin: seen.stamp,
-        words: layout.commands as u64,
+        words: layout.commands.min(1) as u64,
+        role: Role::Command,
+    };
+    let second = Run {
+        begin: command.end(),
+        words: layout.commands.saturating_sub(1) as u64,
         role: Role::Command,
     };
     let status = Run {
-        begin: commands
+        begin: second
             .end()
             .saturating_add(if front > 0 { pause(first_gap(seen)) } else { 0 }),
         words: front,
@@ -90,11 +96,11 @@ pub(crate) fn runs_of(seen: &Seen<'_>) -> [Run; 4] {
         words: back,
         role: Role::Status,
     };
-    [commands, status, carried, reply]
+    [command, second, status, carried, reply]
 }
 
 /// The end of a message, in ticks.
 pub(crate) fn end_of(seen: &Seen<'_>) -> u64 {
-    let [_, _, _, last] = runs_of(seen);
+    let [_, _, _, _, last] = runs_of(seen);
     last.end()
 }

@@ -1,4 +1,4 @@
-//! Jobs recorded, with or without a word on how far the recording has come.
+//! Jobs recorded: with or without a word on how far the recording has come, and with buses that are held or not.
 ghost use Rattle.std.specs.Prelude.{◌-◌, ◌<◌, ◌^◌, IfOk, IfErr, OnOk};
 ghost use Rattle.bench_core.specs.Lawful.{AreLawful};
 ghost use Rattle.bench_run.specs.Runs.{Ran, RefusesNoneWithRoom, Leaves};
@@ -6,7 +6,7 @@ ghost use Rattle.bench_run.specs.Runs.{Ran, RefusesNoneWithRoom, Leaves};
 use crate::progress::Progress;
 use bench_core::Settings;
 use bench_report::Report;
-use bench_run::{OpenGate, RunError, run};
+use bench_run::{HoldingGate, OpenGate, RunError, run};
 use ch11_writer::Sink;
 use job_file::Job;
 use std::alloc::Global;
@@ -57,6 +57,33 @@ pub fn record_jobs_with_progress<
 {
     let progress = Progress::begin(rt, errors);
     let answer = run(rt, alloc, jobs, settings, &progress, sink);
+    progress.end();
+    answer
+}
+
+/// The same as `record_jobs_with_progress`, with buses that are held: before each message a channel waits until the queue has room
+/// for it, so that no message is refused. It answers and refuses as `record_jobs` does.
+pub fn record_jobs_held<
+    R: Threads + Wait + Clock + Sync,
+    E: Eprint + IsTerminal + Sync,
+    S: Sink + Drop,
+>(
+    rt: &R,
+    alloc: Global,
+    errors: &E,
+    jobs: &[Job],
+    settings: &Settings,
+    sink: S,
+) -> Result<(Report, S), RunError<S>>
+    requires countable { S.failures sink < 2 ^ 64 - 1 }
+    ensures lawful { OnOk result (AreLawful jobs.now settings.now) }
+    ensures ran { IfOk result (λ r. Ran S.taken jobs.now settings.now sink r.0 r.1) }
+    ensures room { IfOk result (λ r. RefusesNoneWithRoom jobs.now settings.now r.0) }
+    ensures refused { IfErr result (Leaves S.taken S.failures jobs.now settings.now sink) }
+{
+    let progress = Progress::begin(rt, errors);
+    let held = HoldingGate::around(&progress, settings.queue);
+    let answer = run(rt, alloc, jobs, settings, &held, sink);
     progress.end();
     answer
 }

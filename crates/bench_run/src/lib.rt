@@ -6,6 +6,7 @@ mod channel;
 mod entry;
 mod error;
 mod gate;
+mod holding;
 mod mail_error;
 mod mailbox;
 mod ready;
@@ -15,6 +16,7 @@ mod writer;
 
 pub use error::RunError;
 pub use gate::{Gate, OpenGate};
+pub use holding::HoldingGate;
 pub use mail_error::{MailError, PostError};
 pub use mailbox::{Inbox, Mailbox, Post, Poster};
 pub use running::run;

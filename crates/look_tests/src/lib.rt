@@ -1,4 +1,4 @@
-//! Tests of the commands for people who look: `bench_stat`, `bench_export` and `bench_explain`, and with them of `ch11_layout`.
+//! Tests of the commands for people who look: `bench_stat`, `bench_export`, `bench_draw` and `bench_explain`, and with them of `ch11_layout`.
 #![tactic(auto)]
 
 #[cfg(test)]
@@ -7,5 +7,7 @@ mod explanations;
 mod exports;
 #[cfg(test)]
 mod made;
+#[cfg(test)]
+mod pictures;
 #[cfg(test)]
 mod statistics;

@@ -13,6 +13,8 @@ mod full_queues;
 #[cfg(test)]
 mod gates;
 #[cfg(test)]
+mod held;
+#[cfg(test)]
 mod mailboxes;
 #[cfg(test)]
 mod many;

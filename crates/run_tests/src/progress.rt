@@ -1,6 +1,6 @@
 //! What is shown on a terminal while a recording is made.
 use bench_record::Progress;
-use bench_run::Gate;
+use bench_run::{Gate, HoldingGate};
 use std::fmt::Display;
 use std::io::{self, IsTerminal};
 use std::rt::Clock;
@@ -133,4 +133,14 @@ fn a_file_shows_nothing(rt: HostRuntime) {
     take(&progress, 8192);
     progress.end();
     assert!(rt; screen.shows(""));
+}
+
+#[test]
+fn a_held_recording_shows_a_line(rt: HostRuntime) {
+    let clock = Standing::at(0);
+    let screen = Screen::make(&rt, true);
+    let progress = Progress::begin(&clock, &screen);
+    clock.set(2000);
+    take(&HoldingGate::around(&progress, 1), 2048);
+    assert!(rt; screen.shows("\r2048 messages"));
 }

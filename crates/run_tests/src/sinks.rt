@@ -27,7 +27,7 @@ fn into_fuse<R: Threads + Wait + Abort + Sync>(
 }
 
 /// The fault of a sink: what is printed of it, how many bytes the sink holds, and the report.
-fn is_fault(
+pub(crate) fn is_fault(
     rt: &impl Abort,
     alloc: Global,
     fault: &RunError<FuseSink>,

@@ -1,4 +1,4 @@
-use Rattle.std.proofs.Common.{◌<◌, arith}
+use Rattle.std.proofs.Common.{arith}
 use Rattle.bench_dump.proofs.Packets.{same_count}
 use Rattle.bench_draw.proofs.drawing.draw_channel.Goals as goal
 

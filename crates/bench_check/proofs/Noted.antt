@@ -1,0 +1,52 @@
+-- What one message adds to the faults that met nothing.
+use Rattle.std.proofs.Common.{◌≡◌, ℕ, suc, ◌+◌, ◌-◌, List, [], ◌∷◌, ◌++◌, ap, ap₂, ◌∙◌, sym, refl, add-one}
+use Rattle.std.specs.Prelude.{not, Bool}
+use Rattle.std.specs.List.{filter}
+use Rattle.mil_line.specs.declared.faults.Fault.{Fault}
+use Rattle.mil_line.specs.Plans.{Planned, faults_of}
+use Rattle.mil_bus.specs.declared.talks.Talk.{Talk}
+use Rattle.mil_bus.specs.Exchange.{BusState}
+use Rattle.frame_tree.specs.Bounds.{IsSound}
+use Rattle.bc_machine.specs.declared.upcoming.Upcoming.{Upcoming}
+use Rattle.bc_machine.specs.Controller.{ready}
+use Rattle.bc_machine.specs.Running.{MachineState, stepped}
+use Rattle.bc_machine.specs.Coming.{IsComing, IsStill}
+use Rattle.job_file.specs.Jobs.{JobState, tree_in, job_in}
+use Rattle.job_file.specs.Machines.{IsOf, BusSoFar}
+use Rattle.bench_check.specs.Meeting.{meets}
+use Rattle.bench_check.specs.Unmet.{bus_at, met_behind, unmet_of, unmet_behind, unmet_up_to, numbered, planned_behind, made, unmet}
+
+-- the faults of a message that is coming and meet nothing are those that the definition has
+coming_is : BusSoFar → (job : JobState) (m n : MachineState) (u : Upcoming) → IsSound (tree_in job) → IsOf (job_in job) job.actions m → IsOf (job_in job) job.actions n → n ≡ stepped m → IsComing m u
+    → unmet_behind job m.point.number ≡ numbered (m.point.number + 1) (filter (λ f. not (meets u.bus u.talk (faults_of (m.point.number + 1) job.plan) f)) (faults_of (m.point.number + 1) job.plan))
+unfolding unmet_behind
+coming_is so_far job m n u sound of next is h =
+    let k = m.point.number in
+    let faults = faults_of (k + 1) job.plan in
+    let here : m.point.state ≡ bus_at job k = so_far (job_in job) job.actions m sound of in
+    let number : n.point.number ≡ k + 1 = ap (λ (z : MachineState). z.point.number) is ∙ h.number in
+    let then : n.point.state ≡ bus_at job (k + 1) = so_far (job_in job) job.actions n sound next ∙ ap (bus_at job) number in
+    let met : met_behind job k ≡ u.bus = sym (h.bus ∙ ap₂ (λ ps b. ready ps (k + 1) b) of.actions here) in
+    let talks : (bus_at job (k + 1)).talks ≡ u.talk ∷ m.point.state.talks = ap (λ (b : BusState). b.talks) (sym then) ∙ ap (λ (z : MachineState). z.point.state.talks) is ∙ h.talks in
+    ap (numbered (k + 1)) (ap₂ (λ b ts. unmet_of b ts faults) met talks)
+
+-- one more message
+pub one_more : BusSoFar → (job : JobState) (m n : MachineState) (u : Upcoming) (number : ℕ) (old new : List Planned) → IsSound (tree_in job) → IsOf (job_in job) job.actions m → IsOf (job_in job) job.actions n → n ≡ stepped m → IsComing m u
+    → number ≡ m.point.number + 1 → old ≡ unmet_up_to job m.point.number
+    → new ≡ old ++ numbered number (filter (λ f. not (meets u.bus u.talk (faults_of number job.plan) f)) (faults_of number job.plan))
+    → new ≡ unmet_up_to job n.point.number
+one_more so_far job m n u number old new sound of next is h counted so_far_unmet adds =
+    let k = m.point.number in
+    let next_number : n.point.number ≡ suc k = ap (λ (z : MachineState). z.point.number) is ∙ h.number ∙ add-one k in
+    let this : numbered number (filter (λ f. not (meets u.bus u.talk (faults_of number job.plan) f)) (faults_of number job.plan)) ≡ unmet_behind job k =
+    ap (λ i. numbered i (filter (λ f. not (meets u.bus u.talk (faults_of i job.plan) f)) (faults_of i job.plan))) counted ∙ sym (coming_is so_far job m n u sound of next is h) in
+    adds ∙ ap₂ (λ xs ys. xs ++ ys) so_far_unmet this ∙ sym (ap (unmet_up_to job) next_number)
+
+-- a step that sends nothing
+pub no_more : (job : JobState) (m n : MachineState) (items : List Planned) → n ≡ stepped m → IsStill m → items ≡ unmet_up_to job m.point.number → items ≡ unmet_up_to job n.point.number
+no_more job m n items is h so_far = so_far ∙ sym (ap (unmet_up_to job) (ap (λ (z : MachineState). z.point.number) is ∙ h.number))
+
+-- once all messages were sent, those of the messages that never are
+pub all_unmet : (job : JobState) (items old : List Planned) (plan : List Planned) (n k : ℕ) → old ≡ unmet_up_to job n → n ≡ k → k ≡ made job → plan ≡ job.plan → items ≡ old ++ planned_behind plan k (1000000 - k) → items ≡ unmet job
+all_unmet job items old plan n k so_far same all planned is =
+    is ∙ ap₂ (λ xs ys. xs ++ ys) (so_far ∙ ap (unmet_up_to job) (same ∙ all)) (ap₂ (λ p i. planned_behind p i (1000000 - i)) planned all)

@@ -1,0 +1,16 @@
+use Rattle.std.proofs.Common.{◌≡◌, ◌-◌}
+use Rattle.frame_load.specs.Budget.{budget}
+use Rattle.job_file.specs.Jobs.{job_in}
+use Rattle.job_file.specs.Machines.{IsOf}
+use Rattle.bench_check.specs.Unmet.{unmet_up_to}
+use Rattle.bench_check.proofs.trying.try_job.Given as goal
+
+-- the controller is the job's, and of the messages so far the faults that met nothing are kept
+abbrev pub invariant-steps : goal.invariant-steps
+invariant-steps g l = record {
+  of : IsOf (job_in l.job) l.job.actions l.machine;
+  unmet : l.unmet.items ≡ unmet_up_to l.job l.machine.point.number;
+}
+
+abbrev pub decreases-steps : goal.decreases-steps
+decreases-steps g l = budget l.machine.code.operations - l.machine.taken

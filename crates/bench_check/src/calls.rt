@@ -1,0 +1,56 @@
+//! Which terminals the messages of a job call.
+use mil_message::Message;
+use mil_word::Command;
+
+/// How many addresses there are, the last of them that of all terminals.
+const ADDRESSES: usize = 32;
+
+/// Who was called: for each address how many commands call it, and the number of the first message that does.
+#[derive(Clone, Copy, Debug)]
+pub struct Calls {
+    counts: [u32; ADDRESSES],
+    firsts: [u32; ADDRESSES],
+}
+
+impl Calls {
+    /// Nobody was called yet.
+    pub(crate) fn none() -> Calls {
+        Calls {
+            counts: [0; ADDRESSES],
+            firsts: [0; ADDRESSES],
+        }
+    }
+
+    /// Takes in the commands of the message of a number.
+    pub(crate) fn note(&mut self, number: u32, message: &Message) {
+        let commands = message.commands();
+        self.call(number, commands.first);
+        if let Some(second) = commands.second {
+            self.call(number, second);
+        }
+    }
+
+    fn call(&mut self, number: u32, command: Command) {
+        let address = command.address() as usize;
+        if self.counts[address] == 0 {
+            self.firsts[address] = number;
+        }
+        self.counts[address] = self.counts[address].saturating_add(1);
+    }
+
+    /// How many commands call an address, 0 to 31; 31 is all terminals.
+    pub fn count(&self, address: u8) -> u32 {
+        match self.counts.get(address as usize) {
+            Some(count) => *count,
+            None => 0,
+        }
+    }
+
+    /// The number of the first message that calls an address; 0 where none does.
+    pub fn first(&self, address: u8) -> u32 {
+        match self.firsts.get(address as usize) {
+            Some(first) => *first,
+            None => 0,
+        }
+    }
+}

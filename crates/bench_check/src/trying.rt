@@ -1,0 +1,136 @@
+//! A job, tried message by message.
+ghost use Rattle.std.specs.Prelude.{◌≡◌, ◌++◌, ◌+◌, ◌-◌, ◌<◌, ◌≤◌, ◌^◌, true, not, IfOk, OnOk};
+ghost use Rattle.std.specs.List.{filter, list_all};
+ghost use Rattle.mil_line.specs.Ranges.{is_in_range};
+ghost use Rattle.mil_line.specs.Plans.{faults_of};
+ghost use Rattle.mil_bus.specs.Exchange.{clock_of, next_start};
+ghost use Rattle.bench_check.specs.Meeting.{meets as is_met};
+ghost use Rattle.bench_check.specs.Unmet as spec;
+ghost use Rattle.bench_check.specs.Rooms.{room_of};
+
+use crate::calls::Calls;
+use crate::fault::CheckFault;
+use crate::findings::Findings;
+use crate::meeting::meets;
+use crate::messages::{put_actions, put_message, put_outcome};
+use crate::planned::put_fault;
+use bc_machine::{Stepped, Upcoming};
+use job_file::{Job, job_runs};
+use mil_line::{Fault, Plan};
+use std::alloc::{AllocError, Global};
+use std::io::Write;
+
+/// Puts a line for each fault that is planned for a message, and keeps those that meet nothing.
+fn note_faults(
+    alloc: Global,
+    text: &mut String,
+    unmet: &mut Vec<(u32, Fault)>,
+    number: u32,
+    coming: &Upcoming,
+    faults: &[Fault],
+) -> Result<(), AllocError>
+    requires clock { clock_of coming.now.bus.start coming.now.bus.talks < 2 ^ 60 }
+    requires start { coming.now.talk.start ≡ next_start coming.now.bus.start coming.now.bus.talks coming.now.gap }
+    requires in_range { list_all is_in_range faults.now ≡ true }
+    ensures { OnOk result (unmet.new.items ≡ unmet.old.items ++ spec.numbered number (filter (λ f. not (is_met coming.now.bus coming.now.talk faults.now f)) faults.now)) }
+{
+    for fault in faults {
+        text.push_str("  ")?;
+        put_fault(text, number, fault)?;
+        if meets(alloc, coming, faults, fault)? {
+            text.push_str("\n")?;
+        } else {
+            text.push_str(" meets nothing\n")?;
+            unmet.push((number, *fault))?;
+        }
+    }
+    Ok(())
+}
+
+/// Keeps the faults that are planned for messages that are never sent, where so many are.
+fn add_never_sent(unmet: &mut Vec<(u32, Fault)>, plan: &Plan, made: u32) -> Result<(), AllocError>
+    requires { made ≤ 1000000 }
+    ensures { OnOk result (unmet.new.items ≡ unmet.old.items ++ spec.planned_behind plan.now made (1000000 - made)) }
+{
+    for count in 0..1_000_000 - made {
+        let number = made + count + 1;
+        let faults = plan.faults(number);
+        add_numbered(unmet, number, faults.as_slice())?;
+    }
+    Ok(())
+}
+
+/// Keeps these faults of a message.
+fn add_numbered(
+    unmet: &mut Vec<(u32, Fault)>,
+    number: u32,
+    faults: &[Fault],
+) -> Result<(), AllocError>
+    ensures { OnOk result (unmet.new.items ≡ unmet.old.items ++ spec.numbered number faults.now) }
+{
+    for fault in faults {
+        unmet.push((number, *fault))?;
+    }
+    Ok(())
+}
+
+/// Prints the lines of a message, and keeps what is found.
+fn note<W: Write>(
+    alloc: Global,
+    job: &Job,
+    number: u32,
+    coming: &Upcoming,
+    unmet: &mut Vec<(u32, Fault)>,
+    calls: &mut Calls,
+    out: &mut W,
+) -> Result<(), CheckFault>
+    requires clock { clock_of coming.now.bus.start coming.now.bus.talks < 2 ^ 60 }
+    requires start { coming.now.talk.start ≡ next_start coming.now.bus.start coming.now.bus.talks coming.now.gap }
+    ensures { OnOk result (unmet.new.items ≡ unmet.old.items ++ spec.numbered number (filter (λ f. not (is_met coming.now.bus coming.now.talk (faults_of number job.now.plan) f)) (faults_of number job.now.plan))) }
+{
+    let mut text = String::new(alloc);
+    put_message(alloc, &mut text, number, &coming.talk)?;
+    put_actions(&mut text, number, job.actions())?;
+    let faults = job.plan().faults(number);
+    note_faults(alloc, &mut text, unmet, number, coming, faults.as_slice())?;
+    put_outcome(&mut text, &coming.talk)?;
+    calls.note(number, &coming.talk.message);
+    out.write_all(text.as_bytes())?;
+    Ok(())
+}
+
+/// Tries a job: prints each of its messages, with the actions that are placed at it, the faults that are planned for it
+/// and what it comes to; and answers what was found. It fails for want of memory, and where the writer does.
+pub fn try_job<W: Write>(alloc: Global, job: &Job, out: &mut W) -> Result<Findings, CheckFault>
+    ensures made { IfOk result (λ f. f.made ≡ spec.made job.now) }
+    ensures unmet { IfOk result (λ f. f.unmet.items ≡ spec.unmet job.now) }
+    ensures room { IfOk result (λ f. f.room ≡ room_of job.now) }
+{
+    job_runs();
+    let room = job.program().worst_messages() + 1;
+    let mut calls = Calls::none();
+    let mut unmet = Vec::new(alloc);
+    let mut machine = job.machine(alloc, job.actions())?;
+    'steps: loop {
+        match machine.upcoming()? {
+            Some(coming) => {
+                let number = machine.number() + 1;
+                note(alloc, job, number, &coming, &mut unmet, &mut calls, out)?;
+                let _ = machine.step();
+            }
+            None => match machine.step() {
+                Stepped::Halted => break,
+                Stepped::Ran => {}
+                Stepped::Sent(_) => {}
+            },
+        }
+    }
+    let made = machine.number();
+    add_never_sent(&mut unmet, job.plan(), made)?;
+    Ok(Findings {
+        made,
+        unmet,
+        calls,
+        room,
+    })
+}

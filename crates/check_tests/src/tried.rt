@@ -1,0 +1,106 @@
+//! What `bench check` says of jobs, worked out by hand.
+use bench_check::{print_findings, try_job};
+use job_file::read_job;
+use std::alloc::Global;
+use std::test::Fail;
+
+/// A job with one of each mistake. Its first message has two words, and loses its answer; 400 ticks of it and 160 of pause behind a
+/// message that failed put the second one at tick 560.
+const MISTAKEN: &str =
+    "channel 1
+terminal 5
+terminal 7
+at 9 5 busy on
+fault 1 drop 0 5
+fault 1 mute 1
+fault 2 mute 1
+fault 8 late 1 130
+script
+send A rx 5 1 [0001]
+send B tx 9 2 1
+";
+
+const MISTAKES: &str =
+    "message 1 at 0.0 us: send A rx 5 1 [0001]
+  fault 1 drop 0 5 meets nothing
+  fault 1 mute 1
+  status none, block message_error response_timeout
+message 2 at 56.0 us: send B tx 9 2 1
+  fault 2 mute 1 meets nothing
+  status none, block line_b message_error response_timeout
+probably a mistake:
+  fault 1 drop 0 5 meets nothing: message 1 has no such run or word
+  fault 2 mute 1 meets nothing: message 2 has no such run or word
+  fault 8 late 1 130 meets nothing: message 8 is never sent
+  at 9 5 busy on is never done: message 9 is never sent
+  terminal 9 is not there, and message 2 is the first of 1 that call it
+  terminal 7 is never called
+queue 3: with room for so many nothing of this job is refused
+";
+
+/// The job of examples/transfer.job: its first message takes 132.0 µs, and the next starts 2.0 behind it.
+const TRANSFER: &str =
+    "channel 1\nterminal 3\nterminal 7\nat 1 7 transmit 1 AAAA 5555\nscript\nsend A rt 7 1 3 4 2\nsend A mode 3 2\n";
+
+const TRANSFERRED: &str =
+    "message 1 at 0.0 us: send A rt 7 1 3 4 2
+  at 1 7 transmit 1 AAAA 5555
+  status 3800 1800, block terminal_to_terminal
+message 2 at 134.0 us: send A mode 3 2
+  status 1800, block clear
+nothing looks like a mistake
+queue 3: with room for so many nothing of this job is refused
+";
+
+/// Faults of each kind that meet something: masks of the status word and of a data word, a word that is left out, one that is added
+/// behind it, and a late reply.
+const FAULTY: &str =
+    "channel 1
+terminal 5
+fault 1 mask 1 0 0000000003
+fault 2 drop 0 1
+fault 2 add 0 1 d 00AA
+fault 3 late 1 130
+script
+repeat 3 { send A rx 5 1 [0001] }
+";
+
+const FAULTED: &str =
+    "message 1 at 0.0 us: send A rx 5 1 [0001]
+  fault 1 mask 1 0 0000000003
+  status 2800, block message_error invalid_word_error
+message 2 at 82.0 us: send A rx 5 1 [0001]
+  fault 2 drop 0 1
+  fault 2 add 0 1 d 00AA
+  status 2800, block clear
+message 3 at 150.0 us: send A rx 5 1 [0001]
+  fault 3 late 1 130
+  status 2800, block clear
+nothing looks like a mistake
+queue 4: with room for so many nothing of this job is refused
+";
+
+/// What a job of this text comes to.
+fn text_of(alloc: Global, job: &str) -> Result<Vec<u8>, Fail> {
+    let job = read_job(alloc, job.as_bytes()).ok().ok_or("a job")?;
+    let mut out = Vec::new(alloc);
+    let findings = try_job(alloc, &job, &mut out).ok().ok_or("findings")?;
+    print_findings(alloc, &job, &findings, &mut out)
+        .ok()
+        .ok_or("a text")?;
+    Ok(out)
+}
+
+#[test]
+fn jobs_are_tried(rt: HostRuntime) -> Result<(), Fail> {
+    let rows = [
+        (MISTAKEN, MISTAKES),
+        (TRANSFER, TRANSFERRED),
+        (FAULTY, FAULTED),
+    ];
+    for (job, wanted) in rows {
+        let text = text_of(rt.alloc(), job)?;
+        assert_eq!(rt; text.as_slice(), wanted.as_bytes());
+    }
+    Ok(())
+}
