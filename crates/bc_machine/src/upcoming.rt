@@ -60,11 +60,7 @@ impl Parts {
         ensures { IfOk result (λ u. IfSome (slice_get self.now.code.messages index) (λ x. IsAbout self.now (line_of alternates self.now.at.line x.0) x.1 u)) }
     {
         let (own, message) = &self.program.image().messages()[index as usize];
-        let line = if alternates {
-            other(self.line)
-        } else {
-            *own
-        };
+        let line = if alternates { other(self.line) } else { *own };
         let number = self.number + 1;
         let mut bus = self.bus.copy()?;
         act_both(&mut bus, &self.placed, &self.posted, number);

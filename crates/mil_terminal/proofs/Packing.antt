@@ -44,12 +44,12 @@ pub taken-more : (i : ℕ) (counts rest : List ℕ) (saved lists : List (List �
 taken-more i counts rest saved lists lt saved_long long is =
     let n = get_or counts i 0 in
     let parts : take n rest ∷ packed (drop (i + 1) counts) (drop n rest) ≡ get_or saved i [] ∷ drop (i + 1) saved =
-      ap (λ (cs : List ℕ). packed cs rest) (sym (drop_more counts i 0 lt)) ∙ is.behind ∙ drop_more saved i [] (omega arith) in
+    ap (λ (cs : List ℕ). packed cs rest) (sym (drop_more counts i 0 lt)) ∙ is.behind ∙ drop_more saved i [] (omega arith) in
     record {
       front = take_more_set lists i (take n rest) (omega arith)
-        ∙ ap (λ (xs : List (List ℕ)). xs ++ take n rest ∷ []) is.front
-        ∙ ap (λ (xs : List (List ℕ)). take i saved ++ get_or xs 0 [] ∷ []) parts
-        ∙ sym (take_at_read saved i [] (omega arith)).1;
+          ∙ ap (λ (xs : List (List ℕ)). xs ++ take n rest ∷ []) is.front
+          ∙ ap (λ (xs : List (List ℕ)). take i saved ++ get_or xs 0 [] ∷ []) parts
+          ∙ sym (take_at_read saved i [] (omega arith)).1;
       behind = ap (λ (xs : List (List ℕ)). drop 1 xs) parts;
     }
 

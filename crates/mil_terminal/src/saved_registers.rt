@@ -122,10 +122,7 @@ impl SavedSettings {
 }
 
 /// The same window, if there is one.
-fn saved_window(
-    alloc: Global,
-    window: &Option<Pending>,
-) -> Result<Option<Box<Pending>>, AllocError>
+fn saved_window(alloc: Global, window: &Option<Pending>) -> Result<Option<Box<Pending>>, AllocError>
     ensures { IfOk result (λ kept. unboxed kept ≡ window.now) }
 {
     match window {

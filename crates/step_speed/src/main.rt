@@ -11,7 +11,7 @@ use ch11_reader::Index;
 use job_file::{Job, read_job};
 use moves::{back, by_chance, forward};
 use replay::Replay;
-use std::env::Env;
+use std::io::Read;
 use std::rt::{Clock, Files};
 use std::time::Instant;
 use std::{env, fs, io};
@@ -66,15 +66,15 @@ fn measure(
 }
 
 /// Reads the files that the words of the command line name.
-fn session<E: Iterator<Item = String>>(rt: &HostRuntime, words: &mut E) -> io::Result<()> {
-    let (Some(chance), Some(steps)) = (words.next(), words.next()) else {
+fn session(rt: &HostRuntime, words: &[String]) -> io::Result<()> {
+    let (Some(chance), Some(steps)) = (words.get(1), words.get(2)) else {
         return Ok(());
     };
-    let (Some(recording), Some(report)) = (words.next(), words.next()) else {
+    let (Some(recording), Some(report)) = (words.get(3), words.get(4)) else {
         return Ok(());
     };
     let mut jobs = Vec::new(rt.alloc());
-    for path in words {
+    for path in words.get(5..).unwrap_or(&[]) {
         if let Some(job) = job_of(rt, path.as_str()) {
             jobs.push(job)?;
         }
@@ -93,7 +93,9 @@ fn session<E: Iterator<Item = String>>(rt: &HostRuntime, words: &mut E) -> io::R
 }
 
 fn main(rt: HostRuntime) -> io::Result<()> {
-    let mut words = env::args(&rt)?;
-    let _ = words.next();
-    session(&rt, &mut words)
+    let mut words = Vec::new(rt.alloc());
+    for word in env::args(&rt)? {
+        words.push(word)?;
+    }
+    session(&rt, &words)
 }

@@ -20,20 +20,20 @@ loop-slot-init c = record {
 pub loop-slot-preserved : goal.loop-slot-preserved
 loop-slot-preserved c =
     let saved_long : length c.args.saved.now ≡ length c.saved.inside.counts =
-      ap (λ (xs : List (List ℕ)). length xs) (sym c.saved.view_is) ∙ length-packed c.saved.inside.counts c.saved.inside.words.items in
+    ap (λ (xs : List (List ℕ)). length xs) (sym c.saved.view_is) ∙ length-packed c.saved.inside.counts c.saved.inside.words.items in
     record {
       long = ap (λ (xs : List (List ℕ)). length xs) c.store.ensures ∙ length-set c.loop-slot.self c.loop-slot.slot c.split_at.result.0.now ∙ c.loop-slot.invariant.long;
       taken = taken-by c.loop-slot.slot c.from-count.result c.saved.inside.counts c.loop-slot.rest.now c.split_at.result.0.now c.split_at.result.1.now c.args.saved.now c.loop-slot.self c.store.new.self
-        (omega (arith, c.loop-slot-test.true, c.saved.invariant.0)) saved_long (omega (arith, c.loop-slot.invariant.long, c.saved.invariant.0)) c.from-count.ensures
-        (c.split_at.ensures.front ∙ ap (λ (n : ℕ). take n c.loop-slot.rest.now) c.min.ensures ∙ take_min c.from-count.result c.loop-slot.rest.now)
-        (c.split_at.ensures.back ∙ ap (λ (n : ℕ). drop n c.loop-slot.rest.now) c.min.ensures ∙ drop_min c.from-count.result c.loop-slot.rest.now)
-        c.store.ensures c.loop-slot.invariant.taken;
+          (omega (arith, c.loop-slot-test.true, c.saved.invariant.0)) saved_long (omega (arith, c.loop-slot.invariant.long, c.saved.invariant.0)) c.from-count.ensures
+          (c.split_at.ensures.front ∙ ap (λ (n : ℕ). take n c.loop-slot.rest.now) c.min.ensures ∙ take_min c.from-count.result c.loop-slot.rest.now)
+          (c.split_at.ensures.back ∙ ap (λ (n : ℕ). drop n c.loop-slot.rest.now) c.min.ensures ∙ drop_min c.from-count.result c.loop-slot.rest.now)
+          c.store.ensures c.loop-slot.invariant.taken;
     }
 
 pub returns : goal.returns
 returns c =
     let saved_long : length c.args.saved.now ≡ length c.saved.inside.counts =
-      ap (λ (xs : List (List ℕ)). length xs) (sym c.saved.view_is) ∙ length-packed c.saved.inside.counts c.saved.inside.words.items in
+    ap (λ (xs : List (List ℕ)). length xs) (sym c.saved.view_is) ∙ length-packed c.saved.inside.counts c.saved.inside.words.items in
     let all : c.loop-slot.slot ≡ length c.saved.inside.counts = omega (arith, c.loop-slot-test.false, c.loop-slot.auto.slot-end, c.saved.invariant.0) in
     taken-all c.saved.inside.counts c.loop-slot.rest.now c.args.saved.now c.loop-slot.self saved_long (omega (arith, c.loop-slot.invariant.long, c.saved.invariant.0))
-      (rw (← all) c.loop-slot.invariant.taken)
+    (rw (← all) c.loop-slot.invariant.taken)
