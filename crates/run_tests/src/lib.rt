@@ -13,6 +13,8 @@ mod gates;
 #[cfg(test)]
 mod held;
 #[cfg(test)]
+mod live;
+#[cfg(test)]
 mod mailboxes;
 #[cfg(test)]
 mod many;
