@@ -34,9 +34,7 @@ fn posted<R: Threads + Wait + Abort + Sync>(
     posts: u32,
 ) -> Result<(Report, Vec<Inbox>, MemorySink), LiveError<MemorySink>> {
     let job = read_job(alloc, text.as_bytes()).ok().expect(rt, "a job");
-    let (mailbox, mut poster, inbox) = Mailbox::make(alloc, &job, 4)
-        .ok()
-        .expect(rt, "a mailbox");
+    let (mailbox, mut poster, inbox) = Mailbox::make(alloc, &job, 4).ok().expect(rt, "a mailbox");
     let kept = mailbox.post(rt, &mut poster, 0, 5, Action::Fault(true));
     assert!(rt; kept.is_ok());
     let settings = settings_with(rt, alloc, posts);
@@ -44,7 +42,9 @@ fn posted<R: Threads + Wait + Abort + Sync>(
     let boxes = alone(rt, alloc, mailbox);
     let inboxes = alone(rt, alloc, inbox);
     let sink = MemorySink::make(alloc);
-    run_live(rt, alloc, &jobs, &settings, &boxes, inboxes, &OpenGate, sink)
+    run_live(
+        rt, alloc, &jobs, &settings, &boxes, inboxes, &OpenGate, sink,
+    )
 }
 
 /// What is reported of it, and how many bytes are recorded.
@@ -66,7 +66,19 @@ fn a_post_before_the_run(rt: HostRuntime) {
     let alloc = rt.alloc();
     let plain = "channel 1\nterminal 5\nscript\nrepeat 3 { send A mode 5 1 }\n";
     let own = "channel 1\nterminal 5\nat 1 5 fault off\nscript\nrepeat 3 { send A mode 5 1 }\n";
-    reports(&rt, alloc, plain, 4, "channel 1\nmade 3\nplaced 1 5 fault on\npackets 1\n");
+    reports(
+        &rt,
+        alloc,
+        plain,
+        4,
+        "channel 1\nmade 3\nplaced 1 5 fault on\npackets 1\n",
+    );
     reports(&rt, alloc, plain, 0, "channel 1\nmade 3\npackets 1\n");
-    reports(&rt, alloc, own, 4, "channel 1\nmade 3\nplaced 1 5 fault off\nplaced 1 5 fault on\npackets 1\n");
+    reports(
+        &rt,
+        alloc,
+        own,
+        4,
+        "channel 1\nmade 3\nplaced 1 5 fault off\nplaced 1 5 fault on\npackets 1\n",
+    );
 }
