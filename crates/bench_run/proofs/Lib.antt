@@ -2,7 +2,9 @@ pub mod Offering
 pub mod Rows
 pub mod Sent
 pub mod Taken
+pub mod PlacedPosts
 pub mod Stages
+pub mod PlacedStages
 pub mod Sums
 pub mod Channels
 pub mod Ended
@@ -14,3 +16,5 @@ pub mod Pairs
 pub mod Endings
 pub mod Concluding
 pub mod Beginning
+pub mod Lives
+pub mod Refusing

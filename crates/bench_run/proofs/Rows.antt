@@ -1,6 +1,7 @@
 -- What holds of each element of a list and its place, where the list grows at its end or loses its front.
-use Rattle.std.proofs.Common.{◌≡◌, ℕ, zero, suc, ◌<◌, List, [], ◌∷◌, ◌++◌, length, refl, sym, ap, ◌∙◌, subst, arith}
+use Rattle.std.proofs.Common.{◌≡◌, ℕ, zero, suc, ◌<◌, List, [], ◌∷◌, ◌++◌, length, map, refl, sym, ap, ◌∙◌, subst, arith}
 use Rattle.std.specs.Prelude.{Some, slice_get}
+use Rattle.std.specs.List.{AllByRecursion}
 use Rattle.bench_run.specs.Runs.{ArePairs}
 
 module _ {X : Type 0} (P : ℕ → X → Type 0) where
@@ -64,3 +65,20 @@ same_some e = cc
 pub none_at : {X : Type 0} (xs : List X) (k : ℕ) (x : X) → xs ≡ [] → slice_get xs k ≡ Some x → ⊥
 none_at [] k x is at = absurd cc
 none_at (y ∷ xs) k x is at = absurd cc
+
+-- what is made of an element
+pub mapped_at : {X Y : Type 0} (f : X → Y) (xs : List X) (ys : List Y) (k : ℕ) (x : X) → map f xs ≡ ys → slice_get xs k ≡ Some x → slice_get ys k ≡ Some (f x)
+mapped_at f [] ys k x are at = absurd cc
+mapped_at f (z ∷ xs) [] zero x are at = absurd cc
+mapped_at f (z ∷ xs) [] (suc k) x are at = absurd cc
+mapped_at f (z ∷ xs) (y ∷ ys) zero x are at =
+    let first : f z ≡ y = cc in
+    let is : z ≡ x = cc in
+    ap (λ v. Some v) (sym first ∙ ap f is)
+mapped_at f (z ∷ xs) (y ∷ ys) (suc k) x are at = let rest : map f xs ≡ ys = cc in mapped_at f xs ys k x rest at
+
+-- what holds of each element
+pub all_at : {X : Type 0} (P : X → Type 0) (xs : List X) (k : ℕ) (x : X) → AllByRecursion P xs → slice_get xs k ≡ Some x → P x
+all_at P [] k x all at = absurd cc
+all_at P (y ∷ xs) zero x all at = let is : y ≡ x = cc in subst P is all.0
+all_at P (y ∷ xs) (suc k) x all at = all_at P xs k x all.1 at

@@ -1,5 +1,6 @@
--- An entry and a controller may go to another thread, and a job may be seen by one.
+-- An entry, a controller and an inbox may go to another thread, and a job and a mailbox may be seen by one.
 use denote.Param.Send.{IsSend, IsSync, sendable}
+use denote.Param.SendFields.{declared_send, declared_sync}
 use Rattle.std.proofs.Crossing.{crosses}
 use Rattle.std.proofs.MapsCrossing as maps
 use Rattle.frame_load.specs.contracts.Program as program
@@ -21,6 +22,12 @@ use Rattle.atomic_table.proofs.shared.Seat.TheSendSync as seat
 use Rattle.mil_trunk.specs.contracts.trunk.Trunk as trunk
 use Rattle.mil_trunk.proofs.trunk.Trunk.TheSendSync as crossing
 use Rattle.mil_trunk.specs.contracts.trunk.Ticket as ticket
+use Rattle.mil_trunk.specs.contracts.trunk.Taker as taker
+use Rattle.bench_run.specs.contracts.mailbox.Post as post
+use Rattle.bench_run.specs.contracts.mailbox.PostTagged.TheImpl as post_impl
+use Rattle.bench_run.specs.contracts.mailbox.Mailbox as mailbox
+use Rattle.bench_run.specs.contracts.mailbox.Inbox as inbox
+use Rattle.bench_run.specs.contracts.posting.Posts as posts
 
 pub entry_send : IsSend entry.the_row
 entry_send = search (sendable, crosses) depth 40 fits 10000
@@ -70,8 +77,26 @@ plan_sync = search (maps.crosses, sendable, crosses) depth 40 fits 10000
 pub job_sync : IsSync job.the_row
 job_sync = search (program_sync, placed_sync, plan_sync, sendable, crosses) depth 40 fits 10000
 
+post_send : IsSend post.the_row
+post_send = search (sendable, crosses) depth 40 fits 10000
+
+taker_send : IsSend (taker.the_row post.the_row)
+taker_send = search (post_send, seat.the_send, sendable, crosses) depth 40 fits 10000
+
+inbox_send : IsSend inbox.the_row
+inbox_send = declared_send inbox.the_type (taker_send, tt)
+
+posts_send : IsSend posts.the_row
+posts_send = declared_send posts.the_type (inbox_send, (search (sendable, crosses) depth 40 fits 10000, (search (placed_send, sendable, crosses) depth 40 fits 10000, tt)))
+
 pub room_send : IsSend room.the_row
-room_send = search (machine_send, placed_send, sendable, crosses) depth 40 fits 10000
+room_send = declared_send room.the_type (machine_send, (search (sendable, crosses) depth 40 fits 10000, (posts_send, tt)))
+
+posts_sync : IsSync (trunk.the_row post.the_row post_impl.ghosts)
+posts_sync = search (post_send, crossing.the_sync, crossing.the_field_sync, sendable, crosses) depth 40 fits 10000
+
+pub mailbox_sync : IsSync mailbox.the_row
+mailbox_sync = declared_sync mailbox.the_type (posts_sync, (search (sendable, crosses) depth 40 fits 10000, (search (sendable, crosses) depth 40 fits 10000, tt)))
 
 pub trunk_sync : IsSync (trunk.the_row entry.the_row ghosts)
 trunk_sync = search (entry_send, crossing.the_sync, crossing.the_field_sync, sendable, crosses) depth 40 fits 10000

@@ -1,5 +1,5 @@
 -- The stages of a channel's thread.
-use Rattle.std.proofs.Common.{◌≡◌, ℕ, ◌+◌, ◌-◌, ◌<◌, ◌≤◌, List, [], ◌∷◌, ◌++◌, length, map, take, refl, sym, ap, ◌∙◌, subst, arith}
+use Rattle.std.proofs.Common.{◌≡◌, ℕ, zero, suc, ◌+◌, ◌-◌, ◌<◌, ◌≤◌, List, [], ◌∷◌, ◌++◌, length, map, take, refl, sym, ap, ◌∙◌, subst, arith}
 use Rattle.std.specs.Prelude.{◌==◌, Some, slice_get}
 use Rattle.std.specs.List.{AllByRecursion}
 use Rattle.std.proofs.lemmas.List.{map-append, length-append, length-map, take_all}
@@ -16,12 +16,12 @@ use Rattle.ch11_recording.specs.Items.{numbered}
 use Rattle.bench_report.specs.Reports.{ChannelPart, Rises}
 use Rattle.bench_core.specs.Placing.{placed_up_to}
 use Rattle.bench_core.specs.Settled.{kept}
-use Rattle.bench_core.proofs.Lists.{kept_more, kept_same}
+use Rattle.bench_core.proofs.Lists.{NoneAbove, kept_more, kept_same}
 use Rattle.bench_run.specs.declared.entry.Entry.{Entry}
 use Rattle.bench_run.specs.declared.entry.Entry.TheVariants as entry
 use Rattle.bench_run.specs.Entries.{index_of, entry_of}
 use Rattle.bench_run.specs.Runs.{records_of, kept_below, most_items}
-use Rattle.bench_run.specs.Threads.{SoFar, Offered}
+use Rattle.bench_run.specs.Threads.{SoFar, AllOffered}
 use Rattle.bench_run.proofs.Offering.{take_more, all_more, none_above, rises_on, rises_more, rises_length, length-kept, full_more}
 
 module _ (trunk : Trunk Entry) (own : ℕ) (limits : List ℕ) (index : ℕ) (job : JobState) where
@@ -98,7 +98,7 @@ pub last_stage : (trunk : Trunk Entry) (given : Ticket Entry) (index : ℕ) (job
     → IsTicketOf trunk s → tags_of s ≡ tags_of t → bounds_of s ≡ bounds_of t → sent s ≡ sent t ++ entry.End index ∷ []
     → part.channel ≡ job.channel → part.made ≡ made → part.refused ≡ refused → part.placed ≡ placed_up_to made job.actions
     → job.channel ≤ 65535 → made ≤ 1000000 → made < most_items job
-    → Offered trunk given index job (record { ticket = s; part = part })
+    → AllOffered trunk given index job s part
 last_stage trunk given index job made t s refused part st whole ours tags bounds more channel_is made_is refused_is placed_is channel_high made_high within =
     let rs : List Record = records_of job in
     let all : take made rs ≡ rs = take_all made rs (omega (arith, whole)) in
@@ -132,3 +132,33 @@ module _ (trunk : Trunk Entry) (own : ℕ) (limits : List ℕ) (index : ℕ) (jo
   pub by_given : (made : ℕ) (t s : Ticket Entry) (refused : List ℕ) → tags_of t ≡ own → bounds_of t ≡ limits → SoFar trunk (tags_of t) (bounds_of t) index job made s refused
       → SoFar trunk own limits index job made s refused
   by_given made t s refused tags bounds st = subst (λ (z : ℕ × List ℕ). SoFar trunk z.0 z.1 index job made s refused) (λ i. (tags i, bounds i)) st
+
+-- ---- two jobs whose records are the same so far
+
+take_take : {X : Type 0} (k n : ℕ) (xs : List X) → k ≤ n → take k (take n xs) ≡ take k xs
+take_take zero n xs low = refl
+take_take (suc k) zero xs low = absurd (omega (arith, low))
+take_take (suc k) (suc n) [] low = refl
+take_take (suc k) (suc n) (x ∷ xs) low = ap (λ l. x ∷ l) (take_take k n xs (omega (arith, low)))
+
+full_alike : (capacity others made : ℕ) (a b : JobState) (refused ns : List ℕ) → take made (records_of a) ≡ take made (records_of b) → NoneAbove made ns
+    → AllByRecursion (λ n. capacity ≤ kept_below n refused a + others) ns → AllByRecursion (λ n. capacity ≤ kept_below n refused b + others) ns
+full_alike capacity others made a b refused [] same low all = tt
+full_alike capacity others made a b refused (n ∷ ns) same low all =
+    let fewer : n - 1 ≤ made = omega (arith, low.0) in
+    let is : take (n - 1) (records_of a) ≡ take (n - 1) (records_of b) =
+    sym (take_take (n - 1) made (records_of a) fewer) ∙ ap (take (n - 1)) same ∙ take_take (n - 1) made (records_of b) fewer in
+    (subst (λ (rs : List Record). capacity ≤ length (kept refused rs) + others) is all.0, full_alike capacity others made a b refused ns same low.1 all.1)
+
+pub so_far_alike : (trunk : Trunk Entry) (own : ℕ) (limits : List ℕ) (index : ℕ) (a b : JobState) (made : ℕ) (t : Ticket Entry) (refused : List ℕ)
+    → take made (records_of a) ≡ take made (records_of b) → SoFar trunk own limits index a made t refused → SoFar trunk own limits index b made t refused
+so_far_alike trunk own limits index a b made t refused same st = record {
+  ours = st.ours;
+  tags = st.tags;
+  bounds = st.bounds;
+  all_sent = st.all_sent ∙ ap (λ (rs : List Record). map (entry_of index) (kept refused rs)) same;
+  count = ap (λ (rs : List Record). length rs) (sym same) ∙ st.count;
+  rising = st.rising;
+  full = full_alike (capacity_of trunk) (bounds_outside own limits) made a b refused refused same (none_above 0 made refused st.rising) st.full;
+  recorded = subst (λ (rs : List Record). AllByRecursion (λ m. IsRecorded (numbered 0 m)) rs) same st.recorded;
+}

@@ -1,5 +1,6 @@
 -- The end of a run: every channel has ended, and the writer has received all that was sent.
-use Rattle.std.specs.Prelude.{◌≡◌, ℕ, ◌<◌, ◌≤◌, true, List, [], Some, length, map, sum, slice_get}
+use Rattle.std.specs.Prelude.{◌≡◌, ℕ, ◌<◌, ◌≤◌, true, List, [], Some, length, map, slice_get}
+use Rattle.std.specs.List.{AllByRecursion}
 use Rattle.job_file.specs.Jobs.{JobState}
 use Rattle.mil_trunk.specs.Views.{with_tag}
 use Rattle.mil_trunk.specs.Tags.{has}
@@ -11,8 +12,11 @@ use Rattle.bench_run.specs.declared.entry.Entry.{Entry}
 use Rattle.bench_run.specs.Entries.{index_of, entries_to_the_end}
 use Rattle.bench_run.specs.declared.ready.Shared.{Shared}
 use Rattle.bench_run.specs.declared.ready.Own.{Own}
+use Rattle.bench_run.specs.declared.channel.Room.{Room}
+use Rattle.bench_run.specs.declared.mailbox.Inbox.{Inbox}
 use Rattle.bench_run.specs.Runs.{ArePairs, records_of, most_items, most_in_all}
 use Rattle.bench_run.specs.Threads.{IsRoom, IsCountedIn}
+use Rattle.bench_run.specs.Live.{AreLive}
 
 -- what the writer received: of each job its records but for the refused, and its end mark, and nothing else
 pub record IsAll (capacity : ℕ) (jobs : List JobState) (parts : List ChannelPart) (got : List Entry) : Type 0 where
@@ -21,9 +25,15 @@ pub record IsAll (capacity : ℕ) (jobs : List JobState) (parts : List ChannelPa
       → with_tag index_of k got ≡ entries_to_the_end k (kept part.refused (records_of job))
   pub others : (t : ℕ) → length jobs ≤ t → with_tag index_of t got ≡ []
 
+-- the same of the jobs with the posts that were placed
+pub record IsAllLive (capacity most : ℕ) (jobs : List JobState) (before after : List Inbox) (parts : List ChannelPart) (got : List Entry) : Type 0 where
+  pub lives : List JobState
+  pub live : AreLive most jobs before after parts lives
+  pub all : IsAll capacity lives parts got
+
 -- What a run begins with: a trunk of the queue's capacity with nothing in it, the ticket of all tags and the taker, a thread's room
--- for each job, and the jobs' channels.
-pub record IsReady (capacity : ℕ) (jobs : List JobState) (shared : Shared) (own : Own) : Type 0 where
+-- for each job with its inbox, and the jobs' channels.
+pub record IsReady (capacity : ℕ) (jobs : List JobState) (most : ℕ) (inboxes : List Inbox) (shared : Shared) (own : Own) : Type 0 where
   pub ticket : IsTicketOf shared.trunk own.ticket
   pub taker : IsTakerOf shared.trunk own.taker
   pub capacity_is : capacity_of shared.trunk ≡ capacity
@@ -34,4 +44,6 @@ pub record IsReady (capacity : ℕ) (jobs : List JobState) (shared : Shared) (ow
   pub taker_bounds : bounds_in own.taker ≡ map most_items jobs
   pub few : most_in_all jobs ≤ 32000032
   pub rooms : ArePairs IsRoom jobs own.rooms.items
+  pub inboxes_are : map (λ (room : Room). room.posts.inbox) own.rooms.items ≡ inboxes
+  pub most_are : AllByRecursion (λ (room : Room). room.posts.left ≡ most) own.rooms.items
   pub channels : shared.channels.items ≡ channels_of jobs

@@ -6,3 +6,5 @@ pub mod Ending
 pub mod Posts
 pub mod MailCodes
 pub mod Mail
+pub mod Live
+pub mod Posted

@@ -1,7 +1,5 @@
 //! One channel's thread.
 ghost use Rattle.std.specs.Prelude.{◌≡◌, ◌<◌, ◌≤◌, ◌-◌, ◌++◌, ◌∷◌, [], true, length, vec_capacity, slice_get, Some};
-ghost use Rattle.frame_asm.specs.Shapes.{code_of};
-ghost use Rattle.frame_load.specs.Budget.{worst_messages};
 ghost use Rattle.mil_trunk.specs.Tags.{has, bound_of};
 ghost use Rattle.mil_trunk.specs.Ends.{IsTicketOf, tags_of, bounds_of, sent};
 ghost use Rattle.job_file.specs.Jobs.{tree_in, job_in};
@@ -9,45 +7,52 @@ ghost use Rattle.job_file.specs.Machines.{IsOf};
 ghost use Rattle.bench_run.specs.Runs.{records_of, most_items};
 ghost use Rattle.ch11_builder.specs.Recorded.{IsRecorded};
 ghost use Rattle.ch11_recording.specs.Items.{numbered};
+ghost use Rattle.job_file.specs.Jobs.{JobState};
+ghost use Rattle.bench_run.specs.Mail.{IsInboxOf};
 ghost use Rattle.bench_run.specs.Threads.{IsRoom, Offered, SoFar};
 ghost use Rattle.bench_run.specs.declared.entry.Entry.TheVariants.{End};
 
 use crate::entry::Entry;
 use crate::gate::Gate;
-use bc_machine::{Machine, Placed};
+use crate::mailbox::{Inbox, Mailbox};
+use crate::posting::Posts;
+use bc_machine::Machine;
 use bench_core::channel_report;
 use bench_report::ChannelReport;
 use ch11_recording::record_fits;
-use job_file::{Job, next_record};
+use job_file::{Job, job_runs, next_record};
 use mil_monitor::Record;
 use mil_trunk::{Ticket, Trunk};
 use std::sync::Wait;
 use std::thread;
 
-/// What a channel's thread takes along: its job's controller, an empty list with room for the numbers of all messages, and the
-/// job's actions in the order in which its messages meet them.
+/// What a channel's thread takes along: its job's controller, an empty list with room for the numbers of all messages, and what it
+/// has for the posts of hosts.
 #[derive(Drop)]
 pub(crate) struct Room {
     pub(crate) machine: Machine,
     pub(crate) refused: Vec<u32>,
-    pub(crate) ordered: Vec<Placed>,
+    pub(crate) posts: Posts,
 }
 
-/// What a channel's thread returns: its ticket, and the channel's part of the report.
+/// What a channel's thread returns: its ticket, the channel's part of the report, and its inbox.
 #[derive(Drop)]
 pub(crate) struct Ended {
     pub(crate) ticket: Ticket<Entry>,
     pub(crate) part: ChannelReport,
+    pub(crate) inbox: Inbox,
 }
 
-/// Runs a job's controller to its end. Each message is offered once, and the numbers of those that come back are listed; then the
-/// end mark is offered until it is kept. It takes no memory and no lock.
+/// Runs a job's controller to its end. Before each message posts are taken from the mailbox, and placed at it. Each message is
+/// offered once, and the numbers of those that come back are listed; then the end mark is offered until it is kept. It takes no
+/// memory and no lock.
 pub(crate) fn channel<R: Wait, G: Gate>(
     rt: &R,
     trunk: &Trunk<Entry>,
     gate: &G,
     index: u8,
     job: &Job,
+    mailbox: &Mailbox,
     ticket: Ticket<Entry>,
     room: Room,
 ) -> Ended
@@ -55,17 +60,20 @@ pub(crate) fn channel<R: Wait, G: Gate>(
     requires tag { has (tags_of ticket) index ≡ true }
     requires bound { bound_of (bounds_of ticket) index ≡ most_items job.now }
     requires room { IsRoom job.now room }
-    ensures { Offered trunk.now ticket index job.now result }
+    requires inbox { IsInboxOf mailbox.now room.posts.inbox }
+    ensures { Offered trunk.now ticket index job.now mailbox.now room.posts.left room.posts.inbox result }
 {
     let Room {
         mut machine,
         mut refused,
-        ordered,
+        mut posts,
     } = room;
     let mut ticket = ticket;
     let _sound = job.program();
+    job_runs();
     'messages: loop {
         gate.before_message(job.channel(), machine.number() + 1);
+        posts.place_all(rt, mailbox, &mut machine);
         let Some(record) = next_record(&mut machine) else {
             break;
         };
@@ -84,9 +92,11 @@ pub(crate) fn channel<R: Wait, G: Gate>(
         );
     }
     offer_end(rt, trunk, gate, index, job.channel(), &mut ticket);
+    let Posts { inbox, ordered, .. } = posts;
     Ended {
         ticket,
         part: channel_report(job.channel(), machine.number(), refused, ordered),
+        inbox,
     }
 }
 
@@ -102,14 +112,14 @@ fn offer_message<R: Wait, G: Gate>(
     ticket: &mut Ticket<Entry>,
     refused: &mut Vec<u32>,
 )
-    requires so_far { SoFar trunk.now (tags_of ticket.old) (bounds_of ticket.old) index job.now (number - 1) ticket.old refused.old.items }
+    requires so_far { (live : JobState) × SoFar trunk.now (tags_of ticket.old) (bounds_of ticket.old) index live (number - 1) ticket.old refused.old.items }
     requires tag { has (tags_of ticket.old) index ≡ true }
     requires bound { number < bound_of (bounds_of ticket.old) index }
     requires number { 1 ≤ number }
-    requires message { slice_get (records_of job.now) (number - 1) ≡ Some message }
     requires recorded { IsRecorded (numbered 0 message) }
     requires room { number ≤ vec_capacity refused.old }
-    ensures so_far { SoFar trunk.now (tags_of ticket.old) (bounds_of ticket.old) index job.now number ticket.new refused.new.items }
+    ensures so_far { (live : JobState) → SoFar trunk.now (tags_of ticket.old) (bounds_of ticket.old) index live (number - 1) ticket.old refused.old.items
+        → slice_get (records_of live) (number - 1) ≡ Some message → SoFar trunk.now (tags_of ticket.old) (bounds_of ticket.old) index live number ticket.new refused.new.items }
     ensures room { vec_capacity refused.new ≡ vec_capacity refused.old }
 {
     let entry = Entry::Message {

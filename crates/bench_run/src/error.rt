@@ -1,11 +1,16 @@
 //! Why a run gave no recording.
+ghost use Rattle.std.specs.Prelude.{◌≡◌, []};
+
+use crate::mailbox::Inbox;
 use bench_report::Report;
+use std::alloc::Global;
 use std::fmt::{self, Display, Formatter, Write};
 
 /// Why a run gave no recording; each fault hands the sink back.
 #[derive(Drop)]
 pub enum RunError<S> {
-    /// U2: there is no job or more than 32, or a setting is out of its range. Nothing was put into the sink.
+    /// U2: there is no job or more than 32, or a setting is out of its range; in a live run also where there are not a mailbox and an
+    /// inbox for each job, made for it. Nothing was put into the sink.
     Settings { sink: S },
     /// U1: two jobs have the same channel. Nothing was put into the sink.
     ChannelTwice { sink: S },
@@ -28,5 +33,32 @@ impl<S> Display for RunError<S> {
             RunError::Memory { .. } => f.write_str("U3"),
             RunError::Sink { taken, .. } => write!(f, "U4 taken {taken}"),
         }
+    }
+}
+
+/// Why a live run gave no recording: the fault, and the inboxes in the order of the jobs, but none after U3.
+#[derive(Drop)]
+pub struct LiveError<S> {
+    pub fault: RunError<S>,
+    pub inboxes: Vec<Inbox>,
+}
+
+impl<S> LiveError<S> {
+    /// U3, with no inbox.
+    pub(crate) fn of_memory(alloc: Global, sink: S) -> LiveError<S>
+        ensures fault { result.fault ≡ RunError.Memory sink }
+        ensures inboxes { result.inboxes.items ≡ [] }
+    {
+        LiveError {
+            fault: RunError::Memory { sink },
+            inboxes: Vec::new(alloc),
+        }
+    }
+}
+
+/// What the fault prints.
+impl<S> Display for LiveError<S> {
+    fn fmt<W: Write>(&self, f: &mut Formatter<W>) -> fmt::Result {
+        self.fault.fmt(f)
     }
 }

@@ -3,20 +3,23 @@
 #![tactic(auto)]
 
 mod channel;
+mod ending;
 mod entry;
 mod error;
 mod gate;
 mod holding;
 mod mail_error;
 mod mailbox;
+mod posting;
 mod ready;
 mod running;
+mod scope;
 mod threads;
 mod writer;
 
-pub use error::RunError;
+pub use error::{LiveError, RunError};
 pub use gate::{Gate, OpenGate};
 pub use holding::HoldingGate;
 pub use mail_error::{MailError, PostError};
 pub use mailbox::{Inbox, Mailbox, Post, Poster};
-pub use running::run;
+pub use running::{run, run_live};

@@ -1,5 +1,5 @@
 //! Mailboxes: while a channel runs, hosts post actions for its terminals.
-ghost use Rattle.std.specs.Prelude.{◌≡◌, ◌≢◌, ◌<◌, ◌≤◌, ◌+◌, ◌^◌, ◌↔◌, ◌⊎◌, ◌++◌, ◌∷◌, [], ℕ, true, length, not, ◌&&◌, ◌||◌, Err, IfOk, OnOk, IfErr, IfSome, IfNone};
+ghost use Rattle.std.specs.Prelude.{◌≡◌, ◌≢◌, ◌<◌, ◌≤◌, ◌+◌, ◌^◌, ◌↔◌, ◌⊎◌, ◌++◌, ◌∷◌, [], ℕ, true, length, not, ◌&&◌, ◌||◌, Err, IfOk, OnOk, IfErr, IfSome, IfNone, IsTrue};
 ghost use Rattle.mil_trunk.specs.Tags.{has, bound_of, Includes};
 ghost use Rattle.mil_trunk.specs.Views.{with_tag, inside, outside};
 ghost use Rattle.mil_trunk.specs.Ends.{IsCapacity};
@@ -160,6 +160,23 @@ impl Mailbox {
             Ok(()) => Ok(()),
             Err(Post { action, .. }) => Err(PostError::Full { action }),
         }
+    }
+
+    /// Receives the post at the front, if there is one.
+    pub(crate) fn take<R: Wait>(&self, rt: &R, inbox: &mut Inbox) -> Option<Post>
+        requires inbox { IsInboxOf self.now inbox.old }
+        ensures inbox { IsInboxOf self.now inbox.new }
+        ensures taken { IfSome result (λ post. received_by inbox.new ≡ received_by inbox.old ++ post ∷ []) }
+        ensures none { IfNone result (received_by inbox.new ≡ received_by inbox.old) }
+    {
+        self.trunk.take(rt, &mut inbox.taker)
+    }
+
+    /// Whether it was made for the channel and the terminals of a job.
+    pub(crate) fn is_for(&self, job: &Job) -> bool
+        ensures { IsTrue result ↔ IsMadeFor self.now job.now }
+    {
+        self.channel == job.channel() && self.addresses.as_slice() == job.addresses()
     }
 
     /// Receives the post at the front, with the poster that holds all hosts. None says that all that was posted was received.

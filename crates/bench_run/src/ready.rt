@@ -1,11 +1,12 @@
 //! What a run needs before its threads start.
-ghost use Rattle.std.specs.Prelude.{◌≡◌, ◌≤◌, length, map, All, IfOk};
+ghost use Rattle.std.specs.Prelude.{◌≡◌, ◌≤◌, length, map, vec_len, All, IfOk};
 ghost use Rattle.mil_trunk.specs.Ends.{IsCapacity};
 ghost use Rattle.bench_core.specs.Lawful.{channels_of};
 ghost use Rattle.bench_run.specs.Ending.{IsReady};
 
 use crate::channel::Room;
 use crate::entry::Entry;
+use crate::mailbox::Inbox;
 use crate::threads::{bounds, rooms};
 use job_file::Job;
 use mil_trunk::{Taker, Ticket, Trunk};
@@ -26,13 +27,21 @@ pub(crate) struct Own {
     pub(crate) rooms: Vec<Room>,
 }
 
-/// All that a run needs, but for its recorder and the lists of its threads. All memory of the threads is taken here.
-pub(crate) fn ready(alloc: Global, jobs: &[Job], queue: u32) -> Result<(Shared, Own), AllocError>
+/// All that a run needs, but for its recorder and the lists of its threads. All memory of the threads is taken here. Of each inbox
+/// `most` posts may be taken.
+pub(crate) fn ready(
+    alloc: Global,
+    jobs: &[Job],
+    queue: u32,
+    most: u32,
+    inboxes: Vec<Inbox>,
+) -> Result<(Shared, Own), AllocError>
     requires few { length jobs.now ≤ 32 }
-    ensures { IfOk result (λ r. IsReady queue jobs.now r.0 r.1) }
+    requires inboxes { length jobs.now ≡ vec_len inboxes }
+    ensures { IfOk result (λ r. IsReady queue jobs.now most inboxes.items r.0 r.1) }
 {
     let bounds = bounds(alloc, jobs)?;
-    let rooms = rooms(alloc, jobs)?;
+    let rooms = rooms(alloc, jobs, most, inboxes)?;
     let channels = channels(alloc, jobs)?;
     match Trunk::make(alloc, queue, &bounds) {
         Ok((trunk, ticket, taker)) => Ok((

@@ -1,187 +1,91 @@
-//! Jobs on threads of their own, and one recording of them all.
-ghost use Rattle.std.specs.Prelude.{◌≡◌, ℕ, List, ◌-◌, ◌<◌, ◌≤◌, ◌^◌, [], false, IfOk, IfErr, OnOk};
-ghost use Rattle.std.specs.List.{AllByRecursion};
-ghost use Rattle.mil_trunk.specs.Ends.{received};
-ghost use Rattle.ch11_recording.specs.Recording.{IsRecordingOf};
+//! Jobs on threads of their own, and one recording of them all; with posts of hosts, or without.
+ghost use Rattle.std.specs.Prelude.{◌≡◌, ℕ, List, ◌-◌, ◌<◌, ◌≤◌, ◌^◌, [], length, vec_len, IfOk, IfErr, OnOk, IsTrue};
 ghost use Rattle.bench_core.specs.Lawful.{AreLawful, channels_of, format_of};
-ghost use Rattle.bench_run.specs.declared.entry.Entry.{Entry};
-ghost use Rattle.bench_run.specs.Runs.{Ran, RefusesNoneWithRoom, Leaves};
-ghost use Rattle.bench_run.specs.Writer.{IsLogged};
-ghost use Rattle.bench_run.specs.Ending.{IsAll, IsReady};
+ghost use Rattle.bench_run.specs.declared.mailbox.Mailbox.{Mailbox};
+ghost use Rattle.bench_run.specs.Runs.{ArePairs, Ran, RefusesNoneWithRoom, Leaves};
+ghost use Rattle.bench_run.specs.Mail.{IsMadeFor};
+ghost use Rattle.bench_run.specs.Live.{AreInboxesOf, HaveMail, RanLive, LeavesLate, LeavesLive};
 
-use crate::entry::Entry;
-use crate::error::RunError;
+use crate::ending::Before;
+use crate::error::{LiveError, RunError};
 use crate::gate::Gate;
-use crate::ready::{Own, Shared, ready};
-use crate::threads::{join_all, start_all};
-use crate::writer::{Log, settle, write};
+use crate::mailbox::{Inbox, Mailbox};
+use crate::ready::ready;
+use crate::scope::{begin, run_ready};
 use bench_core::{Settings, WorldError, judge};
-use bench_report::{ChannelReport, Report};
-use ch11_recording::{Recorder, file_is_packets, recording_is_read_again};
+use bench_report::Report;
+use ch11_recording::Recorder;
 use ch11_writer::Sink;
 use job_file::Job;
-use mil_trunk::Taker;
-use std::alloc::Global;
+use std::alloc::{AllocError, Global};
 use std::snapshot::Snapshot;
 use std::sync::Wait;
-use std::thread;
-use std::thread::{Scope, Threads};
+use std::thread::Threads;
 
-/// The version has the size of its field.
-fn version_fits(settings: &Settings)
-    ensures { settings.now.version < 2 ^ 8 }
-{
-    let _version = settings.version;
-}
-
-/// What came of a run, once every channel has ended and the writer has received all.
-fn conclude<S: Sink>(
-    jobs: &[Job],
-    settings: &Settings,
-    before: Snapshot<S>,
-    taker: Taker<Entry>,
-    log: Log<S>,
-    parts: Vec<ChannelReport>,
-) -> Result<(Report, S), RunError<S>>
-    requires lawful { AreLawful jobs.now settings.now }
-    requires all { IsAll settings.now.queue jobs.now parts.items (received taker) }
-    requires logged { IsLogged S.taken S.failures (format_of settings.now) settings.now.prologue.items before.value (channels_of jobs.now) (received taker) log.recorder log.whole }
-    ensures ran { IfOk result (λ r. Ran S.taken jobs.now settings.now before.value r.0 r.1) }
-    ensures room { IfOk result (λ r. RefusesNoneWithRoom jobs.now settings.now r.0) }
-    ensures refused { IfErr result (Leaves S.taken S.failures jobs.now settings.now before.value) }
-{
-    recording_is_read_again();
-    file_is_packets();
-    version_fits(settings);
-    let Log { recorder, whole: _ } = log;
-    let mut recorder = recorder;
-    let ended = recorder.finish();
-    let report = Report::make(parts, recorder.packets());
-    let sink = recorder.into_sink();
-    match ended {
-        Ok(()) => Ok((report, sink)),
-        Err(fault) => Err(RunError::Sink {
-            sink,
-            report,
-            taken: fault.taken,
-        }),
-    }
-}
-
-/// Starts the threads, records what they send, and ends the recording once all was received.
-fn on_threads<'s, E, R: Threads + Wait + Sync, G: Gate, S: Sink + Drop>(
-    scope: &Scope<'s, E>,
-    rt: &'s R,
-    alloc: Global,
-    shared: &'s Shared,
-    gate: &'s G,
-    jobs: &'s [Job],
-    settings: &'s Settings,
-    before: Snapshot<S>,
-    own: Own,
-    log: Log<S>,
-) -> Result<(Report, S), RunError<S>>
-    requires lawful { AreLawful jobs.now settings.now }
-    requires ready { IsReady settings.now.queue jobs.now shared.now own }
-    requires logged { IsLogged S.taken S.failures (format_of settings.now) settings.now.prologue.items before.value (channels_of jobs.now) [] log.recorder log.whole }
-    ensures ran { IfOk result (λ r. Ran S.taken jobs.now settings.now before.value r.0 r.1) }
-    ensures room { IfOk result (λ r. RefusesNoneWithRoom jobs.now settings.now r.0) }
-    ensures refused { IfErr result (Leaves S.taken S.failures jobs.now settings.now before.value) }
-{
-    let Own {
-        ticket,
-        taker,
-        rooms,
-    } = own;
-    let (mut rest, mut taker, mut log) = (ticket, taker, log);
-    let Ok(handles) = Vec::with_capacity(alloc, jobs.len()) else {
-        return Err(stopped(jobs, settings, before, log));
-    };
-    let Ok(parts) = Vec::with_capacity(alloc, jobs.len()) else {
-        return Err(stopped(jobs, settings, before, log));
-    };
-    let Shared { trunk, channels } = shared;
-    let handles = start_all(scope, rt, trunk, gate, jobs, rooms, &mut rest, handles);
-    let started = handles.len();
-    write(rt, trunk, gate, channels, &mut taker, &mut log, started);
-    let parts = join_all(rt, trunk, jobs, handles, &mut rest, parts);
-    if started < jobs.len() {
-        return Err(stopped(jobs, settings, before, log));
-    }
-    let (_, taker) = settle(rt, trunk, gate, channels, rest, taker, &mut log);
-    conclude(jobs, settings, before, taker, log, parts)
-}
-
-/// A run that was refused memory or a thread hands the sink back as it stands.
-fn stopped<S: Sink>(
-    jobs: &[Job],
-    settings: &Settings,
-    before: Snapshot<S>,
-    log: Log<S>,
-) -> RunError<S>
-    requires lawful { AreLawful jobs.now settings.now }
-    requires logged { (channels : List ℕ) × (got : List Entry) × IsLogged S.taken S.failures (format_of settings.now) settings.now.prologue.items before.value channels got log.recorder log.whole }
-    ensures { Leaves S.taken S.failures jobs.now settings.now before.value result }
-{
-    let _ = (jobs, settings, before);
-    let Log { recorder, whole: _ } = log;
-    RunError::Memory {
-        sink: recorder.into_sink(),
-    }
-}
-
-/// The recording with its prologue, before anything was received.
-fn begin<S: Sink>(
-    channels: &[u16],
-    settings: &Settings,
-    before: &Snapshot<S>,
-    recorder: Recorder<S>,
-) -> Log<S>
-    requires begun { IsRecordingOf S.taken (format_of settings.now) [] (S.taken before.now.value) channels.now [] recorder }
-    requires fresh { recorder.writing ≡ record { sink = before.now.value; taken = 0; failed = false; finished = false } }
-    ensures { IsLogged S.taken S.failures (format_of settings.now) settings.now.prologue.items before.now.value channels.now [] result.recorder result.whole }
-{
-    let _places = channels.len();
-    let _before = before;
-    let mut recorder = recorder;
-    recorder.prologue(&settings.prologue);
-    Log {
-        recorder,
-        whole: true,
-    }
-}
-
-/// Runs the jobs in a scope of threads.
-fn run_ready<R: Threads + Wait + Sync, G: Gate, S: Sink + Drop>(
+/// Runs lawful jobs, and takes at most `most` posts from each inbox.
+fn run_lawful<R: Threads + Wait + Sync, G: Gate, S: Sink + Drop>(
     rt: &R,
     alloc: Global,
-    shared: &Shared,
-    gate: &G,
     jobs: &[Job],
     settings: &Settings,
-    before: Snapshot<S>,
-    own: Own,
-    log: Log<S>,
-) -> Result<(Report, S), RunError<S>>
+    boxes: &[Mailbox],
+    inboxes: Vec<Inbox>,
+    most: u32,
+    gate: &G,
+    sink: S,
+) -> Result<(Report, Vec<Inbox>, S), LiveError<S>>
     requires lawful { AreLawful jobs.now settings.now }
-    requires ready { IsReady settings.now.queue jobs.now shared.now own }
-    requires logged { IsLogged S.taken S.failures (format_of settings.now) settings.now.prologue.items before.value (channels_of jobs.now) [] log.recorder log.whole }
-    ensures ran { IfOk result (λ r. Ran S.taken jobs.now settings.now before.value r.0 r.1) }
+    requires countable { S.failures sink < 2 ^ 64 - 1 }
+    requires boxes { length boxes.now ≡ length jobs.now }
+    requires inboxes { length jobs.now ≡ vec_len inboxes }
+    requires ends { AreInboxesOf boxes.now inboxes.items }
+    ensures ran { IfOk result (λ r. RanLive S.taken most jobs.now settings.now inboxes.items sink r.0 r.1.items r.2) }
+    ensures ends { IfOk result (λ r. AreInboxesOf boxes.now r.1.items) }
     ensures room { IfOk result (λ r. RefusesNoneWithRoom jobs.now settings.now r.0) }
-    ensures refused { IfErr result (Leaves S.taken S.failures jobs.now settings.now before.value) }
+    ensures refused { IfErr result (λ e. LeavesLate S.taken S.failures most jobs.now settings.now inboxes.items sink e.fault e.inboxes.items) }
+    ensures back { IfErr result (λ e. AreInboxesOf boxes.now e.inboxes.items) }
 {
-    thread::scope(
-        thread::scope_env(),
-        rt,
-        move |scope| -> Result<(Report, S), RunError<S>>
-            requires { AreLawful jobs.now settings.now × IsReady settings.now.queue jobs.now shared.now own × IsLogged S.taken S.failures (format_of settings.now) settings.now.prologue.items before.value (channels_of jobs.now) [] log.recorder log.whole }
-            ensures { IfOk result (λ r. Ran S.taken jobs.entry.now settings.entry.now before.value r.0 r.1) × IfOk result (λ r. RefusesNoneWithRoom jobs.entry.now settings.entry.now r.0) × IfErr result (Leaves S.taken S.failures jobs.entry.now settings.entry.now before.value) }
-        {
-            on_threads(
-                scope, rt, alloc, shared, gate, jobs, settings, before, own, log,
+    let before = Before {
+        most,
+        inboxes: Snapshot::of(&inboxes),
+        sink: Snapshot::of(&sink),
+    };
+    let Ok((shared, own)) = ready(alloc, jobs, settings.queue, most, inboxes) else {
+        return Err(LiveError::of_memory(alloc, sink));
+    };
+    match Recorder::make(
+        alloc,
+        settings.version,
+        settings.limit,
+        &shared.channels,
+        sink,
+    ) {
+        Ok(recorder) => {
+            let log = begin(&shared.channels, settings, &before.sink, recorder);
+            run_ready(
+                rt, alloc, &shared, gate, jobs, settings, boxes, before, own, log,
             )
-        },
-    )
+        }
+        Err((_, sink)) => Err(LiveError::of_memory(alloc, sink)),
+    }
+}
+
+/// A mailbox and an inbox for each job, to which nobody posts.
+fn no_posts(alloc: Global, jobs: &[Job]) -> Result<(Vec<Mailbox>, Vec<Inbox>), AllocError>
+    ensures boxes { IfOk result (λ r. vec_len r.0 ≡ length jobs.now) }
+    ensures inboxes { IfOk result (λ r. vec_len r.1 ≡ length jobs.now) }
+    ensures ends { IfOk result (λ r. AreInboxesOf r.0.items r.1.items) }
+{
+    let mut boxes = Vec::with_capacity(alloc, jobs.len())?;
+    let mut inboxes = Vec::with_capacity(alloc, jobs.len())?;
+    for job in jobs {
+        let Ok((mailbox, _, inbox)) = Mailbox::make(alloc, job, 1) else {
+            return Err(AllocError);
+        };
+        boxes.push_reserved(mailbox);
+        inboxes.push_reserved(inbox);
+    }
+    Ok((boxes, inboxes))
 }
 
 /// Runs the jobs, each on a thread of its own, while the calling thread writes their messages into one recording. In order: U2
@@ -213,21 +117,81 @@ pub fn run<R: Threads + Wait + Sync, G: Gate, S: Sink + Drop>(
         Err(WorldError::Prologue) => return Err(RunError::Prologue { sink }),
         Err(WorldError::Memory) => return Err(RunError::Memory { sink }),
     }
-    let Ok((shared, own)) = ready(alloc, jobs, settings.queue) else {
+    let Ok((boxes, inboxes)) = no_posts(alloc, jobs) else {
         return Err(RunError::Memory { sink });
     };
-    let before = Snapshot::of(&sink);
-    match Recorder::make(
-        alloc,
-        settings.version,
-        settings.limit,
-        &shared.channels,
-        sink,
-    ) {
-        Ok(recorder) => {
-            let log = begin(&shared.channels, settings, &before, recorder);
-            run_ready(rt, alloc, &shared, gate, jobs, settings, before, own, log)
-        }
-        Err((_, sink)) => Err(RunError::Memory { sink }),
+    match run_lawful(rt, alloc, jobs, settings, &boxes, inboxes, 0, gate, sink) {
+        Ok((report, _, sink)) => Ok((report, sink)),
+        Err(LiveError { fault, .. }) => Err(fault),
     }
+}
+
+/// Whether there are a mailbox and an inbox for each job, each mailbox made for the job at its place.
+fn have_mail(jobs: &[Job], boxes: &[Mailbox], inboxes: &[Inbox]) -> bool
+    ensures { (IsTrue result → HaveMail jobs.now boxes.now inboxes.now) × (HaveMail jobs.now boxes.now inboxes.now → IsTrue result) }
+{
+    if boxes.len() != jobs.len() {
+        return false;
+    }
+    if inboxes.len() != jobs.len() {
+        return false;
+    }
+    are_for(jobs, boxes)
+}
+
+/// Whether each of as many mailboxes was made for the job at its place.
+fn are_for(jobs: &[Job], boxes: &[Mailbox]) -> bool
+    requires { length boxes.now ≡ length jobs.now }
+    ensures { (IsTrue result → ArePairs IsMadeFor boxes.now jobs.now) × (ArePairs IsMadeFor boxes.now jobs.now → IsTrue result) }
+{
+    for place in 0..jobs.len() {
+        if !boxes[place].is_for(&jobs[place]) {
+            return false;
+        }
+    }
+    true
+}
+
+/// Runs the jobs as `run` does, while hosts post actions for their terminals. Before each message a channel's thread takes posts from
+/// its mailbox until that is empty or `posts` of them were taken in this run; each acts at that message, behind what the job placed
+/// there. One that is taken behind the last message acts nowhere, and the report leaves it out. It refuses as `run` does, and U2 also
+/// stands where there are not a mailbox and an inbox for each job, in the order of the jobs and made for its channel and terminals.
+/// The inboxes come back in their order, but for U3; after U4 what was taken stays taken. Condition: each inbox was made with the
+/// mailbox at its place.
+///
+/// A live run is a run of the jobs with the posts that were placed besides their own actions.
+pub fn run_live<R: Threads + Wait + Sync, G: Gate, S: Sink + Drop>(
+    rt: &R,
+    alloc: Global,
+    jobs: &[Job],
+    settings: &Settings,
+    boxes: &[Mailbox],
+    inboxes: Vec<Inbox>,
+    gate: &G,
+    sink: S,
+) -> Result<(Report, Vec<Inbox>, S), LiveError<S>>
+    requires countable { S.failures sink < 2 ^ 64 - 1 }
+    requires ends { AreInboxesOf boxes.now inboxes.items }
+    ensures lawful { OnOk result (AreLawful jobs.now settings.now × HaveMail jobs.now boxes.now inboxes.items) }
+    ensures ran { IfOk result (λ r. RanLive S.taken settings.now.posts jobs.now settings.now inboxes.items sink r.0 r.1.items r.2) }
+    ensures ends { IfOk result (λ r. AreInboxesOf boxes.now r.1.items) }
+    ensures room { IfOk result (λ r. RefusesNoneWithRoom jobs.now settings.now r.0) }
+    ensures refused { IfErr result (λ e. LeavesLive S.taken S.failures settings.now.posts jobs.now settings.now boxes.now inboxes.items sink e.fault e.inboxes.items) }
+    ensures back { IfErr result (λ e. AreInboxesOf boxes.now e.inboxes.items) }
+{
+    if !have_mail(jobs, boxes, &inboxes) {
+        let fault = RunError::Settings { sink };
+        return Err(LiveError { fault, inboxes });
+    }
+    let fault = match judge(jobs, settings) {
+        Ok(()) => {
+            let most = settings.posts;
+            return run_lawful(rt, alloc, jobs, settings, boxes, inboxes, most, gate, sink);
+        }
+        Err(WorldError::Settings) => RunError::Settings { sink },
+        Err(WorldError::ChannelTwice) => RunError::ChannelTwice { sink },
+        Err(WorldError::Prologue) => RunError::Prologue { sink },
+        Err(WorldError::Memory) => return Err(LiveError::of_memory(alloc, sink)),
+    };
+    Err(LiveError { fault, inboxes })
 }

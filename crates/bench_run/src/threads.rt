@@ -1,8 +1,6 @@
 //! The threads of a run: each is started with its job, and joined again.
-ghost use Rattle.std.specs.Prelude.{◌≡◌, ◌≢◌, ℕ, ◌<◌, ◌≤◌, ◌++◌, ◌||◌, [], true, Some, length, map, slice_get, vec_len, vec_capacity, IfSome, IfOk};
+ghost use Rattle.std.specs.Prelude.{◌≡◌, ◌≢◌, ℕ, List, ◌<◌, ◌≤◌, ◌++◌, ◌||◌, [], true, Some, length, map, slice_get, vec_len, vec_capacity, IfSome, IfOk};
 ghost use Rattle.std.specs.List.{AllByRecursion};
-ghost use Rattle.frame_asm.specs.Shapes.{code_of};
-ghost use Rattle.frame_load.specs.Budget.{worst_messages};
 ghost use Rattle.mil_trunk.specs.Tags.{has, bound_of, bounds_outside};
 ghost use Rattle.mil_trunk.specs.Views.{with_tag};
 ghost use Rattle.mil_trunk.specs.Ends.{IsTicketOf, capacity_of, tags_of, bounds_of, sent};
@@ -13,11 +11,17 @@ ghost use Rattle.bench_core.specs.Lawful.{channels_of};
 ghost use Rattle.bench_core.specs.Settled.{kept};
 ghost use Rattle.bench_run.specs.Entries.{index_of, entries_to_the_end};
 ghost use Rattle.bench_run.specs.Runs.{ArePairs, records_of, most_items};
-ghost use Rattle.bench_run.specs.Threads.{Offered, IsRoom, HasOnly, ArePromised, IsCounted, IsCountedIn, AreJoined};
+ghost use Rattle.bench_run.specs.declared.channel.Room.{Room};
+ghost use Rattle.bench_run.specs.declared.threads.Joined.{Joined};
+ghost use Rattle.bench_run.specs.Mail.{IsInboxOf};
+ghost use Rattle.bench_run.specs.Live.{AreInboxesOf};
+ghost use Rattle.bench_run.specs.Threads.{Offered, IsRoom, HasOnly, ArePromised, IsEnded, AreEnded};
 
 use crate::channel::{Ended, Room, channel};
 use crate::entry::Entry;
 use crate::gate::Gate;
+use crate::mailbox::{Inbox, Mailbox};
+use crate::posting::Posts;
 use bench_core::ordered_actions;
 use bench_report::ChannelReport;
 use job_file::Job;
@@ -34,12 +38,15 @@ pub struct Offers<'a> {
     ticket: Snapshot<Ticket<Entry>>,
     index: u8,
     job: &'a Job,
+    mailbox: &'a Mailbox,
+    most: u32,
+    inbox: Snapshot<Inbox>,
 }
 
 impl<'a> Promise<Ended> for Offers<'a> {
     ghost use Rattle.bench_run.specs.Threads.{Offered};
 
-    ghost kept_by = { λ p r. Offered p.trunk.now p.ticket.value p.index p.job.now r };
+    ghost kept_by = { λ p r. Offered p.trunk.now p.ticket.value p.index p.job.now p.mailbox.now p.most p.inbox.value r };
 }
 
 /// How many items each channel may send: its messages, and its end mark.
@@ -54,24 +61,45 @@ pub(crate) fn bounds(alloc: Global, jobs: &[Job]) -> Result<Vec<u64>, AllocError
     Ok(bounds)
 }
 
-/// What each thread takes along, in the order of the jobs. All memory that the threads need is taken here.
-pub(crate) fn rooms(alloc: Global, jobs: &[Job]) -> Result<Vec<Room>, AllocError>
-    ensures { IfOk result (λ v. ArePairs IsRoom jobs.now v.items) }
+/// What each thread takes along, in the order of the jobs, each with its inbox, from which it may take so many posts. All memory that
+/// the threads need is taken here.
+pub(crate) fn rooms(
+    alloc: Global,
+    jobs: &[Job],
+    most: u32,
+    inboxes: Vec<Inbox>,
+) -> Result<Vec<Room>, AllocError>
+    requires { length jobs.now ≡ vec_len inboxes }
+    ensures rooms { IfOk result (λ v. ArePairs IsRoom jobs.now v.items) }
+    ensures inboxes { IfOk result (λ v. map (λ (room : Room). room.posts.inbox) v.items ≡ inboxes.items) }
+    ensures most { IfOk result (λ v. AllByRecursion (λ (room : Room). room.posts.left ≡ most) v.items) }
 {
     let mut rooms = Vec::with_capacity(alloc, jobs.len())?;
-    for job in jobs {
-        rooms.push_reserved(room_for(alloc, job)?);
+    for inbox in inboxes {
+        let job = &jobs[rooms.len()];
+        rooms.push_reserved(room_for(alloc, job, most, inbox)?);
     }
     Ok(rooms)
 }
 
-fn room_for(alloc: Global, job: &Job) -> Result<Room, AllocError>
-    ensures { IfOk result (λ room. IsRoom job.now room) }
+fn room_for(alloc: Global, job: &Job, most: u32, inbox: Inbox) -> Result<Room, AllocError>
+    ensures room { IfOk result (λ room. IsRoom job.now room) }
+    ensures inbox { IfOk result (λ room. room.posts.inbox ≡ inbox) }
+    ensures most { IfOk result (λ room. room.posts.left ≡ most) }
 {
+    let mut machine = job.machine(alloc, job.actions())?;
+    machine.room(most)?;
+    let refused = Vec::with_capacity(alloc, job.program().worst_messages() as usize)?;
+    let mut ordered = ordered_actions(alloc, job)?;
+    ordered.reserve(most as usize)?;
     Ok(Room {
-        machine: job.machine(alloc, job.actions())?,
-        refused: Vec::with_capacity(alloc, job.program().worst_messages() as usize)?,
-        ordered: ordered_actions(alloc, job)?,
+        machine,
+        refused,
+        posts: Posts {
+            inbox,
+            left: most,
+            ordered,
+        },
     })
 }
 
@@ -96,6 +124,7 @@ fn start<'s, E, R: Wait + Sync, G: Gate>(
     gate: &'s G,
     index: u8,
     job: &'s Job,
+    mailbox: &'s Mailbox,
     ticket: Ticket<Entry>,
     room: Room,
 ) -> Option<PromisedHandle<Ended, Offers<'s>>>
@@ -103,20 +132,25 @@ fn start<'s, E, R: Wait + Sync, G: Gate>(
     requires tag { has (tags_of ticket) index ≡ true }
     requires bound { bound_of (bounds_of ticket) index ≡ most_items job.now }
     requires room { IsRoom job.now room }
-    ensures { IfSome result (λ h. (h.promise.trunk.now ≡ trunk.now) × (h.promise.ticket.value ≡ ticket) × (h.promise.index ≡ index) × (h.promise.job.now ≡ job.now)) }
+    requires inbox { IsInboxOf mailbox.now room.posts.inbox }
+    ensures { IfSome result (λ h. (h.promise.trunk.now ≡ trunk.now) × (h.promise.ticket.value ≡ ticket) × (h.promise.index ≡ index) × (h.promise.job.now ≡ job.now)
+        × (h.promise.mailbox.now ≡ mailbox.now) × (h.promise.most ≡ room.posts.left) × (h.promise.inbox.value ≡ room.posts.inbox)) }
 {
     let promise = Offers {
         trunk,
         ticket: Snapshot::of(&ticket),
         index,
         job,
+        mailbox,
+        most: room.posts.left,
+        inbox: Snapshot::of(&room.posts.inbox),
     };
     let started = scope.spawn_with(
         promise,
         move || -> Ended
-            requires { IsTicketOf trunk.now ticket × (sent ticket ≡ []) × (has (tags_of ticket) index ≡ true) × (bound_of (bounds_of ticket) index ≡ most_items job.now) × IsRoom job.now room }
-            ensures { Offered trunk.entry.now ticket index job.entry.now result }
-        { channel(rt, trunk, gate, index, job, ticket, room) },
+            requires { IsTicketOf trunk.now ticket × (sent ticket ≡ []) × (has (tags_of ticket) index ≡ true) × (bound_of (bounds_of ticket) index ≡ most_items job.now) × IsRoom job.now room × IsInboxOf mailbox.now room.posts.inbox }
+            ensures { Offered trunk.entry.now ticket index job.entry.now mailbox.entry.now room.posts.left room.posts.inbox result }
+        { channel(rt, trunk, gate, index, job, mailbox, ticket, room) },
     );
     started.ok()
 }
@@ -129,6 +163,9 @@ pub(crate) fn start_all<'s, E, R: Wait + Sync, G: Gate>(
     trunk: &'s Trunk<Entry>,
     gate: &'s G,
     jobs: &'s [Job],
+    boxes: &'s [Mailbox],
+    inboxes: &Snapshot<Vec<Inbox>>,
+    most: u32,
     rooms: Vec<Room>,
     rest: &mut Ticket<Entry>,
     mut handles: Vec<PromisedHandle<Ended, Offers<'s>>>,
@@ -138,22 +175,43 @@ pub(crate) fn start_all<'s, E, R: Wait + Sync, G: Gate>(
     requires few { length jobs.now ≤ 32 }
     requires bounds { bounds_of rest.old ≡ map most_items jobs.now }
     requires rooms { ArePairs IsRoom jobs.now rooms.items }
+    requires boxes { length boxes.now ≡ length jobs.now }
+    requires inboxes { AreInboxesOf boxes.now inboxes.now.value.items }
+    requires inboxes_are { map (λ (room : Room). room.posts.inbox) rooms.items ≡ inboxes.now.value.items }
+    requires most { AllByRecursion (λ (room : Room). room.posts.left ≡ most) rooms.items }
     requires handles { (handles.items ≡ []) × (length jobs.now ≤ vec_capacity handles) }
     ensures ticket { IsTicketOf trunk.now rest.new × (sent rest.new ≡ []) × (bounds_of rest.new ≡ bounds_of rest.old) }
     ensures started { vec_len result ≤ length jobs.now }
     ensures tags { (t : ℕ) → t < 64 → length jobs.now ≤ t → has (tags_of rest.new) t ≡ true }
-    ensures promised { ArePromised trunk.now (bounds_of rest.old) jobs.now result.items }
+    ensures promised { ArePromised trunk.now (bounds_of rest.old) jobs.now most boxes.now inboxes.now.value.items result.items }
 {
     for room in rooms {
         let index = handles.len();
         let ticket = part_off(trunk, rest, index as u8);
-        let job = &jobs[index];
-        match start(scope, rt, trunk, gate, index as u8, job, ticket, room) {
+        let (job, mailbox) = (&jobs[index], &boxes[index]);
+        match start(
+            scope,
+            rt,
+            trunk,
+            gate,
+            index as u8,
+            job,
+            mailbox,
+            ticket,
+            room,
+        ) {
             Some(handle) => handles.push_reserved(handle),
             None => return handles,
         }
     }
     handles
+}
+
+/// What is left of a thread that was joined: the channel's part of the report, and its inbox.
+#[derive(Drop)]
+pub(crate) struct Joined {
+    pub(crate) part: ChannelReport,
+    pub(crate) inbox: Inbox,
 }
 
 // Waits for a thread, and takes its ticket in.
@@ -162,43 +220,69 @@ fn join_one<R: Threads>(
     trunk: &Trunk<Entry>,
     handle: PromisedHandle<Ended, Offers<'_>>,
     rest: &mut Ticket<Entry>,
-) -> ChannelReport
+) -> Joined
     requires ticket { IsTicketOf trunk.now rest.old × (handle.promise.trunk.now ≡ trunk.now) }
     ensures ticket { IsTicketOf trunk.now rest.new × (bounds_of rest.new ≡ bounds_of rest.old) }
     ensures tags { (t : ℕ) → has (tags_of rest.new) t ≡ (has (tags_of rest.old) t || has (tags_of handle.entry.promise.ticket.value) t) }
-    ensures sent { sent rest.new ≡ sent rest.old ++ entries_to_the_end handle.entry.promise.index (kept result.refused (records_of handle.entry.promise.job.now)) }
-    ensures counted { IsCounted (capacity_of trunk.now) (bounds_outside (tags_of handle.entry.promise.ticket.value) (bounds_of handle.entry.promise.ticket.value)) handle.entry.promise.job.now result }
+    ensures ended { (own : List Entry) × (sent rest.new ≡ sent rest.old ++ own) × IsEnded (capacity_of trunk.now)
+        (bounds_outside (tags_of handle.entry.promise.ticket.value) (bounds_of handle.entry.promise.ticket.value)) handle.entry.promise.index
+        handle.entry.promise.job.now handle.entry.promise.mailbox.now handle.entry.promise.most handle.entry.promise.inbox.value result own }
 {
-    let Ended { ticket, part } = handle.join(rt);
+    let Ended {
+        ticket,
+        part,
+        inbox,
+    } = handle.join(rt);
     trunk.take_in(rest, ticket);
-    part
+    Joined { part, inbox }
 }
 
-/// Waits for the threads of the jobs 0, 1, .., takes their tickets in, and gives their parts of the report, in the order of the
-/// jobs and in memory that was reserved.
+/// Waits for the threads of the jobs 0, 1, .., takes their tickets in, and gives what is left of them, in the order of the jobs and in
+/// memory that was reserved.
 pub(crate) fn join_all<R: Threads>(
     rt: &R,
     trunk: &Trunk<Entry>,
     jobs: &[Job],
+    boxes: &[Mailbox],
+    inboxes: &Snapshot<Vec<Inbox>>,
+    most: u32,
     handles: Vec<PromisedHandle<Ended, Offers<'_>>>,
     rest: &mut Ticket<Entry>,
-    mut parts: Vec<ChannelReport>,
-) -> Vec<ChannelReport>
+    mut joined: Vec<Joined>,
+) -> Vec<Joined>
     requires ticket { IsTicketOf trunk.now rest.old × (sent rest.old ≡ []) }
     requires bounds { bounds_of rest.old ≡ map most_items jobs.now }
     requires distinct { AreDistinct (channels_of jobs.now) }
-    requires promised { ArePromised trunk.now (bounds_of rest.old) jobs.now handles.items }
-    requires parts { (parts.items ≡ []) × (vec_len handles ≤ vec_capacity parts) }
+    requires promised { ArePromised trunk.now (bounds_of rest.old) jobs.now most boxes.now inboxes.now.value.items handles.items }
+    requires joined { (joined.items ≡ []) × (vec_len handles ≤ vec_capacity joined) }
     ensures ticket { IsTicketOf trunk.now rest.new × (bounds_of rest.new ≡ bounds_of rest.old) }
     ensures held { (t : ℕ) → has (tags_of rest.old) t ≡ true → has (tags_of rest.new) t ≡ true }
     ensures gained { (t : ℕ) → t < vec_len handles.entry → has (tags_of rest.new) t ≡ true }
     ensures len { vec_len result ≡ vec_len handles.entry }
-    ensures joined { AreJoined (capacity_of trunk.now) (sent rest.new) jobs.now result.items }
-    ensures counted { vec_len handles.entry ≡ length jobs.now → ArePairs (IsCountedIn (capacity_of trunk.now) jobs.now) jobs.now result.items }
+    ensures ended { AreEnded (capacity_of trunk.now) (sent rest.new) jobs.now most boxes.now inboxes.now.value.items result.items }
     ensures unsent { (t : ℕ) → vec_len handles.entry ≤ t → with_tag index_of t (sent rest.new) ≡ [] }
 {
     for handle in handles {
-        parts.push_reserved(join_one(rt, trunk, handle, rest));
+        joined.push_reserved(join_one(rt, trunk, handle, rest));
     }
-    parts
+    joined
+}
+
+/// The parts of the report and the inboxes of what is left of the threads, each list in memory that was reserved.
+pub(crate) fn parted(
+    joined: Vec<Joined>,
+    mut parts: Vec<ChannelReport>,
+    mut inboxes: Vec<Inbox>,
+) -> (Vec<ChannelReport>, Vec<Inbox>)
+    requires parts { (parts.items ≡ []) × (vec_len joined ≤ vec_capacity parts) }
+    requires inboxes { (inboxes.items ≡ []) × (vec_len joined ≤ vec_capacity inboxes) }
+    ensures parts { result.0.items ≡ map (λ (j : Joined). j.part) joined.items }
+    ensures inboxes { result.1.items ≡ map (λ (j : Joined). j.inbox) joined.items }
+{
+    for one in joined {
+        let Joined { part, inbox } = one;
+        parts.push_reserved(part);
+        inboxes.push_reserved(inbox);
+    }
+    (parts, inboxes)
 }

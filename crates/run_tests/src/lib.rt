@@ -15,6 +15,7 @@ mod gates;
 #[cfg(test)]
 mod held;
 #[cfg(test)]
+#[cfg(test)]
 mod mailboxes;
 #[cfg(test)]
 mod many;

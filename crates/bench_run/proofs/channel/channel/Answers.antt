@@ -1,4 +1,4 @@
-use Rattle.std.proofs.Common.{arith, ap, sym, ◌∙◌, ◌≡◌, ◌≤◌, ◌-◌, length, subst, refl}
+use Rattle.std.proofs.Common.{arith, ap, sym, ◌∙◌, ◌≡◌, ◌≤◌, ◌-◌, ◌++◌, [], length, subst, refl}
 use Rattle.std.specs.Prelude.{Some, slice_get}
 use Rattle.frame_asm.specs.Shapes.{code_of}
 use Rattle.frame_load.specs.Budget.{worst_messages}
@@ -6,95 +6,132 @@ use Rattle.mil_trunk.specs.Tags.{has, bound_of}
 use Rattle.mil_trunk.specs.Ends.{tags_of, bounds_of}
 use Rattle.job_file.specs.Jobs.{tree_in, job_in}
 use Rattle.bench_report.specs.Reports.{Rises}
+use Rattle.bench_run.specs.Mail.{received_by}
+use Rattle.bench_run.specs.Live.{with_posts}
 use Rattle.bench_run.specs.Runs.{records_of, most_items}
 use Rattle.bench_run.specs.Threads.{SoFar}
 use Rattle.bench_run.proofs.Stages.{first_stage, last_stage, few_sent, by_ticket, by_given}
+use Rattle.bench_run.proofs.PlacedPosts.{placed_all}
+use Rattle.bench_run.proofs.PlacedStages.{stage_first, so_far_placed, stage_on}
 use Rattle.bench_run.proofs.channel.channel.Goals as goal
 
 pub messages-init : goal.messages-init
-messages-init g c = record {
-  of = c.requires.room.machine;
-  so_far = first_stage c.args.trunk.now (tags_of c.args.ticket) (bounds_of c.args.ticket) c.args.index c.args.job.now c.args.room.machine.point.number c.args.ticket c.args.room.refused.items c.requires.room.first c.requires.room.empty c.requires.ticket.0 refl refl c.requires.ticket.1;
-  room = refl;
-}
+messages-init g c =
+    let room = c.args.room in
+    record {
+      stage = stage_first c.args.trunk.now (tags_of c.args.ticket) (bounds_of c.args.ticket) c.args.index room.posts.left (received_by room.posts.inbox) c.args.job.now room.machine c.args.ticket room.refused.items room.posts refl refl c.requires.room.machine c.requires.room.ordered
+          (first_stage c.args.trunk.now (tags_of c.args.ticket) (bounds_of c.args.ticket) c.args.index (with_posts c.args.job.now []) room.machine.point.number c.args.ticket room.refused.items c.requires.room.first c.requires.room.empty c.requires.ticket.0 refl refl c.requires.ticket.1);
+      inbox = c.requires.inbox;
+      ordered = c.requires.room.fit;
+      room = refl;
+    }
 
 pub offer_message-requires-clause-so_far : goal.offer_message-requires-clause-so_far
 offer_message-requires-clause-so_far g c κs within =
-    let is = c.number-number.ensures.value ∙ c.in-Some.ensures.number in
-    by_ticket c.args.trunk.now (tags_of c.args.ticket) (bounds_of c.args.ticket) c.args.index c.args.job.now c.messages.machine.point.number c.number-number.result c.messages.ticket c.messages.refused.items is c.messages.invariant.so_far
+    let job = c.args.job.now in
+    let room = c.args.room in
+    let posted = c.place_all.ensures.posted room.posts.left (received_by room.posts.inbox) job c.messages.invariant.stage.posted in
+    let st = so_far_placed c.args.trunk.now (tags_of c.args.ticket) (bounds_of c.args.ticket) c.args.index room.posts.left (received_by room.posts.inbox) job c.messages.machine c.place_all.new.machine c.messages.ticket c.messages.refused.items c.messages.posts c.place_all.new.self
+    (λ placed m of. c.job_runs.ensures.so_far (job_in job) placed m c.program-sound.ensures.sound of) c.place_all.ensures.point c.messages.invariant.stage posted in
+    let is = c.number-number.ensures.value ∙ c.in-Some.ensures.number in (
+      with_posts job posted.posts,
+      by_ticket c.args.trunk.now (tags_of c.args.ticket) (bounds_of c.args.ticket) c.args.index (with_posts job posted.posts) c.place_all.new.machine.point.number c.number-number.result c.messages.ticket c.messages.refused.items is st,
+    )
 
 pub offer_message-requires-clause-tag : goal.offer_message-requires-clause-tag
-offer_message-requires-clause-tag g c κs within = ap (λ tags. has tags c.args.index) c.messages.invariant.so_far.tags ∙ c.requires.tag
+offer_message-requires-clause-tag g c κs within = ap (λ tags. has tags c.args.index) c.messages.invariant.stage.so_far.tags ∙ c.requires.tag
 
 pub offer_message-requires-clause-bound : goal.offer_message-requires-clause-bound
 offer_message-requires-clause-bound g c κs within =
     let job = c.args.job.now in
+    let room = c.args.room in
     let new = c.next_record.new.machine in
-    let of = c.next_record.ensures.of_job (job_in job) job.actions c.messages.invariant.of in
+    let posted = c.place_all.ensures.posted room.posts.left (received_by room.posts.inbox) job c.messages.invariant.stage.posted in
+    let of = c.next_record.ensures.of_job (job_in job) (job.actions ++ posted.posts) posted.of in
     let top : new.point.number ≤ worst_messages (code_of (tree_in job)).operations = subst (λ code. new.point.number ≤ worst_messages code.operations) of.code of.under_way.messages in
-    let bound : bound_of (bounds_of c.messages.ticket) c.args.index ≡ most_items job = ap (λ l. bound_of l c.args.index) c.messages.invariant.so_far.bounds ∙ c.requires.bound in
+    let bound : bound_of (bounds_of c.messages.ticket) c.args.index ≡ most_items job = ap (λ l. bound_of l c.args.index) c.messages.invariant.stage.so_far.bounds ∙ c.requires.bound in
     omega (arith, top, bound, c.number-number.ensures.value)
-
-pub offer_message-requires-clause-message : goal.offer_message-requires-clause-message
-offer_message-requires-clause-message g c κs within =
-    let job = c.args.job.now in
-    let n = c.messages.machine.point.number in
-    let is : n ≡ c.number-number.result - 1 = omega (arith, c.number-number.ensures.value, c.in-Some.ensures.number) in
-    subst (λ k. slice_get (records_of job) k ≡ Some c.in-Some.record) is (c.in-Some.ensures.record (job_in job) job.actions c.program-sound.ensures.sound c.messages.invariant.of)
 
 pub offer_message-requires-clause-room : goal.offer_message-requires-clause-room
 offer_message-requires-clause-room g c κs within =
     let job = c.args.job.now in
+    let room = c.args.room in
     let new = c.next_record.new.machine in
-    let of = c.next_record.ensures.of_job (job_in job) job.actions c.messages.invariant.of in
+    let posted = c.place_all.ensures.posted room.posts.left (received_by room.posts.inbox) job c.messages.invariant.stage.posted in
+    let of = c.next_record.ensures.of_job (job_in job) (job.actions ++ posted.posts) posted.of in
     let top : new.point.number ≤ worst_messages (code_of (tree_in job)).operations = subst (λ code. new.point.number ≤ worst_messages code.operations) of.code of.under_way.messages in
     omega (arith, top, c.requires.room.capacity, c.messages.invariant.room, c.number-number.ensures.value)
+
+pub offer_message-requires-clause-recorded : goal.offer_message-requires-clause-recorded
+offer_message-requires-clause-recorded g c κs within = c.record_fits.ensures 0
 
 pub messages-preserved : goal.messages-preserved
 messages-preserved g c =
     let job = c.args.job.now in
-    let st = c.messages.invariant.so_far in
-    let next = by_given c.args.trunk.now (tags_of c.args.ticket) (bounds_of c.args.ticket) c.args.index job c.number-number.result c.messages.ticket c.offer_message.new.ticket c.offer_message.new.refused.items st.tags st.bounds c.offer_message.ensures.so_far in
+    let room = c.args.room in
+    let n = c.place_all.new.machine.point.number in
+    let posted = c.place_all.ensures.posted room.posts.left (received_by room.posts.inbox) job c.messages.invariant.stage.posted in
+    let st = so_far_placed c.args.trunk.now (tags_of c.args.ticket) (bounds_of c.args.ticket) c.args.index room.posts.left (received_by room.posts.inbox) job c.messages.machine c.place_all.new.machine c.messages.ticket c.messages.refused.items c.messages.posts c.place_all.new.self
+    (λ placed m of. c.job_runs.ensures.so_far (job_in job) placed m c.program-sound.ensures.sound of) c.place_all.ensures.point c.messages.invariant.stage posted in
+    let live = with_posts job posted.posts in
+    let of = c.next_record.ensures.of_job (job_in job) (job.actions ++ posted.posts) posted.of in
+    let is = c.number-number.ensures.value ∙ c.in-Some.ensures.number in
+    let before : n ≡ c.number-number.result - 1 = omega (arith, is) in
+    let message : slice_get (records_of live) (c.number-number.result - 1) ≡ Some c.in-Some.record =
+    subst (λ k. slice_get (records_of live) k ≡ Some c.in-Some.record) before (c.in-Some.ensures.record (job_in job) (job.actions ++ posted.posts) c.program-sound.ensures.sound posted.of) in
+    let old = by_ticket c.args.trunk.now (tags_of c.args.ticket) (bounds_of c.args.ticket) c.args.index live n c.number-number.result c.messages.ticket c.messages.refused.items is st in
+    let next = by_given c.args.trunk.now (tags_of c.args.ticket) (bounds_of c.args.ticket) c.args.index live c.number-number.result c.messages.ticket c.offer_message.new.ticket c.offer_message.new.refused.items st.tags st.bounds (c.offer_message.ensures.so_far live old message) in
     record {
-      of = c.next_record.ensures.of_job (job_in job) job.actions c.messages.invariant.of;
-      so_far = subst (λ k. SoFar c.args.trunk.now (tags_of c.args.ticket) (bounds_of c.args.ticket) c.args.index job k c.offer_message.new.ticket c.offer_message.new.refused.items) c.number-number.ensures.value next;
+      stage = stage_on c.args.trunk.now (tags_of c.args.ticket) (bounds_of c.args.ticket) c.args.index room.posts.left (received_by room.posts.inbox) job c.place_all.new.machine c.next_record.new.machine c.offer_message.new.ticket c.offer_message.new.refused.items c.place_all.new.self
+          posted (omega (arith, c.in-Some.ensures.number)) of
+          (subst (λ k. SoFar c.args.trunk.now (tags_of c.args.ticket) (bounds_of c.args.ticket) c.args.index live k c.offer_message.new.ticket c.offer_message.new.refused.items) c.number-number.ensures.value next);
+      inbox = c.place_all.ensures.inbox;
+      ordered = c.place_all.ensures.ordered;
       room = c.offer_message.ensures.room ∙ c.messages.invariant.room;
     }
 
 pub offer_end-requires-clause-tag : goal.offer_end-requires-clause-tag
-offer_end-requires-clause-tag g c κs within = ap (λ tags. has tags c.args.index) c.messages.invariant.so_far.tags ∙ c.requires.tag
+offer_end-requires-clause-tag g c κs within = ap (λ tags. has tags c.args.index) c.messages.invariant.stage.so_far.tags ∙ c.requires.tag
 
 pub offer_end-requires-clause-bound : goal.offer_end-requires-clause-bound
 offer_end-requires-clause-bound g c κs within =
     let job = c.args.job.now in
     let n = c.messages.machine.point.number in
-    let of = c.messages.invariant.of in
-    let st = c.messages.invariant.so_far in
+    let stage = c.messages.invariant.stage in
+    let of = stage.posted.of in
+    let st = stage.so_far in
     let top : n ≤ worst_messages (code_of (tree_in job)).operations = subst (λ code. n ≤ worst_messages code.operations) of.code of.under_way.messages in
     let bound : bound_of (bounds_of c.messages.ticket) c.args.index ≡ most_items job = ap (λ l. bound_of l c.args.index) st.bounds ∙ c.requires.bound in
-    let few = few_sent c.args.trunk.now (tags_of c.args.ticket) (bounds_of c.args.ticket) c.args.index job n c.messages.ticket c.messages.refused.items st in
+    let few = few_sent c.args.trunk.now (tags_of c.args.ticket) (bounds_of c.args.ticket) c.args.index (with_posts job stage.posted.posts) n c.messages.ticket c.messages.refused.items st in
     omega (arith, top, bound, few)
 
 pub channel_report-requires-clause-refused : goal.channel_report-requires-clause-refused
 channel_report-requires-clause-refused g c =
-    let made : c.number-2.result ≡ c.messages.machine.point.number = c.number-2.ensures.value ∙ c.in_default.ensures.same in
-    subst (λ n. Rises 0 n c.messages.refused.items) (sym made) c.messages.invariant.so_far.rising
+    let made : c.number-2.result ≡ c.messages.machine.point.number = c.number-2.ensures.value ∙ c.in_default.ensures.same ∙ ap (λ z. z.number) c.place_all.ensures.point in
+    subst (λ n. Rises 0 n c.messages.refused.items) (sym made) c.messages.invariant.stage.so_far.rising
 
 pub returns : goal.returns
 returns g c =
     let job = c.args.job.now in
-    let n = c.messages.machine.point.number in
-    let of = c.messages.invariant.of in
-    let st = c.messages.invariant.so_far in
-    let whole : n ≡ length (records_of job) = c.in_default.ensures.all (job_in job) job.actions c.program-sound.ensures.sound c.messages.invariant.of in
+    let room = c.args.room in
+    let m = c.place_all.new.machine in
+    let n = m.point.number in
+    let posted = c.place_all.ensures.posted room.posts.left (received_by room.posts.inbox) job c.messages.invariant.stage.posted in
+    let st = so_far_placed c.args.trunk.now (tags_of c.args.ticket) (bounds_of c.args.ticket) c.args.index room.posts.left (received_by room.posts.inbox) job c.messages.machine m c.messages.ticket c.messages.refused.items c.messages.posts c.place_all.new.self
+    (λ placed m of. c.job_runs.ensures.so_far (job_in job) placed m c.program-sound.ensures.sound of) c.place_all.ensures.point c.messages.invariant.stage posted in
+    let live = with_posts job posted.posts in
+    let of = posted.of in
+    let whole : n ≡ length (records_of live) = c.in_default.ensures.all (job_in job) (job.actions ++ posted.posts) c.program-sound.ensures.sound posted.of in
     let made : c.number-2.result ≡ n = c.number-2.ensures.value ∙ c.in_default.ensures.same in
     let top : n ≤ worst_messages (code_of (tree_in job)).operations = subst (λ code. n ≤ worst_messages code.operations) of.code of.under_way.messages in
     let end = c.offer_end.ensures in
     let part = c.channel_report.ensures in
-    last_stage c.args.trunk.now c.args.ticket c.args.index job c.number-2.result c.messages.ticket c.offer_end.new.ticket c.messages.refused.items c.channel_report.result
-    (subst (λ k. SoFar c.args.trunk.now (tags_of c.args.ticket) (bounds_of c.args.ticket) c.args.index job k c.messages.ticket c.messages.refused.items) (sym made) st) (made ∙ whole) end.ticket end.tags end.bounds end.sent
-    (part.channel ∙ c.channel-3.ensures.value) part.made part.refused (part.placed job.actions c.requires.room.ordered)
-    (omega (arith, c.channel-3.ensures.value)) (omega (arith, c.number-2.ensures.range)) (omega (arith, made, top))
-
-pub offer_message-requires-clause-recorded : goal.offer_message-requires-clause-recorded
-offer_message-requires-clause-recorded g c κs within = c.record_fits.ensures 0
+    record {
+      posts = posted.posts;
+      inbox = c.place_all.ensures.inbox;
+      placed = placed_all room.posts.left (received_by room.posts.inbox) job c.channel_report.result.made m c.place_all.new.self (received_by c.place_all.new.self.inbox) posted (sym made ∙ sym part.made) refl;
+      offered = last_stage c.args.trunk.now c.args.ticket c.args.index live c.number-2.result c.messages.ticket c.offer_end.new.ticket c.messages.refused.items c.channel_report.result
+          (subst (λ k. SoFar c.args.trunk.now (tags_of c.args.ticket) (bounds_of c.args.ticket) c.args.index live k c.messages.ticket c.messages.refused.items) (sym made) st) (made ∙ whole) end.ticket end.tags end.bounds end.sent
+          (part.channel ∙ c.channel-3.ensures.value) part.made part.refused (part.placed live.actions posted.ordered)
+          (omega (arith, c.channel-3.ensures.value)) (omega (arith, c.number-2.ensures.range)) (omega (arith, made, top));
+    }

@@ -24,6 +24,8 @@ returns-in-Ok c =
       bounds = made.bounds ∙ c.deref.ensures.value ∙ bounds.bounds;
       taker_bounds = made.bounds_in ∙ c.deref.ensures.value ∙ bounds.bounds;
       few = omega (arith, top, length-map jobs most_items, c.requires);
-      rooms = c.in_ok-rooms.ensures;
+      rooms = c.in_ok-rooms.ensures.rooms;
+      inboxes_are = c.in_ok-rooms.ensures.inboxes;
+      most_are = c.in_ok-rooms.ensures.most;
       channels = c.in_ok-channels.ensures;
     }

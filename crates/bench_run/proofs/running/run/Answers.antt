@@ -3,6 +3,7 @@ use Rattle.bench_core.specs.declared.settings.WorldError.TheVariants as fault
 use Rattle.bench_core.specs.Lawful.{format_of, Refuses}
 use Rattle.ch11_recording.specs.WrittenFile.{written_file}
 use Rattle.bench_run.proofs.Beginning.{nothing_taken}
+use Rattle.bench_run.proofs.Refusing.{ran_alone, left_alone}
 use Rattle.bench_run.proofs.running.run.Goals as goal
 
 pub returns-in-Err-Memory-clause-refused : goal.returns-in-Err-Memory-clause-refused
@@ -19,9 +20,10 @@ returns-in_default-clause-refused g c = (
   ([], 0, nothing_taken (g.S.Sink.taken c.args.sink) (written_file (format_of c.args.settings.now) c.args.settings.now.prologue.items [])),
 )
 
+pub returns-in-Ok-run_lawful-clause-ran : goal.returns-in-Ok-run_lawful-clause-ran
+returns-in-Ok-run_lawful-clause-ran g c =
+    ran_alone g.S.Sink.taken c.args.jobs.now c.args.settings.now c.in-Ok-no_posts.inboxes.items c.args.sink c.in-Ok-run_lawful.report c.in-Ok-run_lawful.field-0-1.items c.in-Ok-run_lawful.sink c.in-Ok-run_lawful.ensures.ran
+
 pub returns-clause-refused : goal.returns-clause-refused
 returns-clause-refused g c =
-    let bytes = written_file (format_of c.args.settings.now) c.args.settings.now.prologue.items [] in (
-      c.in-Ok.ensures.lawful,
-      ([], 0, rw c.in-Err.ensures.back (nothing_taken (g.S.Sink.taken c.args.sink) bytes)),
-    )
+    left_alone g.S.Sink.taken g.S.Sink.failures c.args.jobs.now c.args.settings.now c.in-Ok-no_posts.inboxes.items c.args.sink c.in-Err.field-0.fault c.in-Err.field-0.inboxes.items c.in-Err.ensures.refused

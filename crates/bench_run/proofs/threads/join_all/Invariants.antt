@@ -5,18 +5,18 @@ use Rattle.mil_trunk.specs.Ends.{IsTicketOf, capacity_of, bounds_of, sent, tags_
 use Rattle.mil_trunk.specs.Tags.{has}
 use Rattle.mil_trunk.specs.Views.{with_tag}
 use Rattle.bench_run.specs.Entries.{index_of}
-use Rattle.bench_run.specs.Threads.{IsPromised, AreJoined}
+use Rattle.bench_run.specs.Threads.{IsPromised, AreEnded}
 use Rattle.bench_run.proofs.threads.join_all.Given as goal
 
 abbrev pub invariant-loop-handle : goal.invariant-loop-handle
 invariant-loop-handle g l =
-    let done = vec_len l.parts in let rest = l.handle-iterator in record {
+    let done = vec_len l.joined in let rest = l.handle-iterator in record {
       ours : IsTicketOf l.trunk l.rest × (bounds_of l.rest ≡ bounds_of l.fn.rest);
       left : done + into_iter_len rest ≡ vec_len l.fn.handles;
       low : (t : ℕ) → t < done → has (tags_of l.rest) t ≡ true;
       high : (t : ℕ) → has (tags_of l.fn.rest) t ≡ true → has (tags_of l.rest) t ≡ true;
-      capacity : vec_len l.fn.handles ≤ vec_capacity l.parts;
-      promised : (k : ℕ) (h : _) → slice_get (into_iter_items rest) k ≡ Some h → IsPromised l.trunk (bounds_of l.fn.rest) l.jobs (done + k) h.promise;
-      joined : AreJoined (capacity_of l.trunk) (sent l.rest) l.jobs l.parts.items;
+      capacity : vec_len l.fn.handles ≤ vec_capacity l.joined;
+      promised : (k : ℕ) (h : _) → slice_get (into_iter_items rest) k ≡ Some h → IsPromised l.trunk (bounds_of l.fn.rest) l.jobs l.most l.boxes l.inboxes.value.items (done + k) h.promise;
+      ended : AreEnded (capacity_of l.trunk) (sent l.rest) l.jobs l.most l.boxes l.inboxes.value.items l.joined.items;
       later : (t : ℕ) → done ≤ t → with_tag index_of t (sent l.rest) ≡ [];
     }

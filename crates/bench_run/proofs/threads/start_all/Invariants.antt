@@ -14,5 +14,6 @@ invariant-loop-room g l =
       tags : (t : ℕ) → t < 64 → done ≤ t → has (tags_of l.rest) t ≡ true;
       capacity : length l.jobs ≤ vec_capacity l.handles;
       rooms : (k : ℕ) (room : _) → slice_get (into_iter_items rest) k ≡ Some room → (job : _) → slice_get l.jobs (done + k) ≡ Some job → IsRoom job room;
-      promised : ArePromised l.trunk (bounds_of l.fn.rest) l.jobs l.handles.items;
+      inboxes : (k : ℕ) (room : _) → slice_get (into_iter_items rest) k ≡ Some room → (slice_get l.inboxes.value.items (done + k) ≡ Some room.posts.inbox) × (room.posts.left ≡ l.most);
+      promised : ArePromised l.trunk (bounds_of l.fn.rest) l.jobs l.most l.boxes l.inboxes.value.items l.handles.items;
     }

@@ -1,0 +1,162 @@
+-- Posts that a channel's thread places, one more at a time.
+use Rattle.std.proofs.Common.{◌≡◌, ℕ, zero, suc, ◌+◌, ◌<◌, ◌≤◌, List, [], ◌∷◌, ◌++◌, length, map, take, append-nil, refl, sym, ap, ◌∙◌, subst, arith}
+use Rattle.std.specs.List.{AllByRecursion}
+use Rattle.std.proofs.lemmas.List.{map-append, length-append, length-map, append_assoc}
+use Rattle.bc_machine.specs.declared.placed.Placed.{Placed}
+use Rattle.bc_machine.specs.Running.{MachineState}
+use Rattle.bc_machine.specs.Posting.{with_placed, at_next}
+use Rattle.bc_machine.specs.UnderWay.{IsUnderWay}
+use Rattle.job_file.specs.Jobs.{JobState, job_in}
+use Rattle.job_file.specs.Machines.{IsOf}
+use Rattle.bench_report.specs.Reports.{NeverFalls}
+use Rattle.bench_core.specs.Placing.{placed_up_to}
+use Rattle.bench_run.specs.declared.mailbox.Post.{Post}
+use Rattle.bench_run.specs.declared.posting.Posts.{Posts}
+use Rattle.bench_run.specs.Mail.{received_by}
+use Rattle.bench_run.specs.Live.{asked_by, asked_at, ArePlaced}
+use Rattle.bench_run.specs.Posted.{IsPosted}
+use Rattle.bench_run.proofs.Offering.{all_more}
+
+take_within : {X : Type 0} (n : ℕ) (xs ys : List X) → n ≤ length xs → take n (xs ++ ys) ≡ take n xs
+take_within zero xs ys low = refl
+take_within (suc n) [] ys low = absurd (omega (arith, low))
+take_within (suc n) (x ∷ xs) ys low = ap (λ l. x ∷ l) (take_within n xs ys (omega (arith, low)))
+
+take_length : {X : Type 0} (n : ℕ) (xs : List X) → length xs ≡ n → take n xs ≡ xs
+take_length zero [] e = refl
+take_length zero (x ∷ xs) e = absurd (omega (arith, e))
+take_length (suc n) [] e = refl
+take_length (suc n) (x ∷ xs) e = ap (λ l. x ∷ l) (take_length n xs (omega (arith, e)))
+
+length-take_le : {X : Type 0} (n : ℕ) (xs : List X) → length (take n xs) ≤ length xs
+length-take_le zero xs = omega arith
+length-take_le (suc n) [] = omega arith
+length-take_le (suc n) (x ∷ xs) = let rest = length-take_le n xs in omega (arith, rest)
+
+-- no more were placed than received
+pub few_placed : (posts : List Placed) (got : List Post) → map asked_at posts ≡ take (length posts) (map asked_by got) → length posts ≤ length got
+few_placed posts got first =
+    let same = ap length first in
+    let low = length-take_le (length posts) (map asked_by got) in
+    omega (arith, same, low, length-map posts asked_at, length-map got asked_by)
+
+order_more : (low : ℕ) (ps : List Placed) (x : Placed) → low ≤ x.number → NeverFalls low ps → AllByRecursion (λ q. q.number ≤ x.number) ps → NeverFalls low (ps ++ x ∷ [])
+order_more low [] x le order all = (le, tt)
+order_more low (p ∷ ps) x le order all = (order.0, order_more p.number ps x all.0 order.1 all.1)
+
+pub later : (n m : ℕ) (ps : List Placed) → n ≤ m → AllByRecursion (λ q. q.number ≤ n) ps → AllByRecursion (λ q. q.number ≤ m) ps
+later n m [] le all = tt
+later n m (p ∷ ps) le all = (omega (arith, le, all.0), later n m ps le all.1)
+
+module _ (most : ℕ) (before : List Post) (job : JobState) where
+  -- a post was received and placed at the next message
+  pub one_placed : (m m' : MachineState) (p p' : Posts) (x : Post) → IsPosted most before job m p → 0 < p.left → p'.left + 1 ≡ p.left
+      → received_by p'.inbox ≡ received_by p.inbox ++ x ∷ []
+      → m' ≡ with_placed m (m.placed ++ at_next m x.address x.action ∷ []) → IsUnderWay m'
+      → ((actions : List Placed) → p.ordered.items ≡ placed_up_to 1000000 actions → p'.ordered.items ≡ placed_up_to 1000000 (actions ++ at_next m x.address x.action ∷ []))
+      → IsPosted most before job m' p'
+  one_placed m m' p p' x is some less received moved under_way listed =
+      let y : Placed = at_next m x.address x.action in
+      let same = is.all some in
+      let grown : (job.actions ++ is.posts) ++ y ∷ [] ≡ job.actions ++ (is.posts ++ y ∷ []) = append_assoc job.actions is.posts (y ∷ []) in
+      let long : length (map asked_by is.got) ≡ length is.posts = length-map is.got asked_by ∙ sym same in
+      let number : m'.point.number ≡ m.point.number = ap (λ (z : MachineState). z.point.number) moved in
+      let all_asked : map asked_at is.posts ≡ map asked_by is.got = is.first ∙ take_length (length is.posts) (map asked_by is.got) long in
+      let more : length (is.posts ++ y ∷ []) ≡ length (map asked_by (is.got ++ x ∷ [])) =
+      omega (arith, length-append is.posts (y ∷ []), length-map (is.got ++ x ∷ []) asked_by, length-append is.got (x ∷ []), same) in
+      record {
+        posts = is.posts ++ y ∷ [];
+        got = is.got ++ x ∷ [];
+        received = received ∙ ap (λ l. l ++ x ∷ []) is.received ∙ append_assoc before is.got (x ∷ []);
+        few = omega (arith, is.few, less, length-append is.got (x ∷ []));
+        first = map-append asked_at is.posts (y ∷ []) ∙ ap (λ l. l ++ asked_at y ∷ []) all_asked ∙ sym (map-append asked_by is.got (x ∷ []))
+            ∙ sym (take_length (length (is.posts ++ y ∷ [])) (map asked_by (is.got ++ x ∷ [])) (sym more));
+        all = λ left. omega (arith, same, length-append is.posts (y ∷ []), length-append is.got (x ∷ []));
+        order = order_more 1 is.posts y (omega arith) is.order is.latest;
+        latest = subst (λ n. AllByRecursion (λ q. q.number ≤ n + 1) (is.posts ++ y ∷ [])) (sym number) (all_more (λ q. q.number ≤ m.point.number + 1) is.posts y is.latest (omega arith));
+        of = record {
+          code = ap (λ (z : MachineState). z.code) moved ∙ is.of.code;
+          plan = ap (λ (z : MachineState). z.plan) moved ∙ is.of.plan;
+          actions = ap (λ (z : MachineState). z.placed) moved ∙ ap (λ l. l ++ y ∷ []) is.of.actions ∙ grown;
+          begun = ap (λ (z : MachineState). z.begun) moved ∙ is.of.begun;
+          under_way = under_way;
+        };
+        ordered = listed (job.actions ++ is.posts) is.ordered ∙ ap (placed_up_to 1000000) grown;
+      }
+
+  -- a post was received, and no more are taken
+  pub one_lost : (m m' : MachineState) (p p' : Posts) (x : Post) → IsPosted most before job m p → 0 < p.left → p'.left ≡ 0
+      → received_by p'.inbox ≡ received_by p.inbox ++ x ∷ [] → m' ≡ m → p'.ordered.items ≡ p.ordered.items → IsPosted most before job m' p'
+  one_lost m m' p p' x is some none received same listed = subst (λ (z : MachineState). IsPosted most before job z p') (sym same) (record {
+    posts = is.posts;
+    got = is.got ++ x ∷ [];
+    received = received ∙ ap (λ l. l ++ x ∷ []) is.received ∙ append_assoc before is.got (x ∷ []);
+    few = omega (arith, is.few, some, none, length-append is.got (x ∷ []));
+    first = is.first ∙ sym (ap (take (length is.posts)) (map-append asked_by is.got (x ∷ []))
+        ∙ take_within (length is.posts) (map asked_by is.got) (asked_by x ∷ []) (omega (arith, few_placed is.posts is.got is.first, length-map is.got asked_by)));
+    all = λ left. absurd (omega (arith, left, none));
+    order = is.order;
+    latest = is.latest;
+    of = is.of;
+    ordered = listed ∙ is.ordered;
+  })
+
+  -- nothing was received
+  pub none_received : (m : MachineState) (p p' : Posts) → IsPosted most before job m p → p'.left ≡ p.left → received_by p'.inbox ≡ received_by p.inbox
+      → p'.ordered.items ≡ p.ordered.items → IsPosted most before job m p'
+  none_received m p p' is left received listed = record {
+    posts = is.posts;
+    got = is.got;
+    received = received ∙ is.received;
+    few = omega (arith, is.few, left);
+    first = is.first;
+    all = λ some. is.all (omega (arith, some, left));
+    order = is.order;
+    latest = is.latest;
+    of = is.of;
+    ordered = listed ∙ is.ordered;
+  }
+
+  -- the controller went on
+  unfoldable pub posted_on : (m m' : MachineState) (p : Posts) (is : IsPosted most before job m p) → m.point.number ≤ m'.point.number → IsOf (job_in job) (job.actions ++ is.posts) m'
+      → IsPosted most before job m' p
+  posted_on m m' p is up of = record {
+    posts = is.posts;
+    got = is.got;
+    received = is.received;
+    few = is.few;
+    first = is.first;
+    all = is.all;
+    order = is.order;
+    latest = later (m.point.number + 1) (m'.point.number + 1) is.posts (omega (arith, up)) is.latest;
+    of = of;
+    ordered = is.ordered;
+  }
+
+  -- what became of the posts, once all messages were made
+  pub placed_all : (made : ℕ) (m : MachineState) (p : Posts) (after : List Post) (is : IsPosted most before job m p) → m.point.number ≡ made → after ≡ received_by p.inbox
+      → ArePlaced most made before after is.posts
+  placed_all made m p after is same received = record {
+    got = is.got;
+    received = received ∙ is.received;
+    few = omega (arith, is.few);
+    first = is.first;
+    order = is.order;
+    latest = subst (λ n. AllByRecursion (λ q. q.number ≤ n + 1) is.posts) same is.latest;
+  }
+
+-- before any message
+unfoldable pub nothing_placed : (most : ℕ) (before : List Post) (job : JobState) (m : MachineState) (p : Posts) → p.left ≡ most → received_by p.inbox ≡ before
+    → IsOf (job_in job) job.actions m → p.ordered.items ≡ placed_up_to 1000000 job.actions → IsPosted most before job m p
+nothing_placed most before job m p left received of ordered = record {
+  posts = [];
+  got = [];
+  received = received ∙ sym (append-nil before);
+  few = omega (arith, left);
+  first = refl;
+  all = λ some. refl;
+  order = tt;
+  latest = tt;
+  of = subst (λ (ps : List Placed). IsOf (job_in job) ps m) (sym (append-nil job.actions)) of;
+  ordered = ordered ∙ ap (placed_up_to 1000000) (sym (append-nil job.actions));
+}

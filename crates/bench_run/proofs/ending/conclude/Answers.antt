@@ -1,0 +1,114 @@
+use Rattle.std.proofs.Common.{◌≡◌, List, ◌<◌, ◌≤◌, refl, sym, ap, ◌∙◌, subst, arith, false}
+use Rattle.mil_trunk.specs.Ends.{received}
+use Rattle.bench_report.specs.Reports.{ChannelPart, RunReport}
+use Rattle.bench_core.specs.Lawful.{channels_of, format_of}
+use Rattle.bench_run.specs.Runs.{Ran, IsCut, most_in_all}
+use Rattle.bench_run.specs.Writer.{IsLogged}
+use Rattle.bench_run.specs.Live.{AreLive}
+use Rattle.bench_run.proofs.Endings.{none_refused}
+use Rattle.bench_run.proofs.Concluding.{of_all, count_fits, ran, cut, rose}
+use Rattle.bench_run.proofs.Lives.{lives_channels, lives_lawful, lives_most}
+use Rattle.bench_run.proofs.ending.conclude.Goals as goal
+
+pub make-report-requires : goal.make-report-requires
+make-report-requires g c =
+    let taken = g.S.Sink.taken in
+    let failures = g.S.Sink.failures in
+    let jobs = c.args.jobs.now in
+    let s = c.args.settings.now in
+    let most = c.args.before.most in
+    let olds = c.args.before.inboxes.value.items in
+    let news = c.args.inboxes.items in
+    let before = c.args.before.sink.value in
+    let parts = c.args.parts.items in
+    let got = received c.args.taker in
+    let old = c.args.log.recorder in
+    let whole = c.args.log.whole in
+    let r = c.finish-ended.new.self in
+    let lives = c.requires.all.lives in
+    let live = c.requires.all.live in
+    let all = c.requires.all.all in
+    let lawful = lives_lawful most jobs olds news parts lives live s c.requires.lawful in
+    let logged = subst (λ cs. IsLogged taken failures (format_of s) s.prologue.items before cs got old whole) (sym (lives_channels most jobs olds news parts lives live)) c.requires.logged in
+    let of = of_all taken failures lives s before parts got old whole lawful c.version_fits.ensures all logged r
+    (c.finish-ended.ensures.same (format_of s) s.prologue.items (taken before) (channels_of lives) logged.items logged.recording) in
+    let fits = count_fits taken failures lives s before parts got old whole lawful c.version_fits.ensures all logged r of in
+    omega (arith, fits, c.packets.ensures)
+
+pub returns-in-Ok-clause-ran : goal.returns-in-Ok-clause-ran
+returns-in-Ok-clause-ran g c =
+    let taken = g.S.Sink.taken in
+    let failures = g.S.Sink.failures in
+    let jobs = c.args.jobs.now in
+    let s = c.args.settings.now in
+    let most = c.args.before.most in
+    let olds = c.args.before.inboxes.value.items in
+    let news = c.args.inboxes.items in
+    let before = c.args.before.sink.value in
+    let parts = c.args.parts.items in
+    let got = received c.args.taker in
+    let old = c.args.log.recorder in
+    let whole = c.args.log.whole in
+    let r = c.finish-ended.new.self in
+    let lives = c.requires.all.lives in
+    let live = c.requires.all.live in
+    let all = c.requires.all.all in
+    let lawful = lives_lawful most jobs olds news parts lives live s c.requires.lawful in
+    let logged = subst (λ cs. IsLogged taken failures (format_of s) s.prologue.items before cs got old whole) (sym (lives_channels most jobs olds news parts lives live)) c.requires.logged in
+    let of = of_all taken failures lives s before parts got old whole lawful c.version_fits.ensures all logged r
+    (c.finish-ended.ensures.same (format_of s) s.prologue.items (taken before) (channels_of lives) logged.items logged.recording) in
+    let done = ran taken failures lives s before parts got old whole lawful c.version_fits.ensures all logged
+    c.recording_is_read_again.ensures.read c.recording_is_read_again.ensures.kept c.recording_is_read_again.ensures.ended c.file_is_packets.ensures.file c.file_is_packets.ensures.whole r of (c.in-Ok.ensures.ok.0 refl) in
+    let report : c.make-report.result ≡ record { channels = parts; packets = r.packets } = c.make-report.ensures ∙ ap (λ n. record { channels = parts; packets = n }) c.packets.ensures in (
+      lives,
+      subst (λ (ps : List ChannelPart). AreLive most jobs olds news ps lives) (ap (λ (z : RunReport). z.channels) (sym report)) live,
+      subst (λ (z : RunReport × _). Ran taken lives s before z.0 z.1) (λ i. (sym report i, sym c.into_sink-sink.ensures i)) done,
+    )
+
+pub returns-in-Ok-clause-room : goal.returns-in-Ok-clause-room
+returns-in-Ok-clause-room g c room =
+    let jobs = c.args.jobs.now in
+    let s = c.args.settings.now in
+    let most = c.args.before.most in
+    let olds = c.args.before.inboxes.value.items in
+    let news = c.args.inboxes.items in
+    let parts = c.args.parts.items in
+    let lives = c.requires.all.lives in
+    let live = c.requires.all.live in
+    let lawful = lives_lawful most jobs olds news parts lives live s c.requires.lawful in
+    let fits : most_in_all lives ≤ s.queue = subst (λ n. n ≤ s.queue) (sym (lives_most most jobs olds news parts lives live)) room in
+    rw c.make-report.ensures (none_refused s.queue lives parts lawful.distinct c.requires.all.all.counted fits)
+
+pub returns-clause-refused : goal.returns-clause-refused
+returns-clause-refused g c =
+    let taken = g.S.Sink.taken in
+    let failures = g.S.Sink.failures in
+    let jobs = c.args.jobs.now in
+    let s = c.args.settings.now in
+    let most = c.args.before.most in
+    let olds = c.args.before.inboxes.value.items in
+    let news = c.args.inboxes.items in
+    let before = c.args.before.sink.value in
+    let parts = c.args.parts.items in
+    let got = received c.args.taker in
+    let old = c.args.log.recorder in
+    let whole = c.args.log.whole in
+    let r = c.finish-ended.new.self in
+    let lives = c.requires.all.lives in
+    let live = c.requires.all.live in
+    let all = c.requires.all.all in
+    let lawful = lives_lawful most jobs olds news parts lives live s c.requires.lawful in
+    let logged = subst (λ cs. IsLogged taken failures (format_of s) s.prologue.items before cs got old whole) (sym (lives_channels most jobs olds news parts lives live)) c.requires.logged in
+    let of = of_all taken failures lives s before parts got old whole lawful c.version_fits.ensures all logged r
+    (c.finish-ended.ensures.same (format_of s) s.prologue.items (taken before) (channels_of lives) logged.items logged.recording) in
+    let part = cut taken failures lives s before parts got old whole lawful c.version_fits.ensures all logged r c.in-Err.fault.taken of c.in-Err.ensures.fault in
+    let up = rose taken failures lives s before parts got old whole lawful c.version_fits.ensures all logged false (failures old.writing.sink) (failures r.writing.sink) c.in-Err.ensures.failures refl refl in
+    let report : c.make-report.result ≡ record { channels = parts; packets = r.packets } = c.make-report.ensures ∙ ap (λ n. record { channels = parts; packets = n }) c.packets.ensures in (
+      c.requires.lawful,
+      subst (λ x. failures before < failures x) (sym c.into_sink-sink.ensures) up,
+      (
+        lives,
+        subst (λ (ps : List ChannelPart). AreLive most jobs olds news ps lives) (ap (λ (z : RunReport). z.channels) (sym report)) live,
+        subst (λ (z : RunReport × _). IsCut taken lives s before z.0 c.in-Err.fault.taken z.1) (λ i. (sym report i, sym c.into_sink-sink.ensures i)) part,
+      ),
+    )

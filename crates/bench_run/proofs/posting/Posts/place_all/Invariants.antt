@@ -1,0 +1,19 @@
+use Rattle.std.proofs.Common.{◌≡◌, ◌<◌, ℕ, List}
+use Rattle.job_file.specs.Jobs.{JobState}
+use Rattle.bench_core.specs.Placing.{IsOrdered}
+use Rattle.bench_run.specs.declared.mailbox.Post.{Post}
+use Rattle.bench_run.specs.Mail.{IsInboxOf}
+use Rattle.bench_run.specs.Posted.{IsPosted}
+use Rattle.bench_run.proofs.posting.Posts.place_all.Given as goal
+
+abbrev pub invariant-taking : goal.invariant-taking
+invariant-taking g l = record {
+  inbox : IsInboxOf l.mailbox l.self.inbox;
+  ordered : IsOrdered l.self.ordered.items;
+  point : l.machine.point ≡ l.fn.machine.point;
+  low : l.fn.machine.point.number < 1000000;
+  posted : (most : ℕ) (before : List Post) (job : JobState) → IsPosted most before job l.fn.machine l.fn.self → IsPosted most before job l.machine l.self;
+}
+
+abbrev pub decreases-taking : goal.decreases-taking
+decreases-taking g l = l.self.left

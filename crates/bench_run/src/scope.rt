@@ -1,0 +1,187 @@
+//! The threads of a run in their scope, while the calling thread writes.
+ghost use Rattle.std.specs.Prelude.{◌≡◌, ◌≤◌, [], false, length, vec_capacity, IfOk, IfErr};
+ghost use Rattle.ch11_recording.specs.Recording.{IsRecordingOf};
+ghost use Rattle.bench_core.specs.Lawful.{AreLawful, channels_of, format_of};
+ghost use Rattle.bench_run.specs.Runs.{RefusesNoneWithRoom};
+ghost use Rattle.bench_run.specs.Live.{AreInboxesOf, RanLive, LeavesLate};
+ghost use Rattle.bench_run.specs.Writer.{IsLogged};
+ghost use Rattle.bench_run.specs.Ending.{IsReady};
+
+use crate::channel::Ended;
+use crate::ending::{Before, conclude, stopped};
+use crate::error::LiveError;
+use crate::gate::Gate;
+use crate::mailbox::{Inbox, Mailbox};
+use crate::ready::{Own, Shared};
+use crate::threads::{Joined, Offers, join_all, parted, start_all};
+use crate::writer::{Log, settle, write};
+use bench_core::Settings;
+use bench_report::{ChannelReport, Report};
+use ch11_recording::Recorder;
+use ch11_writer::Sink;
+use job_file::Job;
+use std::alloc::{AllocError, Global};
+use std::snapshot::Snapshot;
+use std::sync::Wait;
+use std::thread;
+use std::thread::{PromisedHandle, Scope, Threads};
+
+/// The recording with its prologue, before anything was received.
+pub(crate) fn begin<S: Sink>(
+    channels: &[u16],
+    settings: &Settings,
+    before: &Snapshot<S>,
+    recorder: Recorder<S>,
+) -> Log<S>
+    requires begun { IsRecordingOf S.taken (format_of settings.now) [] (S.taken before.now.value) channels.now [] recorder }
+    requires fresh { recorder.writing ≡ record { sink = before.now.value; taken = 0; failed = false; finished = false } }
+    ensures { IsLogged S.taken S.failures (format_of settings.now) settings.now.prologue.items before.now.value channels.now [] result.recorder result.whole }
+{
+    let _places = channels.len();
+    let _before = before;
+    let mut recorder = recorder;
+    recorder.prologue(&settings.prologue);
+    Log {
+        recorder,
+        whole: true,
+    }
+}
+
+/// Lists in reserved memory: of the threads that run, of what is left of those that were joined, and its parts.
+struct Lists<'s> {
+    handles: Vec<PromisedHandle<Ended, Offers<'s>>>,
+    joined: Vec<Joined>,
+    parts: Vec<ChannelReport>,
+    inboxes: Vec<Inbox>,
+}
+
+/// Empty lists with room for so many. It fails for want of memory alone.
+fn make_lists<'s>(alloc: Global, count: usize) -> Result<Lists<'s>, AllocError>
+    ensures handles { IfOk result (λ l. (l.handles.items ≡ []) × (count ≤ vec_capacity l.handles)) }
+    ensures joined { IfOk result (λ l. (l.joined.items ≡ []) × (count ≤ vec_capacity l.joined)) }
+    ensures parts { IfOk result (λ l. (l.parts.items ≡ []) × (count ≤ vec_capacity l.parts)) }
+    ensures inboxes { IfOk result (λ l. (l.inboxes.items ≡ []) × (count ≤ vec_capacity l.inboxes)) }
+{
+    Ok(Lists {
+        handles: Vec::with_capacity(alloc, count)?,
+        joined: Vec::with_capacity(alloc, count)?,
+        parts: Vec::with_capacity(alloc, count)?,
+        inboxes: Vec::with_capacity(alloc, count)?,
+    })
+}
+
+/// Starts the threads, records what they send, and ends the recording once all was received.
+fn on_threads<'s, E, R: Threads + Wait + Sync, G: Gate, S: Sink + Drop>(
+    scope: &Scope<'s, E>,
+    rt: &'s R,
+    alloc: Global,
+    shared: &'s Shared,
+    gate: &'s G,
+    jobs: &'s [Job],
+    settings: &'s Settings,
+    boxes: &'s [Mailbox],
+    before: Before<S>,
+    own: Own,
+    log: Log<S>,
+) -> Result<(Report, Vec<Inbox>, S), LiveError<S>>
+    requires lawful { AreLawful jobs.now settings.now }
+    requires boxes { length boxes.now ≡ length jobs.now }
+    requires ends { AreInboxesOf boxes.now before.inboxes.value.items }
+    requires ready { IsReady settings.now.queue jobs.now before.most before.inboxes.value.items shared.now own }
+    requires logged { IsLogged S.taken S.failures (format_of settings.now) settings.now.prologue.items before.sink.value (channels_of jobs.now) [] log.recorder log.whole }
+    ensures ran { IfOk result (λ r. RanLive S.taken before.most jobs.now settings.now before.inboxes.value.items before.sink.value r.0 r.1.items r.2) }
+    ensures ends { IfOk result (λ r. AreInboxesOf boxes.now r.1.items) }
+    ensures room { IfOk result (λ r. RefusesNoneWithRoom jobs.now settings.now r.0) }
+    ensures refused { IfErr result (λ e. LeavesLate S.taken S.failures before.most jobs.now settings.now before.inboxes.value.items before.sink.value e.fault e.inboxes.items) }
+    ensures back { IfErr result (λ e. AreInboxesOf boxes.now e.inboxes.items) }
+{
+    let Own {
+        ticket,
+        taker,
+        rooms,
+    } = own;
+    let (mut rest, mut taker, mut log) = (ticket, taker, log);
+    let Ok(
+        Lists {
+            handles,
+            joined,
+            parts,
+            inboxes,
+        },
+    ) = make_lists(alloc, jobs.len())
+    else {
+        return Err(stopped(alloc, jobs, settings, before, log));
+    };
+    let Shared { trunk, channels } = shared;
+    let handles = start_all(
+        scope,
+        rt,
+        trunk,
+        gate,
+        jobs,
+        boxes,
+        &before.inboxes,
+        before.most,
+        rooms,
+        &mut rest,
+        handles,
+    );
+    let started = handles.len();
+    write(rt, trunk, gate, channels, &mut taker, &mut log, started);
+    let joined = join_all(
+        rt,
+        trunk,
+        jobs,
+        boxes,
+        &before.inboxes,
+        before.most,
+        handles,
+        &mut rest,
+        joined,
+    );
+    if started < jobs.len() {
+        return Err(stopped(alloc, jobs, settings, before, log));
+    }
+    let (_, taker) = settle(rt, trunk, gate, channels, rest, taker, &mut log);
+    let (parts, inboxes) = parted(joined, parts, inboxes);
+    conclude(jobs, settings, before, taker, log, parts, inboxes)
+}
+
+/// Runs the jobs in a scope of threads.
+pub(crate) fn run_ready<R: Threads + Wait + Sync, G: Gate, S: Sink + Drop>(
+    rt: &R,
+    alloc: Global,
+    shared: &Shared,
+    gate: &G,
+    jobs: &[Job],
+    settings: &Settings,
+    boxes: &[Mailbox],
+    before: Before<S>,
+    own: Own,
+    log: Log<S>,
+) -> Result<(Report, Vec<Inbox>, S), LiveError<S>>
+    requires lawful { AreLawful jobs.now settings.now }
+    requires boxes { length boxes.now ≡ length jobs.now }
+    requires ends { AreInboxesOf boxes.now before.inboxes.value.items }
+    requires ready { IsReady settings.now.queue jobs.now before.most before.inboxes.value.items shared.now own }
+    requires logged { IsLogged S.taken S.failures (format_of settings.now) settings.now.prologue.items before.sink.value (channels_of jobs.now) [] log.recorder log.whole }
+    ensures ran { IfOk result (λ r. RanLive S.taken before.most jobs.now settings.now before.inboxes.value.items before.sink.value r.0 r.1.items r.2) }
+    ensures ends { IfOk result (λ r. AreInboxesOf boxes.now r.1.items) }
+    ensures room { IfOk result (λ r. RefusesNoneWithRoom jobs.now settings.now r.0) }
+    ensures refused { IfErr result (λ e. LeavesLate S.taken S.failures before.most jobs.now settings.now before.inboxes.value.items before.sink.value e.fault e.inboxes.items) }
+    ensures back { IfErr result (λ e. AreInboxesOf boxes.now e.inboxes.items) }
+{
+    thread::scope(
+        thread::scope_env(),
+        rt,
+        move |scope| -> Result<(Report, Vec<Inbox>, S), LiveError<S>>
+            requires { AreLawful jobs.now settings.now × (length boxes.now ≡ length jobs.now) × AreInboxesOf boxes.now before.inboxes.value.items × IsReady settings.now.queue jobs.now before.most before.inboxes.value.items shared.now own × IsLogged S.taken S.failures (format_of settings.now) settings.now.prologue.items before.sink.value (channels_of jobs.now) [] log.recorder log.whole }
+            ensures { IfOk result (λ r. RanLive S.taken before.most jobs.entry.now settings.entry.now before.inboxes.value.items before.sink.value r.0 r.1.items r.2) × IfOk result (λ r. AreInboxesOf boxes.entry.now r.1.items) × IfOk result (λ r. RefusesNoneWithRoom jobs.entry.now settings.entry.now r.0)
+                × IfErr result (λ e. LeavesLate S.taken S.failures before.most jobs.entry.now settings.entry.now before.inboxes.value.items before.sink.value e.fault e.inboxes.items) × IfErr result (λ e. AreInboxesOf boxes.entry.now e.inboxes.items) }
+        {
+            on_threads(
+                scope, rt, alloc, shared, gate, jobs, settings, boxes, before, own, log,
+            )
+        },
+    )
+}
