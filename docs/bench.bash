@@ -2,7 +2,7 @@
 _bench() {
     local word=${COMP_WORDS[COMP_CWORD]} before=${COMP_WORDS[COMP_CWORD - 1]} command=${COMP_WORDS[1]}
     if [ "$COMP_CWORD" -eq 1 ]; then
-        mapfile -t COMPREPLY < <(compgen -W "one assemble run dump step stat export draw explain help --help --version" -- "$word")
+        mapfile -t COMPREPLY < <(compgen -W "one assemble run check dump step stat export draw explain help --help --version" -- "$word")
         return
     fi
     case $before in

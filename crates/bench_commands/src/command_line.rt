@@ -1,5 +1,6 @@
 //! The command line of `bench`: its commands, their arguments with their ranges, and their help.
 
+use crate::checking::{check_command, check_request};
 use crate::fault::Fault;
 use crate::looking_line::{
     draw_command, draw_request, explain_command, export_command, stat_command,
@@ -28,6 +29,10 @@ pub enum Request<'a> {
     Dump {
         recording: &'a str,
         skip: bool,
+    },
+    /// Jobs, tried without a recording.
+    Check {
+        jobs: Vec<&'a str>,
     },
     /// A recording, walked through by lines of the standard input.
     Step(StepRequest<'a>),
@@ -106,6 +111,9 @@ pub fn read<'a>(alloc: Global, words: &'a [String]) -> Result<Request<'a>, Error
             image: given.get_str("IMAGE").unwrap_or(""),
         },
         Some(("run", given)) => Request::Run(run_request(alloc, given)?),
+        Some(("check", given)) => Request::Check {
+            jobs: check_request(alloc, given)?,
+        },
         Some(("dump", given)) => Request::Dump {
             recording: given.get_str("RECORDING").unwrap_or(""),
             skip: given.get_flag("skip"),
@@ -149,6 +157,7 @@ fn bench_command<'a>(alloc: Global) -> Result<Command<'a>, AllocError> {
         .subcommand(one_command(alloc)?)?
         .subcommand(assemble_command(alloc)?)?
         .subcommand(run_command(alloc)?)?
+        .subcommand(check_command(alloc)?)?
         .subcommand(dump_command(alloc)?)?
         .subcommand(step_command(alloc)?)?
         .subcommand(stat_command(alloc)?)?

@@ -1,6 +1,7 @@
 //! The commands of `bench`: each reads its files, calls one proved function, and prints.
 
 use crate::apart::told_apart;
+use crate::checking::check_jobs;
 use crate::command_line::{self, Request};
 use crate::fault::Fault;
 use crate::files::{read_whole, write_whole};
@@ -108,6 +109,7 @@ where
         } => run_one(rt, *channel, *version, text),
         Request::Assemble { script, image } => run_assemble(rt, script, image),
         Request::Run(request) => run_jobs(rt, errors, request),
+        Request::Check { jobs } => check_jobs(rt, jobs),
         Request::Dump { recording, skip } => show(rt, recording, *skip),
         Request::Step(request) => step_through(rt, errors, request),
         Request::Stat { recording, rows } => show_statistics(rt, recording, *rows),

@@ -3,6 +3,7 @@
 #![tactic(auto)]
 
 mod apart;
+mod checking;
 mod command_line;
 mod commands;
 mod fault;

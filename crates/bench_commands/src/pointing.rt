@@ -43,6 +43,7 @@ pub fn point<R: Files + AllocGlobal, E: Eprint + IsTerminal>(
             show_file(rt, errors, script, spot);
         }
         (Fault::Job(error), Request::Run(run)) => show_job(rt, errors, &run.jobs, error),
+        (Fault::Job(error), Request::Check { jobs }) => show_job(rt, errors, jobs, error),
         (Fault::Job(error), Request::Step(step)) => show_job(rt, errors, &step.jobs, error),
         _ => {}
     }

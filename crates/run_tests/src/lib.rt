@@ -15,7 +15,6 @@ mod gates;
 #[cfg(test)]
 mod held;
 #[cfg(test)]
-#[cfg(test)]
 mod mailboxes;
 #[cfg(test)]
 mod many;

@@ -1,0 +1,103 @@
+//! `bench check`: jobs tried without a recording.
+
+use crate::fault::Fault;
+use crate::files::read_texts;
+use crate::jobs::jobs_of;
+use bench_check::{CheckFault, print_findings, try_job};
+use bench_core::{Settings, judge};
+use clap::{Arg, ArgMatches, Command};
+use job_file::Job;
+use std::alloc::{AllocError, Global};
+use std::io;
+use std::io::{BufWriter, Write};
+use std::rt::Files;
+
+/// What the help of `bench check` ends with.
+const CHECK_NOTES: &str = "\
+Each message is shown with its number in its channel, its time, and its line and form in a script's words; below it
+the actions placed at it, the faults planned for it, and what it came to: the status words, and the block status
+word by the names of its bits. Then follows what is probably a mistake: a planned fault that meets nothing, an
+action that no message reaches, a message to a terminal that is not there, a terminal that is never called; and how
+much room the queue of `bench run` needs for nothing to be refused.
+
+Example:
+  bench check avionics.job";
+
+pub(crate) fn check_command<'a>(alloc: Global) -> Result<Command<'a>, AllocError> {
+    let jobs = Arg::new(alloc, "JOB").num_args(0usize..).help(
+        "The job of a channel, as a text; 1 to 32 of them, each of another channel",
+    );
+    Command::new(alloc, "check")
+        .about("Tries jobs without a recording, and says what is probably a mistake")
+        .after_help(CHECK_NOTES)
+        .arg(jobs)
+}
+
+/// The files of the jobs to be tried.
+pub(crate) fn check_request<'a>(
+    alloc: Global,
+    given: &ArgMatches<'a>,
+) -> Result<Vec<&'a str>, AllocError> {
+    let mut jobs = Vec::new(alloc);
+    jobs.extend_from_slice(given.get_strs("JOB").unwrap_or(&[]))?;
+    Ok(jobs)
+}
+
+/// Tries jobs, one after the other, each under a line with the name of its file where there are several. All files
+/// are read and judged before the first job is tried, as for a run.
+pub fn check_jobs<'a, R: Files + AllocGlobal + Print>(
+    rt: &R,
+    names: &[&'a str],
+) -> Result<(), Fault<'a>> {
+    let texts = read_texts(rt, names)?;
+    let jobs = jobs_of(rt.alloc(), &texts)?;
+    let settings = Settings {
+        version: 6,
+        limit: 65536,
+        queue: 4096,
+        prologue: Vec::new(rt.alloc()),
+        posts: 0,
+    };
+    if let Err(refused) = judge(&jobs, &settings) {
+        return Err(Fault::of_settings(refused));
+    }
+    let mut out = match BufWriter::new(rt.alloc(), io::writer(rt)) {
+        Ok(out) => out,
+        Err(error) => return Err(Fault::of_stream("-", &error)),
+    };
+    match check_each(rt.alloc(), names, &jobs, &mut out) {
+        Ok(()) => {}
+        Err(CheckFault::Memory) => return Err(Fault::Memory),
+        Err(CheckFault::Device) => return Err(Fault::Device("-")),
+    }
+    match out.flush() {
+        Ok(()) => Ok(()),
+        Err(error) => Err(Fault::of_stream("-", &error)),
+    }
+}
+
+/// Tries each job, and prints the room that all of them need together where there are several.
+fn check_each<W: Write>(
+    alloc: Global,
+    names: &[&str],
+    jobs: &[Job],
+    out: &mut W,
+) -> Result<(), CheckFault> {
+    let several = jobs.len() > 1;
+    let mut room = 0u64;
+    for (name, job) in names.iter().zip(jobs) {
+        if several {
+            writeln!(out, "{name}")?;
+        }
+        let findings = try_job(alloc, job, out)?;
+        print_findings(alloc, job, &findings, out)?;
+        room = room.saturating_add(findings.room);
+    }
+    if several {
+        writeln!(
+            out,
+            "queue {room}: with room for so many nothing of all these jobs is refused"
+        )?;
+    }
+    Ok(())
+}
