@@ -6,8 +6,7 @@ use std::test::Fail;
 
 /// A job with one of each mistake. Its first message has two words, and loses its answer; 400 ticks of it and 160 of pause behind a
 /// message that failed put the second one at tick 560.
-const MISTAKEN: &str =
-    "channel 1
+const MISTAKEN: &str = "channel 1
 terminal 5
 terminal 7
 at 9 5 busy on
@@ -20,8 +19,7 @@ send A rx 5 1 [0001]
 send B tx 9 2 1
 ";
 
-const MISTAKES: &str =
-    "message 1 at 0.0 us: send A rx 5 1 [0001]
+const MISTAKES: &str = "message 1 at 0.0 us: send A rx 5 1 [0001]
   fault 1 drop 0 5 meets nothing
   fault 1 mute 1
   status none, block message_error response_timeout
@@ -42,8 +40,7 @@ queue 3: with room for so many nothing of this job is refused
 const TRANSFER: &str =
     "channel 1\nterminal 3\nterminal 7\nat 1 7 transmit 1 AAAA 5555\nscript\nsend A rt 7 1 3 4 2\nsend A mode 3 2\n";
 
-const TRANSFERRED: &str =
-    "message 1 at 0.0 us: send A rt 7 1 3 4 2
+const TRANSFERRED: &str = "message 1 at 0.0 us: send A rt 7 1 3 4 2
   at 1 7 transmit 1 AAAA 5555
   status 3800 1800, block terminal_to_terminal
 message 2 at 134.0 us: send A mode 3 2
@@ -54,8 +51,7 @@ queue 3: with room for so many nothing of this job is refused
 
 /// Faults of each kind that meet something: masks of the status word and of a data word, a word that is left out, one that is added
 /// behind it, and a late reply.
-const FAULTY: &str =
-    "channel 1
+const FAULTY: &str = "channel 1
 terminal 5
 fault 1 mask 1 0 0000000003
 fault 2 drop 0 1
@@ -65,8 +61,7 @@ script
 repeat 3 { send A rx 5 1 [0001] }
 ";
 
-const FAULTED: &str =
-    "message 1 at 0.0 us: send A rx 5 1 [0001]
+const FAULTED: &str = "message 1 at 0.0 us: send A rx 5 1 [0001]
   fault 1 mask 1 0 0000000003
   status 2800, block message_error invalid_word_error
 message 2 at 82.0 us: send A rx 5 1 [0001]
