@@ -1,17 +1,17 @@
 -- Reading so many of something, one after the other.
-use Rattle.std.proofs.Common.{◌≡◌, ◌≢◌, ℕ, zero, suc, ◌+◌, ◌-◌, ◌<◌, ◌≤◌, List, [], ◌∷◌, ◌++◌, Result, Ok, Err, refl, sym, ap, ◌∙◌, subst, arith, append_assoc}
+use Rattle.std.proofs.Common.{◌≡◌, ◌≢◌, ℕ, zero, suc, ◌+◌, ◌-◌, ◌<◌, ◌≤◌, Bool, true, false, List, [], ◌∷◌, ◌++◌, Result, Ok, Err, refl, sym, ap, ◌∙◌, subst, arith, append_assoc}
 use Rattle.std.proofs.lemmas.List.{append-nil}
 use Rattle.frame_code.specs.declared.ImageError.{ImageError}
 use Rattle.frame_code.specs.declared.ImageError.TheVariants as fault
-use Rattle.std.specs.Prelude.{IsTrue}
+use Rattle.std.specs.Prelude.{IsTrue, ◌||◌}
 use Rattle.mil_word.specs.declared.Line.{Line}
 use Rattle.mil_message.specs.declared.messages.Message.{Message}
 use Rattle.mil_message.specs.Rules.{IsLawful}
-use Rattle.frame_code.specs.Bytes.{AreLawful}
+use Rattle.frame_code.specs.Bytes.{is_new, has_new, AreLawful}
 use Rattle.std.specs.List.{flat_map}
 use Rattle.frame_code.specs.declared.Op.{Op}
 use Rattle.frame_code.specs.Ranges.{in_range, AreInRange}
-use Rattle.frame_code.specs.Reading.{◌>>=◌, Read, many, behind, Faults}
+use Rattle.frame_code.specs.Reading.{◌>>=◌, Read, many, behind, looked_over, Faults}
 
 -- what is read comes behind this list
 abbrev pub onto : {X : Type 0} → List X → Read (List X) → Read (List X)
@@ -27,6 +27,7 @@ faults fault.Mark read is = is
 faults fault.Length read is = is
 faults fault.Operations read is = is
 faults fault.Messages read is = is
+faults fault.NeedlessMark read is = is
 faults fault.Memory read is = tt
 
 pub range_more : (os : List Op) (o : Op) → AreInRange os → IsTrue (in_range o) → AreInRange (os ++ o ∷ [])
@@ -95,3 +96,45 @@ module _ {X : Type 0} (one : List ℕ → Read X) where
 
   pub behind_end : (n i : ℕ) (bs : List ℕ) → n ≤ i → behind (many one (n - i) bs) ≡ Ok bs
   behind_end n i bs h = let none : n - i ≡ 0 = omega arith in ap (λ k. behind (many one k bs)) none ∙ ap behind (many_none bs)
+
+or_assoc : (a b c : Bool) → (a || (b || c)) ≡ ((a || b) || c)
+or_assoc true b c = refl
+or_assoc false b c = refl
+
+or_none : (a : Bool) → (a || false) ≡ a
+or_none true = refl
+or_none false = refl
+
+-- none of them is new, one by one
+pub none_new : (os : List Op) (o : Op) → has_new os ≡ false → is_new o ≡ false → has_new (os ++ o ∷ []) ≡ false
+none_new [] o h k = ap (λ b. b || false) k
+none_new (x ∷ os) o h k = by (is_new x) h (λ e. none_new os o e k)
+  where
+    by : (b : Bool) → (b || has_new os) ≡ false → (has_new os ≡ false → has_new (os ++ o ∷ []) ≡ false) → (b || has_new (os ++ o ∷ [])) ≡ false
+    by true e below = absurd (cc)
+    by false e below = below e
+
+module _ (one : List ℕ → Read Op) where
+  over_with : (f : Bool) (x : Op) (r : Read (List Op)) → looked_over f (r >>= (λ ys. Ok (x ∷ ys.0, ys.1))) ≡ looked_over (f || is_new x) r
+  over_with f x (Ok y) = ap (λ z. Ok (z, y.1)) (or_assoc f (is_new x) (has_new y.0))
+  over_with f x (Err e) = refl
+
+  pub over_more : (f : Bool) (n i : ℕ) (bs next : List ℕ) (x : Op) → i < n → one bs ≡ Ok (x, next) → looked_over f (many one (n - i) bs) ≡ looked_over (f || is_new x) (many one (n - (i + 1)) next)
+  over_more f n i bs next x h e =
+      ap (λ k. looked_over f (many one k bs)) (left one n i h) ∙ ap (looked_over f) (many_with one (n - (i + 1)) bs next x e) ∙ over_with f x (many one (n - (i + 1)) next)
+
+  pub over_fails : (f : Bool) (n i : ℕ) (bs : List ℕ) (e : ImageError) → i < n → one bs ≡ Err e → looked_over f (many one (n - i) bs) ≡ Err e
+  over_fails f n i bs e h is = ap (λ k. looked_over f (many one k bs)) (left one n i h) ∙ ap (looked_over f) (many_fails one (n - (i + 1)) bs e is)
+
+  pub over_end : (f : Bool) (n i : ℕ) (bs : List ℕ) → n ≤ i → looked_over f (many one (n - i) bs) ≡ Ok (f, bs)
+  over_end f n i bs h = let none : n - i ≡ 0 = omega arith in ap (λ k. looked_over f (many one k bs)) none ∙ ap (looked_over f) (many_none one bs) ∙ ap (λ z. Ok (z, bs)) (or_none f)
+
+ok_is : {X : Type 0} (x y : X) → (let z : Result X ImageError = Ok x in z ≡ Ok y) → x ≡ y
+ok_is x y e = cc
+
+-- what was looked over, where what it came to is known
+pub over_ok : (r : Read (List Op)) (found : Bool) (rest : List ℕ) → looked_over false r ≡ Ok (found, rest) → (os : List Op) × (r ≡ Ok (os, rest)) × (has_new os ≡ found)
+over_ok (Ok x) found rest e =
+    let p = ok_is (has_new x.0, x.1) (found, rest) e in
+    (x.0, ap (λ (z : Bool × List ℕ). Ok (x.0, z.1)) p, ap (λ (z : Bool × List ℕ). z.0) p)
+over_ok (Err y) found rest e = absurd (cc)

@@ -1,7 +1,7 @@
 -- The letters of the faults of an image (own choice).
 use Rattle.std.specs.Prelude.{ℕ, List, codes}
 use Rattle.frame_code.specs.declared.ImageError.{ImageError}
-use Rattle.frame_code.specs.declared.ImageError.TheVariants.{Mark, Length, Operations, Messages, Memory}
+use Rattle.frame_code.specs.declared.ImageError.TheVariants.{Mark, Length, Operations, Messages, NeedlessMark, Memory}
 
 abbrev pub code_of : ImageError → List ℕ
 code_of Mark = codes "C1"
@@ -9,3 +9,4 @@ code_of Length = codes "C2"
 code_of Operations = codes "C3"
 code_of Messages = codes "C4"
 code_of Memory = codes "C5"
+code_of NeedlessMark = codes "C6"

@@ -1,6 +1,6 @@
 -- What bytes are read as (own choice): the code that they spell, else the first fault. The bytes are judged field by
 -- field, in their order.
-use Rattle.std.specs.Prelude.{◌≡◌, ℕ, zero, suc, ◌+◌, ◌*◌, ◌==◌, ◌&&◌, ◌||◌, nat_lt, nat_le, if◌then◌else◌, Bool, List, [], ◌∷◌, Option, Some, None, Result, Ok, Err}
+use Rattle.std.specs.Prelude.{◌≡◌, ℕ, zero, suc, ◌+◌, ◌*◌, ◌==◌, ◌&&◌, ◌||◌, not, nat_lt, nat_le, if◌then◌else◌, Bool, true, false, List, [], ◌∷◌, Option, Some, None, Result, Ok, Err}
 use Rattle.mil_word.specs.declared.Line.{Line}
 use Rattle.mil_word.specs.declared.Line.TheVariants.{A, B}
 use Rattle.mil_message.specs.declared.messages.Message.{Message}
@@ -10,9 +10,10 @@ use Rattle.mil_message.specs.Rules.{form_of}
 use Rattle.frame_code.specs.declared.ImageError.{ImageError}
 use Rattle.frame_code.specs.declared.ImageError.TheVariants as fault
 use Rattle.frame_code.specs.declared.Op.{Op}
-use Rattle.frame_code.specs.declared.Op.TheVariants.{Halt, Send, Alt, SetGap, Loop, Again, Leave, Jump, Test, JumpFalse}
+use Rattle.frame_code.specs.declared.Op.TheVariants.{Halt, Send, Alt, SetGap, Loop, Again, Leave, Jump, Test, JumpFalse, Call, Return}
 use Rattle.frame_code.specs.Table.{Code}
-use Rattle.frame_code.specs.Ranges.{is_gap, is_count, is_test}
+use Rattle.frame_code.specs.Ranges.{is_gap, is_count, is_test, is_routine}
+use Rattle.frame_code.specs.Bytes.{has_new}
 use Rattle.frame_code.specs.Fields.{first_fits, second_fits, words_due}
 
 infixl 10 ◌>>=◌
@@ -40,14 +41,25 @@ two_at bs = do
   high ← byte_at low.1
   Ok (low.0 + 256 * high.0, high.1)
 
--- the mark BC01
-unfoldable pub mark_at : List ℕ → Result (List ℕ) ImageError
-mark_at (a ∷ b ∷ c ∷ d ∷ bs) = must (a == 66 && b == 67 && c == 48 && d == 49) fault.Mark bs
+-- the mark: whether it is BC02, or BC01
+unfoldable pub mark_at : List ℕ → Read Bool
+mark_at (a ∷ b ∷ c ∷ d ∷ bs) =
+    if a == 66 && b == 67 && c == 48 && d == 49 then Ok (false, bs)
+    else must (a == 66 && b == 67 && c == 48 && d == 50) fault.Mark (true, bs)
 mark_at _ = Err fault.Mark
+
+-- how many operations a mark knows
+abbrev pub known : Bool → ℕ
+known false = 10
+known true = 12
 
 -- the test of a number, if there is one
 abbrev pub test_of : ℕ → Option Op
 test_of k = if is_test k then Some (Test k) else None
+
+-- the call of a routine's number, if there is one
+abbrev pub call_of : ℕ → Option Op
+call_of r = if is_routine r then Some (Call r) else None
 
 -- the operation of a number and an operand, if there is one
 unfoldable pub operation_of : ℕ → ℕ → Option Op
@@ -62,6 +74,8 @@ operation_of number operand =
     else if number == 7 then Some (Jump operand)
     else if number == 8 then test_of operand
     else if number == 9 then Some (JumpFalse operand)
+    else if number == 10 then call_of operand
+    else if number == 11 then (if operand == 0 then Some Return else None)
     else None
 
 -- what there is, else the fault
@@ -69,11 +83,11 @@ abbrev pub present : {X : Type 0} → ImageError → Option X → Result X Image
 present e None = Err e
 present e (Some x) = Ok x
 
--- four bytes: a number up to 9, 00, and an operand in its range
-unfoldable pub operation_at : List ℕ → Read Op
-operation_at bs = do
+-- four bytes: a number that the mark knows, 00, and an operand in its range
+unfoldable pub operation_at : Bool → List ℕ → Read Op
+operation_at new bs = do
   number ← byte_at bs
-  _ ← must (nat_lt number.0 10) fault.Operations number
+  _ ← must (nat_lt number.0 (known new)) fault.Operations number
   pad ← byte_at number.1
   _ ← must (pad.0 == 0) fault.Operations pad
   operand ← two_at pad.1
@@ -119,27 +133,27 @@ message_at bs = do
   _ ← must (second_fits form.0 first.0 second.0) fault.Messages second
   words_at form.0 line.0 first.0 second.0 second.1
 
--- nothing may be left behind the last message
-abbrev pub at_end : List ℕ → Code → Result Code ImageError
-at_end [] code = Ok code
-at_end (b ∷ bs) code = Err fault.Length
+-- nothing may be left behind the last message, and the mark BC02 needs an operation that BC01 does not know
+abbrev pub at_end : Bool → List ℕ → Code → Result Code ImageError
+at_end new [] code = must (not new || has_new code.operations) fault.NeedlessMark code
+at_end new (b ∷ bs) code = Err fault.Length
 
 -- the mark and the two counts
-unfoldable pub header_at : List ℕ → Result (ℕ × ℕ × List ℕ) ImageError
+unfoldable pub header_at : List ℕ → Result (Bool × ℕ × ℕ × List ℕ) ImageError
 header_at bs = do
-  rest ← mark_at bs
-  operations ← two_at rest
+  new ← mark_at bs
+  operations ← two_at new.1
   _ ← must (nat_le operations.0 4096) fault.Operations operations
   messages ← two_at operations.1
   _ ← must (nat_le messages.0 1024) fault.Messages messages
-  Ok (operations.0, messages.0, messages.1)
+  Ok (new.0, operations.0, messages.0, messages.1)
 
 unfoldable pub image_of : List ℕ → Result Code ImageError
 image_of bs = do
   header ← header_at bs
-  operations ← many operation_at header.0 header.2
-  messages ← many message_at header.1 operations.1
-  at_end messages.1 (record { operations = operations.0; messages = messages.0 })
+  operations ← many (operation_at header.0) header.1 header.3
+  messages ← many message_at header.2 operations.1
+  at_end header.0 messages.1 (record { operations = operations.0; messages = messages.0 })
 
 -- a reader in the code answers what its definition reads
 abbrev pub Reads : {X Y : Type 0} → (X → Y) → Result X ImageError → Result Y ImageError → Type 0
@@ -152,12 +166,18 @@ Faults fault.Mark read = read ≡ Err fault.Mark
 Faults fault.Length read = read ≡ Err fault.Length
 Faults fault.Operations read = read ≡ Err fault.Operations
 Faults fault.Messages read = read ≡ Err fault.Messages
+Faults fault.NeedlessMark read = read ≡ Err fault.NeedlessMark
 Faults fault.Memory read = Unit {0}
 
 -- the same, but that it may also be refused memory
 abbrev pub Builds : {X Y : Type 0} → (X → Y) → Result X ImageError → Result Y ImageError → Type 0
 Builds view (Ok x) read = read ≡ Ok (view x)
 Builds view (Err e) read = Faults e read
+
+-- whether an operation of those that were read is new to BC01, and what is behind them
+abbrev pub looked_over : Bool → Read (List Op) → Result (Bool × List ℕ) ImageError
+looked_over found (Ok x) = Ok (found || has_new x.0, x.1)
+looked_over found (Err e) = Err e
 
 -- what is behind that which was read
 abbrev pub behind : {X : Type 0} → Read X → Result (List ℕ) ImageError

@@ -1,4 +1,4 @@
-//! The code of the bus controller (own choice): ten operations, images of them, and the bytes of an image. Its tests
+//! The code of the bus controller (own choice): twelve operations, images of them, and the bytes of an image. Its tests
 //! are in `frame_tests`.
 #![tactic(auto)]
 
@@ -42,6 +42,11 @@ pub enum Op {
     Test(u8),
     /// Number 9: goes to this place where the flag is false.
     JumpFalse(u16),
+    /// Number 10: pushes the next place on the list of return places, and goes to where the routine of this number, 0 to 31,
+    /// begins.
+    Call(u8),
+    /// Number 11: pops the list of return places, and goes there. A routine ends here.
+    Return,
 }
 
 /// What the controller runs: at most 4096 operations, each with its operand in its range, and the at most 1024 messages
@@ -107,15 +112,17 @@ impl Image {
 /// Why bytes are not an image. They are judged field by field in their order; want of memory comes last.
 #[derive(Clone, Copy, PartialEq, Eq, Debug)]
 pub enum ImageError {
-    /// C1: there are fewer than four bytes, or they are not the mark BC01.
+    /// C1: there are fewer than four bytes, or they are neither the mark BC01 nor BC02.
     Mark,
     /// C2: the bytes end too early, or go on behind the last message.
     Length,
-    /// C3: an operation's number is over 9, its second byte is not 00, its operand is out of its range, or there are more
+    /// C3: an operation's number is over 9 under BC01 or over 11 under BC02, its second byte is not 00, its operand is out of its range, or there are more
     /// than 4096 operations.
     Operations,
     /// C4: there are more than 1024 messages, or no message of the form has the field.
     Messages,
+    /// C6: the mark is BC02, and no operation has a number above 9.
+    NeedlessMark,
     /// C5: memory was refused.
     Memory,
 }
@@ -133,6 +140,7 @@ impl fmt::Display for ImageError {
             ImageError::Operations => "C3",
             ImageError::Messages => "C4",
             ImageError::Memory => "C5",
+            ImageError::NeedlessMark => "C6",
         })
     }
 }

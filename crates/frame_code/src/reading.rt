@@ -1,12 +1,12 @@
 //! The image that bytes spell. The bytes are judged first, which takes no memory, and then the image is made.
-ghost use Rattle.std.specs.Prelude.{◌∷◌, ◌++◌, ◌≡◌, ◌≢◌, ◌≤◌, ◌<◌, ◌↔◌, IsTrue, IfOk, IfSome, MatchResult, Ok, Err, length};
+ghost use Rattle.std.specs.Prelude.{◌∷◌, ◌++◌, ◌≡◌, ◌≢◌, ◌≤◌, ◌<◌, ◌↔◌, IsTrue, false, IfOk, IfSome, MatchResult, Ok, Err, length};
 ghost use Rattle.frame_code.specs.Table.{Code};
 ghost use Rattle.frame_code.specs.Ranges.{in_range, AreInRange};
-ghost use Rattle.frame_code.specs.Bytes.{two_bytes, mark, header_bytes, number_of, operand_of, operation_bytes, line_number, message_bytes, image_bytes};
+ghost use Rattle.frame_code.specs.Bytes.{two_bytes, mark, has_new, is_new, header_bytes, number_of, operand_of, operation_bytes, line_number, message_bytes, image_bytes};
 ghost use Rattle.std.specs.List.{flat_map};
 ghost use Rattle.frame_code.specs.Fields as table;
 ghost use Rattle.frame_code.specs.Reading as spelled;
-ghost use Rattle.frame_code.specs.Reading.{Reads, Builds, behind, image_of};
+ghost use Rattle.frame_code.specs.Reading.{Reads, Builds, behind, looked_over, image_of};
 ghost use Rattle.frame_code.specs.declared.ImageError.{ImageError};
 
 use crate::fields::{first_fits, second_fits, words_due};
@@ -39,27 +39,28 @@ fn two(bytes: &[u8]) -> Result<(u16, &[u8]), ImageError>
     Ok((u16::from(low) + 256 * u16::from(high), rest))
 }
 
-// The bytes behind the mark.
+// Whether the mark is BC02, or BC01, and the bytes behind it.
 #[tactic(auto, unfolding(crate::specs::Reading::mark_at))]
-fn mark(bytes: &[u8]) -> Result<&[u8], ImageError>
-    ensures mark { Reads (λ rest. rest.now) result (spelled.mark_at bytes.now) }
-    ensures spelled { IfOk result (λ rest. bytes.now ≡ mark ++ rest.now) }
+fn mark(bytes: &[u8]) -> Result<(bool, &[u8]), ImageError>
+    ensures mark { Reads (λ x. (x.0, x.1.now)) result (spelled.mark_at bytes.now) }
+    ensures spelled { IfOk result (λ x. bytes.now ≡ mark x.0 ++ x.1.now) }
 {
     match bytes {
-        [b'B', b'C', b'0', b'1', rest @ ..] => Ok(rest),
+        [b'B', b'C', b'0', b'1', rest @ ..] => Ok((false, rest)),
+        [b'B', b'C', b'0', b'2', rest @ ..] => Ok((true, rest)),
         _ => Err(ImageError::Mark),
     }
 }
 
-// The mark and the two counts: operations, messages, and the bytes behind them.
+// Whether the mark is BC02, the two counts of operations and messages, and the bytes behind them.
 #[tactic(auto, unfolding(crate::specs::Reading::header_at))]
-fn header(bytes: &[u8]) -> Result<(u16, u16, &[u8]), ImageError>
-    ensures fields { Reads (λ x. (x.0, x.1, x.2.now)) result (spelled.header_at bytes.now) }
-    ensures spelled { IfOk result (λ x. bytes.now ≡ header_bytes x.0 x.1 ++ x.2.now) }
-    ensures operations { IfOk result (λ x. x.0 ≤ 4096) }
-    ensures messages { IfOk result (λ x. x.1 ≤ 1024) }
+fn header(bytes: &[u8]) -> Result<(bool, u16, u16, &[u8]), ImageError>
+    ensures fields { Reads (λ x. (x.0, x.1, x.2, x.3.now)) result (spelled.header_at bytes.now) }
+    ensures spelled { IfOk result (λ x. bytes.now ≡ header_bytes x.0 x.1 x.2 ++ x.3.now) }
+    ensures operations { IfOk result (λ x. x.1 ≤ 4096) }
+    ensures messages { IfOk result (λ x. x.2 ≤ 1024) }
 {
-    let rest = mark(bytes)?;
+    let (new, rest) = mark(bytes)?;
     let (operations, rest) = two(rest)?;
     if operations > 4096 {
         return Err(ImageError::Operations);
@@ -68,7 +69,7 @@ fn header(bytes: &[u8]) -> Result<(u16, u16, &[u8]), ImageError>
     if messages > 1024 {
         return Err(ImageError::Messages);
     }
-    Ok((operations, messages, rest))
+    Ok((new, operations, messages, rest))
 }
 
 // The test of a number, if there is one.
@@ -77,6 +78,16 @@ fn test_of(number: u16) -> Option<Op>
 {
     match number {
         0..=1 | 16..=20 | 24..=26 => Some(Op::Test(number as u8)),
+        _ => None,
+    }
+}
+
+// The call of a routine's number, if there is one.
+fn call_of(number: u16) -> Option<Op>
+    ensures { result ≡ spelled.call_of number }
+{
+    match number {
+        0..=31 => Some(Op::Call(number as u8)),
         _ => None,
     }
 }
@@ -100,19 +111,36 @@ fn operation_of(number: u8, operand: u16) -> Option<Op>
         7 => Some(Op::Jump(operand)),
         8 => test_of(operand),
         9 => Some(Op::JumpFalse(operand)),
+        10 => call_of(operand),
+        11 => (operand == 0).then_some(Op::Return),
         _ => None,
     }
 }
 
-// An operation: a number up to 9, 00, and an operand in its range.
+// How many operations a mark knows.
+fn known(new: bool) -> u8
+    ensures { result ≡ spelled.known new }
+{
+    if new { 12 } else { 10 }
+}
+
+// Whether an operation is one that the mark BC01 does not know.
+fn is_new(op: Op) -> bool
+    ensures { result ≡ is_new op }
+{
+    matches!(op, Op::Call(_) | Op::Return)
+}
+
+// An operation: a number that the mark knows, 00, and an operand in its range.
 #[tactic(auto, unfolding(crate::specs::Reading::operation_at))]
-fn operation(bytes: &[u8]) -> Result<(Op, &[u8]), ImageError>
-    ensures operation { Reads (λ x. (x.0, x.1.now)) result (spelled.operation_at bytes.now) }
+fn operation(new: bool, bytes: &[u8]) -> Result<(Op, &[u8]), ImageError>
+    ensures operation { Reads (λ x. (x.0, x.1.now)) result (spelled.operation_at new bytes.now) }
     ensures range { IfOk result (λ x. IsTrue (in_range x.0)) }
     ensures spelled { IfOk result (λ x. bytes.now ≡ operation_bytes x.0 ++ x.1.now) }
+    ensures known { IfOk result (λ x. new ≡ false → is_new x.0 ≡ false) }
 {
     let (number, rest) = byte(bytes)?;
-    if number >= 10 {
+    if number >= known(new) {
         return Err(ImageError::Operations);
     }
     let (pad, rest) = byte(rest)?;
@@ -205,16 +233,18 @@ fn message(bytes: &[u8]) -> Result<((Line, Message), &[u8]), ImageError>
     body(form, line, first, second, rest)
 }
 
-// The bytes behind so many operations.
-fn past_operations(count: u16, bytes: &[u8]) -> Result<&[u8], ImageError>
-    ensures { Reads (λ rest. rest.now) result (behind (spelled.many spelled.operation_at count bytes.now)) }
+// Whether one of so many operations is new to BC01, and the bytes behind them.
+fn past_operations(new: bool, count: u16, bytes: &[u8]) -> Result<(bool, &[u8]), ImageError>
+    ensures { Reads (λ x. (x.0, x.1.now)) result (looked_over false (spelled.many (spelled.operation_at new) count bytes.now)) }
 {
     let mut rest = bytes;
+    let mut found = false;
     for _ in 0..count {
-        let (_, next) = operation(rest)?;
+        let (op, next) = operation(new, rest)?;
+        found |= is_new(op);
         rest = next;
     }
-    Ok(rest)
+    Ok((found, rest))
 }
 
 // The bytes behind so many messages.
@@ -229,31 +259,47 @@ fn past_messages(count: u16, bytes: &[u8]) -> Result<&[u8], ImageError>
     Ok(rest)
 }
 
+// Nothing may be left behind the last message, and the mark BC02 needs an operation that BC01 does not know.
+fn at_end(new: bool, found: bool, rest: &[u8]) -> Result<(), ImageError>
+    ensures { (code : Code) → has_new code.operations ≡ found → Reads (λ _. code) result (spelled.at_end new rest.now code) }
+{
+    if !rest.is_empty() {
+        return Err(ImageError::Length);
+    }
+    if new && !found {
+        return Err(ImageError::NeedlessMark);
+    }
+    Ok(())
+}
+
 // Whether the bytes are those of an image, else the first fault.
 #[tactic(auto, unfolding(crate::specs::Reading::image_of))]
 fn judge(bytes: &[u8]) -> Result<(), ImageError>
     ensures { MatchResult result (λ _. (code : Code) × (image_of bytes.now ≡ Ok code)) (λ e. image_of bytes.now ≡ Err e) }
 {
-    let (operations, messages, rest) = header(bytes)?;
-    let rest = past_operations(operations, rest)?;
+    let (new, operations, messages, rest) = header(bytes)?;
+    let (found, rest) = past_operations(new, operations, rest)?;
     let rest = past_messages(messages, rest)?;
-    match rest.split_first() {
-        None => Ok(()),
-        Some(_) => Err(ImageError::Length),
-    }
+    at_end(new, found, rest)
 }
 
 // So many operations.
-fn operations(alloc: Global, count: u16, bytes: &[u8]) -> Result<(Vec<Op>, &[u8]), ImageError>
-    ensures operations { Builds (λ x. (x.0.items, x.1.now)) result (spelled.many spelled.operation_at count bytes.now) }
+fn operations(
+    alloc: Global,
+    new: bool,
+    count: u16,
+    bytes: &[u8],
+) -> Result<(Vec<Op>, &[u8]), ImageError>
+    ensures operations { Builds (λ x. (x.0.items, x.1.now)) result (spelled.many (spelled.operation_at new) count bytes.now) }
     ensures range { IfOk result (λ x. AreInRange x.0.items) }
     ensures count { IfOk result (λ x. length x.0.items ≡ count) }
     ensures spelled { IfOk result (λ x. bytes.now ≡ flat_map operation_bytes x.0.items ++ x.1.now) }
+    ensures known { IfOk result (λ x. new ≡ false → has_new x.0.items ≡ false) }
 {
     let mut found = Vec::new(alloc);
     let mut rest = bytes;
     for _ in 0..count {
-        let (op, next) = operation(rest)?;
+        let (op, next) = operation(new, rest)?;
         found.push(op)?;
         rest = next;
     }
@@ -280,25 +326,35 @@ fn messages(
     Ok((found, rest))
 }
 
+// Whether an operation is new to BC01.
+pub fn has_new(operations: &[Op]) -> bool
+    ensures { result ≡ has_new operations.now }
+{
+    for op in operations {
+        if is_new(*op) {
+            return true;
+        }
+    }
+    false
+}
+
 // The image that the bytes spell.
 #[tactic(auto, unfolding(crate::specs::Reading::image_of))]
 fn build(alloc: Global, bytes: &[u8]) -> Result<Image, ImageError>
     ensures image { Builds (λ image. image) result (image_of bytes.now) }
     ensures spelled { IfOk result (λ image. bytes.now ≡ image_bytes image) }
 {
-    let (operation_count, message_count, rest) = header(bytes)?;
-    let (operations, rest) = operations(alloc, operation_count, rest)?;
+    let (new, operation_count, message_count, rest) = header(bytes)?;
+    let (operations, rest) = operations(alloc, new, operation_count, rest)?;
     let (messages, rest) = messages(alloc, message_count, rest)?;
-    match rest.split_first() {
-        None => Ok(Image {
-            operations,
-            messages,
-        }),
-        Some(_) => Err(ImageError::Length),
-    }
+    at_end(new, has_new(&operations), rest)?;
+    Ok(Image {
+        operations,
+        messages,
+    })
 }
 
-/// The image that the bytes spell, else their first fault (C1 to C4); want of memory (C5) is answered for bytes of an image
+/// The image that the bytes spell, else their first fault (C1 to C4, and C6 after all these); want of memory (C5) is answered for bytes of an image
 /// alone. Two byte lists are never read as one image.
 pub fn read_image(alloc: Global, bytes: &[u8]) -> Result<Image, ImageError>
     ensures image { IfOk result (λ image. image_of bytes.now ≡ Ok image) }

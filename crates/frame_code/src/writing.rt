@@ -7,6 +7,7 @@ ghost use Rattle.frame_code.specs.Ranges.{IsImage};
 ghost use Rattle.frame_code.specs.Bytes as spelled;
 ghost use Rattle.frame_code.specs.Reading.{image_of};
 
+use crate::reading::has_new;
 use crate::{Image, Op};
 use mil_message::Message;
 use mil_word::Line;
@@ -36,15 +37,17 @@ fn number_of(op: Op) -> u8
         Op::Jump(_) => 7,
         Op::Test(_) => 8,
         Op::JumpFalse(_) => 9,
+        Op::Call(_) => 10,
+        Op::Return => 11,
     }
 }
 
-// The operand of an operation, 0 for Halt.
+// The operand of an operation, 0 for Halt and Return.
 fn operand_of(op: Op) -> u16
     ensures { result ≡ spelled.operand_of op }
 {
     match op {
-        Op::Halt => 0,
+        Op::Halt | Op::Return => 0,
         Op::Send(operand)
         | Op::Alt(operand)
         | Op::SetGap(operand)
@@ -54,6 +57,7 @@ fn operand_of(op: Op) -> u16
         | Op::Jump(operand)
         | Op::JumpFalse(operand) => operand,
         Op::Test(test) => u16::from(test),
+        Op::Call(routine) => u16::from(routine),
     }
 }
 
@@ -126,6 +130,13 @@ fn put_messages(bytes: &mut Vec<u8>, messages: &[(Line, Message)]) -> Result<(),
     Ok(())
 }
 
+// The mark: BC02, or BC01.
+fn put_mark(bytes: &mut Vec<u8>, new: bool) -> Result<(), AllocError>
+    ensures { OnOk result (bytes.new.items ≡ bytes.old.items ++ spelled.mark new) }
+{
+    bytes.extend_from_slice(if new { b"BC02" } else { b"BC01" })
+}
+
 // The bytes of an image, all of whose messages are lawful.
 fn written(alloc: Global, image: &Image) -> Result<Vec<u8>, AllocError>
     ensures bytes { IfOk result (λ bytes. bytes.items ≡ spelled.image_bytes image.now) }
@@ -135,7 +146,7 @@ fn written(alloc: Global, image: &Image) -> Result<Vec<u8>, AllocError>
     let operations = image.operations();
     let messages = image.messages();
     let mut bytes = Vec::new(alloc);
-    bytes.extend_from_slice(b"BC01")?;
+    put_mark(&mut bytes, has_new(operations))?;
     put_two(&mut bytes, operations.len() as u16)?;
     put_two(&mut bytes, messages.len() as u16)?;
     put_operations(&mut bytes, operations)?;
@@ -143,7 +154,7 @@ fn written(alloc: Global, image: &Image) -> Result<Vec<u8>, AllocError>
     Ok(bytes)
 }
 
-/// The bytes of an image; `read_image` gives the image back.
+/// The bytes of an image, with the mark BC02 where an operation has a number above 9, else BC01; `read_image` gives the image back.
 pub fn write_image(alloc: Global, image: &Image) -> Result<Vec<u8>, AllocError>
     ensures bytes { IfOk result (λ bytes. bytes.items ≡ spelled.image_bytes image.now) }
     ensures read_back { IfOk result (λ bytes. image_of bytes.items ≡ Ok image.now) }
