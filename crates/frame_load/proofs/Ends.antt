@@ -6,7 +6,7 @@ use Rattle.mil_word.specs.declared.Line.{Line}
 use Rattle.mil_message.specs.declared.messages.Message.{Message}
 use Rattle.mil_message.specs.World.{World, Point, other_line, sent, asks}
 use Rattle.frame_code.specs.declared.Op.{Op}
-use Rattle.frame_code.specs.declared.Op.TheVariants.{Halt, Send, Alt, SetGap, Loop, Again, Leave, Jump, Test, JumpFalse}
+use Rattle.frame_code.specs.declared.Op.TheVariants.{Halt, Send, Alt, SetGap, Loop, Again, Leave, Jump, Test, JumpFalse, Call, Return}
 use Rattle.frame_code.specs.Table.{Code, Registers, Running, Turn, goes_on, halted, stuck, sends, turns, leaves, counted, act, step, then_run, run, start, at_place}
 use Rattle.frame_code.specs.Loadable.{tail, after, open_at, EndsInHalt, IsPaired, LeavesTo, GoesWell, HasMessage, Each, IsLoadable}
 use Rattle.frame_load.specs.Budget.{one_each, one_sent, cost_of, budget, worst_messages}

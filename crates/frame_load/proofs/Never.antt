@@ -8,8 +8,8 @@ use Rattle.mil_word.specs.declared.Line.{Line}
 use Rattle.mil_message.specs.declared.messages.Message.{Message}
 use Rattle.mil_message.specs.World.{World, Point, other_line, sent, asks}
 use Rattle.frame_code.specs.declared.Op.{Op}
-use Rattle.frame_code.specs.declared.Op.TheVariants.{Halt, Send, Alt, SetGap, Loop, Again, Leave, Jump, Test, JumpFalse}
-use Rattle.frame_code.specs.Table.{Code, Registers, Running, Turn, goes_on, halted, stuck, sends, turns, leaves, counted, act, step, then_run, run, start, at_place}
+use Rattle.frame_code.specs.declared.Op.TheVariants.{Halt, Send, Alt, SetGap, Loop, Again, Leave, Jump, Test, JumpFalse, Call, Return}
+use Rattle.frame_code.specs.Table.{Code, Registers, Running, Turn, goes_on, halted, stuck, sends, turns, leaves, counted, calls, comes_back, act, step, then_run, run, start, at_place, routine_at, next_routine, begins, one_more, place_or_0, main_begins}
 use Rattle.frame_load.specs.Runs.{Reaches}
 use Rattle.frame_code.specs.Loadable.{tail, after, open_at, EndsInHalt, IsPaired, LeavesTo, GoesWell, HasMessage, Each, IsLoadable}
 
@@ -41,85 +41,248 @@ next_within os p o ends e going =
     absurd (going (subst IsHalt (sym same) tt)))
     (cases_lt p (length ends.0))
 
--- an open loop has its Loop where it says
+-- a Return ends its routine
+abbrev pub IsReturn : Op → Type 0
+IsReturn Return = Unit {0}
+IsReturn _ = ⊥
+
+pub same_routine : (os : List Op) (p : ℕ) (o : Op) → slice_get os p ≡ Some o → (IsReturn o → ⊥) → routine_at os (suc p) ≡ routine_at os p
+same_routine os p o e h = ap (λ v. next_routine v (routine_at os p)) e ∙ by o h
+  where
+    by : (o : Op) → (IsReturn o → ⊥) → next_routine (Some o) (routine_at os p) ≡ routine_at os p
+    by Return h = absurd (h tt)
+    by _ h = refl
+
+pub next_up : (os : List Op) (p : ℕ) → slice_get os p ≡ Some Return → routine_at os (suc p) ≡ suc (routine_at os p)
+next_up os p e = ap (λ v. next_routine v (routine_at os p)) e
+
+routine_step : (v : Option Op) (k : ℕ) → k ≤ next_routine v k
+routine_step (Some Return) k = omega arith
+routine_step _ k = omega arith
+
+pub routine_grows : (os : List Op) (p d : ℕ) → routine_at os p ≤ routine_at os (p + d)
+routine_grows os p zero = let e : p + 0 ≡ p = omega arith in omega (arith, ap (routine_at os) e)
+routine_grows os p (suc d) =
+    let e : p + suc d ≡ suc (p + d) = omega arith in
+    omega (arith, routine_grows os p d, routine_step (slice_get os (p + d)) (routine_at os (p + d)), ap (routine_at os) e)
+
+pub routine_le : (os : List Op) (p q : ℕ) → p ≤ q → routine_at os p ≤ routine_at os q
+routine_le os p q h = let e : p + (q - p) ≡ q = omega (arith, h) in omega (arith, routine_grows os p (q - p), ap (routine_at os) e)
+
+-- an open loop has its Loop where it says, in the same routine
 abbrev pub IsOpened : List Op → ℕ → ℕ → List ℕ → Type 0
-IsOpened os p s st = (k : ℕ) × (s < p) × (open_at os s ≡ st) × (slice_get os s ≡ Some (Loop k))
+IsOpened os p s st = (k : ℕ) × (s < p) × (open_at os s ≡ st) × (slice_get os s ≡ Some (Loop k)) × (routine_at os s ≡ routine_at os p)
 
 pub opened : (os : List Op) (n p : ℕ) (s : ℕ) (st : List ℕ) → p ≤ n → open_at os p ≡ s ∷ st → IsOpened os p s st
 opened os n zero s st h e = absurd (cc)
 opened os zero (suc p) s st h e = absurd (omega arith)
 opened os (suc n) (suc p) s st h e = by_op (λ q s' st' l x. opened os n q s' st' l x) (slice_get os p) refl e
   where
-    later : (q : ℕ) → q ≤ suc p → IsOpened os q s st → IsOpened os (suc p) s st
-    later q l r = (r.0, omega (arith, l, r.1), r.2, r.3)
+    later : (q : ℕ) → q ≤ suc p → routine_at os q ≡ routine_at os (suc p) → IsOpened os q s st → IsOpened os (suc p) s st
+    later q l e r = (r.0, omega (arith, l, r.1), r.2, r.3, r.4 ∙ e)
 
-    popped : ((q s' : ℕ) (st' : List ℕ) → q ≤ n → open_at os q ≡ s' ∷ st' → IsOpened os q s' st') → (loops : List ℕ) → open_at os p ≡ loops → tail loops ≡ s ∷ st → IsOpened os (suc p) s st
-    popped below [] x y = absurd (cc)
-    popped below (s1 ∷ st1) x y =
+    popped : (i : ℕ) → slice_get os p ≡ Some (Again i) → ((q s' : ℕ) (st' : List ℕ) → q ≤ n → open_at os q ≡ s' ∷ st' → IsOpened os q s' st') → (loops : List ℕ) → open_at os p ≡ loops → tail loops ≡ s ∷ st → IsOpened os (suc p) s st
+    popped i o below [] x y = absurd (cc)
+    popped i o below (s1 ∷ st1) x y =
         let a = below p s1 st1 (omega arith) x in
-        later s1 (omega (arith, a.1)) (below s1 s st (omega (arith, a.1)) (a.2 ∙ y))
+        later s1 (omega (arith, a.1)) (a.4 ∙ sym (same_routine os p (Again i) o (λ z. z))) (below s1 s st (omega (arith, a.1)) (a.2 ∙ y))
 
     by_op : ((q s' : ℕ) (st' : List ℕ) → q ≤ n → open_at os q ≡ s' ∷ st' → IsOpened os q s' st') → (o : Option Op) → slice_get os p ≡ o → after o p (open_at os p) ≡ s ∷ st → IsOpened os (suc p) s st
     by_op below (Some (Loop k)) x y =
         let here : p ≡ s = cc in
         let rest : open_at os p ≡ st = cc in
-        (k, omega (arith, here), ap (open_at os) (sym here) ∙ rest, ap (slice_get os) (sym here) ∙ x)
-    by_op below (Some (Again i)) x y = popped below (open_at os p) refl y
-    by_op below _ x y = later p (omega arith) (below p s st (omega arith) y)
+        (k, omega (arith, here), ap (open_at os) (sym here) ∙ rest, ap (slice_get os) (sym here) ∙ x, ap (routine_at os) (sym here) ∙ sym (same_routine os p (Loop k) x (λ z. z)))
+    by_op below (Some (Again i)) x y = popped i x below (open_at os p) refl y
+    by_op below (Some Return) x y = absurd (cc)
+    by_op below None x y = later p (omega arith) (sym (ap (λ v. next_routine v (routine_at os p)) x)) (below p s st (omega arith) y)
+    by_op below (Some Halt) x y = later p (omega arith) (sym (same_routine os p Halt x (λ z. z))) (below p s st (omega arith) y)
+    by_op below (Some (Send m)) x y = later p (omega arith) (sym (same_routine os p (Send m) x (λ z. z))) (below p s st (omega arith) y)
+    by_op below (Some (Alt m)) x y = later p (omega arith) (sym (same_routine os p (Alt m) x (λ z. z))) (below p s st (omega arith) y)
+    by_op below (Some (SetGap t)) x y = later p (omega arith) (sym (same_routine os p (SetGap t) x (λ z. z))) (below p s st (omega arith) y)
+    by_op below (Some (Leave i)) x y = later p (omega arith) (sym (same_routine os p (Leave i) x (λ z. z))) (below p s st (omega arith) y)
+    by_op below (Some (Jump i)) x y = later p (omega arith) (sym (same_routine os p (Jump i) x (λ z. z))) (below p s st (omega arith) y)
+    by_op below (Some (Test k)) x y = later p (omega arith) (sym (same_routine os p (Test k) x (λ z. z))) (below p s st (omega arith) y)
+    by_op below (Some (JumpFalse i)) x y = later p (omega arith) (sym (same_routine os p (JumpFalse i) x (λ z. z))) (below p s st (omega arith) y)
+    by_op below (Some (Call r)) x y = later p (omega arith) (sym (same_routine os p (Call r) x (λ z. z))) (below p s st (omega arith) y)
+
+-- places within the same loop stand in one routine
+pub same_home : (os : List Op) (p q : ℕ) → open_at os p ≡ open_at os q → 0 < length (open_at os q) → routine_at os p ≡ routine_at os q
+same_home os p q e some = by (open_at os q) refl
+  where
+    by : (st : List ℕ) → open_at os q ≡ st → routine_at os p ≡ routine_at os q
+    by [] x = absurd (omega (arith, some, ap length x))
+    by (s ∷ st) x = sym (opened os p p s st (omega arith) (e ∙ x)).4 ∙ (opened os q q s st (omega arith) x).4
+
+-- where a routine begins: at the first place, or behind the Return of the routine before
+pub record Begun (os : List Op) (r b : ℕ) : Type 0 where
+  pub routine : routine_at os b ≡ r
+  pub none_open : open_at os b ≡ []
+  pub first_or_next : (b ≡ 0) ⊎ ((p : ℕ) × (b ≡ suc p) × (slice_get os p ≡ Some Return))
+
+-- one operation more in front
+routine_front : (o : Op) (os : List Op) (p : ℕ) → routine_at (o ∷ os) (suc p) ≡ next_routine (Some o) 0 + routine_at os p
+routine_front o os zero = omega arith
+routine_front o os (suc p) = ap (next_routine (slice_get os p)) (routine_front o os p) ∙ by (slice_get os p) (next_routine (Some o) 0)
+  where
+    by : (v : Option Op) (k : ℕ) → next_routine v (k + routine_at os p) ≡ k + next_routine v (routine_at os p)
+    by (Some Return) k = omega arith
+    by _ k = refl
+
+-- the Return in front of a routine that is not the first
+abbrev Behind : List Op → ℕ → ℕ → Type 0
+Behind os r b = (p : ℕ) × (b ≡ suc p) × (slice_get os p ≡ Some Return) × (routine_at os p ≡ r)
+
+more_is : (v : Option ℕ) (b : ℕ) → one_more v ≡ Some b → (c : ℕ) × (v ≡ Some c) × (b ≡ suc c)
+more_is None b e = absurd (cc)
+more_is (Some c) b e = (c, refl, (let x : suc c ≡ b = cc in sym x))
+
+front : (o : Op) (os : List Op) (r b : ℕ) → begins (o ∷ os) (suc r) ≡ Some b → ((r c : ℕ) → begins os (suc r) ≡ Some c → Behind os r c) → Behind (o ∷ os) r b
+front Return os zero b e below =
+    let m = more_is (begins os 0) b e in
+    let z : m.0 ≡ 0 = let x : Some 0 ≡ Some m.0 = m.1 in cc in
+    (0, m.2 ∙ ap suc z, refl, refl)
+front Return os (suc r) b e below =
+    let m = more_is (begins os (suc r)) b e in
+    let i = below r m.0 m.1 in
+    let k : routine_at (Return ∷ os) (suc i.0) ≡ suc r = omega (arith, routine_front Return os i.0, i.3) in
+    (suc i.0, m.2 ∙ ap suc i.1, i.2, k)
+front o os r b e below =
+    let m = more_is (begins os (suc r)) b e in
+    let i = below r m.0 m.1 in
+    let k : routine_at (o ∷ os) (suc i.0) ≡ r = omega (arith, routine_front o os i.0, i.3) in
+    (suc i.0, m.2 ∙ ap suc i.1, i.2, k)
+
+behind_at : (os : List Op) (r b : ℕ) → begins os (suc r) ≡ Some b → Behind os r b
+behind_at [] r b e = absurd (cc)
+behind_at (o ∷ os) r b e = front o os r b e (λ r c i. behind_at os r c i)
+
+pub begun_at : (os : List Op) (r b : ℕ) → begins os r ≡ Some b → Begun os r b
+begun_at os zero b e =
+    let z : 0 ≡ b = cc in
+    record { routine = ap (routine_at os) (sym z); none_open = ap (open_at os) (sym z); first_or_next = inl (sym z) }
+begun_at os (suc r) b e =
+    let i = behind_at os r b e in
+    record {
+      routine = ap (routine_at os) i.1 ∙ next_up os i.0 i.2 ∙ ap suc i.3;
+      none_open = ap (open_at os) i.1 ∙ ap (λ v. after v i.0 (open_at os i.0)) i.2;
+      first_or_next = inr (i.0, i.1, i.2);
+    }
+
+-- each routine that there is begins somewhere, and the main part too
+more_some : (v : Option ℕ) → ((b : ℕ) × (v ≡ Some b)) → (b : ℕ) × (one_more v ≡ Some b)
+more_some None x = absurd (let h = x.1 in cc)
+more_some (Some c) x = (suc c, refl)
+
+begins_front : (o : Op) (os : List Op) (r : ℕ) → suc r ≤ routine_at (o ∷ os) (suc (length os)) → ((r : ℕ) → r ≤ routine_at os (length os) → (b : ℕ) × (begins os r ≡ Some b)) → (b : ℕ) × (begins (o ∷ os) (suc r) ≡ Some b)
+begins_front Return os r h below = more_some (begins os r) (below r (omega (arith, h, routine_front Return os (length os))))
+begins_front o os r h below = more_some (begins os (suc r)) (below (suc r) (omega (arith, h, routine_front o os (length os))))
+
+pub begins_some : (os : List Op) (r : ℕ) → r ≤ routine_at os (length os) → (b : ℕ) × (begins os r ≡ Some b)
+begins_some os zero h = (0, refl)
+begins_some [] (suc r) h = absurd (omega (arith, h))
+begins_some (o ∷ os) (suc r) h = begins_front o os r h (λ q l. begins_some os q l)
+
+pub main_begun : (os : List Op) → Begun os (routine_at os (length os)) (main_begins os)
+main_begun os =
+    let x = begins_some os (routine_at os (length os)) (omega arith) in
+    subst (λ v. Begun os (routine_at os (length os)) (place_or_0 v)) (sym x.1) (begun_at os (routine_at os (length os)) x.0 x.1)
+
+pub begun_inside : (os : List Op) (r b : ℕ) → EndsInHalt os → Begun os r b → b < length os
+begun_inside os r b ends g = ⊎_elim
+    (λ z. let long : length os ≡ length ends.0 + 1 = ap length ends.1 ∙ length-append ends.0 (Halt ∷ []) in omega (arith, z, long))
+    (λ x. omega (arith, x.1, next_within os x.0 Return ends x.2 (λ h. h)))
+    g.first_or_next
+
+-- the routines under way, from the one of this number outwards, by the places behind their Calls
+abbrev pub Chain : List Op → ℕ → List ℕ → Type 0
+Chain os k [] = k ≡ routine_at os (length os)
+Chain os k (q ∷ qs) = (c : ℕ) × (q ≡ suc c) × (slice_get os c ≡ Some (Call k)) × Chain os (routine_at os c) qs
+
+-- how many loops are open in the outer ones
+abbrev pub outer_loops : List Op → List ℕ → ℕ
+outer_loops os [] = 0
+outer_loops os (q ∷ qs) = length (open_at os q) + outer_loops os qs
 
 -- what stands at each step of a run
 pub record Fits (code : Code) (r : Registers) : Type 0 where
   pub inside : r.place < length code.operations
-  pub loops : length r.counters ≡ length (open_at code.operations r.place)
+  pub loops : length r.counters ≡ length (open_at code.operations r.place) + outer_loops code.operations r.returns
+  pub chain : Chain code.operations (routine_at code.operations r.place) r.returns
 
 abbrev pub FitsAfter : {State Outcome : Type 0} → Code → Turn (Running State Outcome) → Type 0
 FitsAfter code (goes_on x) = Fits code x.at
 FitsAfter code halted = Unit {0}
 FitsAfter code stuck = ⊥
 
-module _ {State Outcome : Type 0} (w : World State Outcome) (code : Code) (ok : IsLoadable code) where
-  -- the next place, where the operation opens and closes no loop
-  falls : (r r' : Registers) (o : Op) → slice_get code.operations r.place ≡ Some o → (IsHalt o → ⊥) → Fits code r → r'.place ≡ r.place + 1 → length r'.counters ≡ length (after (Some o) r.place (open_at code.operations r.place)) → Fits code r'
-  falls r r' o e going f here long = record {
-    inside = omega (arith, here, next_within code.operations r.place o ok.ends e going);
-    loops = long ∙ ap (λ v. length (after v r.place (open_at code.operations r.place))) (sym e) ∙ (let s : suc r.place ≡ r'.place = omega (arith, here) in ap (λ q. length (open_at code.operations q)) s);
-  }
+-- an operation that has its next one in the same routine
+abbrev pub IsEnd : Op → Type 0
+IsEnd Halt = Unit {0}
+IsEnd Return = Unit {0}
+IsEnd _ = ⊥
 
-  sends_fit : (r : Registers) (p : Point State Outcome) (o : Op) (m : ℕ) (on : Line → Line) → slice_get code.operations r.place ≡ Some o → (IsHalt o → ⊥) → after (Some o) r.place (open_at code.operations r.place) ≡ open_at code.operations r.place → m < length code.messages → Fits code r → FitsAfter code (sends w (slice_get code.messages m) on r p)
+no_halt : (o : Op) → (IsEnd o → ⊥) → IsHalt o → ⊥
+no_halt Halt h x = h tt
+no_halt _ h x = x
+
+pub no_return : (o : Op) → (IsEnd o → ⊥) → IsReturn o → ⊥
+no_return Return h x = h tt
+no_return _ h x = x
+
+module _ {State Outcome : Type 0} (w : World State Outcome) (code : Code) (ok : IsLoadable code) where
+  abbrev outer : Registers → ℕ
+  outer r = outer_loops code.operations r.returns
+
+  -- the next place, where the operation ends no routine
+  falls : (r r' : Registers) (o : Op) → slice_get code.operations r.place ≡ Some o → (IsEnd o → ⊥) → Fits code r → r'.place ≡ r.place + 1 → r'.returns ≡ r.returns
+      → length r'.counters ≡ length (after (Some o) r.place (open_at code.operations r.place)) + outer r → Fits code r'
+  falls r r' o e going f here same long =
+      let s : suc r.place ≡ r'.place = omega (arith, here) in
+      let routine : routine_at code.operations r.place ≡ routine_at code.operations r'.place = sym (same_routine code.operations r.place o e (no_return o going)) ∙ ap (routine_at code.operations) s in
+      record {
+        inside = omega (arith, here, next_within code.operations r.place o ok.ends e (no_halt o going));
+        loops = long ∙ ap (λ v. length (after v r.place (open_at code.operations r.place)) + outer r) (sym e) ∙ ap (λ q. length (open_at code.operations q) + outer r) s ∙ ap (λ qs. length (open_at code.operations r'.place) + outer_loops code.operations qs) (sym same);
+        chain = subst (λ qs. Chain code.operations (routine_at code.operations r'.place) qs) (sym same) (subst (λ k. Chain code.operations k r.returns) routine f.chain);
+      }
+
+  sends_fit : (r : Registers) (p : Point State Outcome) (o : Op) (m : ℕ) (on : Line → Line) → slice_get code.operations r.place ≡ Some o → (IsEnd o → ⊥) → after (Some o) r.place (open_at code.operations r.place) ≡ open_at code.operations r.place → m < length code.messages → Fits code r → FitsAfter code (sends w (slice_get code.messages m) on r p)
   sends_fit r p o m on e going same h f =
       let x = there code.messages m h in
-      subst (λ v. FitsAfter code (sends w v on r p)) (sym x.1) (falls r (record r { place = r.place + 1; line = on x.0.0 }) o e going f refl (f.loops ∙ ap length (sym same)))
+      subst (λ v. FitsAfter code (sends w v on r p)) (sym x.1) (falls r (record r { place = r.place + 1; line = on x.0.0 }) o e going f refl refl (f.loops ∙ ap (λ st. length st + outer r) (sym same)))
 
-  jumps_fit : (r r' : Registers) (i : ℕ) → Fits code r → i < length code.operations → open_at code.operations i ≡ open_at code.operations r.place → r'.place ≡ i → r'.counters ≡ r.counters → Fits code r'
-  jumps_fit r r' i f lt same here kept = record {
+  jumps_fit : (r r' : Registers) (i : ℕ) → Fits code r → i < length code.operations → open_at code.operations i ≡ open_at code.operations r.place → routine_at code.operations i ≡ routine_at code.operations r.place
+      → r'.place ≡ i → r'.counters ≡ r.counters → r'.returns ≡ r.returns → Fits code r'
+  jumps_fit r r' i f lt same home here kept back = record {
     inside = omega (arith, here, lt);
-    loops = ap length kept ∙ f.loops ∙ ap length (sym same) ∙ ap (λ q. length (open_at code.operations q)) (sym here);
+    loops = ap length kept ∙ f.loops ∙ ap (λ st. length st + outer r) (sym same) ∙ ap (λ q. length (open_at code.operations q) + outer r) (sym here) ∙ ap (λ qs. length (open_at code.operations r'.place) + outer_loops code.operations qs) (sym back);
+    chain = subst (λ qs. Chain code.operations (routine_at code.operations r'.place) qs) (sym back) (subst (λ k. Chain code.operations k r.returns) (sym home ∙ ap (routine_at code.operations) (sym here)) f.chain);
   }
 
-  length-tail : (n : ℕ) (ns st : List ℕ) → length (n ∷ ns) ≡ length st → length ns ≡ length (tail st)
-  length-tail n ns [] e = absurd (omega (arith, e))
-  length-tail n ns (s ∷ st) e = omega (arith, e)
+  length-tail : (n : ℕ) (ns st : List ℕ) (k : ℕ) → length (n ∷ ns) ≡ length st + k → 0 < length st → length ns ≡ length (tail st) + k
+  length-tail n ns [] k e h = absurd (omega (arith, h))
+  length-tail n ns (s ∷ st) k e h = omega (arith, e)
 
   turns_fit : (r : Registers) (p : Point State Outcome) (i : ℕ) (cs : List ℕ) → r.counters ≡ cs → slice_get code.operations r.place ≡ Some (Again i) → Fits code r → FitsAfter code (turns w cs i r p)
   turns_fit r p i [] c e f = let none : length r.counters ≡ 0 = ap length c in absurd (omega (arith, none, f.loops, ok.nested.paired r.place (Again i) e))
   turns_fit r p i (n ∷ ns) c e f = by_count (n - 1)
     where
-      tl : length ns ≡ length (tail (open_at code.operations r.place))
-      tl = length-tail n ns (open_at code.operations r.place) (ap length (sym c) ∙ f.loops)
+      tl : length ns ≡ length (tail (open_at code.operations r.place)) + outer r
+      tl = length-tail n ns (open_at code.operations r.place) (outer r) (ap length (sym c) ∙ f.loops) (ok.nested.paired r.place (Again i) e)
 
       by_count : (k : ℕ) → FitsAfter code (counted w k ns i r p)
-      by_count zero = falls r (record r { place = r.place + 1; counters = ns }) (Again i) e (λ x. x) f refl tl
+      by_count zero = falls r (record r { place = r.place + 1; counters = ns }) (Again i) e (λ x. x) f refl refl tl
       by_count (suc k) =
           let g = ok.jumps r.place (Again i) e in
           let start = g.0 in
           let rest = g.1 in
           let a = opened code.operations r.place r.place start rest (omega arith) g.2 in
           let at : open_at code.operations (suc start) ≡ start ∷ rest = ap (λ v. after v start (open_at code.operations start)) a.3 ∙ ap (λ v. start ∷ v) a.2 in
-          let two : length ns + 1 ≡ length (open_at code.operations r.place) = omega (arith, ap length c, f.loops) in
+          let two : length ns + 1 ≡ length (open_at code.operations r.place) + outer r = omega (arith, ap length c, f.loops) in
           let lt : i < length code.operations = omega (arith, g.3, a.1, f.inside) in
+          let home : routine_at code.operations i ≡ routine_at code.operations r.place = ap (routine_at code.operations) g.3 ∙ same_routine code.operations start (Loop a.0) a.3 (λ x. x) ∙ a.4 in
           record {
             inside = lt;
             loops = omega (arith, two, ap length (g.2 ∙ sym at ∙ ap (open_at code.operations) (sym g.3)));
+            chain = subst (λ k. Chain code.operations k r.returns) (sym home) f.chain;
           }
 
   leaves_fit : (r : Registers) (p : Point State Outcome) (i : ℕ) (cs : List ℕ) → r.counters ≡ cs → slice_get code.operations r.place ≡ Some (Leave i) → Fits code r → FitsAfter code (leaves w cs i r p)
@@ -128,31 +291,69 @@ module _ {State Outcome : Type 0} (w : World State Outcome) (code : Code) (ok : 
       let g = ok.jumps r.place (Leave i) e in
       let q = g.0 in
       let at : open_at code.operations (suc q) ≡ tail (open_at code.operations q) = ap (λ v. after v q (open_at code.operations q)) g.3 in
-      let tl = length-tail n ns (open_at code.operations r.place) (ap length (sym c) ∙ f.loops) in
+      let some : 0 < length (open_at code.operations r.place) = ok.nested.paired r.place (Leave i) e in
+      let tl = length-tail n ns (open_at code.operations r.place) (outer r) (ap length (sym c) ∙ f.loops) some in
       let inside : q + 1 < length code.operations = next_within code.operations q (Again g.1) ok.ends g.3 (λ x. x) in
+      let home : routine_at code.operations i ≡ routine_at code.operations r.place = ap (routine_at code.operations) g.2 ∙ same_routine code.operations q (Again g.1) g.3 (λ x. x) ∙ same_home code.operations q r.place g.4 some in
       record {
         inside = omega (arith, inside, g.2);
-        loops = tl ∙ ap (λ v. length (tail v)) (sym g.4) ∙ ap length (sym at) ∙ ap (λ v. length (open_at code.operations v)) (sym g.2);
+        loops = tl ∙ ap (λ v. length (tail v) + outer r) (sym g.4) ∙ ap (λ st. length st + outer r) (sym at) ∙ ap (λ v. length (open_at code.operations v) + outer r) (sym g.2);
+        chain = subst (λ k. Chain code.operations k r.returns) (sym home) f.chain;
       }
 
   branch_fits : (r : Registers) (p : Point State Outcome) (i : ℕ) (b : Bool) → slice_get code.operations r.place ≡ Some (JumpFalse i) → Fits code r → Fits code (at_place r (cond b (r.place + 1) i))
-  branch_fits r p i true e f = falls r (at_place r (r.place + 1)) (JumpFalse i) e (λ x. x) f refl f.loops
-  branch_fits r p i false e f = let g = ok.jumps r.place (JumpFalse i) e in jumps_fit r (at_place r i) i f g.1 g.2 refl refl
+  branch_fits r p i true e f = falls r (at_place r (r.place + 1)) (JumpFalse i) e (λ x. x) f refl refl f.loops
+  branch_fits r p i false e f = let g = ok.jumps r.place (JumpFalse i) e in jumps_fit r (at_place r i) i f g.1 g.2 g.3 refl refl refl
+
+  -- a Call goes to where its routine begins
+  calls_fit : (r : Registers) (p : Point State Outcome) (k : ℕ) → slice_get code.operations r.place ≡ Some (Call k) → Fits code r → FitsAfter code (calls w (begins code.operations k) r p)
+  calls_fit r p k e f =
+      let below : k < routine_at code.operations r.place = ok.routines.calls r.place (Call k) e k refl in
+      let few = routine_le code.operations r.place (length code.operations) (omega (arith, f.inside)) in
+      let x = begins_some code.operations k (omega (arith, below, few)) in
+      let g = begun_at code.operations k x.0 x.1 in
+      let s : r.place + 1 ≡ suc r.place = omega arith in
+      let next : open_at code.operations (r.place + 1) ≡ open_at code.operations r.place = ap (open_at code.operations) s ∙ ap (λ v. after v r.place (open_at code.operations r.place)) e in
+      let fits : Fits code (record r { place = x.0; returns = (r.place + 1) ∷ r.returns }) = record {
+        inside = begun_inside code.operations k x.0 ok.ends g;
+        loops = omega (arith, f.loops, ap length g.none_open, ap length next);
+        chain = (r.place, s, e ∙ ap (λ j. Some (Call j)) (sym g.routine), f.chain);
+      } in
+      subst (λ v. FitsAfter code (calls w v r p)) (sym x.1) fits
+
+  -- a Return goes behind the Call
+  backs_fit : (r : Registers) (p : Point State Outcome) (qs : List ℕ) → r.returns ≡ qs → slice_get code.operations r.place ≡ Some Return → Fits code r → FitsAfter code (comes_back w qs r p)
+  backs_fit r p [] c e f =
+      let last : routine_at code.operations r.place ≡ routine_at code.operations (length code.operations) = subst (Chain code.operations (routine_at code.operations r.place)) c f.chain in
+      let le = routine_le code.operations (suc r.place) (length code.operations) (omega (arith, f.inside)) in
+      absurd (omega (arith, last, le, next_up code.operations r.place e))
+  backs_fit r p (q ∷ qs) c e f =
+      let g = subst (Chain code.operations (routine_at code.operations r.place)) c f.chain in
+      let k = routine_at code.operations r.place in
+      let home : routine_at code.operations q ≡ routine_at code.operations g.0 = ap (routine_at code.operations) g.1 ∙ same_routine code.operations g.0 (Call k) g.2 (λ x. x) in
+      let none : length (open_at code.operations r.place) ≡ 0 = ok.nested.paired r.place Return e in
+      record {
+        inside = omega (arith, g.1, next_within code.operations g.0 (Call k) ok.ends g.2 (λ x. x));
+        loops = omega (arith, f.loops, none, ap (outer_loops code.operations) c);
+        chain = subst (λ j. Chain code.operations j qs) (sym home) g.3;
+      }
 
   pub step_fits : (r : Registers) (p : Point State Outcome) → Fits code r → FitsAfter code (step w code r p)
-  step_fits r p f = let x = there code.operations r.place f.inside in subst (λ v. FitsAfter code (act w v code.messages r p)) (sym x.1) (by_op x.0 x.1)
+  step_fits r p f = let x = there code.operations r.place f.inside in subst (λ v. FitsAfter code (act w v code.operations code.messages r p)) (sym x.1) (by_op x.0 x.1)
     where
-      by_op : (o : Op) → slice_get code.operations r.place ≡ Some o → FitsAfter code (act w (Some o) code.messages r p)
+      by_op : (o : Op) → slice_get code.operations r.place ≡ Some o → FitsAfter code (act w (Some o) code.operations code.messages r p)
       by_op Halt e = tt
       by_op (Send m) e = sends_fit r p (Send m) m (λ l. l) e (λ x. x) refl (ok.messages r.place (Send m) e) f
       by_op (Alt m) e = sends_fit r p (Alt m) m (λ l. other_line r.line) e (λ x. x) refl (ok.messages r.place (Alt m) e) f
-      by_op (SetGap t) e = falls r (at_place r (r.place + 1)) (SetGap t) e (λ x. x) f refl f.loops
-      by_op (Loop n) e = falls r (record r { place = r.place + 1; counters = n ∷ r.counters }) (Loop n) e (λ x. x) f refl (ap suc f.loops)
+      by_op (SetGap t) e = falls r (at_place r (r.place + 1)) (SetGap t) e (λ x. x) f refl refl f.loops
+      by_op (Loop n) e = falls r (record r { place = r.place + 1; counters = n ∷ r.counters }) (Loop n) e (λ x. x) f refl refl (omega (arith, f.loops))
       by_op (Again i) e = turns_fit r p i r.counters refl e f
       by_op (Leave i) e = leaves_fit r p i r.counters refl e f
-      by_op (Jump i) e = let g = ok.jumps r.place (Jump i) e in jumps_fit r (at_place r i) i f g.1 g.2 refl refl
-      by_op (Test k) e = falls r (record r { place = r.place + 1; flag = asks w k p }) (Test k) e (λ x. x) f refl f.loops
+      by_op (Jump i) e = let g = ok.jumps r.place (Jump i) e in jumps_fit r (at_place r i) i f g.1 g.2 g.3 refl refl refl
+      by_op (Test k) e = falls r (record r { place = r.place + 1; flag = asks w k p }) (Test k) e (λ x. x) f refl refl f.loops
       by_op (JumpFalse i) e = branch_fits r p i r.flag e f
+      by_op (Call k) e = calls_fit r p k e f
+      by_op Return e = backs_fit r p r.returns refl e f
 
   then_fits : (n : ℕ) (r : Registers) (p : Point State Outcome) → Fits code r → (t : Turn (Running State Outcome)) → FitsAfter code t → ((x : Running State Outcome) → Fits code x.at → FitsAfter code (run w n code x.at x.point)) → FitsAfter code (then_run w t (record { at = r; point = p }) (run w n code))
   then_fits n r p f (goes_on x) g next = next x g
@@ -163,15 +364,14 @@ module _ {State Outcome : Type 0} (w : World State Outcome) (code : Code) (ok : 
   run_fits zero r p f = f
   run_fits (suc n) r p f = then_fits n r p f (step w code r p) (step_fits r p f) (λ x g. run_fits n x.at x.point g)
 
-  pub start_fits : Fits code start
-  start_fits = record {
-    inside = let long : length code.operations ≡ length ok.ends.0 + 1 = ap length ok.ends.1 ∙ length-append ok.ends.0 (Halt ∷ []) in omega (arith, long);
-    loops = refl;
-  }
+  pub start_fits : Fits code (start code)
+  start_fits =
+      let g = main_begun code.operations in
+      record { inside = begun_inside code.operations (routine_at code.operations (length code.operations)) (main_begins code.operations) ok.ends g; loops = omega (arith, ap length g.none_open); chain = g.routine }
 
   -- what stands where a run comes
   pub reached_fits : (from : Point State Outcome) (x : Running State Outcome) → Reaches w code from x → Fits code x.at
-  reached_fits from x r = subst (FitsAfter code) r.1 (run_fits r.0 start from start_fits)
+  reached_fits from x r = subst (FitsAfter code) r.1 (run_fits r.0 (start code) from start_fits)
 
   pub never_stuck : (from : Point State Outcome) (x : Running State Outcome) → Reaches w code from x → step w code x.at x.point ≢ stuck
   never_stuck from x r e = subst (FitsAfter code) e (step_fits x.at x.point (reached_fits from x r))
@@ -195,23 +395,5 @@ module _ {State Outcome : Type 0} (w : World State Outcome) (code : Code) (ok : 
   run_more (suc n) r p x y e h = then_more n r p x y (step w code r p) refl (λ z g. run_more n z.at z.point x y e g) e h
 
   pub reaches_more : (from : Point State Outcome) (x y : Running State Outcome) → Reaches w code from x → step w code x.at x.point ≡ goes_on y → Reaches w code from y
-  reaches_more from x y r e = (suc r.0, run_more r.0 start from x y e r.1)
+  reaches_more from x y r e = (suc r.0, run_more r.0 (start code) from x y e r.1)
 
-  tail_le : (st : List ℕ) → length (tail st) ≤ length st
-  tail_le [] = omega arith
-  tail_le (s ∷ st) = omega arith
-
-  deep : (p : ℕ) → length (open_at code.operations p) ≤ 17
-  deep zero = omega arith
-  deep (suc p) = by (deep p) (slice_get code.operations p) refl
-    where
-      by : length (open_at code.operations p) ≤ 17 → (o : Option Op) → slice_get code.operations p ≡ o → length (after o p (open_at code.operations p)) ≤ 17
-      by h (Some (Loop n)) e = omega (arith, ok.nested.paired p (Loop n) e)
-      by h (Some (Again i)) e = omega (arith, h, tail_le (open_at code.operations p))
-      by h _ e = h
-
-  pub few_counters : (from : Point State Outcome) (x : Running State Outcome) → Reaches w code from x → length x.at.counters ≤ 17
-  few_counters from x r = omega (arith, (reached_fits from x r).loops, deep x.at.place)
-
-  pub room_at : (from : Point State Outcome) (x : Running State Outcome) (n : ℕ) → Reaches w code from x → slice_get code.operations x.at.place ≡ Some (Loop n) → length x.at.counters < 17
-  room_at from x n r e = omega (arith, (reached_fits from x r).loops, ok.nested.paired x.at.place (Loop n) e)

@@ -115,14 +115,15 @@ impl Program {
     }
 }
 
-/// Law: in any world a run of a code that keeps the loader's rules never meets a bad place, an empty counter list or a
-/// message that is not there; it stands at an operation with at most 17 counters, and at fewer at a Loop; it sends at most as
-/// many messages as the code's sum says, and halts within its budget.
+/// Law: in any world a run of a code that keeps the loader's rules never meets a bad place, an empty counter list, an empty
+/// list of return places, or a routine or a message that is not there; it stands at an operation with at most 17 counters, and
+/// at fewer at a Loop, and with at most 32 return places, and at fewer at a Call; it sends at most as many messages as the
+/// code's sum says, and halts within its budget.
 pub fn loadable_runs<W: Setting>()
     ensures never_stuck { (w : World W.State W.Outcome) (code : Code) (from : Point W.State W.Outcome) (x : Running W.State W.Outcome) →
         IsLoadable code → Reaches w code from x → step w code x.at x.point ≢ stuck }
     ensures begins { (w : World W.State W.Outcome) (code : Code) (from : Point W.State W.Outcome) →
-        IsLoadable code → Reaches w code from (record { at = start; point = from }) }
+        IsLoadable code → Reaches w code from (record { at = start code; point = from }) }
     ensures goes_on { (w : World W.State W.Outcome) (code : Code) (from : Point W.State W.Outcome) (x y : Running W.State W.Outcome) →
         IsLoadable code → Reaches w code from x → step w code x.at x.point ≡ goes_on y → Reaches w code from y }
     ensures inside { (w : World W.State W.Outcome) (code : Code) (from : Point W.State W.Outcome) (x : Running W.State W.Outcome) →
@@ -131,10 +132,14 @@ pub fn loadable_runs<W: Setting>()
         IsLoadable code → Reaches w code from x → length x.at.counters ≤ 17 }
     ensures room { (w : World W.State W.Outcome) (code : Code) (from : Point W.State W.Outcome) (x : Running W.State W.Outcome) (n : ℕ) →
         IsLoadable code → Reaches w code from x → slice_get code.operations x.at.place ≡ Some (op.Loop n) → length x.at.counters < 17 }
+    ensures returns { (w : World W.State W.Outcome) (code : Code) (from : Point W.State W.Outcome) (x : Running W.State W.Outcome) →
+        IsLoadable code → Reaches w code from x → length x.at.returns ≤ 32 }
+    ensures room_to_call { (w : World W.State W.Outcome) (code : Code) (from : Point W.State W.Outcome) (x : Running W.State W.Outcome) (k : ℕ) →
+        IsLoadable code → Reaches w code from x → slice_get code.operations x.at.place ≡ Some (op.Call k) → length x.at.returns < 32 }
     ensures messages { (w : World W.State W.Outcome) (code : Code) (from : Point W.State W.Outcome) (x : Running W.State W.Outcome) →
         IsLoadable code → Reaches w code from x → x.point.number ≤ from.number + sums.worst_messages code.operations }
     ensures halts { (w : World W.State W.Outcome) (code : Code) (from : Point W.State W.Outcome) →
-        IsLoadable code → HaltsWithin w code (sums.budget code.operations) start from }
+        IsLoadable code → HaltsWithin w code (sums.budget code.operations) (start code) from }
 {}
 
 // The most steps that a run may take.
