@@ -1,5 +1,5 @@
 use Rattle.std.proofs.Common.{map, ◌≡◌, take}
-use Rattle.bench_cli.proofs.jobs.lent.Given as goal
+use Rattle.bench_commands.proofs.jobs.lent.Given as goal
 
 -- the texts so far
 abbrev pub invariant-loop-text : goal.invariant-loop-text

@@ -1,6 +1,6 @@
 //! Files told apart by what they are, so that no command writes over a file that it reads or that it writes besides.
 ghost use Rattle.std.specs.Prelude.{◌≡◌};
-ghost use Rattle.bench_cli.specs.Apart.{is_same_place};
+ghost use Rattle.bench_commands.specs.Apart.{is_same_place};
 
 use crate::fault::Fault;
 use std::fs::{self, Metadata};

@@ -4,8 +4,8 @@ use Rattle.mil_host.specs.Words.{Text}
 use Rattle.job_file.specs.Texts.{IsFirstRefused}
 use Rattle.job_file.specs.declared.error.JobError.{JobError}
 use Rattle.job_file.specs.declared.error.JobError.TheVariants as error
-use Rattle.bench_cli.specs.declared.fault.Fault.{Fault}
-use Rattle.bench_cli.specs.declared.fault.Fault.TheVariants as fault
+use Rattle.bench_commands.specs.declared.fault.Fault.{Fault}
+use Rattle.bench_commands.specs.declared.fault.Fault.TheVariants as fault
 
 -- the fault of the first text that spells no job or needs too much, or want of memory
 abbrev pub IsRefusedJob : List Text → Fault → Type 0

@@ -1,6 +1,6 @@
 //! Why `bench` stops, and with which exit status.
 ghost use Rattle.std.specs.Prelude.{◌≡◌};
-ghost use Rattle.bench_cli.specs.Status.{status_of, fault_of, fault_of_settings, IsOfStep};
+ghost use Rattle.bench_commands.specs.Status.{status_of, fault_of, fault_of_settings, IsOfStep};
 
 use bench_assemble::AssembleFault;
 use bench_core::WorldError;

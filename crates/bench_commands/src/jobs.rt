@@ -2,7 +2,7 @@
 ghost use Rattle.std.specs.Prelude.{◌≡◌, map, IfOk, IfErr};
 ghost use Rattle.job_file.specs.Jobs.{job_in};
 ghost use Rattle.job_file.specs.Texts.{AreSpelled};
-ghost use Rattle.bench_cli.specs.Requests.{IsRefusedJob};
+ghost use Rattle.bench_commands.specs.Requests.{IsRefusedJob};
 
 use crate::fault::Fault;
 use job_file::{Job, JobError};

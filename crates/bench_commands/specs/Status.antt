@@ -6,8 +6,8 @@ use Rattle.bench_run.specs.declared.error.RunError.{RunError}
 use Rattle.bench_run.specs.declared.error.RunError.TheVariants as run
 use Rattle.bench_step.specs.declared.fault.StepFault.{StepFault}
 use Rattle.bench_step.specs.declared.fault.StepFault.TheVariants as step
-use Rattle.bench_cli.specs.declared.fault.Fault.{Fault}
-use Rattle.bench_cli.specs.declared.fault.Fault.TheVariants.{Text, Script, Recording, Report, Mismatch, Job, Run, Sink, Device, System, Unknown, Memory, OneFile}
+use Rattle.bench_commands.specs.declared.fault.Fault.{Fault}
+use Rattle.bench_commands.specs.declared.fault.Fault.TheVariants.{Text, Script, Recording, Report, Mismatch, Job, Run, Sink, Device, System, Unknown, Memory, OneFile}
 
 abbrev pub status_of : Fault → ℕ
 -- the input was refused

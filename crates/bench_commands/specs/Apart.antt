@@ -1,7 +1,7 @@
 -- When two names lead to one file (own choice).
 use Rattle.std.specs.Prelude.{◌==◌, ◌&&◌, Bool, false, bytes_eq}
-use Rattle.bench_cli.specs.declared.apart.Place.{Place}
-use Rattle.bench_cli.specs.declared.apart.Place.TheVariants.{File, Free}
+use Rattle.bench_commands.specs.declared.apart.Place.{Place}
+use Rattle.bench_commands.specs.declared.apart.Place.TheVariants.{File, Free}
 
 -- one file that is there, by device and inode; or one name in one folder. Streams are never the same: nothing is lost there.
 abbrev pub is_same_place : Place → Place → Bool
