@@ -1,6 +1,6 @@
 -- How many steps a code takes at most, and how many messages it sends (own choice): the sum of what the operations of its main
 -- part cost, each as often as it can come, and a Call with what its routine costs.
-use Rattle.std.specs.Prelude.{ℕ, zero, suc, ◌+◌, ◌*◌, List, [], ◌∷◌, ◌++◌, length, get_or, Option, Some, None, slice_get}
+use Rattle.std.specs.Prelude.{ℕ, zero, suc, ◌+◌, ◌*◌, Bool, true, false, List, [], ◌∷◌, ◌++◌, length, get_or, Option, Some, None, slice_get}
 use Rattle.frame_code.specs.declared.Op.{Op}
 use Rattle.frame_code.specs.declared.Op.TheVariants.{Halt, Send, Alt, SetGap, Loop, Again, Leave, Jump, Test, JumpFalse, Call, Return}
 use Rattle.frame_code.specs.Loadable.{open_at}
@@ -14,6 +14,11 @@ abbrev pub one_sent : Op → ℕ
 one_sent (Send m) = 1
 one_sent (Alt m) = 1
 one_sent _ = 0
+
+-- messages, or steps
+abbrev pub cost_by : Bool → Op → ℕ
+cost_by true o = one_sent o
+cost_by false o = one_each o
 
 -- how often a loop goes round
 abbrev pub turns_of : Option Op → ℕ

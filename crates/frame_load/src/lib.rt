@@ -2,10 +2,10 @@
 //! sends. Its tests are in `frame_tests`.
 #![tactic(auto)]
 
-ghost use Rattle.std.specs.Prelude.{◌+◌, ◌≡◌, ◌≢◌, ◌≤◌, ◌<◌, ◌↔◌, ℕ, length, slice_get, Some, Err, IfOk};
+ghost use Rattle.std.specs.Prelude.{◌+◌, ◌≡◌, ◌≢◌, ◌≤◌, ◌<◌, ◌↔◌, ℕ, length, slice_get, Some, None, Err, IfOk};
 ghost use Rattle.mil_message.specs.World.{World, Point};
 ghost use Rattle.frame_code.specs.declared.Op.TheVariants as op;
-ghost use Rattle.frame_code.specs.Table.{Code, Running, goes_on, halted, stuck, start, step, run};
+ghost use Rattle.frame_code.specs.Table.{Code, Running, goes_on, halted, stuck, start, step, run, begins, main_begins};
 ghost use Rattle.frame_code.specs.Loadable.{IsLoadable};
 ghost use Rattle.frame_load.specs.Budget as sums;
 ghost use Rattle.frame_load.specs.Runs.{Reaches, HaltsWithin};
@@ -13,6 +13,8 @@ ghost use Rattle.frame_load.specs.Judging.{Judges, Refuses, IsWithin};
 ghost use Rattle.frame_load.specs.declared.LoadError.{LoadError};
 
 mod checks;
+mod nesting;
+mod routines;
 mod sums;
 
 use frame_code::{Image, Setting};
@@ -25,10 +27,13 @@ use std::marker::Model;
 pub enum LoadError {
     /// P4: there is no operation, or the last is not Halt.
     End,
-    /// P2: Loop and Again do not pair as brackets, a Leave stands outside every loop, or more than 17 loops are open.
+    /// P7: there are more than 32 routines, or a Call is of one that is not there or does not end before the Call's own begins.
+    Routines,
+    /// P2: Loop and Again do not pair as brackets in a routine, a Leave stands outside every loop, or more than 17 loops are open,
+    /// those that a Call opens counted.
     Nesting,
     /// P1: an operation goes where it must not: an Again not behind its Loop, a Leave not behind the Again of its innermost
-    /// loop, a Jump or JumpFalse not to a later operation in the same innermost loop.
+    /// loop, a Jump or JumpFalse not to a later operation of its routine in the same innermost loop.
     Jumps,
     /// P3: the message of a Send or Alt is not there.
     Messages,
@@ -52,6 +57,7 @@ impl fmt::Display for LoadError {
             LoadError::End => "P4",
             LoadError::Budget => "P5",
             LoadError::Memory => "P6",
+            LoadError::Routines => "P7",
         })
     }
 }
@@ -60,6 +66,8 @@ impl fmt::Display for LoadError {
 #[derive(Drop)]
 pub struct Program {
     image: Image,
+    starts: [u16; 33],
+    main: u8,
     budget: u64,
     worst_messages: u64,
 }
@@ -73,7 +81,7 @@ impl Model for Program {
 
     ghost view = { λ p. p.image };
 
-    ghost invariant = { λ p. IsProgram p.image p.budget p.worst_messages };
+    ghost invariant = { λ p. IsProgram p.image p.starts p.main p.budget p.worst_messages };
 }
 
 impl Program {
@@ -86,8 +94,23 @@ impl Program {
         &self.image
     }
 
-    /// How many steps a run takes at most, 1 to 100,000,000: the sum over all operations of the product of the counts of the
-    /// loops that they stand in.
+    /// The place where the routine of this number begins. Condition: there is such a routine.
+    pub fn routine(&self, number: u8) -> u16
+        requires { begins self.now.operations number ≢ None }
+        ensures { begins self.now.operations number ≡ Some result }
+    {
+        self.starts[number as usize]
+    }
+
+    /// The place where the main part begins, and with it a run: behind the last Return.
+    pub fn main(&self) -> u16
+        ensures { result ≡ main_begins self.now.operations }
+    {
+        self.starts[self.main as usize]
+    }
+
+    /// How many steps a run takes at most, 1 to 100,000,000: the sum over the operations of the main part of the product of the
+    /// counts of the loops that they stand in, a Call counted together with what its routine takes.
     pub fn budget(&self) -> u64
         ensures value { result ≡ sums.budget self.now.operations }
         ensures within { result ≤ 100000000 }
@@ -109,6 +132,8 @@ impl Program {
     {
         Ok(Program {
             image: self.image.copy()?,
+            starts: self.starts,
+            main: self.main,
             budget: self.budget,
             worst_messages: self.worst_messages,
         })
@@ -156,12 +181,17 @@ fn judge(image: Image) -> Result<Program, LoadError>
     if !checks::ends_in_halt(operations) {
         return Err(LoadError::End);
     }
-    if !checks::is_nested(operations) {
+    if !routines::are_right(operations) {
+        return Err(LoadError::Routines);
+    }
+    if !nesting::is_nested(operations) {
         return Err(LoadError::Nesting);
     }
     let mut loops = [0; 4096];
     checks::mark_loops(operations, &mut loops);
-    if !checks::all_go_well(operations, &loops) {
+    let mut numbers = [0; 4096];
+    routines::number(operations, &mut numbers);
+    if !checks::all_go_well(operations, &loops, &numbers) {
         return Err(LoadError::Jumps);
     }
     if !checks::all_have_messages(operations, image.messages().len()) {
@@ -169,19 +199,23 @@ fn judge(image: Image) -> Result<Program, LoadError>
     }
     let mut weights = [0; 4096];
     sums::mark_weights(operations, &loops, &mut weights);
-    let budget = sums::count_steps(operations, &weights);
-    let worst_messages = sums::count_messages(operations, &weights);
+    let budget = sums::count(operations, &weights, false);
+    let worst_messages = sums::count(operations, &weights, true);
     if STEPS < budget || MESSAGES < worst_messages {
         return Err(LoadError::Budget);
     }
+    let mut starts = [0; 33];
+    let main = routines::find(operations, &mut starts);
     Ok(Program {
         image,
+        starts,
+        main,
         budget,
         worst_messages,
     })
 }
 
-/// The program of an image that keeps all rules, else the first rule that it breaks, in the order P4, P2, P1, P3, P5. It takes
+/// The program of an image that keeps all rules, else the first rule that it breaks, in the order P4, P7, P2, P1, P3, P5. It takes
 /// no memory, and time linear in the image.
 pub fn load(_alloc: Global, image: Image) -> Result<Program, LoadError>
     ensures judged { Judges image result }

@@ -1,0 +1,1 @@
+use Rattle.frame_load.proofs.nesting.is_nested.Goals as goal
