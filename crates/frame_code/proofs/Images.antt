@@ -30,7 +30,7 @@ image_ends new bs r0 r1 r2 n m os ms h o k = rw (h, o, k) refl
 pub end_is : (new : Bool) (rest : List ℕ) (code : Code) → at_end new rest code ≡ Ok code → (rest ≡ []) × ((not new || has_new code.operations) ≡ true)
 end_is new [] code e = (refl, by (not new || has_new code.operations) e)
   where
-    by : (b : Bool) → must b fault.NeedlessMark code ≡ Ok code → b ≡ true
+    by : (b : Bool) → must b fault.Version code ≡ Ok code → b ≡ true
     by true h = refl
     by false h = absurd (cc)
 end_is new (b ∷ bs) code e = absurd (cc)
@@ -86,7 +86,7 @@ faults_through fault.Mark r s f h = f h
 faults_through fault.Length r s f h = f h
 faults_through fault.Operations r s f h = f h
 faults_through fault.Messages r s f h = f h
-faults_through fault.NeedlessMark r s f h = f h
+faults_through fault.Version r s f h = f h
 faults_through fault.Memory r s f h = tt
 
 -- the mark is the one of the operations

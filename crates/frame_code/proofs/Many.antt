@@ -27,7 +27,7 @@ faults fault.Mark read is = is
 faults fault.Length read is = is
 faults fault.Operations read is = is
 faults fault.Messages read is = is
-faults fault.NeedlessMark read is = is
+faults fault.Version read is = is
 faults fault.Memory read is = tt
 
 pub range_more : (os : List Op) (o : Op) → AreInRange os → IsTrue (in_range o) → AreInRange (os ++ o ∷ [])

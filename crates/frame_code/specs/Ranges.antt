@@ -21,7 +21,7 @@ is_count n = nat_le 1 n && nat_le n 10000
 abbrev pub is_index : ℕ → Bool
 is_index i = nat_lt i 65536
 
--- the number of a routine, 0 to 31
+-- the number of a routine
 abbrev pub is_routine : ℕ → Bool
 is_routine r = nat_lt r 32
 

@@ -135,7 +135,7 @@ message_at bs = do
 
 -- nothing may be left behind the last message, and the mark BC02 needs an operation that BC01 does not know
 abbrev pub at_end : Bool → List ℕ → Code → Result Code ImageError
-at_end new [] code = must (not new || has_new code.operations) fault.NeedlessMark code
+at_end new [] code = must (not new || has_new code.operations) fault.Version code
 at_end new (b ∷ bs) code = Err fault.Length
 
 -- the mark and the two counts
@@ -166,7 +166,7 @@ Faults fault.Mark read = read ≡ Err fault.Mark
 Faults fault.Length read = read ≡ Err fault.Length
 Faults fault.Operations read = read ≡ Err fault.Operations
 Faults fault.Messages read = read ≡ Err fault.Messages
-Faults fault.NeedlessMark read = read ≡ Err fault.NeedlessMark
+Faults fault.Version read = read ≡ Err fault.Version
 Faults fault.Memory read = Unit {0}
 
 -- the same, but that it may also be refused memory

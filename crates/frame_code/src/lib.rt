@@ -42,10 +42,10 @@ pub enum Op {
     Test(u8),
     /// Number 9: goes to this place where the flag is false.
     JumpFalse(u16),
-    /// Number 10: pushes the next place on the list of return places, and goes to where the routine of this number, 0 to 31,
-    /// begins.
+    /// Number 10: notes the place behind it, and goes to the start of the routine of this number, 0 to 31.
     Call(u8),
-    /// Number 11: pops the list of return places, and goes there. A routine ends here.
+    /// Number 11: goes to the place that was noted last, and forgets it; a routine ends here. Main begins behind the last one,
+    /// and the machine starts there.
     Return,
 }
 
@@ -116,13 +116,13 @@ pub enum ImageError {
     Mark,
     /// C2: the bytes end too early, or go on behind the last message.
     Length,
-    /// C3: an operation's number is over 9 under BC01 or over 11 under BC02, its second byte is not 00, its operand is out of its range, or there are more
+    /// C3: an operation's number is over 9 (with the mark BC02 over 11), its second byte is not 00, its operand is out of its range, or there are more
     /// than 4096 operations.
     Operations,
     /// C4: there are more than 1024 messages, or no message of the form has the field.
     Messages,
-    /// C6: the mark is BC02, and no operation has a number above 9.
-    NeedlessMark,
+    /// C6: the mark is BC02, and no operation needs it.
+    Version,
     /// C5: memory was refused.
     Memory,
 }
@@ -139,8 +139,8 @@ impl fmt::Display for ImageError {
             ImageError::Length => "C2",
             ImageError::Operations => "C3",
             ImageError::Messages => "C4",
+            ImageError::Version => "C6",
             ImageError::Memory => "C5",
-            ImageError::NeedlessMark => "C6",
         })
     }
 }

@@ -267,7 +267,7 @@ fn at_end(new: bool, found: bool, rest: &[u8]) -> Result<(), ImageError>
         return Err(ImageError::Length);
     }
     if new && !found {
-        return Err(ImageError::NeedlessMark);
+        return Err(ImageError::Version);
     }
     Ok(())
 }

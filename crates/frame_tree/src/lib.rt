@@ -2,10 +2,13 @@
 //! assembled. Its tests are in `frame_tests`.
 #![tactic(auto)]
 
+mod bounds;
 mod conditions;
 mod frames;
+mod names;
 
 pub use conditions::number_of_bit;
+pub use names::{Name, Scope};
 use mil_message::Message;
 use mil_status::StatusBits;
 use mil_word::Line;
@@ -65,4 +68,13 @@ pub enum Frame<A: Allocator + Clone> {
     },
     /// Runs frames one after the other.
     Seq(Vec<Frame<A>, A>),
+    /// Runs the body of the definition of this name.
+    Call(Name),
+    /// Runs the rest, in which the name stands for the body. A frame may be assembled where its definitions stand at the
+    /// outside: at most 32, with distinct names, each calling earlier ones alone.
+    Define {
+        name: Name,
+        body: Box<Frame<A>, A>,
+        rest: Box<Frame<A>, A>,
+    },
 }

@@ -1,6 +1,6 @@
 use Rattle.std.proofs.Common.{map, sym, ap, ◌∙◌, arith, rules}
 use Rattle.std.proofs.lemmas.Grind.{common_steps}
-use Rattle.std.proofs.lemmas.List.{take_all}
+use Rattle.std.proofs.lemmas.List.{take_all, get_or_read}
 use Rattle.frame_tree.specs.Tree.{tree_of, chain}
 use Rattle.frame_tree.specs.declared.Frame.{the_lemmas}
 use Rattle.frame_tree.proofs.Trees.{tree_seq, one_more}
@@ -19,4 +19,4 @@ returns-after-loop-frame g t c =
     ∙ ap tree_of (sym c.in-Seq.is)
 
 pub copied-requires-in-loop-frame : goal.copied-requires-in-loop-frame
-copied-requires-in-loop-frame g t c κs within = (grind (the_lemmas, arith, common_steps) steps 12000000, search rules)
+copied-requires-in-loop-frame g t c κs within = (grind (the_lemmas, arith) steps 60000000, search rules)
