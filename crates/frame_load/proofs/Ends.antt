@@ -1,21 +1,21 @@
 -- A loadable code halts within its budget.
 use Rattle.std.proofs.Common.{rules, ◌≡◌, ◌≢◌, ℕ, zero, suc, ◌+◌, ◌-◌, ◌*◌, ◌<◌, ◌≤◌, Bool, true, false, cond, List, [], ◌∷◌, ◌++◌, length, get_or, drop, Option, Some, None, refl, sym, ap, ap₂, ◌∙◌, subst, ⊎_elim, arith, length-append}
-use Rattle.std.specs.Prelude.{slice_get}
+use Rattle.std.specs.Prelude.{slice_get, nat_lt}
 use Rattle.std.proofs.lemmas.Bool.{cases_lt}
 use Rattle.std.proofs.Math.Seq.{get_or-append_seam}
-use Rattle.frame_load.proofs.Paired.{none_open}
 use Rattle.mil_word.specs.declared.Line.{Line}
 use Rattle.mil_message.specs.declared.messages.Message.{Message}
 use Rattle.mil_message.specs.World.{World, Point, other_line, sent, asks}
 use Rattle.frame_code.specs.declared.Op.{Op}
 use Rattle.frame_code.specs.declared.Op.TheVariants.{Halt, Send, Alt, SetGap, Loop, Again, Leave, Jump, Test, JumpFalse, Call, Return}
-use Rattle.frame_code.specs.Table.{Code, Registers, Running, Turn, goes_on, halted, stuck, sends, turns, leaves, counted, calls, comes_back, act, step, then_run, run, start, at_place, routine_at, begins, main_begins}
+use Rattle.frame_code.specs.Table.{Code, Registers, Running, Turn, goes_on, halted, stuck, sends, turns, leaves, counted, calls, comes_back, act, step, then_run, run, start, at_place}
+use Rattle.frame_code.specs.Routines.{routines, begin_of, main_of, routine_at, owner_at}
 use Rattle.frame_code.specs.Loadable.{tail, after, open_at, JumpsTo, IsLoadable}
 use Rattle.frame_load.specs.Budget.{one_each, one_sent, cost_of, sums_at, total, budget, worst_messages}
 use Rattle.frame_load.proofs.Left.{inner, turn, rest}
 use Rattle.frame_load.proofs.Weights.{all_sums, price, sums_long, rest_total}
 use Rattle.frame_load.specs.Runs.{Reaches, HaltsWithin}
-use Rattle.frame_load.proofs.Never.{there, within, opened, IsReturn, same_routine, same_home, routine_le, begins_some, begun_at, begun_inside, main_begun, Fits, FitsAfter, step_fits, start_fits}
+use Rattle.frame_load.proofs.Never.{there, within, opened, IsReturn, same_routine, home, EndsClosed, same_home, routines_are, begun_at, begun_inside, main_begun, Fits, FitsAfter, step_fits, start_fits}
 use Rattle.frame_load.proofs.Steps.{behind, rest_split, inner_last, drop_at, closed_for_good, along}
 
 module _ (cost : Op → ℕ) {State Outcome : Type 0} (w : World State Outcome) (code : Code) (ok : IsLoadable code) where
@@ -50,6 +50,9 @@ module _ (cost : Op → ℕ) {State Outcome : Type 0} (w : World State Outcome) 
   inside_of p q c cs ds [] e h = h
   inside_of p q c cs ds (b ∷ qs) e h = omega (arith, h, ap (λ z. left b z qs) e)
 
+  closed : EndsClosed code.operations
+  closed p e = ok.nested.paired p Return e
+
   paired : (q back : ℕ) → slice_get code.operations q ≡ Some (Again back) → 0 < length (open_at code.operations q)
   paired q back e = ok.nested.paired q (Again back) e
 
@@ -80,8 +83,8 @@ module _ (cost : Op → ℕ) {State Outcome : Type 0} (w : World State Outcome) 
   jump_less r i o at f going g =
       let p = r.place in
       let next = plain_open p o at f in
-      let home : routine_at code.operations (suc p) ≡ routine_at code.operations i = same_routine code.operations p o at going ∙ sym g.3 in
-      let a = along code.operations pay paired (note r.counters (open_at code.operations p)) (open_at code.operations p) i g.2 (omega (arith, g.1)) (i - suc p) (suc p) [] [] (omega (arith, g.0)) home next refl in
+      let there : owner_at code.operations (suc p) ≡ owner_at code.operations i = same_routine code.operations p o at going ∙ sym g.3 in
+      let a = along code.operations pay paired (note r.counters (open_at code.operations p)) (open_at code.operations p) i g.2 (omega (arith, g.1)) (i - suc p) (suc p) [] [] (omega (arith, g.0)) there next refl in
       inside_of p i (cost_of cost (slice_get code.operations p)) r.counters r.counters r.returns (ap (λ st. drop (length st) r.counters) g.2)
       (omega (arith, ap (cost_of cost) at, a.0, plain_cost p r.counters o at f, ap (λ ss. rest pay (note r.counters ss) (drop (suc p) code.operations)) next, ap (λ ss. rest pay (note r.counters ss) (drop i code.operations)) g.2))
 
@@ -108,9 +111,9 @@ module _ (cost : Op → ℕ) {State Outcome : Type 0} (w : World State Outcome) 
       let b = turn pay ds in
       let d = drop (suc q) code.operations in
       let after_loop : open_at code.operations (suc s) ≡ s ∷ ss = ap (λ v. after v s (open_at code.operations s)) o.3 ∙ ap (λ v. s ∷ v) o.2 in
-      let home : routine_at code.operations (suc s) ≡ routine_at code.operations q = same_routine code.operations s (Loop o.0) o.3 (λ x. x) ∙ o.4 in
+      let there : owner_at code.operations (suc s) ≡ owner_at code.operations q = same_routine code.operations s (Loop o.0) o.3 (λ x. x) ∙ home code.operations closed q q s ss (omega arith) e in
       let value : left_at (suc s) (suc k ∷ cs) ≡ rest pay ((suc k, b) ∷ z) ds = ap (λ st. rest pay (note (suc k ∷ cs) st) ds) after_loop in
-      let a = along code.operations pay paired z (s ∷ ss) q e (omega (arith, inside)) (q - suc s) (suc s) [] [] (omega (arith, o.1)) home after_loop refl in
+      let a = along code.operations pay paired z (s ∷ ss) q e (omega (arith, inside)) (q - suc s) (suc s) [] [] (omega (arith, o.1)) there after_loop refl in
       let where_to : behind ((suc k, b) ∷ []) ds ≡ d = a.1 (suc k, b) ∙ ap (behind ((suc k, b) ∷ [])) (drop_at code.operations q (Again back) at) in
       let less : suc k - 1 ≡ k = omega arith in
       omega (arith, value, rest_split pay ds ((suc k, b) ∷ []) z, inner_last pay ds [] (suc k) b, ap (rest pay z) where_to, ap (λ v. v * b) less)
@@ -151,8 +154,8 @@ module _ (cost : Op → ℕ) {State Outcome : Type 0} (w : World State Outcome) 
       let inside = within code.operations q (Again back) at in
       let apart : p ≢ q = λ e. absurd (let no : Some (Leave i) ≡ Some (Again back) = sym al ∙ ap (slice_get code.operations) e ∙ at in cc) in
       let next_er : open_at code.operations (suc p) ≡ s ∷ ss = ap (λ v. after v p (open_at code.operations p)) al ∙ er in
-      let home : routine_at code.operations (suc p) ≡ routine_at code.operations q = same_routine code.operations p (Leave i) al (λ x. x) ∙ same_home code.operations p q (er ∙ sym eq) (omega (arith, ap length eq)) in
-      let a = along code.operations pay paired ((c, b) ∷ z) (s ∷ ss) q eq (omega (arith, inside)) (q - suc p) (suc p) [] [] (omega (arith, le, apart)) home next_er refl in
+      let there : owner_at code.operations (suc p) ≡ owner_at code.operations q = same_routine code.operations p (Leave i) al (λ x. x) ∙ same_home code.operations closed p q (er ∙ sym eq) (omega (arith, ap length eq)) in
+      let a = along code.operations pay paired ((c, b) ∷ z) (s ∷ ss) q eq (omega (arith, inside)) (q - suc p) (suc p) [] [] (omega (arith, le, apart)) there next_er refl in
       let here : left_at p r.counters ≡ rest pay ((c, b) ∷ z) (drop p code.operations) = ap₂ (λ cs' st. rest pay (note cs' st) (drop p code.operations)) ec er in
       let paid : rest pay ((c, b) ∷ z) (drop p code.operations) ≡ pay (Leave i) + rest pay ((c, b) ∷ z) (drop (suc p) code.operations) = ap (rest pay ((c, b) ∷ z)) (drop_at code.operations p (Leave i) al) in
       let next : open_at code.operations (suc q) ≡ ss = ap (λ v. after v q (open_at code.operations q)) at ∙ ap tail eq in
@@ -181,13 +184,15 @@ module _ (cost : Op → ℕ) {State Outcome : Type 0} (w : World State Outcome) 
   branch_cost r i false at = jump_less r i (JumpFalse i) at (refl, λ zs. refl) (λ x. x) (ok.jumps r.place (JumpFalse i) at)
 
   -- a Call costs itself and its routine
-  calls_cost : (r : Registers) (p : Point State Outcome) (k : ℕ) → slice_get code.operations r.place ≡ Some (Call k) → Fits code r → Costs r (calls w (begins code.operations k) r p)
-  calls_cost r p k at f = by (begins code.operations k) refl
+  calls_cost : (r : Registers) (p : Point State Outcome) (k : ℕ) → slice_get code.operations r.place ≡ Some (Call k) → Fits code r → Costs r (calls w (routine_at code.operations k) r p)
+  calls_cost r p k at f = by (nat_lt k (routines code.operations)) refl
     where
-      by : (v : Option ℕ) → begins code.operations k ≡ v → Costs r (calls w v r p)
-      by None e = tt
-      by (Some b) e =
-          let g = begun_at code.operations k b e in
+      by : (v : Bool) → nat_lt k (routines code.operations) ≡ v → Costs r (calls w (cond v (Some (begin_of code.operations k)) None) r p)
+      by false e = tt
+      by true e =
+          let b = begin_of code.operations k in
+          let few : k < routines code.operations = search rules in
+          let g = begun_at code.operations closed k (omega (arith, few)) in
           let whole = rest_total cost code ok b (let h = begun_inside code.operations k b ok.ends g in omega (arith, h)) g.none_open in
           let next = plain_open r.place (Call k) at (refl, λ zs. refl) in
           let here : r.place + 1 ≡ suc r.place = omega arith in
@@ -202,14 +207,14 @@ module _ (cost : Op → ℕ) {State Outcome : Type 0} (w : World State Outcome) 
   backs_cost : (r : Registers) (p : Point State Outcome) (qs : List ℕ) → r.returns ≡ qs → slice_get code.operations r.place ≡ Some Return → Costs r (comes_back w qs r p)
   backs_cost r p [] e at = tt
   backs_cost r p (q ∷ qs) e at =
-      let none : open_at code.operations r.place ≡ [] = none_open (open_at code.operations r.place) (ok.nested.paired r.place Return at) in
+      let none : open_at code.operations r.place ≡ [] = ok.nested.paired r.place Return at in
       let here : left_at r.place r.counters ≡ pay Return = ap₂ (λ st ds. rest pay (note r.counters st) ds) none (drop_at code.operations r.place Return at) in
       omega (arith, ap (cost_of cost) at, here, ap (left r.place r.counters) e, ap (λ st. left q (drop (length st) r.counters) qs) none)
 
   step_costs : (r : Registers) (p : Point State Outcome) → Fits code r → Costs r (step w code r p)
-  step_costs r p f = let x = there code.operations r.place f.inside in subst (λ v. Costs r (act w v code.operations code.messages r p)) (sym x.1) (by_op x.0 x.1)
+  step_costs r p f = let x = there code.operations r.place f.inside in subst (λ v. Costs r (act w v code r p)) (sym x.1) (by_op x.0 x.1)
     where
-      by_op : (o : Op) → slice_get code.operations r.place ≡ Some o → Costs r (act w (Some o) code.operations code.messages r p)
+      by_op : (o : Op) → slice_get code.operations r.place ≡ Some o → Costs r (act w (Some o) code r p)
       by_op Halt at = tt
       by_op (Send m) at = sends_cost r p (Send m) (λ l. l) at (refl, λ zs. refl) (slice_get code.messages m)
       by_op (Alt m) at = sends_cost r p (Alt m) (λ l. other_line r.line) at (refl, λ zs. refl) (slice_get code.messages m)
@@ -227,12 +232,12 @@ module _ (cost : Op → ℕ) {State Outcome : Type 0} (w : World State Outcome) 
 start_left : (cost : Op → ℕ) {State Outcome : Type 0} (w : World State Outcome) (code : Code) (ok : IsLoadable code) → left_of cost w code ok (start code) ≤ total cost code.operations
 start_left cost w code ok =
     let os = code.operations in
-    let g = main_begun os in
-    let b = main_begins os in
-    let whole = rest_total cost code ok b (let h = begun_inside os (routine_at os (length os)) b ok.ends g in omega (arith, h)) g.none_open in
+    let g = main_begun os (λ p e. ok.nested.paired p Return e) in
+    let b = main_of os in
+    let whole = rest_total cost code ok b (let h = begun_inside os (routines os) b ok.ends g in omega (arith, h)) g.none_open in
     let first : left_of cost w code ok (start code) ≡ rest (price cost os) [] (drop b os) = ap (λ st. rest (price cost os) (note cost w code ok [] st) (drop b os)) g.none_open in
     let last = get_or-append_seam (sums_at cost os (length os)).ended (sums_at cost os (length os)).now [] 0 in
-    omega (arith, whole, first, last, ap (λ j. get_or (all_sums cost os) j 0) (g.routine ∙ sym (sums_long cost os (length os))))
+    omega (arith, whole, first, last, ap (λ j. get_or (all_sums cost os) j 0) (g.routine ∙ routines_are os ∙ sym (sums_long cost os (length os))))
 
 module _ {State Outcome : Type 0} (w : World State Outcome) (code : Code) (ok : IsLoadable code) where
   halts_by : (n : ℕ) (r : Registers) (p : Point State Outcome) → left_of one_each w code ok r ≤ n → ((o : Op) × (slice_get code.operations r.place ≡ Some o)) → (t : Turn (Running State Outcome)) → step w code r p ≡ t → FitsAfter code t → Costs one_each w code ok r t
@@ -287,9 +292,9 @@ module _ {State Outcome : Type 0} (w : World State Outcome) (code : Code) (ok : 
   backs_count r p (q ∷ qs) at = none_sent r p Return at refl
 
   step_counts : (r : Registers) (p : Point State Outcome) → Fits code r → Counts r p (step w code r p)
-  step_counts r p f = let x = there code.operations r.place f.inside in subst (λ v. Counts r p (act w v code.operations code.messages r p)) (sym x.1) (by_op x.0 x.1)
+  step_counts r p f = let x = there code.operations r.place f.inside in subst (λ v. Counts r p (act w v code r p)) (sym x.1) (by_op x.0 x.1)
     where
-      by_op : (o : Op) → slice_get code.operations r.place ≡ Some o → Counts r p (act w (Some o) code.operations code.messages r p)
+      by_op : (o : Op) → slice_get code.operations r.place ≡ Some o → Counts r p (act w (Some o) code r p)
       by_op Halt at = tt
       by_op (Send m) at = sends_count r p (Send m) (λ l. l) at refl (slice_get code.messages m)
       by_op (Alt m) at = sends_count r p (Alt m) (λ l. other_line r.line) at refl (slice_get code.messages m)
@@ -300,7 +305,7 @@ module _ {State Outcome : Type 0} (w : World State Outcome) (code : Code) (ok : 
       by_op (Jump i) at = none_sent r p (Jump i) at refl
       by_op (Test k) at = none_sent r p (Test k) at refl
       by_op (JumpFalse i) at = none_sent r p (JumpFalse i) at refl
-      by_op (Call k) at = calls_count r p k (begins code.operations k) at
+      by_op (Call k) at = calls_count r p k (routine_at code.operations k) at
       by_op Return at = backs_count r p r.returns at
 
   -- the messages so far and those that are left

@@ -20,7 +20,7 @@ one_refusal code Routines Routines x y = refl
 one_refusal code Routines Nesting x y = absurd (x.1 y.1)
 one_refusal code Routines Jumps x y = absurd (x.1 y.1)
 one_refusal code Routines Messages x y = absurd (x.1 y.1)
-one_refusal code Routines Budget x y = absurd (x.1 y.0.routines)
+one_refusal code Routines Budget x y = absurd (x.1 y.0.routines_ok)
 one_refusal code Routines Memory x y = absurd y
 one_refusal code Nesting End x y = absurd (y x.0)
 one_refusal code Nesting Routines x y = absurd (y.1 x.1)
@@ -44,7 +44,7 @@ one_refusal code Messages Messages x y = refl
 one_refusal code Messages Budget x y = absurd (x.4 y.0.messages)
 one_refusal code Messages Memory x y = absurd y
 one_refusal code Budget End x y = absurd (y x.0.ends)
-one_refusal code Budget Routines x y = absurd (y.1 x.0.routines)
+one_refusal code Budget Routines x y = absurd (y.1 x.0.routines_ok)
 one_refusal code Budget Nesting x y = absurd (y.2 x.0.nested)
 one_refusal code Budget Jumps x y = absurd (y.3 x.0.jumps)
 one_refusal code Budget Messages x y = absurd (y.4 x.0.messages)
@@ -60,7 +60,7 @@ one_refusal code Memory Memory x y = absurd x
 
 none_refuses : (code : Code) (e : LoadError) → IsLoadable code → IsWithin code → Refuses code e → ⊥
 none_refuses code End ok within r = r ok.ends
-none_refuses code Routines ok within r = r.1 ok.routines
+none_refuses code Routines ok within r = r.1 ok.routines_ok
 none_refuses code Nesting ok within r = r.2 ok.nested
 none_refuses code Jumps ok within r = r.3 ok.jumps
 none_refuses code Messages ok within r = r.4 ok.messages

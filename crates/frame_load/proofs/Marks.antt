@@ -81,18 +81,13 @@ module _ (os : List Op) where
       by [] e = absurd (some (ap innermost e))
       by (s ∷ st) e = next_open i (Again b) at ∙ ap tail e ∙ sym (outside i s st e)
 
-  pub mark_other : (i : ℕ) (o : Op) → slice_get os i ≡ Some o → ((n : ℕ) → o ≡ Loop n → ⊥) → ((b : ℕ) → o ≡ Again b → ⊥) → (o ≡ Return → ⊥) → open_at os (i + 1) ≡ open_at os i
-  mark_other i o at nl na nr = next_open i o at ∙ by o refl
+  pub mark_other : (i : ℕ) (o : Op) → slice_get os i ≡ Some o → ((n : ℕ) → o ≡ Loop n → ⊥) → ((b : ℕ) → o ≡ Again b → ⊥) → open_at os (i + 1) ≡ open_at os i
+  mark_other i o at nl na = next_open i o at ∙ by o refl
     where
       by : (x : Op) → o ≡ x → after (Some x) i (open_at os i) ≡ open_at os i
       by (Loop n) e = absurd (nl n e)
       by (Again b) e = absurd (na b e)
-      by Return e = absurd (nr e)
       by _ e = refl
-
-  -- behind a Return none is open
-  pub mark_end : (i : ℕ) → slice_get os i ≡ Some Return → open_at os (i + 1) ≡ []
-  mark_end i at = next_open i Return at
 
   pub jumps_by : (table : List ℕ) (p i : ℕ) → ((p : ℕ) → p < length os → get_or table p 0 ≡ innermost (open_at os p)) → p < length os → i < length os → get_or table i 0 ≡ get_or table p 0 → open_at os i ≡ open_at os p
   jumps_by table p i marked hp hi e = same_loops i p (sym (marked i hi) ∙ e ∙ marked p hp)

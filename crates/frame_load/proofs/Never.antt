@@ -1,6 +1,6 @@
 -- A loadable code never gets stuck.
-use Rattle.std.proofs.Common.{◌≡◌, ◌≢◌, ℕ, zero, suc, ◌+◌, ◌-◌, ◌<◌, ◌≤◌, Bool, true, false, cond, List, [], ◌∷◌, ◌++◌, length, get_or, Option, Some, None, refl, sym, ap, ap₂, ◌∙◌, subst, ◌⊎◌, inl, inr, ⊎_elim, arith, length-append}
-use Rattle.std.specs.Prelude.{slice_get}
+use Rattle.std.proofs.Common.{rules, ◌≡◌, ◌≢◌, ℕ, zero, suc, ◌+◌, ◌-◌, ◌<◌, ◌≤◌, Bool, true, false, cond, List, [], ◌∷◌, ◌++◌, length, get_or, Option, Some, None, refl, sym, ap, ap₂, ◌∙◌, subst, ◌⊎◌, inl, inr, ⊎_elim, arith, length-append}
+use Rattle.std.specs.Prelude.{slice_get, nat_lt}
 use Rattle.std.proofs.Math.Seq.{get_or-append_seam}
 use Rattle.std.proofs.lemmas.Bool.{cases_lt}
 use Rattle.std.proofs.lemmas.Option.{slice_get-get_or, slice_get_past}
@@ -9,7 +9,8 @@ use Rattle.mil_message.specs.declared.messages.Message.{Message}
 use Rattle.mil_message.specs.World.{World, Point, other_line, sent, asks}
 use Rattle.frame_code.specs.declared.Op.{Op}
 use Rattle.frame_code.specs.declared.Op.TheVariants.{Halt, Send, Alt, SetGap, Loop, Again, Leave, Jump, Test, JumpFalse, Call, Return}
-use Rattle.frame_code.specs.Table.{Code, Registers, Running, Turn, goes_on, halted, stuck, sends, turns, leaves, counted, calls, comes_back, act, step, then_run, run, start, at_place, routine_at, next_routine, begins, one_more, place_or_0, main_begins}
+use Rattle.frame_code.specs.Table.{Code, Registers, Running, Turn, goes_on, halted, stuck, sends, turns, leaves, counted, calls, comes_back, act, step, then_run, run, start, at_place}
+use Rattle.frame_code.specs.Routines.{ends_from, ends, routines, begin_of, main_of, routine_at, passed, owner_at}
 use Rattle.frame_load.specs.Runs.{Reaches}
 use Rattle.frame_code.specs.Loadable.{tail, after, open_at, EndsInHalt, IsPaired, LeavesTo, GoesWell, HasMessage, Each, IsLoadable}
 
@@ -46,146 +47,160 @@ abbrev pub IsReturn : Op → Type 0
 IsReturn Return = Unit {0}
 IsReturn _ = ⊥
 
-pub same_routine : (os : List Op) (p : ℕ) (o : Op) → slice_get os p ≡ Some o → (IsReturn o → ⊥) → routine_at os (suc p) ≡ routine_at os p
-same_routine os p o e h = ap (λ v. next_routine v (routine_at os p)) e ∙ by o h
+pub same_routine : (os : List Op) (p : ℕ) (o : Op) → slice_get os p ≡ Some o → (IsReturn o → ⊥) → owner_at os (suc p) ≡ owner_at os p
+same_routine os p o e h = ap (λ v. passed v (owner_at os p)) e ∙ by o h
   where
-    by : (o : Op) → (IsReturn o → ⊥) → next_routine (Some o) (routine_at os p) ≡ routine_at os p
+    by : (o : Op) → (IsReturn o → ⊥) → passed (Some o) (owner_at os p) ≡ owner_at os p
     by Return h = absurd (h tt)
     by _ h = refl
 
-pub next_up : (os : List Op) (p : ℕ) → slice_get os p ≡ Some Return → routine_at os (suc p) ≡ suc (routine_at os p)
-next_up os p e = ap (λ v. next_routine v (routine_at os p)) e
+pub next_up : (os : List Op) (p : ℕ) → slice_get os p ≡ Some Return → owner_at os (suc p) ≡ suc (owner_at os p)
+next_up os p e = ap (λ v. passed v (owner_at os p)) e
 
-routine_step : (v : Option Op) (k : ℕ) → k ≤ next_routine v k
+routine_step : (v : Option Op) (k : ℕ) → k ≤ passed v k
 routine_step (Some Return) k = omega arith
 routine_step _ k = omega arith
 
-pub routine_grows : (os : List Op) (p d : ℕ) → routine_at os p ≤ routine_at os (p + d)
-routine_grows os p zero = let e : p + 0 ≡ p = omega arith in omega (arith, ap (routine_at os) e)
+pub routine_grows : (os : List Op) (p d : ℕ) → owner_at os p ≤ owner_at os (p + d)
+routine_grows os p zero = let e : p + 0 ≡ p = omega arith in omega (arith, ap (owner_at os) e)
 routine_grows os p (suc d) =
     let e : p + suc d ≡ suc (p + d) = omega arith in
-    omega (arith, routine_grows os p d, routine_step (slice_get os (p + d)) (routine_at os (p + d)), ap (routine_at os) e)
+    omega (arith, routine_grows os p d, routine_step (slice_get os (p + d)) (owner_at os (p + d)), ap (owner_at os) e)
 
-pub routine_le : (os : List Op) (p q : ℕ) → p ≤ q → routine_at os p ≤ routine_at os q
-routine_le os p q h = let e : p + (q - p) ≡ q = omega (arith, h) in omega (arith, routine_grows os p (q - p), ap (routine_at os) e)
+pub routine_le : (os : List Op) (p q : ℕ) → p ≤ q → owner_at os p ≤ owner_at os q
+routine_le os p q h = let e : p + (q - p) ≡ q = omega (arith, h) in omega (arith, routine_grows os p (q - p), ap (owner_at os) e)
 
--- an open loop has its Loop where it says, in the same routine
+-- an open loop has its Loop where it says
 abbrev pub IsOpened : List Op → ℕ → ℕ → List ℕ → Type 0
-IsOpened os p s st = (k : ℕ) × (s < p) × (open_at os s ≡ st) × (slice_get os s ≡ Some (Loop k)) × (routine_at os s ≡ routine_at os p)
+IsOpened os p s st = (k : ℕ) × (s < p) × (open_at os s ≡ st) × (slice_get os s ≡ Some (Loop k))
 
 pub opened : (os : List Op) (n p : ℕ) (s : ℕ) (st : List ℕ) → p ≤ n → open_at os p ≡ s ∷ st → IsOpened os p s st
 opened os n zero s st h e = absurd (cc)
 opened os zero (suc p) s st h e = absurd (omega arith)
 opened os (suc n) (suc p) s st h e = by_op (λ q s' st' l x. opened os n q s' st' l x) (slice_get os p) refl e
   where
-    later : (q : ℕ) → q ≤ suc p → routine_at os q ≡ routine_at os (suc p) → IsOpened os q s st → IsOpened os (suc p) s st
-    later q l e r = (r.0, omega (arith, l, r.1), r.2, r.3, r.4 ∙ e)
+    later : (q : ℕ) → q ≤ suc p → IsOpened os q s st → IsOpened os (suc p) s st
+    later q l r = (r.0, omega (arith, l, r.1), r.2, r.3)
 
-    popped : (i : ℕ) → slice_get os p ≡ Some (Again i) → ((q s' : ℕ) (st' : List ℕ) → q ≤ n → open_at os q ≡ s' ∷ st' → IsOpened os q s' st') → (loops : List ℕ) → open_at os p ≡ loops → tail loops ≡ s ∷ st → IsOpened os (suc p) s st
-    popped i o below [] x y = absurd (cc)
-    popped i o below (s1 ∷ st1) x y =
+    popped : ((q s' : ℕ) (st' : List ℕ) → q ≤ n → open_at os q ≡ s' ∷ st' → IsOpened os q s' st') → (loops : List ℕ) → open_at os p ≡ loops → tail loops ≡ s ∷ st → IsOpened os (suc p) s st
+    popped below [] x y = absurd (cc)
+    popped below (s1 ∷ st1) x y =
         let a = below p s1 st1 (omega arith) x in
-        later s1 (omega (arith, a.1)) (a.4 ∙ sym (same_routine os p (Again i) o (λ z. z))) (below s1 s st (omega (arith, a.1)) (a.2 ∙ y))
+        later s1 (omega (arith, a.1)) (below s1 s st (omega (arith, a.1)) (a.2 ∙ y))
 
     by_op : ((q s' : ℕ) (st' : List ℕ) → q ≤ n → open_at os q ≡ s' ∷ st' → IsOpened os q s' st') → (o : Option Op) → slice_get os p ≡ o → after o p (open_at os p) ≡ s ∷ st → IsOpened os (suc p) s st
     by_op below (Some (Loop k)) x y =
         let here : p ≡ s = cc in
         let rest : open_at os p ≡ st = cc in
-        (k, omega (arith, here), ap (open_at os) (sym here) ∙ rest, ap (slice_get os) (sym here) ∙ x, ap (routine_at os) (sym here) ∙ sym (same_routine os p (Loop k) x (λ z. z)))
-    by_op below (Some (Again i)) x y = popped i x below (open_at os p) refl y
-    by_op below (Some Return) x y = absurd (cc)
-    by_op below None x y = later p (omega arith) (sym (ap (λ v. next_routine v (routine_at os p)) x)) (below p s st (omega arith) y)
-    by_op below (Some Halt) x y = later p (omega arith) (sym (same_routine os p Halt x (λ z. z))) (below p s st (omega arith) y)
-    by_op below (Some (Send m)) x y = later p (omega arith) (sym (same_routine os p (Send m) x (λ z. z))) (below p s st (omega arith) y)
-    by_op below (Some (Alt m)) x y = later p (omega arith) (sym (same_routine os p (Alt m) x (λ z. z))) (below p s st (omega arith) y)
-    by_op below (Some (SetGap t)) x y = later p (omega arith) (sym (same_routine os p (SetGap t) x (λ z. z))) (below p s st (omega arith) y)
-    by_op below (Some (Leave i)) x y = later p (omega arith) (sym (same_routine os p (Leave i) x (λ z. z))) (below p s st (omega arith) y)
-    by_op below (Some (Jump i)) x y = later p (omega arith) (sym (same_routine os p (Jump i) x (λ z. z))) (below p s st (omega arith) y)
-    by_op below (Some (Test k)) x y = later p (omega arith) (sym (same_routine os p (Test k) x (λ z. z))) (below p s st (omega arith) y)
-    by_op below (Some (JumpFalse i)) x y = later p (omega arith) (sym (same_routine os p (JumpFalse i) x (λ z. z))) (below p s st (omega arith) y)
-    by_op below (Some (Call r)) x y = later p (omega arith) (sym (same_routine os p (Call r) x (λ z. z))) (below p s st (omega arith) y)
+        (k, omega (arith, here), ap (open_at os) (sym here) ∙ rest, ap (slice_get os) (sym here) ∙ x)
+    by_op below (Some (Again i)) x y = popped below (open_at os p) refl y
+    by_op below _ x y = later p (omega arith) (below p s st (omega arith) y)
+
+-- no loop is open where a routine ends
+abbrev pub EndsClosed : List Op → Type 0
+EndsClosed os = (p : ℕ) → slice_get os p ≡ Some Return → open_at os p ≡ []
+
+-- a loop stands in the routine of its Loop
+pub home : (os : List Op) → EndsClosed os → (n p s : ℕ) (st : List ℕ) → p ≤ n → open_at os p ≡ s ∷ st → owner_at os s ≡ owner_at os p
+home os closed n zero s st h e = absurd (cc)
+home os closed zero (suc p) s st h e = absurd (omega (arith, h))
+home os closed (suc n) (suc p) s st h e = by (λ q t l x. home os closed n q t.0 t.1 l x) (slice_get os p) refl e
+  where
+    Below : Type 0
+    Below = (q : ℕ) (t : ℕ × List ℕ) → q ≤ n → open_at os q ≡ t.0 ∷ t.1 → owner_at os t.0 ≡ owner_at os q
+
+    popped : (i : ℕ) → slice_get os p ≡ Some (Again i) → ((q : ℕ) (t : ℕ × List ℕ) → q ≤ n → open_at os q ≡ t.0 ∷ t.1 → owner_at os t.0 ≡ owner_at os q) → (loops : List ℕ) → open_at os p ≡ loops → tail loops ≡ s ∷ st → owner_at os s ≡ owner_at os (suc p)
+    popped i o below [] x y = absurd (cc)
+    popped i o below (s1 ∷ st1) x y =
+        let a = opened os p p s1 st1 (omega arith) x in
+        below s1 (s, st) (omega (arith, a.1, h)) (a.2 ∙ y) ∙ below p (s1, st1) (omega (arith, h)) x ∙ sym (same_routine os p (Again i) o (λ z. z))
+
+    by : ((q : ℕ) (t : ℕ × List ℕ) → q ≤ n → open_at os q ≡ t.0 ∷ t.1 → owner_at os t.0 ≡ owner_at os q) → (o : Option Op) → slice_get os p ≡ o → after o p (open_at os p) ≡ s ∷ st → owner_at os s ≡ owner_at os (suc p)
+    by below (Some (Loop k)) x y = let here : s ≡ p = cc in ap (owner_at os) here ∙ sym (same_routine os p (Loop k) x (λ z. z))
+    by below (Some (Again i)) x y = popped i x below (open_at os p) refl y
+    by below (Some Return) x y = absurd (let none : [] ≡ s ∷ st = sym (closed p x) ∙ y in let long : 0 ≡ suc (length st) = ap length none in omega (arith, long))
+    by below None x y = below p (s, st) (omega (arith, h)) y ∙ sym (ap (λ v. passed v (owner_at os p)) x)
+    by below (Some Halt) x y = below p (s, st) (omega (arith, h)) y ∙ sym (same_routine os p Halt x (λ z. z))
+    by below (Some (Send m)) x y = below p (s, st) (omega (arith, h)) y ∙ sym (same_routine os p (Send m) x (λ z. z))
+    by below (Some (Alt m)) x y = below p (s, st) (omega (arith, h)) y ∙ sym (same_routine os p (Alt m) x (λ z. z))
+    by below (Some (SetGap t)) x y = below p (s, st) (omega (arith, h)) y ∙ sym (same_routine os p (SetGap t) x (λ z. z))
+    by below (Some (Leave i)) x y = below p (s, st) (omega (arith, h)) y ∙ sym (same_routine os p (Leave i) x (λ z. z))
+    by below (Some (Jump i)) x y = below p (s, st) (omega (arith, h)) y ∙ sym (same_routine os p (Jump i) x (λ z. z))
+    by below (Some (Test k)) x y = below p (s, st) (omega (arith, h)) y ∙ sym (same_routine os p (Test k) x (λ z. z))
+    by below (Some (JumpFalse i)) x y = below p (s, st) (omega (arith, h)) y ∙ sym (same_routine os p (JumpFalse i) x (λ z. z))
+    by below (Some (Call r)) x y = below p (s, st) (omega (arith, h)) y ∙ sym (same_routine os p (Call r) x (λ z. z))
 
 -- places within the same loop stand in one routine
-pub same_home : (os : List Op) (p q : ℕ) → open_at os p ≡ open_at os q → 0 < length (open_at os q) → routine_at os p ≡ routine_at os q
-same_home os p q e some = by (open_at os q) refl
+pub same_home : (os : List Op) → EndsClosed os → (p q : ℕ) → open_at os p ≡ open_at os q → 0 < length (open_at os q) → owner_at os p ≡ owner_at os q
+same_home os closed p q e some = by (open_at os q) refl
   where
-    by : (st : List ℕ) → open_at os q ≡ st → routine_at os p ≡ routine_at os q
+    by : (st : List ℕ) → open_at os q ≡ st → owner_at os p ≡ owner_at os q
     by [] x = absurd (omega (arith, some, ap length x))
-    by (s ∷ st) x = sym (opened os p p s st (omega arith) (e ∙ x)).4 ∙ (opened os q q s st (omega arith) x).4
+    by (s ∷ st) x = sym (home os closed p p s st (omega arith) (e ∙ x)) ∙ home os closed q q s st (omega arith) x
 
 -- where a routine begins: at the first place, or behind the Return of the routine before
 pub record Begun (os : List Op) (r b : ℕ) : Type 0 where
-  pub routine : routine_at os b ≡ r
+  pub routine : owner_at os b ≡ r
   pub none_open : open_at os b ≡ []
   pub first_or_next : (b ≡ 0) ⊎ ((p : ℕ) × (b ≡ suc p) × (slice_get os p ≡ Some Return))
 
 -- one operation more in front
-routine_front : (o : Op) (os : List Op) (p : ℕ) → routine_at (o ∷ os) (suc p) ≡ next_routine (Some o) 0 + routine_at os p
+routine_front : (o : Op) (os : List Op) (p : ℕ) → owner_at (o ∷ os) (suc p) ≡ passed (Some o) 0 + owner_at os p
 routine_front o os zero = omega arith
-routine_front o os (suc p) = ap (next_routine (slice_get os p)) (routine_front o os p) ∙ by (slice_get os p) (next_routine (Some o) 0)
+routine_front o os (suc p) = ap (passed (slice_get os p)) (routine_front o os p) ∙ by (slice_get os p) (passed (Some o) 0)
   where
-    by : (v : Option Op) (k : ℕ) → next_routine v (k + routine_at os p) ≡ k + next_routine v (routine_at os p)
+    by : (v : Option Op) (k : ℕ) → passed v (k + owner_at os p) ≡ k + passed v (owner_at os p)
     by (Some Return) k = omega arith
     by _ k = refl
 
--- the Return in front of a routine that is not the first
-abbrev Behind : List Op → ℕ → ℕ → Type 0
-Behind os r b = (p : ℕ) × (b ≡ suc p) × (slice_get os p ≡ Some Return) × (routine_at os p ≡ r)
+-- the Return behind which a routine begins that is not the first
+abbrev Behind : List Op → ℕ → ℕ → ℕ → Type 0
+Behind os k r b = (p : ℕ) × (b ≡ k + suc p) × (slice_get os p ≡ Some Return) × (owner_at os p ≡ r)
 
-more_is : (v : Option ℕ) (b : ℕ) → one_more v ≡ Some b → (c : ℕ) × (v ≡ Some c) × (b ≡ suc c)
-more_is None b e = absurd (cc)
-more_is (Some c) b e = (c, refl, (let x : suc c ≡ b = cc in sym x))
+behind_at : (k : ℕ) (os : List Op) (r : ℕ) → r < length (ends_from k os) → Behind os k r (get_or (ends_from k os) r 0)
+behind_at k [] r h = absurd (omega (arith, h))
+behind_at k (o ∷ os) r h = by o r h (λ q l. behind_at (suc k) os q l)
+  where
+    by : (o : Op) (r : ℕ) → r < length (ends_from k (o ∷ os)) → ((q : ℕ) → q < length (ends_from (suc k) os) → Behind os (suc k) q (get_or (ends_from (suc k) os) q 0)) → Behind (o ∷ os) k r (get_or (ends_from k (o ∷ os)) r 0)
+    by Return zero h below = (0, omega arith, refl, refl)
+    by Return (suc r) h below =
+        let i = below r (omega (arith, h)) in
+        let n : owner_at (Return ∷ os) (suc i.0) ≡ suc r = omega (arith, routine_front Return os i.0, i.3) in
+        (suc i.0, omega (arith, i.1), i.2, n)
+    by o r h below =
+        let i = below r h in
+        let n : owner_at (o ∷ os) (suc i.0) ≡ r = omega (arith, routine_front o os i.0, i.3) in
+        (suc i.0, omega (arith, i.1), i.2, n)
 
-front : (o : Op) (os : List Op) (r b : ℕ) → begins (o ∷ os) (suc r) ≡ Some b → ((r c : ℕ) → begins os (suc r) ≡ Some c → Behind os r c) → Behind (o ∷ os) r b
-front Return os zero b e below =
-    let m = more_is (begins os 0) b e in
-    let z : m.0 ≡ 0 = let x : Some 0 ≡ Some m.0 = m.1 in cc in
-    (0, m.2 ∙ ap suc z, refl, refl)
-front Return os (suc r) b e below =
-    let m = more_is (begins os (suc r)) b e in
-    let i = below r m.0 m.1 in
-    let k : routine_at (Return ∷ os) (suc i.0) ≡ suc r = omega (arith, routine_front Return os i.0, i.3) in
-    (suc i.0, m.2 ∙ ap suc i.1, i.2, k)
-front o os r b e below =
-    let m = more_is (begins os (suc r)) b e in
-    let i = below r m.0 m.1 in
-    let k : routine_at (o ∷ os) (suc i.0) ≡ r = omega (arith, routine_front o os i.0, i.3) in
-    (suc i.0, m.2 ∙ ap suc i.1, i.2, k)
+ends_long : (k : ℕ) (os : List Op) → length (ends_from k os) ≡ owner_at os (length os)
+ends_long k [] = refl
+ends_long k (o ∷ os) = by o (ends_long (suc k) os)
+  where
+    by : (o : Op) → length (ends_from (suc k) os) ≡ owner_at os (length os) → length (ends_from k (o ∷ os)) ≡ owner_at (o ∷ os) (suc (length os))
+    by Return e = omega (arith, e, routine_front Return os (length os))
+    by o e = omega (arith, e, routine_front o os (length os))
 
-behind_at : (os : List Op) (r b : ℕ) → begins os (suc r) ≡ Some b → Behind os r b
-behind_at [] r b e = absurd (cc)
-behind_at (o ∷ os) r b e = front o os r b e (λ r c i. behind_at os r c i)
+-- there are as many routines as Returns before the end
+pub routines_are : (os : List Op) → routines os ≡ owner_at os (length os)
+routines_are os = ends_long 0 os
 
-pub begun_at : (os : List Op) (r b : ℕ) → begins os r ≡ Some b → Begun os r b
-begun_at os zero b e =
-    let z : 0 ≡ b = cc in
-    record { routine = ap (routine_at os) (sym z); none_open = ap (open_at os) (sym z); first_or_next = inl (sym z) }
-begun_at os (suc r) b e =
-    let i = behind_at os r b e in
+pub begun_at : (os : List Op) → EndsClosed os → (r : ℕ) → r ≤ routines os → Begun os r (begin_of os r)
+begun_at os closed zero h = record { routine = refl; none_open = refl; first_or_next = inl refl }
+begun_at os closed (suc r) h =
+    let i = behind_at 0 os r (omega (arith, h)) in
+    let b : begin_of os (suc r) ≡ suc i.0 = omega (arith, i.1) in
     record {
-      routine = ap (routine_at os) i.1 ∙ next_up os i.0 i.2 ∙ ap suc i.3;
-      none_open = ap (open_at os) i.1 ∙ ap (λ v. after v i.0 (open_at os i.0)) i.2;
-      first_or_next = inr (i.0, i.1, i.2);
+      routine = ap (owner_at os) b ∙ next_up os i.0 i.2 ∙ ap suc i.3;
+      none_open = ap (open_at os) b ∙ ap (λ v. after v i.0 (open_at os i.0)) i.2 ∙ closed i.0 i.2;
+      first_or_next = inr (i.0, b, i.2);
     }
 
--- each routine that there is begins somewhere, and the main part too
-more_some : (v : Option ℕ) → ((b : ℕ) × (v ≡ Some b)) → (b : ℕ) × (one_more v ≡ Some b)
-more_some None x = absurd (let h = x.1 in cc)
-more_some (Some c) x = (suc c, refl)
+-- a routine that is there begins
+pub routine_there : (os : List Op) (r : ℕ) → r < routines os → routine_at os r ≡ Some (begin_of os r)
+routine_there os r h = let yes : nat_lt r (routines os) ≡ true = search rules in ap (λ b. cond b (Some (begin_of os r)) None) yes
 
-begins_front : (o : Op) (os : List Op) (r : ℕ) → suc r ≤ routine_at (o ∷ os) (suc (length os)) → ((r : ℕ) → r ≤ routine_at os (length os) → (b : ℕ) × (begins os r ≡ Some b)) → (b : ℕ) × (begins (o ∷ os) (suc r) ≡ Some b)
-begins_front Return os r h below = more_some (begins os r) (below r (omega (arith, h, routine_front Return os (length os))))
-begins_front o os r h below = more_some (begins os (suc r)) (below (suc r) (omega (arith, h, routine_front o os (length os))))
-
-pub begins_some : (os : List Op) (r : ℕ) → r ≤ routine_at os (length os) → (b : ℕ) × (begins os r ≡ Some b)
-begins_some os zero h = (0, refl)
-begins_some [] (suc r) h = absurd (omega (arith, h))
-begins_some (o ∷ os) (suc r) h = begins_front o os r h (λ q l. begins_some os q l)
-
-pub main_begun : (os : List Op) → Begun os (routine_at os (length os)) (main_begins os)
-main_begun os =
-    let x = begins_some os (routine_at os (length os)) (omega arith) in
-    subst (λ v. Begun os (routine_at os (length os)) (place_or_0 v)) (sym x.1) (begun_at os (routine_at os (length os)) x.0 x.1)
+pub main_begun : (os : List Op) → EndsClosed os → Begun os (routines os) (main_of os)
+main_begun os closed = begun_at os closed (routines os) (omega arith)
 
 pub begun_inside : (os : List Op) (r b : ℕ) → EndsInHalt os → Begun os r b → b < length os
 begun_inside os r b ends g = ⊎_elim
@@ -195,8 +210,8 @@ begun_inside os r b ends g = ⊎_elim
 
 -- the routines under way, from the one of this number outwards, by the places behind their Calls
 abbrev pub Chain : List Op → ℕ → List ℕ → Type 0
-Chain os k [] = k ≡ routine_at os (length os)
-Chain os k (q ∷ qs) = (c : ℕ) × (q ≡ suc c) × (slice_get os c ≡ Some (Call k)) × Chain os (routine_at os c) qs
+Chain os k [] = k ≡ owner_at os (length os)
+Chain os k (q ∷ qs) = (c : ℕ) × (q ≡ suc c) × (slice_get os c ≡ Some (Call k)) × Chain os (owner_at os c) qs
 
 -- how many loops are open in the outer ones
 abbrev pub outer_loops : List Op → List ℕ → ℕ
@@ -207,7 +222,7 @@ outer_loops os (q ∷ qs) = length (open_at os q) + outer_loops os qs
 pub record Fits (code : Code) (r : Registers) : Type 0 where
   pub inside : r.place < length code.operations
   pub loops : length r.counters ≡ length (open_at code.operations r.place) + outer_loops code.operations r.returns
-  pub chain : Chain code.operations (routine_at code.operations r.place) r.returns
+  pub chain : Chain code.operations (owner_at code.operations r.place) r.returns
 
 abbrev pub FitsAfter : {State Outcome : Type 0} → Code → Turn (Running State Outcome) → Type 0
 FitsAfter code (goes_on x) = Fits code x.at
@@ -229,6 +244,9 @@ no_return Return h x = h tt
 no_return _ h x = x
 
 module _ {State Outcome : Type 0} (w : World State Outcome) (code : Code) (ok : IsLoadable code) where
+  closed : EndsClosed code.operations
+  closed p e = ok.nested.paired p Return e
+
   abbrev outer : Registers → ℕ
   outer r = outer_loops code.operations r.returns
 
@@ -237,11 +255,11 @@ module _ {State Outcome : Type 0} (w : World State Outcome) (code : Code) (ok : 
       → length r'.counters ≡ length (after (Some o) r.place (open_at code.operations r.place)) + outer r → Fits code r'
   falls r r' o e going f here same long =
       let s : suc r.place ≡ r'.place = omega (arith, here) in
-      let routine : routine_at code.operations r.place ≡ routine_at code.operations r'.place = sym (same_routine code.operations r.place o e (no_return o going)) ∙ ap (routine_at code.operations) s in
+      let routine : owner_at code.operations r.place ≡ owner_at code.operations r'.place = sym (same_routine code.operations r.place o e (no_return o going)) ∙ ap (owner_at code.operations) s in
       record {
         inside = omega (arith, here, next_within code.operations r.place o ok.ends e (no_halt o going));
         loops = long ∙ ap (λ v. length (after v r.place (open_at code.operations r.place)) + outer r) (sym e) ∙ ap (λ q. length (open_at code.operations q) + outer r) s ∙ ap (λ qs. length (open_at code.operations r'.place) + outer_loops code.operations qs) (sym same);
-        chain = subst (λ qs. Chain code.operations (routine_at code.operations r'.place) qs) (sym same) (subst (λ k. Chain code.operations k r.returns) routine f.chain);
+        chain = subst (λ qs. Chain code.operations (owner_at code.operations r'.place) qs) (sym same) (subst (λ k. Chain code.operations k r.returns) routine f.chain);
       }
 
   sends_fit : (r : Registers) (p : Point State Outcome) (o : Op) (m : ℕ) (on : Line → Line) → slice_get code.operations r.place ≡ Some o → (IsEnd o → ⊥) → after (Some o) r.place (open_at code.operations r.place) ≡ open_at code.operations r.place → m < length code.messages → Fits code r → FitsAfter code (sends w (slice_get code.messages m) on r p)
@@ -249,12 +267,12 @@ module _ {State Outcome : Type 0} (w : World State Outcome) (code : Code) (ok : 
       let x = there code.messages m h in
       subst (λ v. FitsAfter code (sends w v on r p)) (sym x.1) (falls r (record r { place = r.place + 1; line = on x.0.0 }) o e going f refl refl (f.loops ∙ ap (λ st. length st + outer r) (sym same)))
 
-  jumps_fit : (r r' : Registers) (i : ℕ) → Fits code r → i < length code.operations → open_at code.operations i ≡ open_at code.operations r.place → routine_at code.operations i ≡ routine_at code.operations r.place
+  jumps_fit : (r r' : Registers) (i : ℕ) → Fits code r → i < length code.operations → open_at code.operations i ≡ open_at code.operations r.place → owner_at code.operations i ≡ owner_at code.operations r.place
       → r'.place ≡ i → r'.counters ≡ r.counters → r'.returns ≡ r.returns → Fits code r'
   jumps_fit r r' i f lt same home here kept back = record {
     inside = omega (arith, here, lt);
     loops = ap length kept ∙ f.loops ∙ ap (λ st. length st + outer r) (sym same) ∙ ap (λ q. length (open_at code.operations q) + outer r) (sym here) ∙ ap (λ qs. length (open_at code.operations r'.place) + outer_loops code.operations qs) (sym back);
-    chain = subst (λ qs. Chain code.operations (routine_at code.operations r'.place) qs) (sym back) (subst (λ k. Chain code.operations k r.returns) (sym home ∙ ap (routine_at code.operations) (sym here)) f.chain);
+    chain = subst (λ qs. Chain code.operations (owner_at code.operations r'.place) qs) (sym back) (subst (λ k. Chain code.operations k r.returns) (sym home ∙ ap (owner_at code.operations) (sym here)) f.chain);
   }
 
   length-tail : (n : ℕ) (ns st : List ℕ) (k : ℕ) → length (n ∷ ns) ≡ length st + k → 0 < length st → length ns ≡ length (tail st) + k
@@ -278,11 +296,11 @@ module _ {State Outcome : Type 0} (w : World State Outcome) (code : Code) (ok : 
           let at : open_at code.operations (suc start) ≡ start ∷ rest = ap (λ v. after v start (open_at code.operations start)) a.3 ∙ ap (λ v. start ∷ v) a.2 in
           let two : length ns + 1 ≡ length (open_at code.operations r.place) + outer r = omega (arith, ap length c, f.loops) in
           let lt : i < length code.operations = omega (arith, g.3, a.1, f.inside) in
-          let home : routine_at code.operations i ≡ routine_at code.operations r.place = ap (routine_at code.operations) g.3 ∙ same_routine code.operations start (Loop a.0) a.3 (λ x. x) ∙ a.4 in
+          let there : owner_at code.operations i ≡ owner_at code.operations r.place = ap (owner_at code.operations) g.3 ∙ same_routine code.operations start (Loop a.0) a.3 (λ x. x) ∙ home code.operations closed r.place r.place start rest (omega arith) g.2 in
           record {
             inside = lt;
             loops = omega (arith, two, ap length (g.2 ∙ sym at ∙ ap (open_at code.operations) (sym g.3)));
-            chain = subst (λ k. Chain code.operations k r.returns) (sym home) f.chain;
+            chain = subst (λ k. Chain code.operations k r.returns) (sym there) f.chain;
           }
 
   leaves_fit : (r : Registers) (p : Point State Outcome) (i : ℕ) (cs : List ℕ) → r.counters ≡ cs → slice_get code.operations r.place ≡ Some (Leave i) → Fits code r → FitsAfter code (leaves w cs i r p)
@@ -294,11 +312,11 @@ module _ {State Outcome : Type 0} (w : World State Outcome) (code : Code) (ok : 
       let some : 0 < length (open_at code.operations r.place) = ok.nested.paired r.place (Leave i) e in
       let tl = length-tail n ns (open_at code.operations r.place) (outer r) (ap length (sym c) ∙ f.loops) some in
       let inside : q + 1 < length code.operations = next_within code.operations q (Again g.1) ok.ends g.3 (λ x. x) in
-      let home : routine_at code.operations i ≡ routine_at code.operations r.place = ap (routine_at code.operations) g.2 ∙ same_routine code.operations q (Again g.1) g.3 (λ x. x) ∙ same_home code.operations q r.place g.4 some in
+      let there : owner_at code.operations i ≡ owner_at code.operations r.place = ap (owner_at code.operations) g.2 ∙ same_routine code.operations q (Again g.1) g.3 (λ x. x) ∙ same_home code.operations closed q r.place g.4 some in
       record {
         inside = omega (arith, inside, g.2);
         loops = tl ∙ ap (λ v. length (tail v) + outer r) (sym g.4) ∙ ap (λ st. length st + outer r) (sym at) ∙ ap (λ v. length (open_at code.operations v) + outer r) (sym g.2);
-        chain = subst (λ k. Chain code.operations k r.returns) (sym home) f.chain;
+        chain = subst (λ k. Chain code.operations k r.returns) (sym there) f.chain;
       }
 
   branch_fits : (r : Registers) (p : Point State Outcome) (i : ℕ) (b : Bool) → slice_get code.operations r.place ≡ Some (JumpFalse i) → Fits code r → Fits code (at_place r (cond b (r.place + 1) i))
@@ -306,32 +324,33 @@ module _ {State Outcome : Type 0} (w : World State Outcome) (code : Code) (ok : 
   branch_fits r p i false e f = let g = ok.jumps r.place (JumpFalse i) e in jumps_fit r (at_place r i) i f g.1 g.2 g.3 refl refl refl
 
   -- a Call goes to where its routine begins
-  calls_fit : (r : Registers) (p : Point State Outcome) (k : ℕ) → slice_get code.operations r.place ≡ Some (Call k) → Fits code r → FitsAfter code (calls w (begins code.operations k) r p)
+  calls_fit : (r : Registers) (p : Point State Outcome) (k : ℕ) → slice_get code.operations r.place ≡ Some (Call k) → Fits code r → FitsAfter code (calls w (routine_at code.operations k) r p)
   calls_fit r p k e f =
-      let below : k < routine_at code.operations r.place = ok.routines.calls r.place (Call k) e k refl in
+      let below : k < owner_at code.operations r.place = ok.routines_ok.earlier r.place (Call k) e in
       let few = routine_le code.operations r.place (length code.operations) (omega (arith, f.inside)) in
-      let x = begins_some code.operations k (omega (arith, below, few)) in
-      let g = begun_at code.operations k x.0 x.1 in
+      let there : k < routines code.operations = omega (arith, below, few, routines_are code.operations) in
+      let b = begin_of code.operations k in
+      let g = begun_at code.operations closed k (omega (arith, there)) in
       let s : r.place + 1 ≡ suc r.place = omega arith in
       let next : open_at code.operations (r.place + 1) ≡ open_at code.operations r.place = ap (open_at code.operations) s ∙ ap (λ v. after v r.place (open_at code.operations r.place)) e in
-      let fits : Fits code (record r { place = x.0; returns = (r.place + 1) ∷ r.returns }) = record {
-        inside = begun_inside code.operations k x.0 ok.ends g;
+      let fits : Fits code (record r { place = b; returns = (r.place + 1) ∷ r.returns }) = record {
+        inside = begun_inside code.operations k b ok.ends g;
         loops = omega (arith, f.loops, ap length g.none_open, ap length next);
         chain = (r.place, s, e ∙ ap (λ j. Some (Call j)) (sym g.routine), f.chain);
       } in
-      subst (λ v. FitsAfter code (calls w v r p)) (sym x.1) fits
+      subst (λ v. FitsAfter code (calls w v r p)) (sym (routine_there code.operations k there)) fits
 
   -- a Return goes behind the Call
   backs_fit : (r : Registers) (p : Point State Outcome) (qs : List ℕ) → r.returns ≡ qs → slice_get code.operations r.place ≡ Some Return → Fits code r → FitsAfter code (comes_back w qs r p)
   backs_fit r p [] c e f =
-      let last : routine_at code.operations r.place ≡ routine_at code.operations (length code.operations) = subst (Chain code.operations (routine_at code.operations r.place)) c f.chain in
+      let last : owner_at code.operations r.place ≡ owner_at code.operations (length code.operations) = subst (Chain code.operations (owner_at code.operations r.place)) c f.chain in
       let le = routine_le code.operations (suc r.place) (length code.operations) (omega (arith, f.inside)) in
       absurd (omega (arith, last, le, next_up code.operations r.place e))
   backs_fit r p (q ∷ qs) c e f =
-      let g = subst (Chain code.operations (routine_at code.operations r.place)) c f.chain in
-      let k = routine_at code.operations r.place in
-      let home : routine_at code.operations q ≡ routine_at code.operations g.0 = ap (routine_at code.operations) g.1 ∙ same_routine code.operations g.0 (Call k) g.2 (λ x. x) in
-      let none : length (open_at code.operations r.place) ≡ 0 = ok.nested.paired r.place Return e in
+      let g = subst (Chain code.operations (owner_at code.operations r.place)) c f.chain in
+      let k = owner_at code.operations r.place in
+      let home : owner_at code.operations q ≡ owner_at code.operations g.0 = ap (owner_at code.operations) g.1 ∙ same_routine code.operations g.0 (Call k) g.2 (λ x. x) in
+      let none : length (open_at code.operations r.place) ≡ 0 = ap length (ok.nested.paired r.place Return e) in
       record {
         inside = omega (arith, g.1, next_within code.operations g.0 (Call k) ok.ends g.2 (λ x. x));
         loops = omega (arith, f.loops, none, ap (outer_loops code.operations) c);
@@ -339,9 +358,9 @@ module _ {State Outcome : Type 0} (w : World State Outcome) (code : Code) (ok : 
       }
 
   pub step_fits : (r : Registers) (p : Point State Outcome) → Fits code r → FitsAfter code (step w code r p)
-  step_fits r p f = let x = there code.operations r.place f.inside in subst (λ v. FitsAfter code (act w v code.operations code.messages r p)) (sym x.1) (by_op x.0 x.1)
+  step_fits r p f = let x = there code.operations r.place f.inside in subst (λ v. FitsAfter code (act w v code r p)) (sym x.1) (by_op x.0 x.1)
     where
-      by_op : (o : Op) → slice_get code.operations r.place ≡ Some o → FitsAfter code (act w (Some o) code.operations code.messages r p)
+      by_op : (o : Op) → slice_get code.operations r.place ≡ Some o → FitsAfter code (act w (Some o) code r p)
       by_op Halt e = tt
       by_op (Send m) e = sends_fit r p (Send m) m (λ l. l) e (λ x. x) refl (ok.messages r.place (Send m) e) f
       by_op (Alt m) e = sends_fit r p (Alt m) m (λ l. other_line r.line) e (λ x. x) refl (ok.messages r.place (Alt m) e) f
@@ -366,8 +385,8 @@ module _ {State Outcome : Type 0} (w : World State Outcome) (code : Code) (ok : 
 
   pub start_fits : Fits code (start code)
   start_fits =
-      let g = main_begun code.operations in
-      record { inside = begun_inside code.operations (routine_at code.operations (length code.operations)) (main_begins code.operations) ok.ends g; loops = omega (arith, ap length g.none_open); chain = g.routine }
+      let g = main_begun code.operations closed in
+      record { inside = begun_inside code.operations (routines code.operations) (main_of code.operations) ok.ends g; loops = omega (arith, ap length g.none_open); chain = g.routine ∙ routines_are code.operations }
 
   -- what stands where a run comes
   pub reached_fits : (from : Point State Outcome) (x : Running State Outcome) → Reaches w code from x → Fits code x.at

@@ -4,7 +4,7 @@ use Rattle.std.specs.Prelude.{slice_get, nat_le}
 use Rattle.frame_code.specs.declared.Op.{Op}
 use Rattle.frame_code.specs.declared.Op.TheVariants.{Halt, Send, Alt, SetGap, Loop, Again, Leave, Jump, Test, JumpFalse, Call, Return}
 use Rattle.frame_code.specs.Loadable.{tail, after, open_at}
-use Rattle.frame_code.specs.Table.{routine_at}
+use Rattle.frame_code.specs.Routines.{owner_at}
 use Rattle.frame_load.proofs.Never.{there, IsOpened, opened, IsReturn, same_routine, next_up, routine_le}
 use Rattle.frame_load.proofs.Left.{inner, turn, rest}
 
@@ -137,7 +137,7 @@ module _ (os : List Op) where
     closes p back x xs e a = (omega (arith, a.0, ap (rest cost (x ∷ (xs ++ st))) e), λ y. ap (behind (x ∷ (xs ++ y ∷ []))) e ∙ a.1 y)
 
     -- from a place to a later one in the same loop
-    pub along : (d p : ℕ) (extra : List ℕ) (xs : List (ℕ × ℕ)) → p + d ≡ i → routine_at os p ≡ routine_at os i → open_at os p ≡ extra ++ level → length xs ≡ length extra → Along p xs
+    pub along : (d p : ℕ) (extra : List ℕ) (xs : List (ℕ × ℕ)) → p + d ≡ i → owner_at os p ≡ owner_at os i → open_at os p ≡ extra ++ level → length xs ≡ length extra → Along p xs
     along zero p [] [] e home here long = let same : p ≡ i = omega (arith, e) in (omega (arith, ap (λ q. rest cost st (drop q os)) same), λ y. ap (λ q. behind (y ∷ []) (drop q os)) same)
     along zero p (x ∷ extra) xs e home here long =
         let same : p ≡ i = omega (arith, e) in
@@ -146,25 +146,25 @@ module _ (os : List Op) where
     along (suc d) p extra xs e home here long = let x = there os p (omega (arith, e, in_i)) in by_op (λ extra' xs' k h l. along d (suc p) extra' xs' (omega (arith, e)) k h l) x.0 x.1
       where
         Below : Type 0
-        Below = (extra' : List ℕ) (xs' : List (ℕ × ℕ)) → routine_at os (suc p) ≡ routine_at os i → open_at os (suc p) ≡ extra' ++ level → length xs' ≡ length extra' → Along (suc p) xs'
+        Below = (extra' : List ℕ) (xs' : List (ℕ × ℕ)) → owner_at os (suc p) ≡ owner_at os i → open_at os (suc p) ≡ extra' ++ level → length xs' ≡ length extra' → Along (suc p) xs'
 
         is_after : (o : Op) → slice_get os p ≡ Some o → open_at os (suc p) ≡ after (Some o) p (extra ++ level)
         is_after o at = ap (λ v. after v p (open_at os p)) at ∙ ap (after (Some o) p) here
 
-        stays : (o : Op) → slice_get os p ≡ Some o → (IsReturn o → ⊥) → routine_at os (suc p) ≡ routine_at os i
+        stays : (o : Op) → slice_get os p ≡ Some o → (IsReturn o → ⊥) → owner_at os (suc p) ≡ owner_at os i
         stays o at h = same_routine os p o at h ∙ home
 
         never : (back : ℕ) → slice_get os p ≡ Some (Again back) → (lv : List ℕ) → level ≡ lv → open_at os p ≡ lv → ⊥
         never back at [] el eo = let none : length (open_at os p) ≡ 0 = ap length eo in omega (arith, paired p back at, none)
         never back at (s ∷ ss) el eo = let f : suc p + d ≡ i = omega (arith, e) in closed_for_good p d back s ss at eo (ap (open_at os) f ∙ there_i ∙ el)
 
-        close : (back : ℕ) → slice_get os p ≡ Some (Again back) → ((extra' : List ℕ) (xs' : List (ℕ × ℕ)) → routine_at os (suc p) ≡ routine_at os i → open_at os (suc p) ≡ extra' ++ level → length xs' ≡ length extra' → Along (suc p) xs')
+        close : (back : ℕ) → slice_get os p ≡ Some (Again back) → ((extra' : List ℕ) (xs' : List (ℕ × ℕ)) → owner_at os (suc p) ≡ owner_at os i → open_at os (suc p) ≡ extra' ++ level → length xs' ≡ length extra' → Along (suc p) xs')
             → (ex : List ℕ) (ys : List (ℕ × ℕ)) → open_at os p ≡ ex ++ level → length ys ≡ length ex → Along p ys
         close back at below [] ys h l = absurd (never back at level refl h)
         close back at below (x ∷ ex) [] h l = absurd (omega (arith, l))
         close back at below (x ∷ ex) (y ∷ ys) h l = closes p back y ys (drop_at os p (Again back) at) (below ex ys (stays (Again back) at (λ z. z)) (ap (λ v. after v p (open_at os p)) at ∙ ap tail h) (omega (arith, l)))
 
-        by_op : ((extra' : List ℕ) (xs' : List (ℕ × ℕ)) → routine_at os (suc p) ≡ routine_at os i → open_at os (suc p) ≡ extra' ++ level → length xs' ≡ length extra' → Along (suc p) xs') → (o : Op) → slice_get os p ≡ Some o → Along p xs
+        by_op : ((extra' : List ℕ) (xs' : List (ℕ × ℕ)) → owner_at os (suc p) ≡ owner_at os i → open_at os (suc p) ≡ extra' ++ level → length xs' ≡ length extra' → Along (suc p) xs') → (o : Op) → slice_get os p ≡ Some o → Along p xs
         by_op below (Loop n) at = opens p n xs (drop_at os p (Loop n) at) (below (p ∷ extra) ((n, turn cost (drop (suc p) os)) ∷ xs) (stays (Loop n) at (λ z. z)) (is_after (Loop n) at) (omega (arith, long)))
         by_op below (Again back) at = close back at below extra xs here long
         by_op below Return at = absurd (let le = routine_le os (suc p) i (omega (arith, e)) in omega (arith, le, home, next_up os p at))

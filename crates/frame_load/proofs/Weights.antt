@@ -7,9 +7,10 @@ use Rattle.std.proofs.Math.ListN.{get_or-append}
 use Rattle.std.specs.Prelude.{slice_get}
 use Rattle.frame_code.specs.declared.Op.{Op}
 use Rattle.frame_code.specs.declared.Op.TheVariants.{Halt, Send, Alt, SetGap, Loop, Again, Leave, Jump, Test, JumpFalse, Call, Return}
-use Rattle.frame_code.specs.Table.{Code, routine_at, next_routine}
+use Rattle.frame_code.specs.Table.{Code}
+use Rattle.frame_code.specs.Routines.{passed, owner_at}
 use Rattle.frame_code.specs.Ranges.{AreInRange}
-use Rattle.frame_code.specs.Loadable.{tail, after, open_at, Each, IsLoadable}
+use Rattle.frame_code.specs.Loadable.{tail, after, open_at, Each, CallsEarlier, IsLoadable}
 use Rattle.frame_load.specs.Budget.{turns_of, weight_in, weight, Sums, called, sums_after, sums_at}
 use Rattle.frame_load.proofs.Left.{inner, turn, rest}
 use Rattle.frame_load.proofs.Never.{there, within, opened, IsReturn, same_routine, next_up, routine_le}
@@ -170,38 +171,38 @@ module _ (cost : Op → ℕ) (os : List Op) where
   at_op : (p : ℕ) (o : Op) → slice_get os p ≡ Some o → sums_at cost os (suc p) ≡ sums_after cost (Some o) (weight os p) (sums_at cost os p)
   at_op p o e = ap (λ v. sums_after cost v (weight os p) (sums_at cost os p)) e
 
-  long_step : (v : Option Op) (w k : ℕ) (s : Sums) → length s.ended ≡ k → length (sums_after cost v w s).ended ≡ next_routine v k
+  long_step : (v : Option Op) (w k : ℕ) (s : Sums) → length s.ended ≡ k → length (sums_after cost v w s).ended ≡ passed v k
   long_step None w k s e = e
   long_step (Some Return) w k s e = omega (arith, e, length-append s.ended ((s.now + w * cost Return) ∷ []))
   long_step (Some _) w k s e = e
 
-  pub sums_long : (p : ℕ) → length (sums_at cost os p).ended ≡ routine_at os p
+  pub sums_long : (p : ℕ) → length (sums_at cost os p).ended ≡ owner_at os p
   sums_long zero = refl
-  sums_long (suc p) = long_step (slice_get os p) (weight os p) (routine_at os p) (sums_at cost os p) (sums_long p)
+  sums_long (suc p) = long_step (slice_get os p) (weight os p) (owner_at os p) (sums_at cost os p) (sums_long p)
 
   kept_step : (v : Option Op) (w r : ℕ) (s : Sums) → r < length s.ended → get_or (sums_after cost v w s).ended r 0 ≡ get_or s.ended r 0
   kept_step None w r s h = refl
   kept_step (Some Return) w r s h = get_or-append s.ended ((s.now + w * cost Return) ∷ []) 0 r h
   kept_step (Some _) w r s h = refl
 
-  kept : (d p r : ℕ) → p + d ≡ length os → r < routine_at os p → get_or (all_sums cost os) r 0 ≡ get_or (sums_at cost os p).ended r 0
+  kept : (d p r : ℕ) → p + d ≡ length os → r < owner_at os p → get_or (all_sums cost os) r 0 ≡ get_or (sums_at cost os p).ended r 0
   kept zero p r e h =
       let all : length os ≡ p = omega (arith, e) in
-      get_or-append (sums_at cost os (length os)).ended ((sums_at cost os (length os)).now ∷ []) 0 r (omega (arith, h, sums_long (length os), ap (routine_at os) all)) ∙ ap (λ q. get_or (sums_at cost os q).ended r 0) all
+      get_or-append (sums_at cost os (length os)).ended ((sums_at cost os (length os)).now ∷ []) 0 r (omega (arith, h, sums_long (length os), ap (owner_at os) all)) ∙ ap (λ q. get_or (sums_at cost os q).ended r 0) all
   kept (suc d) p r e h =
       kept d (suc p) r (omega (arith, e)) (omega (arith, h, routine_le os p (suc p) (omega arith)))
       ∙ kept_step (slice_get os p) (weight os p) r (sums_at cost os p) (omega (arith, h, sums_long p))
 
   -- what the routine of a Call costs is known at the Call
-  called_is : (p : ℕ) (o : Op) → p ≤ length os → ((r : ℕ) → o ≡ Call r → r < routine_at os p) → called o (all_sums cost os) ≡ called o (sums_at cost os p).ended
-  called_is p (Call r) le h = kept (length os - p) p r (omega (arith, le)) (h r refl)
+  called_is : (p : ℕ) (o : Op) → p ≤ length os → CallsEarlier (owner_at os p) o → called o (all_sums cost os) ≡ called o (sums_at cost os p).ended
+  called_is p (Call r) le h = kept (length os - p) p r (omega (arith, le)) h
   called_is p _ le h = refl
 
   abbrev Sums_up : ℕ → Type 0
-  Sums_up p = (sums_at cost os p).now + summed (price cost os) (weights_of (price cost os) os (open_at os p)) (drop p os) ≡ get_or (all_sums cost os) (routine_at os p) 0
+  Sums_up p = (sums_at cost os p).now + summed (price cost os) (weights_of (price cost os) os (open_at os p)) (drop p os) ≡ get_or (all_sums cost os) (owner_at os p) 0
 
   -- an operation that ends no routine
-  goes_up : (p : ℕ) (o : Op) → slice_get os p ≡ Some o → (IsReturn o → ⊥) → suc p ≤ length os → ((r : ℕ) → o ≡ Call r → r < routine_at os p)
+  goes_up : (p : ℕ) (o : Op) → slice_get os p ≡ Some o → (IsReturn o → ⊥) → suc p ≤ length os → CallsEarlier (owner_at os p) o
       → (sums_after cost (Some o) (weight os p) (sums_at cost os p)).now ≡ (sums_at cost os p).now + weight os p * (cost o + called o (sums_at cost os p).ended) → Sums_up (suc p) → Sums_up p
   goes_up p o e g le h s more =
       let next : open_at os (suc p) ≡ after (Some o) p (open_at os p) = ap (λ v. after v p (open_at os p)) e in
@@ -220,7 +221,7 @@ module _ (cost : Op → ℕ) (os : List Op) where
   ends_here : (p : ℕ) → slice_get os p ≡ Some Return → suc p ≤ length os → Sums_up p
   ends_here p e le =
       let s = sums_at cost os p in
-      let k = routine_at os p in
+      let k = owner_at os p in
       let x = s.now + weight os p * cost Return in
       let here : get_or (all_sums cost os) k 0 ≡ get_or (s.ended ++ x ∷ []) k 0 = kept (length os - suc p) (suc p) k (omega (arith, le)) (omega (arith, next_up os p e)) ∙ ap (λ (z : Sums). get_or z.ended k 0) (at_op p Return e) in
       let seam : get_or (s.ended ++ x ∷ []) k 0 ≡ x = ap (λ j. get_or (s.ended ++ x ∷ []) j 0) (sym (sums_long p)) ∙ get_or-append_seam s.ended x [] 0 in
@@ -234,7 +235,7 @@ module _ (cost : Op → ℕ) (os : List Op) where
         ap (λ v. weight os p * v) alone,
       )
 
-  up_by : (p : ℕ) (o : Op) → slice_get os p ≡ Some o → suc p ≤ length os → ((r : ℕ) → o ≡ Call r → r < routine_at os p) → Sums_up (suc p) → Sums_up p
+  up_by : (p : ℕ) (o : Op) → slice_get os p ≡ Some o → suc p ≤ length os → CallsEarlier (owner_at os p) o → Sums_up (suc p) → Sums_up p
   up_by p Return e le h more = ends_here p e le
   up_by p Halt e le h more = goes_up p Halt e (λ z. z) le h refl more
   up_by p (Send m) e le h more = goes_up p (Send m) e (λ z. z) le h refl more
@@ -248,7 +249,7 @@ module _ (cost : Op → ℕ) (os : List Op) where
   up_by p (JumpFalse i) e le h more = goes_up p (JumpFalse i) e (λ z. z) le h refl more
   up_by p (Call r) e le h more = goes_up p (Call r) e (λ z. z) le h refl more
 
-  sums_up : (d p : ℕ) → p + d ≡ length os → Each os (λ p o. (r : ℕ) → o ≡ Call r → r < routine_at os p) → Sums_up p
+  sums_up : (d p : ℕ) → p + d ≡ length os → Each os (λ p. CallsEarlier (owner_at os p)) → Sums_up p
   sums_up zero p e calls =
       let all : p ≡ length os = omega (arith, e) in
       let none : drop p os ≡ [] = drop_all p os (omega (arith, e)) in
@@ -257,7 +258,7 @@ module _ (cost : Op → ℕ) (os : List Op) where
         arith,
         seam,
         ap (λ j. get_or (all_sums cost os) j 0) (sums_long (length os)),
-        ap (λ q. get_or (all_sums cost os) (routine_at os q) 0) all,
+        ap (λ q. get_or (all_sums cost os) (owner_at os q) 0) all,
         ap (λ q. (sums_at cost os q).now) all,
         ap (summed (price cost os) (weights_of (price cost os) os (open_at os p))) none,
       )
@@ -272,12 +273,12 @@ in_range_behind (o ∷ os) (suc p) h = in_range_behind os p h.1
 
 -- a routine costs no more from its beginning than its sum says
 pub rest_total : (cost : Op → ℕ) (code : Code) → IsLoadable code → (b : ℕ) → b ≤ length code.operations → open_at code.operations b ≡ []
-    → rest (price cost code.operations) [] (drop b code.operations) ≤ get_or (all_sums cost code.operations) (routine_at code.operations b) 0
+    → rest (price cost code.operations) [] (drop b code.operations) ≤ get_or (all_sums cost code.operations) (owner_at code.operations b) 0
 rest_total cost code ok b le none =
     let os = code.operations in
     omega (
       arith,
       rest_summed (price cost os) (drop b os) [] (1 ∷ []) (in_range_behind os b ok.image.operands) refl,
-      sums_up cost os (length os - b) b (omega (arith, le)) ok.routines.calls,
+      sums_up cost os (length os - b) b (omega (arith, le)) ok.routines_ok.earlier,
       ap (λ st. summed (price cost os) (weights_of (price cost os) os st) (drop b os)) none,
     )

@@ -1,6 +1,7 @@
 -- What the loader answers: the program of an image that keeps all rules, else the first rule that it breaks (own choice).
-use Rattle.std.specs.Prelude.{◌≡◌, ℕ, ◌≤◌, List, Some, get_or, Result, Ok, Err, length}
-use Rattle.frame_code.specs.Table.{Code, routine_at, begins}
+use Rattle.std.specs.Prelude.{◌≡◌, ℕ, ◌≤◌, List, get_or, Result, Ok, Err, length}
+use Rattle.frame_code.specs.Table.{Code}
+use Rattle.frame_code.specs.Routines.{routines, begin_of}
 use Rattle.frame_code.specs.Loadable.{EndsInHalt, HasRoutines, IsNested, GoesWell, HasMessage, Each, IsLoadable}
 use Rattle.frame_load.specs.Budget.{budget, worst_messages}
 use Rattle.frame_load.specs.declared.LoadError.{LoadError}
@@ -14,8 +15,8 @@ IsWithin code = (budget code.operations ≤ 100000000) × (worst_messages code.o
 pub record IsProgram (code : Code) (starts : List ℕ) (main steps messages : ℕ) : Type 0 where
   pub loadable : IsLoadable code
   pub within : IsWithin code
-  pub starts_are : (r b : ℕ) → begins code.operations r ≡ Some b → get_or starts r 0 ≡ b
-  pub main_is : main ≡ routine_at code.operations (length code.operations)
+  pub starts_are : (r : ℕ) → r ≤ routines code.operations → get_or starts r 0 ≡ begin_of code.operations r
+  pub main_is : main ≡ routines code.operations
   pub steps_are : steps ≡ budget code.operations
   pub messages_are : messages ≡ worst_messages code.operations
 

@@ -1,7 +1,7 @@
 //! The rules of the loader that need no sums.
 ghost use Rattle.std.specs.Prelude.{◌≡◌, ◌≤◌, ◌<◌, ◌↔◌, ℕ, length, get_or, slice_get, Some, IsTrue};
 ghost use Rattle.frame_code.specs.Loadable.{open_at, EndsInHalt, LeavesTo, JumpsTo, TurnsTo, GoesWell, HasMessage, Each};
-ghost use Rattle.frame_code.specs.Table.{routine_at};
+ghost use Rattle.frame_code.specs.Routines.{owner_at};
 ghost use Rattle.frame_code.specs.declared.Op.{Op};
 ghost use Rattle.frame_load.specs.Marks.{innermost};
 
@@ -31,7 +31,6 @@ pub fn mark_loops(operations: &[Op], loops: &mut [u16; 4096])
                     loops[current as usize - 1]
                 }
             }
-            Op::Return => 0,
             _ => current,
         };
     }
@@ -68,7 +67,7 @@ fn jumps_well(
     requires size { length operations.now ≤ 4096 }
     requires place { place < length operations.now }
     requires marked { (p : ℕ) → p < length operations.now → get_or loops.now p 0 ≡ innermost (open_at operations.now p) }
-    requires numbered { (p : ℕ) → p < length operations.now → get_or routines.now p 0 ≡ routine_at operations.now p }
+    requires numbered { (p : ℕ) → p < length operations.now → get_or routines.now p 0 ≡ owner_at operations.now p }
     ensures { IsTrue result ↔ JumpsTo operations.now place target }
 {
     if target <= place {
@@ -100,7 +99,7 @@ fn goes_well(
     requires size { length operations.now ≤ 4096 }
     requires place { place < length operations.now }
     requires marked { (p : ℕ) → p < length operations.now → get_or loops.now p 0 ≡ innermost (open_at operations.now p) }
-    requires numbered { (p : ℕ) → p < length operations.now → get_or routines.now p 0 ≡ routine_at operations.now p }
+    requires numbered { (p : ℕ) → p < length operations.now → get_or routines.now p 0 ≡ owner_at operations.now p }
     ensures { (o : Op) → slice_get operations.now place ≡ Some o → IsTrue result ↔ GoesWell operations.now place o }
 {
     match operations[place] {
@@ -116,7 +115,7 @@ fn goes_well(
 pub fn all_go_well(operations: &[Op], loops: &[u16; 4096], routines: &[u8; 4096]) -> bool
     requires size { length operations.now ≤ 4096 }
     requires marked { (p : ℕ) → p < length operations.now → get_or loops.now p 0 ≡ innermost (open_at operations.now p) }
-    requires numbered { (p : ℕ) → p < length operations.now → get_or routines.now p 0 ≡ routine_at operations.now p }
+    requires numbered { (p : ℕ) → p < length operations.now → get_or routines.now p 0 ≡ owner_at operations.now p }
     ensures { IsTrue result ↔ Each operations.now (GoesWell operations.now) }
 {
     for i in 0..operations.len() {

@@ -5,7 +5,8 @@
 ghost use Rattle.std.specs.Prelude.{◌+◌, ◌≡◌, ◌≢◌, ◌≤◌, ◌<◌, ◌↔◌, ℕ, length, slice_get, Some, None, Err, IfOk};
 ghost use Rattle.mil_message.specs.World.{World, Point};
 ghost use Rattle.frame_code.specs.declared.Op.TheVariants as op;
-ghost use Rattle.frame_code.specs.Table.{Code, Running, goes_on, halted, stuck, start, step, run, begins, main_begins};
+ghost use Rattle.frame_code.specs.Table.{Code, Running, goes_on, halted, stuck, start, step, run};
+ghost use Rattle.frame_code.specs.Routines.{main_of, routine_at};
 ghost use Rattle.frame_code.specs.Loadable.{IsLoadable};
 ghost use Rattle.frame_load.specs.Budget as sums;
 ghost use Rattle.frame_load.specs.Runs.{Reaches, HaltsWithin};
@@ -96,15 +97,15 @@ impl Program {
 
     /// The place where the routine of this number begins. Condition: there is such a routine.
     pub fn routine(&self, number: u8) -> u16
-        requires { begins self.now.operations number ≢ None }
-        ensures { begins self.now.operations number ≡ Some result }
+        requires { routine_at self.now.operations number ≢ None }
+        ensures { routine_at self.now.operations number ≡ Some result }
     {
         self.starts[number as usize]
     }
 
     /// The place where the main part begins, and with it a run: behind the last Return.
     pub fn main(&self) -> u16
-        ensures { result ≡ main_begins self.now.operations }
+        ensures { result ≡ main_of self.now.operations }
     {
         self.starts[self.main as usize]
     }

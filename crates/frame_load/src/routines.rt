@@ -1,16 +1,14 @@
 //! The routines of a code: their numbers, and where they begin. A routine ends at each Return; what stands behind the last is the
 //! main part.
 ghost use Rattle.std.specs.Prelude.{◌≡◌, ◌≤◌, ◌<◌, ◌^◌, ◌↔◌, ℕ, length, get_or, Some, IsTrue};
-ghost use Rattle.frame_code.specs.declared.Op.TheVariants as op_of;
-ghost use Rattle.frame_code.specs.Table as table;
-ghost use Rattle.frame_code.specs.Table.{routine_at, begins};
-ghost use Rattle.frame_code.specs.Loadable.{HasRoutines};
+ghost use Rattle.frame_code.specs.Routines.{passed, owner_at, routines, begin_of};
+ghost use Rattle.frame_code.specs.Loadable.{CallsEarlier, HasRoutines};
 
 use frame_code::Op;
 
 // Whether a Call in the routine of this number is of one that ended before.
 fn calls_well(op: Op, routine: u16) -> bool
-    ensures { IsTrue result ↔ ((r : ℕ) → op ≡ op_of.Call r → r < routine) }
+    ensures { IsTrue result ↔ CallsEarlier routine op }
 {
     match op {
         Op::Call(called) => u16::from(called) < routine,
@@ -21,7 +19,7 @@ fn calls_well(op: Op, routine: u16) -> bool
 // The routine of the next place.
 fn next_routine(op: Op, routine: u16) -> u16
     requires { routine < 2 ^ 15 }
-    ensures { result ≡ table.next_routine (Some op) routine }
+    ensures { result ≡ passed (Some op) routine }
 {
     match op {
         Op::Return => routine + 1,
@@ -45,14 +43,14 @@ pub fn are_right(operations: &[Op]) -> bool
 }
 
 /// For each place the number of its routine.
-pub fn number(operations: &[Op], routines: &mut [u8; 4096])
+pub fn number(operations: &[Op], numbers: &mut [u8; 4096])
     requires size { length operations.now ≤ 4096 }
-    requires few { routine_at operations.now (length operations.now) ≤ 32 }
-    ensures { (p : ℕ) → p < length operations.now → get_or routines.new p 0 ≡ routine_at operations.now p }
+    requires few { routines operations.now ≤ 32 }
+    ensures { (p : ℕ) → p < length operations.now → get_or numbers.new p 0 ≡ owner_at operations.now p }
 {
     let mut routine = 0;
     for i in 0..operations.len() {
-        routines[i] = routine as u8;
+        numbers[i] = routine as u8;
         routine = next_routine(operations[i], routine);
     }
 }
@@ -60,9 +58,9 @@ pub fn number(operations: &[Op], routines: &mut [u8; 4096])
 /// For each routine the place where it begins, and the number of the main part.
 pub fn find(operations: &[Op], starts: &mut [u16; 33]) -> u8
     requires size { length operations.now ≤ 4096 }
-    requires few { routine_at operations.now (length operations.now) ≤ 32 }
-    ensures starts { (r b : ℕ) → begins operations.now r ≡ Some b → get_or starts.new r 0 ≡ b }
-    ensures number { result ≡ routine_at operations.now (length operations.now) }
+    requires few { routines operations.now ≤ 32 }
+    ensures starts { (r : ℕ) → r ≤ routines operations.now → get_or starts.new r 0 ≡ begin_of operations.now r }
+    ensures number { result ≡ routines operations.now }
 {
     starts[0] = 0;
     let mut routine: u8 = 0;

@@ -32,7 +32,6 @@ pub fn mark_weights(operations: &[Op], loops: &[u16; 4096], weights: &mut [u64; 
                     weights[loops[i] as usize - 1]
                 }
             }
-            Op::Return => 1,
             _ => current,
         };
     }

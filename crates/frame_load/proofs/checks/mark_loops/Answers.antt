@@ -7,10 +7,10 @@ use Rattle.frame_code.specs.Loadable.{open_at, GoesWell}
 use Rattle.frame_load.specs.Marks.{innermost}
 use Rattle.frame_load.specs.Budget.{weight}
 use Rattle.frame_load.proofs.Never.{within}
-use Rattle.frame_load.proofs.Marks.{op_at, more_marks, innermost_below, mark_loop, mark_out, back_out, mark_other, mark_end, jumps_by, jumps_back, mark_weight}
+use Rattle.frame_load.proofs.Marks.{op_at, more_marks, innermost_below, mark_loop, mark_out, back_out, mark_other, jumps_by, jumps_back, mark_weight}
 use Rattle.std.proofs.lemmas.List.{get_or-set_other}
 use Rattle.frame_load.proofs.checks.mark_loops.Goals as goal
-use Rattle.frame_load.proofs.checks.mark_loops.Goals.{in-Loop, in-Again+then-current-eq0, in-Again+else-current-eq0, in-Return, in_default}
+use Rattle.frame_load.proofs.checks.mark_loops.Goals.{in-Loop, in-Again+then-current-eq0, in-Again+else-current-eq0, in_default}
 
 pub bounds-loops-current : goal.bounds-loops-current
 bounds-loops-current c = omega (arith, innermost_below c.args.operations.now c.loop-i.i)
@@ -30,8 +30,7 @@ loop-i-preserved c =
             w.current-is ∙ get_or-set_other c.loop-i.loops i (cur - 1) cur 0 apart ∙ c.loop-i.invariant.so_far (cur - 1) lt
             ∙ ap (λ v. innermost (open_at os (v - 1))) c.loop-i.invariant.now
             ∙ sym (ap innermost (back_out os i w.in-Again.field-0 (op_at os i Halt _ c.loop-i-test.true w.in-Again.is) (λ z. w.if-current-eq0.false (c.loop-i.invariant.now ∙ z))))
-        | in-Return w ↦ w.current-is ∙ sym (ap innermost (mark_end os i (op_at os i Halt _ c.loop-i-test.true w.in-Return.is)))
-        | in_default w ↦ w.current-is ∙ c.loop-i.invariant.now ∙ sym (ap innermost (mark_other os i _ (op_at os i Halt _ c.loop-i-test.true refl) w.in_default.not-Loop w.in_default.not-Again w.in_default.not-Return))
+        | in_default w ↦ w.current-is ∙ c.loop-i.invariant.now ∙ sym (ap innermost (mark_other os i _ (op_at os i Halt _ c.loop-i-test.true refl) w.in_default.not-Loop w.in_default.not-Again))
       ];
       so_far = more_marks (λ p. innermost (open_at os p)) c.loop-i.loops i cur (omega arith) c.loop-i.invariant.so_far c.loop-i.invariant.now;
     }

@@ -7,10 +7,10 @@ use Rattle.frame_code.specs.Loadable.{open_at, GoesWell}
 use Rattle.frame_load.specs.Marks.{innermost}
 use Rattle.frame_load.specs.Budget.{weight, weight_in}
 use Rattle.frame_load.proofs.Never.{within}
-use Rattle.frame_load.proofs.Marks.{op_at, more_marks, innermost_below, mark_loop, mark_out, back_out, mark_other, mark_end, out_same, jumps_by, jumps_back, mark_weight}
+use Rattle.frame_load.proofs.Marks.{op_at, more_marks, innermost_below, mark_loop, mark_out, back_out, mark_other, out_same, jumps_by, jumps_back, mark_weight}
 use Rattle.std.proofs.lemmas.List.{get_or-set_other}
 use Rattle.frame_load.proofs.sums.mark_weights.Goals as goal
-use Rattle.frame_load.proofs.sums.mark_weights.Goals.{in-Loop, in-Again+then-loops-i-eq0, in-Again+else-loops-i-eq0, in-Return, in_default}
+use Rattle.frame_load.proofs.sums.mark_weights.Goals.{in-Loop, in-Again+then-loops-i-eq0, in-Again+else-loops-i-eq0, in_default}
 
 pub bounds-weights-loops : goal.bounds-weights-loops
 bounds-weights-loops c = omega (arith, innermost_below c.args.operations.now c.loop-i.i, c.requires.marked c.loop-i.i c.loop-i-test.true)
@@ -32,8 +32,7 @@ loop-i-preserved c =
             w.current-is ∙ get_or-set_other c.loop-i.weights i (m - 1) cur 0 apart ∙ c.loop-i.invariant.so_far (m - 1) lt
             ∙ ap (λ v. min 100000001 (weight os (v - 1))) mark
             ∙ sym (ap (λ st. min 100000001 (weight_in os st)) (back_out os i w.in-Again.field-0 (op_at os i Halt _ c.loop-i-test.true w.in-Again.is) (λ z. w.if-loops-i-eq0.false (mark ∙ z))))
-        | in-Return w ↦ w.current-is ∙ sym (ap (λ st. min 100000001 (weight_in os st)) (mark_end os i (op_at os i Halt _ c.loop-i-test.true w.in-Return.is)))
-        | in_default w ↦ w.current-is ∙ c.loop-i.invariant.now ∙ sym (ap (λ st. min 100000001 (weight_in os st)) (mark_other os i _ (op_at os i Halt _ c.loop-i-test.true refl) w.in_default.not-Loop w.in_default.not-Again w.in_default.not-Return))
+        | in_default w ↦ w.current-is ∙ c.loop-i.invariant.now ∙ sym (ap (λ st. min 100000001 (weight_in os st)) (mark_other os i _ (op_at os i Halt _ c.loop-i-test.true refl) w.in_default.not-Loop w.in_default.not-Again))
       ];
       so_far = more_marks (λ p. min 100000001 (weight os p)) c.loop-i.weights i cur (omega arith) c.loop-i.invariant.so_far c.loop-i.invariant.now;
     }
