@@ -1,10 +1,10 @@
 -- What bytes are read as (own choice): the code that they spell, else the first fault. The bytes are judged field by
 -- field, in their order.
-use Rattle.std.specs.Prelude.{◌≡◌, ℕ, zero, suc, ◌+◌, ◌*◌, ◌==◌, ◌&&◌, ◌||◌, nat_lt, nat_le, if◌then◌else◌, Bool, true, false, List, [], ◌∷◌, Option, Some, None, Result, Ok, Err}
+use Rattle.std.specs.Prelude.{◌≡◌, ℕ, zero, suc, ◌+◌, ◌*◌, ◌==◌, not, ◌&&◌, ◌||◌, nat_lt, nat_le, if◌then◌else◌, Bool, true, false, List, [], ◌∷◌, Option, Some, None, Result, Ok, Err}
 use Rattle.mil_word.specs.declared.Line.{Line}
 use Rattle.mil_word.specs.declared.Line.TheVariants.{A, B}
 use Rattle.mil_message.specs.declared.messages.Message.{Message}
-use Rattle.mil_message.specs.Parts.{Parts, request_at}
+use Rattle.mil_message.specs.Parts.{request_at}
 use Rattle.mil_message.specs.Request.{Request}
 use Rattle.mil_message.specs.Rules.{form_of}
 use Rattle.frame_code.specs.declared.ImageError.{ImageError}
@@ -134,8 +134,7 @@ at_end (b ∷ bs) code = Err fault.Length
 
 -- the mark BC02 is for codes that need it
 abbrev pub fitting : Bool → Code → Result Code ImageError
-fitting true code = must (has_new code.operations) fault.Version code
-fitting false code = Ok code
+fitting new code = must (not new || has_new code.operations) fault.Version code
 
 -- the mark, and the two counts
 unfoldable pub header_at : List ℕ → Result (Bool × ℕ × ℕ × List ℕ) ImageError

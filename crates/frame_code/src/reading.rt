@@ -1,13 +1,14 @@
 //! The image that bytes spell. The bytes are judged first, which takes no memory, and then the image is made.
-ghost use Rattle.std.specs.Prelude.{false, not, ◌||◌, ◌∷◌, ◌++◌, ◌≡◌, ◌≢◌, ◌≤◌, ◌<◌, ◌↔◌, IsTrue, IfOk, IfSome, MatchResult, Ok, Err, length};
+ghost use Rattle.std.specs.Prelude.{false, not, ◌||◌, if◌then◌else◌, Some, None, ◌∷◌, ◌++◌, ◌≡◌, ◌≢◌, ◌≤◌, ◌<◌, ◌↔◌, IsTrue, IfOk, IfSome, MatchResult, Ok, Err, length};
 ghost use Rattle.frame_code.specs.Table.{Code};
-ghost use Rattle.frame_code.specs.Ranges.{in_range, AreInRange};
+ghost use Rattle.frame_code.specs.Ranges.{in_range, is_routine, AreInRange};
 ghost use Rattle.frame_code.specs.Bytes.{is_new, has_new, two_bytes, mark, header_bytes, number_of, operand_of, operation_bytes, line_number, message_bytes, image_bytes};
 ghost use Rattle.std.specs.List.{flat_map};
 ghost use Rattle.frame_code.specs.Fields as table;
 ghost use Rattle.frame_code.specs.Reading as spelled;
 ghost use Rattle.frame_code.specs.Reading.{Reads, Builds, behind, many_new, image_of};
 ghost use Rattle.frame_code.specs.declared.ImageError.{ImageError};
+ghost use Rattle.frame_code.specs.declared.Op.TheVariants as op;
 
 use crate::fields::{first_fits, second_fits, words_due};
 use crate::writing::{has_new, is_new};
@@ -97,6 +98,17 @@ fn test_of(number: u16) -> Option<Op>
     }
 }
 
+// The call of a routine of this number, if there may be one.
+fn call_of(number: u16) -> Option<Op>
+    ensures { result ≡ if is_routine number then Some (op.Call number) else None }
+{
+    if number < 32 {
+        Some(Op::Call(number as u8))
+    } else {
+        None
+    }
+}
+
 // The operation of a number and an operand, if there is one.
 #[tactic(auto, unfolding(crate::specs::Reading::operation_of))]
 fn operation_of(number: u8, operand: u16) -> Option<Op>
@@ -116,7 +128,7 @@ fn operation_of(number: u8, operand: u16) -> Option<Op>
         7 => Some(Op::Jump(operand)),
         8 => test_of(operand),
         9 => Some(Op::JumpFalse(operand)),
-        10 => (operand < 32).then_some(Op::Call(operand as u8)),
+        10 => call_of(operand),
         11 => (operand == 0).then_some(Op::Return),
         _ => None,
     }
@@ -231,6 +243,12 @@ fn message(bytes: &[u8]) -> Result<((Line, Message), &[u8]), ImageError>
     body(form, line, first, second, rest)
 }
 
+fn with_new(found: bool, op: Op) -> bool
+    ensures { result ≡ found || is_new op }
+{
+    found || is_new(op)
+}
+
 // Whether an operation among so many is new, and the bytes behind them.
 fn past_operations(new: bool, count: u16, bytes: &[u8]) -> Result<(bool, &[u8]), ImageError>
     ensures { Reads (λ x. (x.0, x.1.now)) result (many_new (spelled.many (spelled.operation_at new) count bytes.now)) }
@@ -239,7 +257,7 @@ fn past_operations(new: bool, count: u16, bytes: &[u8]) -> Result<(bool, &[u8]),
     let mut found = false;
     for _ in 0..count {
         let (op, next) = operation(new, rest)?;
-        found = found || is_new(op);
+        found = with_new(found, op);
         rest = next;
     }
     Ok((found, rest))
@@ -266,16 +284,22 @@ fn judge(bytes: &[u8]) -> Result<(), ImageError>
     let (found, rest) = past_operations(header.new, header.operations, header.rest)?;
     let rest = past_messages(header.messages, rest)?;
     match rest.split_first() {
-        None => fits(header.new, found),
         Some(_) => Err(ImageError::Length),
+        None => {
+            if fits(header.new, found) {
+                Ok(())
+            } else {
+                Err(ImageError::Version)
+            }
+        }
     }
 }
 
 // The mark BC02 is for codes that need it.
-fn fits(new: bool, found: bool) -> Result<(), ImageError>
-    ensures { result ≡ spelled.must (not new || found) ImageError.Version tt }
+fn fits(new: bool, found: bool) -> bool
+    ensures { result ≡ not new || found }
 {
-    if new && !found { Err(ImageError::Version) } else { Ok(()) }
+    !new || found
 }
 
 // So many operations.
@@ -331,14 +355,16 @@ fn build(alloc: Global, bytes: &[u8]) -> Result<Image, ImageError>
     let (operations, rest) = operations(alloc, header.new, header.operations, header.rest)?;
     let (messages, rest) = messages(alloc, header.messages, rest)?;
     match rest.split_first() {
+        Some(_) => Err(ImageError::Length),
         None => {
-            fits(header.new, has_new(&operations))?;
+            if !fits(header.new, has_new(&operations)) {
+                return Err(ImageError::Version);
+            }
             Ok(Image {
                 operations,
                 messages,
             })
         }
-        Some(_) => Err(ImageError::Length),
     }
 }
 
