@@ -1,9 +1,9 @@
 -- Reading so many of something, one after the other.
-use Rattle.std.proofs.Common.{◌≡◌, ◌≢◌, ℕ, zero, suc, ◌+◌, ◌-◌, ◌<◌, ◌≤◌, Bool, true, false, List, [], ◌∷◌, ◌++◌, Result, Ok, Err, refl, sym, ap, ◌∙◌, subst, arith, append_assoc}
+use Rattle.std.proofs.Common.{◌≡◌, ℕ, suc, ◌+◌, ◌-◌, ◌<◌, ◌≤◌, List, [], ◌∷◌, ◌++◌, Result, Ok, Err, refl, sym, ap, ◌∙◌, arith, append_assoc}
 use Rattle.std.proofs.lemmas.List.{append-nil}
 use Rattle.frame_code.specs.declared.ImageError.{ImageError}
 use Rattle.frame_code.specs.declared.ImageError.TheVariants as fault
-use Rattle.std.specs.Prelude.{IsTrue, ◌||◌}
+use Rattle.std.specs.Prelude.{IsTrue, Bool, true, false, ◌||◌}
 use Rattle.mil_word.specs.declared.Line.{Line}
 use Rattle.mil_message.specs.declared.messages.Message.{Message}
 use Rattle.mil_message.specs.Rules.{IsLawful}
@@ -11,7 +11,7 @@ use Rattle.frame_code.specs.Bytes.{is_new, has_new, AreLawful}
 use Rattle.std.specs.List.{flat_map}
 use Rattle.frame_code.specs.declared.Op.{Op}
 use Rattle.frame_code.specs.Ranges.{in_range, AreInRange}
-use Rattle.frame_code.specs.Reading.{◌>>=◌, Read, many, behind, looked_over, Faults}
+use Rattle.frame_code.specs.Reading.{◌>>=◌, Read, many, many_new, operation_at, behind, Faults}
 
 -- what is read comes behind this list
 abbrev pub onto : {X : Type 0} → List X → Read (List X) → Read (List X)
@@ -57,16 +57,16 @@ module _ {X : Type 0} (one : List ℕ → Read X) where
   many_more n bs = refl
 
   -- one more of them
-  many_with : (n : ℕ) (bs next : List ℕ) (x : X) → one bs ≡ Ok (x, next) → many one (suc n) bs ≡ (many one n next >>= (λ xs. Ok (x ∷ xs.0, xs.1)))
+  pub many_with : (n : ℕ) (bs next : List ℕ) (x : X) → one bs ≡ Ok (x, next) → many one (suc n) bs ≡ (many one n next >>= (λ xs. Ok (x ∷ xs.0, xs.1)))
   many_with n bs next x e = many_more n bs ∙ ap (λ r. r >>= (λ x. many one n x.1 >>= (λ xs. Ok (x.0 ∷ xs.0, xs.1)))) e
 
-  many_fails : (n : ℕ) (bs : List ℕ) (e : ImageError) → one bs ≡ Err e → many one (suc n) bs ≡ Err e
+  pub many_fails : (n : ℕ) (bs : List ℕ) (e : ImageError) → one bs ≡ Err e → many one (suc n) bs ≡ Err e
   many_fails n bs e is = many_more n bs ∙ ap (λ r. r >>= (λ x. many one n x.1 >>= (λ xs. Ok (x.0 ∷ xs.0, xs.1)))) is
 
   pub many_cons : (n : ℕ) (bs next rest : List ℕ) (x : X) (xs : List X) → one bs ≡ Ok (x, next) → many one n next ≡ Ok (xs, rest) → many one (suc n) bs ≡ Ok (x ∷ xs, rest)
   many_cons n bs next rest x xs e f = many_with n bs next x e ∙ ap (λ r. r >>= (λ ys. Ok (x ∷ ys.0, ys.1))) f
 
-  left : (n i : ℕ) → i < n → n - i ≡ suc (n - (i + 1))
+  pub left : (n i : ℕ) → i < n → n - i ≡ suc (n - (i + 1))
   left n i h = omega arith
 
   onto_with : (xs : List X) (x : X) (r : Read (List X)) → onto xs (r >>= (λ ys. Ok (x ∷ ys.0, ys.1))) ≡ onto (xs ++ x ∷ []) r
@@ -97,44 +97,67 @@ module _ {X : Type 0} (one : List ℕ → Read X) where
   pub behind_end : (n i : ℕ) (bs : List ℕ) → n ≤ i → behind (many one (n - i) bs) ≡ Ok bs
   behind_end n i bs h = let none : n - i ≡ 0 = omega arith in ap (λ k. behind (many one k bs)) none ∙ ap behind (many_none bs)
 
-or_assoc : (a b c : Bool) → (a || (b || c)) ≡ ((a || b) || c)
-or_assoc true b c = refl
-or_assoc false b c = refl
+-- whether an operation is new, or one of those that are read
+abbrev pub or_new : Bool → Result (Bool × List ℕ) ImageError → Result (Bool × List ℕ) ImageError
+or_new b (Ok x) = Ok (b || x.0, x.1)
+or_new b (Err e) = Err e
 
-or_none : (a : Bool) → (a || false) ≡ a
-or_none true = refl
-or_none false = refl
+pub or_none : (r : Result (Bool × List ℕ) ImageError) → r ≡ or_new false r
+or_none (Ok x) = refl
+or_none (Err e) = refl
 
--- none of them is new, one by one
-pub none_new : (os : List Op) (o : Op) → has_new os ≡ false → is_new o ≡ false → has_new (os ++ o ∷ []) ≡ false
-none_new [] o h k = ap (λ b. b || false) k
-none_new (x ∷ os) o h k = by (is_new x) h (λ e. none_new os o e k)
+either_more : (a b c : Bool) → (a || (b || c)) ≡ ((a || b) || c)
+either_more true b c = refl
+either_more false b c = refl
+
+or_false : (b : Bool) → (b || false) ≡ b
+or_false true = refl
+or_false false = refl
+
+or_with : (b : Bool) (o : Op) (r : Read (List Op)) → or_new b (many_new (r >>= (λ ys. Ok (o ∷ ys.0, ys.1)))) ≡ or_new (b || is_new o) (many_new r)
+or_with b o (Ok y) = ap (λ z. Ok (z, y.1)) (either_more b (is_new o) (has_new y.0))
+or_with b o (Err e) = refl
+
+module _ (new : Bool) where
+  pub news_more : (b : Bool) (n i : ℕ) (bs next : List ℕ) (o : Op) → i < n → operation_at new bs ≡ Ok (o, next)
+      → or_new b (many_new (many (operation_at new) (n - i) bs)) ≡ or_new (b || is_new o) (many_new (many (operation_at new) (n - (i + 1)) next))
+  news_more b n i bs next o h e =
+      ap (λ k. or_new b (many_new (many (operation_at new) k bs))) (left (operation_at new) n i h)
+      ∙ ap (λ r. or_new b (many_new r)) (many_with (operation_at new) (n - (i + 1)) bs next o e)
+      ∙ or_with b o (many (operation_at new) (n - (i + 1)) next)
+
+  pub news_fail : (b : Bool) (n i : ℕ) (bs : List ℕ) (e : ImageError) → i < n → operation_at new bs ≡ Err e → or_new b (many_new (many (operation_at new) (n - i) bs)) ≡ Err e
+  news_fail b n i bs e h is =
+      ap (λ k. or_new b (many_new (many (operation_at new) k bs))) (left (operation_at new) n i h)
+      ∙ ap (λ r. or_new b (many_new r)) (many_fails (operation_at new) (n - (i + 1)) bs e is)
+
+  pub news_end : (b : Bool) (n i : ℕ) (bs : List ℕ) → n ≤ i → or_new b (many_new (many (operation_at new) (n - i) bs)) ≡ Ok (b, bs)
+  news_end b n i bs h =
+      let none : n - i ≡ 0 = omega arith in
+      ap (λ k. or_new b (many_new (many (operation_at new) k bs))) none ∙ ap (λ r. or_new b (many_new r)) (many_none (operation_at new) bs) ∙ ap (λ z. Ok (z, bs)) (or_false b)
+
+-- what was read, where it is known what is behind it and whether it has new ones
+got : Result (Bool × List ℕ) ImageError → Bool × List ℕ
+got (Ok x) = x
+got (Err e) = (false, [])
+
+pub news_ok : (r : Read (List Op)) (b : Bool) (rest : List ℕ) → many_new r ≡ Ok (b, rest) → (os : List Op) × (r ≡ Ok (os, rest)) × (has_new os ≡ b)
+unfolding got
+news_ok (Ok x) b rest e = (x.0, ap (λ z. Ok (x.0, z)) (ap (λ r. (got r).1) e), ap (λ r. (got r).0) e)
+news_ok (Err y) b rest e = absurd (cc)
+
+pub news_fails : (r : Read (List Op)) (e : ImageError) → many_new r ≡ Err e → r ≡ Err e
+news_fails (Ok x) e h = absurd (cc)
+news_fails (Err y) e h = cc
+
+either_none : (a b : Bool) → a ≡ false → b ≡ false → (a || b) ≡ false
+either_none true b e f = cc
+either_none false b e f = f
+
+pub old_more : (os : List Op) (o : Op) → has_new os ≡ false → is_new o ≡ false → has_new (os ++ o ∷ []) ≡ false
+old_more [] o h k = either_none (is_new o) false k refl
+old_more (x ∷ os) o h k = let p = both_none (is_new x) (has_new os) h in either_none (is_new x) (has_new (os ++ o ∷ [])) p.0 (old_more os o p.1 k)
   where
-    by : (b : Bool) → (b || has_new os) ≡ false → (has_new os ≡ false → has_new (os ++ o ∷ []) ≡ false) → (b || has_new (os ++ o ∷ [])) ≡ false
-    by true e below = absurd (cc)
-    by false e below = below e
-
-module _ (one : List ℕ → Read Op) where
-  over_with : (f : Bool) (x : Op) (r : Read (List Op)) → looked_over f (r >>= (λ ys. Ok (x ∷ ys.0, ys.1))) ≡ looked_over (f || is_new x) r
-  over_with f x (Ok y) = ap (λ z. Ok (z, y.1)) (or_assoc f (is_new x) (has_new y.0))
-  over_with f x (Err e) = refl
-
-  pub over_more : (f : Bool) (n i : ℕ) (bs next : List ℕ) (x : Op) → i < n → one bs ≡ Ok (x, next) → looked_over f (many one (n - i) bs) ≡ looked_over (f || is_new x) (many one (n - (i + 1)) next)
-  over_more f n i bs next x h e =
-      ap (λ k. looked_over f (many one k bs)) (left one n i h) ∙ ap (looked_over f) (many_with one (n - (i + 1)) bs next x e) ∙ over_with f x (many one (n - (i + 1)) next)
-
-  pub over_fails : (f : Bool) (n i : ℕ) (bs : List ℕ) (e : ImageError) → i < n → one bs ≡ Err e → looked_over f (many one (n - i) bs) ≡ Err e
-  over_fails f n i bs e h is = ap (λ k. looked_over f (many one k bs)) (left one n i h) ∙ ap (looked_over f) (many_fails one (n - (i + 1)) bs e is)
-
-  pub over_end : (f : Bool) (n i : ℕ) (bs : List ℕ) → n ≤ i → looked_over f (many one (n - i) bs) ≡ Ok (f, bs)
-  over_end f n i bs h = let none : n - i ≡ 0 = omega arith in ap (λ k. looked_over f (many one k bs)) none ∙ ap (looked_over f) (many_none one bs) ∙ ap (λ z. Ok (z, bs)) (or_none f)
-
-ok_is : {X : Type 0} (x y : X) → (let z : Result X ImageError = Ok x in z ≡ Ok y) → x ≡ y
-ok_is x y e = cc
-
--- what was looked over, where what it came to is known
-pub over_ok : (r : Read (List Op)) (found : Bool) (rest : List ℕ) → looked_over false r ≡ Ok (found, rest) → (os : List Op) × (r ≡ Ok (os, rest)) × (has_new os ≡ found)
-over_ok (Ok x) found rest e =
-    let p = ok_is (has_new x.0, x.1) (found, rest) e in
-    (x.0, ap (λ (z : Bool × List ℕ). Ok (x.0, z.1)) p, ap (λ (z : Bool × List ℕ). z.0) p)
-over_ok (Err y) found rest e = absurd (cc)
+    both_none : (a b : Bool) → (a || b) ≡ false → (a ≡ false) × (b ≡ false)
+    both_none true b e = cc
+    both_none false b e = (refl, e)

@@ -1,4 +1,4 @@
--- The bytes of an image (own choice): the mark, two counts, the operations, the messages; numbers little-endian.
+-- The bytes of an image (own choice): the mark BC01, or BC02 where an operation needs it, two counts, the operations, the messages; numbers little-endian.
 use Rattle.std.specs.Prelude.{ℕ, ◌/◌, ◌%◌, Bool, true, false, ◌||◌, List, [], ◌∷◌, ◌++◌, length, codes}
 use Rattle.std.specs.List.{flat_map}
 use Rattle.mil_word.specs.declared.Line.{Line}
@@ -14,7 +14,7 @@ use Rattle.frame_code.specs.Table.{Code}
 abbrev pub two_bytes : ℕ → List ℕ
 two_bytes n = n % 256 ∷ n / 256 ∷ []
 
--- an operation that the mark BC01 does not know
+-- whether there is an operation that the mark BC01 does not know
 abbrev pub is_new : Op → Bool
 is_new (Call r) = true
 is_new Return = true
@@ -24,10 +24,10 @@ abbrev pub has_new : List Op → Bool
 has_new [] = false
 has_new (o ∷ os) = is_new o || has_new os
 
--- the mark of an image: BC02 where it has such an operation, else BC01
+-- the mark, for operations with new ones and without
 abbrev pub mark : Bool → List ℕ
-mark false = codes "BC01"
 mark true = codes "BC02"
+mark false = codes "BC01"
 
 -- the number of an operation
 abbrev pub number_of : Op → ℕ

@@ -1,7 +1,7 @@
 -- The loader's rules (own choice): which codes the controller may run.
-use Rattle.std.specs.Prelude.{◌≡◌, ℕ, zero, suc, ◌+◌, ◌<◌, ◌≤◌, List, [], ◌∷◌, ◌++◌, length, Option, Some, None, slice_get}
+use Rattle.std.specs.Prelude.{◌≡◌, ℕ, zero, suc, ◌+◌, ◌<◌, ◌≤◌, List, [], ◌∷◌, ◌++◌, length, Option, Some, slice_get}
 use Rattle.frame_code.specs.declared.Op.{Op}
-use Rattle.frame_code.specs.declared.Op.TheVariants.{Halt, Send, Alt, SetGap, Loop, Again, Leave, Jump, Test, JumpFalse, Call, Return}
+use Rattle.frame_code.specs.declared.Op.TheVariants.{Halt, Send, Alt, Loop, Again, Leave, Jump, JumpFalse, Call, Return}
 use Rattle.frame_code.specs.Table.{Code}
 use Rattle.frame_code.specs.Routines.{routines, owner_at}
 use Rattle.frame_code.specs.Ranges.{IsImage}

@@ -1,10 +1,10 @@
 -- What bytes are read as (own choice): the code that they spell, else the first fault. The bytes are judged field by
 -- field, in their order.
-use Rattle.std.specs.Prelude.{◌≡◌, ℕ, zero, suc, ◌+◌, ◌*◌, ◌==◌, ◌&&◌, ◌||◌, not, nat_lt, nat_le, if◌then◌else◌, Bool, true, false, List, [], ◌∷◌, Option, Some, None, Result, Ok, Err}
+use Rattle.std.specs.Prelude.{◌≡◌, ℕ, zero, suc, ◌+◌, ◌*◌, ◌==◌, not, ◌&&◌, ◌||◌, nat_lt, nat_le, if◌then◌else◌, Bool, true, false, List, [], ◌∷◌, Option, Some, None, Result, Ok, Err}
 use Rattle.mil_word.specs.declared.Line.{Line}
 use Rattle.mil_word.specs.declared.Line.TheVariants.{A, B}
 use Rattle.mil_message.specs.declared.messages.Message.{Message}
-use Rattle.mil_message.specs.Parts.{Parts, request_at}
+use Rattle.mil_message.specs.Parts.{request_at}
 use Rattle.mil_message.specs.Request.{Request}
 use Rattle.mil_message.specs.Rules.{form_of}
 use Rattle.frame_code.specs.declared.ImageError.{ImageError}
@@ -41,25 +41,14 @@ two_at bs = do
   high ← byte_at low.1
   Ok (low.0 + 256 * high.0, high.1)
 
--- the mark: whether it is BC02, or BC01
+-- the mark BC01, or BC02: whether it is the second
 unfoldable pub mark_at : List ℕ → Read Bool
-mark_at (a ∷ b ∷ c ∷ d ∷ bs) =
-    if a == 66 && b == 67 && c == 48 && d == 49 then Ok (false, bs)
-    else must (a == 66 && b == 67 && c == 48 && d == 50) fault.Mark (true, bs)
+mark_at (a ∷ b ∷ c ∷ d ∷ bs) = must (a == 66 && b == 67 && c == 48 && (d == 49 || d == 50)) fault.Mark (d == 50, bs)
 mark_at _ = Err fault.Mark
-
--- how many operations a mark knows
-abbrev pub known : Bool → ℕ
-known false = 10
-known true = 12
 
 -- the test of a number, if there is one
 abbrev pub test_of : ℕ → Option Op
 test_of k = if is_test k then Some (Test k) else None
-
--- the call of a routine's number, if there is one
-abbrev pub call_of : ℕ → Option Op
-call_of r = if is_routine r then Some (Call r) else None
 
 -- the operation of a number and an operand, if there is one
 unfoldable pub operation_of : ℕ → ℕ → Option Op
@@ -74,9 +63,14 @@ operation_of number operand =
     else if number == 7 then Some (Jump operand)
     else if number == 8 then test_of operand
     else if number == 9 then Some (JumpFalse operand)
-    else if number == 10 then call_of operand
+    else if number == 10 then (if is_routine operand then Some (Call operand) else None)
     else if number == 11 then (if operand == 0 then Some Return else None)
     else None
+
+-- how many operations the mark knows
+abbrev pub known : Bool → ℕ
+known true = 12
+known false = 10
 
 -- what there is, else the fault
 abbrev pub present : {X : Type 0} → ImageError → Option X → Result X ImageError
@@ -133,27 +127,32 @@ message_at bs = do
   _ ← must (second_fits form.0 first.0 second.0) fault.Messages second
   words_at form.0 line.0 first.0 second.0 second.1
 
--- nothing may be left behind the last message, and the mark BC02 needs an operation that BC01 does not know
-abbrev pub at_end : Bool → List ℕ → Code → Result Code ImageError
-at_end new [] code = must (not new || has_new code.operations) fault.Version code
-at_end new (b ∷ bs) code = Err fault.Length
+-- nothing may be left behind the last message
+abbrev pub at_end : List ℕ → Code → Result Code ImageError
+at_end [] code = Ok code
+at_end (b ∷ bs) code = Err fault.Length
 
--- the mark and the two counts
+-- the mark BC02 is for codes that need it
+abbrev pub fitting : Bool → Code → Result Code ImageError
+fitting new code = must (not new || has_new code.operations) fault.Version code
+
+-- the mark, and the two counts
 unfoldable pub header_at : List ℕ → Result (Bool × ℕ × ℕ × List ℕ) ImageError
 header_at bs = do
-  new ← mark_at bs
-  operations ← two_at new.1
+  mark ← mark_at bs
+  operations ← two_at mark.1
   _ ← must (nat_le operations.0 4096) fault.Operations operations
   messages ← two_at operations.1
   _ ← must (nat_le messages.0 1024) fault.Messages messages
-  Ok (new.0, operations.0, messages.0, messages.1)
+  Ok (mark.0, operations.0, messages.0, messages.1)
 
 unfoldable pub image_of : List ℕ → Result Code ImageError
 image_of bs = do
   header ← header_at bs
   operations ← many (operation_at header.0) header.1 header.3
   messages ← many message_at header.2 operations.1
-  at_end header.0 messages.1 (record { operations = operations.0; messages = messages.0 })
+  code ← at_end messages.1 (record { operations = operations.0; messages = messages.0 })
+  fitting header.0 code
 
 -- a reader in the code answers what its definition reads
 abbrev pub Reads : {X Y : Type 0} → (X → Y) → Result X ImageError → Result Y ImageError → Type 0
@@ -174,12 +173,12 @@ abbrev pub Builds : {X Y : Type 0} → (X → Y) → Result X ImageError → Res
 Builds view (Ok x) read = read ≡ Ok (view x)
 Builds view (Err e) read = Faults e read
 
--- whether an operation of those that were read is new to BC01, and what is behind them
-abbrev pub looked_over : Bool → Read (List Op) → Result (Bool × List ℕ) ImageError
-looked_over found (Ok x) = Ok (found || has_new x.0, x.1)
-looked_over found (Err e) = Err e
-
 -- what is behind that which was read
 abbrev pub behind : {X : Type 0} → Read X → Result (List ℕ) ImageError
 behind (Ok x) = Ok x.1
 behind (Err e) = Err e
+
+-- whether one of the operations that were read is new, and what is behind them
+abbrev pub many_new : Read (List Op) → Result (Bool × List ℕ) ImageError
+many_new (Ok x) = Ok (has_new x.0, x.1)
+many_new (Err e) = Err e

@@ -1,7 +1,7 @@
 -- The operation table (own choice): what a step of each operation does, in any world that takes messages.
-use Rattle.std.specs.Prelude.{ℕ, zero, suc, ◌+◌, ◌-◌, List, [], ◌∷◌, Bool, true, false, Option, None, Some, slice_get, if◌then◌else◌, ◌≡◌}
+use Rattle.std.specs.Prelude.{ℕ, zero, suc, ◌+◌, ◌-◌, List, [], ◌∷◌, Bool, false, Option, None, Some, slice_get, if◌then◌else◌}
 use Rattle.mil_word.specs.declared.Line.{Line}
-use Rattle.mil_word.specs.declared.Line.TheVariants.{A, B}
+use Rattle.mil_word.specs.declared.Line.TheVariants.{A}
 use Rattle.mil_message.specs.declared.messages.Message.{Message}
 use Rattle.mil_message.specs.World.{World, Point, other_line, sent, asks}
 use Rattle.frame_code.specs.declared.Op.{Op}

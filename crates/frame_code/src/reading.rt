@@ -1,15 +1,17 @@
 //! The image that bytes spell. The bytes are judged first, which takes no memory, and then the image is made.
-ghost use Rattle.std.specs.Prelude.{◌∷◌, ◌++◌, ◌≡◌, ◌≢◌, ◌≤◌, ◌<◌, ◌↔◌, IsTrue, false, IfOk, IfSome, MatchResult, Ok, Err, length};
+ghost use Rattle.std.specs.Prelude.{false, not, ◌||◌, if◌then◌else◌, Some, None, ◌∷◌, ◌++◌, ◌≡◌, ◌≢◌, ◌≤◌, ◌<◌, ◌↔◌, IsTrue, IfOk, IfSome, MatchResult, Ok, Err, length};
 ghost use Rattle.frame_code.specs.Table.{Code};
-ghost use Rattle.frame_code.specs.Ranges.{in_range, AreInRange};
-ghost use Rattle.frame_code.specs.Bytes.{two_bytes, mark, has_new, is_new, header_bytes, number_of, operand_of, operation_bytes, line_number, message_bytes, image_bytes};
+ghost use Rattle.frame_code.specs.Ranges.{in_range, is_routine, AreInRange};
+ghost use Rattle.frame_code.specs.Bytes.{is_new, has_new, two_bytes, mark, header_bytes, number_of, operand_of, operation_bytes, line_number, message_bytes, image_bytes};
 ghost use Rattle.std.specs.List.{flat_map};
 ghost use Rattle.frame_code.specs.Fields as table;
 ghost use Rattle.frame_code.specs.Reading as spelled;
-ghost use Rattle.frame_code.specs.Reading.{Reads, Builds, behind, looked_over, image_of};
+ghost use Rattle.frame_code.specs.Reading.{Reads, Builds, behind, many_new, image_of};
 ghost use Rattle.frame_code.specs.declared.ImageError.{ImageError};
+ghost use Rattle.frame_code.specs.declared.Op.TheVariants as op;
 
 use crate::fields::{first_fits, second_fits, words_due};
+use crate::writing::{has_new, is_new};
 use crate::{Image, ImageError, Op};
 use arrayvec::ArrayVec;
 use mil_message::Message;
@@ -39,7 +41,7 @@ fn two(bytes: &[u8]) -> Result<(u16, &[u8]), ImageError>
     Ok((u16::from(low) + 256 * u16::from(high), rest))
 }
 
-// Whether the mark is BC02, or BC01, and the bytes behind it.
+// Whether the mark is BC02, and the bytes behind it.
 #[tactic(auto, unfolding(crate::specs::Reading::mark_at))]
 fn mark(bytes: &[u8]) -> Result<(bool, &[u8]), ImageError>
     ensures mark { Reads (λ x. (x.0, x.1.now)) result (spelled.mark_at bytes.now) }
@@ -52,13 +54,22 @@ fn mark(bytes: &[u8]) -> Result<(bool, &[u8]), ImageError>
     }
 }
 
-// Whether the mark is BC02, the two counts of operations and messages, and the bytes behind them.
+// What stands before the operations.
+#[derive(Clone, Copy)]
+struct Opening<'a> {
+    new: bool,
+    operations: u16,
+    messages: u16,
+    rest: &'a [u8],
+}
+
+// The mark and the two counts, and the bytes behind them.
 #[tactic(auto, unfolding(crate::specs::Reading::header_at))]
-fn header(bytes: &[u8]) -> Result<(bool, u16, u16, &[u8]), ImageError>
-    ensures fields { Reads (λ x. (x.0, x.1, x.2, x.3.now)) result (spelled.header_at bytes.now) }
-    ensures spelled { IfOk result (λ x. bytes.now ≡ header_bytes x.0 x.1 x.2 ++ x.3.now) }
-    ensures operations { IfOk result (λ x. x.1 ≤ 4096) }
-    ensures messages { IfOk result (λ x. x.2 ≤ 1024) }
+fn header(bytes: &[u8]) -> Result<Opening<'_>, ImageError>
+    ensures fields { Reads (λ x. (x.new, x.operations, x.messages, x.rest.now)) result (spelled.header_at bytes.now) }
+    ensures spelled { IfOk result (λ x. bytes.now ≡ header_bytes x.new x.operations x.messages ++ x.rest.now) }
+    ensures operations { IfOk result (λ x. x.operations ≤ 4096) }
+    ensures messages { IfOk result (λ x. x.messages ≤ 1024) }
 {
     let (new, rest) = mark(bytes)?;
     let (operations, rest) = two(rest)?;
@@ -69,7 +80,12 @@ fn header(bytes: &[u8]) -> Result<(bool, u16, u16, &[u8]), ImageError>
     if messages > 1024 {
         return Err(ImageError::Messages);
     }
-    Ok((new, operations, messages, rest))
+    Ok(Opening {
+        new,
+        operations,
+        messages,
+        rest,
+    })
 }
 
 // The test of a number, if there is one.
@@ -82,13 +98,14 @@ fn test_of(number: u16) -> Option<Op>
     }
 }
 
-// The call of a routine's number, if there is one.
+// The call of a routine of this number, if there may be one.
 fn call_of(number: u16) -> Option<Op>
-    ensures { result ≡ spelled.call_of number }
+    ensures { result ≡ if is_routine number then Some (op.Call number) else None }
 {
-    match number {
-        0..=31 => Some(Op::Call(number as u8)),
-        _ => None,
+    if number < 32 {
+        Some(Op::Call(number as u8))
+    } else {
+        None
     }
 }
 
@@ -117,18 +134,11 @@ fn operation_of(number: u8, operand: u16) -> Option<Op>
     }
 }
 
-// How many operations a mark knows.
+// How many operations the mark knows.
 fn known(new: bool) -> u8
     ensures { result ≡ spelled.known new }
 {
     if new { 12 } else { 10 }
-}
-
-// Whether an operation is one that the mark BC01 does not know.
-fn is_new(op: Op) -> bool
-    ensures { result ≡ is_new op }
-{
-    matches!(op, Op::Call(_) | Op::Return)
 }
 
 // An operation: a number that the mark knows, 00, and an operand in its range.
@@ -137,7 +147,7 @@ fn operation(new: bool, bytes: &[u8]) -> Result<(Op, &[u8]), ImageError>
     ensures operation { Reads (λ x. (x.0, x.1.now)) result (spelled.operation_at new bytes.now) }
     ensures range { IfOk result (λ x. IsTrue (in_range x.0)) }
     ensures spelled { IfOk result (λ x. bytes.now ≡ operation_bytes x.0 ++ x.1.now) }
-    ensures known { IfOk result (λ x. new ≡ false → is_new x.0 ≡ false) }
+    ensures old { IfOk result (λ x. new ≡ false → is_new x.0 ≡ false) }
 {
     let (number, rest) = byte(bytes)?;
     if number >= known(new) {
@@ -233,15 +243,21 @@ fn message(bytes: &[u8]) -> Result<((Line, Message), &[u8]), ImageError>
     body(form, line, first, second, rest)
 }
 
-// Whether one of so many operations is new to BC01, and the bytes behind them.
+fn with_new(found: bool, op: Op) -> bool
+    ensures { result ≡ found || is_new op }
+{
+    found || is_new(op)
+}
+
+// Whether an operation among so many is new, and the bytes behind them.
 fn past_operations(new: bool, count: u16, bytes: &[u8]) -> Result<(bool, &[u8]), ImageError>
-    ensures { Reads (λ x. (x.0, x.1.now)) result (looked_over false (spelled.many (spelled.operation_at new) count bytes.now)) }
+    ensures { Reads (λ x. (x.0, x.1.now)) result (many_new (spelled.many (spelled.operation_at new) count bytes.now)) }
 {
     let mut rest = bytes;
     let mut found = false;
     for _ in 0..count {
         let (op, next) = operation(new, rest)?;
-        found |= is_new(op);
+        found = with_new(found, op);
         rest = next;
     }
     Ok((found, rest))
@@ -259,28 +275,31 @@ fn past_messages(count: u16, bytes: &[u8]) -> Result<&[u8], ImageError>
     Ok(rest)
 }
 
-// Nothing may be left behind the last message, and the mark BC02 needs an operation that BC01 does not know.
-fn at_end(new: bool, found: bool, rest: &[u8]) -> Result<(), ImageError>
-    ensures { (code : Code) → has_new code.operations ≡ found → Reads (λ _. code) result (spelled.at_end new rest.now code) }
-{
-    if !rest.is_empty() {
-        return Err(ImageError::Length);
-    }
-    if new && !found {
-        return Err(ImageError::Version);
-    }
-    Ok(())
-}
-
 // Whether the bytes are those of an image, else the first fault.
 #[tactic(auto, unfolding(crate::specs::Reading::image_of))]
 fn judge(bytes: &[u8]) -> Result<(), ImageError>
     ensures { MatchResult result (λ _. (code : Code) × (image_of bytes.now ≡ Ok code)) (λ e. image_of bytes.now ≡ Err e) }
 {
-    let (new, operations, messages, rest) = header(bytes)?;
-    let (found, rest) = past_operations(new, operations, rest)?;
-    let rest = past_messages(messages, rest)?;
-    at_end(new, found, rest)
+    let header = header(bytes)?;
+    let (found, rest) = past_operations(header.new, header.operations, header.rest)?;
+    let rest = past_messages(header.messages, rest)?;
+    match rest.split_first() {
+        Some(_) => Err(ImageError::Length),
+        None => {
+            if fits(header.new, found) {
+                Ok(())
+            } else {
+                Err(ImageError::Version)
+            }
+        }
+    }
+}
+
+// The mark BC02 is for codes that need it.
+fn fits(new: bool, found: bool) -> bool
+    ensures { result ≡ not new || found }
+{
+    !new || found
 }
 
 // So many operations.
@@ -291,10 +310,10 @@ fn operations(
     bytes: &[u8],
 ) -> Result<(Vec<Op>, &[u8]), ImageError>
     ensures operations { Builds (λ x. (x.0.items, x.1.now)) result (spelled.many (spelled.operation_at new) count bytes.now) }
+    ensures old { IfOk result (λ x. new ≡ false → has_new x.0.items ≡ false) }
     ensures range { IfOk result (λ x. AreInRange x.0.items) }
     ensures count { IfOk result (λ x. length x.0.items ≡ count) }
     ensures spelled { IfOk result (λ x. bytes.now ≡ flat_map operation_bytes x.0.items ++ x.1.now) }
-    ensures known { IfOk result (λ x. new ≡ false → has_new x.0.items ≡ false) }
 {
     let mut found = Vec::new(alloc);
     let mut rest = bytes;
@@ -326,35 +345,30 @@ fn messages(
     Ok((found, rest))
 }
 
-// Whether an operation is new to BC01.
-pub fn has_new(operations: &[Op]) -> bool
-    ensures { result ≡ has_new operations.now }
-{
-    for op in operations {
-        if is_new(*op) {
-            return true;
-        }
-    }
-    false
-}
-
 // The image that the bytes spell.
 #[tactic(auto, unfolding(crate::specs::Reading::image_of))]
 fn build(alloc: Global, bytes: &[u8]) -> Result<Image, ImageError>
     ensures image { Builds (λ image. image) result (image_of bytes.now) }
     ensures spelled { IfOk result (λ image. bytes.now ≡ image_bytes image) }
 {
-    let (new, operation_count, message_count, rest) = header(bytes)?;
-    let (operations, rest) = operations(alloc, new, operation_count, rest)?;
-    let (messages, rest) = messages(alloc, message_count, rest)?;
-    at_end(new, has_new(&operations), rest)?;
-    Ok(Image {
-        operations,
-        messages,
-    })
+    let header = header(bytes)?;
+    let (operations, rest) = operations(alloc, header.new, header.operations, header.rest)?;
+    let (messages, rest) = messages(alloc, header.messages, rest)?;
+    match rest.split_first() {
+        Some(_) => Err(ImageError::Length),
+        None => {
+            if !fits(header.new, has_new(&operations)) {
+                return Err(ImageError::Version);
+            }
+            Ok(Image {
+                operations,
+                messages,
+            })
+        }
+    }
 }
 
-/// The image that the bytes spell, else their first fault (C1 to C4, and C6 after all these); want of memory (C5) is answered for bytes of an image
+/// The image that the bytes spell, else their first fault (C1 to C4, then C6); want of memory (C5) is answered for bytes of an image
 /// alone. Two byte lists are never read as one image.
 pub fn read_image(alloc: Global, bytes: &[u8]) -> Result<Image, ImageError>
     ensures image { IfOk result (λ image. image_of bytes.now ≡ Ok image) }

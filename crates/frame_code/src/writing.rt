@@ -7,7 +7,6 @@ ghost use Rattle.frame_code.specs.Ranges.{IsImage};
 ghost use Rattle.frame_code.specs.Bytes as spelled;
 ghost use Rattle.frame_code.specs.Reading.{image_of};
 
-use crate::reading::has_new;
 use crate::{Image, Op};
 use mil_message::Message;
 use mil_word::Line;
@@ -59,6 +58,30 @@ fn operand_of(op: Op) -> u16
         Op::Test(test) => u16::from(test),
         Op::Call(routine) => u16::from(routine),
     }
+}
+
+// Whether the mark BC01 does not know the operation.
+pub fn is_new(op: Op) -> bool
+    ensures { result ≡ spelled.is_new op }
+{
+    matches!(op, Op::Call(_) | Op::Return)
+}
+
+// Whether there is such an operation.
+pub fn has_new(operations: &[Op]) -> bool
+    ensures { result ≡ spelled.has_new operations.now }
+{
+    match operations.split_first() {
+        None => false,
+        Some((op, rest)) => is_new(*op) || has_new(rest),
+    }
+}
+
+// The mark of an image, with new operations and without.
+fn mark(new: bool) -> &'static [u8]
+    ensures { result.now ≡ spelled.mark new }
+{
+    if new { b"BC02" } else { b"BC01" }
 }
 
 fn put_operation(bytes: &mut Vec<u8>, op: Op) -> Result<(), AllocError>
@@ -130,13 +153,6 @@ fn put_messages(bytes: &mut Vec<u8>, messages: &[(Line, Message)]) -> Result<(),
     Ok(())
 }
 
-// The mark: BC02, or BC01.
-fn put_mark(bytes: &mut Vec<u8>, new: bool) -> Result<(), AllocError>
-    ensures { OnOk result (bytes.new.items ≡ bytes.old.items ++ spelled.mark new) }
-{
-    bytes.extend_from_slice(if new { b"BC02" } else { b"BC01" })
-}
-
 // The bytes of an image, all of whose messages are lawful.
 fn written(alloc: Global, image: &Image) -> Result<Vec<u8>, AllocError>
     ensures bytes { IfOk result (λ bytes. bytes.items ≡ spelled.image_bytes image.now) }
@@ -146,7 +162,7 @@ fn written(alloc: Global, image: &Image) -> Result<Vec<u8>, AllocError>
     let operations = image.operations();
     let messages = image.messages();
     let mut bytes = Vec::new(alloc);
-    put_mark(&mut bytes, has_new(operations))?;
+    bytes.extend_from_slice(mark(has_new(operations)))?;
     put_two(&mut bytes, operations.len() as u16)?;
     put_two(&mut bytes, messages.len() as u16)?;
     put_operations(&mut bytes, operations)?;
@@ -154,7 +170,7 @@ fn written(alloc: Global, image: &Image) -> Result<Vec<u8>, AllocError>
     Ok(bytes)
 }
 
-/// The bytes of an image, with the mark BC02 where an operation has a number above 9, else BC01; `read_image` gives the image back.
+/// The bytes of an image, with the mark BC01 where no operation is above 9 and BC02 else; `read_image` gives the image back.
 pub fn write_image(alloc: Global, image: &Image) -> Result<Vec<u8>, AllocError>
     ensures bytes { IfOk result (λ bytes. bytes.items ≡ spelled.image_bytes image.now) }
     ensures read_back { IfOk result (λ bytes. image_of bytes.items ≡ Ok image.now) }

@@ -1,5 +1,5 @@
 -- A count that is cut at a limit, and what comes of it.
-use Rattle.std.proofs.Common.{◌≡◌, ℕ, zero, suc, ◌+◌, ◌*◌, min, max, Bool, true, false, List, [], ◌∷◌, refl, sym, ap, ◌∙◌, arith, if◌then◌else◌}
+use Rattle.std.proofs.Common.{◌≡◌, ℕ, zero, suc, ◌*◌, min, Bool, true, false, List, [], ◌∷◌, refl, ap, ◌∙◌, arith, if◌then◌else◌}
 use Rattle.frame_tree.specs.Tree.{Tree, send, retry, gap, repeat, choose, until, nothing, chained, call, define}
 use Rattle.frame_tree.specs.Names.{Scope, named, same}
 use Rattle.frame_tree.specs.Bounds.{messages_in, depth_in}

@@ -2,7 +2,7 @@
 use Rattle.std.proofs.Common.{◌≡◌, ℕ, ◌+◌, ◌<◌, ◌≤◌, ◌↔◌, min, max, IsTrue, true, false, arith, subst, length, get_or, List, [], ◌∷◌, ◌++◌, map, take, drop, refl, sym, ap, ap₂, ◌∙◌, rules, Vec, Box, add-one}
 use Rattle.std.proofs.lemmas.List.{take_more, drop_all, map-append}
 use Rattle.std.proofs.Math.Seq.{drop-cons}
-use Rattle.frame_tree.specs.Tree.{Tree, chain, test_of, tree_of, repeat, choose, until, nothing, chained, call, define}
+use Rattle.frame_tree.specs.Tree.{Tree, chain, test_of, tree_of, repeat, choose, until, nothing, chained, define}
 use Rattle.frame_tree.specs.declared.Cond.{Cond}
 use Rattle.frame_tree.specs.Names.{Scope}
 use Rattle.frame_tree.specs.Bounds.{depth_in, messages_in, IsInRange, CallsKnown, IsDefined}

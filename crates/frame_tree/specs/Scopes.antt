@@ -1,5 +1,5 @@
 -- The names in scope as plain data.
-use Rattle.std.specs.Prelude.{ℕ, List, [], ◌∷◌}
+use Rattle.std.specs.Prelude.{ℕ, [], ◌∷◌}
 use Rattle.frame_tree.specs.Names.{Scope}
 use Rattle.frame_tree.specs.declared.names.Scope.{Scope as Names, fold-Scope}
 use Rattle.frame_tree.specs.declared.names.Scope.TheOpen.{Scope-F}

@@ -176,7 +176,9 @@ impl<A: Allocator + Clone> Frame<A> {
                     && rest.is_defined(count + 1, &Scope::With(name, count, scope))
             }
             Frame::Send { .. } | Frame::Retry { .. } | Frame::Gap(_) => true,
-            Frame::Repeat { .. } | Frame::Until { .. } | Frame::If { .. } => self.calls_known(scope),
+            Frame::Repeat { .. } | Frame::Until { .. } | Frame::If { .. } => self.calls_known(
+                scope,
+            ),
             Frame::Seq(_) => self.calls_known(scope),
             Frame::Call(name) => scope.has(name),
         }

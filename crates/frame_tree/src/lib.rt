@@ -8,10 +8,10 @@ mod frames;
 mod names;
 
 pub use conditions::number_of_bit;
-pub use names::{Name, Scope};
 use mil_message::Message;
 use mil_status::StatusBits;
 use mil_word::Line;
+pub use names::{Name, Scope};
 use std::alloc::Allocator;
 
 /// A condition on the outcome of the last message; before any message every test in it is false.

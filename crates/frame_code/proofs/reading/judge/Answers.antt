@@ -1,15 +1,17 @@
-use Rattle.frame_code.specs.Table.{Code}
+use Rattle.std.proofs.Common.{◌≡◌, [], Ok, true, ap, sym, ◌∙◌}
+use Rattle.std.specs.Prelude.{not, ◌||◌}
 use Rattle.frame_code.specs.Reading.{many, operation_at, message_at}
-use Rattle.frame_code.proofs.Many.{behind_ok, over_ok}
-use Rattle.frame_code.proofs.Images.{image_ends, judged_by}
+use Rattle.frame_code.specs.Bytes.{has_new}
+use Rattle.frame_code.proofs.Many.{behind_ok, news_ok}
+use Rattle.frame_code.proofs.Images.{image_reads, none_left}
 use Rattle.frame_code.proofs.reading.judge.Goals as goal
 
-pub returns : goal.returns
-returns c =
-    let h = c.in_ok-new in
-    let r1 = c.in_ok-found.rest.now in
-    let r2 = c.in_ok-rest.rest.now in
-    let o = over_ok (many (operation_at h.new) h.operations h.rest.now) c.in_ok-found.found r1 c.in_ok-found.ensures in
-    let m = behind_ok (many message_at h.messages r1) r2 c.in_ok-rest.ensures in
-    let code : Code = record { operations = o.0; messages = m.0 } in
-    judged_by c.at_end.result _ _ code (image_ends h.new c.args.bytes.now h.rest.now r1 r2 h.operations h.messages o.0 m.0 h.ensures.fields o.1 m.1) (c.at_end.ensures code o.2)
+pub returns-then-fits : goal.returns-then-fits
+returns-then-fits c =
+    let h = c.in_ok-header.header in
+    let f = c.in_ok-found in
+    let none : c.in_ok-rest.rest.now ≡ [] = none_left c.in_ok-rest.rest.now c.in-None.ensures.cases in
+    let o = news_ok (many (operation_at h.new) h.operations h.rest.now) f.found f.rest.now f.ensures in
+    let m = behind_ok (many message_at h.messages f.rest.now) [] (c.in_ok-rest.ensures ∙ ap Ok none) in
+    let fits : (not h.new || has_new o.0) ≡ true = ap (λ b. not h.new || b) o.2 ∙ sym c.fits.ensures ∙ c.if-fits.true in
+    (record { operations = o.0; messages = m.0 }, image_reads h.new c.args.bytes.now h.rest.now f.rest.now h.operations h.messages o.0 m.0 c.in_ok-header.ensures.fields o.1 m.1 fits)

@@ -1,5 +1,5 @@
-use Rattle.std.proofs.Common.{◌≡◌, sym, ap, subst, ◌∙◌, IsTrue, ◌↔◌, map}
-use Rattle.frame_tree.specs.Tree.{Tree, tree_of, chain}
+use Rattle.std.proofs.Common.{◌≡◌, sym, ap, subst, ◌∙◌, map}
+use Rattle.frame_tree.specs.Tree.{tree_of, chain}
 use Rattle.frame_tree.specs.Bounds.{CallsKnown, IsDefined}
 use Rattle.frame_tree.specs.Scopes.{scope_of}
 use Rattle.frame_tree.proofs.Trees.{tree_seq, chain_defined}
