@@ -157,7 +157,7 @@ routine_front o os (suc p) = ap (passed (slice_get os p)) (routine_front o os p)
 abbrev Behind : List Op → ℕ → ℕ → ℕ → Type 0
 Behind os k r b = (p : ℕ) × (b ≡ k + suc p) × (slice_get os p ≡ Some Return) × (owner_at os p ≡ r)
 
-behind_at : (k : ℕ) (os : List Op) (r : ℕ) → r < length (ends_from k os) → Behind os k r (get_or (ends_from k os) r 0)
+pub behind_at : (k : ℕ) (os : List Op) (r : ℕ) → r < length (ends_from k os) → Behind os k r (get_or (ends_from k os) r 0)
 behind_at k [] r h = absurd (omega (arith, h))
 behind_at k (o ∷ os) r h = by o r h (λ q l. behind_at (suc k) os q l)
   where

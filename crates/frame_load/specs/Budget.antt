@@ -17,8 +17,8 @@ one_sent _ = 0
 
 -- messages, or steps
 abbrev pub cost_by : Bool → Op → ℕ
-cost_by true o = one_sent o
-cost_by false o = one_each o
+cost_by true = one_sent
+cost_by false = one_each
 
 -- how often a loop goes round
 abbrev pub turns_of : Option Op → ℕ

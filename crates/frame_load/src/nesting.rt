@@ -62,7 +62,7 @@ pub fn is_nested(operations: &[Op]) -> bool
         let Some(next) = next_depth(*op, depth, called) else {
             return false;
         };
-        if *op == Op::Return {
+        if let Op::Return = *op {
             ended[routine as usize] = deepest;
             routine += 1;
         }

@@ -65,7 +65,7 @@ pub fn find(operations: &[Op], starts: &mut [u16; 33]) -> u8
     starts[0] = 0;
     let mut routine: u8 = 0;
     for i in 0..operations.len() {
-        if operations[i] == Op::Return {
+        if let Op::Return = operations[i] {
             routine += 1;
             starts[routine as usize] = i as u16 + 1;
         }

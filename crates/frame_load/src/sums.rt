@@ -74,7 +74,7 @@ pub fn count(operations: &[Op], weights: &[u64; 4096], messages: bool) -> u64
         let op = operations[i];
         let one = cost(op, messages) + called(op, &ended);
         now = (now + weights[i] * one).min(CAP);
-        if op == Op::Return {
+        if let Op::Return = op {
             ended[routine as usize] = now;
             routine += 1;
             now = 0;
