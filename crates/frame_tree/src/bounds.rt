@@ -55,8 +55,8 @@ impl<A: Allocator + Clone> Frame<A> {
         self.depth_in(&Scope::Empty)
     }
 
-    // The same where in a call of each name in scope so many do.
-    fn depth_in<'a>(&'a self, scope: &'a Scope<'a>) -> u32
+    /// The same where in a call of each name in scope so many do as its number says, 17 where they are more than 16.
+    pub fn depth_in<'a>(&'a self, scope: &'a Scope<'a>) -> u32
         ensures { result ≡ min 17 (depth_in (scope_of scope.now) (tree_of self.now)) }
     {
         match self {
