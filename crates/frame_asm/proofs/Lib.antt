@@ -1,5 +1,8 @@
 pub mod Lengths
 pub mod Runs
+pub mod Bodies
+pub mod Starts
+pub mod Whole
 pub mod Chains
 pub mod Branches
 pub mod Frames
