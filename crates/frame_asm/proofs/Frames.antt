@@ -1,14 +1,15 @@
 -- The operations of a frame in parts.
-use Rattle.std.proofs.Common.{◌≡◌, ℕ, ◌+◌, ◌<◌, ◌≤◌, List, [], ◌∷◌, ◌++◌, length, get_or, map, take, sym, ap, ap₂, ◌∙◌, arith, append_assoc, length-append, zero, suc}
+use Rattle.std.proofs.Common.{◌≡◌, ℕ, ◌+◌, ◌<◌, ◌≤◌, List, [], ◌∷◌, ◌++◌, length, get_or, map, take, subst, sym, ap, ap₂, ◌∙◌, arith, append_assoc, length-append, zero, suc}
 use Rattle.std.proofs.lemmas.List.{append-nil}
 use Rattle.mil_word.specs.declared.Line.{Line}
 use Rattle.mil_message.specs.declared.messages.Message.{Message}
 use Rattle.frame_tree.specs.Tree.{Test, Tree, repeat, choose, until, define, chain, tree_of}
 use Rattle.frame_tree.specs.Names.{Scope}
+use Rattle.frame_tree.specs.Bounds.{CallsKnown, IsDefined}
 use Rattle.frame_tree.specs.declared.Frame.{Frame}
 use Rattle.frame_code.specs.declared.Op.{Op}
 use Rattle.frame_code.specs.declared.Op.TheVariants as op
-use Rattle.frame_asm.specs.Shapes.{branch_size, branch, size, entries, messages_of, shape}
+use Rattle.frame_asm.specs.Shapes.{branch_size, branch, size, entries, messages_of, shape, AreRoutines}
 use Rattle.frame_asm.proofs.Lengths.{length_branch, length_shape, length_messages_of}
 use Rattle.frame_asm.proofs.Chains.{front, front_more}
 
@@ -45,6 +46,15 @@ front_entered fs i f h is m0 m1 m2 e1 e2 =
     e2 ∙ ap (λ z. z ++ messages_of (tree_of f)) e1 ∙ append_assoc m0 _ _
     ∙ ap (λ z. m0 ++ z) (sym (messages_more (map tree_of (take i fs)) (tree_of f)))
     ∙ ap (λ z. m0 ++ messages_of z) (sym (front_more fs i f h is))
+
+-- a part of a frame whose calls are known
+pub known_in : (ds : Scope ℕ) (tree whole part part1 : Tree) → tree ≡ whole → part1 ≡ part → CallsKnown ds tree → (CallsKnown ds whole → CallsKnown ds part) → CallsKnown ds part1
+known_in ds tree whole part part1 e f k g = subst (CallsKnown ds) (sym f) (g (subst (CallsKnown ds) e k))
+
+pub calls_at : {A : Type 0} (ds : Scope ℕ) (fs : List (Frame A)) (i : ℕ) (f : Frame A) → i < length fs → f ≡ get_or fs i f → CallsKnown ds (chain (map tree_of fs)) → CallsKnown ds (tree_of f)
+calls_at ds [] i f h is k = absurd (omega arith)
+calls_at ds (x ∷ fs) zero f h is k = subst (λ z. CallsKnown ds (tree_of z)) (sym is) k.0
+calls_at ds (x ∷ fs) (suc i) f h is k = calls_at ds fs i f (omega arith) is k.1
 
 module _ (rs : Scope ℕ) where
   pub length_grown : (t : Tree) (c0 c1 : List Op) (p m : ℕ) → c1 ≡ c0 ++ shape rs p m t → length c1 ≡ length c0 + size t
@@ -131,10 +141,10 @@ module _ (rs : Scope ℕ) where
       ∙ ap (λ z. c0 ++ shape rs (length c0) (length m0) z) (sym (front_more fs i f h is))
 
 -- a definition: its body, a Return, and the rest
-pub define_done : (rs : Scope ℕ) (tree b b1 r r1 : Tree) (n : List ℕ) (k : ℕ) (c0 c1 c2 c3 : List Op) (m0 m1 : List (Line × Message)) → tree ≡ define n b r → b1 ≡ b → r1 ≡ r → k ≡ length rs
-    → c1 ≡ c0 ++ shape rs (length c0) (length m0) b1 → m1 ≡ m0 ++ messages_of b1 → c2 ≡ c1 ++ op.Return ∷ [] → c3 ≡ c2 ++ shape ((n, k) ∷ rs) (length c2) (length m1) r1
+pub define_done : (rs : Scope ℕ) (tree b b1 r r1 : Tree) (n : List ℕ) (k : ℕ) (sc : Scope ℕ) (c0 c1 c2 c3 : List Op) (m0 m1 : List (Line × Message)) → tree ≡ define n b r → b1 ≡ b → r1 ≡ r → length rs ≡ k → sc ≡ (n, k) ∷ rs
+    → c1 ≡ c0 ++ shape rs (length c0) (length m0) b1 → m1 ≡ m0 ++ messages_of b1 → c2 ≡ c1 ++ op.Return ∷ [] → c3 ≡ c2 ++ shape sc (length c2) (length m1) r1
     → c3 ≡ c0 ++ shape rs (length c0) (length m0) tree
-define_done rs tree b b1 r r1 n k c0 c1 c2 c3 m0 m1 is ib ir ik e1 em e2 e3 =
+define_done rs tree b b1 r r1 n k sc c0 c1 c2 c3 m0 m1 is ib ir ik isc e1 em e2 e3 =
     let p = length c0 in
     let m = length m0 in
     let l1 : length c1 ≡ p + size b = length_grown rs b1 c0 c1 p m e1 ∙ ap (λ z. p + size z) ib in
@@ -144,10 +154,25 @@ define_done rs tree b b1 r r1 n k c0 c1 c2 c3 m0 m1 is ib ir ik e1 em e2 e3 =
     let pc = shape ((n, length rs) ∷ rs) (p + size b + 1) (m + entries b) r in
     let d1 : c1 ≡ c0 ++ pa = e1 ∙ ap (λ z. c0 ++ shape rs p m z) ib in
     let d2 : c2 ≡ (c0 ++ pa) ++ op.Return ∷ [] = e2 ∙ ap (λ x. x ++ op.Return ∷ []) d1 in
-    let d3 : c3 ≡ ((c0 ++ pa) ++ op.Return ∷ []) ++ pc = e3 ∙ ap₂ (λ x y. x ++ shape ((n, y) ∷ rs) (length c2) (length m1) r1) d2 ik ∙ ap₂ (λ x y. ((c0 ++ pa) ++ op.Return ∷ []) ++ shape ((n, length rs) ∷ rs) x y r1) l2 lm ∙ ap (λ z. ((c0 ++ pa) ++ op.Return ∷ []) ++ shape ((n, length rs) ∷ rs) (p + size b + 1) (m + entries b) z) ir in
+    let d3 : c3 ≡ ((c0 ++ pa) ++ op.Return ∷ []) ++ pc = e3 ∙ ap₂ (λ x y. x ++ shape y (length c2) (length m1) r1) d2 (isc ∙ ap (λ y. (n, y) ∷ rs) (sym ik)) ∙ ap₂ (λ x y. ((c0 ++ pa) ++ op.Return ∷ []) ++ shape ((n, length rs) ∷ rs) x y r1) l2 lm ∙ ap (λ z. ((c0 ++ pa) ++ op.Return ∷ []) ++ shape ((n, length rs) ∷ rs) (p + size b + 1) (m + entries b) z) ir in
     let flat : ((c0 ++ pa) ++ op.Return ∷ []) ++ pc ≡ c0 ++ (pa ++ (op.Return ∷ pc)) = simp append_assoc in
     d3 ∙ flat ∙ ap (λ t. c0 ++ shape rs p m t) (sym is)
 
 pub define_entered : (tree b b1 r r1 : Tree) (n : List ℕ) (m0 m1 m2 : List (Line × Message)) → tree ≡ define n b r → b1 ≡ b → r1 ≡ r → m1 ≡ m0 ++ messages_of b1 → m2 ≡ m1 ++ messages_of r1 → m2 ≡ m0 ++ messages_of tree
 define_entered tree b b1 r r1 n m0 m1 m2 is ib ir e1 e2 =
     e2 ∙ ap₂ (λ x y. x ++ messages_of y) (e1 ∙ ap (λ z. m0 ++ messages_of z) ib) ir ∙ append_assoc m0 (messages_of b) (messages_of r) ∙ ap (λ z. m0 ++ messages_of z) (sym is)
+
+-- what a definition leaves in scope for the rest
+pub rest_defined : (rs sc : Scope ℕ) (tree b r r1 : Tree) (n : List ℕ) (k : ℕ) → tree ≡ define n b r → r1 ≡ r → length rs ≡ k → sc ≡ (n, k) ∷ rs → IsDefined rs tree → IsDefined sc r1
+rest_defined rs sc tree b r r1 n k is ir ik isc d =
+    let d' : IsDefined ((n, length rs) ∷ rs) r = (subst (IsDefined rs) is d).3 in
+    let all : IsDefined ((n, length rs) ∷ rs) r ≡ IsDefined sc r1 = ap₂ (λ x y. IsDefined ((n, x) ∷ rs) y) ik (sym ir) ∙ ap (λ x. IsDefined x r1) (sym isc) in
+    subst (λ P. P) all d'
+
+pub rest_routines : (rs sc : Scope ℕ) (tree b r : Tree) (n : List ℕ) (k : ℕ) → tree ≡ define n b r → length rs ≡ k → sc ≡ (n, k) ∷ rs → IsDefined rs tree → AreRoutines rs → AreRoutines sc
+rest_routines rs sc tree b r n k is ik isc d z =
+    let few = (subst (IsDefined rs) is d).0 in
+    subst AreRoutines (sym isc) (subst (λ v. v < 32) ik few, z)
+
+pub body_known : (rs : Scope ℕ) (tree b b1 r : Tree) (n : List ℕ) → tree ≡ define n b r → b1 ≡ b → IsDefined rs tree → CallsKnown rs b1
+body_known rs tree b b1 r n is ib d = subst (CallsKnown rs) (sym ib) (subst (IsDefined rs) is d).2

@@ -9,3 +9,4 @@ pub mod Frames
 pub mod Ranges
 pub mod Levels
 pub mod Loads
+pub mod Loadable

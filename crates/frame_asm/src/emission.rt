@@ -179,6 +179,13 @@ fn routine_of(scope: &Scope<'_>, name: &Name) -> u8
     scope.number_of(name) as u8
 }
 
+// These names and one more, whose routine has this number.
+fn with_routine<'a>(name: &'a Name, number: u32, others: &'a Scope<'a>) -> Scope<'a>
+    ensures { scope_of result ≡ (name.now, number) ∷ scope_of others.now }
+{
+    Scope::With(name, number, others)
+}
+
 // The operations and messages of a frame whose definitions stand at the outside; so many are in scope.
 pub fn emit_all<'a, A: Allocator + Clone>(
     operations: &mut Vec<Op>,
@@ -196,12 +203,19 @@ pub fn emit_all<'a, A: Allocator + Clone>(
         ≡ operations.old.items ++ shape (scope_of scope.now) (length operations.old.items) (length messages.old.items) (tree_of frame.now)) }
     ensures messages { OnOk result (messages.new.items ≡ messages.old.items ++ messages_of (tree_of frame.now)) }
 {
-    if let Frame::Define { name, body, rest } = frame {
-        emit(operations, messages, scope, body)?;
-        put(operations, Op::Return)?;
-        let inner = Scope::With(name, count, scope);
-        emit_all(operations, messages, count + 1, &inner, rest)
-    } else {
-        emit(operations, messages, scope, frame)
+    match frame {
+        Frame::Define { name, body, rest } => {
+            emit(operations, messages, scope, body)?;
+            put(operations, Op::Return)?;
+            let inner = with_routine(name, count, scope);
+            emit_all(operations, messages, count + 1, &inner, rest)
+        }
+        Frame::Send { .. } | Frame::Retry { .. } | Frame::Gap(_) | Frame::Call(_) => {
+            emit(operations, messages, scope, frame)
+        }
+        Frame::Repeat { .. } | Frame::Until { .. } | Frame::If { .. } => {
+            emit(operations, messages, scope, frame)
+        }
+        Frame::Seq(_) => emit(operations, messages, scope, frame),
     }
 }
