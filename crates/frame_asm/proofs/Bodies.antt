@@ -1,9 +1,8 @@
 -- What a frame without definitions does, where each name in scope is that of a routine that does what stands for the name.
-use Rattle.std.proofs.Common.{◌≡◌, ℕ, zero, suc, ◌+◌, ◌<◌, ◌≤◌, Bool, true, false, cond, List, [], ◌∷◌, ◌++◌, length, Some, refl, ap, ◌∙◌, subst, arith}
+use Rattle.std.proofs.Common.{◌≡◌, ℕ, suc, ◌+◌, true, List, [], ◌∷◌, ◌++◌, Some, refl, ap, ◌∙◌, arith}
 use Rattle.std.specs.Prelude.{slice_get}
-use Rattle.mil_word.specs.declared.Line.{Line}
-use Rattle.mil_message.specs.World.{World, Point, sent}
-use Rattle.frame_tree.specs.Tree.{Test, Tree, send, retry, gap, repeat, choose, until, nothing, chained, call, define}
+use Rattle.mil_message.specs.World.{World, Point}
+use Rattle.frame_tree.specs.Tree.{Tree, send, retry, gap, repeat, choose, until, nothing, chained, call, define}
 use Rattle.frame_tree.specs.Names.{Scope, named, is_known}
 use Rattle.frame_tree.specs.Expansion.{expanded}
 use Rattle.frame_tree.specs.Meaning.{test_meaning, plain_meaning}
@@ -12,7 +11,7 @@ use Rattle.frame_code.specs.declared.Op.TheVariants as op
 use Rattle.frame_code.specs.Routines.{routine_at}
 use Rattle.frame_code.specs.Table.{Code, calls, then_run, run}
 use Rattle.frame_asm.proofs.Lengths.{length_branch, length_shape, length_messages_of}
-use Rattle.frame_asm.proofs.Runs.{HasAt, has_front, has_back, regs, one, next, here, both_do, at_end, send_runs, branch_runs, retry_runs, repeat_runs, choose_runs, until_runs, Comes, Does}
+use Rattle.frame_asm.proofs.Runs.{HasAt, has_front, has_back, regs, one, next, here, both_do, at_end, send_runs, branch_runs, retry_runs, repeat_runs, choose_runs, until_runs, Does}
 use Rattle.frame_asm.specs.Shapes.{branch_size, branch, size, messages_of, entries, shape}
 
 module _ {State Outcome : Type 0} (w : World State Outcome) (code : Code) where

@@ -1,21 +1,17 @@
 -- The operations of a frame without definitions keep the loader's rules for one operation, within a routine.
-use Rattle.std.proofs.Common.{Bool, true, false, get_or, ◌≡◌, ℕ, zero, suc, ◌+◌, ◌<◌, ◌≤◌, max, List, [], ◌∷◌, ◌++◌, length, Some, refl, sym, ap, ◌∙◌, subst, arith, length-append}
-use Rattle.std.specs.Prelude.{if◌then◌else◌, slice_get, Result, Ok, Err, IfOk}
+use Rattle.std.proofs.Common.{Bool, true, false, ◌≡◌, ℕ, zero, suc, ◌+◌, ◌<◌, ◌≤◌, max, List, [], ◌∷◌, ◌++◌, length, Some, sym, ap, ◌∙◌, subst, arith}
+use Rattle.std.specs.Prelude.{if◌then◌else◌, slice_get}
 use Rattle.frame_tree.specs.Tree.{Test, failed, silent, bit, negated, both, either, Tree, send, retry, gap, repeat, choose, until, nothing, chained, call, define, bit_number}
 use Rattle.frame_tree.specs.Names.{Scope, same, named, is_known}
-use Rattle.frame_tree.specs.Bounds.{depth_in, CallsKnown, IsDefined, IsSound}
+use Rattle.frame_tree.specs.Bounds.{depth_in, CallsKnown}
 use Rattle.frame_code.specs.declared.Op.{Op}
 use Rattle.frame_code.specs.declared.Op.TheVariants as op
-use Rattle.frame_code.specs.Loadable.{open_at, IsPaired, GoesWell, HasMessage, CallsEarlier, HasRoom, IsLoadable}
-use Rattle.frame_code.specs.Routines.{owner_at, routines}
-use Rattle.frame_asm.proofs.Runs.{HasAt, has_front, has_back, has_all}
-use Rattle.frame_asm.proofs.Lengths.{length_branch, length_shape, length_messages_of}
+use Rattle.frame_code.specs.Loadable.{open_at, IsPaired, GoesWell, HasMessage, CallsEarlier, HasRoom}
+use Rattle.frame_code.specs.Routines.{owner_at}
+use Rattle.frame_asm.proofs.Runs.{HasAt, has_front, has_back}
+use Rattle.frame_asm.proofs.Lengths.{length_branch, length_shape}
 use Rattle.frame_asm.proofs.Levels.{next, branch_level, level}
-use Rattle.frame_asm.proofs.Ranges.{code_is_image, operations_of, messages_in}
-use Rattle.frame_code.specs.Table.{Code}
-use Rattle.frame_code.specs.Ranges.{IsImage}
-use Rattle.frame_asm.specs.declared.AsmError.{AsmError}
-use Rattle.frame_asm.specs.Shapes.{branch_size, probe, branch, size, entries, messages_of, retry_shape, shape, code_of}
+use Rattle.frame_asm.specs.Shapes.{branch_size, probe, branch, size, entries, retry_shape, shape}
 
 -- how many loops stand in one another, where in a call of each name so many do
 abbrev pub loops_in : Scope ℕ → Tree → ℕ

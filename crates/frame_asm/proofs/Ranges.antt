@@ -73,7 +73,6 @@ shape_in rs (until c n b) p m z kn s h k =
     )
 shape_in rs nothing p m z c s h k = tt
 shape_in rs (chained a b) p m z c s h k = both_in (shape rs p m a) _ (shape_in rs a p m z c.0 s.0 (omega arith) (omega arith)) (shape_in rs b _ _ z c.1 s.1 (omega arith) (omega arith))
-
 shape_in rs (call n) p m z c s h k = (routine_in rs n z, tt)
 shape_in rs (define n b r) p m z c s h k = absurd c
 

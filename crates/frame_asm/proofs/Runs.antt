@@ -6,15 +6,13 @@ use Rattle.std.proofs.lemmas.Option.{slice_get-get_or}
 use Rattle.mil_word.specs.declared.Line.{Line}
 use Rattle.mil_message.specs.declared.messages.Message.{Message}
 use Rattle.mil_message.specs.World.{World, Point, other_line, sent, asks}
-use Rattle.frame_tree.specs.Tree.{Test, failed, silent, bit, negated, both, either, Tree, send, retry, gap, repeat, choose, until, nothing, chained, bit_number}
+use Rattle.frame_tree.specs.Tree.{Test, failed, silent, bit, negated, both, either, bit_number}
 use Rattle.frame_tree.specs.Meaning.{times, test_meaning, attempts, turns_until}
 use Rattle.frame_code.specs.declared.Op.{Op}
 use Rattle.frame_code.specs.declared.Op.TheVariants as op
-use Rattle.frame_code.specs.Table.{Code, Registers, sends, counted, act, then_run, run, start}
-use Rattle.frame_asm.proofs.Lengths.{length_branch, length_shape, length_messages_of}
-use Rattle.frame_asm.specs.Behaves.{Behaves}
-use Rattle.frame_asm.specs.Shapes.{branch_size, probe, branch, size, messages_of, entries, retry_shape, shape, code_of}
-use Rattle.frame_tree.specs.Bounds.{IsInRange}
+use Rattle.frame_code.specs.Table.{Code, Registers, sends, counted, act, then_run, run}
+use Rattle.frame_asm.proofs.Lengths.{length_branch}
+use Rattle.frame_asm.specs.Shapes.{branch_size, probe, branch, retry_shape}
 
 -- these stand in the list at this place
 abbrev pub HasAt : {X : Type 0} → List X → ℕ → List X → Type 0

@@ -1,6 +1,6 @@
 -- Where the routines of a tree begin, and which number each place has.
-use Rattle.std.proofs.Common.{◌≡◌, ℕ, zero, suc, ◌+◌, ◌<◌, ◌≤◌, Bool, true, false, List, [], ◌∷◌, ◌++◌, length, get_or, Some, None, refl, sym, ap, ap₂, ◌∙◌, subst, arith, append_assoc}
-use Rattle.std.specs.Prelude.{slice_get, nat_lt, if◌then◌else◌}
+use Rattle.std.proofs.Common.{◌≡◌, ℕ, zero, suc, ◌+◌, ◌<◌, ◌≤◌, true, List, [], ◌∷◌, ◌++◌, length, get_or, Some, None, refl, sym, ap, ap₂, ◌∙◌, subst, arith, append_assoc}
+use Rattle.std.specs.Prelude.{nat_lt, if◌then◌else◌}
 use Rattle.std.proofs.lemmas.Bool.Decides.{nat_tests}
 use Rattle.frame_tree.specs.Tree.{Test, failed, silent, bit, negated, both, either, Tree, send, retry, gap, repeat, choose, until, nothing, chained, call, define, bit_number}
 use Rattle.frame_tree.specs.Names.{Scope, named}
@@ -10,7 +10,7 @@ use Rattle.frame_code.specs.declared.Op.TheVariants as op
 use Rattle.frame_code.specs.Routines.{ends_from, ends, routines, begin_of, main_of, routine_at, passed, owner_at}
 use Rattle.frame_asm.proofs.Lengths.{length_shape}
 use Rattle.frame_asm.proofs.Runs.{HasAt}
-use Rattle.frame_asm.specs.Shapes.{branch_size, probe, branch, size, entries, retry_shape, shape}
+use Rattle.frame_asm.specs.Shapes.{branch_size, branch, size, entries, shape}
 
 -- an operation that ends no routine
 abbrev IsInner : Op → Type 0

@@ -1,5 +1,5 @@
 -- The code of a tree does what the tree means, in any world.
-use Rattle.std.proofs.Common.{◌≡◌, ℕ, suc, ◌+◌, Bool, true, false, List, [], ◌∷◌, ◌++◌, length, Some, refl, sym, ap, ◌∙◌, subst, arith, append_assoc}
+use Rattle.std.proofs.Common.{◌≡◌, ℕ, suc, ◌+◌, Bool, true, false, [], ◌∷◌, ◌++◌, length, Some, refl, sym, ap, subst, arith, append_assoc}
 use Rattle.std.specs.Prelude.{slice_get, ◌||◌, if◌then◌else◌}
 use Rattle.mil_message.specs.World.{World, Point}
 use Rattle.frame_tree.specs.Tree.{Tree, send, retry, gap, repeat, choose, until, nothing, chained, call, define}
@@ -9,7 +9,7 @@ use Rattle.frame_tree.specs.Meaning.{plain_meaning}
 use Rattle.frame_tree.specs.Bounds.{IsInRange, CallsKnown, IsDefined}
 use Rattle.frame_code.specs.declared.Op.TheVariants as op
 use Rattle.frame_code.specs.Routines.{main_of}
-use Rattle.frame_code.specs.Table.{Code, act, start, run}
+use Rattle.frame_code.specs.Table.{Code, act, start}
 use Rattle.frame_asm.proofs.Lengths.{length_shape, length_messages_of}
 use Rattle.frame_asm.proofs.Runs.{HasAt, has_front, has_back, has_all, regs, Does}
 use Rattle.frame_asm.proofs.Bodies.{Routine, AreThere, tree_runs}

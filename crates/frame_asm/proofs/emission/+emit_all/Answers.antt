@@ -1,4 +1,4 @@
-use Rattle.std.proofs.Common.{◌≡◌, ◌+◌, ◌∷◌, length, map, sym, ap, subst, ◌∙◌, arith, rules}
+use Rattle.std.proofs.Common.{◌≡◌, length, map, sym, ap, subst, ◌∙◌, arith, rules}
 use Rattle.std.proofs.lemmas.Result.{on_ok_weaker}
 use Rattle.frame_tree.specs.Tree.{define, chain, tree_of}
 use Rattle.frame_tree.specs.Scopes.{scope_of}
@@ -20,9 +20,19 @@ emit_all-requires g t c κs within =
     let one = length_grown ds (tree_of c.deref.result.now) c.args.operations.now.items c.emit.new.operations.items _ _ c.in_ok-emit-in-Define.ensures.operations in
     let two = length_put c.emit.new.operations.items c.put.new.operations.items _ c.in_ok-put-in-Define.ensures in
     let three = length_entered (tree_of c.deref.result.now) c.args.messages.now.items c.emit.new.messages.items c.in_ok-emit-in-Define.ensures.messages in
-    let scope = c.with_routine-inner.ensures in
-    (search (rules, the_lemmas), (search rules, (omega (arith, c.requires.room, ap size is, ap size body, ap size now, one, two), (omega (arith, c.requires.table, ap entries is, ap entries body, ap entries now, three),
-    (rest_defined ds _ _ b r _ c.in-Define.name c.args.count is now c.requires.count scope c.requires.defined, (omega (arith, ap length scope, c.requires.count), rest_routines ds _ _ b r c.in-Define.name c.args.count is c.requires.count scope c.requires.defined c.requires.routines))))))
+    let scope = c.with_routine-inner.ensures in (
+      search (rules, the_lemmas),
+      (
+        search rules,
+        (
+          omega (arith, c.requires.room, ap size is, ap size body, ap size now, one, two),
+          (
+            omega (arith, c.requires.table, ap entries is, ap entries body, ap entries now, three),
+            (rest_defined ds _ _ b r _ c.in-Define.name c.args.count is now c.requires.count scope c.requires.defined, (omega (arith, ap length scope, c.requires.count), rest_routines ds _ _ b r c.in-Define.name c.args.count is c.requires.count scope c.requires.defined c.requires.routines)),
+          ),
+        ),
+      ),
+    )
 
 pub emit-requires-in-Seq-clause-calls : goal.emit-requires-in-Seq-clause-calls
 emit-requires-in-Seq-clause-calls g t c =

@@ -1,4 +1,4 @@
-use Rattle.std.proofs.Common.{◌≡◌, ap, arith}
+use Rattle.std.proofs.Common.{arith}
 use Rattle.frame_tree.specs.Scopes.{scope_of}
 use Rattle.frame_asm.proofs.Ranges.{routine_small}
 use Rattle.frame_asm.proofs.emission.routine_of.Goals as goal
