@@ -23,7 +23,7 @@ pub fn operation_count<A: Allocator + Clone>(frame: &Frame<A>) -> u16
     ensures { result ≡ min 4096 (size (tree_of frame.now)) }
 {
     match frame {
-        Frame::Send { .. } | Frame::Gap(_) => 1,
+        Frame::Send { .. } | Frame::Gap(_) | Frame::Call(_) => 1,
         Frame::Retry { .. } => 8,
         Frame::Repeat { body, .. } => (operation_count(body) + 2).min(4096),
         Frame::If {
@@ -52,6 +52,10 @@ pub fn operation_count<A: Allocator + Clone>(frame: &Frame<A>) -> u16
             }
             total
         }
+        Frame::Define { body, rest, .. } => {
+            let all = operation_count(body) + 1 + operation_count(rest);
+            all.min(4096)
+        }
     }
 }
 
@@ -61,7 +65,7 @@ pub fn entry_count<A: Allocator + Clone>(frame: &Frame<A>) -> u16
 {
     match frame {
         Frame::Send { .. } | Frame::Retry { .. } => 1,
-        Frame::Gap(_) => 0,
+        Frame::Gap(_) | Frame::Call(_) => 0,
         Frame::Repeat { body, .. } | Frame::Until { body, .. } => entry_count(body),
         Frame::If {
             then,
@@ -75,5 +79,6 @@ pub fn entry_count<A: Allocator + Clone>(frame: &Frame<A>) -> u16
             }
             total
         }
+        Frame::Define { body, rest, .. } => (entry_count(body) + entry_count(rest)).min(1025),
     }
 }

@@ -1,8 +1,9 @@
 //! How large a frame is, and whether it may be assembled. What a definition's body comes to is counted once, and its calls
 //! take that number: no expansion is ever built.
 
-ghost use Rattle.std.specs.Prelude.{◌≡◌, ◌≤◌, ◌*◌, ◌↔◌, IsTrue, min, length, [], ◌∷◌};
-ghost use Rattle.frame_tree.specs.Tree.{tree_of};
+ghost use Rattle.std.specs.Prelude.{◌≡◌, ℕ, ◌≤◌, ◌*◌, ◌↔◌, IsTrue, min, length, [], ◌∷◌};
+ghost use Rattle.frame_tree.specs.Tree.{Tree, tree_of};
+ghost use Rattle.frame_tree.specs.Expansion.{expansion};
 ghost use Rattle.frame_tree.specs.Scopes.{scope_of};
 ghost use Rattle.frame_tree.specs.Bounds.{depth, depth_in, worst_messages, messages_in, IsInRange, CallsKnown, IsDefined, IsSound};
 
@@ -184,6 +185,14 @@ impl<A: Allocator + Clone> Frame<A> {
         }
     }
 }
+
+/// Law: the expansion of a tree has neither a definition nor a call, sends as many messages as the tree at worst, and is no
+/// deeper.
+pub fn expansion_keeps()
+    ensures plain { (t : Tree) → CallsKnown {X = ℕ} [] (expansion t) }
+    ensures messages { (t : Tree) → worst_messages (expansion t) ≡ worst_messages t }
+    ensures depth { (t : Tree) → depth (expansion t) ≤ depth t }
+{}
 
 // A product, 1,000,001 where it is more than that.
 fn times_capped(count: u16, messages: u32) -> u32

@@ -7,6 +7,7 @@ mod conditions;
 mod frames;
 mod names;
 
+pub use bounds::expansion_keeps;
 pub use conditions::number_of_bit;
 use mil_message::Message;
 use mil_status::StatusBits;
