@@ -88,4 +88,3 @@ module _ (os : List Op) where
 
   pub depth_at_least : (p : ℕ) → p ≤ length os → (depths_at os p).now ≤ get_or all_depths (owner_at os p) 0
   depth_at_least p le = grown (length os - p) p (omega (arith, le))
-

@@ -129,7 +129,7 @@ module _ (cost : Op → ℕ) {State Outcome : Type 0} (w : World State Outcome) 
           let next : open_at code.operations (suc q) ≡ g.1 = ap (λ v. after v q (open_at code.operations q)) at ∙ ap tail g.2 in
           let here : q + 1 ≡ suc q = omega arith in
           let kept : drop (length (open_at code.operations (q + 1))) cs ≡ drop (length (open_at code.operations q)) r.counters =
-              ap (λ z. drop (length (open_at code.operations z)) cs) here ∙ ap (λ st. drop (length st) cs) next ∙ sym (ap₂ (λ st ds. drop (length st) ds) g.2 ec) in
+          ap (λ z. drop (length (open_at code.operations z)) cs) here ∙ ap (λ st. drop (length st) cs) next ∙ sym (ap₂ (λ st ds. drop (length st) ds) g.2 ec) in
           inside_of q (q + 1) (cost_of cost (slice_get code.operations q)) r.counters cs r.returns kept
           (omega (arith, ap (cost_of cost) at, ap (left_at q) ec, again_left q c i cs g.0 g.1 at g.2, ap (λ v. left_at v cs) here, ap (λ st. rest pay (note cs st) (drop (suc q) code.operations)) next))
       by_count (suc k) ek =
@@ -140,7 +140,7 @@ module _ (cost : Op → ℕ) {State Outcome : Type 0} (w : World State Outcome) 
           let o = opened code.operations q q g.0 g.1 (omega arith) g.2 in
           let after_loop : open_at code.operations i ≡ g.0 ∷ g.1 = ap (open_at code.operations) g.3 ∙ ap (λ v. after v g.0 (open_at code.operations g.0)) o.3 ∙ ap (λ v. g.0 ∷ v) o.2 in
           let kept : drop (length (open_at code.operations i)) (suc k ∷ cs) ≡ drop (length (open_at code.operations q)) r.counters =
-              ap (λ st. drop (length st) (suc k ∷ cs)) after_loop ∙ sym (ap₂ (λ st ds. drop (length st) ds) g.2 ec) in
+          ap (λ st. drop (length st) (suc k ∷ cs)) after_loop ∙ sym (ap₂ (λ st ds. drop (length st) ds) g.2 ec) in
           inside_of q i (cost_of cost (slice_get code.operations q)) r.counters (suc k ∷ cs) r.returns kept
           (omega (arith, ap (cost_of cost) at, ap (left_at q) ec, again_left q c i cs g.0 g.1 at g.2, ap (λ v. left_at v (suc k ∷ cs)) g.3, turn_left q k i cs g.0 g.1 at g.2 f.inside, prod))
 
@@ -199,8 +199,8 @@ module _ (cost : Op → ℕ) {State Outcome : Type 0} (w : World State Outcome) 
           let first : left_at b r.counters ≡ rest pay [] (drop b code.operations) = ap (λ st. rest pay (note r.counters st) (drop b code.operations)) g.none_open in
           let kept : drop (length (open_at code.operations b)) r.counters ≡ r.counters = ap (λ st. drop (length st) r.counters) g.none_open in
           let more : left (r.place + 1) r.counters r.returns + (cost (Call k) + get_or (all_sums cost code.operations) k 0) ≤ left_of r =
-              inside_of r.place (r.place + 1) (cost (Call k) + get_or (all_sums cost code.operations) k 0) r.counters r.counters r.returns (ap (λ z. drop (length (open_at code.operations z)) r.counters) here ∙ ap (λ st. drop (length st) r.counters) next)
-              (omega (arith, plain_cost r.place r.counters (Call k) at (refl, λ zs. refl), ap (λ z. left_at z r.counters) here)) in
+          inside_of r.place (r.place + 1) (cost (Call k) + get_or (all_sums cost code.operations) k 0) r.counters r.counters r.returns (ap (λ z. drop (length (open_at code.operations z)) r.counters) here ∙ ap (λ st. drop (length st) r.counters) next)
+          (omega (arith, plain_cost r.place r.counters (Call k) at (refl, λ zs. refl), ap (λ z. left_at z r.counters) here)) in
           omega (arith, ap (cost_of cost) at, whole, first, more, ap (λ z. left (r.place + 1) z r.returns) kept, ap (λ j. get_or (all_sums cost code.operations) j 0) g.routine)
 
   -- a Return goes on with what is left of the caller

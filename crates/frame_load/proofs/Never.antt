@@ -415,4 +415,3 @@ module _ {State Outcome : Type 0} (w : World State Outcome) (code : Code) (ok : 
 
   pub reaches_more : (from : Point State Outcome) (x y : Running State Outcome) → Reaches w code from x → step w code x.at x.point ≡ goes_on y → Reaches w code from y
   reaches_more from x y r e = (suc r.0, run_more r.0 (start code) from x y e r.1)
-

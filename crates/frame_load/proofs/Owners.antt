@@ -48,14 +48,14 @@ StartsSoFar os i starts = (p : ℕ) → p < i → slice_get os p ≡ Some Return
 pub one_start : (os : List Op) (i k : ℕ) (starts : List ℕ) → slice_get os i ≡ Some Return → k ≡ owner_at os i → k + 1 < length starts → StartsSoFar os i starts → StartsSoFar os (i + 1) (set starts (k + 1) (i + 1))
 one_start os i k starts at e inside below p h r =
     ⊎_elim (λ lt.
-      let up = routine_le os (suc p) i lt in
-      let next : owner_at os (suc p) ≡ suc (owner_at os p) = ap (λ v. passed v (owner_at os p)) r in
-      let apart : suc (owner_at os p) ≢ k + 1 = λ x. omega (arith, x, up, next, e) in
-      get_or-set_other starts (k + 1) (suc (owner_at os p)) (i + 1) 0 apart ∙ below p lt r)
+    let up = routine_le os (suc p) i lt in
+    let next : owner_at os (suc p) ≡ suc (owner_at os p) = ap (λ v. passed v (owner_at os p)) r in
+    let apart : suc (owner_at os p) ≢ k + 1 = λ x. omega (arith, x, up, next, e) in
+    get_or-set_other starts (k + 1) (suc (owner_at os p)) (i + 1) 0 apart ∙ below p lt r)
     (λ le.
-      let same : p ≡ i = omega (arith, le, h) in
-      let here : suc (owner_at os p) ≡ k + 1 = omega (arith, e, ap (owner_at os) same) in
-      ap (λ j. get_or (set starts (k + 1) (i + 1)) j 0) here ∙ get_or-set_same starts (k + 1) (i + 1) 0 inside ∙ (omega (arith, same)))
+    let same : p ≡ i = omega (arith, le, h) in
+    let here : suc (owner_at os p) ≡ k + 1 = omega (arith, e, ap (owner_at os) same) in
+    ap (λ j. get_or (set starts (k + 1) (i + 1)) j 0) here ∙ get_or-set_same starts (k + 1) (i + 1) 0 inside ∙ (omega (arith, same)))
     (cases_lt p i)
 
 pub no_start : (os : List Op) (i : ℕ) (o : Op) (starts : List ℕ) → slice_get os i ≡ Some o → (o ≡ Return → ⊥) → StartsSoFar os i starts → StartsSoFar os (i + 1) starts
@@ -76,9 +76,9 @@ product c w x y h l = omega (arith, mul-le-mul_left w h, mul-one w, l)
 pub capped_sum : (cap a w c t w' t' : ℕ) → 1 ≤ cap → w' ≡ min cap w → t' ≡ min cap t → min (min cap a + w' * (c + t')) cap ≡ min cap (a + w * (c + t))
 capped_sum cap a w c t w' t' one ew et =
     ⊎_elim (λ small.
-      let e : w' ≡ w = omega (arith, ew, small) in
-      ⊎_elim (λ less. let f : t' ≡ t = omega (arith, et, less) in omega (arith, ap (λ v. v * (c + t')) e, ap (λ v. w * (c + v)) f))
-      (λ more. let f : t' ≡ cap = omega (arith, et, more) in by_weight w e f more) (cases_lt t cap))
+    let e : w' ≡ w = omega (arith, ew, small) in
+    ⊎_elim (λ less. let f : t' ≡ t = omega (arith, et, less) in omega (arith, ap (λ v. v * (c + t')) e, ap (λ v. w * (c + v)) f))
+    (λ more. let f : t' ≡ cap = omega (arith, et, more) in by_weight w e f more) (cases_lt t cap))
     (λ large. let e : w' ≡ cap = omega (arith, ew, large) in by_cost (c + t) refl e large) (cases_lt w cap)
   where
     by_weight : (v : ℕ) → w' ≡ v → t' ≡ cap → cap ≤ t → min (min cap a + w' * (c + t')) cap ≡ min cap (a + v * (c + t))
@@ -115,12 +115,12 @@ module _ (cost : Op → ℕ) (os : List Op) where
       let y = s.now + weight os i * cost Return in
       let next : (sums_at cost os (i + 1)).ended ≡ s.ended ++ y ∷ [] = ap (λ (z : Sums). z.ended) (sums_next i Return at) in
       ⊎_elim (λ lt.
-        let apart : r ≢ k = λ z. omega (arith, z, lt, e) in
-        get_or-set_other ended k r x 0 apart ∙ below r lt ∙ ap (min 100000001) (sym (ap (λ ds. get_or ds r 0) next ∙ get_or-append s.ended (y ∷ []) 0 r (omega (arith, lt, sums_long cost os i)))))
+      let apart : r ≢ k = λ z. omega (arith, z, lt, e) in
+      get_or-set_other ended k r x 0 apart ∙ below r lt ∙ ap (min 100000001) (sym (ap (λ ds. get_or ds r 0) next ∙ get_or-append s.ended (y ∷ []) 0 r (omega (arith, lt, sums_long cost os i)))))
       (λ le.
-        let same : r ≡ k = omega (arith, le, h, up_owner os i at, e) in
-        ap (λ j. get_or (set ended k x) j 0) same ∙ get_or-set_same ended k x 0 inside ∙ is
-        ∙ ap (min 100000001) (sym (ap (λ ds. get_or ds r 0) next ∙ ap (λ j. get_or (s.ended ++ y ∷ []) j 0) (same ∙ e ∙ sym (sums_long cost os i)) ∙ get_or-append_seam s.ended y [] 0)))
+      let same : r ≡ k = omega (arith, le, h, up_owner os i at, e) in
+      ap (λ j. get_or (set ended k x) j 0) same ∙ get_or-set_same ended k x 0 inside ∙ is
+      ∙ ap (min 100000001) (sym (ap (λ ds. get_or ds r 0) next ∙ ap (λ j. get_or (s.ended ++ y ∷ []) j 0) (same ∙ e ∙ sym (sums_long cost os i)) ∙ get_or-append_seam s.ended y [] 0)))
       (cases_lt r (owner_at os i))
 
   kept_sums : (o : Op) (w : ℕ) (s : Sums) → (o ≡ Return → ⊥) → (sums_after cost (Some o) w s).ended ≡ s.ended

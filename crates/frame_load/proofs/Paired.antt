@@ -117,8 +117,8 @@ goes_on os i d d' c k k' o at called_is e f g =
     let next : suc i ≡ i + 1 = omega arith in
     let depth : d' ≡ length (open_at os (i + 1)) = x.1 ∙ ap (λ v. length (after v i (open_at os i))) (sym at) ∙ ap (λ q. length (open_at os q)) next in
     let deep : k' ≡ (depths_at os (i + 1)).now =
-        f ∙ ap (deepest_after o d c) g.deep ∙ sym (deepest_is o d c (depths_at os i) called_is) ∙ ap (λ z. (depths_after (Some o) z (depths_at os i)).now) g.depth
-        ∙ ap (λ v. (depths_after v (length (open_at os i)) (depths_at os i)).now) (sym at) ∙ ap (λ q. (depths_at os q).now) next in
+    f ∙ ap (deepest_after o d c) g.deep ∙ sym (deepest_is o d c (depths_at os i) called_is) ∙ ap (λ z. (depths_after (Some o) z (depths_at os i)).now) g.depth
+    ∙ ap (λ v. (depths_after v (length (open_at os i)) (depths_at os i)).now) (sym at) ∙ ap (λ q. (depths_at os q).now) next in
     let low : k' ≤ 17 = omega (arith, f, low_after o d c k (open_at os i) (depths_at os i).ended g.depth called_is x.0 g.low) in
     record {
       depth = depth;
@@ -144,20 +144,20 @@ pub one_ended : (os : List Op) (i k routine : ℕ) (ended : List ℕ) → slice_
 one_ended os i k routine ended at inside e l g =
     let n = next_number os i Return at in
     let seam : (r : ℕ) → r ≡ routine → get_or (depths_at os (i + 1)).ended r 0 ≡ k = λ r same.
-        ap (λ (z : Depths). get_or z.ended r 0) (next_place os i Return at) ∙ ap (λ j. get_or ((depths_at os i).ended ++ (depths_at os i).now ∷ []) j 0) (same ∙ g.routine_is ∙ sym (ended_long os i))
-        ∙ get_or-append_seam (depths_at os i).ended (depths_at os i).now [] 0 ∙ sym e in
+    ap (λ (z : Depths). get_or z.ended r 0) (next_place os i Return at) ∙ ap (λ j. get_or ((depths_at os i).ended ++ (depths_at os i).now ∷ []) j 0) (same ∙ g.routine_is ∙ sym (ended_long os i))
+    ∙ get_or-append_seam (depths_at os i).ended (depths_at os i).now [] 0 ∙ sym e in
     let before : (r : ℕ) → r < owner_at os i → get_or (depths_at os (i + 1)).ended r 0 ≡ get_or (depths_at os i).ended r 0 = λ r h.
-        ap (λ (z : Depths). get_or z.ended r 0) (next_place os i Return at) ∙ get_or-append (depths_at os i).ended ((depths_at os i).now ∷ []) 0 r (omega (arith, h, ended_long os i)) in
+    ap (λ (z : Depths). get_or z.ended r 0) (next_place os i Return at) ∙ get_or-append (depths_at os i).ended ((depths_at os i).now ∷ []) 0 r (omega (arith, h, ended_long os i)) in
     record {
       routine_is = omega (arith, n, g.routine_is);
       depths = λ r h. ⊎_elim
-        (λ lt. let apart : r ≢ routine = λ x. omega (arith, x, lt, g.routine_is) in get_or-set_other ended routine r k 0 apart ∙ g.depths r lt ∙ sym (before r lt))
-        (λ le. let same : r ≡ routine = omega (arith, le, h, n, g.routine_is) in ap (λ j. get_or (set ended routine k) j 0) same ∙ get_or-set_same ended routine k 0 inside ∙ sym (seam r same))
-        (cases_lt r (owner_at os i));
+          (λ lt. let apart : r ≢ routine = λ x. omega (arith, x, lt, g.routine_is) in get_or-set_other ended routine r k 0 apart ∙ g.depths r lt ∙ sym (before r lt))
+          (λ le. let same : r ≡ routine = omega (arith, le, h, n, g.routine_is) in ap (λ j. get_or (set ended routine k) j 0) same ∙ get_or-set_same ended routine k 0 inside ∙ sym (seam r same))
+          (cases_lt r (owner_at os i));
       low = λ r h. ⊎_elim
-        (λ lt. let apart : r ≢ routine = λ x. omega (arith, x, lt, g.routine_is) in omega (arith, get_or-set_other ended routine r k 0 apart, g.low r lt))
-        (λ le. let same : r ≡ routine = omega (arith, le, h, n, g.routine_is) in omega (arith, ap (λ j. get_or (set ended routine k) j 0) same, get_or-set_same ended routine k 0 inside, l))
-        (cases_lt r (owner_at os i));
+          (λ lt. let apart : r ≢ routine = λ x. omega (arith, x, lt, g.routine_is) in omega (arith, get_or-set_other ended routine r k 0 apart, g.low r lt))
+          (λ le. let same : r ≡ routine = omega (arith, le, h, n, g.routine_is) in omega (arith, ap (λ j. get_or (set ended routine k) j 0) same, get_or-set_same ended routine k 0 inside, l))
+          (cases_lt r (owner_at os i));
     }
 
 pub none_ended : (os : List Op) (i routine : ℕ) (ended : List ℕ) (o : Op) → slice_get os i ≡ Some o → (o ≡ Return → ⊥) → Ended os i ended routine → Ended os (i + 1) ended routine

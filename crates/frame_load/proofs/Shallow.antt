@@ -104,12 +104,12 @@ module _ (os : List Op) (ok : HasRoutines os) where
     least_step p Return e l = (
       omega arith,
       λ r h. ⊎_elim
-        (λ lt. omega (arith, l.ended r lt, get_or-append (depths_at os p).ended ((depths_at os p).now ∷ []) 0 r (omega (arith, lt, ended_long os p))))
-        (λ le.
+          (λ lt. omega (arith, l.ended r lt, get_or-append (depths_at os p).ended ((depths_at os p).now ∷ []) 0 r (omega (arith, lt, ended_long os p))))
+          (λ le.
           let same : r ≡ owner_at os p = omega (arith, le, h) in
           let seam = get_or-append_seam (depths_at os p).ended (depths_at os p).now [] 0 in
           omega (arith, l.now, seam, ap (λ j. get_or ((depths_at os p).ended ++ (depths_at os p).now ∷ []) j 0) (same ∙ sym (ended_long os p)), ap room same))
-        (cases_lt r (owner_at os p)),
+          (cases_lt r (owner_at os p)),
     )
     least_step p _ e l = (l.now, l.ended)
 

@@ -90,12 +90,7 @@ fn turns_well(operations: &[Op], loops: &[u16; 4096], place: usize, target: u16)
 }
 
 // Whether the operation at this place goes where it may.
-fn goes_well(
-    operations: &[Op],
-    loops: &[u16; 4096],
-    routines: &[u8; 4096],
-    place: usize,
-) -> bool
+fn goes_well(operations: &[Op], loops: &[u16; 4096], routines: &[u8; 4096], place: usize) -> bool
     requires size { length operations.now ≤ 4096 }
     requires place { place < length operations.now }
     requires marked { (p : ℕ) → p < length operations.now → get_or loops.now p 0 ≡ innermost (open_at operations.now p) }

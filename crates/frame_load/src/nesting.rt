@@ -28,7 +28,13 @@ fn next_depth(op: Op, depth: u8, called: u8) -> Option<u8>
         Op::Loop(_) => { if depth < 17 { Some(depth + 1) } else { None } }
         Op::Again(_) => { if 0 < depth { Some(depth - 1) } else { None } }
         Op::Leave(_) => { if 0 < depth { Some(depth) } else { None } }
-        Op::Call(_) => { if depth + called <= 17 { Some(depth) } else { None } }
+        Op::Call(_) => {
+            if depth + called <= 17 {
+                Some(depth)
+            } else {
+                None
+            }
+        }
         Op::Return => { if depth == 0 { Some(0) } else { None } }
         _ => Some(depth),
     }

@@ -196,7 +196,10 @@ fn names(rt: HostRuntime) -> Result<(), Fail> {
             (b"repeat 2 { define a { } }", "S2 line 1 column 12"),
             (b"define a { define b { } }", "S2 line 1 column 12"),
             (b"define abcdefghijklmnop { } call abcdefghijklmnop", "none"),
-            (b"define send { gap 50 } define define { call send } call define", "none"),
+            (
+                b"define send { gap 50 } define define { call send } call define",
+                "none",
+            ),
         ],
     )
 }
@@ -220,8 +223,20 @@ fn definitions(rt: HostRuntime) -> Result<(), Fail> {
             b" call a",
             "S6 line 2 column 178",
         ),
-        (b"define a { ", b"repeat 1 { ", 17, b"", "S6 line 1 column 197"),
-        (b"define a { gap 50 }", b"repeat 1 { call a } ", 17, b"", "none"),
+        (
+            b"define a { ",
+            b"repeat 1 { ",
+            17,
+            b"",
+            "S6 line 1 column 197",
+        ),
+        (
+            b"define a { gap 50 }",
+            b"repeat 1 { call a } ",
+            17,
+            b"",
+            "none",
+        ),
     ];
     for (before, piece, times, after, expected) in table {
         let text = repeated(alloc, before, piece, times, after)?;

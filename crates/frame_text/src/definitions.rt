@@ -27,11 +27,7 @@ fn fresh_name<'a>(text: &'a [u8], scope: &Scope<'_>) -> Result<(Name, &'a [u8]),
 }
 
 // Frames up to the end of the text.
-fn main<A: Allocator + Clone>(
-    alloc: &A,
-    text: &[u8],
-    scope: &Scope<'_>,
-) -> Result<Frame<A>, Fault>
+fn main<A: Allocator + Clone>(alloc: &A, text: &[u8], scope: &Scope<'_>) -> Result<Frame<A>, Fault>
     ensures { Gives tree_of result (main_at (scope_of scope.now) (length (tokens text.now)) (tokens text.now)) }
 {
     let own = or_refused!(alloc.clone(), text);

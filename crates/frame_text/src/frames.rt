@@ -279,4 +279,3 @@ pub fn frame<'a, A: Allocator + Clone>(
         FrameWord::NoFrame => Err(fault(misplaced(word), text)),
     }
 }
-

@@ -10,7 +10,11 @@ returns-then-loops-target c =
     let later : c.args.place < c.args.target = omega arith in
     let t : get_or c.args.routines.now c.args.target 0 ≡ owner_at os c.args.target = c.requires.numbered c.args.target inside in
     let p : get_or c.args.routines.now c.args.place 0 ≡ owner_at os c.args.place = c.requires.numbered c.args.place c.requires.place in (
-      λ y. (later, inside, jumps_by os c.args.loops.now c.args.place c.args.target c.requires.marked c.requires.place inside (let e : get_or c.args.loops.now c.args.target 0 ≡ get_or c.args.loops.now c.args.place 0 = search rules in e),
-        (let e : get_or c.args.routines.now c.args.target 0 ≡ get_or c.args.routines.now c.args.place 0 = search rules in sym t ∙ e ∙ p)),
+      λ y. (
+        later,
+        inside,
+        jumps_by os c.args.loops.now c.args.place c.args.target c.requires.marked c.requires.place inside (let e : get_or c.args.loops.now c.args.target 0 ≡ get_or c.args.loops.now c.args.place 0 = search rules in e),
+        (let e : get_or c.args.routines.now c.args.target 0 ≡ get_or c.args.routines.now c.args.place 0 = search rules in sym t ∙ e ∙ p),
+      ),
       λ j. let e : get_or c.args.routines.now c.args.target 0 ≡ get_or c.args.routines.now c.args.place 0 = t ∙ j.3 ∙ sym p in search rules,
     )

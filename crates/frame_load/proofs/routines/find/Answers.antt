@@ -37,10 +37,10 @@ loop-i-preserved c =
             so_far = subst (λ xs. StartsSoFar os (i + 1) xs) (sym w.starts-is) (one_start os i c.loop-i.routine c.loop-i.starts here g.number few g.so_far);
           }
       | in_default w ↦ record {
-          number = w.routine-is ∙ g.number ∙ sym (same_owner os i _ at (λ e. w.in_default.not-Return e));
-          first = ap (λ xs. get_or xs 0 0) w.starts-is ∙ g.first;
-          so_far = subst (λ xs. StartsSoFar os (i + 1) xs) (sym w.starts-is) (no_start os i _ c.loop-i.starts at (λ e. w.in_default.not-Return e) g.so_far);
-        }
+        number = w.routine-is ∙ g.number ∙ sym (same_owner os i _ at (λ e. w.in_default.not-Return e));
+        first = ap (λ xs. get_or xs 0 0) w.starts-is ∙ g.first;
+        so_far = subst (λ xs. StartsSoFar os (i + 1) xs) (sym w.starts-is) (no_start os i _ c.loop-i.starts at (λ e. w.in_default.not-Return e) g.so_far);
+      }
     ]
 
 pub returns-clause-starts : goal.returns-clause-starts

@@ -74,9 +74,9 @@ loop-i-preserved c =
             ended = subst (λ xs. EndedSums cost os (i + 1) xs) (sym v.ended-is) (one_sum cost os i c.loop-i.routine c.min-now.result c.loop-i.ended here g.number few whole g.ended);
           }
       | in_default v ↦ record {
-          now = v.now-is ∙ now_is cost os i o c.loop-i.now c.min-now.result w c.called.result at (λ e. v.in_default.not-Return e) g.now mark k sum;
-          long = ap length v.ended-is ∙ g.long;
-          number = v.routine-is ∙ g.number ∙ sym (same_owner os i o at (λ e. v.in_default.not-Return e));
-          ended = subst (λ xs. EndedSums cost os (i + 1) xs) (sym v.ended-is) (no_sum cost os i o c.loop-i.ended at (λ e. v.in_default.not-Return e) g.ended);
-        }
+        now = v.now-is ∙ now_is cost os i o c.loop-i.now c.min-now.result w c.called.result at (λ e. v.in_default.not-Return e) g.now mark k sum;
+        long = ap length v.ended-is ∙ g.long;
+        number = v.routine-is ∙ g.number ∙ sym (same_owner os i o at (λ e. v.in_default.not-Return e));
+        ended = subst (λ xs. EndedSums cost os (i + 1) xs) (sym v.ended-is) (no_sum cost os i o c.loop-i.ended at (λ e. v.in_default.not-Return e) g.ended);
+      }
     ]

@@ -40,12 +40,12 @@ returns-in_err-others g t c =
     let ds = scope_of c.args.scope.now in
     let low = body_low ds (tokens c.in_ok-name.rest.now) (tree_of c.in_ok-body.body, tokens c.in_ok-body.rest.now) c.in_ok-body.ensures.tree in
     rw (p.1, p.2) (rest_fails c.args.left ds c.in-Some.word.now (tokens c.args.text.now) (tokens c.in-Some.rest.now) c.in-Some.ensures.tokens (sym c.is.ensures ∙ c.if-not-is.false) c.if-left-eq0.false c.in_err-others.field-0.0 c.in_ok-name.name (tokens c.in_ok-name.rest.now) (tokens c.in_ok-body.rest.now) (tree_of c.in_ok-body.body) _
-      c.in_ok-name.ensures c.in_ok-body.ensures.tree (search (rules, the_lemmas) ∙ not_cut c.in_ok-name.name c.depth_in-depth.result _ ds c.depth_in-depth.ensures low) c.in_err-others.ensures)
+    c.in_ok-name.ensures c.in_ok-body.ensures.tree (search (rules, the_lemmas) ∙ not_cut c.in_ok-name.name c.depth_in-depth.result _ ds c.depth_in-depth.ensures low) c.in_err-others.ensures)
 
 pub returns : goal.returns
 returns g t c =
     let ds = scope_of c.args.scope.now in
     let low = body_low ds (tokens c.in_ok-name.rest.now) (tree_of c.in_ok-body.body, tokens c.in_ok-body.rest.now) c.in_ok-body.ensures.tree in
     all_read c.args.left ds c.in-Some.word.now (tokens c.args.text.now) (tokens c.in-Some.rest.now) c.in-Some.ensures.tokens (sym c.is.ensures ∙ c.if-not-is.false) c.if-left-eq0.false c.in_ok-name.name (tokens c.in_ok-name.rest.now) (tokens c.in_ok-body.rest.now) (tree_of c.in_ok-body.body) (tree_of c.in_ok-others.others) _
-      c.in_ok-name.ensures c.in_ok-body.ensures.tree (search (rules, the_lemmas) ∙ not_cut c.in_ok-name.name c.depth_in-depth.result _ ds c.depth_in-depth.ensures low) c.in_ok-others.ensures
+    c.in_ok-name.ensures c.in_ok-body.ensures.tree (search (rules, the_lemmas) ∙ not_cut c.in_ok-name.name c.depth_in-depth.result _ ds c.depth_in-depth.ensures low) c.in_ok-others.ensures
     ∙ ap Ok (ap₂ (define c.in_ok-name.name) (ap tree_of (sym c.in-Ok-new.ensures.ok)) (ap tree_of (sym c.in-Ok-new-2.ensures.ok)) ∙ sym (tree_define c.in_ok-name.name c.in-Ok-new.value c.in-Ok-new-2.value))
