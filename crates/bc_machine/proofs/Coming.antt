@@ -9,9 +9,10 @@ use Rattle.mil_line.specs.Plans.{faults_of}
 use Rattle.mil_bus.specs.declared.talks.Talk.{Talk}
 use Rattle.mil_bus.specs.Exchange.{BusState, exchanged, talk_of, clock_of, next_start}
 use Rattle.frame_code.specs.declared.Op.{Op}
-use Rattle.frame_code.specs.declared.Op.TheVariants.{Halt, Send, Alt, SetGap, Loop, Again, Leave, Jump, Test, JumpFalse}
+use Rattle.frame_code.specs.declared.Op.TheVariants.{Halt, Send, Alt, SetGap, Loop, Again, Leave, Jump, Test, JumpFalse, Call, Return}
 use Rattle.mil_line.specs.declared.faults.Fault.{Fault}
-use Rattle.frame_code.specs.Table.{act, sends, turns, counted, leaves, stuck}
+use Rattle.frame_code.specs.Table.{act, sends, turns, counted, leaves, calls, comes_back, stuck}
+use Rattle.frame_code.specs.Routines.{routine_at}
 use Rattle.bc_machine.specs.declared.upcoming.Upcoming.{Upcoming}
 use Rattle.bc_machine.specs.Controller.{ready}
 use Rattle.bc_machine.specs.Running.{MachineState, world_in, turn_of, moved_by, stepped, clock_in}
@@ -57,7 +58,15 @@ module _ (m : MachineState) where
   leaves_still [] i = (refl, refl)
   leaves_still (n ∷ ns) i = (refl, refl)
 
-  still_row : (o : Op) → ((x : ℕ) → o ≡ Send x → ⊥) → ((x : ℕ) → o ≡ Alt x → ⊥) → IsSame (moved_by (act (world_in m) (Some o) m.code.messages m.at m.point) m)
+  calls_still : (begin : Option ℕ) → IsSame (moved_by (calls (world_in m) begin m.at m.point) m)
+  calls_still None = (refl, refl)
+  calls_still (Some i) = (refl, refl)
+
+  comes_back_still : (places : List ℕ) → IsSame (moved_by (comes_back (world_in m) places m.at m.point) m)
+  comes_back_still [] = (refl, refl)
+  comes_back_still (i ∷ is) = (refl, refl)
+
+  still_row : (o : Op) → ((x : ℕ) → o ≡ Send x → ⊥) → ((x : ℕ) → o ≡ Alt x → ⊥) → IsSame (moved_by (act (world_in m) (Some o) m.code m.at m.point) m)
   still_row Halt s a = (refl, refl)
   still_row (Send i) s a = absurd (s i refl)
   still_row (Alt i) s a = absurd (a i refl)
@@ -68,25 +77,27 @@ module _ (m : MachineState) where
   still_row (Jump i) s a = (refl, refl)
   still_row (Test k) s a = (refl, refl)
   still_row (JumpFalse i) s a = (refl, refl)
+  still_row (Call r) s a = calls_still (routine_at m.code.operations r)
+  still_row Return s a = comes_back_still m.at.returns
 
   -- an operation that sends nothing
   pub still : (o : Op) → slice_get m.code.operations m.at.place ≡ Some o → ((x : ℕ) → o ≡ Send x → ⊥) → ((x : ℕ) → o ≡ Alt x → ⊥) → IsStill m
   unfolding stepped
   still o e s a =
-      let is : IsSame (stepped m) = subst (λ v. IsSame (moved_by (act (world_in m) v m.code.messages m.at m.point) m)) (sym e) (still_row o s a) in
+      let is : IsSame (stepped m) = subst (λ v. IsSame (moved_by (act (world_in m) v m.code m.at m.point) m)) (sym e) (still_row o s a) in
       record { state = is.0; number = is.1 }
 
   -- the row of an operation that sends a message which is there
   sent_row : (o : Op) (on : Line → Line) (found : Option (Line × Message)) → slice_get m.code.operations m.at.place ≡ Some o
-      → act (world_in m) (Some o) m.code.messages m.at m.point ≡ sends (world_in m) found on m.at m.point
+      → act (world_in m) (Some o) m.code m.at m.point ≡ sends (world_in m) found on m.at m.point
       → stepped m ≡ moved_by (sends (world_in m) found on m.at m.point) m
   unfolding stepped
-  sent_row o on found e row_is = ap (λ v. moved_by (act (world_in m) v m.code.messages m.at m.point) m) e ∙ ap (λ t. moved_by t m) row_is
+  sent_row o on found e row_is = ap (λ v. moved_by (act (world_in m) v m.code m.at m.point) m) e ∙ ap (λ t. moved_by t m) row_is
 
   comes_by : (o : Op) (on : Line → Line) (found : Option (Line × Message)) (u : Upcoming) → clock_in m ≤ 2 ^ 48 → turn_of m ≢ stuck → slice_get m.code.operations m.at.place ≡ Some o
-      → act (world_in m) (Some o) m.code.messages m.at m.point ≡ sends (world_in m) found on m.at m.point
+      → act (world_in m) (Some o) m.code m.at m.point ≡ sends (world_in m) found on m.at m.point
       → IfSome found (λ x. IsAbout m (on x.0) x.1 u) → IsComing m u
-  comes_by o on None u low going e row_is h = absurd (going (ap (λ v. act (world_in m) v m.code.messages m.at m.point) e ∙ row_is))
+  comes_by o on None u low going e row_is h = absurd (going (ap (λ v. act (world_in m) v m.code m.at m.point) e ∙ row_is))
   comes_by o on (Some x) u low going e row_is h = about_comes (on x.0) x.1 u low h (sent_row o on (Some x) e row_is)
 
   pub send_comes : (i : ℕ) (u : Upcoming) → IsAble m → slice_get m.code.operations m.at.place ≡ Some (Send i)

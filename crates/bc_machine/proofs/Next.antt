@@ -22,8 +22,9 @@ pub record Laws : Type 0 where
   pub never_stuck : (w : World BusState Outcome) (code : Code) (from : Point BusState Outcome) (x : Running BusState Outcome) → IsLoadable code → Reaches w code from x → step w code x.at x.point ≢ stuck
   pub inside : (w : World BusState Outcome) (code : Code) (from : Point BusState Outcome) (x : Running BusState Outcome) → IsLoadable code → Reaches w code from x → x.at.place < length code.operations
   pub room : (w : World BusState Outcome) (code : Code) (from : Point BusState Outcome) (x : Running BusState Outcome) (n : ℕ) → IsLoadable code → Reaches w code from x → slice_get code.operations x.at.place ≡ Some (op.Loop n) → length x.at.counters < 17
+  pub room_to_call : (w : World BusState Outcome) (code : Code) (from : Point BusState Outcome) (x : Running BusState Outcome) (k : ℕ) → IsLoadable code → Reaches w code from x → slice_get code.operations x.at.place ≡ Some (op.Call k) → length x.at.returns < 32
   pub messages : (w : World BusState Outcome) (code : Code) (from : Point BusState Outcome) (x : Running BusState Outcome) → IsLoadable code → Reaches w code from x → x.point.number ≤ from.number + worst_messages code.operations
-  pub halts : (w : World BusState Outcome) (code : Code) (from : Point BusState Outcome) → IsLoadable code → HaltsWithin w code (budget code.operations) start from
+  pub halts : (w : World BusState Outcome) (code : Code) (from : Point BusState Outcome) → IsLoadable code → HaltsWithin w code (budget code.operations) (start code) from
 
 module _ (laws : Laws) (m : MachineState) (u : IsUnderWay m) where
   going : turn_of m ≢ stuck
@@ -40,6 +41,7 @@ module _ (laws : Laws) (m : MachineState) (u : IsUnderWay m) where
         going = going;
         inside = laws.inside (world_in m) m.code (beginning m.begun) here u.loadable (m.taken, u.reached);
         room = λ n e. laws.room (world_in m) m.code (beginning m.begun) here n u.loadable (m.taken, u.reached) e;
+        room_to_call = λ k e. laws.room_to_call (world_in m) m.code (beginning m.begun) here k u.loadable (m.taken, u.reached) e;
         number = few;
         taken = omega (arith, u.steps, u.within.0);
         clock = omega (arith, u.clock, few);
@@ -56,8 +58,8 @@ module _ (laws : Laws) (m : MachineState) (u : IsUnderWay m) where
   moved : (t : Turn (Running BusState Outcome)) → turn_of m ≡ t → clock_in (moved_by t m) ≤ 2 ^ 47 + (moved_by t m).point.number * 2 ^ 24 → IsUnderWay (moved_by t m)
   moved (goes_on x) e clock =
       let one : suc m.taken ≡ m.taken + 1 = omega arith in
-      let more : run (world_in m) (m.taken + 1) m.code start (beginning m.begun) ≡ goes_on x =
-      subst (λ n. run (world_in m) n m.code start (beginning m.begun) ≡ goes_on x) one (run_more (world_in m) m.code m.taken start (beginning m.begun) (record { at = m.at; point = m.point }) x e u.reached) in
+      let more : run (world_in m) (m.taken + 1) m.code (start m.code) (beginning m.begun) ≡ goes_on x =
+      subst (λ n. run (world_in m) n m.code (start m.code) (beginning m.begun) ≡ goes_on x) one (run_more (world_in m) m.code m.taken (start m.code) (beginning m.begun) (record { at = m.at; point = m.point }) x e u.reached) in
       let less : m.taken < budget m.code.operations = before_end (world_in m) m.code (budget m.code.operations) m.taken (beginning m.begun) (record { at = m.at; point = m.point }) x (laws.halts (world_in m) m.code (beginning m.begun) u.loadable) u.reached e in
       let sent : x.point.number ≤ 0 + worst_messages m.code.operations = laws.messages (world_in m) m.code (beginning m.begun) x u.loadable (m.taken + 1, more) in
       record {

@@ -10,8 +10,9 @@ use Rattle.mil_line.specs.Plans.{Planned}
 use Rattle.mil_bus.specs.Exchange.{BusState}
 use Rattle.mil_bus.specs.declared.outcomes.Outcome.{Outcome}
 use Rattle.frame_code.specs.declared.Op.{Op}
-use Rattle.frame_code.specs.declared.Op.TheVariants.{Halt, Send, Alt, SetGap, Loop, Again, Leave, Jump, Test, JumpFalse}
-use Rattle.frame_code.specs.Table.{Code, Registers, Running, Turn, goes_on, halted, stuck, act, sends, counted, turns, leaves, step, then_run, run}
+use Rattle.frame_code.specs.declared.Op.TheVariants.{Halt, Send, Alt, SetGap, Loop, Again, Leave, Jump, Test, JumpFalse, Call, Return}
+use Rattle.frame_code.specs.Table.{Code, Registers, Running, Turn, goes_on, halted, stuck, act, sends, counted, turns, leaves, step, then_run, run, calls, comes_back}
+use Rattle.frame_code.specs.Routines.{routine_at}
 use Rattle.bc_machine.specs.declared.placed.Placed.{Placed}
 use Rattle.bc_machine.specs.Controller.{placed_at, world_of, all_acted, ready}
 use Rattle.bc_machine.specs.Running.{MachineState, turn_of}
@@ -50,18 +51,28 @@ module _ (w : World BusState Outcome) where
   leaves_rise [] i r p x e = absurd cc
   leaves_rise (n ∷ ns) i r p x e = stays (record r { place = i; counters = ns }) p x e
 
-  act_rises : (o : Option Op) (ms : List (Line × Message)) (r : Registers) (p : Point BusState Outcome) (x : Place) → act w o ms r p ≡ goes_on x → p.number ≤ x.point.number
-  act_rises None ms r p x e = absurd cc
-  act_rises (Some Halt) ms r p x e = absurd cc
-  act_rises (Some (Send m)) ms r p x e = sends_rise (slice_get ms m) (λ l. l) r p x e
-  act_rises (Some (Alt m)) ms r p x e = sends_rise (slice_get ms m) (λ l. other_line r.line) r p x e
-  act_rises (Some (SetGap t)) ms r p x e = stays (record r { place = r.place + 1 }) (record p { gap = t }) x e
-  act_rises (Some (Loop n)) ms r p x e = stays (record r { place = r.place + 1; counters = n ∷ r.counters }) p x e
-  act_rises (Some (Again i)) ms r p x e = turns_rise r.counters i r p x e
-  act_rises (Some (Leave i)) ms r p x e = leaves_rise r.counters i r p x e
-  act_rises (Some (Jump i)) ms r p x e = stays (record r { place = i }) p x e
-  act_rises (Some (Test k)) ms r p x e = stays (record r { place = r.place + 1; flag = asks w k p }) p x e
-  act_rises (Some (JumpFalse i)) ms r p x e = stays (record r { place = cond r.flag (r.place + 1) i }) p x e
+  calls_rise : (o : Option ℕ) (r : Registers) (p : Point BusState Outcome) (x : Place) → calls w o r p ≡ goes_on x → p.number ≤ x.point.number
+  calls_rise None r p x e = absurd cc
+  calls_rise (Some i) r p x e = stays (record r { place = i; returns = (r.place + 1) ∷ r.returns }) p x e
+
+  backs_rise : (is : List ℕ) (r : Registers) (p : Point BusState Outcome) (x : Place) → comes_back w is r p ≡ goes_on x → p.number ≤ x.point.number
+  backs_rise [] r p x e = absurd cc
+  backs_rise (i ∷ is) r p x e = stays (record r { place = i; returns = is }) p x e
+
+  act_rises : (o : Option Op) (code : Code) (r : Registers) (p : Point BusState Outcome) (x : Place) → act w o code r p ≡ goes_on x → p.number ≤ x.point.number
+  act_rises None code r p x e = absurd cc
+  act_rises (Some Halt) code r p x e = absurd cc
+  act_rises (Some (Send m)) code r p x e = sends_rise (slice_get code.messages m) (λ l. l) r p x e
+  act_rises (Some (Alt m)) code r p x e = sends_rise (slice_get code.messages m) (λ l. other_line r.line) r p x e
+  act_rises (Some (SetGap t)) code r p x e = stays (record r { place = r.place + 1 }) (record p { gap = t }) x e
+  act_rises (Some (Loop n)) code r p x e = stays (record r { place = r.place + 1; counters = n ∷ r.counters }) p x e
+  act_rises (Some (Again i)) code r p x e = turns_rise r.counters i r p x e
+  act_rises (Some (Leave i)) code r p x e = leaves_rise r.counters i r p x e
+  act_rises (Some (Jump i)) code r p x e = stays (record r { place = i }) p x e
+  act_rises (Some (Test k)) code r p x e = stays (record r { place = r.place + 1; flag = asks w k p }) p x e
+  act_rises (Some (JumpFalse i)) code r p x e = stays (record r { place = cond r.flag (r.place + 1) i }) p x e
+  act_rises (Some (Call n)) code r p x e = calls_rise (routine_at code.operations n) r p x e
+  act_rises (Some Return) code r p x e = backs_rise r.returns r p x e
 
   run_rises : (code : Code) (n : ℕ) (r : Registers) (p : Point BusState Outcome) (x : Place) → run w n code r p ≡ goes_on x → p.number ≤ x.point.number
   run_rises code zero r p x e = stays r p x e
@@ -70,7 +81,7 @@ module _ (w : World BusState Outcome) where
       by_turn : (t : Turn Place) → step w code r p ≡ t → then_run w t (record { at = r; point = p }) (run w n code) ≡ goes_on x
           → ((y : Place) → run w n code y.at y.point ≡ goes_on x → y.point.number ≤ x.point.number) → p.number ≤ x.point.number
       by_turn (goes_on y) s h more =
-          let first = act_rises (slice_get code.operations r.place) code.messages r p y s in
+          let first = act_rises (slice_get code.operations r.place) code r p y s in
           let rest = more y h in
           omega (arith, first, rest)
       by_turn halted s h more = stays r p x h
@@ -115,35 +126,47 @@ module _ (plan : List Planned) (ps qs : List Placed) (top : ℕ) (same : (n : �
   leaves_alike [] i r p = refl
   leaves_alike (n ∷ ns) i r p = refl
 
-  act_alike : (o : Option Op) (ms : List (Line × Message)) (r : Registers) (p : Point BusState Outcome) (x : Place) → act w o ms r p ≡ goes_on x → x.point.number ≤ top → act v o ms r p ≡ goes_on x
-  act_alike None ms r p x e le = e
-  act_alike (Some Halt) ms r p x e le = e
-  act_alike (Some (Send m)) ms r p x e le = sends_alike (slice_get ms m) (λ l. l) r p x e le
-  act_alike (Some (Alt m)) ms r p x e le = sends_alike (slice_get ms m) (λ l. other_line r.line) r p x e le
-  act_alike (Some (SetGap t)) ms r p x e le = e
-  act_alike (Some (Loop n)) ms r p x e le = e
-  act_alike (Some (Again i)) ms r p x e le = turns_alike r.counters i r p ∙ e
-  act_alike (Some (Leave i)) ms r p x e le = leaves_alike r.counters i r p ∙ e
-  act_alike (Some (Jump i)) ms r p x e le = e
-  act_alike (Some (Test k)) ms r p x e le = ap (λ (b : Bool). goes_on (record { at = record r { place = r.place + 1; flag = b }; point = p })) (asks_alike k p) ∙ e
-  act_alike (Some (JumpFalse i)) ms r p x e le = e
+  calls_alike : (o : Option ℕ) (r : Registers) (p : Point BusState Outcome) → calls v o r p ≡ calls w o r p
+  calls_alike None r p = refl
+  calls_alike (Some i) r p = refl
+
+  backs_alike : (is : List ℕ) (r : Registers) (p : Point BusState Outcome) → comes_back v is r p ≡ comes_back w is r p
+  backs_alike [] r p = refl
+  backs_alike (i ∷ is) r p = refl
+
+  act_alike : (o : Option Op) (code : Code) (r : Registers) (p : Point BusState Outcome) (x : Place) → act w o code r p ≡ goes_on x → x.point.number ≤ top → act v o code r p ≡ goes_on x
+  act_alike None code r p x e le = e
+  act_alike (Some Halt) code r p x e le = e
+  act_alike (Some (Send m)) code r p x e le = sends_alike (slice_get code.messages m) (λ l. l) r p x e le
+  act_alike (Some (Alt m)) code r p x e le = sends_alike (slice_get code.messages m) (λ l. other_line r.line) r p x e le
+  act_alike (Some (SetGap t)) code r p x e le = e
+  act_alike (Some (Loop n)) code r p x e le = e
+  act_alike (Some (Again i)) code r p x e le = turns_alike r.counters i r p ∙ e
+  act_alike (Some (Leave i)) code r p x e le = leaves_alike r.counters i r p ∙ e
+  act_alike (Some (Jump i)) code r p x e le = e
+  act_alike (Some (Test k)) code r p x e le = ap (λ (b : Bool). goes_on (record { at = record r { place = r.place + 1; flag = b }; point = p })) (asks_alike k p) ∙ e
+  act_alike (Some (JumpFalse i)) code r p x e le = e
+  act_alike (Some (Call n)) code r p x e le = calls_alike (routine_at code.operations n) r p ∙ e
+  act_alike (Some Return) code r p x e le = backs_alike r.returns r p ∙ e
 
   sends_halt : (o : Option (Line × Message)) (on : Line → Line) (r : Registers) (p : Point BusState Outcome) → sends w o on r p ≡ halted → sends v o on r p ≡ halted
   sends_halt None on r p e = e
   sends_halt (Some m) on r p e = absurd cc
 
-  act_halts : (o : Option Op) (ms : List (Line × Message)) (r : Registers) (p : Point BusState Outcome) → act w o ms r p ≡ halted → act v o ms r p ≡ halted
-  act_halts None ms r p e = e
-  act_halts (Some Halt) ms r p e = e
-  act_halts (Some (Send m)) ms r p e = sends_halt (slice_get ms m) (λ l. l) r p e
-  act_halts (Some (Alt m)) ms r p e = sends_halt (slice_get ms m) (λ l. other_line r.line) r p e
-  act_halts (Some (SetGap t)) ms r p e = e
-  act_halts (Some (Loop n)) ms r p e = e
-  act_halts (Some (Again i)) ms r p e = turns_alike r.counters i r p ∙ e
-  act_halts (Some (Leave i)) ms r p e = leaves_alike r.counters i r p ∙ e
-  act_halts (Some (Jump i)) ms r p e = e
-  act_halts (Some (Test k)) ms r p e = absurd cc
-  act_halts (Some (JumpFalse i)) ms r p e = e
+  act_halts : (o : Option Op) (code : Code) (r : Registers) (p : Point BusState Outcome) → act w o code r p ≡ halted → act v o code r p ≡ halted
+  act_halts None code r p e = e
+  act_halts (Some Halt) code r p e = e
+  act_halts (Some (Send m)) code r p e = sends_halt (slice_get code.messages m) (λ l. l) r p e
+  act_halts (Some (Alt m)) code r p e = sends_halt (slice_get code.messages m) (λ l. other_line r.line) r p e
+  act_halts (Some (SetGap t)) code r p e = e
+  act_halts (Some (Loop n)) code r p e = e
+  act_halts (Some (Again i)) code r p e = turns_alike r.counters i r p ∙ e
+  act_halts (Some (Leave i)) code r p e = leaves_alike r.counters i r p ∙ e
+  act_halts (Some (Jump i)) code r p e = e
+  act_halts (Some (Test k)) code r p e = absurd cc
+  act_halts (Some (JumpFalse i)) code r p e = e
+  act_halts (Some (Call n)) code r p e = calls_alike (routine_at code.operations n) r p ∙ e
+  act_halts (Some Return) code r p e = backs_alike r.returns r p ∙ e
 
   run_alike : (code : Code) (n : ℕ) (r : Registers) (p : Point BusState Outcome) (x : Place) → run w n code r p ≡ goes_on x → x.point.number ≤ top → run v n code r p ≡ goes_on x
   run_alike code zero r p x e le = e
@@ -154,9 +177,9 @@ module _ (plan : List Planned) (ps qs : List Placed) (top : ℕ) (same : (n : �
           → then_run v (step v code r p) (record { at = r; point = p }) (run v n code) ≡ goes_on x
       by_turn (goes_on y) s h more =
           let rest = run_rises w code n y.at y.point x h in
-          ap (λ (t : Turn Place). then_run v t (record { at = r; point = p }) (run v n code)) (act_alike (slice_get code.operations r.place) code.messages r p y s (omega (arith, rest, le))) ∙ more y h
+          ap (λ (t : Turn Place). then_run v t (record { at = r; point = p }) (run v n code)) (act_alike (slice_get code.operations r.place) code r p y s (omega (arith, rest, le))) ∙ more y h
       by_turn halted s h more =
-          ap (λ (t : Turn Place). then_run v t (record { at = r; point = p }) (run v n code)) (act_halts (slice_get code.operations r.place) code.messages r p s) ∙ h
+          ap (λ (t : Turn Place). then_run v t (record { at = r; point = p }) (run v n code)) (act_halts (slice_get code.operations r.place) code r p s) ∙ h
       by_turn stuck s h more = absurd cc
 
 -- ---- as a controller meets them
@@ -172,7 +195,7 @@ free m placed u alike = record {
 }
 
 pub halts_alike : (m : MachineState) (placed : List Placed) → turn_of m ≡ halted → turn_of (with_placed m placed) ≡ halted
-halts_alike m placed e = act_halts m.plan m.placed placed 0 (λ n low high. absurd (omega (arith, low, high))) (slice_get m.code.operations m.at.place) m.code.messages m.at m.point e
+halts_alike m placed e = act_halts m.plan m.placed placed 0 (λ n low high. absurd (omega (arith, low, high))) (slice_get m.code.operations m.at.place) m.code m.at m.point e
 
 -- an action at the next message is none of those at the messages before
 pub alike_added : (m : MachineState) (one : Placed) → one.number ≡ m.point.number + 1 → AreAlikeSoFar m (m.placed ++ one ∷ [])

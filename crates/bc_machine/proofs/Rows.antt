@@ -8,9 +8,9 @@ use Rattle.frame_code.specs.Ranges.{AreInRange, in_range, is_gap, is_test, IsIma
 use Rattle.bc_machine.specs.declared.Stepped.{Stepped}
 use Rattle.bc_machine.specs.Running.{MachineState, world_in, moved_by, stepped, answered, answer_of}
 
-pub to_row : (m new : MachineState) (o : Op) → slice_get m.code.operations m.at.place ≡ Some o → new ≡ moved_by (act (world_in m) (Some o) m.code.messages m.at m.point) m → new ≡ stepped m
+pub to_row : (m new : MachineState) (o : Op) → slice_get m.code.operations m.at.place ≡ Some o → new ≡ moved_by (act (world_in m) (Some o) m.code m.at m.point) m → new ≡ stepped m
 unfolding stepped
-to_row m new o e h = h ∙ sym (ap (λ v. moved_by (act (world_in m) v m.code.messages m.at m.point) m) e)
+to_row m new o e h = h ∙ sym (ap (λ v. moved_by (act (world_in m) v m.code m.at m.point) m) e)
 
 pub to_answer : (m new : MachineState) (o : Op) (r : Stepped) → slice_get m.code.operations m.at.place ≡ Some o → new ≡ stepped m → r ≡ answer_of (Some o) new.point.state.talks → r ≡ answered m
 unfolding answered

@@ -43,12 +43,12 @@ module _ {State Outcome : Type 0} (w : World State Outcome) (code : Code) where
       then_stays stuck more g = absurd (cc)
 
   -- a run that goes on has not taken all steps of a bound within which it halts
-  pub before_end : (b n : ℕ) (from : Point State Outcome) (x y : Running State Outcome) → HaltsWithin w code b start from → run w n code start from ≡ goes_on x → step w code x.at x.point ≡ goes_on y → n < b
+  pub before_end : (b n : ℕ) (from : Point State Outcome) (x y : Running State Outcome) → HaltsWithin w code b (start code) from → run w n code (start code) from ≡ goes_on x → step w code x.at x.point ≡ goes_on y → n < b
   before_end b n from x y ends h e = ⊎_elim (λ less. less) (λ le. absurd (late le)) (cases_lt n b)
     where
       late : b ≤ n → ⊥
       late le =
-          let s : run w n code start from ≡ goes_on ends.last = run_stays b n start from ends.last ends.halts ends.comes le in
+          let s : run w n code (start code) from ≡ goes_on ends.last = run_stays b n (start code) from ends.last ends.halts ends.comes le in
           let here : goes_on ends.last ≡ goes_on x = sym s ∙ h in
           let same : ends.last ≡ x = cc in
           let no : halted ≡ goes_on y = sym ends.halts ∙ ap (λ v. step w code v.at v.point) same ∙ e in

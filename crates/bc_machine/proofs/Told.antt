@@ -7,8 +7,9 @@ use Rattle.mil_message.specs.World.{other_line}
 use Rattle.mil_line.specs.Plans.{faults_of}
 use Rattle.mil_bus.specs.Exchange.{exchanged, talk_of}
 use Rattle.frame_code.specs.declared.Op.{Op}
-use Rattle.frame_code.specs.declared.Op.TheVariants.{Halt, Send, Alt, SetGap, Loop, Again, Leave, Jump, Test, JumpFalse}
-use Rattle.frame_code.specs.Table.{act, sends, turns, counted, leaves, stuck}
+use Rattle.frame_code.specs.declared.Op.TheVariants.{Halt, Send, Alt, SetGap, Loop, Again, Leave, Jump, Test, JumpFalse, Call, Return}
+use Rattle.frame_code.specs.Table.{act, sends, turns, counted, leaves, stuck, calls, comes_back}
+use Rattle.frame_code.specs.Routines.{routine_at}
 use Rattle.bc_machine.specs.Controller.{ready}
 use Rattle.bc_machine.specs.Running.{MachineState, world_in, turn_of, moved_by, stepped, answered, answer_of, latest, clock_in}
 use Rattle.bc_machine.specs.UnderWay.{IsQuiet, Tells}
@@ -49,11 +50,19 @@ module _ (m : MachineState) where
   leaves_told [] i going = absurd (going refl)
   leaves_told (n ∷ ns) i going = record { state = refl; number = refl; last = refl; taken = refl }
 
-  told_by : (o : Option Op) → slice_get m.code.operations m.at.place ≡ o → act (world_in m) o m.code.messages m.at m.point ≢ stuck
-      → clock_in (moved_by (act (world_in m) o m.code.messages m.at m.point) m) < 2 ^ 48
-      → Tells m (moved_by (act (world_in m) o m.code.messages m.at m.point) m) (answer_of o (moved_by (act (world_in m) o m.code.messages m.at m.point) m).point.state.talks)
+  calls_told : (o : Option ℕ) → calls (world_in m) o m.at m.point ≢ stuck → IsQuiet m (moved_by (calls (world_in m) o m.at m.point) m)
+  calls_told None going = absurd (going refl)
+  calls_told (Some i) going = record { state = refl; number = refl; last = refl; taken = refl }
+
+  backs_told : (is : List ℕ) → comes_back (world_in m) is m.at m.point ≢ stuck → IsQuiet m (moved_by (comes_back (world_in m) is m.at m.point) m)
+  backs_told [] going = absurd (going refl)
+  backs_told (i ∷ is) going = record { state = refl; number = refl; last = refl; taken = refl }
+
+  told_by : (o : Option Op) → slice_get m.code.operations m.at.place ≡ o → act (world_in m) o m.code m.at m.point ≢ stuck
+      → clock_in (moved_by (act (world_in m) o m.code m.at m.point) m) < 2 ^ 48
+      → Tells m (moved_by (act (world_in m) o m.code m.at m.point) m) (answer_of o (moved_by (act (world_in m) o m.code m.at m.point) m).point.state.talks)
   told_by None e going small = absurd (going refl)
-  told_by (Some Halt) e going small = record { halts = ap (λ v. act (world_in m) v m.code.messages m.at m.point) e; same = refl }
+  told_by (Some Halt) e going small = record { halts = ap (λ v. act (world_in m) v m.code m.at m.point) e; same = refl }
   told_by (Some (Send i)) e going small = sends_told (slice_get m.code.messages i) (λ l. l) going small
   told_by (Some (Alt i)) e going small = sends_told (slice_get m.code.messages i) (λ l. other_line m.at.line) going small
   told_by (Some (SetGap t)) e going small = record { state = refl; number = refl; last = refl; taken = refl }
@@ -63,6 +72,8 @@ module _ (m : MachineState) where
   told_by (Some (Jump i)) e going small = record { state = refl; number = refl; last = refl; taken = refl }
   told_by (Some (Test k)) e going small = record { state = refl; number = refl; last = refl; taken = refl }
   told_by (Some (JumpFalse i)) e going small = record { state = refl; number = refl; last = refl; taken = refl }
+  told_by (Some (Call n)) e going small = calls_told (routine_at m.code.operations n) going
+  told_by (Some Return) e going small = backs_told m.at.returns going
 
   pub told : turn_of m ≢ stuck → clock_in (stepped m) < 2 ^ 48 → Tells m (stepped m) (answered m)
   unfolding stepped answered

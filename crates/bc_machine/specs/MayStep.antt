@@ -10,6 +10,7 @@ pub record IsAble (m : MachineState) : Type 0 where
   pub going : turn_of m ≢ stuck
   pub inside : m.at.place < length m.code.operations
   pub room : (n : ℕ) → slice_get m.code.operations m.at.place ≡ Some (op.Loop n) → length m.at.counters < 17
+  pub room_to_call : (k : ℕ) → slice_get m.code.operations m.at.place ≡ Some (op.Call k) → length m.at.returns < 32
   pub number : m.point.number ≤ 1000000
   pub taken : m.taken ≤ 100000000
   pub clock : clock_in m ≤ 2 ^ 48

@@ -32,7 +32,7 @@ abbrev pub beginning : BusState → Point BusState Outcome
 beginning b = record { state = b; number = 0; gap = 40; last = None }
 
 abbrev pub started : Code → BusState → List Planned → List Placed → MachineState
-started code b plan placed = record { code = code; plan = plan; placed = placed; begun = b; taken = 0; at = start; point = beginning b }
+started code b plan placed = record { code = code; plan = plan; placed = placed; begun = b; taken = 0; at = start code; point = beginning b }
 
 abbrev pub world_in : MachineState → World BusState Outcome
 world_in m = world_of m.plan m.placed

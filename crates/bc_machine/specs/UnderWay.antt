@@ -16,7 +16,7 @@ use Rattle.bc_machine.specs.Running.{MachineState, world_in, beginning, turn_of,
 pub record IsUnderWay (m : MachineState) : Type 0 where
   pub loadable : IsLoadable m.code
   pub within : IsWithin m.code
-  pub reached : run (world_in m) m.taken m.code start (beginning m.begun) ≡ goes_on (record { at = m.at; point = m.point })
+  pub reached : run (world_in m) m.taken m.code (start m.code) (beginning m.begun) ≡ goes_on (record { at = m.at; point = m.point })
   pub steps : m.taken ≤ budget m.code.operations
   pub messages : m.point.number ≤ worst_messages m.code.operations
   -- a message moves the clock by at most 2^24 ticks

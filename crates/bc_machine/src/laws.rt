@@ -25,7 +25,7 @@ impl Setting for BusSetting {
 }
 
 /// Law: a controller that runs a loadable code on any bus, under any plan and any placed actions, is never stuck: it never
-/// meets a bad place, an empty list of counters or a message that is not there. It sends at most as many messages as the
+/// meets a bad place, an empty list of counters, an empty list of return places, or a routine or a message that is not there. It sends at most as many messages as the
 /// code's sum says, and has halted after as many steps as its budget.
 pub fn controller_runs()
     ensures never_stuck { (code : Code) (b : BusState) (plan : List Planned) (placed : List Placed) (n : ℕ) →

@@ -10,6 +10,7 @@ mod outcomes;
 mod parts;
 mod placed;
 mod posting;
+mod returns;
 mod saved;
 mod schedule;
 mod upcoming;

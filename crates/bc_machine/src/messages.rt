@@ -11,7 +11,7 @@ use mil_line::{Gap, Plan};
 use mil_message::Message;
 use mil_word::Line;
 
-// The actions that are placed at a number act: those of the beginning, and then those that were placed later.
+/// The actions that are placed at a number act: those of the beginning, and then those that were placed later.
 pub fn act_both(bus: &mut Bus, placed: &Schedule, posted: &Schedule, number: u32)
     ensures bus { bus.new ≡ ready (placed.now ++ posted.now) number bus.old }
     ensures clock { clock_of bus.new.start bus.new.talks ≡ clock_of bus.old.start bus.old.talks }
@@ -20,7 +20,7 @@ pub fn act_both(bus: &mut Bus, placed: &Schedule, posted: &Schedule, number: u32
     act_at(bus, posted.around(number), number);
 }
 
-// The message of a number: the actions placed at it, then its exchange with the faults planned for it, and what is seen of that.
+/// The message of a number: the actions placed at it, then its exchange with the faults planned for it, and what is seen of that.
 pub fn exchange(
     bus: &mut Bus,
     plan: &Plan,

@@ -20,7 +20,7 @@ fn holds(test: u8, outcome: Outcome) -> bool
     }
 }
 
-// A test of the last outcome, false before any message.
+/// A test of the last outcome, false before any message.
 pub fn asks(test: u8, last: Option<Outcome>) -> bool
     requires { IsTrue (is_test test) }
     ensures { result ≡ test_of test last }
@@ -31,7 +31,7 @@ pub fn asks(test: u8, last: Option<Outcome>) -> bool
     }
 }
 
-// The other line.
+/// The other line.
 pub fn other(line: Line) -> Line
     ensures { result ≡ other_line line }
 {

@@ -1,10 +1,11 @@
 //! A controller's parts, wherever its program stands.
-ghost use Rattle.std.specs.Prelude.{◌≡◌, ◌<◌, ◌≤◌, ◌+◌, ◌^◌, Some, if◌then◌else◌, slice_get, length, IfOk, OnOk, OnErr, IsTrue, [], ◌∷◌};
+ghost use Rattle.std.specs.Prelude.{◌≡◌, ◌<◌, ◌≤◌, ◌+◌, ◌^◌, ◌≢◌, Some, None, if◌then◌else◌, slice_get, length, IfOk, OnOk, OnErr, IsTrue, [], ◌∷◌};
 ghost use Rattle.mil_word.specs.declared.Line.{Line};
 ghost use Rattle.mil_message.specs.declared.messages.Message.{Message};
 ghost use Rattle.mil_message.specs.World.{sent, other_line};
 ghost use Rattle.mil_bus.specs.Exchange.{clock_of};
-ghost use Rattle.frame_code.specs.Table.{at_place, sends, turns, leaves};
+ghost use Rattle.frame_code.specs.Table.{at_place, sends, turns, leaves, calls, comes_back};
+ghost use Rattle.frame_code.specs.Routines.{routine_at};
 ghost use Rattle.frame_code.specs.Ranges.{is_test};
 ghost use Rattle.frame_load.specs.Judging.{IsWithin};
 ghost use Rattle.frame_code.specs.Loadable.{IsLoadable};
@@ -19,6 +20,7 @@ use crate::begun::{Begun, begun_with, same};
 use crate::counters::Counters;
 use crate::messages::exchange;
 use crate::outcomes::{asks, other};
+use crate::returns::Returns;
 use crate::saved::SavedParts;
 use crate::schedule::Schedule;
 use crate::{Placed, Stepped};
@@ -43,6 +45,7 @@ pub struct Parts {
     taken: u32,
     place: u16,
     counters: Counters,
+    returns: Returns,
     flag: bool,
     pub(crate) line: Line,
     pub(crate) bus: Bus,
@@ -70,6 +73,7 @@ impl Parts {
     {
         let _image = program.image();
         let begun = begun_with(&bus);
+        let place = program.main();
         let placed = Schedule::of(placed);
         let posted = Schedule::none(placed.allocator());
         Parts {
@@ -79,8 +83,9 @@ impl Parts {
             posted,
             begun,
             taken: 0,
-            place: 0,
+            place,
             counters: Counters::none(),
+            returns: Returns::none(),
             flag: false,
             line: Line::A,
             bus,
@@ -172,6 +177,33 @@ impl Parts {
         self.go(place)
     }
 
+    /// Notes the place behind the call, and goes to where a routine begins.
+    fn call(&mut self, routine: u8) -> Stepped
+        requires taken { self.old.taken < 2 ^ 31 }
+        requires place { self.old.at.place < 4096 }
+        requires room { length self.old.at.returns < 32 }
+        requires there { routine_at self.old.code.operations routine ≢ None }
+        ensures value { self.new ≡ moved_by (calls (world_in self.old) (routine_at self.old.code.operations routine) self.old.at self.old.point) self.old }
+        ensures answer { result ≡ Stepped.Ran }
+    {
+        let begin = self.program.routine(routine);
+        self.returns.push(self.place + 1);
+        self.go(begin)
+    }
+
+    /// Goes to the place that was noted last.
+    fn come_back(&mut self) -> Stepped
+        requires taken { self.old.taken < 2 ^ 31 }
+        requires noted { 0 < length self.old.at.returns }
+        ensures value { self.new ≡ moved_by (comes_back (world_in self.old) self.old.at.returns self.old.at self.old.point) self.old }
+        ensures answer { result ≡ Stepped.Ran }
+    {
+        match self.returns.pop() {
+            Some(place) => self.go(place),
+            None => Stepped::Ran,
+        }
+    }
+
     /// Goes to a place where the flag is false.
     fn jump_false(&mut self, place: u16) -> Stepped
         requires taken { self.old.taken < 2 ^ 31 }
@@ -246,6 +278,8 @@ impl Parts {
                 self.go_on()
             }
             Op::JumpFalse(place) => self.jump_false(place),
+            Op::Call(routine) => self.call(routine),
+            Op::Return => self.come_back(),
         }
     }
 
@@ -283,6 +317,7 @@ impl Parts {
             taken: self.taken,
             place: self.place,
             counters: self.counters.copy(),
+            returns: self.returns.copy(),
             flag: self.flag,
             line: self.line,
             bus: self.bus.copy()?,
@@ -306,6 +341,7 @@ impl Parts {
             taken,
             place: self.place,
             counters: self.counters.copy(),
+            returns: self.returns.copy(),
             flag: self.flag,
             line: self.line,
             bus: self.bus.save()?,
@@ -325,6 +361,7 @@ impl Parts {
         self.taken = saved.taken;
         self.place = saved.place;
         self.counters = saved.counters.copy();
+        self.returns = saved.returns.copy();
         self.flag = saved.flag;
         self.line = saved.line;
         self.number = saved.number;

@@ -33,7 +33,7 @@ impl Placed {
     }
 }
 
-// The actions that are placed at a number act, in their order.
+/// The actions that are placed at a number act, in their order.
 pub fn act_at(bus: &mut Bus, placed: &[Placed], number: u32)
     ensures bus { bus.new ≡ ready placed.now number bus.old }
     ensures clock { clock_of bus.new.start bus.new.talks ≡ clock_of bus.old.start bus.old.talks }
@@ -45,7 +45,7 @@ pub fn act_at(bus: &mut Bus, placed: &[Placed], number: u32)
     }
 }
 
-// Copies of placed actions, in their order.
+/// Copies of placed actions, in their order.
 pub fn copied(alloc: Global, placed: &[Placed]) -> Result<Vec<Placed>, AllocError>
     ensures { IfOk result (λ v. v.items ≡ placed.now) }
 {

@@ -1,6 +1,7 @@
 //! What is kept of a controller, for it to be taken back there.
 use crate::begun::Begun;
 use crate::counters::Counters;
+use crate::returns::Returns;
 use crate::schedule::Schedule;
 use frame_load::Program;
 use mil_bus::{Outcome, SavedBus};
@@ -21,6 +22,7 @@ pub struct SavedParts {
     pub taken: u32,
     pub place: u16,
     pub counters: Counters,
+    pub returns: Returns,
     pub flag: bool,
     pub line: Line,
     pub bus: SavedBus,

@@ -7,7 +7,7 @@ use Rattle.frame_code.specs.Table.{Code}
 use Rattle.frame_code.specs.Ranges.{IsImage}
 use Rattle.frame_code.specs.Loadable.{IsLoadable}
 use Rattle.frame_load.specs.declared.LoadError.{LoadError}
-use Rattle.frame_load.specs.declared.LoadError.TheVariants.{End, Nesting, Jumps, Messages, Budget, Memory}
+use Rattle.frame_load.specs.declared.LoadError.TheVariants.{End, Routines, Nesting, Jumps, Messages, Budget, Memory}
 use Rattle.frame_load.specs.Budget.{budget, worst_messages}
 use Rattle.frame_load.specs.Judging.{IsWithin, Refuses}
 use Rattle.bench_assemble.specs.Assembled.{judged, too_long, too_many_messages, over_budget}
@@ -52,9 +52,10 @@ judged_over code i beyond =
 -- a loadable code is refused for its budget alone
 refused_within : (code : Code) (e : LoadError) → IsLoadable code → Refuses code e → ¬ IsWithin code
 refused_within code End ok h = absurd (h ok.ends)
-refused_within code Nesting ok h = absurd (h.1 ok.nested)
-refused_within code Jumps ok h = absurd (h.2 ok.jumps)
-refused_within code Messages ok h = absurd (h.3 ok.messages)
+refused_within code Routines ok h = absurd (h.1 ok.routines_ok)
+refused_within code Nesting ok h = absurd (h.2 ok.nested)
+refused_within code Jumps ok h = absurd (h.3 ok.jumps)
+refused_within code Messages ok h = absurd (h.4 ok.messages)
 refused_within code Budget ok h = h.1
 refused_within code Memory ok h = absurd h
 

@@ -1,10 +1,8 @@
 //! `bench check`: jobs tried without a recording.
 
-use crate::fault::Fault;
-use crate::files::read_texts;
-use crate::jobs::jobs_of;
 use bench_check::{CheckFault, print_findings, try_job};
 use bench_core::{Settings, judge};
+use bench_requests::{Fault, jobs_of, read_texts};
 use clap::{Arg, ArgMatches, Command};
 use job_file::Job;
 use std::alloc::{AllocError, Global};

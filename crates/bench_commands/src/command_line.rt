@@ -1,10 +1,10 @@
 //! The command line of `bench`: its commands, their arguments with their ranges, and their help.
 
 use crate::checking::{check_command, check_request};
-use crate::fault::Fault;
 use crate::looking_line::{
     draw_command, draw_request, explain_command, export_command, stat_command,
 };
+use bench_requests::{Fault, RunRequest};
 use clap::error::ErrorKind;
 use clap::{Arg, ArgAction, ArgMatches, Command, Error, value_parser};
 use std::alloc::{AllocError, Global};
@@ -77,27 +77,6 @@ pub struct StepRequest<'a> {
     /// The file of the report of its run.
     pub report: &'a str,
     /// The files of the jobs that were run, however many.
-    pub jobs: Vec<&'a str>,
-}
-
-/// What is to be recorded, and where to.
-#[derive(Debug, Drop)]
-pub struct RunRequest<'a> {
-    /// The data type version in each packet header.
-    pub version: u8,
-    /// How many bytes a packet has at most, in range or not.
-    pub limit: u32,
-    /// How many items the queue holds at most, in range or not.
-    pub queue: u32,
-    /// Whether buses wait while the queue is full, so that no message is refused.
-    pub hold: bool,
-    /// The file of the packets that stand in front of all others.
-    pub prologue: Option<&'a str>,
-    /// The file to write the recording to.
-    pub out: &'a str,
-    /// The file to write the report to.
-    pub report: &'a str,
-    /// The files of the jobs, however many.
     pub jobs: Vec<&'a str>,
 }
 

@@ -1,10 +1,7 @@
 //! The commands of `bench`: each reads its files, calls one proved function, and prints.
 
-use crate::apart::told_apart;
 use crate::checking::check_jobs;
 use crate::command_line::{self, Request};
-use crate::fault::Fault;
-use crate::files::{read_whole, write_whole};
 use crate::looking::{draw_picture, export_rows, show_explanation, show_statistics};
 use crate::pointing::point;
 use crate::recording::run_jobs;
@@ -12,6 +9,7 @@ use crate::stepping::step_through;
 use bench_assemble::{AssembleFault, Sizes, assemble_text, print_sizes};
 use bench_dump::{DumpFault, dump};
 use bench_one::{OneFault, one, print_bytes};
+use bench_requests::{Fault, read_whole, told_apart, write_whole};
 use clap::Error;
 use clap::error::ErrorKind;
 use std::io::{BufWriter, IsTerminal, Write};

@@ -2,13 +2,9 @@
 //! proved function of a crate below.
 #![tactic(auto)]
 
-mod apart;
 mod checking;
 mod command_line;
 mod commands;
-mod fault;
-mod files;
-mod jobs;
 mod looking;
 mod looking_line;
 mod pointing;

@@ -1,13 +1,11 @@
 //! `bench stat`, `bench export`, `bench draw` and `bench explain`: what there is to see in a recording, and what a
 //! fault means.
 
-use crate::apart::told_apart;
 use crate::command_line::DrawRequest;
-use crate::fault::Fault;
-use crate::files::{create, read_whole, write_whole};
 use bench_draw::{Selection, draw};
 use bench_explain::{explain, print_explanation, print_list};
 use bench_export::{ExportFault, export};
+use bench_requests::{Fault, create, read_whole, told_apart, write_whole};
 use bench_stat::{ChannelFigures, print_rows, print_statistics, stat};
 use ch11_reader::{Index, ReadError};
 use std::alloc::Global;

@@ -1,9 +1,8 @@
 //! What a terminal shows behind a fault line: the place in the text that was refused, or the system's own words.
 
 use crate::command_line::Request;
-use crate::fault::Fault;
-use crate::files::read_whole;
 use bench_assemble::AssembleFault;
+use bench_requests::{Fault, read_whole};
 use job_file::{JobError, read_job};
 use std::io;
 use std::io::IsTerminal;

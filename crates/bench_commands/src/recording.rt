@@ -1,16 +1,13 @@
 //! `bench run`: jobs recorded into a file, and their report beside it.
-ghost use Rattle.std.specs.Prelude.{◌≡◌, ◌-◌, ◌<◌, ◌^◌};
+ghost use Rattle.std.specs.Prelude.{◌-◌, ◌<◌, ◌^◌};
 
-use crate::apart::{told_apart, told_apart_from_open};
-use crate::command_line::RunRequest;
-use crate::fault::Fault;
-use crate::files::{
-    empty_if_there, empty_open, open_as_it_is, read_texts, read_whole, write_whole,
-};
-use crate::jobs::jobs_of;
 use bench_core::{Settings, judge};
 use bench_record::{Counts, print_counts, record_jobs_held, record_jobs_with_progress};
 use bench_report::{Report, print_report};
+use bench_requests::{
+    Fault, RunRequest, empty_if_there, empty_open, jobs_of, open_as_it_is, read_texts, read_whole,
+    settings_of, told_apart, told_apart_from_open, write_whole,
+};
 use ch11_writer::{Sink, StdSink};
 use job_file::Job;
 use std::alloc::{AllocError, Global};
@@ -78,23 +75,6 @@ fn make_room<'a, R: Files>(
     }
     empty_if_there(rt, request.report)?;
     empty_open(out, request.out)
-}
-
-/// The settings that a request asks for, with the bytes of its prologue. No host posts actions.
-fn settings_of(request: &RunRequest<'_>, prologue: Vec<u8>) -> Settings
-    ensures version { result.version ≡ request.now.version }
-    ensures limit { result.limit ≡ request.now.limit }
-    ensures queue { result.queue ≡ request.now.queue }
-    ensures prologue { result.prologue.items ≡ prologue.items }
-    ensures posts { result.posts ≡ 0 }
-{
-    Settings {
-        version: request.version,
-        limit: request.limit,
-        queue: request.queue,
-        prologue,
-        posts: 0,
-    }
 }
 
 /// The report of a recording that is whole, with buses that are held where that is asked. The sink is let go, which closes a file.

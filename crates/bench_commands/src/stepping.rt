@@ -1,10 +1,8 @@
 //! `bench step`: a recording, walked through by lines of the standard input.
 
 use crate::command_line::StepRequest;
-use crate::fault::Fault;
-use crate::files::{read_texts, read_whole};
-use crate::jobs::jobs_of;
 use bench_report::{Report, ReportError, ReportFault, read_report};
+use bench_requests::{Fault, jobs_of, read_texts, read_whole};
 use bench_step::{Prompted, step};
 use ch11_reader::{Index, ReadError};
 use job_file::Job;

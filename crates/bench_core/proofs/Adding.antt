@@ -1,14 +1,13 @@
 -- An action put into an ordered list, behind those of its number.
-use Rattle.std.proofs.Common.{◌≡◌, ◌≢◌, ℕ, zero, suc, ◌<◌, ◌≤◌, Bool, true, false, cond, leb, eqb, List, [], ◌∷◌, ◌++◌, length, take, drop, refl, sym, ap, ◌∙◌, append-nil, arith}
-use Rattle.std.specs.Prelude.{All}
+use Rattle.std.proofs.Common.{◌≡◌, ℕ, zero, suc, ◌<◌, ◌≤◌, Bool, true, false, cond, leb, eqb, List, [], ◌∷◌, ◌++◌, length, refl, sym, ap, ◌∙◌, append-nil, arith}
 use Rattle.std.specs.List.{AllByRecursion, AllWithin, insert}
-use Rattle.std.proofs.lemmas.Bool.{eqb-true, eq-eqb, ne_eqb, leb-true, leb-false}
+use Rattle.std.proofs.lemmas.Bool.{eqb-true, ne_eqb, leb-true, leb-false}
 use Rattle.std.proofs.lemmas.List.Elements.{filter-append, All-from_recursion, recursion_from_All}
 use Rattle.bc_machine.specs.declared.placed.Placed.{Placed}
 use Rattle.bc_machine.specs.Controller.{placed_at}
 use Rattle.bench_report.specs.Reports.{IsPlace, NeverFalls}
 use Rattle.bench_core.specs.Placing.{placed_up_to, IsOrdered}
-use Rattle.bench_core.proofs.Ordered.{from_least, up_to_same, up_to_itself, at_up_to}
+use Rattle.bench_core.proofs.Ordered.{up_to_same, up_to_itself, at_up_to}
 use Rattle.bench_core.proofs.Sorting.{up_to_last}
 
 -- the first of the list, up to a place, are at most at a number, and those behind are above it

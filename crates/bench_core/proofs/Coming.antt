@@ -14,7 +14,7 @@ use Rattle.ch11_recording.specs.Laws.{IsItem, LatestIsLast}
 use Rattle.ch11_recording.specs.WrittenFile.{Format, channel_in, concerns, met, held_in}
 use Rattle.ch11_recording.proofs.Growth.{after_more}
 use Rattle.ch11_recording.proofs.Kept.{not_mine, mine, items_channel}
-use Rattle.bench_core.specs.Bench.{Lane, Bench}
+use Rattle.bench_core.specs.Bench.{LaneState, Bench, all_records}
 use Rattle.bench_core.specs.Settled.{is_kept, kept_of, IsSettled}
 use Rattle.bench_core.specs.Writing.{MayCome}
 use Rattle.bench_core.proofs.Lists.{records_both}
@@ -48,12 +48,12 @@ own_front channel k r c taken behind same =
     records_both channel taken (item.Message c k r ∷ behind)
     ∙ ap (λ (b : Bool). records_in channel taken ++ (cond b (numbered k r ∷ []) [] ++ records_in channel behind)) (eq-eqb c channel same)
 
-pub may_come : LatestIsLast → (f : Format) (b : Bench) (l : Lane) (x : Item) (behind : List Item) → b.queue ≡ x ∷ behind → channel_of x ≡ l.channel → IsSettled b l → IsItem x
+pub may_come : LatestIsLast → (f : Format) (b : Bench) (l : LaneState) (x : Item) (behind : List Item) → b.queue ≡ x ∷ behind → channel_of x ≡ l.channel → IsSettled b l → IsItem x
     → MayCome (held_in f l.channel b.taken) x
 may_come latest f b l (item.Message c k r) behind at of settled good =
     let whole : records_in l.channel b.taken ++ numbered k r ∷ records_in l.channel behind ≡ kept_of l =
     sym (own_front l.channel k r c b.taken behind of) ∙ ap (λ (q : List Item). records_in l.channel (b.taken ++ q)) (sym at) ∙ settled in
-    let rising : Ascends 0 (kept_of l) = kept_ascend l.refused 0 1 (take l.made l.records) (omega arith) in
+    let rising : Ascends 0 (kept_of l) = kept_ascend l.refused 0 1 (take l.made (all_records l)) (omega arith) in
     let low : packet.last_number 0 (records_in l.channel b.taken) < k = above_last 0 (records_in l.channel b.taken) (numbered k r) (records_in l.channel behind) (subst (Ascends 0) (sym whole) rising) in
     (subst (λ (n : ℕ). n < k) (sym (latest f l.channel b.taken)) low, good.1.0.stamp)
 may_come latest f b l (item.End c) behind at of settled good = tt
@@ -74,23 +74,23 @@ held_same f items x channel d of other =
     ∙ not_mine (held_in f d items) x (false_from_ne_true (concerns (held_in f d items) x)
     (λ e. other (sym (own f d items) ∙ sym (eqb-true (channel_of x) (held_in f d items).channel.channel e) ∙ of)))
 
-abbrev pub holds : Format → List Item → List Lane → List Held
-holds f items lanes = map (λ (l : Lane). held_in f l.channel items) lanes
+abbrev pub holds : Format → List Item → List LaneState → List Held
+holds f items lanes = map (λ (l : LaneState). held_in f l.channel items) lanes
 
-held_others : (f : Format) (items : List Item) (x : Item) (channel : ℕ) (lanes : List Lane) → channel_of x ≡ channel → AllByRecursion (λ other. other ≢ channel) (channels_in lanes)
+held_others : (f : Format) (items : List Item) (x : Item) (channel : ℕ) (lanes : List LaneState) → channel_of x ≡ channel → AllByRecursion (λ other. other ≢ channel) (channels_in lanes)
     → holds f items lanes ≡ holds f (items ++ x ∷ []) lanes
 held_others f items x channel [] of others = refl
 held_others f items x channel (k ∷ lanes) of others =
     ap (λ (h : Held). h ∷ holds f items lanes) (sym (held_same f items x channel k.channel of others.0))
     ∙ ap (λ (hs : List Held). held_in f k.channel (items ++ x ∷ []) ∷ hs) (held_others f items x channel lanes of others.1)
 
-pub held_set : (f : Format) (items : List Item) (x : Item) (lanes : List Lane) (i : ℕ) (l : Lane) → AreDistinct (channels_in lanes) → slice_get lanes i ≡ Some l → channel_of x ≡ l.channel
+pub held_set : (f : Format) (items : List Item) (x : Item) (lanes : List LaneState) (i : ℕ) (l : LaneState) → AreDistinct (channels_in lanes) → slice_get lanes i ≡ Some l → channel_of x ≡ l.channel
     → slice_set (holds f items lanes) i (met (held_in f l.channel items) x) ≡ holds f (items ++ x ∷ []) lanes
 held_set f items x [] i l distinct at of = absurd cc
 held_set f items x (k ∷ lanes) zero l distinct at of =
     let same : l ≡ k = cc in
-    let here : channel_of x ≡ k.channel = of ∙ ap (λ (y : Lane). y.channel) same in
-    ap (λ (y : Lane). met (held_in f y.channel items) x ∷ holds f items lanes) same
+    let here : channel_of x ≡ k.channel = of ∙ ap (λ (y : LaneState). y.channel) same in
+    ap (λ (y : LaneState). met (held_in f y.channel items) x ∷ holds f items lanes) same
     ∙ ap (λ (h : Held). h ∷ holds f items lanes) (sym (held_more f items x k.channel here))
     ∙ ap (λ (hs : List Held). held_in f k.channel (items ++ x ∷ []) ∷ hs) (held_others f items x k.channel lanes here distinct.0)
 held_set f items x (k ∷ lanes) (suc i) l distinct at of =

@@ -4,51 +4,48 @@ use Rattle.std.specs.Option.{option_to_list}
 use Rattle.std.specs.Prelude.{Result, Ok, Err, OnOk, OnErr}
 use Rattle.std.specs.List.{AllByRecursion}
 use Rattle.std.proofs.lemmas.List.{length-set, length-append}
-use Rattle.bc_machine.specs.declared.placed.Placed.{Placed}
+use Rattle.mil_host.specs.declared.actions.Action.{Action}
 use Rattle.mil_monitor.specs.declared.Record.{Record}
 use Rattle.ch11_builder.specs.Held.{Held, packet_of}
 use Rattle.ch11_recording.specs.declared.item.Item.{Item}
 use Rattle.ch11_recording.specs.Items.{channel_of}
 use Rattle.ch11_recording.specs.Laws.{FileGoesOn, PacketsGoOn, LatestIsLast, IsItem}
 use Rattle.ch11_recording.specs.WrittenFile.{Format, held_in, met, closes, closing, written_file, closed_by, closed_packets}
-use Rattle.bench_core.specs.declared.step.Step.TheVariants.{Offer, Take}
-use Rattle.bench_core.specs.Bench.{Lane, Bench, has_room, with_end, offered, taken_from, stepped}
+use Rattle.bench_core.specs.declared.step.Step.TheVariants.{Offer, Take, Post}
+use Rattle.bench_core.specs.Bench.{LaneState, Bench, has_room, with_end, offered, taken_from, with_post, lane_posts, posted, stepped}
 use Rattle.bench_core.specs.Settled.{IsSettled}
 use Rattle.bench_core.specs.Writing.{MayCome}
-use Rattle.bench_core.specs.Channels.{Bus, after_next, queued_next, next_in, IsMade}
-use Rattle.bench_core.specs.World.{WorldState, with_bench, IsReached, IsKept, lanes_in}
+use Rattle.bench_core.specs.Channels.{after_next, queued_next, next_in, IsMade}
+use Rattle.bench_core.specs.World.{WorldState, with_bench, IsReached, IsKept}
 use Rattle.bench_core.proofs.Steps.{IsBench, channels_in, one_of}
 use Rattle.bench_core.proofs.Tidy.{Stands, IsTidy, packets_at_most}
 use Rattle.bench_core.proofs.Coming.{holds, held_set, may_come}
-use Rattle.bench_core.proofs.Offers.{map_set, map_at, map_kept, all_set_to, set_same, offer_made, offer_is}
+use Rattle.bench_core.proofs.Offers.{map_at, map_kept, all_set_to, set_same, offer_made, offer_is}
 use Rattle.bench_core.proofs.Worlds.{all_recorded, reached_bench, reached_tidy, reached_more}
 
-abbrev pub state : Format → List ℕ → List Bus → ℕ → List Item → List Item → WorldState
-state f prologue buses capacity queue taken = record {
+abbrev pub state : Format → List ℕ → ℕ → List LaneState → ℕ → List Item → List Item → WorldState
+state f prologue most ls capacity queue taken = record {
   format = f;
   prologue = prologue;
-  actions = map (λ (b : Bus). b.actions) buses;
-  bench = record { lanes = lanes_in buses; capacity = capacity; queue = queue; taken = taken };
+  most = most;
+  bench = record { lanes = ls; capacity = capacity; queue = queue; taken = taken };
 }
 
 -- ---- an offer
 
-pub offer_state : (f : Format) (prologue : List ℕ) (buses : List Bus) (capacity : ℕ) (queue taken : List Item) (i : ℕ) (old v : Bus) (more : List Item)
-    → slice_get buses i ≡ Some old → v.actions ≡ old.actions → v.lane ≡ after_next old.lane (next_in old.lane) (ltb (length queue) capacity)
-    → more ≡ queue ++ option_to_list (queued_next old.lane (next_in old.lane) (ltb (length queue) capacity))
-    → state f prologue (slice_set buses i v) capacity more taken
-    ≡ with_bench (state f prologue buses capacity queue taken) (offered i (state f prologue buses capacity queue taken).bench)
-offer_state f prologue buses capacity queue taken i old v more at same is queued =
-    let b : Bench = record { lanes = lanes_in buses; capacity = capacity; queue = queue; taken = taken } in
-    let new : Lane = after_next old.lane (next_in old.lane) (ltb (length queue) capacity) in
-    ap (λ (acts : List (List Placed)). record { format = f; prologue = prologue; actions = acts; bench = record { lanes = lanes_in (slice_set buses i v); capacity = capacity; queue = more; taken = taken } })
-    (map_kept (λ (x : Bus). x.actions) buses i old v at same)
-    ∙ ap (λ (ls : List Lane). record { format = f; prologue = prologue; actions = map (λ (x : Bus). x.actions) buses; bench = record { lanes = ls; capacity = capacity; queue = more; taken = taken } })
-    (map_set (λ (x : Bus). x.lane) buses i v ∙ ap (slice_set (lanes_in buses) i) is)
-    ∙ ap (λ (q : List Item). record { format = f; prologue = prologue; actions = map (λ (x : Bus). x.actions) buses; bench = record { lanes = slice_set (lanes_in buses) i new; capacity = capacity; queue = q; taken = taken } }) queued
-    ∙ ap (λ (c : Bench). record { format = f; prologue = prologue; actions = map (λ (x : Bus). x.actions) buses; bench = c }) (offer_is i b old.lane (map_at (λ (x : Bus). x.lane) buses i old at))
+pub offer_state : (f : Format) (prologue : List ℕ) (most : ℕ) (ls : List LaneState) (capacity : ℕ) (queue taken : List Item) (i : ℕ) (old v : LaneState) (more : List Item)
+    → slice_get ls i ≡ Some old → v ≡ after_next old (next_in old) (ltb (length queue) capacity)
+    → more ≡ queue ++ option_to_list (queued_next old (next_in old) (ltb (length queue) capacity))
+    → state f prologue most (slice_set ls i v) capacity more taken
+    ≡ with_bench (state f prologue most ls capacity queue taken) (offered i (state f prologue most ls capacity queue taken).bench)
+offer_state f prologue most ls capacity queue taken i old v more at is queued =
+    let b : Bench = record { lanes = ls; capacity = capacity; queue = queue; taken = taken } in
+    let new : LaneState = after_next old (next_in old) (ltb (length queue) capacity) in
+    ap (λ (l : LaneState). record { format = f; prologue = prologue; most = most; bench = record { lanes = slice_set ls i l; capacity = capacity; queue = more; taken = taken } }) is
+    ∙ ap (λ (q : List Item). record { format = f; prologue = prologue; most = most; bench = record { lanes = slice_set ls i new; capacity = capacity; queue = q; taken = taken } }) queued
+    ∙ ap (λ (c : Bench). record { format = f; prologue = prologue; most = most; bench = c }) (offer_is i b old at)
 
-next_channel : (l : Lane) (next : Option Record) (room : Bool) → (after_next l next room).channel ≡ l.channel
+next_channel : (l : LaneState) (next : Option Record) (room : Bool) → (after_next l next room).channel ≡ l.channel
 next_channel l (Some r) room = refl
 next_channel l None room = go _
   where
@@ -61,17 +58,17 @@ unfolding stepped
 reached_offer b i r = reached_more b (Offer i) r
 
 module _ (slots : ℕ) (builders : List Held) (bytes : List ℕ) (count : ℕ) where
-  pub offer_kept : (w : WorldState) (i : ℕ) (l : Lane) → slice_get w.bench.lanes i ≡ Some l → IsMade (after_next l (next_in l) (has_room w.bench))
+  pub offer_kept : (w : WorldState) (i : ℕ) (l : LaneState) → slice_get w.bench.lanes i ≡ Some l → IsMade (after_next l (next_in l) (has_room w.bench))
       → IsKept slots builders bytes count w → IsKept slots builders bytes count (with_bench w (offered i w.bench))
   offer_kept w i l at made is =
-      let new : Lane = after_next l (next_in l) (has_room w.bench) in
+      let new : LaneState = after_next l (next_in l) (has_room w.bench) in
       let goes : offer_made i w.bench new (queued_next l (next_in l) (has_room w.bench)) ≡ offered i w.bench = offer_is i w.bench l at in
       subst (λ (b : Bench). IsKept slots builders bytes count (with_bench w b)) goes (record {
         reached = subst IsReached (sym goes) (reached_offer w.bench i is.reached);
         made = all_set_to IsMade w.bench.lanes i new is.made made;
         format = is.format;
         prologue = is.prologue;
-        held = is.held ∙ sym (map_kept (λ (k : Lane). held_in w.format k.channel w.bench.taken) w.bench.lanes i l new at
+        held = is.held ∙ sym (map_kept (λ (k : LaneState). held_in w.format k.channel w.bench.taken) w.bench.lanes i l new at
             (ap (λ (c : ℕ). held_in w.format c w.bench.taken) (next_channel l (next_in l) (has_room w.bench))));
         file = is.file;
         packets = is.packets;
@@ -96,7 +93,7 @@ pub took_is : (b : Bench) (x : Item) (behind : List Item) → b.queue ≡ x ∷ 
 took_is b x behind at = ap (λ (q : List Item). taken_from q b) (sym at)
 
 module _ (goes : FileGoesOn) (more : PacketsGoOn) (latest : LatestIsLast) (slots : ℕ) (builders : List Held) (bytes : List ℕ) (count : ℕ) where
-  pub take_kept : (w : WorldState) (x : Item) (behind : List Item) (i : ℕ) (l : Lane) (h k : Held) → w.bench.queue ≡ x ∷ behind → slice_get w.bench.lanes i ≡ Some l → channel_of x ≡ l.channel
+  pub take_kept : (w : WorldState) (x : Item) (behind : List Item) (i : ℕ) (l : LaneState) (h k : Held) → w.bench.queue ≡ x ∷ behind → slice_get w.bench.lanes i ≡ Some l → channel_of x ≡ l.channel
       → h ≡ held_in w.format l.channel w.bench.taken → k ≡ met h x → IsKept slots builders bytes count w
       → IsKept slots (slice_set builders i k) (bytes ++ closing h x) (count + cond (closes h x) 1 0) (with_bench w (took w.bench x behind))
   take_kept w x behind i l h k at here of holding next is =
@@ -125,10 +122,10 @@ module _ (goes : FileGoesOn) (more : PacketsGoOn) (latest : LatestIsLast) (slots
   item_front [] ys x all = all.0
   item_front (y ∷ xs) ys x all = item_front xs ys x all.1
 
-  settled_of : (b : Bench) (l : Lane) (i : ℕ) → slice_get b.lanes i ≡ Some l → IsBench b → IsSettled b l
+  settled_of : (b : Bench) (l : LaneState) (i : ℕ) → slice_get b.lanes i ≡ Some l → IsBench b → IsSettled b l
   settled_of b l i at is = (one_of _ b.lanes i l at is.lanes).settled
 
-  pub take_may : (w : WorldState) (x : Item) (behind : List Item) (i : ℕ) (l : Lane) (h : Held) → w.bench.queue ≡ x ∷ behind → slice_get w.bench.lanes i ≡ Some l → channel_of x ≡ l.channel
+  pub take_may : (w : WorldState) (x : Item) (behind : List Item) (i : ℕ) (l : LaneState) (h : Held) → w.bench.queue ≡ x ∷ behind → slice_get w.bench.lanes i ≡ Some l → channel_of x ≡ l.channel
       → h ≡ held_in w.format l.channel w.bench.taken → IsKept slots builders bytes count w → MayCome h x
   take_may w x behind i l h at here of holding is =
       let bench : IsBench w.bench = reached_bench w.bench is.reached in
@@ -148,17 +145,17 @@ got [] i x d at = absurd cc
 got (y ∷ xs) zero x d at = cc
 got (y ∷ xs) (suc i) x d at = got xs i x d at
 
-pub nowhere : (buses : List Bus) (c i : ℕ) → AllByRecursion (λ (b : Bus). b.lane.channel ≢ c) buses → slice_get (channels_in (lanes_in buses)) i ≡ Some c → ⊥
+pub nowhere : (ls : List LaneState) (c i : ℕ) → AllByRecursion (λ (l : LaneState). l.channel ≢ c) ls → slice_get (channels_in ls) i ≡ Some c → ⊥
 nowhere [] c i all at = absurd cc
-nowhere (b ∷ buses) c zero all at = let same : b.lane.channel ≡ c = cc in all.0 same
-nowhere (b ∷ buses) c (suc i) all at = nowhere buses c i all.1 at
+nowhere (l ∷ ls) c zero all at = let same : l.channel ≡ c = cc in all.0 same
+nowhere (l ∷ ls) c (suc i) all at = nowhere ls c i all.1 at
 
-pub never_nowhere : (w : WorldState) (buses : List Bus) (x : Item) (behind : List Item) → w.bench.lanes ≡ lanes_in buses → w.bench.queue ≡ x ∷ behind → IsReached w.bench
-    → AllByRecursion (λ (b : Bus). b.lane.channel ≢ channel_of x) buses → ⊥
-never_nowhere w buses x behind lanes at reached all =
+pub never_nowhere : (w : WorldState) (ls : List LaneState) (x : Item) (behind : List Item) → w.bench.lanes ≡ ls → w.bench.queue ≡ x ∷ behind → IsReached w.bench
+    → AllByRecursion (λ (l : LaneState). l.channel ≢ channel_of x) ls → ⊥
+never_nowhere w ls x behind lanes at reached all =
     let tidy : IsTidy w.bench = reached_tidy w.bench reached in
     let known : AllByRecursion (λ y. Stands (channel_of y) (channels_in w.bench.lanes)) (x ∷ behind) = subst (AllByRecursion (λ y. Stands (channel_of y) (channels_in w.bench.lanes))) at tidy.known in
-    nowhere buses (channel_of x) known.0.0 all (ap (λ (ls : List Lane). slice_get (channels_in ls) known.0.0) (sym lanes) ∙ known.0.1)
+    nowhere ls (channel_of x) known.0.0 all (ap (λ (ls : List LaneState). slice_get (channels_in ls) known.0.0) (sym lanes) ∙ known.0.1)
 
 pub few_packets : (slots : ℕ) (builders : List Held) (bytes : List ℕ) (count : ℕ) (w : WorldState) → IsKept slots builders bytes count w → count ≤ 32000032
 few_packets slots builders bytes count w is =
@@ -166,32 +163,86 @@ few_packets slots builders bytes count w is =
 
 -- ---- an offer that may fail
 
-module _ {U E : Type 0} (f : Format) (prologue : List ℕ) (buses : List Bus) (capacity : ℕ) (queue taken : List Item) (i : ℕ) (old v : Bus) (more : List Item) (at : slice_get buses i ≡ Some old)
-    (same : v.actions ≡ old.actions) where
-  pub offer_done : (r : Result U E) (now : WorldState) → state f prologue buses capacity queue taken ≡ now
-      → OnOk r (v.lane ≡ after_next old.lane (next_in old.lane) (ltb (length queue) capacity))
-      → OnOk r (more ≡ queue ++ option_to_list (queued_next old.lane (next_in old.lane) (ltb (length queue) capacity)))
-      → OnOk r (state f prologue (slice_set buses i v) capacity more taken ≡ with_bench now (offered i now.bench))
+module _ {U E : Type 0} (f : Format) (prologue : List ℕ) (most : ℕ) (ls : List LaneState) (capacity : ℕ) (queue taken : List Item) (i : ℕ) (old v : LaneState) (more : List Item) (at : slice_get ls i ≡ Some old) where
+  pub offer_done : (r : Result U E) (now : WorldState) → state f prologue most ls capacity queue taken ≡ now
+      → OnOk r (v ≡ after_next old (next_in old) (ltb (length queue) capacity))
+      → OnOk r (more ≡ queue ++ option_to_list (queued_next old (next_in old) (ltb (length queue) capacity)))
+      → OnOk r (state f prologue most (slice_set ls i v) capacity more taken ≡ with_bench now (offered i now.bench))
   offer_done (Ok u) now view lane items =
-      offer_state f prologue buses capacity queue taken i old v more at same lane items ∙ ap (λ (w : WorldState). with_bench w (offered i w.bench)) view
+      offer_state f prologue most ls capacity queue taken i old v more at lane items ∙ ap (λ (w : WorldState). with_bench w (offered i w.bench)) view
   offer_done (Err e) now view lane items = tt
 
   pub offer_keeps : (r : Result U E) (slots : ℕ) (builders : List Held) (bytes : List ℕ) (count after : ℕ) → after ≡ slots
-      → OnOk r (v.lane ≡ after_next old.lane (next_in old.lane) (ltb (length queue) capacity))
-      → OnOk r (more ≡ queue ++ option_to_list (queued_next old.lane (next_in old.lane) (ltb (length queue) capacity)))
-      → OnOk r (IsMade v.lane) → OnErr r (v ≡ old) → OnErr r (more ≡ queue)
-      → IsKept slots builders bytes count (state f prologue buses capacity queue taken) → IsKept after builders bytes count (state f prologue (slice_set buses i v) capacity more taken)
+      → OnOk r (v ≡ after_next old (next_in old) (ltb (length queue) capacity))
+      → OnOk r (more ≡ queue ++ option_to_list (queued_next old (next_in old) (ltb (length queue) capacity)))
+      → OnOk r (IsMade v) → OnErr r (v ≡ old) → OnErr r (more ≡ queue)
+      → IsKept slots builders bytes count (state f prologue most ls capacity queue taken) → IsKept after builders bytes count (state f prologue most (slice_set ls i v) capacity more taken)
   offer_keeps (Ok u) slots builders bytes count after room lane items made one none is =
-      let w : WorldState = state f prologue buses capacity queue taken in
-      let l : slice_get w.bench.lanes i ≡ Some old.lane = map_at (λ (b : Bus). b.lane) buses i old at in
-      subst (λ (k : ℕ). IsKept k builders bytes count (state f prologue (slice_set buses i v) capacity more taken)) (sym room)
-      (subst (IsKept slots builders bytes count) (sym (offer_state f prologue buses capacity queue taken i old v more at same lane items))
-      (offer_kept slots builders bytes count w i old.lane l (subst IsMade lane made) is))
+      let w : WorldState = state f prologue most ls capacity queue taken in
+      subst (λ (k : ℕ). IsKept k builders bytes count (state f prologue most (slice_set ls i v) capacity more taken)) (sym room)
+      (subst (IsKept slots builders bytes count) (sym (offer_state f prologue most ls capacity queue taken i old v more at lane items))
+      (offer_kept slots builders bytes count w i old at (subst IsMade lane made) is))
   offer_keeps (Err e) slots builders bytes count after room lane items made one none is =
-      let buses_same : slice_set buses i v ≡ buses = ap (slice_set buses i) one ∙ set_same buses i old at in
-      subst (λ (k : ℕ). IsKept k builders bytes count (state f prologue (slice_set buses i v) capacity more taken)) (sym room)
-      (subst (λ (bs : List Bus). IsKept slots builders bytes count (state f prologue bs capacity more taken)) (sym buses_same)
-      (subst (λ (q : List Item). IsKept slots builders bytes count (state f prologue buses capacity q taken)) (sym none) is))
+      let lanes_same : slice_set ls i v ≡ ls = ap (slice_set ls i) one ∙ set_same ls i old at in
+      subst (λ (k : ℕ). IsKept k builders bytes count (state f prologue most (slice_set ls i v) capacity more taken)) (sym room)
+      (subst (λ (bs : List LaneState). IsKept slots builders bytes count (state f prologue most bs capacity more taken)) (sym lanes_same)
+      (subst (λ (q : List Item). IsKept slots builders bytes count (state f prologue most ls capacity q taken)) (sym none) is))
+
+-- ---- a post
+
+reached_post : (b : Bench) (i address : ℕ) (action : Action) → IsReached b → IsReached (posted i address action b)
+unfolding stepped
+reached_post b i address action r = reached_more b (Post i address action) r
+
+module _ (i address : ℕ) (action : Action) where
+  post_is : (b : Bench) (l : LaneState) → slice_get b.lanes i ≡ Some l
+      → ◌≡◌ {A = Bench} (record { lanes = slice_set b.lanes i (with_post l address action); capacity = b.capacity; queue = b.queue; taken = b.taken }) (posted i address action b)
+  post_is b l at = ap (λ (o : Option LaneState). lane_posts i o address action b) (sym at)
+
+  post_kept : (slots : ℕ) (builders : List Held) (bytes : List ℕ) (count : ℕ) (w : WorldState) (l : LaneState) → slice_get w.bench.lanes i ≡ Some l → IsMade (with_post l address action)
+      → IsKept slots builders bytes count w → IsKept slots builders bytes count (with_bench w (posted i address action w.bench))
+  post_kept slots builders bytes count w l at made is =
+      let new : LaneState = with_post l address action in
+      subst (λ (b : Bench). IsKept slots builders bytes count (with_bench w b)) (post_is w.bench l at) (record {
+        reached = subst IsReached (sym (post_is w.bench l at)) (reached_post w.bench i address action is.reached);
+        made = all_set_to IsMade w.bench.lanes i new is.made made;
+        format = is.format;
+        prologue = is.prologue;
+        held = is.held ∙ sym (map_kept (λ (k : LaneState). held_in w.format k.channel w.bench.taken) w.bench.lanes i l new at refl);
+        file = is.file;
+        packets = is.packets;
+        few = omega (arith, length-set w.bench.lanes i new, is.few);
+        room = is.room;
+      })
+
+  module _ (f : Format) (prologue : List ℕ) (most : ℕ) (ls : List LaneState) (capacity : ℕ) (queue taken : List Item) (old v : LaneState) (at : slice_get ls i ≡ Some old) where
+    post_state : v ≡ with_post old address action
+        → state f prologue most (slice_set ls i v) capacity queue taken ≡ with_bench (state f prologue most ls capacity queue taken) (posted i address action (state f prologue most ls capacity queue taken).bench)
+    post_state is =
+        let b : Bench = record { lanes = ls; capacity = capacity; queue = queue; taken = taken } in
+        ap (λ (l : LaneState). state f prologue most (slice_set ls i l) capacity queue taken) is
+        ∙ ap (λ (c : Bench). record { format = f; prologue = prologue; most = most; bench = c }) (post_is b old at)
+
+    pub post_done : {U E : Type 0} (r : Result U E) (now : WorldState) → state f prologue most ls capacity queue taken ≡ now → OnOk r (v ≡ with_post old address action)
+        → OnOk r (state f prologue most (slice_set ls i v) capacity queue taken ≡ with_bench now (posted i address action now.bench))
+    post_done (Ok u) now view is = post_state is ∙ ap (λ (w : WorldState). with_bench w (posted i address action w.bench)) view
+    post_done (Err e) now view is = tt
+
+    pub post_failed : {U E : Type 0} (r : Result U E) (now : WorldState) → state f prologue most ls capacity queue taken ≡ now → OnErr r (v ≡ old)
+        → OnErr r (state f prologue most (slice_set ls i v) capacity queue taken ≡ now)
+    post_failed (Ok u) now view one = tt
+    post_failed (Err e) now view one =
+        ap (λ (l : LaneState). state f prologue most (slice_set ls i l) capacity queue taken) one
+        ∙ ap (λ (xs : List LaneState). state f prologue most xs capacity queue taken) (set_same ls i old at) ∙ view
+
+    pub post_keeps : {U E : Type 0} (r : Result U E) (slots : ℕ) (builders : List Held) (bytes : List ℕ) (count : ℕ) → OnOk r (v ≡ with_post old address action) → OnOk r (IsMade v) → OnErr r (v ≡ old)
+        → IsKept slots builders bytes count (state f prologue most ls capacity queue taken) → IsKept slots builders bytes count (state f prologue most (slice_set ls i v) capacity queue taken)
+    post_keeps (Ok u) slots builders bytes count is made one kept =
+        subst (IsKept slots builders bytes count) (sym (post_state is))
+        (post_kept slots builders bytes count (state f prologue most ls capacity queue taken) old at (subst IsMade is made) kept)
+    post_keeps (Err e) slots builders bytes count is made one kept =
+        subst (λ (xs : List LaneState). IsKept slots builders bytes count (state f prologue most xs capacity queue taken))
+        (sym (ap (slice_set ls i) one ∙ set_same ls i old at)) kept
 
 -- ---- what stands in front is taken
 
@@ -207,48 +258,48 @@ one_most false = omega arith
 pub counts_one : (b : Bool) (n : ℕ) → n ≡ cond b 1 0 → n ≤ 1
 counts_one b n is = omega (arith, is, one_most b)
 
-pub front_done : (f : Format) (prologue : List ℕ) (buses : List Bus) (capacity : ℕ) (queue taken : List Item) (x : Item) (behind later all : List Item) (now : WorldState)
-    → queue ≡ x ∷ behind → state f prologue buses capacity queue taken ≡ now → later ≡ behind → all ≡ taken ++ x ∷ []
-    → state f prologue buses capacity later all ≡ with_bench now (taken_from now.bench.queue now.bench)
-front_done f prologue buses capacity queue taken x behind later all now at view rest more =
-    let b : Bench = record { lanes = lanes_in buses; capacity = capacity; queue = queue; taken = taken } in
-    ap (λ (q : List Item). state f prologue buses capacity q all) rest
-    ∙ ap (λ (xs : List Item). state f prologue buses capacity behind xs) more
-    ∙ ap (λ (c : Bench). record { format = f; prologue = prologue; actions = map (λ (y : Bus). y.actions) buses; bench = c }) (took_is b x behind at)
+pub front_done : (f : Format) (prologue : List ℕ) (most : ℕ) (ls : List LaneState) (capacity : ℕ) (queue taken : List Item) (x : Item) (behind later all : List Item) (now : WorldState)
+    → queue ≡ x ∷ behind → state f prologue most ls capacity queue taken ≡ now → later ≡ behind → all ≡ taken ++ x ∷ []
+    → state f prologue most ls capacity later all ≡ with_bench now (taken_from now.bench.queue now.bench)
+front_done f prologue most ls capacity queue taken x behind later all now at view rest more =
+    let b : Bench = record { lanes = ls; capacity = capacity; queue = queue; taken = taken } in
+    ap (λ (q : List Item). state f prologue most ls capacity q all) rest
+    ∙ ap (λ (xs : List Item). state f prologue most ls capacity behind xs) more
+    ∙ ap (λ (c : Bench). record { format = f; prologue = prologue; most = most; bench = c }) (took_is b x behind at)
     ∙ ap (λ (w : WorldState). with_bench w (taken_from w.bench.queue w.bench)) view
 
-module _ (slots : ℕ) (builders : List Held) (bytes : List ℕ) (count : ℕ) (f : Format) (prologue : List ℕ) (buses : List Bus) (capacity : ℕ) (queue taken : List Item) (x : Item) (behind : List Item) (i : ℕ)
-    (at : queue ≡ x ∷ behind) (is : IsKept slots builders bytes count (state f prologue buses capacity queue taken)) where
-  pub front_somewhere : AllByRecursion (λ (b : Bus). b.lane.channel ≢ channel_of x) buses → ⊥
-  front_somewhere none = never_nowhere (state f prologue buses capacity queue taken) buses x behind refl at is.reached none
+module _ (slots : ℕ) (builders : List Held) (bytes : List ℕ) (count : ℕ) (f : Format) (prologue : List ℕ) (most : ℕ) (ls : List LaneState) (capacity : ℕ) (queue taken : List Item) (x : Item) (behind : List Item) (i : ℕ)
+    (at : queue ≡ x ∷ behind) (is : IsKept slots builders bytes count (state f prologue most ls capacity queue taken)) where
+  pub front_somewhere : AllByRecursion (λ (l : LaneState). l.channel ≢ channel_of x) ls → ⊥
+  front_somewhere none = never_nowhere (state f prologue most ls capacity queue taken) ls x behind refl at is.reached none
 
-  module _ (placed : slice_get (map (λ (l : Lane). l.channel) (lanes_in buses)) i ≡ Some (channel_of x)) where
-    its_builder : (h d : Held) (l : Lane) → slice_get (lanes_in buses) i ≡ Some l → h ≡ slice_index_or builders i d → h ≡ held_in f l.channel taken
+  module _ (placed : slice_get (map (λ (l : LaneState). l.channel) ls) i ≡ Some (channel_of x)) where
+    its_builder : (h d : Held) (l : LaneState) → slice_get ls i ≡ Some l → h ≡ slice_index_or builders i d → h ≡ held_in f l.channel taken
     its_builder h d l here from =
         from ∙ ap (λ (hs : List Held). slice_index_or hs i d) is.held
-        ∙ got (holds f taken (lanes_in buses)) i (held_in f l.channel taken) d (map_at (λ (k : Lane). held_in f k.channel taken) (lanes_in buses) i l here)
+        ∙ got (holds f taken ls) i (held_in f l.channel taken) d (map_at (λ (k : LaneState). held_in f k.channel taken) ls i l here)
 
     pub front_index : i < length builders
     front_index =
-        let found = which (λ (l : Lane). l.channel) (lanes_in buses) i (channel_of x) placed in
+        let found = which (λ (l : LaneState). l.channel) ls i (channel_of x) placed in
         subst (λ (hs : List Held). i < length hs) (sym is.held)
-        (is_within (holds f taken (lanes_in buses)) i (held_in f found.0.channel taken) (map_at (λ (k : Lane). held_in f k.channel taken) (lanes_in buses) i found.0 found.1))
+        (is_within (holds f taken ls) i (held_in f found.0.channel taken) (map_at (λ (k : LaneState). held_in f k.channel taken) ls i found.0 found.1))
 
     pub front_may : FileGoesOn → PacketsGoOn → LatestIsLast → (h d : Held) → h ≡ slice_index_or builders i d → MayCome h x
     front_may goes more latest h d from =
-        let found = which (λ (l : Lane). l.channel) (lanes_in buses) i (channel_of x) placed in
-        take_may goes more latest slots builders bytes count (state f prologue buses capacity queue taken) x behind i found.0 h at found.1 found.2 (its_builder h d found.0 found.1 from) is
+        let found = which (λ (l : LaneState). l.channel) ls i (channel_of x) placed in
+        take_may goes more latest slots builders bytes count (state f prologue most ls capacity queue taken) x behind i found.0 h at found.1 found.2 (its_builder h d found.0 found.1 from) is
 
     pub front_kept : FileGoesOn → PacketsGoOn → LatestIsLast → (h d k : Held) (room : ℕ) (hs : List Held) (file : List ℕ) (packets : ℕ) (later all : List Item) → h ≡ slice_index_or builders i d → k ≡ met h x
         → room ≡ slots → hs ≡ slice_set builders i k → file ≡ bytes ++ closing h x → packets ≡ count + cond (closes h x) 1 0 → later ≡ behind → all ≡ taken ++ x ∷ []
-        → IsKept room hs file packets (state f prologue buses capacity later all)
+        → IsKept room hs file packets (state f prologue most ls capacity later all)
     front_kept goes more latest h d k room hs file packets later all from next same_room set written counted rest items =
-        let found = which (λ (l : Lane). l.channel) (lanes_in buses) i (channel_of x) placed in
-        let kept : IsKept slots (slice_set builders i k) (bytes ++ closing h x) (count + cond (closes h x) 1 0) (state f prologue buses capacity behind (taken ++ x ∷ [])) =
-        take_kept goes more latest slots builders bytes count (state f prologue buses capacity queue taken) x behind i found.0 h k at found.1 found.2 (its_builder h d found.0 found.1 from) next is in
-        subst (λ (n : ℕ). IsKept n hs file packets (state f prologue buses capacity later all)) (sym same_room)
-        (subst (λ (ks : List Held). IsKept slots ks file packets (state f prologue buses capacity later all)) (sym set)
-        (subst (λ (bs : List ℕ). IsKept slots (slice_set builders i k) bs packets (state f prologue buses capacity later all)) (sym written)
-        (subst (λ (n : ℕ). IsKept slots (slice_set builders i k) (bytes ++ closing h x) n (state f prologue buses capacity later all)) (sym counted)
-        (subst (λ (q : List Item). IsKept slots (slice_set builders i k) (bytes ++ closing h x) (count + cond (closes h x) 1 0) (state f prologue buses capacity q all)) (sym rest)
-        (subst (λ (xs : List Item). IsKept slots (slice_set builders i k) (bytes ++ closing h x) (count + cond (closes h x) 1 0) (state f prologue buses capacity behind xs)) (sym items) kept)))))
+        let found = which (λ (l : LaneState). l.channel) ls i (channel_of x) placed in
+        let kept : IsKept slots (slice_set builders i k) (bytes ++ closing h x) (count + cond (closes h x) 1 0) (state f prologue most ls capacity behind (taken ++ x ∷ [])) =
+        take_kept goes more latest slots builders bytes count (state f prologue most ls capacity queue taken) x behind i found.0 h k at found.1 found.2 (its_builder h d found.0 found.1 from) next is in
+        subst (λ (n : ℕ). IsKept n hs file packets (state f prologue most ls capacity later all)) (sym same_room)
+        (subst (λ (ks : List Held). IsKept slots ks file packets (state f prologue most ls capacity later all)) (sym set)
+        (subst (λ (bs : List ℕ). IsKept slots (slice_set builders i k) bs packets (state f prologue most ls capacity later all)) (sym written)
+        (subst (λ (n : ℕ). IsKept slots (slice_set builders i k) (bytes ++ closing h x) n (state f prologue most ls capacity later all)) (sym counted)
+        (subst (λ (q : List Item). IsKept slots (slice_set builders i k) (bytes ++ closing h x) (count + cond (closes h x) 1 0) (state f prologue most ls capacity q all)) (sym rest)
+        (subst (λ (xs : List Item). IsKept slots (slice_set builders i k) (bytes ++ closing h x) (count + cond (closes h x) 1 0) (state f prologue most ls capacity behind xs)) (sym items) kept)))))

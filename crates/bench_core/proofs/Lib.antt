@@ -1,4 +1,6 @@
 pub mod Lists
+pub mod Growing
+pub mod Foreseen
 pub mod Steps
 pub mod Reading
 pub mod Ordered
@@ -8,6 +10,7 @@ pub mod Judged
 pub mod Tidy
 pub mod Coming
 pub mod Offers
+pub mod Posting
 pub mod Worlds
 pub mod Fields
 pub mod Beginning

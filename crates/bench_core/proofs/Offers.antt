@@ -4,12 +4,17 @@ use Rattle.std.specs.Option.{option_to_list}
 use Rattle.std.specs.List.{AllByRecursion}
 use Rattle.std.proofs.lemmas.List.{append-nil}
 use Rattle.mil_monitor.specs.declared.Record.{Record}
+use Rattle.bc_machine.specs.declared.placed.Placed.{Placed}
+use Rattle.bc_machine.specs.Running.{MachineState}
+use Rattle.job_file.specs.Spelled.{ChannelJob}
+use Rattle.job_file.specs.Meaning.{records}
+use Rattle.job_file.specs.Machines.{IsOf}
 use Rattle.bench_report.specs.Reports.{Rises}
 use Rattle.ch11_builder.specs.Recorded.{IsRecorded}
 use Rattle.ch11_recording.specs.declared.item.Item.{Item}
 use Rattle.ch11_recording.specs.declared.item.Item.TheVariants as item
 use Rattle.ch11_recording.specs.Items.{numbered}
-use Rattle.bench_core.specs.Bench.{Lane, Bench, has_room, with_message, with_end, message_of, next_offered, lane_offers, offered}
+use Rattle.bench_core.specs.Bench.{LaneState, Bench, has_room, with_message, with_end, message_of, next_offered, lane_offers, offered}
 use Rattle.bench_core.specs.Channels.{after_next, queued_next, next_in}
 
 -- ---- a channel's numbers and records
@@ -36,6 +41,17 @@ pub past_end : (rs : List Record) (made : ℕ) → made ≡ length rs → slice_
 past_end [] made is = refl
 past_end (r ∷ rs) zero is = absurd (omega (arith, is))
 past_end (r ∷ rs) (suc made) is = past_end rs made (omega (arith, is))
+
+-- ---- a controller that went on
+
+-- its placed actions are those that it had
+pub still_of : (job : ChannelJob) (m n : MachineState) → IsOf job m.placed n → IsOf job n.placed n
+still_of job m n of = subst (λ (ps : List Placed). IsOf job ps n) (sym of.actions) of
+
+pub recorded_on : (job : ChannelJob) (m n : MachineState) (made : ℕ) → IsOf job m.placed n → n.point.number ≡ made → AreRecorded (take made (records job m.placed))
+    → AreRecorded (take n.point.number (records job n.placed))
+recorded_on job m n made of is all =
+    subst (λ (k : ℕ). AreRecorded (take k (records job n.placed))) (sym is) (subst (λ (ps : List Placed). AreRecorded (take made (records job ps))) (sym of.actions) all)
 
 -- ---- lists, one of them changed
 
@@ -75,77 +91,79 @@ all_set_to P (x ∷ xs) (suc i) v all new = (all.0, all_set_to P xs i v all.1 ne
 
 -- ---- the bench after an offer
 
-abbrev pub offer_made : ℕ → Bench → Lane → Option Item → Bench
+abbrev pub offer_made : ℕ → Bench → LaneState → Option Item → Bench
 offer_made i b l queued = record { lanes = slice_set b.lanes i l; capacity = b.capacity; queue = b.queue ++ option_to_list queued; taken = b.taken }
 
-message_made : (i : ℕ) (b : Bench) (l : Lane) (r : Record) (room : Bool)
+message_made : (i : ℕ) (b : Bench) (l : LaneState) (r : Record) (room : Bool)
     → offer_made i b (with_message l room) (cond room (Some (message_of l r)) None)
     ≡ record { lanes = slice_set b.lanes i (with_message l room); capacity = b.capacity; queue = cond room (b.queue ++ message_of l r ∷ []) b.queue; taken = b.taken }
 message_made i b l r true = refl
 message_made i b l r false =
     ap (λ (q : List Item). record { lanes = slice_set b.lanes i (with_message l false); capacity = b.capacity; queue = q; taken = b.taken }) (append-nil b.queue)
 
-end_made : (i : ℕ) (b : Bench) (l : Lane) (stays : Bool) → slice_get b.lanes i ≡ Some l
+end_made : (i : ℕ) (b : Bench) (l : LaneState) (stays : Bool) → slice_get b.lanes i ≡ Some l
     → offer_made i b (cond stays l (with_end l)) (cond stays None (Some (item.End l.channel)))
     ≡ cond stays b (record { lanes = slice_set b.lanes i (with_end l); capacity = b.capacity; queue = b.queue ++ item.End l.channel ∷ []; taken = b.taken })
 end_made i b l true at =
     ap (λ (q : List Item). record { lanes = slice_set b.lanes i l; capacity = b.capacity; queue = q; taken = b.taken }) (append-nil b.queue)
-    ∙ ap (λ (ls : List Lane). record { lanes = ls; capacity = b.capacity; queue = b.queue; taken = b.taken }) (set_same b.lanes i l at)
+    ∙ ap (λ (ls : List LaneState). record { lanes = ls; capacity = b.capacity; queue = b.queue; taken = b.taken }) (set_same b.lanes i l at)
 end_made i b l false at = refl
 
-next_made : (i : ℕ) (b : Bench) (l : Lane) (next : Option Record) → slice_get b.lanes i ≡ Some l
+next_made : (i : ℕ) (b : Bench) (l : LaneState) (next : Option Record) → slice_get b.lanes i ≡ Some l
     → offer_made i b (after_next l next (has_room b)) (queued_next l next (has_room b)) ≡ next_offered i l next b
 next_made i b l (Some r) at = message_made i b l r (has_room b)
 next_made i b l None at = end_made i b l (l.ended || not (has_room b)) at
 
-pub offer_is : (i : ℕ) (b : Bench) (l : Lane) → slice_get b.lanes i ≡ Some l
+pub offer_is : (i : ℕ) (b : Bench) (l : LaneState) → slice_get b.lanes i ≡ Some l
     → offer_made i b (after_next l (next_in l) (has_room b)) (queued_next l (next_in l) (has_room b)) ≡ offered i b
-offer_is i b l at = next_made i b l (next_in l) at ∙ ap (λ (o : Option Lane). lane_offers i o b) (sym at)
+offer_is i b l at = next_made i b l (next_in l) at ∙ ap (λ (o : Option LaneState). lane_offers i o b) (sym at)
 
 pub offer_of_none : (i : ℕ) (b : Bench) → length b.lanes ≤ i → b ≡ offered i b
-offer_of_none i b high = ap (λ (o : Option Lane). lane_offers i o b) (sym (nothing b.lanes i high))
+offer_of_none i b high = ap (λ (o : Option LaneState). lane_offers i o b) (sym (nothing b.lanes i high))
   where
-    nothing : (lanes : List Lane) (j : ℕ) → length lanes ≤ j → slice_get lanes j ≡ None
+    nothing : (lanes : List LaneState) (j : ℕ) → length lanes ≤ j → slice_get lanes j ≡ None
     nothing [] j le = refl
     nothing (l ∷ lanes) zero le = absurd (omega (arith, le))
     nothing (l ∷ lanes) (suc j) le = nothing lanes j (omega (arith, le))
 
 -- ---- a channel after its last message, and after a message
 
-ended_shape : (l : Lane) (e room : Bool)
-    → ◌≡◌ {A = Lane} (record { channel = l.channel; records = l.records; made = l.made; refused = l.refused; ended = e || room })
-    (cond (e || not room) (record { channel = l.channel; records = l.records; made = l.made; refused = l.refused; ended = e }) (with_end l))
+ended_shape : (l : LaneState) (e room : Bool)
+    → ◌≡◌ {A = LaneState} (record { channel = l.channel; job = l.job; placed = l.placed; made = l.made; refused = l.refused; ended = e || room })
+    (cond (e || not room) (record { channel = l.channel; job = l.job; placed = l.placed; made = l.made; refused = l.refused; ended = e }) (with_end l))
 ended_shape l true room = refl
 ended_shape l false true = refl
 ended_shape l false false = refl
 
-pub ended_lane : (l : Lane) (room : Bool) (made : ℕ) (refused : List ℕ) (ended : Bool) → next_in l ≡ None → made ≡ l.made → refused ≡ l.refused → ended ≡ (l.ended || room)
-    → ◌≡◌ {A = Lane} (record { channel = l.channel; records = l.records; made = made; refused = refused; ended = ended }) (after_next l (next_in l) room)
-ended_lane l room made refused ended none is same marked =
-    ap (λ (k : ℕ). record { channel = l.channel; records = l.records; made = k; refused = refused; ended = ended }) is
-    ∙ ap (λ (ns : List ℕ). record { channel = l.channel; records = l.records; made = l.made; refused = ns; ended = ended }) same
-    ∙ ap (λ (e : Bool). record { channel = l.channel; records = l.records; made = l.made; refused = l.refused; ended = e }) marked
+pub ended_lane : (l : LaneState) (room : Bool) (placed : List Placed) (made : ℕ) (refused : List ℕ) (ended : Bool) → next_in l ≡ None → placed ≡ l.placed → made ≡ l.made → refused ≡ l.refused → ended ≡ (l.ended || room)
+    → ◌≡◌ {A = LaneState} (record { channel = l.channel; job = l.job; placed = placed; made = made; refused = refused; ended = ended }) (after_next l (next_in l) room)
+ended_lane l room placed made refused ended none acts is same marked =
+    ap (λ (ps : List Placed). record { channel = l.channel; job = l.job; placed = ps; made = made; refused = refused; ended = ended }) acts
+    ∙ ap (λ (k : ℕ). record { channel = l.channel; job = l.job; placed = l.placed; made = k; refused = refused; ended = ended }) is
+    ∙ ap (λ (ns : List ℕ). record { channel = l.channel; job = l.job; placed = l.placed; made = l.made; refused = ns; ended = ended }) same
+    ∙ ap (λ (e : Bool). record { channel = l.channel; job = l.job; placed = l.placed; made = l.made; refused = l.refused; ended = e }) marked
     ∙ ended_shape l l.ended room
     ∙ sym (ap (λ (o : Option Record). after_next l o room) none)
 
-pub ended_item : (l : Lane) (room : Bool) → next_in l ≡ None → cond (l.ended || not room) None (Some (item.End l.channel)) ≡ queued_next l (next_in l) room
+pub ended_item : (l : LaneState) (room : Bool) → next_in l ≡ None → cond (l.ended || not room) None (Some (item.End l.channel)) ≡ queued_next l (next_in l) room
 ended_item l room none = sym (ap (λ (o : Option Record). queued_next l o room) none)
 
-message_shape : (l : Lane) (r : Record) (room : Bool)
-    → ◌≡◌ {A = Lane} (record { channel = l.channel; records = l.records; made = l.made + 1; refused = cond room l.refused (l.refused ++ (l.made + 1) ∷ []); ended = l.ended }) (with_message l room)
+message_shape : (l : LaneState) (r : Record) (room : Bool)
+    → ◌≡◌ {A = LaneState} (record { channel = l.channel; job = l.job; placed = l.placed; made = l.made + 1; refused = cond room l.refused (l.refused ++ (l.made + 1) ∷ []); ended = l.ended }) (with_message l room)
 message_shape l r room = refl
 
-pub message_lane : (l : Lane) (r : Record) (room : Bool) (made number : ℕ) (old refused : List ℕ) → next_in l ≡ Some r → made ≡ l.made + 1 → number ≡ made → old ≡ l.refused
+pub message_lane : (l : LaneState) (r : Record) (room : Bool) (placed : List Placed) (made number : ℕ) (old refused : List ℕ) → next_in l ≡ Some r → placed ≡ l.placed → made ≡ l.made + 1 → number ≡ made → old ≡ l.refused
     → refused ≡ cond room old (old ++ number ∷ [])
-    → ◌≡◌ {A = Lane} (record { channel = l.channel; records = l.records; made = made; refused = refused; ended = l.ended }) (after_next l (next_in l) room)
-message_lane l r room made number old refused at is same kept listed =
-    ap (λ (ns : List ℕ). record { channel = l.channel; records = l.records; made = made; refused = ns; ended = l.ended })
+    → ◌≡◌ {A = LaneState} (record { channel = l.channel; job = l.job; placed = placed; made = made; refused = refused; ended = l.ended }) (after_next l (next_in l) room)
+message_lane l r room placed made number old refused at acts is same kept listed =
+    ap (λ (ps : List Placed). record { channel = l.channel; job = l.job; placed = ps; made = made; refused = refused; ended = l.ended }) acts
+    ∙ ap (λ (ns : List ℕ). record { channel = l.channel; job = l.job; placed = l.placed; made = made; refused = ns; ended = l.ended })
     (listed ∙ ap (λ (k : ℕ). cond room old (old ++ k ∷ [])) same ∙ ap (λ (ns : List ℕ). cond room ns (ns ++ made ∷ [])) kept)
-    ∙ ap (λ (k : ℕ). record { channel = l.channel; records = l.records; made = k; refused = cond room l.refused (l.refused ++ k ∷ []); ended = l.ended }) is
+    ∙ ap (λ (k : ℕ). record { channel = l.channel; job = l.job; placed = l.placed; made = k; refused = cond room l.refused (l.refused ++ k ∷ []); ended = l.ended }) is
     ∙ message_shape l r room
     ∙ sym (ap (λ (o : Option Record). after_next l o room) at)
 
-pub message_item : (l : Lane) (r : Record) (room : Bool) (number : ℕ) → next_in l ≡ Some r → number ≡ l.made + 1
+pub message_item : (l : LaneState) (r : Record) (room : Bool) (number : ℕ) → next_in l ≡ Some r → number ≡ l.made + 1
     → cond room (Some (item.Message l.channel number r)) None ≡ queued_next l (next_in l) room
 message_item l r room number at is =
     ap (λ (k : ℕ). cond room (Some (item.Message l.channel k r)) None) is ∙ sym (ap (λ (o : Option Record). queued_next l o room) at)

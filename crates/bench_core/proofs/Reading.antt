@@ -10,7 +10,7 @@ use Rattle.ch11_recording.specs.declared.item.Item.{Item}
 use Rattle.ch11_recording.specs.Items.{records_in}
 use Rattle.ch11_recording.specs.WrittenFile.{Format, held_in, closed_records}
 use Rattle.ch11_recording.specs.Laws.{IsFormat, IsPrologue, IsItem, RecordingIsRead, RecordsAreKept}
-use Rattle.bench_core.specs.Bench.{Lane, Bench}
+use Rattle.bench_core.specs.Bench.{LaneState, Bench}
 use Rattle.bench_core.specs.Settled.{kept_of, HasRecorded, ReadsBack}
 use Rattle.bench_core.proofs.Lists.{records_both}
 use Rattle.bench_core.proofs.Steps.{IsLane, IsBench}
@@ -26,12 +26,12 @@ front_of : (xs ys : List Item) → AllByRecursion IsItem (xs ++ ys) → AllByRec
 front_of [] ys all = tt
 front_of (x ∷ xs) ys all = (all.0, front_of xs ys all.1)
 
-pub settled_lanes : (items : List Item) (lanes : List Lane) → AllByRecursion (IsLane items) lanes → AllByRecursion (λ l. records_in l.channel items ≡ kept_of l) lanes
+pub settled_lanes : (items : List Item) (lanes : List LaneState) → AllByRecursion (IsLane items) lanes → AllByRecursion (λ l. records_in l.channel items ≡ kept_of l) lanes
 settled_lanes items [] all = tt
 settled_lanes items (l ∷ lanes) all = (all.0.settled, settled_lanes items lanes all.1)
 
 module _ (read : RecordingIsRead) (kept : RecordsAreKept) (f : Format) where
-  lane_read : (b : Bench) (l : Lane) (ps : List Found) → reading ps l.channel ≡ heard (closed_records f l.channel b.taken) → IsLane (b.taken ++ b.queue) l
+  lane_read : (b : Bench) (l : LaneState) (ps : List Found) → reading ps l.channel ≡ heard (closed_records f l.channel b.taken) → IsLane (b.taken ++ b.queue) l
       → reading ps l.channel ++ heard ((held_in f l.channel b.taken).records ++ records_in l.channel b.queue) ≡ heard (kept_of l)
   lane_read b l ps is lane =
       let closed : List Numbered = closed_records f l.channel b.taken in
@@ -42,7 +42,7 @@ module _ (read : RecordingIsRead) (kept : RecordsAreKept) (f : Format) where
       ∙ ap heard (sym (append_assoc closed held queued) ∙ ap (λ (ns : List Numbered). ns ++ queued) (kept f l.channel b.taken)
       ∙ sym (records_both l.channel b.taken b.queue) ∙ lane.settled)
 
-  lanes_read : (b : Bench) (lanes : List Lane) (ps : List Found) → ((channel : ℕ) → reading ps channel ≡ heard (closed_records f channel b.taken))
+  lanes_read : (b : Bench) (lanes : List LaneState) (ps : List Found) → ((channel : ℕ) → reading ps channel ≡ heard (closed_records f channel b.taken))
       → AllByRecursion (IsLane (b.taken ++ b.queue)) lanes
       → AllByRecursion (λ l. reading ps l.channel ++ heard ((held_in f l.channel b.taken).records ++ records_in l.channel b.queue) ≡ heard (kept_of l)) lanes
   lanes_read b [] ps is all = tt

@@ -2,6 +2,7 @@
 use Rattle.std.proofs.Common.{◌≡◌, ℕ, zero, suc, ◌+◌, ◌*◌, ◌≤◌, Bool, true, false, not, ◌||◌, cond, List, [], ◌∷◌, ◌++◌, length, slice_get, slice_set, Option, Some, None, refl, sym, ap, ◌∙◌, arith, subst}
 use Rattle.std.specs.List.{AllByRecursion}
 use Rattle.std.proofs.lemmas.List.{length-append}
+use Rattle.mil_host.specs.declared.actions.Action.{Action}
 use Rattle.mil_monitor.specs.declared.Record.{Record}
 use Rattle.ch11_builder.specs.Held.{Held, packet_of}
 use Rattle.ch11_recording.specs.declared.item.Item.{Item}
@@ -9,8 +10,8 @@ use Rattle.ch11_recording.specs.declared.item.Item.TheVariants as item
 use Rattle.ch11_recording.specs.Items.{channel_of}
 use Rattle.ch11_recording.specs.WrittenFile.{Format, closes, held_in, closed_by, closed_packets_behind, closed_packets}
 use Rattle.bench_core.specs.declared.step.Step.{Step}
-use Rattle.bench_core.specs.declared.step.Step.TheVariants.{Offer, Take}
-use Rattle.bench_core.specs.Bench.{Lane, Bench, begun, has_room, with_message, with_end, message_of, next_offered, lane_offers, taken_from, stepped, after_steps}
+use Rattle.bench_core.specs.declared.step.Step.TheVariants.{Offer, Take, Post}
+use Rattle.bench_core.specs.Bench.{LaneState, Bench, begun, all_records, has_room, with_message, with_end, message_of, next_offered, lane_offers, taken_from, with_post, lane_posts, stepped, after_steps}
 use Rattle.bench_core.specs.Channels.{IsMade}
 use Rattle.bench_core.proofs.Steps.{channels_in, channels_set, with_lane}
 
@@ -23,40 +24,40 @@ bit true = 1
 bit false = 0
 
 -- how many items a channel has offered
-abbrev weight : Lane → ℕ
+abbrev weight : LaneState → ℕ
 weight l = l.made + bit l.ended
 
-abbrev pub total : List Lane → ℕ
+abbrev pub total : List LaneState → ℕ
 total [] = 0
 total (l ∷ lanes) = weight l + total lanes
 
-abbrev AreKnown : List Lane → List Item → Type 0
+abbrev AreKnown : List LaneState → List Item → Type 0
 AreKnown lanes items = AllByRecursion (λ x. Stands (channel_of x) (channels_in lanes)) items
 
 pub record IsTidy (b : Bench) : Type 0 where
   pub known : AreKnown b.lanes b.queue
   pub count : length b.taken + length b.queue ≤ total b.lanes
 
-pub channel_at : (lanes : List Lane) (i : ℕ) (l : Lane) → slice_get lanes i ≡ Some l → slice_get (channels_in lanes) i ≡ Some l.channel
+pub channel_at : (lanes : List LaneState) (i : ℕ) (l : LaneState) → slice_get lanes i ≡ Some l → slice_get (channels_in lanes) i ≡ Some l.channel
 channel_at [] i l at = absurd cc
-channel_at (k ∷ lanes) zero l at = let same : k ≡ l = cc in ap (λ (x : Lane). Some x.channel) same
+channel_at (k ∷ lanes) zero l at = let same : k ≡ l = cc in ap (λ (x : LaneState). Some x.channel) same
 channel_at (k ∷ lanes) (suc i) l at = channel_at lanes i l at
 
-total_set : (lanes : List Lane) (i : ℕ) (l new : Lane) → slice_get lanes i ≡ Some l → total (slice_set lanes i new) + weight l ≡ total lanes + weight new
+total_set : (lanes : List LaneState) (i : ℕ) (l new : LaneState) → slice_get lanes i ≡ Some l → total (slice_set lanes i new) + weight l ≡ total lanes + weight new
 total_set [] i l new at = absurd cc
 total_set (k ∷ lanes) zero l new at = let same : k ≡ l = cc in let weighs : weight k ≡ weight l = ap weight same in omega (arith, weighs)
 total_set (k ∷ lanes) (suc i) l new at = let rest = total_set lanes i l new at in omega (arith, rest)
 
-known_more : (lanes : List Lane) (items : List Item) (x : Item) → AreKnown lanes items → Stands (channel_of x) (channels_in lanes) → AreKnown lanes (items ++ x ∷ [])
+known_more : (lanes : List LaneState) (items : List Item) (x : Item) → AreKnown lanes items → Stands (channel_of x) (channels_in lanes) → AreKnown lanes (items ++ x ∷ [])
 known_more lanes [] x all last = (last, tt)
 known_more lanes (y ∷ items) x all last = (all.0, known_more lanes items x all.1 last)
 
-known_set : (lanes : List Lane) (i : ℕ) (l new : Lane) (items : List Item) → slice_get lanes i ≡ Some l → new.channel ≡ l.channel → AreKnown lanes items → AreKnown (slice_set lanes i new) items
+known_set : (lanes : List LaneState) (i : ℕ) (l new : LaneState) (items : List Item) → slice_get lanes i ≡ Some l → new.channel ≡ l.channel → AreKnown lanes items → AreKnown (slice_set lanes i new) items
 known_set lanes i l new items at same all = subst (λ (cs : List ℕ). AllByRecursion (λ x. Stands (channel_of x) cs) items) (sym (channels_set lanes i l new at same)) all
 
 -- ---- one step more
 
-tidy_queues : (b : Bench) (i : ℕ) (l new : Lane) (x : Item) → slice_get b.lanes i ≡ Some l → new.channel ≡ l.channel → channel_of x ≡ l.channel → weight new ≡ weight l + 1
+tidy_queues : (b : Bench) (i : ℕ) (l new : LaneState) (x : Item) → slice_get b.lanes i ≡ Some l → new.channel ≡ l.channel → channel_of x ≡ l.channel → weight new ≡ weight l + 1
     → IsTidy b → IsTidy (with_lane b i new (b.queue ++ x ∷ []))
 tidy_queues b i l new x at same of more is = record {
   known =
@@ -65,18 +66,18 @@ tidy_queues b i l new x at same of more is = record {
   count = let sum = total_set b.lanes i l new at in omega (arith, sum, more, is.count, length-append b.queue (x ∷ []));
 }
 
-tidy_drops : (b : Bench) (i : ℕ) (l new : Lane) → slice_get b.lanes i ≡ Some l → new.channel ≡ l.channel → weight new ≡ weight l + 1 → IsTidy b → IsTidy (with_lane b i new b.queue)
+tidy_drops : (b : Bench) (i : ℕ) (l new : LaneState) → slice_get b.lanes i ≡ Some l → new.channel ≡ l.channel → weight new ≡ weight l + 1 → IsTidy b → IsTidy (with_lane b i new b.queue)
 tidy_drops b i l new at same more is = record {
   known = known_set b.lanes i l new b.queue at same is.known;
   count = let sum = total_set b.lanes i l new at in omega (arith, sum, more, is.count);
 }
 
-tidy_message : (b : Bench) (i : ℕ) (l : Lane) (r : Record) (room : Bool) → slice_get b.lanes i ≡ Some l → IsTidy b
+tidy_message : (b : Bench) (i : ℕ) (l : LaneState) (r : Record) (room : Bool) → slice_get b.lanes i ≡ Some l → IsTidy b
     → IsTidy (with_lane b i (with_message l room) (cond room (b.queue ++ message_of l r ∷ []) b.queue))
 tidy_message b i l r true at is = tidy_queues b i l (with_message l true) (message_of l r) at refl refl (omega arith) is
 tidy_message b i l r false at is = tidy_drops b i l (with_message l false) at refl (omega arith) is
 
-tidy_end : (b : Bench) (i : ℕ) (l : Lane) (ended room : Bool) → slice_get b.lanes i ≡ Some l → l.ended ≡ ended → IsTidy b
+tidy_end : (b : Bench) (i : ℕ) (l : LaneState) (ended room : Bool) → slice_get b.lanes i ≡ Some l → l.ended ≡ ended → IsTidy b
     → IsTidy (cond (ended || not room) b (with_lane b i (with_end l) (b.queue ++ item.End l.channel ∷ [])))
 tidy_end b i l true room at e is = is
 tidy_end b i l false false at e is = is
@@ -84,13 +85,13 @@ tidy_end b i l false true at e is =
     let none : ◌≡◌ {A = ℕ} (bit l.ended) 0 = ap (λ (x : Bool). bit x) e in
     tidy_queues b i l (with_end l) (item.End l.channel) at refl refl (omega (arith, none)) is
 
-tidy_next : (b : Bench) (i : ℕ) (l : Lane) (next : Option Record) → slice_get b.lanes i ≡ Some l → IsTidy b → IsTidy (next_offered i l next b)
+tidy_next : (b : Bench) (i : ℕ) (l : LaneState) (next : Option Record) → slice_get b.lanes i ≡ Some l → IsTidy b → IsTidy (next_offered i l next b)
 tidy_next b i l (Some r) at is = tidy_message b i l r (has_room b) at is
 tidy_next b i l None at is = tidy_end b i l l.ended (has_room b) at refl is
 
-tidy_offer : (b : Bench) (i : ℕ) (lane : Option Lane) → slice_get b.lanes i ≡ lane → IsTidy b → IsTidy (lane_offers i lane b)
+tidy_offer : (b : Bench) (i : ℕ) (lane : Option LaneState) → slice_get b.lanes i ≡ lane → IsTidy b → IsTidy (lane_offers i lane b)
 tidy_offer b i None at is = is
-tidy_offer b i (Some l) at is = tidy_next b i l (slice_get l.records l.made) at is
+tidy_offer b i (Some l) at is = tidy_next b i l (slice_get (all_records l) l.made) at is
 
 tidy_take : (b : Bench) (queue : List Item) → b.queue ≡ queue → IsTidy b → IsTidy (taken_from queue b)
 tidy_take b [] at is = is
@@ -101,16 +102,26 @@ tidy_take b (x ∷ queue) at is =
       count = omega (arith, is.count, ap (λ (xs : List Item). length xs) at, length-append b.taken (x ∷ []));
     }
 
+tidy_post : (b : Bench) (i address : ℕ) (action : Action) (lane : Option LaneState) → slice_get b.lanes i ≡ lane → IsTidy b → IsTidy (lane_posts i lane address action b)
+tidy_post b i address action None at is = is
+tidy_post b i address action (Some l) at is =
+    let new : LaneState = with_post l address action in
+    record {
+      known = known_set b.lanes i l new b.queue at refl is.known;
+      count = let sum = total_set b.lanes i l new at in let same : weight new ≡ weight l = refl in omega (arith, sum, same, is.count);
+    }
+
 tidy_step : (b : Bench) (s : Step) → IsTidy b → IsTidy (stepped s b)
 unfolding stepped
 tidy_step b (Offer i) is = tidy_offer b i (slice_get b.lanes i) refl is
 tidy_step b Take is = tidy_take b b.queue refl is
+tidy_step b (Post i address action) is = tidy_post b i address action (slice_get b.lanes i) refl is
 
 pub tidy_all : (b : Bench) (steps : List Step) → IsTidy b → IsTidy (after_steps steps b)
 tidy_all b [] is = is
 tidy_all b (s ∷ ss) is = tidy_all (stepped s b) ss (tidy_step b s is)
 
-pub tidy_first : (capacity : ℕ) (lanes : List Lane) → IsTidy (begun capacity lanes)
+pub tidy_first : (capacity : ℕ) (lanes : List LaneState) → IsTidy (begun capacity lanes)
 tidy_first capacity lanes = record { known = tt; count = omega arith }
 
 -- ---- how many packets there are at most
@@ -119,7 +130,7 @@ one_at_most : (b : Bool) → bit b ≤ 1
 one_at_most true = omega arith
 one_at_most false = omega arith
 
-total_few : (lanes : List Lane) → AllByRecursion IsMade lanes → total lanes ≤ length lanes * 1000001
+total_few : (lanes : List LaneState) → AllByRecursion IsMade lanes → total lanes ≤ length lanes * 1000001
 total_few [] all = omega arith
 total_few (l ∷ lanes) all = let rest = total_few lanes all.1 in omega (arith, rest, all.0.few, one_at_most l.ended)
 

@@ -1,16 +1,16 @@
 -- What the fields of a world keep with each step.
-use Rattle.std.proofs.Common.{◌≡◌, ℕ, zero, suc, ◌+◌, List, [], ◌∷◌, ◌++◌, map, take, drop, slice_get, Some, refl, sym, ap, ◌∙◌, arith, subst}
+use Rattle.std.proofs.Common.{◌≡◌, ℕ, zero, suc, ◌+◌, List, [], ◌∷◌, ◌++◌, take, drop, slice_get, Some, refl, sym, ap, ◌∙◌, arith, subst}
 use Rattle.std.specs.List.{AllByRecursion}
 use Rattle.ch11_builder.specs.Held.{Held}
 use Rattle.bench_core.specs.declared.step.Step.{Step}
-use Rattle.bench_core.specs.Bench.{Lane, Bench, begun, stepped, after_steps}
+use Rattle.bench_core.specs.Bench.{LaneState, Bench, begun, stepped, after_steps}
 use Rattle.bench_core.specs.Settled.{IsSettled, HasRecorded, ReadsBack, SettledAfterEachStep, ReadsBackAfterEachStep}
-use Rattle.bench_core.specs.Channels.{Bus, report_part, IsMade}
-use Rattle.bench_core.specs.World.{WorldState, with_bench, IsReached, IsKept, IsWhole, parts_of, lanes_in}
+use Rattle.bench_core.specs.Channels.{IsMade}
+use Rattle.bench_core.specs.World.{WorldState, with_bench, IsReached, IsKept, IsWhole}
 use Rattle.bench_core.proofs.Steps.{IsBench, at_first, after_all}
 use Rattle.bench_core.proofs.Tidy.{IsTidy, tidy_first, tidy_all}
 
-pub all_recorded : (lanes : List Lane) → AllByRecursion IsMade lanes → AllByRecursion HasRecorded lanes
+pub all_recorded : (lanes : List LaneState) → AllByRecursion IsMade lanes → AllByRecursion HasRecorded lanes
 all_recorded [] all = tt
 all_recorded (l ∷ lanes) all = (all.0.recorded, all_recorded lanes all.1)
 
@@ -53,12 +53,6 @@ module _ {X : Type 0} where
   from_place [] i x at = absurd cc
   from_place (y ∷ xs) zero x at = let same : y ≡ x = cc in ap (λ (z : X). z ∷ xs) same
   from_place (y ∷ xs) (suc i) x at = let longer : suc (i + 1) ≡ suc i + 1 = omega arith in from_place xs i x at ∙ ap (λ (k : ℕ). x ∷ drop k (y ∷ xs)) longer
-
--- ---- reports
-
-pub parts_are : (buses : List Bus) → map report_part buses ≡ parts_of (lanes_in buses) (map (λ (b : Bus). b.actions) buses)
-parts_are [] = refl
-parts_are (b ∷ buses) = ap (λ ps. report_part b ∷ ps) (parts_are buses)
 
 -- ---- one step more of a list
 

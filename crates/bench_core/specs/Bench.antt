@@ -1,57 +1,68 @@
 -- The bench, one step at a time (own choice). Each channel makes its messages in order and offers each once to one queue; a
 -- number that the full queue does not take is listed as refused. Behind its last message a channel offers its end mark until it is
--- taken. The writer takes what stands in front of the queue.
+-- taken. The writer takes what stands in front of the queue. An action that a host posts for a terminal of a channel acts at the
+-- channel's next message, behind what is placed there.
 use Rattle.std.specs.Prelude.{ℕ, ◌+◌, nat_lt, Bool, false, true, not, ◌||◌, if◌then◌else◌, List, [], ◌∷◌, ◌++◌, length, slice_get, slice_set, Option, Some, None}
+use Rattle.mil_host.specs.declared.actions.Action.{Action}
 use Rattle.mil_monitor.specs.declared.Record.{Record}
+use Rattle.bc_machine.specs.declared.placed.Placed.{Placed}
+use Rattle.job_file.specs.Jobs.{JobState, job_in}
+use Rattle.job_file.specs.Meaning.{records}
 use Rattle.ch11_recording.specs.declared.item.Item.{Item}
 use Rattle.ch11_recording.specs.declared.item.Item.TheVariants as item
 use Rattle.bench_core.specs.declared.step.Step.{Step}
-use Rattle.bench_core.specs.declared.step.Step.TheVariants.{Offer, Take}
+use Rattle.bench_core.specs.declared.step.Step.TheVariants.{Offer, Take, Post}
 
--- a channel: its number, the records of all messages that its job means, how many of them it has made, the numbers of those that
--- were refused, and whether its end mark was taken into the queue
-pub record Lane : Type 0 where
+-- a channel: its number, its job, the placed actions, which at first are the job's, how many messages it has made, the numbers of
+-- those that were refused, and whether its end mark was taken into the queue
+pub record LaneState : Type 0 where
   pub channel : ℕ
-  pub records : List Record
+  pub job : JobState
+  pub placed : List Placed
   pub made : ℕ
   pub refused : List ℕ
   pub ended : Bool
 
 -- the channels, the queue with how many items it holds at most, its front first, and what the writer has taken, in that order
 pub record Bench : Type 0 where
-  pub lanes : List Lane
+  pub lanes : List LaneState
   pub capacity : ℕ
   pub queue : List Item
   pub taken : List Item
 
 -- nothing was made yet
-abbrev pub begun_lane : ℕ → List Record → Lane
-begun_lane channel records = record { channel = channel; records = records; made = 0; refused = []; ended = false }
+abbrev pub begun_lane : JobState → LaneState
+begun_lane job = record { channel = job.channel; job = job; placed = job.actions; made = 0; refused = []; ended = false }
 
-abbrev pub begun : ℕ → List Lane → Bench
+-- the records of all messages that its job means under the placed actions
+abbrev pub all_records : LaneState → List Record
+all_records l = records (job_in l.job) l.placed
+
+abbrev pub begun : ℕ → List LaneState → Bench
 begun capacity lanes = record { lanes = lanes; capacity = capacity; queue = []; taken = [] }
 
 abbrev pub has_room : Bench → Bool
 has_room b = nat_lt (length b.queue) b.capacity
 
 -- one more message of a channel was made; where the queue did not take it, its number is refused
-abbrev pub with_message : Lane → Bool → Lane
+abbrev pub with_message : LaneState → Bool → LaneState
 with_message l kept = record {
   channel = l.channel;
-  records = l.records;
+  job = l.job;
+  placed = l.placed;
   made = l.made + 1;
   refused = if kept then l.refused else (l.refused ++ (l.made + 1) ∷ []);
   ended = l.ended;
 }
 
-abbrev pub with_end : Lane → Lane
-with_end l = record { channel = l.channel; records = l.records; made = l.made; refused = l.refused; ended = true }
+abbrev pub with_end : LaneState → LaneState
+with_end l = record { channel = l.channel; job = l.job; placed = l.placed; made = l.made; refused = l.refused; ended = true }
 
-abbrev pub message_of : Lane → Record → Item
+abbrev pub message_of : LaneState → Record → Item
 message_of l r = item.Message l.channel (l.made + 1) r
 
 -- a channel offers its next message
-abbrev pub message_offered : ℕ → Lane → Record → Bench → Bench
+abbrev pub message_offered : ℕ → LaneState → Record → Bench → Bench
 message_offered index l r b = record {
   lanes = slice_set b.lanes index (with_message l (has_room b));
   capacity = b.capacity;
@@ -60,18 +71,18 @@ message_offered index l r b = record {
 }
 
 -- a channel offers its end mark, once and where there is room
-abbrev pub end_offered : ℕ → Lane → Bench → Bench
+abbrev pub end_offered : ℕ → LaneState → Bench → Bench
 end_offered index l b =
     if l.ended || not (has_room b) then b
     else record { lanes = slice_set b.lanes index (with_end l); capacity = b.capacity; queue = b.queue ++ item.End l.channel ∷ []; taken = b.taken }
 
-abbrev pub next_offered : ℕ → Lane → Option Record → Bench → Bench
+abbrev pub next_offered : ℕ → LaneState → Option Record → Bench → Bench
 next_offered index l (Some r) b = message_offered index l r b
 next_offered index l None b = end_offered index l b
 
-abbrev pub lane_offers : ℕ → Option Lane → Bench → Bench
+abbrev pub lane_offers : ℕ → Option LaneState → Bench → Bench
 lane_offers index None b = b
-lane_offers index (Some l) b = next_offered index l (slice_get l.records l.made) b
+lane_offers index (Some l) b = next_offered index l (slice_get (all_records l) l.made) b
 
 -- the channel at an index offers what comes next
 abbrev pub offered : ℕ → Bench → Bench
@@ -82,10 +93,31 @@ abbrev pub taken_from : List Item → Bench → Bench
 taken_from [] b = b
 taken_from (x ∷ behind) b = record { lanes = b.lanes; capacity = b.capacity; queue = behind; taken = b.taken ++ x ∷ [] }
 
+-- an action was posted for a terminal of a channel
+abbrev pub with_post : LaneState → ℕ → Action → LaneState
+with_post l address action = record {
+  channel = l.channel;
+  job = l.job;
+  placed = l.placed ++ record { number = l.made + 1; address = address; action = action } ∷ [];
+  made = l.made;
+  refused = l.refused;
+  ended = l.ended;
+}
+
+abbrev pub lane_posts : ℕ → Option LaneState → ℕ → Action → Bench → Bench
+lane_posts index None address action b = b
+lane_posts index (Some l) address action b =
+    record { lanes = slice_set b.lanes index (with_post l address action); capacity = b.capacity; queue = b.queue; taken = b.taken }
+
+-- a host posts an action for a terminal of the channel at an index
+abbrev pub posted : ℕ → ℕ → Action → Bench → Bench
+posted index address action b = lane_posts index (slice_get b.lanes index) address action b
+
 -- one step
 unfoldable pub stepped : Step → Bench → Bench
 stepped (Offer index) b = offered index b
 stepped Take b = taken_from b.queue b
+stepped (Post index address action) b = posted index address action b
 
 -- a list of steps
 abbrev pub after_steps : List Step → Bench → Bench

@@ -13,7 +13,7 @@ use Rattle.ch11_recording.specs.WrittenFile.{Format, held_in, written_file}
 use Rattle.ch11_recording.specs.Recording.{AreDistinct}
 use Rattle.ch11_recording.specs.Laws.{IsFormat, IsPrologue}
 use Rattle.bench_core.specs.declared.step.Step.{Step}
-use Rattle.bench_core.specs.Bench.{Lane, Bench, begun, after_steps}
+use Rattle.bench_core.specs.Bench.{LaneState, Bench, all_records, begun, after_steps}
 
 -- the number is none of these
 abbrev pub is_kept : List ℕ → Numbered → Bool
@@ -24,11 +24,11 @@ abbrev pub kept : List ℕ → List Record → List Numbered
 kept refused rs = filter (is_kept refused) (numbered_from 1 rs)
 
 -- the messages that a channel has made, but for the refused
-abbrev pub kept_of : Lane → List Numbered
-kept_of l = kept l.refused (take l.made l.records)
+abbrev pub kept_of : LaneState → List Numbered
+kept_of l = kept l.refused (take l.made (all_records l))
 
 -- nothing is lost that is not listed, and nothing is doubled or out of order
-abbrev pub IsSettled : Bench → Lane → Type 0
+abbrev pub IsSettled : Bench → LaneState → Type 0
 IsSettled b l = records_in l.channel (b.taken ++ b.queue) ≡ kept_of l
 
 -- the recording of the taken items, read back, has the records of the closed packets; with those of the open packet and of the
@@ -40,24 +40,24 @@ ReadsBack f prologue b =
     ≡ map as_message (messages_of (kept_of l))) b.lanes
 
 -- a channel at the beginning: nothing was made
-pub record IsFresh (l : Lane) : Type 0 where
+pub record IsFresh (l : LaneState) : Type 0 where
   pub channel : l.channel < 2 ^ 16
   pub made : l.made ≡ 0
   pub refused : l.refused ≡ []
 
 -- the messages that a channel has made are those of a bus monitor
-abbrev pub HasRecorded : Lane → Type 0
-HasRecorded l = AllByRecursion (λ r. IsRecorded (numbered 0 r)) (take l.made l.records)
+abbrev pub HasRecorded : LaneState → Type 0
+HasRecorded l = AllByRecursion (λ r. IsRecorded (numbered 0 r)) (take l.made (all_records l))
 
 -- After each list of steps, of a bench with any capacity.
 abbrev pub SettledAfterEachStep : Type 0
 SettledAfterEachStep =
-    (lanes : List Lane) (capacity : ℕ) (steps : List Step) → AllByRecursion IsFresh lanes → AreDistinct (map (λ l. l.channel) lanes)
+    (lanes : List LaneState) (capacity : ℕ) (steps : List Step) → AllByRecursion IsFresh lanes → AreDistinct (map (λ l. l.channel) lanes)
     → AllByRecursion (IsSettled (after_steps steps (begun capacity lanes))) (after_steps steps (begun capacity lanes)).lanes
 
 abbrev pub ReadsBackAfterEachStep : Type 0
 ReadsBackAfterEachStep =
-    (lanes : List Lane) (capacity : ℕ) (steps : List Step) (f : Format) (prologue : List ℕ)
+    (lanes : List LaneState) (capacity : ℕ) (steps : List Step) (f : Format) (prologue : List ℕ)
     → AllByRecursion IsFresh lanes → AreDistinct (map (λ l. l.channel) lanes) → IsFormat f → IsPrologue prologue
     → AllByRecursion HasRecorded (after_steps steps (begun capacity lanes)).lanes
     → ReadsBack f prologue (after_steps steps (begun capacity lanes))

@@ -2,39 +2,50 @@
 ghost use Rattle.std.specs.Prelude.{◌≡◌, ◌<◌, ◌≤◌, ◌||◌, not, if◌then◌else◌, [], ◌∷◌, ◌++◌, vec_len, Some, None, IfOk, OnOk, OnErr};
 ghost use Rattle.std.specs.Vec.{vec_capacity};
 ghost use Rattle.ch11_recording.specs.declared.item.Item.TheVariants as item;
-ghost use Rattle.bench_core.specs.Channels.{lane_of, after_next, queued_next, next_in, report_part, IsMade};
+ghost use Rattle.bench_core.specs.Bench.{begun_lane, with_post};
+ghost use Rattle.bench_core.specs.Channels.{posts_of, has_terminal, after_next, queued_next, next_in, report_part, IsMade};
 
 use crate::parts::channel_report;
-use crate::placing::ordered_actions;
+use crate::placing::{add_posted, ordered_actions};
 use bc_machine::{Machine, Placed};
 use bench_report::ChannelReport;
 use ch11_recording::{Item, record_fits};
 use job_file::{Job, next_record};
+use mil_host::Action;
 use mil_monitor::Record;
 use std::alloc::{AllocError, Global};
 use std::marker::Model;
 use std::snapshot::Snapshot;
 
-/// A channel's controller, the numbers that a full queue refused, whether the end mark was queued, and its job's actions by
-/// rising number. Contracts see the job itself too, of which no byte is kept.
+/// The highest address of a terminal.
+const HIGHEST: u8 = 30;
+
+/// At most so many actions are posted for a channel.
+const MOST_POSTS: u32 = 65_536;
+
+/// A channel's terminals, its controller, the numbers that a full queue refused, whether the end mark was queued, the placed actions by
+/// rising number, and how many of them were posted. Contracts see the job itself too, of which no byte is kept.
 #[derive(Drop)]
 pub(crate) struct Lane {
     channel: u16,
+    addresses: Vec<u8>,
     machine: Machine,
     refused: Vec<u32>,
     ended: bool,
     placed: Vec<Placed>,
+    posts: u32,
     job: Snapshot<Job>,
 }
 
 impl Model for Lane {
-    ghost use Rattle.bench_core.specs.Channels.{Bus, bus_in, IsBus};
+    ghost use Rattle.bench_core.specs.Bench.{LaneState};
+    ghost use Rattle.bench_core.specs.Channels.{lane_in, IsKeptLane};
 
-    ghost Value = { Bus };
+    ghost Value = { LaneState };
 
-    ghost view = { bus_in };
+    ghost view = { lane_in };
 
-    ghost invariant = { IsBus };
+    ghost invariant = { IsKeptLane };
 }
 
 /// The end mark of a channel, once and where there is room.
@@ -75,35 +86,52 @@ fn message(
 impl Lane {
     /// The channel of a job, before any message. It fails for want of memory alone.
     pub(crate) fn make(alloc: Global, job: &Job) -> Result<Lane, AllocError>
-        ensures { IfOk result (λ b. b ≡ record { lane = lane_of job.now; actions = job.now.actions }) }
+        ensures { IfOk result (λ l. l ≡ begun_lane job.now) }
     {
+        let mut addresses = Vec::new(alloc);
+        addresses.extend_from_slice(job.addresses())?;
         let machine = job.machine(alloc, job.actions())?;
         let placed = ordered_actions(alloc, job)?;
         let _sound = job.program();
         Ok(Lane {
             channel: job.channel(),
+            addresses,
             machine,
             refused: Vec::new(alloc),
             ended: false,
             placed,
+            posts: 0,
             job: Snapshot::of(job),
         })
     }
 
     /// The number of the channel, 1 to 65,535.
     pub(crate) fn channel(&self) -> u16
-        ensures { result ≡ self.now.lane.channel }
+        ensures { result ≡ self.now.channel }
     {
         self.channel
+    }
+
+    /// Whether there is a terminal at an address of its bus.
+    pub(crate) fn has_terminal(&self, address: u8) -> bool
+        ensures { result ≡ has_terminal self.now address }
+    {
+        self.addresses.contains(&address)
+    }
+
+    /// How many actions were posted.
+    pub(crate) fn posts(&self) -> u32
+        ensures { result ≡ posts_of self.now }
+    {
+        self.posts
     }
 
     /// Makes the channel's next message, or ends the channel behind its last one: gives what goes into the queue, where that has
     /// room, and lists a number that does not. It fails for want of memory alone, and then nothing was done.
     pub(crate) fn advance(&mut self, room: bool) -> Result<Option<Item>, AllocError>
-        ensures lane { OnOk result (self.new.lane ≡ after_next self.old.lane (next_in self.old.lane) room) }
-        ensures item { IfOk result (λ queued. queued ≡ queued_next self.old.lane (next_in self.old.lane) room) }
-        ensures made { OnOk result (IsMade self.new.lane) }
-        ensures actions { self.new.actions ≡ self.old.actions }
+        ensures lane { OnOk result (self.new ≡ after_next self.old (next_in self.old) room) }
+        ensures item { IfOk result (λ queued. queued ≡ queued_next self.old (next_in self.old) room) }
+        ensures made { OnOk result (IsMade self.new) }
         ensures err { OnErr result (self.new ≡ self.old) }
     {
         self.refused.reserve(1)?;
@@ -114,6 +142,34 @@ impl Lane {
         };
         record_fits(&made);
         Ok(message(&mut self.refused, self.channel, number, made, room))
+    }
+
+    /// Places an action of a host of a terminal at the channel's next message, behind what is placed there. It fails where memory is
+    /// refused, and for an address above 30 and behind 65,536 posts, which the steps that are played never have; then nothing was
+    /// done.
+    pub(crate) fn post(&mut self, address: u8, action: &Action) -> Result<(), AllocError>
+        ensures lane { OnOk result (self.new ≡ with_post self.old address action.now) }
+        ensures made { OnOk result (IsMade self.new) }
+        ensures err { OnErr result (self.new ≡ self.old) }
+    {
+        if address > HIGHEST || self.posts >= MOST_POSTS {
+            return Err(AllocError);
+        }
+        self.placed.reserve(1)?;
+        self.machine.room(1)?;
+        let one = Placed {
+            number: self.machine.number() + 1,
+            address,
+            action: action.copy(),
+        };
+        match self.machine.place(address, action.copy()) {
+            Ok(()) => {
+                add_posted(&mut self.placed, one);
+                self.posts += 1;
+                Ok(())
+            }
+            Err(_) => Err(AllocError),
+        }
     }
 
     /// What a report says of the channel. It fails for want of memory alone.

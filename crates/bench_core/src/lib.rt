@@ -11,6 +11,7 @@ mod placing;
 mod play;
 mod settings;
 mod step;
+mod stepping;
 mod taken;
 mod world;
 mod writing;

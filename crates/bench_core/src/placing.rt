@@ -1,5 +1,5 @@
 //! Actions in the order in which a channel's messages meet them.
-ghost use Rattle.std.specs.Prelude.{◌≡◌, ◌<◌, ◌++◌, ◌∷◌, [], List, vec_len, IfOk};
+ghost use Rattle.std.specs.Prelude.{◌≡◌, ◌<◌, ◌≤◌, ◌++◌, ◌∷◌, [], List, vec_len, IfOk};
 ghost use Rattle.std.specs.Vec.{vec_capacity};
 ghost use Rattle.bc_machine.specs.declared.placed.Placed.{Placed};
 ghost use Rattle.bench_report.specs.Reports.{IsPlace};
@@ -32,6 +32,24 @@ pub fn add_action(ordered: &mut Vec<Placed>, one: Placed)
     let number = one.number;
     let behind = ordered.partition_point(|other| other.number <= number);
     let _ = ordered.insert(behind, one);
+}
+
+/// A channel makes at most so many messages.
+const LAST: u32 = 1_000_000;
+
+/// Adds an action of a terminal to ordered ones as `add_action` does, but for one at a number that no channel comes to, which makes
+/// no difference. It takes no memory.
+pub(crate) fn add_posted(ordered: &mut Vec<Placed>, one: Placed)
+    requires number { 1 ≤ one.number }
+    requires address { one.address ≤ 30 }
+    requires ordered { IsOrdered ordered.old.items }
+    requires room { vec_len ordered.old < vec_capacity ordered.old }
+    ensures ordered { (actions : List Placed) → ordered.old.items ≡ placed_up_to 1000000 actions → ordered.new.items ≡ placed_up_to 1000000 (actions ++ one ∷ []) }
+    ensures fit { IsOrdered ordered.new.items }
+{
+    if one.number <= LAST {
+        add_action(ordered, one);
+    }
 }
 
 /// The same actions, placed alike.

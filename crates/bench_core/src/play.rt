@@ -1,28 +1,15 @@
 //! Lists of steps.
-ghost use Rattle.std.specs.Prelude.{◌↔◌, IsTrue};
-ghost use Rattle.bench_core.specs.World.{AreSteps, Plays, IsWhole};
+ghost use Rattle.bench_core.specs.World.{Plays, IsWhole};
 
 use crate::fault::PlayError;
 use crate::step::Step;
+use crate::stepping::{are_few_posts, are_for_terminals, are_steps};
 use crate::world::World;
 
-/// Whether each step that offers is of one of so many channels.
-fn are_steps(channels: usize, steps: &[Step]) -> bool
-    ensures { IsTrue result ↔ AreSteps channels steps.now }
-{
-    for step in steps {
-        if let Step::Offer(index) = *step {
-            if usize::from(index) >= channels {
-                return false;
-            }
-        }
-    }
-    true
-}
-
 impl World {
-    /// Takes the steps, one after the other. O1 where one offers of a channel that there is not, and nothing is done; O2 where
-    /// memory is refused, once the steps before are done.
+    /// Takes the steps, one after the other. O1 where one is of a channel that there is not, O3 where an action is posted to an
+    /// address at which its channel has no terminal, O4 where a channel would have more posts since the world was made than the
+    /// settings allow, in this order, and nothing is done; O2 where memory is refused, once the steps before are done.
     pub fn play(&mut self, steps: &[Step]) -> Result<(), PlayError>
         ensures played { Plays steps.now self.old result self.new }
         ensures whole { IsWhole self.new }
@@ -35,12 +22,18 @@ impl World {
     fn play_all(&mut self, steps: &[Step]) -> Result<(), PlayError>
         ensures { Plays steps.now self.old result self.new }
     {
-        if !are_steps(self.channels(), steps) {
+        if !are_steps(self.lanes().len(), steps) {
             return Err(PlayError::Index);
+        }
+        if !are_for_terminals(self.lanes(), steps) {
+            return Err(PlayError::NoTerminal);
+        }
+        if !are_few_posts(self.most(), self.lanes(), steps) {
+            return Err(PlayError::Posts);
         }
         let mut done = 0;
         for step in steps {
-            match self.step(*step) {
+            match self.step(step) {
                 Ok(()) => done += 1,
                 Err(_) => return Err(PlayError::Memory { done }),
             }

@@ -1,9 +1,15 @@
+use mil_host::Action;
+
 /// One step of the bench.
-#[derive(Clone, Copy, Debug, PartialEq, Eq)]
+#[derive(Debug, Drop)]
 pub enum Step {
     /// The channel at an index makes its next message and offers it to the queue, or offers its end mark.
     Offer(u8),
 
     /// The writer takes the front of the queue.
     Take,
+
+    /// A host of the terminal at an address of the channel at an index posts an action: it acts at the channel's next message,
+    /// behind what is placed there.
+    Post(u8, u8, Action),
 }

@@ -5,9 +5,9 @@ ghost use Rattle.std.specs.VecDeque.{deque_capacity};
 ghost use Rattle.ch11_builder.specs.Held.{fresh};
 ghost use Rattle.ch11_recording.specs.WrittenFile.{channel_in};
 ghost use Rattle.bench_core.specs.Lawful.{AreLawful, Refuses};
-ghost use Rattle.bench_core.specs.Bench.{offered, taken_from, stepped};
-ghost use Rattle.bench_core.specs.Channels.{Bus, lane_of, after_next, queued_next, next_in, IsMade};
-ghost use Rattle.bench_core.specs.World.{world_of, with_bench, file_of, report_of, lanes_in, IsWhole};
+ghost use Rattle.bench_core.specs.Bench.{LaneState, begun_lane, offered, posted, taken_from, stepped};
+ghost use Rattle.bench_core.specs.Channels.{after_next, queued_next, next_in, IsMade};
+ghost use Rattle.bench_core.specs.World.{world_of, with_bench, file_of, report_of, IsWhole};
 
 use crate::judging::judge;
 use crate::lane::Lane;
@@ -20,6 +20,7 @@ use bench_report::Report;
 use ch11_builder::{Builder, BuilderError};
 use ch11_recording::{Item, file_is_packets, latest_is_last, recording_goes_on};
 use job_file::Job;
+use mil_host::Action;
 use std::alloc::{AllocError, Global};
 use std::collections::VecDeque;
 use std::marker::Model;
@@ -36,6 +37,7 @@ pub struct World {
     version: u8,
     limit: u32,
     prologue: Snapshot<Vec<u8>>,
+    most: u32,
     file: Vec<u8>,
     packets: u64,
     taken: Snapshot<Taken>,
@@ -53,7 +55,7 @@ impl Model for World {
 
 /// The channels of jobs.
 fn lanes_of(alloc: Global, jobs: &[Job]) -> Result<Vec<Lane>, AllocError>
-    ensures { IfOk result (λ v. v.items ≡ map (λ j. record { lane = lane_of j; actions = j.actions }) jobs.now) }
+    ensures { IfOk result (λ v. v.items ≡ map begun_lane jobs.now) }
 {
     let mut lanes = Vec::with_capacity(alloc, jobs.len())?;
     for job in jobs {
@@ -94,8 +96,8 @@ fn copied(alloc: Global, bytes: &[u8]) -> Result<Vec<u8>, AllocError>
 
 /// The place of a channel.
 fn place_of(lanes: &[Lane], channel: u16) -> Option<usize>
-    ensures { MatchOption result (AllByRecursion (λ (b : Bus). b.lane.channel ≢ channel) lanes.now)
-        (λ index. slice_get (map (λ l. l.channel) (lanes_in lanes.now)) index ≡ Some channel) }
+    ensures { MatchOption result (AllByRecursion (λ (l : LaneState). l.channel ≢ channel) lanes.now)
+        (λ index. slice_get (map (λ l. l.channel) lanes.now) index ≡ Some channel) }
 {
     let mut place = 0;
     for lane in lanes {
@@ -111,10 +113,9 @@ fn place_of(lanes: &[Lane], channel: u16) -> Option<usize>
 /// done.
 fn offer_to(lane: &mut Lane, queue: &mut VecDeque<Item>, capacity: usize) -> Result<(), AllocError>
     requires room { capacity ≤ deque_capacity queue.old }
-    ensures lane { OnOk result (lane.new.lane ≡ after_next lane.old.lane (next_in lane.old.lane) (nat_lt (length queue.old.items) capacity)) }
-    ensures queue { OnOk result (queue.new.items ≡ queue.old.items ++ option_to_list (queued_next lane.old.lane (next_in lane.old.lane) (nat_lt (length queue.old.items) capacity))) }
-    ensures made { OnOk result (IsMade lane.new.lane) }
-    ensures actions { lane.new.actions ≡ lane.old.actions }
+    ensures lane { OnOk result (lane.new ≡ after_next lane.old (next_in lane.old) (nat_lt (length queue.old.items) capacity)) }
+    ensures queue { OnOk result (queue.new.items ≡ queue.old.items ++ option_to_list (queued_next lane.old (next_in lane.old) (nat_lt (length queue.old.items) capacity))) }
+    ensures made { OnOk result (IsMade lane.new) }
     ensures capacity { deque_capacity queue.new ≡ deque_capacity queue.old }
     ensures same_lane { OnErr result (lane.new ≡ lane.old) }
     ensures same_queue { OnErr result (queue.new.items ≡ queue.old.items) }
@@ -158,6 +159,7 @@ impl World {
             version: settings.version,
             limit: settings.limit,
             prologue: Snapshot::of(&settings.prologue),
+            most: settings.posts,
             file,
             packets: 0,
             taken: none_taken(),
@@ -220,23 +222,44 @@ impl World {
         Ok(())
     }
 
-    /// One step, of which an offer of no channel does nothing. It fails for want of memory alone, and then nothing was done.
+    /// A host posts an action for the terminal at an address of the channel at an index; nothing is done where there is no such
+    /// channel. It fails as the channel does, and then nothing was done.
+    fn post(&mut self, index: usize, address: u8, action: &Action) -> Result<(), AllocError>
+        ensures ok { OnOk result (self.new ≡ with_bench self.old (posted index address action.now self.old.bench)) }
+        ensures err { OnErr result (self.new ≡ self.old) }
+    {
+        if index >= self.lanes.len() {
+            return Ok(());
+        }
+        self.lanes[index].post(address, action)
+    }
+
+    /// One step, which does nothing where there is no such channel. It fails for want of memory, and for a post that a channel does not
+    /// take; then nothing was done.
     #[tactic(auto, unfolding(crate::specs::Bench::stepped))]
-    pub(crate) fn step(&mut self, step: Step) -> Result<(), AllocError>
-        ensures ok { OnOk result (self.new ≡ with_bench self.old (stepped step self.old.bench)) }
+    pub(crate) fn step(&mut self, step: &Step) -> Result<(), AllocError>
+        ensures ok { OnOk result (self.new ≡ with_bench self.old (stepped step.now self.old.bench)) }
         ensures err { OnErr result (self.new ≡ self.old) }
     {
         match step {
-            Step::Offer(index) => self.offer(usize::from(index)),
+            Step::Offer(index) => self.offer(usize::from(*index)),
             Step::Take => self.take(),
+            Step::Post(index, address, action) => self.post(usize::from(*index), *address, action),
         }
     }
 
-    /// How many channels there are.
-    pub(crate) fn channels(&self) -> usize
-        ensures { result ≡ length self.now.bench.lanes }
+    /// The channels.
+    pub(crate) fn lanes(&self) -> &[Lane]
+        ensures { result.now ≡ self.now.bench.lanes }
     {
-        self.lanes.len()
+        self.lanes.as_slice()
+    }
+
+    /// How many posts of each channel may be placed.
+    pub(crate) fn most(&self) -> u32
+        ensures { result ≡ self.now.most }
+    {
+        self.most
     }
 
     /// Nothing is lost, doubled or out of order.

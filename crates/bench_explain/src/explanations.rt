@@ -15,7 +15,7 @@ pub fn groups() -> [&'static [Explanation]; 5] {
     ]
 }
 
-/// The explanation of a code, as the program prints it: a letter and a digit, or `device`, `memory`, `unknown`. None of another
+/// The explanation of a code, as the program prints it: a letter and digits, or `device`, `memory`, `unknown`. None of another
 /// word.
 pub fn explain(code: &str) -> Option<&'static Explanation>
     ensures { IfSome result (λ explanation. explanation.now.code.now ≡ code.now) }

@@ -3,7 +3,7 @@
 use crate::explanation::Explanation;
 
 /// Each code of them, in order.
-pub(crate) static EXPLANATIONS: [Explanation; 28] = [
+pub(crate) static EXPLANATIONS: [Explanation; 32] = [
     Explanation {
         code: "S1",
         means: "a byte that is in no token of the script language",
@@ -36,13 +36,13 @@ pub(crate) static EXPLANATIONS: [Explanation; 28] = [
     },
     Explanation {
         code: "S6",
-        means: "more than 16 blocks in one another, or more than 16 operators above a test",
+        means: "more than 16 blocks in one another, those of called frames counted, or more than 16 operators above a test",
         remedy: "Take blocks apart, or put the frames one behind the other.",
         example: "repeat 1 { repeat 1 { .. seventeen of them .. } }",
     },
     Explanation {
         code: "S7",
-        means: "a number out of its range: repeat 1 to 10000, retry 1 to 8, gap 40 to 65535",
+        means: "a number out of its range: repeat and until 1 to 10000, retry 1 to 8, gap 40 to 65535",
         remedy: "Choose a number in the range; loops in one another multiply.",
         example: "repeat 0 { send A mode 5 1 }",
     },
@@ -57,6 +57,18 @@ pub(crate) static EXPLANATIONS: [Explanation; 28] = [
         means: "memory was refused while a script was read",
         remedy: "Give the program more memory, or close others.",
         example: "bench: memory",
+    },
+    Explanation {
+        code: "S10",
+        means: "a definition of a name that was defined before, or a call of a name that was not",
+        remedy: "Give each definition a name of its own, and define a frame above its first call; a frame cannot call itself.",
+        example: "define poll { call poll }",
+    },
+    Explanation {
+        code: "S11",
+        means: "a thirty-third definition",
+        remedy: "Put frames that are always run together into one definition.",
+        example: "thirty-three definitions",
     },
     Explanation {
         code: "M1",
@@ -114,7 +126,7 @@ pub(crate) static EXPLANATIONS: [Explanation; 28] = [
     },
     Explanation {
         code: "P2",
-        means: "loops of an image that do not pair, or more than 17 open at once",
+        means: "loops of an image that do not pair in a routine, or more than 17 open at once, those of called routines counted",
         remedy: "Assemble the script again.",
         example: "an image that was changed by hand",
     },
@@ -143,8 +155,14 @@ pub(crate) static EXPLANATIONS: [Explanation; 28] = [
         example: "bench: memory",
     },
     Explanation {
+        code: "P7",
+        means: "an image with more than 32 routines, or a Call of a routine that does not end before its own begins",
+        remedy: "Assemble the script again; an image that the assembler writes never has this fault.",
+        example: "an image that was changed by hand",
+    },
+    Explanation {
         code: "C1",
-        means: "no image: fewer than four bytes, or another mark than BC01",
+        means: "no image: fewer than four bytes, or another mark than BC01 and BC02",
         remedy: "Name a file that bench assemble wrote.",
         example: "a script in the place of an image",
     },
@@ -171,5 +189,11 @@ pub(crate) static EXPLANATIONS: [Explanation; 28] = [
         means: "memory was refused while an image was read",
         remedy: "Give the program more memory.",
         example: "bench: memory",
+    },
+    Explanation {
+        code: "C6",
+        means: "an image with the mark BC02 that has no operation above 9",
+        remedy: "Assemble the script again: without calls it is an image with the mark BC01.",
+        example: "an image that was changed by hand",
     },
 ];

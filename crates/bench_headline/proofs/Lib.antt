@@ -3,3 +3,4 @@ pub mod Packets
 pub mod Written
 pub mod Channels
 pub mod Agreeing
+pub mod Living

@@ -1,7 +1,7 @@
-//! A run and the debugger: what a finished run recorded is what the debugger plays again.
+//! A run and the debugger: what a finished run recorded, of the jobs alone or with the posts of hosts, is what the debugger plays again.
 #![tactic(auto)]
 
-ghost use Rattle.bench_headline.specs.Headline.{RunIsReplayed};
+ghost use Rattle.bench_headline.specs.Headline.{RunIsReplayed, LiveRunIsReplayed};
 
 use ch11_builder::packet_is_read_again;
 use ch11_reader::recordings_join;
@@ -13,6 +13,19 @@ use replay::placed_actions_suffice;
 /// which `bench_run::run` promises where it ends well.
 pub fn run_is_replayed()
     ensures { RunIsReplayed }
+{
+    packet_is_read_again();
+    recordings_join();
+    recording_goes_on();
+    placed_actions_suffice();
+}
+
+/// Law: the debugger accepts the recording of every finished live run, with the jobs as they were given to it and the report of that
+/// run, which has the posts that were placed. So at message n it shows the state after n messages. Conditions: the jobs and settings
+/// may be run, the jobs of the file are these with the posts that were placed, and the file is that of a finished run of them, all of
+/// which `bench_run::run_live` promises where it ends well.
+pub fn live_run_is_replayed()
+    ensures { LiveRunIsReplayed }
 {
     packet_is_read_again();
     recordings_join();

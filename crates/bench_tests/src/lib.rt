@@ -7,6 +7,8 @@ mod channels;
 #[cfg(test)]
 mod placing;
 #[cfg(test)]
+mod posts;
+#[cfg(test)]
 mod reports;
 #[cfg(test)]
 mod worlds;

@@ -40,7 +40,7 @@ fn jobs_of(rt: &impl Abort, alloc: Global, texts: &[&str]) -> Vec<Job> {
     jobs
 }
 
-fn settings_of(
+pub(crate) fn settings_of(
     rt: &impl Abort,
     alloc: Global,
     limit: u32,
@@ -82,10 +82,20 @@ fn made(
     World::make(alloc, &jobs, settings)
 }
 
+/// The world that these jobs and settings make.
+pub(crate) fn world_with(
+    rt: &impl Abort,
+    alloc: Global,
+    texts: &[&str],
+    settings: &Settings,
+) -> World {
+    made(rt, alloc, texts, settings).ok().expect(rt, "a world")
+}
+
 /// A world of packets of at most 4096 bytes.
 fn world_of(rt: &impl Abort, alloc: Global, texts: &[&str], queue: u32, prologue: &[u8]) -> World {
     let settings = settings_of(rt, alloc, 4096, queue, prologue);
-    made(rt, alloc, texts, &settings).ok().expect(rt, "a world")
+    world_with(rt, alloc, texts, &settings)
 }
 
 /// A queue of one item, between a channel of five messages and one of one.
@@ -107,13 +117,13 @@ fn plays(
 }
 
 /// How many bytes the file of a world has, and how many items its queue.
-fn holds(rt: &impl Abort, world: &World, file: usize, queued: usize) {
+pub(crate) fn holds(rt: &impl Abort, world: &World, file: usize, queued: usize) {
     assert_eq!(rt; world.file().len(), file);
     assert_eq!(rt; world.queued().len(), queued);
 }
 
 /// The report of a world, printed.
-fn reports(rt: &impl Abort, alloc: Global, world: &World, wanted: &str) {
+pub(crate) fn reports(rt: &impl Abort, alloc: Global, world: &World, wanted: &str) {
     let report = world.report(alloc).expect(rt, "memory");
     let text = print_report(alloc, &report).expect(rt, "memory");
     assert_eq!(rt; text.as_str(), wanted);
@@ -133,7 +143,7 @@ fn has_narrow_packets(rt: &impl Abort, file: &[u8]) {
 }
 
 /// How many messages a recording has.
-fn has_messages(rt: &impl Abort, index: &Index<'_>, total: u64) {
+pub(crate) fn has_messages(rt: &impl Abort, index: &Index<'_>, total: u64) {
     assert_eq!(rt; index.total(), total);
 }
 
@@ -301,9 +311,12 @@ fn prologues(rt: HostRuntime) {
 #[test]
 fn codes_of_faults(rt: HostRuntime) {
     let text = format!(in rt.alloc();
-        "{} {}",
+        "{} {} {} {}",
         PlayError::Index,
-        PlayError::Memory { done: 3 }
-    ).expect(&rt, "memory");
-    assert_eq!(rt; text.as_str(), "O1 O2");
+        PlayError::Memory { done: 3 },
+        PlayError::NoTerminal,
+        PlayError::Posts
+    )
+    .expect(&rt, "memory");
+    assert_eq!(rt; text.as_str(), "O1 O2 O3 O4");
 }

@@ -1,8 +1,9 @@
 //! Bodies against the worked one of a message of five words.
 
+use crate::equal::{are_bytes, same};
 use arrayvec::ArrayVec;
 use ch11_f1::body::messages;
-use ch11_f1::{BodyError, put_record};
+use ch11_f1::{BodyError, Seen, put_record};
 use mil_monitor::Record;
 use std::process::Abort;
 
@@ -39,20 +40,25 @@ fn puts_the_worked_record(rt: HostRuntime) {
     };
     let mut out = [0xFFu8; 96];
     assert!(rt; message.words.len() == 5);
-    assert_eq!(rt; put_record(&message, &mut out), 24);
-    assert_eq!(rt; &out[..24], &WORKED[4..]);
-    assert_eq!(rt; &out[24..28], [0xFFu8; 4].as_slice());
+    same(&rt, &put_record(&message, &mut out), &24);
+    are_bytes(&rt, &out[..24], &WORKED[4..]);
+    are_bytes(&rt, &out[24..28], &[0xFF; 4]);
 }
 
 #[test]
 fn reads_the_worked_body(rt: HostRuntime) {
     let mut found = messages(&WORKED).ok().expect(&rt, "a body");
-    assert_eq!(rt; found.left(), 1);
-    let seen = found.next().expect(&rt, "a message");
+    same(&rt, &found.left(), &1);
+    is_worked(&rt, found.next());
+    assert!(rt; found.next().is_none());
+    assert!(rt; found.next().is_none());
+}
+
+/// What is read of the worked body: stamp, block status, gaps and words.
+fn is_worked(rt: &impl Abort, seen: Option<Seen<'_>>) {
+    let seen = seen.expect(rt, "a message");
     assert_eq!(rt; (seen.stamp, seen.block, seen.gaps), (0, 0, 0x50));
-    assert_eq!(rt; seen.words, &WORKED[18..]);
-    assert!(rt; found.next().is_none());
-    assert!(rt; found.next().is_none());
+    are_bytes(rt, seen.words, &WORKED[18..]);
 }
 
 #[test]

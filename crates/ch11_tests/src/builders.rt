@@ -1,6 +1,7 @@
 //! Packets of a channel, against worked bytes and at their limits.
 ghost use Rattle.std.specs.Prelude.{◌≡◌};
 
+use crate::equal::{are_bytes, reads};
 use arrayvec::ArrayVec;
 use ch11_builder::{Builder, BuilderError, Pushed, run_gives_the_packets};
 use ch11_header::read_header;
@@ -41,7 +42,7 @@ fn one_message(rt: HostRuntime) {
     let kept = matches!(builder.push(1, &short_message()), Pushed::Kept);
     assert!(rt; kept);
     let bytes = builder.close().expect(&rt, "a packet");
-    assert_eq!(rt; bytes, ONE_PACKET.as_slice());
+    are_bytes(&rt, bytes, &ONE_PACKET);
     let none = builder.close().is_none();
     assert!(rt; none);
 }
@@ -93,7 +94,7 @@ fn has_closed(
 /// The last packet of a builder.
 fn ends_with(rt: &impl Abort, builder: &mut Builder, wanted: (usize, u32, u8, u8)) {
     let packet = builder.close().expect(rt, "a packet");
-    assert_eq!(rt; shape_of(packet), Some(wanted));
+    has_closed(rt, shape_of(packet), Some(wanted));
 }
 
 #[test]
@@ -151,8 +152,12 @@ fn limits_outside_their_range(rt: HostRuntime) {
     is_no_limit(&rt, rt.alloc(), 524_289);
     let longest = Builder::make(rt.alloc(), 1, 6, 524_288).is_ok();
     assert!(rt; longest);
-    let text = format!(in rt.alloc(); "{} {}", BuilderError::Limit, BuilderError::Memory).expect(
-        &rt, "memory",
-    );
-    assert_eq!(rt; text.as_str(), "G1 G2");
+    prints(&rt, rt.alloc(), BuilderError::Limit, "G1");
+    prints(&rt, rt.alloc(), BuilderError::Memory, "G2");
+}
+
+/// A refusal is printed as this text.
+fn prints(rt: &impl Abort, alloc: Global, refusal: BuilderError, text: &str) {
+    let printed = format!(in alloc; "{refusal}").expect(rt, "memory");
+    reads(rt, printed.as_str(), text);
 }

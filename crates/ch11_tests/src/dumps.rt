@@ -1,9 +1,12 @@
 //! Dumps against the worked one.
 
+use crate::equal::{are_bytes, reads, same};
 use crate::readers::FOREIGN;
 use bench_dump::{DumpFault, dump, read_all};
+use std::alloc::Global;
 use std::io;
 use std::io::Read;
+use std::process::Abort;
 
 const PRINTED: &str = "packet 0 channel 0 type 01 skipped
 packet 32 channel 1 type 19 seq 0 flags 80 messages 1
@@ -25,30 +28,49 @@ impl Read for Endless {
 
 #[test]
 fn prints_the_foreign_file(rt: HostRuntime) {
-    let mut out = Vec::new(rt.alloc());
-    assert_eq!(rt; dump(rt.alloc(), &FOREIGN, &mut out, false), Ok(()));
-    assert_eq!(rt; out.as_slice(), PRINTED.as_bytes());
+    prints(&rt, rt.alloc(), &FOREIGN, false, PRINTED);
+}
+
+/// What is printed of a file, with or without skipping.
+pub(crate) fn dumped(rt: &impl Abort, alloc: Global, file: &[u8], skip: bool) -> Vec<u8> {
+    let mut out = Vec::new(alloc);
+    let answer = dump(alloc, file, &mut out, skip);
+    same(rt, &answer, &Ok(()));
+    out
+}
+
+/// The dump of a file is this text.
+pub(crate) fn prints(rt: &impl Abort, alloc: Global, file: &[u8], skip: bool, text: &str) {
+    are_bytes(rt, &dumped(rt, alloc, file, skip), text.as_bytes());
 }
 
 #[test]
 fn prints_nothing_of_a_refused_file(rt: HostRuntime) {
     let mut file = FOREIGN;
     file[32] = 0;
-    let mut out = Vec::new(rt.alloc());
-    let answer = dump(rt.alloc(), &file, &mut out, false);
-    assert!(rt; out.is_empty());
-    let fault = answer.err().expect(&rt, "a fault");
+    let fault = refused(&rt, rt.alloc(), &file).expect(&rt, "a fault");
     let text = fault.to_string(rt.alloc()).expect(&rt, "memory");
-    assert_eq!(rt; text.as_str(), "K2 offset 32");
+    reads(&rt, text.as_str(), "K2 offset 32");
+}
+
+/// The fault of a file of which nothing is printed.
+fn refused(rt: &impl Abort, alloc: Global, file: &[u8]) -> Option<DumpFault> {
+    let mut out = Vec::new(alloc);
+    let answer = dump(alloc, file, &mut out, false);
+    assert!(rt; out.is_empty());
+    answer.err()
 }
 
 #[test]
 fn reads_a_file_whole(rt: HostRuntime) {
-    let mut input = FOREIGN.as_slice();
-    let bytes = read_all(rt.alloc(), &mut input)
-        .ok()
-        .expect(&rt, "the bytes");
-    assert_eq!(rt; bytes.as_slice(), FOREIGN.as_slice());
+    is_read_whole(&rt, rt.alloc(), &FOREIGN);
+}
+
+/// All bytes of a file are read.
+fn is_read_whole(rt: &impl Abort, alloc: Global, file: &[u8]) {
+    let mut input = file;
+    let bytes = read_all(alloc, &mut input).ok().expect(rt, "the bytes");
+    are_bytes(rt, &bytes, file);
 }
 
 /// More bytes than three reads give.
@@ -58,17 +80,13 @@ fn reads_a_long_file_whole(rt: HostRuntime) {
     for number in 0..200_000u32 {
         file.push((number % 251) as u8).expect(&rt, "memory");
     }
-    let mut input = file.as_slice();
-    let bytes = read_all(rt.alloc(), &mut input)
-        .ok()
-        .expect(&rt, "the bytes");
-    assert_eq!(rt; bytes.as_slice(), file.as_slice());
+    is_read_whole(&rt, rt.alloc(), &file);
 }
 
 #[test]
 fn gives_up_after_a_million_reads(rt: HostRuntime) {
     let mut input = Endless { reads: 0 };
-    let answer = read_all(rt.alloc(), &mut input);
-    assert_eq!(rt; answer.err(), Some(DumpFault::Device));
-    assert_eq!(rt; input.reads, 1_000_000);
+    let fault = read_all(rt.alloc(), &mut input).err();
+    same(&rt, &fault, &Some(DumpFault::Device));
+    same(&rt, &input.reads, &1_000_000);
 }

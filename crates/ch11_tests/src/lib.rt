@@ -9,6 +9,8 @@ mod builders;
 #[cfg(test)]
 mod dumps;
 #[cfg(test)]
+mod equal;
+#[cfg(test)]
 mod readers;
 #[cfg(test)]
 mod recordings;

@@ -1,5 +1,6 @@
 //! Recordings against worked files, cut and changed, and a long one of all data types.
 
+use crate::equal::{are_bytes, same};
 use ch11_f1::BodyError;
 use ch11_header::{Header, HeaderError, write_header};
 use ch11_reader::{Fault, Index, ReadError, Refusal};
@@ -63,32 +64,54 @@ fn is_packet(rt: &impl Abort, index: &Index<'_>, place: usize, wanted: (usize, u
     assert!(rt; !packet.sequence_jump);
 }
 
+/// The words of a message, by its number.
+pub(crate) fn words_of<'a>(index: &Index<'a>, number: u64) -> Option<&'a [u8]> {
+    Some(index.message(number)?.1.words)
+}
+
+/// The channel of a message, by its number.
+pub(crate) fn channel_of(index: &Index<'_>, number: u64) -> Option<u16> {
+    Some(index.message(number)?.0)
+}
+
 /// The one message of the foreign file, on channel 1.
 fn has_one_message(rt: &impl Abort, index: &Index<'_>) {
-    assert_eq!(rt; index.total(), 1);
-    assert!(rt; index.message(0).is_none() && index.message(2).is_none());
-    let (channel, seen) = index.message(1).expect(rt, "a message");
-    assert_eq!(rt; channel, 1);
-    assert_eq!(rt; seen.words, &FOREIGN[86..]);
+    same(rt, &index.total(), &1);
+    same(rt, &channel_of(index, 0), &None);
+    same(rt, &channel_of(index, 1), &Some(1));
+    same(rt, &channel_of(index, 2), &None);
+    are_bytes(
+        rt,
+        words_of(index, 1).expect(rt, "a message"),
+        &FOREIGN[86..],
+    );
 }
 
 /// How many messages a channel has.
 fn has_count(rt: &impl Abort, index: &Index<'_>, channel: u16, count: u64) {
-    assert_eq!(rt; count_of(index, channel), count);
+    same(rt, &count_of(index, channel), &count);
+}
+
+/// The index of a file.
+pub(crate) fn built<'a>(rt: &impl Abort, alloc: Global, file: &'a [u8]) -> Index<'a> {
+    Index::build(alloc, file).ok().expect(rt, "readable")
 }
 
 #[test]
 fn reads_the_foreign_file(rt: HostRuntime) {
-    let index = Index::build(rt.alloc(), &FOREIGN)
-        .ok()
-        .expect(&rt, "readable");
+    let index = built(&rt, rt.alloc(), &FOREIGN);
     assert_eq!(rt; index.packets().len(), 2);
-    is_packet(&rt, &index, 0, (0, 0, 0x01, 0x00, 0));
-    is_packet(&rt, &index, 1, (32, 1, 0x19, 0x80, 1));
-    has_one_message(&rt, &index);
-    has_count(&rt, &index, 1, 1);
-    has_count(&rt, &index, 0, 0);
-    assert_eq!(rt; index.messages_in(1).left(), 1);
+    same(&rt, &index.messages_in(1).left(), &1);
+    is_the_foreign_file(&rt, &index);
+}
+
+/// The index of the foreign file: its two packets and its message.
+fn is_the_foreign_file(rt: &impl Abort, index: &Index<'_>) {
+    is_packet(rt, index, 0, (0, 0, 0x01, 0x00, 0));
+    is_packet(rt, index, 1, (32, 1, 0x19, 0x80, 1));
+    has_one_message(rt, index);
+    has_count(rt, index, 1, 1);
+    has_count(rt, index, 0, 0);
 }
 
 /// The answer to a file.
@@ -173,19 +196,18 @@ fn jumps_of(index: &Index<'_>) -> usize {
         .count()
 }
 
-/// The messages of the ten thousand packets.
+/// The ten thousand packets and their messages.
 fn has_39_messages(rt: &impl Abort, index: &Index<'_>) {
-    assert_eq!(rt; index.total(), 39);
-    assert_eq!(rt; index.message(39).map(|found| found.0), Some(7));
-    assert!(rt; index.message(40).is_none());
+    same(rt, &index.packets().len(), &10000);
+    same(rt, &jumps_of(index), &1);
+    same(rt, &index.total(), &39);
+    same(rt, &channel_of(index, 39), &Some(7));
+    same(rt, &channel_of(index, 40), &None);
+    has_count(rt, index, 7, 39);
 }
 
 #[test]
 fn reads_ten_thousand_packets_of_all_kinds(rt: HostRuntime) {
     let file = long_file(&rt, rt.alloc());
-    let index = Index::build(rt.alloc(), &file).ok().expect(&rt, "readable");
-    assert_eq!(rt; index.packets().len(), 10000);
-    assert_eq!(rt; jumps_of(&index), 1);
-    has_39_messages(&rt, &index);
-    has_count(&rt, &index, 7, 39);
+    has_39_messages(&rt, &built(&rt, rt.alloc(), &file));
 }

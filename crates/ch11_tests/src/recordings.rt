@@ -1,6 +1,8 @@
 //! Recordings of several channels, as their packets close, and sinks that fail.
 ghost use Rattle.std.specs.Prelude.{◌≡◌};
 
+use crate::equal::{are_bytes, same};
+use crate::readers::built;
 use arrayvec::ArrayVec;
 use ch11_builder::BuilderError;
 use ch11_header::read_header;
@@ -40,18 +42,18 @@ fn shape_of(bytes: &[u8]) -> Option<(u16, u32, u8, u8)> {
 
 /// A packet of channel 2 with 48 bytes, then one of channel 1 with 88.
 fn has_two_packets(rt: &impl Abort, file: &[u8]) {
-    assert_eq!(rt; file.len(), 136);
-    assert_eq!(rt; shape_of(file), Some((2, 48, 0, 0)));
+    same(rt, &file.len(), &136);
+    same(rt, &shape_of(file), &Some((2, 48, 0, 0)));
     let second = file.get(48..).expect(rt, "a second packet");
-    assert_eq!(rt; shape_of(second), Some((1, 88, 0, 0x10)));
+    same(rt, &shape_of(second), &Some((1, 88, 0, 0x10)));
 }
 
 /// Four messages, of which the last is of channel 1 at 2720.
-fn has_four_messages(rt: &impl Abort, alloc: Global, file: &[u8]) {
-    let index = Index::build(alloc, file).ok().expect(rt, "readable");
-    assert_eq!(rt; index.total(), 4);
+fn has_four_messages(rt: &impl Abort, index: &Index<'_>) {
+    same(rt, &index.total(), &4);
     let (channel, seen) = index.message(4).expect(rt, "a fourth message");
-    assert_eq!(rt; (channel, seen.stamp), (1, 2720));
+    same(rt, &channel, &1);
+    same(rt, &seen.stamp, &2720);
 }
 
 /// What a recorder answers.
@@ -96,7 +98,7 @@ fn two_channels(rt: &impl Abort, alloc: Global) -> MemorySink {
 fn packets_stand_as_they_close(rt: HostRuntime) {
     let sink = two_channels(&rt, rt.alloc());
     has_two_packets(&rt, sink.bytes());
-    has_four_messages(&rt, rt.alloc(), sink.bytes());
+    has_four_messages(&rt, &built(&rt, rt.alloc(), sink.bytes()));
 }
 
 #[test]
@@ -108,10 +110,9 @@ fn a_prologue_stands_first(rt: HostRuntime) {
     recorder.prologue(&[7, 8, 9]);
     let ended = recorder.end(0);
     assert!(rt; ended);
-    assert_eq!(rt; recorder.finish(), Ok(()));
-    assert_eq!(rt; recorder.packets(), 0);
-    let sink = recorder.into_sink();
-    assert_eq!(rt; sink.bytes(), [7u8, 8, 9].as_slice());
+    is_end(&rt, recorder.finish(), Ok(()));
+    is_count(&rt, recorder.packets(), 0);
+    are_bytes(&rt, recorder.into_sink().bytes(), &[7, 8, 9]);
 }
 
 /// How a recording of one message ends.
@@ -135,8 +136,7 @@ fn ends_in_fuse(
     are(rt, &answers, &[true, true]);
     is_end(rt, recorder.finish(), wanted);
     is_count(rt, recorder.packets(), packets);
-    let sink = recorder.into_sink();
-    assert_eq!(rt; sink.bytes().len(), room);
+    same(rt, &recorder.into_sink().bytes().len(), &room);
 }
 
 #[test]
@@ -170,10 +170,14 @@ fn a_prologue_is_no_packet_of_the_count(rt: HostRuntime) {
 
 #[test]
 fn a_limit_out_of_range_hands_the_sink_back(rt: HostRuntime) {
-    let sink = FuseSink::make(rt.alloc(), 3);
-    let refused = Recorder::make(rt.alloc(), 6, 255, &[1], sink)
-        .err()
-        .expect(&rt, "a fault");
-    assert_eq!(rt; refused.0, BuilderError::Limit);
-    assert_eq!(rt; refused.1.bytes().len(), 0);
+    let refused = limit_refused(rt.alloc());
+    assert_eq!(rt; refused, Some((BuilderError::Limit, 0)));
+}
+
+/// Why a limit of 255 is refused, and how many bytes are in the sink that comes back.
+fn limit_refused(alloc: Global) -> Option<(BuilderError, usize)> {
+    match Recorder::make(alloc, 6, 255, &[1], FuseSink::make(alloc, 3)) {
+        Ok(_) => None,
+        Err((fault, sink)) => Some((fault, sink.bytes().len())),
+    }
 }

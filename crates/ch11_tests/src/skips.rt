@@ -1,7 +1,8 @@
 //! Damaged recordings, read both ways: by the reading that stops at the first fault, and by the one that skips.
 
-use crate::readers::{FOREIGN, ONE_MESSAGE};
-use bench_dump::dump;
+use crate::dumps::{dumped, prints};
+use crate::equal::{are_bytes, same};
+use crate::readers::{FOREIGN, ONE_MESSAGE, words_of};
 use ch11_f1::BodyError;
 use ch11_header::{Header, HeaderError, write_header};
 use ch11_reader::{Fault, Index, ReadError, Refusal, Skip, SkippingIndex};
@@ -44,9 +45,41 @@ fn is_found(
     skips: &[Skip],
 ) {
     let found = skipping(rt, alloc, file);
-    assert_eq!(rt; found.index.packets().len(), packets);
-    assert_eq!(rt; found.index.total(), messages);
-    assert_eq!(rt; found.skipped(), skips);
+    same(rt, &found.index.packets().len(), &packets);
+    same(rt, &found.index.total(), &messages);
+    are_skips(rt, found.skipped(), skips);
+}
+
+/// The skips are these.
+fn are_skips(rt: &impl Abort, skips: &[Skip], wanted: &[Skip]) {
+    assert_eq!(rt; skips, wanted);
+}
+
+/// What the skipping reading of a file gives where it skips once: how many packets and messages, and the skip.
+fn is_one_skip(
+    rt: &impl Abort,
+    alloc: Global,
+    file: &[u8],
+    counts: (usize, u64),
+    offset: usize,
+    length: usize,
+    fault: Fault,
+) {
+    let skip = Skip {
+        offset,
+        length,
+        fault,
+    };
+    is_found(rt, alloc, file, counts.0, counts.1, &[skip]);
+}
+
+/// The reading that stops at the first fault stops there.
+fn stops_at(rt: &impl Abort, alloc: Global, file: &[u8], offset: usize, fault: Fault) {
+    same(
+        rt,
+        &refusal_of(alloc, file),
+        &Some(Refusal { offset, fault }),
+    );
 }
 
 /// A file that is one packet: its messages, or its fault, by both readings.
@@ -54,18 +87,7 @@ fn is_one(rt: &impl Abort, alloc: Global, file: &[u8], wanted: Result<u64, Fault
     assert!(rt; is_read_alike(rt, alloc, file));
     match wanted {
         Ok(messages) => is_found(rt, alloc, file, 1, messages, &[]),
-        Err(fault) => is_found(
-            rt,
-            alloc,
-            file,
-            0,
-            0,
-            &[Skip {
-                offset: 0,
-                length: file.len(),
-                fault,
-            }],
-        ),
+        Err(fault) => is_one_skip(rt, alloc, file, (0, 0), 0, file.len(), fault),
     }
 }
 
@@ -124,8 +146,7 @@ fn reads_the_rows_of_headers_both_ways(rt: HostRuntime) {
 fn reads_a_message_without_its_status(rt: HostRuntime) {
     let file = changed(40, 0x08, 52, 0);
     let found = skipping(&rt, rt.alloc(), &file);
-    let (_, seen) = found.index.message(1).expect(&rt, "a message");
-    assert_eq!(rt; seen.words, &ONE_MESSAGE[42..50]);
+    same(&rt, &words_of(&found.index, 1), &Some(&ONE_MESSAGE[42..50]));
 }
 
 /// A file of two parts.
@@ -142,22 +163,8 @@ fn skips_the_bytes_behind_a_packet(rt: HostRuntime) {
         .ok()
         .expect(&rt, "memory");
     let fault = Fault::Header(HeaderError::Short);
-    assert_eq!(rt;
-        refusal_of(rt.alloc(), &file),
-        Some(Refusal { offset: 52, fault })
-    );
-    is_found(
-        &rt,
-        rt.alloc(),
-        &file,
-        1,
-        1,
-        &[Skip {
-            offset: 52,
-            length: 3,
-            fault,
-        }],
-    );
+    stops_at(&rt, rt.alloc(), &file, 52, fault);
+    is_one_skip(&rt, rt.alloc(), &file, (1, 1), 52, 3, fault);
 }
 
 #[test]
@@ -166,25 +173,9 @@ fn skips_a_packet_in_front_of_another(rt: HostRuntime) {
         .ok()
         .expect(&rt, "memory");
     let fault = Fault::Header(HeaderError::Checksum);
-    assert_eq!(rt;
-        refusal_of(rt.alloc(), &file),
-        Some(Refusal { offset: 0, fault })
-    );
-    is_found(
-        &rt,
-        rt.alloc(),
-        &file,
-        1,
-        1,
-        &[Skip {
-            offset: 0,
-            length: 52,
-            fault,
-        }],
-    );
-    let mut out = Vec::new(rt.alloc());
-    assert_eq!(rt; dump(rt.alloc(), &file, &mut out, true), Ok(()));
-    assert_eq!(rt; out.as_slice(), PRINTED.as_bytes());
+    stops_at(&rt, rt.alloc(), &file, 0, fault);
+    is_one_skip(&rt, rt.alloc(), &file, (1, 1), 0, 52, fault);
+    prints(&rt, rt.alloc(), &file, true, PRINTED);
 }
 
 const PRINTED: &str = "skipped 0 length 52 K3
@@ -198,34 +189,17 @@ fn reads_the_foreign_file_damaged(rt: HostRuntime) {
     is_found(&rt, rt.alloc(), &file, 2, 1, &[]);
     file[32] = 0;
     let fault = Fault::Header(HeaderError::Sync);
-    is_found(
-        &rt,
-        rt.alloc(),
-        &file,
-        1,
-        0,
-        &[Skip {
-            offset: 32,
-            length: 64,
-            fault,
-        }],
-    );
-    let mut out = Vec::new(rt.alloc());
-    assert_eq!(rt; dump(rt.alloc(), &file, &mut out, true), Ok(()));
-    assert_eq!(rt;
-        out.as_slice(),
-        b"packet 0 channel 0 type 01 skipped\nskipped 32 length 64 K2\n".as_slice()
-    );
+    is_one_skip(&rt, rt.alloc(), &file, (1, 0), 32, 64, fault);
+    let text = "packet 0 channel 0 type 01 skipped\nskipped 32 length 64 K2\n";
+    prints(&rt, rt.alloc(), &file, true, text);
 }
 
 /// A sound file is dumped alike with and without skipping.
 #[test]
 fn prints_a_sound_file_alike(rt: HostRuntime) {
-    let mut plain = Vec::new(rt.alloc());
-    let mut skipped = Vec::new(rt.alloc());
-    assert_eq!(rt; dump(rt.alloc(), &FOREIGN, &mut plain, false), Ok(()));
-    assert_eq!(rt; dump(rt.alloc(), &FOREIGN, &mut skipped, true), Ok(()));
-    assert_eq!(rt; plain.as_slice(), skipped.as_slice());
+    let plain = dumped(&rt, rt.alloc(), &FOREIGN, false);
+    let skipped = dumped(&rt, rt.alloc(), &FOREIGN, true);
+    are_bytes(&rt, &plain, &skipped);
 }
 
 #[test]
@@ -402,16 +376,5 @@ fn skips_headers_that_lie(rt: HostRuntime) {
     let file = headers_alone(rt.alloc()).ok().expect(&rt, "memory");
     let fault = Fault::Body(BodyError::Odd);
     assert!(rt; is_read_alike(&rt, rt.alloc(), &file));
-    is_found(
-        &rt,
-        rt.alloc(),
-        &file,
-        1,
-        1,
-        &[Skip {
-            offset: 0,
-            length: 48000,
-            fault,
-        }],
-    );
+    is_one_skip(&rt, rt.alloc(), &file, (1, 1), 0, 48000, fault);
 }

@@ -1,8 +1,12 @@
 pub mod Lengths
 pub mod Runs
+pub mod Bodies
+pub mod Starts
+pub mod Whole
 pub mod Chains
 pub mod Branches
 pub mod Frames
 pub mod Ranges
 pub mod Levels
 pub mod Loads
+pub mod Loadable

@@ -6,15 +6,13 @@ use Rattle.std.proofs.lemmas.Option.{slice_get-get_or}
 use Rattle.mil_word.specs.declared.Line.{Line}
 use Rattle.mil_message.specs.declared.messages.Message.{Message}
 use Rattle.mil_message.specs.World.{World, Point, other_line, sent, asks}
-use Rattle.frame_tree.specs.Tree.{Test, failed, silent, bit, negated, both, either, Tree, send, retry, gap, repeat, choose, until, nothing, chained, bit_number}
-use Rattle.frame_tree.specs.Meaning.{times, test_meaning, attempts, turns_until, meaning}
+use Rattle.frame_tree.specs.Tree.{Test, failed, silent, bit, negated, both, either, bit_number}
+use Rattle.frame_tree.specs.Meaning.{times, test_meaning, attempts, turns_until}
 use Rattle.frame_code.specs.declared.Op.{Op}
 use Rattle.frame_code.specs.declared.Op.TheVariants as op
-use Rattle.frame_code.specs.Table.{Code, Registers, sends, counted, act, then_run, run, start}
-use Rattle.frame_asm.proofs.Lengths.{length_branch, length_shape, length_messages_of}
-use Rattle.frame_asm.specs.Behaves.{Behaves}
-use Rattle.frame_asm.specs.Shapes.{branch_size, probe, branch, size, messages_of, entries, retry_shape, shape, code_of}
-use Rattle.frame_tree.specs.Bounds.{IsInRange}
+use Rattle.frame_code.specs.Table.{Code, Registers, sends, counted, act, then_run, run}
+use Rattle.frame_asm.proofs.Lengths.{length_branch}
+use Rattle.frame_asm.specs.Shapes.{branch_size, probe, branch, retry_shape}
 
 -- these stand in the list at this place
 abbrev pub HasAt : {X : Type 0} → List X → ℕ → List X → Type 0
@@ -39,53 +37,54 @@ has_all (i ∷ is) pre =
     let rest' = subst (λ l. HasAt l (length (pre ++ i ∷ [])) is) (append_assoc pre (i ∷ []) is) rest in
     (here, subst (λ m. HasAt (pre ++ i ∷ is) m is) n rest')
 
-abbrev regs : ℕ → List ℕ → Bool → Line → Registers
-regs i cs f l = record { place = i; counters = cs; flag = f; line = l }
+abbrev pub regs : List ℕ → ℕ → List ℕ → Bool → Line → Registers
+regs is i cs f l = record { place = i; counters = cs; returns = is; flag = f; line = l }
 
-module _ {State Outcome : Type 0} (w : World State Outcome) (code : Code) where
+-- runs that keep these return places
+module _ {State Outcome : Type 0} (w : World State Outcome) (code : Code) (is : List ℕ) where
   -- one operation
-  one : (i : ℕ) (cs : List ℕ) (f : Bool) (l : Line) (p : Point State Outcome) (o : Op) → slice_get code.operations i ≡ Some o → (k : ℕ)
-      → run w (suc k) code (regs i cs f l) p ≡ then_run w (act w (Some o) code.messages (regs i cs f l) p) (record { at = regs i cs f l; point = p }) (run w k code)
-  one i cs f l p o h k = ap (λ v. then_run w (act w v code.messages (regs i cs f l) p) (record { at = regs i cs f l; point = p }) (run w k code)) h
+  pub one : (i : ℕ) (cs : List ℕ) (f : Bool) (l : Line) (p : Point State Outcome) (o : Op) → slice_get code.operations i ≡ Some o → (k : ℕ)
+      → run w (suc k) code (regs is i cs f l) p ≡ then_run w (act w (Some o) code (regs is i cs f l) p) (record { at = regs is i cs f l; point = p }) (run w k code)
+  one i cs f l p o h k = ap (λ v. then_run w (act w v code (regs is i cs f l) p) (record { at = regs is i cs f l; point = p }) (run w k code)) h
 
   -- the machine comes from here to there
-  record Comes (i : ℕ) (cs : List ℕ) (f : Bool) (l : Line) (p : Point State Outcome) (i' : ℕ) (cs' : List ℕ) (p' : Point State Outcome) : Type 0 where
-    flag : Bool
-    line : Line
-    by : (k : ℕ) → (j : ℕ) × (run w j code (regs i cs f l) p ≡ run w k code (regs i' cs' flag line) p')
+  pub record Comes (i : ℕ) (cs : List ℕ) (f : Bool) (l : Line) (p : Point State Outcome) (i' : ℕ) (cs' : List ℕ) (p' : Point State Outcome) : Type 0 where
+    pub flag : Bool
+    pub line : Line
+    pub by : (k : ℕ) → (j : ℕ) × (run w j code (regs is i cs f l) p ≡ run w k code (regs is i' cs' flag line) p')
 
-  abbrev Does : ℕ → List ℕ → Point State Outcome → ℕ → List ℕ → Point State Outcome → Type 0
+  abbrev pub Does : ℕ → List ℕ → Point State Outcome → ℕ → List ℕ → Point State Outcome → Type 0
   Does i cs p i' cs' p' = (f : Bool) (l : Line) → Comes i cs f l p i' cs' p'
 
   -- one step, and what follows
-  next : (i i1 i2 : ℕ) (cs cs1 cs2 : List ℕ) (f f1 : Bool) (l l1 : Line) (p p1 p2 : Point State Outcome)
-      → ((k : ℕ) → run w (suc k) code (regs i cs f l) p ≡ run w k code (regs i1 cs1 f1 l1) p1) → Comes i1 cs1 f1 l1 p1 i2 cs2 p2 → Comes i cs f l p i2 cs2 p2
+  pub next : (i i1 i2 : ℕ) (cs cs1 cs2 : List ℕ) (f f1 : Bool) (l l1 : Line) (p p1 p2 : Point State Outcome)
+      → ((k : ℕ) → run w (suc k) code (regs is i cs f l) p ≡ run w k code (regs is i1 cs1 f1 l1) p1) → Comes i1 cs1 f1 l1 p1 i2 cs2 p2 → Comes i cs f l p i2 cs2 p2
   next i i1 i2 cs cs1 cs2 f f1 l l1 p p1 p2 s c =
       record { flag = c.flag; line = c.line; by = λ k. let a = c.by k in (suc a.0, s a.0 ∙ a.1) }
 
-  here : (i i' : ℕ) (cs : List ℕ) (f : Bool) (l : Line) (p : Point State Outcome) → i ≡ i' → Comes i cs f l p i' cs p
-  here i i' cs f l p e = record { flag = f; line = l; by = λ k. (k, ap (λ n. run w k code (regs n cs f l) p) e) }
+  pub here : (i i' : ℕ) (cs : List ℕ) (f : Bool) (l : Line) (p : Point State Outcome) → i ≡ i' → Comes i cs f l p i' cs p
+  here i i' cs f l p e = record { flag = f; line = l; by = λ k. (k, ap (λ n. run w k code (regs is n cs f l) p) e) }
 
-  both_do : (i i1 i2 : ℕ) (cs cs1 cs2 : List ℕ) (f : Bool) (l : Line) (p p1 p2 : Point State Outcome) → Comes i cs f l p i1 cs1 p1 → Does i1 cs1 p1 i2 cs2 p2 → Comes i cs f l p i2 cs2 p2
+  pub both_do : (i i1 i2 : ℕ) (cs cs1 cs2 : List ℕ) (f : Bool) (l : Line) (p p1 p2 : Point State Outcome) → Comes i cs f l p i1 cs1 p1 → Does i1 cs1 p1 i2 cs2 p2 → Comes i cs f l p i2 cs2 p2
   both_do i i1 i2 cs cs1 cs2 f l p p1 p2 a d =
       let b = d a.flag a.line in
       record { flag = b.flag; line = b.line; by = λ k. let y = b.by k in let x = a.by y.0 in (x.0, x.1 ∙ y.1) }
 
-  at_end : (i i1 i2 : ℕ) (cs cs1 : List ℕ) (f : Bool) (l : Line) (p p1 : Point State Outcome) → i1 ≡ i2 → Comes i cs f l p i1 cs1 p1 → Comes i cs f l p i2 cs1 p1
+  pub at_end : (i i1 i2 : ℕ) (cs cs1 : List ℕ) (f : Bool) (l : Line) (p p1 : Point State Outcome) → i1 ≡ i2 → Comes i cs f l p i1 cs1 p1 → Comes i cs f l p i2 cs1 p1
   at_end i i1 i2 cs cs1 f l p p1 e c = subst (λ n. Comes i cs f l p n cs1 p1) e c
 
   -- a message
-  send_runs : (i m : ℕ) (cs : List ℕ) (p : Point State Outcome) (l : Line) (x : Message) → slice_get code.operations i ≡ Some (op.Send m) → slice_get code.messages m ≡ Some (l, x)
-      → (f : Bool) (l0 : Line) (k : ℕ) → run w (suc k) code (regs i cs f l0) p ≡ run w k code (regs (i + 1) cs f l) (sent w l x p)
+  pub send_runs : (i m : ℕ) (cs : List ℕ) (p : Point State Outcome) (l : Line) (x : Message) → slice_get code.operations i ≡ Some (op.Send m) → slice_get code.messages m ≡ Some (l, x)
+      → (f : Bool) (l0 : Line) (k : ℕ) → run w (suc k) code (regs is i cs f l0) p ≡ run w k code (regs is (i + 1) cs f l) (sent w l x p)
   send_runs i m cs p l x h g f l0 k =
       one i cs f l0 p (op.Send m) h k
-      ∙ ap (λ v. then_run w (sends w v (λ l. l) (regs i cs f l0) p) (record { at = regs i cs f l0; point = p }) (run w k code)) g
+      ∙ ap (λ v. then_run w (sends w v (λ l. l) (regs is i cs f l0) p) (record { at = regs is i cs f l0; point = p }) (run w k code)) g
 
   alt_runs : (i m : ℕ) (cs : List ℕ) (p : Point State Outcome) (l : Line) (x : Message) → slice_get code.operations i ≡ Some (op.Alt m) → slice_get code.messages m ≡ Some (l, x)
-      → (f : Bool) (l0 : Line) (k : ℕ) → run w (suc k) code (regs i cs f l0) p ≡ run w k code (regs (i + 1) cs f (other_line l0)) (sent w (other_line l0) x p)
+      → (f : Bool) (l0 : Line) (k : ℕ) → run w (suc k) code (regs is i cs f l0) p ≡ run w k code (regs is (i + 1) cs f (other_line l0)) (sent w (other_line l0) x p)
   alt_runs i m cs p l x h g f l0 k =
       one i cs f l0 p (op.Alt m) h k
-      ∙ ap (λ v. then_run w (sends w v (λ l. other_line l0) (regs i cs f l0) p) (record { at = regs i cs f l0; point = p }) (run w k code)) g
+      ∙ ap (λ v. then_run w (sends w v (λ l. other_line l0) (regs is i cs f l0) p) (record { at = regs is i cs f l0; point = p }) (run w k code)) g
 
   -- a test
   goes : (b : Bool) (i t f : ℕ) (cs : List ℕ) (l : Line) (p : Point State Outcome) → slice_get code.operations (i + 1) ≡ Some (op.JumpFalse f) → slice_get code.operations (i + 1 + 1) ≡ Some (op.Jump t) → Comes (i + 1) cs b l p (cond b t f) cs p
@@ -111,7 +110,7 @@ module _ {State Outcome : Type 0} (w : World State Outcome) (code : Code) where
   or_runs true b i j t f cs p x y f0 l = x f0 l
   or_runs false b i j t f cs p x y f0 l = both_do i j _ cs cs cs f0 l p p p (x f0 l) y
 
-  branch_runs : (c : Test) (i t f : ℕ) (cs : List ℕ) (p : Point State Outcome) → HasAt code.operations i (branch i c t f) → Does i cs p (cond (test_meaning w c p) t f) cs p
+  pub branch_runs : (c : Test) (i t f : ℕ) (cs : List ℕ) (p : Point State Outcome) → HasAt code.operations i (branch i c t f) → Does i cs p (cond (test_meaning w c p) t f) cs p
   branch_runs failed i t f cs p h = probe_runs 0 i t f cs p h
   branch_runs silent i t f cs p h = probe_runs 1 i t f cs p h
   branch_runs (bit bits) i t f cs p h = probe_runs (16 + bit_number bits) i t f cs p h
@@ -130,11 +129,11 @@ module _ {State Outcome : Type 0} (w : World State Outcome) (code : Code) where
 
   -- the end of a turn, where the counter was suc n
   again_runs : (n i j : ℕ) (cs : List ℕ) (f : Bool) (l : Line) (p : Point State Outcome) → slice_get code.operations i ≡ Some (op.Again j)
-      → (k : ℕ) → run w (suc k) code (regs i (suc n ∷ cs) f l) p ≡ then_run w (counted w n cs j (regs i (suc n ∷ cs) f l) p) (record { at = regs i (suc n ∷ cs) f l; point = p }) (run w k code)
+      → (k : ℕ) → run w (suc k) code (regs is i (suc n ∷ cs) f l) p ≡ then_run w (counted w n cs j (regs is i (suc n ∷ cs) f l) p) (record { at = regs is i (suc n ∷ cs) f l; point = p }) (run w k code)
   again_runs n i j cs f l p h k =
       let e : suc n - 1 ≡ n = omega arith in
       one i (suc n ∷ cs) f l p (op.Again j) h k
-      ∙ ap (λ v. then_run w (counted w v cs j (regs i (suc n ∷ cs) f l) p) (record { at = regs i (suc n ∷ cs) f l; point = p }) (run w k code)) e
+      ∙ ap (λ v. then_run w (counted w v cs j (regs is i (suc n ∷ cs) f l) p) (record { at = regs is i (suc n ∷ cs) f l; point = p }) (run w k code)) e
 
   -- n + 1 turns of a loop, from its first operation
   loop_runs : (n i e : ℕ) (cs : List ℕ) (body : Point State Outcome → Point State Outcome) → slice_get code.operations e ≡ Some (op.Again i)
@@ -177,7 +176,7 @@ module _ {State Outcome : Type 0} (w : World State Outcome) (code : Code) where
         → Comes (i + 2) (suc n ∷ cs) f l p (i + 8) cs (attempts w (suc n) l x p)
     one_attempt n l p f rest =
         next (i + 2) (i + 3) (i + 8) (suc n ∷ cs) (suc n ∷ cs) cs f (asks w 0 p) l l p p _
-        (λ k. one (i + 2) (suc n ∷ cs) f l p (op.Test 0) at_test k ∙ ap (λ v. run w k code (regs v (suc n ∷ cs) (asks w 0 p) l) p) three)
+        (λ k. one (i + 2) (suc n ∷ cs) f l p (op.Test 0) at_test k ∙ ap (λ v. run w k code (regs is v (suc n ∷ cs) (asks w 0 p) l) p) three)
         (decided (asks w 0 p))
       where
         p1 : Point State Outcome
@@ -195,9 +194,9 @@ module _ {State Outcome : Type 0} (w : World State Outcome) (code : Code) where
         decided : (b : Bool) → Comes (i + 3) (suc n ∷ cs) b l p (i + 8) cs (cond b (attempts w n (other_line l) x (sent w (other_line l) x p)) p)
         decided true =
             next (i + 3) (i + 4) (i + 8) (suc n ∷ cs) (suc n ∷ cs) cs true true l l p p _
-            (λ k. one (i + 3) (suc n ∷ cs) true l p (op.JumpFalse (i + 6)) at_jump_false k ∙ ap (λ v. run w k code (regs v (suc n ∷ cs) true l) p) four)
+            (λ k. one (i + 3) (suc n ∷ cs) true l p (op.JumpFalse (i + 6)) at_jump_false k ∙ ap (λ v. run w k code (regs is v (suc n ∷ cs) true l) p) four)
             (next (i + 4) (i + 5) (i + 8) (suc n ∷ cs) (suc n ∷ cs) cs true true l (other_line l) p (sent w (other_line l) x p) _
-            (λ k. alt_runs (i + 4) m (suc n ∷ cs) p line x at_alt entry true l k ∙ ap (λ v. run w k code (regs v (suc n ∷ cs) true (other_line l)) (sent w (other_line l) x p)) five)
+            (λ k. alt_runs (i + 4) m (suc n ∷ cs) p line x at_alt entry true l k ∙ ap (λ v. run w k code (regs is v (suc n ∷ cs) true (other_line l)) (sent w (other_line l) x p)) five)
             (next (i + 5) (i + 7) (i + 8) (suc n ∷ cs) (suc n ∷ cs) cs true true (other_line l) (other_line l) (sent w (other_line l) x p) (sent w (other_line l) x p) _
             (λ k. one (i + 5) (suc n ∷ cs) true (other_line l) (sent w (other_line l) x p) (op.Jump (i + 7)) at_jump k)
             rest))
@@ -216,16 +215,16 @@ module _ {State Outcome : Type 0} (w : World State Outcome) (code : Code) where
         (again_runs (suc n) (i + 7) (i + 2) cs true (other_line l) (sent w (other_line l) x p) at_again)
         (attempts_run n (other_line l) (sent w (other_line l) x p) true))
 
-  retry_runs : (n i m : ℕ) (cs : List ℕ) (line : Line) (x : Message) (p : Point State Outcome) → 1 ≤ n → HasAt code.operations i (retry_shape i m n) → slice_get code.messages m ≡ Some (line, x) → Does i cs p (i + 8) cs (attempts w n line x (sent w line x p))
+  pub retry_runs : (n i m : ℕ) (cs : List ℕ) (line : Line) (x : Message) (p : Point State Outcome) → 1 ≤ n → HasAt code.operations i (retry_shape i m n) → slice_get code.messages m ≡ Some (line, x) → Does i cs p (i + 8) cs (attempts w n line x (sent w line x p))
   retry_runs zero i m cs line x p c has entry f l = absurd (omega arith)
   retry_runs (suc n) i m cs line x p c has entry f l =
       let e : i + 1 + 1 ≡ i + 2 = omega arith in
       next i (i + 1) (i + 8) cs cs cs f f l line p (sent w line x p) _ (send_runs i m cs p line x has.0 entry f l)
       (next (i + 1) (i + 2) (i + 8) cs (suc n ∷ cs) cs f f line line (sent w line x p) (sent w line x p) _
-      (λ k. one (i + 1) cs f line (sent w line x p) (op.Loop (suc n)) has.1.0 k ∙ ap (λ v. run w k code (regs v (suc n ∷ cs) f line) (sent w line x p)) e)
+      (λ k. one (i + 1) cs f line (sent w line x p) (op.Loop (suc n)) has.1.0 k ∙ ap (λ v. run w k code (regs is v (suc n ∷ cs) f line) (sent w line x p)) e)
       (attempts_run i m (suc n) cs line x has entry n line (sent w line x p) f))
 
-  repeat_runs : (n i z : ℕ) (cs : List ℕ) (body : Point State Outcome → Point State Outcome) (p : Point State Outcome) → 1 ≤ n → slice_get code.operations i ≡ Some (op.Loop n) → slice_get code.operations (i + 1 + z) ≡ Some (op.Again (i + 1))
+  pub repeat_runs : (n i z : ℕ) (cs : List ℕ) (body : Point State Outcome → Point State Outcome) (p : Point State Outcome) → 1 ≤ n → slice_get code.operations i ≡ Some (op.Loop n) → slice_get code.operations (i + 1 + z) ≡ Some (op.Again (i + 1))
       → ((c : ℕ) (p : Point State Outcome) → Does (i + 1) (c ∷ cs) p (i + 1 + z) (c ∷ cs) (body p)) → Does i cs p (i + (z + 2)) cs (times n body p)
   repeat_runs zero i z cs body p c h g d f l = absurd (omega arith)
   repeat_runs (suc n) i z cs body p c h g d f l =
@@ -233,7 +232,7 @@ module _ {State Outcome : Type 0} (w : World State Outcome) (code : Code) where
       at_end i _ _ cs cs f l p _ e
       (next i (i + 1) _ cs (suc n ∷ cs) cs f f l l p p _ (one i cs f l p (op.Loop (suc n)) h) (loop_runs n (i + 1) (i + 1 + z) cs body g d p f l))
 
-  choose_runs : (b : Bool) (i t f e : ℕ) (cs : List ℕ) (p pa pb : Point State Outcome) (j : ℕ) → Does i cs p (cond b t f) cs p → Does t cs p j cs pa → slice_get code.operations j ≡ Some (op.Jump e) → Does f cs p e cs pb → Does i cs p e cs (cond b pa pb)
+  pub choose_runs : (b : Bool) (i t f e : ℕ) (cs : List ℕ) (p pa pb : Point State Outcome) (j : ℕ) → Does i cs p (cond b t f) cs p → Does t cs p j cs pa → slice_get code.operations j ≡ Some (op.Jump e) → Does f cs p e cs pb → Does i cs p e cs (cond b pa pb)
   choose_runs true i t f e cs p pa pb j dc da h db f0 l =
       both_do i t e cs cs cs f0 l p p pa (dc f0 l)
       (λ f1 l1. both_do t j e cs cs cs f1 l1 p pa pa (da f1 l1) (λ f2 l2. next j e e cs cs cs f2 f2 l2 l2 pa pa pa (one j cs f2 l2 pa (op.Jump e) h) (here e e cs f2 l2 pa refl)))
@@ -260,7 +259,7 @@ module _ {State Outcome : Type 0} (w : World State Outcome) (code : Code) where
     until_turns (suc n) p =
         one_turn (suc n) (λ q f l1. next e a (e + 1) (suc (suc n) ∷ cs) (suc n ∷ cs) cs f f l1 l1 q q _ (again_runs (suc n) e a cs f l1 q at_again) (until_turns n q f l1)) p
 
-  until_runs : (n i s z : ℕ) (cs : List ℕ) (c : Test) (body : Point State Outcome → Point State Outcome) (p : Point State Outcome) → 1 ≤ n → slice_get code.operations i ≡ Some (op.Loop n)
+  pub until_runs : (n i s z : ℕ) (cs : List ℕ) (c : Test) (body : Point State Outcome → Point State Outcome) (p : Point State Outcome) → 1 ≤ n → slice_get code.operations i ≡ Some (op.Loop n)
       → ((ns : List ℕ) (p : Point State Outcome) → Does (i + 1) ns p (cond (test_meaning w c p) (i + 1 + s) (i + 1 + s + 1)) ns p)
       → slice_get code.operations (i + 1 + s) ≡ Some (op.Leave (i + 1 + s + z + 2)) → slice_get code.operations (i + 1 + s + 1 + z) ≡ Some (op.Again (i + 1))
       → ((k : ℕ) (p : Point State Outcome) → Does (i + 1 + s + 1) (k ∷ cs) p (i + 1 + s + 1 + z) (k ∷ cs) (body p)) → Does i cs p (i + (s + z + 3)) cs (turns_until w n c body p)
@@ -271,64 +270,3 @@ module _ {State Outcome : Type 0} (w : World State Outcome) (code : Code) where
       at_end i _ _ cs cs f l p _ e
       (next i (i + 1) _ cs (suc n ∷ cs) cs f f l l p p _ (one i cs f l p (op.Loop (suc n)) h)
       (until_turns (i + 1) (i + 1 + s) (i + 1 + s + 1 + z) cs c body tests (subst (λ v. slice_get code.operations (i + 1 + s) ≡ Some (op.Leave v)) e' hl) ha d n p f l))
-
-  tree_runs : (t : Tree) (i m : ℕ) (cs : List ℕ) (p : Point State Outcome) → IsInRange t → HasAt code.operations i (shape i m t) → HasAt code.messages m (messages_of t) → Does i cs p (i + size t) cs (meaning w t p)
-  tree_runs (send l x) i m cs p c h g f l0 =
-      next i (i + 1) (i + 1) cs cs cs f f l0 l p _ _ (send_runs i m cs p l x h.0 g.0 f l0) (here (i + 1) (i + 1) cs f l _ refl)
-  tree_runs (retry n l x) i m cs p c h g f l0 = retry_runs n i m cs l x p c.0 h g.0 f l0
-  tree_runs (gap t) i m cs p c h g f l0 =
-      next i (i + 1) (i + 1) cs cs cs f f l0 l0 p (record p { gap = t }) _ (one i cs f l0 p (op.SetGap t) h.0) (here (i + 1) (i + 1) cs f l0 _ refl)
-  tree_runs (repeat n b) i m cs p c h g f l0 =
-      repeat_runs n i (size b) cs (meaning w b) p c.0 h.0
-      (has_back code.operations (i + 1) (i + 1 + size b) (shape (i + 1) m b) _ (ap (λ z. i + 1 + z) (length_shape b (i + 1) m)) h.1).0
-      (λ k q. tree_runs b (i + 1) m (k ∷ cs) q c.2 (has_front code.operations (i + 1) (shape (i + 1) m b) _ h.1) g) f l0
-  tree_runs (choose c a b) i m cs p n h g f0 l0 =
-      let t = i + branch_size c in
-      let f = t + size a + 1 in
-      let rest = op.Jump (f + size b) ∷ shape f (m + entries a) b in
-      let ht = has_back code.operations i t (branch i c t f) (shape t m a ++ rest) (ap (λ z. i + z) (length_branch c i t f)) h in
-      let hr = has_back code.operations t (t + size a) (shape t m a) rest (ap (λ z. t + z) (length_shape a t m)) ht in
-      let e : f + size b ≡ i + (branch_size c + size a + 1 + size b) = omega arith in
-      at_end i _ _ cs cs f0 l0 p _ e
-      (choose_runs (test_meaning w c p) i t f (f + size b) cs p (meaning w a p) (meaning w b p) (t + size a)
-      (branch_runs c i t f cs p (has_front code.operations i (branch i c t f) _ h))
-      (tree_runs a t m cs p n.1 (has_front code.operations t (shape t m a) rest ht) (has_front code.messages m (messages_of a) (messages_of b) g))
-      hr.0
-      (tree_runs b f (m + entries a) cs p n.2 hr.1 (has_back code.messages m (m + entries a) (messages_of a) (messages_of b) (ap (λ z. m + z) (length_messages_of a)) g))
-      f0 l0)
-  tree_runs (until c n b) i m cs p s h g f l0 =
-      let l = i + 1 + branch_size c in
-      let test = branch (i + 1) c l (l + 1) in
-      let body = shape (l + 1) m b in
-      let back = op.Again (i + 1) ∷ [] in
-      let rest = op.Leave (l + size b + 2) ∷ (body ++ back) in
-      let hr = has_back code.operations (i + 1) l test rest (ap (λ z. i + 1 + z) (length_branch c (i + 1) l (l + 1))) h.1 in
-      until_runs n i (branch_size c) (size b) cs c (meaning w b) p s.1 h.0
-      (λ ns q. branch_runs c (i + 1) l (l + 1) ns q (has_front code.operations (i + 1) test rest h.1))
-      hr.0
-      (has_back code.operations (l + 1) (l + 1 + size b) body back (ap (λ z. l + 1 + z) (length_shape b (l + 1) m)) hr.1).0
-      (λ k q. tree_runs b (l + 1) m (k ∷ cs) q s.3 (has_front code.operations (l + 1) body back hr.1) g)
-      f l0
-  tree_runs nothing i m cs p c h g f l0 = let e : i ≡ i + 0 = omega arith in here i (i + 0) cs f l0 p e
-  tree_runs (chained a b) i m cs p c h g f l0 =
-      let e : i + size a + size b ≡ i + (size a + size b) = omega arith in
-      at_end i _ _ cs cs f l0 p _ e
-      (both_do i (i + size a) (i + size a + size b) cs cs cs f l0 p _ _
-      (tree_runs a i m cs p c.0 (has_front code.operations i (shape i m a) _ h) (has_front code.messages m (messages_of a) (messages_of b) g) f l0)
-      (tree_runs b (i + size a) (m + entries a) cs _ c.1 (has_back code.operations i (i + size a) (shape i m a) _ (ap (λ z. i + z) (length_shape a i m)) h) (has_back code.messages m (m + entries a) (messages_of a) (messages_of b) (ap (λ z. m + z) (length_messages_of a)) g)))
-
-pub behaves : {State Outcome : Type 0} (w : World State Outcome) (t : Tree) (p : Point State Outcome) → IsInRange t → Behaves w t (code_of t) p
-behaves w t p c =
-    let code = code_of t in
-    let all = has_all (code.operations) [] in
-    let has = has_front code.operations 0 (shape 0 0 t) (op.Halt ∷ []) all in
-    let e : 0 + length (shape 0 0 t) ≡ 0 + size t = ap (λ n. 0 + n) (length_shape t 0 0) in
-    let end = (has_back code.operations 0 (0 + size t) (shape 0 0 t) (op.Halt ∷ []) e all).0 in
-    let r = tree_runs w code t 0 0 [] p c has (has_all (messages_of t) []) false start.line in
-    let a = r.by 0 in
-    record {
-      steps = a.0;
-      last = regs (0 + size t) [] r.flag r.line;
-      comes = a.1;
-      halts = ap (λ o. act w o code.messages (regs (0 + size t) [] r.flag r.line) (meaning w t p)) end;
-    }

@@ -9,5 +9,5 @@ use Rattle.frame_code.specs.Table.{Code, Registers, goes_on, halted, start, step
 pub record Behaves {State Outcome : Type 0} (w : World State Outcome) (t : Tree) (code : Code) (p : Point State Outcome) : Type 0 where
   pub steps : ℕ
   pub last : Registers
-  pub comes : run w steps code start p ≡ goes_on (record { at = last; point = meaning w t p })
+  pub comes : run w steps code (start code) p ≡ goes_on (record { at = last; point = meaning w t p })
   pub halts : step w code last (meaning w t p) ≡ halted

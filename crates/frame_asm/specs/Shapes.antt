@@ -1,8 +1,9 @@
 -- The operations of a tree (own choice): each kind of frame has its shape, with absolute places, and Halt stands behind all.
-use Rattle.std.specs.Prelude.{ℕ, ◌+◌, List, [], ◌∷◌, ◌++◌}
+use Rattle.std.specs.Prelude.{ℕ, ◌+◌, ◌<◌, List, [], ◌∷◌, ◌++◌, length}
 use Rattle.mil_word.specs.declared.Line.{Line}
 use Rattle.mil_message.specs.declared.messages.Message.{Message}
-use Rattle.frame_tree.specs.Tree.{Test, failed, silent, bit, negated, both, either, Tree, send, retry, gap, repeat, choose, until, nothing, chained, bit_number}
+use Rattle.frame_tree.specs.Tree.{Test, failed, silent, bit, negated, both, either, Tree, send, retry, gap, repeat, choose, until, nothing, chained, call, define, bit_number}
+use Rattle.frame_tree.specs.Names.{Scope, named}
 use Rattle.frame_code.specs.declared.Op.{Op}
 use Rattle.frame_code.specs.declared.Op.TheVariants as op
 use Rattle.frame_code.specs.Table.{Code}
@@ -39,6 +40,8 @@ size (choose c a b) = branch_size c + size a + 1 + size b
 size (until c n b) = branch_size c + size b + 3
 size nothing = 0
 size (chained a b) = size a + size b
+size (call n) = 1
+size (define n b r) = size b + 1 + size r
 
 -- the messages in the order of the text, one for each send and retry, none shared
 abbrev pub messages_of : Tree → List (Line × Message)
@@ -50,6 +53,8 @@ messages_of (choose c a b) = messages_of a ++ messages_of b
 messages_of (until c n b) = messages_of b
 messages_of nothing = []
 messages_of (chained a b) = messages_of a ++ messages_of b
+messages_of (call n) = []
+messages_of (define n b r) = messages_of b ++ messages_of r
 
 -- how many they are
 abbrev pub entries : Tree → ℕ
@@ -61,28 +66,38 @@ entries (choose c a b) = entries a + entries b
 entries (until c n b) = entries b
 entries nothing = 0
 entries (chained a b) = entries a + entries b
+entries (call n) = 0
+entries (define n b r) = entries b + entries r
 
 -- the first attempt, and a loop of the further ones, each on the other_line line, that is left where one did not fail
 abbrev pub retry_shape : ℕ → ℕ → ℕ → List Op
 retry_shape p m n =
     op.Send m ∷ op.Loop n ∷ op.Test 0 ∷ op.JumpFalse (p + 6) ∷ op.Alt m ∷ op.Jump (p + 7) ∷ op.Leave (p + 8) ∷ op.Again (p + 2) ∷ []
 
--- the operations of a frame from place p, whose messages begin at index m
-abbrev pub shape : ℕ → ℕ → Tree → List Op
-shape p m (send l x) = op.Send m ∷ []
-shape p m (retry n l x) = retry_shape p m n
-shape p m (gap t) = op.SetGap t ∷ []
-shape p m (repeat n b) = op.Loop n ∷ (shape (p + 1) m b ++ op.Again (p + 1) ∷ [])
-shape p m (choose c a b) =
+-- The operations of a frame from place p, whose messages begin at index m, where the names in scope are those of routines with
+-- these numbers: a definition is the routine behind those in scope, its body with a Return, and the rest stands behind it.
+abbrev pub shape : Scope ℕ → ℕ → ℕ → Tree → List Op
+shape rs p m (send l x) = op.Send m ∷ []
+shape rs p m (retry n l x) = retry_shape p m n
+shape rs p m (gap t) = op.SetGap t ∷ []
+shape rs p m (repeat n b) = op.Loop n ∷ (shape rs (p + 1) m b ++ op.Again (p + 1) ∷ [])
+shape rs p m (choose c a b) =
     let t = p + branch_size c in
     let f = t + size a + 1 in
-    branch p c t f ++ (shape t m a ++ (op.Jump (f + size b) ∷ shape f (m + entries a) b))
-shape p m (until c n b) =
+    branch p c t f ++ (shape rs t m a ++ (op.Jump (f + size b) ∷ shape rs f (m + entries a) b))
+shape rs p m (until c n b) =
     let l = p + 1 + branch_size c in
-    op.Loop n ∷ (branch (p + 1) c l (l + 1) ++ (op.Leave (l + size b + 2) ∷ (shape (l + 1) m b ++ op.Again (p + 1) ∷ [])))
-shape p m nothing = []
-shape p m (chained a b) = shape p m a ++ shape (p + size a) (m + entries a) b
+    op.Loop n ∷ (branch (p + 1) c l (l + 1) ++ (op.Leave (l + size b + 2) ∷ (shape rs (l + 1) m b ++ op.Again (p + 1) ∷ [])))
+shape rs p m nothing = []
+shape rs p m (chained a b) = shape rs p m a ++ shape rs (p + size a) (m + entries a) b
+shape rs p m (call n) = op.Call (named 0 rs n) ∷ []
+shape rs p m (define n b r) = shape rs p m b ++ (op.Return ∷ shape ((n, length rs) ∷ rs) (p + size b + 1) (m + entries b) r)
 
 -- the code of a tree
 abbrev pub code_of : Tree → Code
-code_of t = record { operations = shape 0 0 t ++ op.Halt ∷ []; messages = messages_of t }
+code_of t = record { operations = shape [] 0 0 t ++ op.Halt ∷ []; messages = messages_of t }
+
+-- each name in scope is that of a routine, whose number is at most 31
+abbrev pub AreRoutines : Scope ℕ → Type 0
+AreRoutines [] = Unit {0}
+AreRoutines (r ∷ rs) = (r.1 < 32) × AreRoutines rs

@@ -1,17 +1,20 @@
 //! Writing the operations and messages of a frame behind those that are there.
 ghost use Rattle.std.specs.Prelude.{◌≡◌, ◌+◌, ◌<◌, ◌≤◌, [], ◌∷◌, ◌++◌, length, IfOk, OnOk};
 ghost use Rattle.frame_tree.specs.Tree.{bit_number, test_of, tree_of};
-ghost use Rattle.frame_asm.specs.Shapes.{branch_size, probe, branch, size, entries, messages_of, retry_shape, shape};
+ghost use Rattle.frame_tree.specs.Names.{named};
+ghost use Rattle.frame_tree.specs.Scopes.{scope_of};
+ghost use Rattle.frame_tree.specs.Bounds.{CallsKnown, IsDefined};
+ghost use Rattle.frame_asm.specs.Shapes.{branch_size, probe, branch, size, entries, messages_of, retry_shape, shape, AreRoutines};
 
 use crate::sizes::{branch_len, operation_count};
 use frame_code::Op;
-use frame_tree::{Cond, Frame, number_of_bit};
+use frame_tree::{Cond, Frame, Name, Scope, number_of_bit};
 use mil_message::Message;
 use mil_status::StatusBits;
 use mil_word::Line;
 use std::alloc::{AllocError, Allocator};
 
-// One more operation.
+/// One more operation.
 pub fn put(operations: &mut Vec<Op>, op: Op) -> Result<(), AllocError>
     ensures { OnOk result (operations.new.items ≡ operations.old.items ++ op ∷ []) }
 {
@@ -94,16 +97,19 @@ fn emit_retry(operations: &mut Vec<Op>, message: u16, count: u16) -> Result<(), 
     put(operations, Op::Again(place + 2))
 }
 
-// The operations and messages of a frame.
+/// The operations and messages of a frame without definitions.
 pub fn emit<A: Allocator + Clone>(
     operations: &mut Vec<Op>,
     messages: &mut Vec<(Line, Message)>,
+    scope: &Scope<'_>,
     frame: &Frame<A>,
 ) -> Result<(), AllocError>
     requires room { length operations.old.items + size (tree_of frame.now) ≤ 4095 }
     requires table { length messages.old.items + entries (tree_of frame.now) ≤ 1024 }
+    requires calls { CallsKnown (scope_of scope.now) (tree_of frame.now) }
+    requires routines { AreRoutines (scope_of scope.now) }
     ensures operations { OnOk result (operations.new.items
-        ≡ operations.old.items ++ shape (length operations.old.items) (length messages.old.items) (tree_of frame.now)) }
+        ≡ operations.old.items ++ shape (scope_of scope.now) (length operations.old.items) (length messages.old.items) (tree_of frame.now)) }
     ensures messages { OnOk result (messages.new.items ≡ messages.old.items ++ messages_of (tree_of frame.now)) }
 {
     match frame {
@@ -123,7 +129,7 @@ pub fn emit<A: Allocator + Clone>(
         Frame::Repeat { count, body } => {
             let first = operations.len() as u16 + 1;
             put(operations, Op::Loop(*count))?;
-            emit(operations, messages, body)?;
+            emit(operations, messages, scope, body)?;
             put(operations, Op::Again(first))
         }
         Frame::If {
@@ -135,9 +141,9 @@ pub fn emit<A: Allocator + Clone>(
             let else_at = then_at + operation_count(then) + 1;
             let end = else_at + operation_count(otherwise);
             emit_branch(operations, condition, then_at, else_at)?;
-            emit(operations, messages, then)?;
+            emit(operations, messages, scope, then)?;
             put(operations, Op::Jump(end))?;
-            emit(operations, messages, otherwise)
+            emit(operations, messages, scope, otherwise)
         }
         Frame::Until {
             condition,
@@ -151,14 +157,65 @@ pub fn emit<A: Allocator + Clone>(
             put(operations, Op::Loop(turns))?;
             emit_branch(operations, condition, leave, leave + 1)?;
             put(operations, Op::Leave(end))?;
-            emit(operations, messages, body)?;
+            emit(operations, messages, scope, body)?;
             put(operations, Op::Again(test_at))
         }
         Frame::Seq(frames) => {
             for frame in frames {
-                emit(operations, messages, frame)?;
+                emit(operations, messages, scope, frame)?;
             }
             Ok(())
         }
+        Frame::Call(name) => put(operations, Op::Call(routine_of(scope, name))),
+        Frame::Define { .. } => Ok(()),
+    }
+}
+
+// The number of the routine of a name.
+fn routine_of(scope: &Scope<'_>, name: &Name) -> u8
+    requires { AreRoutines (scope_of scope.now) }
+    ensures { result ≡ named 0 (scope_of scope.now) name.now }
+{
+    scope.number_of(name) as u8
+}
+
+// These names and one more, whose routine has this number.
+fn with_routine<'a>(name: &'a Name, number: u32, others: &'a Scope<'a>) -> Scope<'a>
+    ensures { scope_of result ≡ (name.now, number) ∷ scope_of others.now }
+{
+    Scope::With(name, number, others)
+}
+
+/// The operations and messages of a frame whose definitions stand at the outside; so many are in scope.
+pub fn emit_all<'a, A: Allocator + Clone>(
+    operations: &mut Vec<Op>,
+    messages: &mut Vec<(Line, Message)>,
+    count: u32,
+    scope: &'a Scope<'a>,
+    frame: &'a Frame<A>,
+) -> Result<(), AllocError>
+    requires room { length operations.old.items + size (tree_of frame.now) ≤ 4095 }
+    requires table { length messages.old.items + entries (tree_of frame.now) ≤ 1024 }
+    requires defined { IsDefined (scope_of scope.now) (tree_of frame.now) }
+    requires count { length (scope_of scope.now) ≡ count }
+    requires routines { AreRoutines (scope_of scope.now) }
+    ensures operations { OnOk result (operations.new.items
+        ≡ operations.old.items ++ shape (scope_of scope.now) (length operations.old.items) (length messages.old.items) (tree_of frame.now)) }
+    ensures messages { OnOk result (messages.new.items ≡ messages.old.items ++ messages_of (tree_of frame.now)) }
+{
+    match frame {
+        Frame::Define { name, body, rest } => {
+            emit(operations, messages, scope, body)?;
+            put(operations, Op::Return)?;
+            let inner = with_routine(name, count, scope);
+            emit_all(operations, messages, count + 1, &inner, rest)
+        }
+        Frame::Send { .. } | Frame::Retry { .. } | Frame::Gap(_) | Frame::Call(_) => {
+            emit(operations, messages, scope, frame)
+        }
+        Frame::Repeat { .. } | Frame::Until { .. } | Frame::If { .. } => {
+            emit(operations, messages, scope, frame)
+        }
+        Frame::Seq(_) => emit(operations, messages, scope, frame),
     }
 }

@@ -15,7 +15,7 @@ mod emission;
 mod sizes;
 
 use frame_code::{Image, Op, Setting};
-use frame_tree::Frame;
+use frame_tree::{Frame, Scope};
 use std::alloc::{AllocError, Allocator, Global};
 use std::fmt;
 
@@ -77,7 +77,7 @@ fn build<A: Allocator + Clone>(alloc: Global, frame: &Frame<A>) -> Result<Image,
     }
     let mut operations = Vec::new(alloc);
     let mut messages = Vec::new(alloc);
-    emission::emit(&mut operations, &mut messages, frame)?;
+    emission::emit_all(&mut operations, &mut messages, 0, &Scope::Empty, frame)?;
     emission::put(&mut operations, Op::Halt)?;
     Ok(Image::new(operations, messages))
 }

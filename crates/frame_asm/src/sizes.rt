@@ -6,7 +6,7 @@ ghost use Rattle.frame_asm.specs.Shapes.{branch_size, size, entries};
 use frame_tree::{Cond, Frame};
 use std::alloc::Allocator;
 
-// How many operations a condition has, or 4096 where it has more.
+/// How many operations a condition has, or 4096 where it has more.
 pub fn branch_len<A: Allocator + Clone>(condition: &Cond<A>) -> u16
     ensures { result ≡ min 4096 (branch_size (test_of condition.now)) }
 {
@@ -18,12 +18,12 @@ pub fn branch_len<A: Allocator + Clone>(condition: &Cond<A>) -> u16
     }
 }
 
-// How many operations a frame has, or 4096 where it has more.
+/// How many operations a frame has, or 4096 where it has more.
 pub fn operation_count<A: Allocator + Clone>(frame: &Frame<A>) -> u16
     ensures { result ≡ min 4096 (size (tree_of frame.now)) }
 {
     match frame {
-        Frame::Send { .. } | Frame::Gap(_) => 1,
+        Frame::Send { .. } | Frame::Gap(_) | Frame::Call(_) => 1,
         Frame::Retry { .. } => 8,
         Frame::Repeat { body, .. } => (operation_count(body) + 2).min(4096),
         Frame::If {
@@ -52,16 +52,20 @@ pub fn operation_count<A: Allocator + Clone>(frame: &Frame<A>) -> u16
             }
             total
         }
+        Frame::Define { body, rest, .. } => {
+            let all = operation_count(body) + 1 + operation_count(rest);
+            all.min(4096)
+        }
     }
 }
 
-// How many messages a frame has, or 1025 where it has more.
+/// How many messages a frame has, or 1025 where it has more.
 pub fn entry_count<A: Allocator + Clone>(frame: &Frame<A>) -> u16
     ensures { result ≡ min 1025 (entries (tree_of frame.now)) }
 {
     match frame {
         Frame::Send { .. } | Frame::Retry { .. } => 1,
-        Frame::Gap(_) => 0,
+        Frame::Gap(_) | Frame::Call(_) => 0,
         Frame::Repeat { body, .. } | Frame::Until { body, .. } => entry_count(body),
         Frame::If {
             then,
@@ -75,5 +79,6 @@ pub fn entry_count<A: Allocator + Clone>(frame: &Frame<A>) -> u16
             }
             total
         }
+        Frame::Define { body, rest, .. } => (entry_count(body) + entry_count(rest)).min(1025),
     }
 }

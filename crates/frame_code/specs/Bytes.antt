@@ -1,5 +1,5 @@
--- The bytes of an image (own choice): the mark BC01, two counts, the operations, the messages; numbers little-endian.
-use Rattle.std.specs.Prelude.{ℕ, ◌/◌, ◌%◌, List, [], ◌∷◌, ◌++◌, length, codes}
+-- The bytes of an image (own choice): the mark BC01, or BC02 where an operation needs it, two counts, the operations, the messages; numbers little-endian.
+use Rattle.std.specs.Prelude.{ℕ, ◌/◌, ◌%◌, Bool, true, false, ◌||◌, List, [], ◌∷◌, ◌++◌, length, codes}
 use Rattle.std.specs.List.{flat_map}
 use Rattle.mil_word.specs.declared.Line.{Line}
 use Rattle.mil_word.specs.declared.Line.TheVariants.{A, B}
@@ -7,15 +7,27 @@ use Rattle.mil_message.specs.Parts.{Parts, parts_of}
 use Rattle.mil_message.specs.Rules.{IsLawful}
 use Rattle.mil_message.specs.declared.messages.Message.{Message}
 use Rattle.frame_code.specs.declared.Op.{Op}
-use Rattle.frame_code.specs.declared.Op.TheVariants.{Halt, Send, Alt, SetGap, Loop, Again, Leave, Jump, Test, JumpFalse}
+use Rattle.frame_code.specs.declared.Op.TheVariants.{Halt, Send, Alt, SetGap, Loop, Again, Leave, Jump, Test, JumpFalse, Call, Return}
 use Rattle.frame_code.specs.Table.{Code}
 
 -- a number of two bytes, the low one first
 abbrev pub two_bytes : ℕ → List ℕ
 two_bytes n = n % 256 ∷ n / 256 ∷ []
 
-abbrev pub mark : List ℕ
-mark = codes "BC01"
+-- whether there is an operation that the mark BC01 does not know
+abbrev pub is_new : Op → Bool
+is_new (Call r) = true
+is_new Return = true
+is_new _ = false
+
+abbrev pub has_new : List Op → Bool
+has_new [] = false
+has_new (o ∷ os) = is_new o || has_new os
+
+-- the mark, for operations with new ones and without
+abbrev pub mark : Bool → List ℕ
+mark true = codes "BC02"
+mark false = codes "BC01"
 
 -- the number of an operation
 abbrev pub number_of : Op → ℕ
@@ -29,8 +41,10 @@ number_of (Leave i) = 6
 number_of (Jump i) = 7
 number_of (Test k) = 8
 number_of (JumpFalse i) = 9
+number_of (Call r) = 10
+number_of Return = 11
 
--- its operand; 0 for Halt
+-- its operand; 0 for Halt and Return
 abbrev pub operand_of : Op → ℕ
 operand_of Halt = 0
 operand_of (Send m) = m
@@ -42,6 +56,8 @@ operand_of (Leave i) = i
 operand_of (Jump i) = i
 operand_of (Test k) = k
 operand_of (JumpFalse i) = i
+operand_of (Call r) = r
+operand_of Return = 0
 
 -- four bytes: the number, 00, and the operand
 abbrev pub operation_bytes : Op → List ℕ
@@ -60,12 +76,12 @@ abbrev pub message_bytes : Line × Message → List ℕ
 message_bytes m = parts_bytes m.0 (parts_of m.1)
 
 -- the mark, and how many operations and messages there are
-abbrev pub header_bytes : ℕ → ℕ → List ℕ
-header_bytes operations messages = mark ++ two_bytes operations ++ two_bytes messages
+abbrev pub header_bytes : Bool → ℕ → ℕ → List ℕ
+header_bytes new operations messages = mark new ++ two_bytes operations ++ two_bytes messages
 
 abbrev pub image_bytes : Code → List ℕ
 image_bytes code =
-    header_bytes (length code.operations) (length code.messages)
+    header_bytes (has_new code.operations) (length code.operations) (length code.messages)
     ++ flat_map operation_bytes code.operations ++ flat_map message_bytes code.messages
 
 -- each message has one of the ten forms, all its numbers in their ranges

@@ -1,7 +1,7 @@
 -- The fields of a message, form by form: which first command, second command and number of data words it may have
 -- (MIL-STD-1553B 4.3.3.5.1 for the fields of a command word, 4.3.3.6 for the forms).
-use Rattle.std.specs.Prelude.{ℕ, Bool, true, false, not, ◌&&◌, ◌||◌, ◌==◌, if◌then◌else◌}
-use Rattle.mil_word.specs.Fields.{address_of, is_broadcast, is_transmit, sub_of, code_of, count_of, is_mode}
+use Rattle.std.specs.Prelude.{ℕ, Bool, false, not, ◌&&◌, ◌||◌, ◌==◌, if◌then◌else◌}
+use Rattle.mil_word.specs.Fields.{address_of, is_broadcast, is_transmit, code_of, count_of, is_mode}
 use Rattle.mil_message.specs.Rules.{is_address, is_code_alone, is_code_from, is_code_to}
 
 -- a command to receive, or to transmit, data words at a subaddress

@@ -1,3 +1,4 @@
+pub mod Routines
 pub mod Table
 pub mod Ranges
 pub mod Loadable

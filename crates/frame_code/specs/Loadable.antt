@@ -1,8 +1,9 @@
 -- The loader's rules (own choice): which codes the controller may run.
-use Rattle.std.specs.Prelude.{◌≡◌, ℕ, zero, suc, ◌<◌, List, [], ◌∷◌, ◌++◌, length, Option, Some, None, slice_get}
+use Rattle.std.specs.Prelude.{◌≡◌, ℕ, zero, suc, ◌+◌, ◌<◌, ◌≤◌, List, [], ◌∷◌, ◌++◌, length, Option, Some, slice_get}
 use Rattle.frame_code.specs.declared.Op.{Op}
-use Rattle.frame_code.specs.declared.Op.TheVariants.{Halt, Send, Alt, SetGap, Loop, Again, Leave, Jump, Test, JumpFalse}
+use Rattle.frame_code.specs.declared.Op.TheVariants.{Halt, Send, Alt, Loop, Again, Leave, Jump, JumpFalse, Call, Return}
 use Rattle.frame_code.specs.Table.{Code}
+use Rattle.frame_code.specs.Routines.{routines, owner_at}
 use Rattle.frame_code.specs.Ranges.{IsImage}
 
 abbrev pub tail : List ℕ → List ℕ
@@ -28,17 +29,40 @@ Each os P = (p : ℕ) (o : Op) → slice_get os p ≡ Some o → P p o
 abbrev pub EndsInHalt : List Op → Type 0
 EndsInHalt os = (before : List Op) × (os ≡ before ++ Halt ∷ [])
 
--- at most 17 loops are open, and an Again or a Leave stands in one
+-- a routine that is called ends before the one begins in which the call stands, and so is there
+abbrev pub CallsEarlier : ℕ → Op → Type 0
+CallsEarlier owner (Call r) = r < owner
+CallsEarlier owner _ = Unit {0}
+
+-- the routines: at most 32, each calling earlier ones alone
+pub record HasRoutines (os : List Op) : Type 0 where
+  pub few : routines os ≤ 32
+  pub earlier : Each os (λ p. CallsEarlier (owner_at os p))
+
+-- an Again or a Leave stands in a loop, a Return in none
 abbrev pub IsPaired : List ℕ → Op → Type 0
-IsPaired loops (Loop n) = length loops < 17
 IsPaired loops (Again i) = 0 < length loops
 IsPaired loops (Leave i) = 0 < length loops
+IsPaired loops Return = loops ≡ []
 IsPaired loops _ = Unit {0}
 
--- the nesting: Loop and Again pair as brackets
+-- within a routine that has room for so many open loops, its calls counted with it: an operation inside of some of them
+abbrev pub HasRoom : (ℕ → ℕ) → ℕ → List ℕ → Op → Type 0
+HasRoom room owner loops (Loop n) = length loops < room owner
+HasRoom room owner loops (Call r) = length loops + room r ≤ room owner
+HasRoom room owner loops _ = Unit {0}
+
+-- at most 17 loops are open at once in each routine and in main, those of its calls counted with it
+pub record IsShallow (os : List Op) : Type 0 where
+  pub room : ℕ → ℕ
+  pub enough : Each os (λ p. HasRoom room (owner_at os p) (open_at os p))
+  pub at_most_17 : (r : ℕ) → room r ≤ 17
+
+-- the nesting: Loop and Again pair as brackets inside each routine
 pub record IsNested (os : List Op) : Type 0 where
   pub paired : Each os (λ p. IsPaired (open_at os p))
   pub closed : open_at os (length os) ≡ []
+  pub shallow : IsShallow os
 
 -- the target stands behind the Loop of the innermost loop
 abbrev pub TurnsTo : List ℕ → ℕ → Type 0
@@ -48,9 +72,9 @@ TurnsTo loops i = (start : ℕ) × (rest : List ℕ) × (loops ≡ start ∷ res
 abbrev pub LeavesTo : List Op → List ℕ → ℕ → Type 0
 LeavesTo os loops i = (q : ℕ) × (back : ℕ) × (i ≡ suc q) × (slice_get os q ≡ Some (Again back)) × (open_at os q ≡ loops)
 
--- the target is a later operation in the same innermost loop
+-- the target is a later operation in the same innermost loop of the same routine
 abbrev pub JumpsTo : List Op → ℕ → ℕ → Type 0
-JumpsTo os p i = (p < i) × (i < length os) × (open_at os i ≡ open_at os p)
+JumpsTo os p i = (p < i) × (i < length os) × (open_at os i ≡ open_at os p) × (owner_at os i ≡ owner_at os p)
 
 -- the jumps: where an operation at this place may go
 abbrev pub GoesWell : List Op → ℕ → Op → Type 0
@@ -66,10 +90,11 @@ HasMessage n (Send m) = m < n
 HasMessage n (Alt m) = m < n
 HasMessage n _ = Unit {0}
 
--- an image that keeps the four rules
+-- an image that keeps the five rules
 pub record IsLoadable (code : Code) : Type 0 where
   pub image : IsImage code
   pub ends : EndsInHalt code.operations
+  pub routines_ok : HasRoutines code.operations
   pub nested : IsNested code.operations
   pub jumps : Each code.operations (GoesWell code.operations)
   pub messages : Each code.operations (λ p. HasMessage (length code.messages))

@@ -1,7 +1,7 @@
 -- What an image may hold (own choice): how many operations and messages, and the range of each operand.
-use Rattle.std.specs.Prelude.{ℕ, ◌≤◌, ◌<◌, Bool, true, ◌&&◌, ◌||◌, nat_lt, nat_le, List, [], ◌∷◌, length, IsTrue}
+use Rattle.std.specs.Prelude.{ℕ, ◌≤◌, Bool, true, ◌&&◌, ◌||◌, nat_lt, nat_le, List, [], ◌∷◌, length, IsTrue}
 use Rattle.frame_code.specs.declared.Op.{Op}
-use Rattle.frame_code.specs.declared.Op.TheVariants.{Halt, Send, Alt, SetGap, Loop, Again, Leave, Jump, Test, JumpFalse}
+use Rattle.frame_code.specs.declared.Op.TheVariants.{Halt, Send, Alt, SetGap, Loop, Again, Leave, Jump, Test, JumpFalse, Call, Return}
 use Rattle.frame_code.specs.declared.Image.TheInside.{Inside}
 use Rattle.frame_code.specs.Table.{Code}
 
@@ -21,6 +21,10 @@ is_count n = nat_le 1 n && nat_le n 10000
 abbrev pub is_index : ℕ → Bool
 is_index i = nat_lt i 65536
 
+-- the number of a routine
+abbrev pub is_routine : ℕ → Bool
+is_routine r = nat_lt r 32
+
 -- whether the operand of an operation is in its range
 abbrev pub in_range : Op → Bool
 in_range Halt = true
@@ -33,6 +37,8 @@ in_range (Leave i) = is_index i
 in_range (Jump i) = is_index i
 in_range (Test k) = is_test k
 in_range (JumpFalse i) = is_index i
+in_range (Call r) = is_routine r
+in_range Return = true
 
 abbrev pub AreInRange : List Op → Type 0
 AreInRange [] = Unit {0}

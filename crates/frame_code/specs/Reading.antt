@@ -1,18 +1,19 @@
 -- What bytes are read as (own choice): the code that they spell, else the first fault. The bytes are judged field by
 -- field, in their order.
-use Rattle.std.specs.Prelude.{◌≡◌, ℕ, zero, suc, ◌+◌, ◌*◌, ◌==◌, ◌&&◌, ◌||◌, nat_lt, nat_le, if◌then◌else◌, Bool, List, [], ◌∷◌, Option, Some, None, Result, Ok, Err}
+use Rattle.std.specs.Prelude.{◌≡◌, ℕ, zero, suc, ◌+◌, ◌*◌, ◌==◌, not, ◌&&◌, ◌||◌, nat_lt, nat_le, if◌then◌else◌, Bool, true, false, List, [], ◌∷◌, Option, Some, None, Result, Ok, Err}
 use Rattle.mil_word.specs.declared.Line.{Line}
 use Rattle.mil_word.specs.declared.Line.TheVariants.{A, B}
 use Rattle.mil_message.specs.declared.messages.Message.{Message}
-use Rattle.mil_message.specs.Parts.{Parts, request_at}
+use Rattle.mil_message.specs.Parts.{request_at}
 use Rattle.mil_message.specs.Request.{Request}
 use Rattle.mil_message.specs.Rules.{form_of}
 use Rattle.frame_code.specs.declared.ImageError.{ImageError}
 use Rattle.frame_code.specs.declared.ImageError.TheVariants as fault
 use Rattle.frame_code.specs.declared.Op.{Op}
-use Rattle.frame_code.specs.declared.Op.TheVariants.{Halt, Send, Alt, SetGap, Loop, Again, Leave, Jump, Test, JumpFalse}
+use Rattle.frame_code.specs.declared.Op.TheVariants.{Halt, Send, Alt, SetGap, Loop, Again, Leave, Jump, Test, JumpFalse, Call, Return}
 use Rattle.frame_code.specs.Table.{Code}
-use Rattle.frame_code.specs.Ranges.{is_gap, is_count, is_test}
+use Rattle.frame_code.specs.Ranges.{is_gap, is_count, is_test, is_routine}
+use Rattle.frame_code.specs.Bytes.{has_new}
 use Rattle.frame_code.specs.Fields.{first_fits, second_fits, words_due}
 
 infixl 10 ◌>>=◌
@@ -40,9 +41,9 @@ two_at bs = do
   high ← byte_at low.1
   Ok (low.0 + 256 * high.0, high.1)
 
--- the mark BC01
-unfoldable pub mark_at : List ℕ → Result (List ℕ) ImageError
-mark_at (a ∷ b ∷ c ∷ d ∷ bs) = must (a == 66 && b == 67 && c == 48 && d == 49) fault.Mark bs
+-- the mark BC01, or BC02: whether it is the second
+unfoldable pub mark_at : List ℕ → Read Bool
+mark_at (a ∷ b ∷ c ∷ d ∷ bs) = must (a == 66 && b == 67 && c == 48 && (d == 49 || d == 50)) fault.Mark (d == 50, bs)
 mark_at _ = Err fault.Mark
 
 -- the test of a number, if there is one
@@ -62,18 +63,25 @@ operation_of number operand =
     else if number == 7 then Some (Jump operand)
     else if number == 8 then test_of operand
     else if number == 9 then Some (JumpFalse operand)
+    else if number == 10 then (if is_routine operand then Some (Call operand) else None)
+    else if number == 11 then (if operand == 0 then Some Return else None)
     else None
+
+-- how many operations the mark knows
+abbrev pub known : Bool → ℕ
+known true = 12
+known false = 10
 
 -- what there is, else the fault
 abbrev pub present : {X : Type 0} → ImageError → Option X → Result X ImageError
 present e None = Err e
 present e (Some x) = Ok x
 
--- four bytes: a number up to 9, 00, and an operand in its range
-unfoldable pub operation_at : List ℕ → Read Op
-operation_at bs = do
+-- four bytes: a number that the mark knows, 00, and an operand in its range
+unfoldable pub operation_at : Bool → List ℕ → Read Op
+operation_at new bs = do
   number ← byte_at bs
-  _ ← must (nat_lt number.0 10) fault.Operations number
+  _ ← must (nat_lt number.0 (known new)) fault.Operations number
   pad ← byte_at number.1
   _ ← must (pad.0 == 0) fault.Operations pad
   operand ← two_at pad.1
@@ -124,22 +132,27 @@ abbrev pub at_end : List ℕ → Code → Result Code ImageError
 at_end [] code = Ok code
 at_end (b ∷ bs) code = Err fault.Length
 
--- the mark and the two counts
-unfoldable pub header_at : List ℕ → Result (ℕ × ℕ × List ℕ) ImageError
+-- the mark BC02 is for codes that need it
+abbrev pub fitting : Bool → Code → Result Code ImageError
+fitting new code = must (not new || has_new code.operations) fault.Version code
+
+-- the mark, and the two counts
+unfoldable pub header_at : List ℕ → Result (Bool × ℕ × ℕ × List ℕ) ImageError
 header_at bs = do
-  rest ← mark_at bs
-  operations ← two_at rest
+  mark ← mark_at bs
+  operations ← two_at mark.1
   _ ← must (nat_le operations.0 4096) fault.Operations operations
   messages ← two_at operations.1
   _ ← must (nat_le messages.0 1024) fault.Messages messages
-  Ok (operations.0, messages.0, messages.1)
+  Ok (mark.0, operations.0, messages.0, messages.1)
 
 unfoldable pub image_of : List ℕ → Result Code ImageError
 image_of bs = do
   header ← header_at bs
-  operations ← many operation_at header.0 header.2
-  messages ← many message_at header.1 operations.1
-  at_end messages.1 (record { operations = operations.0; messages = messages.0 })
+  operations ← many (operation_at header.0) header.1 header.3
+  messages ← many message_at header.2 operations.1
+  code ← at_end messages.1 (record { operations = operations.0; messages = messages.0 })
+  fitting header.0 code
 
 -- a reader in the code answers what its definition reads
 abbrev pub Reads : {X Y : Type 0} → (X → Y) → Result X ImageError → Result Y ImageError → Type 0
@@ -152,6 +165,7 @@ Faults fault.Mark read = read ≡ Err fault.Mark
 Faults fault.Length read = read ≡ Err fault.Length
 Faults fault.Operations read = read ≡ Err fault.Operations
 Faults fault.Messages read = read ≡ Err fault.Messages
+Faults fault.Version read = read ≡ Err fault.Version
 Faults fault.Memory read = Unit {0}
 
 -- the same, but that it may also be refused memory
@@ -163,3 +177,8 @@ Builds view (Err e) read = Faults e read
 abbrev pub behind : {X : Type 0} → Read X → Result (List ℕ) ImageError
 behind (Ok x) = Ok x.1
 behind (Err e) = Err e
+
+-- whether one of the operations that were read is new, and what is behind them
+abbrev pub many_new : Read (List Op) → Result (Bool × List ℕ) ImageError
+many_new (Ok x) = Ok (has_new x.0, x.1)
+many_new (Err e) = Err e

@@ -1,22 +1,24 @@
 -- The operation table (own choice): what a step of each operation does, in any world that takes messages.
-use Rattle.std.specs.Prelude.{ℕ, zero, suc, ◌+◌, ◌-◌, List, [], ◌∷◌, Bool, true, false, Option, None, Some, slice_get, if◌then◌else◌, ◌≡◌}
+use Rattle.std.specs.Prelude.{ℕ, zero, suc, ◌+◌, ◌-◌, List, [], ◌∷◌, Bool, false, Option, None, Some, slice_get, if◌then◌else◌}
 use Rattle.mil_word.specs.declared.Line.{Line}
-use Rattle.mil_word.specs.declared.Line.TheVariants.{A, B}
+use Rattle.mil_word.specs.declared.Line.TheVariants.{A}
 use Rattle.mil_message.specs.declared.messages.Message.{Message}
 use Rattle.mil_message.specs.World.{World, Point, other_line, sent, asks}
 use Rattle.frame_code.specs.declared.Op.{Op}
-use Rattle.frame_code.specs.declared.Op.TheVariants.{Halt, Send, Alt, SetGap, Loop, Again, Leave, Jump, Test, JumpFalse}
+use Rattle.frame_code.specs.declared.Op.TheVariants.{Halt, Send, Alt, SetGap, Loop, Again, Leave, Jump, Test, JumpFalse, Call, Return}
+use Rattle.frame_code.specs.Routines.{main_of, routine_at}
 
 -- an image as plain data: its operations, and the messages that they send, each with its line
 pub record Code : Type 0 where
   pub operations : List Op
   pub messages : List (Line × Message)
 
--- what the controller has beside the point: the place of the next operation, the counters (the top one first), the flag,
--- and the line of the last message
+-- what the controller has beside the point: the place of the next operation, the counters (the top one first), the return
+-- places (the latest first), the flag, and the line of the last message
 pub record Registers : Type 0 where
   pub place : ℕ
   pub counters : List ℕ
+  pub returns : List ℕ
   pub flag : Bool
   pub line : Line
 
@@ -24,15 +26,16 @@ pub record Running (State Outcome : Type 0) : Type 0 where
   pub at : Registers
   pub point : Point State Outcome
 
--- how a step ends; it is stuck at a place with no operation, an empty counter list, or a message that is not there
+-- how a step ends; it is stuck at a place with no operation, an empty counter list, a message that is not there, a routine that
+-- is not there, or an empty list of return places
 pub data Turn (X : Type 0) : Type 0 where
   goes_on : X → Turn X
   halted : Turn X
   stuck : Turn X
 
--- at first the flag is false, and A counts as the last line
-abbrev pub start : Registers
-start = record { place = 0; counters = []; flag = false; line = A }
+-- at the first operation of main; at first the flag is false, and A counts as the last line
+abbrev pub start : Code → Registers
+start code = record { place = main_of code.operations; counters = []; returns = []; flag = false; line = A }
 
 abbrev pub at_place : Registers → ℕ → Registers
 at_place r i = record r { place = i }
@@ -57,23 +60,35 @@ module _ {State Outcome : Type 0} (w : World State Outcome) where
   leaves [] i r p = stuck
   leaves (n ∷ ns) i r p = goes_on (record { at = record r { place = i; counters = ns }; point = p })
 
+  -- notes the place behind the call, and goes to the start of the routine
+  abbrev pub calls : Option ℕ → Registers → Point State Outcome → Turn (Running State Outcome)
+  calls None r p = stuck
+  calls (Some i) r p = goes_on (record { at = record r { place = i; returns = (r.place + 1) ∷ r.returns }; point = p })
+
+  -- goes to the latest return place
+  abbrev pub comes_back : List ℕ → Registers → Point State Outcome → Turn (Running State Outcome)
+  comes_back [] r p = stuck
+  comes_back (i ∷ is) r p = goes_on (record { at = record r { place = i; returns = is }; point = p })
+
   -- one row an operation
-  abbrev pub act : Option Op → List (Line × Message) → Registers → Point State Outcome → Turn (Running State Outcome)
-  act None ms r p = stuck
-  act (Some Halt) ms r p = halted
-  act (Some (Send m)) ms r p = sends (slice_get ms m) (λ l. l) r p
-  act (Some (Alt m)) ms r p = sends (slice_get ms m) (λ l. other_line r.line) r p
-  act (Some (SetGap t)) ms r p = goes_on (record { at = at_place r (r.place + 1); point = record p { gap = t } })
-  act (Some (Loop n)) ms r p = goes_on (record { at = record r { place = r.place + 1; counters = n ∷ r.counters }; point = p })
-  act (Some (Again i)) ms r p = turns r.counters i r p
-  act (Some (Leave i)) ms r p = leaves r.counters i r p
-  act (Some (Jump i)) ms r p = goes_on (record { at = at_place r i; point = p })
-  act (Some (Test k)) ms r p = goes_on (record { at = record r { place = r.place + 1; flag = asks w k p }; point = p })
-  act (Some (JumpFalse i)) ms r p = goes_on (record { at = at_place r (if r.flag then r.place + 1 else i); point = p })
+  abbrev pub act : Option Op → Code → Registers → Point State Outcome → Turn (Running State Outcome)
+  act None code r p = stuck
+  act (Some Halt) code r p = halted
+  act (Some (Send m)) code r p = sends (slice_get code.messages m) (λ l. l) r p
+  act (Some (Alt m)) code r p = sends (slice_get code.messages m) (λ l. other_line r.line) r p
+  act (Some (SetGap t)) code r p = goes_on (record { at = at_place r (r.place + 1); point = record p { gap = t } })
+  act (Some (Loop n)) code r p = goes_on (record { at = record r { place = r.place + 1; counters = n ∷ r.counters }; point = p })
+  act (Some (Again i)) code r p = turns r.counters i r p
+  act (Some (Leave i)) code r p = leaves r.counters i r p
+  act (Some (Jump i)) code r p = goes_on (record { at = at_place r i; point = p })
+  act (Some (Test k)) code r p = goes_on (record { at = record r { place = r.place + 1; flag = asks w k p }; point = p })
+  act (Some (JumpFalse i)) code r p = goes_on (record { at = at_place r (if r.flag then r.place + 1 else i); point = p })
+  act (Some (Call n)) code r p = calls (routine_at code.operations n) r p
+  act (Some Return) code r p = comes_back r.returns r p
 
   -- one step of a code
   abbrev pub step : Code → Registers → Point State Outcome → Turn (Running State Outcome)
-  step code r p = act (slice_get code.operations r.place) code.messages r p
+  step code r p = act (slice_get code.operations r.place) code r p
 
   abbrev pub then_run : Turn (Running State Outcome) → Running State Outcome → (Registers → Point State Outcome → Turn (Running State Outcome)) → Turn (Running State Outcome)
   then_run (goes_on x) here go = go x.at x.point

@@ -1,4 +1,4 @@
-//! The code of the bus controller (own choice): ten operations, images of them, and the bytes of an image. Its tests
+//! The code of the bus controller (own choice): twelve operations, images of them, and the bytes of an image. Its tests
 //! are in `frame_tests`.
 #![tactic(auto)]
 
@@ -42,6 +42,11 @@ pub enum Op {
     Test(u8),
     /// Number 9: goes to this place where the flag is false.
     JumpFalse(u16),
+    /// Number 10: notes the place behind it, and goes to the start of the routine of this number, 0 to 31.
+    Call(u8),
+    /// Number 11: goes to the place that was noted last, and forgets it; a routine ends here. Main begins behind the last one,
+    /// and the machine starts there.
+    Return,
 }
 
 /// What the controller runs: at most 4096 operations, each with its operand in its range, and the at most 1024 messages
@@ -107,15 +112,17 @@ impl Image {
 /// Why bytes are not an image. They are judged field by field in their order; want of memory comes last.
 #[derive(Clone, Copy, PartialEq, Eq, Debug)]
 pub enum ImageError {
-    /// C1: there are fewer than four bytes, or they are not the mark BC01.
+    /// C1: there are fewer than four bytes, or they are neither the mark BC01 nor BC02.
     Mark,
     /// C2: the bytes end too early, or go on behind the last message.
     Length,
-    /// C3: an operation's number is over 9, its second byte is not 00, its operand is out of its range, or there are more
+    /// C3: an operation's number is over 9 (with the mark BC02 over 11), its second byte is not 00, its operand is out of its range, or there are more
     /// than 4096 operations.
     Operations,
     /// C4: there are more than 1024 messages, or no message of the form has the field.
     Messages,
+    /// C6: the mark is BC02, and no operation needs it.
+    Version,
     /// C5: memory was refused.
     Memory,
 }
@@ -132,6 +139,7 @@ impl fmt::Display for ImageError {
             ImageError::Length => "C2",
             ImageError::Operations => "C3",
             ImageError::Messages => "C4",
+            ImageError::Version => "C6",
             ImageError::Memory => "C5",
         })
     }

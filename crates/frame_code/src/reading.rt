@@ -1,15 +1,17 @@
 //! The image that bytes spell. The bytes are judged first, which takes no memory, and then the image is made.
-ghost use Rattle.std.specs.Prelude.{◌∷◌, ◌++◌, ◌≡◌, ◌≢◌, ◌≤◌, ◌<◌, ◌↔◌, IsTrue, IfOk, IfSome, MatchResult, Ok, Err, length};
+ghost use Rattle.std.specs.Prelude.{false, not, ◌||◌, if◌then◌else◌, Some, None, ◌∷◌, ◌++◌, ◌≡◌, ◌≢◌, ◌≤◌, ◌<◌, ◌↔◌, IsTrue, IfOk, IfSome, MatchResult, Ok, Err, length};
 ghost use Rattle.frame_code.specs.Table.{Code};
-ghost use Rattle.frame_code.specs.Ranges.{in_range, AreInRange};
-ghost use Rattle.frame_code.specs.Bytes.{two_bytes, mark, header_bytes, number_of, operand_of, operation_bytes, line_number, message_bytes, image_bytes};
+ghost use Rattle.frame_code.specs.Ranges.{in_range, is_routine, AreInRange};
+ghost use Rattle.frame_code.specs.Bytes.{is_new, has_new, two_bytes, mark, header_bytes, number_of, operand_of, operation_bytes, line_number, message_bytes, image_bytes};
 ghost use Rattle.std.specs.List.{flat_map};
 ghost use Rattle.frame_code.specs.Fields as table;
 ghost use Rattle.frame_code.specs.Reading as spelled;
-ghost use Rattle.frame_code.specs.Reading.{Reads, Builds, behind, image_of};
+ghost use Rattle.frame_code.specs.Reading.{Reads, Builds, behind, many_new, image_of};
 ghost use Rattle.frame_code.specs.declared.ImageError.{ImageError};
+ghost use Rattle.frame_code.specs.declared.Op.TheVariants as op;
 
 use crate::fields::{first_fits, second_fits, words_due};
+use crate::writing::{has_new, is_new};
 use crate::{Image, ImageError, Op};
 use arrayvec::ArrayVec;
 use mil_message::Message;
@@ -39,27 +41,37 @@ fn two(bytes: &[u8]) -> Result<(u16, &[u8]), ImageError>
     Ok((u16::from(low) + 256 * u16::from(high), rest))
 }
 
-// The bytes behind the mark.
+// Whether the mark is BC02, and the bytes behind it.
 #[tactic(auto, unfolding(crate::specs::Reading::mark_at))]
-fn mark(bytes: &[u8]) -> Result<&[u8], ImageError>
-    ensures mark { Reads (λ rest. rest.now) result (spelled.mark_at bytes.now) }
-    ensures spelled { IfOk result (λ rest. bytes.now ≡ mark ++ rest.now) }
+fn mark(bytes: &[u8]) -> Result<(bool, &[u8]), ImageError>
+    ensures mark { Reads (λ x. (x.0, x.1.now)) result (spelled.mark_at bytes.now) }
+    ensures spelled { IfOk result (λ x. bytes.now ≡ mark x.0 ++ x.1.now) }
 {
     match bytes {
-        [b'B', b'C', b'0', b'1', rest @ ..] => Ok(rest),
+        [b'B', b'C', b'0', b'1', rest @ ..] => Ok((false, rest)),
+        [b'B', b'C', b'0', b'2', rest @ ..] => Ok((true, rest)),
         _ => Err(ImageError::Mark),
     }
 }
 
-// The mark and the two counts: operations, messages, and the bytes behind them.
+// What stands before the operations.
+#[derive(Clone, Copy)]
+struct Opening<'a> {
+    new: bool,
+    operations: u16,
+    messages: u16,
+    rest: &'a [u8],
+}
+
+// The mark and the two counts, and the bytes behind them.
 #[tactic(auto, unfolding(crate::specs::Reading::header_at))]
-fn header(bytes: &[u8]) -> Result<(u16, u16, &[u8]), ImageError>
-    ensures fields { Reads (λ x. (x.0, x.1, x.2.now)) result (spelled.header_at bytes.now) }
-    ensures spelled { IfOk result (λ x. bytes.now ≡ header_bytes x.0 x.1 ++ x.2.now) }
-    ensures operations { IfOk result (λ x. x.0 ≤ 4096) }
-    ensures messages { IfOk result (λ x. x.1 ≤ 1024) }
+fn header(bytes: &[u8]) -> Result<Opening<'_>, ImageError>
+    ensures fields { Reads (λ x. (x.new, x.operations, x.messages, x.rest.now)) result (spelled.header_at bytes.now) }
+    ensures spelled { IfOk result (λ x. bytes.now ≡ header_bytes x.new x.operations x.messages ++ x.rest.now) }
+    ensures operations { IfOk result (λ x. x.operations ≤ 4096) }
+    ensures messages { IfOk result (λ x. x.messages ≤ 1024) }
 {
-    let rest = mark(bytes)?;
+    let (new, rest) = mark(bytes)?;
     let (operations, rest) = two(rest)?;
     if operations > 4096 {
         return Err(ImageError::Operations);
@@ -68,7 +80,12 @@ fn header(bytes: &[u8]) -> Result<(u16, u16, &[u8]), ImageError>
     if messages > 1024 {
         return Err(ImageError::Messages);
     }
-    Ok((operations, messages, rest))
+    Ok(Opening {
+        new,
+        operations,
+        messages,
+        rest,
+    })
 }
 
 // The test of a number, if there is one.
@@ -78,6 +95,17 @@ fn test_of(number: u16) -> Option<Op>
     match number {
         0..=1 | 16..=20 | 24..=26 => Some(Op::Test(number as u8)),
         _ => None,
+    }
+}
+
+// The call of a routine of this number, if there may be one.
+fn call_of(number: u16) -> Option<Op>
+    ensures { result ≡ if is_routine number then Some (op.Call number) else None }
+{
+    if number < 32 {
+        Some(Op::Call(number as u8))
+    } else {
+        None
     }
 }
 
@@ -100,19 +128,29 @@ fn operation_of(number: u8, operand: u16) -> Option<Op>
         7 => Some(Op::Jump(operand)),
         8 => test_of(operand),
         9 => Some(Op::JumpFalse(operand)),
+        10 => call_of(operand),
+        11 => (operand == 0).then_some(Op::Return),
         _ => None,
     }
 }
 
-// An operation: a number up to 9, 00, and an operand in its range.
+// How many operations the mark knows.
+fn known(new: bool) -> u8
+    ensures { result ≡ spelled.known new }
+{
+    if new { 12 } else { 10 }
+}
+
+// An operation: a number that the mark knows, 00, and an operand in its range.
 #[tactic(auto, unfolding(crate::specs::Reading::operation_at))]
-fn operation(bytes: &[u8]) -> Result<(Op, &[u8]), ImageError>
-    ensures operation { Reads (λ x. (x.0, x.1.now)) result (spelled.operation_at bytes.now) }
+fn operation(new: bool, bytes: &[u8]) -> Result<(Op, &[u8]), ImageError>
+    ensures operation { Reads (λ x. (x.0, x.1.now)) result (spelled.operation_at new bytes.now) }
     ensures range { IfOk result (λ x. IsTrue (in_range x.0)) }
     ensures spelled { IfOk result (λ x. bytes.now ≡ operation_bytes x.0 ++ x.1.now) }
+    ensures old { IfOk result (λ x. new ≡ false → is_new x.0 ≡ false) }
 {
     let (number, rest) = byte(bytes)?;
-    if number >= 10 {
+    if number >= known(new) {
         return Err(ImageError::Operations);
     }
     let (pad, rest) = byte(rest)?;
@@ -205,16 +243,24 @@ fn message(bytes: &[u8]) -> Result<((Line, Message), &[u8]), ImageError>
     body(form, line, first, second, rest)
 }
 
-// The bytes behind so many operations.
-fn past_operations(count: u16, bytes: &[u8]) -> Result<&[u8], ImageError>
-    ensures { Reads (λ rest. rest.now) result (behind (spelled.many spelled.operation_at count bytes.now)) }
+fn with_new(found: bool, op: Op) -> bool
+    ensures { result ≡ found || is_new op }
+{
+    found || is_new(op)
+}
+
+// Whether an operation among so many is new, and the bytes behind them.
+fn past_operations(new: bool, count: u16, bytes: &[u8]) -> Result<(bool, &[u8]), ImageError>
+    ensures { Reads (λ x. (x.0, x.1.now)) result (many_new (spelled.many (spelled.operation_at new) count bytes.now)) }
 {
     let mut rest = bytes;
+    let mut found = false;
     for _ in 0..count {
-        let (_, next) = operation(rest)?;
+        let (op, next) = operation(new, rest)?;
+        found = with_new(found, op);
         rest = next;
     }
-    Ok(rest)
+    Ok((found, rest))
 }
 
 // The bytes behind so many messages.
@@ -234,18 +280,37 @@ fn past_messages(count: u16, bytes: &[u8]) -> Result<&[u8], ImageError>
 fn judge(bytes: &[u8]) -> Result<(), ImageError>
     ensures { MatchResult result (λ _. (code : Code) × (image_of bytes.now ≡ Ok code)) (λ e. image_of bytes.now ≡ Err e) }
 {
-    let (operations, messages, rest) = header(bytes)?;
-    let rest = past_operations(operations, rest)?;
-    let rest = past_messages(messages, rest)?;
+    let header = header(bytes)?;
+    let (found, rest) = past_operations(header.new, header.operations, header.rest)?;
+    let rest = past_messages(header.messages, rest)?;
     match rest.split_first() {
-        None => Ok(()),
         Some(_) => Err(ImageError::Length),
+        None => {
+            if fits(header.new, found) {
+                Ok(())
+            } else {
+                Err(ImageError::Version)
+            }
+        }
     }
 }
 
+// The mark BC02 is for codes that need it.
+fn fits(new: bool, found: bool) -> bool
+    ensures { result ≡ not new || found }
+{
+    !new || found
+}
+
 // So many operations.
-fn operations(alloc: Global, count: u16, bytes: &[u8]) -> Result<(Vec<Op>, &[u8]), ImageError>
-    ensures operations { Builds (λ x. (x.0.items, x.1.now)) result (spelled.many spelled.operation_at count bytes.now) }
+fn operations(
+    alloc: Global,
+    new: bool,
+    count: u16,
+    bytes: &[u8],
+) -> Result<(Vec<Op>, &[u8]), ImageError>
+    ensures operations { Builds (λ x. (x.0.items, x.1.now)) result (spelled.many (spelled.operation_at new) count bytes.now) }
+    ensures old { IfOk result (λ x. new ≡ false → has_new x.0.items ≡ false) }
     ensures range { IfOk result (λ x. AreInRange x.0.items) }
     ensures count { IfOk result (λ x. length x.0.items ≡ count) }
     ensures spelled { IfOk result (λ x. bytes.now ≡ flat_map operation_bytes x.0.items ++ x.1.now) }
@@ -253,7 +318,7 @@ fn operations(alloc: Global, count: u16, bytes: &[u8]) -> Result<(Vec<Op>, &[u8]
     let mut found = Vec::new(alloc);
     let mut rest = bytes;
     for _ in 0..count {
-        let (op, next) = operation(rest)?;
+        let (op, next) = operation(new, rest)?;
         found.push(op)?;
         rest = next;
     }
@@ -286,19 +351,24 @@ fn build(alloc: Global, bytes: &[u8]) -> Result<Image, ImageError>
     ensures image { Builds (λ image. image) result (image_of bytes.now) }
     ensures spelled { IfOk result (λ image. bytes.now ≡ image_bytes image) }
 {
-    let (operation_count, message_count, rest) = header(bytes)?;
-    let (operations, rest) = operations(alloc, operation_count, rest)?;
-    let (messages, rest) = messages(alloc, message_count, rest)?;
+    let header = header(bytes)?;
+    let (operations, rest) = operations(alloc, header.new, header.operations, header.rest)?;
+    let (messages, rest) = messages(alloc, header.messages, rest)?;
     match rest.split_first() {
-        None => Ok(Image {
-            operations,
-            messages,
-        }),
         Some(_) => Err(ImageError::Length),
+        None => {
+            if !fits(header.new, has_new(&operations)) {
+                return Err(ImageError::Version);
+            }
+            Ok(Image {
+                operations,
+                messages,
+            })
+        }
     }
 }
 
-/// The image that the bytes spell, else their first fault (C1 to C4); want of memory (C5) is answered for bytes of an image
+/// The image that the bytes spell, else their first fault (C1 to C4, then C6); want of memory (C5) is answered for bytes of an image
 /// alone. Two byte lists are never read as one image.
 pub fn read_image(alloc: Global, bytes: &[u8]) -> Result<Image, ImageError>
     ensures image { IfOk result (λ image. image_of bytes.now ≡ Ok image) }

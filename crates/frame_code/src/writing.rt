@@ -36,15 +36,17 @@ fn number_of(op: Op) -> u8
         Op::Jump(_) => 7,
         Op::Test(_) => 8,
         Op::JumpFalse(_) => 9,
+        Op::Call(_) => 10,
+        Op::Return => 11,
     }
 }
 
-// The operand of an operation, 0 for Halt.
+// The operand of an operation, 0 for Halt and Return.
 fn operand_of(op: Op) -> u16
     ensures { result ≡ spelled.operand_of op }
 {
     match op {
-        Op::Halt => 0,
+        Op::Halt | Op::Return => 0,
         Op::Send(operand)
         | Op::Alt(operand)
         | Op::SetGap(operand)
@@ -54,7 +56,32 @@ fn operand_of(op: Op) -> u16
         | Op::Jump(operand)
         | Op::JumpFalse(operand) => operand,
         Op::Test(test) => u16::from(test),
+        Op::Call(routine) => u16::from(routine),
     }
+}
+
+// Whether the mark BC01 does not know the operation.
+pub fn is_new(op: Op) -> bool
+    ensures { result ≡ spelled.is_new op }
+{
+    matches!(op, Op::Call(_) | Op::Return)
+}
+
+// Whether there is such an operation.
+pub fn has_new(operations: &[Op]) -> bool
+    ensures { result ≡ spelled.has_new operations.now }
+{
+    match operations.split_first() {
+        None => false,
+        Some((op, rest)) => is_new(*op) || has_new(rest),
+    }
+}
+
+// The mark of an image, with new operations and without.
+fn mark(new: bool) -> &'static [u8]
+    ensures { result.now ≡ spelled.mark new }
+{
+    if new { b"BC02" } else { b"BC01" }
 }
 
 fn put_operation(bytes: &mut Vec<u8>, op: Op) -> Result<(), AllocError>
@@ -135,7 +162,7 @@ fn written(alloc: Global, image: &Image) -> Result<Vec<u8>, AllocError>
     let operations = image.operations();
     let messages = image.messages();
     let mut bytes = Vec::new(alloc);
-    bytes.extend_from_slice(b"BC01")?;
+    bytes.extend_from_slice(mark(has_new(operations)))?;
     put_two(&mut bytes, operations.len() as u16)?;
     put_two(&mut bytes, messages.len() as u16)?;
     put_operations(&mut bytes, operations)?;
@@ -143,7 +170,7 @@ fn written(alloc: Global, image: &Image) -> Result<Vec<u8>, AllocError>
     Ok(bytes)
 }
 
-/// The bytes of an image; `read_image` gives the image back.
+/// The bytes of an image, with the mark BC01 where no operation is above 9 and BC02 else; `read_image` gives the image back.
 pub fn write_image(alloc: Global, image: &Image) -> Result<Vec<u8>, AllocError>
     ensures bytes { IfOk result (λ bytes. bytes.items ≡ spelled.image_bytes image.now) }
     ensures read_back { IfOk result (λ bytes. image_of bytes.items ≡ Ok image.now) }

@@ -2,9 +2,10 @@
 use Rattle.std.proofs.Common.{rules, ◌≡◌, ◌≢◌, ℕ, zero, suc, ◌+◌, ◌-◌, ◌*◌, ◌<◌, ◌≤◌, Bool, true, false, cond, List, [], ◌∷◌, ◌++◌, length, drop, Option, Some, None, refl, sym, ap, ap₂, ◌∙◌, subst, ⊎_elim, arith, length-append}
 use Rattle.std.specs.Prelude.{slice_get, nat_le}
 use Rattle.frame_code.specs.declared.Op.{Op}
-use Rattle.frame_code.specs.declared.Op.TheVariants.{Halt, Send, Alt, SetGap, Loop, Again, Leave, Jump, Test, JumpFalse}
+use Rattle.frame_code.specs.declared.Op.TheVariants.{Halt, Send, Alt, SetGap, Loop, Again, Leave, Jump, Test, JumpFalse, Call, Return}
 use Rattle.frame_code.specs.Loadable.{tail, after, open_at}
-use Rattle.frame_load.proofs.Never.{there, IsOpened, opened}
+use Rattle.frame_code.specs.Routines.{owner_at}
+use Rattle.frame_load.proofs.Never.{there, IsOpened, opened, IsReturn, same_routine, next_up, routine_le}
 use Rattle.frame_load.proofs.Left.{inner, turn, rest}
 
 -- the code behind as many closed loops
@@ -13,6 +14,7 @@ behind [] os = os
 behind (x ∷ xs) [] = []
 behind (x ∷ xs) (Loop n ∷ os) = behind ((0, 0) ∷ x ∷ xs) os
 behind (x ∷ xs) (Again i ∷ os) = behind xs os
+behind (x ∷ xs) (Return ∷ os) = []
 behind (x ∷ xs) (_ ∷ os) = behind (x ∷ xs) os
 
 -- only how many loops there are counts
@@ -26,6 +28,7 @@ behind-same os (x ∷ xs) [] e = absurd (omega arith)
 behind-same [] (x ∷ xs) (y ∷ ys) e = refl
 behind-same (Loop n ∷ os) (x ∷ xs) (y ∷ ys) e = behind-same os ((0, 0) ∷ x ∷ xs) ((0, 0) ∷ y ∷ ys) (omega arith)
 behind-same (Again i ∷ os) (x ∷ xs) (y ∷ ys) e = behind-same os xs ys (omega arith)
+behind-same (Return ∷ os) (x ∷ xs) (y ∷ ys) e = refl
 behind-same (_ ∷ os) (x ∷ xs) (y ∷ ys) e = behind-same os (x ∷ xs) (y ∷ ys) e
 
 module _ (cost : Op → ℕ) where
@@ -37,6 +40,8 @@ module _ (cost : Op → ℕ) where
   rest_split (Loop n ∷ os) (x ∷ xs) st =
       omega (arith, rest_split os ((n, turn cost os) ∷ x ∷ xs) st, ap (rest cost st) (behind-same os ((0, 0) ∷ x ∷ xs) ((n, turn cost os) ∷ x ∷ xs) refl))
   rest_split (Again i ∷ os) (x ∷ xs) st = omega (arith, rest_split os xs st)
+  rest_split (Return ∷ os) (x ∷ xs) [] = omega arith
+  rest_split (Return ∷ os) (x ∷ xs) (y ∷ st) = omega arith
   rest_split (_ ∷ os) (x ∷ xs) st = omega (arith, rest_split os (x ∷ xs) st)
 
   -- the outermost of the inner loops costs a turn, and the turns that are left
@@ -46,6 +51,8 @@ module _ (cost : Op → ℕ) where
   inner_last (Loop n ∷ os) (x ∷ xs) c b = omega (arith, inner_last os ((n, turn cost os) ∷ x ∷ xs) c b)
   inner_last (Again i ∷ os) [] c b = omega arith
   inner_last (Again i ∷ os) (x ∷ xs) c b = omega (arith, inner_last os xs c b)
+  inner_last (Return ∷ os) [] c b = omega arith
+  inner_last (Return ∷ os) (x ∷ xs) c b = omega arith
   inner_last (_ ∷ os) [] c b = omega (arith, inner_last os [] c b)
   inner_last (_ ∷ os) (x ∷ xs) c b = omega (arith, inner_last os (x ∷ xs) c b)
 
@@ -85,6 +92,7 @@ module _ (os : List Op) where
   low_after : (p q : ℕ) (o : Option Op) (st : List ℕ) → p < q → length (low p (after o q st)) ≤ length (low p st)
   low_after p q (Some (Loop n)) st h = omega (arith, ap length (low_new p q st h))
   low_after p q (Some (Again i)) st h = low_pop p st
+  low_after p q (Some Return) st h = omega arith
   low_after p q _ st h = omega arith
 
   -- what is open before p only becomes less
@@ -129,31 +137,43 @@ module _ (os : List Op) where
     closes p back x xs e a = (omega (arith, a.0, ap (rest cost (x ∷ (xs ++ st))) e), λ y. ap (behind (x ∷ (xs ++ y ∷ []))) e ∙ a.1 y)
 
     -- from a place to a later one in the same loop
-    pub along : (d p : ℕ) (extra : List ℕ) (xs : List (ℕ × ℕ)) → p + d ≡ i → open_at os p ≡ extra ++ level → length xs ≡ length extra → Along p xs
-    along zero p [] [] e here long = let same : p ≡ i = omega (arith, e) in (omega (arith, ap (λ q. rest cost st (drop q os)) same), λ y. ap (λ q. behind (y ∷ []) (drop q os)) same)
-    along zero p (x ∷ extra) xs e here long =
+    pub along : (d p : ℕ) (extra : List ℕ) (xs : List (ℕ × ℕ)) → p + d ≡ i → owner_at os p ≡ owner_at os i → open_at os p ≡ extra ++ level → length xs ≡ length extra → Along p xs
+    along zero p [] [] e home here long = let same : p ≡ i = omega (arith, e) in (omega (arith, ap (λ q. rest cost st (drop q os)) same), λ y. ap (λ q. behind (y ∷ []) (drop q os)) same)
+    along zero p (x ∷ extra) xs e home here long =
         let same : p ≡ i = omega (arith, e) in
         absurd (omega (arith, ap length here, ap length there_i, ap (λ q. length (open_at os q)) same, length-append extra level))
-    along zero p [] (y ∷ xs) e here long = absurd (omega (arith, long))
-    along (suc d) p extra xs e here long = let x = there os p (omega (arith, e, in_i)) in by_op (λ extra' xs' h l. along d (suc p) extra' xs' (omega (arith, e)) h l) x.0 x.1
+    along zero p [] (y ∷ xs) e home here long = absurd (omega (arith, long))
+    along (suc d) p extra xs e home here long = let x = there os p (omega (arith, e, in_i)) in by_op (λ extra' xs' k h l. along d (suc p) extra' xs' (omega (arith, e)) k h l) x.0 x.1
       where
         Below : Type 0
-        Below = (extra' : List ℕ) (xs' : List (ℕ × ℕ)) → open_at os (suc p) ≡ extra' ++ level → length xs' ≡ length extra' → Along (suc p) xs'
+        Below = (extra' : List ℕ) (xs' : List (ℕ × ℕ)) → owner_at os (suc p) ≡ owner_at os i → open_at os (suc p) ≡ extra' ++ level → length xs' ≡ length extra' → Along (suc p) xs'
 
         is_after : (o : Op) → slice_get os p ≡ Some o → open_at os (suc p) ≡ after (Some o) p (extra ++ level)
         is_after o at = ap (λ v. after v p (open_at os p)) at ∙ ap (after (Some o) p) here
+
+        stays : (o : Op) → slice_get os p ≡ Some o → (IsReturn o → ⊥) → owner_at os (suc p) ≡ owner_at os i
+        stays o at h = same_routine os p o at h ∙ home
 
         never : (back : ℕ) → slice_get os p ≡ Some (Again back) → (lv : List ℕ) → level ≡ lv → open_at os p ≡ lv → ⊥
         never back at [] el eo = let none : length (open_at os p) ≡ 0 = ap length eo in omega (arith, paired p back at, none)
         never back at (s ∷ ss) el eo = let f : suc p + d ≡ i = omega (arith, e) in closed_for_good p d back s ss at eo (ap (open_at os) f ∙ there_i ∙ el)
 
-        close : (back : ℕ) → slice_get os p ≡ Some (Again back) → ((extra' : List ℕ) (xs' : List (ℕ × ℕ)) → open_at os (suc p) ≡ extra' ++ level → length xs' ≡ length extra' → Along (suc p) xs')
+        close : (back : ℕ) → slice_get os p ≡ Some (Again back) → ((extra' : List ℕ) (xs' : List (ℕ × ℕ)) → owner_at os (suc p) ≡ owner_at os i → open_at os (suc p) ≡ extra' ++ level → length xs' ≡ length extra' → Along (suc p) xs')
             → (ex : List ℕ) (ys : List (ℕ × ℕ)) → open_at os p ≡ ex ++ level → length ys ≡ length ex → Along p ys
         close back at below [] ys h l = absurd (never back at level refl h)
         close back at below (x ∷ ex) [] h l = absurd (omega (arith, l))
-        close back at below (x ∷ ex) (y ∷ ys) h l = closes p back y ys (drop_at os p (Again back) at) (below ex ys (ap (λ v. after v p (open_at os p)) at ∙ ap tail h) (omega (arith, l)))
+        close back at below (x ∷ ex) (y ∷ ys) h l = closes p back y ys (drop_at os p (Again back) at) (below ex ys (stays (Again back) at (λ z. z)) (ap (λ v. after v p (open_at os p)) at ∙ ap tail h) (omega (arith, l)))
 
-        by_op : ((extra' : List ℕ) (xs' : List (ℕ × ℕ)) → open_at os (suc p) ≡ extra' ++ level → length xs' ≡ length extra' → Along (suc p) xs') → (o : Op) → slice_get os p ≡ Some o → Along p xs
-        by_op below (Loop n) at = opens p n xs (drop_at os p (Loop n) at) (below (p ∷ extra) ((n, turn cost (drop (suc p) os)) ∷ xs) (is_after (Loop n) at) (omega (arith, long)))
+        by_op : ((extra' : List ℕ) (xs' : List (ℕ × ℕ)) → owner_at os (suc p) ≡ owner_at os i → open_at os (suc p) ≡ extra' ++ level → length xs' ≡ length extra' → Along (suc p) xs') → (o : Op) → slice_get os p ≡ Some o → Along p xs
+        by_op below (Loop n) at = opens p n xs (drop_at os p (Loop n) at) (below (p ∷ extra) ((n, turn cost (drop (suc p) os)) ∷ xs) (stays (Loop n) at (λ z. z)) (is_after (Loop n) at) (omega (arith, long)))
         by_op below (Again back) at = close back at below extra xs here long
-        by_op below o at = plain p xs o (drop_at os p o at) (λ zs. refl) (λ z zs. refl) (below extra xs (is_after o at) long)
+        by_op below Return at = absurd (let le = routine_le os (suc p) i (omega (arith, e)) in omega (arith, le, home, next_up os p at))
+        by_op below Halt at = plain p xs Halt (drop_at os p Halt at) (λ zs. refl) (λ z zs. refl) (below extra xs (stays Halt at (λ z. z)) (is_after Halt at) long)
+        by_op below (Send m) at = plain p xs (Send m) (drop_at os p (Send m) at) (λ zs. refl) (λ z zs. refl) (below extra xs (stays (Send m) at (λ z. z)) (is_after (Send m) at) long)
+        by_op below (Alt m) at = plain p xs (Alt m) (drop_at os p (Alt m) at) (λ zs. refl) (λ z zs. refl) (below extra xs (stays (Alt m) at (λ z. z)) (is_after (Alt m) at) long)
+        by_op below (SetGap t) at = plain p xs (SetGap t) (drop_at os p (SetGap t) at) (λ zs. refl) (λ z zs. refl) (below extra xs (stays (SetGap t) at (λ z. z)) (is_after (SetGap t) at) long)
+        by_op below (Leave j) at = plain p xs (Leave j) (drop_at os p (Leave j) at) (λ zs. refl) (λ z zs. refl) (below extra xs (stays (Leave j) at (λ z. z)) (is_after (Leave j) at) long)
+        by_op below (Jump j) at = plain p xs (Jump j) (drop_at os p (Jump j) at) (λ zs. refl) (λ z zs. refl) (below extra xs (stays (Jump j) at (λ z. z)) (is_after (Jump j) at) long)
+        by_op below (Test k) at = plain p xs (Test k) (drop_at os p (Test k) at) (λ zs. refl) (λ z zs. refl) (below extra xs (stays (Test k) at (λ z. z)) (is_after (Test k) at) long)
+        by_op below (JumpFalse j) at = plain p xs (JumpFalse j) (drop_at os p (JumpFalse j) at) (λ zs. refl) (λ z zs. refl) (below extra xs (stays (JumpFalse j) at (λ z. z)) (is_after (JumpFalse j) at) long)
+        by_op below (Call r) at = plain p xs (Call r) (drop_at os p (Call r) at) (λ zs. refl) (λ z zs. refl) (below extra xs (stays (Call r) at (λ z. z)) (is_after (Call r) at) long)

@@ -1,16 +1,19 @@
 -- What is left at the start is at most the sum of the weights.
-use Rattle.std.proofs.Common.{rules, ◌≡◌, ◌≢◌, ℕ, zero, suc, ◌+◌, ◌-◌, ◌*◌, ◌<◌, ◌≤◌, List, [], ◌∷◌, ◌++◌, length, drop, Option, Some, None, refl, sym, ap, ap₂, ◌∙◌, subst, ⊎_elim, arith, length-append}
+use Rattle.std.proofs.Common.{rules, ◌≡◌, ◌≢◌, ℕ, zero, suc, ◌+◌, ◌-◌, ◌*◌, ◌<◌, ◌≤◌, List, [], ◌∷◌, ◌++◌, length, get_or, drop, Option, Some, None, refl, sym, ap, ap₂, ◌∙◌, subst, ⊎_elim, arith, length-append}
 use Rattle.std.proofs.Math.Nat.{mul-add, add-mul, mul_comm, mul_assoc, mul-zero, mul-le-mul_left}
 use Rattle.std.proofs.lemmas.List.{drop_all}
+use Rattle.std.proofs.Math.Seq.{get_or-append_seam}
+use Rattle.std.proofs.Math.ListN.{get_or-append}
 use Rattle.std.specs.Prelude.{slice_get}
 use Rattle.frame_code.specs.declared.Op.{Op}
-use Rattle.frame_code.specs.declared.Op.TheVariants.{Halt, Send, Alt, SetGap, Loop, Again, Leave, Jump, Test, JumpFalse}
+use Rattle.frame_code.specs.declared.Op.TheVariants.{Halt, Send, Alt, SetGap, Loop, Again, Leave, Jump, Test, JumpFalse, Call, Return}
 use Rattle.frame_code.specs.Table.{Code}
+use Rattle.frame_code.specs.Routines.{passed, owner_at}
 use Rattle.frame_code.specs.Ranges.{AreInRange}
-use Rattle.frame_code.specs.Loadable.{tail, after, open_at, IsPaired, IsLoadable}
-use Rattle.frame_load.specs.Budget.{turns_of, weight_in, weight, cost_of, total_to, total}
+use Rattle.frame_code.specs.Loadable.{tail, after, open_at, Each, CallsEarlier, IsLoadable}
+use Rattle.frame_load.specs.Budget.{turns_of, weight_in, weight, Sums, called, sums_after, sums_at}
 use Rattle.frame_load.proofs.Left.{inner, turn, rest}
-use Rattle.frame_load.proofs.Never.{there, within, opened}
+use Rattle.frame_load.proofs.Never.{there, within, opened, IsReturn, same_routine, next_up, routine_le}
 use Rattle.frame_load.proofs.Steps.{drop_at}
 use Rattle.frame_load.proofs.Marks.{count_of}
 
@@ -29,6 +32,7 @@ module _ (cost : Op → ℕ) where
   summed (w ∷ ws) (Loop n ∷ os) = w * cost (Loop n) + summed (n * w ∷ w ∷ ws) os
   summed (w ∷ []) (Again i ∷ os) = w * cost (Again i) + summed (w ∷ []) os
   summed (w ∷ v ∷ ws) (Again i ∷ os) = w * cost (Again i) + summed (v ∷ ws) os
+  summed (w ∷ ws) (Return ∷ os) = w * cost Return
   summed (w ∷ ws) (o ∷ os) = w * cost o + summed (w ∷ ws) os
 
   -- each of the first is one of the second and c times one of the third
@@ -62,6 +66,7 @@ module _ (cost : Op → ℕ) where
   linear c (Again i ∷ os) (w ∷ w' ∷ ws) (u ∷ []) (v ∷ v' ∷ vs) m = absurd m.1
   linear c (Again i ∷ os) (w ∷ w' ∷ ws) (u ∷ u' ∷ us) (v ∷ []) m = absurd m.1
   linear c (Again i ∷ os) (w ∷ w' ∷ ws) (u ∷ u' ∷ us) (v ∷ v' ∷ vs) m = join c _ _ _ _ _ _ (paid_mixed (cost (Again i)) c w u v m.0) (linear c os (w' ∷ ws) (u' ∷ us) (v' ∷ vs) m.1)
+  linear c (Return ∷ os) (w ∷ ws) (u ∷ us) (v ∷ vs) m = paid_mixed (cost Return) c w u v m.0
   linear c (o ∷ os) (w ∷ ws) (u ∷ us) (v ∷ vs) m = join c _ _ _ _ _ _ (paid_mixed (cost o) c w u v m.0) (linear c os (w ∷ ws) (u ∷ us) (v ∷ vs) m)
 
   zeros : List ℕ → List ℕ
@@ -103,6 +108,7 @@ module _ (cost : Op → ℕ) where
   inner_summed (Again i ∷ os) (x ∷ []) (w ∷ []) r h = absurd h.1
   inner_summed (Again i ∷ os) (x ∷ y ∷ xs) (w ∷ []) r h = absurd h.1
   inner_summed (Again i ∷ os) (x ∷ xs) (w ∷ v ∷ ws) r h = omega (arith, inner_summed os xs (v ∷ ws) r.1 h.1, ap (λ v. v * cost (Again i)) h.0)
+  inner_summed (Return ∷ os) (x ∷ xs) (w ∷ ws) r h = omega (arith, ap (λ v. v * cost Return) h.0)
   inner_summed (o ∷ os) (x ∷ xs) (w ∷ ws) r h = omega (arith, inner_summed os (x ∷ xs) (w ∷ ws) r.1 h, ap (λ v. v * cost o) h.0)
 
   -- weight 1 everywhere
@@ -131,38 +137,148 @@ module _ (cost : Op → ℕ) where
   rest_summed (Again i ∷ os) (x ∷ []) (w ∷ []) r h = absurd h.1
   rest_summed (Again i ∷ os) (x ∷ y ∷ xs) (w ∷ []) r h = absurd h.1
   rest_summed (Again i ∷ os) (x ∷ xs) (w ∷ v ∷ ws) r h = omega (arith, rest_summed os xs (v ∷ ws) r.1 h.1, ap (λ v. v * cost (Again i)) h.0)
+  rest_summed (Return ∷ os) xs (w ∷ ws) r h = omega (arith, ap (λ v. v * cost Return) (head_one xs w ws h))
   rest_summed (o ∷ os) xs (w ∷ ws) r h = omega (arith, rest_summed os xs (w ∷ ws) r.1 h, ap (λ v. v * cost o) (head_one xs w ws h))
 
   module _ (os : List Op) where
-    abbrev weights_of : List ℕ → List ℕ
+    abbrev pub weights_of : List ℕ → List ℕ
     weights_of [] = 1 ∷ []
     weights_of (s ∷ st) = weight_in os (s ∷ st) ∷ weights_of st
 
-    summed_at : (o : Op) (p : ℕ) (st : List ℕ) (ds : List Op) → slice_get os p ≡ Some o → summed (weights_of st) (o ∷ ds) ≡ weight_in os st * cost o + summed (weights_of (after (Some o) p st)) ds
-    summed_at (Loop n) p [] ds e = ap (λ v. 1 * cost (Loop n) + summed (turns_of v * 1 ∷ 1 ∷ []) ds) (sym e)
-    summed_at (Loop n) p (s ∷ st) ds e = ap (λ v. weight_in os (s ∷ st) * cost (Loop n) + summed (turns_of v * weight_in os (s ∷ st) ∷ weight_in os (s ∷ st) ∷ weights_of st) ds) (sym e)
-    summed_at (Again i) p [] ds e = refl
-    summed_at (Again i) p (s ∷ []) ds e = refl
-    summed_at (Again i) p (s ∷ t ∷ st) ds e = refl
-    summed_at _ p [] ds e = refl
-    summed_at _ p (s ∷ st) ds e = refl
+    summed_at : (o : Op) (p : ℕ) (st : List ℕ) (ds : List Op) → slice_get os p ≡ Some o → (IsReturn o → ⊥) → summed (weights_of st) (o ∷ ds) ≡ weight_in os st * cost o + summed (weights_of (after (Some o) p st)) ds
+    summed_at (Loop n) p [] ds e g = ap (λ v. 1 * cost (Loop n) + summed (turns_of v * 1 ∷ 1 ∷ []) ds) (sym e)
+    summed_at (Loop n) p (s ∷ st) ds e g = ap (λ v. weight_in os (s ∷ st) * cost (Loop n) + summed (turns_of v * weight_in os (s ∷ st) ∷ weight_in os (s ∷ st) ∷ weights_of st) ds) (sym e)
+    summed_at (Again i) p [] ds e g = refl
+    summed_at (Again i) p (s ∷ []) ds e g = refl
+    summed_at (Again i) p (s ∷ t ∷ st) ds e g = refl
+    summed_at Return p st ds e g = absurd (g tt)
+    summed_at _ p [] ds e g = refl
+    summed_at _ p (s ∷ st) ds e g = refl
 
-    total_from : (d p : ℕ) → p + d ≡ length os → total_to cost os p + summed (weights_of (open_at os p)) (drop p os) ≡ total cost os
-    total_from zero p e =
-        let all : p ≡ length os = omega (arith, e) in
-        let none : drop p os ≡ [] = drop_all p os (omega (arith, e)) in
-        omega (arith, ap (total_to cost os) all, ap (summed (weights_of (open_at os p))) none)
-    total_from (suc d) p e =
-        let x = there os p (omega (arith, e)) in
-        let next : open_at os (suc p) ≡ after (Some x.0) p (open_at os p) = ap (λ v. after v p (open_at os p)) x.1 in
-        omega (
-          arith,
-          total_from d (suc p) (omega (arith, e)),
-          ap (summed (weights_of (open_at os p))) (drop_at os p x.0 x.1),
-          summed_at x.0 p (open_at os p) (drop (suc p) os) x.1,
-          ap (λ v. weight os p * cost_of cost v) x.1,
-          ap (λ st. summed (weights_of st) (drop (suc p) os)) next,
-        )
+    summed_end : (st : List ℕ) (ds : List Op) → summed (weights_of st) (Return ∷ ds) ≡ weight_in os st * cost Return
+    summed_end [] ds = refl
+    summed_end (s ∷ st) ds = refl
 
-  pub rest_total : (code : Code) → IsLoadable code → rest cost [] code.operations ≤ total cost code.operations
-  rest_total code ok = omega (arith, rest_summed code.operations [] (1 ∷ []) ok.image.operands refl, total_from code.operations (length code.operations) 0 (omega arith))
+-- the sums of all routines, that of the main part last
+abbrev pub all_sums : (Op → ℕ) → List Op → List ℕ
+all_sums cost os = (sums_at cost os (length os)).ended ++ (sums_at cost os (length os)).now ∷ []
+
+-- what an operation costs together with what it calls
+abbrev pub price : (Op → ℕ) → List Op → Op → ℕ
+price cost os o = cost o + called o (all_sums cost os)
+
+module _ (cost : Op → ℕ) (os : List Op) where
+  at_op : (p : ℕ) (o : Op) → slice_get os p ≡ Some o → sums_at cost os (suc p) ≡ sums_after cost (Some o) (weight os p) (sums_at cost os p)
+  at_op p o e = ap (λ v. sums_after cost v (weight os p) (sums_at cost os p)) e
+
+  long_step : (v : Option Op) (w k : ℕ) (s : Sums) → length s.ended ≡ k → length (sums_after cost v w s).ended ≡ passed v k
+  long_step None w k s e = e
+  long_step (Some Return) w k s e = omega (arith, e, length-append s.ended ((s.now + w * cost Return) ∷ []))
+  long_step (Some _) w k s e = e
+
+  pub sums_long : (p : ℕ) → length (sums_at cost os p).ended ≡ owner_at os p
+  sums_long zero = refl
+  sums_long (suc p) = long_step (slice_get os p) (weight os p) (owner_at os p) (sums_at cost os p) (sums_long p)
+
+  kept_step : (v : Option Op) (w r : ℕ) (s : Sums) → r < length s.ended → get_or (sums_after cost v w s).ended r 0 ≡ get_or s.ended r 0
+  kept_step None w r s h = refl
+  kept_step (Some Return) w r s h = get_or-append s.ended ((s.now + w * cost Return) ∷ []) 0 r h
+  kept_step (Some _) w r s h = refl
+
+  kept : (d p r : ℕ) → p + d ≡ length os → r < owner_at os p → get_or (all_sums cost os) r 0 ≡ get_or (sums_at cost os p).ended r 0
+  kept zero p r e h =
+      let all : length os ≡ p = omega (arith, e) in
+      get_or-append (sums_at cost os (length os)).ended ((sums_at cost os (length os)).now ∷ []) 0 r (omega (arith, h, sums_long (length os), ap (owner_at os) all)) ∙ ap (λ q. get_or (sums_at cost os q).ended r 0) all
+  kept (suc d) p r e h =
+      kept d (suc p) r (omega (arith, e)) (omega (arith, h, routine_le os p (suc p) (omega arith)))
+      ∙ kept_step (slice_get os p) (weight os p) r (sums_at cost os p) (omega (arith, h, sums_long p))
+
+  -- what the routine of a Call costs is known at the Call
+  called_is : (p : ℕ) (o : Op) → p ≤ length os → CallsEarlier (owner_at os p) o → called o (all_sums cost os) ≡ called o (sums_at cost os p).ended
+  called_is p (Call r) le h = kept (length os - p) p r (omega (arith, le)) h
+  called_is p _ le h = refl
+
+  abbrev Sums_up : ℕ → Type 0
+  Sums_up p = (sums_at cost os p).now + summed (price cost os) (weights_of (price cost os) os (open_at os p)) (drop p os) ≡ get_or (all_sums cost os) (owner_at os p) 0
+
+  -- an operation that ends no routine
+  goes_up : (p : ℕ) (o : Op) → slice_get os p ≡ Some o → (IsReturn o → ⊥) → suc p ≤ length os → CallsEarlier (owner_at os p) o
+      → (sums_after cost (Some o) (weight os p) (sums_at cost os p)).now ≡ (sums_at cost os p).now + weight os p * (cost o + called o (sums_at cost os p).ended) → Sums_up (suc p) → Sums_up p
+  goes_up p o e g le h s more =
+      let next : open_at os (suc p) ≡ after (Some o) p (open_at os p) = ap (λ v. after v p (open_at os p)) e in
+      omega (
+        arith,
+        more,
+        s,
+        ap (λ (z : Sums). z.now) (at_op p o e),
+        ap (summed (price cost os) (weights_of (price cost os) os (open_at os p))) (drop_at os p o e),
+        summed_at (price cost os) os o p (open_at os p) (drop (suc p) os) e g,
+        ap (λ v. weight os p * (cost o + v)) (called_is p o (omega (arith, le)) h),
+        ap (λ st. summed (price cost os) (weights_of (price cost os) os st) (drop (suc p) os)) next,
+        ap (λ k. get_or (all_sums cost os) k 0) (same_routine os p o e g),
+      )
+
+  ends_here : (p : ℕ) → slice_get os p ≡ Some Return → suc p ≤ length os → Sums_up p
+  ends_here p e le =
+      let s = sums_at cost os p in
+      let k = owner_at os p in
+      let x = s.now + weight os p * cost Return in
+      let here : get_or (all_sums cost os) k 0 ≡ get_or (s.ended ++ x ∷ []) k 0 = kept (length os - suc p) (suc p) k (omega (arith, le)) (omega (arith, next_up os p e)) ∙ ap (λ (z : Sums). get_or z.ended k 0) (at_op p Return e) in
+      let seam : get_or (s.ended ++ x ∷ []) k 0 ≡ x = ap (λ j. get_or (s.ended ++ x ∷ []) j 0) (sym (sums_long p)) ∙ get_or-append_seam s.ended x [] 0 in
+      let alone : price cost os Return ≡ cost Return = omega arith in
+      omega (
+        arith,
+        here,
+        seam,
+        ap (summed (price cost os) (weights_of (price cost os) os (open_at os p))) (drop_at os p Return e),
+        summed_end (price cost os) os (open_at os p) (drop (suc p) os),
+        ap (λ v. weight os p * v) alone,
+      )
+
+  up_by : (p : ℕ) (o : Op) → slice_get os p ≡ Some o → suc p ≤ length os → CallsEarlier (owner_at os p) o → Sums_up (suc p) → Sums_up p
+  up_by p Return e le h more = ends_here p e le
+  up_by p Halt e le h more = goes_up p Halt e (λ z. z) le h refl more
+  up_by p (Send m) e le h more = goes_up p (Send m) e (λ z. z) le h refl more
+  up_by p (Alt m) e le h more = goes_up p (Alt m) e (λ z. z) le h refl more
+  up_by p (SetGap t) e le h more = goes_up p (SetGap t) e (λ z. z) le h refl more
+  up_by p (Loop n) e le h more = goes_up p (Loop n) e (λ z. z) le h refl more
+  up_by p (Again i) e le h more = goes_up p (Again i) e (λ z. z) le h refl more
+  up_by p (Leave i) e le h more = goes_up p (Leave i) e (λ z. z) le h refl more
+  up_by p (Jump i) e le h more = goes_up p (Jump i) e (λ z. z) le h refl more
+  up_by p (Test k) e le h more = goes_up p (Test k) e (λ z. z) le h refl more
+  up_by p (JumpFalse i) e le h more = goes_up p (JumpFalse i) e (λ z. z) le h refl more
+  up_by p (Call r) e le h more = goes_up p (Call r) e (λ z. z) le h refl more
+
+  sums_up : (d p : ℕ) → p + d ≡ length os → Each os (λ p. CallsEarlier (owner_at os p)) → Sums_up p
+  sums_up zero p e calls =
+      let all : p ≡ length os = omega (arith, e) in
+      let none : drop p os ≡ [] = drop_all p os (omega (arith, e)) in
+      let seam = get_or-append_seam (sums_at cost os (length os)).ended (sums_at cost os (length os)).now [] 0 in
+      omega (
+        arith,
+        seam,
+        ap (λ j. get_or (all_sums cost os) j 0) (sums_long (length os)),
+        ap (λ q. get_or (all_sums cost os) (owner_at os q) 0) all,
+        ap (λ q. (sums_at cost os q).now) all,
+        ap (summed (price cost os) (weights_of (price cost os) os (open_at os p))) none,
+      )
+  sums_up (suc d) p e calls =
+      let x = there os p (omega (arith, e)) in
+      up_by p x.0 x.1 (omega (arith, e)) (calls p x.0 x.1) (sums_up d (suc p) (omega (arith, e)) calls)
+
+in_range_behind : (os : List Op) (p : ℕ) → AreInRange os → AreInRange (drop p os)
+in_range_behind os zero h = h
+in_range_behind [] (suc p) h = tt
+in_range_behind (o ∷ os) (suc p) h = in_range_behind os p h.1
+
+-- a routine costs no more from its beginning than its sum says
+pub rest_total : (cost : Op → ℕ) (code : Code) → IsLoadable code → (b : ℕ) → b ≤ length code.operations → open_at code.operations b ≡ []
+    → rest (price cost code.operations) [] (drop b code.operations) ≤ get_or (all_sums cost code.operations) (owner_at code.operations b) 0
+rest_total cost code ok b le none =
+    let os = code.operations in
+    omega (
+      arith,
+      rest_summed (price cost os) (drop b os) [] (1 ∷ []) (in_range_behind os b ok.image.operands) refl,
+      sums_up cost os (length os - b) b (omega (arith, le)) ok.routines_ok.earlier,
+      ap (λ st. summed (price cost os) (weights_of (price cost os) os st) (drop b os)) none,
+    )

@@ -1,8 +1,8 @@
--- How many steps a code takes at most, and how many messages it sends (own choice): the sum of what its operations cost,
--- each as often as it can come.
-use Rattle.std.specs.Prelude.{ℕ, zero, suc, ◌+◌, ◌*◌, List, [], ◌∷◌, length, Option, Some, None, slice_get}
+-- How many steps a code takes at most, and how many messages it sends (own choice): the sum of what the operations of its main
+-- part cost, each as often as it can come, and a Call with what its routine costs.
+use Rattle.std.specs.Prelude.{ℕ, zero, suc, ◌+◌, ◌*◌, Bool, true, false, List, [], ◌∷◌, ◌++◌, length, get_or, Option, Some, None, slice_get}
 use Rattle.frame_code.specs.declared.Op.{Op}
-use Rattle.frame_code.specs.declared.Op.TheVariants.{Halt, Send, Alt, SetGap, Loop, Again, Leave, Jump, Test, JumpFalse}
+use Rattle.frame_code.specs.declared.Op.TheVariants.{Halt, Send, Alt, SetGap, Loop, Again, Leave, Jump, Test, JumpFalse, Call, Return}
 use Rattle.frame_code.specs.Loadable.{open_at}
 
 -- each operation is a step
@@ -15,6 +15,11 @@ one_sent (Send m) = 1
 one_sent (Alt m) = 1
 one_sent _ = 0
 
+-- messages, or steps
+abbrev pub cost_by : Bool → Op → ℕ
+cost_by true = one_sent
+cost_by false = one_each
+
 -- how often a loop goes round
 abbrev pub turns_of : Option Op → ℕ
 turns_of (Some (Loop n)) = n
@@ -25,28 +30,44 @@ abbrev pub weight_in : List Op → List ℕ → ℕ
 weight_in os [] = 1
 weight_in os (s ∷ st) = turns_of (slice_get os s) * weight_in os st
 
--- the weight of a place: the product of the counts of the loops that it stands in
+-- the weight of a place in its routine: the product of the counts of the loops that it stands in
 abbrev pub weight : List Op → ℕ → ℕ
 weight os p = weight_in os (open_at os p)
+
+-- what the operations of a routine cost before a place, and what each routine costs that ended before it, its Calls counted with
+-- what they call
+pub record Sums : Type 0 where
+  pub now : ℕ
+  pub ended : List ℕ
+
+-- what the routine of a Call costs
+abbrev pub called : Op → List ℕ → ℕ
+called (Call r) costs = get_or costs r 0
+called _ costs = 0
 
 module _ (cost : Op → ℕ) where
   abbrev pub cost_of : Option Op → ℕ
   cost_of None = 0
   cost_of (Some o) = cost o
 
-  -- the sum over the operations before a place
-  abbrev pub total_to : List Op → ℕ → ℕ
-  total_to os zero = 0
-  total_to os (suc p) = total_to os p + weight os p * cost_of (slice_get os p)
+  -- an operation counts as often as its weight says, a Call together with its routine
+  abbrev pub sums_after : Option Op → ℕ → Sums → Sums
+  sums_after None w s = s
+  sums_after (Some Return) w s = record { now = 0; ended = s.ended ++ (s.now + w * cost Return) ∷ [] }
+  sums_after (Some o) w s = record { now = s.now + w * (cost o + called o s.ended); ended = s.ended }
 
-  -- the sum over all operations
+  abbrev pub sums_at : List Op → ℕ → Sums
+  sums_at os zero = record { now = 0; ended = [] }
+  sums_at os (suc p) = sums_after (slice_get os p) (weight os p) (sums_at os p)
+
+  -- what the main part costs
   abbrev pub total : List Op → ℕ
-  total os = total_to os (length os)
+  total os = (sums_at os (length os)).now
 
--- the sum of all weights
+-- how many steps a run takes at most
 abbrev pub budget : List Op → ℕ
 budget os = total one_each os
 
--- the sum of the weights of what sends
+-- how many messages it sends at most
 abbrev pub worst_messages : List Op → ℕ
 worst_messages os = total one_sent os

@@ -5,7 +5,7 @@ use Rattle.frame_code.specs.Table.{Code, Registers, Running, goes_on, halted, st
 
 -- a run that starts at this point comes here
 abbrev pub Reaches : {State Outcome : Type 0} → World State Outcome → Code → Point State Outcome → Running State Outcome → Type 0
-Reaches w code from here = (n : ℕ) × (run w n code start from ≡ goes_on here)
+Reaches w code from here = (n : ℕ) × (run w n code (start code) from ≡ goes_on here)
 
 -- from these registers the code comes to a Halt in at most n steps
 pub record HaltsWithin {State Outcome : Type 0} (w : World State Outcome) (code : Code) (n : ℕ) (r : Registers) (p : Point State Outcome) : Type 0 where

@@ -1,8 +1,9 @@
 //! The rules of the loader that need no sums.
 ghost use Rattle.std.specs.Prelude.{◌≡◌, ◌≤◌, ◌<◌, ◌↔◌, ℕ, length, get_or, slice_get, Some, IsTrue};
-ghost use Rattle.frame_code.specs.Loadable.{open_at, EndsInHalt, LeavesTo, JumpsTo, TurnsTo, GoesWell, HasMessage, Each, IsNested};
+ghost use Rattle.frame_code.specs.Loadable.{open_at, EndsInHalt, LeavesTo, JumpsTo, TurnsTo, GoesWell, HasMessage, Each};
+ghost use Rattle.frame_code.specs.Routines.{owner_at};
 ghost use Rattle.frame_code.specs.declared.Op.{Op};
-ghost use Rattle.frame_load.specs.Marks.{innermost, depth_after};
+ghost use Rattle.frame_load.specs.Marks.{innermost};
 
 use frame_code::Op;
 
@@ -11,32 +12,6 @@ pub fn ends_in_halt(operations: &[Op]) -> bool
     ensures { IsTrue result ↔ EndsInHalt operations.now }
 {
     matches!(operations, [.., Op::Halt])
-}
-
-// How many loops are open behind an operation.
-fn next_depth(op: Op, depth: usize) -> Option<usize>
-    ensures { result ≡ depth_after op depth }
-{
-    match op {
-        Op::Loop(_) => { if depth < 17 { Some(depth + 1) } else { None } }
-        Op::Again(_) => { if 0 < depth { Some(depth - 1) } else { None } }
-        Op::Leave(_) => { if 0 < depth { Some(depth) } else { None } }
-        _ => Some(depth),
-    }
-}
-
-// Whether Loop and Again pair as brackets.
-pub fn is_nested(operations: &[Op]) -> bool
-    ensures { IsTrue result ↔ IsNested operations.now }
-{
-    let mut depth = 0;
-    for op in operations {
-        let Some(next) = next_depth(*op, depth) else {
-            return false;
-        };
-        depth = next;
-    }
-    depth == 0
 }
 
 // For each place its innermost loop, by the place of its Loop plus one; 0 outside all.
@@ -82,10 +57,17 @@ fn leaves_well(operations: &[Op], loops: &[u16; 4096], place: usize, target: usi
 }
 
 // Whether a jump from this place may go to the target.
-fn jumps_well(operations: &[Op], loops: &[u16; 4096], place: usize, target: usize) -> bool
+fn jumps_well(
+    operations: &[Op],
+    loops: &[u16; 4096],
+    routines: &[u8; 4096],
+    place: usize,
+    target: usize,
+) -> bool
     requires size { length operations.now ≤ 4096 }
     requires place { place < length operations.now }
     requires marked { (p : ℕ) → p < length operations.now → get_or loops.now p 0 ≡ innermost (open_at operations.now p) }
+    requires numbered { (p : ℕ) → p < length operations.now → get_or routines.now p 0 ≡ owner_at operations.now p }
     ensures { IsTrue result ↔ JumpsTo operations.now place target }
 {
     if target <= place {
@@ -94,7 +76,7 @@ fn jumps_well(operations: &[Op], loops: &[u16; 4096], place: usize, target: usiz
     if operations.len() <= target {
         return false;
     }
-    loops[target] == loops[place]
+    loops[target] == loops[place] && routines[target] == routines[place]
 }
 
 // Whether an Again at this place may go to the target.
@@ -108,29 +90,31 @@ fn turns_well(operations: &[Op], loops: &[u16; 4096], place: usize, target: u16)
 }
 
 // Whether the operation at this place goes where it may.
-fn goes_well(operations: &[Op], loops: &[u16; 4096], place: usize) -> bool
+fn goes_well(operations: &[Op], loops: &[u16; 4096], routines: &[u8; 4096], place: usize) -> bool
     requires size { length operations.now ≤ 4096 }
     requires place { place < length operations.now }
     requires marked { (p : ℕ) → p < length operations.now → get_or loops.now p 0 ≡ innermost (open_at operations.now p) }
+    requires numbered { (p : ℕ) → p < length operations.now → get_or routines.now p 0 ≡ owner_at operations.now p }
     ensures { (o : Op) → slice_get operations.now place ≡ Some o → IsTrue result ↔ GoesWell operations.now place o }
 {
     match operations[place] {
         Op::Again(i) => turns_well(operations, loops, place, i),
         Op::Leave(i) => leaves_well(operations, loops, place, i as usize),
-        Op::Jump(i) => jumps_well(operations, loops, place, i as usize),
-        Op::JumpFalse(i) => jumps_well(operations, loops, place, i as usize),
+        Op::Jump(i) => jumps_well(operations, loops, routines, place, i as usize),
+        Op::JumpFalse(i) => jumps_well(operations, loops, routines, place, i as usize),
         _ => true,
     }
 }
 
 // Whether all operations go where they may.
-pub fn all_go_well(operations: &[Op], loops: &[u16; 4096]) -> bool
+pub fn all_go_well(operations: &[Op], loops: &[u16; 4096], routines: &[u8; 4096]) -> bool
     requires size { length operations.now ≤ 4096 }
     requires marked { (p : ℕ) → p < length operations.now → get_or loops.now p 0 ≡ innermost (open_at operations.now p) }
+    requires numbered { (p : ℕ) → p < length operations.now → get_or routines.now p 0 ≡ owner_at operations.now p }
     ensures { IsTrue result ↔ Each operations.now (GoesWell operations.now) }
 {
     for i in 0..operations.len() {
-        if !goes_well(operations, loops, i) {
+        if !goes_well(operations, loops, routines, i) {
             return false;
         }
     }

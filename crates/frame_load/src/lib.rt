@@ -2,10 +2,11 @@
 //! sends. Its tests are in `frame_tests`.
 #![tactic(auto)]
 
-ghost use Rattle.std.specs.Prelude.{◌+◌, ◌≡◌, ◌≢◌, ◌≤◌, ◌<◌, ◌↔◌, ℕ, length, slice_get, Some, Err, IfOk};
+ghost use Rattle.std.specs.Prelude.{◌+◌, ◌≡◌, ◌≢◌, ◌≤◌, ◌<◌, ◌↔◌, ℕ, length, slice_get, Some, None, Err, IfOk};
 ghost use Rattle.mil_message.specs.World.{World, Point};
 ghost use Rattle.frame_code.specs.declared.Op.TheVariants as op;
 ghost use Rattle.frame_code.specs.Table.{Code, Running, goes_on, halted, stuck, start, step, run};
+ghost use Rattle.frame_code.specs.Routines.{main_of, routine_at};
 ghost use Rattle.frame_code.specs.Loadable.{IsLoadable};
 ghost use Rattle.frame_load.specs.Budget as sums;
 ghost use Rattle.frame_load.specs.Runs.{Reaches, HaltsWithin};
@@ -13,6 +14,8 @@ ghost use Rattle.frame_load.specs.Judging.{Judges, Refuses, IsWithin};
 ghost use Rattle.frame_load.specs.declared.LoadError.{LoadError};
 
 mod checks;
+mod nesting;
+mod routines;
 mod sums;
 
 use frame_code::{Image, Setting};
@@ -25,10 +28,13 @@ use std::marker::Model;
 pub enum LoadError {
     /// P4: there is no operation, or the last is not Halt.
     End,
-    /// P2: Loop and Again do not pair as brackets, a Leave stands outside every loop, or more than 17 loops are open.
+    /// P7: there are more than 32 routines, or a Call is of one that is not there or does not end before the Call's own begins.
+    Routines,
+    /// P2: Loop and Again do not pair as brackets in a routine, a Leave stands outside every loop, or more than 17 loops are open,
+    /// those that a Call opens counted.
     Nesting,
     /// P1: an operation goes where it must not: an Again not behind its Loop, a Leave not behind the Again of its innermost
-    /// loop, a Jump or JumpFalse not to a later operation in the same innermost loop.
+    /// loop, a Jump or JumpFalse not to a later operation of its routine in the same innermost loop.
     Jumps,
     /// P3: the message of a Send or Alt is not there.
     Messages,
@@ -52,6 +58,7 @@ impl fmt::Display for LoadError {
             LoadError::End => "P4",
             LoadError::Budget => "P5",
             LoadError::Memory => "P6",
+            LoadError::Routines => "P7",
         })
     }
 }
@@ -60,6 +67,8 @@ impl fmt::Display for LoadError {
 #[derive(Drop)]
 pub struct Program {
     image: Image,
+    starts: [u16; 33],
+    main: u8,
     budget: u64,
     worst_messages: u64,
 }
@@ -73,7 +82,7 @@ impl Model for Program {
 
     ghost view = { λ p. p.image };
 
-    ghost invariant = { λ p. IsProgram p.image p.budget p.worst_messages };
+    ghost invariant = { λ p. IsProgram p.image p.starts p.main p.budget p.worst_messages };
 }
 
 impl Program {
@@ -86,8 +95,23 @@ impl Program {
         &self.image
     }
 
-    /// How many steps a run takes at most, 1 to 100,000,000: the sum over all operations of the product of the counts of the
-    /// loops that they stand in.
+    /// The place where the routine of this number begins. Condition: there is such a routine.
+    pub fn routine(&self, number: u8) -> u16
+        requires { routine_at self.now.operations number ≢ None }
+        ensures { routine_at self.now.operations number ≡ Some result }
+    {
+        self.starts[number as usize]
+    }
+
+    /// The place where the main part begins, and with it a run: behind the last Return.
+    pub fn main(&self) -> u16
+        ensures { result ≡ main_of self.now.operations }
+    {
+        self.starts[self.main as usize]
+    }
+
+    /// How many steps a run takes at most, 1 to 100,000,000: the sum over the operations of the main part of the product of the
+    /// counts of the loops that they stand in, a Call counted together with what its routine takes.
     pub fn budget(&self) -> u64
         ensures value { result ≡ sums.budget self.now.operations }
         ensures within { result ≤ 100000000 }
@@ -109,20 +133,23 @@ impl Program {
     {
         Ok(Program {
             image: self.image.copy()?,
+            starts: self.starts,
+            main: self.main,
             budget: self.budget,
             worst_messages: self.worst_messages,
         })
     }
 }
 
-/// Law: in any world a run of a code that keeps the loader's rules never meets a bad place, an empty counter list or a
-/// message that is not there; it stands at an operation with at most 17 counters, and at fewer at a Loop; it sends at most as
-/// many messages as the code's sum says, and halts within its budget.
+/// Law: in any world a run of a code that keeps the loader's rules never meets a bad place, an empty counter list, an empty
+/// list of return places, or a routine or a message that is not there; it stands at an operation with at most 17 counters, and
+/// at fewer at a Loop, and with at most 32 return places, and at fewer at a Call; it sends at most as many messages as the
+/// code's sum says, and halts within its budget.
 pub fn loadable_runs<W: Setting>()
     ensures never_stuck { (w : World W.State W.Outcome) (code : Code) (from : Point W.State W.Outcome) (x : Running W.State W.Outcome) →
         IsLoadable code → Reaches w code from x → step w code x.at x.point ≢ stuck }
     ensures begins { (w : World W.State W.Outcome) (code : Code) (from : Point W.State W.Outcome) →
-        IsLoadable code → Reaches w code from (record { at = start; point = from }) }
+        IsLoadable code → Reaches w code from (record { at = start code; point = from }) }
     ensures goes_on { (w : World W.State W.Outcome) (code : Code) (from : Point W.State W.Outcome) (x y : Running W.State W.Outcome) →
         IsLoadable code → Reaches w code from x → step w code x.at x.point ≡ goes_on y → Reaches w code from y }
     ensures inside { (w : World W.State W.Outcome) (code : Code) (from : Point W.State W.Outcome) (x : Running W.State W.Outcome) →
@@ -131,10 +158,14 @@ pub fn loadable_runs<W: Setting>()
         IsLoadable code → Reaches w code from x → length x.at.counters ≤ 17 }
     ensures room { (w : World W.State W.Outcome) (code : Code) (from : Point W.State W.Outcome) (x : Running W.State W.Outcome) (n : ℕ) →
         IsLoadable code → Reaches w code from x → slice_get code.operations x.at.place ≡ Some (op.Loop n) → length x.at.counters < 17 }
+    ensures returns { (w : World W.State W.Outcome) (code : Code) (from : Point W.State W.Outcome) (x : Running W.State W.Outcome) →
+        IsLoadable code → Reaches w code from x → length x.at.returns ≤ 32 }
+    ensures room_to_call { (w : World W.State W.Outcome) (code : Code) (from : Point W.State W.Outcome) (x : Running W.State W.Outcome) (k : ℕ) →
+        IsLoadable code → Reaches w code from x → slice_get code.operations x.at.place ≡ Some (op.Call k) → length x.at.returns < 32 }
     ensures messages { (w : World W.State W.Outcome) (code : Code) (from : Point W.State W.Outcome) (x : Running W.State W.Outcome) →
         IsLoadable code → Reaches w code from x → x.point.number ≤ from.number + sums.worst_messages code.operations }
     ensures halts { (w : World W.State W.Outcome) (code : Code) (from : Point W.State W.Outcome) →
-        IsLoadable code → HaltsWithin w code (sums.budget code.operations) start from }
+        IsLoadable code → HaltsWithin w code (sums.budget code.operations) (start code) from }
 {}
 
 // The most steps that a run may take.
@@ -151,12 +182,17 @@ fn judge(image: Image) -> Result<Program, LoadError>
     if !checks::ends_in_halt(operations) {
         return Err(LoadError::End);
     }
-    if !checks::is_nested(operations) {
+    if !routines::are_right(operations) {
+        return Err(LoadError::Routines);
+    }
+    if !nesting::is_nested(operations) {
         return Err(LoadError::Nesting);
     }
     let mut loops = [0; 4096];
     checks::mark_loops(operations, &mut loops);
-    if !checks::all_go_well(operations, &loops) {
+    let mut numbers = [0; 4096];
+    routines::number(operations, &mut numbers);
+    if !checks::all_go_well(operations, &loops, &numbers) {
         return Err(LoadError::Jumps);
     }
     if !checks::all_have_messages(operations, image.messages().len()) {
@@ -164,19 +200,23 @@ fn judge(image: Image) -> Result<Program, LoadError>
     }
     let mut weights = [0; 4096];
     sums::mark_weights(operations, &loops, &mut weights);
-    let budget = sums::count_steps(operations, &weights);
-    let worst_messages = sums::count_messages(operations, &weights);
+    let budget = sums::count(operations, &weights, false);
+    let worst_messages = sums::count(operations, &weights, true);
     if STEPS < budget || MESSAGES < worst_messages {
         return Err(LoadError::Budget);
     }
+    let mut starts = [0; 33];
+    let main = routines::find(operations, &mut starts);
     Ok(Program {
         image,
+        starts,
+        main,
         budget,
         worst_messages,
     })
 }
 
-/// The program of an image that keeps all rules, else the first rule that it breaks, in the order P4, P2, P1, P3, P5. It takes
+/// The program of an image that keeps all rules, else the first rule that it breaks, in the order P4, P7, P2, P1, P3, P5. It takes
 /// no memory, and time linear in the image.
 pub fn load(_alloc: Global, image: Image) -> Result<Program, LoadError>
     ensures judged { Judges image result }

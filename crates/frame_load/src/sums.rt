@@ -1,10 +1,12 @@
 //! The weights of operations, and their sums. What is beyond the most steps that a run may take is counted as one step
 //! more than those.
 ghost use Rattle.std.specs.Prelude.{◌≡◌, ◌≤◌, ◌<◌, ℕ, min, length, get_or};
-ghost use Rattle.frame_code.specs.Loadable.{open_at};
+ghost use Rattle.frame_code.specs.Loadable.{open_at, HasRoutines};
 ghost use Rattle.frame_code.specs.Ranges.{AreInRange};
 ghost use Rattle.frame_load.specs.Marks.{innermost};
-ghost use Rattle.frame_load.specs.Budget.{weight, budget, worst_messages};
+ghost use Rattle.frame_load.specs.Budget as sums;
+ghost use Rattle.frame_load.specs.Budget.{weight, cost_by, total};
+ghost use Rattle.frame_code.specs.declared.Op.TheVariants as op_of;
 
 use frame_code::Op;
 
@@ -35,30 +37,48 @@ pub fn mark_weights(operations: &[Op], loops: &[u16; 4096], weights: &mut [u64; 
     }
 }
 
-// The sum of all weights, or the cap.
-pub fn count_steps(operations: &[Op], weights: &[u64; 4096]) -> u64
-    requires size { length operations.now ≤ 4096 }
-    requires marked { (p : ℕ) → p < length operations.now → get_or weights.now p 0 ≡ min 100000001 (weight operations.now p) }
-    ensures { result ≡ min 100000001 (budget operations.now) }
+// What an operation costs by itself: a step, or where messages are counted, a message for what sends.
+fn cost(op: Op, messages: bool) -> u64
+    ensures value { result ≡ cost_by messages op }
+    ensures small { result ≤ 1 }
 {
-    let mut total: u64 = 0;
-    for i in 0..operations.len() {
-        total = (total + weights[i]).min(CAP);
+    match op {
+        Op::Send(_) | Op::Alt(_) => 1,
+        _ => u64::from(!messages),
     }
-    total
 }
 
-// The sum of the weights of what sends, or the cap.
-pub fn count_messages(operations: &[Op], weights: &[u64; 4096]) -> u64
-    requires size { length operations.now ≤ 4096 }
-    requires marked { (p : ℕ) → p < length operations.now → get_or weights.now p 0 ≡ min 100000001 (weight operations.now p) }
-    ensures { result ≡ min 100000001 (worst_messages operations.now) }
+// What the routine of a Call costs, or the cap; 0 for every other operation.
+fn called(op: Op, ended: &[u64; 32]) -> u64
+    requires { (r : ℕ) → op ≡ op_of.Call r → r < 32 }
+    ensures { result ≡ sums.called op ended.now }
 {
-    let mut total: u64 = 0;
+    match op {
+        Op::Call(routine) => ended[routine as usize],
+        _ => 0,
+    }
+}
+
+/// What the main part costs in steps or in messages, or the cap: each operation as often as its weight says, a Call with what its
+/// routine costs.
+pub fn count(operations: &[Op], weights: &[u64; 4096], messages: bool) -> u64
+    requires size { length operations.now ≤ 4096 }
+    requires routines { HasRoutines operations.now }
+    requires marked { (p : ℕ) → p < length operations.now → get_or weights.now p 0 ≡ min 100000001 (weight operations.now p) }
+    ensures { result ≡ min 100000001 (total (cost_by messages) operations.now) }
+{
+    let mut now: u64 = 0;
+    let mut ended = [0; 32];
+    let mut routine: u8 = 0;
     for i in 0..operations.len() {
-        if matches!(operations[i], Op::Send(_) | Op::Alt(_)) {
-            total = (total + weights[i]).min(CAP);
+        let op = operations[i];
+        let one = cost(op, messages) + called(op, &ended);
+        now = (now + weights[i] * one).min(CAP);
+        if let Op::Return = op {
+            ended[routine as usize] = now;
+            routine += 1;
+            now = 0;
         }
     }
-    total
+    now
 }

@@ -1,6 +1,6 @@
 //! A frame and its image.
 
-use crate::worked::LOOPS;
+use crate::worked::{LOOPS, POLLING, polling};
 use frame_asm::{AsmError, assemble};
 use frame_code::write_image;
 use frame_tree::Frame;
@@ -30,6 +30,18 @@ fn a_repeat_of_a_retry(rt: HostRuntime) -> Result<(), Fail> {
     assert_eq!(rt;
         write_image(rt.alloc(), &image)?.as_slice(),
         LOOPS.as_slice()
+    );
+    Ok(())
+}
+
+#[test]
+fn a_routine_and_its_calls(rt: HostRuntime) -> Result<(), Fail> {
+    let frame = polling(rt.alloc())?;
+    assert!(rt; frame.sound());
+    let image = assemble(rt.alloc(), &frame).expect(&rt, "the image");
+    assert_eq!(rt;
+        write_image(rt.alloc(), &image)?.as_slice(),
+        POLLING.as_slice()
     );
     Ok(())
 }

@@ -1,6 +1,6 @@
 //! Images and their bytes.
 
-use crate::worked::LOOPS;
+use crate::worked::{LOOPS, POLLING};
 use frame_code::{ImageError, Op, read_image, write_image};
 use std::test::*;
 
@@ -25,6 +25,28 @@ fn bytes_to_image_and_back(rt: HostRuntime) -> Result<(), Fail> {
     assert_eq!(rt; image.messages().len(), 1);
     let bytes = write_image(rt.alloc(), &image.copy()?)?;
     assert_eq!(rt; bytes.as_slice(), LOOPS.as_slice());
+    Ok(())
+}
+
+#[test]
+fn both_marks(rt: HostRuntime) -> Result<(), Fail> {
+    let image = read_image(rt.alloc(), &POLLING).expect(&rt, "the image");
+    assert_eq!(rt; image.operations().len(), 20);
+    assert_eq!(rt; image.operations().get(10).copied(), Some(Op::Call(0)));
+    let bytes = write_image(rt.alloc(), &image)?;
+    assert_eq!(rt; bytes.as_slice(), POLLING.as_slice());
+    let mut changed = LOOPS;
+    changed[3] = 0x32;
+    assert_eq!(rt;
+        read_image(rt.alloc(), &changed).err(),
+        Some(ImageError::Version)
+    );
+    let mut changed = POLLING;
+    changed[3] = 0x31;
+    assert_eq!(rt;
+        read_image(rt.alloc(), &changed).err(),
+        Some(ImageError::Operations)
+    );
     Ok(())
 }
 
@@ -62,13 +84,14 @@ fn the_first_fault_of_bytes(rt: HostRuntime) -> Result<(), Fail> {
 #[test]
 fn faults_are_printed_by_their_letters(rt: HostRuntime) -> Result<(), Fail> {
     let printed = format!(in rt.alloc();
-        "{} {} {} {} {}",
+        "{} {} {} {} {} {}",
         ImageError::Mark,
         ImageError::Length,
         ImageError::Operations,
         ImageError::Messages,
-        ImageError::Memory
+        ImageError::Memory,
+        ImageError::Version
     )?;
-    assert_eq!(rt; printed.as_str(), "C1 C2 C3 C4 C5");
+    assert_eq!(rt; printed.as_str(), "C1 C2 C3 C4 C5 C6");
     Ok(())
 }

@@ -266,14 +266,31 @@ fn no_message_where_no_test_holds(rt: HostRuntime) -> Result<(), Fail> {
 // A poll is repeated twice, and then until one fails, at most three times.
 #[test]
 fn polls_until_one_fails(rt: HostRuntime) -> Result<(), Fail> {
-    let script =
-        "script\nrepeat 2 { retry 1 send A mode 5 1 }\nuntil fail at most 3 { retry 1 send A mode 5 1 }";
-    let answered: &'static [u16] = &[0x2fe1, 0x2800];
-    let silent: &'static [u16] = &[0x2fe1];
-    let text = format!(in rt.alloc(); "channel 1\nterminal 5\n{script}")?;
-    plays(
+    polls(
         &rt,
         rt.alloc(),
+        "script\nrepeat 2 { retry 1 send A mode 5 1 }\nuntil fail at most 3 { retry 1 send A mode 5 1 }",
+    )
+}
+
+// The same with the poll as a named frame.
+#[test]
+fn polls_by_its_name(rt: HostRuntime) -> Result<(), Fail> {
+    polls(
+        &rt,
+        rt.alloc(),
+        "script\ndefine poll { retry 1 send A mode 5 1 }\nrepeat 2 { call poll }\nuntil fail at most 3 { call poll }",
+    )
+}
+
+// With a terminal that answers five records, and without four.
+fn polls(rt: &impl Abort, alloc: Global, script: &str) -> Result<(), Fail> {
+    let answered: &'static [u16] = &[0x2fe1, 0x2800];
+    let silent: &'static [u16] = &[0x2fe1];
+    let text = format!(in alloc; "channel 1\nterminal 5\n{script}")?;
+    plays(
+        rt,
+        alloc,
         text.as_str(),
         &[
             (Some(0), Some((0, 0x50)), answered),
@@ -283,10 +300,10 @@ fn polls_until_one_fails(rt: HostRuntime) -> Result<(), Fail> {
             (Some(1920), Some((0, 0x50)), answered),
         ],
     )?;
-    let text = format!(in rt.alloc(); "channel 1\n{script}")?;
+    let text = format!(in alloc; "channel 1\n{script}")?;
     plays(
-        &rt,
-        rt.alloc(),
+        rt,
+        alloc,
         text.as_str(),
         &[
             (Some(0), Some((0x1200, 0)), silent),

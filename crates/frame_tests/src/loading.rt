@@ -2,7 +2,7 @@
 
 ghost use Rattle.std.specs.Prelude.{◌≤◌};
 
-use crate::worked::LOOPS;
+use crate::worked::{LOOPS, POLLING};
 use frame_code::{Op, read_image};
 use frame_load::{LoadError, load};
 use std::test::*;
@@ -40,6 +40,29 @@ fn a_program_and_its_sums(rt: HostRuntime) -> Result<(), Fail> {
         program.image().operations().get(7).copied(),
         Some(Op::Leave(9))
     );
+    Ok(())
+}
+
+#[test]
+fn a_routine_counts_with_its_calls(rt: HostRuntime) -> Result<(), Fail> {
+    let image = read_image(rt.alloc(), &POLLING).expect(&rt, "the image");
+    let program = load(rt.alloc(), image).expect(&rt, "the program");
+    assert_eq!(rt; program.budget(), 70);
+    assert_eq!(rt; program.worst_messages(), 10);
+    Ok(())
+}
+
+#[test]
+fn calls_of_no_earlier_routine(rt: HostRuntime) -> Result<(), Fail> {
+    let none = [
+        0x42, 0x43, 0x30, 0x32, 2, 0, 0, 0, 10, 0, 0, 0, 0, 0, 0, 0, // Call 0, Halt
+    ];
+    assert_eq!(rt; refusal(&rt, &none), Some(LoadError::Routines));
+    let itself = [
+        0x42, 0x43, 0x30, 0x32, 3, 0, 0, 0, // three operations
+        10, 0, 0, 0, 11, 0, 0, 0, 0, 0, 0, 0, // Call 0, Return, Halt
+    ];
+    assert_eq!(rt; refusal(&rt, &itself), Some(LoadError::Routines));
     Ok(())
 }
 
@@ -83,14 +106,15 @@ fn seventeen_loops_and_one_more(rt: HostRuntime) -> Result<(), Fail> {
 #[test]
 fn refusals_are_printed_by_their_letters(rt: HostRuntime) -> Result<(), Fail> {
     let printed = format!(in rt.alloc();
-        "{} {} {} {} {} {}",
+        "{} {} {} {} {} {} {}",
         LoadError::Jumps,
         LoadError::Nesting,
         LoadError::Messages,
         LoadError::End,
         LoadError::Budget,
-        LoadError::Memory
+        LoadError::Memory,
+        LoadError::Routines
     )?;
-    assert_eq!(rt; printed.as_str(), "P1 P2 P3 P4 P5 P6");
+    assert_eq!(rt; printed.as_str(), "P1 P2 P3 P4 P5 P6 P7");
     Ok(())
 }

@@ -1,6 +1,7 @@
 //! Texts with each fault at the first, a middle and the last place where it may stand; lines and columns are counted by hand.
 use frame_text::{parse, read_send};
 use std::alloc::Global;
+use std::fmt::Write;
 use std::process::Abort;
 use std::test::Fail;
 
@@ -168,6 +169,104 @@ fn depths(rt: HostRuntime) -> Result<(), Fail> {
         let fault = fault_of(alloc, text.as_slice())?;
         assert_eq!(rt; fault.as_str(), expected);
     }
+    Ok(())
+}
+
+// Names of definitions: what a name is, which may be called, which may be defined.
+#[test]
+fn names(rt: HostRuntime) -> Result<(), Fail> {
+    each_fault(
+        &rt,
+        rt.alloc(),
+        &[
+            (b"call x", "S10 line 1 column 6"),
+            (b"define a { } define a { }", "S10 line 1 column 21"),
+            (b"define a { call a }", "S10 line 1 column 17"),
+            (b"define a { call b } define b { }", "S10 line 1 column 17"),
+            (b"define a { } call A", "S10 line 1 column 19"),
+            (b"define 1a { }", "S2 line 1 column 8"),
+            (b"define _a { }", "S2 line 1 column 8"),
+            (b"define abcdefghijklmnopq { }", "S2 line 1 column 8"),
+            (b"define a {\ncall @ }", "S1 line 2 column 6"),
+            (b"define", "S5 line 1 column 7"),
+            (b"define a", "S5 line 1 column 9"),
+            (b"define a { gap 50", "S5 line 1 column 18"),
+            (b"call", "S5 line 1 column 5"),
+            (b"gap 50 define a { }", "S2 line 1 column 8"),
+            (b"repeat 2 { define a { } }", "S2 line 1 column 12"),
+            (b"define a { define b { } }", "S2 line 1 column 12"),
+            (b"define abcdefghijklmnop { } call abcdefghijklmnop", "none"),
+            (
+                b"define send { gap 50 } define define { call send } call define",
+                "none",
+            ),
+        ],
+    )
+}
+
+// A call counts as deep as what it stands for; the braces of a definition are no block. At most 32 definitions.
+#[test]
+fn definitions(rt: HostRuntime) -> Result<(), Fail> {
+    let alloc = rt.alloc();
+    let table: [(&[u8], &[u8], u32, &[u8], &str); 4] = [
+        (
+            b"define a { repeat 1 { } }\ndefine b { ",
+            b"repeat 1 { ",
+            16,
+            b"call a",
+            "S6 line 2 column 188",
+        ),
+        (
+            b"define a { repeat 1 { gap 50 } }\n",
+            b"repeat 1 { ",
+            16,
+            b" call a",
+            "S6 line 2 column 178",
+        ),
+        (
+            b"define a { ",
+            b"repeat 1 { ",
+            17,
+            b"",
+            "S6 line 1 column 197",
+        ),
+        (
+            b"define a { gap 50 }",
+            b"repeat 1 { call a } ",
+            17,
+            b"",
+            "none",
+        ),
+    ];
+    for (before, piece, times, after, expected) in table {
+        let text = repeated(alloc, before, piece, times, after)?;
+        let fault = fault_of(alloc, text.as_slice())?;
+        assert_eq!(rt; fault.as_str(), expected);
+    }
+    let mut text = String::new(alloc);
+    for i in 0..33 {
+        write!(text, "define d{i} {{ }}\n")?;
+    }
+    let fault = fault_of(alloc, text.as_bytes())?;
+    assert_eq!(rt; fault.as_str(), "S11 line 33 column 1");
+    Ok(())
+}
+
+// Definitions that call definitions, each twice the one before: the sum is found without writing them out.
+#[test]
+fn doubling(rt: HostRuntime) -> Result<(), Fail> {
+    let alloc = rt.alloc();
+    let mut text = String::new(alloc);
+    text.push_str("define d0 { send A mode 5 1 }\n")?;
+    for below in 0..31 {
+        let next = below + 1;
+        write!(text, "define d{next} {{ call d{below} call d{below} }}\n")?;
+    }
+    let fault = fault_of(alloc, text.as_bytes())?;
+    assert_eq!(rt; fault.as_str(), "none");
+    text.push_str("call d31")?;
+    let fault = fault_of(alloc, text.as_bytes())?;
+    assert_eq!(rt; fault.as_str(), "S8 line 1 column 1");
     Ok(())
 }
 

@@ -45,6 +45,12 @@ fn blocks(rt: HostRuntime) -> Result<(), Fail> {
     prints_as(
         &rt,
         alloc,
+        b"define poll{retry 1 send A mode 5 1}define all{call poll repeat 2{call poll}}call all",
+        "define poll {\n  retry 1 send A mode 5 1\n}\ndefine all {\n  call poll\n  repeat 2 {\n    call poll\n  }\n}\ncall all\n",
+    )?;
+    prints_as(
+        &rt,
+        alloc,
         b"if fail{gap 50}else{if silent{}else{gap 60 gap 70}}gap 80",
         "if fail {\n  gap 50\n} else {\n  if silent {\n  } else {\n    gap 60\n    gap 70\n  }\n}\ngap 80\n",
     )

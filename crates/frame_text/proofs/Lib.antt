@@ -1,9 +1,11 @@
 pub mod Below
 pub mod ConditionsBack
+pub mod Defining
 pub mod Digits
 pub mod FormsBack
 pub mod FormsRead
 pub mod Lexing
+pub mod Naming
 pub mod Positions
 pub mod Printed
 pub mod PrintedForms

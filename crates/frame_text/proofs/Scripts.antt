@@ -1,24 +1,26 @@
 -- Reading frames one by one.
 use Rattle.std.proofs.Common.{◌≡◌, ◌≢◌, ℕ, zero, suc, ◌-◌, ◌<◌, ◌≤◌, Bool, true, false, cond, List, [], ◌∷◌, ◌++◌, length, map, Result, Ok, Err, refl, sym, ap, ◌∙◌, arith}
-use Rattle.std.specs.Prelude.{codes}
+use Rattle.std.specs.Prelude.{codes, Option, Some, None, if◌then◌else◌}
 use Rattle.std.proofs.lemmas.List.{map-append}
-use Rattle.frame_tree.specs.Tree.{Tree, chain, tree_of, nothing, chained}
+use Rattle.frame_tree.specs.Tree.{Tree, chain, tree_of, nothing, chained, define}
+use Rattle.frame_tree.specs.Bounds.{depth_in}
+use Rattle.frame_tree.specs.Names.{is_name, Scope}
 use Rattle.frame_tree.specs.declared.Frame.{Frame}
-use Rattle.frame_text.specs.Reading.{◌>>=◌, Tokens, Reading, same, Fails, IsCause}
-use Rattle.frame_text.specs.Frames.{Reader, frame_at, frames_at, inner_at, script_at}
+use Rattle.frame_text.specs.Reading.{◌>>=◌, Tokens, Reading, same, misplaced, Fails, IsCause}
+use Rattle.frame_text.specs.Frames.{Reader, frame_at, frames_at, inner_at, label_at, main_at, definition_at, script_at}
 use Rattle.frame_text.specs.declared.faults.Cause.{Cause}
 use Rattle.frame_text.specs.declared.faults.Cause.TheVariants as cause
 use Rattle.frame_text.specs.declared.faults.Fault.{Fault}
 use Rattle.frame_text.specs.declared.faults.Fault.TheVariants as fault
 
-pub inner_some : (d : ℕ) → d ≢ 0 → inner_at d ≡ Ok (λ ts. frames_at (frame_at (d - 1)) (length ts) ts)
+pub inner_some : (ds : Scope ℕ) (d : ℕ) → d ≢ 0 → inner_at ds d ≡ Ok (λ ts. frames_at (frame_at ds (d - 1)) (length ts) ts)
 unfolding inner_at
-inner_some zero h = absurd (h refl)
-inner_some (suc d) h = let e : suc d - 1 ≡ d = omega arith in ap (λ k. Ok (λ ts. frames_at (frame_at k) (length ts) ts)) (sym e)
+inner_some ds zero h = absurd (h refl)
+inner_some ds (suc d) h = let e : suc d - 1 ≡ d = omega arith in ap (λ k. Ok (λ ts. frames_at (frame_at ds k) (length ts) ts)) (sym e)
 
-pub inner_none : (d : ℕ) → d ≡ 0 → inner_at d ≡ Err cause.Depth
+pub inner_none : (ds : Scope ℕ) (d : ℕ) → d ≡ 0 → inner_at ds d ≡ Err cause.Depth
 unfolding inner_at
-inner_none d e = ap inner_at e
+inner_none ds d e = ap (inner_at ds) e
 
 -- trees in front of what was read
 abbrev before : List Tree → Tree → Tree
@@ -111,29 +113,70 @@ put_script_more : (ts : List Tree) (t : Tree) (r : Result Tree Cause) → ((r >>
 put_script_more ts t (Ok x) = ap Ok (before_more ts t x)
 put_script_more ts t (Err e) = refl
 
-pub script_on : (n : ℕ) (w : List ℕ) (text ts : Tokens) → text ≡ w ∷ ts → script_at (suc n) text ≡ (frame_at 16 text >>= (λ x. script_at n x.1 >>= (λ y. Ok (chained x.0 y))))
-unfolding script_at
-script_on n w text ts is = ap (script_at (suc n)) is ∙ ap (λ z. frame_at 16 z >>= (λ x. script_at n x.1 >>= (λ y. Ok (chained x.0 y)))) (sym is)
+pub main_on : (ds : Scope ℕ) (n : ℕ) (w : List ℕ) (text ts : Tokens) → text ≡ w ∷ ts → main_at ds (suc n) text ≡ (frame_at ds 16 text >>= (λ x. main_at ds n x.1 >>= (λ y. Ok (chained x.0 y))))
+unfolding main_at
+main_on ds n w text ts is = ap (main_at ds (suc n)) is ∙ ap (λ z. frame_at ds 16 z >>= (λ x. main_at ds n x.1 >>= (λ y. Ok (chained x.0 y)))) (sym is)
 
-pub script_end : {A : Type 0} (n : ℕ) (text : Tokens) (fs : List (Frame A)) (whole : Result Tree Cause) → text ≡ [] → whole ≡ onto_script fs (script_at n text) → whole ≡ Ok (chain (map tree_of fs))
-unfolding script_at
-script_end n text fs whole h e = e ∙ ap (λ z. onto_script fs (script_at n z)) h ∙ ap Ok (before_nothing (map tree_of fs))
+pub main_end : {A : Type 0} (ds : Scope ℕ) (n : ℕ) (text : Tokens) (fs : List (Frame A)) (whole : Result Tree Cause) → text ≡ [] → whole ≡ onto_script fs (main_at ds n text) → whole ≡ Ok (chain (map tree_of fs))
+unfolding main_at
+main_end ds n text fs whole h e = e ∙ ap (λ z. onto_script fs (main_at ds n z)) h ∙ ap Ok (before_nothing (map tree_of fs))
 
-pub script_more : {A : Type 0} (n : ℕ) (w : List ℕ) (text ts left : Tokens) (fs : List (Frame A)) (f : Frame A) (whole : Result Tree Cause) → text ≡ w ∷ ts → length text ≤ n
-    → frame_at 16 text ≡ Ok (tree_of f, left) → length left < length text → whole ≡ onto_script fs (script_at n text) → (m : ℕ) × (length left ≤ m) × (whole ≡ onto_script (fs ++ f ∷ []) (script_at m left))
-script_more zero w text ts left fs f whole is h r s e = absurd (omega (arith, h, ap length is))
-script_more (suc n) w text ts left fs f whole is h r s e = (
+pub main_more : {A : Type 0} (ds : Scope ℕ) (n : ℕ) (w : List ℕ) (text ts left : Tokens) (fs : List (Frame A)) (f : Frame A) (whole : Result Tree Cause) → text ≡ w ∷ ts → length text ≤ n
+    → frame_at ds 16 text ≡ Ok (tree_of f, left) → length left < length text → whole ≡ onto_script fs (main_at ds n text) → (m : ℕ) × (length left ≤ m) × (whole ≡ onto_script (fs ++ f ∷ []) (main_at ds m left))
+main_more ds zero w text ts left fs f whole is h r s e = absurd (omega (arith, h, ap length is))
+main_more ds (suc n) w text ts left fs f whole is h r s e = (
   n,
   omega (arith, h, s),
-  e ∙ ap (onto_script fs) (script_on n w text ts is ∙ ap (λ z. z >>= (λ x. script_at n x.1 >>= (λ y. Ok (chained x.0 y)))) r)
-      ∙ put_script_more (map tree_of fs) (tree_of f) (script_at n left)
-      ∙ ap (λ us. script_at n left >>= (λ x. Ok (before us x))) (sym (map-append tree_of fs (f ∷ []))),
+  e ∙ ap (onto_script fs) (main_on ds n w text ts is ∙ ap (λ z. z >>= (λ x. main_at ds n x.1 >>= (λ y. Ok (chained x.0 y)))) r)
+      ∙ put_script_more (map tree_of fs) (tree_of f) (main_at ds n left)
+      ∙ ap (λ us. main_at ds n left >>= (λ x. Ok (before us x))) (sym (map-append tree_of fs (f ∷ []))),
 )
 
-script_fail : {A : Type 0} (n : ℕ) (w : List ℕ) (text ts : Tokens) (fs : List (Frame A)) (c : Cause) (whole : Result Tree Cause) → text ≡ w ∷ ts → length text ≤ n → frame_at 16 text ≡ Err c → whole ≡ onto_script fs (script_at n text) → whole ≡ Err c
-script_fail zero w text ts fs c whole is h r e = absurd (omega (arith, h, ap length is))
-script_fail (suc n) w text ts fs c whole is h r e = e ∙ ap (onto_script fs) (script_on n w text ts is ∙ ap (λ z. z >>= (λ x. script_at n x.1 >>= (λ y. Ok (chained x.0 y)))) r)
+main_fail : {A : Type 0} (ds : Scope ℕ) (n : ℕ) (w : List ℕ) (text ts : Tokens) (fs : List (Frame A)) (c : Cause) (whole : Result Tree Cause) → text ≡ w ∷ ts → length text ≤ n → frame_at ds 16 text ≡ Err c → whole ≡ onto_script fs (main_at ds n text) → whole ≡ Err c
+main_fail ds zero w text ts fs c whole is h r e = absurd (omega (arith, h, ap length is))
+main_fail ds (suc n) w text ts fs c whole is h r e = e ∙ ap (onto_script fs) (main_on ds n w text ts is ∙ ap (λ z. z >>= (λ x. main_at ds n x.1 >>= (λ y. Ok (chained x.0 y)))) r)
 
-pub script_refused : {A : Type 0} (f : Fault) (n : ℕ) (w : List ℕ) (text ts : Tokens) (fs : List (Frame A)) (whole : Result Tree Cause) → text ≡ w ∷ ts → length text ≤ n → Fails f (frame_at 16 text) → whole ≡ onto_script fs (script_at n text) → Fails f whole
-script_refused (fault.Text c left) n w text ts fs whole is h r e = script_fail n w text ts fs c whole is h r e
-script_refused (fault.Memory left) n w text ts fs whole is h r e = tt
+pub main_refused : {A : Type 0} (f : Fault) (ds : Scope ℕ) (n : ℕ) (w : List ℕ) (text ts : Tokens) (fs : List (Frame A)) (whole : Result Tree Cause) → text ≡ w ∷ ts → length text ≤ n → Fails f (frame_at ds 16 text) → whole ≡ onto_script fs (main_at ds n text) → Fails f whole
+main_refused (fault.Text c left) ds n w text ts fs whole is h r e = main_fail ds n w text ts fs c whole is h r e
+main_refused (fault.Memory left) ds n w text ts fs whole is h r e = tt
+
+-- no definition here
+pub no_definition : (k : ℕ) (ds : Scope ℕ) (text : Tokens) → ((w : List ℕ) (ts : Tokens) → text ≡ w ∷ ts → same w (codes "define") ≡ false) → script_at k ds text ≡ main_at ds (length text) text
+unfolding script_at main_at
+no_definition k ds [] h = refl
+no_definition zero ds (w ∷ ts) h = ap (λ b. cond b (Err cause.Definitions) (main_at ds (length (w ∷ ts)) (w ∷ ts))) (h w ts refl)
+no_definition (suc k) ds (w ∷ ts) h =
+    ap (λ b. cond b (definition_at ds ts >>= (λ x. script_at k ((x.0.0, depth_in ds x.0.1) ∷ ds) x.1 >>= (λ t. Ok (define x.0.0 x.0.1 t)))) (main_at ds (length (w ∷ ts)) (w ∷ ts))) (h w ts refl)
+
+-- one too many
+pub full : (k : ℕ) (ds : Scope ℕ) (w : List ℕ) (text ts : Tokens) → text ≡ w ∷ ts → same w (codes "define") ≡ true → k ≡ 0 → script_at k ds text ≡ Err cause.Definitions
+unfolding script_at
+full k ds w text ts is h z =
+    ap (λ j. script_at j ds text) z ∙ ap (script_at 0 ds) is ∙ ap (λ b. cond b (Err cause.Definitions) (main_at ds (length (w ∷ ts)) (w ∷ ts))) h
+
+-- a definition, and what stands behind it
+pub defines : (k : ℕ) (ds : Scope ℕ) (w : List ℕ) (text ts : Tokens) → text ≡ w ∷ ts → same w (codes "define") ≡ true → k ≢ 0
+    → script_at k ds text ≡ (definition_at ds ts >>= (λ x. script_at (k - 1) ((x.0.0, depth_in ds x.0.1) ∷ ds) x.1 >>= (λ t. Ok (define x.0.0 x.0.1 t))))
+unfolding script_at
+defines zero ds w text ts is h z = absurd (z refl)
+defines (suc k) ds w text ts is h z =
+    let less : k ≡ suc k - 1 = omega arith in
+    ap (script_at (suc k) ds) is
+    ∙ ap (λ b. cond b (definition_at ds ts >>= (λ x. script_at k ((x.0.0, depth_in ds x.0.1) ∷ ds) x.1 >>= (λ t. Ok (define x.0.0 x.0.1 t)))) (main_at ds (length (w ∷ ts)) (w ∷ ts))) h
+    ∙ ap (λ j. definition_at ds ts >>= (λ x. script_at j ((x.0.0, depth_in ds x.0.1) ∷ ds) x.1 >>= (λ t. Ok (define x.0.0 x.0.1 t)))) less
+
+-- a token that is no name
+none_is : (b : Bool) (w : List ℕ) → None ≡ cond b (Some w) None → b ≡ false
+none_is true w e = absurd (cc)
+none_is false w e = refl
+
+pub no_label : (w : List ℕ) (text ts : Tokens) → text ≡ w ∷ ts → None ≡ (if is_name w then Some w else None) → label_at text ≡ Err (misplaced w)
+unfolding label_at
+no_label w text ts is h = ap label_at is ∙ ap (λ b. cond b (Ok (w, ts)) (Err (misplaced w))) (none_is (is_name w) w h)
+
+-- no definition where the text is at its end, or another word stands
+pub none_here : (text : Tokens) → text ≡ [] → (w : List ℕ) (ts : Tokens) → text ≡ w ∷ ts → same w (codes "define") ≡ false
+none_here text e w ts is = absurd (let no : [] ≡ w ∷ ts = sym e ∙ is in cc)
+
+pub not_here : (text : Tokens) (v : List ℕ) (us : Tokens) → text ≡ v ∷ us → same v (codes "define") ≡ false → (w : List ℕ) (ts : Tokens) → text ≡ w ∷ ts → same w (codes "define") ≡ false
+not_here text v us e h w ts is = let first : v ≡ w = (let both : v ∷ us ≡ w ∷ ts = sym e ∙ is in cc) in ap (λ z. same z (codes "define")) (sym first) ∙ h

@@ -1,14 +1,19 @@
 -- The tokens of printed trees, and what is read of them.
 use Rattle.std.proofs.Common.{◌≡◌, ℕ, ◌+◌, ◌<◌, ◌≤◌, ◌^◌, Bool, true, false, cond, List, [], ◌∷◌, ◌++◌, length, refl, sym, arith, subst}
-use Rattle.std.specs.Prelude.{codes, decimal}
+use Rattle.std.specs.Prelude.{codes, decimal, nat_eq, nat_le, ◌&&◌, ◌||◌}
+use Rattle.std.proofs.lemmas.Bool.Decides.{nat_tests}
+use Rattle.frame_tree.specs.Names as names
+use Rattle.frame_tree.specs.Names.{is_name}
+use Rattle.frame_text.specs.Tokens.{in_word}
+use Rattle.frame_text.proofs.Digits.{IsRun}
 use Rattle.mil_message.specs.declared.forms.Form.{Form}
 use Rattle.mil_message.specs.declared.forms.Form.TheVariants.{ToTerminal, FromTerminal, Between, Mode, ModeFrom, ModeTo, ToAll, BetweenAll, ModeAll, ModeAllTo}
-use Rattle.frame_tree.specs.Tree.{Test, Tree, send, retry, gap, repeat, choose, until, nothing, chained}
+use Rattle.frame_tree.specs.Tree.{Test, Tree, send, retry, gap, repeat, choose, until, nothing, chained, call, define}
 use Rattle.frame_tree.specs.Bounds.{IsInRange}
 use Rattle.frame_text.specs.Reading.{Tokens, same}
 use Rattle.frame_text.specs.PrintedMessages.{line_text}
 use Rattle.frame_text.specs.Printing.{lines, is_empty, block_text, else_text}
-use Rattle.frame_text.proofs.Spelling.{SpellsLines, word_spells, number_spells, spaced_lines, line_spells, indent_spells, lines_spell, no_lines, block_spells, words_then}
+use Rattle.frame_text.proofs.Spelling.{Spells, SpellsLines, word_spells, number_spells, spaced_lines, line_spells, indent_spells, lines_spell, no_lines, block_spells, words_then}
 use Rattle.frame_text.proofs.PrintedForms.{Small, IsReadable, MayFollow, message_then, send_then, send_spells}
 use Rattle.frame_text.proofs.ConditionsBack.{condition_then, condition_spells, condition_grows}
 
@@ -23,6 +28,8 @@ IsRead true (gap n) = ⊥
 IsRead true (repeat n b) = ⊥
 IsRead true (choose c a b) = ⊥
 IsRead true (until c n b) = ⊥
+IsRead true (call n) = ⊥
+IsRead true (define n b r) = ⊥
 IsRead false nothing = ⊥
 IsRead false (chained a b) = ⊥
 IsRead false (send line m) = IsReadable m
@@ -31,6 +38,25 @@ IsRead false (gap n) = Unit {0}
 IsRead false (repeat n b) = IsRead true b
 IsRead false (choose c a b) = IsRead true a × IsRead true b
 IsRead false (until c n b) = IsRead true b
+IsRead false (call n) = is_name n ≡ true
+IsRead false (define n b r) = ⊥
+
+-- the tree of a script: definitions, and a chain behind them
+abbrev pub IsScript : Tree → Type 0
+IsScript (define n b r) = (is_name n ≡ true) × IsRead true b × IsScript r
+IsScript t = IsRead true t
+
+pub script_of : (t : Tree) → IsRead true t → IsScript t
+script_of nothing r = r
+script_of (chained a b) r = r
+script_of (send line m) r = r
+script_of (retry n line m) r = r
+script_of (gap n) r = r
+script_of (repeat n b) r = r
+script_of (choose c a b) r = r
+script_of (until c n b) r = r
+script_of (call n) r = r
+script_of (define n b k) r = absurd r
 
 -- the tokens of a tree, in front of others
 abbrev pub tree_then : Tree → Tokens → Tokens
@@ -41,6 +67,8 @@ tree_then (repeat n b) ts = codes "repeat" ∷ decimal n ∷ codes "{" ∷ tree_
 tree_then (choose c a b) ts =
     codes "if" ∷ condition_then c (codes "{" ∷ tree_then a (codes "}" ∷ cond (is_empty b) ts (codes "else" ∷ codes "{" ∷ tree_then b (codes "}" ∷ ts))))
 tree_then (until c n b) ts = codes "until" ∷ condition_then c (codes "at" ∷ codes "most" ∷ decimal n ∷ codes "{" ∷ tree_then b (codes "}" ∷ ts))
+tree_then (call n) ts = codes "call" ∷ n ∷ ts
+tree_then (define n b r) ts = codes "define" ∷ n ∷ codes "{" ∷ tree_then b (codes "}" ∷ tree_then r ts)
 tree_then nothing ts = ts
 tree_then (chained a b) ts = tree_then a (tree_then b ts)
 
@@ -49,6 +77,25 @@ number_spelled n k h l = omega (arith, h, l)
 
 spelled : (n k : ℕ) → k ≤ 65535 → n ≤ k → n < 2 ^ 64
 spelled n k h l = omega (arith, h, l)
+
+-- a name is a run of letters, digits and _
+word_byte : (b : ℕ) → (names.is_letter b || (nat_le 48 b && nat_le b 57) || nat_eq b 95) ≡ true → in_word b ≡ true
+word_byte b h = grind (arith, nat_tests)
+
+two : (a b : Bool) → (a && b) ≡ true → (a ≡ true) × (b ≡ true)
+two true b e = (refl, e)
+two false b e = absurd (cc)
+
+word_run : (n : List ℕ) → names.is_word n ≡ true → IsRun n
+word_run [] h = tt
+word_run (b ∷ bs) h = let p = two (names.is_letter b || (nat_le 48 b && nat_le b 57) || nat_eq b 95) (names.is_word bs) h in (word_byte b p.0, word_run bs p.1)
+
+name_spells : (n : List ℕ) → is_name n ≡ true → Spells n (λ ts. n ∷ ts)
+name_spells [] h = absurd (cc)
+name_spells (b ∷ bs) h =
+    let p = two (names.begins (b ∷ bs) && names.is_word (b ∷ bs)) (nat_le (length (b ∷ bs)) 16) h in
+    let q = two (names.begins (b ∷ bs)) (names.is_word (b ∷ bs)) p.0 in
+    word_spells (b ∷ bs) (omega arith) (word_run (b ∷ bs) q.1)
 
 -- the tokens of the lines of a tree
 pub tree_spells : (k : Bool) (t : Tree) (d : ℕ) → IsRead k t → IsInRange t → SpellsLines (lines d t) (tree_then t)
@@ -76,6 +123,8 @@ tree_spells false (until c n b) d r h =
     (spaced_lines (word_spells (codes "at") (omega arith) (refl, (refl, tt)))
     (spaced_lines (word_spells (codes "most") (omega arith) (refl, (refl, (refl, (refl, tt)))))
     (spaced_lines (number_spells n (spelled n 10000 (omega arith) h.2)) (line_spells (block_spells d (tree_spells true b (d + 1) r h.3))))))))
+tree_spells false (call n) d r h = indent_spells d (spaced_lines (word_spells (codes "call") (omega arith) (refl, (refl, (refl, (refl, tt))))) (line_spells (name_spells n r)))
+tree_spells false (define n b k) d r h = absurd r
 tree_spells false nothing d r h = absurd r
 tree_spells false (chained a b) d r h = absurd r
 tree_spells true nothing d r h = no_lines
@@ -86,6 +135,21 @@ tree_spells true (gap n) d r h = absurd r
 tree_spells true (repeat n b) d r h = absurd r
 tree_spells true (choose c a b) d r h = absurd r
 tree_spells true (until c n b) d r h = absurd r
+tree_spells true (call n) d r h = absurd r
+tree_spells true (define n b k) d r h = absurd r
+
+pub script_spells : (t : Tree) → IsScript t → IsInRange t → SpellsLines (lines 0 t) (tree_then t)
+unfolding lines
+script_spells (define n b k) r h = lines_spell (spaced_lines (word_spells (codes "define") (omega arith) (refl, (refl, (refl, (refl, (refl, (refl, tt))))))) (spaced_lines (name_spells n r.0) (line_spells (block_spells 0 (tree_spells true b 1 r.1 h.0))))) (script_spells k r.2 h.1)
+script_spells nothing r h = tree_spells true nothing 0 r h
+script_spells (chained a b) r h = tree_spells true (chained a b) 0 r h
+script_spells (send line m) r h = absurd r
+script_spells (retry n line m) r h = absurd r
+script_spells (gap n) r h = absurd r
+script_spells (repeat n b) r h = absurd r
+script_spells (choose c a b) r h = absurd r
+script_spells (until c n b) r h = absurd r
+script_spells (call n) r h = absurd r
 
 words_grow : (ws : List ℕ) (ts : Tokens) → length ts ≤ length (words_then ws ts)
 words_grow [] ts = omega arith
@@ -122,6 +186,8 @@ grows (gap n) ts = omega arith
 grows (repeat n b) ts = omega (arith, grows b (codes "}" ∷ ts))
 grows (choose c a b) ts = omega (arith, choose_longer (is_empty b) c a b ts (grows b (codes "}" ∷ ts)) (grows a))
 grows (until c n b) ts = omega (arith, until_longer c n b ts (grows b (codes "}" ∷ ts)))
+grows (call n) ts = omega arith
+grows (define n b r) ts = omega (arith, grows b (codes "}" ∷ tree_then r ts), grows r ts)
 grows nothing ts = omega arith
 grows (chained a b) ts = omega (arith, grows a (tree_then b ts), grows b ts)
 
@@ -141,6 +207,8 @@ begins (gap n) r ts = record { word = codes "gap"; more = decimal n ∷ ts; is =
 begins (repeat n b) r ts = record { word = codes "repeat"; more = decimal n ∷ codes "{" ∷ tree_then b (codes "}" ∷ ts); is = refl; goes = refl; no_bracket = refl; no_else = refl }
 begins (choose c a b) r ts = record { word = codes "if"; more = condition_then c (codes "{" ∷ tree_then a (codes "}" ∷ cond (is_empty b) ts (codes "else" ∷ codes "{" ∷ tree_then b (codes "}" ∷ ts)))); is = refl; goes = refl; no_bracket = refl; no_else = refl }
 begins (until c n b) r ts = record { word = codes "until"; more = condition_then c (codes "at" ∷ codes "most" ∷ decimal n ∷ codes "{" ∷ tree_then b (codes "}" ∷ ts)); is = refl; goes = refl; no_bracket = refl; no_else = refl }
+begins (call n) r ts = record { word = codes "call"; more = n ∷ ts; is = refl; goes = refl; no_bracket = refl; no_else = refl }
+begins (define n b k) r ts = absurd r
 begins nothing r ts = absurd r
 begins (chained a b) r ts = absurd r
 
@@ -154,6 +222,8 @@ follows (gap n) r ts f = absurd r
 follows (repeat n b) r ts f = absurd r
 follows (choose c a b) r ts f = absurd r
 follows (until c n b) r ts f = absurd r
+follows (call n) r ts f = absurd r
+follows (define n b k) r ts f = absurd r
 
 -- a frame has at least one token
 pub longer : (t : Tree) → IsRead false t → (ts : Tokens) → length ts < length (tree_then t ts)
@@ -163,5 +233,7 @@ longer (gap n) r ts = omega arith
 longer (repeat n b) r ts = omega (arith, grows b (codes "}" ∷ ts))
 longer (choose c a b) r ts = choose_longer (is_empty b) c a b ts (grows b (codes "}" ∷ ts)) (grows a)
 longer (until c n b) r ts = until_longer c n b ts (grows b (codes "}" ∷ ts))
+longer (call n) r ts = omega arith
+longer (define n b k) r ts = absurd r
 longer nothing r ts = absurd r
 longer (chained a b) r ts = absurd r

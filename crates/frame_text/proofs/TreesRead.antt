@@ -2,21 +2,22 @@
 use Rattle.std.proofs.Common.{◌≡◌, ℕ, zero, suc, ◌≤◌, Bool, true, false, cond, List, [], ◌∷◌, length, Ok, Err, refl, sym, ap, ◌∙◌, subst, arith}
 use Rattle.std.specs.Prelude.{codes, nat_le}
 use Rattle.std.proofs.lemmas.Bool.{leb-true, le-leb}
-use Rattle.frame_tree.specs.Tree.{Tree, nothing, chained}
-use Rattle.frame_tree.specs.Bounds.{IsSound, worst_messages}
+use Rattle.frame_tree.specs.Tree.{Tree, nothing, chained, call, define}
+use Rattle.frame_tree.specs.Bounds.{IsSound, worst_messages, depth_in}
+use Rattle.frame_tree.specs.Names.{is_name, Scope, named, is_known}
 use Rattle.frame_text.specs.Tokens.{lex, tokens}
 use Rattle.frame_text.specs.Reading.{Tokens, ◌>>=◌, same, misplaced, past}
 use Rattle.frame_text.specs.Words.{number_within}
 use Rattle.frame_text.specs.Messages.{send_at}
 use Rattle.frame_text.specs.Conditions.{condition_at}
-use Rattle.frame_text.specs.Frames.{Reader, frame_at, frame_from, frame_of, frame_word, frames_at, block_at, block_from, inner_at, else_at, script_at, bounded, tree_of_text}
+use Rattle.frame_text.specs.Frames.{Reader, frame_at, frame_from, frame_of, frame_word, frames_at, block_at, block_from, inner_at, else_at, label_at, call_at, main_at, fresh_name_at, definition_at, script_at, bounded, tree_of_text}
 use Rattle.frame_text.specs.Printing.{printed}
 use Rattle.frame_text.specs.declared.faults.Cause.TheVariants as cause
 use Rattle.frame_text.specs.declared.keywords.FrameWord.{FrameWord}
 use Rattle.frame_text.specs.declared.keywords.FrameWord.TheVariants as word
 use Rattle.frame_text.proofs.Soundness.{bind_ok, ok_is, script_is_sound}
 use Rattle.frame_text.proofs.FormsRead.{send_ok}
-use Rattle.frame_text.proofs.TreesBack.{IsRead, tree_then, tree_spells}
+use Rattle.frame_text.proofs.TreesBack.{IsRead, IsScript, script_of, tree_then, script_spells}
 use Rattle.frame_text.proofs.ScriptsBack.{script_back}
 use Rattle.std.proofs.lemmas.List.{append-nil}
 
@@ -33,41 +34,61 @@ else_read block reads (w ∷ ts) x e = by (same w (codes "else")) e
     by true i = reads ts x i
     by false i = subst (λ (z : Tree × Tokens). IsRead true z.0) (ok_is _ x i) tt
 
-word_read : (block : Reader) → Reads true block → (k : FrameWord) (w : List ℕ) (ts : Tokens) (x : Tree × Tokens) → frame_of block k w ts ≡ Ok x → IsRead false x.0
+word_read : (calls block : Reader) → Reads false calls → Reads true block → (k : FrameWord) (w : List ℕ) (ts : Tokens) (x : Tree × Tokens) → frame_of calls block k w ts ≡ Ok x → IsRead false x.0
 unfolding frame_of
-word_read block reads word.Send w ts x e =
+word_read calls block known reads word.Send w ts x e =
     let m = bind_ok (send_at ts) _ x e in
     subst (λ (z : Tree × Tokens). IsRead false z.0) (ok_is _ x m.2) (send_ok ts m.0 m.1)
-word_read block reads word.Retry w ts x e =
+word_read calls block known reads word.Retry w ts x e =
     let n = bind_ok (number_within 1 8 ts) _ x e in
     let u = bind_ok (past (codes "send") n.0.1) _ x n.2 in
     let m = bind_ok (send_at u.0) _ x u.2 in
     subst (λ (z : Tree × Tokens). IsRead false z.0) (ok_is _ x m.2) (send_ok u.0 m.0 m.1)
-word_read block reads word.Gap w ts x e =
+word_read calls block known reads word.Gap w ts x e =
     let n = bind_ok (number_within 40 65535 ts) _ x e in
     subst (λ (z : Tree × Tokens). IsRead false z.0) (ok_is _ x n.2) tt
-word_read block reads word.Repeat w ts x e =
+word_read calls block known reads word.Repeat w ts x e =
     let n = bind_ok (number_within 1 10000 ts) _ x e in
     let b = bind_ok (block n.0.1) _ x n.2 in
     subst (λ (z : Tree × Tokens). IsRead false z.0) (ok_is _ x b.2) (reads n.0.1 b.0 b.1)
-word_read block reads word.If w ts x e =
+word_read calls block known reads word.If w ts x e =
     let c = bind_ok (condition_at 16 ts) _ x e in
     let a = bind_ok (block c.0.1) _ x c.2 in
     let b = bind_ok (else_at block a.0.1) _ x a.2 in
     subst (λ (z : Tree × Tokens). IsRead false z.0) (ok_is _ x b.2) (reads c.0.1 a.0 a.1, else_read block reads a.0.1 b.0 b.1)
-word_read block reads word.Until w ts x e =
+word_read calls block known reads word.Until w ts x e =
     let c = bind_ok (condition_at 16 ts) _ x e in
     let u = bind_ok (past (codes "at") c.0.1) _ x c.2 in
     let v = bind_ok (past (codes "most") u.0) _ x u.2 in
     let n = bind_ok (number_within 1 10000 v.0) _ x v.2 in
     let b = bind_ok (block n.0.1) _ x n.2 in
     subst (λ (z : Tree × Tokens). IsRead false z.0) (ok_is _ x b.2) (reads n.0.1 b.0 b.1)
-word_read block reads word.NoFrame w ts x e = absurd (cc)
+word_read calls block known reads word.Call w ts x e = known ts x e
+word_read calls block known reads word.NoFrame w ts x e = absurd (cc)
 
-frame_read : (block : Reader) → Reads true block → Reads false (frame_from block)
+frame_read : (calls block : Reader) → Reads false calls → Reads true block → Reads false (frame_from calls block)
 unfolding frame_from
-frame_read block reads [] x e = absurd (cc)
-frame_read block reads (w ∷ ts) x e = word_read block reads (frame_word w) w ts x e
+frame_read calls block known reads [] x e = absurd (cc)
+frame_read calls block known reads (w ∷ ts) x e = word_read calls block known reads (frame_word w) w ts x e
+
+label_read : (ts : Tokens) (n : List ℕ × Tokens) → label_at ts ≡ Ok n → is_name n.0 ≡ true
+unfolding label_at
+label_read [] n e = absurd (cc)
+label_read (w ∷ ts) n e = by (is_name w) refl e
+  where
+    by : (b : Bool) → is_name w ≡ b → cond b (Ok (w, ts)) (Err (misplaced w)) ≡ Ok n → is_name n.0 ≡ true
+    by true h i = subst (λ (z : List ℕ × Tokens). is_name z.0 ≡ true) (ok_is _ n i) h
+    by false h i = absurd (cc)
+
+call_read : (ds : Scope ℕ) (d : ℕ) → Reads false (call_at ds d)
+call_read ds d ts x e =
+    let n = bind_ok (label_at ts) _ x e in
+    by n.0 (label_read ts n.0 n.1) (is_known ds n.0.0) (nat_le (named 0 ds n.0.0) d) n.2
+  where
+    by : (n : List ℕ × Tokens) → is_name n.0 ≡ true → (b k : Bool) → cond b (cond k (Ok (call n.0, n.1)) (Err cause.Depth)) (Err cause.Name) ≡ Ok x → IsRead false x.0
+    by n h true true i = subst (λ (z : Tree × Tokens). IsRead false z.0) (ok_is _ x i) h
+    by n h true false i = absurd (cc)
+    by n h false k i = absurd (cc)
 
 frames_read : (frame : Reader) → Reads false frame → (n : ℕ) → Reads true (frames_at frame n)
 unfolding frames_at
@@ -82,28 +103,60 @@ frames_read frame reads (suc n) (w ∷ ts) x e = by (same w (codes "}")) (λ us 
         let b = bind_ok (frames_at frame n a.0.1) _ x a.2 in
         subst (λ (z : Tree × Tokens). IsRead true z.0) (ok_is _ x b.2) (reads (w ∷ ts) a.0 a.1, more a.0.1 b.0 b.1)
 
-block_read : (d : ℕ) → Reads true (block_at d)
+block_read : (ds : Scope ℕ) (d : ℕ) → Reads true (block_at ds d)
 unfolding block_from inner_at
-block_read d [] x e = absurd (cc)
-block_read zero (w ∷ ts) x e = by (same w (codes "{")) e
+block_read ds d [] x e = absurd (cc)
+block_read ds zero (w ∷ ts) x e = by (same w (codes "{")) e
   where
     by : (t : Bool) → cond t (Err cause.Depth) (Err (misplaced w)) ≡ Ok x → IsRead true x.0
     by true i = absurd (cc)
     by false i = absurd (cc)
-block_read (suc d) (w ∷ ts) x e = by (same w (codes "{")) (λ us y i. block_read d us y i) e
+block_read ds (suc d) (w ∷ ts) x e = by (same w (codes "{")) (λ us y i. block_read ds d us y i) e
   where
-    by : (t : Bool) → Reads true (block_at d) → cond t (frames_at (frame_at d) (length ts) ts) (Err (misplaced w)) ≡ Ok x → IsRead true x.0
-    by true more i = frames_read (frame_at d) (frame_read (block_at d) more) (length ts) ts x i
+    by : (t : Bool) → Reads true (block_at ds d) → cond t (frames_at (frame_at ds d) (length ts) ts) (Err (misplaced w)) ≡ Ok x → IsRead true x.0
+    by true more i = frames_read (frame_at ds d) (frame_read (call_at ds d) (block_at ds d) (call_read ds d) more) (length ts) ts x i
     by false more i = absurd (cc)
 
-script_read : (n : ℕ) (ts : Tokens) (t : Tree) → script_at n ts ≡ Ok t → IsRead true t
+main_read : (ds : Scope ℕ) (n : ℕ) (ts : Tokens) (t : Tree) → main_at ds n ts ≡ Ok t → IsRead true t
+unfolding main_at
+main_read ds n [] t e = subst (IsRead true) (ok_is _ t e) tt
+main_read ds zero (w ∷ ts) t e = absurd (cc)
+main_read ds (suc n) (w ∷ ts) t e =
+    let a = bind_ok (frame_at ds 16 (w ∷ ts)) _ t e in
+    let b = bind_ok (main_at ds n a.0.1) _ t a.2 in
+    subst (IsRead true) (ok_is _ t b.2) (frame_read (call_at ds 16) (block_at ds 16) (call_read ds 16) (block_read ds 16) (w ∷ ts) a.0 a.1, main_read ds n a.0.1 b.0 b.1)
+
+-- a script's tree
+definition_read : (ds : Scope ℕ) (ts : Tokens) (x : (List ℕ × Tree) × Tokens) → definition_at ds ts ≡ Ok x → (is_name x.0.0 ≡ true) × IsRead true x.0.1
+definition_read ds ts x e =
+    let n = bind_ok (fresh_name_at ds ts) _ x e in
+    let m = bind_ok (label_at ts) _ n.0 n.1 in
+    let b = bind_ok (block_at ds 17 n.0.1) _ x n.2 in
+    let name = by m.0 (label_read ts m.0 m.1) (is_known ds m.0.0) n.0 m.2 in
+    subst (λ (z : (List ℕ × Tree) × Tokens). (is_name z.0.0 ≡ true) × IsRead true z.0.1) (ok_is _ x b.2) (name, block_read ds 17 n.0.1 b.0 b.1)
+  where
+    by : (m : List ℕ × Tokens) → is_name m.0 ≡ true → (b : Bool) → (n : List ℕ × Tokens) → cond b (Err cause.Name) (Ok m) ≡ Ok n → is_name n.0 ≡ true
+    by m h true n i = absurd (cc)
+    by m h false n i = subst (λ (z : List ℕ × Tokens). is_name z.0 ≡ true) (ok_is m n i) h
+
+script_read : (k : ℕ) (ds : Scope ℕ) (ts : Tokens) (t : Tree) → script_at k ds ts ≡ Ok t → IsScript t
 unfolding script_at
-script_read n [] t e = subst (IsRead true) (ok_is _ t e) tt
-script_read zero (w ∷ ts) t e = absurd (cc)
-script_read (suc n) (w ∷ ts) t e =
-    let a = bind_ok (frame_at 16 (w ∷ ts)) _ t e in
-    let b = bind_ok (script_at n a.0.1) _ t a.2 in
-    subst (IsRead true) (ok_is _ t b.2) (frame_read (block_at 16) (block_read 16) (w ∷ ts) a.0 a.1, script_read n a.0.1 b.0 b.1)
+script_read k ds [] t e = subst IsScript (ok_is _ t e) tt
+script_read zero ds (w ∷ ts) t e = by (same w (codes "define")) e
+  where
+    by : (b : Bool) → cond b (Err cause.Definitions) (main_at ds (length (w ∷ ts)) (w ∷ ts)) ≡ Ok t → IsScript t
+    by true i = absurd (cc)
+    by false i = script_of t (main_read ds (length (w ∷ ts)) (w ∷ ts) t i)
+script_read (suc k) ds (w ∷ ts) t e = by (same w (codes "define")) (λ xs us u i. script_read k xs us u i) e
+  where
+    by : (b : Bool) → ((xs : Scope ℕ) (us : Tokens) (u : Tree) → script_at k xs us ≡ Ok u → IsScript u)
+        → cond b (definition_at ds ts >>= (λ x. script_at k ((x.0.0, depth_in ds x.0.1) ∷ ds) x.1 >>= (λ t. Ok (define x.0.0 x.0.1 t)))) (main_at ds (length (w ∷ ts)) (w ∷ ts)) ≡ Ok t → IsScript t
+    by true more i =
+        let x = bind_ok (definition_at ds ts) _ t i in
+        let u = bind_ok (script_at k ((x.0.0.0, depth_in ds x.0.0.1) ∷ ds) x.0.1) _ t x.2 in
+        let s = definition_read ds ts x.0 x.1 in
+        subst IsScript (ok_is _ t u.2) (s.0, s.1, more ((x.0.0.0, depth_in ds x.0.0.1) ∷ ds) x.0.1 u.0 u.1)
+    by false more i = script_of t (main_read ds (length (w ∷ ts)) (w ∷ ts) t i)
 
 -- a tree within the bound is that of its text, and nothing else
 bounded_is : (t u : Tree) → bounded t ≡ Ok u → (t ≡ u) × (worst_messages t ≤ 1000000)
@@ -114,20 +167,20 @@ bounded_is t u e = by (nat_le (worst_messages t) 1000000) refl e
     by false i h = absurd (cc)
 
 -- the tokens of a printed tree
-printed_tokens : (t : Tree) → IsRead true t → IsSound t → tokens (printed t) ≡ tree_then t []
+printed_tokens : (t : Tree) → IsScript t → IsSound t → tokens (printed t) ≡ tree_then t []
 unfolding lex
-printed_tokens t r s = ap (lex false) (sym (append-nil (printed t))) ∙ (tree_spells true t 0 r s.in_range).reads []
+printed_tokens t r s = ap (lex false) (sym (append-nil (printed t))) ∙ (script_spells t r s.in_range).reads []
 
-sound_back : (t : Tree) → IsRead true t → IsSound t → tree_of_text (printed t) ≡ Ok t
+sound_back : (t : Tree) → IsScript t → IsSound t → tree_of_text (printed t) ≡ Ok t
 sound_back t r s =
-    ap (λ ts. script_at (length ts) ts >>= (λ u. bounded u)) (printed_tokens t r s)
-    ∙ ap (λ z. z >>= (λ u. bounded u)) (script_back t r s.in_range s.shallow (length (tree_then t [])) (omega arith))
+    ap (λ ts. script_at 32 [] ts >>= (λ u. bounded u)) (printed_tokens t r s)
+    ∙ ap (λ z. z >>= (λ u. bounded u)) (script_back t 32 [] [] (λ n. refl) (omega arith) r s.in_range s.defined s.shallow)
     ∙ ap (λ b. cond b (Ok t) (Err cause.Messages)) (le-leb (worst_messages t) 1000000 s.bounded)
 
 -- what a text has as its tree, its print has too
 pub print_reads_back : (text : List ℕ) (t : Tree) → tree_of_text text ≡ Ok t → tree_of_text (printed t) ≡ Ok t
 print_reads_back text t e =
     let ts = tokens text in
-    let u = bind_ok (script_at (length ts) ts) (λ v. bounded v) t e in
+    let u = bind_ok (script_at 32 [] ts) (λ v. bounded v) t e in
     let k = bounded_is u.0 t u.2 in
-    sound_back t (subst (IsRead true) k.0 (script_read (length ts) ts u.0 u.1)) (subst IsSound k.0 (script_is_sound ts u.0 u.1 k.1))
+    sound_back t (subst IsScript k.0 (script_read 32 [] ts u.0 u.1)) (subst IsSound k.0 (script_is_sound ts u.0 u.1 k.1))

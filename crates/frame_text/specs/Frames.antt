@@ -1,7 +1,8 @@
 -- The text of frames: the grammar of a script (own choice), and the tree of a text or its first fault.
 use Rattle.std.specs.Prelude.{ℕ, zero, suc, nat_le, if◌then◌else◌, List, [], ◌∷◌, length, Result, Ok, Err, codes}
-use Rattle.frame_tree.specs.Tree.{Tree, send, retry, gap, repeat, choose, until, nothing, chained}
-use Rattle.frame_tree.specs.Bounds.{worst_messages}
+use Rattle.frame_tree.specs.Tree.{Tree, send, retry, gap, repeat, choose, until, nothing, chained, call, define}
+use Rattle.frame_tree.specs.Bounds.{worst_messages, depth_in}
+use Rattle.frame_tree.specs.Names.{is_name, Scope, named, is_known}
 use Rattle.frame_text.specs.Tokens.{tokens}
 use Rattle.frame_text.specs.Reading.{Tokens, Reading, ◌>>=◌, same, misplaced, past}
 use Rattle.frame_text.specs.Words.{number_within}
@@ -20,6 +21,7 @@ frame_word w =
     if same w (codes "repeat") then word.Repeat else
     if same w (codes "if") then word.If else
     if same w (codes "until") then word.Until else
+    if same w (codes "call") then word.Call else
     word.NoFrame
 
 abbrev pub Reader : Type 0
@@ -46,19 +48,33 @@ until_at block ts =
     condition_at 16 ts
     >>= (λ c. past (codes "at") c.1 >>= (λ us. past (codes "most") us >>= (λ vs. number_within 1 10000 vs >>= (λ n. block n.1 >>= (λ b. Ok (until c.0 n.0 b.0, b.1))))))
 
--- a frame by its first word
-unfoldable pub frame_of : Reader → FrameWord → List ℕ → Tokens → Reading Tree
-frame_of block word.Send w ts = send_at ts >>= (λ x. Ok (send x.0.0 x.0.1, x.1))
-frame_of block word.Retry w ts = retry_at ts
-frame_of block word.Gap w ts = number_within 40 65535 ts >>= (λ n. Ok (gap n.0, n.1))
-frame_of block word.Repeat w ts = repeat_at block ts
-frame_of block word.If w ts = choice_at block ts
-frame_of block word.Until w ts = until_at block ts
-frame_of block word.NoFrame w ts = Err (misplaced w)
+-- the name of a definition
+unfoldable pub label_at : Tokens → Reading (List ℕ)
+label_at [] = Err cause.End
+label_at (w ∷ ts) = if is_name w then Ok (w, ts) else Err (misplaced w)
 
-unfoldable pub frame_from : Reader → Reader
-frame_from block [] = Err cause.End
-frame_from block (w ∷ ts) = frame_of block (frame_word w) w ts
+-- behind the word call: a name in scope, where each name in scope has the depth of its body, and no more than so many blocks in
+-- the body
+abbrev pub called : Scope ℕ → ℕ → List ℕ → Tokens → Reading Tree
+called ds d n ts = if is_known ds n then (if nat_le (named 0 ds n) d then Ok (call n, ts) else Err cause.Depth) else Err cause.Name
+
+abbrev pub call_at : Scope ℕ → ℕ → Reader
+call_at ds d ts = label_at ts >>= (λ n. called ds d n.0 n.1)
+
+-- a frame by its first word
+unfoldable pub frame_of : Reader → Reader → FrameWord → List ℕ → Tokens → Reading Tree
+frame_of calls block word.Send w ts = send_at ts >>= (λ x. Ok (send x.0.0 x.0.1, x.1))
+frame_of calls block word.Retry w ts = retry_at ts
+frame_of calls block word.Gap w ts = number_within 40 65535 ts >>= (λ n. Ok (gap n.0, n.1))
+frame_of calls block word.Repeat w ts = repeat_at block ts
+frame_of calls block word.If w ts = choice_at block ts
+frame_of calls block word.Until w ts = until_at block ts
+frame_of calls block word.Call w ts = calls ts
+frame_of calls block word.NoFrame w ts = Err (misplaced w)
+
+unfoldable pub frame_from : Reader → Reader → Reader
+frame_from calls block [] = Err cause.End
+frame_from calls block (w ∷ ts) = frame_of calls block (frame_word w) w ts
 
 -- frames up to the closing brace; there are no more of them than tokens
 unfoldable pub frames_at : Reader → ℕ → Reader
@@ -74,22 +90,42 @@ block_from inner [] = Err cause.End
 block_from inner (w ∷ ts) = if same w (codes "{") then (inner >>= (λ reader. reader ts)) else Err (misplaced w)
 
 -- what reads a block's frames, where at most so many blocks may stand in one another, this one among them
-unfoldable pub inner_at : ℕ → Result Reader Cause
-inner_at zero = Err cause.Depth
-inner_at (suc d) = Ok (λ ts. frames_at (frame_from (block_from (inner_at d))) (length ts) ts)
+unfoldable pub inner_at : Scope ℕ → ℕ → Result Reader Cause
+inner_at ds zero = Err cause.Depth
+inner_at ds (suc d) = Ok (λ ts. frames_at (frame_from (call_at ds d) (block_from (inner_at ds d))) (length ts) ts)
 
-abbrev pub block_at : ℕ → Reader
-block_at d = block_from (inner_at d)
+abbrev pub block_at : Scope ℕ → ℕ → Reader
+block_at ds d = block_from (inner_at ds d)
 
 -- a frame with at most so many blocks in one another
-abbrev pub frame_at : ℕ → Reader
-frame_at d ts = frame_from (block_at d) ts
+abbrev pub frame_at : Scope ℕ → ℕ → Reader
+frame_at ds d ts = frame_from (call_at ds d) (block_at ds d) ts
 
 -- frames up to the end; there are no more of them than tokens
-unfoldable pub script_at : ℕ → Tokens → Result Tree Cause
-script_at n [] = Ok nothing
-script_at zero (w ∷ ts) = Err cause.End
-script_at (suc n) (w ∷ ts) = frame_at 16 (w ∷ ts) >>= (λ x. script_at n x.1 >>= (λ t. Ok (chained x.0 t)))
+unfoldable pub main_at : Scope ℕ → ℕ → Tokens → Result Tree Cause
+main_at ds n [] = Ok nothing
+main_at ds zero (w ∷ ts) = Err cause.End
+main_at ds (suc n) (w ∷ ts) = frame_at ds 16 (w ∷ ts) >>= (λ x. main_at ds n x.1 >>= (λ t. Ok (chained x.0 t)))
+
+-- a name that is not in scope yet
+abbrev pub fresh : Scope ℕ → List ℕ × Tokens → Reading (List ℕ)
+fresh ds n = if is_known ds n.0 then Err cause.Name else Ok n
+
+abbrev pub fresh_name_at : Scope ℕ → Tokens → Reading (List ℕ)
+fresh_name_at ds ts = label_at ts >>= (λ n. fresh ds n)
+
+-- behind the word define: a fresh name, and the body in braces, which are no block of their own
+abbrev pub definition_at : Scope ℕ → Tokens → Reading (List ℕ × Tree)
+definition_at ds ts = fresh_name_at ds ts >>= (λ n. block_at ds 17 n.1 >>= (λ b. Ok ((n.0, b.0), b.1)))
+
+-- definitions, at most so many, and the frames behind them
+unfoldable pub script_at : ℕ → Scope ℕ → Tokens → Result Tree Cause
+script_at k ds [] = Ok nothing
+script_at zero ds (w ∷ ts) = if same w (codes "define") then Err cause.Definitions else main_at ds (length (w ∷ ts)) (w ∷ ts)
+script_at (suc k) ds (w ∷ ts) =
+    if same w (codes "define")
+    then (definition_at ds ts >>= (λ x. script_at k ((x.0.0, depth_in ds x.0.1) ∷ ds) x.1 >>= (λ t. Ok (define x.0.0 x.0.1 t))))
+    else main_at ds (length (w ∷ ts)) (w ∷ ts)
 
 -- a script sends at most 1,000,000 messages at worst
 abbrev pub bounded : Tree → Result Tree Cause
@@ -97,4 +133,4 @@ bounded t = if nat_le (worst_messages t) 1000000 then Ok t else Err cause.Messag
 
 -- the tree of a text, or its first fault from left to right
 abbrev pub tree_of_text : List ℕ → Result Tree Cause
-tree_of_text text = let ts = tokens text in script_at (length ts) ts >>= (λ t. bounded t)
+tree_of_text text = let ts = tokens text in script_at 32 [] ts >>= (λ t. bounded t)

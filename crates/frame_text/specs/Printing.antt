@@ -1,6 +1,6 @@
 -- The text that a tree is printed as: one frame a line, two spaces for each open block (own choice).
 use Rattle.std.specs.Prelude.{ℕ, zero, suc, ◌+◌, Bool, true, false, ◌&&◌, List, [], ◌++◌, codes, decimal}
-use Rattle.frame_tree.specs.Tree.{Tree, send, retry, gap, repeat, choose, until, nothing, chained}
+use Rattle.frame_tree.specs.Tree.{Tree, send, retry, gap, repeat, choose, until, nothing, chained, call, define}
 use Rattle.frame_text.specs.PrintedMessages.{send_text}
 use Rattle.frame_text.specs.PrintedConditions.{condition_text}
 
@@ -33,6 +33,9 @@ lines depth (choose c a b) =
     indent depth ++ (codes "if " ++ (condition_text c ++ (codes " " ++ (block_text depth (lines (depth + 1) a) ++ (else_text depth (is_empty b) (lines (depth + 1) b) ++ codes "\n")))))
 lines depth (until c count body) =
     indent depth ++ (codes "until " ++ (condition_text c ++ (codes " at most " ++ (decimal count ++ (codes " " ++ (block_text depth (lines (depth + 1) body) ++ codes "\n"))))))
+lines depth (call name) = indent depth ++ (codes "call " ++ (name ++ codes "\n"))
+lines depth (define name body rest) =
+    (indent depth ++ (codes "define " ++ (name ++ (codes " " ++ (block_text depth (lines (depth + 1) body) ++ codes "\n"))))) ++ lines depth rest
 lines depth nothing = []
 lines depth (chained a b) = lines depth a ++ lines depth b
 

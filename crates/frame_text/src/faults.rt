@@ -16,12 +16,16 @@ pub enum Cause {
     Message(BadMessage),
     /// S5: the text ends inside a frame or a block, at the place directly after its last byte.
     End,
-    /// S6: more than 16 blocks in one another, at the opening brace, or more than 16 operators above a test of a
-    /// condition, at the operator.
+    /// S6: more than 16 blocks in one another, at the opening brace, or at the `call` whose body would bring them over 16; the
+    /// braces of a definition are no block. Or more than 16 operators above a test of a condition, at the operator.
     Depth,
     /// S7: a number out of its range: a repeat or an until outside 1 to 10,000, a retry outside 1 to 8, a gap outside 40 to
     /// 65,535.
     Range,
+    /// S10: a definition of a name that was defined before, or a call of one that was not, at the name.
+    Name,
+    /// S11: a thirty-third definition, at its `define`.
+    Definitions,
     /// S8: more than 1,000,000 messages at worst, at line 1 column 1, once the text is read to its end.
     Messages,
 }
@@ -51,7 +55,7 @@ pub enum Fault {
 }
 
 impl Cause {
-    /// `S1` to `S8`.
+    /// `S1` to `S8`, `S10` and `S11`.
     fn code(&self) -> &'static str {
         match self {
             Cause::Byte => "S1",
@@ -62,11 +66,13 @@ impl Cause {
             Cause::Depth => "S6",
             Cause::Range => "S7",
             Cause::Messages => "S8",
+            Cause::Name => "S10",
+            Cause::Definitions => "S11",
         }
     }
 }
 
-/// `S1` to `S8`, and `S4 M1` to `S4 M5`.
+/// `S1` to `S8`, `S10`, `S11`, and `S4 M1` to `S4 M5`.
 impl Display for Cause {
     fn fmt<W: Write>(&self, f: &mut Formatter<W>) -> fmt::Result {
         match self {

@@ -4,7 +4,8 @@ ghost use Rattle.std.specs.Prelude.{◌≡◌, ◌<◌, ◌≤◌, length, map, 
 ghost use Rattle.frame_tree.specs.Tree.{tree_of, chain, nothing};
 ghost use Rattle.frame_text.specs.Tokens.{tokens};
 ghost use Rattle.frame_text.specs.Reading.{Gives};
-ghost use Rattle.frame_text.specs.Frames.{else_at, retry_at, repeat_at, choice_at, until_at, frame_at, frames_at, block_at, inner_at, script_at};
+ghost use Rattle.frame_tree.specs.Scopes.{scope_of};
+ghost use Rattle.frame_text.specs.Frames.{else_at, retry_at, repeat_at, choice_at, until_at, label_at, call_at, frame_at, frames_at, block_at, inner_at, main_at};
 
 use crate::conditions::condition;
 use crate::faults::{Cause, Fault};
@@ -13,7 +14,7 @@ use crate::memory::or_refused;
 use crate::messages::send;
 use crate::tokens::{after_token, fault, next};
 use crate::words::number_in_range;
-use frame_tree::Frame;
+use frame_tree::{Frame, Name, Scope};
 use std::alloc::Allocator;
 
 /// Frames one after the other.
@@ -34,8 +35,8 @@ fn no_frames<A: Allocator + Clone>(alloc: &A, rest: &[u8]) -> Result<Frame<A>, F
 
 // How many blocks may stand in a block, whose opening brace is the first token of the text.
 #[tactic(auto, using(crate::proofs::Scripts::inner_some, crate::proofs::Scripts::inner_none))]
-fn within(depth: u8, text: &[u8]) -> Result<u8, Fault>
-    ensures tree { Gives (λ d. λ ts. frames_at (frame_at d) (length ts) ts) result (inner_at depth) }
+fn within(scope: &Scope<'_>, depth: u8, text: &[u8]) -> Result<u8, Fault>
+    ensures tree { Gives (λ d. λ ts. frames_at (frame_at (scope_of scope.now) d) (length ts) ts) result (inner_at (scope_of scope.now) depth) }
     ensures fewer { IfOk result (λ d. d < depth) }
 {
     if depth == 0 {
@@ -44,15 +45,16 @@ fn within(depth: u8, text: &[u8]) -> Result<u8, Fault>
     Ok(depth - 1)
 }
 
-// A block in its braces.
+/// A block in its braces, with at most `depth` blocks in one another, this one among them.
 #[cycle(frames)]
 #[tactic(auto, unfolding(crate::specs::Frames::block_from))]
-fn block<'a, A: Allocator + Clone>(
+pub fn block<'a, A: Allocator + Clone>(
     alloc: &A,
     text: &'a [u8],
+    scope: &Scope<'_>,
     depth: u8,
 ) -> Result<(Frame<A>, &'a [u8]), Fault>
-    ensures tree { Gives (λ x. (tree_of x.0, tokens x.1.now)) result (block_at depth (tokens text.now)) }
+    ensures tree { Gives (λ x. (tree_of x.0, tokens x.1.now)) result (block_at (scope_of scope.now) depth (tokens text.now)) }
     ensures fewer { IfOk result (λ x. length (tokens x.1.now) < length (tokens text.now)) }
 {
     let Some((word, rest)) = next(text) else {
@@ -61,8 +63,8 @@ fn block<'a, A: Allocator + Clone>(
     if !is(word, b"{") {
         return Err(fault(misplaced(word), text));
     }
-    let depth = within(depth, text)?;
-    let (found, rest) = frames(alloc, rest, depth)?;
+    let depth = within(scope, depth, text)?;
+    let (found, rest) = frames(alloc, rest, scope, depth)?;
     let whole = seq(found);
     Ok((whole, rest))
 }
@@ -72,9 +74,10 @@ fn block<'a, A: Allocator + Clone>(
 fn frames<'a, A: Allocator + Clone>(
     alloc: &A,
     text: &'a [u8],
+    scope: &Scope<'_>,
     depth: u8,
 ) -> Result<(Vec<Frame<A>, A>, &'a [u8]), Fault>
-    ensures tree { Gives (λ x. (chain (map tree_of x.0.items), tokens x.1.now)) result (frames_at (frame_at depth) (length (tokens text.now)) (tokens text.now)) }
+    ensures tree { Gives (λ x. (chain (map tree_of x.0.items), tokens x.1.now)) result (frames_at (frame_at (scope_of scope.now) depth) (length (tokens text.now)) (tokens text.now)) }
     ensures fewer { IfOk result (λ x. length (tokens x.1.now) < length (tokens text.now)) }
 {
     let own = or_refused!(alloc.clone(), text);
@@ -84,7 +87,7 @@ fn frames<'a, A: Allocator + Clone>(
         if is(word, b"}") {
             return Ok((found, after));
         }
-        let (one, left) = frame(alloc, rest, depth)?;
+        let (one, left) = frame(alloc, rest, scope, depth)?;
         or_refused!(found.push(one), left);
         rest = left;
     }
@@ -97,9 +100,10 @@ fn frames<'a, A: Allocator + Clone>(
 fn else_part<'a, A: Allocator + Clone>(
     alloc: &A,
     text: &'a [u8],
+    scope: &Scope<'_>,
     depth: u8,
 ) -> Result<(Frame<A>, &'a [u8]), Fault>
-    ensures tree { Gives (λ x. (tree_of x.0, tokens x.1.now)) result (else_at (block_at depth) (tokens text.now)) }
+    ensures tree { Gives (λ x. (tree_of x.0, tokens x.1.now)) result (else_at (block_at (scope_of scope.now) depth) (tokens text.now)) }
     ensures fewer { IfOk result (λ x. length (tokens x.1.now) ≤ length (tokens text.now)) }
 {
     let Some((word, rest)) = next(text) else {
@@ -110,7 +114,7 @@ fn else_part<'a, A: Allocator + Clone>(
         let none = no_frames(alloc, text)?;
         return Ok((none, text));
     }
-    block(alloc, rest, depth)
+    block(alloc, rest, scope, depth)
 }
 
 // A message that is sent again, behind its first word.
@@ -132,18 +136,54 @@ fn retry<'a, A: Allocator + Clone>(text: &'a [u8]) -> Result<(Frame<A>, &'a [u8]
     ))
 }
 
+/// The name of a definition.
+#[tactic(auto, unfolding(crate::specs::Frames::label_at))]
+pub fn label(text: &[u8]) -> Result<(Name, &[u8]), Fault>
+    ensures tree { Gives (λ x. (x.0, tokens x.1.now)) result (label_at (tokens text.now)) }
+    ensures fewer { IfOk result (λ x. length (tokens x.1.now) < length (tokens text.now)) }
+{
+    let Some((word, rest)) = next(text) else {
+        return Err(fault(Cause::End, text));
+    };
+    match Name::new(word) {
+        Some(name) => Ok((name, rest)),
+        None => Err(fault(misplaced(word), text)),
+    }
+}
+
+// A call, behind its first word; `text` begins with that.
+fn call<'a, A: Allocator + Clone>(
+    text: &[u8],
+    behind: &'a [u8],
+    scope: &Scope<'_>,
+    depth: u8,
+) -> Result<(Frame<A>, &'a [u8]), Fault>
+    ensures tree { Gives (λ x. (tree_of x.0, tokens x.1.now)) result (call_at (scope_of scope.now) depth (tokens behind.now)) }
+    ensures fewer { IfOk result (λ x. length (tokens x.1.now) < length (tokens behind.now)) }
+{
+    let (name, rest) = label(behind)?;
+    if !scope.has(&name) {
+        return Err(fault(Cause::Name, behind));
+    }
+    if scope.number_of(&name) > u32::from(depth) {
+        return Err(fault(Cause::Depth, text));
+    }
+    Ok((Frame::Call(name), rest))
+}
+
 // A repeated block, behind its first word.
 #[cycle(frames)]
 fn repeat<'a, A: Allocator + Clone>(
     alloc: &A,
     text: &'a [u8],
+    scope: &Scope<'_>,
     depth: u8,
 ) -> Result<(Frame<A>, &'a [u8]), Fault>
-    ensures tree { Gives (λ x. (tree_of x.0, tokens x.1.now)) result (repeat_at (block_at depth) (tokens text.now)) }
+    ensures tree { Gives (λ x. (tree_of x.0, tokens x.1.now)) result (repeat_at (block_at (scope_of scope.now) depth) (tokens text.now)) }
     ensures fewer { IfOk result (λ x. length (tokens x.1.now) < length (tokens text.now)) }
 {
     let (count, rest) = number_in_range(text, 1, 10_000)?;
-    let (body, rest) = block(alloc, rest, depth)?;
+    let (body, rest) = block(alloc, rest, scope, depth)?;
     let own = or_refused!(alloc.clone(), rest);
     let body = or_refused!(Box::new(own, body), rest);
     let count = count as u16;
@@ -155,14 +195,15 @@ fn repeat<'a, A: Allocator + Clone>(
 fn choice<'a, A: Allocator + Clone>(
     alloc: &A,
     text: &'a [u8],
+    scope: &Scope<'_>,
     depth: u8,
 ) -> Result<(Frame<A>, &'a [u8]), Fault>
-    ensures tree { Gives (λ x. (tree_of x.0, tokens x.1.now)) result (choice_at (block_at depth) (tokens text.now)) }
+    ensures tree { Gives (λ x. (tree_of x.0, tokens x.1.now)) result (choice_at (block_at (scope_of scope.now) depth) (tokens text.now)) }
     ensures fewer { IfOk result (λ x. length (tokens x.1.now) < length (tokens text.now)) }
 {
     let (condition, rest) = condition(alloc, text, 16)?;
-    let (then, rest) = block(alloc, rest, depth)?;
-    let (otherwise, rest) = else_part(alloc, rest, depth)?;
+    let (then, rest) = block(alloc, rest, scope, depth)?;
+    let (otherwise, rest) = else_part(alloc, rest, scope, depth)?;
     let own = or_refused!(alloc.clone(), rest);
     let then = or_refused!(Box::new(own, then), rest);
     let own = or_refused!(alloc.clone(), rest);
@@ -182,16 +223,17 @@ fn choice<'a, A: Allocator + Clone>(
 fn until<'a, A: Allocator + Clone>(
     alloc: &A,
     text: &'a [u8],
+    scope: &Scope<'_>,
     depth: u8,
 ) -> Result<(Frame<A>, &'a [u8]), Fault>
-    ensures tree { Gives (λ x. (tree_of x.0, tokens x.1.now)) result (until_at (block_at depth) (tokens text.now)) }
+    ensures tree { Gives (λ x. (tree_of x.0, tokens x.1.now)) result (until_at (block_at (scope_of scope.now) depth) (tokens text.now)) }
     ensures fewer { IfOk result (λ x. length (tokens x.1.now) < length (tokens text.now)) }
 {
     let (condition, rest) = condition(alloc, text, 16)?;
     let rest = after_token(rest, b"at")?;
     let rest = after_token(rest, b"most")?;
     let (count, rest) = number_in_range(rest, 1, 10_000)?;
-    let (body, rest) = block(alloc, rest, depth)?;
+    let (body, rest) = block(alloc, rest, scope, depth)?;
     let own = or_refused!(alloc.clone(), rest);
     let body = or_refused!(Box::new(own, body), rest);
     let count = count as u16;
@@ -211,9 +253,10 @@ fn until<'a, A: Allocator + Clone>(
 pub fn frame<'a, A: Allocator + Clone>(
     alloc: &A,
     text: &'a [u8],
+    scope: &Scope<'_>,
     depth: u8,
 ) -> Result<(Frame<A>, &'a [u8]), Fault>
-    ensures tree { Gives (λ x. (tree_of x.0, tokens x.1.now)) result (frame_at depth (tokens text.now)) }
+    ensures tree { Gives (λ x. (tree_of x.0, tokens x.1.now)) result (frame_at (scope_of scope.now) depth (tokens text.now)) }
     ensures fewer { IfOk result (λ x. length (tokens x.1.now) < length (tokens text.now)) }
 {
     let Some((word, rest)) = next(text) else {
@@ -229,25 +272,10 @@ pub fn frame<'a, A: Allocator + Clone>(
             let (ticks, rest) = number_in_range(rest, 40, 65_535)?;
             Ok((Frame::Gap(ticks as u16), rest))
         }
-        FrameWord::Repeat => repeat(alloc, rest, depth),
-        FrameWord::If => choice(alloc, rest, depth),
-        FrameWord::Until => until(alloc, rest, depth),
+        FrameWord::Repeat => repeat(alloc, rest, scope, depth),
+        FrameWord::If => choice(alloc, rest, scope, depth),
+        FrameWord::Until => until(alloc, rest, scope, depth),
+        FrameWord::Call => call(text, rest, scope, depth),
         FrameWord::NoFrame => Err(fault(misplaced(word), text)),
     }
-}
-
-/// Frames up to the end of the text.
-pub fn script<A: Allocator + Clone>(alloc: &A, text: &[u8]) -> Result<Frame<A>, Fault>
-    ensures { Gives tree_of result (script_at (length (tokens text.now)) (tokens text.now)) }
-{
-    let own = or_refused!(alloc.clone(), text);
-    let mut found = Vec::new(own);
-    let mut rest = text;
-    while let Some((word, _)) = next(rest) {
-        let _ = word;
-        let (one, left) = frame(alloc, rest, 16)?;
-        or_refused!(found.push(one), left);
-        rest = left;
-    }
-    Ok(seq(found))
 }

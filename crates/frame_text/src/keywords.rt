@@ -45,6 +45,7 @@ pub enum FrameWord {
     Repeat,
     If,
     Until,
+    Call,
     NoFrame,
 }
 
@@ -177,6 +178,9 @@ pub fn frame_word(word: &[u8]) -> FrameWord
     }
     if is(word, b"until") {
         return FrameWord::Until;
+    }
+    if is(word, b"call") {
+        return FrameWord::Call;
     }
     FrameWord::NoFrame
 }

@@ -13,6 +13,7 @@ ghost use Rattle.frame_text.specs.Places.{StandsIn};
 ghost use Rattle.frame_text.specs.Printing.{printed};
 
 mod conditions;
+mod definitions;
 pub mod faults;
 mod frames;
 mod keywords;

@@ -1,14 +1,15 @@
 //! Frames as text, one a line.
 
-ghost use Rattle.std.specs.Prelude.{◌≡◌, ◌+◌, ◌++◌, OnOk, string_bytes, codes, decimal};
-ghost use Rattle.frame_tree.specs.Tree.{test_of, tree_of, retry, gap};
+ghost use Rattle.std.specs.Prelude.{◌≡◌, true, ◌+◌, ◌++◌, OnOk, string_bytes, codes, decimal};
+ghost use Rattle.frame_tree.specs.Tree.{test_of, tree_of, retry, gap, call};
+ghost use Rattle.frame_tree.specs.Names.{is_word};
 ghost use Rattle.frame_text.specs.PrintedConditions.{condition_text};
 ghost use Rattle.frame_text.specs.PrintedMessages.{send_text};
 ghost use Rattle.frame_text.specs.Printing as texts;
 
 use crate::printed_conditions::put_condition;
 use crate::printed_messages::put_send;
-use frame_tree::{Cond, Frame};
+use frame_tree::{Cond, Frame, Name};
 use mil_message::Message;
 use mil_word::Line;
 use std::alloc::{AllocError, Allocator};
@@ -72,6 +73,47 @@ fn put_gap(out: &mut String, ticks: u16, depth: usize) -> Result<(), AllocError>
 {
     put_indent(out, depth)?;
     write!(out, "gap {ticks}\n")
+}
+
+// A run of letters, digits and _.
+#[tactic(auto, using(crate::proofs::Naming::rest_is_word))]
+fn put_word(out: &mut String, word: &[u8]) -> Result<(), AllocError>
+    requires { is_word word.now ≡ true }
+    ensures { OnOk result (string_bytes out.new ≡ string_bytes out.old ++ word.now) }
+{
+    match word.split_first() {
+        None => Ok(()),
+        Some((byte, rest)) => {
+            out.push(*byte as char)?;
+            put_word(out, rest)
+        }
+    }
+}
+
+fn put_name(out: &mut String, name: &Name) -> Result<(), AllocError>
+    ensures { OnOk result (string_bytes out.new ≡ string_bytes out.old ++ name.now) }
+{
+    put_word(out, name.bytes())
+}
+
+// A call, on its line.
+#[tactic(auto, unfolding(crate::specs::Printing::lines))]
+fn put_call(out: &mut String, name: &Name, depth: usize) -> Result<(), AllocError>
+    ensures { OnOk result (string_bytes out.new ≡ string_bytes out.old ++ texts.lines depth (call name.now)) }
+{
+    put_indent(out, depth)?;
+    out.push_str("call ")?;
+    put_name(out, name)?;
+    out.push_str("\n")
+}
+
+// What stands in front of the block of a definition.
+fn put_define(out: &mut String, name: &Name) -> Result<(), AllocError>
+    ensures { OnOk result (string_bytes out.new ≡ string_bytes out.old ++ (codes "define " ++ (name.now ++ codes " "))) }
+{
+    out.push_str("define ")?;
+    put_name(out, name)?;
+    out.push_str(" ")
 }
 
 // What stands in front of the first block of an if.
@@ -169,6 +211,14 @@ pub fn put_lines<A: Allocator + Clone>(
                 put_lines(out, one, depth)?;
             }
             Ok(())
+        }
+        Frame::Call(name) => put_call(out, name, depth),
+        Frame::Define { name, body, rest } => {
+            put_indent(out, depth)?;
+            put_define(out, name)?;
+            put_block(out, body, depth)?;
+            out.push_str("\n")?;
+            put_lines(out, rest, depth)
         }
     }
 }

@@ -11,8 +11,8 @@ ghost use Rattle.frame_text.specs.Frames.{tree_of_text};
 use crate::faults::{Cause, Fault};
 use crate::keywords::misplaced;
 use crate::tokens::{fault, next};
-use crate::{conditions, frames, messages};
-use frame_tree::{Cond, Frame};
+use crate::{conditions, definitions, messages};
+use frame_tree::{Cond, Frame, Scope};
 use mil_message::Message;
 use mil_word::Line;
 use std::alloc::Allocator;
@@ -22,7 +22,7 @@ pub fn script<A: Allocator + Clone>(alloc: &A, text: &[u8]) -> Result<Frame<A>, 
     ensures tree { Gives tree_of result (tree_of_text text.now) }
     ensures sound { IfOk result (λ f. IsSound (tree_of f)) }
 {
-    let frame = frames::script(alloc, text)?;
+    let frame = definitions::script(alloc, text, &Scope::Empty, 32)?;
     if frame.worst_messages() > 1_000_000 {
         return Err(Fault::Text(Cause::Messages, text.len()));
     }

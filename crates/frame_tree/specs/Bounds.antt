@@ -1,29 +1,41 @@
 -- How large a tree is, and which trees are sound (own choice).
-use Rattle.std.specs.Prelude.{ℕ, ◌+◌, ◌*◌, ◌≤◌, ◌⊎◌, max}
-use Rattle.frame_tree.specs.Tree.{Test, failed, silent, bit, negated, both, either, Tree, send, retry, gap, repeat, choose, until, nothing, chained, bit_number}
+use Rattle.std.specs.Prelude.{◌≡◌, ℕ, ◌+◌, ◌*◌, ◌≤◌, ◌<◌, ◌⊎◌, max, true, false, [], ◌∷◌, length}
+use Rattle.frame_tree.specs.Tree.{Test, failed, silent, bit, negated, both, either, Tree, send, retry, gap, repeat, choose, until, nothing, chained, call, define, bit_number}
+use Rattle.frame_tree.specs.Names.{Scope, named, is_known}
 
--- how many messages a tree sends at most: every retry is used up, an until runs all its turns, and an if takes the branch
--- with more
+-- How many messages a tree sends at most, where a call of each name in scope sends so many: every retry is used up, an until
+-- runs all its turns, and an if takes the branch with more.
+abbrev pub messages_in : Scope ℕ → Tree → ℕ
+messages_in ds (send l m) = 1
+messages_in ds (retry n l m) = 1 + n
+messages_in ds (gap t) = 0
+messages_in ds (repeat n b) = n * messages_in ds b
+messages_in ds (choose c a b) = max (messages_in ds a) (messages_in ds b)
+messages_in ds (until c n b) = n * messages_in ds b
+messages_in ds nothing = 0
+messages_in ds (chained a b) = messages_in ds a + messages_in ds b
+messages_in ds (call n) = named 0 ds n
+messages_in ds (define n b r) = messages_in ((n, messages_in ds b) ∷ ds) r
+
 abbrev pub worst_messages : Tree → ℕ
-worst_messages (send l m) = 1
-worst_messages (retry n l m) = 1 + n
-worst_messages (gap t) = 0
-worst_messages (repeat n b) = n * worst_messages b
-worst_messages (choose c a b) = max (worst_messages a) (worst_messages b)
-worst_messages (until c n b) = n * worst_messages b
-worst_messages nothing = 0
-worst_messages (chained a b) = worst_messages a + worst_messages b
+worst_messages t = messages_in [] t
 
--- how many repeats, ifs and untils stand in one another
+-- How many repeats, ifs and untils stand in one another, where in a call of each name in scope so many do; the body of a
+-- definition counts, called or not.
+abbrev pub depth_in : Scope ℕ → Tree → ℕ
+depth_in ds (send l m) = 0
+depth_in ds (retry n l m) = 0
+depth_in ds (gap t) = 0
+depth_in ds (repeat n b) = 1 + depth_in ds b
+depth_in ds (choose c a b) = 1 + max (depth_in ds a) (depth_in ds b)
+depth_in ds (until c n b) = 1 + depth_in ds b
+depth_in ds nothing = 0
+depth_in ds (chained a b) = max (depth_in ds a) (depth_in ds b)
+depth_in ds (call n) = named 0 ds n
+depth_in ds (define n b r) = max (depth_in ds b) (depth_in ((n, depth_in ds b) ∷ ds) r)
+
 abbrev pub depth : Tree → ℕ
-depth (send l m) = 0
-depth (retry n l m) = 0
-depth (gap t) = 0
-depth (repeat n b) = 1 + depth b
-depth (choose c a b) = 1 + max (depth a) (depth b)
-depth (until c n b) = 1 + depth b
-depth nothing = 0
-depth (chained a b) = max (depth a) (depth b)
+depth t = depth_in [] t
 
 -- how many operators stand above a test at most
 abbrev pub operators : Test → ℕ
@@ -60,9 +72,30 @@ IsInRange (choose c a b) = IsCondition c × IsInRange a × IsInRange b
 IsInRange (until c n b) = IsCondition c × (1 ≤ n) × (n ≤ 10000) × IsInRange b
 IsInRange nothing = Unit {0}
 IsInRange (chained a b) = IsInRange a × IsInRange b
+IsInRange (call n) = Unit {0}
+IsInRange (define n b r) = IsInRange b × IsInRange r
+
+-- no definition in it, and each call names a definition in scope
+abbrev pub CallsKnown : {X : Type 0} → Scope X → Tree → Type 0
+CallsKnown ds (send l m) = Unit {0}
+CallsKnown ds (retry n l m) = Unit {0}
+CallsKnown ds (gap t) = Unit {0}
+CallsKnown ds (repeat n b) = CallsKnown ds b
+CallsKnown ds (choose c a b) = CallsKnown ds a × CallsKnown ds b
+CallsKnown ds (until c n b) = CallsKnown ds b
+CallsKnown ds nothing = Unit {0}
+CallsKnown ds (chained a b) = CallsKnown ds a × CallsKnown ds b
+CallsKnown ds (call n) = is_known ds n ≡ true
+CallsKnown ds (define n b r) = ⊥
+
+-- definitions stand at the outside alone, at most 32 of them, with distinct names, and each call names an earlier one
+abbrev pub IsDefined : Scope ℕ → Tree → Type 0
+IsDefined ds (define n b r) = (length ds < 32) × (is_known ds n ≡ false) × CallsKnown ds b × IsDefined ((n, length ds) ∷ ds) r
+IsDefined ds t = CallsKnown ds t
 
 -- a tree that may be assembled
 pub record IsSound (t : Tree) : Type 0 where
   pub shallow : depth t ≤ 16
   pub in_range : IsInRange t
   pub bounded : worst_messages t ≤ 1000000
+  pub defined : IsDefined [] t

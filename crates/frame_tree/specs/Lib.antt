@@ -1,3 +1,6 @@
 pub mod Tree
+pub mod Names
+pub mod Scopes
 pub mod Bounds
+pub mod Expansion
 pub mod Meaning

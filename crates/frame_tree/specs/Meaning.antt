@@ -3,7 +3,8 @@ use Rattle.std.specs.Prelude.{ℕ, zero, suc, ◌+◌, Bool, not, ◌&&◌, ◌|
 use Rattle.mil_word.specs.declared.Line.{Line}
 use Rattle.mil_message.specs.declared.messages.Message.{Message}
 use Rattle.mil_message.specs.World.{World, Point, other_line, sent, asks}
-use Rattle.frame_tree.specs.Tree.{Test, failed, silent, bit, negated, both, either, Tree, send, retry, gap, repeat, choose, until, nothing, chained, bit_number}
+use Rattle.frame_tree.specs.Tree.{Test, failed, silent, bit, negated, both, either, Tree, send, retry, gap, repeat, choose, until, nothing, chained, call, define, bit_number}
+use Rattle.frame_tree.specs.Expansion.{expansion}
 
 -- n times in a row
 abbrev pub times : {X : Type 0} → ℕ → (X → X) → X → X
@@ -31,13 +32,19 @@ module _ {State Outcome : Type 0} (w : World State Outcome) where
   turns_until zero c body p = p
   turns_until (suc n) c body p = if test_meaning c p then p else turns_until n c body (body p)
 
-  -- where a run is after a frame
+  -- where a run is after a frame without calls; a call that is left has nothing to stand for it
+  abbrev pub plain_meaning : Tree → Point State Outcome → Point State Outcome
+  plain_meaning (send line message) p = sent w line message p
+  plain_meaning (retry n line message) p = attempts n line message (sent w line message p)
+  plain_meaning (gap t) p = record p { gap = t }
+  plain_meaning (repeat n body) p = times n (plain_meaning body) p
+  plain_meaning (choose c a b) p = if test_meaning c p then plain_meaning a p else plain_meaning b p
+  plain_meaning (until c n body) p = turns_until n c (plain_meaning body) p
+  plain_meaning nothing p = p
+  plain_meaning (chained a b) p = plain_meaning b (plain_meaning a p)
+  plain_meaning (call n) p = p
+  plain_meaning (define n b r) p = plain_meaning r p
+
+  -- where a run is after a frame: what its expansion means
   abbrev pub meaning : Tree → Point State Outcome → Point State Outcome
-  meaning (send line message) p = sent w line message p
-  meaning (retry n line message) p = attempts n line message (sent w line message p)
-  meaning (gap t) p = record p { gap = t }
-  meaning (repeat n body) p = times n (meaning body) p
-  meaning (choose c a b) p = if test_meaning c p then meaning a p else meaning b p
-  meaning (until c n body) p = turns_until n c (meaning body) p
-  meaning nothing p = p
-  meaning (chained a b) p = meaning b (meaning a p)
+  meaning t p = plain_meaning (expansion t) p

@@ -16,7 +16,8 @@ pub data Test : Type 0 where
   both : Test → Test → Test
   either : Test → Test → Test
 
--- frames one after the other are chained: one and the chain of those after it, ended by nothing
+-- frames one after the other are chained: one and the chain of those after it, ended by nothing; a definition is its name,
+-- its body, and the tree in which the name stands for it
 pub data Tree : Type 0 where
   send : Line → Message → Tree
   retry : ℕ → Line → Message → Tree
@@ -26,6 +27,8 @@ pub data Tree : Type 0 where
   until : Test → ℕ → Tree → Tree
   nothing : Tree
   chained : Tree → Tree → Tree
+  call : List ℕ → Tree
+  define : List ℕ → Tree → Tree → Tree
 
 abbrev pub chain : List Tree → Tree
 chain [] = nothing
@@ -62,6 +65,8 @@ tree_step (Frame-F.Repeat n b) = repeat n b.value
 tree_step (Frame-F.If c a b) = choose (test_of c) a.value b.value
 tree_step (Frame-F.Until c n b) = until (test_of c) n b.value
 tree_step (Frame-F.Seq v) = chain v.items
+tree_step (Frame-F.Call n) = call n
+tree_step (Frame-F.Define n b r) = define n b.value r.value
 
 -- a frame as plain data
 abbrev pub tree_of : {A : Type 0} → Frame A → Tree

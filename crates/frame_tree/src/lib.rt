@@ -2,13 +2,17 @@
 //! assembled. Its tests are in `frame_tests`.
 #![tactic(auto)]
 
+mod bounds;
 mod conditions;
 mod frames;
+mod names;
 
+pub use bounds::expansion_keeps;
 pub use conditions::number_of_bit;
 use mil_message::Message;
 use mil_status::StatusBits;
 use mil_word::Line;
+pub use names::{Name, Scope};
 use std::alloc::Allocator;
 
 /// A condition on the outcome of the last message; before any message every test in it is false.
@@ -65,4 +69,13 @@ pub enum Frame<A: Allocator + Clone> {
     },
     /// Runs frames one after the other.
     Seq(Vec<Frame<A>, A>),
+    /// Runs the body of the definition of this name.
+    Call(Name),
+    /// Runs the rest, in which the name stands for the body. A frame may be assembled where its definitions stand at the
+    /// outside: at most 32, with distinct names, each calling earlier ones alone.
+    Define {
+        name: Name,
+        body: Box<Frame<A>, A>,
+        rest: Box<Frame<A>, A>,
+    },
 }

@@ -29,7 +29,7 @@ here m = record { at = m.at; point = m.point }
 
 -- its run from the beginning
 reached : (job : ChannelJob) (placed : List Placed) (m : MachineState) → IsOf job placed m
-    → run (world_at job placed) m.taken (code_of job.tree) start (beginning (bus_of job)) ≡ goes_on (here m)
+    → run (world_at job placed) m.taken (code_of job.tree) (start (code_of job.tree)) (beginning (bus_of job)) ≡ goes_on (here m)
 reached job placed m of = rw (of.code, of.plan, of.actions, of.begun) at of.under_way.reached
 
 halts_here : (job : ChannelJob) (placed : List Placed) (m : MachineState) → IsOf job placed m → turn_of m ≡ halted
@@ -40,7 +40,7 @@ halts_here job placed m of e = rw (of.code, of.plan, of.actions) at e
 pub counted : (job : ChannelJob) (placed : List Placed) (m : MachineState) → IsOf job placed m → m.point.number ≡ length (records_in m.point.state)
 counted job placed m of =
     records_count (beginning (bus_of job)) m.point refl refl
-    (run_keeps (world_at job placed) (code_of job.tree) Grows grows_same grows_gap (grows_message job.plan placed) grows_through m.taken start (beginning (bus_of job)) (here m) (reached job placed m of))
+    (run_keeps (world_at job placed) (code_of job.tree) Grows grows_same grows_gap (grows_message job.plan placed) grows_through m.taken (start (code_of job.tree)) (beginning (bus_of job)) (here m) (reached job placed m of))
 
 module _ (means : CodeMeans) (job : ChannelJob) (placed : List Placed) (m : MachineState) (sound : IsSound job.tree) (of : IsOf job placed m) where
   pub so_far : records_in m.point.state ≡ take m.point.number (records job placed)
@@ -49,10 +49,10 @@ module _ (means : CodeMeans) (job : ChannelJob) (placed : List Placed) (m : Mach
       let code = code_of job.tree in
       let first = beginning (bus_of job) in
       let b : Behaves w job.tree code first = means w job.tree first sound in
-      let way : run w m.taken code start first ≡ goes_on (here m) = reached job placed m of in
+      let way : run w m.taken code (start code) first ≡ goes_on (here m) = reached job placed m of in
       records_first first m.point (end_of job placed) refl refl
-      (run_keeps w code Grows grows_same grows_gap (grows_message job.plan placed) grows_through m.taken start first (here m) way)
-      (run_ends w code Grows grows_same grows_gap (grows_message job.plan placed) grows_through m.taken b.steps start first (here m) (record { at = b.last; point = end_of job placed }) way b.comes b.halts)
+      (run_keeps w code Grows grows_same grows_gap (grows_message job.plan placed) grows_through m.taken (start code) first (here m) way)
+      (run_ends w code Grows grows_same grows_gap (grows_message job.plan placed) grows_through m.taken b.steps (start code) first (here m) (record { at = b.last; point = end_of job placed }) way b.comes b.halts)
 
   pub bus_so_far : m.point.state ≡ bus_after job placed m.point.number
   bus_so_far =
@@ -61,8 +61,8 @@ module _ (means : CodeMeans) (job : ChannelJob) (placed : List Placed) (m : Mach
       let code = code_of job.tree in
       let first = beginning (bus_of job) in
       let b : Behaves (up_to k w) job.tree code first = means (up_to k w) job.tree first sound in
-      let way : run (up_to k w) m.taken code start first ≡ goes_on (here m) = run_agrees w k code m.taken start first (here m) (reached job placed m of) (omega arith) in
-      sym (stands_still w k code m.taken b.steps start first (here m) (record { at = b.last; point = meaning (up_to k w) job.tree first }) way b.comes b.halts (omega arith))
+      let way : run (up_to k w) m.taken code (start code) first ≡ goes_on (here m) = run_agrees w k code m.taken (start code) first (here m) (reached job placed m of) (omega arith) in
+      sym (stands_still w k code m.taken b.steps (start code) first (here m) (record { at = b.last; point = meaning (up_to k w) job.tree first }) way b.comes b.halts (omega arith))
 
   pub all_records : turn_of m ≡ halted → records_in m.point.state ≡ records job placed
   all_records e =
@@ -71,11 +71,11 @@ module _ (means : CodeMeans) (job : ChannelJob) (placed : List Placed) (m : Mach
       let first = beginning (bus_of job) in
       let b : Behaves w job.tree code first = means w job.tree first sound in
       let last : Running BusState Outcome = record { at = b.last; point = end_of job placed } in
-      let way : run w m.taken code start first ≡ goes_on (here m) = reached job placed m of in
+      let way : run w m.taken code (start code) first ≡ goes_on (here m) = reached job placed m of in
       let ends : step w code m.at m.point ≡ halted = halts_here job placed m of e in
       let one : goes_on (here m) ≡ goes_on last =
-      ⊎_elim (λ less. sym (run_stays w code m.taken b.steps start first (here m) ends way (omega (arith, less))) ∙ b.comes)
-      (λ le. sym way ∙ run_stays w code b.steps m.taken start first last b.halts b.comes le) (cases_lt m.taken b.steps) in
+      ⊎_elim (λ less. sym (run_stays w code m.taken b.steps (start code) first (here m) ends way (omega (arith, less))) ∙ b.comes)
+      (λ le. sym way ∙ run_stays w code b.steps m.taken (start code) first last b.halts b.comes le) (cases_lt m.taken b.steps) in
       let same : here m ≡ last = cc in
       ap (λ (v : Running BusState Outcome). records_in v.point.state) same
 

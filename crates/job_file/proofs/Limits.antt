@@ -31,36 +31,40 @@ module _ {State Outcome : Type 0} (w : World State Outcome) (k : ℕ) (code : Co
       let low : p.number + 1 ≤ k = omega (arith, number, le) in
       rw (le-leb (p.number + 1) k low) e
 
-  act_agrees : (o : Option Op) (ms : List (Line × Message)) (r : Registers) (p : Point State Outcome) (x : Running State Outcome)
-      → act w o ms r p ≡ goes_on x → x.point.number ≤ k → act (up_to k w) o ms r p ≡ goes_on x
-  act_agrees None ms r p x e le = e
-  act_agrees (Some op.Halt) ms r p x e le = e
-  act_agrees (Some (op.Send m)) ms r p x e le = sends_agree (slice_get ms m) (λ l. l) r p x e le
-  act_agrees (Some (op.Alt m)) ms r p x e le = sends_agree (slice_get ms m) (λ l. other_line r.line) r p x e le
-  act_agrees (Some (op.SetGap t)) ms r p x e le = e
-  act_agrees (Some (op.Loop n)) ms r p x e le = e
-  act_agrees (Some (op.Again i)) ms r p x e le = e
-  act_agrees (Some (op.Leave i)) ms r p x e le = e
-  act_agrees (Some (op.Jump i)) ms r p x e le = e
-  act_agrees (Some (op.Test t)) ms r p x e le = e
-  act_agrees (Some (op.JumpFalse i)) ms r p x e le = e
+  act_agrees : (o : Option Op) (code : Code) (r : Registers) (p : Point State Outcome) (x : Running State Outcome)
+      → act w o code r p ≡ goes_on x → x.point.number ≤ k → act (up_to k w) o code r p ≡ goes_on x
+  act_agrees None code r p x e le = e
+  act_agrees (Some op.Halt) code r p x e le = e
+  act_agrees (Some (op.Send m)) code r p x e le = sends_agree (slice_get code.messages m) (λ l. l) r p x e le
+  act_agrees (Some (op.Alt m)) code r p x e le = sends_agree (slice_get code.messages m) (λ l. other_line r.line) r p x e le
+  act_agrees (Some (op.SetGap t)) code r p x e le = e
+  act_agrees (Some (op.Loop n)) code r p x e le = e
+  act_agrees (Some (op.Again i)) code r p x e le = e
+  act_agrees (Some (op.Leave i)) code r p x e le = e
+  act_agrees (Some (op.Jump i)) code r p x e le = e
+  act_agrees (Some (op.Test t)) code r p x e le = e
+  act_agrees (Some (op.JumpFalse i)) code r p x e le = e
+  act_agrees (Some (op.Call n)) code r p x e le = e
+  act_agrees (Some op.Return) code r p x e le = e
 
   sends_on : (o : Option (Line × Message)) (on : Line → Line) (r : Registers) (p : Point State Outcome) → sends w o on r p ≡ halted → sends (up_to k w) o on r p ≡ halted
   sends_on None on r p e = e
   sends_on (Some m) on r p e = absurd (cc)
 
-  act_halts : (o : Option Op) (ms : List (Line × Message)) (r : Registers) (p : Point State Outcome) → act w o ms r p ≡ halted → act (up_to k w) o ms r p ≡ halted
-  act_halts None ms r p e = e
-  act_halts (Some op.Halt) ms r p e = e
-  act_halts (Some (op.Send m)) ms r p e = sends_on (slice_get ms m) (λ l. l) r p e
-  act_halts (Some (op.Alt m)) ms r p e = sends_on (slice_get ms m) (λ l. other_line r.line) r p e
-  act_halts (Some (op.SetGap t)) ms r p e = e
-  act_halts (Some (op.Loop n)) ms r p e = e
-  act_halts (Some (op.Again i)) ms r p e = e
-  act_halts (Some (op.Leave i)) ms r p e = e
-  act_halts (Some (op.Jump i)) ms r p e = e
-  act_halts (Some (op.Test t)) ms r p e = e
-  act_halts (Some (op.JumpFalse i)) ms r p e = e
+  act_halts : (o : Option Op) (code : Code) (r : Registers) (p : Point State Outcome) → act w o code r p ≡ halted → act (up_to k w) o code r p ≡ halted
+  act_halts None code r p e = e
+  act_halts (Some op.Halt) code r p e = e
+  act_halts (Some (op.Send m)) code r p e = sends_on (slice_get code.messages m) (λ l. l) r p e
+  act_halts (Some (op.Alt m)) code r p e = sends_on (slice_get code.messages m) (λ l. other_line r.line) r p e
+  act_halts (Some (op.SetGap t)) code r p e = e
+  act_halts (Some (op.Loop n)) code r p e = e
+  act_halts (Some (op.Again i)) code r p e = e
+  act_halts (Some (op.Leave i)) code r p e = e
+  act_halts (Some (op.Jump i)) code r p e = e
+  act_halts (Some (op.Test t)) code r p e = e
+  act_halts (Some (op.JumpFalse i)) code r p e = e
+  act_halts (Some (op.Call n)) code r p e = e
+  act_halts (Some op.Return) code r p e = e
 
   -- a run of at most k messages is the same in both worlds
   pub run_agrees : (n : ℕ) (r : Registers) (p : Point State Outcome) (x : Running State Outcome) → run w n code r p ≡ goes_on x → x.point.number ≤ k
@@ -73,10 +77,10 @@ module _ {State Outcome : Type 0} (w : World State Outcome) (k : ℕ) (code : Co
           → then_run w t (record { at = r; point = p }) (run w n code) ≡ goes_on x → run (up_to k w) (suc n) code r p ≡ goes_on x
       go (goes_on z) s more h =
           let low : z.point.number ≤ k = omega (arith, rises n z.at z.point x h, le) in
-          let also : step (up_to k w) code r p ≡ goes_on z = act_agrees (slice_get code.operations r.place) code.messages r p z s low in
+          let also : step (up_to k w) code r p ≡ goes_on z = act_agrees (slice_get code.operations r.place) code r p z s low in
           ap (λ t. then_run (up_to k w) t (record { at = r; point = p }) (run (up_to k w) n code)) also ∙ more z h
       go halted s more h =
-          let also : step (up_to k w) code r p ≡ halted = act_halts (slice_get code.operations r.place) code.messages r p s in
+          let also : step (up_to k w) code r p ≡ halted = act_halts (slice_get code.operations r.place) code r p s in
           ap (λ t. then_run (up_to k w) t (record { at = r; point = p }) (run (up_to k w) n code)) also ∙ h
       go stuck s more h = absurd (cc)
 

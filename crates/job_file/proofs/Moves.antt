@@ -6,7 +6,8 @@ use Rattle.mil_message.specs.declared.messages.Message.{Message}
 use Rattle.mil_message.specs.World.{World, Point, other_line, sent}
 use Rattle.frame_code.specs.declared.Op.{Op}
 use Rattle.frame_code.specs.declared.Op.TheVariants as op
-use Rattle.frame_code.specs.Table.{Code, Registers, Running, Turn, goes_on, halted, stuck, sends, counted, turns, leaves, act, step, then_run, run}
+use Rattle.frame_code.specs.Table.{Code, Registers, Running, Turn, goes_on, halted, stuck, sends, counted, turns, leaves, act, step, then_run, run, calls, comes_back}
+use Rattle.frame_code.specs.Routines.{routine_at}
 use Rattle.bc_machine.proofs.Runs.{run_halted}
 
 module _ {State Outcome : Type 0} (w : World State Outcome) (code : Code) (R : Point State Outcome → Point State Outcome → Type 0)
@@ -32,21 +33,31 @@ module _ {State Outcome : Type 0} (w : World State Outcome) (code : Code) (R : P
   leaves_keep [] i r p x e = absurd (cc)
   leaves_keep (n ∷ ns) i r p x e = comes p _ x e (same p)
 
-  act_keeps : (o : Option Op) (ms : List (Line × Message)) (r : Registers) (p : Point State Outcome) (x : Running State Outcome) → act w o ms r p ≡ goes_on x → R p x.point
-  act_keeps None ms r p x e = absurd (cc)
-  act_keeps (Some op.Halt) ms r p x e = absurd (cc)
-  act_keeps (Some (op.Send m)) ms r p x e = sends_keep (slice_get ms m) (λ l. l) r p x e
-  act_keeps (Some (op.Alt m)) ms r p x e = sends_keep (slice_get ms m) (λ l. other_line r.line) r p x e
-  act_keeps (Some (op.SetGap t)) ms r p x e = comes p _ x e (gap p t)
-  act_keeps (Some (op.Loop n)) ms r p x e = comes p _ x e (same p)
-  act_keeps (Some (op.Again i)) ms r p x e = turns_keep r.counters i r p x e
-  act_keeps (Some (op.Leave i)) ms r p x e = leaves_keep r.counters i r p x e
-  act_keeps (Some (op.Jump i)) ms r p x e = comes p _ x e (same p)
-  act_keeps (Some (op.Test k)) ms r p x e = comes p _ x e (same p)
-  act_keeps (Some (op.JumpFalse i)) ms r p x e = comes p _ x e (same p)
+  calls_keep : (o : Option ℕ) (r : Registers) (p : Point State Outcome) (x : Running State Outcome) → calls w o r p ≡ goes_on x → R p x.point
+  calls_keep None r p x e = absurd (cc)
+  calls_keep (Some i) r p x e = comes p _ x e (same p)
+
+  backs_keep : (is : List ℕ) (r : Registers) (p : Point State Outcome) (x : Running State Outcome) → comes_back w is r p ≡ goes_on x → R p x.point
+  backs_keep [] r p x e = absurd (cc)
+  backs_keep (i ∷ is) r p x e = comes p _ x e (same p)
+
+  act_keeps : (o : Option Op) (code : Code) (r : Registers) (p : Point State Outcome) (x : Running State Outcome) → act w o code r p ≡ goes_on x → R p x.point
+  act_keeps None code r p x e = absurd (cc)
+  act_keeps (Some op.Halt) code r p x e = absurd (cc)
+  act_keeps (Some (op.Send m)) code r p x e = sends_keep (slice_get code.messages m) (λ l. l) r p x e
+  act_keeps (Some (op.Alt m)) code r p x e = sends_keep (slice_get code.messages m) (λ l. other_line r.line) r p x e
+  act_keeps (Some (op.SetGap t)) code r p x e = comes p _ x e (gap p t)
+  act_keeps (Some (op.Loop n)) code r p x e = comes p _ x e (same p)
+  act_keeps (Some (op.Again i)) code r p x e = turns_keep r.counters i r p x e
+  act_keeps (Some (op.Leave i)) code r p x e = leaves_keep r.counters i r p x e
+  act_keeps (Some (op.Jump i)) code r p x e = comes p _ x e (same p)
+  act_keeps (Some (op.Test k)) code r p x e = comes p _ x e (same p)
+  act_keeps (Some (op.JumpFalse i)) code r p x e = comes p _ x e (same p)
+  act_keeps (Some (op.Call n)) code r p x e = calls_keep (routine_at code.operations n) r p x e
+  act_keeps (Some op.Return) code r p x e = backs_keep r.returns r p x e
 
   pub step_keeps : (r : Registers) (p : Point State Outcome) (x : Running State Outcome) → step w code r p ≡ goes_on x → R p x.point
-  step_keeps r p x e = act_keeps (slice_get code.operations r.place) code.messages r p x e
+  step_keeps r p x e = act_keeps (slice_get code.operations r.place) code r p x e
 
   pub run_keeps : (n : ℕ) (r : Registers) (p : Point State Outcome) (x : Running State Outcome) → run w n code r p ≡ goes_on x → R p x.point
   run_keeps zero r p x e = comes p _ x e (same p)

@@ -1,14 +1,17 @@
 -- Words that one station hears one after the other, and words that all hear.
-use Rattle.std.proofs.Common.{◌≡◌, ℕ, List, [], ◌∷◌, ◌++◌, map, take, drop, refl, sym, ap, ◌∙◌, false, None}
+use Rattle.std.proofs.Common.{◌≡◌, ℕ, zero, suc, List, [], ◌∷◌, ◌++◌, map, take, drop, refl, sym, ap, ◌∙◌, true, false, None}
 use Rattle.std.proofs.lemmas.List.{take-append-drop}
 use Rattle.mil_word.specs.declared.Line.{Line}
 use Rattle.mil_word.specs.Words.{command_in}
 use Rattle.mil_terminal.specs.declared.events.Event.TheVariants.{Heard}
-use Rattle.mil_terminal.specs.Station.{Station}
 use Rattle.mil_terminal.specs.Windows.{opens}
 use Rattle.mil_bus.specs.declared.talks.Sent.{Sent}
-use Rattle.mil_bus.specs.Exchange.{hearing, all_hearing}
-use Rattle.mil_bus.specs.DataRuns.{hearing_all}
+use Rattle.mil_terminal.specs.Station.{Station, after}
+use Rattle.mil_terminal.specs.Runs.{heard, after_all}
+use Rattle.mil_bus.specs.declared.talks.Source.{Source}
+use Rattle.mil_bus.specs.Exchange.{sends, hearing, all_hearing, words_of}
+use Rattle.mil_bus.specs.DataRuns.{hearing_all, run_words, gap_at, run_from}
+use Rattle.mil_bus.specs.declared.talk_runs.Run.{Run}
 use Rattle.mil_bus.proofs.Indexing.{hearing-own}
 
 map_same : (f : Station → Station) → ((s : Station) → f s ≡ s) → (xs : List Station) → xs ≡ map f xs
@@ -47,3 +50,50 @@ hearing_all-own line (w ∷ ws) s = hearing_all-own line ws (hearing line w s) �
 -- a word that is no command opens no window
 pub opens-none : (own : ℕ) (line : Line) (wave gap : ℕ) → command_in wave ≡ None → opens own (Heard line wave gap) ≡ false
 opens-none own line wave gap none = rw none refl
+
+-- ---- the words of a run
+
+gap_at-same : (place : ℕ) → gap_at place 20 ≡ 20
+gap_at-same zero = refl
+gap_at-same (suc place) = refl
+
+words_of-cut : (number : ℕ) (source : Source) (gap n : ℕ) (waves : List ℕ)
+    → words_of number source gap (take n waves) ++ words_of number source (gap_at n gap) (drop n waves) ≡ words_of number source gap waves
+words_of-cut number source gap zero waves = refl
+words_of-cut number source gap (suc n) [] = refl
+words_of-cut number source gap (suc n) (w ∷ ws) =
+    ap (λ vs. record { wave = w; gap = gap; run = number; source = source } ∷ vs)
+    (ap (λ g. words_of number source 20 (take n ws) ++ words_of number source g (drop n ws)) (sym (gap_at-same n)) ∙ words_of-cut number source 20 n ws)
+
+-- the words of a run up to a place, and then those behind it
+pub run-cut : (line : Line) (run : Run) (n : ℕ) (waves : List ℕ) (xs : List Station)
+    → map (hearing_all line (run_words (run_from n run) (drop n waves))) (all_hearing line (run_words run (take n waves)) xs) ≡ all_hearing line (run_words run waves) xs
+run-cut line run n waves xs =
+    sym (all_hearing-map line (run_words (run_from n run) (drop n waves)) (all_hearing line (run_words run (take n waves)) xs))
+    ∙ sym (all_hearing-append line (run_words run (take n waves)) (run_words (run_from n run) (drop n waves)) xs)
+    ∙ ap (λ vs. all_hearing line vs xs) (words_of-cut run.number run.source run.gap n waves)
+
+hearing-sent : (line : Line) (w : Sent) (s : Station) → sends w.source s.own ≡ true → hearing line w s ≡ s
+hearing-sent line w s own = rw own refl
+
+hearing-other : (line : Line) (w : Sent) (s : Station) → sends w.source s.own ≡ false → hearing line w s ≡ after s (Heard line w.wave w.gap)
+hearing-other line w s other = rw other refl
+
+own_go : (line : Line) (number : ℕ) (source : Source) (gap : ℕ) (waves : List ℕ) (s : Station) → sends source s.own ≡ true → hearing_all line (words_of number source gap waves) s ≡ s
+own_go line number source gap [] s own = refl
+own_go line number source gap (w ∷ ws) s own =
+    ap (hearing_all line (words_of number source 20 ws)) (hearing-sent line (record { wave = w; gap = gap; run = number; source = source }) s own) ∙ own_go line number source 20 ws s own
+
+heard_go : (line : Line) (number : ℕ) (source : Source) (gap : ℕ) (waves : List ℕ) (s : Station) → sends source s.own ≡ false
+    → hearing_all line (words_of number source gap waves) s ≡ after_all s (heard line gap waves)
+heard_go line number source gap [] s other = refl
+heard_go line number source gap (w ∷ ws) s other =
+    ap (hearing_all line (words_of number source 20 ws)) (hearing-other line (record { wave = w; gap = gap; run = number; source = source }) s other)
+    ∙ heard_go line number source 20 ws (after s (Heard line w gap)) other
+
+-- a station does not hear what it sends
+pub run-own : (line : Line) (run : Run) (waves : List ℕ) (s : Station) → sends run.source s.own ≡ true → s ≡ hearing_all line (run_words run waves) s
+run-own line run waves s own = sym (own_go line run.number run.source run.gap waves s own)
+
+pub run-heard : (line : Line) (run : Run) (waves : List ℕ) (s : Station) → sends run.source s.own ≡ false → after_all s (heard line run.gap waves) ≡ hearing_all line (run_words run waves) s
+run-heard line run waves s other = sym (heard_go line run.number run.source run.gap waves s other)

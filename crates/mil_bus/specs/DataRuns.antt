@@ -1,16 +1,27 @@
 -- Words that are heard one after the other, and those that are no commands (inside the bus).
-use Rattle.std.specs.Prelude.{◌≡◌, ℕ, ◌<◌, ◌≤◌, List, [], ◌∷◌, length, get_or, None}
+use Rattle.std.specs.Prelude.{ℕ, List, [], ◌∷◌}
+use Rattle.std.proofs.Common.{zero, suc}
 use Rattle.mil_word.specs.declared.Line.{Line}
-use Rattle.mil_word.specs.Words.{command_in}
 use Rattle.mil_terminal.specs.Station.{Station}
 use Rattle.mil_bus.specs.declared.talks.Sent.{Sent}
-use Rattle.mil_bus.specs.Exchange.{hearing}
+use Rattle.mil_bus.specs.declared.talk_runs.Run.{Run}
+use Rattle.mil_bus.specs.Exchange.{hearing, words_of}
+pub use Rattle.mil_terminal.specs.Runs.{AreNoCommands}
 
 -- words, each heard by one station
 abbrev pub hearing_all : Line → List Sent → Station → Station
 hearing_all line [] s = s
 hearing_all line (w ∷ ws) s = hearing_all line ws (hearing line w s)
 
--- none of the words from a place on is a command or a status word
-abbrev pub AreNoCommands : ℕ → List Sent → Type 0
-AreNoCommands from words = (k : ℕ) (d : Sent) → from ≤ k → k < length words → command_in (get_or words k d).wave ≡ None
+-- the words of a run with these waves
+abbrev pub run_words : Run → List ℕ → List Sent
+run_words run waves = words_of run.number run.source run.gap waves
+
+-- the gap of a word of a run, by its place
+abbrev pub gap_at : ℕ → ℕ → ℕ
+gap_at zero gap = gap
+gap_at (suc place) gap = 20
+
+-- a run from a place on
+abbrev pub run_from : ℕ → Run → Run
+run_from place run = record { number = run.number; source = run.source; gap = gap_at place run.gap }

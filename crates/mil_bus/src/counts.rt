@@ -218,6 +218,7 @@ impl Seen {
 }
 
 /// How many words at the beginning of these are sound data words of a run.
+#[inline(never)]
 fn count_like(run: u8, words: &[Sent]) -> usize
     ensures within { result ≤ length words.now }
     ensures like { AreLike run result words.now }

@@ -18,6 +18,7 @@ mod quieting;
 mod runs;
 mod saved;
 mod saved_terminals;
+mod talk_runs;
 pub mod talks;
 mod terminals;
 

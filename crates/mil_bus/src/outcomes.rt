@@ -2,11 +2,11 @@
 ghost use Rattle.std.specs.Prelude.{◌≡◌, ◌≤◌, length};
 ghost use Rattle.mil_bus.specs.BlockStatus.{first_due, second_due, is_late, is_excuse, is_miscounted, has_other_address, bit_if, is_line_b, is_transfer, has_response_time_out, has_word_count_error, has_error, block_of, came_bits, outcome_of};
 ghost use Rattle.mil_bus.specs.Counts.{seen_of};
-ghost use Rattle.mil_message.specs.Forms.{replies_due};
+ghost use Rattle.mil_message.specs.Forms.{controller_words, replies_due};
 
 use crate::Talk;
 use crate::counts::{Came, Seen, counted, is_command};
-use mil_message::{Due, Message};
+use mil_message::{Due, Form, Message};
 use mil_status::{BlockBits, StatusBits};
 use mil_word::{Line, Status, Word};
 
@@ -139,7 +139,25 @@ fn is_line_b(line: Line) -> bool
 fn is_transfer(message: &Message) -> bool
     ensures { result ≡ is_transfer message.now }
 {
-    message.commands().second.is_some()
+    match message.form() {
+        Form::Between { .. } | Form::BetweenAll { .. } => true,
+        Form::ToTerminal { .. }
+        | Form::FromTerminal { .. }
+        | Form::Mode { .. }
+        | Form::ModeFrom { .. }
+        | Form::ModeTo { .. }
+        | Form::ToAll { .. }
+        | Form::ModeAll { .. }
+        | Form::ModeAllTo { .. } => false,
+    }
+}
+
+/// How many words the controller sends.
+fn controller_count(message: &Message) -> usize
+    ensures { result ≡ length (controller_words message.now) }
+{
+    let commands = if is_transfer(message) { 2 } else { 1 };
+    commands + message.data_words().len()
 }
 
 /// The errors of a talk.
@@ -162,7 +180,7 @@ fn judged(message: &Message, due: DueReplies, seen: &Seen) -> Errors
     ensures any { result.any ≡ has_error message.now seen.now }
 {
     let late = is_late(due.first, seen.one) || is_late(due.second, seen.two);
-    let miscounted = usize::from(seen.controllers) != message.controller_count()
+    let miscounted = usize::from(seen.controllers) != controller_count(message)
         || is_miscounted(due.first, seen.one)
         || is_miscounted(due.second, seen.two);
     let any = late

@@ -3,9 +3,11 @@ ghost use Rattle.std.specs.Prelude.{◌≡◌, ℕ, ◌+◌, ◌-◌, ◌≤◌,
 ghost use Rattle.std.specs.List.{list_all};
 ghost use Rattle.mil_line.specs.Ranges.{is_in_range};
 ghost use Rattle.mil_bus.specs.Exchange.{all_hearing, quiet_after, next_offer, words_of, run_sent, runs};
+ghost use Rattle.mil_bus.specs.DataRuns.{run_words};
 ghost use Rattle.mil_bus.specs.Offers.{offered, given};
 
 use crate::offers::Offered;
+use crate::talk_runs::Run;
 use crate::terminals::Terminals;
 use crate::{Sent, Source};
 use arrayvec::ArrayVec;
@@ -29,20 +31,56 @@ fn send(sent: &mut ArrayVec<Sent, 40>, run: u8, source: Source, gap: Gap, waves:
     }
 }
 
-/// Puts what comes on the line of a run behind the words sent, as far as there is room for it.
-fn put_run(sent: &mut ArrayVec<Sent, 40>, faults: &[Fault], run: u8, offer: &Offered)
+/// The words of a run come on the line, and to all terminals.
+fn say(
+    terminals: &mut Terminals,
+    sent: &mut ArrayVec<Sent, 40>,
+    line: Line,
+    run: &Run,
+    waves: &[Wave],
+)
+    requires { length sent.old.items + length waves.now ≤ 40 }
+    ensures sent { sent.new.items ≡ sent.old.items ++ run_words run.now waves.now }
+    ensures stations { terminals.new ≡ all_hearing line (run_words run.now waves.now) terminals.old }
+{
+    send(sent, run.number, run.source, run.gap, waves);
+    terminals.hear_all(line, run, waves);
+}
+
+/// What comes on the line of a run, as far as there is room for it among the words sent, comes to all terminals.
+fn say_run(
+    terminals: &mut Terminals,
+    sent: &mut ArrayVec<Sent, 40>,
+    line: Line,
+    faults: &[Fault],
+    number: u8,
+    offer: &Offered,
+)
     requires in_range { list_all is_in_range faults.now ≡ true }
-    ensures { sent.new.items ≡ sent.old.items ++ run_sent (40 - length sent.old.items) faults.now run (offered offer.now) }
+    ensures sent { sent.new.items ≡ sent.old.items ++ run_sent (40 - length sent.old.items) faults.now number (offered offer.now) }
+    ensures stations { terminals.new ≡ all_hearing line (run_sent (40 - length sent.old.items) faults.now number (offered offer.now)) terminals.old }
 {
     let room = 40 - sent.len();
     let given = offer.waves.as_slice();
+    let source = offer.source;
     if faults.is_empty() {
+        let gap = offer.gap;
+        let run = Run {
+            number,
+            source,
+            gap,
+        };
         let count = room.min(given.len());
-        send(sent, run, offer.source, offer.gap, &given[..count]);
+        say(terminals, sent, line, &run, &given[..count]);
     } else {
-        let waves = altered(faults, u32::from(run), given, room);
-        let gap = late_gap(faults, u32::from(run), offer.gap);
-        send(sent, run, offer.source, gap, waves.as_slice());
+        let gap = late_gap(faults, u32::from(number), offer.gap);
+        let run = Run {
+            number,
+            source,
+            gap,
+        };
+        let waves = altered(faults, u32::from(number), given, room);
+        say(terminals, sent, line, &run, waves.as_slice());
     }
 }
 
@@ -64,12 +102,10 @@ fn run_once(
         given result offer.new ≡ next_offer line words (all_hearing line words terminals.old) }
 {
     let before = sent.len();
-    put_run(sent, faults, run, offer);
-    let words = &sent.as_slice()[before..];
-    if words.is_empty() {
+    say_run(terminals, sent, line, faults, run, offer);
+    if sent.as_slice()[before..].is_empty() {
         return false;
     }
-    terminals.hear_all(line, words);
     terminals.quiet(line, offer)
 }
 

@@ -4,7 +4,7 @@ ghost use Rattle.std.specs.Option.{is_some, option_copied};
 ghost use Rattle.mil_bus.specs.Actions.{place_of, station_of, acting};
 ghost use Rattle.mil_bus.specs.Addresses.{stations_of};
 ghost use Rattle.mil_bus.specs.Exchange.{hearing, all_hearing, quieted, first_reply};
-ghost use Rattle.mil_bus.specs.DataRuns.{hearing_all, AreNoCommands};
+ghost use Rattle.mil_bus.specs.DataRuns.{hearing_all, run_words, AreNoCommands};
 ghost use Rattle.mil_bus.specs.Offers.{given};
 
 use crate::Sent;
@@ -15,9 +15,11 @@ use crate::data_runs::{count_to_commands, tell_data};
 use crate::hearing::{concerned, tell_all};
 use crate::offers::Offered;
 use crate::quieting::quiet_all;
+use crate::talk_runs::Run;
 use mil_host::Action;
+use mil_line::Gap;
 use mil_terminal::Terminal;
-use mil_word::{Line, decode};
+use mil_word::{Line, Wave, decode};
 use std::alloc::{AllocError, Global};
 use std::marker::Model;
 
@@ -67,30 +69,39 @@ impl Terminals {
         self.opened = tell_all(&mut self.list, mask, line, sent, decoded);
     }
 
-    /// Words come to all terminals, one after the other.
-    fn hear_each(&mut self, line: Line, sent: &[Sent])
-        ensures { self.new ≡ all_hearing line sent.now self.old }
+    /// The words of a run come to all terminals, one after the other.
+    fn hear_each(&mut self, line: Line, run: &Run, waves: &[Wave])
+        ensures { self.new ≡ all_hearing line (run_words run.now waves.now) self.old }
     {
-        for word in sent {
-            self.hear(line, word);
+        let mut gap = run.gap;
+        for wave in waves {
+            let word = Sent {
+                wave: *wave,
+                gap,
+                run: run.number,
+                source: run.source,
+            };
+            self.hear(line, &word);
+            gap = Gap::contiguous();
         }
     }
 
-    /// Words that are no commands come to all terminals. They concern those alone that have an open window.
-    fn hear_data(&mut self, line: Line, sent: &[Sent])
-        requires { AreNoCommands 0 sent.now }
-        ensures { self.new ≡ map (hearing_all line sent.now) self.old }
+    /// The words of a run that are no commands come to all terminals. They concern those alone that have an open window.
+    fn hear_data(&mut self, line: Line, run: &Run, waves: &[Wave])
+        requires { AreNoCommands 0 waves.now }
+        ensures { self.new ≡ map (hearing_all line (run_words run.now waves.now)) self.old }
     {
-        self.opened = tell_data(&mut self.list, self.opened, line, sent);
+        self.opened = tell_data(&mut self.list, self.opened, line, run, waves);
     }
 
-    /// Words come to all terminals: those up to the last command one after the other, and those behind it as a whole.
-    pub fn hear_all(&mut self, line: Line, sent: &[Sent])
-        ensures { self.new ≡ all_hearing line sent.now self.old }
+    /// The words of a run come to all terminals: those up to the last command one after the other, and those behind it as a
+    /// whole.
+    pub fn hear_all(&mut self, line: Line, run: &Run, waves: &[Wave])
+        ensures { self.new ≡ all_hearing line (run_words run.now waves.now) self.old }
     {
-        let count = count_to_commands(sent);
-        self.hear_each(line, &sent[..count]);
-        self.hear_data(line, &sent[count..]);
+        let count = count_to_commands(waves);
+        self.hear_each(line, run, &waves[..count]);
+        self.hear_data(line, &run.from(count), &waves[count..]);
     }
 
     /// A quiet comes to all terminals, and the first to answer, in order of address, gives the next words; whether one does.

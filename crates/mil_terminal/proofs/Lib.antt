@@ -13,3 +13,4 @@ pub mod Setting
 pub mod Acts
 pub mod Passing
 pub mod Packing
+pub mod Runs

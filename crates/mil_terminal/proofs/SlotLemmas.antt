@@ -1,9 +1,9 @@
 -- Slots of a flat list.
 use Rattle.std.proofs.Common.{◌≡◌, ◌≢◌, ℕ, zero, suc, ◌+◌, ◌-◌, ◌*◌, ◌<◌, ◌≤◌, List, [], ◌∷◌, ◌++◌, refl, sym, ap, ◌∙◌, arith, replicate, length, take, drop, get_or, set, get_or-set_same, get_or-set_other, length-set, nat_eq, length-append, length-drop, zero-le}
-use Rattle.std.specs.Prelude.{Bool, true, false, nat_lt, slice_index}
+use Rattle.std.specs.Prelude.{Bool, true, false, nat_lt, slice_index, Result, Ok, Err, IsOk, OnOk}
 use Rattle.std.proofs.lemmas.Bool.Decides.{nat_tests}
 use Rattle.std.proofs.lemmas.Bool.{eq-eqb, eqb-true, false≢true}
-use Rattle.std.proofs.lemmas.List.{drop-drop, drop-take, same_lists, take_at, length-take-le}
+use Rattle.std.proofs.lemmas.List.{drop-drop, drop-take, same_lists, take_at, length-take-le, take-replicate}
 use Rattle.std.proofs.lemmas.Slice.{take-put_mid_below, drop-put_mid, between-put_mid}
 use borrow.Rule.Slice.PartMut.{put_mid}
 use Rattle.mil_terminal.specs.Slots.{slots}
@@ -74,3 +74,11 @@ pub none_counted : (n i : ℕ) → slice_index (replicate n 0) i ≤ 32
 none_counted zero i = zero-le
 none_counted (suc n) zero = zero-le
 none_counted (suc n) (suc i) = none_counted n i
+
+-- the first of so many equal words
+pub take_same : (word n : ℕ) → n ≤ 33 → take n (replicate 33 word) ≡ replicate n word
+take_same word n le = take-replicate n 33 word le
+
+pub where_ok : {X E : Type 0} (r : Result X E) (P : Type 0) → IsOk r → OnOk r P → P
+where_ok (Ok x) P ok p = p
+where_ok (Err e) P ok p = cc

@@ -6,6 +6,7 @@ pub mod Registers
 pub mod Status
 pub mod Replies
 pub mod Station
+pub mod Runs
 pub mod Slots
 pub mod Marking
 pub mod Phases

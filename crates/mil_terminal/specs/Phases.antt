@@ -80,6 +80,11 @@ after_word own p (Waiting sender) wave gap = record p { phase = if is_answer sen
 after_word own p LostTransfer wave gap = p
 after_word own p Lost wave gap = p
 
+-- the state after words of which the first has this gap, and the others follow at once
+abbrev pub after_run : ℕ → Pending → ℕ → List ℕ → Pending
+after_run own p gap [] = p
+after_run own p gap (wave ∷ waves) = after_run own (after_word own p p.phase wave gap) 20 waves
+
 -- a quiet that decides the window, with its shape; or the state after it
 abbrev pub decides : Phase → Bool
 decides Start = true

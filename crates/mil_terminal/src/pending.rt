@@ -1,19 +1,21 @@
 //! An undecided window, by a small state for each word.
-ghost use Rattle.std.specs.Prelude.{◌≡◌, ℕ, ◌<◌, ◌≤◌, List, [], ◌∷◌, ◌++◌, Some, None, IfSome, IfNone, true, false, if◌then◌else◌};
+ghost use Rattle.std.specs.Prelude.{◌≡◌, ℕ, ◌<◌, ◌≤◌, nat_lt, List, [], ◌∷◌, ◌++◌, Some, None, IfSome, IfNone, true, false, if◌then◌else◌};
 ghost use Rattle.std.specs.List.{filter_map};
-ghost use Rattle.mil_word.specs.Words.{same_line as same, command_in};
+ghost use Rattle.mil_word.specs.Words.{same_line as same, command_in, data_in};
 ghost use Rattle.mil_terminal.specs.declared.events.Event.{Event};
 ghost use Rattle.mil_terminal.specs.declared.events.Event.TheVariants.{Heard, Quiet};
 ghost use Rattle.mil_terminal.specs.Windows as windows;
 ghost use Rattle.mil_terminal.specs.Verdicts as verdicts;
 ghost use Rattle.mil_terminal.specs.Registers.{value_of};
 ghost use Rattle.mil_terminal.specs.Phases as phases;
+ghost use Rattle.mil_terminal.specs.Runs.{heard, AreNoCommands};
+ghost use Rattle.mil_terminal.specs.declared.pending.Phase.TheVariants.{Taking};
 
 use crate::addresses::Address;
 use crate::sounds::Sound;
 use arrayvec::ArrayVec;
 use mil_line::Gap;
-use mil_word::{Command, Line};
+use mil_word::{Command, Line, Wave, decode};
 
 /// What was heard in a window so far.
 #[derive(Clone, Copy, Debug)]
@@ -99,8 +101,20 @@ fn is_answer(sender: u8, sound: &Sound, gap: Gap) -> bool
     }
 }
 
+/// The value of a sound word with data sync, where so many of those due were taken.
+#[inline]
+fn due_in(due: usize, taken: usize, wave: Wave) -> Option<u16>
+    ensures { result ≡ (if nat_lt taken due then data_in wave else None) }
+{
+    if taken < due {
+        Sound::of(wave, decode(wave)).data()
+    } else {
+        None
+    }
+}
+
 impl Pending {
-    ghost use Rattle.mil_terminal.specs.Phases.{with_due, due_value, after_word, decides, shape_now, phase_after_quiet, window_of, IsPending};
+    ghost use Rattle.mil_terminal.specs.Phases.{with_due, due_value, after_word, after_run, decides, shape_now, phase_after_quiet, window_of, IsPending};
 
     /// A window that was just opened.
     pub fn open(line: Line, command: Command) -> Pending
@@ -157,16 +171,40 @@ impl Pending {
         self.follow_word(own, sound, gap);
     }
 
-    /// One more word on the line, which is no command and no status.
+    /// More words on the line, none of which is a command or a status: the first has this gap, and the others follow at once.
     #[inline]
-    pub fn take_data(&mut self, own: Address, sound: &Sound, gap: Gap)
-        requires { command_in sound.now ≡ None }
-        ensures pending { (items : List Event) → IsPending own self.old items
-            → IsPending own self.new (items ++ Heard self.old.line sound.now gap ∷ []) }
-        ensures line { self.new.line ≡ self.old.line }
-        ensures command { self.new.command ≡ self.old.command }
+    pub fn take_run(&mut self, own: Address, gap: Gap, waves: &[Wave])
+        requires { AreNoCommands 0 waves.now }
+        ensures { self.new ≡ after_run own self.old gap waves.now }
     {
-        self.follow_data(own, sound, gap);
+        if waves.is_empty() {
+            return;
+        }
+        let first = waves[0];
+        self.follow_data(own, &Sound::of(first, decode(first)), gap);
+        if let Phase::Taking = self.phase {
+            self.take_rest(own, &waves[1..]);
+        }
+    }
+
+    /// More words in places where due words may stand. How many are due is asked once.
+    #[inline(never)]
+    fn take_rest(&mut self, own: Address, waves: &[Wave])
+        requires taking { self.old.phase ≡ Taking }
+        requires data { AreNoCommands 0 waves.now }
+        ensures { self.new ≡ after_run own self.old 20 waves.now }
+    {
+        let _ = own;
+        let due = words_due(self.command);
+        for wave in waves {
+            match due_in(due, self.words.len(), *wave) {
+                Some(value) => self.words.push(value),
+                None => {
+                    self.phase = Phase::Lost;
+                    return;
+                }
+            }
+        }
     }
 
     /// A quiet on the line: the shape of the window, where it decides it.

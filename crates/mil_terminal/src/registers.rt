@@ -1,5 +1,5 @@
 //! The registers of a terminal, which stand for its history.
-ghost use Rattle.std.specs.Prelude.{◌≡◌, ℕ, ◌+◌, ◌≤◌, ◌<◌, ◌==◌, ◌&&◌, not, List, [], ◌∷◌, IfOk, length, slice_index_or, ◌++◌, Some, None, if◌then◌else◌};
+ghost use Rattle.std.specs.Prelude.{◌≡◌, ℕ, ◌+◌, ◌≤◌, ◌<◌, ◌==◌, ◌&&◌, not, List, [], ◌∷◌, IfOk, length, slice_index_or, replicate, ◌++◌, Some, None, if◌then◌else◌};
 ghost use Rattle.mil_word.specs.Wave.{word_of};
 ghost use Rattle.mil_terminal.specs.declared.events.Event.TheVariants.{Heard, Quiet, Host};
 ghost use Rattle.mil_terminal.specs.History.{History};
@@ -8,8 +8,8 @@ ghost use Rattle.mil_terminal.specs.Status.{status};
 ghost use Rattle.mil_terminal.specs.Replies as replies;
 ghost use Rattle.mil_terminal.specs.Replies.{exactly};
 ghost use Rattle.mil_word.specs.Fields.{address_of};
-ghost use Rattle.mil_word.specs.Words.{command_in};
 ghost use Rattle.mil_terminal.specs.Windows.{is_listening};
+ghost use Rattle.mil_terminal.specs.Runs.{heard, met, AreNoCommands};
 ghost use Rattle.std.specs.Option.{option_to_list};
 ghost use Rattle.arrayvec.specs.ArrayVec.{array_vec_len};
 
@@ -26,7 +26,7 @@ use crate::synced::Synced;
 use arrayvec::ArrayVec;
 use mil_host::Action;
 use mil_line::Gap;
-use mil_word::{Command, Line};
+use mil_word::{Command, Line, Wave};
 use std::alloc::{AllocError, Global};
 
 /// All that a terminal keeps.
@@ -81,16 +81,16 @@ impl Registers {
         }
     }
 
-    /// A word on a line that is no command and no status.
+    /// Words on a line, none of which is a command or a status: the first has this gap, and the others follow at once.
     #[inline]
-    pub fn hear_data(&mut self, line: Line, sound: &Sound, gap: Gap)
-        requires { command_in sound.now ≡ None }
-        ensures stands { (h : History) → StandsFor self.old h → StandsFor self.new (Heard line sound.now gap ∷ h) }
+    pub fn hear_run(&mut self, line: Line, gap: Gap, waves: &[Wave])
+        requires { AreNoCommands 0 waves.now }
+        ensures stands { (h : History) → StandsFor self.old h → StandsFor self.new (met (heard line gap waves.now) h) }
         ensures own { self.new.own ≡ self.old.own }
     {
         if let Some(pending) = &mut self.window {
             if same_line(line, pending.line) {
-                pending.take_data(self.own, sound, gap);
+                pending.take_run(self.own, gap, waves);
             }
         }
     }
@@ -383,7 +383,14 @@ fn push_exactly(words: &mut ArrayVec<u16, 33>, count: usize, from: &[u16])
         from.len()
     };
     let _ = words.try_extend_from_slice(&from[..taken]);
-    for _ in 0..count - taken {
-        words.push(0);
-    }
+    push_zeros(words, count - taken);
+}
+
+/// So many zeros.
+fn push_zeros(words: &mut ArrayVec<u16, 33>, count: usize)
+    requires { array_vec_len words.old + count ≤ 33 }
+    ensures { words.new.items ≡ words.old.items ++ replicate count 0 }
+{
+    let zeros = [0; 33];
+    let _ = words.try_extend_from_slice(&zeros[..count]);
 }

@@ -9,6 +9,7 @@ ghost use Rattle.mil_terminal.specs.Replies as replies;
 ghost use Rattle.mil_terminal.specs.Status as statuses;
 ghost use Rattle.mil_terminal.specs.Windows as windows;
 ghost use Rattle.mil_terminal.specs.Station.{after};
+ghost use Rattle.mil_terminal.specs.Runs.{heard, met, after_all, AreNoCommands};
 
 use crate::addresses::Address;
 use crate::registers::Registers;
@@ -21,6 +22,7 @@ use mil_line::Gap;
 use mil_word::{Line, Wave, Word, decode};
 use std::alloc::{AllocError, Global};
 use std::marker::Model;
+use std::slice;
 
 /// A remote terminal. Contracts see its address and the history of what it has met, the newest event first; it holds no
 /// list of events, and each of its readers and replies is a query on that history, whatever the history is.
@@ -87,9 +89,19 @@ impl Terminal {
         requires data { command_in wave ≡ None }
         ensures { self.new ≡ after self.old (Heard line wave gap) }
     {
-        self.registers
-            .hear_data(line, &Sound::of(wave, decoded), gap);
-        self.past = self.past.put_before(&Event::Heard { line, wave, gap });
+        let _ = decoded;
+        self.hear_run(line, gap, slice::from_ref(&wave));
+    }
+
+    /// Words one after the other, none of which is a command or a status: the first has this gap, and the others follow at
+    /// once. It asks once whether a window is open on their line, and how many words it is due.
+    #[inline]
+    pub fn hear_run(&mut self, line: Line, gap: Gap, waves: &[Wave])
+        requires { AreNoCommands 0 waves.now }
+        ensures { self.new ≡ after_all self.old (heard line gap waves.now) }
+    {
+        self.registers.hear_run(line, gap, waves);
+        self.past = past_of(&self.past, line, gap, waves);
     }
 
     /// The same, for a word that is no command to this terminal or to all, on a line where this terminal is not listening:
@@ -247,4 +259,19 @@ fn begins_high(wave: Wave) -> bool
     ensures { result ≡ (wave / 2 ^ 39 % 2 == 1) }
 {
     wave.half_bits() >> 39 & 1 == 1
+}
+
+/// A history and the words of a run, which costs nothing.
+#[inline]
+fn past_of(past: &History<Event>, line: Line, gap: Gap, waves: &[Wave]) -> History<Event>
+    ensures { result ≡ met (heard line gap waves.now) past.now }
+{
+    let mut events = past.same();
+    let mut gap = gap;
+    for wave in waves {
+        let wave = *wave;
+        events = events.put_before(&Event::Heard { line, wave, gap });
+        gap = Gap::contiguous();
+    }
+    events
 }

@@ -2,6 +2,7 @@
 //! it are worked out by hand from the rules.
 ghost use Rattle.std.specs.Prelude.{◌≤◌};
 
+use crate::equal::{are, same_in};
 use mil_bus::Bus;
 use mil_host::read_action;
 use mil_line::{Fault, Gap, Plan};
@@ -35,11 +36,20 @@ fn fresh(rt: &impl Abort, alloc: Global, addresses: &[u8]) -> Setting {
 /// New terminal 5 alone, with a fault of the first message.
 fn with_fault(rt: &impl Abort, alloc: Global, fault: Fault) -> Setting {
     let mut alone = fresh(rt, alloc, &[5]);
-    alone.plan.add(1, fault).expect(rt, "a fault in range");
+    alone.plans(rt, 1, fault);
     alone
 }
 
 impl Setting {
+    /// The same bus and plan once more.
+    fn copy(&self, rt: &impl Abort) -> Setting {
+        Setting {
+            bus: self.bus.copy().expect(rt, "memory"),
+            plan: self.plan.copy().expect(rt, "memory"),
+            number: self.number,
+        }
+    }
+
     /// The record of the next message.
     fn send(&mut self, rt: &impl Abort, line: Line, draft: Draft<'_>) -> Record {
         let message = Message::check(draft).expect(rt, "a draft in range");
@@ -52,28 +62,76 @@ impl Setting {
         observe(&talk)
     }
 
+    /// The next message has this record: its stamp, its block status, its gaps and its words.
+    fn gives(
+        &mut self,
+        rt: &impl Abort,
+        line: Line,
+        draft: Draft<'_>,
+        stamp: u64,
+        block: u16,
+        gaps: u16,
+        words: &[u16],
+    ) {
+        let record = self.send(rt, line, draft);
+        same_in(rt, "stamp", &record.stamp, &stamp);
+        has_block(rt, &record, block, gaps);
+        has_words(rt, &record, words);
+    }
+
+    /// The record of the next message, on line A, has these words.
+    fn gives_words(&mut self, rt: &impl Abort, draft: Draft<'_>, words: &[u16]) {
+        let record = self.send(rt, Line::A, draft);
+        has_words(rt, &record, words);
+    }
+
+    /// The record of the next message has this block status, these gaps and these words.
+    fn gives_block(
+        &mut self,
+        rt: &impl Abort,
+        line: Line,
+        draft: Draft<'_>,
+        block: u16,
+        gaps: u16,
+        words: &[u16],
+    ) {
+        let record = self.send(rt, line, draft);
+        has_block(rt, &record, block, gaps);
+        has_words(rt, &record, words);
+    }
+
+    /// One more fault of a message.
+    fn plans(&mut self, rt: &impl Abort, number: u32, fault: Fault) {
+        assert!(rt; self.plan.add(number, fault).is_ok());
+    }
+
     /// An action of a terminal's host, by its text.
     fn act(&mut self, rt: &impl Abort, address: u8, text: &[u8]) {
         let action = read_action(text).expect(rt, "an action");
-        assert!(rt; self.bus.act(address, &action), "no such terminal");
+        let is_there = self.bus.act(address, &action);
+        assert!(rt; is_there);
     }
 
-    /// The words that a receive command to a terminal left there.
-    fn received(&self, rt: &impl Abort, address: u8, subaddress: u8) -> &[u16]
+    /// A receive command to a terminal left these words there.
+    fn has_received(&self, rt: &impl Abort, address: u8, subaddress: u8, words: &[u16])
         requires low { 1 ≤ subaddress }
         requires high { subaddress ≤ 30 }
     {
         let terminal = self.bus.terminal(address).expect(rt, "no such terminal");
-        terminal.received(subaddress)
+        are(rt, terminal.received(subaddress), words);
     }
 
-    /// Those that a receive command to all left there.
-    fn received_from_all(&self, rt: &impl Abort, address: u8, subaddress: u8) -> &[u16]
+    /// A receive command to all left these words at a terminal.
+    fn has_received_from_all(&self, rt: &impl Abort, address: u8, subaddress: u8, words: &[u16])
         requires low { 1 ≤ subaddress }
         requires high { subaddress ≤ 30 }
     {
         let terminal = self.bus.terminal(address).expect(rt, "no such terminal");
-        terminal.received_from_all(subaddress)
+        assert_eq!(rt;
+            terminal.received_from_all(subaddress),
+            words,
+            "terminal {address}"
+        );
     }
 }
 
@@ -110,26 +168,13 @@ fn mode(code: u32) -> Draft<'static> {
     mode_of(5, code)
 }
 
-/// The stamp, the block status, the gaps and the words of a record.
-fn is(rt: &impl Abort, record: &Record, stamp: u64, block: u16, gaps: u16, words: &[u16]) {
-    assert_eq!(rt; record.stamp, stamp);
-    assert_eq!(rt; record.block, block);
-    assert_eq!(rt; record.gaps, gaps);
-    assert_eq!(rt; record.words.as_slice(), words);
-}
-
 /// The words of a record.
 fn has_words(rt: &impl Abort, record: &Record, words: &[u16]) {
-    assert_eq!(rt; record.words.as_slice(), words);
+    are(rt, record.words.as_slice(), words);
 }
 
 /// The block status and the gaps of a record.
 fn has_block(rt: &impl Abort, record: &Record, block: u16, gaps: u16) {
-    assert_eq!(rt; record.block, block);
-    assert_eq!(rt; record.gaps, gaps);
-}
-
-/// The words are these.
-fn are(rt: &impl Abort, words: &[u16], wanted: &[u16]) {
-    assert_eq!(rt; words, wanted);
+    same_in(rt, "block status", &record.block, &block);
+    same_in(rt, "gaps", &record.gaps, &gaps);
 }

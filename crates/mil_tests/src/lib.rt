@@ -8,6 +8,8 @@ mod actions;
 #[cfg(test)]
 mod buses;
 #[cfg(test)]
+mod equal;
+#[cfg(test)]
 mod messages;
 #[cfg(test)]
 mod modes;

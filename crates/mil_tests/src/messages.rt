@@ -1,9 +1,10 @@
 //! Messages as they stand on a bus, and each fault of each form.
+use crate::equal::{are, reads, same};
 use arrayvec::ArrayVec;
 use mil_message::{BadMessage, Draft, Due, Form, Message, ModeSubaddress};
 use mil_word::{Sync, Wave, Word};
+use std::alloc::Global;
 use std::process::Abort;
-use std::test::Fail;
 
 const SUBADDRESS: ModeSubaddress = ModeSubaddress::ThirtyOne;
 
@@ -16,30 +17,49 @@ fn message(rt: &impl Abort, draft: Draft<'_>) -> Message {
 /// The controller's words are these commands and these data words, and the replies due are these.
 fn stands(rt: &impl Abort, draft: Draft<'_>, commands: &[u16], words: &[u16], due: &[Due]) {
     let message = message(rt, draft);
+    sends(rt, &message, commands, words);
+    are(rt, message.data_words(), words);
+    awaits(rt, &message, due);
+    is_its_draft(rt, &message);
+    is_its_parts(rt, &message, words);
+}
+
+/// The controller's words are these commands and then these data words.
+fn sends(rt: &impl Abort, message: &Message, commands: &[u16], words: &[u16]) {
     let mut sent: ArrayVec<Word, 34> = ArrayVec::new();
     for &value in commands {
-        assert!(rt; !sent.is_full());
-        sent.push(Word {
-            sync: Sync::CommandSync,
-            value,
-        });
+        put(rt, &mut sent, Sync::CommandSync, value);
     }
     for &value in words {
-        assert!(rt; !sent.is_full());
-        sent.push(Word {
-            sync: Sync::DataSync,
-            value,
-        });
+        put(rt, &mut sent, Sync::DataSync, value);
     }
+    same(rt, &message.controller_count(), &sent.len());
     assert_eq!(rt; message.controller_words().as_slice(), sent.as_slice());
-    assert_eq!(rt; message.controller_count(), sent.len());
-    assert_eq!(rt; message.data_words(), words);
+}
+
+/// One more word.
+fn put(rt: &impl Abort, sent: &mut ArrayVec<Word, 34>, sync: Sync, value: u16) {
+    assert!(rt; !sent.is_full());
+    sent.push(Word { sync, value });
+}
+
+/// The replies due are these.
+fn awaits(rt: &impl Abort, message: &Message, due: &[Due]) {
     assert_eq!(rt; message.replies_due().as_slice(), due);
-    assert!(rt; Message::check(message.draft()) == Ok(message.copy()));
+}
+
+/// The message is what its draft is read as.
+fn is_its_draft(rt: &impl Abort, message: &Message) {
+    let back = Message::check(message.draft()).expect(rt, "a draft in range");
+    assert!(rt; back == message.copy());
+}
+
+/// The message is made again of its parts.
+fn is_its_parts(rt: &impl Abort, message: &Message, words: &[u16]) {
     let commands = message.commands();
     let second = commands.second.map_or(0, |command| command.value());
     let back = Message::of_parts(message.form_number(), commands.first.value(), second, words);
-    assert!(rt; back == Some(message));
+    assert!(rt; back.expect(rt, "a message") == *message);
 }
 
 fn due(address: u8, words: u8) -> Due {
@@ -126,13 +146,16 @@ fn mode_commands(rt: HostRuntime) {
 }
 
 #[test]
-fn waves(rt: HostRuntime) -> Result<(), Fail> {
+fn waves(rt: HostRuntime) {
     let message = message(&rt, to_terminal(5, 1, &[0]));
-    let message = message.clone()?;
+    has_second_wave(&rt, &message.clone().expect(&rt, "a clone"));
+}
+
+/// Of two waves the second is that of a data word of zeros.
+fn has_second_wave(rt: &impl Abort, message: &Message) {
     let waves = message.controller_waves();
-    assert_eq!(rt; waves.len(), 2);
-    assert_eq!(rt; waves[1], Wave::of(0x1D_5555_5556));
-    Ok(())
+    same(rt, &waves.len(), &2);
+    same(rt, &waves.get(1).copied(), &Some(Wave::of(0x1D_5555_5556)));
 }
 
 #[test]
@@ -145,20 +168,18 @@ fn parts_of_no_message(rt: HostRuntime) {
 }
 
 #[test]
-fn printed_faults(rt: HostRuntime) -> Result<(), Fail> {
-    let faults = [
-        BadMessage::Address,
-        BadMessage::Subaddress,
-        BadMessage::CountOrCode,
-        BadMessage::SameEnds,
-        BadMessage::ModeWord,
-    ];
-    let mut text = format!(in rt.alloc(); "")?;
-    for fault in faults {
-        text.push_str(format!(in rt.alloc(); "{fault} ")?.as_str())?;
-    }
-    assert_eq!(rt; text.as_str(), "M1 M2 M3 M4 M5 ");
-    Ok(())
+fn printed_faults(rt: HostRuntime) {
+    prints(&rt, rt.alloc(), BadMessage::Address, "M1");
+    prints(&rt, rt.alloc(), BadMessage::Subaddress, "M2");
+    prints(&rt, rt.alloc(), BadMessage::CountOrCode, "M3");
+    prints(&rt, rt.alloc(), BadMessage::SameEnds, "M4");
+    prints(&rt, rt.alloc(), BadMessage::ModeWord, "M5");
+}
+
+/// A fault is printed as this text.
+fn prints(rt: &impl Abort, alloc: Global, fault: BadMessage, text: &str) {
+    let printed = format!(in alloc; "{fault}").expect(rt, "memory");
+    reads(rt, printed.as_str(), text);
 }
 
 #[test]

@@ -1,6 +1,9 @@
 //! All pairs of a T/R bit and a mode code, as the standard's table has them (MIL-STD-1553B 4.3.3.5.1.7 and its table I, with
 //! Notice 2); that terminals carry out neither 20 nor 21 is an own choice.
+ghost use Rattle.std.specs.Prelude.{◌≤◌};
+
 use mil_mode::{ModeRow, broadcast_allowed, data_words, is_legal_mode, mode_of};
+use std::process::Abort;
 
 /// What the table says of a pair.
 #[derive(Clone, Copy, Debug, PartialEq, Eq)]
@@ -140,17 +143,32 @@ const RECEIVE: [Said; 32] = [
     LATER_WORD,
 ];
 
+/// What the functions say of a pair.
+fn said_of(transmit: bool, code: u8) -> Said
+    requires { code ≤ 31 }
+{
+    Said {
+        row: mode_of(transmit, code),
+        words: data_words(transmit, code),
+        to_all: broadcast_allowed(transmit, code),
+        legal: is_legal_mode(transmit, code),
+    }
+}
+
+/// All codes with a T/R bit are as in a table.
+fn are_as_in(rt: &impl Abort, transmit: bool, table: &[Said; 32]) {
+    for code in 0..32u8 {
+        let wanted = table[code as usize];
+        assert_eq!(rt;
+            said_of(transmit, code),
+            wanted,
+            "T/R {transmit}, code {code}"
+        );
+    }
+}
+
 #[test]
 fn all_pairs_are_as_in_the_table(rt: HostRuntime) {
-    for (transmit, table) in [(true, TRANSMIT), (false, RECEIVE)] {
-        for code in 0..32u8 {
-            let said = Said {
-                row: mode_of(transmit, code),
-                words: data_words(transmit, code),
-                to_all: broadcast_allowed(transmit, code),
-                legal: is_legal_mode(transmit, code),
-            };
-            assert_eq!(rt; said, table[code as usize], "T/R {transmit}, code {code}");
-        }
-    }
+    are_as_in(&rt, true, &TRANSMIT);
+    are_as_in(&rt, false, &RECEIVE);
 }

@@ -1,4 +1,5 @@
 //! A plan takes four faults of a message and no fifth, and only those that are in range.
+use crate::equal::reads;
 use mil_line::{Fault, Gap, LineError, Plan};
 use mil_word::{Sync, Wave, Word};
 use std::alloc::Global;
@@ -56,6 +57,11 @@ fn full(rt: &impl Abort, alloc: Global) -> Plan {
     plan
 }
 
+/// Message 1 has the four faults.
+fn has_the_four(rt: &impl Abort, plan: &Plan) {
+    assert_eq!(rt; plan.faults(1).as_slice(), four_faults().as_slice());
+}
+
 #[test]
 fn four_faults_of_a_message_and_no_fifth(rt: HostRuntime) {
     let mut plan = full(&rt, rt.alloc());
@@ -63,7 +69,7 @@ fn four_faults_of_a_message_and_no_fifth(rt: HostRuntime) {
     answered(&rt, &mut plan, 1, late(120), Err(LineError::TooMany));
     answered(&rt, &mut plan, 1_000_000, late(121), Ok(()));
     let kept = plan.copy().expect(&rt, "a copy");
-    assert_eq!(rt; kept.faults(1).as_slice(), four_faults().as_slice());
+    has_the_four(&rt, &kept);
     has(&rt, &plan, 1, 4);
     has(&rt, &kept, 1_000_000, 1);
 }
@@ -83,11 +89,15 @@ fn faults_out_of_their_ranges(rt: HostRuntime) {
 
 #[test]
 fn refusals_as_printed(rt: HostRuntime) {
-    let refusals = [LineError::TooMany, LineError::OutOfRange, LineError::Memory];
-    for (refusal, text) in refusals.iter().zip(["L1", "L2", "L3"]) {
-        let printed = format!(in rt.alloc(); "{refusal}").expect(&rt, "memory");
-        assert_eq!(rt; printed.as_str(), text);
-    }
+    prints(&rt, rt.alloc(), LineError::TooMany, "L1");
+    prints(&rt, rt.alloc(), LineError::OutOfRange, "L2");
+    prints(&rt, rt.alloc(), LineError::Memory, "L3");
+}
+
+/// A refusal is printed as this text.
+fn prints(rt: &impl Abort, alloc: Global, refusal: LineError, text: &str) {
+    let printed = format!(in alloc; "{refusal}").expect(rt, "memory");
+    reads(rt, printed.as_str(), text);
 }
 
 #[test]

@@ -1,22 +1,29 @@
 //! Status words and block bits as they stand on a bus and in a recording.
+ghost use Rattle.std.specs.Prelude.{◌≤◌};
+
 use bitflags::Flags;
 use mil_status::{BlockBits, StatusBits, bit_named, status_word};
+use std::process::Abort;
+
+/// The status word of a terminal and these bits.
+fn is_sent(rt: &impl Abort, address: u8, bits: StatusBits, wanted: u16)
+    requires { address ≤ 31 }
+{
+    assert_eq!(rt; status_word(address, bits), wanted);
+}
 
 #[test]
 fn statuses_of_terminal_5(rt: HostRuntime) {
-    assert_eq!(rt; status_word(5, StatusBits::empty()), 0x2800);
-    assert_eq!(rt; status_word(5, StatusBits::MESSAGE_ERROR), 0x2c00);
-    assert_eq!(rt; status_word(5, StatusBits::BROADCAST), 0x2810);
-    assert_eq!(rt; status_word(5, StatusBits::BUSY), 0x2808);
-    assert_eq!(rt; status_word(5, StatusBits::TERMINAL), 0x2801);
+    is_sent(&rt, 5, StatusBits::empty(), 0x2800);
+    is_sent(&rt, 5, StatusBits::MESSAGE_ERROR, 0x2c00);
+    is_sent(&rt, 5, StatusBits::BROADCAST, 0x2810);
+    is_sent(&rt, 5, StatusBits::BUSY, 0x2808);
+    is_sent(&rt, 5, StatusBits::TERMINAL, 0x2801);
 }
 
 #[test]
 fn bits_that_mean_nothing_are_not_sent(rt: HostRuntime) {
-    assert_eq!(rt;
-        status_word(7, StatusBits::from_bits_retain(0xf8e0)),
-        0x3800
-    );
+    is_sent(&rt, 7, StatusBits::from_bits_retain(0xf8e0), 0x3800);
 }
 
 #[test]

@@ -1,4 +1,5 @@
 //! Runs of a terminal, driven by calls: what is expected is worked out by hand from the rules.
+use crate::equal::{are, same};
 use arrayvec::ArrayVec;
 use mil_host::{Action, Mark, TransmitWords};
 use mil_line::Gap;
@@ -43,11 +44,6 @@ fn fresh(rt: &impl Abort, alloc: Global, address: u8) -> Terminal {
     Terminal::make(alloc, address).expect(rt, "a terminal")
 }
 
-/// The words are these.
-fn are(rt: &impl Abort, words: &[u16], wanted: &[u16]) {
-    assert_eq!(rt; words, wanted);
-}
-
 /// What is said is answered with these words.
 fn answers(
     rt: &impl Abort,
@@ -57,7 +53,7 @@ fn answers(
     sent: &[u16],
     reply: &[u16],
 ) {
-    assert_eq!(rt; words(&say(terminal, line, value, sent)), reply);
+    are(rt, words(&say(terminal, line, value, sent)), reply);
 }
 
 /// What is said is not answered.
@@ -68,10 +64,14 @@ fn is_silent(rt: &impl Abort, terminal: &mut Terminal, line: Line, value: u16, s
 #[test]
 fn answers_zeros_where_nothing_was_put_up(rt: HostRuntime) {
     let mut terminal = fresh(&rt, rt.alloc(), 5);
-    terminal.hear(Line::A, command(0x2c41), Gap::of(65535));
-    let reply = terminal.quiet(Line::A).expect(&rt, "a reply");
-    assert_eq!(rt; reply.words.as_slice(), [0x2800, 0].as_slice());
-    assert_eq!(rt; reply.gap.ticks(), 80);
+    let reply = say(&mut terminal, Line::A, 0x2c41, &[]).expect(&rt, "a reply");
+    is_after(&rt, &reply, 80, &[0x2800, 0]);
+}
+
+/// A reply comes after this gap, and has these words.
+fn is_after(rt: &impl Abort, reply: &Reply, ticks: u16, words: &[u16]) {
+    same(rt, &reply.gap.ticks(), &ticks);
+    are(rt, reply.words.as_slice(), words);
 }
 
 #[test]
@@ -87,7 +87,7 @@ fn a_command_on_the_other_line_cuts_a_window_short(rt: HostRuntime) {
 fn a_receive_command_alone_leaves_a_message_error(rt: HostRuntime) {
     let mut terminal = fresh(&rt, rt.alloc(), 5);
     is_silent(&rt, &mut terminal, Line::A, 0x2823, &[]);
-    assert_eq!(rt; terminal.status(), 0x2c00);
+    same(&rt, &terminal.status(), &0x2c00);
 }
 
 #[test]
@@ -128,7 +128,7 @@ fn a_busy_terminal_tells_its_last_command(rt: HostRuntime) {
     terminal.act(&Action::Busy(true));
     answers(&rt, &mut terminal, Line::A, 0x2c41, &[], &[0x2808]);
     answers(&rt, &mut terminal, Line::A, 0x2ff2, &[], &[0x2808, 0x2c41]);
-    assert_eq!(rt; terminal.last_command(), 0x2c41);
+    same(&rt, &terminal.last_command(), &0x2c41);
 }
 
 #[test]
@@ -154,8 +154,12 @@ fn subaddress_30_wraps_around_and_broadcast_is_kept_apart(rt: HostRuntime) {
     are(&rt, terminal.received_from_all(1), &[0xaa]);
     are(&rt, terminal.received(1), &[]);
     answers(&rt, &mut terminal, Line::A, 0x2fe2, &[], &[0x2810]);
-    let copied = terminal.copy().expect(&rt, "memory");
-    are(&rt, copied.transmit_words(30), &[0xbeef, 0xcafe]);
+    has_put_up(&rt, terminal.copy().expect(&rt, "memory"));
+}
+
+/// At subaddress 30 stand the words to be sent.
+fn has_put_up(rt: &impl Abort, terminal: Terminal) {
+    are(rt, terminal.transmit_words(30), &[0xbeef, 0xcafe]);
 }
 
 #[test]

@@ -9,8 +9,9 @@ use Rattle.mil_message.specs.World.{World, Point, other_line, sent, asks}
 use Rattle.mil_line.specs.Plans.{Planned}
 use Rattle.mil_bus.specs.declared.outcomes.Outcome.{Outcome}
 use Rattle.mil_bus.specs.Exchange.{BusState}
-use Rattle.frame_tree.specs.Tree.{Test, Tree, send, retry, gap, repeat, choose, until, nothing, chained}
-use Rattle.frame_tree.specs.Meaning.{test_meaning, times, attempts, turns_until, meaning}
+use Rattle.frame_tree.specs.Tree.{Test, Tree, send, retry, gap, repeat, choose, until, nothing, chained, call, define}
+use Rattle.frame_tree.specs.Meaning.{test_meaning, times, attempts, turns_until, plain_meaning}
+use Rattle.frame_tree.specs.Expansion.{expansion}
 use Rattle.bc_machine.specs.declared.placed.Placed.{Placed}
 use Rattle.bc_machine.specs.Controller.{placed_at, all_acted, ready, world_of}
 use Rattle.bc_machine.specs.Running.{beginning}
@@ -97,19 +98,21 @@ module _ (w : World BusState Outcome) (R : BusPoint → BusPoint → Type 0) (sa
       by_case true later = same p
       by_case false later = later
 
-  tree_keeps : (t : Tree) (p : BusPoint) → R p (meaning w t p)
+  tree_keeps : (t : Tree) (p : BusPoint) → R p (plain_meaning w t p)
   tree_keeps (send line m) p = message line m p
   tree_keeps (retry n line m) p = through p (sent w line m p) (attempts w n line m (sent w line m p)) (message line m p) (attempts_keep n line m (sent w line m p))
   tree_keeps (gap t) p = gaps p t
-  tree_keeps (repeat n b) p = times_keep n (meaning w b) (λ q. tree_keeps b q) p
+  tree_keeps (repeat n b) p = times_keep n (plain_meaning w b) (λ q. tree_keeps b q) p
   tree_keeps (choose c a b) p = by_case (test_meaning w c p) (tree_keeps a p) (tree_keeps b p)
     where
-      by_case : (x : Bool) → R p (meaning w a p) → R p (meaning w b p) → R p (cond x (meaning w a p) (meaning w b p))
+      by_case : (x : Bool) → R p (plain_meaning w a p) → R p (plain_meaning w b p) → R p (cond x (plain_meaning w a p) (plain_meaning w b p))
       by_case true l r = l
       by_case false l r = r
-  tree_keeps (until c n b) p = turns_keep n c (meaning w b) (λ q. tree_keeps b q) p
+  tree_keeps (until c n b) p = turns_keep n c (plain_meaning w b) (λ q. tree_keeps b q) p
   tree_keeps nothing p = same p
-  tree_keeps (chained a b) p = through p (meaning w a p) (meaning w b (meaning w a p)) (tree_keeps a p) (tree_keeps b (meaning w a p))
+  tree_keeps (call n) p = same p
+  tree_keeps (define n b r) p = tree_keeps r p
+  tree_keeps (chained a b) p = through p (plain_meaning w a p) (plain_meaning w b (plain_meaning w a p)) (tree_keeps a p) (tree_keeps b (plain_meaning w a p))
 
 -- ---- the same in both worlds, as far as the lists are alike
 
@@ -123,7 +126,7 @@ module _ (plan : List Planned) (made : ℕ) (actions : List Placed) where
   abbrev Rises : BusPoint → BusPoint → Type 0
   Rises p q = p.number ≤ q.number
 
-  tree_rises : (t : Tree) (p : BusPoint) → p.number ≤ (meaning w t p).number
+  tree_rises : (t : Tree) (p : BusPoint) → p.number ≤ (plain_meaning w t p).number
   tree_rises = tree_keeps w Rises (λ p. omega arith) (λ p t. omega arith) (λ line m p. omega arith) (λ p q s a b. omega (arith, a, b))
 
   attempts_rise : (n : ℕ) (line : Line) (m : Message) (p : BusPoint) → p.number ≤ (attempts w n line m p).number
@@ -174,30 +177,32 @@ module _ (plan : List Planned) (made : ℕ) (actions : List Placed) where
       by_case true h later = refl
       by_case false h later = later h
 
-  tree_agrees : (t : Tree) (p : BusPoint) → (meaning w t p).number ≤ made → meaning v t p ≡ meaning w t p
+  tree_agrees : (t : Tree) (p : BusPoint) → (plain_meaning w t p).number ≤ made → plain_meaning v t p ≡ plain_meaning w t p
   tree_agrees (send line m) p le = sent_agrees line m p le
   tree_agrees (retry n line m) p le =
       let rise : p.number + 1 ≤ (attempts w n line m (sent w line m p)).number = attempts_rise n line m (sent w line m p) in
       ap (attempts v n line m) (sent_agrees line m p (omega (arith, rise, le))) ∙ attempts_agree n line m (sent w line m p) le
   tree_agrees (gap t) p le = refl
-  tree_agrees (repeat n b) p le = times_agree n (meaning w b) (meaning v b) (λ q. tree_rises b q) (λ q h. tree_agrees b q h) p le
+  tree_agrees (repeat n b) p le = times_agree n (plain_meaning w b) (plain_meaning v b) (λ q. tree_rises b q) (λ q h. tree_agrees b q h) p le
   tree_agrees (choose c a b) p le =
-      ap (λ x. cond x (meaning v a p) (meaning v b p)) (meaning_is plan (placed_up_to made actions) c p ∙ sym (meaning_is plan actions c p))
+      ap (λ x. cond x (plain_meaning v a p) (plain_meaning v b p)) (meaning_is plan (placed_up_to made actions) c p ∙ sym (meaning_is plan actions c p))
       ∙ by_case (test_meaning w c p) le (λ h. tree_agrees a p h) (λ h. tree_agrees b p h)
     where
-      by_case : (x : Bool) → (cond x (meaning w a p) (meaning w b p)).number ≤ made → ((meaning w a p).number ≤ made → meaning v a p ≡ meaning w a p)
-          → ((meaning w b p).number ≤ made → meaning v b p ≡ meaning w b p) → cond x (meaning v a p) (meaning v b p) ≡ cond x (meaning w a p) (meaning w b p)
+      by_case : (x : Bool) → (cond x (plain_meaning w a p) (plain_meaning w b p)).number ≤ made → ((plain_meaning w a p).number ≤ made → plain_meaning v a p ≡ plain_meaning w a p)
+          → ((plain_meaning w b p).number ≤ made → plain_meaning v b p ≡ plain_meaning w b p) → cond x (plain_meaning v a p) (plain_meaning v b p) ≡ cond x (plain_meaning w a p) (plain_meaning w b p)
       by_case true h l r = l h
       by_case false h l r = r h
-  tree_agrees (until c n b) p le = turns_agree n c (meaning w b) (meaning v b) (λ q. tree_rises b q) (λ q h. tree_agrees b q h) p le
+  tree_agrees (until c n b) p le = turns_agree n c (plain_meaning w b) (plain_meaning v b) (λ q. tree_rises b q) (λ q h. tree_agrees b q h) p le
   tree_agrees nothing p le = refl
+  tree_agrees (call n) p le = refl
+  tree_agrees (define n b r) p le = tree_agrees r p le
   tree_agrees (chained a b) p le =
-      let rise : (meaning w a p).number ≤ (meaning w b (meaning w a p)).number = tree_rises b (meaning w a p) in
-      ap (meaning v b) (tree_agrees a p (omega (arith, rise, le))) ∙ tree_agrees b (meaning w a p) le
+      let rise : (plain_meaning w a p).number ≤ (plain_meaning w b (plain_meaning w a p)).number = tree_rises b (plain_meaning w a p) in
+      ap (plain_meaning v b) (tree_agrees a p (omega (arith, rise, le))) ∙ tree_agrees b (plain_meaning w a p) le
 
 pub suffices : (job : ChannelJob) (actions : List Placed) (made : ℕ) → length (records job actions) ≤ made → records job (placed_up_to made actions) ≡ records job actions
 suffices job actions made le =
     let grown : Grows (beginning (bus_of job)) (end_of job actions) =
-    tree_keeps (world_at job actions) Grows grows_same grows_gap (grows_message job.plan actions) grows_through job.tree (beginning (bus_of job)) in
+    tree_keeps (world_at job actions) Grows grows_same grows_gap (grows_message job.plan actions) grows_through (expansion job.tree) (beginning (bus_of job)) in
     let count : (end_of job actions).number ≡ length (records job actions) = records_count (beginning (bus_of job)) (end_of job actions) refl refl grown in
-    ap (λ (p : BusPoint). records_in p.state) (tree_agrees job.plan made actions job.tree (beginning (bus_of job)) (omega (arith, count, le)))
+    ap (λ (p : BusPoint). records_in p.state) (tree_agrees job.plan made actions (expansion job.tree) (beginning (bus_of job)) (omega (arith, count, le)))

@@ -282,3 +282,49 @@ impl Gate for HeldFromTheFirst {
         self.waits.until(&self.second, 1);
     }
 }
+
+/// Channel 1 waits before a message until hosts have posted so many actions.
+#[derive(Drop)]
+pub(super) struct HeldForPosts {
+    pub(super) waits: Waits,
+    message: u32,
+    wanted: u32,
+    held: AtomicU32,
+    posted: AtomicU32,
+}
+
+impl HeldForPosts {
+    /// The gate before anything has passed it.
+    pub(super) fn make(message: u32, wanted: u32) -> HeldForPosts {
+        HeldForPosts {
+            waits: Waits::make(),
+            message,
+            wanted,
+            held: AtomicU32::new(0),
+            posted: AtomicU32::new(0),
+        }
+    }
+
+    /// Waits until the message is held.
+    pub(super) fn wait_for_hold(&self) {
+        self.waits.until(&self.held, 1);
+    }
+
+    /// A host has posted an action.
+    pub(super) fn tell_posted(&self) {
+        self.posted.fetch_add(1, Ordering::SeqCst);
+    }
+}
+
+impl Gate for HeldForPosts {
+    fn before_message(&self, channel: u16, number: u32) {
+        if channel == 1 && number == self.message {
+            self.held.store(1, Ordering::SeqCst);
+            self.waits.until(&self.posted, self.wanted);
+        }
+    }
+
+    fn after_offer(&self, _channel: u16, _number: u32, _kept: bool) {}
+
+    fn after_take(&self, _channel: u16, _number: u32) {}
+}

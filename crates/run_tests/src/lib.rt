@@ -1,4 +1,4 @@
-//! Tests of the calls that start threads, `run` of `bench_run` and `record_jobs` of `bench_record`, and of mailboxes, against worked
+//! Tests of the calls that start threads, `run` and `run_live` of `bench_run` and `record_jobs` of `bench_record`, and of mailboxes, against worked
 //! values: gates fix the order of the threads where a value hangs on it.
 #![tactic(auto)]
 
@@ -14,6 +14,12 @@ mod full_queues;
 mod gates;
 #[cfg(test)]
 mod held;
+#[cfg(test)]
+mod hosts;
+#[cfg(test)]
+mod live;
+#[cfg(test)]
+mod live_hosts;
 #[cfg(test)]
 mod mailboxes;
 #[cfg(test)]

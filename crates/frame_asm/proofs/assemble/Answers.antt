@@ -1,7 +1,7 @@
 use Rattle.std.proofs.Common.{arith}
 use Rattle.frame_tree.specs.Tree.{tree_of}
 use Rattle.frame_asm.proofs.Ranges.{operations_of, messages_in}
-use Rattle.frame_asm.proofs.Loads.{loadable_if}
+use Rattle.frame_asm.proofs.Loadable.{loadable_if}
 use Rattle.frame_asm.proofs.assemble.Goals as goal
 
 pub returns : goal.returns

@@ -1,5 +1,6 @@
 use Rattle.std.proofs.Common.{refl}
-use Rattle.frame_load.proofs.Never.{never_stuck, reached_fits, reaches_more, few_counters, room_at}
+use Rattle.frame_load.proofs.Never.{never_stuck, reached_fits, reaches_more}
+use Rattle.frame_load.proofs.Levels.{few_counters, room_at, few_returns, room_to_call}
 use Rattle.frame_load.proofs.Ends.{halts_in_budget, few_messages}
 use Rattle.frame_load.proofs.loadable_runs.Goals as goal
 
@@ -11,6 +12,8 @@ returns g c = record {
   inside = λ w code from x ok r. (reached_fits w code ok from x r).inside;
   counters = λ w code from x ok r. few_counters w code ok from x r;
   room = λ w code from x n ok r e. room_at w code ok from x n r e;
+  returns = λ w code from x ok r. few_returns w code ok from x r;
+  room_to_call = λ w code from x k ok r e. room_to_call w code ok from x k r e;
   messages = λ w code from x ok r. few_messages w code ok from x r;
   halts = λ w code from ok. halts_in_budget w code ok from;
 }

@@ -1,9 +1,12 @@
 //! Which terminals a bus has, and 31 of them at once.
-use super::{are, fresh, has_block, has_words, is, mode_of};
+use super::{fresh, mode_of};
+use crate::equal::reads;
 use mil_bus::{Bus, BusError};
 use mil_host::Action;
 use mil_message::Draft;
 use mil_word::Line;
+use std::alloc::Global;
+use std::process::Abort;
 
 /// All addresses that a terminal can have.
 const ALL: &[u8] = &[
@@ -13,20 +16,26 @@ const ALL: &[u8] = &[
 
 #[test]
 fn no_bus_has_an_address_twice_or_over_30(rt: HostRuntime) {
-    for addresses in [[5, 5], [5, 31]] {
-        match Bus::make(rt.alloc(), 0, &addresses) {
-            Ok(_) => assert!(rt; false, "it was made"),
-            Err(refused) => assert_eq!(rt; refused, BusError::Addresses),
-        }
-    }
+    is_refused(&rt, rt.alloc(), &[5, 5]);
+    is_refused(&rt, rt.alloc(), &[5, 31]);
+}
+
+/// There is no bus of these addresses.
+fn is_refused(rt: &impl Abort, alloc: Global, addresses: &[u8]) {
+    let refused = Bus::make(alloc, 0, addresses).err();
+    assert_eq!(rt; refused, Some(BusError::Addresses), "{addresses:?}");
 }
 
 #[test]
 fn a_refusal_prints_its_code(rt: HostRuntime) {
-    for (refusal, code) in [(BusError::Addresses, "B1"), (BusError::Memory, "B2")] {
-        let text = format!(in rt.alloc(); "{refusal}").expect(&rt, "memory");
-        assert_eq!(rt; text.as_str(), code);
-    }
+    prints(&rt, rt.alloc(), BusError::Addresses, "B1");
+    prints(&rt, rt.alloc(), BusError::Memory, "B2");
+}
+
+/// A refusal is printed as this text.
+fn prints(rt: &impl Abort, alloc: Global, refusal: BusError, text: &str) {
+    let printed = format!(in alloc; "{refusal}").expect(rt, "memory");
+    reads(rt, printed.as_str(), text);
 }
 
 #[test]
@@ -42,9 +51,8 @@ fn each_of_31_terminals_answers_for_itself(rt: HostRuntime) {
     let mut all = fresh(&rt, rt.alloc(), ALL);
     for address in ALL {
         let own = u16::from(*address) << 11;
-        let record = all.send(&rt, Line::A, mode_of(u32::from(*address), 2));
-        has_words(&rt, &record, &[own | 0x07e2, own]);
-        has_block(&rt, &record, 0x0000, 0x0050);
+        let draft = mode_of(u32::from(*address), 2);
+        all.gives_block(&rt, Line::A, draft, 0x0000, 0x0050, &[own | 0x07e2, own]);
     }
 }
 
@@ -55,23 +63,13 @@ fn each_of_31_terminals_hears_a_broadcast(rt: HostRuntime) {
         subaddress: 1,
         words: &[0x00aa, 0x0055],
     };
-    is(
-        &rt,
-        &all.send(&rt, Line::B, to_all),
-        0,
-        0x2000,
-        0x0000,
-        &[0xf822, 0x00aa, 0x0055],
-    );
+    let words = &[0xf822, 0x00aa, 0x0055];
+    all.gives(&rt, Line::B, to_all, 0, 0x2000, 0x0000, words);
     for address in ALL {
         let own = u16::from(*address) << 11;
-        are(
-            &rt,
-            all.received_from_all(&rt, *address, 1),
-            &[0x00aa, 0x0055],
-        );
-        let record = all.send(&rt, Line::A, mode_of(u32::from(*address), 2));
-        has_words(&rt, &record, &[own | 0x07e2, own | 0x0010]);
+        all.has_received_from_all(&rt, *address, 1, &[0x00aa, 0x0055]);
+        let draft = mode_of(u32::from(*address), 2);
+        all.gives_words(&rt, draft, &[own | 0x07e2, own | 0x0010]);
     }
 }
 
@@ -85,25 +83,14 @@ fn a_terminal_sends_to_30_others(rt: HostRuntime) {
         receiver_subaddress: 4,
         count: 2,
     };
-    let record = all.send(&rt, Line::A, to_others);
-    is(
-        &rt,
-        &record,
-        0,
-        0x0800,
-        0x0050,
-        &[0xf882, 0x3c22, 0x3800, 0xaaaa, 0x5555],
-    );
+    let words = &[0xf882, 0x3c22, 0x3800, 0xaaaa, 0x5555];
+    all.gives(&rt, Line::A, to_others, 0, 0x0800, 0x0050, words);
     for address in ALL {
         let expected: &[u16] = if *address == 7 {
             &[]
         } else {
             &[0xaaaa, 0x5555]
         };
-        assert_eq!(rt;
-            all.received_from_all(&rt, *address, 4),
-            expected,
-            "terminal {address}"
-        );
+        all.has_received_from_all(&rt, *address, 4, expected);
     }
 }

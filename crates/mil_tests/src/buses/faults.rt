@@ -1,5 +1,6 @@
 //! Messages with planned faults.
-use super::{Setting, are, fresh, has_words, is, mode, mode_of, receive, with_fault};
+use super::{Setting, fresh, mode, mode_of, receive, with_fault};
+use crate::equal::same;
 use mil_line::{Fault, LineError};
 use mil_message::Draft;
 use mil_word::{Line, Sync, Wave, Word};
@@ -30,51 +31,65 @@ const SIX: &[u16] = &[0x1882, 0x3c22, 0x3800, 0xaaaa, 0x5555, 0x1800];
 #[test]
 fn a_transfer_between_terminals(rt: HostRuntime) {
     let mut two = two_terminals(&rt, rt.alloc());
-    let record = two.send(&rt, Line::A, between());
-    is(&rt, &record, 0, 0x0800, 0x5050, SIX);
-    are(&rt, two.received(&rt, 3, 4), &[0xaaaa, 0x5555]);
+    two.gives(&rt, Line::A, between(), 0, 0x0800, 0x5050, SIX);
+    two.has_received(&rt, 3, 4, &[0xaaaa, 0x5555]);
 }
 
 #[test]
 fn a_transfer_whose_sender_answers_late(rt: HostRuntime) {
     let mut late = two_terminals(&rt, rt.alloc());
-    late.plan
-        .add(1, Fault::Late { run: 1, ticks: 170 })
-        .expect(&rt, "a fault in range");
-    let record = late.send(&rt, Line::A, between());
-    is(&rt, &record, 0, 0x1a00, 0x50aa, SIX);
+    late.plans(&rt, 1, Fault::Late { run: 1, ticks: 170 });
+    late.gives(&rt, Line::A, between(), 0, 0x1a00, 0x50aa, SIX);
 }
 
 #[test]
 fn a_transfer_whose_sender_answers_too_late(rt: HostRuntime) {
     let mut late = two_terminals(&rt, rt.alloc());
-    late.plan
-        .add(1, Fault::Late { run: 1, ticks: 171 })
-        .expect(&rt, "a fault in range");
-    let record = late.send(&rt, Line::A, between());
-    is(
+    late.plans(&rt, 1, Fault::Late { run: 1, ticks: 171 });
+    late.gives(
         &rt,
-        &record,
+        Line::A,
+        between(),
         0,
         0x1a00,
         0x00ab,
         &[0x1882, 0x3c22, 0x3800, 0xaaaa, 0x5555],
     );
-    are(&rt, late.received(&rt, 3, 4), &[]);
-    let question = late.send(&rt, Line::A, mode_of(3, 2));
-    has_words(&rt, &question, &[0x1fe2, 0x1c00]);
+    late.has_received(&rt, 3, 4, &[]);
+    late.gives_words(&rt, mode_of(3, 2), &[0x1fe2, 0x1c00]);
 }
 
 #[test]
 fn a_word_that_is_dropped(rt: HostRuntime) {
     let mut alone = with_fault(&rt, rt.alloc(), Fault::Drop { run: 0, index: 3 });
-    let first = alone.send(&rt, Line::A, receive(&[1, 2, 3]));
-    is(&rt, &first, 0, 0x1220, 0x0000, &[0x2823, 1, 2]);
-    are(&rt, alone.received(&rt, 5, 1), &[]);
-    for stamp in [760, 1240] {
-        let question = alone.send(&rt, Line::A, mode(2));
-        is(&rt, &question, stamp, 0x0000, 0x0050, &[0x2fe2, 0x2c00]);
-    }
+    alone.gives(
+        &rt,
+        Line::A,
+        receive(&[1, 2, 3]),
+        0,
+        0x1220,
+        0x0000,
+        &[0x2823, 1, 2],
+    );
+    alone.has_received(&rt, 5, 1, &[]);
+    alone.gives(
+        &rt,
+        Line::A,
+        mode(2),
+        760,
+        0x0000,
+        0x0050,
+        &[0x2fe2, 0x2c00],
+    );
+    alone.gives(
+        &rt,
+        Line::A,
+        mode(2),
+        1240,
+        0x0000,
+        0x0050,
+        &[0x2fe2, 0x2c00],
+    );
 }
 
 #[test]
@@ -89,10 +104,17 @@ fn a_word_that_is_added(rt: HostRuntime) {
         word,
     };
     let mut alone = with_fault(&rt, rt.alloc(), fault);
-    let record = alone.send(&rt, Line::A, receive(&[1, 2, 3]));
-    is(&rt, &record, 0, 0x1220, 0x0000, &[0x2823, 1, 2, 3, 4]);
+    alone.gives(
+        &rt,
+        Line::A,
+        receive(&[1, 2, 3]),
+        0,
+        0x1220,
+        0x0000,
+        &[0x2823, 1, 2, 3, 4],
+    );
     // it follows the word before at once, so the clock stands at five words
-    assert_eq!(rt; alone.bus.clock(), 1000);
+    same(&rt, &alone.bus.clock(), &1000);
 }
 
 #[test]
@@ -103,73 +125,62 @@ fn a_word_with_a_half_bit_inverted(rt: HostRuntime) {
         half_bits: Wave::of(4),
     };
     let mut alone = with_fault(&rt, rt.alloc(), fault);
-    let record = alone.send(&rt, Line::A, receive(&[1, 2, 3]));
-    is(&rt, &record, 0, 0x1208, 0x0000, &[0x2823, 1, 2, 3]);
+    alone.gives(
+        &rt,
+        Line::A,
+        receive(&[1, 2, 3]),
+        0,
+        0x1208,
+        0x0000,
+        &[0x2823, 1, 2, 3],
+    );
 }
 
 #[test]
 fn a_message_of_which_no_word_is_sent(rt: HostRuntime) {
     let mut alone = with_fault(&rt, rt.alloc(), Fault::Drop { run: 0, index: 0 });
-    let none = alone.send(&rt, Line::A, mode(1));
-    is(&rt, &none, 0, 0x1220, 0x0000, &[]);
-    let next = alone.send(&rt, Line::A, mode(1));
-    is(&rt, &next, 160, 0x0000, 0x0050, &[0x2fe1, 0x2800]);
+    alone.gives(&rt, Line::A, mode(1), 0, 0x1220, 0x0000, &[]);
+    alone.gives(
+        &rt,
+        Line::A,
+        mode(1),
+        160,
+        0x0000,
+        0x0050,
+        &[0x2fe1, 0x2800],
+    );
 }
 
 #[test]
 fn a_reply_that_is_muted(rt: HostRuntime) {
     let mut alone = with_fault(&rt, rt.alloc(), Fault::Mute { run: 1 });
-    let record = alone.send(&rt, Line::A, mode(1));
-    is(&rt, &record, 0, 0x1200, 0x0000, &[0x2fe1]);
+    alone.gives(&rt, Line::A, mode(1), 0, 0x1200, 0x0000, &[0x2fe1]);
 }
 
 #[test]
 fn a_message_has_four_faults_and_no_fifth(rt: HostRuntime) {
     let mut alone = fresh(&rt, rt.alloc(), &[5]);
     for index in 0..4 {
-        alone
-            .plan
-            .add(1, Fault::Drop { run: 0, index })
-            .expect(&rt, "a fault in range");
+        alone.plans(&rt, 1, Fault::Drop { run: 0, index });
     }
     let fifth = Fault::Drop { run: 0, index: 4 };
-    assert_eq!(rt; alone.plan.add(1, fifth), Err(LineError::TooMany));
-    assert_eq!(rt; alone.plan.faults(1).len(), 4);
+    same(&rt, &alone.plan.add(1, fifth), &Err(LineError::TooMany));
+    same(&rt, &alone.plan.faults(1).len(), &4);
 }
 
 #[test]
 fn a_copied_bus_and_plan_go_on_alike(rt: HostRuntime) {
     let mut first = with_fault(&rt, rt.alloc(), Fault::Drop { run: 0, index: 3 });
-    first
-        .plan
-        .add(2, Fault::Mute { run: 1 })
-        .expect(&rt, "a fault in range");
+    first.plans(&rt, 2, Fault::Mute { run: 1 });
     let _ = first.send(&rt, Line::A, receive(&[1, 2, 3]));
-    let mut second = Setting {
-        bus: first.bus.copy().expect(&rt, "memory"),
-        plan: first.plan.copy().expect(&rt, "memory"),
-        number: first.number,
-    };
+    let mut second = first.copy(&rt);
     // the first goes on alone, and the copy is as it was
-    is(
+    first.gives(&rt, Line::A, mode(2), 760, 0x1200, 0x0000, &[0x2fe2]);
+    second.gives(&rt, Line::A, mode(2), 760, 0x1200, 0x0000, &[0x2fe2]);
+    second.gives(
         &rt,
-        &first.send(&rt, Line::A, mode(2)),
-        760,
-        0x1200,
-        0x0000,
-        &[0x2fe2],
-    );
-    is(
-        &rt,
-        &second.send(&rt, Line::A, mode(2)),
-        760,
-        0x1200,
-        0x0000,
-        &[0x2fe2],
-    );
-    is(
-        &rt,
-        &second.send(&rt, Line::A, mode(2)),
+        Line::A,
+        mode(2),
         1120,
         0x0000,
         0x0050,

@@ -1,4 +1,4 @@
-use Rattle.std.proofs.Common.{◌≡◌, leb, length, sym, ap, subst, ◌∙◌, refl, rules, cond}
+use Rattle.std.proofs.Common.{◌≡◌, leb, sym, ap, subst, ◌∙◌, rules, cond}
 use Rattle.std.specs.Prelude.{Result, IsOk, is_ok}
 use Rattle.std.specs.List.{insert}
 use Rattle.std.proofs.lemmas.List.Sorted.{IsPartitionPoint-from_clause, IsPartitionedBy-leb}

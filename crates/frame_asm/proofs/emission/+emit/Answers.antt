@@ -1,13 +1,13 @@
-use Rattle.std.proofs.Common.{◌≡◌, ◌+◌, ◌<◌, ◌++◌, length, map, sym, ap, ◌∙◌, arith, rules}
-use Rattle.std.proofs.lemmas.List.{get_or_read}
-use Rattle.std.proofs.lemmas.Grind.{common_steps}
+use Rattle.std.proofs.Common.{◌≡◌, ◌+◌, ◌<◌, ◌++◌, length, subst, map, sym, ap, ◌∙◌, arith, rules}
 use Rattle.std.proofs.lemmas.Result.{on_ok_weaker}
 use Rattle.frame_tree.specs.Tree.{repeat, choose, until, chain, test_of, tree_of}
+use Rattle.frame_tree.specs.Scopes.{scope_of}
+use Rattle.frame_tree.specs.Bounds.{CallsKnown}
 use Rattle.frame_tree.specs.declared.Frame.{the_lemmas}
 use Rattle.frame_tree.proofs.Trees.{tree_seq, tree_repeat, tree_if, tree_until}
 use Rattle.frame_asm.specs.Shapes.{branch_size, size, entries, shape, messages_of}
 use Rattle.frame_asm.proofs.Chains.{front, front_all}
-use Rattle.frame_asm.proofs.Frames.{length_put, length_branched, length_grown, length_entered, repeat_done, until_done, choose_done, messages_done, room_at, table_at, front_done, front_entered}
+use Rattle.frame_asm.proofs.Frames.{length_put, length_branched, length_grown, length_entered, repeat_done, until_done, choose_done, messages_done, known_in, calls_at, room_at, table_at, front_done, front_entered}
 use Rattle.frame_asm.proofs.emission.+emit.Goals as goal
 
 pub emit-requires-in-If : goal.emit-requires-in-If
@@ -15,7 +15,7 @@ emit-requires-in-If g t c κs within =
     let is : tree_of c.args.frame.now ≡ choose (test_of c.in-If.condition) (tree_of c.in-If.then.value) (tree_of c.in-If.otherwise.value) = ap tree_of c.in-If.is ∙ tree_if c.in-If.condition c.in-If.then c.in-If.otherwise in
     let now : tree_of c.deref-in-If-3.result.now ≡ tree_of c.in-If.then.value = ap tree_of c.deref-in-If-3.ensures in
     let grown = length_branched (test_of c.in-If.condition) c.args.operations.now.items c.emit_branch.new.operations.items _ _ _ c.in_ok-emit_branch-in-If.ensures in
-    (search (rules, the_lemmas), (search rules, (omega (arith, c.requires.room, ap size is, ap size now, grown), omega (arith, c.requires.table, ap entries is, ap entries now))))
+    (search (rules, the_lemmas), (search rules, (omega (arith, c.requires.room, ap size is, ap size now, grown), (omega (arith, c.requires.table, ap entries is, ap entries now), (known_in (scope_of c.args.scope.now) _ _ _ _ is now c.requires.calls (λ x. x.0), c.requires.routines)))))
 
 pub emit-requires-in-If-2 : goal.emit-requires-in-If-2
 emit-requires-in-If-2 g t c κs within =
@@ -23,10 +23,10 @@ emit-requires-in-If-2 g t c κs within =
     let before : tree_of c.deref-in-If-3.result.now ≡ tree_of c.in-If.then.value = ap tree_of c.deref-in-If-3.ensures in
     let now : tree_of c.deref-in-If-4.result.now ≡ tree_of c.in-If.otherwise.value = ap tree_of c.deref-in-If-4.ensures in
     let one = length_branched (test_of c.in-If.condition) c.args.operations.now.items c.emit_branch.new.operations.items _ _ _ c.in_ok-emit_branch-in-If.ensures in
-    let two = length_grown (tree_of c.deref-in-If-3.result.now) c.emit_branch.new.operations.items c.emit-in-If.new.operations.items _ _ c.in_ok-emit-in-If.ensures.operations in
+    let two = length_grown (scope_of c.args.scope.now) (tree_of c.deref-in-If-3.result.now) c.emit_branch.new.operations.items c.emit-in-If.new.operations.items _ _ c.in_ok-emit-in-If.ensures.operations in
     let three = length_put c.emit-in-If.new.operations.items c.put-in-If.new.operations.items _ c.in_ok-put-in-If.ensures in
     let four = length_entered (tree_of c.deref-in-If-3.result.now) c.args.messages.now.items c.emit-in-If.new.messages.items c.in_ok-emit-in-If.ensures.messages in
-    (search (rules, the_lemmas), (search rules, (omega (arith, c.requires.room, ap size is, ap size now, ap size before, one, two, three), omega (arith, c.requires.table, ap entries is, ap entries now, ap entries before, four))))
+    (search (rules, the_lemmas), (search rules, (omega (arith, c.requires.room, ap size is, ap size now, ap size before, one, two, three), (omega (arith, c.requires.table, ap entries is, ap entries now, ap entries before, four), (known_in (scope_of c.args.scope.now) _ _ _ _ is now c.requires.calls (λ x. x.1), c.requires.routines)))))
 
 pub emit-requires-in-Until : goal.emit-requires-in-Until
 emit-requires-in-Until g t c κs within =
@@ -35,7 +35,7 @@ emit-requires-in-Until g t c κs within =
     let one = length_put c.args.operations.now.items c.put-in-Until.new.operations.items _ c.in_ok-put-in-Until.ensures in
     let two = length_branched (test_of c.in-Until.condition) c.put-in-Until.new.operations.items c.emit_branch-in-Until.new.operations.items _ _ _ c.in_ok-emit_branch-in-Until.ensures in
     let three = length_put c.emit_branch-in-Until.new.operations.items c.put-in-Until-2.new.operations.items _ c.in_ok-put-in-Until-2.ensures in
-    (search (rules, the_lemmas), (search rules, (omega (arith, c.requires.room, ap size is, ap size now, one, two, three), omega (arith, c.requires.table, ap entries is, ap entries now))))
+    (search (rules, the_lemmas), (search rules, (omega (arith, c.requires.room, ap size is, ap size now, one, two, three), (omega (arith, c.requires.table, ap entries is, ap entries now), (known_in (scope_of c.args.scope.now) _ _ _ _ is now c.requires.calls (λ x. x), c.requires.routines)))))
 
 pub emit-requires-in-loop-frame : goal.emit-requires-in-loop-frame
 emit-requires-in-loop-frame g t c κs within =
@@ -44,9 +44,9 @@ emit-requires-in-loop-frame g t c κs within =
     let f = c.frame-item.result in
     let h : i < length fs = omega arith in
     let is : tree_of c.args.frame.now ≡ chain (map tree_of fs) = ap tree_of c.in-Seq.is ∙ tree_seq c.in-Seq.frames ∙ ap (λ xs. chain (map tree_of xs)) (sym c.deref-frame-items.ensures.value) in
-    let one = length_grown (front i fs) c.args.operations.now.items c.loop-frame.operations.items _ _ c.loop-frame.invariant.operations in
+    let one = length_grown (scope_of c.args.scope.now) (front i fs) c.args.operations.now.items c.loop-frame.operations.items _ _ c.loop-frame.invariant.operations in
     let two = length_entered (front i fs) c.args.messages.now.items c.loop-frame.messages.items c.loop-frame.invariant.messages in
-    (first_of (search (rules, the_lemmas, get_or_read), grind (the_lemmas, arith, common_steps) steps 2000000), (search rules, (omega (arith, c.requires.room, ap size is, room_at fs i f h c.frame-item.is, one), omega (arith, c.requires.table, ap entries is, table_at fs i f h c.frame-item.is, two))))
+    (grind (the_lemmas, arith) steps 60000000, (search rules, (omega (arith, c.requires.room, ap size is, room_at fs i f h c.frame-item.is, one), (omega (arith, c.requires.table, ap entries is, table_at fs i f h c.frame-item.is, two), (calls_at (scope_of c.args.scope.now) fs i f h c.frame-item.is (subst (CallsKnown (scope_of c.args.scope.now)) is c.requires.calls), c.requires.routines)))))
 
 pub loop-frame-preserved : goal.loop-frame-preserved
 loop-frame-preserved g t c =
@@ -54,14 +54,14 @@ loop-frame-preserved g t c =
     let i = c.loop-frame.frame-index in
     let h : i < length fs = omega arith in
     record {
-      operations = front_done fs i c.frame-item.result h c.frame-item.is c.args.operations.now.items c.loop-frame.operations.items c.emit-in-loop-frame.new.operations.items c.args.messages.now.items c.loop-frame.messages.items c.loop-frame.invariant.operations c.loop-frame.invariant.messages c.in_ok-emit-in-Seq.ensures.operations;
+      operations = front_done (scope_of c.args.scope.now) fs i c.frame-item.result h c.frame-item.is c.args.operations.now.items c.loop-frame.operations.items c.emit-in-loop-frame.new.operations.items c.args.messages.now.items c.loop-frame.messages.items c.loop-frame.invariant.operations c.loop-frame.invariant.messages c.in_ok-emit-in-Seq.ensures.operations;
       messages = front_entered fs i c.frame-item.result h c.frame-item.is c.args.messages.now.items c.loop-frame.messages.items c.emit-in-loop-frame.new.messages.items c.loop-frame.invariant.messages c.in_ok-emit-in-Seq.ensures.messages;
     }
 
 pub returns-in_ok-emit-in-Repeat-clause-operations : goal.returns-in_ok-emit-in-Repeat-clause-operations
 returns-in_ok-emit-in-Repeat-clause-operations g t c =
     let is : tree_of c.args.frame.now ≡ repeat c.in-Repeat.count (tree_of c.in-Repeat.body.value) = ap tree_of c.in-Repeat.is ∙ tree_repeat c.in-Repeat.count c.in-Repeat.body in
-    on_ok_weaker _ (repeat_done _ _ _ c.in-Repeat.count c.args.operations.now.items c.put-in-Repeat.new.operations.items c.emit.new.operations.items _ _ _ is (ap tree_of c.deref.ensures) (omega (arith, c.len.ensures, c.args.operations.now.ok.0)) c.in_ok-put-in-Repeat.ensures c.in_ok-emit-in-Repeat.ensures.operations) c.put-in-Repeat-2.ensures
+    on_ok_weaker _ (repeat_done (scope_of c.args.scope.now) _ _ _ c.in-Repeat.count c.args.operations.now.items c.put-in-Repeat.new.operations.items c.emit.new.operations.items _ _ _ is (ap tree_of c.deref.ensures) (omega (arith, c.len.ensures, c.args.operations.now.ok.0)) c.in_ok-put-in-Repeat.ensures c.in_ok-emit-in-Repeat.ensures.operations) c.put-in-Repeat-2.ensures
 
 pub returns-in_ok-emit-in-Until-clause-operations : goal.returns-in_ok-emit-in-Until-clause-operations
 returns-in_ok-emit-in-Until-clause-operations g t c =
@@ -74,7 +74,7 @@ returns-in_ok-emit-in-Until-clause-operations g t c =
     let test_at : c.len-in-Until.result + 1 ≡ length c.args.operations.now.items + 1 = omega (arith, c.len-in-Until.ensures, c.args.operations.now.ok.0) in
     let leave : c.len-in-Until.result + 1 + c.branch_len-in-Until.result ≡ c.len-in-Until.result + 1 + branch_size k = omega (arith, c.branch_len-in-Until.ensures) in
     let end : c.len-in-Until.result + 1 + c.branch_len-in-Until.result + c.operation_count-in-Until.result + 2 ≡ c.len-in-Until.result + 1 + c.branch_len-in-Until.result + size b + 2 = omega (arith, c.operation_count-in-Until.ensures) in
-    on_ok_weaker _ (until_done _ b _ k k c.in-Until.count c.args.operations.now.items c.put-in-Until.new.operations.items c.emit_branch-in-Until.new.operations.items c.put-in-Until-2.new.operations.items c.emit-in-Until.new.operations.items _ _ _ _ _ is (λ i. k) (ap tree_of c.deref-in-Until-2.ensures) test_at leave end c.in_ok-put-in-Until.ensures c.in_ok-emit_branch-in-Until.ensures c.in_ok-put-in-Until-2.ensures c.in_ok-emit-in-Until.ensures.operations) c.put-in-Until-3.ensures
+    on_ok_weaker _ (until_done (scope_of c.args.scope.now) _ b _ k k c.in-Until.count c.args.operations.now.items c.put-in-Until.new.operations.items c.emit_branch-in-Until.new.operations.items c.put-in-Until-2.new.operations.items c.emit-in-Until.new.operations.items _ _ _ _ _ is (λ i. k) (ap tree_of c.deref-in-Until-2.ensures) test_at leave end c.in_ok-put-in-Until.ensures c.in_ok-emit_branch-in-Until.ensures c.in_ok-put-in-Until-2.ensures c.in_ok-emit-in-Until.ensures.operations) c.put-in-Until-3.ensures
 
 pub returns-in_ok-put-in-If-clause-operations : goal.returns-in_ok-put-in-If-clause-operations
 returns-in_ok-put-in-If-clause-operations g t c =
@@ -89,7 +89,7 @@ returns-in_ok-put-in-If-clause-operations g t c =
     let then_at : c.len-in-If.result + c.branch_len.result ≡ length c.args.operations.now.items + branch_size k = omega (arith, c.len-in-If.ensures, c.args.operations.now.ok.0, c.branch_len.ensures) in
     let else_at : c.len-in-If.result + c.branch_len.result + c.operation_count.result + 1 ≡ c.len-in-If.result + c.branch_len.result + size a + 1 = omega (arith, c.operation_count.ensures) in
     let end : c.len-in-If.result + c.branch_len.result + c.operation_count.result + 1 + c.operation_count-in-If.result ≡ c.len-in-If.result + c.branch_len.result + c.operation_count.result + 1 + size b = omega (arith, c.operation_count-in-If.ensures) in
-    on_ok_weaker _ (choose_done _ a _ b _ k k c.args.operations.now.items c.emit_branch.new.operations.items c.emit-in-If.new.operations.items c.put-in-If.new.operations.items _ c.args.messages.now.items c.emit-in-If.new.messages.items _ _ _ is (λ i. k) (ap tree_of c.deref-in-If-3.ensures) (ap tree_of c.deref-in-If-4.ensures) then_at else_at end c.in_ok-emit_branch-in-If.ensures c.in_ok-emit-in-If.ensures.operations c.in_ok-emit-in-If.ensures.messages c.in_ok-put-in-If.ensures) c.emit-in-If-2.ensures.operations
+    on_ok_weaker _ (choose_done (scope_of c.args.scope.now) _ a _ b _ k k c.args.operations.now.items c.emit_branch.new.operations.items c.emit-in-If.new.operations.items c.put-in-If.new.operations.items _ c.args.messages.now.items c.emit-in-If.new.messages.items _ _ _ is (λ i. k) (ap tree_of c.deref-in-If-3.ensures) (ap tree_of c.deref-in-If-4.ensures) then_at else_at end c.in_ok-emit_branch-in-If.ensures c.in_ok-emit-in-If.ensures.operations c.in_ok-emit-in-If.ensures.messages c.in_ok-put-in-If.ensures) c.emit-in-If-2.ensures.operations
 
 pub returns-in_ok-put-in-If-clause-messages : goal.returns-in_ok-put-in-If-clause-messages
 returns-in_ok-put-in-If-clause-messages g t c =
@@ -99,7 +99,7 @@ returns-in_ok-put-in-If-clause-messages g t c =
 pub returns-after-loop-frame-clause-operations : goal.returns-after-loop-frame-clause-operations
 returns-after-loop-frame-clause-operations g t c =
     let all = front_all c.in-Seq.frames c.loop-frame.frame-index c.deref-frame-items.result.now c.deref-frame-items.ensures.value (omega arith) ∙ ap tree_of (sym c.in-Seq.is) in
-    c.loop-frame.invariant.operations ∙ ap (λ z. c.args.operations.now.items ++ shape (length c.args.operations.now.items) (length c.args.messages.now.items) z) all
+    c.loop-frame.invariant.operations ∙ ap (λ z. c.args.operations.now.items ++ shape (scope_of c.args.scope.now) (length c.args.operations.now.items) (length c.args.messages.now.items) z) all
 
 pub returns-after-loop-frame-clause-messages : goal.returns-after-loop-frame-clause-messages
 returns-after-loop-frame-clause-messages g t c =

@@ -1,11 +1,10 @@
-use Rattle.std.proofs.Common.{◌∙◌, ◌+◌, ◌-◌, ◌++◌, length, ap, sym, subst, arith}
+use Rattle.std.proofs.Common.{◌∙◌, ◌+◌, ◌-◌, ◌++◌, length, ap, sym, arith}
 use Rattle.std.specs.List.{flat_map}
 use Rattle.std.proofs.lemmas.Result.{err_from_is_err_and}
 use Rattle.std.proofs.lemmas.List.{length_push}
-use Rattle.frame_code.specs.Ranges.{AreInRange}
 use Rattle.frame_code.specs.Bytes.{message_bytes}
 use Rattle.frame_code.specs.Reading.{many, message_at}
-use Rattle.frame_code.proofs.Many.{onto, onto_more, onto_fails, onto_end, faults, range_more, spelled_more}
+use Rattle.frame_code.proofs.Many.{onto, onto_more, onto_fails, onto_end, faults, spelled_more}
 use Rattle.frame_code.proofs.reading.messages.Goals as goal
 
 pub returns-in_err-entry-clause-messages : goal.returns-in_err-entry-clause-messages

@@ -1,4 +1,4 @@
-use Rattle.std.proofs.Common.{◌≡◌, ◌∙◌, ◌∷◌, ap, arith}
+use Rattle.std.proofs.Common.{◌∙◌, ◌∷◌, ap, arith}
 use Rattle.frame_code.proofs.Pairs.{pair_spelled}
 use Rattle.frame_code.proofs.reading.two.Goals as goal
 

@@ -1,6 +1,5 @@
 use Rattle.std.proofs.Common.{◌≡◌, ◌-◌, ◌++◌, length}
 use Rattle.std.specs.List.{flat_map}
-use Rattle.frame_code.specs.Ranges.{AreInRange}
 use Rattle.frame_code.specs.Bytes.{two_bytes}
 use Rattle.frame_code.specs.Reading.{many, two_at}
 use Rattle.frame_code.proofs.Many.{onto}

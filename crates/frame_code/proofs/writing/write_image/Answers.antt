@@ -1,6 +1,3 @@
-use Rattle.std.proofs.Common.{◌≡◌, Ok, Err, ap, ◌∙◌}
-use Rattle.std.specs.Prelude.{Result, IfOk}
-use Rattle.frame_code.specs.Reading.{image_of}
 use Rattle.frame_code.proofs.Written.{read_back_if}
 use Rattle.frame_code.proofs.writing.write_image.Goals as goal
 

@@ -1,3 +1,4 @@
+use Rattle.frame_tree.specs.Scopes.{scope_of}
 use Rattle.std.proofs.Common.{◌≡◌, ◌+◌, ◌*◌, ◌≤◌, ℕ, length}
 use Rattle.frame_text.specs.Tokens.{tokens}
 use Rattle.frame_text.specs.Frames.{frames_at, frame_at}
@@ -27,7 +28,7 @@ decreases-frames g l = 5 * l.depth + 4
 
 abbrev pub invariant-frames-loop-word : goal.invariant-frames-loop-word
 invariant-frames-loop-word g l = record {
-  read : (n : ℕ) × (length (tokens l.rest) ≤ n) × (frames_at (frame_at l.depth) (length (tokens l.initial.rest)) (tokens l.initial.rest) ≡ onto l.found.items (frames_at (frame_at l.depth) n (tokens l.rest)));
+  read : (n : ℕ) × (length (tokens l.rest) ≤ n) × (frames_at (frame_at (scope_of l.scope) l.depth) (length (tokens l.initial.rest)) (tokens l.initial.rest) ≡ onto l.found.items (frames_at (frame_at (scope_of l.scope) l.depth) n (tokens l.rest)));
   fewer : length (tokens l.rest) ≤ length (tokens l.initial.rest);
 }
 

@@ -1,5 +1,4 @@
 use Rattle.std.proofs.Common.{map, sym, ap, ◌∙◌, arith, rules}
-use Rattle.std.proofs.lemmas.Grind.{common_steps}
 use Rattle.std.proofs.lemmas.List.{take_all}
 use Rattle.frame_tree.specs.Tree.{tree_of, chain}
 use Rattle.frame_tree.specs.declared.Frame.{the_lemmas}
@@ -19,4 +18,4 @@ returns-after-loop-frame g t c =
     ∙ ap tree_of (sym c.in-Seq.is)
 
 pub copied-requires-in-loop-frame : goal.copied-requires-in-loop-frame
-copied-requires-in-loop-frame g t c κs within = (grind (the_lemmas, arith, common_steps) steps 12000000, search rules)
+copied-requires-in-loop-frame g t c κs within = (grind (the_lemmas, arith) steps 60000000, search rules)

@@ -69,3 +69,15 @@ returns-in-JumpFalse-clause-value c = to_row c.args.self.now c.jump_false.new.se
 
 pub returns-in-JumpFalse-clause-answer : goal.returns-in-JumpFalse-clause-answer
 returns-in-JumpFalse-clause-answer c = to_answer c.args.self.now c.jump_false.new.self (op.JumpFalse c.in-JumpFalse.place) c.jump_false.result c.in-JumpFalse.ensures (returns-in-JumpFalse-clause-value c) c.jump_false.ensures.answer
+
+pub returns-in-Call-clause-value : goal.returns-in-Call-clause-value
+returns-in-Call-clause-value c = to_row c.args.self.now c.call.new.self (op.Call c.in-Call.routine) c.in-Call.ensures (c.call.ensures.value)
+
+pub returns-in-Call-clause-answer : goal.returns-in-Call-clause-answer
+returns-in-Call-clause-answer c = to_answer c.args.self.now c.call.new.self (op.Call c.in-Call.routine) c.call.result c.in-Call.ensures (returns-in-Call-clause-value c) c.call.ensures.answer
+
+pub returns-in-Return-clause-value : goal.returns-in-Return-clause-value
+returns-in-Return-clause-value c = to_row c.args.self.now c.come_back.new.self op.Return c.in-Return.ensures (c.come_back.ensures.value)
+
+pub returns-in-Return-clause-answer : goal.returns-in-Return-clause-answer
+returns-in-Return-clause-answer c = to_answer c.args.self.now c.come_back.new.self op.Return c.come_back.result c.in-Return.ensures (returns-in-Return-clause-value c) c.come_back.ensures.answer

@@ -2,9 +2,9 @@ use Rattle.std.proofs.Common.{◌≡◌, ◌≤◌, ℕ, List, length, map, ap, 
 use Rattle.std.specs.VecDeque.{deque_capacity}
 use Rattle.std.proofs.lemmas.List.{take_all}
 use Rattle.bench_report.specs.Reports.{ChannelPart}
-use Rattle.bench_core.specs.Channels.{Bus, report_part}
-use Rattle.bench_core.specs.World.{state_in, report_of, parts_of}
-use Rattle.bench_core.proofs.Worlds.{parts_are}
+use Rattle.bench_core.specs.Bench.{LaneState}
+use Rattle.bench_core.specs.Channels.{report_part}
+use Rattle.bench_core.specs.World.{state_in, report_of}
 use Rattle.bench_core.proofs.Fields.{few_packets}
 use Rattle.bench_core.proofs.world.World.report.Goals as goal
 
@@ -17,11 +17,11 @@ make-requires c =
 pub returns : goal.returns
 returns c =
     let w = c.self.inside in
-    let buses = w.lanes.items in
-    let lanes : c.deref-lane-items.result.now ≡ buses = c.deref-lane-items.ensures.value in
-    let low : length buses ≤ c.loop-lane.lane-index = omega (arith, c.loop-lane-test.false, ap (λ (bs : List Bus). length bs) lanes) in
-    let all : c.loop-lane.channels.items ≡ map report_part buses = c.loop-lane.invariant ∙ ap (map report_part) (take_all c.loop-lane.lane-index buses low) in
+    let ls = w.lanes.items in
+    let lanes : c.deref-lane-items.result.now ≡ ls = c.deref-lane-items.ensures.value in
+    let low : length ls ≤ c.loop-lane.lane-index = omega (arith, c.loop-lane-test.false, ap (λ (ls : List LaneState). length ls) lanes) in
+    let all : c.loop-lane.channels.items ≡ map report_part ls = c.loop-lane.invariant ∙ ap (map report_part) (take_all c.loop-lane.lane-index ls low) in
     c.make.ensures
-    ∙ ap (λ (ps : List ChannelPart). record { channels = ps; packets = w.packets }) (all ∙ parts_are buses)
-    ∙ ap (λ (n : ℕ). record { channels = parts_of (state_in w).bench.lanes (state_in w).actions; packets = n }) c.self.invariant.packets
+    ∙ ap (λ (ps : List ChannelPart). record { channels = ps; packets = w.packets }) all
+    ∙ ap (λ (n : ℕ). record { channels = map report_part (state_in w).bench.lanes; packets = n }) c.self.invariant.packets
     ∙ ap report_of c.self.view_is

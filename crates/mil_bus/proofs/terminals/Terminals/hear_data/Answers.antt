@@ -1,10 +1,10 @@
-use Rattle.mil_bus.specs.DataRuns.{hearing_all}
+use Rattle.mil_bus.specs.DataRuns.{hearing_all, run_words}
 use Rattle.mil_bus.proofs.DataRuns.{hearing_all-own}
 use Rattle.mil_bus.proofs.Indexing.{index-map}
 use Rattle.mil_bus.proofs.terminals.Terminals.hear_data.Goals as goal
 
 pub invariant_of-self : goal.invariant_of-self
 invariant_of-self c = (
-  rw c.tell_data-self-inside.ensures.heard (index-map (hearing_all c.args.line c.args.sent.now) c.self.inside.places c.self.inside.list.items (hearing_all-own c.args.line c.args.sent.now) c.self.invariant.0),
+  rw c.tell_data-self-inside.ensures.heard (index-map (hearing_all c.args.line (run_words c.args.run.now c.args.waves.now)) c.self.inside.places c.self.inside.list.items (hearing_all-own c.args.line (run_words c.args.run.now c.args.waves.now)) c.self.invariant.0),
   c.tell_data-self-inside.ensures.closed,
 )

@@ -1,0 +1,71 @@
+-- An action that a host posts: in the order of a channel's actions, and before its controller.
+use Rattle.std.proofs.Common.{◌≡◌, ℕ, ◌+◌, ◌<◌, Bool, false, cond, eqb, ne_eqb, List, [], ◌∷◌, ◌++◌, length, take, refl, sym, ap, ◌∙◌, subst, arith}
+use Rattle.std.proofs.lemmas.List.{append-nil, length-append}
+use Rattle.std.proofs.lemmas.List.Elements.{filter-append}
+use Rattle.mil_host.specs.declared.actions.Action.{Action}
+use Rattle.bc_machine.specs.declared.placed.Placed.{Placed}
+use Rattle.bc_machine.specs.Controller.{placed_at}
+use Rattle.bc_machine.specs.Running.{MachineState}
+use Rattle.bc_machine.specs.Posting.{with_placed, at_next}
+use Rattle.bc_machine.specs.UnderWay.{IsUnderWay}
+use Rattle.job_file.specs.Jobs.{JobState, job_in}
+use Rattle.job_file.specs.Meaning.{records}
+use Rattle.job_file.specs.Machines.{IsOf}
+use Rattle.bench_core.specs.Placing.{placed_up_to}
+use Rattle.bench_core.specs.Bench.{LaneState, with_post}
+use Rattle.bench_core.proofs.Foreseen.{records_posted}
+use Rattle.bench_core.proofs.Offers.{AreRecorded}
+use Rattle.bench_core.proofs.Ordered.{up_to_same}
+
+-- at a number that no message comes to it makes no difference
+pub left_out : (most : ℕ) (actions : List Placed) (one : Placed) → most < one.number → placed_up_to most actions ≡ placed_up_to most (actions ++ one ∷ [])
+left_out most actions one above = up_to_same most actions (actions ++ one ∷ []) (λ k low high.
+    sym (filter-append (λ (p : Placed). eqb p.number k) actions (one ∷ [])
+    ∙ ap (λ (b : Bool). placed_at k actions ++ cond b (one ∷ []) []) (ne_eqb one.number k (λ same. omega (arith, same, above, high)))
+    ∙ append-nil (placed_at k actions)))
+
+-- ---- a controller for which an action was placed at its next message
+
+pub placed_next : (m x : MachineState) (number address : ℕ) (a b : Action) → x ≡ m → number ≡ x.point.number → a ≡ b
+    → ◌≡◌ {A = Placed} (record { number = number + 1; address = address; action = a }) (at_next m address b)
+placed_next m x number address a b same is copy =
+    let here : number + 1 ≡ m.point.number + 1 = ap (λ (n : ℕ). n + 1) (is ∙ ap (λ (y : MachineState). y.point.number) same) in
+    λ i. record { number = here i; address = address; action = copy i }
+
+pub moved_next : (m x n : MachineState) (address : ℕ) (a b : Action) → x ≡ m → a ≡ b → n ≡ with_placed x (x.placed ++ at_next x address a ∷ [])
+    → n ≡ with_placed m (m.placed ++ at_next m address b ∷ [])
+moved_next m x n address a b same copy is =
+    is ∙ ap (λ (y : MachineState). with_placed y (y.placed ++ at_next y address a ∷ [])) same
+    ∙ ap (λ (c : Action). with_placed m (m.placed ++ at_next m address c ∷ [])) copy
+
+module _ (job : JobState) (m n : MachineState) (address : ℕ) (action : Action) (is : n ≡ with_placed m (m.placed ++ at_next m address action ∷ [])) where
+  pub posted_of : IsUnderWay n → IsOf (job_in job) m.placed m → IsOf (job_in job) n.placed n
+  posted_of under_way of = record {
+    code = ap (λ (x : MachineState). x.code) is ∙ of.code;
+    plan = ap (λ (x : MachineState). x.plan) is ∙ of.plan;
+    actions = refl;
+    begun = ap (λ (x : MachineState). x.begun) is ∙ of.begun;
+    under_way = under_way;
+  }
+
+  pub posted_lane : (channel : ℕ) (refused : List ℕ) (ended : Bool)
+      → ◌≡◌ {A = LaneState} (record { channel = channel; job = job; placed = n.placed; made = n.point.number; refused = refused; ended = ended })
+      (with_post (record { channel = channel; job = job; placed = m.placed; made = m.point.number; refused = refused; ended = ended }) address action)
+  posted_lane channel refused ended = ap (λ (x : MachineState). record { channel = channel; job = job; placed = x.placed; made = x.point.number; refused = refused; ended = ended }) is
+
+  pub posted_recorded : AreRecorded (take m.point.number (records (job_in job) m.placed)) → AreRecorded (take n.point.number (records (job_in job) n.placed))
+  posted_recorded all =
+      subst (λ (x : MachineState). AreRecorded (take x.point.number (records (job_in job) x.placed))) (sym is)
+      (subst AreRecorded (sym (records_posted (record { channel = 0; job = job; placed = m.placed; made = m.point.number; refused = []; ended = false }) address action)) all)
+
+  pub posted_number : n.point.number ≡ m.point.number
+  posted_number = ap (λ (x : MachineState). x.point.number) is
+
+  pub posted_placed : n.placed ≡ m.placed ++ at_next m address action ∷ []
+  posted_placed = ap (λ (x : MachineState). x.placed) is
+
+  -- one post more
+  pub posted_count : (own posts : ℕ) → length m.placed ≡ own + posts → length n.placed ≡ own + (posts + 1)
+  posted_count own posts same =
+      let long : length n.placed ≡ length (m.placed ++ at_next m address action ∷ []) = ap (λ (x : MachineState). length x.placed) is in
+      omega (arith, long, length-append m.placed (at_next m address action ∷ []), same)

@@ -1,0 +1,56 @@
+-- The exit status of a fault (own choice); 0 is done and 2 usage.
+use Rattle.std.specs.Prelude.{◌≡◌, ℕ, codes}
+use Rattle.bench_core.specs.declared.settings.WorldError.{WorldError}
+use Rattle.bench_core.specs.declared.settings.WorldError.TheVariants as world
+use Rattle.bench_run.specs.declared.error.RunError.{RunError}
+use Rattle.bench_run.specs.declared.error.RunError.TheVariants as run
+use Rattle.bench_step.specs.declared.fault.StepFault.{StepFault}
+use Rattle.bench_step.specs.declared.fault.StepFault.TheVariants as step
+use Rattle.bench_requests.specs.declared.fault.Fault.{Fault}
+use Rattle.bench_requests.specs.declared.fault.Fault.TheVariants.{Text, Script, Recording, Report, Mismatch, Job, Run, Sink, Device, System, Unknown, Memory, OneFile}
+
+abbrev pub status_of : Fault → ℕ
+-- the input was refused
+status_of (Text fault) = 1
+status_of (Script fault) = 1
+status_of (Recording refusal) = 1
+status_of (Report fault) = 1
+status_of (Mismatch channel number) = 1
+status_of (Job fault) = 1
+status_of (Run fault) = 1
+status_of (Unknown code) = 1
+-- a file or a stream failed
+status_of (Sink taken) = 3
+status_of (Device name) = 3
+status_of (System name code) = 3
+status_of Memory = 4
+-- two files of the command line are one
+status_of (OneFile written other) = 2
+
+-- the fault of jobs and settings that may not be run
+abbrev pub fault_of_settings : WorldError → Fault
+fault_of_settings world.Memory = Memory
+fault_of_settings world.Settings = Run world.Settings
+fault_of_settings world.ChannelTwice = Run world.ChannelTwice
+fault_of_settings world.Prologue = Run world.Prologue
+
+-- the fault of a run that gave no recording
+abbrev pub fault_of : {S : Type 0} → RunError S → Fault
+fault_of (run.Settings sink) = Run world.Settings
+fault_of (run.ChannelTwice sink) = Run world.ChannelTwice
+fault_of (run.Prologue sink) = Run world.Prologue
+fault_of (run.Memory sink) = Memory
+fault_of (run.Sink sink report taken) = Sink taken
+
+-- the fault of standard input or output
+abbrev pub IsStandardDevice : Fault → Type 0
+IsStandardDevice (Device name) = name.now ≡ codes "-"
+IsStandardDevice _ = ⊥
+
+-- the fault of a session
+abbrev pub IsOfStep : StepFault → Fault → Type 0
+IsOfStep (step.Refused refusal) f = f ≡ Recording refusal
+IsOfStep (step.Mismatch channel number) f = f ≡ Mismatch channel number
+IsOfStep step.Memory f = f ≡ Memory
+IsOfStep step.Input f = IsStandardDevice f
+IsOfStep step.Output f = IsStandardDevice f

@@ -1,0 +1,132 @@
+//! Why `bench` stops, and with which exit status.
+ghost use Rattle.std.specs.Prelude.{◌≡◌};
+ghost use Rattle.bench_requests.specs.Status.{status_of, fault_of, fault_of_settings, IsOfStep};
+
+use bench_assemble::AssembleFault;
+use bench_core::WorldError;
+use bench_one::OneFault;
+use bench_report::ReportError;
+use bench_run::RunError;
+use bench_step::StepFault;
+use ch11_reader::Refusal;
+use job_file::JobError;
+use std::alloc::AllocError;
+use std::io;
+use thiserror::Error;
+
+/// Why a command gave up; its text is what follows `bench: `.
+#[derive(Debug, Drop, Error)]
+pub enum Fault<'a> {
+    /// A message's text was refused.
+    #[error("{0}")]
+    Text(OneFault),
+    /// A script was refused.
+    #[error("{0}")]
+    Script(AssembleFault),
+    /// A recording was refused.
+    #[error("{0}")]
+    Recording(Refusal),
+    /// The text of a report was refused.
+    #[error("{0}")]
+    Report(ReportError),
+    /// Jobs, report and recording do not agree, and this is the first difference.
+    #[error("Y1 channel {channel} number {number}")]
+    Mismatch { channel: u16, number: u32 },
+    /// The text of a job was refused.
+    #[error("{0}")]
+    Job(JobError),
+    /// Jobs, settings or a prologue were refused before anything was run.
+    #[error("{0}")]
+    Run(WorldError),
+    /// The out file failed once it had taken so many bytes of the recording.
+    #[error("U4 taken {taken}")]
+    Sink { taken: u64 },
+    /// A file or a stream failed; its name as given, `-` for standard input and output.
+    #[error("device {0}")]
+    Device(&'a str),
+    /// The system refused a file or a stream, with a number that has words of its own.
+    #[error("device {name}")]
+    System { name: &'a str, code: i32 },
+    /// There is no such code to explain.
+    #[error("unknown {0}")]
+    Unknown(&'a str),
+    /// Memory was refused.
+    #[error("memory")]
+    Memory,
+    /// A usage fault: this file would be written over, since it is also the other one.
+    #[error("'{written}' and '{other}' are one file, which would be written over")]
+    OneFile { written: &'a str, other: &'a str },
+}
+
+impl<'a> Fault<'a> {
+    /// The exit status: 1 input refused, 2 usage, 3 device, 4 memory.
+    pub fn status(&self) -> u8
+        ensures { result ≡ status_of self.now }
+    {
+        match self {
+            Fault::Text(_) | Fault::Script(_) | Fault::Recording(_) => 1,
+            Fault::Job(_) | Fault::Run(_) => 1,
+            Fault::Report(_) | Fault::Mismatch { .. } => 1,
+            Fault::Unknown(_) => 1,
+            Fault::Sink { .. } | Fault::Device(_) => 3,
+            Fault::System { .. } => 3,
+            Fault::Memory => 4,
+            Fault::OneFile { .. } => 2,
+        }
+    }
+
+    /// The fault of jobs and settings that may not be run.
+    pub fn of_settings(error: WorldError) -> Fault<'a>
+        ensures { result ≡ fault_of_settings error }
+    {
+        match error {
+            WorldError::Memory => Fault::Memory,
+            refused => Fault::Run(refused),
+        }
+    }
+
+    /// The fault of a run that gave no recording.
+    pub fn of_run<S>(error: &RunError<S>) -> Fault<'a>
+        ensures { result ≡ fault_of error.now }
+    {
+        match error {
+            RunError::Settings { .. } => Fault::Run(WorldError::Settings),
+            RunError::ChannelTwice { .. } => Fault::Run(WorldError::ChannelTwice),
+            RunError::Prologue { .. } => Fault::Run(WorldError::Prologue),
+            RunError::Memory { .. } => Fault::Memory,
+            RunError::Sink { taken, .. } => Fault::Sink { taken: *taken },
+        }
+    }
+
+    /// The fault of a session that ended before its lines did, or with a refusal for memory.
+    pub fn of_step(fault: &StepFault) -> Fault<'a>
+        ensures { IsOfStep fault.now result }
+    {
+        match fault {
+            StepFault::Refused(refusal) => Fault::Recording(*refusal),
+            StepFault::Mismatch { channel, number } => Fault::Mismatch {
+                channel: *channel,
+                number: *number,
+            },
+            StepFault::Memory => Fault::Memory,
+            StepFault::Input | StepFault::Output => Fault::Device("-"),
+        }
+    }
+
+    /// The fault of a file or stream with this name.
+    pub fn of_stream(name: &'a str, error: &io::Error) -> Fault<'a> {
+        if error.kind() == io::ErrorKind::OutOfMemory {
+            return Fault::Memory;
+        }
+        match error.raw_os_error() {
+            Some(code) => Fault::System { name, code },
+            None => Fault::Device(name),
+        }
+    }
+}
+
+impl<'a> From<AllocError> for Fault<'a> {
+    fn from(_: AllocError) -> Fault<'a> {
+        Fault::Memory
+    }
+}

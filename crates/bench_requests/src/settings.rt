@@ -1,0 +1,42 @@
+//! What a run is asked to do, and the settings that are made of it.
+ghost use Rattle.std.specs.Prelude.{◌≡◌};
+
+use bench_core::Settings;
+
+/// What is to be recorded, and where to.
+#[derive(Debug, Drop)]
+pub struct RunRequest<'a> {
+    /// The data type version in each packet header.
+    pub version: u8,
+    /// How many bytes a packet has at most, in range or not.
+    pub limit: u32,
+    /// How many items the queue holds at most, in range or not.
+    pub queue: u32,
+    /// Whether buses wait while the queue is full, so that no message is refused.
+    pub hold: bool,
+    /// The file of the packets that stand in front of all others.
+    pub prologue: Option<&'a str>,
+    /// The file to write the recording to.
+    pub out: &'a str,
+    /// The file to write the report to.
+    pub report: &'a str,
+    /// The files of the jobs, however many.
+    pub jobs: Vec<&'a str>,
+}
+
+/// The settings that a request asks for, with the bytes of its prologue. No host posts actions.
+pub fn settings_of(request: &RunRequest<'_>, prologue: Vec<u8>) -> Settings
+    ensures version { result.version ≡ request.now.version }
+    ensures limit { result.limit ≡ request.now.limit }
+    ensures queue { result.queue ≡ request.now.queue }
+    ensures prologue { result.prologue.items ≡ prologue.items }
+    ensures posts { result.posts ≡ 0 }
+{
+    Settings {
+        version: request.version,
+        limit: request.limit,
+        queue: request.queue,
+        prologue,
+        posts: 0,
+    }
+}

@@ -1,0 +1,12 @@
+use Rattle.frame_tree.specs.Scopes.{scope_of}
+use Rattle.std.proofs.Common.{◌≡◌, ◌≤◌, ℕ, length}
+use Rattle.frame_text.specs.Tokens.{tokens}
+use Rattle.frame_text.specs.Frames.{main_at}
+use Rattle.frame_text.proofs.Scripts.{onto_script}
+use Rattle.frame_text.proofs.definitions.main.Given as goal
+
+abbrev pub invariant-loop-word : goal.invariant-loop-word
+invariant-loop-word g l = (n : ℕ) × (length (tokens l.rest) ≤ n) × (main_at (scope_of l.scope) (length (tokens l.text)) (tokens l.text) ≡ onto_script l.found.items (main_at (scope_of l.scope) n (tokens l.rest)))
+
+abbrev pub decreases-loop-word : goal.decreases-loop-word
+decreases-loop-word g l = length (tokens l.rest)

@@ -1,0 +1,52 @@
+//! The hosts: each sets a vector word on its terminal, and then asks for service.
+ghost use Rattle.std.specs.Prelude.{◌≡◌};
+ghost use Rattle.live_example.specs.Hosts.{MayPost};
+
+use crate::gate::Posted;
+use bench_run::{Mailbox, Poster};
+use mil_host::Action;
+use std::sync::Wait;
+use std::thread::{Threads, join};
+
+/// A host of the terminal at an address: its channel, its vector word, and its right to post.
+#[derive(Drop)]
+pub struct Host<'a> {
+    pub mailbox: &'a Mailbox,
+    pub poster: Poster,
+    pub channel: u16,
+    pub address: u8,
+    pub word: u16,
+}
+
+/// Posts the vector word and the service request, and tells the gate. The mailbox has room for both, so that neither comes back.
+fn post_both<R: Wait>(rt: &R, gate: &Posted, host: Host<'_>)
+    requires { MayPost host.mailbox.now host.poster }
+{
+    let Host {
+        mailbox,
+        mut poster,
+        channel,
+        address,
+        word,
+    } = host;
+    let vector = mailbox.post(rt, &mut poster, 0, address, Action::Vector(word));
+    let service = mailbox.post(rt, &mut poster, 0, address, Action::Service(true));
+    if vector.is_ok() && service.is_ok() {
+        gate.tell(channel);
+    }
+}
+
+/// The hosts post at the same time.
+pub fn post_all<R: Threads + Wait + Sync>(rt: &R, gate: &Posted, first: Host<'_>, second: Host<'_>)
+    requires { MayPost first.mailbox.now first.poster × MayPost second.mailbox.now second.poster }
+{
+    let _ = join(
+        rt,
+        move ||
+            requires { MayPost first.mailbox.now first.poster }
+        { post_both(rt, gate, first) },
+        move ||
+            requires { MayPost second.mailbox.now second.poster }
+        { post_both(rt, gate, second) },
+    );
+}

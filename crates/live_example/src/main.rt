@@ -1,0 +1,159 @@
+//! Two buses run, each on a thread of its own, while the host of a terminal on each posts a vector word and a service request. What is
+//! printed of the run is the same whatever the order of the threads: which messages met the posts is left out, and message 50 of each
+//! channel waits until its host has posted.
+#![tactic(auto)]
+
+ghost use Rattle.std.specs.Prelude.{◌≡◌, ◌∷◌, [], IfSome};
+ghost use Rattle.bench_run.specs.Live.{AreInboxesOf};
+ghost use Rattle.bench_run.specs.Mail.{IsInboxOf};
+ghost use Rattle.live_example.specs.Hosts.{MayPost};
+
+mod gate;
+mod hosts;
+
+use bench_core::Settings;
+use bench_report::{ChannelReport, Report};
+use bench_run::{Inbox, Mailbox, Poster, run_live};
+use ch11_writer::MemorySink;
+use gate::Posted;
+use hosts::{Host, post_all};
+use job_file::{Job, read_job};
+use std::alloc::Global;
+use std::io;
+use std::sync::Wait;
+use std::thread::{Threads, join};
+
+/// Each bus controller asks its terminal for the vector word a hundred times.
+const FIRST: &str = "channel 1\nterminal 5\nscript\nrepeat 100 { send A mode 5 16 }\n";
+
+const SECOND: &str = "channel 2\nterminal 6\nscript\nrepeat 100 { send A mode 6 16 }\n";
+
+/// The mailbox of a job, the poster of its host, and the inbox; None where memory is refused.
+fn mail_for(alloc: Global, job: &Job) -> Option<(Mailbox, Poster, Inbox)>
+    ensures { IfSome result (λ r. MayPost r.0 r.1 × IsInboxOf r.0 r.2) }
+{
+    match Mailbox::make(alloc, job, 4) {
+        Ok((mailbox, poster, inbox)) => Some((mailbox, poster, inbox)),
+        Err(_) => None,
+    }
+}
+
+/// Packets of at most 65,536 bytes, a queue with room for all that both channels send, and at most four posts of each channel.
+fn settings(alloc: Global) -> Settings {
+    Settings {
+        version: 6,
+        limit: 65_536,
+        queue: 256,
+        prologue: Vec::new(alloc),
+        posts: 4,
+    }
+}
+
+/// Two values in a list; None where memory is refused.
+fn both<T: Drop>(alloc: Global, first: T, second: T) -> Option<Vec<T>>
+    ensures { IfSome result (λ list. list.items ≡ first ∷ second ∷ []) }
+{
+    let mut list = Vec::with_capacity(alloc, 2).ok()?;
+    list.push(first).ok()?;
+    list.push(second).ok()?;
+    Some(list)
+}
+
+/// The report of a run of the jobs, beside which the hosts post; None where the run gave no recording.
+fn run_beside<R: Threads + Wait + Sync>(
+    rt: &R,
+    alloc: Global,
+    jobs: &[Job],
+    boxes: &[Mailbox],
+    inboxes: Vec<Inbox>,
+    first: Host<'_>,
+    second: Host<'_>,
+) -> Option<Report>
+    requires hosts { MayPost first.mailbox.now first.poster × MayPost second.mailbox.now second.poster }
+    requires inboxes { AreInboxesOf boxes.now inboxes.items }
+{
+    let gate = Posted::none();
+    let posted = &gate;
+    let (_, answer) = join(
+        rt,
+        move ||
+            requires { MayPost first.mailbox.now first.poster × MayPost second.mailbox.now second.poster }
+        { post_all(rt, posted, first, second) },
+        move || -> Option<Report>
+            requires { AreInboxesOf boxes.now inboxes.items }
+        { lives(rt, alloc, jobs, boxes, inboxes, posted) },
+    );
+    answer
+}
+
+/// The report of a live run into memory; None where it gave no recording.
+fn lives<R: Threads + Wait + Sync>(
+    rt: &R,
+    alloc: Global,
+    jobs: &[Job],
+    boxes: &[Mailbox],
+    inboxes: Vec<Inbox>,
+    gate: &Posted,
+) -> Option<Report>
+    requires { AreInboxesOf boxes.now inboxes.items }
+{
+    let settings = settings(alloc);
+    let sink = MemorySink::make(alloc);
+    match run_live(rt, alloc, jobs, &settings, boxes, inboxes, gate, sink) {
+        Ok((report, _, _)) => Some(report),
+        Err(_) => None,
+    }
+}
+
+/// The report of the whole example; None where memory is refused.
+fn report<R: Threads + Wait + Sync>(rt: &R, alloc: Global) -> Option<Report> {
+    let first = read_job(alloc, FIRST.as_bytes()).ok()?;
+    let second = read_job(alloc, SECOND.as_bytes()).ok()?;
+    let (first_box, first_poster, first_inbox) = mail_for(alloc, &first)?;
+    let (second_box, second_poster, second_inbox) = mail_for(alloc, &second)?;
+    let jobs = both(alloc, first, second)?;
+    let boxes = both(alloc, first_box, second_box)?;
+    let inboxes = both(alloc, first_inbox, second_inbox)?;
+    let (Some(first_box), Some(second_box)) = (boxes.first(), boxes.get(1)) else {
+        return None;
+    };
+    let first = Host {
+        mailbox: first_box,
+        poster: first_poster,
+        channel: 1,
+        address: 5,
+        word: 0x00AA,
+    };
+    let second = Host {
+        mailbox: second_box,
+        poster: second_poster,
+        channel: 2,
+        address: 6,
+        word: 0x0155,
+    };
+    run_beside(rt, alloc, &jobs, &boxes, inboxes, first, second)
+}
+
+/// Prints what a channel made, and what was placed besides.
+fn print_channel<R: Print>(rt: &R, part: &ChannelReport) -> io::Result<()> {
+    let refused = part.refused().len();
+    println!(rt;
+        "channel {}: {} messages, {refused} refused",
+        part.channel(),
+        part.made()
+    )?;
+    for placed in part.placed() {
+        println!(rt; "  for terminal {}: {}", placed.address, placed.action)?;
+    }
+    Ok(())
+}
+
+fn main(rt: HostRuntime) -> io::Result<()> {
+    let Some(report) = report(&rt, rt.alloc()) else {
+        return println!(rt; "no recording");
+    };
+    for part in report.channels() {
+        print_channel(&rt, part)?;
+    }
+    Ok(())
+}

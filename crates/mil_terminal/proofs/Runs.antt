@@ -1,0 +1,175 @@
+-- Words that come one after the other, none of which is a command or a status.
+use Rattle.std.proofs.Common.{◌≡◌, ℕ, suc, ◌<◌, List, [], ◌∷◌, ◌++◌, drop, length, get_or, refl, sym, ap, ◌∙◌, arith, zero-le}
+use Rattle.std.specs.Prelude.{Bool, true, false, ◌==◌, nat_lt, Option, Some, None, if◌then◌else◌}
+use Rattle.std.proofs.lemmas.Bool.Decides.{nat_tests}
+use Rattle.mil_word.specs.declared.Line.{Line}
+use Rattle.mil_word.specs.Words.{same_line, command_in, data_in}
+use Rattle.mil_terminal.specs.declared.events.Event.TheVariants.{Heard}
+use Rattle.mil_terminal.specs.History.{History}
+use Rattle.mil_terminal.specs.Windows.{sender_called}
+use Rattle.mil_terminal.specs.Runs.{heard, met, AreNoCommands}
+use Rattle.mil_terminal.specs.Verdicts.{words_due}
+use Rattle.mil_terminal.specs.declared.pending.Phase.{Phase}
+use Rattle.mil_terminal.specs.declared.pending.Phase.TheVariants.{Start, Taking, Called, Waiting, LostTransfer, Lost}
+use Rattle.mil_terminal.specs.declared.pending.Pending.{Pending}
+use Rattle.mil_terminal.specs.declared.registers.Registers.{Registers}
+use Rattle.mil_terminal.specs.Phases.{with_due, due_value, with_first, is_answer, after_word, after_run}
+use Rattle.mil_terminal.specs.StandsFor.{StandsFor}
+use Rattle.mil_terminal.proofs.Steps.{after_word-pending}
+use Rattle.mil_terminal.proofs.Hears.{hear_none, hear_item, hear_silent}
+
+-- ---- the first word and the others
+
+pub first_none : (w : ℕ) (ws : List ℕ) → AreNoCommands 0 (w ∷ ws) → command_in w ≡ None
+first_none w ws none = none 0 w zero-le (omega arith)
+
+pub rest_none : (w : ℕ) (ws : List ℕ) → AreNoCommands 0 (w ∷ ws) → AreNoCommands 0 ws
+rest_none w ws none = λ k d le lt. none (suc k) d zero-le (omega (arith, lt))
+
+-- ---- a word changes neither the line of a window nor its command
+
+with_due-line : (d : Option ℕ) (p : Pending) → (with_due d p).line ≡ p.line
+with_due-line None p = refl
+with_due-line (Some value) p = refl
+
+with_due-command : (d : Option ℕ) (p : Pending) → (with_due d p).command ≡ p.command
+with_due-command None p = refl
+with_due-command (Some value) p = refl
+
+with_first-line : (s : Option ℕ) (p : Pending) (wave gap : ℕ) → (with_first s p wave gap).line ≡ p.line
+with_first-line None p wave gap = with_due-line (due_value p wave gap) p
+with_first-line (Some sender) p wave gap = refl
+
+with_first-command : (s : Option ℕ) (p : Pending) (wave gap : ℕ) → (with_first s p wave gap).command ≡ p.command
+with_first-command None p wave gap = with_due-command (due_value p wave gap) p
+with_first-command (Some sender) p wave gap = refl
+
+after_word-line : (own : ℕ) (p : Pending) (phase : Phase) (wave gap : ℕ) → (after_word own p phase wave gap).line ≡ p.line
+after_word-line own p Start wave gap = with_first-line (sender_called own p.command wave gap) p wave gap
+after_word-line own p Taking wave gap = with_due-line (due_value p wave gap) p
+after_word-line own p (Called sender) wave gap = refl
+after_word-line own p (Waiting sender) wave gap = refl
+after_word-line own p LostTransfer wave gap = refl
+after_word-line own p Lost wave gap = refl
+
+after_word-command : (own : ℕ) (p : Pending) (phase : Phase) (wave gap : ℕ) → (after_word own p phase wave gap).command ≡ p.command
+after_word-command own p Start wave gap = with_first-command (sender_called own p.command wave gap) p wave gap
+after_word-command own p Taking wave gap = with_due-command (due_value p wave gap) p
+after_word-command own p (Called sender) wave gap = refl
+after_word-command own p (Waiting sender) wave gap = refl
+after_word-command own p LostTransfer wave gap = refl
+after_word-command own p Lost wave gap = refl
+
+-- ---- registers that stand for a history, after the words of a run
+
+-- with no window open
+pub run_none : (r : Registers) (line : Line) (gap : ℕ) (waves : List ℕ) (h : History) → r.window ≡ None → AreNoCommands 0 waves
+    → StandsFor r h → StandsFor r (met (heard line gap waves) h)
+run_none r line gap [] h was none is = is
+run_none r line gap (w ∷ ws) h was none is =
+    run_none r line 20 ws (Heard line w gap ∷ h) was (rest_none w ws none) (hear_none r line w gap h was (rw (first_none w ws none) refl) is)
+
+-- with a window on the other line
+silent_go : (r : Registers) (p : Pending) (line : Line) (gap : ℕ) (waves : List ℕ) (h : History) → AreNoCommands 0 waves → same_line line p.line ≡ false
+    → StandsFor (record r { window = Some p }) h → StandsFor (record r { window = Some p }) (met (heard line gap waves) h)
+silent_go r p line gap [] h none other is = is
+silent_go r p line gap (w ∷ ws) h none other is =
+    silent_go r p line 20 ws (Heard line w gap ∷ h) (rest_none w ws none) other
+    (hear_silent (record r { window = Some p }) p line w gap h refl (rw (first_none w ws none) refl) other is)
+
+pub run_silent : (r : Registers) (w : Option Pending) (p : Pending) (line : Line) (gap : ℕ) (waves : List ℕ) (h : History) → w ≡ Some p → AreNoCommands 0 waves → same_line line p.line ≡ false
+    → StandsFor (record r { window = w }) h → StandsFor (record r { window = Some p }) (met (heard line gap waves) h)
+run_silent r w p line gap waves h was none other is = silent_go r p line gap waves h none other (rw was at is)
+
+-- with a window on this line
+heard_go : (r : Registers) (p : Pending) (line : Line) (gap : ℕ) (waves : List ℕ) (h : History) → AreNoCommands 0 waves → same_line line p.line ≡ true
+    → StandsFor (record r { window = Some p }) h → StandsFor (record r { window = Some (after_run r.own p gap waves) }) (met (heard line gap waves) h)
+heard_go r p line gap [] h none same is = is
+heard_go r p line gap (w ∷ ws) h none same is =
+    let q : Pending = after_word r.own p p.phase w gap in
+    let line_is : q.line ≡ p.line = after_word-line r.own p p.phase w gap in
+    heard_go r q line 20 ws (Heard line w gap ∷ h) (rest_none w ws none) (ap (same_line line) line_is ∙ same)
+    (hear_item (record r { window = Some p }) p q line w gap h refl (rw (first_none w ws none) refl) same line_is (after_word-command r.own p p.phase w gap)
+    (λ items pending. after_word-pending r.own p w gap items pending) is)
+
+pub run_heard : (r : Registers) (w : Option Pending) (p : Pending) (line : Line) (gap : ℕ) (waves : List ℕ) (h : History) → w ≡ Some p → AreNoCommands 0 waves → same_line line p.line ≡ true
+    → StandsFor (record r { window = w }) h → StandsFor (record r { window = Some (after_run r.own p gap waves) }) (met (heard line gap waves) h)
+run_heard r w p line gap waves h was none same is = heard_go r p line gap waves h none same (rw was at is)
+
+-- ---- the state of a window after a run, by its first word and the others
+
+pub empty_run : (own : ℕ) (p : Pending) (gap : ℕ) (waves : List ℕ) → (length waves == 0) ≡ true → p ≡ after_run own p gap waves
+empty_run own p gap [] h = refl
+empty_run own p gap (w ∷ ws) h = absurd (grind (arith, nat_tests))
+
+pub first_then : (own : ℕ) (p : Pending) (gap w : ℕ) (waves : List ℕ) → 0 < length waves → w ≡ get_or waves 0 w
+    → after_run own (after_word own p p.phase w gap) 20 (drop 1 waves) ≡ after_run own p gap waves
+first_then own p gap w [] lt is = absurd (omega arith)
+first_then own p gap w (v ∷ vs) lt is = rw is refl
+
+-- whether no further word changes the state
+abbrev pub is_over : Phase → Bool
+is_over Start = false
+is_over Taking = false
+is_over (Called sender) = false
+is_over (Waiting sender) = false
+is_over LostTransfer = true
+is_over Lost = true
+
+over_step : (own : ℕ) (p : Pending) (phase : Phase) (wave gap : ℕ) → is_over phase ≡ true → after_word own p phase wave gap ≡ p
+over_step own p Start wave gap h = cc
+over_step own p Taking wave gap h = cc
+over_step own p (Called sender) wave gap h = cc
+over_step own p (Waiting sender) wave gap h = cc
+over_step own p LostTransfer wave gap h = refl
+over_step own p Lost wave gap h = refl
+
+pub over_run : (own : ℕ) (p : Pending) (gap : ℕ) (waves : List ℕ) → is_over p.phase ≡ true → p ≡ after_run own p gap waves
+over_run own p gap [] over = refl
+over_run own p gap (w ∷ ws) over =
+    over_run own p 20 ws over ∙ ap (λ q. after_run own q 20 ws) (sym (over_step own p p.phase w gap over))
+
+due_over : (d : Option ℕ) (p : Pending) → ((with_due d p).phase ≡ Taking → ⊥) → is_over (with_due d p).phase ≡ true
+due_over None p not_taking = refl
+due_over (Some value) p not_taking = absurd (not_taking refl)
+
+answer_over : (own : ℕ) (p : Pending) (sender wave gap : ℕ) → command_in wave ≡ None → is_over (if is_answer sender wave gap then Taking else Lost) ≡ true
+answer_over own p sender wave gap none = rw none refl
+
+-- after a word that is no command, more words are due or none is
+pub word_over : (own : ℕ) (p : Pending) (phase : Phase) (wave gap : ℕ) → p.phase ≡ phase → command_in wave ≡ None
+    → ((after_word own p phase wave gap).phase ≡ Taking → ⊥) → is_over (after_word own p phase wave gap).phase ≡ true
+word_over own p Start wave gap at_phase none not_taking = go (sender_called own p.command wave gap) (rw none refl) not_taking
+  where
+    go : (s : Option ℕ) → s ≡ None → ((with_first s p wave gap).phase ≡ Taking → ⊥) → is_over (with_first s p wave gap).phase ≡ true
+    go None h not_taking = due_over (due_value p wave gap) p not_taking
+    go (Some sender) h not_taking = cc
+word_over own p Taking wave gap at_phase none not_taking = due_over (due_value p wave gap) p not_taking
+word_over own p (Called sender) wave gap at_phase none not_taking = refl
+word_over own p (Waiting sender) wave gap at_phase none not_taking = answer_over own p sender wave gap none
+word_over own p LostTransfer wave gap at_phase none not_taking = rw at_phase refl
+word_over own p Lost wave gap at_phase none not_taking = rw at_phase refl
+
+-- ---- a word in a place where a due word may stand
+
+taking_is : (p : Pending) → p.phase ≡ Taking → p ≡ record p { phase = Taking }
+taking_is p at_phase = ap (λ f. let q : Pending = record p { phase = f } in q) at_phase
+
+taking_word : (own : ℕ) (p : Pending) (phase : Phase) (wave : ℕ) → phase ≡ Taking → after_word own p phase wave 20 ≡ with_due (if nat_lt (length p.words.items) (words_due p.command) then data_in wave else None) p
+taking_word own p phase wave at_phase = rw at_phase refl
+
+-- one more word is taken
+pub word_taken : (own : ℕ) (p q : Pending) (v w : ℕ) (ws : List ℕ) → p.phase ≡ Taking → Some v ≡ (if nat_lt (length p.words.items) (words_due p.command) then data_in w else None)
+    → q ≡ record p { words = record { items = p.words.items ++ v ∷ [] } } → after_run own q 20 ws ≡ after_run own p 20 (w ∷ ws)
+word_taken own p q v w ws at_phase value is =
+    let step : after_word own p p.phase w 20 ≡ with_due (Some v) p = taking_word own p p.phase w at_phase ∙ ap (λ d. with_due d p) (sym value) in
+    let same : with_due (Some v) p ≡ q = sym (is ∙ ap (λ f. let x : Pending = record p { phase = f; words = record { items = p.words.items ++ v ∷ [] } } in x) at_phase) in
+    ap (λ x. after_run own x 20 ws) (sym (step ∙ same))
+
+-- a word is not taken, and so none after it
+pub word_lost : (own : ℕ) (p : Pending) (w : ℕ) (ws : List ℕ) → p.phase ≡ Taking → None ≡ (if nat_lt (length p.words.items) (words_due p.command) then data_in w else None)
+    → record p { phase = Lost } ≡ after_run own p 20 (w ∷ ws)
+word_lost own p w ws at_phase value =
+    let lost : Pending = record p { phase = Lost } in
+    let step : after_word own p p.phase w 20 ≡ lost = taking_word own p p.phase w at_phase ∙ ap (λ d. with_due d p) (sym value) in
+    over_run own lost 20 ws refl ∙ ap (λ x. after_run own x 20 ws) (sym step)

@@ -1,0 +1,26 @@
+-- Words that come one after the other, none of which is a command or a status.
+use Rattle.std.specs.Prelude.{◌≡◌, ℕ, ◌<◌, ◌≤◌, List, [], ◌∷◌, length, get_or, None}
+use Rattle.mil_word.specs.declared.Line.{Line}
+use Rattle.mil_word.specs.Words.{command_in}
+use Rattle.mil_terminal.specs.declared.events.Event.{Event}
+use Rattle.mil_terminal.specs.declared.events.Event.TheVariants.{Heard}
+use Rattle.mil_terminal.specs.History.{History}
+use Rattle.mil_terminal.specs.Station.{Station}
+
+-- the words of a run as events: the first has this gap, and the others follow at once
+abbrev pub heard : Line → ℕ → List ℕ → List Event
+heard line gap [] = []
+heard line gap (wave ∷ waves) = Heard line wave gap ∷ heard line 20 waves
+
+-- a history after more events, of which the first came first
+abbrev pub met : List Event → History → History
+met [] h = h
+met (e ∷ es) h = met es (e ∷ h)
+
+-- a station after more events, of which the first came first
+abbrev pub after_all : Station → List Event → Station
+after_all station events = record { own = station.own; history = met events station.history }
+
+-- none of the waves from a place on is a command or a status word
+abbrev pub AreNoCommands : ℕ → List ℕ → Type 0
+AreNoCommands from waves = (k : ℕ) (d : ℕ) → from ≤ k → k < length waves → command_in (get_or waves k d) ≡ None
