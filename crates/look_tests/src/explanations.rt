@@ -49,7 +49,7 @@ fn a_code_is_printed_with_what_to_do(rt: HostRuntime) -> Result<(), Fail> {
         .ok_or("memory")?;
     assert_eq!(rt;
         out.as_slice(),
-        "S7: a number out of its range: repeat 1 to 10000, retry 1 to 8, gap 40 to 65535.\nChoose a number in the range; loops in one another multiply.\nExample: repeat 0 { send A mode 5 1 }\n".as_bytes()
+        "S7: a number out of its range: repeat and until 1 to 10000, retry 1 to 8, gap 40 to 65535.\nChoose a number in the range; loops in one another multiply.\nExample: repeat 0 { send A mode 5 1 }\n".as_bytes()
     );
     Ok(())
 }
