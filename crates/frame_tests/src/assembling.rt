@@ -1,59 +1,42 @@
 //! A frame and its image.
 
-use crate::worked::{LOOPS, POLLING, polling};
+use crate::equal::prints;
+use crate::images::is_written;
+use crate::worked::{LOOPS, POLLING, boxed, polling, retry};
 use frame_asm::{AsmError, assemble};
-use frame_code::write_image;
 use frame_tree::Frame;
-use mil_message::{Draft, Message};
-use mil_word::Line;
-use std::test::*;
+use std::alloc::Global;
+use std::process::Abort;
+
+/// The frame is sound, and its image is written as these bytes.
+fn is_assembled(rt: &impl Abort, alloc: Global, frame: &Frame<Global>, bytes: &[u8]) {
+    assert!(rt; frame.sound());
+    let image = assemble(alloc, frame).expect(rt, "the image");
+    is_written(rt, alloc, &image, bytes);
+}
 
 #[test]
-fn a_repeat_of_a_retry(rt: HostRuntime) -> Result<(), Fail> {
-    let draft = Draft::ToTerminal {
-        address: 9,
-        subaddress: 1,
-        words: &[1],
-    };
-    let message = Message::check(draft).expect(&rt, "the message");
-    let retry = Frame::Retry {
-        count: 2,
-        line: Line::A,
-        message,
-    };
+fn a_repeat_of_a_retry(rt: HostRuntime) {
     let frame = Frame::Repeat {
         count: 3,
-        body: Box::new(rt.alloc(), retry)?,
+        body: boxed(&rt, rt.alloc(), retry(&rt)),
     };
-    assert!(rt; frame.sound());
-    let image = assemble(rt.alloc(), &frame).expect(&rt, "the image");
-    assert_eq!(rt;
-        write_image(rt.alloc(), &image)?.as_slice(),
-        LOOPS.as_slice()
-    );
-    Ok(())
+    is_assembled(&rt, rt.alloc(), &frame, &LOOPS);
 }
 
 #[test]
-fn a_routine_and_its_calls(rt: HostRuntime) -> Result<(), Fail> {
-    let frame = polling(rt.alloc())?;
-    assert!(rt; frame.sound());
-    let image = assemble(rt.alloc(), &frame).expect(&rt, "the image");
-    assert_eq!(rt;
-        write_image(rt.alloc(), &image)?.as_slice(),
-        POLLING.as_slice()
-    );
-    Ok(())
+fn a_routine_and_its_calls(rt: HostRuntime) {
+    let frame = polling(&rt, rt.alloc());
+    is_assembled(&rt, rt.alloc(), &frame, &POLLING);
 }
 
 #[test]
-fn refusals_are_printed_by_their_letters(rt: HostRuntime) -> Result<(), Fail> {
-    let printed = format!(in rt.alloc();
-        "{} {} {}",
-        AsmError::Operations,
-        AsmError::Messages,
-        AsmError::Memory
-    )?;
-    assert_eq!(rt; printed.as_str(), "A1 A2 A3");
-    Ok(())
+fn refusals_are_printed_by_their_letters(rt: HostRuntime) {
+    for (refusal, letters) in [
+        (AsmError::Operations, "A1"),
+        (AsmError::Messages, "A2"),
+        (AsmError::Memory, "A3"),
+    ] {
+        prints(&rt, rt.alloc(), letters, &refusal, letters);
+    }
 }

@@ -1,17 +1,15 @@
 //! Controllers on real buses, against worked records.
 
-use crate::records::{Row, are_rows};
+use crate::equal::same;
+use crate::loading::loaded;
+use crate::records::{Row, are_rows, has_ended, sends, sent};
 use crate::worked::LOOPS;
-use bc_machine::{Machine, Placed, Stepped};
-use frame_code::read_image;
-use frame_load::load;
+use bc_machine::{Machine, Placed};
 use mil_bus::Bus;
 use mil_host::Action;
 use mil_line::{Fault, Plan};
-use mil_monitor::Record;
 use std::alloc::Global;
 use std::process::Abort;
-use std::test::Fail;
 
 /// `send A rx 5 1 [0001 0002 0003] send A mode 5 2 send A mode 5 2`
 const WRITTEN: [u8; 46] = [
@@ -37,115 +35,121 @@ const CHOSEN: [u8; 40] = [
     3, 0, 0xE1, 0x2F, 0, 0, 0, 0, // the message
 ];
 
-// A controller of the image with these bytes, on a bus with terminal 5 alone, at tick 0.
+/// What `LOOPS` sends, where no terminal answers.
+pub(crate) const NINE: [Row; 9] = [
+    (Some(0), Some((0x1200, 0)), &[0x4821, 0x0001]),
+    (Some(560), Some((0x3200, 0)), &[0x4821, 0x0001]),
+    (Some(1120), Some((0x1200, 0)), &[0x4821, 0x0001]),
+    (Some(1680), Some((0x1200, 0)), &[0x4821, 0x0001]),
+    (Some(2240), Some((0x3200, 0)), &[0x4821, 0x0001]),
+    (Some(2800), Some((0x1200, 0)), &[0x4821, 0x0001]),
+    (Some(3360), Some((0x1200, 0)), &[0x4821, 0x0001]),
+    (Some(3920), Some((0x3200, 0)), &[0x4821, 0x0001]),
+    (Some(4480), Some((0x1200, 0)), &[0x4821, 0x0001]),
+];
+
+/// What `WRITTEN` sends, where the third data word is dropped.
+const DROPPED: [Row; 3] = [
+    (Some(0), Some((0x1220, 0x0000)), &[0x2823, 0x0001, 0x0002]),
+    (Some(760), Some((0x0000, 0x0050)), &[0x2FE2, 0x2C00]),
+    (Some(1240), Some((0x0000, 0x0050)), &[0x2FE2, 0x2C00]),
+];
+
+/// What `ASKED` sends, where terminal 5 is busy.
+const BUSY: [Row; 2] = [
+    (None, Some((0x0000, 0x0050)), &[0x2C41, 0x2808]),
+    (None, Some((0x0000, 0x0050)), &[0x2FF2, 0x2808, 0x2C41]),
+];
+
+/// A controller of the image with these bytes, on a bus with terminal 5 alone, at tick 0.
 fn controller(
+    rt: &impl Abort,
     alloc: Global,
     image: &[u8],
     plan: Plan,
     placed: Vec<Placed>,
-) -> Result<Machine, Fail> {
-    let image = read_image(alloc, image).map_err(|_| Fail::from("no image"))?;
-    let program = load(alloc, image).map_err(|_| Fail::from("not loaded"))?;
-    let bus = Bus::make(alloc, 0, &[5]).map_err(|_| Fail::from("no bus"))?;
-    Ok(Machine::start(program, bus, plan, placed))
+) -> Machine {
+    let bus = Bus::make(alloc, 0, &[5]).expect(rt, "a bus");
+    Machine::start(loaded(rt, alloc, image), bus, plan, placed)
 }
 
-// What so many steps send.
-fn sent(alloc: Global, machine: &mut Machine, steps: u32) -> Result<Vec<Record>, Fail> {
-    let mut records = Vec::new(alloc);
-    for _ in 0..steps {
-        if let Stepped::Sent(record) = machine.step() {
-            records.push(record)?;
-        }
-    }
-    Ok(records)
-}
-
-fn has_ended(rt: &impl Abort, machine: &mut Machine, number: u32) {
-    assert!(rt; matches!(machine.step(), Stepped::Halted));
-    assert_eq!(rt; machine.number(), number);
+/// One with no fault and no action.
+fn plain(rt: &impl Abort, alloc: Global, image: &[u8]) -> Machine {
+    controller(rt, alloc, image, Plan::make(alloc), Vec::new(alloc))
 }
 
 #[test]
-fn retries_take_turns_on_the_lines(rt: HostRuntime) -> Result<(), Fail> {
-    let alloc = rt.alloc();
-    let mut machine = controller(alloc, &LOOPS, Plan::make(alloc), Vec::new(alloc))?;
-    let records = sent(alloc, &mut machine, 47)?;
-    let words: &'static [u16] = &[0x4821, 0x0001];
-    let rows: [Row; 9] = [
-        (Some(0), Some((0x1200, 0)), words),
-        (Some(560), Some((0x3200, 0)), words),
-        (Some(1120), Some((0x1200, 0)), words),
-        (Some(1680), Some((0x1200, 0)), words),
-        (Some(2240), Some((0x3200, 0)), words),
-        (Some(2800), Some((0x1200, 0)), words),
-        (Some(3360), Some((0x1200, 0)), words),
-        (Some(3920), Some((0x3200, 0)), words),
-        (Some(4480), Some((0x1200, 0)), words),
-    ];
-    are_rows(&rt, records.as_slice(), rows.as_slice());
+fn retries_take_turns_on_the_lines(rt: HostRuntime) {
+    let mut machine = plain(&rt, rt.alloc(), &LOOPS);
+    sends(&rt, rt.alloc(), "retries", &mut machine, 47, &NINE);
     has_ended(&rt, &mut machine, 9);
-    Ok(())
 }
 
 #[test]
-fn faults_of_the_first_message_alone(rt: HostRuntime) -> Result<(), Fail> {
-    let alloc = rt.alloc();
-    let mut plan = Plan::make(alloc);
-    assert!(rt; plan.add(1, Fault::Drop { run: 0, index: 3 }).is_ok());
-    let mut machine = controller(alloc, &WRITTEN, plan, Vec::new(alloc))?;
-    let records = sent(alloc, &mut machine, 4)?;
-    let rows: [Row; 3] = [
-        (Some(0), Some((0x1220, 0x0000)), &[0x2823, 0x0001, 0x0002]),
-        (Some(760), Some((0x0000, 0x0050)), &[0x2FE2, 0x2C00]),
-        (Some(1240), Some((0x0000, 0x0050)), &[0x2FE2, 0x2C00]),
-    ];
-    are_rows(&rt, records.as_slice(), rows.as_slice());
-    assert_eq!(rt; machine.bus().clock(), 1240 + 460);
-    Ok(())
+fn before_any_message_each_test_is_false(rt: HostRuntime) {
+    let mut machine = plain(&rt, rt.alloc(), &CHOSEN);
+    sends(&rt, rt.alloc(), "a choice", &mut machine, 6, &[]);
+    has_ended(&rt, &mut machine, 0);
 }
 
-// The last outcome: terminal 5 was busy, and answered.
-fn was_busy(rt: &impl Abort, machine: &Machine) {
-    match machine.last_outcome() {
-        None => assert!(rt; false),
-        Some(last) => {
-            assert_eq!(rt; last.bits, 0x0008);
-            assert!(rt; !last.failed && !last.silent);
-        }
-    }
+/// No fault but a word of the first message that is not sent.
+fn one_drop(rt: &impl Abort, alloc: Global) -> Plan {
+    let mut plan = Plan::make(alloc);
+    plan.add(1, Fault::Drop { run: 0, index: 3 })
+        .expect(rt, "a fault");
+    plan
+}
+
+#[test]
+fn faults_of_the_first_message_alone(rt: HostRuntime) {
+    let alloc = rt.alloc();
+    let plan = one_drop(&rt, alloc);
+    let mut machine = controller(&rt, alloc, &WRITTEN, plan, Vec::new(alloc));
+    sends(&rt, alloc, "a fault", &mut machine, 4, &DROPPED);
+    same(&rt, &machine.bus().clock(), &(1240 + 460));
+}
+
+/// Before the first message, terminal 5 becomes busy.
+fn one_action(rt: &impl Abort, alloc: Global) -> Vec<Placed> {
+    let mut placed = Vec::new(alloc);
+    let busy = Placed {
+        number: 1,
+        address: 5,
+        action: Action::Busy(true),
+    };
+    placed.push(busy).expect(rt, "memory");
+    placed
+}
+
+/// The last outcome: its status bits, whether it failed, and whether nothing answered.
+fn last(machine: &Machine) -> Option<(u16, bool, bool)> {
+    let last = machine.last_outcome()?;
+    Some((last.bits, last.failed, last.silent))
+}
+
+/// The copy sends what the other sends, which is these rows.
+fn send_alike(
+    rt: &impl Abort,
+    alloc: Global,
+    machine: &mut Machine,
+    copy: &mut Machine,
+    rows: &[Row],
+) {
+    let records = sent(rt, alloc, machine, 3);
+    are_rows(rt, "an action", &records, rows);
+    let copied = sent(rt, alloc, copy, 3);
+    same(rt, &copied.as_slice(), &records.as_slice());
 }
 
 // Its action comes before the first message, also in a copy that was made before.
 #[test]
-fn an_action_before_the_first_message(rt: HostRuntime) -> Result<(), Fail> {
+fn an_action_before_the_first_message(rt: HostRuntime) {
     let alloc = rt.alloc();
-    let mut placed = Vec::new(alloc);
-    placed.push(Placed {
-        number: 1,
-        address: 5,
-        action: Action::Busy(true),
-    })?;
-    let mut machine = controller(alloc, &ASKED, Plan::make(alloc), placed)?;
-    assert_eq!(rt; machine.last_outcome(), None);
-    let mut other = machine.copy()?;
-    let rows: [Row; 2] = [
-        (None, Some((0x0000, 0x0050)), &[0x2C41, 0x2808]),
-        (None, Some((0x0000, 0x0050)), &[0x2FF2, 0x2808, 0x2C41]),
-    ];
-    let records = sent(alloc, &mut machine, 3)?;
-    are_rows(&rt, records.as_slice(), rows.as_slice());
-    let copied = sent(alloc, &mut other, 3)?;
-    assert_eq!(rt; copied.as_slice(), records.as_slice());
-    was_busy(&rt, &machine);
-    Ok(())
-}
-
-#[test]
-fn before_any_message_each_test_is_false(rt: HostRuntime) -> Result<(), Fail> {
-    let alloc = rt.alloc();
-    let mut machine = controller(alloc, &CHOSEN, Plan::make(alloc), Vec::new(alloc))?;
-    assert_eq!(rt; sent(alloc, &mut machine, 6)?.len(), 0);
-    has_ended(&rt, &mut machine, 0);
-    Ok(())
+    let placed = one_action(&rt, alloc);
+    let mut machine = controller(&rt, alloc, &ASKED, Plan::make(alloc), placed);
+    same(&rt, &last(&machine), &None);
+    let mut copy = machine.copy().expect(&rt, "memory");
+    send_alike(&rt, alloc, &mut machine, &mut copy, &BUSY);
+    // terminal 5 was busy, and answered
+    same(&rt, &last(&machine), &Some((0x0008, false, false)));
 }

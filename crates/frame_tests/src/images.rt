@@ -1,8 +1,10 @@
 //! Images and their bytes.
 
-use crate::worked::{LOOPS, POLLING};
-use frame_code::{ImageError, Op, read_image, write_image};
-use std::test::*;
+use crate::equal::{are_bytes, prints, same};
+use crate::worked::{LOOPS, POLLING, with_byte};
+use frame_code::{Image, ImageError, Op, read_image, write_image};
+use std::alloc::Global;
+use std::process::Abort;
 
 const OPERATIONS: [Op; 11] = [
     Op::Loop(3),
@@ -18,80 +20,64 @@ const OPERATIONS: [Op; 11] = [
     Op::Halt,
 ];
 
-#[test]
-fn bytes_to_image_and_back(rt: HostRuntime) -> Result<(), Fail> {
-    let image = read_image(rt.alloc(), &LOOPS).expect(&rt, "the image");
-    assert_eq!(rt; image.operations(), OPERATIONS.as_slice());
-    assert_eq!(rt; image.messages().len(), 1);
-    let bytes = write_image(rt.alloc(), &image.copy()?)?;
-    assert_eq!(rt; bytes.as_slice(), LOOPS.as_slice());
-    Ok(())
+/// The image is written as these bytes.
+pub(crate) fn is_written(rt: &impl Abort, alloc: Global, image: &Image, bytes: &[u8]) {
+    let written = write_image(alloc, image).expect(rt, "memory");
+    are_bytes(rt, written.as_slice(), bytes);
+}
+
+/// The image that these bytes spell, in a copy.
+fn spelled(rt: &impl Abort, alloc: Global, bytes: &[u8]) -> Image {
+    let image = read_image(alloc, bytes).expect(rt, "an image");
+    image.copy().expect(rt, "memory")
 }
 
 #[test]
-fn both_marks(rt: HostRuntime) -> Result<(), Fail> {
-    let image = read_image(rt.alloc(), &POLLING).expect(&rt, "the image");
-    assert_eq!(rt; image.operations().len(), 20);
-    assert_eq!(rt; image.operations().get(10).copied(), Some(Op::Call(0)));
-    let bytes = write_image(rt.alloc(), &image)?;
-    assert_eq!(rt; bytes.as_slice(), POLLING.as_slice());
-    let mut changed = LOOPS;
-    changed[3] = 0x32;
-    assert_eq!(rt;
-        read_image(rt.alloc(), &changed).err(),
-        Some(ImageError::Version)
+fn bytes_to_image_and_back(rt: HostRuntime) {
+    let image = spelled(&rt, rt.alloc(), &LOOPS);
+    same(&rt, &image.operations(), &OPERATIONS.as_slice());
+    same(&rt, &image.messages().len(), &1);
+    is_written(&rt, rt.alloc(), &image, &LOOPS);
+    let image = spelled(&rt, rt.alloc(), &POLLING);
+    same(&rt, &image.operations().len(), &20);
+    same(
+        &rt,
+        &image.operations().get(10).copied(),
+        &Some(Op::Call(0)),
     );
-    let mut changed = POLLING;
-    changed[3] = 0x31;
-    assert_eq!(rt;
-        read_image(rt.alloc(), &changed).err(),
-        Some(ImageError::Operations)
-    );
-    Ok(())
+    is_written(&rt, rt.alloc(), &image, &POLLING);
+}
+
+fn has_fault(rt: &impl Abort, alloc: Global, bytes: &[u8], fault: ImageError) {
+    same(rt, &read_image(alloc, bytes).err(), &Some(fault));
 }
 
 #[test]
-fn the_first_fault_of_bytes(rt: HostRuntime) -> Result<(), Fail> {
-    assert_eq!(rt;
-        read_image(rt.alloc(), &LOOPS[..3]).err(),
-        Some(ImageError::Mark)
-    );
-    assert_eq!(rt;
-        read_image(rt.alloc(), &LOOPS[..61]).err(),
-        Some(ImageError::Length)
-    );
+fn the_first_fault_of_bytes(rt: HostRuntime) {
+    let alloc = rt.alloc();
+    has_fault(&rt, alloc, &LOOPS[..3], ImageError::Mark);
+    has_fault(&rt, alloc, &LOOPS[..61], ImageError::Length);
     let mut longer = [0; 63];
     longer[..62].copy_from_slice(&LOOPS);
-    assert_eq!(rt;
-        read_image(rt.alloc(), &longer).err(),
-        Some(ImageError::Length)
-    );
-    let mut changed = LOOPS;
-    changed[8] = 0x0a;
-    assert_eq!(rt;
-        read_image(rt.alloc(), &changed).err(),
-        Some(ImageError::Operations)
-    );
-    let mut changed = LOOPS;
-    changed[52] = 0x0a;
-    assert_eq!(rt;
-        read_image(rt.alloc(), &changed).err(),
-        Some(ImageError::Messages)
-    );
-    Ok(())
+    has_fault(&rt, alloc, &longer, ImageError::Length);
+    has_fault(&rt, alloc, &with_byte(8, 0x0a), ImageError::Operations);
+    has_fault(&rt, alloc, &with_byte(52, 0x0a), ImageError::Messages);
+    has_fault(&rt, alloc, &with_byte(3, 0x32), ImageError::Version);
+    let mut changed = POLLING;
+    changed[3] = 0x31;
+    has_fault(&rt, alloc, &changed, ImageError::Operations);
 }
 
 #[test]
-fn faults_are_printed_by_their_letters(rt: HostRuntime) -> Result<(), Fail> {
-    let printed = format!(in rt.alloc();
-        "{} {} {} {} {} {}",
-        ImageError::Mark,
-        ImageError::Length,
-        ImageError::Operations,
-        ImageError::Messages,
-        ImageError::Memory,
-        ImageError::Version
-    )?;
-    assert_eq!(rt; printed.as_str(), "C1 C2 C3 C4 C5 C6");
-    Ok(())
+fn faults_are_printed_by_their_letters(rt: HostRuntime) {
+    for (fault, letters) in [
+        (ImageError::Mark, "C1"),
+        (ImageError::Length, "C2"),
+        (ImageError::Operations, "C3"),
+        (ImageError::Messages, "C4"),
+        (ImageError::Memory, "C5"),
+        (ImageError::Version, "C6"),
+    ] {
+        prints(&rt, rt.alloc(), letters, &fault, letters);
+    }
 }

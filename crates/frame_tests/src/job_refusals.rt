@@ -1,149 +1,134 @@
 //! The first fault of a text, with its line.
+use crate::equal::{prints, reads};
+use crate::text_faults::repeated;
 use job_file::{JobError, LineFault, read_job};
 use std::alloc::Global;
-use std::test::Fail;
+use std::process::Abort;
 
-/// What is printed of a text's first fault.
-fn told(alloc: Global, text: &str) -> Result<String, Fail> {
+/// A text, and what is printed of its fault.
+type Told = (&'static str, &'static str);
+
+/// Faults of lines.
+const LINES: [Told; 21] = [
+    ("channel 1\nterminal 5\nterminal 5", "J4 line 3"),
+    ("terminal 5\nscript", "J3 line 2"),
+    ("channel 1\nterminal 5", "J3 line 3"),
+    ("channel 1\nterminal 5\n", "J3 line 3"),
+    ("", "J3 line 1"),
+    ("channel 1\nterminal 5\nfault 1 late 1 120", "J6 line 3 L2"),
+    ("channel 1\nat 1 5 busy on", "J4 line 2"),
+    ("channel 1\nchannel 2\nscript", "J3 line 2"),
+    ("start 1\nchannel 1\nstart 1\nscript", "J3 line 3"),
+    ("# a note\n\n  \nchannel 0\nscript", "J2 line 4"),
+    ("channel 65536\nscript", "J2 line 1"),
+    ("channel 00000001\nscript", "J2 line 1"),
+    ("channel 1 2\nscript", "J1 line 1"),
+    ("channel x y", "J1 line 1"),
+    ("channels 1", "J1 line 1"),
+    ("start 140737488355329\nscript", "J2 line 1"),
+    ("start 0000000000000001\nscript", "J2 line 1"),
+    ("terminal 31", "J2 line 1"),
+    ("channel 1\nscript A", "J1 line 2"),
+    ("channel\t1", "J1 line 1"),
+    ("channel 1\r\nscript", "J2 line 1"),
+];
+
+/// Faults of actions, and of planned faults.
+const ACTIONS: [Told; 28] = [
+    ("terminal 5\nat 1 5", "J1 line 2"),
+    ("terminal 5\nat 1", "J1 line 2"),
+    ("terminal 5\nat 0 5 busy on", "J2 line 2"),
+    ("terminal 5\nat 1000001 5 busy on", "J2 line 2"),
+    ("terminal 5\nat 1 31 busy on", "J2 line 2"),
+    ("at 1 5 busy on\nterminal 5", "J4 line 1"),
+    ("at 1 5 busy maybe", "J4 line 1"),
+    ("terminal 5\nat 1 5 busy maybe", "J5 line 2 H1"),
+    ("terminal 5\nat 1 5 vector 12", "J5 line 2 H2"),
+    ("terminal 5\nat 1 5 response 39", "J5 line 2 H3"),
+    ("fault x zap 1", "J1 line 1"),
+    ("fault 1 drop 0", "J1 line 1"),
+    ("fault 1 drop 0 0 0", "J1 line 1"),
+    ("fault 1 add 0 0 e 0001", "J1 line 1"),
+    ("fault 1 add x 0 e 0001", "J1 line 1"),
+    ("fault 1 add 0 0 c 001", "J2 line 1"),
+    ("fault 1 mask 0 0 000000000", "J2 line 1"),
+    ("fault 1 mask 0 0 00000000XY", "J2 line 1"),
+    ("fault 1 mask 0 0 0000000000", "J6 line 1 L2"),
+    ("fault 1 drop 3 0", "J6 line 1 L2"),
+    ("fault 1 drop 0 40", "J6 line 1 L2"),
+    ("fault 0 drop 0 0", "J6 line 1 L2"),
+    ("fault 1000001 drop 0 0", "J6 line 1 L2"),
+    ("fault 12345678 drop 0 0", "J2 line 1"),
+    ("fault 1 late 0 121", "J6 line 1 L2"),
+    ("fault 1 late 1 256", "J6 line 1 L2"),
+    ("fault 1 mute 0", "J6 line 1 L2"),
+    (
+        "fault 1 drop 0 0\nfault 1 drop 0 0\nfault 1 drop 0 0\nfault 1 drop 0 0\nfault 1 drop 9 9",
+        "J6 line 5 L1",
+    ),
+];
+
+/// Faults of scripts.
+const SCRIPTS: [Told; 6] = [
+    (
+        "channel 1\nterminal 5\nscript\nrepeat 0 { }",
+        "J7 line 4 column 8 S7",
+    ),
+    (
+        "channel 1\nscript\nrepeat 10000 { repeat 101 { send A mode 5 1 } }",
+        "J7 line 3 column 1 S8",
+    ),
+    ("channel 1\nscript\nsend A", "J7 line 3 column 7 S5"),
+    ("channel 1\nscript\n\n  send C", "J7 line 4 column 8 S2"),
+    (
+        "channel 1\nscript\nsend A rx 5 1 []",
+        "J7 line 3 column 8 S4 M3",
+    ),
+    (
+        "channel 1\nscript\nrepeat 10000 { repeat 10000 { gap 40 } }",
+        "J7 line 2 P5",
+    ),
+];
+
+/// The fault of this text.
+fn has_fault(rt: &impl Abort, alloc: Global, row: &str, text: &str, fault: &str) {
     match read_job(alloc, text.as_bytes()) {
-        Ok(_) => Ok(format!(in alloc; "accepted")?),
-        Err(error) => Ok(format!(in alloc; "{error}")?),
+        Ok(_) => reads(rt, row, "accepted", fault),
+        Err(error) => prints(rt, alloc, row, &error, fault),
+    }
+}
+
+fn each_fault(rt: &impl Abort, alloc: Global, table: &[Told]) {
+    for (text, fault) in table {
+        has_fault(rt, alloc, text, text, fault);
     }
 }
 
 #[test]
-fn lines_at_fault(rt: HostRuntime) -> Result<(), Fail> {
-    let cases = [
-        ("channel 1\nterminal 5\nterminal 5", "J4 line 3"),
-        ("terminal 5\nscript", "J3 line 2"),
-        ("channel 1\nterminal 5", "J3 line 3"),
-        ("channel 1\nterminal 5\n", "J3 line 3"),
-        ("", "J3 line 1"),
-        ("channel 1\nterminal 5\nfault 1 late 1 120", "J6 line 3 L2"),
-        ("channel 1\nat 1 5 busy on", "J4 line 2"),
-        ("channel 1\nchannel 2\nscript", "J3 line 2"),
-        ("start 1\nchannel 1\nstart 1\nscript", "J3 line 3"),
-        ("# a note\n\n  \nchannel 0\nscript", "J2 line 4"),
-        ("channel 65536\nscript", "J2 line 1"),
-        ("channel 00000001\nscript", "J2 line 1"),
-        ("channel 1 2\nscript", "J1 line 1"),
-        ("channel x y", "J1 line 1"),
-        ("channels 1", "J1 line 1"),
-        ("start 140737488355329\nscript", "J2 line 1"),
-        ("start 0000000000000001\nscript", "J2 line 1"),
-        ("terminal 31", "J2 line 1"),
-        ("channel 1\nscript A", "J1 line 2"),
-        ("channel\t1", "J1 line 1"),
-        ("channel 1\r\nscript", "J2 line 1"),
-    ];
-    for (text, fault) in cases {
-        let printed = told(rt.alloc(), text)?;
-        assert_eq!(rt; printed.as_str(), fault);
-    }
-    Ok(())
+fn texts_at_fault(rt: HostRuntime) {
+    each_fault(&rt, rt.alloc(), &LINES);
+    each_fault(&rt, rt.alloc(), &ACTIONS);
+    each_fault(&rt, rt.alloc(), &SCRIPTS);
 }
 
 #[test]
-fn actions_and_faults_at_fault(rt: HostRuntime) -> Result<(), Fail> {
-    let cases = [
-        ("terminal 5\nat 1 5", "J1 line 2"),
-        ("terminal 5\nat 1", "J1 line 2"),
-        ("terminal 5\nat 0 5 busy on", "J2 line 2"),
-        ("terminal 5\nat 1000001 5 busy on", "J2 line 2"),
-        ("terminal 5\nat 1 31 busy on", "J2 line 2"),
-        ("at 1 5 busy on\nterminal 5", "J4 line 1"),
-        ("at 1 5 busy maybe", "J4 line 1"),
-        ("terminal 5\nat 1 5 busy maybe", "J5 line 2 H1"),
-        ("terminal 5\nat 1 5 vector 12", "J5 line 2 H2"),
-        ("terminal 5\nat 1 5 response 39", "J5 line 2 H3"),
-        ("fault x zap 1", "J1 line 1"),
-        ("fault 1 drop 0", "J1 line 1"),
-        ("fault 1 drop 0 0 0", "J1 line 1"),
-        ("fault 1 add 0 0 e 0001", "J1 line 1"),
-        ("fault 1 add x 0 e 0001", "J1 line 1"),
-        ("fault 1 add 0 0 c 001", "J2 line 1"),
-        ("fault 1 mask 0 0 000000000", "J2 line 1"),
-        ("fault 1 mask 0 0 00000000XY", "J2 line 1"),
-        ("fault 1 mask 0 0 0000000000", "J6 line 1 L2"),
-        ("fault 1 drop 3 0", "J6 line 1 L2"),
-        ("fault 1 drop 0 40", "J6 line 1 L2"),
-        ("fault 0 drop 0 0", "J6 line 1 L2"),
-        ("fault 1000001 drop 0 0", "J6 line 1 L2"),
-        ("fault 12345678 drop 0 0", "J2 line 1"),
-        ("fault 1 late 0 121", "J6 line 1 L2"),
-        ("fault 1 late 1 256", "J6 line 1 L2"),
-        ("fault 1 mute 0", "J6 line 1 L2"),
-        (
-            "fault 1 drop 0 0\nfault 1 drop 0 0\nfault 1 drop 0 0\nfault 1 drop 0 0\nfault 1 drop 9 9",
-            "J6 line 5 L1",
-        ),
-    ];
-    for (text, fault) in cases {
-        let printed = told(rt.alloc(), text)?;
-        assert_eq!(rt; printed.as_str(), fault);
+fn images_that_are_too_long(rt: HostRuntime) {
+    for (count, frame, fault) in [
+        (4095, "gap 40\n", "accepted"),
+        (4096, "gap 40\n", "J7 line 2 A1"),
+        (1025, "send A mode 5 1\n", "J7 line 2 A2"),
+    ] {
+        let text = repeated(&rt, rt.alloc(), "channel 1\nscript\n", frame, count, "");
+        has_fault(&rt, rt.alloc(), frame, text.as_str(), fault);
     }
-    Ok(())
 }
 
 #[test]
-fn scripts_at_fault(rt: HostRuntime) -> Result<(), Fail> {
-    let cases = [
-        (
-            "channel 1\nterminal 5\nscript\nrepeat 0 { }",
-            "J7 line 4 column 8 S7",
-        ),
-        (
-            "channel 1\nscript\nrepeat 10000 { repeat 101 { send A mode 5 1 } }",
-            "J7 line 3 column 1 S8",
-        ),
-        ("channel 1\nscript\nsend A", "J7 line 3 column 7 S5"),
-        ("channel 1\nscript\n\n  send C", "J7 line 4 column 8 S2"),
-        (
-            "channel 1\nscript\nsend A rx 5 1 []",
-            "J7 line 3 column 8 S4 M3",
-        ),
-        (
-            "channel 1\nscript\nrepeat 10000 { repeat 10000 { gap 40 } }",
-            "J7 line 2 P5",
-        ),
-    ];
-    for (text, fault) in cases {
-        let printed = told(rt.alloc(), text)?;
-        assert_eq!(rt; printed.as_str(), fault);
-    }
-    Ok(())
-}
-
-/// A job of so many frames.
-fn job_of(alloc: Global, count: u16, frame: &str) -> Result<String, Fail> {
-    let mut text = String::from_str(alloc, "channel 1\nscript\n")?;
-    for _ in 0..count {
-        text.push_str(frame)?;
-    }
-    Ok(text)
-}
-
-#[test]
-fn images_that_are_too_long(rt: HostRuntime) -> Result<(), Fail> {
-    let fits = job_of(rt.alloc(), 4095, "gap 40\n")?;
-    assert!(rt; read_job(rt.alloc(), fits.as_bytes()).is_ok());
-    let long = job_of(rt.alloc(), 4096, "gap 40\n")?;
-    let printed = told(rt.alloc(), long.as_str())?;
-    assert_eq!(rt; printed.as_str(), "J7 line 2 A1");
-    let many = job_of(rt.alloc(), 1025, "send A mode 5 1\n")?;
-    let printed = told(rt.alloc(), many.as_str())?;
-    assert_eq!(rt; printed.as_str(), "J7 line 2 A2");
-    Ok(())
-}
-
-#[test]
-fn refused_memory_prints_its_code(rt: HostRuntime) -> Result<(), Fail> {
-    let printed = format!(in rt.alloc(); "{}", JobError::Memory)?;
-    assert_eq!(rt; printed.as_str(), "J8");
+fn refused_memory_prints_its_code(rt: HostRuntime) {
+    prints(&rt, rt.alloc(), "memory", &JobError::Memory, "J8");
     let first = JobError::Line {
         line: 1,
         fault: LineFault::Word,
     };
     assert_ne!(rt; first, JobError::Memory);
-    Ok(())
 }

@@ -1,11 +1,9 @@
 //! Jobs of several texts, read together.
-use job_file::{Job, JobsError, read_jobs};
+use crate::equal::{prints, reads, same};
+use crate::jobs::RETRIES;
+use job_file::{Job, read_jobs};
 use std::alloc::Global;
 use std::process::Abort;
-use std::test::Fail;
-
-/// A message that no terminal answers, tried again on the other bus.
-const RETRIES: &str = "channel 1\nterminal 5\nscript\nrepeat 3 { retry 2 send A rx 9 1 [0001] }";
 
 /// A terminal that is named twice.
 const TWICE: &str = "channel 1\nterminal 5\nterminal 5";
@@ -33,45 +31,49 @@ fn are_alike(jobs: &[Job], count: usize, steps: u64, messages: u64) -> bool {
 }
 
 /// Which of three texts is refused first, and what is printed of its fault.
-fn refused(alloc: Global, texts: [&str; 3]) -> Result<(usize, String), Fail> {
+fn is_refused(rt: &impl Abort, alloc: Global, texts: [&str; 3], index: usize, fault: &str) {
     let [first, second, third] = texts;
-    let texts = [first.as_bytes(), second.as_bytes(), third.as_bytes()];
-    match read_jobs(alloc, &texts) {
-        Ok(_) => Err(Fail::from("accepted")),
-        Err(error) => Ok((error.index, format!(in alloc; "{error}")?)),
+    let bytes = [first.as_bytes(), second.as_bytes(), third.as_bytes()];
+    match read_jobs(alloc, &bytes) {
+        Ok(_) => reads(rt, fault, "accepted", fault),
+        Err(error) => {
+            same(rt, &error.index, &index);
+            prints(rt, alloc, fault, &error, fault);
+        }
     }
-}
-
-/// The first refused text of three is this, with that fault.
-fn is_refused(
-    rt: &impl Abort,
-    alloc: Global,
-    texts: [&str; 3],
-    index: usize,
-    fault: &str,
-) -> Result<(), Fail> {
-    let (found, printed) = refused(alloc, texts)?;
-    assert_eq!(rt; found, index);
-    assert_eq!(rt; printed.as_str(), fault);
-    Ok(())
 }
 
 /// The channels of the jobs that three texts spell.
-fn channels(alloc: Global, texts: [&str; 3]) -> Result<[u16; 3], JobsError> {
+fn channels(alloc: Global, texts: [&str; 3]) -> Option<[u16; 3]> {
     let [first, second, third] = texts;
-    let texts = [first.as_bytes(), second.as_bytes(), third.as_bytes()];
-    let jobs = read_jobs(alloc, &texts)?;
-    match jobs.as_slice() {
-        [first, second, third] => Ok([first.channel(), second.channel(), third.channel()]),
-        _ => Ok([0; 3]),
+    let bytes = [first.as_bytes(), second.as_bytes(), third.as_bytes()];
+    match read_jobs(alloc, &bytes) {
+        Ok(jobs) => channels_of(jobs.as_slice()),
+        Err(_) => None,
     }
 }
 
-#[test]
-fn three_copies_of_a_job(rt: HostRuntime) {
-    let text = RETRIES.as_bytes();
-    let jobs = read_jobs(rt.alloc(), &[text, text, text]);
-    assert!(rt; jobs.is_ok_and(|jobs| are_alike(jobs.as_slice(), 3, 47, 9)));
+fn channels_of(jobs: &[Job]) -> Option<[u16; 3]> {
+    match jobs {
+        [first, second, third] => Some([first.channel(), second.channel(), third.channel()]),
+        _ => None,
+    }
+}
+
+/// Three jobs of one text, each of this budget and with so many messages at most.
+fn are_three(alloc: Global, text: &[u8], steps: u64, messages: u64) -> bool {
+    match read_jobs(alloc, &[text, text, text]) {
+        Ok(jobs) => are_alike(jobs.as_slice(), 3, steps, messages),
+        Err(_) => false,
+    }
+}
+
+/// No texts are no jobs.
+fn are_none(alloc: Global) -> bool {
+    match read_jobs(alloc, &[]) {
+        Ok(jobs) => jobs.is_empty(),
+        Err(_) => false,
+    }
 }
 
 #[test]
@@ -81,25 +83,20 @@ fn jobs_in_the_order_of_their_texts(rt: HostRuntime) {
         "channel 3\nscript\n",
         "channel 5\nscript\nrepeat 2 { gap 40 if fail { send B mode 5 1 } }",
     ];
-    assert_eq!(rt; channels(rt.alloc(), texts).ok(), Some([7, 3, 5]));
-}
-
-#[test]
-fn no_texts(rt: HostRuntime) {
-    let jobs = read_jobs(rt.alloc(), &[]);
-    assert!(rt; jobs.is_ok_and(|jobs| jobs.is_empty()));
-}
-
-#[test]
-fn the_first_text_at_fault(rt: HostRuntime) -> Result<(), Fail> {
-    let alloc = rt.alloc();
-    is_refused(&rt, alloc, [RETRIES, TWICE, NAMELESS], 1, "J4 line 3")?;
-    is_refused(&rt, alloc, [NAMELESS, TWICE, RETRIES], 0, "J3 line 2")?;
-    is_refused(
+    same(&rt, &channels(rt.alloc(), texts), &Some([7, 3, 5]));
+    same(
         &rt,
-        alloc,
-        [RETRIES, RETRIES, NO_ROUNDS],
-        2,
-        "J7 line 4 column 8 S7",
-    )
+        &are_three(rt.alloc(), RETRIES.as_bytes(), 47, 9),
+        &true,
+    );
+    same(&rt, &are_none(rt.alloc()), &true);
+}
+
+#[test]
+fn the_first_text_at_fault(rt: HostRuntime) {
+    let alloc = rt.alloc();
+    is_refused(&rt, alloc, [RETRIES, TWICE, NAMELESS], 1, "J4 line 3");
+    is_refused(&rt, alloc, [NAMELESS, TWICE, RETRIES], 0, "J3 line 2");
+    let texts = [RETRIES, RETRIES, NO_ROUNDS];
+    is_refused(&rt, alloc, texts, 2, "J7 line 4 column 8 S7");
 }

@@ -7,6 +7,8 @@ mod assembling;
 #[cfg(test)]
 mod controllers;
 #[cfg(test)]
+mod equal;
+#[cfg(test)]
 mod images;
 #[cfg(test)]
 mod job_refusals;

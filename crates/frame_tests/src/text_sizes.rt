@@ -1,31 +1,50 @@
 //! The sizes of what is read.
+use crate::equal::same_in;
 use frame_text::{parse, read_cond};
-use std::test::Fail;
+use std::alloc::Global;
+use std::process::Abort;
 
-#[test]
-fn frames(rt: HostRuntime) -> Result<(), Fail> {
-    let alloc = rt.alloc();
-    let frame = parse(alloc, b"repeat 10000 { repeat 100 { send A mode 5 1 } }")?;
-    assert_eq!(rt; frame.worst_messages(), 1_000_000);
-    assert_eq!(rt; frame.depth(), 2);
-    let frame = parse(
-        alloc,
-        b"until fail at most 10000 { retry 1 send A mode 5 1 }",
-    )?;
-    assert_eq!(rt; frame.worst_messages(), 20_000);
-    assert_eq!(rt; frame.depth(), 1);
-    let frame = parse(alloc, b"repeat 3 { retry 2 send A rx 9 1 [0001] }")?;
-    assert_eq!(rt; frame.depth(), 1);
-    assert_eq!(rt; frame.worst_messages(), 9);
-    Ok(())
+/// A text, how many messages it sends at most, and how deep its blocks stand in one another.
+const FRAMES: [(&str, u32, u32); 3] = [
+    (
+        "repeat 10000 { repeat 100 { send A mode 5 1 } }",
+        1_000_000,
+        2,
+    ),
+    (
+        "until fail at most 10000 { retry 1 send A mode 5 1 }",
+        20_000,
+        1,
+    ),
+    ("repeat 3 { retry 2 send A rx 9 1 [0001] }", 9, 1),
+];
+
+/// How many messages the frame of a text sends at most, and its depth.
+fn size(rt: &impl Abort, alloc: Global, text: &str) -> (u32, u32) {
+    let frame = parse(alloc, text.as_bytes()).expect(rt, text);
+    (frame.worst_messages(), frame.depth())
 }
 
 #[test]
-fn conditions(rt: HostRuntime) -> Result<(), Fail> {
-    let alloc = rt.alloc();
-    let condition = read_cond(alloc, b"any ( fail silent )")?;
-    assert_eq!(rt; condition.operators(), 1);
-    let condition = read_cond(alloc, b"not all ( bit busy not silent )")?;
-    assert_eq!(rt; condition.operators(), 3);
-    Ok(())
+fn frames(rt: HostRuntime) {
+    for (text, messages, depth) in FRAMES {
+        let found = size(&rt, rt.alloc(), text);
+        same_in(&rt, text, &found, &(messages, depth));
+    }
+}
+
+/// How many operators a condition has.
+fn operators(rt: &impl Abort, alloc: Global, text: &str) -> u32 {
+    let condition = read_cond(alloc, text.as_bytes()).expect(rt, text);
+    condition.operators()
+}
+
+#[test]
+fn conditions(rt: HostRuntime) {
+    for (text, count) in [
+        ("any ( fail silent )", 1),
+        ("not all ( bit busy not silent )", 3),
+    ] {
+        same_in(&rt, text, &operators(&rt, rt.alloc(), text), &count);
+    }
 }

@@ -1,100 +1,93 @@
 //! Trees: a script with a retry in a repeat, and scripts with definitions.
 ghost use Rattle.std.specs.Prelude.{◌≤◌};
 
-use crate::worked::{name, polling};
+use crate::equal::{are_bytes, same};
+use crate::worked::{boxed, call, define, name, polling, retry, sequence};
 use frame_tree::{Cond, Frame, Name, Scope, number_of_bit};
-use mil_message::{Draft, Message};
 use mil_status::StatusBits;
-use mil_word::Line;
 use std::alloc::Global;
-use std::test::Fail;
+use std::process::Abort;
 
-// repeat 3 { retry 2 send A rx 9 1 [0001] }
-fn script(alloc: Global) -> Result<Frame<Global>, Fail> {
-    let message = Message::check(Draft::ToTerminal {
-        address: 9,
-        subaddress: 1,
-        words: &[1],
-    })?;
-    let retry = Frame::Retry {
-        count: 2,
-        line: Line::A,
-        message,
-    };
-    let mut body = Vec::new(alloc);
-    body.push(retry)?;
-    let body = Box::new(alloc, Frame::Seq(body))?;
-    Ok(Frame::Repeat { count: 3, body })
+/// `repeat 3 { retry 2 send A rx 9 1 [0001] }`
+fn script(rt: &impl Abort, alloc: Global) -> Frame<Global> {
+    let mut frames = Vec::new(alloc);
+    frames.push(retry(rt)).expect(rt, "memory");
+    Frame::Repeat {
+        count: 3,
+        body: boxed(rt, alloc, Frame::Seq(frames)),
+    }
+}
+
+/// How deep its blocks stand in one another, and how many messages it sends at most.
+fn has_size(rt: &impl Abort, frame: &Frame<Global>, depth: u32, messages: u32, sound: bool) {
+    same(rt, &frame.depth(), &depth);
+    same(rt, &frame.worst_messages(), &messages);
+    same(rt, &frame.sound(), &sound);
+}
+
+fn copied(rt: &impl Abort, alloc: Global, frame: &Frame<Global>) -> Frame<Global> {
+    frame.copy_in(alloc).expect(rt, "memory")
 }
 
 #[test]
-fn sizes(rt: HostRuntime) -> Result<(), Fail> {
-    let frame = script(rt.alloc())?;
-    assert_eq!(rt; frame.depth(), 1);
-    assert_eq!(rt; frame.worst_messages(), 9);
-    assert!(rt; frame.sound());
-    Ok(())
+fn sizes(rt: HostRuntime) {
+    let frame = script(&rt, rt.alloc());
+    has_size(&rt, &frame, 1, 9, true);
+    same(&rt, &copied(&rt, rt.alloc(), &frame).worst_messages(), &9);
+    let frame = polling(&rt, rt.alloc());
+    has_size(&rt, &copied(&rt, rt.alloc(), &frame), 1, 10, true);
+}
+
+fn is_one_named_operator(rt: &impl Abort, condition: &Cond<Global>) {
+    same(rt, &condition.operators(), &1);
+    same(rt, &condition.has_named_bits(), &true);
 }
 
 #[test]
-fn copies(rt: HostRuntime) -> Result<(), Fail> {
+fn conditions(rt: HostRuntime) {
     let alloc = rt.alloc();
-    let frame = script(alloc)?.copy_in(alloc)?;
-    assert_eq!(rt; frame.worst_messages(), 9);
-    let not = Cond::Not(Box::new(alloc, Cond::Bit(StatusBits::BUSY))?);
-    let copied: Cond<Global> = not.copy_in(&alloc)?;
-    assert_eq!(rt; copied.operators(), 1);
-    assert!(rt; copied.has_named_bits());
-    assert_eq!(rt; number_of_bit(StatusBits::MESSAGE_ERROR), 10);
-    Ok(())
+    let busy = Box::new(alloc, Cond::Bit(StatusBits::BUSY)).expect(&rt, "memory");
+    let not = Cond::Not(busy);
+    let copied: Cond<Global> = not.copy_in(&alloc).expect(&rt, "memory");
+    is_one_named_operator(&rt, &copied);
+    same(&rt, &number_of_bit(StatusBits::MESSAGE_ERROR), &10);
 }
 
 // define aa { send .. } define ab { call aa call aa } .. up to the letter, and a call of the last
-fn doubling(alloc: Global, last: u8) -> Result<Frame<Global>, Fail>
+fn doubling(rt: &impl Abort, alloc: Global, last: u8) -> Frame<Global>
     requires { (97 ≤ last) × (last ≤ 122) }
 {
-    let mut frame = Frame::Call(name(&[b'a', last])?);
+    let mut frame = call(rt, &[b'a', last]);
     for letter in b'a'..last {
-        let mut twice = Vec::new(alloc);
         let callee = last - (letter - b'a') - 1;
-        twice.push(Frame::Call(name(&[b'a', callee])?))?;
-        twice.push(Frame::Call(name(&[b'a', callee])?))?;
-        frame = Frame::Define {
-            name: name(&[b'a', callee + 1])?,
-            body: Box::new(alloc, Frame::Seq(twice))?,
-            rest: Box::new(alloc, frame)?,
-        };
+        let below = [b'a', callee];
+        let twice = sequence(rt, alloc, call(rt, &below), call(rt, &below));
+        frame = define(rt, alloc, &[b'a', callee + 1], twice, frame);
     }
-    Ok(Frame::Define {
-        name: name(b"aa")?,
-        body: Box::new(alloc, script(alloc)?)?,
-        rest: Box::new(alloc, frame)?,
-    })
+    define(rt, alloc, b"aa", script(rt, alloc), frame)
 }
 
 #[test]
-fn definitions(rt: HostRuntime) -> Result<(), Fail> {
-    let frame = polling(rt.alloc())?.copy_in(rt.alloc())?;
-    assert_eq!(rt; frame.depth(), 1);
-    assert_eq!(rt; frame.worst_messages(), 10);
-    assert!(rt; frame.sound());
-    let deep = doubling(rt.alloc(), b'z')?;
-    assert_eq!(rt; deep.worst_messages(), 1_000_001);
-    assert!(rt; !deep.sound());
-    assert_eq!(rt; doubling(rt.alloc(), b'c')?.worst_messages(), 36);
-    Ok(())
+fn definitions(rt: HostRuntime) {
+    let deep = doubling(&rt, rt.alloc(), b'z');
+    same(&rt, &deep.worst_messages(), &1_000_001);
+    same(&rt, &deep.sound(), &false);
+    let frame = doubling(&rt, rt.alloc(), b'c');
+    same(&rt, &frame.worst_messages(), &36);
+}
+
+fn is_name(rt: &impl Abort, bytes: &[u8], wanted: bool) {
+    same(rt, &Name::new(bytes).is_some(), &wanted);
 }
 
 #[test]
-fn names(rt: HostRuntime) -> Result<(), Fail> {
-    let none: Option<Name> = Name::new(b"2nd");
-    assert!(rt; none.is_none());
-    let long = name(b"abcdefghij_12345")?;
-    assert!(rt; Name::new(b"abcdefghij_123456").is_none());
-    assert_eq!(rt; long.copy().bytes(), b"abcdefghij_12345".as_slice());
+fn names(rt: HostRuntime) {
+    is_name(&rt, b"2nd", false);
+    is_name(&rt, b"abcdefghij_123456", false);
+    let long = name(&rt, b"abcdefghij_12345");
+    are_bytes(&rt, long.copy().bytes(), b"abcdefghij_12345");
     let scope = Scope::With(&long, 7, &Scope::Empty);
-    assert_eq!(rt; scope.number_of(&long), 7);
-    assert!(rt; scope.has(&long));
-    assert!(rt; !long.is(&name(b"poll")?));
-    Ok(())
+    same(&rt, &scope.number_of(&long), &7);
+    same(&rt, &scope.has(&long), &true);
+    same(&rt, &long.is(&name(&rt, b"poll")), &false);
 }

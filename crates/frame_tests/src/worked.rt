@@ -1,10 +1,12 @@
 //! Images and a script worked by hand, which several of the tests start from.
 
+ghost use Rattle.std.specs.Prelude.{◌≤◌};
+
 use frame_tree::{Cond, Frame, Name};
 use mil_message::{Draft, Message, ModeSubaddress};
 use mil_word::Line;
 use std::alloc::Global;
-use std::test::Fail;
+use std::process::Abort;
 
 /// The bytes of the image of `repeat 3 { retry 2 send A rx 9 1 [0001] }`.
 pub const LOOPS: [u8; 62] = [
@@ -26,40 +28,98 @@ pub const POLLING: [u8; 96] = [
     3, 0, 0xe1, 0x2f, 0, 0, 0, 0, // the message
 ];
 
-/// The name of these bytes, or a failure of the test.
-pub fn name(bytes: &[u8]) -> Result<Name, Fail> {
-    match Name::new(bytes) {
-        Some(name) => Ok(name),
-        None => Err(Fail::from("a name")),
+/// The bytes of `LOOPS` with another byte at this place.
+pub(crate) fn with_byte(place: usize, byte: u8) -> [u8; 62]
+    requires { place ≤ 61 }
+{
+    let mut changed = LOOPS;
+    changed[place] = byte;
+    changed
+}
+
+/// The name of these bytes.
+pub(crate) fn name(rt: &impl Abort, bytes: &[u8]) -> Name {
+    Name::new(bytes).expect(rt, "a name")
+}
+
+/// A call of the frame of this name.
+pub(crate) fn call(rt: &impl Abort, bytes: &[u8]) -> Frame<Global> {
+    Frame::Call(name(rt, bytes))
+}
+
+/// A frame in a box of its own.
+pub(crate) fn boxed(rt: &impl Abort, alloc: Global, frame: Frame<Global>) -> Box<Frame<Global>> {
+    Box::new(alloc, frame).expect(rt, "memory")
+}
+
+/// Two frames, one after the other.
+pub(crate) fn sequence(
+    rt: &impl Abort,
+    alloc: Global,
+    first: Frame<Global>,
+    second: Frame<Global>,
+) -> Frame<Global> {
+    let mut frames = Vec::new(alloc);
+    frames.push(first).expect(rt, "memory");
+    frames.push(second).expect(rt, "memory");
+    Frame::Seq(frames)
+}
+
+/// `define .. { .. } ..`
+pub(crate) fn define(
+    rt: &impl Abort,
+    alloc: Global,
+    bytes: &[u8],
+    body: Frame<Global>,
+    rest: Frame<Global>,
+) -> Frame<Global> {
+    Frame::Define {
+        name: name(rt, bytes),
+        body: boxed(rt, alloc, body),
+        rest: boxed(rt, alloc, rest),
     }
 }
 
-/// `define poll { retry 1 send A mode 5 1 } repeat 2 { call poll } until fail at most 3 { call poll }`
-pub fn polling(alloc: Global) -> Result<Frame<Global>, Fail> {
-    let message = Message::check(Draft::Mode {
+/// `retry 2 send A rx 9 1 [0001]`
+pub(crate) fn retry(rt: &impl Abort) -> Frame<Global> {
+    let draft = Draft::ToTerminal {
+        address: 9,
+        subaddress: 1,
+        words: &[1],
+    };
+    Frame::Retry {
+        count: 2,
+        line: Line::A,
+        message: Message::check(draft).expect(rt, "a message"),
+    }
+}
+
+/// `retry 1 send A mode 5 1`
+fn poll(rt: &impl Abort) -> Frame<Global> {
+    let draft = Draft::Mode {
         address: 5,
         code: 1,
         subaddress: ModeSubaddress::ThirtyOne,
         words: None,
-    })?;
-    let retry = Frame::Retry {
+    };
+    Frame::Retry {
         count: 1,
         line: Line::A,
-        message,
-    };
-    let mut main = Vec::new(alloc);
-    main.push(Frame::Repeat {
+        message: Message::check(draft).expect(rt, "a message"),
+    }
+}
+
+/// `define poll { retry 1 send A mode 5 1 } repeat 2 { call poll } until fail at most 3 { call poll }`
+pub(crate) fn polling(rt: &impl Abort, alloc: Global) -> Frame<Global> {
+    let twice = Frame::Repeat {
         count: 2,
-        body: Box::new(alloc, Frame::Call(name(b"poll")?))?,
-    })?;
-    main.push(Frame::Until {
+        body: boxed(rt, alloc, call(rt, b"poll")),
+    };
+    let thrice = Frame::Until {
         condition: Cond::Fail,
         count: 3,
-        body: Box::new(alloc, Frame::Call(name(b"poll")?))?,
-    })?;
-    Ok(Frame::Define {
-        name: name(b"poll")?,
-        body: Box::new(alloc, retry)?,
-        rest: Box::new(alloc, Frame::Seq(main))?,
-    })
+        body: boxed(rt, alloc, call(rt, b"poll")),
+    };
+    let main = sequence(rt, alloc, twice, thrice);
+    define(rt, alloc, b"poll", poll(rt), main)
 }
