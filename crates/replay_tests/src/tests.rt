@@ -3,3 +3,4 @@ mod checkpoints;
 mod moves;
 mod openings;
 mod recordings;
+mod scripts;

@@ -1,102 +1,100 @@
 //! Recordings that are not opened.
-use super::recordings::{Recorded, record_of, report_of, singles};
+use super::recordings::{Recorded, record_of, report_of};
+use super::scripts::same;
 use bench_report::Report;
 use ch11_reader::Index;
 use replay::{Replay, ReplayError};
 use std::alloc::Global;
-use std::test::Fail;
+use std::process::Abort;
 
 const ONE_MESSAGE: &str = "channel 1\nterminal 5\nscript\nsend A rx 5 1 [0001 0002 0003]\n";
 
 const TWO_MESSAGES: &str = "channel 1\nterminal 5\nscript\nrepeat 2 { send A rx 5 1 [0001] }\n";
 
+/// One message of another channel.
+const CHANNEL_SEVEN: &str = "channel 7\nterminal 5\nscript\nsend A rx 5 1 [0001]\n";
+
+/// Reports that are not of the two messages, and the first difference: its channel and its number.
+const OTHER_REPORTS: [(&str, u16, u32); 8] = [
+    ("channel 2\nmade 2\npackets 1\n", 1, 0),
+    ("packets 1\n", 1, 0),
+    ("channel 1\nmade 2\nchannel 3\nmade 0\npackets 1\n", 3, 0),
+    ("channel 1\nmade 1\npackets 1\n", 1, 2),
+    ("channel 1\nmade 3\npackets 1\n", 1, 3),
+    ("channel 1\nmade 2\nrefused 2\npackets 1\n", 1, 3),
+    ("channel 1\nmade 2\nrefused 1\npackets 1\n", 1, 2),
+    ("channel 1\nmade 2\nplaced 1 5 busy on\npackets 1\n", 1, 1),
+];
+
 /// Why a file is not opened with the jobs of a recording and a report, None where it is.
-fn refusal(
+fn opens(
+    rt: &impl Abort,
     alloc: Global,
     one: &Recorded,
     report: &Report,
     file: &[u8],
-) -> Result<Option<ReplayError>, Fail> {
-    let index = match Index::build(alloc, file) {
-        Ok(index) => index,
-        Err(_) => return Err(Fail::from("an index")),
-    };
-    Ok(Replay::open(alloc, &one.jobs, report, index).err())
+    wanted: Option<ReplayError>,
+) {
+    let index = Index::build(alloc, file).ok().expect(rt, "an index");
+    let refusal = Replay::open(alloc, &one.jobs, report, index).err();
+    same(rt, &refusal, &wanted);
 }
 
-fn mismatch(channel: u16, number: u32) -> Option<ReplayError> {
-    Some(ReplayError::Mismatch { channel, number })
+/// A file does not agree with a recording's jobs and report: the channel and the number of the first difference.
+fn differs(rt: &impl Abort, alloc: Global, one: &Recorded, file: &[u8], channel: u16, number: u32) {
+    let fault = ReplayError::Mismatch { channel, number };
+    opens(rt, alloc, one, &one.report, file, Some(fault));
 }
 
 #[test]
-fn another_word_in_the_file(rt: HostRuntime) -> Result<(), Fail> {
-    let alloc = rt.alloc();
-    let mut one = record_of(alloc, ONE_MESSAGE, &singles(alloc, 1)?)?;
-    assert_eq!(rt; one.file.len(), 52);
-    assert_eq!(rt; refusal(alloc, &one, &one.report, &one.file)?, None);
-    if let Some(byte) = one.file.as_mut_slice().get_mut(44) {
-        *byte = 2;
+fn another_word_in_the_file(rt: HostRuntime) {
+    let mut one = record_of(&rt, rt.alloc(), ONE_MESSAGE, &[1]);
+    same(&rt, &one.file.len(), &52);
+    opens(&rt, rt.alloc(), &one, &one.report, &one.file, None);
+    *one.file.get_mut(44).expect(&rt, "a byte") = 2;
+    differs(&rt, rt.alloc(), &one, &one.file, 1, 1);
+}
+
+/// The report of a text does not agree with a recording.
+fn report_differs(rt: &impl Abort, alloc: Global, one: &Recorded, row: &(&str, u16, u32)) {
+    let (text, channel, number) = *row;
+    let report = report_of(rt, alloc, text);
+    let index = Index::build(alloc, &one.file).ok().expect(rt, "an index");
+    let refusal = Replay::open(alloc, &one.jobs, &report, index).err();
+    let fault = ReplayError::Mismatch { channel, number };
+    assert_eq!(rt; refusal, Some(fault), "{text}");
+}
+
+#[test]
+fn another_report(rt: HostRuntime) {
+    let one = record_of(&rt, rt.alloc(), TWO_MESSAGES, &[1, 1]);
+    for row in &OTHER_REPORTS {
+        report_differs(&rt, rt.alloc(), &one, row);
     }
-    assert_eq!(rt;
-        refusal(alloc, &one, &one.report, &one.file)?,
-        mismatch(1, 1)
-    );
-    Ok(())
 }
 
 #[test]
-fn another_report(rt: HostRuntime) -> Result<(), Fail> {
-    let alloc = rt.alloc();
-    let one = record_of(alloc, TWO_MESSAGES, &singles(alloc, 2)?)?;
-    for (text, channel, number) in [
-        ("channel 2\nmade 2\npackets 1\n", 1u16, 0u32),
-        ("packets 1\n", 1, 0),
-        ("channel 1\nmade 2\nchannel 3\nmade 0\npackets 1\n", 3, 0),
-        ("channel 1\nmade 1\npackets 1\n", 1, 2),
-        ("channel 1\nmade 3\npackets 1\n", 1, 3),
-        ("channel 1\nmade 2\nrefused 2\npackets 1\n", 1, 3),
-        ("channel 1\nmade 2\nrefused 1\npackets 1\n", 1, 2),
-        ("channel 1\nmade 2\nplaced 1 5 busy on\npackets 1\n", 1, 1),
-    ] {
-        let report = report_of(alloc, text)?;
-        assert_eq!(rt;
-            refusal(alloc, &one, &report, &one.file)?,
-            mismatch(channel, number)
-        );
-    }
-    Ok(())
+fn a_file_without_the_last_message_or_of_another_channel(rt: HostRuntime) {
+    let one = record_of(&rt, rt.alloc(), TWO_MESSAGES, &[1, 1]);
+    differs(&rt, rt.alloc(), &one, &[], 1, 1);
+    let other = record_of(&rt, rt.alloc(), CHANNEL_SEVEN, &[1]);
+    differs(&rt, rt.alloc(), &one, &other.file, 7, 0);
+}
+
+/// A refusal is printed as this text.
+fn prints(rt: &impl Abort, alloc: Global, refusal: ReplayError, text: &str) {
+    let printed = format!(in alloc; "{refusal}").expect(rt, "memory");
+    assert_eq!(rt; printed.as_str(), text);
 }
 
 #[test]
-fn a_file_without_the_last_message_or_of_another_channel(rt: HostRuntime) -> Result<(), Fail> {
-    let alloc = rt.alloc();
-    let one = record_of(alloc, TWO_MESSAGES, &singles(alloc, 2)?)?;
-    assert_eq!(rt; refusal(alloc, &one, &one.report, &[])?, mismatch(1, 1));
-    let other = record_of(
-        alloc,
-        "channel 7\nterminal 5\nscript\nsend A rx 5 1 [0001]\n",
-        &singles(alloc, 1)?,
-    )?;
-    assert_eq!(rt;
-        refusal(alloc, &one, &one.report, &other.file)?,
-        mismatch(7, 0)
-    );
-    Ok(())
-}
-
-#[test]
-fn prints_its_refusals(rt: HostRuntime) -> Result<(), Fail> {
-    let alloc = rt.alloc();
+fn prints_its_refusals(rt: HostRuntime) {
     let fault = ReplayError::Mismatch {
         channel: 1,
         number: 3,
     };
-    let text = format!(in alloc;
-        "{fault}, {}, {}, {}",
-        ReplayError::Past,
-        ReplayError::Start,
-        ReplayError::Memory
-    )?;
-    assert_eq!(rt; text.as_str(), "Y1 channel 1 number 3, Y2, Y3, memory");
-    Ok(())
+    prints(&rt, rt.alloc(), fault, "Y1 channel 1 number 3");
+    prints(&rt, rt.alloc(), ReplayError::Past, "Y2");
+    prints(&rt, rt.alloc(), ReplayError::Start, "Y3");
+    prints(&rt, rt.alloc(), ReplayError::Memory, "memory");
 }

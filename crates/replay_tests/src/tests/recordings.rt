@@ -3,37 +3,32 @@ use bench_core::{Settings, Step, World};
 use bench_report::{Report, read_report};
 use job_file::{Job, read_job};
 use std::alloc::Global;
-use std::test::Fail;
+use std::process::Abort;
 
 /// A job, the file of its run, and the report.
 #[derive(Drop)]
-pub struct Recorded {
-    pub jobs: Vec<Job>,
-    pub file: Vec<u8>,
-    pub report: Report,
+pub(crate) struct Recorded {
+    pub(crate) jobs: Vec<Job>,
+    pub(crate) file: Vec<u8>,
+    pub(crate) report: Report,
 }
 
-/// The job of a text.
-pub fn job_of(alloc: Global, text: &str) -> Result<Job, Fail> {
-    match read_job(alloc, text.as_bytes()) {
-        Ok(job) => Ok(job),
-        Err(_) => Err(Fail::from("a job")),
-    }
+/// The job of a text, alone.
+fn jobs_of(rt: &impl Abort, alloc: Global, text: &str) -> Vec<Job> {
+    let mut jobs = Vec::new(alloc);
+    let job = read_job(alloc, text.as_bytes()).ok().expect(rt, "a job");
+    jobs.push(job).expect(rt, "memory");
+    jobs
 }
 
 /// The report of a text.
-pub fn report_of(alloc: Global, text: &str) -> Result<Report, Fail> {
-    match read_report(alloc, text.as_bytes()) {
-        Ok(report) => Ok(report),
-        Err(_) => Err(Fail::from("a report")),
-    }
+pub(crate) fn report_of(rt: &impl Abort, alloc: Global, text: &str) -> Report {
+    let report = read_report(alloc, text.as_bytes());
+    report.ok().expect(rt, "a report")
 }
 
-/// What a bench records of one job, with a queue of one item, where its messages are offered in parts: so many, and then one is
-/// taken. Only the first of each part is kept.
-pub fn record_of(alloc: Global, text: &str, parts: &[u16]) -> Result<Recorded, Fail> {
-    let mut jobs = Vec::new(alloc);
-    jobs.push(job_of(alloc, text)?)?;
+/// A bench of these jobs before any step, with a queue of one item.
+fn world_of(rt: &impl Abort, alloc: Global, jobs: &[Job]) -> World {
     let settings = Settings {
         version: 6,
         limit: 4096,
@@ -41,34 +36,38 @@ pub fn record_of(alloc: Global, text: &str, parts: &[u16]) -> Result<Recorded, F
         prologue: Vec::new(alloc),
         posts: 0,
     };
-    let mut world = match World::make(alloc, &jobs, &settings) {
-        Ok(world) => world,
-        Err(_) => return Err(Fail::from("a world")),
-    };
+    let world = World::make(alloc, jobs, &settings);
+    world.ok().expect(rt, "a world")
+}
+
+/// The steps in which so many messages are offered for each part, and then one is taken; and the end at last.
+fn steps_of(rt: &impl Abort, alloc: Global, parts: &[u16]) -> Vec<Step> {
     let mut steps = Vec::new(alloc);
     for part in parts {
         for _ in 0..*part {
-            steps.push(Step::Offer(0))?;
+            steps.push(Step::Offer(0)).expect(rt, "memory");
         }
-        steps.push(Step::Take)?;
+        steps.push(Step::Take).expect(rt, "memory");
     }
-    steps.push(Step::Offer(0))?;
-    steps.push(Step::Take)?;
-    let played = world.play(&steps);
-    if played.is_err() {
-        return Err(Fail::from("steps"));
-    }
-    let mut file = Vec::new(alloc);
-    file.extend_from_slice(world.file())?;
-    let report = world.report(alloc)?;
-    Ok(Recorded { jobs, file, report })
+    steps.push(Step::Offer(0)).expect(rt, "memory");
+    steps.push(Step::Take).expect(rt, "memory");
+    steps
 }
 
-/// So many parts of one message each.
-pub fn singles(alloc: Global, count: u16) -> Result<Vec<u16>, Fail> {
-    let mut parts = Vec::new(alloc);
-    for _ in 0..count {
-        parts.push(1u16)?;
-    }
-    Ok(parts)
+/// A bench takes these steps.
+fn plays(rt: &impl Abort, world: &mut World, steps: &[Step]) {
+    let is_played = world.play(steps).is_ok();
+    assert!(rt; is_played, "steps");
+}
+
+/// What a bench records of one job, with a queue of one item, where its messages are offered in parts: so many, and then one is
+/// taken. Only the first of each part is kept.
+pub(crate) fn record_of(rt: &impl Abort, alloc: Global, text: &str, parts: &[u16]) -> Recorded {
+    let jobs = jobs_of(rt, alloc, text);
+    let mut world = world_of(rt, alloc, &jobs);
+    plays(rt, &mut world, &steps_of(rt, alloc, parts));
+    let mut file = Vec::new(alloc);
+    file.extend_from_slice(world.file()).expect(rt, "memory");
+    let report = world.report(alloc).expect(rt, "memory");
+    Recorded { jobs, file, report }
 }
