@@ -1,5 +1,5 @@
 //! Texts of actions: what is expected stands in the format's own words.
-use crate::equal::{are, reads, same};
+use crate::equal::{are_in, prints, same_in};
 use mil_host::{Action, BadAction, read_action};
 use std::alloc::Global;
 use std::process::Abort;
@@ -12,47 +12,59 @@ fn fault(text: &str) -> Option<BadAction> {
     }
 }
 
-/// The text spells no action, for this fault.
-fn has_fault(rt: &impl Abort, text: &str, wanted: BadAction) {
-    assert_eq!(rt; fault(text), Some(wanted), "of {text}");
-}
+/// Texts that spell no action, and the first fault of each.
+const FAULTS: &[(&str, BadAction)] = &[
+    ("busy maybe", BadAction::Word),
+    ("vector 12", BadAction::Number),
+    ("response 39", BadAction::Range),
+    ("transmit 30 0001", BadAction::Range),
+    ("", BadAction::Word),
+    ("busy on off", BadAction::Word),
+];
 
 #[test]
 fn names_the_first_fault(rt: HostRuntime) {
-    has_fault(&rt, "busy maybe", BadAction::Word);
-    has_fault(&rt, "vector 12", BadAction::Number);
-    has_fault(&rt, "response 39", BadAction::Range);
-    has_fault(&rt, "transmit 30 0001", BadAction::Range);
-    has_fault(&rt, "", BadAction::Word);
-    has_fault(&rt, "busy on off", BadAction::Word);
+    for (text, wanted) in FAULTS {
+        same_in(&rt, text, &fault(text), &Some(*wanted));
+    }
 }
 
 #[test]
 fn reads_an_action(rt: HostRuntime) {
-    let action = read_action(b" transmit  1 aAaA 5555 ").expect(&rt, "an action");
+    is_transmit(&rt, read_action(b" transmit  1 aAaA 5555 "));
+}
+
+/// The action puts up two words at subaddress 1.
+fn is_transmit(rt: &impl Abort, action: Result<Action, BadAction>) {
     match action {
-        Action::Transmit(put) => {
-            same(&rt, &put.sub(), &1);
-            are(&rt, put.words(), &[0xaaaa, 0x5555]);
+        Ok(Action::Transmit(put)) => {
+            same_in(rt, "subaddress", &put.sub(), &1);
+            are_in(rt, "words", put.words(), &[0xaaaa, 0x5555]);
         }
         _ => panic!(rt; "another action"),
     }
 }
 
+/// Texts of actions as they are printed.
+const PRINTED: &[&str] = &[
+    "transmit 1 AAAA 5555",
+    "busy on",
+    "service off",
+    "vector 00FF",
+    "illegal receive 3 4",
+    "legal transmit 30 32",
+    "response 120",
+];
+
 /// The action that a text spells is printed as that text.
 fn is_printed_alike(rt: &impl Abort, alloc: Global, text: &str) {
     let action = read_action(text.as_bytes()).expect(rt, text);
-    let printed = action.to_string(alloc).expect(rt, "memory");
-    reads(rt, printed.as_str(), text);
+    prints(rt, alloc, &action, text);
 }
 
 #[test]
 fn prints_what_it_reads(rt: HostRuntime) {
-    is_printed_alike(&rt, rt.alloc(), "transmit 1 AAAA 5555");
-    is_printed_alike(&rt, rt.alloc(), "busy on");
-    is_printed_alike(&rt, rt.alloc(), "service off");
-    is_printed_alike(&rt, rt.alloc(), "vector 00FF");
-    is_printed_alike(&rt, rt.alloc(), "illegal receive 3 4");
-    is_printed_alike(&rt, rt.alloc(), "legal transmit 30 32");
-    is_printed_alike(&rt, rt.alloc(), "response 120");
+    for text in PRINTED {
+        is_printed_alike(&rt, rt.alloc(), text);
+    }
 }

@@ -1,14 +1,12 @@
 //! A bus with its planned faults, driven message by message, and what a monitor keeps of each: the figures of the tests below
 //! it are worked out by hand from the rules.
-ghost use Rattle.std.specs.Prelude.{◌≤◌};
-
-use crate::equal::{are, same_in};
+use crate::equal::{are_in, same_in};
 use mil_bus::Bus;
 use mil_host::read_action;
-use mil_line::{Fault, Gap, Plan};
+use mil_line::{Fault, Gap, LineError, Plan};
 use mil_message::{Draft, Message, ModeSubaddress};
 use mil_monitor::{Record, observe};
-use mil_word::Line;
+use mil_word::{Line, Sync, Wave, Word};
 use std::alloc::Global;
 use std::process::Abort;
 
@@ -24,6 +22,144 @@ struct Setting {
     number: u32,
 }
 
+/// What happens on a bus, and what is found then.
+#[derive(Clone, Copy)]
+struct Script {
+    name: &'static str,
+    /// The bus has new terminals of these addresses, and no fault.
+    addresses: &'static [u8],
+    steps: &'static [Step],
+}
+
+/// A step of a script.
+#[derive(Clone, Copy)]
+enum Step {
+    /// An action of a terminal's host, by its text.
+    Act(u8, &'static str),
+    /// One more fault of a message.
+    Plan(u32, Flaw),
+    /// The next message, on a line, has a record of these words.
+    Gives(Line, Asked, Beside, &'static [u16]),
+    /// One more fault of a message is one too many.
+    TooMany(u32, Flaw),
+    /// How many faults of a message are planned.
+    Planned(u32, usize),
+    /// At a terminal, a receive command to a subaddress left these words.
+    Received(u8, u8, &'static [u16]),
+    /// At a terminal, a receive command to all left these words at a subaddress.
+    ReceivedFromAll(u8, u8, &'static [u16]),
+    /// The bus's clock.
+    Clock(u64),
+}
+
+/// A fault.
+#[derive(Clone, Copy)]
+enum Flaw {
+    /// A word from the controller is left out.
+    Drop(u32),
+    /// A data word is added behind a word from the controller.
+    Add(u32, u16),
+    /// Half bits of a word from the controller are inverted.
+    Mask(u32, u64),
+    /// The first reply comes after so many ticks.
+    Late(u32),
+    /// The first reply is not sent.
+    Mute,
+}
+
+/// What is compared of a record beside its words.
+#[derive(Clone, Copy)]
+enum Beside {
+    /// The stamp, the block status and the gaps.
+    All(u64, u16, u16),
+    /// The block status and the gaps.
+    Block(u16, u16),
+    Nothing,
+}
+
+/// What is asked for.
+#[derive(Clone, Copy)]
+enum Asked {
+    /// Words to a subaddress of terminal 5.
+    Receive(u32, &'static [u16]),
+    /// So many words from a subaddress of terminal 5.
+    Transmit(u32, u32),
+    /// A mode command to a terminal, without written words.
+    Mode(u32, u32),
+    /// A mode command to terminal 5, with written words.
+    ModeWith(u32, &'static [u16]),
+    /// A mode command to all, without written words.
+    ModeToAll(u32),
+    /// Words to a subaddress of all.
+    ToAll(u32, &'static [u16]),
+    /// Two words from subaddress 1 of terminal 7 to subaddress 4 of terminal 3.
+    Between,
+    /// Two words from subaddress 1 of terminal 7 to subaddress 4 of all others.
+    BetweenAll,
+}
+
+/// The draft of what is asked for.
+fn draft_of(asked: Asked) -> Draft<'static> {
+    match asked {
+        Asked::Receive(subaddress, words) => Draft::ToTerminal {
+            address: 5,
+            subaddress,
+            words,
+        },
+        Asked::Transmit(subaddress, count) => Draft::FromTerminal {
+            address: 5,
+            subaddress,
+            count,
+        },
+        Asked::Mode(address, code) => mode(address, code, None),
+        Asked::ModeWith(code, words) => mode(5, code, Some(words)),
+        Asked::ModeToAll(code) => {
+            Draft::mode_command_to_all(ModeSubaddress::ThirtyOne, code, None)
+        }
+        Asked::ToAll(subaddress, words) => Draft::ToAll { subaddress, words },
+        Asked::Between => Draft::Between {
+            sender: 7,
+            sender_subaddress: 1,
+            receiver: 3,
+            receiver_subaddress: 4,
+            count: 2,
+        },
+        Asked::BetweenAll => Draft::BetweenAll {
+            sender: 7,
+            sender_subaddress: 1,
+            receiver_subaddress: 4,
+            count: 2,
+        },
+    }
+}
+
+/// A mode command to a terminal.
+fn mode(address: u32, code: u32, words: Option<&'static [u16]>) -> Draft<'static> {
+    Draft::mode_command(address, ModeSubaddress::ThirtyOne, code, words)
+}
+
+/// The fault that is meant.
+fn fault_of(flaw: Flaw) -> Fault {
+    match flaw {
+        Flaw::Drop(index) => Fault::Drop { run: 0, index },
+        Flaw::Add(index, value) => Fault::Add {
+            run: 0,
+            index,
+            word: Word {
+                sync: Sync::DataSync,
+                value,
+            },
+        },
+        Flaw::Mask(index, half_bits) => Fault::Mask {
+            run: 0,
+            index,
+            half_bits: Wave::of(half_bits % 0x100_0000_0000),
+        },
+        Flaw::Late(ticks) => Fault::Late { run: 1, ticks },
+        Flaw::Mute => Fault::Mute { run: 1 },
+    }
+}
+
 /// New terminals of these addresses, and no fault.
 fn fresh(rt: &impl Abort, alloc: Global, addresses: &[u8]) -> Setting {
     Setting {
@@ -33,14 +169,60 @@ fn fresh(rt: &impl Abort, alloc: Global, addresses: &[u8]) -> Setting {
     }
 }
 
-/// New terminal 5 alone, with a fault of the first message.
-fn with_fault(rt: &impl Abort, alloc: Global, fault: Fault) -> Setting {
-    let mut alone = fresh(rt, alloc, &[5]);
-    alone.plans(rt, 1, fault);
-    alone
+/// Scripts, each on a bus of its own.
+fn are_played(rt: &impl Abort, alloc: Global, scripts: &[Script]) {
+    for script in scripts {
+        let mut setting = fresh(rt, alloc, script.addresses);
+        setting.plays(rt, script.name, script.steps);
+    }
+}
+
+/// A record is as it should be.
+fn is_kept(rt: &impl Abort, row: &str, record: &Record, beside: Beside, words: &[u16]) {
+    match beside {
+        Beside::All(stamp, block, gaps) => {
+            let found = (record.stamp, record.block, record.gaps);
+            same_in(rt, row, &found, &(stamp, block, gaps));
+        }
+        Beside::Block(block, gaps) => {
+            same_in(rt, row, &(record.block, record.gaps), &(block, gaps));
+        }
+        Beside::Nothing => {}
+    }
+    are_in(rt, row, record.words.as_slice(), words);
 }
 
 impl Setting {
+    /// These steps, one after the other.
+    fn plays(&mut self, rt: &impl Abort, row: &str, steps: &[Step]) {
+        for step in steps {
+            self.step(rt, row, *step);
+        }
+    }
+
+    fn step(&mut self, rt: &impl Abort, row: &str, step: Step) {
+        match step {
+            Step::Act(address, text) => self.act(rt, row, address, text),
+            Step::Plan(number, flaw) => self.answers(rt, row, number, flaw, Ok(())),
+            Step::TooMany(number, flaw) => {
+                self.answers(rt, row, number, flaw, Err(LineError::TooMany))
+            }
+            Step::Planned(number, count) => {
+                same_in(rt, row, &self.plan.faults(number).len(), &count)
+            }
+            Step::Gives(line, asked, beside, words) => {
+                self.gives(rt, row, line, asked, beside, words)
+            }
+            Step::Received(address, subaddress, words) => {
+                self.has_received(rt, row, address, subaddress, words)
+            }
+            Step::ReceivedFromAll(address, subaddress, words) => {
+                self.has_received_from_all(rt, row, address, subaddress, words)
+            }
+            Step::Clock(ticks) => same_in(rt, row, &self.bus.clock(), &ticks),
+        }
+    }
+
     /// The same bus and plan once more.
     fn copy(&self, rt: &impl Abort) -> Setting {
         Setting {
@@ -62,119 +244,56 @@ impl Setting {
         observe(&talk)
     }
 
-    /// The next message has this record: its stamp, its block status, its gaps and its words.
+    /// The next message has a record of these words.
     fn gives(
         &mut self,
         rt: &impl Abort,
+        row: &str,
         line: Line,
-        draft: Draft<'_>,
-        stamp: u64,
-        block: u16,
-        gaps: u16,
+        asked: Asked,
+        beside: Beside,
         words: &[u16],
     ) {
-        let record = self.send(rt, line, draft);
-        same_in(rt, "stamp", &record.stamp, &stamp);
-        has_block(rt, &record, block, gaps);
-        has_words(rt, &record, words);
+        let record = self.send(rt, line, draft_of(asked));
+        is_kept(rt, row, &record, beside, words);
     }
 
-    /// The record of the next message, on line A, has these words.
-    fn gives_words(&mut self, rt: &impl Abort, draft: Draft<'_>, words: &[u16]) {
-        let record = self.send(rt, Line::A, draft);
-        has_words(rt, &record, words);
-    }
-
-    /// The record of the next message has this block status, these gaps and these words.
-    fn gives_block(
+    /// What the plan answers to one more fault of a message.
+    fn answers(
         &mut self,
         rt: &impl Abort,
-        line: Line,
-        draft: Draft<'_>,
-        block: u16,
-        gaps: u16,
-        words: &[u16],
+        row: &str,
+        number: u32,
+        flaw: Flaw,
+        wanted: Result<(), LineError>,
     ) {
-        let record = self.send(rt, line, draft);
-        has_block(rt, &record, block, gaps);
-        has_words(rt, &record, words);
-    }
-
-    /// One more fault of a message.
-    fn plans(&mut self, rt: &impl Abort, number: u32, fault: Fault) {
-        assert!(rt; self.plan.add(number, fault).is_ok());
+        same_in(rt, row, &self.plan.add(number, fault_of(flaw)), &wanted);
     }
 
     /// An action of a terminal's host, by its text.
-    fn act(&mut self, rt: &impl Abort, address: u8, text: &[u8]) {
-        let action = read_action(text).expect(rt, "an action");
-        let is_there = self.bus.act(address, &action);
-        assert!(rt; is_there);
+    fn act(&mut self, rt: &impl Abort, row: &str, address: u8, text: &str) {
+        let action = read_action(text.as_bytes()).expect(rt, row);
+        same_in(rt, row, &self.bus.act(address, &action), &true);
     }
 
     /// A receive command to a terminal left these words there.
-    fn has_received(&self, rt: &impl Abort, address: u8, subaddress: u8, words: &[u16])
-        requires low { 1 ≤ subaddress }
-        requires high { subaddress ≤ 30 }
-    {
+    fn has_received(&self, rt: &impl Abort, row: &str, address: u8, subaddress: u8, words: &[u16]) {
+        assert!(rt; 1 <= subaddress && subaddress <= 30);
         let terminal = self.bus.terminal(address).expect(rt, "no such terminal");
-        are(rt, terminal.received(subaddress), words);
+        are_in(rt, row, terminal.received(subaddress), words);
     }
 
     /// A receive command to all left these words at a terminal.
-    fn has_received_from_all(&self, rt: &impl Abort, address: u8, subaddress: u8, words: &[u16])
-        requires low { 1 ≤ subaddress }
-        requires high { subaddress ≤ 30 }
-    {
+    fn has_received_from_all(
+        &self,
+        rt: &impl Abort,
+        row: &str,
+        address: u8,
+        subaddress: u8,
+        words: &[u16],
+    ) {
+        assert!(rt; 1 <= subaddress && subaddress <= 30);
         let terminal = self.bus.terminal(address).expect(rt, "no such terminal");
-        assert_eq!(rt;
-            terminal.received_from_all(subaddress),
-            words,
-            "terminal {address}"
-        );
+        are_in(rt, row, terminal.received_from_all(subaddress), words);
     }
-}
-
-/// Words to terminal 5, at subaddress 1.
-fn receive(words: &[u16]) -> Draft<'_> {
-    receive_at(1, words)
-}
-
-/// Words to terminal 5.
-fn receive_at(subaddress: u32, words: &[u16]) -> Draft<'_> {
-    Draft::ToTerminal {
-        address: 5,
-        subaddress,
-        words,
-    }
-}
-
-/// Words from terminal 5.
-fn transmit(subaddress: u32, count: u32) -> Draft<'static> {
-    Draft::FromTerminal {
-        address: 5,
-        subaddress,
-        count,
-    }
-}
-
-/// A mode command without written words.
-fn mode_of(address: u32, code: u32) -> Draft<'static> {
-    Draft::mode_command(address, ModeSubaddress::ThirtyOne, code, None)
-}
-
-/// A mode command to terminal 5.
-fn mode(code: u32) -> Draft<'static> {
-    mode_of(5, code)
-}
-
-/// The words of a record.
-fn has_words(rt: &impl Abort, record: &Record, words: &[u16]) {
-    are(rt, record.words.as_slice(), words);
-}
-
-/// The block status and the gaps of a record.
-fn has_block(rt: &impl Abort, record: &Record, block: u16, gaps: u16) {
-    same_in(rt, "block status", &record.block, &block);
-    same_in(rt, "gaps", &record.gaps, &gaps);
 }

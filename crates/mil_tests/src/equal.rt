@@ -1,24 +1,26 @@
 //! Comparisons of the tests. Each stands here once, since a comparison in a test's own body is proved anew there, beside all that
 //! the test has to let go.
-use std::fmt::Debug;
+use std::alloc::Global;
+use std::fmt::{Debug, Display};
 use std::process::Abort;
-
-/// The two are equal.
-pub(crate) fn same<T: PartialEq + Debug>(rt: &impl Abort, found: &T, wanted: &T) {
-    assert_eq!(rt; *found, *wanted);
-}
 
 /// The two are equal; a failure names the row.
 pub(crate) fn same_in<T: PartialEq + Debug>(rt: &impl Abort, row: &str, found: &T, wanted: &T) {
     assert_eq!(rt; *found, *wanted, "{row}");
 }
 
-/// The words are these.
-pub(crate) fn are(rt: &impl Abort, words: &[u16], wanted: &[u16]) {
-    assert_eq!(rt; words, wanted);
+/// The words are these; a failure names the row.
+pub(crate) fn are_in(rt: &impl Abort, row: &str, words: &[u16], wanted: &[u16]) {
+    assert_eq!(rt; words, wanted, "{row}");
+}
+
+/// A value is printed as this text.
+pub(crate) fn prints<T: Display>(rt: &impl Abort, alloc: Global, value: &T, wanted: &str) {
+    let printed = value.to_string(alloc).expect(rt, wanted);
+    reads(rt, printed.as_str(), wanted);
 }
 
 /// The texts are the same.
-pub(crate) fn reads(rt: &impl Abort, text: &str, wanted: &str) {
+fn reads(rt: &impl Abort, text: &str, wanted: &str) {
     assert_eq!(rt; text, wanted);
 }

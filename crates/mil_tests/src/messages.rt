@@ -1,14 +1,208 @@
 //! Messages as they stand on a bus, and each fault of each form.
-use crate::equal::{are, reads, same};
+use crate::equal::{are_in, prints, same_in};
 use arrayvec::ArrayVec;
+use mil_message::Draft::{Between, BetweenAll, FromTerminal, ToAll, ToTerminal};
+use mil_message::ModeSubaddress::{ThirtyOne, Zero};
 use mil_message::{BadMessage, Draft, Due, Form, Message, ModeSubaddress};
 use mil_word::{Sync, Wave, Word};
-use std::alloc::Global;
 use std::process::Abort;
 
-const SUBADDRESS: ModeSubaddress = ModeSubaddress::ThirtyOne;
-
 mod refusals;
+
+/// A message as it stands on a bus.
+#[derive(Clone, Copy)]
+struct Row {
+    draft: Draft<'static>,
+    /// The controller's words are these commands and these data words.
+    commands: &'static [u16],
+    words: &'static [u16],
+    /// The replies due.
+    due: &'static [Due],
+}
+
+const DATA: &[Row] = &[
+    Row {
+        draft: ToTerminal {
+            address: 5,
+            subaddress: 1,
+            words: &[1, 2, 3],
+        },
+        commands: &[0x2823],
+        words: &[1, 2, 3],
+        due: &[Due {
+            address: 5,
+            words: 0,
+        }],
+    },
+    Row {
+        draft: FromTerminal {
+            address: 5,
+            subaddress: 2,
+            count: 32,
+        },
+        commands: &[0x2c40],
+        words: &[],
+        due: &[Due {
+            address: 5,
+            words: 32,
+        }],
+    },
+    Row {
+        draft: Between {
+            sender: 7,
+            sender_subaddress: 1,
+            receiver: 3,
+            receiver_subaddress: 4,
+            count: 2,
+        },
+        commands: &[0x1882, 0x3c22],
+        words: &[],
+        due: &[
+            Due {
+                address: 7,
+                words: 2,
+            },
+            Due {
+                address: 3,
+                words: 0,
+            },
+        ],
+    },
+    Row {
+        draft: ToAll {
+            subaddress: 1,
+            words: &[0x00aa],
+        },
+        commands: &[0xf821],
+        words: &[0x00aa],
+        due: &[],
+    },
+    Row {
+        draft: BetweenAll {
+            sender: 7,
+            sender_subaddress: 1,
+            receiver_subaddress: 4,
+            count: 2,
+        },
+        commands: &[0xf882, 0x3c22],
+        words: &[],
+        due: &[Due {
+            address: 7,
+            words: 2,
+        }],
+    },
+];
+
+/// A mode command as it stands on a bus: to terminal 5 with a subaddress, or to all.
+#[derive(Clone, Copy)]
+struct ModeRow {
+    to: Option<ModeSubaddress>,
+    code: u32,
+    written: Option<&'static [u16]>,
+    command: u16,
+    words: &'static [u16],
+    due: &'static [Due],
+}
+
+const STATUS: &[Due] = &[Due {
+    address: 5,
+    words: 0,
+}];
+
+const STATUS_AND_WORD: &[Due] = &[Due {
+    address: 5,
+    words: 1,
+}];
+
+const MODES: &[ModeRow] = &[
+    ModeRow {
+        to: Some(ThirtyOne),
+        code: 2,
+        written: None,
+        command: 0x2fe2,
+        words: &[],
+        due: STATUS,
+    },
+    ModeRow {
+        to: Some(ThirtyOne),
+        code: 18,
+        written: None,
+        command: 0x2ff2,
+        words: &[],
+        due: STATUS_AND_WORD,
+    },
+    ModeRow {
+        to: Some(ThirtyOne),
+        code: 20,
+        written: Some(&[0]),
+        command: 0x2bf4,
+        words: &[0],
+        due: STATUS,
+    },
+    ModeRow {
+        to: Some(ThirtyOne),
+        code: 22,
+        written: Some(&[0]),
+        command: 0x2bf6,
+        words: &[0],
+        due: STATUS,
+    },
+    ModeRow {
+        to: Some(ThirtyOne),
+        code: 22,
+        written: None,
+        command: 0x2ff6,
+        words: &[],
+        due: STATUS_AND_WORD,
+    },
+    ModeRow {
+        to: Some(Zero),
+        code: 2,
+        written: None,
+        command: 0x2c02,
+        words: &[],
+        due: STATUS,
+    },
+    ModeRow {
+        to: None,
+        code: 1,
+        written: None,
+        command: 0xffe1,
+        words: &[],
+        due: &[],
+    },
+    ModeRow {
+        to: None,
+        code: 17,
+        written: Some(&[7]),
+        command: 0xfbf1,
+        words: &[7],
+        due: &[],
+    },
+];
+
+#[test]
+fn messages_of_data(rt: HostRuntime) {
+    for row in DATA {
+        stands(&rt, row.draft, row.commands, row.words, row.due);
+    }
+}
+
+#[test]
+fn mode_commands(rt: HostRuntime) {
+    for row in MODES {
+        let draft = mode(row.to, row.code, row.written);
+        stands(&rt, draft, &[row.command], row.words, row.due);
+    }
+}
+
+/// A mode command to terminal 5, or to all.
+fn mode<'a>(to: Option<ModeSubaddress>, code: u32, written: Option<&'a [u16]>) -> Draft<'a> {
+    match to {
+        Some(subaddress) => Draft::mode_command(5, subaddress, code, written),
+        None => Draft::mode_command_to_all(ThirtyOne, code, written),
+    }
+}
 
 fn message(rt: &impl Abort, draft: Draft<'_>) -> Message {
     Message::check(draft).expect(rt, "a draft in range")
@@ -16,12 +210,15 @@ fn message(rt: &impl Abort, draft: Draft<'_>) -> Message {
 
 /// The controller's words are these commands and these data words, and the replies due are these.
 fn stands(rt: &impl Abort, draft: Draft<'_>, commands: &[u16], words: &[u16], due: &[Due]) {
-    let message = message(rt, draft);
-    sends(rt, &message, commands, words);
-    are(rt, message.data_words(), words);
-    awaits(rt, &message, due);
-    is_its_draft(rt, &message);
-    is_its_parts(rt, &message, words);
+    is_message(rt, &message(rt, draft), commands, words, due);
+}
+
+fn is_message(rt: &impl Abort, message: &Message, commands: &[u16], words: &[u16], due: &[Due]) {
+    sends(rt, message, commands, words);
+    are_in(rt, "data words", message.data_words(), words);
+    awaits(rt, message, due);
+    is_its_draft(rt, message);
+    is_its_parts(rt, message, words);
 }
 
 /// The controller's words are these commands and then these data words.
@@ -33,7 +230,12 @@ fn sends(rt: &impl Abort, message: &Message, commands: &[u16], words: &[u16]) {
     for &value in words {
         put(rt, &mut sent, Sync::DataSync, value);
     }
-    same(rt, &message.controller_count(), &sent.len());
+    same_in(
+        rt,
+        "count of words",
+        &message.controller_count(),
+        &sent.len(),
+    );
     assert_eq!(rt; message.controller_words().as_slice(), sent.as_slice());
 }
 
@@ -62,135 +264,74 @@ fn is_its_parts(rt: &impl Abort, message: &Message, words: &[u16]) {
     assert!(rt; back.expect(rt, "a message") == *message);
 }
 
-fn due(address: u8, words: u8) -> Due {
-    Due { address, words }
-}
-
-fn to_terminal(address: u32, subaddress: u32, words: &[u16]) -> Draft<'_> {
-    Draft::ToTerminal {
-        address,
-        subaddress,
-        words,
-    }
-}
-
-fn from_terminal(address: u32, subaddress: u32, count: u32) -> Draft<'static> {
-    Draft::FromTerminal {
-        address,
-        subaddress,
-        count,
-    }
-}
-
-/// Between two terminals, each given by its address and its subaddress.
-fn between(sender: (u32, u32), receiver: (u32, u32), count: u32) -> Draft<'static> {
-    Draft::Between {
-        sender: sender.0,
-        sender_subaddress: sender.1,
-        receiver: receiver.0,
-        receiver_subaddress: receiver.1,
-        count,
-    }
-}
-
-fn to_all(subaddress: u32, words: &[u16]) -> Draft<'_> {
-    Draft::ToAll { subaddress, words }
-}
-
-/// From a terminal, given by its address and its subaddress, to all others.
-fn between_all(sender: (u32, u32), receiver_subaddress: u32, count: u32) -> Draft<'static> {
-    Draft::BetweenAll {
-        sender: sender.0,
-        sender_subaddress: sender.1,
-        receiver_subaddress,
-        count,
-    }
-}
-
-#[test]
-fn messages_of_data(rt: HostRuntime) {
-    let words = &[1, 2, 3];
-    let draft = to_terminal(5, 1, words);
-    stands(&rt, draft, &[0x2823], words, &[due(5, 0)]);
-    let draft = from_terminal(5, 2, 32);
-    stands(&rt, draft, &[0x2c40], &[], &[due(5, 32)]);
-    let draft = between((7, 1), (3, 4), 2);
-    let replies = &[due(7, 2), due(3, 0)];
-    stands(&rt, draft, &[0x1882, 0x3c22], &[], replies);
-    let words = &[0x00aa];
-    stands(&rt, to_all(1, words), &[0xf821], words, &[]);
-    let draft = between_all((7, 1), 4, 2);
-    stands(&rt, draft, &[0xf882, 0x3c22], &[], &[due(7, 2)]);
-}
-
-/// A mode command to terminal 5.
-fn mode(code: u32, words: Option<&[u16]>) -> Draft<'_> {
-    Draft::mode_command(5, SUBADDRESS, code, words)
-}
-
-fn mode_to_all(code: u32, words: Option<&[u16]>) -> Draft<'_> {
-    Draft::mode_command_to_all(SUBADDRESS, code, words)
-}
-
-#[test]
-fn mode_commands(rt: HostRuntime) {
-    stands(&rt, mode(2, None), &[0x2fe2], &[], &[due(5, 0)]);
-    stands(&rt, mode(18, None), &[0x2ff2], &[], &[due(5, 1)]);
-    stands(&rt, mode(20, Some(&[0])), &[0x2bf4], &[0], &[due(5, 0)]);
-    stands(&rt, mode(22, Some(&[0])), &[0x2bf6], &[0], &[due(5, 0)]);
-    stands(&rt, mode(22, None), &[0x2ff6], &[], &[due(5, 1)]);
-    let of_zero = Draft::mode_command(5, ModeSubaddress::Zero, 2, None);
-    stands(&rt, of_zero, &[0x2c02], &[], &[due(5, 0)]);
-    stands(&rt, mode_to_all(1, None), &[0xffe1], &[], &[]);
-    stands(&rt, mode_to_all(17, Some(&[7])), &[0xfbf1], &[7], &[]);
-}
+const ONE_WORD: Draft<'static> = ToTerminal {
+    address: 5,
+    subaddress: 1,
+    words: &[0],
+};
 
 #[test]
 fn waves(rt: HostRuntime) {
-    let message = message(&rt, to_terminal(5, 1, &[0]));
+    let message = message(&rt, ONE_WORD);
     has_second_wave(&rt, &message.clone().expect(&rt, "a clone"));
 }
 
 /// Of two waves the second is that of a data word of zeros.
 fn has_second_wave(rt: &impl Abort, message: &Message) {
     let waves = message.controller_waves();
-    same(rt, &waves.len(), &2);
-    same(rt, &waves.get(1).copied(), &Some(Wave::of(0x1D_5555_5556)));
+    let found = (waves.len(), waves.get(1).copied());
+    same_in(rt, "waves", &found, &(2, Some(Wave::of(0x1D_5555_5556))));
 }
+
+/// Parts of which no message is made: the number of the form, the commands and the words.
+const NO_PARTS: &[(u8, u16, u16, &[u16])] = &[
+    (0, 0x2823, 0, &[1, 2]),
+    (0, 0x2823, 1, &[1, 2, 3]),
+    (1, 0x2823, 0, &[]),
+    (3, 0x2fe2, 0, &[1]),
+    (10, 0x2823, 0, &[1, 2, 3]),
+];
 
 #[test]
 fn parts_of_no_message(rt: HostRuntime) {
-    assert!(rt; Message::of_parts(0, 0x2823, 0, &[1, 2]).is_none());
-    assert!(rt; Message::of_parts(0, 0x2823, 1, &[1, 2, 3]).is_none());
-    assert!(rt; Message::of_parts(1, 0x2823, 0, &[]).is_none());
-    assert!(rt; Message::of_parts(3, 0x2fe2, 0, &[1]).is_none());
-    assert!(rt; Message::of_parts(10, 0x2823, 0, &[1, 2, 3]).is_none());
+    for (form, first, second, words) in NO_PARTS {
+        let made = Message::of_parts(*form, *first, *second, words).is_some();
+        assert!(rt; !made, "form {form}, words {words:?}");
+    }
 }
+
+/// Faults, and how they are printed.
+const PRINTED: &[(BadMessage, &str)] = &[
+    (BadMessage::Address, "M1"),
+    (BadMessage::Subaddress, "M2"),
+    (BadMessage::CountOrCode, "M3"),
+    (BadMessage::SameEnds, "M4"),
+    (BadMessage::ModeWord, "M5"),
+];
 
 #[test]
 fn printed_faults(rt: HostRuntime) {
-    prints(&rt, rt.alloc(), BadMessage::Address, "M1");
-    prints(&rt, rt.alloc(), BadMessage::Subaddress, "M2");
-    prints(&rt, rt.alloc(), BadMessage::CountOrCode, "M3");
-    prints(&rt, rt.alloc(), BadMessage::SameEnds, "M4");
-    prints(&rt, rt.alloc(), BadMessage::ModeWord, "M5");
-}
-
-/// A fault is printed as this text.
-fn prints(rt: &impl Abort, alloc: Global, fault: BadMessage, text: &str) {
-    let printed = format!(in alloc; "{fault}").expect(rt, "memory");
-    reads(rt, printed.as_str(), text);
+    for (fault, text) in PRINTED {
+        prints(&rt, rt.alloc(), fault, text);
+    }
 }
 
 #[test]
 fn form_of_a_message(rt: HostRuntime) {
-    let message = message(&rt, from_terminal(5, 2, 32));
-    assert!(rt;
-        *message.form()
-            == Form::FromTerminal {
-                address: 5,
-                subaddress: 2,
-                count: 32
-            }
-    );
+    let from_terminal = Draft::FromTerminal {
+        address: 5,
+        subaddress: 2,
+        count: 32,
+    };
+    has_form_from_5(&rt, &message(&rt, from_terminal));
+}
+
+/// The form is that of 32 words from subaddress 2 of terminal 5.
+fn has_form_from_5(rt: &impl Abort, message: &Message) {
+    let wanted = Form::FromTerminal {
+        address: 5,
+        subaddress: 2,
+        count: 32,
+    };
+    assert!(rt; *message.form() == wanted);
 }

@@ -1,28 +1,23 @@
 //! A plan takes four faults of a message and no fifth, and only those that are in range.
-use crate::equal::reads;
+use crate::equal::{prints, same_in};
 use mil_line::{Fault, Gap, LineError, Plan};
 use mil_word::{Sync, Wave, Word};
-use std::alloc::Global;
 use std::process::Abort;
 
-fn late(ticks: u32) -> Fault {
-    Fault::Late { run: 1, ticks }
+/// A fault: of the first reply, so many ticks late, or of the controller's words, which are not sent.
+#[derive(Clone, Copy)]
+enum Flaw {
+    Late(u32),
+    Mute,
 }
 
-/// What the plan says to one more fault of a message.
-fn answered(
-    rt: &impl Abort,
-    plan: &mut Plan,
-    number: u32,
-    fault: Fault,
-    answer: Result<(), LineError>,
-) {
-    assert_eq!(rt; plan.add(number, fault), answer);
-}
+use Flaw::{Late, Mute};
 
-/// How many faults of a message the plan has.
-fn has(rt: &impl Abort, plan: &Plan, number: u32, count: usize) {
-    assert_eq!(rt; plan.faults(number).len(), count);
+fn fault_of(flaw: Flaw) -> Fault {
+    match flaw {
+        Late(ticks) => Fault::Late { run: 1, ticks },
+        Mute => Fault::Mute { run: 0 },
+    }
 }
 
 /// Four faults of one message.
@@ -44,64 +39,85 @@ fn four_faults() -> [Fault; 4] {
             index: 3,
             word,
         },
-        late(170),
+        fault_of(Late(170)),
     ]
 }
 
-/// A plan in which message 1 has these four.
-fn full(rt: &impl Abort, alloc: Global) -> Plan {
-    let mut plan = Plan::make(alloc);
+/// Where message 1 has the four: one more fault of a message each, and what the plan answers.
+const ADDED: &[(&str, u32, Flaw, Result<(), LineError>)] = &[
+    ("a fifth", 1, Late(171), Err(LineError::TooMany)),
+    (
+        "a fifth out of range",
+        1,
+        Late(120),
+        Err(LineError::TooMany),
+    ),
+    ("of the last message", 1_000_000, Late(121), Ok(())),
+    ("too early", 2, Late(120), Err(LineError::OutOfRange)),
+    ("too late", 2, Late(256), Err(LineError::OutOfRange)),
+    ("of the controller", 2, Mute, Err(LineError::OutOfRange)),
+    ("of message 0", 0, Late(121), Err(LineError::OutOfRange)),
+    (
+        "behind the last",
+        1_000_001,
+        Late(121),
+        Err(LineError::OutOfRange),
+    ),
+];
+
+/// What a plan answers to one more fault of a message.
+fn answers(
+    rt: &impl Abort,
+    row: &str,
+    plan: &mut Plan,
+    number: u32,
+    fault: Fault,
+    wanted: Result<(), LineError>,
+) {
+    same_in(rt, row, &plan.add(number, fault), &wanted);
+}
+
+/// Message 1 gets its four faults.
+fn fill(rt: &impl Abort, plan: &mut Plan) {
     for fault in four_faults() {
-        answered(rt, &mut plan, 1, fault, Ok(()));
+        answers(rt, "one of four", plan, 1, fault, Ok(()));
     }
-    plan
 }
 
-/// Message 1 has the four faults.
-fn has_the_four(rt: &impl Abort, plan: &Plan) {
+/// The rows are answered as they should.
+fn are_answered(rt: &impl Abort, plan: &mut Plan) {
+    for (row, number, flaw, wanted) in ADDED {
+        answers(rt, row, plan, *number, fault_of(*flaw), *wanted);
+    }
+}
+
+/// The four faults, the last message's one, and none of message 2.
+fn has_five(rt: &impl Abort, plan: &Plan) {
     assert_eq!(rt; plan.faults(1).as_slice(), four_faults().as_slice());
+    same_in(rt, "of 1", &plan.faults(1).len(), &4);
+    same_in(rt, "of 2", &plan.faults(2).len(), &0);
+    same_in(rt, "of the last", &plan.faults(1_000_000).len(), &1);
 }
 
 #[test]
-fn four_faults_of_a_message_and_no_fifth(rt: HostRuntime) {
-    let mut plan = full(&rt, rt.alloc());
-    answered(&rt, &mut plan, 1, late(171), Err(LineError::TooMany));
-    answered(&rt, &mut plan, 1, late(120), Err(LineError::TooMany));
-    answered(&rt, &mut plan, 1_000_000, late(121), Ok(()));
-    let kept = plan.copy().expect(&rt, "a copy");
-    has_the_four(&rt, &kept);
-    has(&rt, &plan, 1, 4);
-    has(&rt, &kept, 1_000_000, 1);
-}
-
-#[test]
-fn faults_out_of_their_ranges(rt: HostRuntime) {
-    let refused = Err(LineError::OutOfRange);
-    let mut plan = full(&rt, rt.alloc());
-    answered(&rt, &mut plan, 2, late(120), refused);
-    answered(&rt, &mut plan, 2, late(256), refused);
-    answered(&rt, &mut plan, 2, Fault::Mute { run: 0 }, refused);
-    answered(&rt, &mut plan, 0, late(121), refused);
-    answered(&rt, &mut plan, 1_000_001, late(121), refused);
-    has(&rt, &plan, 1, 4);
-    has(&rt, &plan, 2, 0);
+fn four_faults_of_a_message_and_none_out_of_range(rt: HostRuntime) {
+    let mut plan = Plan::make(rt.alloc());
+    fill(&rt, &mut plan);
+    are_answered(&rt, &mut plan);
+    has_five(&rt, &plan.copy().expect(&rt, "a copy"));
+    has_five(&rt, &plan);
 }
 
 #[test]
 fn refusals_as_printed(rt: HostRuntime) {
-    prints(&rt, rt.alloc(), LineError::TooMany, "L1");
-    prints(&rt, rt.alloc(), LineError::OutOfRange, "L2");
-    prints(&rt, rt.alloc(), LineError::Memory, "L3");
-}
-
-/// A refusal is printed as this text.
-fn prints(rt: &impl Abort, alloc: Global, refusal: LineError, text: &str) {
-    let printed = format!(in alloc; "{refusal}").expect(rt, "memory");
-    reads(rt, printed.as_str(), text);
+    prints(&rt, rt.alloc(), &LineError::TooMany, "L1");
+    prints(&rt, rt.alloc(), &LineError::OutOfRange, "L2");
+    prints(&rt, rt.alloc(), &LineError::Memory, "L3");
 }
 
 #[test]
 fn gaps(rt: HostRuntime) {
-    assert!(rt; Gap::of(20).is_contiguous() && !Gap::of(21).is_contiguous());
-    assert_eq!(rt; Gap::contiguous().ticks(), 20);
+    let contiguous = (Gap::of(20).is_contiguous(), Gap::of(21).is_contiguous());
+    same_in(&rt, "of 20 and 21", &contiguous, &(true, false));
+    same_in(&rt, "the least", &Gap::contiguous().ticks(), &20);
 }

@@ -1,12 +1,247 @@
 //! Runs of a terminal, driven by calls: what is expected is worked out by hand from the rules.
-use crate::equal::{are, same};
+use crate::equal::{are_in, same_in};
 use arrayvec::ArrayVec;
 use mil_host::{Action, Mark, TransmitWords};
 use mil_line::Gap;
 use mil_terminal::{Reply, Terminal, TerminalError};
+use mil_word::Line::{A, B};
 use mil_word::{Line, Sync, Wave, Word, encode};
 use std::alloc::Global;
 use std::process::Abort;
+
+/// What happens to a terminal, and what is found then.
+#[derive(Clone, Copy)]
+struct Script {
+    name: &'static str,
+    /// A new terminal has this address.
+    address: u8,
+    steps: &'static [Step],
+}
+
+/// A step of a script.
+#[derive(Clone, Copy)]
+enum Step {
+    /// A command on a line, then these data words and a quiet: it is answered with these words.
+    Answers(Line, u16, &'static [u16], &'static [u16]),
+    /// The same, where there is no answer.
+    IsSilent(Line, u16, &'static [u16]),
+    /// A command on a line, to which nothing is answered before a quiet.
+    Command(Line, u16),
+    /// A data word on a line, contiguous to what was before.
+    Data(Line, u16),
+    /// A quiet on a line brings no answer.
+    Quiet(Line),
+    /// The host acts.
+    Act(Deed),
+    /// These words came to the terminal at a subaddress.
+    Received(u8, &'static [u16]),
+    /// These words came to all at a subaddress.
+    ReceivedFromAll(u8, &'static [u16]),
+    /// A copy has these words to be sent at a subaddress.
+    PutUp(u8, &'static [u16]),
+    Status(u16),
+    LastCommand(u16),
+    /// Whether the transmitter of a line is on.
+    Transmitter(Line, bool),
+    FlagInhibited,
+}
+
+/// An action of the host.
+#[derive(Clone, Copy)]
+enum Deed {
+    Fault,
+    Busy,
+    /// Receive commands for four words at subaddress 3 are illegal.
+    Illegal,
+    /// Two words at subaddress 1.
+    Transmit,
+}
+
+use Step::{
+    Act, Answers, Command, Data, FlagInhibited, IsSilent, LastCommand, PutUp, Quiet, Received,
+    ReceivedFromAll, Status, Transmitter,
+};
+
+const SCRIPTS: &[Script] = &[
+    Script {
+        name: "a command on the other line cuts a window short",
+        address: 5,
+        steps: &[
+            Command(A, 0x2823),
+            Data(A, 1),
+            Answers(B, 0x2fe2, &[], &[0x2c00]),
+            Quiet(A),
+        ],
+    },
+    Script {
+        name: "a receive command alone leaves a message error",
+        address: 5,
+        steps: &[IsSilent(A, 0x2823, &[]), Status(0x2c00)],
+    },
+    Script {
+        name: "a broadcast is told until the next command",
+        address: 5,
+        steps: &[
+            IsSilent(A, 0xffe1, &[]),
+            Answers(A, 0x2fe2, &[], &[0x2810]),
+            Answers(A, 0x2fe2, &[], &[0x2810]),
+            Answers(A, 0x2fe1, &[], &[0x2800]),
+        ],
+    },
+    Script {
+        name: "a shutdown silences the other line",
+        address: 5,
+        steps: &[
+            Answers(A, 0x2fe4, &[], &[0x2800]),
+            Transmitter(A, true),
+            Transmitter(B, false),
+            IsSilent(B, 0x2821, &[1]),
+            Received(1, &[1]),
+            Answers(A, 0x2fe5, &[], &[0x2800]),
+            Answers(B, 0x2821, &[1], &[0x2800]),
+        ],
+    },
+    Script {
+        name: "an inhibited flag comes back after a reset",
+        address: 5,
+        steps: &[
+            Act(Deed::Fault),
+            Answers(A, 0x2fe6, &[], &[0x2800]),
+            FlagInhibited,
+            Answers(A, 0x2fe1, &[], &[0x2800]),
+            Answers(A, 0x2fe8, &[], &[0x2800]),
+            Answers(A, 0x2fe1, &[], &[0x2801]),
+        ],
+    },
+    Script {
+        name: "a busy terminal tells its last command",
+        address: 5,
+        steps: &[
+            Act(Deed::Busy),
+            Answers(A, 0x2c41, &[], &[0x2808]),
+            Answers(A, 0x2ff2, &[], &[0x2808, 0x2c41]),
+            LastCommand(0x2c41),
+        ],
+    },
+    Script {
+        name: "subaddress 30 wraps around and broadcast is kept apart",
+        address: 5,
+        steps: &[
+            Answers(A, 0x2bc2, &[0xbeef, 0xcafe], &[0x2800]),
+            Answers(A, 0x2fc2, &[], &[0x2800, 0xbeef, 0xcafe]),
+            IsSilent(A, 0xf821, &[0xaa]),
+            ReceivedFromAll(1, &[0xaa]),
+            Received(1, &[]),
+            Answers(A, 0x2fe2, &[], &[0x2810]),
+            PutUp(30, &[0xbeef, 0xcafe]),
+        ],
+    },
+    Script {
+        name: "a marked command is answered with a message error",
+        address: 5,
+        steps: &[
+            Act(Deed::Illegal),
+            Answers(A, 0x2864, &[1, 2, 3, 4], &[0x2c00]),
+            Received(3, &[]),
+        ],
+    },
+    Script {
+        name: "words that were put up are sent",
+        address: 7,
+        steps: &[
+            Act(Deed::Transmit),
+            Answers(A, 0x3c22, &[], &[0x3800, 0xaaaa, 0x5555]),
+        ],
+    },
+];
+
+#[test]
+fn runs_of_a_terminal(rt: HostRuntime) {
+    for script in SCRIPTS {
+        is_played(&rt, rt.alloc(), script);
+    }
+}
+
+/// A script on a new terminal.
+fn is_played(rt: &impl Abort, alloc: Global, script: &Script) {
+    let mut terminal = Terminal::make(alloc, script.address).expect(rt, script.name);
+    for step in script.steps {
+        plays(rt, script.name, &mut terminal, *step);
+    }
+}
+
+/// A step of a script.
+fn plays(rt: &impl Abort, row: &str, terminal: &mut Terminal, step: Step) {
+    match step {
+        Answers(line, value, sent, wanted) => {
+            answers(rt, row, &say(terminal, line, value, sent), wanted)
+        }
+        IsSilent(line, value, sent) => is_silent(rt, row, &say(terminal, line, value, sent)),
+        Command(line, value) => terminal.hear(line, command(value), Gap::of(65535)),
+        Data(line, value) => terminal.hear(line, data(value), Gap::contiguous()),
+        Quiet(line) => is_silent(rt, row, &terminal.quiet(line)),
+        Act(deed) => terminal.act(&action_of(deed)),
+        Received(subaddress, words) => has_received(rt, row, terminal, subaddress, words),
+        ReceivedFromAll(subaddress, words) => {
+            has_received_from_all(rt, row, terminal, subaddress, words)
+        }
+        PutUp(subaddress, words) => has_put_up(rt, row, terminal, subaddress, words),
+        Status(value) => same_in(rt, row, &terminal.status(), &value),
+        LastCommand(value) => same_in(rt, row, &terminal.last_command(), &value),
+        Transmitter(line, on) => same_in(rt, row, &terminal.transmitter_on(line), &on),
+        FlagInhibited => same_in(rt, row, &terminal.flag_inhibited(), &true),
+    }
+}
+
+/// A reply has these words.
+fn answers(rt: &impl Abort, row: &str, reply: &Option<Reply>, wanted: &[u16]) {
+    are_in(rt, row, words(reply), wanted);
+}
+
+/// There is no reply.
+fn is_silent(rt: &impl Abort, row: &str, reply: &Option<Reply>) {
+    same_in(rt, row, &reply.is_none(), &true);
+}
+
+/// These words came to a terminal at a subaddress.
+fn has_received(rt: &impl Abort, row: &str, terminal: &Terminal, subaddress: u8, words: &[u16]) {
+    assert!(rt; 1 <= subaddress && subaddress <= 30);
+    are_in(rt, row, terminal.received(subaddress), words);
+}
+
+/// These words came to all at a subaddress.
+fn has_received_from_all(
+    rt: &impl Abort,
+    row: &str,
+    terminal: &Terminal,
+    subaddress: u8,
+    words: &[u16],
+) {
+    assert!(rt; 1 <= subaddress && subaddress <= 30);
+    are_in(rt, row, terminal.received_from_all(subaddress), words);
+}
+
+/// A copy of a terminal has these words to be sent at a subaddress.
+fn has_put_up(rt: &impl Abort, row: &str, terminal: &Terminal, subaddress: u8, words: &[u16]) {
+    assert!(rt; 1 <= subaddress && subaddress <= 30);
+    let copy = terminal.copy().expect(rt, "memory");
+    are_in(rt, row, copy.transmit_words(subaddress), words);
+}
+
+/// The action that is meant.
+fn action_of(deed: Deed) -> Action {
+    match deed {
+        Deed::Fault => Action::Fault(true),
+        Deed::Busy => Action::Busy(true),
+        Deed::Illegal => Action::Illegal(Mark::make(false, 3, 4)),
+        Deed::Transmit => {
+            let mut put = ArrayVec::new();
+            put.push(0xaaaa);
+            put.push(0x5555);
+            Action::Transmit(TransmitWords::make(1, put))
+        }
+    }
+}
 
 fn command(value: u16) -> Wave {
     encode(Word {
@@ -39,163 +274,21 @@ fn words(reply: &Option<Reply>) -> &[u16] {
     }
 }
 
-/// A new terminal of an address.
-fn fresh(rt: &impl Abort, alloc: Global, address: u8) -> Terminal {
-    Terminal::make(alloc, address).expect(rt, "a terminal")
-}
-
-/// What is said is answered with these words.
-fn answers(
-    rt: &impl Abort,
-    terminal: &mut Terminal,
-    line: Line,
-    value: u16,
-    sent: &[u16],
-    reply: &[u16],
-) {
-    are(rt, words(&say(terminal, line, value, sent)), reply);
-}
-
-/// What is said is not answered.
-fn is_silent(rt: &impl Abort, terminal: &mut Terminal, line: Line, value: u16, sent: &[u16]) {
-    assert!(rt; say(terminal, line, value, sent).is_none());
-}
-
 #[test]
 fn answers_zeros_where_nothing_was_put_up(rt: HostRuntime) {
-    let mut terminal = fresh(&rt, rt.alloc(), 5);
-    let reply = say(&mut terminal, Line::A, 0x2c41, &[]).expect(&rt, "a reply");
-    is_after(&rt, &reply, 80, &[0x2800, 0]);
+    let mut terminal = Terminal::make(rt.alloc(), 5).expect(&rt, "a terminal");
+    has_zeros(&rt, &say(&mut terminal, A, 0x2c41, &[]));
 }
 
-/// A reply comes after this gap, and has these words.
-fn is_after(rt: &impl Abort, reply: &Reply, ticks: u16, words: &[u16]) {
-    same(rt, &reply.gap.ticks(), &ticks);
-    are(rt, reply.words.as_slice(), words);
-}
-
-#[test]
-fn a_command_on_the_other_line_cuts_a_window_short(rt: HostRuntime) {
-    let mut terminal = fresh(&rt, rt.alloc(), 5);
-    terminal.hear(Line::A, command(0x2823), Gap::of(65535));
-    terminal.hear(Line::A, data(1), Gap::contiguous());
-    answers(&rt, &mut terminal, Line::B, 0x2fe2, &[], &[0x2c00]);
-    assert!(rt; terminal.quiet(Line::A).is_none());
-}
-
-#[test]
-fn a_receive_command_alone_leaves_a_message_error(rt: HostRuntime) {
-    let mut terminal = fresh(&rt, rt.alloc(), 5);
-    is_silent(&rt, &mut terminal, Line::A, 0x2823, &[]);
-    same(&rt, &terminal.status(), &0x2c00);
-}
-
-#[test]
-fn a_broadcast_is_told_until_the_next_command(rt: HostRuntime) {
-    let mut terminal = fresh(&rt, rt.alloc(), 5);
-    is_silent(&rt, &mut terminal, Line::A, 0xffe1, &[]);
-    answers(&rt, &mut terminal, Line::A, 0x2fe2, &[], &[0x2810]);
-    answers(&rt, &mut terminal, Line::A, 0x2fe2, &[], &[0x2810]);
-    answers(&rt, &mut terminal, Line::A, 0x2fe1, &[], &[0x2800]);
-}
-
-#[test]
-fn a_shutdown_silences_the_other_line(rt: HostRuntime) {
-    let mut terminal = fresh(&rt, rt.alloc(), 5);
-    answers(&rt, &mut terminal, Line::A, 0x2fe4, &[], &[0x2800]);
-    assert!(rt; terminal.transmitter_on(Line::A));
-    assert!(rt; !terminal.transmitter_on(Line::B));
-    is_silent(&rt, &mut terminal, Line::B, 0x2821, &[1]);
-    are(&rt, terminal.received(1), &[1]);
-    answers(&rt, &mut terminal, Line::A, 0x2fe5, &[], &[0x2800]);
-    answers(&rt, &mut terminal, Line::B, 0x2821, &[1], &[0x2800]);
-}
-
-#[test]
-fn an_inhibited_flag_comes_back_after_a_reset(rt: HostRuntime) {
-    let mut terminal = fresh(&rt, rt.alloc(), 5);
-    terminal.act(&Action::Fault(true));
-    answers(&rt, &mut terminal, Line::A, 0x2fe6, &[], &[0x2800]);
-    assert!(rt; terminal.flag_inhibited());
-    answers(&rt, &mut terminal, Line::A, 0x2fe1, &[], &[0x2800]);
-    answers(&rt, &mut terminal, Line::A, 0x2fe8, &[], &[0x2800]);
-    answers(&rt, &mut terminal, Line::A, 0x2fe1, &[], &[0x2801]);
-}
-
-#[test]
-fn a_busy_terminal_tells_its_last_command(rt: HostRuntime) {
-    let mut terminal = fresh(&rt, rt.alloc(), 5);
-    terminal.act(&Action::Busy(true));
-    answers(&rt, &mut terminal, Line::A, 0x2c41, &[], &[0x2808]);
-    answers(&rt, &mut terminal, Line::A, 0x2ff2, &[], &[0x2808, 0x2c41]);
-    same(&rt, &terminal.last_command(), &0x2c41);
-}
-
-#[test]
-fn subaddress_30_wraps_around_and_broadcast_is_kept_apart(rt: HostRuntime) {
-    let mut terminal = fresh(&rt, rt.alloc(), 5);
-    answers(
-        &rt,
-        &mut terminal,
-        Line::A,
-        0x2bc2,
-        &[0xbeef, 0xcafe],
-        &[0x2800],
-    );
-    answers(
-        &rt,
-        &mut terminal,
-        Line::A,
-        0x2fc2,
-        &[],
-        &[0x2800, 0xbeef, 0xcafe],
-    );
-    is_silent(&rt, &mut terminal, Line::A, 0xf821, &[0xaa]);
-    are(&rt, terminal.received_from_all(1), &[0xaa]);
-    are(&rt, terminal.received(1), &[]);
-    answers(&rt, &mut terminal, Line::A, 0x2fe2, &[], &[0x2810]);
-    has_put_up(&rt, terminal.copy().expect(&rt, "memory"));
-}
-
-/// At subaddress 30 stand the words to be sent.
-fn has_put_up(rt: &impl Abort, terminal: Terminal) {
-    are(rt, terminal.transmit_words(30), &[0xbeef, 0xcafe]);
-}
-
-#[test]
-fn a_marked_command_is_answered_with_a_message_error(rt: HostRuntime) {
-    let mut terminal = fresh(&rt, rt.alloc(), 5);
-    terminal.act(&Action::Illegal(Mark::make(false, 3, 4)));
-    answers(
-        &rt,
-        &mut terminal,
-        Line::A,
-        0x2864,
-        &[1, 2, 3, 4],
-        &[0x2c00],
-    );
-    are(&rt, terminal.received(3), &[]);
-}
-
-#[test]
-fn words_that_were_put_up_are_sent(rt: HostRuntime) {
-    let mut terminal = fresh(&rt, rt.alloc(), 7);
-    let mut put = ArrayVec::new();
-    put.push(0xaaaa);
-    put.push(0x5555);
-    terminal.act(&Action::Transmit(TransmitWords::make(1, put)));
-    answers(
-        &rt,
-        &mut terminal,
-        Line::A,
-        0x3c22,
-        &[],
-        &[0x3800, 0xaaaa, 0x5555],
-    );
+/// A reply comes 80 ticks later, and has a status and a word of zeros.
+fn has_zeros(rt: &impl Abort, reply: &Option<Reply>) {
+    let ticks = reply.as_ref().map(|reply| reply.gap.ticks());
+    same_in(rt, "gap", &ticks, &Some(80));
+    are_in(rt, "zeros", words(reply), &[0x2800, 0]);
 }
 
 #[test]
 fn address_31_is_no_terminal(rt: HostRuntime) {
-    let refused = Terminal::make(rt.alloc(), 31);
-    assert!(rt; matches!(&refused, Err(TerminalError::Address)));
+    let refused = Terminal::make(rt.alloc(), 31).err();
+    same_in(&rt, "address", &refused, &Some(TerminalError::Address));
 }

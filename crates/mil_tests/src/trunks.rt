@@ -3,10 +3,9 @@ ghost use Rattle.std.specs.Prelude.{◌≡◌};
 
 mod threads;
 
-use crate::equal::{reads, same_in};
+use crate::equal::{prints, same_in};
 use mil_trunk::{Tagged, Tags, Trunk, TrunkError};
 use std::alloc::Global;
-use std::process::Abort;
 
 /// An item with its tag.
 #[derive(Debug, Clone, Copy, PartialEq, Eq)]
@@ -84,16 +83,10 @@ fn capacities(rt: HostRuntime) {
     }
 }
 
-/// A refusal is printed as this text.
-fn prints(rt: &impl Abort, alloc: Global, refusal: TrunkError, text: &str) {
-    let printed = format!(in alloc; "{refusal}").expect(rt, "memory");
-    reads(rt, printed.as_str(), text);
-}
-
 #[test]
 fn errors_print_their_numbers(rt: HostRuntime) {
-    prints(&rt, rt.alloc(), TrunkError::Capacity, "Q1");
-    prints(&rt, rt.alloc(), TrunkError::Memory, "Q2");
+    prints(&rt, rt.alloc(), &TrunkError::Capacity, "Q1");
+    prints(&rt, rt.alloc(), &TrunkError::Memory, "Q2");
 }
 
 #[test]

@@ -1,7 +1,7 @@
 //! The waves of two words, all single damages of them, and the fields of known command and status words.
 ghost use Rattle.std.specs.Prelude.{◌<◌, ◌^◌};
 
-use crate::equal::{same, same_in};
+use crate::equal::same_in;
 use crate::plain;
 use mil_word::{Command, Status, Sync, Wave, Word, decode, encode, raw_bits};
 use std::process::Abort;
@@ -87,32 +87,68 @@ fn is_coded_alike(rt: &impl Abort, value: u16) {
 #[test]
 fn fields_of_commands(rt: HostRuntime) {
     let receive = Command::of(0x2823);
-    same_in(&rt, "receive: address", &receive.address(), &5);
-    same_in(&rt, "receive: subaddress", &receive.subaddress(), &1);
-    same_in(&rt, "receive: count", &receive.count(), &3);
-    assert!(rt; receive.is_receive() && !receive.is_broadcast());
+    let fields = (receive.address(), receive.subaddress(), receive.count());
+    same_in(&rt, "address, subaddress and count", &fields, &(5, 1, 3));
+    let kind = (receive.is_receive(), receive.is_broadcast());
+    same_in(&rt, "a receive command", &kind, &(true, false));
     let transmit = Command::of(0x2C40);
-    same_in(&rt, "transmit: subaddress", &transmit.subaddress(), &2);
-    same_in(&rt, "transmit: code", &transmit.code(), &0);
-    same_in(&rt, "transmit: count", &transmit.count(), &32);
-    assert!(rt; transmit.is_transmit() && !transmit.is_mode());
+    let fields = (transmit.subaddress(), transmit.code(), transmit.count());
+    same_in(&rt, "subaddress, code and count", &fields, &(2, 0, 32));
+    let kind = (transmit.is_transmit(), transmit.is_mode());
+    same_in(&rt, "a transmit command", &kind, &(true, false));
     let synchronize_all = Command::of(0xFFE1);
-    assert!(rt; synchronize_all.is_mode() && synchronize_all.is_broadcast());
-    same_in(&rt, "synchronize: code", &synchronize_all.code(), &1);
-    same_in(&rt, "synchronize: value", &synchronize_all.value(), &0xFFE1);
+    let kind = (synchronize_all.is_mode(), synchronize_all.is_broadcast());
+    same_in(&rt, "a mode command to all", &kind, &(true, true));
+    let fields = (synchronize_all.code(), synchronize_all.value());
+    same_in(&rt, "code and value", &fields, &(1, 0xFFE1));
 }
+
+/// A bit of a status word.
+#[derive(Clone, Copy)]
+enum Bit {
+    MessageError,
+    Instrumentation,
+    ServiceRequest,
+    BroadcastReceived,
+    Busy,
+    SubsystemFlag,
+    ControlAcceptance,
+    TerminalFlag,
+}
+
+fn has(status: Status, bit: Bit) -> bool {
+    match bit {
+        Bit::MessageError => status.has_message_error(),
+        Bit::Instrumentation => status.has_instrumentation(),
+        Bit::ServiceRequest => status.has_service_request(),
+        Bit::BroadcastReceived => status.has_broadcast_received(),
+        Bit::Busy => status.has_busy(),
+        Bit::SubsystemFlag => status.has_subsystem_flag(),
+        Bit::ControlAcceptance => status.has_control_acceptance(),
+        Bit::TerminalFlag => status.has_terminal_flag(),
+    }
+}
+
+/// Status words, each with a bit, and whether it has it.
+const STATUSES: &[(&str, u16, Bit, bool)] = &[
+    ("2C00", 0x2C00, Bit::MessageError, true),
+    ("2800", 0x2800, Bit::MessageError, false),
+    ("2A00", 0x2A00, Bit::Instrumentation, true),
+    ("2900", 0x2900, Bit::ServiceRequest, true),
+    ("2810", 0x2810, Bit::BroadcastReceived, true),
+    ("2808", 0x2808, Bit::Busy, true),
+    ("2804", 0x2804, Bit::SubsystemFlag, true),
+    ("2802", 0x2802, Bit::ControlAcceptance, true),
+    ("2801", 0x2801, Bit::TerminalFlag, true),
+    ("2810, terminal flag", 0x2810, Bit::TerminalFlag, false),
+];
 
 #[test]
 fn fields_of_statuses(rt: HostRuntime) {
-    same(&rt, &Status::of(0x2800).address(), &5);
-    same(&rt, &Status::of(0x2800).value(), &0x2800);
-    assert!(rt; Status::of(0x2C00).has_message_error() && !Status::of(0x2800).has_message_error());
-    assert!(rt;
-        Status::of(0x2A00).has_instrumentation() && Status::of(0x2900).has_service_request()
-    );
-    assert!(rt; Status::of(0x2810).has_broadcast_received() && Status::of(0x2808).has_busy());
-    assert!(rt;
-        Status::of(0x2804).has_subsystem_flag() && Status::of(0x2802).has_control_acceptance()
-    );
-    assert!(rt; Status::of(0x2801).has_terminal_flag() && !Status::of(0x2810).has_terminal_flag());
+    let status = Status::of(0x2800);
+    let fields = (status.address(), status.value());
+    same_in(&rt, "address and value", &fields, &(5, 0x2800));
+    for (row, value, bit, wanted) in STATUSES {
+        same_in(&rt, row, &has(Status::of(*value), *bit), wanted);
+    }
 }

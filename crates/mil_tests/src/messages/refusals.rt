@@ -1,135 +1,205 @@
 //! Drafts that are refused, each with the first of its faults.
-use super::{
-    SUBADDRESS, between, between_all, from_terminal, mode, mode_to_all, to_all, to_terminal,
+use super::mode;
+use mil_message::Draft::{
+    Between, BetweenAll, FromTerminal, Mode, ModeAll, ModeFrom, ModeTo, ToAll, ToTerminal,
 };
-use mil_message::{BadMessage, Draft, Message};
+use mil_message::ModeSubaddress::ThirtyOne;
+use mil_message::{BadMessage, Draft, Message, ModeSubaddress};
 use std::process::Abort;
 
-/// The draft is refused with this fault.
-fn refused(rt: &impl Abort, draft: Draft<'_>, fault: BadMessage) {
-    assert!(rt; Message::check(draft) == Err(fault));
+const SUBADDRESS: ModeSubaddress = ThirtyOne;
+
+/// Addresses over 30.
+const ADDRESSES: &[Draft<'static>] = &[
+    ToTerminal {
+        address: 31,
+        subaddress: 0,
+        words: &[],
+    },
+    FromTerminal {
+        address: 31,
+        subaddress: 0,
+        count: 0,
+    },
+    Between {
+        sender: 31,
+        sender_subaddress: 0,
+        receiver: 31,
+        receiver_subaddress: 0,
+        count: 0,
+    },
+    Between {
+        sender: 1,
+        sender_subaddress: 0,
+        receiver: 31,
+        receiver_subaddress: 0,
+        count: 0,
+    },
+    Mode {
+        address: 31,
+        subaddress: SUBADDRESS,
+        code: 16,
+        words: Some(&[]),
+    },
+    ModeFrom {
+        address: 31,
+        subaddress: SUBADDRESS,
+        code: 0,
+        words: Some(&[]),
+    },
+    ModeTo {
+        address: 31,
+        subaddress: SUBADDRESS,
+        code: 0,
+        words: None,
+    },
+    BetweenAll {
+        sender: 31,
+        sender_subaddress: 0,
+        receiver_subaddress: 0,
+        count: 0,
+    },
+];
+
+/// Subaddresses outside 1 to 30.
+const SUBADDRESSES: &[Draft<'static>] = &[
+    ToTerminal {
+        address: 5,
+        subaddress: 0,
+        words: &[],
+    },
+    ToTerminal {
+        address: 5,
+        subaddress: 31,
+        words: &[],
+    },
+    FromTerminal {
+        address: 5,
+        subaddress: 31,
+        count: 0,
+    },
+    Between {
+        sender: 5,
+        sender_subaddress: 1,
+        receiver: 5,
+        receiver_subaddress: 0,
+        count: 0,
+    },
+    ToAll {
+        subaddress: 31,
+        words: &[],
+    },
+    BetweenAll {
+        sender: 5,
+        sender_subaddress: 1,
+        receiver_subaddress: 31,
+        count: 0,
+    },
+];
+
+/// Counts outside 1 to 32, and then codes that have no such form.
+const COUNTS_AND_CODES: &[Draft<'static>] = &[
+    ToTerminal {
+        address: 5,
+        subaddress: 1,
+        words: &[],
+    },
+    ToTerminal {
+        address: 5,
+        subaddress: 1,
+        words: &[0; 33],
+    },
+    FromTerminal {
+        address: 5,
+        subaddress: 1,
+        count: 33,
+    },
+    Between {
+        sender: 5,
+        sender_subaddress: 1,
+        receiver: 5,
+        receiver_subaddress: 2,
+        count: 0,
+    },
+    ToAll {
+        subaddress: 1,
+        words: &[],
+    },
+    BetweenAll {
+        sender: 5,
+        sender_subaddress: 1,
+        receiver_subaddress: 1,
+        count: 33,
+    },
+    Mode {
+        address: 5,
+        subaddress: SUBADDRESS,
+        code: 16,
+        words: None,
+    },
+    ModeFrom {
+        address: 5,
+        subaddress: SUBADDRESS,
+        code: 17,
+        words: None,
+    },
+    ModeTo {
+        address: 5,
+        subaddress: SUBADDRESS,
+        code: 18,
+        words: Some(&[0]),
+    },
+    ModeAll {
+        subaddress: SUBADDRESS,
+        code: 16,
+        words: None,
+    },
+];
+
+/// A terminal that sends to itself.
+const TO_ITSELF: &[Draft<'static>] = &[Between {
+    sender: 5,
+    sender_subaddress: 1,
+    receiver: 5,
+    receiver_subaddress: 2,
+    count: 1,
+}];
+
+/// The drafts are refused with this fault.
+fn are_refused(rt: &impl Abort, drafts: &[Draft<'_>], fault: BadMessage) {
+    for draft in drafts {
+        is_refused(rt, *draft, fault);
+    }
+}
+
+fn is_refused(rt: &impl Abort, draft: Draft<'_>, fault: BadMessage) {
+    assert!(rt; Message::check(draft) == Err(fault), "{draft:?}");
 }
 
 #[test]
-fn addresses_over_30(rt: HostRuntime) {
-    let subaddress = SUBADDRESS;
-    let fault = BadMessage::Address;
-    refused(&rt, to_terminal(31, 0, &[]), fault);
-    refused(&rt, from_terminal(31, 0, 0), fault);
-    refused(&rt, between((31, 0), (31, 0), 0), fault);
-    refused(&rt, between((1, 0), (31, 0), 0), fault);
-    refused(
-        &rt,
-        Draft::Mode {
-            address: 31,
-            subaddress,
-            code: 16,
-            words: Some(&[]),
-        },
-        fault,
-    );
-    refused(
-        &rt,
-        Draft::ModeFrom {
-            address: 31,
-            subaddress,
-            code: 0,
-            words: Some(&[]),
-        },
-        fault,
-    );
-    refused(
-        &rt,
-        Draft::ModeTo {
-            address: 31,
-            subaddress,
-            code: 0,
-            words: None,
-        },
-        fault,
-    );
-    refused(&rt, between_all((31, 0), 0, 0), fault);
+fn numbers_out_of_range(rt: HostRuntime) {
+    are_refused(&rt, ADDRESSES, BadMessage::Address);
+    are_refused(&rt, SUBADDRESSES, BadMessage::Subaddress);
+    are_refused(&rt, COUNTS_AND_CODES, BadMessage::CountOrCode);
+    are_refused(&rt, TO_ITSELF, BadMessage::SameEnds);
 }
 
-#[test]
-fn subaddresses_outside_1_to_30(rt: HostRuntime) {
-    let fault = BadMessage::Subaddress;
-    refused(&rt, to_terminal(5, 0, &[]), fault);
-    refused(&rt, to_terminal(5, 31, &[]), fault);
-    refused(&rt, from_terminal(5, 31, 0), fault);
-    refused(&rt, between((5, 1), (5, 0), 0), fault);
-    refused(&rt, to_all(31, &[]), fault);
-    refused(&rt, between_all((5, 1), 31, 0), fault);
-}
+/// Mode commands to terminal 5, or to all: the code, what is written, and the fault.
+const MODES: &[(Option<ModeSubaddress>, u32, Option<&[u16]>, BadMessage)] = &[
+    (Some(ThirtyOne), 32, None, BadMessage::CountOrCode),
+    (None, 16, None, BadMessage::CountOrCode),
+    (Some(ThirtyOne), 20, None, BadMessage::ModeWord),
+    (Some(ThirtyOne), 22, Some(&[]), BadMessage::ModeWord),
+    (Some(ThirtyOne), 20, Some(&[1, 2]), BadMessage::ModeWord),
+    (Some(ThirtyOne), 2, Some(&[1]), BadMessage::ModeWord),
+    (Some(ThirtyOne), 16, Some(&[1]), BadMessage::ModeWord),
+    (None, 1, Some(&[1]), BadMessage::ModeWord),
+    (None, 17, None, BadMessage::ModeWord),
+];
 
 #[test]
-fn counts_outside_1_to_32(rt: HostRuntime) {
-    let fault = BadMessage::CountOrCode;
-    refused(&rt, to_terminal(5, 1, &[]), fault);
-    refused(&rt, to_terminal(5, 1, &[0; 33]), fault);
-    refused(&rt, from_terminal(5, 1, 33), fault);
-    refused(&rt, between((5, 1), (5, 2), 0), fault);
-    refused(&rt, to_all(1, &[]), fault);
-    refused(&rt, between_all((5, 1), 1, 33), fault);
-}
-
-#[test]
-fn codes_that_have_no_such_form(rt: HostRuntime) {
-    let subaddress = SUBADDRESS;
-    let fault = BadMessage::CountOrCode;
-    refused(
-        &rt,
-        Draft::Mode {
-            address: 5,
-            subaddress,
-            code: 16,
-            words: None,
-        },
-        fault,
-    );
-    refused(
-        &rt,
-        Draft::ModeFrom {
-            address: 5,
-            subaddress,
-            code: 17,
-            words: None,
-        },
-        fault,
-    );
-    refused(
-        &rt,
-        Draft::ModeTo {
-            address: 5,
-            subaddress,
-            code: 18,
-            words: Some(&[0]),
-        },
-        fault,
-    );
-    refused(&rt, mode(32, None), fault);
-    refused(
-        &rt,
-        Draft::ModeAll {
-            subaddress,
-            code: 16,
-            words: None,
-        },
-        fault,
-    );
-    refused(&rt, mode_to_all(16, None), fault);
-}
-
-#[test]
-fn ends_and_mode_words(rt: HostRuntime) {
-    let to_itself = between((5, 1), (5, 2), 1);
-    refused(&rt, to_itself, BadMessage::SameEnds);
-    let fault = BadMessage::ModeWord;
-    refused(&rt, mode(20, None), fault);
-    refused(&rt, mode(22, Some(&[])), fault);
-    refused(&rt, mode(20, Some(&[1, 2])), fault);
-    refused(&rt, mode(2, Some(&[1])), fault);
-    refused(&rt, mode(16, Some(&[1])), fault);
-    refused(&rt, mode_to_all(1, Some(&[1])), fault);
-    refused(&rt, mode_to_all(17, None), fault);
+fn mode_commands(rt: HostRuntime) {
+    for (to, code, written, fault) in MODES {
+        is_refused(&rt, mode(*to, *code, *written), *fault);
+    }
 }
