@@ -1,17 +1,14 @@
-//! Times a trunk: so many threads send items, each with a ticket of its own, while the main thread takes them all.
-#![tactic(auto)]
-
-ghost use Rattle.std.specs.Prelude.{◌≡◌, ◌<◌, ◌≤◌, ◌+◌, ◌^◌, [], ℕ, true, length, IfOk, IfSome};
+//! A trunk, for `benches/trunk`: THREADS COUNT CAPACITY, so many threads, at most 64, which send so many items each, with a ticket of its
+//! own, while the main thread takes them all. Its figures: the nanoseconds of the exchange, and a sum over what was taken.
+ghost use Rattle.std.specs.Prelude.{◌≡◌, ◌<◌, ◌≤◌, ◌+◌, ◌^◌, [], ℕ, true, length, IfSome};
 ghost use Rattle.mil_trunk.specs.Ends.{IsTicketOf, IsTakerOf, bounds_of, tags_of, sent};
 ghost use Rattle.mil_trunk.specs.Tags.{has, bound_of};
 
+use crate::watch::Watch;
+use crate::words::number;
 use mil_trunk::{Tagged, Tags, Taker, Ticket, Trunk, TrunkError};
-use std::env::Env;
-use std::rt::Clock;
 use std::sync::Wait;
-use std::thread::{Scope, Threads};
-use std::time::Instant;
-use std::{env, io, thread};
+use std::thread::{self, Scope, Threads};
 
 /// An item with its tag.
 #[derive(Clone, Copy)]
@@ -39,7 +36,7 @@ struct Load {
     capacity: u32,
 }
 
-// Offers an item until it is kept.
+/// Offers an item until it is kept.
 fn send<R: Wait>(rt: &R, trunk: &Trunk<Item>, ticket: &mut Ticket<Item>, item: Item)
     requires ticket { IsTicketOf trunk.now ticket.old }
     requires tag { has (tags_of ticket.old) item.tag ≡ true }
@@ -57,7 +54,7 @@ fn send<R: Wait>(rt: &R, trunk: &Trunk<Item>, ticket: &mut Ticket<Item>, item: I
     }
 }
 
-// Sends the items 1, 2, .. of a tag.
+/// Sends the items 1, 2, .. of a tag.
 fn send_all<R: Wait>(rt: &R, trunk: &Trunk<Item>, mut ticket: Ticket<Item>, tag: u8, count: u32)
     requires ticket { IsTicketOf trunk.now ticket × (sent ticket ≡ []) }
     requires tag { has (tags_of ticket) tag ≡ true }
@@ -68,7 +65,7 @@ fn send_all<R: Wait>(rt: &R, trunk: &Trunk<Item>, mut ticket: Ticket<Item>, tag:
     }
 }
 
-// Takes so many items, and adds up their numbers.
+/// Takes so many items, and adds up their numbers.
 fn take_all<R: Wait>(rt: &R, trunk: &Trunk<Item>, mut taker: Taker<Item>, wanted: u64) -> u64
     requires { IsTakerOf trunk.now taker }
 {
@@ -88,7 +85,7 @@ fn take_all<R: Wait>(rt: &R, trunk: &Trunk<Item>, mut taker: Taker<Item>, wanted
     unreachable!()
 }
 
-// Starts a thread for each of the tags from `tag` on. It says how many were started.
+/// Starts a thread for each of the tags from `tag` on. It says how many were started.
 fn start_all<'s, E, R: Wait + Sync>(
     scope: &Scope<'s, E>,
     rt: &'s R,
@@ -117,7 +114,7 @@ fn start_all<'s, E, R: Wait + Sync>(
     load.threads
 }
 
-// Sends and takes all, and adds up what was taken.
+/// Sends and takes all, and adds up what was taken.
 fn exchange<R: Wait + Threads + Sync>(
     rt: &R,
     trunk: &Trunk<Item>,
@@ -143,64 +140,43 @@ fn exchange<R: Wait + Threads + Sync>(
     )
 }
 
-// The nanoseconds that an exchange took, and what was taken, added up.
-fn timed<R: Wait + Threads + Sync + Clock + AllocGlobal>(
-    rt: &R,
-    load: Load,
-) -> io::Result<Option<(u64, u64)>>
+/// The figures of a load; None where memory is refused.
+fn timed<T: Threads + Wait + Sync>(threads: &T, watch: &Watch<'_>, load: Load) -> Option<[u64; 2]>
     requires { (load.threads ≤ 64) × (load.count < 2 ^ 32) }
 {
     let made: Result<(Trunk<Item>, _, _), TrunkError> = Trunk::make(
-        rt.alloc(),
+        watch.rt.alloc(),
         load.capacity,
         &[BOUND; 64],
     );
     let Ok((trunk, ticket, taker)) = made else {
-        return Ok(None);
+        return None;
     };
-    let start = Instant::now(rt)?;
-    let sum = exchange(rt, &trunk, ticket, taker, load);
-    let time = start.elapsed(rt)?;
-    let nanos = time
-        .as_secs()
-        .saturating_mul(1_000_000_000)
-        .saturating_add(u64::from(time.subsec_nanos()));
-    Ok(Some((nanos, sum)))
+    let start = watch.nanos();
+    let sum = exchange(threads, &trunk, ticket, taker, load);
+    Some([watch.since(start), sum])
 }
 
-// The arguments, where they are three numbers in range.
-fn read_load<R: Env + AllocGlobal>(rt: &R) -> io::Result<Option<Load>>
-    ensures { IfOk result (λ o. IfSome o (λ load. (load.threads ≤ 64) × (load.count < 2 ^ 32))) }
+/// The load that the words ask for; None where they are not three numbers in range.
+fn load_of(words: &[&str]) -> Option<Load>
+    ensures { IfSome result (λ load. (load.threads ≤ 64) × (load.count < 2 ^ 32)) }
 {
-    let mut words = env::args(rt)?.skip(1);
-    let (Some(threads), Some(count), Some(capacity)) = (words.next(), words.next(), words.next())
-    else {
-        return Ok(None);
+    let load = Load {
+        threads: u8::try_from(number(words, 0)?).ok()?,
+        count: u32::try_from(number(words, 1)?).ok()?,
+        capacity: u32::try_from(number(words, 2)?).ok()?,
     };
-    let (Ok(threads), Ok(count), Ok(capacity)) = (
-        threads.parse::<u8>(),
-        count.parse::<u32>(),
-        capacity.parse::<u32>(),
-    ) else {
-        return Ok(None);
-    };
-    if threads > 64 {
-        return Ok(None);
+    if load.threads > 64 {
+        return None;
     }
-    Ok(Some(Load {
-        threads,
-        count,
-        capacity,
-    }))
+    Some(load)
 }
 
-// With no arguments it does nothing, so that its run as a test is always the same.
-fn main(rt: HostRuntime) -> io::Result<()> {
-    let Some(load) = read_load(&rt)? else {
-        return Ok(());
-    };
-    match timed(&rt, load)? {
-        Some((nanos, sum)) => println!(rt; "{nanos} {sum}"),
-        None => Ok(()),
-    }
+/// What the words ask for; None where they do not say it, or memory is refused.
+pub(crate) fn measured<T: Threads + Wait + Sync>(
+    threads: &T,
+    watch: &Watch<'_>,
+    words: &[&str],
+) -> Option<[u64; 2]> {
+    timed(threads, watch, load_of(words)?)
 }
