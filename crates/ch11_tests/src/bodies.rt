@@ -1,9 +1,9 @@
 //! Bodies against the worked one of a message of five words.
 
-use crate::builders::short_message;
 use crate::equal::{are_bytes, same};
+use arrayvec::ArrayVec;
 use ch11_f1::body::messages;
-use ch11_f1::{BodyError, Messages, Seen, put_record};
+use ch11_f1::{BodyError, Seen, put_record};
 use mil_monitor::Record;
 use std::process::Abort;
 
@@ -12,65 +12,63 @@ const WORKED: [u8; 28] = [
     0x0A, 0x00, 0x23, 0x28, 0x01, 0x00, 0x02, 0x00, 0x03, 0x00, 0x00, 0x28,
 ];
 
-/// The worked body with one byte made another: the place, the byte, and its fault, if it has one.
-const CHANGED: &[(usize, u8, Option<BodyError>)] = &[
-    (0, 2, Some(BodyError::End)),
-    (0, 0, None),
-    (3, 0x80, None),
-    (16, 0x0B, Some(BodyError::Odd)),
-    (16, 0x0C, Some(BodyError::End)),
-    (16, 0x08, None),
-];
+/// The fault of a body, or that it has none.
+fn has_fault(rt: &impl Abort, body: &[u8], fault: Option<BodyError>) {
+    assert_eq!(rt; messages(body).err(), fault);
+}
 
 /// The fault of the worked body with one byte made another.
-fn fault_with(place: usize, byte: u8) -> Option<BodyError> {
+fn has_fault_with(rt: &impl Abort, place: usize, byte: u8, fault: Option<BodyError>) {
     let mut body = WORKED;
     if place < body.len() {
         body[place] = byte;
     }
-    messages(&body).err()
-}
-
-#[test]
-fn names_the_first_fault(rt: HostRuntime) {
-    same(&rt, &messages(&WORKED[..3]).err(), &Some(BodyError::Short));
-    same(&rt, &messages(&WORKED[..27]).err(), &Some(BodyError::End));
-    for (place, byte, fault) in CHANGED {
-        same(&rt, &fault_with(*place, *byte), fault);
-    }
+    has_fault(rt, &body, fault);
 }
 
 #[test]
 fn puts_the_worked_record(rt: HostRuntime) {
-    is_put(&rt, &short_message());
-}
-
-/// The record is put as it stands in the worked body, and nothing behind it.
-fn is_put(rt: &impl Abort, message: &Record) {
+    let mut words = ArrayVec::new();
+    for word in [0x2823, 1, 2, 3, 0x2800] {
+        assert!(rt; words.try_push(word).is_ok());
+    }
+    let message = Record {
+        stamp: 0,
+        block: 0,
+        gaps: 0x50,
+        words,
+    };
     let mut out = [0xFFu8; 96];
-    assert!(rt; message.words.len() == 5 && message.stamp == 0);
-    same(rt, &put_record(message, &mut out), &24);
-    are_bytes(rt, &out[..24], &WORKED[4..]);
-    are_bytes(rt, &out[24..28], &[0xFF; 4]);
+    assert!(rt; message.words.len() == 5);
+    same(&rt, &put_record(&message, &mut out), &24);
+    are_bytes(&rt, &out[..24], &WORKED[4..]);
+    are_bytes(&rt, &out[24..28], &[0xFF; 4]);
 }
 
 #[test]
 fn reads_the_worked_body(rt: HostRuntime) {
     let mut found = messages(&WORKED).ok().expect(&rt, "a body");
-    has_one(&rt, &mut found);
-}
-
-/// There is one message, and nothing behind it.
-fn has_one(rt: &impl Abort, found: &mut Messages<'_>) {
-    same(rt, &found.left(), &1);
-    is_worked(rt, found.next());
-    same(rt, &found.next().is_none(), &true);
-    same(rt, &found.next().is_none(), &true);
+    same(&rt, &found.left(), &1);
+    is_worked(&rt, found.next());
+    assert!(rt; found.next().is_none());
+    assert!(rt; found.next().is_none());
 }
 
 /// What is read of the worked body: stamp, block status, gaps and words.
 fn is_worked(rt: &impl Abort, seen: Option<Seen<'_>>) {
     let seen = seen.expect(rt, "a message");
-    same(rt, &(seen.stamp, seen.block, seen.gaps), &(0, 0, 0x50));
+    assert_eq!(rt; (seen.stamp, seen.block, seen.gaps), (0, 0, 0x50));
     are_bytes(rt, seen.words, &WORKED[18..]);
+}
+
+#[test]
+fn names_the_first_fault(rt: HostRuntime) {
+    has_fault(&rt, &WORKED[..3], Some(BodyError::Short));
+    has_fault(&rt, &WORKED[..27], Some(BodyError::End));
+    has_fault_with(&rt, 0, 2, Some(BodyError::End));
+    has_fault_with(&rt, 0, 0, None);
+    has_fault_with(&rt, 3, 0x80, None);
+    has_fault_with(&rt, 16, 0x0B, Some(BodyError::Odd));
+    has_fault_with(&rt, 16, 0x0C, Some(BodyError::End));
+    has_fault_with(&rt, 16, 0x08, None);
 }

@@ -1,7 +1,7 @@
 //! Packets of a channel, against worked bytes and at their limits.
 ghost use Rattle.std.specs.Prelude.{◌≡◌};
 
-use crate::equal::{are_bytes, is_printed, same};
+use crate::equal::{are_bytes, reads};
 use arrayvec::ArrayVec;
 use ch11_builder::{Builder, BuilderError, Pushed, run_gives_the_packets};
 use ch11_header::read_header;
@@ -18,7 +18,7 @@ const ONE_PACKET: [u8; 52] = [
 ];
 
 /// A message of five words.
-pub(crate) fn short_message() -> Record
+fn short_message() -> Record
     ensures { result.stamp ≡ 0 }
 {
     let mut words = ArrayVec::new();
@@ -35,25 +35,16 @@ pub(crate) fn short_message() -> Record
     }
 }
 
-/// A builder that holds the short message.
-fn with_message(alloc: Global) -> Option<Builder> {
-    let mut builder = Builder::make(alloc, 1, 6, 4096).ok()?;
-    match builder.push(1, &short_message()) {
-        Pushed::Kept => Some(builder),
-        Pushed::Closed(_) => None,
-    }
-}
-
 #[test]
 fn one_message(rt: HostRuntime) {
-    let mut builder = with_message(rt.alloc()).expect(&rt, "a builder");
-    closes(&rt, &mut builder);
-}
-
-/// A builder closes the packet of the short message, and has no other.
-fn closes(rt: &impl Abort, builder: &mut Builder) {
-    are_bytes(rt, builder.close().expect(rt, "a packet"), &ONE_PACKET);
-    same(rt, &builder.close().is_none(), &true);
+    let made = Builder::make(rt.alloc(), 1, 6, 4096);
+    let mut builder = made.ok().expect(&rt, "a builder");
+    let kept = matches!(builder.push(1, &short_message()), Pushed::Kept);
+    assert!(rt; kept);
+    let bytes = builder.close().expect(&rt, "a packet");
+    are_bytes(&rt, bytes, &ONE_PACKET);
+    let none = builder.close().is_none();
+    assert!(rt; none);
 }
 
 /// A message of 36 words.
@@ -72,11 +63,8 @@ fn long_message(stamp: u64) -> Record
     }
 }
 
-/// Length, data length, sequence and flags of a packet.
-type Shape = (usize, u32, u8, u8);
-
-/// The shape of a packet: none where its header can't be read.
-fn shape_of(packet: &[u8]) -> Option<Shape> {
+/// Length, data length, sequence and flags of a packet: none where its header can't be read.
+fn shape_of(packet: &[u8]) -> Option<(usize, u32, u8, u8)> {
     let header = read_header(packet).ok()?;
     Some((
         packet.len(),
@@ -86,82 +74,90 @@ fn shape_of(packet: &[u8]) -> Option<Shape> {
     ))
 }
 
-/// The shape of the packet that a push closed, if any.
-fn closed_shape(pushed: Pushed<'_>) -> Option<Shape> {
+/// The shape of the packet that a push closed.
+fn closed_shape(pushed: Pushed<'_>) -> Option<(usize, u32, u8, u8)> {
     match pushed {
         Pushed::Kept => None,
         Pushed::Closed(packet) => shape_of(packet),
     }
 }
 
-/// The shape of the last packet of a builder.
-fn last_shape(builder: &mut Builder) -> Option<Shape> {
-    shape_of(builder.close()?)
+/// The shape of the packet that a push closed, if any.
+fn has_closed(
+    rt: &impl Abort,
+    shape: Option<(usize, u32, u8, u8)>,
+    wanted: Option<(usize, u32, u8, u8)>,
+) {
+    assert_eq!(rt; shape, wanted);
 }
 
-/// Five messages a millisecond apart, in packets of at most 256 bytes: what each closes, and the last packet.
-fn five_messages(alloc: Global) -> Option<([Option<Shape>; 5], Option<Shape>)> {
-    run_gives_the_packets();
-    let mut builder = Builder::make(alloc, 1, 6, 256).ok()?;
-    let closed = [
-        closed_shape(builder.push(1, &long_message(0))),
-        closed_shape(builder.push(2, &long_message(10_000))),
-        closed_shape(builder.push(3, &long_message(20_000))),
-        closed_shape(builder.push(4, &long_message(30_000))),
-        closed_shape(builder.push(5, &long_message(40_000))),
-    ];
-    Some((closed, last_shape(&mut builder)))
+/// The last packet of a builder.
+fn ends_with(rt: &impl Abort, builder: &mut Builder, wanted: (usize, u32, u8, u8)) {
+    let packet = builder.close().expect(rt, "a packet");
+    has_closed(rt, shape_of(packet), Some(wanted));
 }
 
 #[test]
 fn packets_end_at_their_limit(rt: HostRuntime) {
-    let closed = [
-        None,
-        None,
-        Some((200, 176, 0, 0)),
-        None,
-        Some((200, 176, 1, 0)),
-    ];
-    let wanted = (closed, Some((116, 90, 2, 0)));
-    same(&rt, &five_messages(rt.alloc()), &Some(wanted));
+    run_gives_the_packets();
+    let made = Builder::make(rt.alloc(), 1, 6, 256);
+    let mut builder = made.ok().expect(&rt, "a builder");
+    let first = closed_shape(builder.push(1, &long_message(0)));
+    has_closed(&rt, first, None);
+    let second = closed_shape(builder.push(2, &long_message(10_000)));
+    has_closed(&rt, second, None);
+    let third = closed_shape(builder.push(3, &long_message(20_000)));
+    has_closed(&rt, third, Some((200, 176, 0, 0)));
+    let fourth = closed_shape(builder.push(4, &long_message(30_000)));
+    has_closed(&rt, fourth, None);
+    let fifth = closed_shape(builder.push(5, &long_message(40_000)));
+    has_closed(&rt, fifth, Some((200, 176, 1, 0)));
+    ends_with(&rt, &mut builder, (116, 90, 2, 0));
 }
 
-/// A message at 0 and one so much later: what each closes, and the last packet.
-fn two_messages(alloc: Global, later: u32) -> Option<([Option<Shape>; 2], Option<Shape>)> {
+/// A message at 0 and one so much later: what the second closes, and the last packet.
+fn are_packed(
+    rt: &impl Abort,
+    alloc: Global,
+    later: u32,
+    wanted: Option<(usize, u32, u8, u8)>,
+    last: (usize, u32, u8, u8),
+) {
     run_gives_the_packets();
-    let mut builder = Builder::make(alloc, 1, 6, 256).ok()?;
-    let closed = [
-        closed_shape(builder.push(1, &long_message(0))),
-        closed_shape(builder.push(2, &long_message(u64::from(later)))),
-    ];
-    Some((closed, last_shape(&mut builder)))
+    let made = Builder::make(alloc, 1, 6, 256);
+    let mut builder = made.ok().expect(rt, "a builder");
+    let first = closed_shape(builder.push(1, &long_message(0)));
+    has_closed(rt, first, None);
+    let second = closed_shape(builder.push(2, &long_message(u64::from(later))));
+    has_closed(rt, second, wanted);
+    ends_with(rt, &mut builder, last);
 }
 
 #[test]
 fn packets_span_less_than_a_tenth_of_a_second(rt: HostRuntime) {
-    let wanted = ([None, None], Some((200, 176, 0, 0)));
-    same(&rt, &two_messages(rt.alloc(), 999_999), &Some(wanted));
-    let wanted = ([None, Some((116, 90, 0, 0))], Some((116, 90, 1, 0)));
-    same(&rt, &two_messages(rt.alloc(), 1_000_000), &Some(wanted));
+    are_packed(&rt, rt.alloc(), 999_999, None, (200, 176, 0, 0));
+    let closed = Some((116, 90, 0, 0));
+    are_packed(&rt, rt.alloc(), 1_000_000, closed, (116, 90, 1, 0));
 }
 
-/// Limits, and why they are refused.
-const LIMITS: &[(u32, Option<BuilderError>)] = &[
-    (255, Some(BuilderError::Limit)),
-    (524_289, Some(BuilderError::Limit)),
-    (524_288, None),
-];
-
-/// Why a limit is refused.
-fn refusal_of(alloc: Global, limit: u32) -> Option<BuilderError> {
-    Builder::make(alloc, 1, 6, limit).err()
+/// A limit outside its range is refused.
+fn is_no_limit(rt: &impl Abort, alloc: Global, limit: u32) {
+    let fault = Builder::make(alloc, 1, 6, limit).err();
+    assert_eq!(rt; fault, Some(BuilderError::Limit));
 }
 
 #[test]
 fn limits_outside_their_range(rt: HostRuntime) {
-    for (limit, refusal) in LIMITS {
-        same(&rt, &refusal_of(rt.alloc(), *limit), refusal);
-    }
-    is_printed(&rt, rt.alloc(), &BuilderError::Limit, "G1");
-    is_printed(&rt, rt.alloc(), &BuilderError::Memory, "G2");
+    is_no_limit(&rt, rt.alloc(), 255);
+    is_no_limit(&rt, rt.alloc(), 524_289);
+    let longest = Builder::make(rt.alloc(), 1, 6, 524_288).is_ok();
+    assert!(rt; longest);
+    prints(&rt, rt.alloc(), BuilderError::Limit, "G1");
+    prints(&rt, rt.alloc(), BuilderError::Memory, "G2");
+}
+
+/// A refusal is printed as this text.
+fn prints(rt: &impl Abort, alloc: Global, refusal: BuilderError, text: &str) {
+    let printed = format!(in alloc; "{refusal}").expect(rt, "memory");
+    reads(rt, printed.as_str(), text);
 }

@@ -1,6 +1,6 @@
 //! Dumps against the worked one.
 
-use crate::equal::{add, are_bytes, is_printed, same};
+use crate::equal::{are_bytes, reads, same};
 use crate::readers::FOREIGN;
 use bench_dump::{DumpFault, dump, read_all};
 use std::alloc::Global;
@@ -49,14 +49,15 @@ fn prints_nothing_of_a_refused_file(rt: HostRuntime) {
     let mut file = FOREIGN;
     file[32] = 0;
     let fault = refused(&rt, rt.alloc(), &file).expect(&rt, "a fault");
-    is_printed(&rt, rt.alloc(), &fault, "K2 offset 32");
+    let text = fault.to_string(rt.alloc()).expect(&rt, "memory");
+    reads(&rt, text.as_str(), "K2 offset 32");
 }
 
 /// The fault of a file of which nothing is printed.
 fn refused(rt: &impl Abort, alloc: Global, file: &[u8]) -> Option<DumpFault> {
     let mut out = Vec::new(alloc);
     let answer = dump(alloc, file, &mut out, false);
-    same(rt, &out.len(), &0);
+    assert!(rt; out.is_empty());
     answer.err()
 }
 
@@ -77,7 +78,7 @@ fn is_read_whole(rt: &impl Abort, alloc: Global, file: &[u8]) {
 fn reads_a_long_file_whole(rt: HostRuntime) {
     let mut file = Vec::new(rt.alloc());
     for number in 0..200_000u32 {
-        add(&rt, &mut file, &[(number % 251) as u8]);
+        file.push((number % 251) as u8).expect(&rt, "memory");
     }
     is_read_whole(&rt, rt.alloc(), &file);
 }

@@ -1,10 +1,10 @@
 //! Recordings against worked files, cut and changed, and a long one of all data types.
 
-use crate::equal::{add, are_bytes, same};
+use crate::equal::{are_bytes, same};
 use ch11_f1::BodyError;
 use ch11_header::{Header, HeaderError, write_header};
 use ch11_reader::{Fault, Index, ReadError, Refusal};
-use std::alloc::Global;
+use std::alloc::{AllocError, Global};
 use std::process::Abort;
 
 /// A packet of 52 bytes on channel 1 with a message of five words.
@@ -51,15 +51,17 @@ fn at_start(fault: Fault) -> Result<u64, ReadError> {
 fn is_packet(rt: &impl Abort, index: &Index<'_>, place: usize, wanted: (usize, u16, u8, u8, u64)) {
     let packet = index.packets().get(place).expect(rt, "a packet");
     let header = packet.header;
-    let found = (
-        packet.offset,
-        header.channel,
-        header.kind,
-        header.flags,
-        packet.count,
+    assert_eq!(rt;
+        (
+            packet.offset,
+            header.channel,
+            header.kind,
+            header.flags,
+            packet.count
+        ),
+        wanted
     );
-    same(rt, &found, &wanted);
-    same(rt, &packet.sequence_jump, &false);
+    assert!(rt; !packet.sequence_jump);
 }
 
 /// The words of a message, by its number.
@@ -114,7 +116,7 @@ fn is_the_foreign_file(rt: &impl Abort, index: &Index<'_>) {
 
 /// The answer to a file.
 fn is_answered(rt: &impl Abort, alloc: Global, file: &[u8], wanted: Result<u64, ReadError>) {
-    same(rt, &answer(alloc, file), &wanted);
+    assert_eq!(rt; answer(alloc, file), wanted);
 }
 
 #[test]
@@ -159,7 +161,7 @@ fn names_the_fault_of_a_later_packet(rt: HostRuntime) {
 }
 
 /// A packet of channel 7 with a kind and a sequence number, and a message's body.
-fn add_packet(rt: &impl Abort, file: &mut Vec<u8>, kind: u8, sequence: u8) {
+fn add_packet(file: &mut Vec<u8>, kind: u8, sequence: u8) -> Result<(), AllocError> {
     let header = Header {
         channel: 7,
         packet_length: 52,
@@ -170,8 +172,8 @@ fn add_packet(rt: &impl Abort, file: &mut Vec<u8>, kind: u8, sequence: u8) {
         kind,
         counter: 0,
     };
-    add(rt, file, &write_header(&header));
-    add(rt, file, &ONE_MESSAGE[24..]);
+    file.extend_from_slice(&write_header(&header))?;
+    file.extend_from_slice(&ONE_MESSAGE[24..])
 }
 
 /// Ten thousand packets, of which each has the next kind and sequence number, but the last one the number 0.
@@ -180,7 +182,7 @@ fn long_file(rt: &impl Abort, alloc: Global) -> Vec<u8> {
     for number in 0..10000u32 {
         let kind = (number % 256) as u8;
         let sequence = if number == 9999 { 0 } else { kind };
-        add_packet(rt, &mut file, kind, sequence);
+        add_packet(&mut file, kind, sequence).expect(rt, "memory");
     }
     file
 }

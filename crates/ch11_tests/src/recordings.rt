@@ -1,5 +1,5 @@
 //! Recordings of several channels, as their packets close, and sinks that fail.
-ghost use Rattle.std.specs.Prelude.{◌≡◌, ◌≤◌, false};
+ghost use Rattle.std.specs.Prelude.{◌≡◌};
 
 use crate::equal::{are_bytes, same};
 use crate::readers::built;
@@ -56,105 +56,68 @@ fn has_four_messages(rt: &impl Abort, index: &Index<'_>) {
     same(rt, &seen.stamp, &2720);
 }
 
-/// What the recorder of two channels left.
-#[derive(Drop)]
-struct Told {
-    sink: MemorySink,
-    /// Whether each call was answered by yes.
-    begun: [bool; 4],
-    kept: [bool; 3],
-    ended: bool,
-    /// How many packets it had counted before the first channel ended, and in the end.
-    packets: (u64, u64),
-    end: Result<(), WriteFault>,
+/// What a recorder answers.
+fn are(rt: &impl Abort, answers: &[bool], wanted: &[bool]) {
+    assert_eq!(rt; answers, wanted);
 }
 
-/// The second channel has its one message and ends, and the first has two.
-fn begin(recorder: &mut Recorder<MemorySink>) -> [bool; 4]
-    requires unfinished { recorder.old.writing.finished ≡ false }
-    requires none { recorder.old.writing.taken ≡ 0 }
-    ensures unfinished { recorder.new.writing.finished ≡ false }
-    ensures few { recorder.new.writing.taken ≤ 2097152 }
-{
-    [
+/// How many packets a sink took whole.
+fn is_count(rt: &impl Abort, packets: u64, wanted: u64) {
+    assert_eq!(rt; packets, wanted);
+}
+
+/// The sink of two channels: a number that does not rise and a channel that is not there are refused.
+fn two_channels(rt: &impl Abort, alloc: Global) -> MemorySink {
+    let sink = MemorySink::make(alloc);
+    let mut recorder = Recorder::make(alloc, 6, 4096, &[1, 2], sink)
+        .ok()
+        .expect(rt, "a recorder");
+    let answers = [
         recorder.keep(1, 1, &received(0)),
         recorder.end(1),
         recorder.keep(0, 1, &received(0)),
         recorder.keep(0, 2, &received(680)),
-    ]
-}
-
-/// Two channels take turns.
-fn two_channels(alloc: Global) -> Option<Told> {
-    let sink = MemorySink::make(alloc);
-    let mut recorder = Recorder::make(alloc, 6, 4096, &[1, 2], sink).ok()?;
-    let begun = begin(&mut recorder);
-    let kept = [
-        recorder.keep(0, 2, &received(2000)),
-        recorder.keep(2, 3, &received(2000)),
-        recorder.keep(0, 5, &received(2720)),
     ];
-    let before = recorder.packets();
+    are(rt, &answers, &[true, true, true, true]);
+    let again = recorder.keep(0, 2, &received(2000));
+    assert!(rt; !again);
+    let nowhere = recorder.keep(2, 3, &received(2000));
+    assert!(rt; !nowhere);
+    let kept = recorder.keep(0, 5, &received(2720));
+    assert!(rt; kept);
+    is_count(rt, recorder.packets(), 1);
     let ended = recorder.end(0);
-    let end = recorder.finish();
-    let packets = (before, recorder.packets());
-    Some(Told {
-        sink: recorder.into_sink(),
-        begun,
-        kept,
-        ended,
-        packets,
-        end,
-    })
-}
-
-/// A number that does not rise and a channel that is not there are refused, and all else is kept.
-fn is_told(rt: &impl Abort, told: &Told) {
-    same(rt, &told.begun, &[true, true, true, true]);
-    same(rt, &told.kept, &[false, false, true]);
-    same(rt, &told.ended, &true);
-    same(rt, &told.end, &Ok(()));
-    same(rt, &told.packets, &(1, 2));
-    has_two_packets(rt, told.sink.bytes());
+    assert!(rt; ended);
+    let finished = recorder.finish().is_ok();
+    assert!(rt; finished);
+    is_count(rt, recorder.packets(), 2);
+    recorder.into_sink()
 }
 
 #[test]
 fn packets_stand_as_they_close(rt: HostRuntime) {
-    let told = two_channels(rt.alloc()).expect(&rt, "a recorder");
-    is_told(&rt, &told);
-    has_four_messages(&rt, &built(&rt, rt.alloc(), told.sink.bytes()));
-}
-
-/// A prologue of three bytes, and no message.
-fn prologue_alone(alloc: Global) -> Option<(bool, Result<(), WriteFault>, u64, MemorySink)> {
-    let sink = MemorySink::make(alloc);
-    let mut recorder = Recorder::make(alloc, 6, 4096, &[1], sink).ok()?;
-    recorder.prologue(&[7, 8, 9]);
-    let ended = recorder.end(0);
-    let end = recorder.finish();
-    let packets = recorder.packets();
-    Some((ended, end, packets, recorder.into_sink()))
+    let sink = two_channels(&rt, rt.alloc());
+    has_two_packets(&rt, sink.bytes());
+    has_four_messages(&rt, &built(&rt, rt.alloc(), sink.bytes()));
 }
 
 #[test]
 fn a_prologue_stands_first(rt: HostRuntime) {
-    let left = prologue_alone(rt.alloc()).expect(&rt, "a recorder");
-    same(&rt, &(left.0, left.1, left.2), &(true, Ok(()), 0));
-    are_bytes(&rt, left.3.bytes(), &[7, 8, 9]);
+    let sink = MemorySink::make(rt.alloc());
+    let mut recorder = Recorder::make(rt.alloc(), 6, 4096, &[1], sink)
+        .ok()
+        .expect(&rt, "a recorder");
+    recorder.prologue(&[7, 8, 9]);
+    let ended = recorder.end(0);
+    assert!(rt; ended);
+    is_end(&rt, recorder.finish(), Ok(()));
+    is_count(&rt, recorder.packets(), 0);
+    are_bytes(&rt, recorder.into_sink().bytes(), &[7, 8, 9]);
 }
 
-/// What a recording of one message leaves in a sink of so many bytes: the answers, the end, how many packets it counted, and how many
-/// bytes are in the sink.
-fn left_in_fuse(
-    alloc: Global,
-    room: usize,
-) -> Option<([bool; 2], Result<(), WriteFault>, u64, usize)> {
-    let sink = FuseSink::make(alloc, room);
-    let mut recorder = Recorder::make(alloc, 6, 4096, &[1], sink).ok()?;
-    let answers = [recorder.keep(0, 1, &received(0)), recorder.end(0)];
-    let end = recorder.finish();
-    let packets = recorder.packets();
-    Some((answers, end, packets, recorder.into_sink().bytes().len()))
+/// How a recording of one message ends.
+fn is_end(rt: &impl Abort, end: Result<(), WriteFault>, wanted: Result<(), WriteFault>) {
+    assert_eq!(rt; end, wanted);
 }
 
 /// One message and its end are kept in a sink of so many bytes: how the recording ends, and how many packets it has.
@@ -162,11 +125,18 @@ fn ends_in_fuse(
     rt: &impl Abort,
     alloc: Global,
     room: usize,
-    end: Result<(), WriteFault>,
+    wanted: Result<(), WriteFault>,
     packets: u64,
 ) {
-    let wanted = ([true, true], end, packets, room);
-    same(rt, &left_in_fuse(alloc, room), &Some(wanted));
+    let sink = FuseSink::make(alloc, room);
+    let mut recorder = Recorder::make(alloc, 6, 4096, &[1], sink)
+        .ok()
+        .expect(rt, "a recorder");
+    let answers = [recorder.keep(0, 1, &received(0)), recorder.end(0)];
+    are(rt, &answers, &[true, true]);
+    is_end(rt, recorder.finish(), wanted);
+    is_count(rt, recorder.packets(), packets);
+    same(rt, &recorder.into_sink().bytes().len(), &room);
 }
 
 #[test]
@@ -178,29 +148,30 @@ fn a_failing_sink_keeps_what_it_took(rt: HostRuntime) {
     ends_in_fuse(&rt, rt.alloc(), 48, Ok(()), 1);
 }
 
-/// A prologue of three bytes and one message in a sink of so many bytes: the answers, and how many packets are counted.
-fn counted_in_fuse(alloc: Global, room: usize) -> Option<([bool; 2], u64)> {
+/// A prologue of three bytes and one message are kept in a sink of so many bytes.
+fn counts_in_fuse(rt: &impl Abort, alloc: Global, room: usize, packets: u64) {
     let sink = FuseSink::make(alloc, room);
-    let mut recorder = Recorder::make(alloc, 6, 4096, &[1], sink).ok()?;
+    let mut recorder = Recorder::make(alloc, 6, 4096, &[1], sink)
+        .ok()
+        .expect(rt, "a recorder");
     recorder.prologue(&[7, 8, 9]);
     let answers = [recorder.keep(0, 1, &received(0)), recorder.end(0)];
-    Some((answers, recorder.packets()))
+    are(rt, &answers, &[true, true]);
+    is_count(rt, recorder.packets(), packets);
 }
 
 #[test]
 fn a_prologue_is_no_packet_of_the_count(rt: HostRuntime) {
     for room in 0..51usize {
-        let wanted = Some(([true, true], 0));
-        same(&rt, &counted_in_fuse(rt.alloc(), room), &wanted);
+        counts_in_fuse(&rt, rt.alloc(), room, 0);
     }
-    let wanted = Some(([true, true], 1));
-    same(&rt, &counted_in_fuse(rt.alloc(), 51), &wanted);
+    counts_in_fuse(&rt, rt.alloc(), 51, 1);
 }
 
 #[test]
 fn a_limit_out_of_range_hands_the_sink_back(rt: HostRuntime) {
-    let wanted = Some((BuilderError::Limit, 0));
-    same(&rt, &limit_refused(rt.alloc()), &wanted);
+    let refused = limit_refused(rt.alloc());
+    assert_eq!(rt; refused, Some((BuilderError::Limit, 0)));
 }
 
 /// Why a limit of 255 is refused, and how many bytes are in the sink that comes back.

@@ -1,12 +1,12 @@
 //! Damaged recordings, read both ways: by the reading that stops at the first fault, and by the one that skips.
 
 use crate::dumps::{dumped, prints};
-use crate::equal::{add, are_bytes, same};
+use crate::equal::{are_bytes, same};
 use crate::readers::{FOREIGN, ONE_MESSAGE, words_of};
 use ch11_f1::BodyError;
 use ch11_header::{Header, HeaderError, write_header};
 use ch11_reader::{Fault, Index, ReadError, Refusal, Skip, SkippingIndex};
-use std::alloc::Global;
+use std::alloc::{AllocError, Global};
 use std::process::Abort;
 
 /// The skipping reading of a file.
@@ -36,14 +36,23 @@ fn is_read_alike(rt: &impl Abort, alloc: Global, file: &[u8]) -> bool {
 }
 
 /// What the skipping reading of a file gives: how many packets and messages, and the skips.
-fn is_found(rt: &impl Abort, alloc: Global, file: &[u8], counts: (usize, u64), skips: &[Skip]) {
-    has(rt, &skipping(rt, alloc, file), counts, skips);
+fn is_found(
+    rt: &impl Abort,
+    alloc: Global,
+    file: &[u8],
+    packets: usize,
+    messages: u64,
+    skips: &[Skip],
+) {
+    let found = skipping(rt, alloc, file);
+    same(rt, &found.index.packets().len(), &packets);
+    same(rt, &found.index.total(), &messages);
+    are_skips(rt, found.skipped(), skips);
 }
 
-fn has(rt: &impl Abort, found: &SkippingIndex<'_>, counts: (usize, u64), skips: &[Skip]) {
-    let read = (found.index.packets().len(), found.index.total());
-    same(rt, &read, &counts);
-    assert_eq!(rt; found.skipped(), skips);
+/// The skips are these.
+fn are_skips(rt: &impl Abort, skips: &[Skip], wanted: &[Skip]) {
+    assert_eq!(rt; skips, wanted);
 }
 
 /// What the skipping reading of a file gives where it skips once: how many packets and messages, and the skip.
@@ -61,7 +70,7 @@ fn is_one_skip(
         length,
         fault,
     };
-    is_found(rt, alloc, file, counts, &[skip]);
+    is_found(rt, alloc, file, counts.0, counts.1, &[skip]);
 }
 
 /// The reading that stops at the first fault stops there.
@@ -75,9 +84,9 @@ fn stops_at(rt: &impl Abort, alloc: Global, file: &[u8], offset: usize, fault: F
 
 /// A file that is one packet: its messages, or its fault, by both readings.
 fn is_one(rt: &impl Abort, alloc: Global, file: &[u8], wanted: Result<u64, Fault>) {
-    same(rt, &is_read_alike(rt, alloc, file), &true);
+    assert!(rt; is_read_alike(rt, alloc, file));
     match wanted {
-        Ok(messages) => is_found(rt, alloc, file, (1, messages), &[]),
+        Ok(messages) => is_found(rt, alloc, file, 1, messages, &[]),
         Err(fault) => is_one_skip(rt, alloc, file, (0, 0), 0, file.len(), fault),
     }
 }
@@ -94,61 +103,65 @@ fn changed(first: usize, byte: u8, second: usize, other: u8) -> [u8; 52] {
     file
 }
 
-/// The worked packet with two of its bytes made others, of which place 52 is none: its messages, or its fault.
-const CHANGED: &[(usize, u8, usize, u8, Result<u64, Fault>)] = &[
-    (27, 0x80, 52, 0, Ok(1)),
-    (27, 0x4F, 52, 0, Ok(1)),
-    (24, 0x00, 52, 0, Ok(0)),
-    (24, 0x02, 52, 0, Err(Fault::Body(BodyError::End))),
-    (40, 0x0B, 52, 0, Err(Fault::Body(BodyError::Odd))),
-    (40, 0x0C, 52, 0, Err(Fault::Body(BodyError::End))),
-    (40, 0x08, 52, 0, Ok(1)),
-    (8, 0x02, 22, 0x62, Err(Fault::Body(BodyError::Short))),
-    (
-        4,
-        0x35,
-        22,
-        0x7D,
-        Err(Fault::Header(HeaderError::PacketLength)),
-    ),
-    (
-        8,
-        0x1D,
-        22,
-        0x7D,
-        Err(Fault::Header(HeaderError::DataLength)),
-    ),
-];
+/// The worked packet with one of its bytes made another: its messages, or its fault.
+fn is_changed(rt: &impl Abort, alloc: Global, place: usize, byte: u8, wanted: Result<u64, Fault>) {
+    is_one(rt, alloc, &changed(place, byte, 52, 0), wanted);
+}
 
 #[test]
-fn reads_the_rows_of_bodies_and_headers_both_ways(rt: HostRuntime) {
-    for (first, byte, second, other, wanted) in CHANGED {
-        let file = changed(*first, *byte, *second, *other);
-        is_one(&rt, rt.alloc(), &file, *wanted);
-    }
+fn reads_the_rows_of_bodies_both_ways(rt: HostRuntime) {
+    is_changed(&rt, rt.alloc(), 27, 0x80, Ok(1));
+    is_changed(&rt, rt.alloc(), 27, 0x4F, Ok(1));
+    is_changed(&rt, rt.alloc(), 24, 0x00, Ok(0));
+    is_changed(&rt, rt.alloc(), 24, 0x02, Err(Fault::Body(BodyError::End)));
+    is_changed(&rt, rt.alloc(), 40, 0x0B, Err(Fault::Body(BodyError::Odd)));
+    is_changed(&rt, rt.alloc(), 40, 0x0C, Err(Fault::Body(BodyError::End)));
+    is_changed(&rt, rt.alloc(), 40, 0x08, Ok(1));
+}
+
+#[test]
+fn reads_the_rows_of_headers_both_ways(rt: HostRuntime) {
+    is_one(
+        &rt,
+        rt.alloc(),
+        &changed(8, 0x02, 22, 0x62),
+        Err(Fault::Body(BodyError::Short)),
+    );
+    is_one(
+        &rt,
+        rt.alloc(),
+        &changed(4, 0x35, 22, 0x7D),
+        Err(Fault::Header(HeaderError::PacketLength)),
+    );
+    is_one(
+        &rt,
+        rt.alloc(),
+        &changed(8, 0x1D, 22, 0x7D),
+        Err(Fault::Header(HeaderError::DataLength)),
+    );
 }
 
 /// The words of the one message that is left where its length says 8 bytes.
 #[test]
 fn reads_a_message_without_its_status(rt: HostRuntime) {
-    has_eight_bytes(&rt, &skipping(&rt, rt.alloc(), &changed(40, 0x08, 52, 0)));
-}
-
-fn has_eight_bytes(rt: &impl Abort, found: &SkippingIndex<'_>) {
-    same(rt, &words_of(&found.index, 1), &Some(&ONE_MESSAGE[42..50]));
+    let file = changed(40, 0x08, 52, 0);
+    let found = skipping(&rt, rt.alloc(), &file);
+    same(&rt, &words_of(&found.index, 1), &Some(&ONE_MESSAGE[42..50]));
 }
 
 /// A file of two parts.
-fn joined(rt: &impl Abort, alloc: Global, first: &[u8], second: &[u8]) -> Vec<u8> {
+fn joined(alloc: Global, first: &[u8], second: &[u8]) -> Result<Vec<u8>, AllocError> {
     let mut file = Vec::new(alloc);
-    add(rt, &mut file, first);
-    add(rt, &mut file, second);
-    file
+    file.extend_from_slice(first)?;
+    file.extend_from_slice(second)?;
+    Ok(file)
 }
 
 #[test]
 fn skips_the_bytes_behind_a_packet(rt: HostRuntime) {
-    let file = joined(&rt, rt.alloc(), &ONE_MESSAGE, &[0, 0, 0]);
+    let file = joined(rt.alloc(), &ONE_MESSAGE, &[0, 0, 0])
+        .ok()
+        .expect(&rt, "memory");
     let fault = Fault::Header(HeaderError::Short);
     stops_at(&rt, rt.alloc(), &file, 52, fault);
     is_one_skip(&rt, rt.alloc(), &file, (1, 1), 52, 3, fault);
@@ -156,7 +169,9 @@ fn skips_the_bytes_behind_a_packet(rt: HostRuntime) {
 
 #[test]
 fn skips_a_packet_in_front_of_another(rt: HostRuntime) {
-    let file = joined(&rt, rt.alloc(), &changed(22, 0x7D, 52, 0), &ONE_MESSAGE);
+    let file = joined(rt.alloc(), &changed(22, 0x7D, 52, 0), &ONE_MESSAGE)
+        .ok()
+        .expect(&rt, "memory");
     let fault = Fault::Header(HeaderError::Checksum);
     stops_at(&rt, rt.alloc(), &file, 0, fault);
     is_one_skip(&rt, rt.alloc(), &file, (1, 1), 0, 52, fault);
@@ -171,7 +186,7 @@ message 1 channel 1 stamp 0 block 0000 gaps 0050 words 2823 0001 0002 0003 2800
 #[test]
 fn reads_the_foreign_file_damaged(rt: HostRuntime) {
     let mut file = FOREIGN;
-    is_found(&rt, rt.alloc(), &file, (2, 1), &[]);
+    is_found(&rt, rt.alloc(), &file, 2, 1, &[]);
     file[32] = 0;
     let fault = Fault::Header(HeaderError::Sync);
     is_one_skip(&rt, rt.alloc(), &file, (1, 0), 32, 64, fault);
@@ -190,11 +205,7 @@ fn prints_a_sound_file_alike(rt: HostRuntime) {
 #[test]
 fn reads_each_prefix_of_the_foreign_file_both_ways(rt: HostRuntime) {
     for length in 0..97 {
-        same(
-            &rt,
-            &is_read_alike(&rt, rt.alloc(), &FOREIGN[..length]),
-            &true,
-        );
+        assert!(rt; is_read_alike(&rt, rt.alloc(), &FOREIGN[..length]));
     }
 }
 
@@ -206,7 +217,7 @@ fn changes_are_read_alike(rt: &impl Abort, alloc: Global, from: usize, to: usize
             if let Some(byte) = file.get_mut(place) {
                 *byte ^= change;
             }
-            same(rt, &is_read_alike(rt, alloc, &file), &true);
+            assert!(rt; is_read_alike(rt, alloc, &file));
         }
     }
 }
@@ -232,7 +243,7 @@ fn reads_each_change_of_the_second_body_both_ways(rt: HostRuntime) {
 }
 
 /// Thirty packets of 52 bytes on three channels in turn.
-fn three_channels(rt: &impl Abort, alloc: Global) -> Vec<u8> {
+fn three_channels(alloc: Global) -> Result<Vec<u8>, AllocError> {
     let mut file = Vec::new(alloc);
     for number in 0..30u8 {
         let header = Header {
@@ -245,10 +256,10 @@ fn three_channels(rt: &impl Abort, alloc: Global) -> Vec<u8> {
             kind: 0x19,
             counter: 680 * number as u64,
         };
-        add(rt, &mut file, &write_header(&header));
-        add(rt, &mut file, &ONE_MESSAGE[24..]);
+        file.extend_from_slice(&write_header(&header))?;
+        file.extend_from_slice(&ONE_MESSAGE[24..])?;
     }
-    file
+    Ok(file)
 }
 
 /// The next number of a row of numbers that look random.
@@ -296,42 +307,22 @@ fn untouched_read(found: &SkippingIndex<'_>, start: usize, end: usize) -> usize 
 
 /// Whether a damaged copy of the file is read alike both ways up to its first fault, and gives all packets that were not touched.
 fn is_salvaged(rt: &impl Abort, alloc: Global, file: &[u8], start: usize, end: usize) -> bool {
-    let refusal = refusal_of(alloc, file);
-    gives_the_rest(&skipping(rt, alloc, file), refusal, start, end)
-}
-
-/// What a reading that skips found stops first at this refusal, and has all packets that were not touched.
-fn gives_the_rest(
-    found: &SkippingIndex<'_>,
-    refusal: Option<Refusal>,
-    start: usize,
-    end: usize,
-) -> bool {
-    first_of(found) == refusal && untouched_read(found, start, end) == untouched(start, end)
+    let found = skipping(rt, alloc, file);
+    first_of(&found) == refusal_of(alloc, file)
+        && untouched_read(&found, start, end) == untouched(start, end)
 }
 
 /// Two thousand random damages, each of a sound copy.
 fn damages_are_salvaged(rt: &impl Abort, alloc: Global, first: u64) {
-    let sound = three_channels(rt, alloc);
+    let sound = three_channels(alloc).ok().expect(rt, "memory");
     let mut file = Vec::new(alloc);
     let mut seed = first;
     for _ in 0..2_000 {
-        damage_is_salvaged(rt, alloc, &sound, &mut file, &mut seed);
+        file.clear();
+        file.extend_from_slice(&sound).expect(rt, "memory");
+        let (start, end) = damage(&mut file, &mut seed);
+        assert!(rt; is_salvaged(rt, alloc, &file, start, end));
     }
-}
-
-/// The next random damage, of a sound copy.
-fn damage_is_salvaged(
-    rt: &impl Abort,
-    alloc: Global,
-    sound: &[u8],
-    file: &mut Vec<u8>,
-    seed: &mut u64,
-) {
-    file.clear();
-    add(rt, file, sound);
-    let (start, end) = damage(file, seed);
-    same(rt, &is_salvaged(rt, alloc, file, start, end), &true);
 }
 
 #[test]
@@ -361,7 +352,7 @@ fn gives_what_a_fifth_two_thousand_did_not_touch(rt: HostRuntime) {
 
 /// Two thousand headers one behind the other, each of which says that its packet holds all the others: what is a header to one is a
 /// message to those before it. A sound packet stands behind them.
-fn headers_alone(rt: &impl Abort, alloc: Global) -> Vec<u8> {
+fn headers_alone(alloc: Global) -> Result<Vec<u8>, AllocError> {
     let mut file = Vec::new(alloc);
     for number in 0..2000u32 {
         let header = Header {
@@ -374,16 +365,16 @@ fn headers_alone(rt: &impl Abort, alloc: Global) -> Vec<u8> {
             kind: 0x19,
             counter: 10,
         };
-        add(rt, &mut file, &write_header(&header));
+        file.extend_from_slice(&write_header(&header))?;
     }
-    add(rt, &mut file, &ONE_MESSAGE);
-    file
+    file.extend_from_slice(&ONE_MESSAGE)?;
+    Ok(file)
 }
 
 #[test]
 fn skips_headers_that_lie(rt: HostRuntime) {
-    let file = headers_alone(&rt, rt.alloc());
+    let file = headers_alone(rt.alloc()).ok().expect(&rt, "memory");
     let fault = Fault::Body(BodyError::Odd);
-    same(&rt, &is_read_alike(&rt, rt.alloc(), &file), &true);
+    assert!(rt; is_read_alike(&rt, rt.alloc(), &file));
     is_one_skip(&rt, rt.alloc(), &file, (1, 1), 0, 48000, fault);
 }
