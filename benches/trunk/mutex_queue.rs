@@ -1,4 +1,4 @@
-// The twin of the program trunk_speed in plain Rust: a queue of the standard library under a mutex, and the same work.
+// The twin of `speed trunk` in plain Rust: a queue of the standard library under a mutex, and the same work.
 use std::collections::VecDeque;
 use std::sync::Mutex;
 use std::thread;

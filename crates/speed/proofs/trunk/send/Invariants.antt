@@ -1,0 +1,12 @@
+use Rattle.std.proofs.Common.{◌≡◌}
+use Rattle.mil_trunk.specs.Ends.{IsTicketOf, bounds_of, tags_of, sent}
+use Rattle.speed.proofs.trunk.send.Given as goal
+
+abbrev pub invariant-loop : goal.invariant-loop
+invariant-loop g l = record {
+  again : (goal.iterator-loop g).can_next l.iterator' × (goal.iterator-loop g).is_finite l.iterator';
+  ours : IsTicketOf l.trunk l.ticket;
+  tags : tags_of l.ticket ≡ tags_of l.fn.ticket;
+  bounds : bounds_of l.ticket ≡ bounds_of l.fn.ticket;
+  sent : sent l.ticket ≡ sent l.fn.ticket;
+}
