@@ -1,78 +1,152 @@
-ghost use Rattle.std.specs.Prelude.{◌≡◌};
+ghost use Rattle.std.specs.Prelude.{◌≡◌, ◌+◌, ◌-◌, ◌<◌, ◌≤◌, ◌^◌, false, length};
 
 use super::*;
+use std::alloc::Global;
+use std::fmt::Debug;
 use std::io;
 use std::io::{ErrorKind, Write};
-use std::test::*;
+use std::process::Abort;
 
-#[test]
-fn fuses_of_each_length(rt: HostRuntime) -> Result<(), Fail> {
-    let all = [1u8, 2, 3, 4, 5, 6];
-    for k in 0..8usize {
-        let mut writer = Writer::make(FuseSink::make(rt.alloc(), k));
-        let first = writer.prologue(&all[..3]);
-        let none = writer.put(&[]);
-        let second = writer.put(&all[3..5]);
-        let third = writer.put(&all[5..]);
-        let last = writer.finish();
-        let sink = writer.into_sink();
-        let fault = Err(WriteFault { taken: k as u64 });
-        assert_eq!(rt; first, if k < 3 { fault } else { Ok(()) });
-        assert_eq!(rt; none, if k < 3 { fault } else { Ok(()) });
-        assert_eq!(rt; second, if k < 5 { fault } else { Ok(()) });
-        assert_eq!(rt; third, if k < 6 { fault } else { Ok(()) });
-        assert_eq!(rt; last, if k < 6 { fault } else { Ok(()) });
-        assert_eq!(rt; sink.bytes(), &all[..k.min(6)]);
-        assert_eq!(rt; sink.failures(), if k < 6 { 1 } else { 0 });
+type Answer = Result<(), WriteFault>;
+
+/// The two are equal.
+fn same<T: PartialEq + Debug>(rt: &impl Abort, found: &T, wanted: &T) {
+    assert_eq!(rt; *found, *wanted);
+}
+
+/// The bytes are these.
+fn are_bytes(rt: &impl Abort, bytes: &[u8], wanted: &[u8]) {
+    assert_eq!(rt; bytes, wanted);
+}
+
+/// A fault where so many bytes were taken.
+fn fault(taken: u64) -> Answer {
+    Err(WriteFault { taken })
+}
+
+/// The answer of a writer to a prologue.
+fn begins<S: Sink>(rt: &impl Abort, writer: &mut Writer<S>, bytes: &[u8], wanted: Answer)
+    requires unfinished { writer.old.finished ≡ false }
+    requires few { writer.old.taken + length bytes.now < 2 ^ 64 }
+    ensures unfinished { writer.new.finished ≡ false }
+    ensures few { writer.new.taken ≤ writer.old.taken + length bytes.now }
+{
+    let answer = writer.prologue(bytes);
+    same(rt, &answer, &wanted);
+}
+
+/// The answer of a writer to bytes.
+fn puts<S: Sink>(rt: &impl Abort, writer: &mut Writer<S>, bytes: &[u8], wanted: Answer)
+    requires unfinished { writer.old.finished ≡ false }
+    requires few { writer.old.taken + length bytes.now < 2 ^ 64 }
+    ensures unfinished { writer.new.finished ≡ false }
+    ensures few { writer.new.taken ≤ writer.old.taken + length bytes.now }
+{
+    let answer = writer.put(bytes);
+    same(rt, &answer, &wanted);
+}
+
+/// A writer ends, and the end is told once more where it fails. Answers the sink.
+fn ends<S: Sink>(rt: &impl Abort, mut writer: Writer<S>, wanted: Answer) -> S
+    requires unfinished { writer.finished ≡ false }
+{
+    let answer = writer.finish();
+    same(rt, &answer, &wanted);
+    if answer.is_err() {
+        same(rt, &writer.finish(), &wanted);
+    }
+    writer.into_sink()
+}
+
+/// The answer of a sink to bytes.
+fn takes<S: Sink>(rt: &impl Abort, sink: &mut S, bytes: &[u8], wanted: Result<usize, SinkFault>)
+    requires some { 0 < length bytes.now }
+    requires countable { S.failures sink.old < 2 ^ 64 - 1 }
+    ensures few { S.failures sink.new ≤ S.failures sink.old + 1 }
+{
+    let answer = sink.take(bytes);
+    same(rt, &answer, &wanted);
+}
+
+/// The answer of a sink to the end.
+fn flushes<S: Sink>(rt: &impl Abort, sink: &mut S, wanted: Result<(), SinkFault>)
+    requires countable { S.failures sink.old < 2 ^ 64 - 1 }
+    ensures few { S.failures sink.new ≤ S.failures sink.old + 1 }
+{
+    let answer = sink.finish();
+    same(rt, &answer, &wanted);
+}
+
+const ALL: [u8; 6] = [1, 2, 3, 4, 5, 6];
+
+/// The answer where a fuse of so many bytes takes at least so many.
+fn of_fuse(room: usize, wanted: usize) -> Answer {
+    if room < wanted {
+        return fault(room as u64);
     }
     Ok(())
 }
 
+/// What is written to a fuse of so many bytes: three, none, two and one.
+fn is_fused(rt: &impl Abort, alloc: Global, room: usize) {
+    let mut writer = Writer::make(FuseSink::make(alloc, room));
+    begins(rt, &mut writer, &ALL[..3], of_fuse(room, 3));
+    puts(rt, &mut writer, &[], of_fuse(room, 3));
+    puts(rt, &mut writer, &ALL[3..5], of_fuse(room, 5));
+    puts(rt, &mut writer, &ALL[5..], of_fuse(room, 6));
+    let sink = ends(rt, writer, of_fuse(room, 6));
+    are_bytes(rt, sink.bytes(), &ALL[..room.min(6)]);
+    same(rt, &sink.failures(), &u64::from(room < 6));
+}
+
 #[test]
-fn a_fuse_blows_at_the_take_after_its_last_byte(rt: HostRuntime) -> Result<(), Fail> {
+fn fuses_of_each_length(rt: HostRuntime) {
+    for room in 0..8usize {
+        is_fused(&rt, rt.alloc(), room);
+    }
+}
+
+#[test]
+fn a_fuse_blows_at_the_take_after_its_last_byte(rt: HostRuntime) {
     let mut sink = FuseSink::make(rt.alloc(), 2);
-    assert_eq!(rt; sink.take(&[7, 8, 9]), Ok(2));
-    assert_eq!(rt; sink.finish(), Ok(()));
-    assert_eq!(rt; sink.take(&[9]), Err(SinkFault));
-    assert_eq!(rt; sink.finish(), Err(SinkFault));
-    assert_eq!(rt; sink.failures(), 2);
-    assert_eq!(rt; sink.bytes(), [7u8, 8].as_slice());
-    Ok(())
+    takes(&rt, &mut sink, &[7, 8, 9], Ok(2));
+    flushes(&rt, &mut sink, Ok(()));
+    takes(&rt, &mut sink, &[9], Err(SinkFault));
+    flushes(&rt, &mut sink, Err(SinkFault));
+    same(&rt, &sink.failures(), &2);
+    are_bytes(&rt, sink.bytes(), &[7, 8]);
+}
+
+/// A sink takes two bytes and then others, and the end. Answers the sink.
+fn takes_all<S: Sink>(rt: &impl Abort, sink: S, others: &[u8]) -> S
+    requires countable { S.failures sink < 2 ^ 64 - 1 }
+    requires few { length others.now < 2 ^ 63 }
+{
+    let mut writer = Writer::make(sink);
+    begins(rt, &mut writer, &[1, 2], Ok(()));
+    puts(rt, &mut writer, others, Ok(()));
+    let sink = ends(rt, writer, Ok(()));
+    same(rt, &sink.failures(), &0);
+    sink
 }
 
 #[test]
-fn memory_and_a_writer_take_all(rt: HostRuntime) -> Result<(), Fail> {
-    let mut writer = Writer::make(MemorySink::make(rt.alloc()));
-    assert_eq!(rt; writer.prologue(&[1, 2]), Ok(()));
-    assert_eq!(rt; writer.put(&[3]), Ok(()));
-    assert_eq!(rt; writer.finish(), Ok(()));
-    let sink = writer.into_sink();
-    assert_eq!(rt; sink.bytes(), [1u8, 2, 3].as_slice());
-    assert_eq!(rt; sink.failures(), 0);
-    let mut device = Writer::make(StdSink::make(Vec::new(rt.alloc())));
-    assert_eq!(rt; device.prologue(&[1, 2]), Ok(()));
-    assert_eq!(rt; device.put(&[3]), Ok(()));
-    assert_eq!(rt; device.finish(), Ok(()));
-    let held = device.into_sink();
-    assert_eq!(rt; held.failures(), 0);
-    assert_eq!(rt; held.writer().as_slice(), [1u8, 2, 3].as_slice());
-    let bytes = held.into_writer();
-    assert_eq!(rt; bytes.as_slice(), [1u8, 2, 3].as_slice());
-    Ok(())
+fn memory_and_a_writer_take_all(rt: HostRuntime) {
+    let sink = takes_all(&rt, MemorySink::make(rt.alloc()), &[3]);
+    are_bytes(&rt, sink.bytes(), &[1, 2, 3]);
+    let held = takes_all(&rt, StdSink::make(Vec::new(rt.alloc())), &[3]);
+    are_bytes(&rt, held.writer(), &[1, 2, 3]);
+    are_bytes(&rt, &held.into_writer(), &[1, 2, 3]);
 }
 
 #[test]
-fn one_byte_a_call(rt: HostRuntime) -> Result<(), Fail> {
-    let mut writer = Writer::make(DripSink::make(rt.alloc()));
-    assert_eq!(rt; writer.prologue(&[1, 2]), Ok(()));
-    assert_eq!(rt; writer.put(&[3, 4, 5]), Ok(()));
-    assert_eq!(rt; writer.finish(), Ok(()));
-    let mut sink = writer.into_sink();
-    assert_eq!(rt; sink.bytes(), [1u8, 2, 3, 4, 5].as_slice());
-    assert_eq!(rt; sink.take(&[6, 7]), Ok(1));
-    assert_eq!(rt; sink.bytes().len(), 6);
-    assert_eq!(rt; sink.failures(), 0);
-    Ok(())
+fn one_byte_a_call(rt: HostRuntime) {
+    let mut sink = takes_all(&rt, DripSink::make(rt.alloc()), &[3, 4, 5]);
+    are_bytes(&rt, sink.bytes(), &[1, 2, 3, 4, 5]);
+    assert!(rt; sink.failures() == 0);
+    takes(&rt, &mut sink, &[6, 7], Ok(1));
+    same(&rt, &sink.bytes().len(), &6);
+    same(&rt, &sink.failures(), &0);
 }
 
 /// The packet of the message `A rx 5 1 [0001 0002 0003]`.
@@ -83,26 +157,30 @@ const PACKET: [u8; 52] = [
     0x03, 0x00, 0x00, 0x28,
 ];
 
-/// The packet is put twice into a sink that fails at one of its takes: a fault counts what was taken, and the sink that failed is
-/// asked no more.
+/// The packet is put twice into a sink that fails at one of its takes: its answers, its takes, and how many bytes it holds.
+fn fails_once(
+    rt: &impl Abort,
+    alloc: Global,
+    fails_at: u64,
+    answers: (Answer, Answer),
+    takes: u64,
+    held: usize,
+) {
+    let mut writer = Writer::make(FlakySink::make(alloc, fails_at));
+    puts(rt, &mut writer, &PACKET, answers.0);
+    puts(rt, &mut writer, &PACKET, answers.1);
+    let sink = writer.into_sink();
+    same(rt, &sink.takes(), &takes);
+    same(rt, &sink.failures(), &u64::from(answers.1.is_err()));
+    same(rt, &sink.bytes().len(), &held);
+}
+
+/// A fault counts what was taken, and the sink that failed is asked no more.
 #[test]
-fn a_sink_that_fails_once(rt: HostRuntime) -> Result<(), Fail> {
-    for (fails_at, first, second, takes, held) in [
-        (1u64, Some(0u64), Some(0u64), 1u64, 0usize),
-        (2, None, Some(52), 2, 52),
-        (3, None, None, 2, 104),
-    ] {
-        let mut writer = Writer::make(FlakySink::make(rt.alloc(), fails_at));
-        let first_put = writer.put(&PACKET);
-        let second_put = writer.put(&PACKET);
-        let sink = writer.into_sink();
-        assert_eq!(rt; first_put.err(), first.map(|taken| WriteFault { taken }));
-        assert_eq!(rt; second_put.err(), second.map(|taken| WriteFault { taken }));
-        assert_eq!(rt; sink.takes(), takes);
-        assert_eq!(rt; sink.failures(), u64::from(second.is_some()));
-        assert_eq!(rt; sink.bytes().len(), held);
-    }
-    Ok(())
+fn a_sink_that_fails_once(rt: HostRuntime) {
+    fails_once(&rt, rt.alloc(), 1, (fault(0), fault(0)), 1, 0);
+    fails_once(&rt, rt.alloc(), 2, (Ok(()), fault(52)), 2, 52);
+    fails_once(&rt, rt.alloc(), 3, (Ok(()), Ok(())), 2, 104);
 }
 
 /// A writer that takes one byte a call until it has taken so many. Then it answers 0, or an error. It counts its calls.
@@ -136,54 +214,57 @@ impl Write for Reluctant {
     }
 }
 
-fn make_reluctant(left: u8, answers_zero: bool) -> StdSink<Reluctant>
-    ensures { result.failures ≡ 0 }
+/// A writer over one that takes so many bytes.
+fn make_reluctant(left: u8, answers_zero: bool) -> Writer<StdSink<Reluctant>>
+    ensures unfinished { result.finished ≡ false }
+    ensures none { result.taken ≡ 0 }
 {
-    StdSink::make(Reluctant {
+    Writer::make(StdSink::make(Reluctant {
         left,
         answers_zero,
         writes: 0,
         flushes: 0,
-    })
+    }))
+}
+
+/// How often a sink has failed, and how often its writer was called, to write and to flush.
+fn has_called(rt: &impl Abort, sink: &StdSink<Reluctant>, failures: u64, writes: u8, flushes: u8) {
+    let device = sink.writer();
+    let counts = (sink.failures(), device.writes, device.flushes);
+    same(rt, &counts, &(failures, writes, flushes));
 }
 
 #[test]
-fn a_writer_that_takes_nothing_is_called_once(rt: HostRuntime) -> Result<(), Fail> {
+fn a_writer_that_takes_nothing_is_called_once(rt: HostRuntime) {
     for answers_zero in [false, true] {
-        let mut writer = Writer::make(make_reluctant(2, answers_zero));
-        assert_eq!(rt; writer.put(&[1, 2, 3]), Err(WriteFault { taken: 2 }));
-        assert_eq!(rt; writer.put(&[4]), Err(WriteFault { taken: 2 }));
-        assert_eq!(rt; writer.finish(), Err(WriteFault { taken: 2 }));
-        let sink = writer.into_sink();
-        assert_eq!(rt; sink.failures(), 1);
-        let device = sink.into_writer();
-        assert_eq!(rt; device.writes, 3);
-        assert_eq!(rt; device.flushes, 0);
+        let mut writer = make_reluctant(2, answers_zero);
+        puts(&rt, &mut writer, &[1, 2, 3], fault(2));
+        puts(&rt, &mut writer, &[4], fault(2));
+        let sink = ends(&rt, writer, fault(2));
+        has_called(&rt, &sink, 1, 3, 0);
     }
-    Ok(())
+}
+
+/// A writer that takes so many bytes is given three, and the end: what that answers, and how often it has failed then.
+fn is_flushed(rt: &impl Abort, left: u8, wanted: Answer, failures: u64) {
+    let mut writer = make_reluctant(left, false);
+    puts(rt, &mut writer, &[1, 2, 3], Ok(()));
+    let sink = ends(rt, writer, wanted);
+    has_called(rt, &sink, failures, 3, 1);
 }
 
 #[test]
-fn a_writer_is_flushed_at_the_end(rt: HostRuntime) -> Result<(), Fail> {
-    let mut writer = Writer::make(make_reluctant(4, false));
-    assert_eq!(rt; writer.put(&[1, 2, 3]), Ok(()));
-    assert_eq!(rt; writer.finish(), Ok(()));
-    let device = writer.into_sink().into_writer();
-    assert_eq!(rt; device.writes, 3);
-    assert_eq!(rt; device.flushes, 1);
-    let mut full = Writer::make(make_reluctant(3, false));
-    assert_eq!(rt; full.put(&[1, 2, 3]), Ok(()));
-    assert_eq!(rt; full.finish(), Err(WriteFault { taken: 3 }));
-    assert_eq!(rt; full.finish(), Err(WriteFault { taken: 3 }));
-    let refused = full.into_sink();
-    assert_eq!(rt; refused.failures(), 1);
-    assert_eq!(rt; refused.writer().flushes, 1);
-    Ok(())
+fn a_writer_is_flushed_at_the_end(rt: HostRuntime) {
+    is_flushed(&rt, 4, Ok(()), 0);
+    is_flushed(&rt, 3, fault(3), 1);
 }
 
 #[test]
-fn a_fault_prints_its_count(rt: HostRuntime) -> Result<(), Fail> {
-    let text = format!(in rt.alloc(); "{}", WriteFault { taken: 100 })?;
-    assert_eq!(rt; text.as_str(), "V1 taken 100");
-    Ok(())
+fn a_fault_prints_its_count(rt: HostRuntime) {
+    let printed = format!(in rt.alloc(); "{}", WriteFault { taken: 100 });
+    same(
+        &rt,
+        &printed.expect(&rt, "memory").as_str(),
+        &"V1 taken 100",
+    );
 }
