@@ -21,6 +21,7 @@ much room the queue of `bench run` needs for nothing to be refused.
 Example:
   bench check avionics.job";
 
+/// The command line of `bench check`.
 pub(crate) fn check_command<'a>(alloc: Global) -> Result<Command<'a>, AllocError> {
     let jobs = Arg::new(alloc, "JOB").num_args(0usize..).help(
         "The job of a channel, as a text; 1 to 32 of them, each of another channel",

@@ -5,6 +5,7 @@ use crate::command_line::{DrawRequest, file};
 use clap::{Arg, ArgAction, ArgMatches, Command, value_parser};
 use std::alloc::{AllocError, Global};
 
+/// The command line of `bench stat`.
 pub(crate) fn stat_command<'a>(alloc: Global) -> Result<Command<'a>, AllocError> {
     let recording = Arg::new(alloc, "RECORDING")
         .required(true)
@@ -20,6 +21,7 @@ pub(crate) fn stat_command<'a>(alloc: Global) -> Result<Command<'a>, AllocError>
         .arg(recording)
 }
 
+/// The command line of `bench export`.
 pub(crate) fn export_command<'a>(alloc: Global) -> Result<Command<'a>, AllocError> {
     let recording = Arg::new(alloc, "RECORDING")
         .required(true)
@@ -43,6 +45,7 @@ Example:
   bench draw flight.ch11 --out flight.svg
   bench draw flight.ch11 --out retry.svg --channel 2 --from 15 --to 20";
 
+/// The command line of `bench draw`.
 pub(crate) fn draw_command<'a>(alloc: Global) -> Result<Command<'a>, AllocError> {
     let recording = Arg::new(alloc, "RECORDING")
         .required(true)
@@ -78,6 +81,7 @@ fn bound<'a>(alloc: Global, name: &'a str, help: &'a str) -> Arg<'a> {
         .help(help)
 }
 
+/// What `bench draw` is asked for: a whole recording, all channels, where the line does not say.
 pub(crate) fn draw_request<'a>(given: &ArgMatches<'a>) -> DrawRequest<'a> {
     DrawRequest {
         recording: given.get_str("RECORDING").unwrap_or(""),
@@ -88,6 +92,7 @@ pub(crate) fn draw_request<'a>(given: &ArgMatches<'a>) -> DrawRequest<'a> {
     }
 }
 
+/// The command line of `bench explain`.
 pub(crate) fn explain_command<'a>(alloc: Global) -> Result<Command<'a>, AllocError> {
     let code = Arg::new(alloc, "CODE").help(
         "The code to explain, as in S7; all codes where there is none",

@@ -17,6 +17,7 @@ pub(crate) struct Density {
 }
 
 impl Density {
+    /// Columns in which nothing has been yet; an error where there is no memory.
     pub(crate) fn new(alloc: Global) -> Result<Density, AllocError> {
         Ok(Density {
             busy: vec![in alloc; 0; COLUMNS]?,

@@ -45,6 +45,7 @@ pub(crate) struct Run {
 }
 
 impl Run {
+    /// The tick at which the last of the words ends.
     pub(crate) fn end(&self) -> u64 {
         self.begin.saturating_add(self.words.saturating_mul(WORD))
     }

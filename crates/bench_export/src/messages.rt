@@ -22,6 +22,7 @@ pub(crate) struct Room {
 }
 
 impl Room {
+    /// Room with nothing in it; it takes memory with the first row.
     pub(crate) fn new(alloc: Global) -> Room {
         Room {
             row: Row::new(alloc),

@@ -47,7 +47,7 @@ fn mode_to(command: Command) -> bool
     !command.is_transmit() && command.is_mode() && data_words(false, command.code()) == 1
 }
 
-// Whether a message of the form may have this first command.
+/// Whether a message of the form, 0 to 9, may have this first command; of any other number none may.
 pub fn first_fits(form: u8, command: Command) -> bool
     ensures { result ≡ table.first_fits form command }
 {
@@ -71,7 +71,7 @@ fn sends_for(first: Command, command: Command) -> bool
     calls_one(command) && transmits(command) && command.code() == first.code()
 }
 
-// Whether a message of the form with this first command may have this second command; 0 is none.
+/// Whether a message of the form with this first command may have this second command; 0 stands for none.
 pub fn second_fits(form: u8, first: Command, command: Command) -> bool
     ensures { result ≡ table.second_fits form first command }
 {
@@ -82,7 +82,7 @@ pub fn second_fits(form: u8, first: Command, command: Command) -> bool
     }
 }
 
-// How many data words the controller sends after the commands.
+/// How many data words, 0 to 32, the controller sends after the commands.
 pub fn words_due(form: u8, first: Command) -> u8
     ensures due { result ≡ table.words_due form first }
     ensures at_most_32 { result ≤ 32 }

@@ -60,14 +60,14 @@ fn operand_of(op: Op) -> u16
     }
 }
 
-// Whether the mark BC01 does not know the operation.
+/// Whether the mark BC01 does not know the operation: it is a Call or a Return.
 pub fn is_new(op: Op) -> bool
     ensures { result ≡ spelled.is_new op }
 {
     matches!(op, Op::Call(_) | Op::Return)
 }
 
-// Whether there is such an operation.
+/// Whether there is an operation that the mark BC01 does not know.
 pub fn has_new(operations: &[Op]) -> bool
     ensures { result ≡ spelled.has_new operations.now }
 {

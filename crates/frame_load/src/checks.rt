@@ -7,14 +7,14 @@ ghost use Rattle.frame_load.specs.Marks.{innermost};
 
 use frame_code::Op;
 
-// Whether the last operation is Halt.
+/// Whether there is an operation, and the last is Halt.
 pub fn ends_in_halt(operations: &[Op]) -> bool
     ensures { IsTrue result ↔ EndsInHalt operations.now }
 {
     matches!(operations, [.., Op::Halt])
 }
 
-// For each place its innermost loop, by the place of its Loop plus one; 0 outside all.
+/// Writes for each place of at most 4096 its innermost loop, by the place of its Loop plus one; 0 outside all.
 pub fn mark_loops(operations: &[Op], loops: &mut [u16; 4096])
     requires { length operations.now ≤ 4096 }
     ensures { (p : ℕ) → p < length operations.now → get_or loops.new p 0 ≡ innermost (open_at operations.now p) }
@@ -106,7 +106,7 @@ fn goes_well(operations: &[Op], loops: &[u16; 4096], routines: &[u8; 4096], plac
     }
 }
 
-// Whether all operations go where they may.
+/// Whether all operations go where they may, told by the innermost loop and by the routine of each place.
 pub fn all_go_well(operations: &[Op], loops: &[u16; 4096], routines: &[u8; 4096]) -> bool
     requires size { length operations.now ≤ 4096 }
     requires marked { (p : ℕ) → p < length operations.now → get_or loops.now p 0 ≡ innermost (open_at operations.now p) }
@@ -131,7 +131,7 @@ fn has_message(op: Op, count: usize) -> bool
     }
 }
 
-// Whether all messages that are sent are there.
+/// Whether each message that is sent is one of so many.
 pub fn all_have_messages(operations: &[Op], count: usize) -> bool
     ensures { IsTrue result ↔ Each operations.now (λ p. HasMessage count) }
 {

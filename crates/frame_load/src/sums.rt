@@ -13,7 +13,8 @@ use frame_code::Op;
 // One step more than a run may take.
 const CAP: u64 = 100_000_001;
 
-// For each place its weight, or the cap.
+/// Writes for each place of at most 4096 its weight, the product of the counts of the loops that it is in; 100,000,001 where
+/// that is more.
 pub fn mark_weights(operations: &[Op], loops: &[u16; 4096], weights: &mut [u64; 4096])
     requires size { length operations.now ≤ 4096 }
     requires range { AreInRange operations.now }

@@ -12,6 +12,7 @@ pub struct Chain<T: Drop> {
     link: Link<T>,
 }
 
+/// What a link is: the start, a value before or behind another link's, or the same as another link.
 #[cycle(chain)]
 #[derive(Drop)]
 pub enum Link<T: Drop> {

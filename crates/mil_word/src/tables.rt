@@ -1,6 +1,6 @@
 //! Tables of bytes for the wave codec: what each row holds is computed and compared by the proofs of `code`.
 
-// For each byte its sixteen half bits.
+/// For each byte its sixteen half bits, the first of them highest: a one is 10, a zero is 01.
 pub static PAIRS: [u16; 256] = [
     0x5555, 0x5556, 0x5559, 0x555a, 0x5565, 0x5566, 0x5569, 0x556a, 0x5595, 0x5596, 0x5599, 0x559a,
     0x55a5, 0x55a6, 0x55a9, 0x55aa, 0x5655, 0x5656, 0x5659, 0x565a, 0x5665, 0x5666, 0x5669, 0x566a,
@@ -26,7 +26,7 @@ pub static PAIRS: [u16; 256] = [
     0xaaa5, 0xaaa6, 0xaaa9, 0xaaaa,
 ];
 
-// For each eight half bits the first halves of their four pairs.
+/// For each eight half bits the first halves of their four pairs, the first of them highest.
 pub static FIRSTS: [u8; 256] = [
     0, 0, 1, 1, 0, 0, 1, 1, 2, 2, 3, 3, 2, 2, 3, 3, 0, 0, 1, 1, 0, 0, 1, 1, 2, 2, 3, 3, 2, 2, 3, 3,
     4, 4, 5, 5, 4, 4, 5, 5, 6, 6, 7, 7, 6, 6, 7, 7, 4, 4, 5, 5, 4, 4, 5, 5, 6, 6, 7, 7, 6, 6, 7, 7,
