@@ -2,8 +2,8 @@
 use bench_step::Prompted;
 use std::fmt::Display;
 use std::io::{self, IsTerminal, Read};
+use std::process::Abort;
 use std::sync::{Mutex, Wait};
-use std::test::Fail;
 
 /// What is written to the errors is kept.
 #[derive(Drop)]
@@ -20,8 +20,9 @@ impl<'a, R: Wait + AllocGlobal> Screen<'a, R> {
         }
     }
 
-    fn shows(&self, text: &str) -> bool {
-        self.text.lock(self.rt).as_str() == text
+    /// Whether it shows the first text and then the second.
+    fn shows(&self, first: &str, second: &str) -> bool {
+        self.text.lock(self.rt).as_str().strip_prefix(first) == Some(second)
     }
 
     fn add(&self, text: &str) -> io::Result<()> {
@@ -88,30 +89,22 @@ find COND       on to the next message whose outcome makes a condition true, as 
 state           the channels, and the registers of their terminals
 ";
 
-#[test]
-fn a_terminal_shows_commands_and_prompts(rt: HostRuntime) -> Result<(), Fail> {
-    let screen = Screen::make(&rt);
-    let keys = Keys {
-        left: 2,
-        typed: true,
-    };
-    let mut lines = Prompted::begin(keys, &screen);
-    assert!(rt; screen.shows(COMMANDS));
-    assert!(rt; read_on(&mut lines).is_ok());
-    let whole = format!(in rt.alloc(); "{COMMANDS}step> step> step> \n")?;
-    assert!(rt; screen.shows(whole.as_str()));
-    Ok(())
+/// Lines that are typed, or come from a file: what is shown at first, and what behind it once they are read.
+fn shows<R: Wait + AllocGlobal + Abort>(rt: &R, typed: bool, first: &str, second: &str) {
+    let screen = Screen::make(rt);
+    let mut lines = Prompted::begin(Keys { left: 2, typed }, &screen);
+    assert!(rt; screen.shows(first, ""));
+    let is_read = read_on(&mut lines).is_ok();
+    assert!(rt; is_read);
+    assert!(rt; screen.shows(first, second));
 }
 
 #[test]
-fn a_file_shows_nothing(rt: HostRuntime) -> Result<(), Fail> {
-    let screen = Screen::make(&rt);
-    let keys = Keys {
-        left: 2,
-        typed: false,
-    };
-    let mut lines = Prompted::begin(keys, &screen);
-    assert!(rt; read_on(&mut lines).is_ok());
-    assert!(rt; screen.shows(""));
-    Ok(())
+fn a_terminal_shows_commands_and_prompts(rt: HostRuntime) {
+    shows(&rt, true, COMMANDS, "step> step> step> \n");
+}
+
+#[test]
+fn a_file_shows_nothing(rt: HostRuntime) {
+    shows(&rt, false, "", "");
 }

@@ -5,53 +5,74 @@ use bench_step::{StepFault, step};
 use ch11_writer::{MemorySink, Sink};
 use job_file::{Job, read_job};
 use std::alloc::Global;
-use std::test::Fail;
+use std::io::Write;
+use std::process::Abort;
 
 /// The job of a message that loses a word on its way, and of two questions for the status.
-pub const DROPPED: &str =
+pub(crate) const DROPPED: &str =
     "channel 1\nterminal 5\nfault 1 drop 0 3\nscript\nsend A rx 5 1 [0001 0002 0003]\nsend A mode 5 2\nsend A mode 5 2\n";
 
 /// Its report.
-pub const DROPPED_REPORT: &str = "channel 1\nmade 3\npackets 1\n";
+pub(crate) const DROPPED_REPORT: &str = "channel 1\nmade 3\npackets 1\n";
 
-/// The jobs of these texts.
-pub fn jobs_of(alloc: Global, texts: &[&str]) -> Result<Vec<Job>, Fail> {
-    let mut jobs = Vec::new(alloc);
-    for text in texts {
-        let job = read_job(alloc, text.as_bytes()).ok().ok_or("a job")?;
-        jobs.push(job)?;
-    }
-    Ok(jobs)
+/// The bytes are those of a text.
+pub(crate) fn reads(rt: &impl Abort, bytes: &[u8], wanted: &str) {
+    assert_eq!(rt; bytes, wanted.as_bytes());
 }
 
-/// The report of a text.
-pub fn report_of(alloc: Global, text: &str) -> Result<Report, Fail> {
-    Ok(read_report(alloc, text.as_bytes()).ok().ok_or("a report")?)
+/// The jobs of these texts.
+fn jobs_of(rt: &impl Abort, alloc: Global, texts: &[&str]) -> Vec<Job> {
+    let mut jobs = Vec::new(alloc);
+    for text in texts {
+        let job = read_job(alloc, text.as_bytes()).ok().expect(rt, "a job");
+        jobs.push(job).expect(rt, "memory");
+    }
+    jobs
+}
+
+/// The recording of a job, behind what a file holds.
+fn add_recording(rt: &impl Abort, alloc: Global, job: &Job, file: &mut Vec<u8>) {
+    let sink = one_channel(alloc, job, 6, 4096, MemorySink::make(alloc));
+    let sink = sink.ok().expect(rt, "a recording");
+    file.extend_from_slice(sink.bytes()).expect(rt, "memory");
 }
 
 /// The recordings of the jobs, one behind the other.
-pub fn recorded(alloc: Global, jobs: &[Job]) -> Result<Vec<u8>, Fail> {
+fn recorded(rt: &impl Abort, alloc: Global, jobs: &[Job]) -> Vec<u8> {
     let mut file = Vec::new(alloc);
     for job in jobs {
-        let sink = one_channel(alloc, job, 6, 4096, MemorySink::make(alloc));
-        let sink = sink.ok().ok_or("a recording")?;
-        file.extend_from_slice(sink.bytes())?;
+        add_recording(rt, alloc, job, &mut file);
     }
-    Ok(file)
+    file
 }
 
-/// How a session of the jobs ends, and what it prints.
-pub fn session(
-    alloc: Global,
-    texts: &[&str],
-    report: &str,
-    lines: &str,
-) -> Result<(Result<(), StepFault>, Vec<u8>), Fail> {
-    let jobs = jobs_of(alloc, texts)?;
-    let report = report_of(alloc, report)?;
-    let file = recorded(alloc, &jobs)?;
-    let mut input = lines.as_bytes();
-    let mut out = Vec::new(alloc);
-    let ended = step(alloc, &jobs, &report, &file, &mut input, &mut out);
-    Ok((ended, out))
+/// What a session steps through.
+#[derive(Drop)]
+pub(crate) struct Subject {
+    jobs: Vec<Job>,
+    report: Report,
+    pub(crate) file: Vec<u8>,
+}
+
+/// The jobs of these texts, a report and the recordings.
+pub(crate) fn subject_of(rt: &impl Abort, alloc: Global, texts: &[&str], report: &str) -> Subject {
+    let jobs = jobs_of(rt, alloc, texts);
+    let report = read_report(alloc, report.as_bytes());
+    let report = report.ok().expect(rt, "a report");
+    let file = recorded(rt, alloc, &jobs);
+    Subject { jobs, report, file }
+}
+
+impl Subject {
+    /// How a session of these lines ends, and what is left of them.
+    pub(crate) fn session<'a, W: Write>(
+        &self,
+        alloc: Global,
+        lines: &'a str,
+        out: &mut W,
+    ) -> (Result<(), StepFault>, &'a [u8]) {
+        let mut input = lines.as_bytes();
+        let ended = step(alloc, &self.jobs, &self.report, &self.file, &mut input, out);
+        (ended, input)
+    }
 }

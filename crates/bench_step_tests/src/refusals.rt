@@ -1,11 +1,10 @@
 //! Sessions that do not begin, or do not come to their end.
-use crate::made::{DROPPED, DROPPED_REPORT, jobs_of, recorded, report_of, session};
-use bench_step::{StepFault, step};
+use crate::made::{DROPPED, DROPPED_REPORT, Subject, reads, subject_of};
+use bench_step::StepFault;
 use std::alloc::Global;
 use std::io;
 use std::io::{ErrorKind, Write};
 use std::process::Abort;
-use std::test::Fail;
 
 /// A writer that takes so many bytes, and then fails.
 #[derive(Drop)]
@@ -27,64 +26,49 @@ impl Write for Short {
     }
 }
 
-/// What is printed of a fault.
-fn told(alloc: Global, fault: StepFault) -> Result<String, Fail> {
-    Ok(format!(in alloc; "{fault}")?)
+/// A session ended with a fault that is printed as this text.
+fn is_told(rt: &impl Abort, alloc: Global, ended: Result<(), StepFault>, wanted: &str) {
+    let fault = ended.err().expect(rt, "a fault");
+    let text = format!(in alloc; "{fault}").expect(rt, "memory");
+    reads(rt, text.as_bytes(), wanted);
 }
 
-/// The fault of a session whose recording has one byte changed, and that nothing was printed.
-fn refuses<R: Abort + AllocGlobal>(
-    rt: &R,
-    place: usize,
-    value: u8,
-    text: &str,
-) -> Result<(), Fail> {
-    let alloc = rt.alloc();
-    let one = "channel 1\nterminal 5\nscript\nsend A rx 5 1 [0001 0002 0003]\n";
-    let jobs = jobs_of(alloc, &[one])?;
-    let report = report_of(alloc, "channel 1\nmade 1\npackets 1\n")?;
-    let mut file = recorded(alloc, &jobs)?;
-    *file.get_mut(place).ok_or("a byte")? = value;
-    let mut input = b"state\n".as_slice();
+/// A session is refused with this text: nothing is printed, and no line is read.
+fn is_refused(rt: &impl Abort, alloc: Global, one: &Subject, wanted: &str) {
     let mut out = Vec::new(alloc);
-    let ended = step(alloc, &jobs, &report, &file, &mut input, &mut out);
-    assert_eq!(rt; told(alloc, ended.err().ok_or("no fault")?)?.as_str(), text);
-    assert!(rt; out.is_empty());
-    assert_eq!(rt; input, b"state\n".as_slice());
-    Ok(())
+    let (ended, left) = one.session(alloc, "state\n", &mut out);
+    is_told(rt, alloc, ended, wanted);
+    reads(rt, &out, "");
+    reads(rt, left, "state\n");
 }
 
-#[test]
-fn a_word_that_is_not_the_jobs(rt: HostRuntime) -> Result<(), Fail> {
-    refuses(&rt, 44, 0x02, "Y1 channel 1 number 1")
+const ONE_MESSAGE: &str = "channel 1\nterminal 5\nscript\nsend A rx 5 1 [0001 0002 0003]\n";
+
+/// The refusal of a session whose recording has one byte changed.
+fn refuses(rt: &impl Abort, alloc: Global, place: usize, value: u8, wanted: &str) {
+    let report = "channel 1\nmade 1\npackets 1\n";
+    let mut one = subject_of(rt, alloc, &[ONE_MESSAGE], report);
+    *one.file.get_mut(place).expect(rt, "a byte") = value;
+    is_refused(rt, alloc, &one, wanted);
 }
 
+/// A word that is not the job's, a packet that cannot be read, and a report of another channel.
 #[test]
-fn a_packet_that_cannot_be_read(rt: HostRuntime) -> Result<(), Fail> {
-    refuses(&rt, 22, 0x7d, "K3 offset 0")
-}
-
-#[test]
-fn a_report_of_another_channel(rt: HostRuntime) -> Result<(), Fail> {
+fn sessions_that_do_not_begin(rt: HostRuntime) {
+    refuses(&rt, rt.alloc(), 44, 0x02, "Y1 channel 1 number 1");
+    refuses(&rt, rt.alloc(), 22, 0x7d, "K3 offset 0");
     let report = "channel 2\nmade 3\npackets 1\n";
-    let (ended, out) = session(rt.alloc(), &[DROPPED], report, "state\n")?;
-    let fault = told(rt.alloc(), ended.err().ok_or("no fault")?)?;
-    assert_eq!(rt; fault.as_str(), "Y1 channel 1 number 0");
-    assert!(rt; out.is_empty());
-    Ok(())
+    let other = subject_of(&rt, rt.alloc(), &[DROPPED], report);
+    is_refused(&rt, rt.alloc(), &other, "Y1 channel 1 number 0");
 }
 
 #[test]
-fn a_closed_output(rt: HostRuntime) -> Result<(), Fail> {
-    let alloc = rt.alloc();
-    let jobs = jobs_of(alloc, &[DROPPED])?;
-    let report = report_of(alloc, DROPPED_REPORT)?;
-    let file = recorded(alloc, &jobs)?;
-    let mut input = b"forward\nforward\nforward\n".as_slice();
+fn a_closed_output(rt: HostRuntime) {
+    let one = subject_of(&rt, rt.alloc(), &[DROPPED], DROPPED_REPORT);
     let mut out = Short { room: 6 };
-    let ended = step(alloc, &jobs, &report, &file, &mut input, &mut out);
+    let lines = "forward\nforward\nforward\n";
+    let (ended, left) = one.session(rt.alloc(), lines, &mut out);
     assert_eq!(rt; ended, Err(StepFault::Output));
-    assert_eq!(rt; told(alloc, StepFault::Output)?.as_str(), "device -");
-    assert_eq!(rt; input, b"forward\n".as_slice());
-    Ok(())
+    is_told(&rt, rt.alloc(), ended, "device -");
+    reads(&rt, left, "forward\n");
 }

@@ -1,73 +1,44 @@
 //! What sessions print.
-use crate::made::{DROPPED, DROPPED_REPORT, session};
+use crate::made::{DROPPED, DROPPED_REPORT, Subject, reads, subject_of};
+use std::alloc::Global;
 use std::process::Abort;
-use std::test::Fail;
 
-/// The whole printed text of a session that memory was refused for at no line.
-fn prints<R: Abort + AllocGlobal>(
-    rt: &R,
-    texts: &[&str],
-    report: &str,
-    lines: &str,
-    printed: &str,
-) -> Result<(), Fail> {
-    let (ended, out) = session(rt.alloc(), texts, report, lines)?;
-    assert_eq!(rt; ended, Ok(()));
-    assert_eq!(rt; out.as_slice(), printed.as_bytes());
-    Ok(())
-}
-
-#[test]
-fn a_lost_word_is_found(rt: HostRuntime) -> Result<(), Fail> {
-    let lines = "back\nfind silent\nstate\ngo 3\nforward\ngo 0\nstate\n";
-    let printed =
-        "Y3\nat 1\nchannel 1 number 1\nterminal 5 status 2C00 last 2823 vector 0000 bit 0000 sync 0000 off -\nat 3\nY2\nat 0\nchannel 1 number 0\nterminal 5 status 2800 last 0000 vector 0000 bit 0000 sync 0000 off -\n";
-    prints(&rt, &[DROPPED], DROPPED_REPORT, lines, printed)
-}
-
-#[test]
-fn the_last_message_and_none_behind_it(rt: HostRuntime) -> Result<(), Fail> {
-    let lines = "go 3\nstate\ngo 4\ngo 9999999999\nback\nforward";
-    let printed =
-        "at 3\nchannel 1 number 3\nterminal 5 status 2C00 last 2FE2 vector 0000 bit 0000 sync 0000 off -\nY2\nY2\nat 2\nat 3\n";
-    prints(&rt, &[DROPPED], DROPPED_REPORT, lines, printed)
-}
-
-#[test]
-fn lines_that_ask_nothing(rt: HostRuntime) -> Result<(), Fail> {
-    let lines =
-        "\n \nForward\nforward 2\nback 1\ngo\ngo x\ngo 1 2\ngo +1\ngo 12345678901\nfind\nfind foo\nfind fail fail\nfind any ( fail )\nstate 1\nforward\r\n\tback\nbogus\n";
-    let unknown = "unknown\n";
-    let (ended, out) = session(rt.alloc(), &[DROPPED], DROPPED_REPORT, lines)?;
-    assert_eq!(rt; ended, Ok(()));
-    assert_eq!(rt; out.len(), 18 * unknown.len());
-    for line in out.as_slice().chunks(unknown.len()) {
-        assert_eq!(rt; line, unknown.as_bytes());
-    }
-    Ok(())
-}
-
-#[test]
-fn spaces_part_words(rt: HostRuntime) -> Result<(), Fail> {
-    let lines =
-        "  forward \n go   2\n go 0000000001 \nfind any(fail silent)\n  find   not fail  \n";
-    prints(
-        &rt,
-        &[DROPPED],
-        DROPPED_REPORT,
-        lines,
+/// The lines of sessions of one job, and the whole of what each prints.
+const SESSIONS: [(&str, &str); 5] = [
+    // A lost word is found.
+    (
+        "back\nfind silent\nstate\ngo 3\nforward\ngo 0\nstate\n",
+        "Y3\nat 1\nchannel 1 number 1\nterminal 5 status 2C00 last 2823 vector 0000 bit 0000 sync 0000 off -\nat 3\nY2\nat 0\nchannel 1 number 0\nterminal 5 status 2800 last 0000 vector 0000 bit 0000 sync 0000 off -\n",
+    ),
+    // The last message, and none behind it.
+    (
+        "go 3\nstate\ngo 4\ngo 9999999999\nback\nforward",
+        "at 3\nchannel 1 number 3\nterminal 5 status 2C00 last 2FE2 vector 0000 bit 0000 sync 0000 off -\nY2\nY2\nat 2\nat 3\n",
+    ),
+    // Lines that ask nothing.
+    (
+        "\n \nForward\nforward 2\nback 1\ngo\ngo x\ngo 1 2\ngo +1\ngo 12345678901\nfind\nfind foo\nfind fail fail\nfind any ( fail )\nstate 1\nforward\r\n\tback\nbogus\n",
+        "unknown\nunknown\nunknown\nunknown\nunknown\nunknown\nunknown\nunknown\nunknown\nunknown\nunknown\nunknown\nunknown\nunknown\nunknown\nunknown\nunknown\nunknown\n",
+    ),
+    // Spaces part words.
+    (
+        "  forward \n go   2\n go 0000000001 \nfind any(fail silent)\n  find   not fail  \n",
         "at 1\nat 2\nat 1\nY2\nat 2\n",
-    )
-}
+    ),
+    // No lines.
+    ("", ""),
+];
 
-#[test]
-fn channels_in_the_order_of_jobs(rt: HostRuntime) -> Result<(), Fail> {
-    let first =
-        "channel 7\nterminal 9\nterminal 5\nat 1 9 vector 00AF\nscript\nsend A mode 5 4\nsend B mode 5 4\n";
-    let second = "channel 2\nterminal 30\nscript\nsend B mode 30 4\nsend A mode 30 17 [BEEF]\n";
-    let report = "channel 7\nmade 2\nplaced 1 9 vector 00AF\nchannel 2\nmade 2\npackets 2\n";
-    let lines = "state\nforward\nstate\ngo 4\nstate\n";
-    let printed = "\
+/// Two channels, the first with a higher number.
+const FIRST: &str =
+    "channel 7\nterminal 9\nterminal 5\nat 1 9 vector 00AF\nscript\nsend A mode 5 4\nsend B mode 5 4\n";
+
+const SECOND: &str = "channel 2\nterminal 30\nscript\nsend B mode 30 4\nsend A mode 30 17 [BEEF]\n";
+
+const BOTH_REPORT: &str =
+    "channel 7\nmade 2\nplaced 1 9 vector 00AF\nchannel 2\nmade 2\npackets 2\n";
+
+const BOTH_STATES: &str = "\
 channel 7 number 0
 terminal 5 status 2800 last 0000 vector 0000 bit 0000 sync 0000 off -
 terminal 9 status 4800 last 0000 vector 0000 bit 0000 sync 0000 off -
@@ -86,10 +57,26 @@ terminal 9 status 4800 last 0000 vector 00AF bit 0000 sync 0000 off -
 channel 2 number 2
 terminal 30 status F000 last F3F1 vector 0000 bit 0000 sync BEEF off A
 ";
-    prints(&rt, &[first, second], report, lines, printed)
+
+/// The whole printed text of a session that memory was refused for at no line.
+fn prints(rt: &impl Abort, alloc: Global, one: &Subject, lines: &str, printed: &str) {
+    let mut out = Vec::new(alloc);
+    let (ended, _) = one.session(alloc, lines, &mut out);
+    assert_eq!(rt; ended, Ok(()), "{lines}");
+    reads(rt, &out, printed);
 }
 
 #[test]
-fn no_lines(rt: HostRuntime) -> Result<(), Fail> {
-    prints(&rt, &[DROPPED], DROPPED_REPORT, "", "")
+fn lines_are_answered(rt: HostRuntime) {
+    let one = subject_of(&rt, rt.alloc(), &[DROPPED], DROPPED_REPORT);
+    for (lines, printed) in SESSIONS {
+        prints(&rt, rt.alloc(), &one, lines, printed);
+    }
+}
+
+#[test]
+fn channels_in_the_order_of_jobs(rt: HostRuntime) {
+    let both = subject_of(&rt, rt.alloc(), &[FIRST, SECOND], BOTH_REPORT);
+    let lines = "state\nforward\nstate\ngo 4\nstate\n";
+    prints(&rt, rt.alloc(), &both, lines, BOTH_STATES);
 }

@@ -5,6 +5,8 @@
 #[cfg(test)]
 mod channels;
 #[cfg(test)]
+mod equal;
+#[cfg(test)]
 mod placing;
 #[cfg(test)]
 mod posts;

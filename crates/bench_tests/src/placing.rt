@@ -1,8 +1,9 @@
 //! A job's actions by rising number, and those that a channel's part of a report has.
+use crate::channels::job_of;
+use crate::equal::{reads, same_in};
 use bc_machine::Placed;
 use bench_core::{channel_report, ordered_actions};
 use bench_report::ChannelReport;
-use job_file::{Job, read_job};
 use std::alloc::Global;
 use std::process::Abort;
 
@@ -13,9 +14,19 @@ const FOUR_ACTIONS: &str =
 /// Those at message 1, and then those at message 3, as they are shown.
 const ALL_SHOWN: &str = "1 6 fault on, 1 5 busy off, 3 5 busy on, 3 6 service on, ";
 
-fn job_of(rt: &impl Abort, alloc: Global, text: &str) -> Job {
-    read_job(alloc, text.as_bytes()).ok().expect(rt, "a job")
-}
+/// Jobs, and their actions in their order as they are shown.
+const ORDERED: &[(&str, &str)] = &[
+    (FOUR_ACTIONS, ALL_SHOWN),
+    ("channel 1\nterminal 5\nscript\nsend A rx 5 1 [0001]\n", ""),
+];
+
+/// How many messages a channel made, and which of the four actions the part of its report shows.
+const PARTS: &[(u16, &str)] = &[
+    (0, ""),
+    (1, "1 6 fault on, 1 5 busy off, "),
+    (3, ALL_SHOWN),
+    (65_535, ALL_SHOWN),
+];
 
 /// A job's actions in their order.
 fn ordered_of(rt: &impl Abort, alloc: Global, text: &str) -> Vec<Placed> {
@@ -37,7 +48,19 @@ fn are_shown(rt: &impl Abort, alloc: Global, placed: &[Placed], wanted: &str) {
     for one in placed {
         add_shown(rt, alloc, &mut text, one);
     }
-    assert_eq!(rt; text.as_str(), wanted);
+    reads(rt, "shown", text.as_str(), wanted);
+}
+
+#[test]
+fn actions_by_number(rt: HostRuntime) {
+    for (text, shown) in ORDERED {
+        are_ordered(&rt, rt.alloc(), text, shown);
+    }
+}
+
+/// A job's actions in their order are shown as this text.
+fn are_ordered(rt: &impl Abort, alloc: Global, text: &str, shown: &str) {
+    are_shown(rt, alloc, &ordered_of(rt, alloc, text), shown);
 }
 
 /// The part of a report that made so many messages, none of them refused.
@@ -56,43 +79,23 @@ fn part_with_refused(rt: &impl Abort, alloc: Global) -> ChannelReport {
     channel_report(65535, 2, refused, ordered)
 }
 
-/// What the part of a report shows that made so many messages.
-fn shows(rt: &impl Abort, alloc: Global, made: u16, wanted: &str) {
-    let part = part_up_to(rt, alloc, made);
-    are_shown(rt, alloc, part.placed(), wanted);
-}
-
 #[test]
-fn actions_by_number(rt: HostRuntime) {
-    let ordered = ordered_of(&rt, rt.alloc(), FOUR_ACTIONS);
-    are_shown(&rt, rt.alloc(), &ordered, ALL_SHOWN);
-}
-
-#[test]
-fn no_actions(rt: HostRuntime) {
-    let text = "channel 1\nterminal 5\nscript\nsend A rx 5 1 [0001]\n";
-    let ordered = ordered_of(&rt, rt.alloc(), text);
-    assert!(rt; ordered.is_empty());
+fn actions_up_to_the_number_made(rt: HostRuntime) {
+    for (made, shown) in PARTS {
+        let part = part_up_to(&rt, rt.alloc(), *made);
+        are_shown(&rt, rt.alloc(), part.placed(), shown);
+    }
 }
 
 #[test]
 fn part_of_a_channel(rt: HostRuntime) {
-    let part = part_with_refused(&rt, rt.alloc());
-    assert_eq!(rt; part.channel(), 65535);
-    assert_eq!(rt; part.made(), 2);
-    assert_eq!(rt; part.refused(), [2].as_slice());
-    are_shown(
-        &rt,
-        rt.alloc(),
-        part.placed(),
-        "1 6 fault on, 1 5 busy off, ",
-    );
+    is_last_part(&rt, rt.alloc(), &part_with_refused(&rt, rt.alloc()));
 }
 
-#[test]
-fn actions_up_to_the_number_made(rt: HostRuntime) {
-    shows(&rt, rt.alloc(), 0, "");
-    shows(&rt, rt.alloc(), 1, "1 6 fault on, 1 5 busy off, ");
-    shows(&rt, rt.alloc(), 3, ALL_SHOWN);
-    shows(&rt, rt.alloc(), 65_535, ALL_SHOWN);
+fn is_last_part(rt: &impl Abort, alloc: Global, part: &ChannelReport) {
+    let numbers = (part.channel(), part.made());
+    same_in(rt, "channel and made", &numbers, &(65535, 2));
+    assert_eq!(rt; part.refused(), [2].as_slice());
+    let shown = "1 6 fault on, 1 5 busy off, ";
+    are_shown(rt, alloc, part.placed(), shown);
 }

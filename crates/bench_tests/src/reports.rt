@@ -1,4 +1,5 @@
 //! Texts of reports: what is expected stands in the format's own words.
+use crate::equal::{prints, reads, same_in};
 use bc_machine::Placed;
 use bench_report::{ChannelReport, Report, ReportError, ReportFault, print_report, read_report};
 use mil_host::{Action, Mark};
@@ -95,23 +96,7 @@ const ORDERS: &[(&str, &str)] = &[
 ];
 
 fn report_of(rt: &impl Abort, alloc: Global, text: &str) -> Report {
-    read_report(alloc, text.as_bytes())
-        .ok()
-        .expect(rt, "a report")
-}
-
-/// The fault of a text, printed; nothing where it spells a report.
-fn fault(rt: &impl Abort, alloc: Global, text: &str) -> String {
-    match read_report(alloc, text.as_bytes()) {
-        Ok(_) => String::new(alloc),
-        Err(fault) => fault.to_string(alloc).expect(rt, "memory"),
-    }
-}
-
-/// What is printed of a text's fault.
-fn is_fault(rt: &impl Abort, alloc: Global, text: &str, wanted: &str) {
-    let printed = fault(rt, alloc, text);
-    assert_eq!(rt; printed.as_str(), wanted);
+    read_report(alloc, text.as_bytes()).ok().expect(rt, text)
 }
 
 /// What is printed of the fault of each text.
@@ -121,28 +106,40 @@ fn are_faults(rt: &impl Abort, alloc: Global, texts: &[(&str, &str)]) {
     }
 }
 
+/// What is printed of a text's fault.
+fn is_fault(rt: &impl Abort, alloc: Global, text: &str, wanted: &str) {
+    match read_report(alloc, text.as_bytes()) {
+        Ok(_) => reads(rt, text, "", wanted),
+        Err(fault) => prints(rt, alloc, text, &fault, wanted),
+    }
+}
+
 /// A report is printed as this text.
 fn is_printed(rt: &impl Abort, alloc: Global, report: &Report, wanted: &str) {
-    let printed = print_report(alloc, report).expect(rt, "memory");
-    assert_eq!(rt; printed.as_str(), wanted);
+    let printed = print_report(alloc, report).expect(rt, wanted);
+    reads(rt, wanted, printed.as_str(), wanted);
 }
 
 /// The part of a report of a channel without placed actions.
 fn is_part(rt: &impl Abort, part: &ChannelReport, channel: u16, made: u32, refused: &[u32]) {
-    assert_eq!(rt; (part.channel(), part.made()), (channel, made));
+    let found = (part.channel(), part.made(), part.placed().len());
+    same_in(rt, "channel, made and placed", &found, &(channel, made, 0));
     assert_eq!(rt; part.refused(), refused);
-    assert!(rt; part.placed().is_empty());
 }
 
 #[test]
 fn reads_and_prints_a_report(rt: HostRuntime) {
-    let report = report_of(&rt, rt.alloc(), TWO_CHANNELS);
-    assert_eq!(rt; report.packets(), 2);
+    is_the_first(&rt, rt.alloc(), &report_of(&rt, rt.alloc(), TWO_CHANNELS));
+}
+
+/// The report of two channels.
+fn is_the_first(rt: &impl Abort, alloc: Global, report: &Report) {
     let channels = report.channels();
+    same_in(rt, "packets", &report.packets(), &2);
     assert_eq!(rt; channels.len(), 2);
-    is_part(&rt, &channels[0], 1, 5, &[3, 4]);
-    is_part(&rt, &channels[1], 2, 1, &[]);
-    is_printed(&rt, rt.alloc(), &report, TWO_CHANNELS);
+    is_part(rt, &channels[0], 1, 5, &[3, 4]);
+    is_part(rt, &channels[1], 2, 1, &[]);
+    is_printed(rt, alloc, report, TWO_CHANNELS);
 }
 
 /// The report with two placed actions.
@@ -169,11 +166,16 @@ fn report_with_placed(rt: &impl Abort, alloc: Global) -> Report {
 
 /// The lists of a channel that refused nothing and has the two placed actions.
 fn has_placed(rt: &impl Abort, channel: ChannelReport) {
-    assert_eq!(rt; channel.channel(), 65535);
+    same_in(rt, "channel", &channel.channel(), &65535);
     let (refused, placed) = channel.into_lists();
-    assert!(rt; refused.is_empty());
+    same_in(rt, "refused", &refused.len(), &0);
+    are_the_two(rt, &placed);
+}
+
+fn are_the_two(rt: &impl Abort, placed: &[Placed]) {
     assert_eq!(rt; placed.len(), 2);
-    assert_eq!(rt; (placed[1].number, placed[1].address), (1000000, 0));
+    let second = (placed[1].number, placed[1].address);
+    same_in(rt, "the second", &second, &(1000000, 0));
     assert!(rt; matches!(&placed[0].action, Action::Fault(true)));
 }
 
@@ -181,10 +183,14 @@ fn has_placed(rt: &impl Abort, channel: ChannelReport) {
 fn prints_placed_actions(rt: HostRuntime) {
     let report = report_with_placed(&rt, rt.alloc());
     is_printed(&rt, rt.alloc(), &report, TWO_PLACED);
+}
+
+#[test]
+fn reads_placed_actions(rt: HostRuntime) {
     let read = report_of(&rt, rt.alloc(), TWO_PLACED);
-    assert_eq!(rt; read.packets(), 9999999999);
+    same_in(&rt, "packets", &read.packets(), &9999999999);
     let channels = read.into_channels();
-    assert_eq!(rt; channels.len(), 1);
+    same_in(&rt, "channels", &channels.len(), &1);
     for channel in channels {
         has_placed(&rt, channel);
     }
@@ -198,17 +204,9 @@ fn accepts_what_later_readers_judge(rt: HostRuntime) {
 }
 
 #[test]
-fn refuses_words(rt: HostRuntime) {
+fn refuses_words_numbers_and_lines_out_of_order(rt: HostRuntime) {
     are_faults(&rt, rt.alloc(), WORDS);
-}
-
-#[test]
-fn refuses_numbers(rt: HostRuntime) {
     are_faults(&rt, rt.alloc(), NUMBERS);
-}
-
-#[test]
-fn refuses_lines_out_of_order(rt: HostRuntime) {
     are_faults(&rt, rt.alloc(), ORDERS);
 }
 
@@ -218,6 +216,5 @@ fn prints_want_of_memory(rt: HostRuntime) {
         fault: ReportFault::Memory,
         line: 7,
     };
-    let printed = error.to_string(rt.alloc()).expect(&rt, "memory");
-    assert_eq!(rt; printed.as_str(), "X4 line 7");
+    prints(&rt, rt.alloc(), "memory", &error, "X4 line 7");
 }

@@ -2,7 +2,7 @@
 use bench_check::{print_findings, try_job};
 use job_file::read_job;
 use std::alloc::Global;
-use std::test::Fail;
+use std::process::Abort;
 
 /// A job with one of each mistake. Its first message has two words, and loses its answer; 400 ticks of it and 160 of pause behind a
 /// message that failed put the second one at tick 560.
@@ -76,26 +76,18 @@ queue 4: with room for so many nothing of this job is refused
 ";
 
 /// What a job of this text comes to.
-fn text_of(alloc: Global, job: &str) -> Result<Vec<u8>, Fail> {
-    let job = read_job(alloc, job.as_bytes()).ok().ok_or("a job")?;
+fn comes_to(rt: &impl Abort, alloc: Global, job: &str, wanted: &str) {
+    let job = read_job(alloc, job.as_bytes()).ok().expect(rt, "a job");
     let mut out = Vec::new(alloc);
-    let findings = try_job(alloc, &job, &mut out).ok().ok_or("findings")?;
-    print_findings(alloc, &job, &findings, &mut out)
-        .ok()
-        .ok_or("a text")?;
-    Ok(out)
+    let findings = try_job(alloc, &job, &mut out).ok().expect(rt, "findings");
+    let is_printed = print_findings(alloc, &job, &findings, &mut out).is_ok();
+    assert!(rt; is_printed);
+    assert_eq!(rt; out.as_slice(), wanted.as_bytes());
 }
 
 #[test]
-fn jobs_are_tried(rt: HostRuntime) -> Result<(), Fail> {
-    let rows = [
-        (MISTAKEN, MISTAKES),
-        (TRANSFER, TRANSFERRED),
-        (FAULTY, FAULTED),
-    ];
-    for (job, wanted) in rows {
-        let text = text_of(rt.alloc(), job)?;
-        assert_eq!(rt; text.as_slice(), wanted.as_bytes());
-    }
-    Ok(())
+fn jobs_are_tried(rt: HostRuntime) {
+    comes_to(&rt, rt.alloc(), MISTAKEN, MISTAKES);
+    comes_to(&rt, rt.alloc(), TRANSFER, TRANSFERRED);
+    comes_to(&rt, rt.alloc(), FAULTY, FAULTED);
 }

@@ -1,6 +1,6 @@
 //! What `bench explain` says.
+use crate::equal::{reads, same_in};
 use bench_explain::{explain, groups, print_explanation, print_list};
-use std::test::Fail;
 
 /// Every code that a crate of the program prints, and the words that stand for one.
 const CODES: [&str; 83] = [
@@ -12,58 +12,67 @@ const CODES: [&str; 83] = [
     "B2", "device", "memory", "unknown",
 ];
 
-#[test]
-fn every_code_has_a_text(rt: HostRuntime) {
-    for code in CODES {
-        let said = match explain(code) {
-            Some(explanation) => !explanation.means.is_empty()
-                && !explanation.remedy.is_empty()
-                && !explanation.example.is_empty(),
-            None => false,
-        };
-        assert!(rt; said, "{code}");
+/// What is printed of one code.
+const PRINTED: &str =
+    "S7: a number out of its range: repeat and until 1 to 10000, retry 1 to 8, gap 40 to 65535.\nChoose a number in the range; loops in one another multiply.\nExample: repeat 0 { send A mode 5 1 }\n";
+
+/// Whether a code has a meaning, a remedy and an example.
+fn is_explained(code: &str) -> bool {
+    match explain(code) {
+        Some(said) => {
+            !said.means.is_empty() && !said.remedy.is_empty() && !said.example.is_empty()
+        }
+        None => false,
     }
 }
 
 #[test]
-fn no_code_stands_twice(rt: HostRuntime) {
+fn every_code_has_a_text(rt: HostRuntime) {
+    for code in CODES {
+        same_in(&rt, code, &is_explained(code), &true);
+    }
+    same_in(&rt, "S12", &explain("S12").is_none(), &true);
+    same_in(&rt, "no code", &explain("").is_none(), &true);
+}
+
+/// How many codes the groups have.
+fn count_of_codes() -> usize {
     let mut count = 0usize;
     for group in groups() {
         count = count.wrapping_add(group.len());
     }
-    assert_eq!(rt; count, CODES.len());
+    count
 }
 
 #[test]
-fn another_word_has_none(rt: HostRuntime) {
-    assert!(rt; explain("S12").is_none());
-    assert!(rt; explain("").is_none());
+fn no_code_stands_twice(rt: HostRuntime) {
+    same_in(&rt, "groups", &count_of_codes(), &CODES.len());
 }
 
 #[test]
-fn a_code_is_printed_with_what_to_do(rt: HostRuntime) -> Result<(), Fail> {
+fn a_code_is_printed_with_what_to_do(rt: HostRuntime) {
     let mut out = Vec::new(rt.alloc());
-    let explanation = explain("S7").ok_or("an explanation")?;
-    print_explanation(&mut out, explanation)
-        .ok()
-        .ok_or("memory")?;
-    assert_eq!(rt;
-        out.as_slice(),
-        "S7: a number out of its range: repeat and until 1 to 10000, retry 1 to 8, gap 40 to 65535.\nChoose a number in the range; loops in one another multiply.\nExample: repeat 0 { send A mode 5 1 }\n".as_bytes()
-    );
-    Ok(())
+    let explanation = explain("S7").expect(&rt, "an explanation");
+    let is_printed = print_explanation(&mut out, explanation).is_ok();
+    assert!(rt; is_printed);
+    reads(&rt, &out, PRINTED);
 }
 
-#[test]
-fn the_list_has_a_line_a_code(rt: HostRuntime) -> Result<(), Fail> {
-    let mut out = Vec::new(rt.alloc());
-    print_list(&mut out).ok().ok_or("memory")?;
+/// How many lines a text has.
+fn count_of_lines(text: &[u8]) -> usize {
     let mut lines = 0usize;
-    for byte in &out {
+    for byte in text {
         if *byte == b'\n' {
             lines = lines.wrapping_add(1);
         }
     }
-    assert_eq!(rt; lines, CODES.len());
-    Ok(())
+    lines
+}
+
+#[test]
+fn the_list_has_a_line_a_code(rt: HostRuntime) {
+    let mut out = Vec::new(rt.alloc());
+    let is_printed = print_list(&mut out).is_ok();
+    assert!(rt; is_printed);
+    same_in(&rt, "lines", &count_of_lines(&out), &CODES.len());
 }

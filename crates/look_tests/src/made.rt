@@ -3,7 +3,7 @@ use bench_channel::one_channel;
 use ch11_writer::{MemorySink, Sink};
 use job_file::read_job;
 use std::alloc::Global;
-use std::test::Fail;
+use std::process::Abort;
 
 /// The job of examples/retry.job: three errors, each with a retry on the other line.
 pub(crate) const RETRY: &str =
@@ -27,14 +27,19 @@ pub(crate) const FOREIGN: [u8; 96] = [
     0x00, 0x00, 0x50, 0x00, 0x0A, 0x00, 0x23, 0x28, 0x01, 0x00, 0x02, 0x00, 0x03, 0x00, 0x00, 0x28,
 ];
 
+/// The recording of a job of this text, behind what a file holds.
+fn add_recording(rt: &impl Abort, alloc: Global, text: &str, file: &mut Vec<u8>) {
+    let job = read_job(alloc, text.as_bytes()).ok().expect(rt, "a job");
+    let sink = one_channel(alloc, &job, 6, 4096, MemorySink::make(alloc));
+    let sink = sink.ok().expect(rt, "a recording");
+    file.extend_from_slice(sink.bytes()).expect(rt, "memory");
+}
+
 /// The recordings of jobs of these texts, one behind the other.
-pub(crate) fn recorded(alloc: Global, texts: &[&str]) -> Result<Vec<u8>, Fail> {
+pub(crate) fn recorded(rt: &impl Abort, alloc: Global, texts: &[&str]) -> Vec<u8> {
     let mut file = Vec::new(alloc);
     for text in texts {
-        let job = read_job(alloc, text.as_bytes()).ok().ok_or("a job")?;
-        let sink = one_channel(alloc, &job, 6, 4096, MemorySink::make(alloc));
-        let sink = sink.ok().ok_or("a recording")?;
-        file.extend_from_slice(sink.bytes())?;
+        add_recording(rt, alloc, text, &mut file);
     }
-    Ok(file)
+    file
 }
