@@ -17,7 +17,7 @@ use bench_run::{Inbox, Mailbox, Poster, run_live};
 use ch11_writer::MemorySink;
 use gate::Posted;
 use hosts::{Host, post_all};
-use job_file::{Job, read_job};
+use job_file::{Job, read_jobs};
 use std::alloc::Global;
 use std::io;
 use std::sync::Wait;
@@ -28,12 +28,26 @@ const FIRST: &str = "channel 1\nterminal 5\nscript\nrepeat 100 { send A mode 5 1
 
 const SECOND: &str = "channel 2\nterminal 6\nscript\nrepeat 100 { send A mode 6 16 }\n";
 
-/// The mailbox of a job, the poster of its host, and the inbox; None where memory is refused.
-fn mail_for(alloc: Global, job: &Job) -> Option<(Mailbox, Poster, Inbox)>
-    ensures { IfSome result (λ r. MayPost r.0 r.1 × IsInboxOf r.0 r.2) }
+/// The mailbox of a job, the poster of its host, and the inbox.
+#[derive(Drop)]
+struct Mail {
+    mailbox: Mailbox,
+    poster: Poster,
+    inbox: Inbox,
+}
+
+/// The mail of a job; None where memory is refused.
+fn mail_for(alloc: Global, job: &Job) -> Option<Mail>
+    ensures { IfSome result (λ mail. MayPost mail.mailbox mail.poster × IsInboxOf mail.mailbox mail.inbox) }
 {
     match Mailbox::make(alloc, job, 4) {
-        Ok((mailbox, poster, inbox)) => Some((mailbox, poster, inbox)),
+        Ok((mailbox, poster, inbox)) => {
+            Some(Mail {
+                mailbox,
+                poster,
+                inbox,
+            })
+        }
         Err(_) => None,
     }
 }
@@ -49,8 +63,8 @@ fn settings(alloc: Global) -> Settings {
     }
 }
 
-/// Two values in a list; None where memory is refused.
-fn both<T: Drop>(alloc: Global, first: T, second: T) -> Option<Vec<T>>
+/// Two inboxes in a list; None where memory is refused.
+fn both(alloc: Global, first: Inbox, second: Inbox) -> Option<Vec<Inbox>>
     ensures { IfSome result (λ list. list.items ≡ first ∷ second ∷ []) }
 {
     let mut list = Vec::with_capacity(alloc, 2).ok()?;
@@ -105,33 +119,50 @@ fn lives<R: Threads + Wait + Sync>(
     }
 }
 
-/// The report of the whole example; None where memory is refused.
-fn report<R: Threads + Wait + Sync>(rt: &R, alloc: Global) -> Option<Report> {
-    let first = read_job(alloc, FIRST.as_bytes()).ok()?;
-    let second = read_job(alloc, SECOND.as_bytes()).ok()?;
-    let (first_box, first_poster, first_inbox) = mail_for(alloc, &first)?;
-    let (second_box, second_poster, second_inbox) = mail_for(alloc, &second)?;
-    let jobs = both(alloc, first, second)?;
-    let boxes = both(alloc, first_box, second_box)?;
-    let inboxes = both(alloc, first_inbox, second_inbox)?;
-    let (Some(first_box), Some(second_box)) = (boxes.first(), boxes.get(1)) else {
-        return None;
-    };
+/// The report of a run of the jobs with their mail; None where memory is refused.
+fn report_with<R: Threads + Wait + Sync>(
+    rt: &R,
+    alloc: Global,
+    jobs: &[Job],
+    first: Mail,
+    second: Mail,
+) -> Option<Report>
+    requires first { MayPost first.mailbox first.poster × IsInboxOf first.mailbox first.inbox }
+    requires second { MayPost second.mailbox second.poster × IsInboxOf second.mailbox second.inbox }
+{
+    let inboxes = both(alloc, first.inbox, second.inbox)?;
+    let boxes = [first.mailbox, second.mailbox];
     let first = Host {
-        mailbox: first_box,
-        poster: first_poster,
+        mailbox: &boxes[0],
+        poster: first.poster,
         channel: 1,
         address: 5,
         word: 0x00AA,
     };
     let second = Host {
-        mailbox: second_box,
-        poster: second_poster,
+        mailbox: &boxes[1],
+        poster: second.poster,
         channel: 2,
         address: 6,
         word: 0x0155,
     };
-    run_beside(rt, alloc, &jobs, &boxes, inboxes, first, second)
+    run_beside(rt, alloc, jobs, &boxes, inboxes, first, second)
+}
+
+/// The report of a run of the jobs; None where memory is refused.
+fn report_of<R: Threads + Wait + Sync>(rt: &R, alloc: Global, jobs: &[Job]) -> Option<Report> {
+    let (Some(first), Some(second)) = (jobs.first(), jobs.get(1)) else {
+        return None;
+    };
+    let first = mail_for(alloc, first)?;
+    let second = mail_for(alloc, second)?;
+    report_with(rt, alloc, jobs, first, second)
+}
+
+/// The report of the whole example; None where memory is refused.
+fn report<R: Threads + Wait + Sync>(rt: &R, alloc: Global) -> Option<Report> {
+    let jobs = read_jobs(alloc, &[FIRST.as_bytes(), SECOND.as_bytes()]).ok()?;
+    report_of(rt, alloc, &jobs)
 }
 
 /// Prints what a channel made, and what was placed besides.

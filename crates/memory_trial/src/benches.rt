@@ -27,7 +27,7 @@ const WHOLE: usize = 136;
 
 /// What two channels and a queue of one item make; None where memory is refused before.
 fn made_of_two(alloc: Global) -> Option<Result<World, WorldError>> {
-    let jobs = jobs_of(alloc, [FIVE, ONE])?;
+    let jobs = jobs_of(alloc, &[FIVE, ONE])?;
     let settings = Settings {
         version: 6,
         limit: 4096,
@@ -78,21 +78,41 @@ fn play(world: &mut World, steps: &[Step]) -> Told {
     }
 }
 
+/// Plays the steps in a world.
+fn play_all(alloc: Global, world: &mut World) -> Told {
+    match steps(alloc) {
+        Some(steps) => play(world, &steps),
+        None => Told::Early,
+    }
+}
+
+/// Whether all steps are done in a world.
+fn is_played(alloc: Global, world: &mut World) -> bool {
+    match steps(alloc) {
+        Some(steps) => world.play(&steps).is_ok(),
+        None => false,
+    }
+}
+
+/// The report of a world in which the steps are done.
+fn report(alloc: Global, world: &mut World) -> Told {
+    if is_played(alloc, world) {
+        Told::of(world.report(alloc).is_ok())
+    } else {
+        Told::Early
+    }
+}
+
 pub(crate) fn played(alloc: Global) -> Told {
-    match (world(alloc), steps(alloc)) {
-        (Some(mut world), Some(steps)) => play(&mut world, &steps),
-        _ => Told::Early,
+    match world(alloc) {
+        Some(mut world) => play_all(alloc, &mut world),
+        None => Told::Early,
     }
 }
 
 pub(crate) fn reported(alloc: Global) -> Told {
-    match (world(alloc), steps(alloc)) {
-        (Some(mut world), Some(steps)) => {
-            if world.play(&steps).is_err() {
-                return Told::Early;
-            }
-            Told::of(world.report(alloc).is_ok())
-        }
-        _ => Told::Early,
+    match world(alloc) {
+        Some(mut world) => report(alloc, &mut world),
+        None => Told::Early,
     }
 }

@@ -1,6 +1,6 @@
 //! Calls on the debugger.
 use crate::told::Told;
-use crate::worked::{HUNDRED, job_of};
+use crate::worked::{HUNDRED, jobs_of};
 use bench_channel::one_channel;
 use bench_report::{Report, read_report};
 use ch11_reader::Index;
@@ -14,38 +14,14 @@ use std::alloc::Global;
 /// The report of the job's run.
 const REPORT: &str = "channel 1\nmade 100\nplaced 3 5 busy on\nplaced 70 5 busy off\npackets 1\n";
 
-/// A move of the debugger.
+/// What is asked of the debugger: to open, or to move from place 68, from where on the terminal is busy up to message 70.
 #[derive(Clone, Copy)]
-enum Move {
+enum Asked<'a> {
+    Open,
     Forward,
     Back,
     Go,
-    Find,
-}
-
-/// A job, the file of its run, the report and a condition.
-#[derive(Drop)]
-struct Recorded {
-    jobs: Vec<Job>,
-    file: MemorySink,
-    report: Report,
-    condition: Cond<Global>,
-}
-
-/// None where memory is refused.
-fn recording_of(alloc: Global) -> Option<Recorded> {
-    let job = job_of(alloc, HUNDRED)?;
-    let file = one_channel(alloc, &job, 6, 65_536, MemorySink::make(alloc)).ok()?;
-    let mut jobs = Vec::new(alloc);
-    jobs.push(job).ok()?;
-    let report = read_report(alloc, REPORT.as_bytes()).ok()?;
-    let condition = read_cond(alloc, b"not bit busy").ok()?;
-    Some(Recorded {
-        jobs,
-        file,
-        report,
-        condition,
-    })
+    Find(&'a Cond<Global>),
 }
 
 /// The place, and the number and the clock of the controller.
@@ -57,87 +33,131 @@ fn seen(replay: &Replay<'_>) -> (u64, u32, u64) {
     (replay.place(), machine.number(), machine.bus().clock())
 }
 
-pub(crate) fn opened(alloc: Global) -> Told {
-    let Some(one) = recording_of(alloc) else {
-        return Told::Early;
-    };
-    let Ok(index) = Index::build(alloc, one.file.bytes()) else {
-        return Told::Early;
-    };
-    match Replay::open(alloc, &one.jobs, &one.report, index) {
-        Ok(replay) => Told::well(replay.total() == 100),
-        Err(ReplayError::Memory) => Told::Refused,
-        Err(_) => Told::Wrong,
+/// Makes what is asked.
+fn go_there(replay: &mut Replay<'_>, asked: Asked<'_>) -> Result<(), ReplayError> {
+    match asked {
+        Asked::Open => Ok(()),
+        Asked::Forward => replay.forward(),
+        Asked::Back => replay.back(),
+        Asked::Go => replay.go(90),
+        Asked::Find(condition) => replay.find(condition),
     }
 }
 
-/// Makes a move from where the debugger stands.
-fn go_there(replay: &mut Replay<'_>, one: &Recorded, asked: Move) -> Result<(), ReplayError> {
+/// Where what is asked leads.
+fn aim(asked: Asked<'_>) -> u64 {
     match asked {
-        Move::Forward => replay.forward(),
-        Move::Back => replay.back(),
-        Move::Go => replay.go(90),
-        Move::Find => replay.find(&one.condition),
-    }
-}
-
-/// Where each move leads from place 68, from where on the terminal is busy up to message 70.
-fn aim(asked: Move) -> u64 {
-    match asked {
-        Move::Forward => 69,
-        Move::Back => 67,
-        Move::Go => 90,
-        Move::Find => 70,
+        Asked::Open => 0,
+        Asked::Forward => 69,
+        Asked::Back => 67,
+        Asked::Go => 90,
+        Asked::Find(_) => 70,
     }
 }
 
 /// A move that is refused leaves place and state as they were, and leads where it should once it is made again.
-fn moved(replay: &mut Replay<'_>, one: &Recorded, asked: Move) -> Told {
+fn moved(replay: &mut Replay<'_>, asked: Asked<'_>) -> Told {
+    if replay.go(68).is_err() {
+        return Told::Early;
+    }
     let before = seen(replay);
-    let first = go_there(replay, one, asked);
+    let first = go_there(replay, asked);
     let there = replay.place() == aim(asked);
     let same = seen(replay) == before;
     match first {
         Ok(()) => Told::well(there && !same),
         Err(ReplayError::Memory) => {
-            let again = go_there(replay, one, asked).is_ok();
+            let again = go_there(replay, asked).is_ok();
             Told::refused(same && again && replay.place() == aim(asked))
         }
         Err(_) => Told::Wrong,
     }
 }
 
-/// Opens the recording, goes to place 68, and moves from there.
-fn moved_from(alloc: Global, asked: Move) -> Told {
-    let Some(one) = recording_of(alloc) else {
-        return Told::Early;
-    };
-    let Ok(index) = Index::build(alloc, one.file.bytes()) else {
-        return Told::Early;
-    };
-    match Replay::open(alloc, &one.jobs, &one.report, index) {
-        Ok(mut replay) => {
-            if replay.go(68).is_err() {
-                return Told::Early;
-            }
-            moved(&mut replay, &one, asked)
-        }
+/// What is asked of a debugger that has opened.
+fn from_there(replay: &mut Replay<'_>, asked: Asked<'_>) -> Told {
+    match asked {
+        Asked::Open => Told::well(replay.total() == 100),
+        _ => moved(replay, asked),
+    }
+}
+
+/// What is asked of a debugger that has not opened.
+fn not_open(error: ReplayError, asked: Asked<'_>) -> Told {
+    match (error, asked) {
+        (ReplayError::Memory, Asked::Open) => Told::Refused,
+        (_, Asked::Open) => Told::Wrong,
+        _ => Told::Early,
+    }
+}
+
+// (Each of the four below has one thing more of those that the debugger needs, and lets go of no other.)
+fn of_index(
+    alloc: Global,
+    jobs: &[Job],
+    report: &Report,
+    index: Index<'_>,
+    asked: Asked<'_>,
+) -> Told {
+    match Replay::open(alloc, jobs, report, index) {
+        Ok(mut replay) => from_there(&mut replay, asked),
+        Err(error) => not_open(error, asked),
+    }
+}
+
+fn of_report(alloc: Global, jobs: &[Job], file: &[u8], report: &Report, asked: Asked<'_>) -> Told {
+    match Index::build(alloc, file) {
+        Ok(index) => of_index(alloc, jobs, report, index, asked),
         Err(_) => Told::Early,
     }
 }
 
+fn of_file(alloc: Global, jobs: &[Job], file: &[u8], asked: Asked<'_>) -> Told {
+    match read_report(alloc, REPORT.as_bytes()) {
+        Ok(report) => of_report(alloc, jobs, file, &report, asked),
+        Err(_) => Told::Early,
+    }
+}
+
+fn of_jobs(alloc: Global, jobs: &[Job], asked: Asked<'_>) -> Told {
+    match recorded(alloc, jobs) {
+        Some(file) => of_file(alloc, jobs, file.bytes(), asked),
+        None => Told::Early,
+    }
+}
+
+/// The file of the run of the first job; None where memory is refused.
+fn recorded(alloc: Global, jobs: &[Job]) -> Option<MemorySink> {
+    one_channel(alloc, jobs.first()?, 6, 65_536, MemorySink::make(alloc)).ok()
+}
+
+/// What is asked of the debugger, of the run of a hundred messages.
+fn tried(alloc: Global, asked: Asked<'_>) -> Told {
+    match jobs_of(alloc, &[HUNDRED]) {
+        Some(jobs) => of_jobs(alloc, &jobs, asked),
+        None => Told::Early,
+    }
+}
+
+pub(crate) fn opened(alloc: Global) -> Told {
+    tried(alloc, Asked::Open)
+}
+
 pub(crate) fn forward(alloc: Global) -> Told {
-    moved_from(alloc, Move::Forward)
+    tried(alloc, Asked::Forward)
 }
 
 pub(crate) fn back(alloc: Global) -> Told {
-    moved_from(alloc, Move::Back)
+    tried(alloc, Asked::Back)
 }
 
 pub(crate) fn go(alloc: Global) -> Told {
-    moved_from(alloc, Move::Go)
+    tried(alloc, Asked::Go)
 }
 
 pub(crate) fn found(alloc: Global) -> Told {
-    moved_from(alloc, Move::Find)
+    match read_cond(alloc, b"not bit busy") {
+        Ok(condition) => tried(alloc, Asked::Find(&condition)),
+        Err(_) => Told::Early,
+    }
 }

@@ -5,6 +5,7 @@ use crate::told::Told;
 use crate::worked::{FIVE, ONE, job_of, jobs_of};
 use bench_channel::{ChannelFault, one_channel};
 use bench_core::Settings;
+use bench_report::Report;
 use bench_run::{MailError, Mailbox, OpenGate, RunError, run};
 use ch11_writer::MemorySink;
 use job_file::Job;
@@ -33,42 +34,58 @@ pub(crate) fn trunk(alloc: Global) -> Told {
     }
 }
 
-pub(crate) fn mailbox(alloc: Global) -> Told {
-    let Some(job) = job_of(alloc, FIVE) else {
-        return Told::Early;
-    };
-    match Mailbox::make(alloc, &job, 2) {
+/// The mailbox of a job.
+fn mailbox_of(alloc: Global, job: &Job) -> Told {
+    match Mailbox::make(alloc, job, 2) {
         Ok(_) => Told::Well,
         Err(MailError::Memory) => Told::Refused,
         Err(MailError::Capacity) => Told::Wrong,
     }
 }
 
-/// What a refused channel came to: a growth of its own, or one of its sink, which is a fault of the sink.
-fn channel_refused(fault: &ChannelFault<MemorySink>) -> Told {
-    match fault {
-        ChannelFault::Memory { sink } => Told::refused(sink.bytes().is_empty()),
-        ChannelFault::Sink { sink, taken } => Told::refused(sink.bytes().len() as u64 == *taken),
-        ChannelFault::Limit { .. } => Told::Wrong,
+pub(crate) fn mailbox(alloc: Global) -> Told {
+    match job_of(alloc, FIVE) {
+        Some(job) => mailbox_of(alloc, &job),
+        None => Told::Early,
+    }
+}
+
+/// What a channel came to: a file, a growth of its own that was refused, or one of its sink, which is a fault of the sink.
+fn channel_told(answer: &Result<MemorySink, ChannelFault<MemorySink>>) -> Told {
+    match answer {
+        Ok(sink) => Told::well(sink.bytes().len() == 128),
+        Err(ChannelFault::Memory { sink }) => Told::refused(sink.bytes().is_empty()),
+        Err(ChannelFault::Sink { sink, taken }) => {
+            Told::refused(sink.bytes().len() as u64 == *taken)
+        }
+        Err(ChannelFault::Limit { .. }) => Told::Wrong,
     }
 }
 
 pub(crate) fn one_channel_recorded(alloc: Global) -> Told {
-    let Some(job) = job_of(alloc, FIVE) else {
-        return Told::Early;
-    };
-    match one_channel(alloc, &job, 6, 4096, MemorySink::make(alloc)) {
-        Ok(sink) => Told::well(sink.bytes().len() == 128),
-        Err(fault) => channel_refused(&fault),
+    match job_of(alloc, FIVE) {
+        Some(job) => {
+            channel_told(&one_channel(
+                alloc,
+                &job,
+                6,
+                4096,
+                MemorySink::make(alloc),
+            ))
+        }
+        None => Told::Early,
     }
 }
 
-/// What a refused run came to.
-fn run_refused(fault: &RunError<MemorySink>) -> Told {
-    match fault {
-        RunError::Memory { .. } => Told::Refused,
-        RunError::Sink { sink, taken, .. } => Told::refused(sink.bytes().len() as u64 == *taken),
-        _ => Told::Wrong,
+/// What a run came to.
+fn run_told(answer: &Result<(Report, MemorySink), RunError<MemorySink>>) -> Told {
+    match answer {
+        Ok(whole) => Told::well(whole.1.bytes().len() == 176),
+        Err(RunError::Memory { .. }) => Told::Refused,
+        Err(RunError::Sink { sink, taken, .. }) => {
+            Told::refused(sink.bytes().len() as u64 == *taken)
+        }
+        Err(_) => Told::Wrong,
     }
 }
 
@@ -81,21 +98,12 @@ fn ran<R: Threads + Wait + Sync>(rt: &R, alloc: Global, jobs: &[Job]) -> Told {
         prologue: Vec::new(alloc),
         posts: 0,
     };
-    match run(
-        rt,
-        alloc,
-        jobs,
-        &settings,
-        &OpenGate,
-        MemorySink::make(alloc),
-    ) {
-        Ok(whole) => Told::well(whole.1.bytes().len() == 176),
-        Err(fault) => run_refused(&fault),
-    }
+    let sink = MemorySink::make(alloc);
+    run_told(&run(rt, alloc, jobs, &settings, &OpenGate, sink))
 }
 
 pub(crate) fn two_channels<R: Threads + Wait + Sync>(rt: &R, alloc: Global) -> Told {
-    match jobs_of(alloc, [FIVE, ONE]) {
+    match jobs_of(alloc, &[FIVE, ONE]) {
         Some(jobs) => ran(rt, alloc, &jobs),
         None => Told::Early,
     }

@@ -4,26 +4,27 @@ use crate::worked::{LOOPS, SCRIPT};
 use bumpalo::Bump;
 use frame_asm::{AsmError, assemble};
 use frame_code::{ImageError, read_image, write_image};
-use frame_load::load;
+use frame_load::{Program, load};
 use frame_text::{ScriptError, parse, print, read_cond};
 use frame_tree::Frame;
 use std::alloc::{AllocError, Global};
 
-pub(crate) fn parsed(alloc: Global) -> Told {
-    match parse(alloc, SCRIPT) {
+/// What a text was answered with.
+fn answered<T>(answer: &Result<T, ScriptError>) -> Told {
+    match answer {
         Ok(_) => Told::Well,
         Err(ScriptError::Memory { .. }) => Told::Refused,
         Err(ScriptError::Text { .. }) => Told::Wrong,
     }
 }
 
+pub(crate) fn parsed(alloc: Global) -> Told {
+    answered(&parse(alloc, SCRIPT))
+}
+
 pub(crate) fn parsed_in_arena(alloc: Global) -> Told {
     let arena = Bump::new(alloc);
-    match parse(&arena, SCRIPT) {
-        Ok(_) => Told::Well,
-        Err(ScriptError::Memory { .. }) => Told::Refused,
-        Err(ScriptError::Text { .. }) => Told::Wrong,
-    }
+    answered(&parse(&arena, SCRIPT))
 }
 
 pub(crate) fn copied(alloc: Global) -> Told {
@@ -44,21 +45,25 @@ pub(crate) fn printed(alloc: Global) -> Told {
 }
 
 pub(crate) fn condition(alloc: Global) -> Told {
-    match read_cond(alloc, b"any ( fail all ( silent not bit busy ) )") {
+    answered(&read_cond(
+        alloc,
+        b"any ( fail all ( silent not bit busy ) )",
+    ))
+}
+
+/// The image of a frame.
+fn image_of(alloc: Global, frame: &Frame<Global>) -> Told {
+    match assemble(alloc, frame) {
         Ok(_) => Told::Well,
-        Err(ScriptError::Memory { .. }) => Told::Refused,
-        Err(ScriptError::Text { .. }) => Told::Wrong,
+        Err(AsmError::Memory) => Told::Refused,
+        Err(_) => Told::Wrong,
     }
 }
 
 pub(crate) fn assembled(alloc: Global) -> Told {
-    let Ok(frame) = parse(alloc, SCRIPT) else {
-        return Told::Early;
-    };
-    match assemble(alloc, &frame) {
-        Ok(_) => Told::Well,
-        Err(AsmError::Memory) => Told::Refused,
-        Err(_) => Told::Wrong,
+    match parse(alloc, SCRIPT) {
+        Ok(frame) => image_of(alloc, &frame),
+        Err(_) => Told::Early,
     }
 }
 
@@ -77,12 +82,14 @@ pub(crate) fn image_read(alloc: Global) -> Told {
     }
 }
 
+/// The program of the image; None where memory is refused.
+fn program(alloc: Global) -> Option<Program> {
+    load(alloc, read_image(alloc, &LOOPS).ok()?).ok()
+}
+
 pub(crate) fn program_copied(alloc: Global) -> Told {
-    let Ok(image) = read_image(alloc, &LOOPS) else {
-        return Told::Early;
-    };
-    match load(alloc, image) {
-        Ok(program) => Told::of(program.copy().is_ok()),
-        Err(_) => Told::Early,
+    match program(alloc) {
+        Some(program) => Told::of(program.copy().is_ok()),
+        None => Told::Early,
     }
 }

@@ -42,8 +42,8 @@ pub(crate) fn job_of(alloc: Global, text: &str) -> Option<Job> {
     read_job(alloc, text.as_bytes()).ok()
 }
 
-/// The jobs of two texts; None where memory is refused.
-pub(crate) fn jobs_of(alloc: Global, texts: [&str; 2]) -> Option<Vec<Job>> {
+/// The jobs of texts; None where memory is refused.
+pub(crate) fn jobs_of(alloc: Global, texts: &[&str]) -> Option<Vec<Job>> {
     let mut jobs = Vec::new(alloc);
     for text in texts {
         jobs.push(job_of(alloc, text)?).ok()?;
