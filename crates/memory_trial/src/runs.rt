@@ -64,15 +64,7 @@ fn channel_told(answer: &Result<MemorySink, ChannelFault<MemorySink>>) -> Told {
 
 pub(crate) fn one_channel_recorded(alloc: Global) -> Told {
     match job_of(alloc, FIVE) {
-        Some(job) => {
-            channel_told(&one_channel(
-                alloc,
-                &job,
-                6,
-                4096,
-                MemorySink::make(alloc),
-            ))
-        }
+        Some(job) => { channel_told(&one_channel(alloc, &job, 6, 4096, MemorySink::make(alloc))) }
         None => Told::Early,
     }
 }

@@ -45,10 +45,7 @@ pub(crate) fn printed(alloc: Global) -> Told {
 }
 
 pub(crate) fn condition(alloc: Global) -> Told {
-    answered(&read_cond(
-        alloc,
-        b"any ( fail all ( silent not bit busy ) )",
-    ))
+    answered(&read_cond(alloc, b"any ( fail all ( silent not bit busy ) )"))
 }
 
 /// The image of a frame.
