@@ -19,8 +19,9 @@ use Rattle.frame_text.specs.Messages.{line_at, message_at, message_of, message_w
 use Rattle.frame_text.specs.PrintedMessages.{data_word_text, line_text}
 use Rattle.frame_text.proofs.Tables.{pick}
 use Rattle.frame_text.proofs.Digits.{number_back, data_word_back}
-use Rattle.frame_text.proofs.Spelling.{AreWords, words_then, brackets_then}
-use Rattle.frame_text.proofs.PrintedForms.{Small, IsReadable, HasSmall, has_small, MayFollow, message_then, in_table}
+use Rattle.frame_text.specs.Chains.{AreWords, IsReadable}
+use Rattle.frame_text.proofs.Spelling.{words_then, brackets_then}
+use Rattle.frame_text.proofs.PrintedForms.{Small, HasSmall, has_small, MayFollow, message_then, in_table}
 
 -- a mode command whose code has no other form
 mode_is : (a : ℕ) (s : ModeSubaddress) (c : ℕ) → is_code_alone c ≡ true → mode_request a s c None ≡ mode a s c None

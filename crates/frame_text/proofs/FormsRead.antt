@@ -17,8 +17,7 @@ use Rattle.frame_text.specs.Messages.{line_at, message_at, message_of, message_w
 use Rattle.frame_text.specs.declared.keywords.MessageWord.{MessageWord}
 use Rattle.frame_text.specs.declared.keywords.MessageWord.TheVariants as key
 use Rattle.frame_text.proofs.Soundness.{bind_ok, ok_is, both_true}
-use Rattle.frame_text.proofs.Spelling.{AreWords}
-use Rattle.frame_text.proofs.PrintedForms.{IsReadable}
+use Rattle.frame_text.specs.Chains.{AreWords, IsReadable}
 
 -- a hexadecimal digit
 abbrev IsDigit : Option ℕ → Type 0

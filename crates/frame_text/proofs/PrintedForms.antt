@@ -14,8 +14,9 @@ use Rattle.mil_message.specs.Forms.{data_words}
 use Rattle.mil_message.specs.Rules.{IsLawful, first_fault, is_address, is_subaddress, is_count, is_code_alone, is_code_from, is_code_to}
 use Rattle.mil_message.proofs.Checked.{head_met, second_met, middle_met, third_met, four_met}
 use Rattle.frame_text.specs.Reading.{Tokens, same}
+use Rattle.frame_text.specs.Chains.{IsReadable}
 use Rattle.frame_text.specs.PrintedMessages.{line_text, mode_text, mode_all_text, message_text, send_text}
-use Rattle.frame_text.proofs.Spelling.{Spells, AreWords, brackets_then, brackets_spell, number_spells, word_spells, spaced_spells}
+use Rattle.frame_text.proofs.Spelling.{Spells, brackets_then, brackets_spell, number_spells, word_spells, spaced_spells}
 
 abbrev pub Small : ℕ → Type 0
 Small n = n < 10 ^ 7
@@ -44,10 +45,6 @@ alone_small n e = below n 15 (omega arith) e
 
 pub in_table : (n : ℕ) (b : Bool) → (nat_le n 31 && b) ≡ true → n < 32
 in_table n b e = let l = leb-true n 31 (both_hold (nat_le n 31) b e).0 in omega (arith, l)
-
--- a message that a script may have: its numbers in their ranges, its words of 16 bits
-abbrev pub IsReadable : Form → Type 0
-IsReadable m = IsLawful m × AreWords (data_words m)
 
 -- the tokens of a message, in front of others
 abbrev pub message_then : Form → Tokens → Tokens

@@ -11,11 +11,12 @@ use Rattle.frame_text.specs.Words.{number_within}
 use Rattle.frame_text.specs.Messages.{send_at}
 use Rattle.frame_text.specs.Frames.{Reader, frame_at, frame_from, frame_of, frame_word, frames_at, block_at, block_from, inner_at, else_at, label_at, call_at, main_at, definition_at, script_at}
 use Rattle.frame_text.specs.Printing.{is_empty}
+use Rattle.frame_text.specs.Chains.{IsRead, IsScript}
 use Rattle.frame_text.proofs.Scripts.{frames_on, main_on, no_definition, defines}
 use Rattle.frame_text.proofs.PrintedForms.{MayFollow, send_then}
 use Rattle.frame_text.proofs.FormsBack.{number_then, send_back}
 use Rattle.frame_text.proofs.ConditionsBack.{condition_back}
-use Rattle.frame_text.proofs.TreesBack.{IsRead, IsScript, tree_then, begins, follows, longer, number_spelled}
+use Rattle.frame_text.proofs.TreesBack.{tree_then, begins, follows, longer, number_spelled}
 
 within_back : (low high n : ℕ) (ts : Tokens) → high ≤ 65535 → low ≤ n → n ≤ high → number_within low high (decimal n ∷ ts) ≡ Ok (n, ts)
 unfolding number_within

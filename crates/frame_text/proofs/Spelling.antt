@@ -4,6 +4,7 @@ use Rattle.std.specs.Prelude.{codes, decimal, ◌&&◌}
 use Rattle.std.proofs.lemmas.Fmt.{decimal_nonempty}
 use Rattle.frame_text.specs.Tokens.{in_word, goes_on, glued, lex}
 use Rattle.frame_text.specs.Reading.{Tokens}
+use Rattle.frame_text.specs.Chains.{AreWords}
 use Rattle.frame_text.specs.PrintedMessages.{spaced, data_word_text, bracketed_text}
 use Rattle.frame_text.specs.Printing.{indent, block_text}
 use Rattle.frame_text.proofs.Lexing.{lex_token, word_apart}
@@ -81,11 +82,6 @@ block_spells depth {inner = inner} {f = f} p = record {
       ∙ ap (λ xs. codes "{" ∷ xs) (p.reads ((indent depth ++ codes "}") ++ rest))
       ∙ ap (λ xs. codes "{" ∷ f xs) ((indent_spells depth brace_spells).reads rest);
 }
-
--- 16-bit words
-abbrev pub AreWords : List ℕ → Type 0
-AreWords [] = Unit {0}
-AreWords (w ∷ ws) = (w < 65536) × AreWords ws
 
 abbrev pub words_then : List ℕ → Tokens → Tokens
 words_then [] ts = ts

@@ -14,37 +14,9 @@ use Rattle.frame_text.specs.Reading.{Tokens, same}
 use Rattle.frame_text.specs.PrintedMessages.{line_text}
 use Rattle.frame_text.specs.Printing.{lines, is_empty, block_text, else_text}
 use Rattle.frame_text.proofs.Spelling.{Spells, SpellsLines, word_spells, number_spells, spaced_lines, line_spells, indent_spells, lines_spell, no_lines, block_spells, words_then}
-use Rattle.frame_text.proofs.PrintedForms.{Small, IsReadable, MayFollow, message_then, send_then, send_spells}
+use Rattle.frame_text.specs.Chains.{IsRead, IsScript}
+use Rattle.frame_text.proofs.PrintedForms.{Small, MayFollow, message_then, send_then, send_spells}
 use Rattle.frame_text.proofs.ConditionsBack.{condition_then, condition_spells, condition_grows}
-
--- A tree that a text may have: frames in sequence are a chain that holds no chain itself, and each message can be read. The first
--- argument tells whether a chain or one frame is asked for.
-abbrev pub IsRead : Bool → Tree → Type 0
-IsRead true nothing = Unit {0}
-IsRead true (chained a b) = IsRead false a × IsRead true b
-IsRead true (send line m) = ⊥
-IsRead true (retry n line m) = ⊥
-IsRead true (gap n) = ⊥
-IsRead true (repeat n b) = ⊥
-IsRead true (choose c a b) = ⊥
-IsRead true (until c n b) = ⊥
-IsRead true (call n) = ⊥
-IsRead true (define n b r) = ⊥
-IsRead false nothing = ⊥
-IsRead false (chained a b) = ⊥
-IsRead false (send line m) = IsReadable m
-IsRead false (retry n line m) = IsReadable m
-IsRead false (gap n) = Unit {0}
-IsRead false (repeat n b) = IsRead true b
-IsRead false (choose c a b) = IsRead true a × IsRead true b
-IsRead false (until c n b) = IsRead true b
-IsRead false (call n) = is_name n ≡ true
-IsRead false (define n b r) = ⊥
-
--- the tree of a script: definitions, and a chain behind them
-abbrev pub IsScript : Tree → Type 0
-IsScript (define n b r) = (is_name n ≡ true) × IsRead true b × IsScript r
-IsScript t = IsRead true t
 
 pub script_of : (t : Tree) → IsRead true t → IsScript t
 script_of nothing r = r

@@ -12,12 +12,13 @@ use Rattle.frame_text.specs.Messages.{send_at}
 use Rattle.frame_text.specs.Conditions.{condition_at}
 use Rattle.frame_text.specs.Frames.{Reader, frame_at, frame_from, frame_of, frame_word, frames_at, block_at, block_from, inner_at, else_at, label_at, call_at, main_at, fresh_name_at, definition_at, script_at, bounded, tree_of_text}
 use Rattle.frame_text.specs.Printing.{printed}
+use Rattle.frame_text.specs.Chains.{IsRead, IsScript}
 use Rattle.frame_text.specs.declared.faults.Cause.TheVariants as cause
 use Rattle.frame_text.specs.declared.keywords.FrameWord.{FrameWord}
 use Rattle.frame_text.specs.declared.keywords.FrameWord.TheVariants as word
 use Rattle.frame_text.proofs.Soundness.{bind_ok, ok_is, script_is_sound}
 use Rattle.frame_text.proofs.FormsRead.{send_ok}
-use Rattle.frame_text.proofs.TreesBack.{IsRead, IsScript, script_of, tree_then, script_spells}
+use Rattle.frame_text.proofs.TreesBack.{script_of, tree_then, script_spells}
 use Rattle.frame_text.proofs.ScriptsBack.{script_back}
 use Rattle.std.proofs.lemmas.List.{append-nil}
 
@@ -139,7 +140,8 @@ definition_read ds ts x e =
     by m h true n i = absurd (cc)
     by m h false n i = subst (λ (z : List ℕ × Tokens). is_name z.0 ≡ true) (ok_is m n i) h
 
-script_read : (k : ℕ) (ds : Scope ℕ) (ts : Tokens) (t : Tree) → script_at k ds ts ≡ Ok t → IsScript t
+-- what is read of a whole text is a script
+pub script_read : (k : ℕ) (ds : Scope ℕ) (ts : Tokens) (t : Tree) → script_at k ds ts ≡ Ok t → IsScript t
 unfolding script_at
 script_read k ds [] t e = subst IsScript (ok_is _ t e) tt
 script_read zero ds (w ∷ ts) t e = by (same w (codes "define")) e
@@ -158,29 +160,13 @@ script_read (suc k) ds (w ∷ ts) t e = by (same w (codes "define")) (λ xs us u
         subst IsScript (ok_is _ t u.2) (s.0, s.1, more ((x.0.0.0, depth_in ds x.0.0.1) ∷ ds) x.0.1 u.0 u.1)
     by false more i = script_of t (main_read ds (length (w ∷ ts)) (w ∷ ts) t i)
 
--- a tree within the bound is that of its text, and nothing else
-bounded_is : (t u : Tree) → bounded t ≡ Ok u → (t ≡ u) × (worst_messages t ≤ 1000000)
-bounded_is t u e = by (nat_le (worst_messages t) 1000000) refl e
-  where
-    by : (b : Bool) → nat_le (worst_messages t) 1000000 ≡ b → cond b (Ok t) (Err cause.Messages) ≡ Ok u → (t ≡ u) × (worst_messages t ≤ 1000000)
-    by true i h = (ok_is t u h, leb-true (worst_messages t) 1000000 i)
-    by false i h = absurd (cc)
-
 -- the tokens of a printed tree
 printed_tokens : (t : Tree) → IsScript t → IsSound t → tokens (printed t) ≡ tree_then t []
 unfolding lex
 printed_tokens t r s = ap (lex false) (sym (append-nil (printed t))) ∙ (script_spells t r s.in_range).reads []
 
-sound_back : (t : Tree) → IsScript t → IsSound t → tree_of_text (printed t) ≡ Ok t
+pub sound_back : (t : Tree) → IsScript t → IsSound t → tree_of_text (printed t) ≡ Ok t
 sound_back t r s =
     ap (λ ts. script_at 32 [] ts >>= (λ u. bounded u)) (printed_tokens t r s)
     ∙ ap (λ z. z >>= (λ u. bounded u)) (script_back t 32 [] [] (λ n. refl) (omega arith) r s.in_range s.defined s.shallow)
     ∙ ap (λ b. cond b (Ok t) (Err cause.Messages)) (le-leb (worst_messages t) 1000000 s.bounded)
-
--- what a text has as its tree, its print has too
-pub print_reads_back : (text : List ℕ) (t : Tree) → tree_of_text text ≡ Ok t → tree_of_text (printed t) ≡ Ok t
-print_reads_back text t e =
-    let ts = tokens text in
-    let u = bind_ok (script_at 32 [] ts) (λ v. bounded v) t e in
-    let k = bounded_is u.0 t u.2 in
-    sound_back t (subst IsScript k.0 (script_read 32 [] ts u.0 u.1)) (subst IsSound k.0 (script_is_sound ts u.0 u.1 k.1))

@@ -8,3 +8,4 @@ pub mod Places
 pub mod PrintedMessages
 pub mod PrintedConditions
 pub mod Printing
+pub mod Chains

@@ -2,7 +2,7 @@
 //! from left to right. Its tests are in `frame_tests`.
 #![tactic(auto)]
 
-ghost use Rattle.std.specs.Prelude.{◌≡◌, ℕ, List, Ok, IfOk, IfErr, string_bytes};
+ghost use Rattle.std.specs.Prelude.{◌≡◌, Ok, IfOk, IfErr, string_bytes};
 ghost use Rattle.frame_tree.specs.Tree.{test_of, tree_of};
 ghost use Rattle.frame_tree.specs.Bounds.{IsSound};
 ghost use Rattle.frame_text.specs.Reading.{Answers, IsTextError};
@@ -11,12 +11,14 @@ ghost use Rattle.frame_text.specs.Conditions.{condition_of_text};
 ghost use Rattle.frame_text.specs.Frames.{tree_of_text};
 ghost use Rattle.frame_text.specs.Places.{StandsIn};
 ghost use Rattle.frame_text.specs.Printing.{printed};
+ghost use Rattle.frame_text.specs.Chains.{IsScript};
 
 mod conditions;
 mod definitions;
 pub mod faults;
 mod frames;
 mod keywords;
+mod laws;
 mod memory;
 mod messages;
 mod places;
@@ -29,17 +31,20 @@ mod words;
 
 pub use faults::{Cause, Place, ScriptError};
 use frame_tree::{Cond, Frame};
+pub use laws::scripts_read_back;
 use mil_message::Message;
 use mil_word::Line;
 use places::located;
 use printed_frames::put_lines;
 use std::alloc::{AllocError, Allocator, Global};
 
-/// The frame of a script. It is refused with the first fault from left to right, or for want of memory; a frame is sound.
+/// The frame of a script. It is refused with the first fault from left to right, or for want of memory; a frame is sound, a chain of
+/// frames behind its definitions.
 pub fn parse<A: Allocator + Clone>(alloc: A, text: &[u8]) -> Result<Frame<A>, ScriptError>
     ensures tree { Answers tree_of result (tree_of_text text.now) }
     ensures place { IfErr result (λ e. StandsIn text.now e) }
     ensures sound { IfOk result (λ f. IsSound (tree_of f)) }
+    ensures script { IfOk result (λ f. IsScript (tree_of f)) }
 {
     match whole::script(&alloc, text) {
         Ok(frame) => Ok(frame),
@@ -70,11 +75,11 @@ pub fn read_cond<A: Allocator + Clone>(alloc: A, text: &[u8]) -> Result<Cond<A>,
     }
 }
 
-/// The text of a frame: one frame a line, two spaces for each open block, an empty else left out. The tree that `parse` gives of
-/// a text is also the tree of its print.
+/// The text of a frame: one frame a line, two spaces for each open block, an empty else left out. Of a sound script, such as
+/// `parse` gives, the tree is also that of its print.
 pub fn print<A: Allocator + Clone>(alloc: Global, frame: &Frame<A>) -> Result<String, AllocError>
     ensures text { IfOk result (λ s. string_bytes s ≡ printed (tree_of frame.now)) }
-    ensures same_tree { IfOk result (λ s. (text : List ℕ) → tree_of_text text ≡ Ok (tree_of frame.now) → tree_of_text (string_bytes s) ≡ Ok (tree_of frame.now)) }
+    ensures reads_back { IfOk result (λ s. IsScript (tree_of frame.now) → IsSound (tree_of frame.now) → tree_of_text (string_bytes s) ≡ Ok (tree_of frame.now)) }
 {
     let mut text = String::new(alloc);
     put_lines(&mut text, frame, 0)?;

@@ -7,6 +7,7 @@ ghost use Rattle.frame_text.specs.Reading.{Gives, IsOfText};
 ghost use Rattle.frame_text.specs.Messages.{send_of_text};
 ghost use Rattle.frame_text.specs.Conditions.{condition_of_text};
 ghost use Rattle.frame_text.specs.Frames.{tree_of_text};
+ghost use Rattle.frame_text.specs.Chains.{IsScript};
 
 use crate::faults::{Cause, Fault};
 use crate::keywords::misplaced;
@@ -21,6 +22,7 @@ use std::alloc::Allocator;
 pub fn script<A: Allocator + Clone>(alloc: &A, text: &[u8]) -> Result<Frame<A>, Fault>
     ensures tree { Gives tree_of result (tree_of_text text.now) }
     ensures sound { IfOk result (λ f. IsSound (tree_of f)) }
+    ensures script { IfOk result (λ f. IsScript (tree_of f)) }
 {
     let frame = definitions::script(alloc, text, &Scope::Empty, 32)?;
     if frame.worst_messages() > 1_000_000 {
