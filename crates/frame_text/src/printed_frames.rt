@@ -1,7 +1,7 @@
 //! Frames as text, one a line.
 
 ghost use Rattle.std.specs.Prelude.{◌≡◌, true, ◌+◌, ◌++◌, OnOk, string_bytes, codes, decimal};
-ghost use Rattle.frame_tree.specs.Tree.{test_of, tree_of, retry, gap, repeat, until, call};
+ghost use Rattle.frame_tree.specs.Tree.{test_of, tree_of, retry, gap, call};
 ghost use Rattle.frame_tree.specs.Names.{is_word};
 ghost use Rattle.frame_text.specs.PrintedConditions.{condition_text};
 ghost use Rattle.frame_text.specs.PrintedMessages.{send_text};
@@ -158,41 +158,6 @@ fn put_block<A: Allocator + Clone>(
     out.push_str("}")
 }
 
-// The lines of a repeat.
-#[cycle(lines)]
-#[tactic(auto, unfolding(crate::specs::Printing::lines))]
-fn put_repeat<A: Allocator + Clone>(
-    out: &mut String,
-    count: u16,
-    body: &Frame<A>,
-    depth: usize,
-) -> Result<(), AllocError>
-    ensures { OnOk result (string_bytes out.new ≡ string_bytes out.old ++ texts.lines depth (repeat count (tree_of body.now))) }
-{
-    put_indent(out, depth)?;
-    write!(out, "repeat {count} ")?;
-    put_block(out, body, depth)?;
-    out.push_str("\n")
-}
-
-// The lines of an until.
-#[cycle(lines)]
-#[tactic(auto, unfolding(crate::specs::Printing::lines))]
-fn put_until<A: Allocator + Clone>(
-    out: &mut String,
-    condition: &Cond<A>,
-    count: u16,
-    body: &Frame<A>,
-    depth: usize,
-) -> Result<(), AllocError>
-    ensures { OnOk result (string_bytes out.new ≡ string_bytes out.old ++ texts.lines depth (until (test_of condition.now) count (tree_of body.now))) }
-{
-    put_indent(out, depth)?;
-    put_until_condition(out, condition, count)?;
-    put_block(out, body, depth)?;
-    out.push_str("\n")
-}
-
 /// The lines of a frame inside so many blocks.
 #[cycle(lines)]
 #[tactic(auto, unfolding(crate::specs::Printing::lines))]
@@ -214,7 +179,12 @@ pub fn put_lines<A: Allocator + Clone>(
             message,
         } => put_retry(out, *count, *line, message, depth),
         Frame::Gap(ticks) => put_gap(out, *ticks, depth),
-        Frame::Repeat { count, body } => put_repeat(out, *count, body, depth),
+        Frame::Repeat { count, body } => {
+            put_indent(out, depth)?;
+            write!(out, "repeat {count} ")?;
+            put_block(out, body, depth)?;
+            out.push_str("\n")
+        }
         Frame::If {
             condition,
             then,
@@ -230,7 +200,12 @@ pub fn put_lines<A: Allocator + Clone>(
             condition,
             count,
             body,
-        } => put_until(out, condition, *count, body, depth),
+        } => {
+            put_indent(out, depth)?;
+            put_until_condition(out, condition, *count)?;
+            put_block(out, body, depth)?;
+            out.push_str("\n")
+        }
         Frame::Seq(frames) => {
             for one in frames {
                 put_lines(out, one, depth)?;
