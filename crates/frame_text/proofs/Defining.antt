@@ -1,13 +1,13 @@
 -- Reading definitions one by one.
-use Rattle.std.proofs.Common.{rules, ◌≡◌, ◌≢◌, ℕ, ◌-◌, ◌≤◌, min, true, false, List, [], ◌∷◌, Result, Ok, Err, refl, sym, ap, ◌∙◌, arith}
+use Rattle.std.proofs.Common.{rules, ◌≡◌, ◌≢◌, ℕ, ◌-◌, ◌≤◌, min, true, List, [], ◌∷◌, Result, Ok, sym, ap, ◌∙◌, arith}
 use Rattle.std.specs.Prelude.{codes}
 use Rattle.frame_tree.specs.Tree.{Tree, define}
 use Rattle.frame_tree.specs.Bounds.{depth_in}
 use Rattle.frame_tree.specs.Names.{Scope}
 use Rattle.frame_tree.specs.Scopes.{scope_of}
-use Rattle.frame_tree.specs.declared.names.Scope.{Scope as Names, Empty, With, the_lemmas}
-use Rattle.frame_text.specs.Reading.{◌>>=◌, Tokens, Reading, same, Fails}
-use Rattle.frame_text.specs.Frames.{block_at, fresh_name_at, definition_at, script_at}
+use Rattle.frame_tree.specs.declared.names.Scope.{Empty, the_lemmas}
+use Rattle.frame_text.specs.Reading.{◌>>=◌, Tokens, same, Fails}
+use Rattle.frame_text.specs.Frames.{block_at, fresh_name_at, script_at}
 use Rattle.frame_text.specs.declared.faults.Cause.{Cause}
 use Rattle.frame_text.specs.declared.faults.Fault.{Fault}
 use Rattle.frame_text.specs.declared.faults.Fault.TheVariants as fault

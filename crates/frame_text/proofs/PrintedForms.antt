@@ -10,7 +10,6 @@ use Rattle.mil_message.specs.declared.faults.BadMessage.{BadMessage}
 use Rattle.mil_message.specs.declared.faults.BadMessage.TheVariants.{Address, Subaddress, CountOrCode, SameEnds, ModeWord}
 use Rattle.mil_message.specs.declared.forms.Form.{Form}
 use Rattle.mil_message.specs.declared.forms.Form.TheVariants.{ToTerminal, FromTerminal, Between, Mode, ModeFrom, ModeTo, ToAll, BetweenAll, ModeAll, ModeAllTo}
-use Rattle.mil_message.specs.Forms.{data_words}
 use Rattle.mil_message.specs.Rules.{IsLawful, first_fault, is_address, is_subaddress, is_count, is_code_alone, is_code_from, is_code_to}
 use Rattle.mil_message.proofs.Checked.{head_met, second_met, middle_met, third_met, four_met}
 use Rattle.frame_text.specs.Reading.{Tokens, same}

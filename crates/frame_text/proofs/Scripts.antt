@@ -1,6 +1,6 @@
 -- Reading frames one by one.
 use Rattle.std.proofs.Common.{◌≡◌, ◌≢◌, ℕ, zero, suc, ◌-◌, ◌<◌, ◌≤◌, Bool, true, false, cond, List, [], ◌∷◌, ◌++◌, length, map, Result, Ok, Err, refl, sym, ap, ◌∙◌, arith}
-use Rattle.std.specs.Prelude.{codes, Option, Some, None, if◌then◌else◌}
+use Rattle.std.specs.Prelude.{codes, Some, None, if◌then◌else◌}
 use Rattle.std.proofs.lemmas.List.{map-append}
 use Rattle.frame_tree.specs.Tree.{Tree, chain, tree_of, nothing, chained, define}
 use Rattle.frame_tree.specs.Bounds.{depth_in}

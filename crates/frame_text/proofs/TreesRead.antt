@@ -1,7 +1,7 @@
--- A tree that a text has is one whose print reads back.
-use Rattle.std.proofs.Common.{◌≡◌, ℕ, zero, suc, ◌≤◌, Bool, true, false, cond, List, [], ◌∷◌, length, Ok, Err, refl, sym, ap, ◌∙◌, subst, arith}
+-- The print of a sound script is read as that script, and what is read of a text is a script.
+use Rattle.std.proofs.Common.{◌≡◌, ℕ, zero, suc, Bool, true, false, cond, List, [], ◌∷◌, length, Ok, Err, refl, sym, ap, ◌∙◌, subst, arith}
 use Rattle.std.specs.Prelude.{codes, nat_le}
-use Rattle.std.proofs.lemmas.Bool.{leb-true, le-leb}
+use Rattle.std.proofs.lemmas.Bool.{le-leb}
 use Rattle.frame_tree.specs.Tree.{Tree, nothing, chained, call, define}
 use Rattle.frame_tree.specs.Bounds.{IsSound, worst_messages, depth_in}
 use Rattle.frame_tree.specs.Names.{is_name, Scope, named, is_known}
@@ -16,7 +16,7 @@ use Rattle.frame_text.specs.Chains.{IsRead, IsScript}
 use Rattle.frame_text.specs.declared.faults.Cause.TheVariants as cause
 use Rattle.frame_text.specs.declared.keywords.FrameWord.{FrameWord}
 use Rattle.frame_text.specs.declared.keywords.FrameWord.TheVariants as word
-use Rattle.frame_text.proofs.Soundness.{bind_ok, ok_is, script_is_sound}
+use Rattle.frame_text.proofs.Soundness.{bind_ok, ok_is}
 use Rattle.frame_text.proofs.FormsRead.{send_ok}
 use Rattle.frame_text.proofs.TreesBack.{script_of, tree_then, script_spells}
 use Rattle.frame_text.proofs.ScriptsBack.{script_back}
