@@ -1,4 +1,7 @@
 //! Calls on scripts, their trees, their images and their programs.
+ghost use Rattle.frame_tree.specs.Tree.{tree_of};
+ghost use Rattle.frame_tree.specs.Bounds.{IsSound};
+
 use crate::told::Told;
 use crate::worked::{LOOPS, SCRIPT};
 use bumpalo::Bump;
@@ -49,7 +52,9 @@ pub(crate) fn condition(alloc: Global) -> Told {
 }
 
 /// The image of a frame.
-fn image_of(alloc: Global, frame: &Frame<Global>) -> Told {
+fn image_of(alloc: Global, frame: &Frame<Global>) -> Told
+    requires { IsSound (tree_of frame.now) }
+{
     match assemble(alloc, frame) {
         Ok(_) => Told::Well,
         Err(AsmError::Memory) => Told::Refused,
