@@ -13,4 +13,5 @@ pub mod Setting
 pub mod Acts
 pub mod Passing
 pub mod Packing
+pub mod Unpacking
 pub mod Runs

@@ -1,60 +1,79 @@
--- Lists one behind the other, and in slots of their own.
-use Rattle.std.proofs.Common.{◌≡◌, ℕ, suc, ◌+◌, ◌*◌, ◌<◌, ◌≤◌, List, [], ◌∷◌, ◌++◌, refl, sym, ap, ◌∙◌, arith, length, take, drop, get_or, set, length-drop}
-use Rattle.std.specs.List.{concat}
-use Rattle.std.proofs.lemmas.List.{drop_more, drop_at, take_at, take_more_set, append_assoc, length-take-le}
-use Rattle.std.proofs.lemmas.Grind.{take_at_read}
-use Rattle.std.proofs.Math.Seq.{take-length}
-use Rattle.mil_terminal.specs.Slots.{slots, packed}
+-- What is kept of slots, one behind the other.
+use Rattle.std.proofs.Common.{◌≡◌, ℕ, zero, suc, ◌+◌, ◌*◌, ◌<◌, ◌≤◌, List, [], ◌∷◌, ◌++◌, refl, sym, ap, ◌∙◌, arith, length, drop, get_or, length-append, length-drop, zero-le}
+use Rattle.std.proofs.lemmas.List.{append-nil, append_assoc, drop_all, drop_more, length-take, length-take-le}
+use Rattle.mil_terminal.specs.Slots.{slots, entry, entries}
+use Rattle.mil_terminal.proofs.SlotLemmas.{slots_at}
 
--- the lists of a block, one behind the other, are found again by their counts
-pub packed-slots : (counts words : List ℕ) → ((i : ℕ) → i < length counts → get_or counts i 0 ≤ 32) → 32 * length counts ≤ length words
-    → packed counts (concat (slots counts words)) ≡ slots counts words
-packed-slots [] words small long = refl
-packed-slots (n ∷ counts) words small long =
+-- a slot holds no more words than it has places
+pub slots_few : (counts words : List ℕ) → ((i : ℕ) → i < length counts → get_or counts i 0 ≤ 32) → (i : ℕ) → length (get_or (slots counts words) i []) ≤ 32
+slots_few [] words small i = zero-le
+slots_few (n ∷ counts) words small zero =
     let few : n ≤ 32 = small 0 (omega arith) in
-    let same : length (take n words) ≡ n = length-take-le n words (omega arith) in
-    let behind : 32 * length counts ≤ length (drop 32 words) = omega (arith, length-drop 32 words) in
-    ap (λ (xs : List ℕ). xs ∷ packed counts (drop n (take n words ++ concat (slots counts (drop 32 words))))) (take_at (take n words) (concat (slots counts (drop 32 words))) n same)
-    ∙ ap (λ (xs : List ℕ). take n words ∷ packed counts xs) (drop_at (take n words) (concat (slots counts (drop 32 words))) n same)
-    ∙ ap (λ (xs : List (List ℕ)). take n words ∷ xs) (packed-slots counts (drop 32 words) (λ i lt. small (suc i) (omega arith)) behind)
+    omega (arith, length-take n words)
+slots_few (n ∷ counts) words small (suc i) = slots_few counts (drop 32 words) (λ k lt. small (suc k) (omega arith)) i
 
-pub length-packed : (counts words : List ℕ) → length (packed counts words) ≡ length counts
-length-packed [] words = refl
-length-packed (n ∷ counts) words = ap suc (length-packed counts (drop n words))
+-- a slot holds as many words as its count says
+pub length-slot : (counts words : List ℕ) (i : ℕ) → i < length counts → 32 * length counts ≤ length words → get_or counts i 0 ≤ 32
+    → length (get_or (slots counts words) i []) ≡ get_or counts i 0
+length-slot counts words i lt long few =
+    ap length (slots_at counts words i [] lt) ∙ length-take-le (get_or counts i 0) (drop (32 * i) words) (omega (arith, length-drop (32 * i) words))
 
--- one list more behind those that were put there
-pub concat-more : (lists : List (List ℕ)) (i : ℕ) (words : List ℕ) → i < length lists → words ++ concat (drop i lists) ≡ concat lists
-    → (words ++ get_or lists i []) ++ concat (drop (i + 1) lists) ≡ concat lists
-concat-more lists i words lt is =
-    append_assoc words (get_or lists i []) (concat (drop (i + 1) lists)) ∙ ap (λ (ys : List (List ℕ)). words ++ concat ys) (sym (drop_more lists i [] lt)) ∙ is
+length-entry_none : (slot : ℕ) (words : List ℕ) → length words ≡ 0 → length (entry slot words) ≡ 0
+length-entry_none slot [] none = refl
+length-entry_none slot (word ∷ words) none = absurd (omega arith)
 
--- of a packed list of lists, so many were taken over
-pub record AreTaken (i : ℕ) (counts rest : List ℕ) (saved lists : List (List ℕ)) : Type 0 where
-  pub front : take i lists ≡ take i saved
-  pub behind : packed (drop i counts) rest ≡ drop i saved
+length-entry_some : (slot : ℕ) (words : List ℕ) → 0 < length words → length (entry slot words) ≡ 1 + length words
+length-entry_some slot [] some = absurd (omega arith)
+length-entry_some slot (word ∷ words) some = omega arith
 
--- none yet
-pub taken-none : (counts words : List ℕ) (lists : List (List ℕ)) → AreTaken 0 counts words (packed counts words) lists
-taken-none counts words lists = record { front = refl; behind = refl }
+entries-more : (lists : List (List ℕ)) (i : ℕ) → i < length lists → entries i (drop i lists) ≡ entry i (get_or lists i []) ++ entries (i + 1) (drop (i + 1) lists)
+entries-more lists i lt = ap (λ (ls : List (List ℕ)). entries i ls) (drop_more lists i [] lt)
 
--- one more
-pub taken-more : (i : ℕ) (counts rest : List ℕ) (saved lists : List (List ℕ)) → i < length counts → length saved ≡ length counts → length lists ≡ length counts
-    → AreTaken i counts rest saved lists
-    → AreTaken (i + 1) counts (drop (get_or counts i 0) rest) saved (set lists i (take (get_or counts i 0) rest))
-taken-more i counts rest saved lists lt saved_long long is =
-    let n = get_or counts i 0 in
-    let parts : take n rest ∷ packed (drop (i + 1) counts) (drop n rest) ≡ get_or saved i [] ∷ drop (i + 1) saved =
-    ap (λ (cs : List ℕ). packed cs rest) (sym (drop_more counts i 0 lt)) ∙ is.behind ∙ drop_more saved i [] (omega arith) in
-    record {
-      front = take_more_set lists i (take n rest) (omega arith)
-          ∙ ap (λ (xs : List (List ℕ)). xs ++ take n rest ∷ []) is.front
-          ∙ ap (λ (xs : List (List ℕ)). take i saved ++ get_or xs 0 [] ∷ []) parts
-          ∙ sym (take_at_read saved i [] (omega arith)).1;
-      behind = ap (λ (xs : List (List ℕ)). drop 1 xs) parts;
-    }
+length-entries_more : (lists : List (List ℕ)) (i : ℕ) → i < length lists
+    → length (entries i (drop i lists)) ≡ length (entry i (get_or lists i [])) + length (entries (i + 1) (drop (i + 1) lists))
+length-entries_more lists i lt =
+    ap length (entries-more lists i lt) ∙ length-append (entry i (get_or lists i [])) (entries (i + 1) (drop (i + 1) lists))
 
--- all
-pub taken-all : (counts rest : List ℕ) (saved lists : List (List ℕ)) → length saved ≡ length counts → length lists ≡ length counts
-    → AreTaken (length counts) counts rest saved lists → lists ≡ saved
-taken-all counts rest saved lists saved_long long is =
-    sym (take-length lists) ∙ ap (λ (n : ℕ). take n lists) long ∙ is.front ∙ ap (λ (n : ℕ). take n saved) (sym saved_long) ∙ take-length saved
+-- how much is kept of the slots so far and of the others is how much is kept of all, after an empty slot
+pub len-none : (lists : List (List ℕ)) (i n len : ℕ) → i < length lists → length (get_or lists i []) ≡ n → n ≤ 0
+    → len + length (entries i (drop i lists)) ≡ length (entries 0 lists) → len + length (entries (i + 1) (drop (i + 1) lists)) ≡ length (entries 0 lists)
+len-none lists i n len lt n_is none is =
+    let nothing : length (entry i (get_or lists i [])) ≡ 0 = length-entry_none i (get_or lists i []) (omega arith) in
+    omega (arith, length-entries_more lists i lt)
+
+-- after one that holds words
+pub len-some : (lists : List (List ℕ)) (i n len : ℕ) → i < length lists → length (get_or lists i []) ≡ n → 0 < n
+    → len + length (entries i (drop i lists)) ≡ length (entries 0 lists) → len + (1 + n) + length (entries (i + 1) (drop (i + 1) lists)) ≡ length (entries 0 lists)
+len-some lists i n len lt n_is some is =
+    let something : length (entry i (get_or lists i [])) ≡ 1 + length (get_or lists i []) = length-entry_some i (get_or lists i []) (omega arith) in
+    omega (arith, length-entries_more lists i lt)
+
+-- and after all
+pub len-all : (lists : List (List ℕ)) (i len : ℕ) → length lists ≤ i → len + length (entries i (drop i lists)) ≡ length (entries 0 lists) → len ≡ length (entries 0 lists)
+len-all lists i len le is =
+    let nothing : length (entries i (drop i lists)) ≡ 0 = ap (λ (ls : List (List ℕ)). length (entries i ls)) (drop_all i lists le) in
+    omega arith
+
+-- a head and words behind what was kept
+pub entry-put : (kept words : List ℕ) (slot head : ℕ) → 0 < length words → head ≡ 64 * slot + length words → (kept ++ head ∷ []) ++ words ≡ kept ++ entry slot words
+entry-put kept [] slot head some is = absurd (omega arith)
+entry-put kept (word ∷ words) slot head some is = append_assoc kept (head ∷ []) (word ∷ words) ∙ ap (λ (n : ℕ). kept ++ n ∷ word ∷ words) is
+
+-- nothing of an empty slot
+pub entry-none : (kept words : List ℕ) (slot : ℕ) → length words ≡ 0 → kept ≡ kept ++ entry slot words
+entry-none kept [] slot none = sym (append-nil kept)
+entry-none kept (word ∷ words) slot none = absurd (omega arith)
+
+-- what is kept of the slots so far and of the others is what is kept of all, after one slot more
+pub packed-more : (lists : List (List ℕ)) (i : ℕ) (kept now words : List ℕ) → i < length lists → words ≡ get_or lists i [] → now ≡ kept ++ entry i words
+    → kept ++ entries i (drop i lists) ≡ entries 0 lists → now ++ entries (i + 1) (drop (i + 1) lists) ≡ entries 0 lists
+packed-more lists i kept now words lt words_is now_is is =
+    ap (λ (ys : List ℕ). ys ++ entries (i + 1) (drop (i + 1) lists)) (now_is ∙ ap (λ (ws : List ℕ). kept ++ entry i ws) words_is)
+    ∙ append_assoc kept (entry i (get_or lists i [])) (entries (i + 1) (drop (i + 1) lists))
+    ∙ ap (λ (ys : List ℕ). kept ++ ys) (sym (entries-more lists i lt))
+    ∙ is
+
+-- and behind the last
+pub packed-all : (lists : List (List ℕ)) (i : ℕ) (kept : List ℕ) → length lists ≤ i → kept ++ entries i (drop i lists) ≡ entries 0 lists → kept ≡ entries 0 lists
+packed-all lists i kept le is =
+    sym (append-nil kept) ∙ ap (λ (ls : List (List ℕ)). kept ++ entries i ls) (sym (drop_all i lists le)) ∙ is

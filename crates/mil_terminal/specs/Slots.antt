@@ -1,12 +1,23 @@
 -- Lists of at most 32 words in one flat list (inside the terminal).
-use Rattle.std.specs.Prelude.{ℕ, List, [], ◌∷◌, take, drop}
+use Rattle.std.specs.Prelude.{◌≡◌, ℕ, ◌+◌, ◌*◌, ◌≤◌, List, [], ◌∷◌, ◌++◌, length, take, drop, slice_index_or}
 
 -- the lists with these counts, each in 32 places of its own
 abbrev pub slots : List ℕ → List ℕ → List (List ℕ)
 slots [] words = []
 slots (n ∷ counts) words = take n words ∷ slots counts (drop 32 words)
 
--- the lists with these counts, one behind the other
-abbrev pub packed : List ℕ → List ℕ → List (List ℕ)
-packed [] words = []
-packed (n ∷ counts) words = take n words ∷ packed counts (drop n words)
+-- what is kept of a slot: its number and how many words it holds, in one head, and the words; of an empty one nothing
+abbrev pub entry : ℕ → List ℕ → List ℕ
+entry slot [] = []
+entry slot (word ∷ words) = (64 * slot + length (word ∷ words)) ∷ word ∷ words
+
+-- what is kept of slots, the first of which has this number
+abbrev pub entries : ℕ → List (List ℕ) → List ℕ
+entries slot [] = []
+entries slot (words ∷ lists) = entry slot words ++ entries (slot + 1) lists
+
+-- the words are what is kept of a block
+pub record IsPacked (words : List ℕ) (lists : List (List ℕ)) : Type 0 where
+  pub whole : words ≡ entries 0 lists
+  pub long : length lists ≡ 96
+  pub few : (slot : ℕ) → length (slice_index_or lists slot []) ≤ 32

@@ -56,6 +56,13 @@ impl Block {
         self.counts[slot] = words.len() as u8;
     }
 
+    /// Empties all slots.
+    pub fn clear(&mut self)
+        ensures { self.new ≡ replicate 96 [] }
+    {
+        self.counts = [0; 96];
+    }
+
     /// The same words, in a block of their own.
     pub fn copy(&self) -> Result<Block, AllocError>
         ensures { IfOk result (λ b. b ≡ self.now) }

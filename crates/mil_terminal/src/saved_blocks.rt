@@ -1,35 +1,44 @@
 //! The words of a terminal, packed.
-ghost use Rattle.std.specs.Prelude.{◌≡◌, IfOk};
+ghost use Rattle.std.specs.Prelude.{◌≡◌, ◌≤◌, ◌<◌, ◌++◌, IfOk, OnOk, length};
+ghost use Rattle.mil_terminal.specs.Slots.{entry, entries};
 
 use crate::blocks::Block;
 use std::alloc::{AllocError, Global};
 use std::marker::Model;
+use std::snapshot::Snapshot;
 
-/// 96 lists of at most 32 words each, one behind the other, in no more memory than the words need.
+/// What is kept of a block: for each slot that is not empty a head, which has its number and how many words it holds, and the
+/// words. Contracts see the lists of the block, of which no other byte is kept.
 #[derive(Drop)]
 pub struct SavedBlock {
     words: Vec<u16>,
-    counts: [u8; 96],
+    block: Snapshot<Block>,
 }
 
 impl Model for SavedBlock {
-    ghost use Rattle.std.specs.Prelude.{◌≡◌, ℕ, ◌≤◌, ◌<◌, List, length, slice_index};
-    ghost use Rattle.mil_terminal.specs.Slots.{packed};
+    ghost use Rattle.std.specs.Prelude.{ℕ, List};
+    ghost use Rattle.mil_terminal.specs.Slots.{IsPacked};
 
     ghost Value = { List (List ℕ) };
 
-    ghost view = { λ b. packed b.counts b.words.items };
+    ghost view = { λ b. b.block.value };
 
-    ghost invariant = { λ b. (length b.counts ≡ 96) × ((i : ℕ) → i < 96 → slice_index b.counts i ≤ 32) };
+    ghost invariant = { λ b. IsPacked b.words.items b.block.value };
 }
 
-/// How many words these counts come to.
-fn sum_of(counts: &[u8]) -> usize {
-    let mut sum = 0usize;
-    for count in counts {
-        sum = sum.saturating_add(usize::from(*count));
+/// Puts what is kept of a slot behind what is kept of those before it.
+#[inline]
+fn put_entry(kept: &mut Vec<u16>, slot: usize, words: &[u16]) -> Result<(), AllocError>
+    requires slot { slot < 96 }
+    requires few { length words.now ≤ 32 }
+    ensures { OnOk result (kept.new.items ≡ kept.old.items ++ entry slot words.now) }
+{
+    if words.is_empty() {
+        return Ok(());
     }
-    sum
+    kept.push((64 * slot + words.len()) as u16)?;
+    kept.extend_from_slice(words)?;
+    Ok(())
 }
 
 impl Block {
@@ -38,17 +47,30 @@ impl Block {
         *self.words.allocator()
     }
 
-    /// The same words, packed.
+    /// How many words are kept of it, heads and all.
+    fn kept_len(&self) -> usize
+        ensures { result ≡ length (entries 0 self.now) }
+    {
+        let mut len = 0;
+        for count in &self.counts {
+            if *count > 0 {
+                len += 1 + usize::from(*count);
+            }
+        }
+        len
+    }
+
+    /// The same words, packed, in memory for no more than them.
     pub fn save(&self) -> Result<SavedBlock, AllocError>
         ensures { IfOk result (λ b. b ≡ self.now) }
     {
-        let mut words = Vec::with_capacity(self.allocator(), sum_of(&self.counts))?;
+        let mut words = Vec::with_capacity(*self.words.allocator(), self.kept_len())?;
         for slot in 0..96 {
-            words.extend_from_slice(self.at(slot))?;
+            put_entry(&mut words, slot, self.at(slot))?;
         }
         Ok(SavedBlock {
             words,
-            counts: self.counts,
+            block: Snapshot::of(self),
         })
     }
 
@@ -56,13 +78,13 @@ impl Block {
     pub fn restore(&mut self, saved: &SavedBlock)
         ensures { self.new ≡ saved.now }
     {
-        let _own = &self.words;
+        self.clear();
         let mut rest = saved.words.as_slice();
-        for slot in 0..96 {
-            let count = usize::from(saved.counts[slot]);
-            let (front, behind) = rest.split_at(count.min(rest.len()));
-            self.store(slot, front);
-            rest = behind;
+        while let Some((head, behind)) = rest.split_first() {
+            let count = usize::from(*head % 64);
+            let (words, others) = behind.split_at(count);
+            self.store(usize::from(*head / 64), words);
+            rest = others;
         }
     }
 }

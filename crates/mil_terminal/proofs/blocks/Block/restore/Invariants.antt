@@ -1,9 +1,12 @@
 use Rattle.std.proofs.Common.{◌≡◌, length}
-use Rattle.mil_terminal.proofs.Packing.{AreTaken}
+use Rattle.mil_terminal.proofs.Unpacking.{IsLeft}
 use Rattle.mil_terminal.proofs.blocks.Block.restore.Given as goal
 
-abbrev pub invariant-loop-slot : goal.invariant-loop-slot
-invariant-loop-slot l = record {
+abbrev pub invariant-loop-head : goal.invariant-loop-head
+invariant-loop-head l = record {
   long : length l.self ≡ 96;
-  taken : AreTaken l.slot l.saved-inside.counts l.rest l.saved l.self;
+  left : IsLeft l.rest l.saved l.self;
 }
+
+abbrev pub decreases-loop-head : goal.decreases-loop-head
+decreases-loop-head l = length l.rest

@@ -1,7 +1,7 @@
 use Rattle.std.proofs.Common.{◌≡◌, ◌++◌, drop}
-use Rattle.std.specs.List.{concat}
+use Rattle.mil_terminal.specs.Slots.{entries}
 use Rattle.mil_terminal.proofs.blocks.Block.save.Given as goal
 
--- behind what was put there, the other lists give all
+-- what is kept so far, and what is to be kept of the other slots
 abbrev pub invariant-loop-slot : goal.invariant-loop-slot
-invariant-loop-slot l = l.words.items ++ concat (drop l.slot l.self) ≡ concat l.self
+invariant-loop-slot l = l.words.items ++ entries l.slot (drop l.slot l.self) ≡ entries 0 l.self

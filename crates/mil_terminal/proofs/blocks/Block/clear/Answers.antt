@@ -1,0 +1,9 @@
+use Rattle.std.proofs.Common.{refl}
+use Rattle.mil_terminal.proofs.SlotLemmas.{slots-none, none_counted}
+use Rattle.mil_terminal.proofs.blocks.Block.clear.Goals as goal
+
+pub invariant_of-self : goal.invariant_of-self
+invariant_of-self c = (c.self.invariant.0, refl, λ i lt. none_counted 96 i)
+
+pub returns : goal.returns
+returns c = slots-none 96 c.self.inside.words.items
