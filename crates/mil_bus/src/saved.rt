@@ -8,8 +8,9 @@ use history::History;
 use std::alloc::AllocError;
 use std::marker::Model;
 
-/// A bus as it was when it was saved, in less memory than a bus takes: some 200 bytes for each terminal, and two for each word that
-/// the terminal holds. Contracts see what they see of the bus.
+/// A bus as it was when it was saved, in less memory than a bus takes: 72 bytes for each terminal, and two for each word that the
+/// terminal holds and for each list of them that is not empty, but for open windows and marks. Contracts see what they see of the
+/// bus.
 #[derive(Drop)]
 pub struct SavedBus {
     begin: u64,

@@ -1,21 +1,27 @@
--- What is kept of the host's settings (inside the terminal).
+-- What is kept of the host's settings, and of what few terminals have (inside the terminal).
 use Rattle.std.specs.Prelude.{Option, Some, None, Box, replicate}
 use Rattle.mil_terminal.specs.declared.marks.Marks.{Marks}
 use Rattle.mil_terminal.specs.declared.host.Settings.{Settings}
-use Rattle.mil_terminal.specs.declared.saved_registers.SavedSettings.TheInside.{Inside}
-
--- what is in a box, if there is one
-abbrev pub unboxed : {X A : Type 0} → Option (Box X A) → Option X
-unboxed None = None
-unboxed (Some b) = Some b.value
+use Rattle.mil_terminal.specs.declared.pending.Pending.{Pending}
+use Rattle.mil_terminal.specs.declared.saved_registers.Rare.{Rare}
+use Rattle.mil_terminal.specs.declared.saved_registers.SavedSettings.{SavedSettings}
 
 -- no marks are kept where none is set
-abbrev pub marks_kept : {A : Type 0} → Option (Box Marks A) → Marks
-marks_kept None = record { rows = replicate 64 0 }
-marks_kept (Some b) = b.value
+abbrev pub kept_marks : {A : Type 0} → Option (Box Marks A) → Marks
+kept_marks None = record { rows = replicate 64 0 }
+kept_marks (Some b) = b.value
 
-abbrev pub settings_kept : Inside → Settings
-settings_kept s = record {
+-- nothing is kept where there is neither a window nor a mark
+abbrev pub window_kept : {A : Type 0} → Option (Box Rare A) → Option Pending
+window_kept None = None
+window_kept (Some b) = b.value.window
+
+abbrev pub marks_kept : {A : Type 0} → Option (Box Rare A) → Marks
+marks_kept None = record { rows = replicate 64 0 }
+marks_kept (Some b) = kept_marks b.value.marks
+
+abbrev pub settings_kept : SavedSettings → Marks → Settings
+settings_kept s marks = record {
   busy = s.busy;
   service = s.service;
   subsystem = s.subsystem;
@@ -24,5 +30,5 @@ settings_kept s = record {
   vector = s.vector;
   self_test = s.self_test;
   response = s.response;
-  marks = marks_kept s.marks;
+  marks = marks;
 }

@@ -1,6 +1,6 @@
 //! What is kept of a terminal's registers.
 ghost use Rattle.std.specs.Prelude.{◌≡◌, IfOk};
-ghost use Rattle.mil_terminal.specs.SavingHost.{marks_kept, unboxed};
+ghost use Rattle.mil_terminal.specs.SavingHost.{kept_marks, marks_kept, window_kept, settings_kept};
 
 use crate::addresses::Address;
 use crate::conditions::Conditions;
@@ -15,40 +15,38 @@ use mil_line::Gap;
 use std::alloc::{AllocError, Global};
 use std::marker::Model;
 
-/// What is kept of the host's settings: the marks only where one is set.
+/// What few terminals have when they are saved: an undecided window, and marks.
 #[derive(Drop)]
+pub struct Rare {
+    window: Option<Pending>,
+    marks: Option<Box<Marks>>,
+}
+
+/// What is kept of the host's settings, the marks excepted.
+#[derive(Clone, Copy)]
 pub struct SavedSettings {
+    vector: u16,
+    self_test: u16,
+    response: Gap,
     busy: bool,
     service: bool,
     subsystem: bool,
     fault: bool,
     control: bool,
-    vector: u16,
-    self_test: u16,
-    response: Gap,
-    marks: Option<Box<Marks>>,
 }
 
-impl Model for SavedSettings {
-    ghost use Rattle.mil_terminal.specs.declared.host.Settings.{Settings};
-    ghost use Rattle.mil_terminal.specs.SavingHost.{settings_kept};
-
-    ghost Value = { Settings };
-
-    ghost view = { settings_kept };
-}
-
-/// What is kept of the registers: an undecided window only where there is one, and the words packed.
+/// What is kept of the registers: what is rare only where it is there, and the words packed. The widest fields stand first, since
+/// fields lie in this order.
 #[derive(Drop)]
 pub struct SavedRegisters {
-    own: Address,
-    window: Option<Box<Pending>>,
+    block: SavedBlock,
+    rare: Option<Box<Rare>>,
     host: SavedSettings,
-    conditions: Conditions,
-    switches: Switches,
     synced: Synced,
     last_command: u16,
-    block: SavedBlock,
+    conditions: Conditions,
+    switches: Switches,
+    own: Address,
 }
 
 impl Model for SavedRegisters {
@@ -63,7 +61,7 @@ impl Model for SavedRegisters {
 impl Marks {
     /// The same marks, if one is set.
     fn save(&self, alloc: Global) -> Result<Option<Box<Marks>>, AllocError>
-        ensures { IfOk result (λ kept. marks_kept kept ≡ self.now) }
+        ensures { IfOk result (λ kept. kept_marks kept ≡ self.now) }
     {
         if self.is_empty() {
             return Ok(None);
@@ -72,40 +70,28 @@ impl Marks {
     }
 }
 
-/// The marks that were kept.
-fn marks_of(kept: &Option<Box<Marks>>) -> Marks
-    ensures { result ≡ marks_kept kept.now }
-{
-    match kept {
-        Some(marks) => marks.copy(),
-        None => Marks::none(),
-    }
-}
-
 impl Settings {
-    /// The same settings, to be kept.
-    fn save(&self, alloc: Global) -> Result<SavedSettings, AllocError>
-        ensures { IfOk result (λ s. s ≡ self.now) }
+    /// The same settings, to be kept, the marks excepted.
+    fn save(&self) -> SavedSettings
+        ensures { settings_kept result self.now.marks ≡ self.now }
     {
-        let marks = self.marks.save(alloc)?;
-        Ok(SavedSettings {
+        SavedSettings {
+            vector: self.vector,
+            self_test: self.self_test,
+            response: self.response,
             busy: self.busy,
             service: self.service,
             subsystem: self.subsystem,
             fault: self.fault,
             control: self.control,
-            vector: self.vector,
-            self_test: self.self_test,
-            response: self.response,
-            marks,
-        })
+        }
     }
 }
 
 impl SavedSettings {
-    /// The settings that were kept.
-    fn settings(&self) -> Settings
-        ensures { result ≡ self.now }
+    /// The settings that were kept, with these marks.
+    fn settings(&self, marks: Marks) -> Settings
+        ensures { result ≡ settings_kept self.now marks }
     {
         Settings {
             busy: self.busy,
@@ -116,18 +102,67 @@ impl SavedSettings {
             vector: self.vector,
             self_test: self.self_test,
             response: self.response,
-            marks: marks_of(&self.marks),
+            marks,
         }
     }
 }
 
 /// The same window, if there is one.
-fn saved_window(alloc: Global, window: &Option<Pending>) -> Result<Option<Box<Pending>>, AllocError>
-    ensures { IfOk result (λ kept. unboxed kept ≡ window.now) }
+fn same_window(window: &Option<Pending>) -> Option<Pending>
+    ensures { result ≡ window.now }
 {
     match window {
-        Some(pending) => Ok(Some(Box::new(alloc, pending.copy())?)),
-        None => Ok(None),
+        Some(pending) => Some(pending.copy()),
+        None => None,
+    }
+}
+
+/// The window and the marks, if there are any.
+fn saved_rare(
+    alloc: Global,
+    window: &Option<Pending>,
+    marks: &Marks,
+) -> Result<Option<Box<Rare>>, AllocError>
+    ensures window { IfOk result (λ kept. window_kept kept ≡ window.now) }
+    ensures marks { IfOk result (λ kept. marks_kept kept ≡ marks.now) }
+{
+    let marks = marks.save(alloc)?;
+    if window.is_none() && marks.is_none() {
+        return Ok(None);
+    }
+    let window = same_window(window);
+    Ok(Some(Box::new(alloc, Rare { window, marks })?))
+}
+
+/// The window that was kept.
+fn window_of(kept: &Option<Box<Rare>>) -> Option<Pending>
+    ensures { result ≡ window_kept kept.now }
+{
+    match kept {
+        Some(rare) => same_window(&rare.window),
+        None => None,
+    }
+}
+
+impl Rare {
+    /// The marks.
+    fn marks(&self) -> Marks
+        ensures { result ≡ kept_marks self.now.marks }
+    {
+        match &self.marks {
+            Some(marks) => marks.copy(),
+            None => Marks::none(),
+        }
+    }
+}
+
+/// The marks that were kept.
+fn marks_of(kept: &Option<Box<Rare>>) -> Marks
+    ensures { result ≡ marks_kept kept.now }
+{
+    match kept {
+        Some(rare) => rare.marks(),
+        None => Marks::none(),
     }
 }
 
@@ -138,14 +173,14 @@ impl Registers {
     {
         let alloc = self.block.allocator();
         Ok(SavedRegisters {
-            own: self.own,
-            window: saved_window(alloc, &self.window)?,
-            host: self.host.save(alloc)?,
-            conditions: self.conditions,
-            switches: self.switches,
+            block: self.block.save()?,
+            rare: saved_rare(alloc, &self.window, &self.host.marks)?,
+            host: self.host.save(),
             synced: self.synced,
             last_command: self.last_command,
-            block: self.block.save()?,
+            conditions: self.conditions,
+            switches: self.switches,
+            own: self.own,
         })
     }
 
@@ -154,11 +189,8 @@ impl Registers {
         ensures { self.new ≡ saved.now }
     {
         self.own = saved.own;
-        self.window = match &saved.window {
-            Some(pending) => Some(pending.copy()),
-            None => None,
-        };
-        self.host = saved.host.settings();
+        self.window = window_of(&saved.rare);
+        self.host = saved.host.settings(marks_of(&saved.rare));
         self.conditions = saved.conditions;
         self.switches = saved.switches;
         self.synced = saved.synced;
