@@ -1,4 +1,6 @@
 //! Runs of a terminal, driven by calls: what is expected is worked out by hand from the rules.
+mod saves;
+
 use crate::equal::{are_in, same_in};
 use arrayvec::ArrayVec;
 use mil_host::{Action, Mark, TransmitWords};
@@ -31,6 +33,8 @@ enum Step {
     Data(Line, u16),
     /// A quiet on a line brings no answer.
     Quiet(Line),
+    /// A quiet on a line is answered with these words.
+    Replies(Line, &'static [u16]),
     /// The host acts.
     Act(Deed),
     /// These words came to the terminal at a subaddress.
@@ -53,13 +57,15 @@ enum Deed {
     Busy,
     /// Receive commands for four words at subaddress 3 are illegal.
     Illegal,
+    /// They are legal again.
+    Legal,
     /// Two words at subaddress 1.
     Transmit,
 }
 
 use Step::{
     Act, Answers, Command, Data, FlagInhibited, IsSilent, LastCommand, PutUp, Quiet, Received,
-    ReceivedFromAll, Status, Transmitter,
+    ReceivedFromAll, Replies, Status, Transmitter,
 };
 
 const SCRIPTS: &[Script] = &[
@@ -165,8 +171,13 @@ fn runs_of_a_terminal(rt: HostRuntime) {
 /// A script on a new terminal.
 fn is_played(rt: &impl Abort, alloc: Global, script: &Script) {
     let mut terminal = Terminal::make(alloc, script.address).expect(rt, script.name);
-    for step in script.steps {
-        plays(rt, script.name, &mut terminal, *step);
+    play_all(rt, script.name, &mut terminal, script.steps);
+}
+
+/// Steps on a terminal, one after the other.
+fn play_all(rt: &impl Abort, row: &str, terminal: &mut Terminal, steps: &[Step]) {
+    for step in steps {
+        plays(rt, row, terminal, *step);
     }
 }
 
@@ -180,6 +191,7 @@ fn plays(rt: &impl Abort, row: &str, terminal: &mut Terminal, step: Step) {
         Command(line, value) => terminal.hear(line, command(value), Gap::of(65535)),
         Data(line, value) => terminal.hear(line, data(value), Gap::contiguous()),
         Quiet(line) => is_silent(rt, row, &terminal.quiet(line)),
+        Replies(line, wanted) => answers(rt, row, &terminal.quiet(line), wanted),
         Act(deed) => terminal.act(&action_of(deed)),
         Received(subaddress, words) => has_received(rt, row, terminal, subaddress, words),
         ReceivedFromAll(subaddress, words) => {
@@ -234,6 +246,7 @@ fn action_of(deed: Deed) -> Action {
         Deed::Fault => Action::Fault(true),
         Deed::Busy => Action::Busy(true),
         Deed::Illegal => Action::Illegal(Mark::make(false, 3, 4)),
+        Deed::Legal => Action::Legal(Mark::make(false, 3, 4)),
         Deed::Transmit => {
             let mut put = ArrayVec::new();
             put.push(0xaaaa);
