@@ -52,7 +52,7 @@ fn least_gap(talk: &Talk, seen: &Seen) -> u16
     requires seen { seen.now ≡ seen_of talk.now.message talk.now.sent.items }
     ensures value { result ≡ least_after talk.now }
 {
-    if talk.outcome_by(seen).failed || talk.is_controllers_last() {
+    if talk.failed_by(seen) || talk.is_controllers_last() {
         180
     } else {
         40

@@ -240,4 +240,13 @@ impl Talk {
             bits: came_bits(due.first, seen.one) | came_bits(due.second, seen.two),
         }
     }
+
+    /// Whether this talk failed, from what is seen of it.
+    #[tactic(auto, unfolding(crate::specs::BlockStatus::outcome_of))]
+    pub(crate) fn failed_by(&self, seen: &Seen) -> bool
+        requires seen { seen.now ≡ seen_of self.now.message self.now.sent.items }
+        ensures { result ≡ (outcome_of self.now.message self.now.sent.items).failed }
+    {
+        judged(&self.message, due_of(&self.message), seen).any
+    }
 }

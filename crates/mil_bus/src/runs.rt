@@ -14,21 +14,42 @@ use arrayvec::ArrayVec;
 use mil_line::{Fault, Gap, altered, late_gap};
 use mil_word::{Line, Wave};
 
+/// Puts words behind those sent, each like this one but for its wave.
+#[inline(never)]
+fn send_like(sent: &mut ArrayVec<Sent, 40>, word: &Sent, waves: &[Wave])
+    requires room { length sent.old.items + length waves.now ≤ 40 }
+    requires contiguous { word.now.gap ≡ 20 }
+    ensures { sent.new.items ≡ sent.old.items ++ words_of word.now.run word.now.source 20 waves.now }
+{
+    for wave in waves {
+        let mut next = *word;
+        next.wave = *wave;
+        sent.push(next);
+    }
+}
+
 /// Puts the words of a run behind those sent.
 fn send(sent: &mut ArrayVec<Sent, 40>, run: u8, source: Source, gap: Gap, waves: &[Wave])
     requires { length sent.old.items + length waves.now ≤ 40 }
     ensures { sent.new.items ≡ sent.old.items ++ words_of run source gap waves.now }
 {
-    let mut gap = gap;
-    for wave in waves {
-        sent.push(Sent {
-            wave: *wave,
-            gap,
-            run,
-            source,
-        });
-        gap = Gap::contiguous();
+    if waves.is_empty() {
+        return;
     }
+    let wave = waves[0];
+    sent.push(Sent {
+        wave,
+        gap,
+        run,
+        source,
+    });
+    let word = Sent {
+        wave,
+        gap: Gap::contiguous(),
+        run,
+        source,
+    };
+    send_like(sent, &word, &waves[1..]);
 }
 
 /// The words of a run come on the line, and to all terminals.

@@ -1,7 +1,9 @@
 -- Words that come one after the other, none of which is a command or a status.
-use Rattle.std.proofs.Common.{◌≡◌, ℕ, suc, ◌<◌, List, [], ◌∷◌, ◌++◌, drop, length, get_or, refl, sym, ap, ◌∙◌, arith, zero-le}
-use Rattle.std.specs.Prelude.{Bool, true, false, ◌==◌, nat_lt, Option, Some, None, if◌then◌else◌}
+use Rattle.std.proofs.Common.{◌≡◌, ℕ, suc, ◌+◌, ◌-◌, ◌<◌, ◌≤◌, List, [], ◌∷◌, ◌++◌, map, take, drop, length, get_or, slice_set, refl, sym, ap, ◌∙◌, arith, zero-le, length-append, append_assoc, append-nil}
+use Rattle.std.specs.Prelude.{Bool, true, false, ◌&&◌, ◌==◌, nat_lt, Option, Some, None, unwrap_or, if◌then◌else◌}
+use Rattle.std.specs.Option.{is_some}
 use Rattle.std.proofs.lemmas.Bool.Decides.{nat_tests}
+use Rattle.std.proofs.lemmas.List.{take_more, take_more_set, map-append}
 use Rattle.mil_word.specs.declared.Line.{Line}
 use Rattle.mil_word.specs.Words.{same_line, command_in, data_in}
 use Rattle.mil_terminal.specs.declared.events.Event.TheVariants.{Heard}
@@ -173,3 +175,34 @@ word_lost own p w ws at_phase value =
     let lost : Pending = record p { phase = Lost } in
     let step : after_word own p p.phase w 20 ≡ lost = taking_word own p p.phase w at_phase ∙ ap (λ d. with_due d p) (sym value) in
     over_run own lost 20 ws refl ∙ ap (λ x. after_run own x 20 ws) (sym step)
+
+-- ---- words in places where due words may stand, all of which are taken
+
+-- the values of so many words, and one more
+pub value_put : (all : Bool) (values waves : List ℕ) (i wave : ℕ) (value : Option ℕ) → i < length values → i < length waves → wave ≡ get_or waves i wave → data_in wave ≡ value
+    → (all ≡ true → map Some (take i values) ≡ map data_in (take i waves)) → (all && is_some value) ≡ true
+    → map Some (take (i + 1) (slice_set values i (unwrap_or value 0))) ≡ map data_in (take (i + 1) waves)
+value_put false values waves i wave value some place is at before after = cc
+value_put true values waves i wave None some place is at before after = cc
+value_put true values waves i wave (Some v) some place is at before after =
+    let last : data_in (get_or waves i wave) ≡ Some v = ap data_in (sym is) ∙ at in
+    ap (map Some) (take_more_set values i v some) ∙ map-append Some (take i values) (v ∷ [])
+    ∙ ap (λ (ds : List (Option ℕ)). ds ++ Some v ∷ []) (before refl) ∙ ap (λ (d : Option ℕ). map data_in (take i waves) ++ d ∷ []) (sym last)
+    ∙ sym (ap (map data_in) (take_more waves i wave place) ∙ map-append data_in (take i waves) (get_or waves i wave ∷ []))
+
+-- a window after words all of which are due
+pub run_taken : (own : ℕ) (p : Pending) (values waves items : List ℕ) → p.phase ≡ Taking → map Some values ≡ map data_in waves
+    → length waves ≤ words_due p.command - length p.words.items → items ≡ p.words.items ++ values
+    → record p { words = record { items = items } } ≡ after_run own p 20 waves
+run_taken own p [] [] items taking same few is =
+    ap (λ (xs : List ℕ). let q : Pending = record p { words = record { items = xs } } in q) (is ∙ append-nil p.words.items)
+run_taken own p [] (w ∷ ws) items taking same few is = cc
+run_taken own p (v ∷ vs) [] items taking same few is = cc
+run_taken own p (v ∷ vs) (w ∷ ws) items taking same few is =
+    let first : Some v ≡ data_in w = cc in
+    let rest : map Some vs ≡ map data_in ws = cc in
+    let due : nat_lt (length p.words.items) (words_due p.command) ≡ true = grind (arith, nat_tests) in
+    let value : Some v ≡ (if nat_lt (length p.words.items) (words_due p.command) then data_in w else None) = rw due first in
+    let q : Pending = record p { words = record { items = p.words.items ++ v ∷ [] } } in
+    let fewer : length ws ≤ words_due p.command - length (p.words.items ++ v ∷ []) = omega (arith, few, length-append p.words.items (v ∷ [])) in
+    run_taken own q vs ws items taking rest fewer (is ∙ sym (append_assoc p.words.items (v ∷ []) vs)) ∙ word_taken own p q v w ws taking value refl

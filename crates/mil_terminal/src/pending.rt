@@ -1,6 +1,7 @@
 //! An undecided window, by a small state for each word.
-ghost use Rattle.std.specs.Prelude.{◌≡◌, ℕ, ◌<◌, ◌≤◌, nat_lt, List, [], ◌∷◌, ◌++◌, Some, None, IfSome, IfNone, true, false, if◌then◌else◌};
+ghost use Rattle.std.specs.Prelude.{◌≡◌, ℕ, ◌<◌, ◌≤◌, nat_lt, ◌&&◌, List, [], ◌∷◌, ◌++◌, length, map, take, slice_set, Some, None, IfSome, IfNone, unwrap_or, true, false, if◌then◌else◌};
 ghost use Rattle.std.specs.List.{filter_map};
+ghost use Rattle.std.specs.Option.{is_some};
 ghost use Rattle.mil_word.specs.Words.{same_line as same, command_in, data_in};
 ghost use Rattle.mil_terminal.specs.declared.events.Event.{Event};
 ghost use Rattle.mil_terminal.specs.declared.events.Event.TheVariants.{Heard, Quiet};
@@ -101,16 +102,45 @@ fn is_answer(sender: u8, sound: &Sound, gap: Gap) -> bool
     }
 }
 
+/// The value of a sound word with data sync.
+#[inline]
+fn value_in(wave: Wave) -> Option<u16>
+    ensures { result ≡ data_in wave }
+{
+    Sound::of(wave, decode(wave)).data()
+}
+
 /// The value of a sound word with data sync, where so many of those due were taken.
 #[inline]
 fn due_in(due: usize, taken: usize, wave: Wave) -> Option<u16>
     ensures { result ≡ (if nat_lt taken due then data_in wave else None) }
 {
-    if taken < due {
-        Sound::of(wave, decode(wave)).data()
-    } else {
-        None
+    if taken < due { value_in(wave) } else { None }
+}
+
+/// Puts the value of a sound word with data sync into a place; whether it is one, where all before it were.
+#[inline]
+fn put_value(values: &mut [u16; 32], place: usize, wave: Wave, all: bool) -> bool
+    requires { place < 32 }
+    ensures values { values.new ≡ slice_set values.old place (unwrap_or (data_in wave) 0) }
+    ensures all { result ≡ (all && is_some (data_in wave)) }
+{
+    let value = value_in(wave);
+    values[place] = value.unwrap_or(0);
+    all && value.is_some()
+}
+
+/// Puts the values of sound words with data sync into the first places; whether all of these are such words.
+#[inline]
+fn put_values(values: &mut [u16; 32], waves: &[Wave]) -> bool
+    requires { length waves.now ≤ 32 }
+    ensures { result ≡ true → map Some (take (length waves.now) values.new) ≡ map data_in waves.now }
+{
+    let mut all = true;
+    for i in 0..waves.len() {
+        all = put_value(values, i, waves[i], all);
     }
+    all
 }
 
 impl Pending {
@@ -194,8 +224,23 @@ impl Pending {
         requires data { AreNoCommands 0 waves.now }
         ensures { self.new ≡ after_run own self.old 20 waves.now }
     {
-        let _ = own;
         let due = words_due(self.command);
+        let room = due.saturating_sub(self.words.len());
+        let mut values = [0; 32];
+        if waves.len() <= room && put_values(&mut values, waves) {
+            let _ = self.words.try_extend_from_slice(&values[..waves.len()]);
+            return;
+        }
+        self.take_each(own, due, waves);
+    }
+
+    /// The same, one after the other, where so many are due.
+    fn take_each(&mut self, own: Address, due: usize, waves: &[Wave])
+        requires taking { self.old.phase ≡ Taking }
+        requires due { due ≡ verdicts.words_due self.old.command }
+        ensures { self.new ≡ after_run own self.old 20 waves.now }
+    {
+        let _ = own;
         for wave in waves {
             match due_in(due, self.words.len(), *wave) {
                 Some(value) => self.words.push(value),

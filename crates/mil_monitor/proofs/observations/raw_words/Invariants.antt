@@ -1,12 +1,11 @@
 use Rattle.std.proofs.Common.{◌≡◌, ◌≤◌, map, take, length}
 use Rattle.mil_word.specs.Wave.{raw_of}
 use Rattle.mil_bus.specs.declared.talks.Sent.{Sent}
-use Rattle.mil_monitor.proofs.observations.observe_by.Given as goal
+use Rattle.mil_monitor.proofs.observations.raw_words.Given as goal
 
 -- what was looked at is recorded
 abbrev pub invariant-loop-word : goal.invariant-loop-word
 invariant-loop-word l = record {
   words : l.words.items ≡ map (λ (w : Sent). raw_of w.wave) (take l.word-index l.sent);
-  items : l.sent ≡ l.talk.sent.items;
   few : length l.sent ≤ 40;
 }

@@ -2,7 +2,7 @@ use Rattle.std.proofs.Common.{◌≡◌, drop}
 use Rattle.mil_terminal.specs.Phases.{after_run}
 use Rattle.mil_terminal.specs.Verdicts.{words_due}
 use Rattle.mil_terminal.specs.declared.pending.Phase.TheVariants.{Taking}
-use Rattle.mil_terminal.proofs.pending.Pending.take_rest.Given as goal
+use Rattle.mil_terminal.proofs.pending.Pending.take_each.Given as goal
 
 abbrev pub invariant-loop-wave : goal.invariant-loop-wave
 invariant-loop-wave l = record {
