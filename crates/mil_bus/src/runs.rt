@@ -33,10 +33,10 @@ fn send(sent: &mut ArrayVec<Sent, 40>, run: u8, source: Source, gap: Gap, waves:
     requires { length sent.old.items + length waves.now ≤ 40 }
     ensures { sent.new.items ≡ sent.old.items ++ words_of run source gap waves.now }
 {
-    if waves.is_empty() {
+    let Some((first, others)) = waves.split_first() else {
         return;
-    }
-    let wave = waves[0];
+    };
+    let wave = *first;
     sent.push(Sent {
         wave,
         gap,
@@ -49,7 +49,7 @@ fn send(sent: &mut ArrayVec<Sent, 40>, run: u8, source: Source, gap: Gap, waves:
         run,
         source,
     };
-    send_like(sent, &word, &waves[1..]);
+    send_like(sent, &word, others);
 }
 
 /// The words of a run come on the line, and to all terminals.
