@@ -13,3 +13,5 @@ pub mod Lists
 pub mod Standing
 pub mod Stops
 pub mod Replayed
+pub mod Keeping
+pub mod PlayingKept

@@ -24,7 +24,7 @@ use Rattle.replay.specs.Tracks.{IsMarked, AreMarks}
 use Rattle.replay.specs.Playing.{IsKept, IsPassed, IsOther, IsOver, GoesOn, IsPlaying}
 use Rattle.replay.proofs.KeptLists.{heard, heard_both, heard_length, kept_next, kept_same, HasMore, has_more, in_front, at_seam, stands_early}
 
-last_is : (before : ℕ) (ns : List Numbered) (x : Numbered) → packet.last_number before (ns ++ x ∷ []) ≡ x.number
+pub last_is : (before : ℕ) (ns : List Numbered) (x : Numbered) → packet.last_number before (ns ++ x ∷ []) ≡ x.number
 last_is before [] x = refl
 last_is before (n ∷ ns) x = last_is n.number ns x
 

@@ -1,15 +1,16 @@
 -- The states that are kept, at checkpoints and of late.
-use Rattle.std.proofs.Common.{◌≡◌, ℕ, zero, suc, ◌+◌, ◌-◌, ◌*◌, ◌/◌, ◌<◌, ◌≤◌, List, [], ◌∷◌, ◌++◌, length, take, Some, refl, sym, ap, ◌∙◌, subst, ◌⊎◌, ⊎_elim, inl, inr, arith}
+use Rattle.std.proofs.Common.{◌≡◌, ℕ, zero, suc, ◌+◌, ◌-◌, ◌*◌, ◌/◌, ◌%◌, ◌<◌, ◌≤◌, List, [], ◌∷◌, ◌++◌, length, take, drop, Option, Some, refl, sym, ap, ◌∙◌, subst, ◌⊎◌, ⊎_elim, inl, inr, arith}
 use Rattle.std.specs.List.{slice_get}
 use Rattle.std.proofs.lemmas.Bool.{cases_lt}
 use Rattle.std.proofs.lemmas.List.{length-append, take_all}
 use Rattle.std.proofs.lemmas.Option.{slice_get_within}
 use Rattle.circular_buffer.specs.Buffer.{keep_last}
 use Rattle.circular_buffer.proofs.Places.{slice_get-drop, slice_get-last, slice_get-take}
-use Rattle.replay.specs.declared.timeline.Stop.{Stop}
+use Rattle.replay.specs.declared.checkpoints.Stop.{Stop}
+use Rattle.replay.specs.declared.standings.Standing.{Standing}
 use Rattle.replay.specs.declared.timeline.Timeline.{Timeline}
 use Rattle.replay.specs.Tracks.{Pair}
-use Rattle.replay.specs.Standings.{AreAt, AreOf, IsTimeline, IsStop, AreCheckpoints, AreApart, AreStops, IsNearest, Has}
+use Rattle.replay.specs.Standings.{AreAt, AreOf, IsTimeline, IsStop, AreCheckpoints, AreApart, AreStops, IsNearest, IsNoted, StandAt, Has}
 use Rattle.replay.proofs.Lists.{one_of, each_more}
 
 -- ---- checkpoints
@@ -43,6 +44,18 @@ has_last stops stop capacity place some is =
           ∙ slice_get-last stops stop (length stops) refl;
       place_is = is;
     }
+
+-- one is taken out in front
+module _ (pairs : List Pair) (channels : List ℕ) where
+  pub others_stay : (stops : List Stop) → AreStops pairs channels stops → AreStops pairs channels (drop 1 stops)
+  others_stay stops are k stop at = are (suc k) stop (sym (slice_get-drop 1 stops k (suc k) (omega arith)) ∙ at)
+
+  pub out_in_front : (stops : List Stop) (stop : Stop) → AreStops pairs channels stops → slice_get stops 0 ≡ Some stop → IsStop pairs channels stop
+  out_in_front stops stop are at = are 0 stop at
+
+  -- where they stand, if it is known
+  pub stands_there : (at : Option ℕ) (all : List Standing) (place there : ℕ) → StandAt pairs channels at all → at ≡ Some place → place ≡ there → AreAt pairs channels there all
+  stands_there at all place there stands is same = subst (λ (n : ℕ). AreAt pairs channels n all) same (subst (λ (o : Option ℕ). StandAt pairs channels o all) is stands)
 
 -- ---- the nearest
 
@@ -144,18 +157,30 @@ keeps_nearest checkpoints recent to place stop is same =
     (λ r. inr (record { at = r.0; stop = stop; there = r.1; place_is = back }))
     is.one
 
+-- it is not before a place that is not past, at which states are kept
+pub reaches : (checkpoints recent : List Stop) (from to : ℕ) (stop : Stop) → IsNearest checkpoints recent to stop → IsNoted recent from → from ≤ to → from ≤ stop.place
+reaches checkpoints recent from to stop is noted le =
+    ⊎_elim
+    (λ (round : from % 64 ≡ 0). omega (arith, round, is.near, le))
+    (λ (has : Has recent from).
+    let there : has.stop.place ≤ stop.place = is.latest has.at has.stop has.there (omega (arith, has.place_is, le)) in
+    omega (arith, there, has.place_is))
+    noted
+
 -- ---- at a place
 
 -- the jobs where they are after a move: only the controllers were written anew
 pub arrives : (t new : Timeline) (from to : ℕ) (pairs : List Pair) (channels : List ℕ) → IsTimeline t from → new.tracks ≡ t.tracks → new.channels ≡ t.channels → new.checkpoints ≡ t.checkpoints
-    → new.recent ≡ t.recent → pairs ≡ t.tracks.items → channels ≡ t.channels.items → AreAt pairs channels to new.live.items → AreOf pairs new.next.items → IsTimeline new to
-arrives t new from to pairs channels is tracks all_channels checkpoints recent same same_channels live next =
+    → new.recent ≡ t.recent → pairs ≡ t.tracks.items → channels ≡ t.channels.items → AreAt pairs channels to new.live.items → AreOf pairs new.next.items
+    → StandAt pairs channels new.next_at new.next.items → IsTimeline new to
+arrives t new from to pairs channels is tracks all_channels checkpoints recent same same_channels live next next_at =
     let ps : pairs ≡ new.tracks.items = same ∙ sym (ap (λ v. v.items) tracks) in
     let cs : channels ≡ new.channels.items = same_channels ∙ sym (ap (λ v. v.items) all_channels) in
     record {
       room = rw (tracks, all_channels) is.room;
       live = rw (← ps, ← cs) live;
       next = rw (← ps) next;
+      next_at = rw (← ps, ← cs) next_at;
       checkpoints = rw (tracks, all_channels, checkpoints) is.checkpoints;
       enough = rw (all_channels, checkpoints) is.enough;
       recent = rw (tracks, all_channels, recent) is.recent;

@@ -9,5 +9,6 @@ pub mod Opening
 pub mod Conditions
 pub mod Finding
 pub mod Standings
+pub mod Keeping
 pub mod Replaying
 pub mod PlacedActions

@@ -1,5 +1,6 @@
 -- Where the controllers of all jobs stand at a place of the file: behind so many of its messages.
-use Rattle.std.specs.Prelude.{◌≡◌, ℕ, ◌+◌, ◌*◌, ◌%◌, ◌<◌, ◌≤◌, ◌⊎◌, List, length, take, slice_get, Some}
+use Rattle.std.specs.Prelude.{◌≡◌, ℕ, ◌+◌, ◌*◌, ◌%◌, ◌<◌, ◌≤◌, ◌⊎◌, List, length, take, slice_get, Option, Some}
+use Rattle.std.specs.Option.{IfSome}
 use Rattle.bc_machine.specs.Running.{MachineState}
 use Rattle.job_file.specs.Jobs.{JobState, job_in}
 use Rattle.job_file.specs.Machines.{IsOf}
@@ -7,7 +8,7 @@ use Rattle.ch11_recording.specs.Items.{last_number}
 use Rattle.bench_report.specs.Reports.{ChannelPart}
 use Rattle.replay.specs.declared.standings.Standing.{Standing}
 use Rattle.replay.specs.declared.standings.Kept.{Kept}
-use Rattle.replay.specs.declared.timeline.Stop.{Stop}
+use Rattle.replay.specs.declared.checkpoints.Stop.{Stop}
 use Rattle.replay.specs.declared.timeline.Timeline.{Timeline}
 use Rattle.replay.specs.Accord.{kept_in}
 use Rattle.replay.specs.Finding.{count_to}
@@ -63,10 +64,24 @@ AreApart stops = (k : ℕ) (stop : Stop) → slice_get stops k ≡ Some stop →
 abbrev pub AreStops : List Pair → List ℕ → List Stop → Type 0
 AreStops pairs channels stops = (k : ℕ) (stop : Stop) → slice_get stops k ≡ Some stop → IsStop pairs channels stop
 
+-- whatever states the earlier ones were, the later ones are
+abbrev pub StopsStay : List Stop → List Stop → Type 0
+StopsStay old new = (pairs : List Pair) (channels : List ℕ) → AreStops pairs channels old → AreStops pairs channels new
+
+-- so do these and what was taken out of them
+abbrev pub StopsTurn : List Stop → Option Stop → List Stop → Option Stop → Type 0
+StopsTurn old out new taken =
+    (pairs : List Pair) (channels : List ℕ) → AreStops pairs channels old → IfSome out (IsStop pairs channels) → AreStops pairs channels new × IfSome taken (IsStop pairs channels)
+
+-- controllers at a place, where it is known at which
+abbrev pub StandAt : List Pair → List ℕ → Option ℕ → List Standing → Type 0
+StandAt pairs channels at all = IfSome at (λ place. AreAt pairs channels place all)
+
 pub record IsTimeline (t : Timeline) (place : ℕ) : Type 0 where
   pub room : HaveRoom t.tracks.items t.channels.items
   pub live : AreAt t.tracks.items t.channels.items place t.live.items
   pub next : AreOf t.tracks.items t.next.items
+  pub next_at : StandAt t.tracks.items t.channels.items t.next_at t.next.items
   pub checkpoints : AreCheckpoints t.tracks.items t.channels.items t.checkpoints.items
   pub enough : length t.channels.items < 64 * length t.checkpoints.items
   pub recent : AreStops t.tracks.items t.channels.items t.recent.items
@@ -78,6 +93,10 @@ pub record Has (stops : List Stop) (place : ℕ) : Type 0 where
   pub stop : Stop
   pub there : slice_get stops at ≡ Some stop
   pub place_is : stop.place ≡ place
+
+-- the states of a place are kept: it is that of a checkpoint, or one of the latest
+abbrev pub IsNoted : List Stop → ℕ → Type 0
+IsNoted recent place = (place % 64 ≡ 0) ⊎ Has recent place
 
 -- the states of the nearest place at or below this one: at most 63 messages before it, and not before any that were kept of late
 pub record IsNearest (checkpoints recent : List Stop) (place : ℕ) (stop : Stop) : Type 0 where

@@ -1,6 +1,7 @@
 //! The debugger of recordings: jobs and the report of a run played again, place by place of the recording.
 #![tactic(auto)]
 
+mod checkpoints;
 mod comparing;
 mod conditions;
 mod error;

@@ -1,5 +1,5 @@
 //! Opening a recording: do jobs, report and recording agree?
-ghost use Rattle.std.specs.Prelude.{◌≡◌, ◌++◌, length, replicate, IfOk, IfErr, OnOk, MatchOption};
+ghost use Rattle.std.specs.Prelude.{◌≡◌, ◌++◌, [], length, replicate, IfOk, IfErr, OnOk, MatchOption};
 ghost use Rattle.bench_core.specs.Lawful.{channels_of};
 ghost use Rattle.replay.specs.Accord.{reported, AreOfChannels};
 ghost use Rattle.replay.specs.Differences.{IsWrongChannel, IsStranger};
@@ -7,7 +7,10 @@ ghost use Rattle.replay.specs.Places.{heard_channels};
 ghost use Rattle.replay.specs.Tracks.{jobs_in, parts_in};
 ghost use Rattle.replay.specs.Moves.{OpensNot};
 ghost use Rattle.replay.specs.Opening.{AgreeBefore, FailsIn};
+ghost use Rattle.replay.specs.Standings.{AreCheckpoints};
+ghost use Rattle.replay.specs.Keeping.{AreSpaced};
 
+use crate::checkpoints::Stop;
 use crate::error::ReplayError;
 use crate::tracks::Track;
 use bench_report::ChannelReport;
@@ -74,7 +77,7 @@ fn push_times(channels: &mut Vec<u16>, channel: u16, count: u64) -> Result<(), A
 pub(crate) fn message_channels(alloc: Global, index: &Index<'_>) -> Result<Vec<u16>, AllocError>
     ensures { IfOk result (λ v. v.items ≡ heard_channels index.now) }
 {
-    let mut channels = Vec::new(alloc);
+    let mut channels = Vec::with_capacity(alloc, index.total() as usize)?;
     for packet in index.packets() {
         push_times(&mut channels, packet.header.channel, packet.count)?;
     }
@@ -103,23 +106,31 @@ pub(crate) fn compare_channels(
     Ok(())
 }
 
-/// Plays job after job, each with its part of the report. Y1 names the first number at fault of the first job that has one.
-/// Condition: there are as many parts as jobs.
+/// Plays job after job, each with its part of the report, and keeps their states at the checkpoints, where these are the
+/// channels of all messages. Y1 names the first number at fault of the first job that has one. Conditions: there are as many
+/// parts as jobs, and no state is kept yet.
 pub(crate) fn tracks(
     alloc: Global,
     jobs: &[Job],
     parts: &[ChannelReport],
     index: &Index<'_>,
+    channels: &[u16],
+    stops: &mut Vec<Stop>,
 ) -> Result<Vec<Track>, ReplayError>
-    requires { length parts.now ≡ length jobs.now }
+    requires parts { length parts.now ≡ length jobs.now }
+    requires channels { channels.now ≡ heard_channels index.now }
+    requires spaced { AreSpaced (length channels.now) (length stops.old.items) }
+    requires stops { AreCheckpoints [] channels.now stops.old.items }
     ensures jobs { IfOk result (λ v. jobs_in v.items ≡ jobs.now) }
     ensures parts { IfOk result (λ v. parts_in v.items ≡ parts.now) }
     ensures agree { OnOk result (AgreeBefore index.now jobs.now parts.now (length jobs.now)) }
     ensures fault { IfErr result (λ e. FailsIn jobs.now parts.now index.now e) }
+    ensures count { OnOk result (length stops.new.items ≡ length stops.old.items) }
+    ensures states { IfOk result (λ v. AreCheckpoints v.items channels.now stops.new.items) }
 {
-    let mut tracks = Vec::new(alloc);
+    let mut tracks = Vec::with_capacity(alloc, jobs.len())?;
     for i in 0..jobs.len() {
-        tracks.push(Track::play(alloc, &jobs[i], &parts[i], index)?)?;
+        tracks.push(Track::play(alloc, &jobs[i], &parts[i], index, channels, stops)?)?;
     }
     Ok(tracks)
 }

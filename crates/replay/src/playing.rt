@@ -1,14 +1,18 @@
 //! A job that is played again beside the messages of its channel in the file.
-ghost use Rattle.std.specs.Prelude.{◌≡◌, MatchBool, IfOk, IfErr, OnOk};
+ghost use Rattle.std.specs.Prelude.{◌≡◌, MatchBool, IfOk, IfErr, OnOk, length};
 ghost use Rattle.frame_tree.specs.Bounds.{IsSound};
 ghost use Rattle.job_file.specs.Jobs.{tree_in};
 ghost use Rattle.replay.specs.Accord.{AgreesOn, kept_in};
 ghost use Rattle.replay.specs.Tracks.{IsThere, AreMarks};
+ghost use Rattle.replay.specs.Places.{heard_channels};
 ghost use Rattle.replay.specs.Playing.{Tells, IsOver, GoesOn, FailsAt};
+ghost use Rattle.replay.specs.Keeping.{AreSpaced, AddsStates};
 
+use crate::checkpoints::{Due, Stop};
 use crate::comparing::{is_record, is_refused};
 use crate::error::ReplayError;
-use crate::tracks::Mark;
+use crate::standings::Standing;
+use crate::tracks::{Mark, count};
 use bc_machine::Machine;
 use bench_report::ChannelReport;
 use ch11_reader::{ChannelMessages, Index};
@@ -78,27 +82,40 @@ fn mark(machine: &Machine) -> Mark
 }
 
 /// Plays a job again, under the actions that its part of the report says were placed, and compares part and file with it: a
-/// mark before any message, and behind each that was kept. Y1 names the first number at fault.
+/// mark before any message, and behind each that was kept; and at each checkpoint the job's state is kept, where these are the
+/// channels of all messages. Y1 names the first number at fault.
 pub(crate) fn play(
     alloc: Global,
     job: &Job,
     part: &ChannelReport,
     index: &Index<'_>,
+    channels: &[u16],
+    stops: &mut Vec<Stop>,
 ) -> Result<Vec<Mark>, ReplayError>
+    requires channels { channels.now ≡ heard_channels index.now }
+    requires spaced { AreSpaced (length channels.now) (length stops.old.items) }
     ensures sound { OnOk result (IsSound (tree_in job.now)) }
     ensures marks { IfOk result (λ v. AreMarks job.now part.now (kept_in job.now part.now) v.items) }
     ensures agrees { OnOk result (AgreesOn index.now job.now part.now) }
     ensures fault { IfErr result (λ e. FailsAt index.now job.now part.now e) }
+    ensures count { OnOk result (length stops.new.items ≡ length stops.old.items) }
+    ensures states { OnOk result (AddsStates (record { job = job.now; part = part.now }) channels.now stops.old.items stops.new.items) }
 {
     let channel = job.channel();
     let _sound = job.program();
-    let mut machine = job.machine(alloc, part.placed())?;
+    let mut standing = Standing::begin(alloc, job, part)?;
     let mut heard = index.channel(channel);
-    let mut marks = Vec::new(alloc);
-    marks.push(mark(&machine))?;
+    let mut due = Due::first(channel);
+    due.keep(alloc, &standing, channels, stops)?;
+    let mut marks = Vec::with_capacity(alloc, count(channels, channel) + 1)?;
+    marks.push(mark(&standing.machine))?;
     for played in 0..part.made() {
-        match play_next(&mut machine, job, part, &mut heard) {
-            Played::Kept => marks.push(mark(&machine))?,
+        match play_next(&mut standing.machine, job, part, &mut heard) {
+            Played::Kept => {
+                marks.push(mark(&standing.machine))?;
+                standing.heard += 1;
+                due.keep(alloc, &standing, channels, stops)?;
+            }
             Played::Refused => {}
             Played::Unlike => {
                 let number = played + 1;
@@ -106,7 +123,7 @@ pub(crate) fn play(
             }
         }
     }
-    if !is_over(&mut machine, job, part, &mut heard) {
+    if !is_over(&mut standing.machine, job, part, &mut heard) {
         let number = part.made() + 1;
         return Err(ReplayError::Mismatch { channel, number });
     }

@@ -8,6 +8,7 @@ ghost use Rattle.replay.specs.Accord.{Agrees};
 ghost use Rattle.replay.specs.Places.{number_at};
 ghost use Rattle.replay.specs.Moves.{at_place, total_of, OfJob, IsNextMet, IsNowhere, OpensNot, PastWhere, StartWhere, IsMemory};
 
+use crate::checkpoints::empty_stops;
 use crate::error::ReplayError;
 use crate::finding::first_met;
 use crate::opening::{compare_channels, message_channels, tracks};
@@ -65,11 +66,12 @@ impl<'a> Replay<'a> {
     {
         let parts = report.channels();
         compare_channels(alloc, jobs, parts, &index)?;
-        let tracks = tracks(alloc, jobs, parts, &index)?;
         let channels = message_channels(alloc, &index)?;
+        let mut stops = empty_stops(alloc, &channels, jobs.len())?;
+        let tracks = tracks(alloc, jobs, parts, &index, &channels, &mut stops)?;
         let live = begin_all(alloc, jobs, parts)?;
-        let other = begin_all(alloc, jobs, parts)?;
-        let timeline = Timeline::open(alloc, tracks, channels, live, other)?;
+        let next = begin_all(alloc, jobs, parts)?;
+        let timeline = Timeline::open(alloc, tracks, channels, stops, live, next)?;
         Ok(Replay {
             index,
             timeline,

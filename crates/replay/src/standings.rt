@@ -26,7 +26,11 @@ pub(crate) struct Kept {
 
 impl Standing {
     /// A job's controller before any message.
-    fn begin(alloc: Global, job: &Job, part: &ChannelReport) -> Result<Standing, AllocError>
+    pub(crate) fn begin(
+        alloc: Global,
+        job: &Job,
+        part: &ChannelReport,
+    ) -> Result<Standing, AllocError>
         ensures heard { IfOk result (λ s. s.heard ≡ 0) }
         ensures there { IfOk result (λ s. IsThere job.now part.now 0 s.machine) }
     {
@@ -36,7 +40,8 @@ impl Standing {
         })
     }
 
-    fn save(&self, alloc: Global) -> Result<Kept, AllocError>
+    /// The job's state as it is now.
+    pub(crate) fn save(&self, alloc: Global) -> Result<Kept, AllocError>
         ensures { IfOk result (λ k. k ≡ kept_of self.now) }
     {
         Ok(Kept {

@@ -1,61 +1,29 @@
 //! The jobs of a recording from place to place: where their controllers stand, and the states that are kept.
-ghost use Rattle.std.specs.Prelude.{◌≡◌, ◌≤◌, ◌<◌, ◌-◌, ◌*◌, ◌%◌, length, IfOk, OnOk, OnErr, true};
-ghost use Rattle.replay.specs.Standings.{HaveRoom, AreAt, AreOf, AreCheckpoints, AreStops, AreApart, IsTimeline, IsNearest, Has, Keeps};
+ghost use Rattle.std.specs.Prelude.{◌≡◌, ◌≤◌, ◌<◌, ◌-◌, ◌*◌, ◌%◌, length, IfOk, IfSome, OnOk, OnErr, true};
+ghost use Rattle.replay.specs.Standings.{HaveRoom, AreAt, AreOf, StandAt, AreCheckpoints, IsStop, StopsStay, StopsTurn, AreApart, IsTimeline, IsNearest, IsNoted, Has, Keeps};
 
-use crate::standings::{Kept, Standing, play_all, restore_all, save_all};
+use crate::checkpoints::{APART, Stop};
+use crate::standings::{Standing, play_all, restore_all, save_all};
 use crate::tracks::Track;
 use circular_buffer::HeapCircularBuffer;
 use std::alloc::{AllocError, Global};
 use std::mem::swap;
 
-/// From one checkpoint to the next, in messages of the file.
-const APART: usize = 64;
-
 /// How many of the latest states are kept beside the checkpoints.
 const RECENT: usize = 32;
 
-/// The states of all jobs at a place of the file.
-#[derive(Drop)]
-pub(crate) struct Stop {
-    place: usize,
-    states: Vec<Kept>,
-}
-
 /// The jobs of a recording, and the channel of each of its messages; their controllers at the place, and others to be taken
-/// elsewhere; the states at places 0, 64, 128 and so on; and those at which the latest moves ended.
+/// elsewhere, with the place where they stand, if it is known; the states at places 0, 64, 128 and so on; and those at other
+/// places at which the latest moves ended.
 #[derive(Drop)]
 pub(crate) struct Timeline {
     pub(crate) tracks: Vec<Track>,
     pub(crate) channels: Vec<u16>,
     pub(crate) live: Vec<Standing>,
     next: Vec<Standing>,
+    next_at: Option<usize>,
     checkpoints: Vec<Stop>,
     recent: HeapCircularBuffer<Stop>,
-}
-
-/// Plays all jobs from the first message to the last, and keeps their states at places 0, 64, 128 and so on.
-fn checkpoints(
-    alloc: Global,
-    tracks: &[Track],
-    all: &mut Vec<Standing>,
-    channels: &[u16],
-) -> Result<Vec<Stop>, AllocError>
-    requires room { HaveRoom tracks.now channels.now }
-    requires at { AreAt tracks.now channels.now 0 all.old.items }
-    ensures of { AreOf tracks.now all.new.items }
-    ensures checkpoints { IfOk result (λ v. AreCheckpoints tracks.now channels.now v.items) }
-    ensures enough { IfOk result (λ v. length channels.now < 64 * length v.items) }
-{
-    let count = channels.len() / APART + 1;
-    let mut stops = Vec::with_capacity(alloc, count)?;
-    for k in 0..count {
-        let place = APART * k;
-        let states = save_all(alloc, all)?;
-        stops.push(Stop { place, states })?;
-        let end = (place + APART).min(channels.len());
-        play_all(tracks, all, channels, place, end);
-    }
-    Ok(stops)
 }
 
 /// The kept states at the nearest place that is not past this one.
@@ -79,54 +47,113 @@ fn nearest<'a>(
     best
 }
 
-/// Whether the latest states are those of a place.
-fn ends_at(recent: &HeapCircularBuffer<Stop>, place: usize) -> bool
-    ensures { result ≡ true → Has recent.now.items place }
+/// Takes the first of the latest states out: those of the place are the answer; others become the last, and the answer is what
+/// was found before.
+fn turn(recent: &mut HeapCircularBuffer<Stop>, place: usize, found: Option<Stop>) -> Option<Stop>
+    requires { recent.old.capacity ≡ 32 }
+    ensures stops { StopsTurn recent.old.items found recent.new.items result }
+    ensures capacity { recent.new.capacity ≡ 32 }
+    ensures place { IfSome found (λ stop. stop.place ≡ place) → IfSome result (λ stop. stop.place ≡ place) }
 {
-    match recent.back() {
-        Some(last) => last.place == place,
+    let Some(stop) = recent.pop_front() else {
+        return found;
+    };
+    if stop.place == place {
+        return Some(stop);
+    }
+    let _ = recent.push_back(stop);
+    found
+}
+
+/// Makes the states of a place the latest, where they are among these, and says whether they are.
+fn renew(recent: &mut HeapCircularBuffer<Stop>, place: usize) -> bool
+    requires { recent.old.capacity ≡ 32 }
+    ensures stops { StopsStay recent.old.items recent.new.items }
+    ensures capacity { recent.new.capacity ≡ 32 }
+    ensures has { result ≡ true → Has recent.new.items place }
+{
+    let mut found = None;
+    for _turn in 0..recent.len() {
+        found = turn(recent, place, found);
+    }
+    match found {
+        Some(stop) => {
+            let _ = recent.push_back(stop);
+            true
+        }
         None => false,
     }
 }
 
+/// Takes controllers to the place of kept states, unless they stand there.
+fn bring(
+    tracks: &[Track],
+    all: &mut Vec<Standing>,
+    at: &mut Option<usize>,
+    stop: &Stop,
+    channels: &[u16],
+) -> Result<(), AllocError>
+    requires of { AreOf tracks.now all.old.items }
+    requires at { StandAt tracks.now channels.now at.old all.old.items }
+    requires stop { IsStop tracks.now channels.now stop.now }
+    ensures of { AreOf tracks.now all.new.items }
+    ensures at { StandAt tracks.now channels.now at.new all.new.items }
+    ensures there { OnOk result (AreAt tracks.now channels.now stop.now.place all.new.items) }
+{
+    match *at {
+        Some(place) if place == stop.place => Ok(()),
+        _ => {
+            *at = None;
+            restore_all(tracks, all, &stop.states, channels, stop.place)
+        }
+    }
+}
+
 impl Timeline {
-    /// The jobs at the start. Conditions: both lists of controllers stand before any message.
+    /// The jobs at the start. Conditions: both lists of controllers stand before any message, and the states are kept at all
+    /// checkpoints up to the end.
     pub(crate) fn open(
         alloc: Global,
         tracks: Vec<Track>,
         channels: Vec<u16>,
+        checkpoints: Vec<Stop>,
         live: Vec<Standing>,
-        other: Vec<Standing>,
+        next: Vec<Standing>,
     ) -> Result<Timeline, AllocError>
         requires room { HaveRoom tracks.items channels.items }
+        requires checkpoints { AreCheckpoints tracks.items channels.items checkpoints.items }
+        requires enough { length channels.items < 64 * length checkpoints.items }
         requires live { AreAt tracks.items channels.items 0 live.items }
-        requires other { AreAt tracks.items channels.items 0 other.items }
+        requires next { AreAt tracks.items channels.items 0 next.items }
         ensures stands { IfOk result (λ t. IsTimeline t 0) }
         ensures tracks { IfOk result (λ t. t.tracks ≡ tracks) }
         ensures channels { IfOk result (λ t. t.channels ≡ channels) }
     {
-        let mut next = other;
-        let checkpoints = checkpoints(alloc, &tracks, &mut next, &channels)?;
         let recent = HeapCircularBuffer::with_capacity(alloc, RECENT)?;
         Ok(Timeline {
             tracks,
             channels,
             live,
             next,
+            next_at: Some(0),
             checkpoints,
             recent,
         })
     }
 
-    /// Keeps the states where the controllers stand, unless they were the last that were kept.
+    /// Keeps the states where the controllers stand as the latest. They are not saved anew where they are kept already, and not
+    /// at all at a checkpoint.
     fn note(&mut self, place: usize) -> Result<(), AllocError>
         requires { IsTimeline self.old place }
         ensures stands { IsTimeline self.new place }
         ensures tracks { self.new.tracks ≡ self.old.tracks }
         ensures channels { self.new.channels ≡ self.old.channels }
-        ensures has { OnOk result (Has self.new.recent.items place) }
+        ensures noted { OnOk result (IsNoted self.new.recent.items place) }
     {
-        if ends_at(&self.recent, place) {
+        if place % APART == 0 {
+            return Ok(());
+        }
+        if renew(&mut self.recent, place) {
             return Ok(());
         }
         let states = save_all(*self.live.allocator(), &self.live)?;
@@ -154,15 +181,16 @@ impl Timeline {
         if place == from {
             play_all(&self.tracks, &mut self.live, &self.channels, from, to);
         } else {
-            restore_all(
+            bring(
                 &self.tracks,
                 &mut self.next,
-                &stop.states,
+                &mut self.next_at,
+                stop,
                 &self.channels,
-                place,
             )?;
             play_all(&self.tracks, &mut self.next, &self.channels, place, to);
             swap(&mut self.live, &mut self.next);
+            self.next_at = Some(from);
         }
         Ok(to - place)
     }

@@ -3,11 +3,13 @@ ghost use Rattle.std.specs.Prelude.{◌≡◌, ◌≤◌, ◌==◌, ℕ, count_b
 ghost use Rattle.ch11_recording.specs.Items.{last_number};
 ghost use Rattle.replay.specs.Accord.{kept_in, played, AgreesOn};
 ghost use Rattle.replay.specs.Playing.{FailsAt};
-ghost use Rattle.replay.specs.Places.{IsAfter};
+ghost use Rattle.replay.specs.Places.{heard_channels, IsAfter};
 ghost use Rattle.replay.specs.Finding.{count_to};
 ghost use Rattle.replay.specs.Tracks.{IsThere, IsLast};
 ghost use Rattle.replay.specs.Standings.{IsAt};
+ghost use Rattle.replay.specs.Keeping.{AreSpaced, AddsStates};
 
+use crate::checkpoints::Stop;
 use crate::error::ReplayError;
 use crate::playing::play;
 use crate::standings::Standing;
@@ -60,20 +62,27 @@ pub(crate) fn count(channels: &[u16], channel: u16) -> usize
 }
 
 impl Track {
-    /// Plays a job again with its part of the report, and compares the file with it. Y1 names the first number at fault.
+    /// Plays a job again with its part of the report, compares the file with it, and keeps the job's states at the checkpoints,
+    /// where these are the channels of all messages. Y1 names the first number at fault.
     pub(crate) fn play(
         alloc: Global,
         job: &Job,
         part: &ChannelReport,
         index: &Index<'_>,
+        channels: &[u16],
+        stops: &mut Vec<Stop>,
     ) -> Result<Track, ReplayError>
+        requires channels { channels.now ≡ heard_channels index.now }
+        requires spaced { AreSpaced (length channels.now) (length stops.old.items) }
         ensures track { IfOk result (λ t. t ≡ record { job = job.now; part = part.now }) }
         ensures agrees { OnOk result (AgreesOn index.now job.now part.now) }
         ensures fault { IfErr result (λ e. FailsAt index.now job.now part.now e) }
+        ensures count { OnOk result (length stops.new.items ≡ length stops.old.items) }
+        ensures states { OnOk result (AddsStates (record { job = job.now; part = part.now }) channels.now stops.old.items stops.new.items) }
     {
         Ok(Track {
             channel: job.channel(),
-            marks: play(alloc, job, part, index)?,
+            marks: play(alloc, job, part, index, channels, stops)?,
             job: Snapshot::of(job),
             part: Snapshot::of(part),
         })

@@ -1,4 +1,6 @@
-use Rattle.std.proofs.Common.{ap}
+use Rattle.std.proofs.Common.{ℕ, List, [], length, sym, ap, ◌∙◌, subst, arith}
+use Rattle.replay.specs.Standings.{AreCheckpoints}
+use Rattle.replay.specs.Keeping.{AreSpaced}
 use Rattle.replay.proofs.Standing.{begun_at}
 use Rattle.replay.proofs.Replayed.{agreed, agreed_pairs, have_room, opened}
 use Rattle.replay.proofs.replaying.Replay.open.Goals as goal
@@ -10,13 +12,31 @@ open-requires-clause-room c =
     (agreed c.args.jobs.now c.channels-parts.result.now c.args.index c.in_ok-compare_channels.ensures.channels c.in_ok-compare_channels.ensures.known c.in_ok-tracks.ensures.agree))
     c.in_ok-channels.ensures
 
+pub tracks-requires-clause-channels : goal.tracks-requires-clause-channels
+tracks-requires-clause-channels c = c.deref-2.ensures.value ∙ c.in_ok-channels.ensures
+
+pub tracks-requires-clause-spaced : goal.tracks-requires-clause-spaced
+tracks-requires-clause-spaced c =
+    subst (λ (cs : List ℕ). AreSpaced (length cs) (length c.in_ok-stops.stops.items)) (c.deref.ensures.value ∙ sym c.deref-2.ensures.value) c.in_ok-stops.ensures.spaced
+
+pub tracks-requires-clause-stops : goal.tracks-requires-clause-stops
+tracks-requires-clause-stops c =
+    subst (λ (cs : List ℕ). AreCheckpoints [] cs c.in_ok-stops.stops.items) (c.deref.ensures.value ∙ sym c.deref-2.ensures.value) c.in_ok-stops.ensures.stops
+
+pub open-requires-clause-checkpoints : goal.open-requires-clause-checkpoints
+open-requires-clause-checkpoints c =
+    subst (λ (cs : List ℕ). AreCheckpoints c.in_ok-tracks.tracks.items cs c.tracks.new.stops.items) c.deref-2.ensures.value c.in_ok-tracks.ensures.states
+
+pub open-requires-clause-enough : goal.open-requires-clause-enough
+open-requires-clause-enough c = omega (arith, c.in_ok-stops.ensures.spaced.enough, ap length c.deref.ensures.value, c.in_ok-tracks.ensures.count)
+
 pub open-requires-clause-live : goal.open-requires-clause-live
 open-requires-clause-live c =
     begun_at c.in_ok-tracks.tracks.items c.args.jobs.now c.channels-parts.result.now c.in_ok-channels.channels.items c.in_ok-live.live.items c.in_ok-tracks.ensures.jobs c.in_ok-tracks.ensures.parts c.in_ok-live.ensures
 
-pub open-requires-clause-other : goal.open-requires-clause-other
-open-requires-clause-other c =
-    begun_at c.in_ok-tracks.tracks.items c.args.jobs.now c.channels-parts.result.now c.in_ok-channels.channels.items c.in_ok-other.other.items c.in_ok-tracks.ensures.jobs c.in_ok-tracks.ensures.parts c.in_ok-other.ensures
+pub open-requires-clause-next : goal.open-requires-clause-next
+open-requires-clause-next c =
+    begun_at c.in_ok-tracks.tracks.items c.args.jobs.now c.channels-parts.result.now c.in_ok-channels.channels.items c.in_ok-next.next.items c.in_ok-tracks.ensures.jobs c.in_ok-tracks.ensures.parts c.in_ok-next.ensures
 
 pub invariant_of-result : goal.invariant_of-result
 invariant_of-result c =
