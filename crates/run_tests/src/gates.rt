@@ -283,10 +283,11 @@ impl Gate for HeldFromTheFirst {
     }
 }
 
-/// Channel 1 waits before a message until hosts have posted so many actions.
+/// The first channels wait before a message until hosts have posted so many actions.
 #[derive(Drop)]
 pub(super) struct HeldForPosts {
     pub(super) waits: Waits,
+    last: u16,
     message: u32,
     wanted: u32,
     held: AtomicU32,
@@ -294,10 +295,16 @@ pub(super) struct HeldForPosts {
 }
 
 impl HeldForPosts {
-    /// The gate before anything has passed it.
+    /// The gate of channel 1 before anything has passed it.
     pub(super) fn make(message: u32, wanted: u32) -> HeldForPosts {
+        HeldForPosts::make_up_to(1, message, wanted)
+    }
+
+    /// The gate of the channels up to the last, before anything has passed it.
+    pub(super) fn make_up_to(last: u16, message: u32, wanted: u32) -> HeldForPosts {
         HeldForPosts {
             waits: Waits::make(),
+            last,
             message,
             wanted,
             held: AtomicU32::new(0),
@@ -318,7 +325,7 @@ impl HeldForPosts {
 
 impl Gate for HeldForPosts {
     fn before_message(&self, channel: u16, number: u32) {
-        if channel == 1 && number == self.message {
+        if channel <= self.last && number == self.message {
             self.held.store(1, Ordering::SeqCst);
             self.waits.until(&self.posted, self.wanted);
         }

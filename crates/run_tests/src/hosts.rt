@@ -1,6 +1,7 @@
 //! What live runs need beside the jobs: mailboxes and the posters of their hosts, and a run with one of them.
 ghost use Rattle.std.specs.Prelude.{◌≡◌, [], ◌∷◌};
 ghost use Rattle.bench_run.specs.Mail.{IsInboxOf};
+ghost use Rattle.bench_run.specs.Live.{AreInboxesOf};
 ghost use Rattle.run_tests.specs.Hosts.{MayPost};
 
 use crate::fixtures::settings_of;
@@ -50,6 +51,24 @@ pub(crate) fn two_hosts(
     (mailbox, poster, second, inbox)
 }
 
+/// A run of the jobs with their mailboxes, which ends well: the report, the inboxes, and what was recorded.
+pub(crate) fn lives<R: Threads + Wait + Abort + Sync, G: Gate>(
+    rt: &R,
+    alloc: Global,
+    jobs: &[Job],
+    settings: &Settings,
+    boxes: &[Mailbox],
+    inboxes: Vec<Inbox>,
+    gate: &G,
+) -> (Report, Vec<Inbox>, MemorySink)
+    requires { AreInboxesOf boxes.now inboxes.items }
+    ensures { AreInboxesOf boxes.now result.1.items }
+{
+    let sink = MemorySink::make(alloc);
+    let answer = run_live(rt, alloc, jobs, settings, boxes, inboxes, gate, sink);
+    answer.ok().expect(rt, "a run that ends well")
+}
+
 /// A run of one job with its mailbox, which ends well: the report, and what was recorded.
 pub(crate) fn lives_alone<R: Threads + Wait + Abort + Sync, G: Gate>(
     rt: &R,
@@ -64,9 +83,7 @@ pub(crate) fn lives_alone<R: Threads + Wait + Abort + Sync, G: Gate>(
 {
     let settings = settings_with(rt, alloc, 4096, posts);
     let inboxes = alone(rt, alloc, inbox);
-    let sink = MemorySink::make(alloc);
-    let answer = run_live(rt, alloc, jobs, &settings, boxes, inboxes, gate, sink);
-    let (report, _, sink) = answer.ok().expect(rt, "a run that ends well");
+    let (report, _, sink) = lives(rt, alloc, jobs, &settings, boxes, inboxes, gate);
     (report, sink)
 }
 

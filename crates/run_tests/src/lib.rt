@@ -21,6 +21,8 @@ mod live;
 #[cfg(test)]
 mod live_hosts;
 #[cfg(test)]
+mod live_many;
+#[cfg(test)]
 mod mailboxes;
 #[cfg(test)]
 mod many;
@@ -32,5 +34,7 @@ mod recordings;
 mod refusals;
 #[cfg(test)]
 mod rows;
+#[cfg(test)]
+mod settled;
 #[cfg(test)]
 mod sinks;

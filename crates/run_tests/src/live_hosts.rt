@@ -23,19 +23,20 @@ const WORDS: u16 = 20;
 const HUNDRED: &str =
     "channel 1\nterminal 5\nterminal 6\nscript\nrepeat 100 { send A rx 5 1 [0001] }\n";
 
-/// A host posts the vector words 1, 2, .. for the terminal at an address.
-fn post_words<R: Wait + Abort>(
+/// A host posts the vector words 1 to `words` for the terminal at an address.
+pub(crate) fn post_words<R: Wait + Abort>(
     rt: &R,
     gate: &HeldForPosts,
     mailbox: &Mailbox,
     poster: Poster,
     host: u8,
     address: u8,
+    words: u16,
 )
     requires { MayPost host mailbox.now poster }
 {
     let mut poster = poster;
-    for word in 0..WORDS {
+    for word in 0..words {
         let vector = Action::Vector(word + 1);
         let answer = mailbox.post(rt, &mut poster, host, address, vector);
         assert!(rt; answer.is_ok());
@@ -57,10 +58,10 @@ fn both_post<R: Threads + Wait + Abort + Sync>(
         rt,
         move ||
             requires { MayPost 0 mailbox.now first }
-        { post_words(rt, gate, mailbox, first, 0, 5) },
+        { post_words(rt, gate, mailbox, first, 0, 5, WORDS) },
         move ||
             requires { MayPost 1 mailbox.now second }
-        { post_words(rt, gate, mailbox, second, 1, 6) },
+        { post_words(rt, gate, mailbox, second, 1, 6, WORDS) },
     );
 }
 
