@@ -19,8 +19,8 @@ use std::process::Abort;
 use std::sync::Wait;
 use std::thread::{Threads, join};
 
-/// How many runs there are on a queue of each length, 1 to 8.
-const RUNS: u32 = 125;
+/// How many runs there are on a queue of each length, 1 to 10.
+const RUNS: u32 = 100;
 
 /// How often the channels 1 to 8 ask terminal 5 and then terminal 6 for the vector word.
 const ROUNDS: [u32; 8] = [3, 4, 5, 3, 4, 5, 3, 4];
@@ -275,7 +275,7 @@ fn placed_once<R: Threads + Wait + Abort + Sync>(
     }
 }
 
-/// How many of 125 live runs have a recording that is not what the report says, and how many posts were placed in the others.
+/// How many of a hundred live runs have a recording that is not what the report says, and how many posts were placed in the others.
 fn counts_of<R: Threads + Wait + Abort + Sync>(
     rt: &R,
     alloc: Global,
@@ -293,7 +293,7 @@ fn counts_of<R: Threads + Wait + Abort + Sync>(
     (wrong, placed)
 }
 
-/// The recording of each of 125 live runs on a queue of this length is what its report says, and posts were placed in each.
+/// The recording of each of a hundred live runs on a queue of this length is what its report says, and posts were placed in each.
 fn are_read_back<R: Threads + Wait + Abort + Sync>(rt: &R, alloc: Global, queue: u32) {
     let jobs = eight_jobs(rt, alloc);
     let settings = settings_with(rt, alloc, queue, MOST);
@@ -343,4 +343,14 @@ fn on_a_queue_of_seven(rt: HostRuntime) {
 #[test]
 fn on_a_queue_of_eight(rt: HostRuntime) {
     are_read_back(&rt, rt.alloc(), 8);
+}
+
+#[test]
+fn on_a_queue_of_nine(rt: HostRuntime) {
+    are_read_back(&rt, rt.alloc(), 9);
+}
+
+#[test]
+fn on_a_queue_of_ten(rt: HostRuntime) {
+    are_read_back(&rt, rt.alloc(), 10);
 }
