@@ -1,4 +1,4 @@
-use Rattle.std.proofs.Common.{◌≡◌, ℕ, ◌<◌, Bool, true, false, List, length, get_or, refl, sym, ap, ◌∙◌}
+use Rattle.std.proofs.Common.{◌≡◌, ℕ, ◌<◌, Bool, true, false, List, length, get_or, refl, sym, ap, ◌∙◌, subst}
 use Rattle.std.specs.List.{list_any}
 use Rattle.std.specs.Option.{is_none}
 use Rattle.std.proofs.lemmas.List.Folds.{list_any_at}
@@ -18,4 +18,5 @@ each_sound sent i w true lt is none at =
 pub sound_bits-requires : goal.sound_bits-requires
 sound_bits-requires c =
     let w = c.index-sent-i.result in
-    each_sound c.args.sent.now c.loop-i.i w (is_none (word_of w.wave)) c.loop-i-test.true c.index-sent-i.is c.requires.sound refl
+    subst (λ (x : Sent). is_none (word_of x.wave) ≡ false) c.index-sent-i.is
+    (each_sound c.args.sent.now c.loop-i.i w (is_none (word_of w.wave)) c.loop-i-test.true c.index-sent-i.is c.requires.sound refl)
