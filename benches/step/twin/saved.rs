@@ -1,4 +1,4 @@
-// What is kept of a controller: its few fields, and of each terminal its registers and the words that it holds, packed.
+// What is kept of a controller: its few fields, and of each terminal its registers and the slots that hold words, packed.
 use crate::controller::Controller;
 use crate::terminals::{Conditions, Terminal};
 
@@ -11,7 +11,7 @@ struct SavedTerminal {
     sync_word: u16,
     bit_word: u16,
     last_command: u16,
-    counts: [u8; 96],
+    // of each slot that is not empty a head, which has its number and how many words it holds, and the words
     words: Vec<u16>,
 }
 
@@ -31,10 +31,13 @@ pub struct Saved {
 }
 
 fn saved_terminal(terminal: &Terminal) -> SavedTerminal {
-    let count = terminal.counts.iter().map(|count| usize::from(*count)).sum();
-    let mut words = Vec::with_capacity(count);
-    for slot in 0..96 {
-        words.extend_from_slice(terminal.at(slot));
+    let room = terminal.counts.iter().map(|count| if *count > 0 { 1 + usize::from(*count) } else { 0 }).sum();
+    let mut words = Vec::with_capacity(room);
+    for (slot, count) in terminal.counts.iter().enumerate() {
+        if *count > 0 {
+            words.push((64 * slot + usize::from(*count)) as u16);
+            words.extend_from_slice(terminal.at(slot));
+        }
     }
     SavedTerminal {
         conditions: terminal.conditions,
@@ -44,7 +47,6 @@ fn saved_terminal(terminal: &Terminal) -> SavedTerminal {
         sync_word: terminal.sync_word,
         bit_word: terminal.bit_word,
         last_command: terminal.last_command,
-        counts: terminal.counts,
         words,
     }
 }
@@ -58,11 +60,12 @@ fn restore_terminal(terminal: &mut Terminal, saved: &SavedTerminal) {
     terminal.sync_word = saved.sync_word;
     terminal.bit_word = saved.bit_word;
     terminal.last_command = saved.last_command;
+    terminal.counts = [0; 96];
     let mut rest = saved.words.as_slice();
-    for (slot, count) in saved.counts.iter().enumerate() {
-        let (front, behind) = rest.split_at(usize::from(*count));
-        terminal.store(slot, front);
-        rest = behind;
+    while let Some((head, behind)) = rest.split_first() {
+        let (words, others) = behind.split_at(usize::from(*head % 64));
+        terminal.store(usize::from(*head / 64), words);
+        rest = others;
     }
 }
 
