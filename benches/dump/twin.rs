@@ -80,51 +80,109 @@ fn build(file: &[u8]) -> Result<(Vec<Packet>, u64), (usize, &'static str)> {
     Ok((packets, before))
 }
 
-fn digit(v: u8) -> u8 { if v < 10 { b'0' + v } else { b'A' + (v - 10) } }
-fn put_number(text: &mut Vec<u8>, label: &[u8], mut n: u64) {
-    let (mut buf, mut at) = ([0u8; 20], 20);
-    loop { at -= 1; buf[at] = b'0' + (n % 10) as u8; n /= 10; if n == 0 { break; } }
-    text.extend_from_slice(label);
-    text.extend_from_slice(&buf[at..]);
+// The two digits of each byte, and of each number below 100.
+static HEX: [[u8; 2]; 256] = {
+    let digits = *b"0123456789ABCDEF";
+    let mut table = [[0; 2]; 256];
+    let mut i = 0;
+    while i < 256 { table[i] = [digits[i / 16], digits[i % 16]]; i += 1; }
+    table
+};
+static DEC: [[u8; 2]; 100] = {
+    let mut table = [[0; 2]; 100];
+    let mut i = 0;
+    while i < 100 { table[i] = [b'0' + (i / 10) as u8, b'0' + (i % 10) as u8]; i += 1; }
+    table
+};
+
+// What a line has at most beside its bus words, and the bytes at which the text is handed on.
+const HEAD: usize = 128;
+const PIECE: usize = 65536;
+
+// A line in room that was reserved for all of it: each piece goes to the front of what is left.
+struct Line<'a> { rest: &'a mut [u8] }
+impl<'a> Line<'a> {
+    #[inline(always)]
+    fn put<const N: usize>(&mut self, piece: &[u8; N]) {
+        let (front, rest) = std::mem::take(&mut self.rest).split_first_chunk_mut::<N>().unwrap();
+        *front = *piece;
+        self.rest = rest;
+    }
+    #[inline(always)]
+    fn number(&mut self, mut n: u64) {
+        let (mut buf, mut at) = ([0u8; 20], 20);
+        while n >= 100 { at -= 2; buf[at..at + 2].copy_from_slice(&DEC[(n % 100) as usize]); n /= 100; }
+        if n >= 10 { at -= 2; buf[at..at + 2].copy_from_slice(&DEC[n as usize]); } else { at -= 1; buf[at] = b'0' + n as u8; }
+        let (front, rest) = std::mem::take(&mut self.rest).split_at_mut(20 - at);
+        front.copy_from_slice(&buf[at..]);
+        self.rest = rest;
+    }
+    #[inline(always)]
+    fn word(&mut self, w: u16) { self.put(&HEX[(w >> 8) as usize]); self.put(&HEX[(w & 255) as usize]); }
 }
-fn put_word(text: &mut Vec<u8>, label: &[u8], w: u16) {
-    let (h, l) = ((w >> 8) as u8, w as u8);
-    text.extend_from_slice(label);
-    text.extend_from_slice(&[digit(h / 16), digit(h % 16), digit(l / 16), digit(l % 16)]);
+
+// The bytes that wait for the writer: the first `len` of the buffer, which grows where a line may not fit.
+struct Text { bytes: Vec<u8>, len: usize }
+impl Text {
+    #[inline(always)]
+    fn line(&mut self, most: usize, write: impl FnOnce(&mut Line<'_>)) {
+        if self.bytes.len() - self.len < most { self.bytes.resize(self.len + most, 0); }
+        let mut line = Line { rest: &mut self.bytes[self.len..] };
+        write(&mut line);
+        let left = line.rest.len();
+        self.len = self.bytes.len() - left;
+    }
+}
+
+fn put_packet(text: &mut Text, p: &Packet) {
+    let h = &p.header;
+    text.line(HEAD, |l| {
+        l.put(b"packet "); l.number(p.offset as u64);
+        l.put(b" channel "); l.number(h.channel.into());
+        l.put(b" type "); l.put(&HEX[h.kind as usize]);
+        if h.kind != 0x19 { l.put(b" skipped\n"); return; }
+        l.put(b" seq "); l.number(h.sequence.into());
+        l.put(b" flags "); l.put(&HEX[h.flags as usize]);
+        l.put(b" messages "); l.number(p.count);
+        l.put(b"\n");
+    });
+}
+
+#[inline(always)]
+fn put_message(text: &mut Text, number: u64, channel: u16, seen: &Seen<'_>) {
+    text.line(HEAD + seen.words.len() / 2 * 5, |l| {
+        l.put(b"message "); l.number(number);
+        l.put(b" channel "); l.number(channel.into());
+        l.put(b" stamp "); l.number(seen.stamp);
+        l.put(b" block "); l.word(seen.block);
+        l.put(b" gaps "); l.word(seen.gaps);
+        l.put(b" words");
+        let (area, rest) = std::mem::take(&mut l.rest).split_at_mut(seen.words.len() / 2 * 5);
+        for (place, w) in area.chunks_exact_mut(5).zip(seen.words.chunks_exact(2)) {
+            let ([a, b], [c, d]) = (HEX[w[1] as usize], HEX[w[0] as usize]);
+            place.copy_from_slice(&[b' ', a, b, c, d]);
+        }
+        l.rest = rest;
+        l.put(b"\n");
+    });
 }
 
 fn dump(file: &[u8], out: &mut impl Write) -> std::io::Result<()> {
     let Ok((packets, _)) = build(file) else { return Ok(()) };
-    let mut text = Vec::new();
+    let mut text = Text { bytes: vec![0; PIECE + 1024], len: 0 };
     for p in &packets {
         let h = &p.header;
-        put_number(&mut text, b"packet ", p.offset as u64);
-        put_number(&mut text, b" channel ", h.channel.into());
-        text.extend_from_slice(b" type ");
-        text.extend_from_slice(&[digit(h.kind / 16), digit(h.kind % 16)]);
-        if h.kind != 0x19 { text.extend_from_slice(b" skipped\n"); continue; }
-        put_number(&mut text, b" seq ", h.sequence.into());
-        text.extend_from_slice(b" flags ");
-        text.extend_from_slice(&[digit(h.flags / 16), digit(h.flags % 16)]);
-        put_number(&mut text, b" messages ", p.count);
-        text.extend_from_slice(b"\n");
+        put_packet(&mut text, p);
+        if h.kind != 0x19 { continue; }
         let start = p.offset + body_start(h);
-        let Ok(found) = messages(&file[start..start + h.data_length as usize]) else { continue };
+        let body = &file[start..start + h.data_length as usize];
+        let found = Messages { left: p.count as u32, rest: &body[4..] };
         for (number, seen) in (p.before + 1..).zip(found) {
-            put_number(&mut text, b"message ", number);
-            put_number(&mut text, b" channel ", h.channel.into());
-            put_number(&mut text, b" stamp ", seen.stamp);
-            put_word(&mut text, b" block ", seen.block);
-            put_word(&mut text, b" gaps ", seen.gaps);
-            text.extend_from_slice(b" words");
-            for w in seen.words.chunks_exact(2) {
-                text.extend_from_slice(&[b' ', digit(w[1] / 16), digit(w[1] % 16), digit(w[0] / 16), digit(w[0] % 16)]);
-            }
-            text.extend_from_slice(b"\n");
-            if text.len() >= 65536 { out.write_all(&text)?; text.clear(); }
+            put_message(&mut text, number, h.channel, &seen);
+            if text.len >= PIECE { out.write_all(&text.bytes[..text.len])?; text.len = 0; }
         }
     }
-    out.write_all(&text)?;
+    out.write_all(&text.bytes[..text.len])?;
     out.flush()
 }
 
@@ -191,6 +249,13 @@ fn main() {
     if words[1] == "headers" { std::fs::write(&words[2], headers()).unwrap(); return; }
     if words[1] == "syncs" { std::fs::write(&words[2], [0x25, 0xEB].repeat(50_000_000)).unwrap(); return; }
     let bytes = std::fs::read(&words[2]).unwrap();
+    if words[1] == "print" { dump(&bytes, &mut std::io::stdout().lock()).unwrap(); return; }
+    if words[1] == "count" {
+        let mut counter = Counter { bytes: 0 };
+        for _ in 0..words[3].parse::<u32>().unwrap() { dump(&bytes, &mut counter).unwrap(); }
+        println!("{}", counter.bytes);
+        return;
+    }
     let (mut best_build, mut best_dump, mut total, mut counter) = (u128::MAX, u128::MAX, 0, Counter { bytes: 0 });
     for _ in 0..ROUNDS {
         let start = Instant::now();

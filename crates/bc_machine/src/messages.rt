@@ -1,12 +1,13 @@
 //! One message on the bus.
 ghost use Rattle.std.specs.Prelude.{◌≡◌, ◌≤◌, ◌+◌, ◌^◌, ◌∷◌, ◌++◌};
+ghost use Rattle.mil_bus.specs.BlockStatus.{block_of};
 ghost use Rattle.mil_bus.specs.Counts.{seen_of};
 ghost use Rattle.mil_bus.specs.Exchange.{clock_of};
-ghost use Rattle.bc_machine.specs.Controller.{ready, world_of, outcome_in};
+ghost use Rattle.bc_machine.specs.Controller.{ready, world_of};
 
 use crate::placed::act_at;
 use crate::schedule::Schedule;
-use mil_bus::{Bus, Seen, Talk};
+use mil_bus::{Bus, Seen, Talk, Verdict};
 use mil_line::{Gap, Plan};
 use mil_message::Message;
 use mil_word::Line;
@@ -20,7 +21,8 @@ pub fn act_both(bus: &mut Bus, placed: &Schedule, posted: &Schedule, number: u32
     act_at(bus, posted.around(number), number);
 }
 
-/// The message of a number: the actions placed at it, then its exchange with the faults planned for it, and what is seen of that.
+/// The message of a number: the actions placed at it, then its exchange with the faults planned for it; the talk and what is seen of
+/// it take the places of those before, and what it came to is answered.
 pub fn exchange(
     bus: &mut Bus,
     plan: &Plan,
@@ -30,16 +32,18 @@ pub fn exchange(
     line: Line,
     message: &Message,
     gap: Gap,
+    talk: &mut Talk,
     seen: &mut Seen,
-) -> Talk
+) -> Verdict
     requires { clock_of bus.old.start bus.old.talks ≤ 2 ^ 48 }
     ensures bus { bus.new ≡ ((world_of plan.now (placed.now ++ posted.now)).exchange number line message.now gap bus.old).0 }
-    ensures outcome { outcome_in result ≡ ((world_of plan.now (placed.now ++ posted.now)).exchange number line message.now gap bus.old).1 }
-    ensures seen { seen.new ≡ seen_of result.message result.sent.items }
-    ensures talks { bus.new.talks ≡ result ∷ bus.old.talks }
+    ensures outcome { result.outcome ≡ ((world_of plan.now (placed.now ++ posted.now)).exchange number line message.now gap bus.old).1 }
+    ensures seen { seen.new ≡ seen_of talk.new.message talk.new.sent.items }
+    ensures block { result.block ≡ block_of talk.new.line talk.new.message seen.new }
+    ensures talks { bus.new.talks ≡ talk.new ∷ bus.old.talks }
     ensures soon { clock_of bus.new.start bus.new.talks ≤ clock_of bus.old.start bus.old.talks + 2 ^ 24 }
 {
     act_both(bus, placed, posted, number);
     let faults = plan.faults(number);
-    bus.exchange_seen(line, message, gap, faults.as_slice(), seen)
+    bus.exchange_into(line, message, gap, faults.as_slice(), talk, seen)
 }

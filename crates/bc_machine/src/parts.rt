@@ -26,9 +26,9 @@ use crate::schedule::Schedule;
 use crate::{Placed, Stepped};
 use frame_code::Op;
 use frame_load::Program;
-use mil_bus::{Bus, Outcome, Seen};
+use mil_bus::{Bus, Outcome, Seen, Talk};
 use mil_line::{Gap, Plan};
-use mil_monitor::observe_by;
+use mil_monitor::observe_with;
 use mil_word::Line;
 use std::alloc::{AllocError, Global};
 use std::marker::Model;
@@ -52,6 +52,8 @@ pub struct Parts {
     pub(crate) number: u32,
     pub(crate) gap: Gap,
     last: Option<Outcome>,
+    /// Room for the talk of a message while it is sent; what is there between messages counts for nothing.
+    talk: Talk,
 }
 
 impl Model for Parts {
@@ -92,6 +94,7 @@ impl Parts {
             number: 0,
             gap: Gap::of(40),
             last: None,
+            talk: Talk::none(),
         }
     }
 
@@ -233,7 +236,7 @@ impl Parts {
         let line = if alternates { other(self.line) } else { *own };
         self.number += 1;
         let mut seen = Seen::none();
-        let talk = exchange(
+        let verdict = exchange(
             &mut self.bus,
             &self.plan,
             &self.placed,
@@ -242,13 +245,14 @@ impl Parts {
             line,
             message,
             self.gap,
+            &mut self.talk,
             &mut seen,
         );
-        self.last = Some(talk.outcome_by(&seen));
+        self.last = Some(verdict.outcome);
         self.line = line;
         self.place += 1;
         self.taken += 1;
-        Stepped::Sent(observe_by(&talk, &seen))
+        Stepped::Sent(observe_with(&self.talk, &seen, verdict.block))
     }
 
     /// One step: one row of the operation table.
@@ -324,6 +328,7 @@ impl Parts {
             number: self.number,
             gap: self.gap,
             last: self.last,
+            talk: Talk::none(),
         })
     }
 

@@ -1,3 +1,4 @@
 pub mod Packets
+pub mod Placing
 pub mod SkipLines
 pub mod Steps

@@ -2,11 +2,14 @@
 //! Its tests are in `ch11_tests`.
 #![tactic(auto)]
 
+mod digits;
 mod fault;
 mod input;
 mod lines;
 mod output;
+mod places;
 mod skips;
+mod text;
 
 pub use fault::DumpFault;
 pub use input::{read_all, read_sized};

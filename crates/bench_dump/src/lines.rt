@@ -1,9 +1,9 @@
 //! The lines of a dump, appended to a text.
 ghost use Rattle.std.specs.Prelude.{◌≡◌, ◌<◌, ◌++◌, OnOk, decimal};
-ghost use Rattle.ch11_f1.specs.Views.{message_of};
-ghost use Rattle.bench_dump.specs.DumpText.{bus_words, byte_digits, digit_of, message_line, packet_contents, packet_line, word_digits};
+ghost use Rattle.bench_dump.specs.DumpText.{bus_words, byte_digits, digit_of, packet_contents, packet_line};
 
-use ch11_f1::Seen;
+use crate::places::place_bus_words;
+use crate::text::Text;
 use ch11_reader::{MESSAGES_KIND, Packet};
 use itoa::Buffer;
 use std::alloc::AllocError;
@@ -27,103 +27,50 @@ fn digits_of_byte(byte: u8) -> [u8; 2]
     [digit(byte / 16), digit(byte % 16)]
 }
 
-/// A word as four digits.
-fn digits_of_word(word: u16) -> [u8; 4]
-    ensures { result ≡ word_digits word }
-{
-    let high = (word / 256) as u8;
-    let low = (word % 256) as u8;
-    [
-        digit(high / 16),
-        digit(high % 16),
-        digit(low / 16),
-        digit(low % 16),
-    ]
-}
-
 /// Appends a label and a number.
-pub(crate) fn put_number(text: &mut Vec<u8>, label: &[u8], number: u64) -> Result<(), AllocError>
-    ensures { OnOk result (text.new.items ≡ text.old.items ++ (label.now ++ decimal number)) }
+pub(crate) fn put_number(text: &mut Text, label: &[u8], number: u64) -> Result<(), AllocError>
+    ensures { OnOk result (text.new ≡ text.old ++ (label.now ++ decimal number)) }
 {
     let mut buffer = Buffer::new();
-    text.extend_from_slice(label)?;
-    text.extend_from_slice(buffer.format(number).as_bytes())
-}
-
-/// Appends a label and a word as four digits.
-fn put_word(text: &mut Vec<u8>, label: &[u8], word: u16) -> Result<(), AllocError>
-    ensures { OnOk result (text.new.items ≡ text.old.items ++ (label.now ++ word_digits word)) }
-{
-    text.extend_from_slice(label)?;
-    text.extend_from_slice(&digits_of_word(word))
+    text.put(label)?;
+    text.put(buffer.format(number).as_bytes())
 }
 
 /// Appends bus words, two bytes each with the low one first: a space and four upper-case hexadecimal digits for each.
 pub fn put_words(text: &mut Vec<u8>, words: &[u8]) -> Result<(), AllocError>
     ensures { OnOk result (text.new.items ≡ text.old.items ++ bus_words words.now) }
 {
-    let mut rest = words;
-    'words: while rest.len() >= 2 {
-        let (low, high) = (rest[0], rest[1]);
-        let word = [
-            b' ',
-            digit(high / 16),
-            digit(high % 16),
-            digit(low / 16),
-            digit(low % 16),
-        ];
-        text.extend_from_slice(&word)?;
-        let (_, others) = rest.split_at(2);
-        rest = others;
-    }
-    Ok(())
-}
-
-/// Appends the line of a message.
-#[tactic(auto, unfolding(crate::specs::DumpText::message_line))]
-pub(crate) fn put_message_line(
-    text: &mut Vec<u8>,
-    number: u64,
-    channel: u16,
-    seen: &Seen<'_>,
-) -> Result<(), AllocError>
-    ensures { OnOk result (text.new.items ≡ text.old.items ++ message_line number channel (message_of seen.now)) }
-{
-    put_number(text, b"message ", number)?;
-    put_number(text, b" channel ", channel as u64)?;
-    put_number(text, b" stamp ", seen.stamp)?;
-    put_word(text, b" block ", seen.block)?;
-    put_word(text, b" gaps ", seen.gaps)?;
-    text.extend_from_slice(b" words")?;
-    put_words(text, seen.words)?;
-    text.extend_from_slice(b"\n")?;
+    let start = text.len();
+    let room = (words.len() / 2).saturating_mul(5);
+    text.resize(start.saturating_add(room), 0)?;
+    place_bus_words(text.as_mut_slice(), start, words);
     Ok(())
 }
 
 /// Appends the end of a packet's line.
 #[tactic(auto, unfolding(crate::specs::DumpText::packet_contents))]
-fn put_contents(text: &mut Vec<u8>, packet: &Packet) -> Result<(), AllocError>
-    ensures { OnOk result (text.new.items ≡ text.old.items ++ packet_contents packet.now.header packet.now.count) }
+fn put_contents(text: &mut Text, packet: &Packet) -> Result<(), AllocError>
+    ensures { OnOk result (text.new ≡ text.old ++ packet_contents packet.now.header packet.now.count) }
 {
     if packet.header.kind != MESSAGES_KIND {
-        return text.extend_from_slice(b" skipped\n");
+        return text.put(b" skipped\n");
     }
     put_number(text, b" seq ", packet.header.sequence as u64)?;
-    text.extend_from_slice(b" flags ")?;
-    text.extend_from_slice(&digits_of_byte(packet.header.flags))?;
+    text.put(b" flags ")?;
+    text.put(&digits_of_byte(packet.header.flags))?;
     put_number(text, b" messages ", packet.count)?;
-    text.extend_from_slice(b"\n")?;
+    text.put(b"\n")?;
     Ok(())
 }
 
 /// Appends the line of a packet.
 #[tactic(auto, unfolding(crate::specs::DumpText::packet_line))]
-pub(crate) fn put_packet_line(text: &mut Vec<u8>, packet: &Packet) -> Result<(), AllocError>
-    ensures { OnOk result (text.new.items ≡ text.old.items ++ packet_line packet.now.offset packet.now.header packet.now.count) }
+pub(crate) fn put_packet_line(text: &mut Text, packet: &Packet) -> Result<(), AllocError>
+    ensures { OnOk result (text.new ≡ text.old ++ packet_line packet.now.offset packet.now.header packet.now.count) }
 {
     put_number(text, b"packet ", packet.offset as u64)?;
     put_number(text, b" channel ", packet.header.channel as u64)?;
-    text.extend_from_slice(b" type ")?;
-    text.extend_from_slice(&digits_of_byte(packet.header.kind))?;
+    text.put(b" type ")?;
+    text.put(&digits_of_byte(packet.header.kind))?;
     put_contents(text, packet)
 }

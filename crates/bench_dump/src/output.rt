@@ -9,8 +9,9 @@ ghost use Rattle.bench_dump.specs.SkippingText.{skipping_text, text_of};
 ghost use Rattle.bench_dump.specs.Printing.{Carries, IsAnswerBy, IsOther};
 
 use crate::fault::DumpFault;
-use crate::lines::{put_message_line, put_packet_line};
+use crate::lines::put_packet_line;
 use crate::skips::{dump_skips, dump_skips_before};
+use crate::text::Text;
 use ch11_f1::Messages;
 use ch11_reader::{Index, ReadError, Skip};
 use std::alloc::Global;
@@ -20,12 +21,12 @@ use std::io::Write;
 const PIECE: usize = 65536;
 
 /// Hands the text on to the writer where it is long enough.
-pub(crate) fn hand_on<W: Write>(text: &mut Vec<u8>, out: &mut W) -> Result<(), DumpFault>
-    ensures handed { OnOk result (Carries (W.contents out.old) text.old.items (W.contents out.new) text.new.items []) }
+pub(crate) fn hand_on<W: Write>(text: &mut Text, out: &mut W) -> Result<(), DumpFault>
+    ensures handed { OnOk result (Carries (W.contents out.old) text.old (W.contents out.new) text.new []) }
     ensures failed { IfErr result IsOther }
 {
     if text.len() >= PIECE {
-        out.write_all(text)?;
+        out.write_all(text.as_slice())?;
         text.clear();
     }
     Ok(())
@@ -33,21 +34,21 @@ pub(crate) fn hand_on<W: Write>(text: &mut Vec<u8>, out: &mut W) -> Result<(), D
 
 /// The lines of a packet's messages, behind so many messages of the file.
 fn dump_messages<W: Write>(
-    text: &mut Vec<u8>,
+    text: &mut Text,
     out: &mut W,
     before: u64,
     channel: u16,
     messages: Messages<'_>,
 ) -> Result<(), DumpFault>
     requires { before + length messages < 2 ^ 64 }
-    ensures printed { OnOk result (Carries (W.contents out.old) text.old.items (W.contents out.new) text.new.items (message_lines before channel messages.entry)) }
+    ensures printed { OnOk result (Carries (W.contents out.old) text.old (W.contents out.new) text.new (message_lines before channel messages.entry)) }
     ensures failed { IfErr result IsOther }
 {
     let mut number = before;
     let mut rest = messages;
     'lines: while let Some(seen) = rest.next() {
         number += 1;
-        put_message_line(text, number, channel, &seen)?;
+        text.put_message(number, channel, &seen)?;
         hand_on(text, out)?;
     }
     Ok(())
@@ -94,7 +95,7 @@ fn dump_index<W: Write>(
     ensures printed { OnOk result (Appends (W.contents out.old) (W.contents out.new) (skipping_text skips.now index.now)) }
     ensures failed { IfErr result IsOther }
 {
-    let mut text = Vec::new(alloc);
+    let mut text = Text::new(alloc);
     let packets = index.packets();
     let mut rest = skips;
     'packets: for place in 0..packets.len() {
@@ -110,7 +111,7 @@ fn dump_index<W: Write>(
         )?;
     }
     dump_skips(&mut text, out, rest)?;
-    out.write_all(&text)?;
+    out.write_all(text.as_slice())?;
     out.flush()?;
     Ok(())
 }

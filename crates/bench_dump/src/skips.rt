@@ -8,6 +8,7 @@ ghost use Rattle.bench_dump.specs.Printing.{Carries, IsOther};
 use crate::fault::DumpFault;
 use crate::lines::put_number;
 use crate::output::hand_on;
+use crate::text::Text;
 use ch11_f1::BodyError;
 use ch11_header::HeaderError;
 use ch11_reader::{Fault, Skip};
@@ -33,25 +34,25 @@ fn letters(fault: &Fault) -> &'static [u8]
 
 /// Appends the line of a skip.
 #[tactic(auto, unfolding(crate::specs::SkippingText::skip_line))]
-fn put_skip_line(text: &mut Vec<u8>, skip: &Skip) -> Result<(), AllocError>
-    ensures { OnOk result (text.new.items ≡ text.old.items ++ skip_line skip.now) }
+fn put_skip_line(text: &mut Text, skip: &Skip) -> Result<(), AllocError>
+    ensures { OnOk result (text.new ≡ text.old ++ skip_line skip.now) }
 {
     put_number(text, b"skipped ", skip.offset as u64)?;
     put_number(text, b" length ", skip.length as u64)?;
-    text.extend_from_slice(b" ")?;
-    text.extend_from_slice(letters(&skip.fault))?;
-    text.extend_from_slice(b"\n")?;
+    text.put(b" ")?;
+    text.put(letters(&skip.fault))?;
+    text.put(b"\n")?;
     Ok(())
 }
 
 /// Prints the first skips, as long as they lie in front of an offset, and answers those behind them.
 pub(crate) fn dump_skips_before<'s, W: Write>(
-    text: &mut Vec<u8>,
+    text: &mut Text,
     out: &mut W,
     skips: &'s [Skip],
     offset: usize,
 ) -> Result<&'s [Skip], DumpFault>
-    ensures printed { IfOk result (λ behind. Carries (W.contents out.old) text.old.items (W.contents out.new) text.new.items (skip_lines (skips_before offset skips.now))) }
+    ensures printed { IfOk result (λ behind. Carries (W.contents out.old) text.old (W.contents out.new) text.new (skip_lines (skips_before offset skips.now))) }
     ensures behind { IfOk result (λ behind. behind.now ≡ skips_behind offset skips.now) }
     ensures failed { IfErr result IsOther }
 {
@@ -69,11 +70,11 @@ pub(crate) fn dump_skips_before<'s, W: Write>(
 
 /// Prints all these skips.
 pub(crate) fn dump_skips<W: Write>(
-    text: &mut Vec<u8>,
+    text: &mut Text,
     out: &mut W,
     skips: &[Skip],
 ) -> Result<(), DumpFault>
-    ensures printed { OnOk result (Carries (W.contents out.old) text.old.items (W.contents out.new) text.new.items (skip_lines skips.now)) }
+    ensures printed { OnOk result (Carries (W.contents out.old) text.old (W.contents out.new) text.new (skip_lines skips.now)) }
     ensures failed { IfErr result IsOther }
 {
     let mut rest = skips;

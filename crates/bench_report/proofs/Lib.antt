@@ -1,4 +1,3 @@
-pub mod NumberLemmas
 pub mod ListLemmas
 pub mod LineLemmas
 pub mod PrintLemmas

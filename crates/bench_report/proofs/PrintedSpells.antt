@@ -3,14 +3,15 @@ use Rattle.std.proofs.Common.{◌≡◌, ℕ, ◌^◌, ◌<◌, ◌≤◌, List,
 use Rattle.std.specs.Prelude.{Bool, true, false, map, nat_le, Some, Ok, codes, decimal}
 use Rattle.std.specs.List.{flat_map}
 use Rattle.std.proofs.lemmas.Bool.Decides.{nat_tests}
-use Rattle.std.proofs.lemmas.Fmt.{decimal_is_IsNumeral, length-decimal-le}
+use Rattle.std.proofs.lemmas.Fmt.{decimal_is_IsNumeral}
 use Rattle.std.proofs.lemmas.List.Elements.{All-nil, All-cons, All-append, All-tail}
+use Rattle.numerals.proofs.Back.{decimal_back}
 use Rattle.bc_machine.specs.declared.placed.Placed.{Placed}
 use Rattle.mil_host.specs.Words.{Text, words}
 use Rattle.mil_host.specs.Reading.{in_words, action_in}
 use Rattle.mil_host.specs.Printing.{spaced, spaced_word, text_of}
 use Rattle.mil_host.proofs.Spacing.{IsWord, words-word, words-spaced, one_line-word}
-use Rattle.mil_host.proofs.ReadingBack.{digits_are, has_bytes_of, named, reads-back, one_line}
+use Rattle.mil_host.proofs.ReadingBack.{digits_visible, has_bytes_of, named, reads-back, one_line}
 use Rattle.bench_report.specs.Reports.{ChannelPart, RunReport, IsPart, IsPlaced, IsReport, Rises}
 use Rattle.bench_report.specs.Lines.{said, line_in, number_of, IsLine}
 use Rattle.bench_report.specs.Spelling.{is_line_end, part_lines, report_lines, text_lines, Spells}
@@ -28,15 +29,11 @@ number : (most low high n : ℕ) → 0 < most → n < 10 ^ most → n < 18446744
 number most low high n some fits small from to =
     let spelt = decimal_is_IsNumeral n small in
     let long : 1 ≤ length (decimal n) = omega (arith, spelt.0.0) in
-    let few : length (decimal n) ≤ most = length-decimal-le most n some fits small in
-    let are = digits_are (decimal n) spelt.0.1 in
-    let at_least : nat_le 1 (length (decimal n)) ≡ true = grind (arith, nat_tests, long) in
-    let at_most : nat_le (length (decimal n)) most ≡ true = grind (arith, nat_tests, few) in
     let above : nat_le low n ≡ true = grind (arith, nat_tests, from) in
     let below : nat_le n high ≡ true = grind (arith, nat_tests, to) in
     record {
-      reads = rw (are.0, at_least, at_most, spelt.1, above, below) refl;
-      is = record { some = has_bytes_of (decimal n) long; visible = are.1 };
+      reads = rw (decimal_back most n some fits small, above, below) refl;
+      is = record { some = has_bytes_of (decimal n) long; visible = digits_visible (decimal n) spelt.0.1 };
     }
 
 placed_words : (name m a text : Text) → IsWord name → IsWord m → IsWord a → words (spaced (name ∷ m ∷ a ∷ text ∷ [])) ≡ name ∷ m ∷ a ∷ words text

@@ -1,20 +1,23 @@
 -- What a line of a report says (own choice): its words, parted by spaces alone.
-use Rattle.std.specs.Prelude.{ℕ, ◌≤◌, ◌&&◌, nat_le, if◌then◌else◌, List, [], ◌∷◌, length, Option, Some, None, Ok, Err, Result, codes, option_map}
+use Rattle.std.specs.Prelude.{ℕ, ◌≤◌, ◌&&◌, nat_le, if◌then◌else◌, List, [], ◌∷◌, Option, Some, None, Ok, Err, Result, codes, option_map}
 use Rattle.std.specs.Str.{bytes_eq}
-use Rattle.std.specs.Str.Parse.{digits_value}
+use Rattle.numerals.specs.Numerals.{spelled}
 use Rattle.mil_host.specs.Words.{Text, words}
-use Rattle.mil_host.specs.Reading.{are_digits, in_words}
+use Rattle.mil_host.specs.Reading.{in_words}
 use Rattle.mil_host.specs.declared.actions.Action.{Action}
 use Rattle.mil_host.specs.declared.reading.BadAction.{BadAction}
 use Rattle.bench_report.specs.Reports.{IsPlaced}
 use Rattle.bench_report.specs.declared.lines.Line.{Line}
 use Rattle.bench_report.specs.declared.lines.Line.TheVariants as line
 
+-- a number from low to high
+abbrev pub within : ℕ → ℕ → Option ℕ → Option ℕ
+within low high None = None
+within low high (Some n) = if nat_le low n && nat_le n high then Some n else None
+
 -- the number that a word of one to so many decimal digits spells, from low to high
 abbrev pub number_of : ℕ → ℕ → ℕ → Text → Option ℕ
-number_of most low high word =
-    if are_digits 10 word && (nat_le 1 (length word) && (nat_le (length word) most && (nat_le low (digits_value 10 word) && nat_le (digits_value 10 word) high)))
-    then Some (digits_value 10 word) else None
+number_of most low high word = within low high (spelled 10 1 most word)
 
 -- one number, and no more
 abbrev pub only_number : ℕ → ℕ → ℕ → List Text → Option ℕ

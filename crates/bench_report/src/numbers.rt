@@ -1,7 +1,5 @@
 //! Numbers in the lines of a report.
-ghost use Rattle.std.specs.Prelude.{◌≡◌, ◌≤◌, ◌<◌, true, length, IfOk, IfErr};
-ghost use Rattle.std.specs.Str.Parse.{digits_value};
-ghost use Rattle.mil_host.specs.Reading.{are_digits};
+ghost use Rattle.std.specs.Prelude.{◌≡◌, ◌≤◌, IfOk, IfErr};
 ghost use Rattle.mil_host.specs.Words.{words};
 ghost use Rattle.bench_report.specs.Lines.{number_of, only_number};
 ghost use Rattle.bench_report.specs.Faults.{is_one_word};
@@ -10,26 +8,7 @@ ghost use Rattle.bench_report.specs.declared.fault.ReportFault.TheVariants.{Numb
 
 use crate::fault::ReportFault;
 use mil_host::next_word;
-
-/// The number that decimal digits spell, at most ten of them.
-fn value_of(word: &[u8]) -> u64
-    requires few { length word.now ≤ 10 }
-    requires digits { are_digits 10 word.now ≡ true }
-    ensures { result ≡ digits_value 10 word.now }
-{
-    let mut total = 0u64;
-    for byte in word {
-        total = total * 10 + u64::from(*byte - b'0');
-    }
-    total
-}
-
-/// Whether each byte is a decimal digit.
-fn all_digits(word: &[u8]) -> bool
-    ensures { result ≡ are_digits 10 word.now }
-{
-    word.iter().all(|byte| byte.is_ascii_digit())
-}
+use numerals::spelled;
 
 /// The number of a word of one to `most` digits, from `low` to `high`.
 pub fn number(word: &[u8], most: usize, low: u64, high: u64) -> Result<u64, ReportFault>
@@ -38,10 +17,9 @@ pub fn number(word: &[u8], most: usize, low: u64, high: u64) -> Result<u64, Repo
     ensures range { IfOk result (λ n. (low ≤ n) × (n ≤ high)) }
     ensures fault { IfErr result (λ f. f ≡ Number) }
 {
-    if !(all_digits(word) && 1 <= word.len() && word.len() <= most) {
+    let Some(value) = spelled(10, 1, most, word) else {
         return Err(ReportFault::Number);
-    }
-    let value = value_of(word);
+    };
     if low <= value && value <= high {
         Ok(value)
     } else {

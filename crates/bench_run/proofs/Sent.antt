@@ -12,6 +12,8 @@ use Rattle.mil_bus.specs.contracts.buses.Bus as bus
 use Rattle.bc_machine.specs.contracts.placed.Placed as placed
 use Rattle.bc_machine.specs.contracts.schedule.Schedule as schedule
 use Rattle.bc_machine.specs.contracts.counters.Counters as counters
+use Rattle.bc_machine.specs.contracts.returns.Returns as returns
+use Rattle.mil_bus.specs.contracts.outcomes.Outcome as outcome
 use Rattle.bc_machine.specs.contracts.parts.Parts as parts
 use Rattle.bc_machine.specs.contracts.machine.Machine as machine
 use Rattle.job_file.specs.contracts.jobs.Job as job
@@ -59,8 +61,14 @@ counters_send = search (sendable, crosses) depth 40 fits 10000
 schedule_send : IsSend schedule.the_row
 schedule_send = search (placed_send, sendable, crosses) depth 40 fits 10000
 
+returns_send : IsSend returns.the_row
+returns_send = search (sendable, crosses) depth 40 fits 10000
+
+outcome_send : IsSend outcome.the_row
+outcome_send = search (sendable, crosses) depth 40 fits 10000
+
 parts_send : IsSend parts.the_row
-parts_send = search (program_send, plan_send, bus_send, counters_send, schedule_send, sendable, crosses) depth 40 fits 10000
+parts_send = search (program_send, plan_send, bus_send, counters_send, schedule_send, returns_send, outcome_send, sendable, crosses) depth 80 fits 20000
 
 pub machine_send : IsSend machine.the_row
 machine_send = search (parts_send, sendable, crosses) depth 40 fits 10000

@@ -1,10 +1,9 @@
 -- What a line of a session asks (own choice). Spaces alone part its words, so that a CR is part of one.
-use Rattle.std.specs.Prelude.{ℕ, ◌&&◌, nat_le, if◌then◌else◌, List, [], ◌∷◌, length, Result, Ok, Err, codes}
+use Rattle.std.specs.Prelude.{ℕ, if◌then◌else◌, List, [], ◌∷◌, Option, Some, None, Result, Ok, Err, codes}
 use Rattle.std.specs.List.{before_first, after_first}
 use Rattle.std.specs.Str.{bytes_eq}
-use Rattle.std.specs.Str.Parse.{digits_value}
+use Rattle.numerals.specs.Numerals.{spelled}
 use Rattle.mil_host.specs.Words.{Text, is_space, words}
-use Rattle.mil_host.specs.Reading.{are_digits}
 use Rattle.frame_tree.specs.Tree.{Test, test_of}
 use Rattle.frame_text.specs.Conditions.{condition_of_text}
 use Rattle.frame_text.specs.declared.faults.Cause.{Cause}
@@ -41,9 +40,14 @@ abbrev pub alone : Asked → List Text → Asked
 alone command [] = command
 alone command (w ∷ ws) = unknown
 
+-- a place, where a word spells one
+abbrev pub going_to : Option ℕ → Asked
+going_to None = unknown
+going_to (Some place) = go place
+
 -- a number of one to ten decimal digits
 abbrev pub place_in : Text → Asked
-place_in word = if are_digits 10 word && (nat_le 1 (length word) && nat_le (length word) 10) then go (digits_value 10 word) else unknown
+place_in word = going_to (spelled 10 1 10 word)
 
 -- the only word behind `go`
 abbrev pub going : List Text → Asked

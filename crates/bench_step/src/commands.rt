@@ -1,7 +1,5 @@
 //! What a line of a session asks.
-ghost use Rattle.std.specs.Prelude.{◌≡◌, ◌≤◌, ◌<◌, ◌^◌, true, length, IfOk, OnErr};
-ghost use Rattle.std.specs.Str.Parse.{digits_value};
-ghost use Rattle.mil_host.specs.Reading.{are_digits};
+ghost use Rattle.std.specs.Prelude.{◌≡◌, IfOk, OnErr};
 ghost use Rattle.mil_host.specs.Words.{words};
 ghost use Rattle.frame_text.specs.Conditions.{condition_of_text};
 ghost use Rattle.bench_step.specs.Commands.{asked, asked_of, alone, going, finding, TakesMemory};
@@ -10,6 +8,7 @@ use crate::words::split_word;
 use frame_text::{ScriptError, read_cond};
 use frame_tree::Cond;
 use mil_host::next_word;
+use numerals::spelled;
 use std::alloc::{AllocError, Global};
 
 /// What a line of a session asks.
@@ -27,26 +26,6 @@ pub enum Command {
     State,
     /// Nothing that a line may ask.
     Unknown,
-}
-
-/// The number that decimal digits spell, at most ten of them.
-fn value_of(word: &[u8]) -> u64
-    requires few { length word.now ≤ 10 }
-    requires digits { are_digits 10 word.now ≡ true }
-    ensures { result ≡ digits_value 10 word.now }
-{
-    let mut total = 0u64;
-    for byte in word {
-        total = total * 10 + u64::from(*byte - b'0');
-    }
-    total
-}
-
-/// Whether each byte is a decimal digit.
-fn all_digits(word: &[u8]) -> bool
-    ensures { result ≡ are_digits 10 word.now }
-{
-    word.iter().all(|byte| byte.is_ascii_digit())
 }
 
 /// A command that no word may follow.
@@ -69,10 +48,9 @@ fn going(rest: &[u8]) -> Command
     if next_word(behind).is_some() {
         return Command::Unknown;
     }
-    if all_digits(word) && 1 <= word.len() && word.len() <= 10 {
-        Command::Go(value_of(word))
-    } else {
-        Command::Unknown
+    match spelled(10, 1, 10, word) {
+        Some(place) => Command::Go(place),
+        None => Command::Unknown,
     }
 }
 

@@ -1,6 +1,6 @@
 -- A message that a text has can be read again: its numbers are in their ranges and its words have 16 bits.
-use Rattle.std.proofs.Common.{◌≡◌, ℕ, zero, suc, ◌-◌, ◌<◌, Bool, true, false, cond, List, [], ◌∷◌, take, Option, Some, None, Result, Ok, Err, refl, subst, arith}
-use Rattle.std.specs.Prelude.{nat_le, ◌&&◌, ◌||◌, ◌==◌, codes}
+use Rattle.std.proofs.Common.{◌≡◌, ℕ, zero, suc, ◌<◌, Bool, true, false, cond, List, [], ◌∷◌, take, Option, Some, None, Result, Ok, Err, refl, subst, arith}
+use Rattle.std.specs.Prelude.{nat_le, ◌||◌, ◌==◌, codes}
 use Rattle.mil_word.specs.declared.Line.{Line}
 use Rattle.mil_message.specs.declared.drafts.ModeSubaddress.{ModeSubaddress}
 use Rattle.mil_message.specs.declared.drafts.ModeSubaddress.TheVariants.{Zero, ThirtyOne}
@@ -11,54 +11,17 @@ use Rattle.mil_message.specs.Request.{Request, to_terminal, from_terminal, betwe
 use Rattle.mil_message.specs.Rules as rules
 use Rattle.mil_message.specs.Rules.{checked, form_of, mode_word}
 use Rattle.mil_message.proofs.Checked.{lawful-checked}
+use Rattle.numerals.proofs.Back.{spelled_below}
 use Rattle.frame_text.specs.Reading.{Tokens, ◌>>=◌, same, past}
-use Rattle.frame_text.specs.Words.{hex_of, four_digits, data_word_of, spelled, number_at, words_at, counted, bracketed_at, optional_at}
+use Rattle.frame_text.specs.Words.{data_word_of, spelled, number_at, words_at, counted, bracketed_at, optional_at}
 use Rattle.frame_text.specs.Messages.{line_at, message_at, message_of, message_word, made, judged, send_at, receive_at, transmit_at, transfer_at, mode_at, receive_all_at, transfer_all_at, mode_all_at}
 use Rattle.frame_text.specs.declared.keywords.MessageWord.{MessageWord}
 use Rattle.frame_text.specs.declared.keywords.MessageWord.TheVariants as key
-use Rattle.frame_text.proofs.Soundness.{bind_ok, ok_is, both_true}
+use Rattle.frame_text.proofs.Soundness.{bind_ok, ok_is}
 use Rattle.frame_text.specs.Chains.{AreWords, IsReadable}
 
--- a hexadecimal digit
-abbrev IsDigit : Option ℕ → Type 0
-IsDigit None = Unit {0}
-IsDigit (Some d) = d < 16
-
-hex_is : (b : ℕ) → IsDigit (hex_of b)
-unfolding hex_of
-hex_is b = decimal_is (nat_le 48 b && nat_le b 57) refl
-  where
-    lower_is : (t : Bool) → (nat_le 97 b && nat_le b 102) ≡ t → IsDigit (cond t (Some (b - 87)) None)
-    lower_is true i = let u = both_true 97 b 102 i in omega (arith, u.0, u.1)
-    lower_is false i = tt
-
-    upper_is : (t : Bool) → (nat_le 65 b && nat_le b 70) ≡ t → IsDigit (cond t (Some (b - 55)) (cond (nat_le 97 b && nat_le b 102) (Some (b - 87)) None))
-    upper_is true i = let u = both_true 65 b 70 i in omega (arith, u.0, u.1)
-    upper_is false i = lower_is (nat_le 97 b && nat_le b 102) refl
-
-    decimal_is : (t : Bool) → (nat_le 48 b && nat_le b 57) ≡ t
-        → IsDigit (cond t (Some (b - 48)) (cond (nat_le 65 b && nat_le b 70) (Some (b - 55)) (cond (nat_le 97 b && nat_le b 102) (Some (b - 87)) None)))
-    decimal_is true i = let u = both_true 48 b 57 i in omega (arith, u.0, u.1)
-    decimal_is false i = upper_is (nat_le 65 b && nat_le b 70) refl
-
-some_is : (m n : ℕ) → let some : ℕ → Option ℕ = Some in some m ≡ some n → m ≡ n
-some_is m n e = cc
-
-four_small : (a b c d : Option ℕ) → IsDigit a → IsDigit b → IsDigit c → IsDigit d → (n : ℕ) → four_digits a b c d ≡ Some n → n < 65536
-four_small (Some a) (Some b) (Some c) (Some d) i j k l n e = omega (arith, i, j, k, l, some_is _ n e)
-four_small None b c d i j k l n e = absurd (cc)
-four_small (Some a) None c d i j k l n e = absurd (cc)
-four_small (Some a) (Some b) None d i j k l n e = absurd (cc)
-four_small (Some a) (Some b) (Some c) None i j k l n e = absurd (cc)
-
 data_word_small : (w : List ℕ) (n : ℕ) → data_word_of w ≡ Some n → n < 65536
-unfolding data_word_of
-data_word_small (a ∷ b ∷ c ∷ d ∷ []) n e = four_small (hex_of a) (hex_of b) (hex_of c) (hex_of d) (hex_is a) (hex_is b) (hex_is c) (hex_is d) n e
-data_word_small [] n e = absurd (cc)
-data_word_small (a ∷ []) n e = absurd (cc)
-data_word_small (a ∷ b ∷ []) n e = absurd (cc)
-data_word_small (a ∷ b ∷ c ∷ []) n e = absurd (cc)
-data_word_small (a ∷ b ∷ c ∷ d ∷ f ∷ more) n e = absurd (cc)
+data_word_small w n e = let small = spelled_below 16 4 4 w n (omega arith) e in omega (arith, small)
 
 spelled_small : (w : List ℕ) (n : ℕ) → spelled w (data_word_of w) ≡ Ok n → n < 65536
 spelled_small w n e = by (data_word_of w) refl e

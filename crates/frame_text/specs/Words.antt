@@ -1,34 +1,17 @@
 -- Numbers and data words.
-use Rattle.std.specs.Prelude.{ℕ, ◌+◌, ◌*◌, ◌-◌, nat_le, ◌&&◌, if◌then◌else◌, List, [], ◌∷◌, length, take, Option, Some, None, Result, Ok, Err, codes}
+use Rattle.std.specs.Prelude.{ℕ, nat_le, ◌&&◌, if◌then◌else◌, List, [], ◌∷◌, take, Option, Some, None, Result, Ok, Err, codes}
+use Rattle.numerals.specs.Numerals as numerals
 use Rattle.frame_text.specs.Reading.{Tokens, Reading, ◌>>=◌, same, is_word, misplaced, past}
 use Rattle.frame_text.specs.declared.faults.Cause.{Cause}
 use Rattle.frame_text.specs.declared.faults.Cause.TheVariants as cause
 
--- the number that decimal digits spell, after those that spelled n
-abbrev pub digits : ℕ → List ℕ → Option ℕ
-digits n [] = Some n
-digits n (b ∷ bs) = if nat_le 48 b && nat_le b 57 then digits (n * 10 + (b - 48)) bs else None
-
 -- a number has one to seven digits
-unfoldable pub number_of : List ℕ → Option ℕ
-number_of w = if nat_le 1 (length w) && nat_le (length w) 7 then digits 0 w else None
+abbrev pub number_of : List ℕ → Option ℕ
+number_of w = numerals.spelled 10 1 7 w
 
--- the value of a hexadecimal digit, in either case
-unfoldable pub hex_of : ℕ → Option ℕ
-hex_of b =
-    if nat_le 48 b && nat_le b 57 then Some (b - 48)
-    else if nat_le 65 b && nat_le b 70 then Some (b - 55)
-    else if nat_le 97 b && nat_le b 102 then Some (b - 87)
-    else None
-
-abbrev pub four_digits : Option ℕ → Option ℕ → Option ℕ → Option ℕ → Option ℕ
-four_digits (Some a) (Some b) (Some c) (Some d) = Some (a * 4096 + b * 256 + c * 16 + d)
-four_digits _ _ _ _ = None
-
--- a data word has four hexadecimal digits
-unfoldable pub data_word_of : List ℕ → Option ℕ
-data_word_of (a ∷ b ∷ c ∷ d ∷ []) = four_digits (hex_of a) (hex_of b) (hex_of c) (hex_of d)
-data_word_of _ = None
+-- a data word has four hexadecimal digits, of either case
+abbrev pub data_word_of : List ℕ → Option ℕ
+data_word_of w = numerals.spelled 16 4 4 w
 
 -- the fault of a token that does not spell what it should: a word is a wrong number, and any other may not stand there
 abbrev pub unspelled : List ℕ → Cause

@@ -1,66 +1,33 @@
 //! Numbers and data words.
 
-ghost use Rattle.std.specs.Prelude.{◌≡◌, ◌<◌, ◌≤◌, ◌++◌, ◌∷◌, [], length, take, IfOk, IfSome, option_map, IfErr};
+ghost use Rattle.std.specs.Prelude.{◌≡◌, ◌<◌, ◌≤◌, ◌++◌, ◌∷◌, [], length, take, IfOk, option_map, IfErr};
 ghost use Rattle.frame_text.specs.Tokens.{tokens};
 ghost use Rattle.frame_text.specs.Reading.{Gives, IsCause, IsOfText};
-ghost use Rattle.frame_text.specs.Words.{number_of, hex_of, data_word_of, unspelled, number_at, number_within, words_at, counted, bracketed_at, optional_at};
+ghost use Rattle.frame_text.specs.Words.{number_of, data_word_of, unspelled, number_at, number_within, words_at, counted, bracketed_at, optional_at};
 
 use crate::faults::{Cause, Fault};
 use crate::keywords::{is, is_word, misplaced};
 use crate::tokens::{after_token, fault, next};
 use arrayvec::ArrayVec;
+use numerals::spelled;
 
 /// Data words as far as they count: a message with more than 32 is refused.
 pub type DataWords = ArrayVec<u16, 33>;
 
 // The number that a token spells.
-#[tactic(auto, unfolding(crate::specs::Words::number_of))]
 fn number_in(word: &[u8]) -> Option<u32>
     ensures { result ≡ number_of word.now }
 {
-    if word.len() < 1 || 7 < word.len() {
-        return None;
-    }
-    let mut total: u32 = 0;
-    for b in word {
-        if *b < b'0' || b'9' < *b {
-            return None;
-        }
-        total = total * 10 + (*b - b'0') as u32;
-    }
-    Some(total)
-}
-
-// The value of a hexadecimal digit.
-#[tactic(auto, unfolding(crate::specs::Words::hex_of))]
-fn hex_in(b: u8) -> Option<u16>
-    ensures value { result ≡ hex_of b }
-    ensures small { IfSome result (λ d. d < 16) }
-{
-    if b'0' <= b && b <= b'9' {
-        Some((b - b'0') as u16)
-    } else if b'A' <= b && b <= b'F' {
-        Some((b - 55) as u16)
-    } else if b'a' <= b && b <= b'f' {
-        Some((b - 87) as u16)
-    } else {
-        None
-    }
+    let value = spelled(10, 1, 7, word)?;
+    Some(value as u32)
 }
 
 // The data word that a token spells.
-#[tactic(auto, unfolding(crate::specs::Words::data_word_of))]
 fn data_word_in(word: &[u8]) -> Option<u16>
     ensures { result ≡ data_word_of word.now }
 {
-    let [first, second, third, fourth] = word else {
-        return None;
-    };
-    let first = hex_in(*first)?;
-    let second = hex_in(*second)?;
-    let third = hex_in(*third)?;
-    let fourth = hex_in(*fourth)?;
-    Some(first * 4096 + second * 256 + third * 16 + fourth)
+    let value = spelled(16, 4, 4, word)?;
+    Some(value as u16)
 }
 
 // The fault of the first token of the text, which should have spelled something.

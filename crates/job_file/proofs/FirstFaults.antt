@@ -11,7 +11,7 @@ use Rattle.job_file.specs.Drafts.{with_line}
 use Rattle.job_file.specs.Spelled.{is_line_end, lines_of, text_of, is_script, all_said}
 use Rattle.job_file.specs.Reading.{TakesLine}
 use Rattle.job_file.specs.Errors.{IsOfLine}
-use Rattle.job_file.specs.Faults.{Reached, IsHead, IsReached, IsFirstFault, IsLineRefused, IsScriptRefused, are_line_words, line_fault, fault_at, takes_room}
+use Rattle.job_file.specs.Faults.{Reached, IsHead, IsFirstFault, IsLineRefused, IsScriptRefused, are_line_words, line_fault, fault_at, takes_room}
 use Rattle.job_file.specs.declared.drafts.Taken.{Taken}
 use Rattle.job_file.specs.declared.drafts.Taken.TheVariants as taken
 use Rattle.job_file.specs.declared.error.LineFault.{LineFault}

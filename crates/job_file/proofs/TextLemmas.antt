@@ -1,12 +1,12 @@
 -- The jobs of the texts so far.
 use Rattle.std.proofs.Common.{◌≡◌, ℕ, ◌<◌, ◌≤◌, List, length, take, map, sym, ap, ◌∙◌, slice_index_or, Bor, []}
-use Rattle.std.specs.Prelude.{Some, slice_get, option_map}
+use Rattle.std.specs.Prelude.{Some, option_map}
 use Rattle.std.proofs.lemmas.List.{take-map, take_all}
 use Rattle.std.proofs.lemmas.Option.{slice_get-map, slice_get-get_or}
 use Rattle.std.proofs.lemmas.Simd.{map-map}
 use Rattle.mil_host.specs.Words.{Text}
 use Rattle.job_file.specs.Jobs.{JobState, job_in}
-use Rattle.job_file.specs.Spelled.{ChannelJob, spelled}
+use Rattle.job_file.specs.Spelled.{spelled}
 use Rattle.job_file.specs.Reading.{IsRefusal}
 use Rattle.job_file.specs.Texts.{AreSpelled, IsFirstRefused}
 use Rattle.job_file.specs.declared.error.JobError.{JobError}

@@ -1,6 +1,6 @@
 -- The first fault of a job's text (own choice): its lines in their order, and in a line first its words, then its numbers, then its
 -- place behind the lines above it; then the script.
-use Rattle.std.specs.Prelude.{◌≡◌, ℕ, ◌+◌, nat_lt, Bool, true, false, ◌&&◌, ◌||◌, if◌then◌else◌, List, [], ◌∷◌, ◌++◌, length, Option, Some, None, Result, Ok, Err}
+use Rattle.std.specs.Prelude.{◌≡◌, ℕ, ◌+◌, nat_lt, Bool, true, false, ◌&&◌, if◌then◌else◌, List, [], ◌∷◌, ◌++◌, length, Option, Some, None, Result, Ok, Err}
 use Rattle.std.specs.Option.{is_some}
 use Rattle.mil_host.specs.Words.{Text, words, has_bytes}
 use Rattle.mil_host.specs.Reading.{in_words}

@@ -1,17 +1,8 @@
 -- Numbers in the lines of a job (own choice).
-use Rattle.std.specs.Prelude.{ℕ, ◌+◌, ◌*◌, ◌&&◌, nat_lt, nat_le, if◌then◌else◌, [], ◌∷◌, length, Option, Some, None}
-use Rattle.std.specs.Char.{digit_value}
+use Rattle.std.specs.Prelude.{ℕ, ◌&&◌, nat_le, if◌then◌else◌, Option, Some, None}
+use Rattle.numerals.specs.Numerals.{spelled}
 use Rattle.mil_host.specs.Words.{Text}
 use Rattle.job_file.specs.Options.{◌>>=◌}
-
--- the number that digits in a base spell, behind those that spelled n
-abbrev pub digits : ℕ → ℕ → Text → Option ℕ
-digits base n [] = Some n
-digits base n (b ∷ bs) = if nat_lt (digit_value b) base then digits base (n * base + digit_value b) bs else None
-
--- the number that a word of `least` to `most` digits spells
-unfoldable pub spelled : ℕ → ℕ → ℕ → Text → Option ℕ
-spelled base least most word = if nat_le least (length word) && nat_le (length word) most then digits base 0 word else None
 
 -- one to seven decimal digits
 abbrev pub number_of : Text → Option ℕ

@@ -1,46 +1,23 @@
 //! Numbers in the lines of a job.
-ghost use Rattle.std.specs.Prelude.{◌≡◌, ◌≤◌, ◌<◌, ◌^◌, IfOk, IfErr, IfSome};
-ghost use Rattle.std.specs.Char.{digit_value};
+ghost use Rattle.std.specs.Prelude.{◌≡◌, ◌≤◌, ◌<◌, ◌^◌, IfOk, IfErr};
+ghost use Rattle.numerals.specs.Numerals.{spelled};
 ghost use Rattle.job_file.specs.Options.{Reads};
-ghost use Rattle.job_file.specs.Numbers.{spelled, number_of, number_within, data_word_of, half_bits_of, start_of};
+ghost use Rattle.job_file.specs.Numbers.{number_of, number_within, data_word_of, half_bits_of, start_of};
 ghost use Rattle.job_file.specs.declared.error.LineFault.TheVariants.{Number};
 
 use crate::error::LineFault;
 use mil_word::Wave;
-
-/// The value of a digit or a letter, and 36 for any other byte.
-fn digit(byte: u8) -> u8
-    ensures { result ≡ digit_value byte }
-{
-    match byte {
-        b'0'..=b'9' => byte - b'0',
-        b'A'..=b'Z' => byte - b'A' + 10,
-        b'a'..=b'z' => byte - b'a' + 10,
-        _ => 36,
-    }
-}
+use numerals::spelled;
 
 /// The number that a word of `least` to `most` digits in a base spells.
-#[tactic(auto, unfolding(crate::specs::Numbers::spelled))]
-fn spelled(base: u8, least: usize, most: usize, word: &[u8]) -> Result<u64, LineFault>
+fn read(base: u8, least: usize, most: usize, word: &[u8]) -> Result<u64, LineFault>
     requires base { base ≤ 16 }
     requires few { most ≤ 15 }
     ensures value { Reads (λ n. n) result (spelled base least most word.now) }
     ensures small { IfOk result (λ n. n < 16 ^ most) }
     ensures fault { IfErr result (λ f. f ≡ Number) }
 {
-    if word.len() < least || most < word.len() {
-        return Err(LineFault::Number);
-    }
-    let mut total = 0u64;
-    for byte in word {
-        let value = digit(*byte);
-        if value >= base {
-            return Err(LineFault::Number);
-        }
-        total = total * u64::from(base) + u64::from(value);
-    }
-    Ok(total)
+    spelled(base, least, most, word).ok_or(LineFault::Number)
 }
 
 /// A number of one to seven decimal digits.
@@ -48,7 +25,7 @@ pub fn number(word: &[u8]) -> Result<u32, LineFault>
     ensures value { Reads (λ n. n) result (number_of word.now) }
     ensures fault { IfErr result (λ f. f ≡ Number) }
 {
-    let value = spelled(10, 1, 7, word)?;
+    let value = read(10, 1, 7, word)?;
     Ok(value as u32)
 }
 
@@ -73,7 +50,7 @@ pub fn start_tick(word: &[u8]) -> Result<u64, LineFault>
     ensures high { IfOk result (λ n. n ≤ 140737488355328) }
     ensures fault { IfErr result (λ f. f ≡ Number) }
 {
-    let value = spelled(10, 1, 15, word)?;
+    let value = read(10, 1, 15, word)?;
     if value <= 140_737_488_355_328 {
         Ok(value)
     } else {
@@ -86,7 +63,7 @@ pub fn data_word(word: &[u8]) -> Result<u16, LineFault>
     ensures value { Reads (λ n. n) result (data_word_of word.now) }
     ensures fault { IfErr result (λ f. f ≡ Number) }
 {
-    let value = spelled(16, 4, 4, word)?;
+    let value = read(16, 4, 4, word)?;
     Ok(value as u16)
 }
 
@@ -95,6 +72,6 @@ pub fn half_bits(word: &[u8]) -> Result<Wave, LineFault>
     ensures value { Reads (λ n. n) result (half_bits_of word.now) }
     ensures fault { IfErr result (λ f. f ≡ Number) }
 {
-    let value = spelled(16, 10, 10, word)?;
+    let value = read(16, 10, 10, word)?;
     Ok(Wave::of(value))
 }

@@ -4,7 +4,7 @@ use Rattle.mil_bus.specs.declared.offers.Offered.{Offered}
 use Rattle.mil_bus.specs.Exchange.{Offer}
 
 abbrev pub offered : Offered → Offer
-offered o = record { source = o.source; gap = o.gap; waves = o.waves.items }
+offered o = record { source = o.source; gap = o.gap; waves = o.waves }
 
 -- what is given where something is
 abbrev pub given : Bool → Offered → Option Offer

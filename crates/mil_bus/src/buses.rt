@@ -5,6 +5,7 @@ ghost use Rattle.std.specs.Option.{is_some, option_copied};
 ghost use Rattle.mil_line.specs.Ranges.{is_in_range};
 ghost use Rattle.mil_bus.specs.Actions.{place_of, station_of, acted};
 ghost use Rattle.mil_bus.specs.Addresses.{is_fit, stations_of};
+ghost use Rattle.mil_bus.specs.BlockStatus.{block_of, outcome_of};
 ghost use Rattle.mil_bus.specs.Counts.{seen_of};
 ghost use Rattle.mil_bus.specs.Exchange.{exchanged, talk_of, next_start, clock_of, last_on, gap_since, least_after};
 
@@ -12,12 +13,11 @@ use crate::addresses::is_fit;
 use crate::offers::Offered;
 use crate::runs::all_runs;
 use crate::terminals::Terminals;
-use crate::{BusError, Seen, Source, Talk};
-use arrayvec::ArrayVec;
+use crate::{BusError, Seen, Source, Talk, Verdict};
 use history::History;
 use mil_host::Action;
 use mil_line::{Fault, Gap};
-use mil_message::Message;
+use mil_message::{Message, Waves};
 use mil_terminal::Terminal;
 use mil_word::Line;
 use std::alloc::{AllocError, Global};
@@ -47,12 +47,12 @@ impl Model for Bus {
     ghost invariant = { λ b. KeepsTimes b.begin b.clock b.least b.on_a b.on_b b.past };
 }
 
-/// The least gap after a talk, in ticks, from what is seen of it.
-fn least_gap(talk: &Talk, seen: &Seen) -> u16
-    requires seen { seen.now ≡ seen_of talk.now.message talk.now.sent.items }
+/// The least gap after a talk, in ticks, which failed or not.
+fn least_gap(talk: &Talk, failed: bool) -> u16
+    requires failed { failed ≡ (outcome_of talk.now.message talk.now.sent.items).failed }
     ensures value { result ≡ least_after talk.now }
 {
-    if talk.failed_by(seen) || talk.is_controllers_last() {
+    if failed || talk.is_controllers_last() {
         180
     } else {
         40
@@ -129,8 +129,8 @@ impl Bus {
     }
 
     /// Keeps what the next exchange needs of a talk.
-    fn note(&mut self, talk: &Talk, seen: &Seen)
-        requires seen { seen.now ≡ seen_of talk.now.message talk.now.sent.items }
+    fn note(&mut self, talk: &Talk, failed: bool)
+        requires failed { failed ≡ (outcome_of talk.now.message talk.now.sent.items).failed }
         requires small { talk.now.start < 2 ^ 61 }
         requires after { clock_of self.old.start self.old.talks ≤ talk.now.start }
         ensures soon { clock_of self.new.start self.new.talks ≤ talk.now.start + 2 ^ 23 }
@@ -138,7 +138,7 @@ impl Bus {
     {
         let end = talk.end();
         self.clock = end;
-        self.least = Some(least_gap(talk, seen));
+        self.least = Some(least_gap(talk, failed));
         if !talk.sent.is_empty() {
             match talk.line {
                 Line::A => self.on_a = Some(end),
@@ -180,18 +180,41 @@ impl Bus {
         ensures seen { seen.new ≡ seen_of result.message result.sent.items }
         ensures soon { clock_of self.new.start self.new.talks ≤ clock_of self.old.start self.old.talks + 2 ^ 24 }
     {
+        let mut talk = Talk::none();
+        let _ = self.exchange_into(line, message, gap, faults, &mut talk, seen);
+        talk
+    }
+
+    /// The same, with the talk in the place of the one before too, so that nothing is moved; what it came to.
+    pub fn exchange_into(
+        &mut self,
+        line: Line,
+        message: &Message,
+        gap: Gap,
+        faults: &[Fault],
+        talk: &mut Talk,
+        seen: &mut Seen,
+    ) -> Verdict
+        requires clock { clock_of self.old.start self.old.talks < 2 ^ 60 }
+        requires in_range { list_all is_in_range faults.now ≡ true }
+        ensures bus { self.new ≡ exchanged self.old line message.now gap faults.now }
+        ensures talk { talk.new ≡ talk_of self.old line message.now gap faults.now }
+        ensures seen { seen.new ≡ seen_of talk.new.message talk.new.sent.items }
+        ensures block { result.block ≡ block_of talk.new.line talk.new.message seen.new }
+        ensures outcome { result.outcome ≡ outcome_of talk.new.message talk.new.sent.items }
+        ensures soon { clock_of self.new.start self.new.talks ≤ clock_of self.old.start self.old.talks + 2 ^ 24 }
+    {
         let start = self.next_start(gap);
         let mut offer = Offered {
             source: Source::Controller,
             gap: self.gap_on(line, start),
-            waves: message.controller_waves(),
+            waves: Waves::none(),
         };
-        let mut talk = Talk {
-            start,
-            line,
-            message: message.copy(),
-            sent: ArrayVec::new(),
-        };
+        message.put_waves(&mut offer.waves);
+        talk.start = start;
+        talk.line = line;
+        talk.message = message.copy();
+        talk.sent.clear();
         all_runs(
             &mut self.terminals,
             &mut talk.sent,
@@ -199,9 +222,9 @@ impl Bus {
             faults,
             &mut offer,
         );
-        *seen = talk.seen();
-        self.note(&talk, seen);
-        talk
+        let verdict = talk.look(seen);
+        self.note(talk, verdict.outcome.failed);
+        verdict
     }
 
     /// An action of a terminal's host; false, and nothing done, where there is no such terminal.

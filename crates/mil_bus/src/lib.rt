@@ -25,6 +25,6 @@ mod terminals;
 pub use buses::Bus;
 pub use counts::{Came, Seen};
 pub use error::BusError;
-pub use outcomes::Outcome;
+pub use outcomes::{Outcome, Verdict};
 pub use saved::SavedBus;
 pub use talks::{Sent, Source, Talk};

@@ -1,37 +1,20 @@
 //! What a sender gives to the line.
-ghost use Rattle.std.specs.Prelude.{◌≡◌, Some};
-ghost use Rattle.mil_bus.specs.Exchange.{reply_wave, offer_of};
+ghost use Rattle.std.specs.Prelude.{◌≡◌};
+ghost use Rattle.mil_bus.specs.Exchange.{offer_of};
 ghost use Rattle.mil_bus.specs.Offers.{offered};
 
 use crate::Source;
-use arrayvec::ArrayVec;
 use mil_line::Gap;
+use mil_message::Waves;
 use mil_terminal::Reply;
-use mil_word::{Sync, Wave, Word, encode};
+use mil_word::{Sync, Word};
 
 /// What a sender gives: the controller at first, then the terminal that replies.
 #[derive(Drop)]
 pub struct Offered {
     pub source: Source,
     pub gap: Gap,
-    pub waves: ArrayVec<Wave, 34>,
-}
-
-/// The wave of a word of a reply, by its place.
-fn reply_wave(place: usize, value: u16) -> Wave
-    ensures { result ≡ reply_wave place value }
-{
-    if place == 0 {
-        encode(Word {
-            sync: Sync::CommandSync,
-            value,
-        })
-    } else {
-        encode(Word {
-            sync: Sync::DataSync,
-            value,
-        })
-    }
+    pub waves: Waves,
 }
 
 impl Offered {
@@ -42,9 +25,12 @@ impl Offered {
         self.source = Source::Terminal(own);
         self.gap = reply.gap;
         self.waves.clear();
-        let words = reply.words.as_slice();
-        for i in 0..words.len() {
-            self.waves.push(reply_wave(i, words[i]));
+        if let Some((status, values)) = reply.words.as_slice().split_first() {
+            self.waves.put(Word {
+                sync: Sync::CommandSync,
+                value: *status,
+            });
+            self.waves.put_data(values);
         }
     }
 }

@@ -21,6 +21,15 @@ pub struct Outcome {
     pub bits: u16,
 }
 
+/// What a finished talk came to.
+#[derive(Clone, Copy, Debug, PartialEq, Eq)]
+pub struct Verdict {
+    /// The block status word of its record (IRIG 106-17 Chapter 11, MIL-STD-1553 data packets).
+    pub block: u16,
+    /// What a program learns of it.
+    pub outcome: Outcome,
+}
+
 /// The replies that are due as runs 1 and 2.
 #[derive(Clone, Copy, Debug)]
 struct DueReplies {
@@ -197,6 +206,39 @@ fn judged(message: &Message, due: DueReplies, seen: &Seen) -> Errors
     }
 }
 
+/// The block status word of a talk with these errors.
+fn block_with(talk: &Talk, errors: Errors, seen: &Seen) -> u16
+    requires late { errors.late ≡ has_response_time_out talk.now.message seen.now }
+    requires miscounted { errors.miscounted ≡ has_word_count_error talk.now.message seen.now }
+    requires any { errors.any ≡ has_error talk.now.message seen.now }
+    ensures { result ≡ block_of talk.now.line talk.now.message seen.now }
+{
+    bit_if(is_line_b(talk.line), BlockBits::LINE_B)
+        + bit_if(errors.any, BlockBits::MESSAGE_ERROR)
+        + bit_if(is_transfer(&talk.message), BlockBits::TERMINAL_TO_TERMINAL)
+        + bit_if(errors.late, BlockBits::RESPONSE_TIMEOUT)
+        + bit_if(errors.miscounted, BlockBits::WORD_COUNT_ERROR)
+        + bit_if(seen.other_sync, BlockBits::SYNC_TYPE_ERROR)
+        + bit_if(seen.unsound, BlockBits::INVALID_WORD_ERROR)
+}
+
+/// What a program learns of a talk with these errors that is due these replies.
+#[tactic(auto, unfolding(crate::specs::BlockStatus::outcome_of))]
+fn outcome_with(talk: &Talk, due: DueReplies, errors: Errors, seen: &Seen) -> Outcome
+    requires first { due.first ≡ first_due (replies_due talk.now.message) }
+    requires second { due.second ≡ second_due (replies_due talk.now.message) }
+    requires any { errors.any ≡ has_error talk.now.message seen.now }
+    requires seen { seen.now ≡ seen_of talk.now.message talk.now.sent.items }
+    ensures { result ≡ outcome_of talk.now.message talk.now.sent.items }
+{
+    let _ = talk;
+    Outcome {
+        failed: errors.any,
+        silent: due.first.is_some() && seen.one.is_none(),
+        bits: came_bits(due.first, seen.one) | came_bits(due.second, seen.two),
+    }
+}
+
 impl Talk {
     /// What is seen of this talk, in one pass.
     pub fn seen(&self) -> Seen
@@ -206,18 +248,31 @@ impl Talk {
         counted(commands, due_of(&self.message).count, self.sent.as_slice())
     }
 
+    /// What is seen of this talk, in the place of what was seen before, and what it came to.
+    pub(crate) fn look(&self, seen: &mut Seen) -> Verdict
+        ensures seen { seen.new ≡ seen_of self.now.message self.now.sent.items }
+        ensures block { result.block ≡ block_of self.now.line self.now.message seen.new }
+        ensures outcome { result.outcome ≡ outcome_of self.now.message self.now.sent.items }
+    {
+        let due = due_of(&self.message);
+        let commands = if is_transfer(&self.message) { 2 } else { 1 };
+        *seen = counted(commands, due.count, self.sent.as_slice());
+        let errors = judged(&self.message, due, seen);
+        Verdict {
+            block: block_with(self, errors, seen),
+            outcome: outcome_with(self, due, errors, seen),
+        }
+    }
+
     /// The block status word, from what is seen of this talk.
     pub fn block(&self, seen: &Seen) -> u16
         ensures { result ≡ block_of self.now.line self.now.message seen.now }
     {
-        let errors = judged(&self.message, due_of(&self.message), seen);
-        bit_if(is_line_b(self.line), BlockBits::LINE_B)
-            + bit_if(errors.any, BlockBits::MESSAGE_ERROR)
-            + bit_if(is_transfer(&self.message), BlockBits::TERMINAL_TO_TERMINAL)
-            + bit_if(errors.late, BlockBits::RESPONSE_TIMEOUT)
-            + bit_if(errors.miscounted, BlockBits::WORD_COUNT_ERROR)
-            + bit_if(seen.other_sync, BlockBits::SYNC_TYPE_ERROR)
-            + bit_if(seen.unsound, BlockBits::INVALID_WORD_ERROR)
+        block_with(
+            self,
+            judged(&self.message, due_of(&self.message), seen),
+            seen,
+        )
     }
 
     /// Whether this talk failed, whether no reply came that was due, and the status bits that came.
@@ -228,25 +283,11 @@ impl Talk {
     }
 
     /// The same, from what is seen of this talk.
-    #[tactic(auto, unfolding(crate::specs::BlockStatus::outcome_of))]
     pub fn outcome_by(&self, seen: &Seen) -> Outcome
         requires seen { seen.now ≡ seen_of self.now.message self.now.sent.items }
         ensures { result ≡ outcome_of self.now.message self.now.sent.items }
     {
         let due = due_of(&self.message);
-        Outcome {
-            failed: judged(&self.message, due, seen).any,
-            silent: due.first.is_some() && seen.one.is_none(),
-            bits: came_bits(due.first, seen.one) | came_bits(due.second, seen.two),
-        }
-    }
-
-    /// Whether this talk failed, from what is seen of it.
-    #[tactic(auto, unfolding(crate::specs::BlockStatus::outcome_of))]
-    pub(crate) fn failed_by(&self, seen: &Seen) -> bool
-        requires seen { seen.now ≡ seen_of self.now.message self.now.sent.items }
-        ensures { result ≡ (outcome_of self.now.message self.now.sent.items).failed }
-    {
-        judged(&self.message, due_of(&self.message), seen).any
+        outcome_with(self, due, judged(&self.message, due, seen), seen)
     }
 }

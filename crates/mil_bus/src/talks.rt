@@ -1,5 +1,5 @@
 //! One exchange as it was on a line.
-ghost use Rattle.std.specs.Prelude.{◌≡◌, ◌+◌, ◌<◌, ◌≤◌, ◌^◌};
+ghost use Rattle.std.specs.Prelude.{◌≡◌, ◌+◌, ◌<◌, ◌≤◌, ◌^◌, []};
 ghost use Rattle.mil_bus.specs.declared.talks.Source.TheVariants.{Controller};
 ghost use Rattle.mil_bus.specs.declared.talks.Sent.{Sent};
 ghost use Rattle.mil_bus.specs.Times.{end_of, lasting, is_controllers_last};
@@ -83,6 +83,18 @@ fn lasting(place: usize, gap: Gap) -> u64
 }
 
 impl Talk {
+    /// Room for a talk: one of no word, at tick 0 on line A, of the message that is there by default.
+    pub fn none() -> Talk
+        ensures none { result.sent.items ≡ [] }
+    {
+        Talk {
+            start: 0,
+            line: Line::A,
+            message: Message::default(),
+            sent: ArrayVec::new(),
+        }
+    }
+
     /// When the last word ended, and where there was none, when its first would have started.
     pub fn end(&self) -> u64
         requires { self.now.start < 2 ^ 61 }

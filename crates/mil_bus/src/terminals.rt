@@ -101,7 +101,9 @@ impl Terminals {
     {
         let count = count_to_commands(waves);
         self.hear_each(line, run, &waves[..count]);
-        self.hear_data(line, &run.from(count), &waves[count..]);
+        if count < waves.len() {
+            self.hear_data(line, &run.from(count), &waves[count..]);
+        }
     }
 
     /// A quiet comes to all terminals, and the first to answer, in order of address, gives the next words; whether one does.

@@ -1,73 +1,34 @@
 -- A printed action reads back.
-use Rattle.std.proofs.Common.{◌≡◌, ℕ, zero, suc, ◌+◌, ◌*◌, ◌/◌, ◌%◌, ◌≤◌, ◌<◌, List, Bool, true, false, [], ◌∷◌, length, refl, ap, arith, All}
+use Rattle.std.proofs.Common.{◌≡◌, ℕ, zero, suc, ◌≤◌, ◌<◌, List, Bool, true, false, [], ◌∷◌, length, refl, ap, arith, All}
 use Rattle.std.specs.Prelude.{Ok, codes, decimal, map, nat_lt, nat_le, ◌&&◌}
 use Rattle.std.specs.List.{list_all}
 use Rattle.std.specs.Char.{digit_value}
-use Rattle.std.specs.Fmt.{digit_glyph}
 use Rattle.std.specs.Str.Parse.{AllDigits}
 use Rattle.std.proofs.lemmas.Bool.Decides.{nat_tests}
 use Rattle.std.proofs.lemmas.Str.Parse.{digit_from_value}
-use Rattle.std.proofs.lemmas.Fmt.{decimal_is_IsNumeral, length-decimal-le}
+use Rattle.std.proofs.lemmas.Fmt.{decimal_is_IsNumeral}
 use Rattle.std.proofs.lemmas.List.Elements.{All-tail}
+use Rattle.numerals.proofs.Back.{decimal_back, four_back}
 use Rattle.mil_host.specs.Values.{PutUp, Marked}
 use Rattle.mil_host.specs.Words.{Text, has_bytes}
-use Rattle.mil_host.specs.Reading.{action_in, in_words, number_of, data_of, all_data, only_switch, only_mark, are_digits}
+use Rattle.mil_host.specs.Reading.{action_in, in_words, number_of, data_of, value_or_fault, all_data, only_switch, only_mark}
 use Rattle.mil_host.specs.Printing.{text_of, words_of, data_text, switch_text, direction_text, mark_words}
 use Rattle.mil_host.specs.Ranges.{IsInRange, IsPutUp, IsMark}
 use Rattle.mil_host.specs.declared.actions.Action.{Action}
 use Rattle.mil_host.specs.declared.actions.Action.TheVariants.{Transmit, Busy, Service, Subsystem, Fault, Control, Vector, SelfTest, Illegal, Legal, Response}
 use Rattle.mil_host.proofs.Spacing.{AreVisible, IsWord, AreWords, words-spaced, one_line-spaced}
 
--- an upper-case hexadecimal digit is one, and no space
-record IsGlyph (d c : ℕ) : Type 0 where
-  below : nat_lt (digit_value c) 16 ≡ true
-  digit : digit_value c ≡ d
-  other : nat_lt 32 c ≡ true
-
-glyph : (d : ℕ) → d < 16 → IsGlyph d (digit_glyph true d)
-glyph zero lt = record { below = refl; digit = refl; other = refl }
-glyph (suc zero) lt = record { below = refl; digit = refl; other = refl }
-glyph (suc (suc zero)) lt = record { below = refl; digit = refl; other = refl }
-glyph (suc (suc (suc zero))) lt = record { below = refl; digit = refl; other = refl }
-glyph (suc (suc (suc (suc zero)))) lt = record { below = refl; digit = refl; other = refl }
-glyph (suc (suc (suc (suc (suc zero))))) lt = record { below = refl; digit = refl; other = refl }
-glyph (suc (suc (suc (suc (suc (suc zero)))))) lt = record { below = refl; digit = refl; other = refl }
-glyph (suc (suc (suc (suc (suc (suc (suc zero))))))) lt = record { below = refl; digit = refl; other = refl }
-glyph (suc (suc (suc (suc (suc (suc (suc (suc zero)))))))) lt = record { below = refl; digit = refl; other = refl }
-glyph (suc (suc (suc (suc (suc (suc (suc (suc (suc zero))))))))) lt = record { below = refl; digit = refl; other = refl }
-glyph (suc (suc (suc (suc (suc (suc (suc (suc (suc (suc zero)))))))))) lt = record { below = refl; digit = refl; other = refl }
-glyph (suc (suc (suc (suc (suc (suc (suc (suc (suc (suc (suc zero))))))))))) lt = record { below = refl; digit = refl; other = refl }
-glyph (suc (suc (suc (suc (suc (suc (suc (suc (suc (suc (suc (suc zero)))))))))))) lt = record { below = refl; digit = refl; other = refl }
-glyph (suc (suc (suc (suc (suc (suc (suc (suc (suc (suc (suc (suc (suc zero))))))))))))) lt = record { below = refl; digit = refl; other = refl }
-glyph (suc (suc (suc (suc (suc (suc (suc (suc (suc (suc (suc (suc (suc (suc zero)))))))))))))) lt = record { below = refl; digit = refl; other = refl }
-glyph (suc (suc (suc (suc (suc (suc (suc (suc (suc (suc (suc (suc (suc (suc (suc zero))))))))))))))) lt = record { below = refl; digit = refl; other = refl }
-glyph (suc (suc (suc (suc (suc (suc (suc (suc (suc (suc (suc (suc (suc (suc (suc (suc n)))))))))))))))) lt = absurd (omega arith)
-
 -- four hexadecimal digits spell a data word
 record IsData (value : ℕ) (word : Text) : Type 0 where
   reads : data_of word ≡ Ok value
   is : IsWord word
 
-four : (value : ℕ) → value < 65536 → (((0 * 16 + value / 256 / 16) * 16 + value / 256 % 16) * 16 + value % 256 / 16) * 16 + value % 256 % 16 ≡ value
-four value lt = omega arith
-
-below_256 : (value : ℕ) → value < 65536 → value / 256 < 256
-below_256 value lt = omega arith
-
-below_16 : (byte : ℕ) → byte < 256 → byte / 16 < 16
-below_16 byte lt = omega arith
-
 data_word : (value : ℕ) → value < 65536 → IsData value (data_text value)
 data_word value lt =
-    let high : value / 256 < 256 = below_256 value lt in
-    let low : value % 256 < 256 = omega arith in
-    let a = glyph (value / 256 / 16) (below_16 (value / 256) high) in
-    let b = glyph (value / 256 % 16) (omega arith) in
-    let c = glyph (value % 256 / 16) (below_16 (value % 256) low) in
-    let d = glyph (value % 256 % 16) (omega arith) in
+    let back = four_back value lt in
     record {
-      reads = rw (a.below, b.below, c.below, d.below, a.digit, b.digit, c.digit, d.digit) (ap (λ (n : ℕ). Ok n) (four value lt));
-      is = record { some = refl; visible = (a.other, (b.other, (c.other, (d.other, tt)))) };
+      reads = ap value_or_fault back.reads;
+      is = record { some = refl; visible = (back.first, (back.second, (back.third, (back.fourth, tt)))) };
     }
 
 -- a digit is visible
@@ -76,12 +37,10 @@ visible_digit c lt =
     let range = digit_from_value c lt in
     grind (arith, nat_tests, range.0)
 
--- digits are digits, and visible
-pub digits_are : (word : Text) → AllDigits 10 word → (are_digits 10 word ≡ true) × AreVisible word
-digits_are [] all = (refl, tt)
-digits_are (c ∷ word) all =
-    let is : nat_lt (digit_value c) 10 ≡ true = grind (arith, nat_tests, all.0) in
-    (rw is (digits_are word all.1).0, (visible_digit c all.0, (digits_are word all.1).1))
+-- digits are visible
+pub digits_visible : (word : Text) → AllDigits 10 word → AreVisible word
+digits_visible [] all = tt
+digits_visible (c ∷ word) all = (visible_digit c all.0, digits_visible word all.1)
 
 -- a printed number reads back within its range
 record IsNumber (low high n : ℕ) : Type 0 where
@@ -97,15 +56,11 @@ number : (low high n : ℕ) → low ≤ n → n ≤ high → high ≤ 9999999 �
 number low high n from to small =
     let spelt = decimal_is_IsNumeral n (omega arith) in
     let some : 1 ≤ length (decimal n) = omega (arith, spelt.0.0) in
-    let few : length (decimal n) ≤ 7 = length-decimal-le 7 n (omega arith) (omega arith) (omega arith) in
-    let are = digits_are (decimal n) spelt.0.1 in
-    let at_least : nat_le 1 (length (decimal n)) ≡ true = grind (arith, nat_tests, some) in
-    let at_most : nat_le (length (decimal n)) 7 ≡ true = grind (arith, nat_tests, few) in
     let above : nat_le low n ≡ true = grind (arith, nat_tests, from) in
     let below : nat_le n high ≡ true = grind (arith, nat_tests, to) in
     record {
-      reads = rw (are.0, at_least, at_most, spelt.1, above, below) refl;
-      is = record { some = has_bytes_of (decimal n) some; visible = are.1 };
+      reads = rw (decimal_back 7 n (omega arith) (omega arith) (omega arith), above, below) refl;
+      is = record { some = has_bytes_of (decimal n) some; visible = digits_visible (decimal n) spelt.0.1 };
     }
 
 -- data words read back to the end

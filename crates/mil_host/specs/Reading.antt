@@ -1,10 +1,8 @@
 -- The action that a text spells, or the first fault in it from left to right.
-use Rattle.std.specs.Prelude.{ℕ, Bool, true, false, ◌==◌, ◌&&◌, nat_le, nat_lt, List, [], ◌∷◌, length, drop, Result, Ok, Err, Option, Some, None, codes, if◌then◌else◌}
+use Rattle.std.specs.Prelude.{ℕ, Bool, true, false, ◌&&◌, nat_le, List, [], ◌∷◌, drop, Result, Ok, Err, Option, Some, None, codes, if◌then◌else◌}
 use Rattle.std.proofs.Common.{zero, suc}
-use Rattle.std.specs.List.{list_all}
-use Rattle.std.specs.Char.{digit_value}
 use Rattle.std.specs.Str.{bytes_eq}
-use Rattle.std.specs.Str.Parse.{digits_value}
+use Rattle.numerals.specs.Numerals.{spelled}
 use Rattle.mil_host.specs.Values.{PutUp, Marked}
 use Rattle.mil_host.specs.Words.{Text, words}
 use Rattle.mil_host.specs.declared.reading.BadAction.{BadAction}
@@ -22,25 +20,22 @@ abbrev pub and_then : {X Y : Type 0} → Read X → (X → Read Y) → Read Y
 and_then (Ok x) next = next x
 and_then (Err fault) next = Err fault
 
-abbrev pub are_digits : ℕ → Text → Bool
-are_digits base word = list_all (λ b. nat_lt (digit_value b) base) word
+-- a number from low to high
+abbrev pub within : ℕ → ℕ → Option ℕ → Read ℕ
+within low high None = Err Number
+within low high (Some n) = if nat_le low n && nat_le n high then Ok n else Err Range
 
 -- one to seven decimal digits
-abbrev pub is_number : Text → Bool
-is_number word = are_digits 10 word && nat_le 1 (length word) && nat_le (length word) 7
+abbrev pub number_of : ℕ → ℕ → Text → Read ℕ
+number_of low high word = within low high (spelled 10 1 7 word)
+
+abbrev pub value_or_fault : Option ℕ → Read ℕ
+value_or_fault None = Err Number
+value_or_fault (Some n) = Ok n
 
 -- four hexadecimal digits, of either case
-abbrev pub is_data_word : Text → Bool
-is_data_word word = are_digits 16 word && length word == 4
-
-abbrev pub number_of : ℕ → ℕ → Text → Read ℕ
-number_of low high word =
-    if is_number word
-    then (if nat_le low (digits_value 10 word) && nat_le (digits_value 10 word) high then Ok (digits_value 10 word) else Err Range)
-    else Err Number
-
 abbrev pub data_of : Text → Read ℕ
-data_of word = if is_data_word word then Ok (digits_value 16 word) else Err Number
+data_of word = value_or_fault (spelled 16 4 4 word)
 
 -- the first of the words is a number of this range, a data word, `on` or `off`, or a direction
 

@@ -1,14 +1,13 @@
 //! The action that a text spells.
-ghost use Rattle.std.specs.Prelude.{◌≡◌, ◌≤◌, true, Ok, Err, length, drop, IfOk, MatchResult};
-ghost use Rattle.mil_host.specs.Reading.{action_in, of_name, number_in, data_in, one_of, switch_in, direction_in, and_end, some_data, only_switch, only_data, only_ticks, only_words, only_mark, are_digits, data_of, number_of};
-ghost use Rattle.std.specs.Str.Parse.{digits_value};
-ghost use Rattle.std.specs.Char.{digit_value};
+ghost use Rattle.std.specs.Prelude.{◌≡◌, ◌≤◌, Ok, Err, length, drop, IfOk, MatchResult};
+ghost use Rattle.mil_host.specs.Reading.{action_in, of_name, number_in, data_in, one_of, switch_in, direction_in, and_end, some_data, only_switch, only_data, only_ticks, only_words, only_mark, data_of, number_of};
 
 use crate::actions::Action;
 use crate::names::{Name, name_in};
 use crate::values::{Mark, ResponseGap, TransmitWords};
 use crate::words::Words;
 use arrayvec::ArrayVec;
+use numerals::spelled;
 
 /// Why a text spells no action.
 #[derive(Clone, Copy, Debug, PartialEq, Eq)]
@@ -21,50 +20,15 @@ pub enum BadAction {
     Range,
 }
 
-/// The value of a digit or a letter, and 36 for any other byte.
-fn digit(byte: u8) -> u8
-    ensures value { result ≡ digit_value byte }
-    ensures small { result ≤ 36 }
-{
-    match byte {
-        b'0'..=b'9' => byte - b'0',
-        b'A'..=b'Z' => byte - b'A' + 10,
-        b'a'..=b'z' => byte - b'a' + 10,
-        _ => 36,
-    }
-}
-
-/// Whether each byte of a word is a digit in the base.
-fn all_digits(base: u8, word: &[u8]) -> bool
-    ensures { result ≡ are_digits base word.now }
-{
-    word.iter().all(|byte| digit(*byte) < base)
-}
-
-/// The number that digits spell, at most seven of them.
-fn number(base: u8, word: &[u8]) -> u32
-    requires base { base ≤ 16 }
-    requires few { length word.now ≤ 7 }
-    requires digits { are_digits base word.now ≡ true }
-    ensures { result ≡ digits_value base word.now }
-{
-    let mut total = 0u32;
-    for byte in word {
-        total = total * u32::from(base) + u32::from(digit(*byte));
-    }
-    total
-}
-
 /// The number of a word, within a range.
 fn number_within(word: &[u8], low: u8, high: u8) -> Result<u8, BadAction>
     ensures value { result ≡ number_of low high word.now }
     ensures range { IfOk result (λ n. (low ≤ n) × (n ≤ high)) }
 {
-    if !(all_digits(10, word) && 1 <= word.len() && word.len() <= 7) {
+    let Some(value) = spelled(10, 1, 7, word) else {
         return Err(BadAction::Number);
-    }
-    let value = number(10, word);
-    if u32::from(low) <= value && value <= u32::from(high) {
+    };
+    if u64::from(low) <= value && value <= u64::from(high) {
         Ok(value as u8)
     } else {
         Err(BadAction::Range)
@@ -75,10 +39,9 @@ fn number_within(word: &[u8], low: u8, high: u8) -> Result<u8, BadAction>
 fn data_word(word: &[u8]) -> Result<u16, BadAction>
     ensures { result ≡ data_of word.now }
 {
-    if all_digits(16, word) && word.len() == 4 {
-        Ok(number(16, word) as u16)
-    } else {
-        Err(BadAction::Number)
+    match spelled(16, 4, 4, word) {
+        Some(value) => Ok(value as u16),
+        None => Err(BadAction::Number),
     }
 }
 

@@ -12,8 +12,10 @@ mod judge;
 pub mod messages;
 mod parts;
 mod ranges;
+pub mod waves;
 
 pub use drafts::{Draft, ModeSubaddress};
 pub use faults::BadMessage;
 pub use forms::{Commands, Due, Form};
 pub use messages::Message;
+pub use waves::Waves;

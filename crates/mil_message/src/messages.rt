@@ -9,9 +9,9 @@ ghost use Rattle.mil_message.specs.Forms.{commands, first_command, second_comman
 use crate::command::{
     mode_command, mode_command_to_all, receive_command, receive_command_to_all, transmit_command,
 };
-use crate::{BadMessage, Commands, Draft, Due, Form, judge};
+use crate::{BadMessage, Commands, Draft, Due, Form, ModeSubaddress, Waves, judge};
 use arrayvec::ArrayVec;
-use mil_word::{Command, Sync, Wave, Word, encode};
+use mil_word::{Command, Sync, Word};
 use std::alloc::AllocError;
 use std::marker::Model;
 use std::slice;
@@ -214,23 +214,17 @@ impl Message {
         words
     }
 
-    /// The same as waves.
-    pub fn controller_waves(&self) -> ArrayVec<Wave, 34>
-        ensures { result.items ≡ controller_waves self.now }
+    /// Puts the waves of the words that the controller sends in the place of the waves that were there.
+    pub fn put_waves(&self, waves: &mut Waves)
+        ensures { waves.new ≡ controller_waves self.now }
     {
         let commands = self.commands();
-        let mut waves = ArrayVec::new();
-        waves.push(encode(command(commands.first)));
+        waves.clear();
+        waves.put(command(commands.first));
         if let Some(second) = commands.second {
-            waves.push(encode(command(second)));
+            waves.put(command(second));
         }
-        for &value in self.data_words() {
-            waves.push(encode(Word {
-                sync: Sync::DataSync,
-                value,
-            }));
-        }
-        waves
+        waves.put_data(self.data_words());
     }
 
     /// The same message once more, which takes no memory.
@@ -263,5 +257,26 @@ impl Clone for Message {
 
     fn clone(&self) -> Result<Message, AllocError> {
         Ok(self.copy())
+    }
+}
+
+/// A message to begin with where another is to take its place: terminal 0 is asked for its status word (mode code 2).
+impl Default for Message {
+    ghost use Rattle.std.specs.Prelude.{◌≡◌};
+    ghost use Rattle.mil_message.specs.declared.drafts.ModeSubaddress.TheVariants.{Zero};
+    ghost use Rattle.mil_message.specs.declared.forms.Form.TheVariants.{Mode};
+
+    ghost is_default = { λ m. m ≡ Mode 0 Zero 2 };
+
+    fn default() -> Message
+        ensures { result ≡ Mode 0 Zero 2 }
+    {
+        Message {
+            form: Form::Mode {
+                address: 0,
+                subaddress: ModeSubaddress::Zero,
+                code: 2,
+            },
+        }
     }
 }

@@ -4,6 +4,7 @@ ghost use Rattle.std.specs.List.{list_any};
 ghost use Rattle.std.specs.Option.{is_none};
 ghost use Rattle.mil_word.specs.Wave.{raw_of, word_of};
 ghost use Rattle.mil_bus.specs.declared.talks.Sent.{Sent as SentValue};
+ghost use Rattle.mil_bus.specs.BlockStatus.{block_of};
 ghost use Rattle.mil_bus.specs.Counts.{seen_of};
 ghost use Rattle.mil_monitor.specs.Observed.{observed, gap_half};
 
@@ -31,7 +32,7 @@ fn sound_bits(wave: Wave) -> u16
 {
     match decode(wave) {
         Some(_) => raw_bits(wave),
-        None => unreachable!(),
+        None => 0,
     }
 }
 
@@ -97,10 +98,19 @@ pub fn observe_by(talk: &Talk, seen: &Seen) -> Record
     requires seen { seen.now ≡ seen_of talk.now.message talk.now.sent.items }
     ensures { result ≡ observed talk.now }
 {
+    observe_with(talk, seen, talk.block(seen))
+}
+
+/// The same, from what is seen of the talk and its block status word.
+pub fn observe_with(talk: &Talk, seen: &Seen, block: u16) -> Record
+    requires seen { seen.now ≡ seen_of talk.now.message talk.now.sent.items }
+    requires block { block ≡ block_of talk.now.line talk.now.message seen.now }
+    ensures { result ≡ observed talk.now }
+{
     let sent = talk.sent.as_slice();
     Record {
         stamp: talk.start,
-        block: talk.block(seen),
+        block,
         gaps: gap_half(seen.two) * 256 + gap_half(seen.one),
         words: words_of(sent, seen.unsound),
     }

@@ -1,11 +1,11 @@
 //! A bus with its planned faults, driven message by message, and what a monitor keeps of each: the figures of the tests below
 //! it are worked out by hand from the rules.
 use crate::equal::{are_in, same_in};
-use mil_bus::Bus;
+use mil_bus::{Bus, Seen, Talk};
 use mil_host::read_action;
 use mil_line::{Fault, Gap, LineError, Plan};
 use mil_message::{Draft, Message, ModeSubaddress};
-use mil_monitor::{Record, observe};
+use mil_monitor::{Record, observe_with};
 use mil_word::{Line, Sync, Wave, Word};
 use std::alloc::Global;
 use std::process::Abort;
@@ -20,6 +20,8 @@ struct Setting {
     bus: Bus,
     plan: Plan,
     number: u32,
+    /// Room for a talk, which holds that of the last message.
+    room: Talk,
 }
 
 /// What happens on a bus, and what is found then.
@@ -166,6 +168,7 @@ fn fresh(rt: &impl Abort, alloc: Global, addresses: &[u8]) -> Setting {
         bus: Bus::make(alloc, 0, addresses).expect(rt, "a bus"),
         plan: Plan::make(alloc),
         number: 0,
+        room: Talk::none(),
     }
 }
 
@@ -229,6 +232,7 @@ impl Setting {
             bus: self.bus.copy().expect(rt, "memory"),
             plan: self.plan.copy().expect(rt, "memory"),
             number: self.number,
+            room: Talk::none(),
         }
     }
 
@@ -238,10 +242,16 @@ impl Setting {
         assert!(rt; self.bus.clock() < 1 << 60);
         self.number = self.number.wrapping_add(1);
         let faults = self.plan.faults(self.number);
-        let talk = self
-            .bus
-            .exchange(line, &message, Gap::of(40), faults.as_slice());
-        observe(&talk)
+        let mut seen = Seen::none();
+        let verdict = self.bus.exchange_into(
+            line,
+            &message,
+            Gap::of(40),
+            faults.as_slice(),
+            &mut self.room,
+            &mut seen,
+        );
+        observe_with(&self.room, &seen, verdict.block)
     }
 
     /// The next message has a record of these words.

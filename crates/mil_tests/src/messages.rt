@@ -3,7 +3,7 @@ use crate::equal::{are_in, prints, same_in};
 use arrayvec::ArrayVec;
 use mil_message::Draft::{Between, BetweenAll, FromTerminal, ToAll, ToTerminal};
 use mil_message::ModeSubaddress::{ThirtyOne, Zero};
-use mil_message::{BadMessage, Draft, Due, Form, Message, ModeSubaddress};
+use mil_message::{BadMessage, Draft, Due, Form, Message, ModeSubaddress, Waves};
 use mil_word::{Sync, Wave, Word};
 use std::process::Abort;
 
@@ -278,9 +278,19 @@ fn waves(rt: HostRuntime) {
 
 /// Of two waves the second is that of a data word of zeros.
 fn has_second_wave(rt: &impl Abort, message: &Message) {
-    let waves = message.controller_waves();
+    let mut room = Waves::none();
+    message.put_waves(&mut room);
+    let waves = room.as_slice();
     let found = (waves.len(), waves.get(1).copied());
     same_in(rt, "waves", &found, &(2, Some(Wave::of(0x1D_5555_5556))));
+}
+
+/// Where nothing else is asked, terminal 0 is asked for its status word.
+#[test]
+fn default(rt: HostRuntime) {
+    let commands = Message::default().commands();
+    same_in(&rt, "command", &commands.first.value(), &0x0402);
+    assert!(rt; commands.second.is_none());
 }
 
 /// Parts of which no message is made: the number of the form, the commands and the words.

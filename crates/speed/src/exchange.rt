@@ -4,10 +4,10 @@
 //! a kind (0 to 3) on 31 terminals, each with its record, for a count of instructions; what they came to: that sum and that clock.
 use crate::watch::Watch;
 use crate::words::{number, print_figures};
-use mil_bus::{Bus, Seen};
+use mil_bus::{Bus, Seen, Talk};
 use mil_line::Gap;
 use mil_message::{Draft, Message};
-use mil_monitor::observe_by;
+use mil_monitor::observe_with;
 use mil_word::Line;
 use std::alloc::Global;
 use std::io;
@@ -81,11 +81,19 @@ fn round(bus: &mut Bus, message: &Message, exchanges: u32) -> u64 {
 /// The same, with the record of each talk.
 fn observed_round(bus: &mut Bus, message: &Message, exchanges: u32) -> u64 {
     let mut sum = 0u64;
+    let mut talk = Talk::none();
     for _ in 0..exchanges {
         if bus.clock() < 1 << 60 {
             let mut seen = Seen::none();
-            let talk = bus.exchange_seen(Line::A, message, Gap::of(40), &[], &mut seen);
-            let record = observe_by(&talk, &seen);
+            let verdict = bus.exchange_into(
+                Line::A,
+                message,
+                Gap::of(40),
+                &[],
+                &mut talk,
+                &mut seen,
+            );
+            let record = observe_with(&talk, &seen, verdict.block);
             sum = sum.wrapping_add(record.stamp);
             sum = sum.wrapping_add(u64::from(record.block));
             sum = sum.wrapping_add(u64::from(record.gaps));

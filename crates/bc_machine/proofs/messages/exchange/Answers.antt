@@ -6,9 +6,9 @@ use Rattle.bc_machine.proofs.messages.exchange.Goals as goal
 
 pub returns-clause-talks : goal.returns-clause-talks
 returns-clause-talks c =
-    ap (λ (b : BusState). b.talks) c.exchange_seen.ensures.bus
+    ap (λ (b : BusState). b.talks) c.exchange_into.ensures.bus
     ∙ exchanged_talks c.act_both.new.bus c.args.line c.args.message.now c.args.gap c.as_slice.result.now
-    ∙ ap₂ (λ t ts. t ∷ ts) (sym c.exchange_seen.ensures.talk) (ap (λ (b : BusState). b.talks) c.act_both.ensures.bus ∙ ready_talks (c.args.placed.now ++ c.args.posted.now) c.args.number c.args.bus.now)
+    ∙ ap₂ (λ t ts. t ∷ ts) (sym c.exchange_into.ensures.talk) (ap (λ (b : BusState). b.talks) c.act_both.ensures.bus ∙ ready_talks (c.args.placed.now ++ c.args.posted.now) c.args.number c.args.bus.now)
 
 pub returns-clause-bus : goal.returns-clause-bus
 returns-clause-bus c =

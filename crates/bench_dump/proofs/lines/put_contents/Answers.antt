@@ -6,4 +6,4 @@ pub returns : goal.returns
 unfolding packet_contents
 returns c =
     let test : eqb c.args.packet.now.header.kind 25 ≡ true = eq-eqb c.args.packet.now.header.kind 25 c.if-packet-ne-MESSAGES_KIND.false in
-    rw (test, c.in_ok-extend_from_slice-3.ensures.items, c.in_ok-put_number-2.ensures, c.in_ok-extend_from_slice-2.ensures.items, c.digits_of_byte.ensures, c.in_ok-extend_from_slice.ensures.items, c.in_ok-put_number.ensures) (simp append_assoc)
+    rw (test, c.in_ok-put-3.ensures, c.in_ok-put_number-2.ensures, c.in_ok-put-2.ensures, c.digits_of_byte.ensures, c.in_ok-put.ensures, c.in_ok-put_number.ensures) (simp append_assoc)

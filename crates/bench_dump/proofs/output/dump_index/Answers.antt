@@ -4,7 +4,7 @@ use Rattle.bench_dump.proofs.Packets.{begins, no_packet, at_place, same_count, g
 use Rattle.bench_dump.proofs.output.dump_index.Goals as goal
 
 pub packets-init : goal.packets-init
-packets-init g c = begins _ _ _ _ c.new-text.ensures.items
+packets-init g c = begins _ _ _ _ c.new-text.ensures
 
 pub messages_in-requires : goal.messages_in-requires
 messages_in-requires g c = omega (arith, same_count c.args.index.now c.packets-packets.result.now c.packets-packets.ensures.listed, c.packets-test.true)
@@ -26,4 +26,4 @@ returns-in_err-dump_messages-clause-failed g c =
 
 pub returns-clause-printed : goal.returns-clause-printed
 returns-clause-printed g c =
-    kept _ _ _ _ (ends _ _ _ _ _ _ c.packets.place _ _ c.args.index.now (omega (arith, same_count c.args.index.now c.packets-packets.result.now c.packets-packets.ensures.listed, c.packets-test.false)) c.packets.invariant c.in_ok-dump_skips.ensures.printed (rw c.deref.ensures.value at c.in_ok-write_all.ensures.bytes)) c.in_ok-flush.ensures.bytes
+    kept _ _ _ _ (ends _ _ _ _ _ _ c.packets.place _ _ c.args.index.now (omega (arith, same_count c.args.index.now c.packets-packets.result.now c.packets-packets.ensures.listed, c.packets-test.false)) c.packets.invariant c.in_ok-dump_skips.ensures.printed (rw c.as_slice.ensures at c.in_ok-write_all.ensures.bytes)) c.in_ok-flush.ensures.bytes

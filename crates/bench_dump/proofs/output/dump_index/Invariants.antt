@@ -2,4 +2,4 @@ use Rattle.bench_dump.proofs.Packets.{IsPrinting}
 use Rattle.bench_dump.proofs.output.dump_index.Given as goal
 
 abbrev pub invariant-packets : goal.invariant-packets
-invariant-packets g l = IsPrinting (g.W.Write.contents l.fn.out) (g.W.Write.contents l.out) l.text.items l.place l.rest l.fn.skips l.fn.index
+invariant-packets g l = IsPrinting (g.W.Write.contents l.fn.out) (g.W.Write.contents l.out) l.text l.place l.rest l.fn.skips l.fn.index

@@ -7,7 +7,7 @@ use Rattle.mil_bus.proofs.runs.say_run.Goals as goal
 
 pub returns-then-is_empty-clause-sent : goal.returns-then-is_empty-clause-sent
 returns-then-is_empty-clause-sent c =
-    let waves : take c.min-count.result c.as_slice-given.result.now ≡ take (40 - length c.args.sent.now.items) c.args.offer.now.waves.items =
+    let waves : take c.min-count.result c.as_slice-given.result.now ≡ take (40 - length c.args.sent.now.items) c.args.offer.now.waves =
     ap (λ k. take k c.as_slice-given.result.now) c.min-count.ensures ∙ take-min (40 - c.len-room.result) c.as_slice-given.result.now
     ∙ ap (λ k. take (40 - k) c.as_slice-given.result.now) c.len-room.ensures.value ∙ ap (take (40 - length c.args.sent.now.items)) c.as_slice-given.ensures.value in
     c.say.ensures.sent ∙ ap (λ ws. c.args.sent.now.items ++ words_of c.args.number c.args.offer.now.source c.args.offer.now.gap ws) waves
@@ -15,7 +15,7 @@ returns-then-is_empty-clause-sent c =
 
 pub returns-then-is_empty-clause-stations : goal.returns-then-is_empty-clause-stations
 returns-then-is_empty-clause-stations c =
-    let waves : take c.min-count.result c.as_slice-given.result.now ≡ take (40 - length c.args.sent.now.items) c.args.offer.now.waves.items =
+    let waves : take c.min-count.result c.as_slice-given.result.now ≡ take (40 - length c.args.sent.now.items) c.args.offer.now.waves =
     ap (λ k. take k c.as_slice-given.result.now) c.min-count.ensures ∙ take-min (40 - c.len-room.result) c.as_slice-given.result.now
     ∙ ap (λ k. take (40 - k) c.as_slice-given.result.now) c.len-room.ensures.value ∙ ap (take (40 - length c.args.sent.now.items)) c.as_slice-given.ensures.value in
     c.say.ensures.stations ∙ ap (λ ws. all_hearing c.args.line (words_of c.args.number c.args.offer.now.source c.args.offer.now.gap ws) c.args.terminals.now) waves

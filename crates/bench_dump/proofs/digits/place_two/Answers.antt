@@ -1,0 +1,7 @@
+use Rattle.bench_dump.proofs.Placing.{decimal_at, placed_pair}
+use Rattle.bench_dump.proofs.digits.place_two.Goals as goal
+
+pub returns-clause-placed : goal.returns-clause-placed
+returns-clause-placed c =
+    let digits = decimal_at c.args.number c.requires.small in
+    rw (digits.0, digits.1) (placed_pair c.args.buffer.now c.args.at _ _ c.requires.room)

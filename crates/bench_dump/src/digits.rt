@@ -1,0 +1,139 @@
+//! Digits, written two at a time at a place of a buffer that has room for them.
+ghost use Rattle.std.specs.Prelude.{◌≡◌, ◌+◌, ◌<◌, ◌≤◌, length, decimal};
+ghost use Rattle.bench_dump.specs.DumpText.{byte_digits};
+ghost use Rattle.bench_dump.specs.Places.{IsPlaced, eight_digits, four_digits, two_digits};
+
+/// The two upper-case hexadecimal digits of each byte.
+static HEXADECIMAL: [u8; 512] =
+    *b"000102030405060708090A0B0C0D0E0F101112131415161718191A1B1C1D1E1F202122232425262728292A2B2C2D2E2F303132333435363738393A3B3C3D3E3F404142434445464748494A4B4C4D4E4F505152535455565758595A5B5C5D5E5F606162636465666768696A6B6C6D6E6F707172737475767778797A7B7C7D7E7F808182838485868788898A8B8C8D8E8F909192939495969798999A9B9C9D9E9FA0A1A2A3A4A5A6A7A8A9AAABACADAEAFB0B1B2B3B4B5B6B7B8B9BABBBCBDBEBFC0C1C2C3C4C5C6C7C8C9CACBCCCDCECFD0D1D2D3D4D5D6D7D8D9DADBDCDDDEDFE0E1E2E3E4E5E6E7E8E9EAEBECEDEEEFF0F1F2F3F4F5F6F7F8F9FAFBFCFDFEFF";
+
+/// The two decimal digits of each number below 100.
+static DECIMAL: [u8; 200] =
+    *b"00010203040506070809101112131415161718192021222324252627282930313233343536373839404142434445464748495051525354555657585960616263646566676869707172737475767778798081828384858687888990919293949596979899";
+
+/// Places a byte as two hexadecimal digits.
+#[inline(always)]
+pub(crate) fn place_byte(buffer: &mut [u8], at: usize, byte: u8) -> usize
+    requires { at + 2 ≤ length buffer.old }
+    ensures placed { IsPlaced buffer.old buffer.new at (byte_digits byte) result }
+    ensures end { result ≡ at + 2 }
+{
+    let from = byte as usize * 2;
+    let (first, second) = (HEXADECIMAL[from], HEXADECIMAL[from + 1]);
+    buffer[at] = first;
+    buffer[at + 1] = second;
+    at + 2
+}
+
+/// Places a number below 100 as two digits.
+#[inline(always)]
+fn place_two(buffer: &mut [u8], at: usize, number: u32) -> usize
+    requires small { number < 100 }
+    requires room { at + 2 ≤ length buffer.old }
+    ensures placed { IsPlaced buffer.old buffer.new at (two_digits number) result }
+    ensures end { result ≡ at + 2 }
+{
+    let from = number as usize * 2;
+    let (first, second) = (DECIMAL[from], DECIMAL[from + 1]);
+    buffer[at] = first;
+    buffer[at + 1] = second;
+    at + 2
+}
+
+/// Places a number below 10,000 as four digits.
+#[inline(always)]
+fn place_four(buffer: &mut [u8], at: usize, number: u32) -> usize
+    requires small { number < 10000 }
+    requires room { at + 4 ≤ length buffer.old }
+    ensures placed { IsPlaced buffer.old buffer.new at (four_digits number) result }
+    ensures end { result ≡ at + 4 }
+{
+    let middle = place_two(buffer, at, number / 100);
+    place_two(buffer, middle, number % 100)
+}
+
+/// Places a number below 100,000,000 as eight digits.
+#[inline(always)]
+fn place_eight(buffer: &mut [u8], at: usize, number: u32) -> usize
+    requires small { number < 100000000 }
+    requires room { at + 8 ≤ length buffer.old }
+    ensures placed { IsPlaced buffer.old buffer.new at (eight_digits number) result }
+    ensures end { result ≡ at + 8 }
+{
+    let middle = place_four(buffer, at, number / 10_000);
+    place_four(buffer, middle, number % 10_000)
+}
+
+/// Places a number below 100 in one or two digits.
+#[inline(always)]
+fn place_below_hundred(buffer: &mut [u8], at: usize, number: u32) -> usize
+    requires small { number < 100 }
+    requires room { at + 2 ≤ length buffer.old }
+    ensures placed { IsPlaced buffer.old buffer.new at (decimal number) result }
+    ensures few { result ≤ at + 2 }
+{
+    if number < 10 {
+        buffer[at] = b'0' + number as u8;
+        return at + 1;
+    }
+    place_two(buffer, at, number)
+}
+
+/// Places a number below 10,000 in one to four digits.
+#[inline(always)]
+fn place_short(buffer: &mut [u8], at: usize, number: u32) -> usize
+    requires small { number < 10000 }
+    requires room { at + 4 ≤ length buffer.old }
+    ensures placed { IsPlaced buffer.old buffer.new at (decimal number) result }
+    ensures few { result ≤ at + 4 }
+{
+    if number < 100 {
+        return place_below_hundred(buffer, at, number);
+    }
+    let middle = place_below_hundred(buffer, at, number / 100);
+    place_two(buffer, middle, number % 100)
+}
+
+/// Places a number below 100,000,000 in one to eight digits.
+#[inline(always)]
+fn place_long(buffer: &mut [u8], at: usize, number: u32) -> usize
+    requires small { number < 100000000 }
+    requires room { at + 8 ≤ length buffer.old }
+    ensures placed { IsPlaced buffer.old buffer.new at (decimal number) result }
+    ensures few { result ≤ at + 8 }
+{
+    if number < 10_000 {
+        return place_short(buffer, at, number);
+    }
+    let middle = place_short(buffer, at, number / 10_000);
+    place_four(buffer, middle, number % 10_000)
+}
+
+/// Places what stands before the last eight digits of a number.
+#[inline(always)]
+fn place_high(buffer: &mut [u8], at: usize, number: u64) -> usize
+    requires small { number < 1000000000000 }
+    requires room { at + 12 ≤ length buffer.old }
+    ensures placed { IsPlaced buffer.old buffer.new at (decimal number) result }
+    ensures few { result ≤ at + 12 }
+{
+    if number < 100_000_000 {
+        return place_long(buffer, at, number as u32);
+    }
+    let middle = place_short(buffer, at, (number / 100_000_000) as u32);
+    place_eight(buffer, middle, (number % 100_000_000) as u32)
+}
+
+/// Places a number in one to twenty digits.
+#[inline]
+pub(crate) fn place_decimal(buffer: &mut [u8], at: usize, number: u64) -> usize
+    requires { at + 20 ≤ length buffer.old }
+    ensures placed { IsPlaced buffer.old buffer.new at (decimal number) result }
+    ensures few { result ≤ at + 20 }
+{
+    if number < 100_000_000 {
+        return place_long(buffer, at, number as u32);
+    }
+    let middle = place_high(buffer, at, number / 100_000_000);
+    place_eight(buffer, middle, (number % 100_000_000) as u32)
+}

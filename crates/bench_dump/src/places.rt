@@ -1,0 +1,107 @@
+//! The parts of a message's line, written one behind the other into a buffer that has room for all of them.
+ghost use Rattle.std.specs.Prelude.{◌≡◌, ◌+◌, ◌*◌, ◌/◌, ◌≤◌, ◌∷◌, ◌++◌, length, decimal};
+ghost use Rattle.ch11_f1.specs.Views.{message_of};
+ghost use Rattle.bench_dump.specs.DumpText.{bus_words, byte_digits, message_line, word_digits};
+ghost use Rattle.bench_dump.specs.Places.{IsPlaced};
+
+use crate::digits::{place_byte, place_decimal};
+use ch11_f1::Seen;
+
+/// How many bytes a message's line has at most beside its bus words: 44 of labels, three numbers of up to 20 and two words of 4.
+pub(crate) const MESSAGE_HEAD: usize = 112;
+
+/// Places bytes.
+#[inline(always)]
+pub(crate) fn place_bytes(buffer: &mut [u8], at: usize, bytes: &[u8]) -> usize
+    requires { at + length bytes.now ≤ length buffer.old }
+    ensures { IsPlaced buffer.old buffer.new at bytes.now result }
+{
+    let end = at + bytes.len();
+    buffer[at..end].copy_from_slice(bytes);
+    end
+}
+
+/// Places a label.
+#[inline(always)]
+fn place_label<const N: usize>(buffer: &mut [u8], at: usize, label: &[u8; N]) -> usize
+    requires { at + N ≤ length buffer.old }
+    ensures placed { IsPlaced buffer.old buffer.new at label.now result }
+    ensures end { result ≡ at + N }
+{
+    place_bytes(buffer, at, label)
+}
+
+/// Places a label and a number.
+#[inline(always)]
+fn place_number<const N: usize>(buffer: &mut [u8], at: usize, label: &[u8; N], number: u64) -> usize
+    requires { at + N + 20 ≤ length buffer.old }
+    ensures placed { IsPlaced buffer.old buffer.new at (label.now ++ decimal number) result }
+    ensures few { result ≤ at + N + 20 }
+{
+    let middle = place_label(buffer, at, label);
+    place_decimal(buffer, middle, number)
+}
+
+/// Places a label and a word as four digits.
+#[inline(always)]
+fn place_word<const N: usize>(buffer: &mut [u8], at: usize, label: &[u8; N], word: u16) -> usize
+    requires { at + N + 4 ≤ length buffer.old }
+    ensures placed { IsPlaced buffer.old buffer.new at (label.now ++ word_digits word) result }
+    ensures end { result ≡ at + N + 4 }
+{
+    let first = place_label(buffer, at, label);
+    let second = place_byte(buffer, first, (word / 256) as u8);
+    place_byte(buffer, second, (word % 256) as u8)
+}
+
+/// Places a bus word: a space and four digits.
+#[inline(always)]
+fn place_bus_word(buffer: &mut [u8], at: usize, high: u8, low: u8) -> usize
+    requires { at + 5 ≤ length buffer.old }
+    ensures placed { IsPlaced buffer.old buffer.new at (32 ∷ (byte_digits high ++ byte_digits low)) result }
+    ensures end { result ≡ at + 5 }
+{
+    buffer[at] = b' ';
+    let middle = place_byte(buffer, at + 1, high);
+    place_byte(buffer, middle, low)
+}
+
+/// Places bus words, two bytes each with the low one first.
+#[inline]
+pub(crate) fn place_bus_words(buffer: &mut [u8], start: usize, words: &[u8]) -> usize
+    requires { start + 5 * (length words.now / 2) ≤ length buffer.old }
+    ensures placed { IsPlaced buffer.old buffer.new start (bus_words words.now) result }
+    ensures end { result ≡ start + 5 * (length words.now / 2) }
+{
+    let mut at = start;
+    let mut rest = words;
+    'words: while rest.len() >= 2 {
+        at = place_bus_word(buffer, at, rest[1], rest[0]);
+        let (_, others) = rest.split_at(2);
+        rest = others;
+    }
+    at
+}
+
+/// Places the line of a message.
+#[inline]
+#[tactic(auto, unfolding(crate::specs::DumpText::message_line))]
+pub(crate) fn place_message(
+    buffer: &mut [u8],
+    start: usize,
+    number: u64,
+    channel: u16,
+    seen: &Seen<'_>,
+) -> usize
+    requires { start + (MESSAGE_HEAD + 5 * (length seen.now.words.now / 2)) ≤ length buffer.old }
+    ensures { IsPlaced buffer.old buffer.new start (message_line number channel (message_of seen.now)) result }
+{
+    let at = place_number(buffer, start, b"message ", number);
+    let at = place_number(buffer, at, b" channel ", channel as u64);
+    let at = place_number(buffer, at, b" stamp ", seen.stamp);
+    let at = place_word(buffer, at, b" block ", seen.block);
+    let at = place_word(buffer, at, b" gaps ", seen.gaps);
+    let at = place_label(buffer, at, b" words");
+    let at = place_bus_words(buffer, at, seen.words);
+    place_label(buffer, at, b"\n")
+}

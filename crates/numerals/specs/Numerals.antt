@@ -1,0 +1,14 @@
+-- The numbers that words spell. A letter of either case is a digit: `a` and `A` are ten (own choice).
+use Rattle.std.specs.Prelude.{ℕ, Bool, ◌&&◌, nat_lt, nat_le, if◌then◌else◌, List, length, Option, Some, None}
+use Rattle.std.specs.List.{list_all}
+use Rattle.std.specs.Char.{digit_value}
+use Rattle.std.specs.Str.Parse.{digits_value}
+
+-- each byte is a digit of the base
+abbrev pub are_digits : ℕ → List ℕ → Bool
+are_digits base word = list_all (λ b. nat_lt (digit_value b) base) word
+
+-- the number that a word of `least` to `most` digits spells
+unfoldable pub spelled : ℕ → ℕ → ℕ → List ℕ → Option ℕ
+spelled base least most word =
+    if nat_le least (length word) && nat_le (length word) most && are_digits base word then Some (digits_value base word) else None
