@@ -1,5 +1,7 @@
-/* Measures the three codecs in one run: the best of many short rounds, taken in turn. */
+/* Measures the three codecs in one run: the best of many short rounds, taken in turn.
+ * With a row (0 to 3), a codec (0 to 2) and a number, only so many rounds of these are run, for whoever counts instructions. */
 #include <stdio.h>
+#include <stdlib.h>
 #include <time.h>
 #include "twin.h"
 
@@ -40,7 +42,30 @@ static uint64_t check_sum;
                proved / in_c, proved / in_rust);                                                  \
     } while (0)
 
-int main(void) {
+#define ROUNDS_OF(number, function, argument)                                                     \
+    do {                                                                                          \
+        double best = 1e9;                                                                        \
+        for (int round = 0; round < (number); round++) ROUND(best, function(argument));           \
+    } while (0)
+
+#define ROUNDS_OF_ALL(codec, number, function, argument)                                          \
+    do {                                                                                          \
+        if ((codec) == 0) ROUNDS_OF(number, rattle_##function, argument);                         \
+        else if ((codec) == 1) ROUNDS_OF(number, c_##function, argument);                         \
+        else ROUNDS_OF(number, rust_##function, argument);                                        \
+    } while (0)
+
+/* So many rounds of a row by a codec. */
+static void run_rounds(int row, int codec, int number) {
+    switch (row) {
+    case 0: ROUNDS_OF_ALL(codec, number, encode, (uint16_t)k); break;
+    case 1: ROUNDS_OF_ALL(codec, number, decode, sound[k]); break;
+    case 2: ROUNDS_OF_ALL(codec, number, decode, damaged[k]); break;
+    default: ROUNDS_OF_ALL(codec, number, raw_bits, damaged[k]);
+    }
+}
+
+int main(int count, char **words) {
     uint64_t x = 88172645463325252ull;
     for (uint32_t k = 0; k < 65536; k++) {
         sound[k] = rattle_encode((uint16_t)k);
@@ -58,6 +83,10 @@ int main(void) {
             printf("the codecs differ at %u\n", k);
             return 1;
         }
+    }
+    if (count == 4) {
+        run_rounds(atoi(words[1]), atoi(words[2]), atoi(words[3]));
+        return check_sum == 0;
     }
     printf("ns a call, the best of %d rounds in turn      Rattle to\n", ROUNDS);
     printf("%-16s %7s %7s %7s   %6s %6s\n", "", "Rattle", "C", "Rust", "C", "Rust");
