@@ -5,6 +5,7 @@ use Rattle.std.proofs.lemmas.List.{append-nil}
 use Rattle.std.proofs.lemmas.List.Elements.{filter-append}
 use Rattle.mil_word.specs.declared.Line.{Line}
 use Rattle.mil_message.specs.declared.messages.Message.{Message}
+use Rattle.mil_message.specs.declared.outcome_test.OutcomeTest.{OutcomeTest}
 use Rattle.mil_message.specs.World.{World, Point, other_line, sent, asks}
 use Rattle.mil_line.specs.Plans.{Planned}
 use Rattle.mil_bus.specs.Exchange.{BusState}
@@ -96,7 +97,7 @@ module _ (plan : List Planned) (ps qs : List Placed) (top : ℕ) (same : (n : �
   abbrev v : World BusState Outcome
   v = world_of plan qs
 
-  asks_alike : (k : ℕ) (p : Point BusState Outcome) → asks v k p ≡ asks w k p
+  asks_alike : (k : OutcomeTest) (p : Point BusState Outcome) → asks v k p ≡ asks w k p
   asks_alike k p = by_case p.last
     where
       by_case : (last : Option Outcome) → asks v k (record { state = p.state; number = p.number; gap = p.gap; last = last }) ≡ asks w k (record { state = p.state; number = p.number; gap = p.gap; last = last })

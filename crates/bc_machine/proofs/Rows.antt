@@ -4,7 +4,7 @@ use Rattle.std.specs.Prelude.{slice_get}
 use Rattle.frame_code.specs.declared.Op.{Op}
 use Rattle.frame_code.specs.declared.Op.TheVariants as op
 use Rattle.frame_code.specs.Table.{act}
-use Rattle.frame_code.specs.Ranges.{AreInRange, in_range, is_gap, is_test, IsImage}
+use Rattle.frame_code.specs.Ranges.{AreInRange, in_range, is_gap, IsImage}
 use Rattle.bc_machine.specs.declared.Stepped.{Stepped}
 use Rattle.bc_machine.specs.Running.{MachineState, world_in, moved_by, stepped, answered, answer_of}
 
@@ -30,6 +30,3 @@ least_gap t h = search (rules, tests)
 
 pub gap_at : (m : MachineState) (t : ℕ) → IsImage m.code → slice_get m.code.operations m.at.place ≡ Some (op.SetGap t) → 40 ≤ t
 gap_at m t i e = least_gap t (range_at m.code.operations m.at.place (op.SetGap t) i.operands e)
-
-pub test_at : (m : MachineState) (k : ℕ) → IsImage m.code → slice_get m.code.operations m.at.place ≡ Some (op.Test k) → IsTrue (is_test k)
-test_at m k i e = range_at m.code.operations m.at.place (op.Test k) i.operands e

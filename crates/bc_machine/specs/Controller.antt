@@ -1,9 +1,12 @@
 -- The world that the controller runs in (own choice): a real bus, the faults that are planned for its messages, and the
 -- actions of the terminals' hosts, each placed at a message.
-use Rattle.std.specs.Prelude.{ℕ, ◌-◌, ◌==◌, Bool, if◌then◌else◌, List, [], ◌∷◌}
+use Rattle.std.specs.Prelude.{ℕ, ◌==◌, Bool, List, [], ◌∷◌}
 use Rattle.std.specs.List.{filter}
 use Rattle.mil_word.specs.Fields.{has_bit}
+use Rattle.mil_status.specs.Status.{place_of}
 use Rattle.mil_message.specs.World.{World}
+use Rattle.mil_message.specs.declared.outcome_test.OutcomeTest.{OutcomeTest}
+use Rattle.mil_message.specs.declared.outcome_test.OutcomeTest.TheVariants.{Failed, Silent, Bit}
 use Rattle.mil_line.specs.Plans.{Planned, faults_of}
 use Rattle.mil_bus.specs.declared.talks.Talk.{Talk}
 use Rattle.mil_bus.specs.declared.outcomes.Outcome.{Outcome}
@@ -29,9 +32,11 @@ ready placed number b = all_acted b (placed_at number placed)
 abbrev pub outcome_in : Talk → Outcome
 outcome_in talk = outcome_of talk.message talk.sent.items
 
--- test 0 is failed, 1 silent, 16 + b the bit b of the status words
-abbrev pub holds : ℕ → Outcome → Bool
-holds test o = if test == 0 then o.failed else if test == 1 then o.silent else has_bit (test - 16) o.bits
+-- whether an outcome passes a test
+abbrev pub holds : OutcomeTest → Outcome → Bool
+holds Failed o = o.failed
+holds Silent o = o.silent
+holds (Bit b) o = has_bit (place_of b) o.bits
 
 -- a message: the actions placed at its number, then its exchange with the faults planned for its number
 abbrev pub world_of : List Planned → List Placed → World BusState Outcome

@@ -18,6 +18,7 @@ mod upcoming;
 pub use laws::{actions_to_come_are_free, controller_runs};
 pub use machine::Machine;
 use mil_monitor::Record;
+pub use outcomes::asks;
 pub use placed::Placed;
 pub use saved::Saved;
 pub use upcoming::Upcoming;

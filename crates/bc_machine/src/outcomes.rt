@@ -1,28 +1,26 @@
 //! Tests of the last outcome, and the other line.
-ghost use Rattle.std.specs.Prelude.{◌≡◌, ◌<◌, IsTrue};
-ghost use Rattle.frame_code.specs.Ranges.{is_test};
+ghost use Rattle.std.specs.Prelude.{◌≡◌};
 ghost use Rattle.mil_message.specs.World.{other_line};
 ghost use Rattle.bc_machine.specs.Controller.{holds};
 ghost use Rattle.bc_machine.specs.Outcomes.{test_of};
 
 use mil_bus::Outcome;
+use mil_message::OutcomeTest;
 use mil_word::Line;
 
-// Test 0 is failed, 1 silent, 16 + b the bit b of the status words.
-fn holds(test: u8, outcome: Outcome) -> bool
-    requires { IsTrue (is_test test) }
+// Whether the outcome passes the test.
+fn holds(test: OutcomeTest, outcome: Outcome) -> bool
     ensures { result ≡ holds test outcome }
 {
     match test {
-        0 => outcome.failed,
-        1 => outcome.silent,
-        _ => (outcome.bits >> (test - 16)) % 2 == 1,
+        OutcomeTest::Failed => outcome.failed,
+        OutcomeTest::Silent => outcome.silent,
+        OutcomeTest::Bit(bit) => (outcome.bits >> bit.place()) % 2 == 1,
     }
 }
 
 /// A test of the last outcome, false before any message.
-pub fn asks(test: u8, last: Option<Outcome>) -> bool
-    requires { IsTrue (is_test test) }
+pub fn asks(test: OutcomeTest, last: Option<Outcome>) -> bool
     ensures { result ≡ test_of test last }
 {
     match last {

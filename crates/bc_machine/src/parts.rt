@@ -6,7 +6,6 @@ ghost use Rattle.mil_message.specs.World.{sent, other_line};
 ghost use Rattle.mil_bus.specs.Exchange.{clock_of};
 ghost use Rattle.frame_code.specs.Table.{at_place, sends, turns, leaves, calls, comes_back};
 ghost use Rattle.frame_code.specs.Routines.{routine_at};
-ghost use Rattle.frame_code.specs.Ranges.{is_test};
 ghost use Rattle.frame_load.specs.Judging.{IsWithin};
 ghost use Rattle.frame_code.specs.Loadable.{IsLoadable};
 ghost use Rattle.bc_machine.specs.Running.{started, moved_by, stepped, answered, latest, clock_in, world_in};
@@ -28,6 +27,7 @@ use frame_code::Op;
 use frame_load::Program;
 use mil_bus::{Bus, Outcome, Seen, Talk};
 use mil_line::{Gap, Plan};
+use mil_message::OutcomeTest;
 use mil_monitor::observe_with;
 use mil_word::Line;
 use std::alloc::{AllocError, Global};
@@ -145,8 +145,7 @@ impl Parts {
     }
 
     /// Sets the flag.
-    fn test(&mut self, test: u8)
-        requires { IsTrue (is_test test) }
+    fn test(&mut self, test: OutcomeTest)
         ensures { self.new ≡ moves.flagged self.old (test_of test self.old.point.last) }
     {
         self.flag = asks(test, self.last);

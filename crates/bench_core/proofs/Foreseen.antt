@@ -5,14 +5,15 @@ use Rattle.std.proofs.lemmas.List.{append-nil, take-take}
 use Rattle.std.proofs.lemmas.List.Elements.{filter-append}
 use Rattle.mil_word.specs.declared.Line.{Line}
 use Rattle.mil_host.specs.declared.actions.Action.{Action}
+use Rattle.mil_message.specs.declared.outcome_test.OutcomeTest.TheVariants.{Failed}
 use Rattle.mil_message.specs.declared.messages.Message.{Message}
 use Rattle.mil_message.specs.World.{World, other_line, sent, asks}
 use Rattle.mil_line.specs.Plans.{Planned}
 use Rattle.mil_bus.specs.declared.outcomes.Outcome.{Outcome}
 use Rattle.mil_bus.specs.Exchange.{BusState}
-use Rattle.frame_tree.specs.Tree.{Test, Tree, send, retry, gap, repeat, choose, until, nothing, chained, call, define}
+use Rattle.frame_tree.specs.Tree.{Condition, Tree, send, retry, gap, repeat, choose, until, nothing, chained, call, define}
 use Rattle.frame_tree.specs.Expansion.{expansion}
-use Rattle.frame_tree.specs.Meaning.{test_meaning, times, attempts, turns_until, plain_meaning}
+use Rattle.frame_tree.specs.Meaning.{condition_meaning, times, attempts, turns_until, plain_meaning}
 use Rattle.bc_machine.specs.declared.placed.Placed.{Placed}
 use Rattle.bc_machine.specs.Controller.{placed_at, world_of}
 use Rattle.bc_machine.specs.Running.{beginning}
@@ -73,8 +74,8 @@ module _ (plan : List Planned) (ps qs : List Placed) (k : ℕ) (same : AreSameUp
   attempts_alike (suc n) line m p begun =
       let next : BusPoint = sent w (other_line line) m p in
       let next' : BusPoint = sent v (other_line line) m p in
-      rw (asks_alike plan ps qs 0 p)
-      (by_case (asks w 0 p)
+      rw (asks_alike plan ps qs Failed p)
+      (by_case (asks w Failed p)
       (then_alike next next' (attempts w n (other_line line) m) (attempts v n (other_line line) m) (sent_alike (other_line line) m p begun)
       (attempts_grow plan ps n (other_line line) m) (attempts_grow plan qs n (other_line line) m) (attempts_alike n (other_line line) m next)))
     where
@@ -88,12 +89,12 @@ module _ (plan : List Planned) (ps qs : List Placed) (k : ℕ) (same : AreSameUp
   times_alike (suc n) f g up up' more p begun =
       then_alike (f p) (g p) (times n f) (times n g) (more p begun) (times_grow plan ps n f up) (times_grow plan qs n g up') (times_alike n f g up up' more (f p))
 
-  turns_alike : (n : ℕ) (c : Test) (f g : BusPoint → BusPoint) → ((x : BusPoint) → Grows x (f x)) → ((x : BusPoint) → Grows x (g x)) → ((x : BusPoint) → Grows first x → Alike (f x) (g x))
+  turns_alike : (n : ℕ) (c : Condition) (f g : BusPoint → BusPoint) → ((x : BusPoint) → Grows x (f x)) → ((x : BusPoint) → Grows x (g x)) → ((x : BusPoint) → Grows first x → Alike (f x) (g x))
       → (p : BusPoint) → Grows first p → Alike (turns_until w n c f p) (turns_until v n c g p)
   turns_alike zero c f g up up' more p begun = inl (refl, begun)
   turns_alike (suc n) c f g up up' more p begun =
       rw (tests_alike plan ps qs c p)
-      (by_case (test_meaning w c p)
+      (by_case (condition_meaning w c p)
       (then_alike (f p) (g p) (turns_until w n c f) (turns_until v n c g) (more p begun) (turns_grow plan ps n c f up) (turns_grow plan qs n c g up')
       (turns_alike n c f g up up' more (f p))))
     where
@@ -112,7 +113,7 @@ module _ (plan : List Planned) (ps qs : List Placed) (k : ℕ) (same : AreSameUp
       (attempts_grow plan ps n line m) (attempts_grow plan qs n line m) (attempts_alike n line m (sent w line m p))
   tree_alike (gap t) p begun = inl (refl, grows_through first p (record p { gap = t }) begun (grows_gap p t))
   tree_alike (repeat n b) p begun = times_alike n (plain_meaning w b) (plain_meaning v b) (tree_grows plan ps b) (tree_grows plan qs b) (λ q up. tree_alike b q up) p begun
-  tree_alike (choose c a b) p begun = rw (tests_alike plan ps qs c p) (choice_alike (test_meaning w c p) (tree_alike a p begun) (tree_alike b p begun))
+  tree_alike (choose c a b) p begun = rw (tests_alike plan ps qs c p) (choice_alike (condition_meaning w c p) (tree_alike a p begun) (tree_alike b p begun))
   tree_alike (until c n b) p begun = turns_alike n c (plain_meaning w b) (plain_meaning v b) (tree_grows plan ps b) (tree_grows plan qs b) (λ q up. tree_alike b q up) p begun
   tree_alike nothing p begun = inl (refl, begun)
   tree_alike (chained a b) p begun =

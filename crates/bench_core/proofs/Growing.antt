@@ -2,13 +2,15 @@
 use Rattle.std.proofs.Common.{◌≡◌, ℕ, zero, suc, ◌+◌, Bool, true, false, not, ◌&&◌, ◌||◌, cond, List, refl, ap, ◌∙◌}
 use Rattle.std.specs.Prelude.{Option, Some, None}
 use Rattle.mil_word.specs.declared.Line.{Line}
+use Rattle.mil_message.specs.declared.outcome_test.OutcomeTest.TheVariants.{Failed}
+use Rattle.mil_message.specs.declared.outcome_test.OutcomeTest.{OutcomeTest}
 use Rattle.mil_message.specs.declared.messages.Message.{Message}
 use Rattle.mil_message.specs.World.{World, Point, other_line, sent, asks}
 use Rattle.mil_line.specs.Plans.{Planned}
 use Rattle.mil_bus.specs.declared.outcomes.Outcome.{Outcome}
 use Rattle.mil_bus.specs.Exchange.{BusState}
-use Rattle.frame_tree.specs.Tree.{Test, failed, silent, bit, negated, both, either, Tree, send, retry, gap, repeat, choose, until, nothing, chained, call, define, bit_number}
-use Rattle.frame_tree.specs.Meaning.{test_meaning, times, attempts, turns_until, plain_meaning}
+use Rattle.frame_tree.specs.Tree.{Condition, asked, negated, both, either, Tree, send, retry, gap, repeat, choose, until, nothing, chained, call, define}
+use Rattle.frame_tree.specs.Meaning.{condition_meaning, times, attempts, turns_until, plain_meaning}
 use Rattle.bc_machine.specs.declared.placed.Placed.{Placed}
 use Rattle.bc_machine.specs.Controller.{world_of}
 use Rattle.job_file.proofs.Growth.{Grows, grows_same, grows_gap, grows_through, grows_message}
@@ -19,7 +21,7 @@ BusPoint = Point BusState Outcome
 -- ---- tests
 
 module _ (plan : List Planned) (ps qs : List Placed) where
-  pub asks_alike : (k : ℕ) (p : BusPoint) → asks (world_of plan qs) k p ≡ asks (world_of plan ps) k p
+  pub asks_alike : (k : OutcomeTest) (p : BusPoint) → asks (world_of plan qs) k p ≡ asks (world_of plan ps) k p
   asks_alike k p = by_case p.last
     where
       by_case : (last : Option Outcome) → asks (world_of plan qs) k (record { state = p.state; number = p.number; gap = p.gap; last = last })
@@ -27,15 +29,13 @@ module _ (plan : List Planned) (ps qs : List Placed) where
       by_case None = refl
       by_case (Some o) = refl
 
-  pub tests_alike : (c : Test) (p : BusPoint) → test_meaning (world_of plan qs) c p ≡ test_meaning (world_of plan ps) c p
-  tests_alike failed p = asks_alike 0 p
-  tests_alike silent p = asks_alike 1 p
-  tests_alike (bit bits) p = asks_alike (16 + bit_number bits) p
+  pub tests_alike : (c : Condition) (p : BusPoint) → condition_meaning (world_of plan qs) c p ≡ condition_meaning (world_of plan ps) c p
+  tests_alike (asked t) p = asks_alike t p
   tests_alike (negated c) p = ap not (tests_alike c p)
   tests_alike (both a b) p =
-      ap (λ x. x && test_meaning (world_of plan qs) b p) (tests_alike a p) ∙ ap (λ x. test_meaning (world_of plan ps) a p && x) (tests_alike b p)
+      ap (λ x. x && condition_meaning (world_of plan qs) b p) (tests_alike a p) ∙ ap (λ x. condition_meaning (world_of plan ps) a p && x) (tests_alike b p)
   tests_alike (either a b) p =
-      ap (λ x. x || test_meaning (world_of plan qs) b p) (tests_alike a p) ∙ ap (λ x. test_meaning (world_of plan ps) a p || x) (tests_alike b p)
+      ap (λ x. x || condition_meaning (world_of plan qs) b p) (tests_alike a p) ∙ ap (λ x. condition_meaning (world_of plan ps) a p || x) (tests_alike b p)
 
 -- ---- talks
 
@@ -55,17 +55,17 @@ module _ (plan : List Planned) (placed : List Placed) where
   attempts_grow zero line m p = grows_same p
   attempts_grow (suc n) line m p =
       let next : BusPoint = sent w (other_line line) m p in
-      either_grows p (attempts w n (other_line line) m next) p (asks w 0 p)
+      either_grows p (attempts w n (other_line line) m next) p (asks w Failed p)
       (grows_through p next (attempts w n (other_line line) m next) (sent_grows (other_line line) m p) (attempts_grow n (other_line line) m next)) (grows_same p)
 
   pub times_grow : (n : ℕ) (f : BusPoint → BusPoint) → ((p : BusPoint) → Grows p (f p)) → (p : BusPoint) → Grows p (times n f p)
   times_grow zero f grows p = grows_same p
   times_grow (suc n) f grows p = grows_through p (f p) (times n f (f p)) (grows p) (times_grow n f grows (f p))
 
-  pub turns_grow : (n : ℕ) (c : Test) (f : BusPoint → BusPoint) → ((p : BusPoint) → Grows p (f p)) → (p : BusPoint) → Grows p (turns_until w n c f p)
+  pub turns_grow : (n : ℕ) (c : Condition) (f : BusPoint → BusPoint) → ((p : BusPoint) → Grows p (f p)) → (p : BusPoint) → Grows p (turns_until w n c f p)
   turns_grow zero c f grows p = grows_same p
   turns_grow (suc n) c f grows p =
-      either_grows p p (turns_until w n c f (f p)) (test_meaning w c p) (grows_same p)
+      either_grows p p (turns_until w n c f (f p)) (condition_meaning w c p) (grows_same p)
       (grows_through p (f p) (turns_until w n c f (f p)) (grows p) (turns_grow n c f grows (f p)))
 
   pub tree_grows : (t : Tree) (p : BusPoint) → Grows p (plain_meaning w t p)
@@ -74,7 +74,7 @@ module _ (plan : List Planned) (placed : List Placed) where
       grows_through p (sent w line m p) (attempts w n line m (sent w line m p)) (sent_grows line m p) (attempts_grow n line m (sent w line m p))
   tree_grows (gap t) p = grows_gap p t
   tree_grows (repeat n b) p = times_grow n (plain_meaning w b) (λ q. tree_grows b q) p
-  tree_grows (choose c a b) p = either_grows p (plain_meaning w a p) (plain_meaning w b p) (test_meaning w c p) (tree_grows a p) (tree_grows b p)
+  tree_grows (choose c a b) p = either_grows p (plain_meaning w a p) (plain_meaning w b p) (condition_meaning w c p) (tree_grows a p) (tree_grows b p)
   tree_grows (until c n b) p = turns_grow n c (plain_meaning w b) (λ q. tree_grows b q) p
   tree_grows nothing p = grows_same p
   tree_grows (chained a b) p =

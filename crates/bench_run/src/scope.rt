@@ -48,6 +48,7 @@ pub(crate) fn begin<S: Sink>(
 }
 
 /// Lists in reserved memory: of the threads that run, of what is left of those that were joined, and its parts.
+#[derive(Drop)]
 struct Lists<'s> {
     handles: Vec<PromisedHandle<Ended, Offers<'s>>>,
     joined: Vec<Joined>,
@@ -95,21 +96,8 @@ fn on_threads<'s, E, R: Threads + Wait + Sync, G: Gate, S: Sink + Drop>(
     ensures refused { IfErr result (λ e. LeavesLate S.taken S.failures before.most jobs.now settings.now before.inboxes.value.items before.sink.value e.fault e.inboxes.items) }
     ensures back { IfErr result (λ e. AreInboxesOf boxes.now e.inboxes.items) }
 {
-    let Own {
-        ticket,
-        taker,
-        rooms,
-    } = own;
-    let (mut rest, mut taker, mut log) = (ticket, taker, log);
-    let Ok(
-        Lists {
-            handles,
-            joined,
-            parts,
-            inboxes,
-        },
-    ) = make_lists(alloc, jobs.len())
-    else {
+    let (mut rest, mut taker, mut log) = (own.ticket, own.taker, log);
+    let Ok(lists) = make_lists(alloc, jobs.len()) else {
         return Err(stopped(alloc, jobs, settings, before, log));
     };
     let Shared { trunk, channels } = shared;
@@ -122,9 +110,9 @@ fn on_threads<'s, E, R: Threads + Wait + Sync, G: Gate, S: Sink + Drop>(
         boxes,
         &before.inboxes,
         before.most,
-        rooms,
+        own.rooms,
         &mut rest,
-        handles,
+        lists.handles,
     );
     let started = handles.len();
     write(rt, trunk, gate, channels, &mut taker, &mut log, started);
@@ -137,13 +125,13 @@ fn on_threads<'s, E, R: Threads + Wait + Sync, G: Gate, S: Sink + Drop>(
         before.most,
         handles,
         &mut rest,
-        joined,
+        lists.joined,
     );
     if started < jobs.len() {
         return Err(stopped(alloc, jobs, settings, before, log));
     }
     let (_, taker) = settle(rt, trunk, gate, channels, rest, taker, &mut log);
-    let (parts, inboxes) = parted(joined, parts, inboxes);
+    let (parts, inboxes) = parted(joined, lists.parts, lists.inboxes);
     conclude(jobs, settings, before, taker, log, parts, inboxes)
 }
 

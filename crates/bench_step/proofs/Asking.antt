@@ -1,6 +1,6 @@
 -- What lines take memory for.
 use Rattle.std.proofs.Common.{Result, Ok, Err}
-use Rattle.frame_tree.specs.Tree.{Test}
+use Rattle.frame_tree.specs.Tree.{Condition}
 use Rattle.frame_text.specs.declared.faults.Cause.{Cause}
 use Rattle.replay.specs.declared.error.ReplayError.TheVariants as error
 use Rattle.replay.specs.Moves.{ReplayState}
@@ -8,7 +8,7 @@ use Rattle.bench_step.specs.Commands.{Asked, forward, back, go, find, state, unk
 use Rattle.bench_step.specs.Session.{Replies}
 use Rattle.bench_step.specs.declared.replies.Reply.TheVariants as reply
 
-pub finding_takes : (read : Result Test Cause) → TakesMemory (finding read)
+pub finding_takes : (read : Result Condition Cause) → TakesMemory (finding read)
 finding_takes (Ok test) = tt
 finding_takes (Err cause) = tt
 

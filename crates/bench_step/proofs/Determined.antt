@@ -2,7 +2,7 @@
 use Rattle.std.proofs.Common.{◌≡◌, ℕ, ◌+◌, ◌-◌, ◌<◌, ◌≤◌, ◌⊎◌, [], ◌∷◌, refl, ap, sym, ◌∙◌, inl, inr, arith}
 use Rattle.std.specs.Prelude.{Bool, true, false, ◌||◌}
 use Rattle.std.proofs.lemmas.Bool.{cases_order}
-use Rattle.frame_tree.specs.Tree.{Test}
+use Rattle.frame_tree.specs.Tree.{Condition}
 use Rattle.replay.specs.declared.error.ReplayError.TheVariants as error
 use Rattle.replay.specs.Moves.{ReplayState, total_of, IsNextMet, IsNowhere}
 use Rattle.bench_step.specs.Commands.{Asked, forward, back, go, find, state, unknown, asked}
@@ -48,14 +48,14 @@ to_go s n reply.Shown h m = absurd h
 to_go s n reply.Unknown h m = absurd h
 
 -- the next message that meets a condition is one
-next_is_one : (s : ReplayState) (test : Test) (n k : ℕ) → IsNextMet s test n → IsNextMet s test k → n ≡ k
+next_is_one : (s : ReplayState) (test : Condition) (n k : ℕ) → IsNextMet s test n → IsNextMet s test k → n ≡ k
 next_is_one s test n k x y =
     elim (cases_order n k) [
       | inl same ↦ same
       | inr other ↦ elim other [ inl below ↦ absurd (y.first n x.past below x.met) | inr above ↦ absurd (x.first k y.past above y.met) ]
     ]
 
-to_find : (s : ReplayState) (test : Test) (r : Reply) → Replies s (find test) r → is_memory r ≡ false → ((n : ℕ) × IsNextMet s test n × (r ≡ reply.At n)) ⊎ (IsNowhere s test × (r ≡ reply.Refused error.Past))
+to_find : (s : ReplayState) (test : Condition) (r : Reply) → Replies s (find test) r → is_memory r ≡ false → ((n : ℕ) × IsNextMet s test n × (r ≡ reply.At n)) ⊎ (IsNowhere s test × (r ≡ reply.Refused error.Past))
 to_find s test (reply.At k) h m = inl (k, h, refl)
 to_find s test (reply.Refused (error.Mismatch c k)) h m = absurd h
 to_find s test (reply.Refused error.Past) h m = inr (h, refl)
@@ -64,7 +64,7 @@ to_find s test (reply.Refused error.Memory) h m = cc
 to_find s test reply.Shown h m = absurd h
 to_find s test reply.Unknown h m = absurd h
 
-one_found : (s : ReplayState) (test : Test) (r q : Reply) → ((n : ℕ) × IsNextMet s test n × (r ≡ reply.At n)) ⊎ (IsNowhere s test × (r ≡ reply.Refused error.Past))
+one_found : (s : ReplayState) (test : Condition) (r q : Reply) → ((n : ℕ) × IsNextMet s test n × (r ≡ reply.At n)) ⊎ (IsNowhere s test × (r ≡ reply.Refused error.Past))
     → ((n : ℕ) × IsNextMet s test n × (q ≡ reply.At n)) ⊎ (IsNowhere s test × (q ≡ reply.Refused error.Past)) → r ≡ q
 one_found s test r q (inl x) (inl y) = x.2 ∙ ap reply.At (next_is_one s test x.0 y.0 x.1 y.1) ∙ sym y.2
 one_found s test r q (inl x) (inr y) = absurd (y.0 x.0 x.1.past x.1.met)

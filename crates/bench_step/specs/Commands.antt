@@ -4,7 +4,7 @@ use Rattle.std.specs.List.{before_first, after_first}
 use Rattle.std.specs.Str.{bytes_eq}
 use Rattle.numerals.specs.Numerals.{spelled}
 use Rattle.mil_host.specs.Words.{Text, is_space, words}
-use Rattle.frame_tree.specs.Tree.{Test, test_of}
+use Rattle.frame_tree.specs.Tree.{Condition, condition_in}
 use Rattle.frame_text.specs.Conditions.{condition_of_text}
 use Rattle.frame_text.specs.declared.faults.Cause.{Cause}
 use Rattle.bench_step.specs.declared.commands.Command.{Command}
@@ -17,7 +17,7 @@ pub data Asked : Type 0 where
   -- to a place: so many messages of the recording are past
   go : ℕ → Asked
   -- on to the next message whose outcome makes the condition true
-  find : Test → Asked
+  find : Condition → Asked
   -- what the terminals hold
   state : Asked
   -- nothing that a line may ask
@@ -56,7 +56,7 @@ going (word ∷ []) = place_in word
 going (word ∷ more ∷ rest) = unknown
 
 -- all that stands behind `find`
-abbrev pub finding : Result Test Cause → Asked
+abbrev pub finding : Result Condition Cause → Asked
 finding (Ok test) = find test
 finding (Err cause) = unknown
 
@@ -87,6 +87,6 @@ abbrev pub asked_of : Command → Asked
 asked_of command.Forward = forward
 asked_of command.Back = back
 asked_of (command.Go place) = go place
-asked_of (command.Find condition) = find (test_of condition)
+asked_of (command.Find condition) = find (condition_in condition)
 asked_of command.State = state
 asked_of command.Unknown = unknown

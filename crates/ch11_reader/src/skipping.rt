@@ -59,8 +59,7 @@ pub(crate) fn read_skipping<'a>(
                     sequence_jump,
                 })?;
                 before += checked.count;
-                let (_, after) = rest.split_at(header.packet_length as usize);
-                rest = after;
+                rest = rest.split_at(header.packet_length as usize).1;
             }
             Err(fault) => {
                 let length = judge.bytes_to_skip(rest)?;
@@ -69,8 +68,7 @@ pub(crate) fn read_skipping<'a>(
                     length,
                     fault,
                 })?;
-                let (_, after) = rest.split_at(length);
-                rest = after;
+                rest = rest.split_at(length).1;
             }
         }
     }

@@ -5,7 +5,7 @@ use Rattle.mil_message.specs.World.{World, Point}
 use Rattle.frame_tree.specs.Tree.{Tree, send, retry, gap, repeat, choose, until, nothing, chained, call, define}
 use Rattle.frame_tree.specs.Names.{Scope, named, is_known}
 use Rattle.frame_tree.specs.Expansion.{expanded}
-use Rattle.frame_tree.specs.Meaning.{test_meaning, plain_meaning}
+use Rattle.frame_tree.specs.Meaning.{condition_meaning, plain_meaning}
 use Rattle.frame_tree.specs.Bounds.{IsInRange, CallsKnown}
 use Rattle.frame_code.specs.declared.Op.TheVariants as op
 use Rattle.frame_code.specs.Routines.{routine_at}
@@ -57,7 +57,7 @@ module _ {State Outcome : Type 0} (w : World State Outcome) (code : Code) where
         let hr = has_back code.operations t (t + size a) (shape rs t m a) rest (ap (λ z. t + z) (length_shape a rs t m)) ht in
         let e : f + size b ≡ i + (branch_size c + size a + 1 + size b) = omega arith in
         at_end w code is i _ _ cs cs f0 l0 p _ e
-        (choose_runs w code is (test_meaning w c p) i t f (f + size b) cs p (plain_meaning w (expanded ds a) p) (plain_meaning w (expanded ds b) p) (t + size a)
+        (choose_runs w code is (condition_meaning w c p) i t f (f + size b) cs p (plain_meaning w (expanded ds a) p) (plain_meaning w (expanded ds b) p) (t + size a)
         (branch_runs w code is c i t f cs p (has_front code.operations i (branch i c t f) _ h))
         (tree_runs a t m is cs p n.1 q.0 (has_front code.operations t (shape rs t m a) rest ht) (has_front code.messages m (messages_of a) (messages_of b) g))
         hr.0

@@ -3,26 +3,48 @@ use Rattle.std.proofs.Common.{◌≡◌, ℕ, ◌+◌, ◌<◌, ◌≤◌, List,
 use Rattle.std.proofs.lemmas.List.{append-nil}
 use Rattle.mil_word.specs.declared.Line.{Line}
 use Rattle.mil_message.specs.declared.messages.Message.{Message}
-use Rattle.frame_tree.specs.Tree.{Test, Tree, repeat, choose, until, define, chain, tree_of}
+use Rattle.frame_tree.specs.Tree.{Condition, Tree, repeat, choose, until, define, chain, tree_of}
 use Rattle.frame_tree.specs.Names.{Scope}
 use Rattle.frame_tree.specs.Bounds.{CallsKnown, IsDefined}
 use Rattle.frame_tree.specs.declared.Frame.{Frame}
 use Rattle.frame_code.specs.declared.Op.{Op}
 use Rattle.frame_code.specs.declared.Op.TheVariants as op
-use Rattle.frame_asm.specs.Shapes.{branch_size, branch, size, entries, messages_of, shape, AreRoutines}
+use Rattle.frame_asm.specs.Shapes.{branch_size, branch, size, entries, messages_of, until_front, shape, AreRoutines}
 use Rattle.frame_asm.proofs.Lengths.{length_branch, length_shape, length_messages_of}
 use Rattle.frame_asm.proofs.Chains.{front, front_more}
 
 pub length_put : {X : Type 0} (c0 c1 : List X) (x : X) → c1 ≡ c0 ++ x ∷ [] → length c1 ≡ length c0 + 1
 length_put c0 c1 x e = ap length e ∙ length-append c0 (x ∷ [])
 
-pub length_branched : (c : Test) (c0 c1 : List Op) (p t f : ℕ) → c1 ≡ c0 ++ branch p c t f → length c1 ≡ length c0 + branch_size c
+pub length_branched : (c : Condition) (c0 c1 : List Op) (p t f : ℕ) → c1 ≡ c0 ++ branch p c t f → length c1 ≡ length c0 + branch_size c
 length_branched c c0 c1 p t f e = ap length e ∙ length-append c0 (branch p c t f) ∙ ap (λ n. length c0 + n) (length_branch c p t f)
+
+-- what stands in front of the body of an until, one operation after the other
+pub until_opened : (c : Condition) (n s : ℕ) (c0 c1 c2 c3 : List Op) (l e : ℕ) → l ≡ length c0 + 1 + branch_size c → e ≡ l + s + 2
+    → c1 ≡ c0 ++ op.Loop n ∷ [] → c2 ≡ c1 ++ branch (length c1) c l (l + 1) → c3 ≡ c2 ++ op.Leave e ∷ [] → c3 ≡ c0 ++ until_front (length c0) c n s
+until_opened c n s c0 c1 c2 c3 l e il ie e1 e2 e3 =
+    let p = length c0 in
+    let l0 = p + 1 + branch_size c in
+    let l1 : length c1 ≡ p + 1 = length_put c0 c1 (op.Loop n) e1 in
+    let ie0 : e ≡ l0 + s + 2 = ie ∙ ap (λ z. z + s + 2) il in
+    let pa = op.Loop n in
+    let pb = branch (p + 1) c l0 (l0 + 1) in
+    let pc = op.Leave (l0 + s + 2) in
+    let d2 : c2 ≡ (c0 ++ pa ∷ []) ++ pb = e2 ∙ ap₂ (λ x y. x ++ branch y c l (l + 1)) e1 l1 ∙ ap (λ z. (c0 ++ pa ∷ []) ++ branch (p + 1) c z (z + 1)) il in
+    let d3 : c3 ≡ ((c0 ++ pa ∷ []) ++ pb) ++ pc ∷ [] = e3 ∙ ap₂ (λ x y. x ++ op.Leave y ∷ []) d2 ie0 in
+    let flat : ((c0 ++ pa ∷ []) ++ pb) ++ pc ∷ [] ≡ c0 ++ pa ∷ (pb ++ pc ∷ []) = simp append_assoc in
+    d3 ∙ flat
+
+pub length_fronted : (c : Condition) (n : ℕ) (c0 c1 : List Op) (p s : ℕ) → c1 ≡ c0 ++ until_front p c n s → length c1 ≡ length c0 + branch_size c + 2
+length_fronted c n c0 c1 p s e =
+    let l = p + 1 + branch_size c in
+    let last = op.Leave (l + s + 2) ∷ [] in
+    omega (arith, ap length e, length-append c0 (until_front p c n s), length-append (branch (p + 1) c l (l + 1)) last, length_branch c (p + 1) l (l + 1))
 
 pub length_entered : (t : Tree) (m0 m1 : List (Line × Message)) → m1 ≡ m0 ++ messages_of t → length m1 ≡ length m0 + entries t
 length_entered t m0 m1 e = ap length e ∙ length-append m0 (messages_of t) ∙ ap (λ n. length m0 + n) (length_messages_of t)
 
-pub messages_done : (tree a a1 b b1 : Tree) (c : Test) (m0 m1 m2 : List (Line × Message)) → tree ≡ choose c a b → a1 ≡ a → b1 ≡ b → m1 ≡ m0 ++ messages_of a1 → m2 ≡ m1 ++ messages_of b1 → m2 ≡ m0 ++ messages_of tree
+pub messages_done : (tree a a1 b b1 : Tree) (c : Condition) (m0 m1 m2 : List (Line × Message)) → tree ≡ choose c a b → a1 ≡ a → b1 ≡ b → m1 ≡ m0 ++ messages_of a1 → m2 ≡ m1 ++ messages_of b1 → m2 ≡ m0 ++ messages_of tree
 messages_done tree a a1 b b1 c m0 m1 m2 is ia ib e1 e2 =
     e2 ∙ ap₂ (λ x y. x ++ messages_of y) (e1 ∙ ap (λ z. m0 ++ messages_of z) ia) ib ∙ append_assoc m0 (messages_of a) (messages_of b) ∙ ap (λ z. m0 ++ messages_of z) (sym is)
 
@@ -69,30 +91,25 @@ module _ (rs : Scope ℕ) where
       let flat : ((c0 ++ op.Loop n ∷ []) ++ shape rs (length c0 + 1) m b) ++ op.Again (length c0 + 1) ∷ [] ≡ c0 ++ op.Loop n ∷ (shape rs (length c0 + 1) m b ++ op.Again (length c0 + 1) ∷ []) = simp append_assoc in
       all ∙ flat ∙ ap (λ t. c0 ++ shape rs (length c0) m t) (sym is)
 
-  pub until_done : (tree b b1 : Tree) (c k : Test) (n : ℕ) (c0 c1 c2 c3 c4 c5 : List Op) (m a l e : ℕ) → tree ≡ until c n b → k ≡ c → b1 ≡ b → a ≡ length c0 + 1 → l ≡ a + branch_size c → e ≡ l + size b + 2
-      → c1 ≡ c0 ++ op.Loop n ∷ [] → c2 ≡ c1 ++ branch (length c1) k l (l + 1) → c3 ≡ c2 ++ op.Leave e ∷ [] → c4 ≡ c3 ++ shape rs (length c3) m b1 → c5 ≡ c4 ++ op.Again a ∷ []
+  pub until_done : (tree b b1 : Tree) (c : Condition) (n : ℕ) (c0 c3 c4 c5 : List Op) (m a s : ℕ) → tree ≡ until c n b → b1 ≡ b → s ≡ size b → a ≡ length c0 + 1
+      → c3 ≡ c0 ++ until_front (length c0) c n s → c4 ≡ c3 ++ shape rs (length c3) m b1 → c5 ≡ c4 ++ op.Again a ∷ []
       → c5 ≡ c0 ++ shape rs (length c0) m tree
-  until_done tree b b1 c k n c0 c1 c2 c3 c4 c5 m a l e is ik ib ia il ie e1 e2 e3 e4 e5 =
+  until_done tree b b1 c n c0 c3 c4 c5 m a s is ib ie ia e3 e4 e5 =
       let p = length c0 in
       let l0 = p + 1 + branch_size c in
-      let l1 : length c1 ≡ p + 1 = length_put c0 c1 (op.Loop n) e1 in
-      let l2 : length c2 ≡ length c1 + branch_size c = length_branched k c1 c2 (length c1) l (l + 1) e2 ∙ ap (λ z. length c1 + branch_size z) ik in
-      let l3 : length c3 ≡ l0 + 1 = omega (arith, length_put c2 c3 (op.Leave e) e3, l2, l1) in
-      let il0 : l ≡ l0 = il ∙ ap (λ z. z + branch_size c) ia in
-      let ie0 : e ≡ l0 + size b + 2 = ie ∙ ap (λ z. z + size b + 2) il0 in
+      let l3 : length c3 ≡ l0 + 1 = omega (arith, length_fronted c n c0 c3 p s e3) in
       let pa = op.Loop n in
       let pb = branch (p + 1) c l0 (l0 + 1) in
       let pc = op.Leave (l0 + size b + 2) in
       let pd = shape rs (l0 + 1) m b in
       let pe = op.Again (p + 1) in
-      let d2 : c2 ≡ (c0 ++ pa ∷ []) ++ pb = e2 ∙ ap₂ (λ x y. x ++ branch y k l (l + 1)) e1 l1 ∙ ap (λ z. (c0 ++ pa ∷ []) ++ branch (p + 1) z l (l + 1)) ik ∙ ap (λ z. (c0 ++ pa ∷ []) ++ branch (p + 1) c z (z + 1)) il0 in
-      let d3 : c3 ≡ ((c0 ++ pa ∷ []) ++ pb) ++ pc ∷ [] = e3 ∙ ap₂ (λ x y. x ++ op.Leave y ∷ []) d2 ie0 in
-      let d4 : c4 ≡ (((c0 ++ pa ∷ []) ++ pb) ++ pc ∷ []) ++ pd = e4 ∙ ap₂ (λ x y. x ++ shape rs y m b1) d3 l3 ∙ ap (λ z. (((c0 ++ pa ∷ []) ++ pb) ++ pc ∷ []) ++ shape rs (l0 + 1) m z) ib in
-      let d5 : c5 ≡ ((((c0 ++ pa ∷ []) ++ pb) ++ pc ∷ []) ++ pd) ++ pe ∷ [] = e5 ∙ ap₂ (λ x y. x ++ op.Again y ∷ []) d4 ia in
-      let flat : ((((c0 ++ pa ∷ []) ++ pb) ++ pc ∷ []) ++ pd) ++ pe ∷ [] ≡ c0 ++ pa ∷ (pb ++ (pc ∷ (pd ++ pe ∷ []))) = simp append_assoc in
+      let d3 : c3 ≡ c0 ++ pa ∷ (pb ++ pc ∷ []) = e3 ∙ ap (λ z. c0 ++ until_front p c n z) ie in
+      let d4 : c4 ≡ (c0 ++ pa ∷ (pb ++ pc ∷ [])) ++ pd = e4 ∙ ap₂ (λ x y. x ++ shape rs y m b1) d3 l3 ∙ ap (λ z. (c0 ++ pa ∷ (pb ++ pc ∷ [])) ++ shape rs (l0 + 1) m z) ib in
+      let d5 : c5 ≡ ((c0 ++ pa ∷ (pb ++ pc ∷ [])) ++ pd) ++ pe ∷ [] = e5 ∙ ap₂ (λ x y. x ++ op.Again y ∷ []) d4 ia in
+      let flat : ((c0 ++ pa ∷ (pb ++ pc ∷ [])) ++ pd) ++ pe ∷ [] ≡ c0 ++ pa ∷ (pb ++ (pc ∷ (pd ++ pe ∷ []))) = simp append_assoc in
       d5 ∙ flat ∙ ap (λ t. c0 ++ shape rs p m t) (sym is)
 
-  pub choose_done : (tree a a1 b b1 : Tree) (c k : Test) (c0 c1 c2 c3 c4 : List Op) (m0 m1 : List (Line × Message)) (t f e : ℕ)
+  pub choose_done : (tree a a1 b b1 : Tree) (c k : Condition) (c0 c1 c2 c3 c4 : List Op) (m0 m1 : List (Line × Message)) (t f e : ℕ)
       → tree ≡ choose c a b → k ≡ c → a1 ≡ a → b1 ≡ b → t ≡ length c0 + branch_size c → f ≡ t + size a + 1 → e ≡ f + size b
       → c1 ≡ c0 ++ branch (length c0) k t f → c2 ≡ c1 ++ shape rs (length c1) (length m0) a1 → m1 ≡ m0 ++ messages_of a1 → c3 ≡ c2 ++ op.Jump e ∷ [] → c4 ≡ c3 ++ shape rs (length c3) (length m1) b1
       → c4 ≡ c0 ++ shape rs (length c0) (length m0) tree

@@ -1,14 +1,12 @@
 -- How many operations and messages a frame has.
 use Rattle.std.proofs.Common.{◌≡◌, ℕ, ◌+◌, [], ◌∷◌, ◌++◌, length, refl, ap₂, ◌∙◌, arith, length-append}
-use Rattle.frame_tree.specs.Tree.{Test, failed, silent, bit, negated, both, either, Tree, send, retry, gap, repeat, choose, until, nothing, chained, call, define}
+use Rattle.frame_tree.specs.Tree.{Condition, asked, negated, both, either, Tree, send, retry, gap, repeat, choose, until, nothing, chained, call, define}
 use Rattle.frame_tree.specs.Names.{Scope}
 use Rattle.frame_code.specs.declared.Op.TheVariants as op
 use Rattle.frame_asm.specs.Shapes.{branch_size, branch, size, messages_of, entries, shape}
 
-pub length_branch : (c : Test) (p t f : ℕ) → length (branch p c t f) ≡ branch_size c
-length_branch failed p t f = refl
-length_branch silent p t f = refl
-length_branch (bit b) p t f = refl
+pub length_branch : (c : Condition) (p t f : ℕ) → length (branch p c t f) ≡ branch_size c
+length_branch (asked k) p t f = refl
 length_branch (negated c) p t f = length_branch c p f t
 length_branch (both a b) p t f = length-append (branch p a (p + branch_size a) f) _ ∙ ap₂ (λ m n. m + n) (length_branch a p _ f) (length_branch b _ t f)
 length_branch (either a b) p t f = length-append (branch p a t (p + branch_size a)) _ ∙ ap₂ (λ m n. m + n) (length_branch a p t _) (length_branch b _ t f)

@@ -1,7 +1,8 @@
 -- The loops that are open behind a frame's operations are those that were open before.
 use Rattle.std.proofs.Common.{◌≡◌, ℕ, suc, ◌+◌, List, [], ◌∷◌, ◌++◌, length, Some, refl, ap, ◌∙◌, arith}
 use Rattle.std.specs.Prelude.{slice_get}
-use Rattle.frame_tree.specs.Tree.{Test, failed, silent, bit, negated, both, either, Tree, send, retry, gap, repeat, choose, until, nothing, chained, call, define, bit_number}
+use Rattle.mil_message.specs.declared.outcome_test.OutcomeTest.TheVariants.{Failed}
+use Rattle.frame_tree.specs.Tree.{Condition, asked, negated, both, either, Tree, send, retry, gap, repeat, choose, until, nothing, chained, call, define}
 use Rattle.frame_tree.specs.Names.{Scope, named}
 use Rattle.frame_code.specs.declared.Op.{Op}
 use Rattle.frame_code.specs.declared.Op.TheVariants as op
@@ -25,10 +26,8 @@ module _ (os : List Op) where
       let s : p + suc (length ys) ≡ p + 1 + length ys = omega arith in
       ap (open_at os) s ∙ flat (p + 1) ys h.1 f.1 ∙ next p y h.0 ∙ f.0 p (open_at os p)
 
-  pub branch_level : (p t f : ℕ) (c : Test) → HasAt os p (branch p c t f) → open_at os (p + branch_size c) ≡ open_at os p
-  branch_level p t f failed h = flat p (probe 0 t f) h (λ q st. refl, (λ q st. refl, (λ q st. refl, tt)))
-  branch_level p t f silent h = flat p (probe 1 t f) h (λ q st. refl, (λ q st. refl, (λ q st. refl, tt)))
-  branch_level p t f (bit bits) h = flat p (probe (16 + bit_number bits) t f) h (λ q st. refl, (λ q st. refl, (λ q st. refl, tt)))
+  pub branch_level : (p t f : ℕ) (c : Condition) → HasAt os p (branch p c t f) → open_at os (p + branch_size c) ≡ open_at os p
+  branch_level p t f (asked k) h = flat p (probe k t f) h (λ q st. refl, (λ q st. refl, (λ q st. refl, tt)))
   branch_level p t f (negated c) h = branch_level p f t c h
   branch_level p t f (both a b) h =
       let m = p + branch_size a in
@@ -76,7 +75,7 @@ module _ (os : List Op) where
       ap (open_at os) s ∙ next q (op.Again (p + 1)) end.0 ∙ ap tail (inside ∙ next l (op.Leave (l + size b + 2)) hr.0 ∙ tested ∙ next p (op.Loop n) h.0)
   level rs p m (retry n l x) h =
       let a = p + 1 + 1 in
-      let ops = op.Test 0 ∷ op.JumpFalse (p + 6) ∷ op.Alt m ∷ op.Jump (p + 7) ∷ op.Leave (p + 8) ∷ [] in
+      let ops = op.Test Failed ∷ op.JumpFalse (p + 6) ∷ op.Alt m ∷ op.Jump (p + 7) ∷ op.Leave (p + 8) ∷ [] in
       let body : open_at os (a + 5) ≡ open_at os a = flat a ops (h.1.1.0, (h.1.1.1.0, (h.1.1.1.1.0, (h.1.1.1.1.1.0, (h.1.1.1.1.1.1.0, tt))))) (λ q st. refl, (λ q st. refl, (λ q st. refl, (λ q st. refl, (λ q st. refl, tt))))) in
       let q = a + 1 + 1 + 1 + 1 + 1 in
       let same : q ≡ a + 5 = omega arith in

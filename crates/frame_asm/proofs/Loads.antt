@@ -1,7 +1,9 @@
 -- The operations of a frame without definitions keep the loader's rules for one operation, within a routine.
 use Rattle.std.proofs.Common.{Bool, true, false, ◌≡◌, ℕ, zero, suc, ◌+◌, ◌<◌, ◌≤◌, max, List, [], ◌∷◌, ◌++◌, length, Some, sym, ap, ◌∙◌, subst, arith}
 use Rattle.std.specs.Prelude.{if◌then◌else◌, slice_get}
-use Rattle.frame_tree.specs.Tree.{Test, failed, silent, bit, negated, both, either, Tree, send, retry, gap, repeat, choose, until, nothing, chained, call, define, bit_number}
+use Rattle.mil_message.specs.declared.outcome_test.OutcomeTest.{OutcomeTest}
+use Rattle.mil_message.specs.declared.outcome_test.OutcomeTest.TheVariants.{Failed}
+use Rattle.frame_tree.specs.Tree.{Condition, asked, negated, both, either, Tree, send, retry, gap, repeat, choose, until, nothing, chained, call, define}
 use Rattle.frame_tree.specs.Names.{Scope, same, named, is_known}
 use Rattle.frame_tree.specs.Bounds.{depth_in, CallsKnown}
 use Rattle.frame_code.specs.declared.Op.{Op}
@@ -98,7 +100,7 @@ module _ (os : List Op) (room : ℕ → ℕ) (n r lo hi : ℕ) (own : (x : ℕ) 
   jump_false : (p i : ℕ) → lo ≤ p → p < i → i ≤ hi → open_at os i ≡ open_at os p → IsGood os room n p (op.JumpFalse i)
   jump_false p i l h k e = record { paired = tt; goes = (h, omega (arith, k, last), e, own i (omega (arith, l, h)) k ∙ sym (own p l (omega (arith, h, k)))); has = tt; earlier = tt; fits = tt }
 
-  test : (p k : ℕ) → IsGood os room n p (op.Test k)
+  test : (p : ℕ) (k : OutcomeTest) → IsGood os room n p (op.Test k)
   test p k = record { paired = tt; goes = tt; has = tt; earlier = tt; fits = tt }
 
   sending : (p m : ℕ) → m < n → IsGood os room n p (op.Send m)
@@ -124,16 +126,14 @@ module _ (os : List Op) (room : ℕ → ℕ) (n r lo hi : ℕ) (own : (x : ℕ) 
     inside : i ≤ hi
     same : open_at os i ≡ open_at os p
 
-  good_probe : (p k t f : ℕ) → lo ≤ p → HasAt os p (probe k t f) → IsTarget p 3 t → IsTarget p 3 f → AreGood os room n p (probe k t f)
+  good_probe : (p : ℕ) (k : OutcomeTest) (t f : ℕ) → lo ≤ p → HasAt os p (probe k t f) → IsTarget p 3 t → IsTarget p 3 f → AreGood os room n p (probe k t f)
   good_probe p k t f lp h ht hf =
       let one : open_at os (p + 1) ≡ open_at os p = next os p (op.Test k) h.0 in
       let two : open_at os (p + 1 + 1) ≡ open_at os p = next os (p + 1) (op.JumpFalse f) h.1.0 ∙ one in
       (test p k, (jump_false (p + 1) f (omega (arith, lp)) (omega (arith, hf.behind)) hf.inside (hf.same ∙ sym one), (jump (p + 1 + 1) t (omega (arith, lp)) (omega (arith, ht.behind)) ht.inside (ht.same ∙ sym two), tt)))
 
-  good_branch : (c : Test) (p t f : ℕ) → lo ≤ p → HasAt os p (branch p c t f) → IsTarget p (branch_size c) t → IsTarget p (branch_size c) f → AreGood os room n p (branch p c t f)
-  good_branch failed p t f lp h ht hf = good_probe p 0 t f lp h ht hf
-  good_branch silent p t f lp h ht hf = good_probe p 1 t f lp h ht hf
-  good_branch (bit bits) p t f lp h ht hf = good_probe p (16 + bit_number bits) t f lp h ht hf
+  good_branch : (c : Condition) (p t f : ℕ) → lo ≤ p → HasAt os p (branch p c t f) → IsTarget p (branch_size c) t → IsTarget p (branch_size c) f → AreGood os room n p (branch p c t f)
+  good_branch (asked k) p t f lp h ht hf = good_probe p k t f lp h ht hf
   good_branch (negated c) p t f lp h ht hf = good_branch c p f t lp h hf ht
   good_branch (both a b) p t f lp h ht hf =
       let m = p + branch_size a in
@@ -157,7 +157,7 @@ module _ (os : List Op) (room : ℕ → ℕ) (n r lo hi : ℕ) (own : (x : ℕ) 
       let st = open_at os p in
       let e1 : open_at os (p + 1) ≡ st = next os p (op.Send m) h.0 in
       let e2 : open_at os (p + 1 + 1) ≡ (p + 1) ∷ st = next os (p + 1) (op.Loop k) h.1.0 ∙ ap (λ v. (p + 1) ∷ v) e1 in
-      let e3 : open_at os (p + 1 + 1 + 1) ≡ (p + 1) ∷ st = next os (p + 1 + 1) (op.Test 0) h.1.1.0 ∙ e2 in
+      let e3 : open_at os (p + 1 + 1 + 1) ≡ (p + 1) ∷ st = next os (p + 1 + 1) (op.Test Failed) h.1.1.0 ∙ e2 in
       let e4 : open_at os (p + 1 + 1 + 1 + 1) ≡ (p + 1) ∷ st = next os (p + 1 + 1 + 1) (op.JumpFalse (p + 6)) h.1.1.1.0 ∙ e3 in
       let e5 : open_at os (p + 1 + 1 + 1 + 1 + 1) ≡ (p + 1) ∷ st = next os (p + 1 + 1 + 1 + 1) (op.Alt m) h.1.1.1.1.0 ∙ e4 in
       let e6 : open_at os (p + 1 + 1 + 1 + 1 + 1 + 1) ≡ (p + 1) ∷ st = next os (p + 1 + 1 + 1 + 1 + 1) (op.Jump (p + 7)) h.1.1.1.1.1.0 ∙ e5 in
@@ -169,7 +169,7 @@ module _ (os : List Op) (room : ℕ → ℕ) (n r lo hi : ℕ) (own : (x : ℕ) 
         (
           opening (p + 1) k (omega (arith, lp)) (omega (arith, inside)) (omega (arith, ap length e1, enough)),
           (
-            test (p + 1 + 1) 0,
+            test (p + 1 + 1) Failed,
             (
               jump_false (p + 1 + 1 + 1) (p + 6) (omega (arith, lp)) (omega arith) (omega (arith, inside)) (ap (open_at os) six ∙ e6 ∙ sym e3),
               (

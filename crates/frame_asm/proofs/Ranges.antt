@@ -4,13 +4,13 @@ use Rattle.std.specs.Prelude.{IsTrue, if◌then◌else◌}
 use Rattle.std.proofs.lemmas.Bool.Decides.{nat_tests}
 use Rattle.mil_word.specs.declared.Line.{Line}
 use Rattle.mil_message.specs.declared.messages.Message.{Message}
-use Rattle.frame_tree.specs.Tree.{Test, failed, silent, bit, negated, both, either, Tree, send, retry, gap, repeat, choose, until, nothing, chained, call, define, bit_number}
+use Rattle.frame_tree.specs.Tree.{Condition, asked, negated, both, either, Tree, send, retry, gap, repeat, choose, until, nothing, chained, call, define}
 use Rattle.frame_tree.specs.Names.{Scope, same, named}
-use Rattle.frame_tree.specs.Bounds.{IsNamedBit, HasNamedBits, IsInRange, CallsKnown, IsDefined}
+use Rattle.frame_tree.specs.Bounds.{IsInRange, CallsKnown, IsDefined}
 use Rattle.frame_code.specs.declared.Op.{Op}
 use Rattle.frame_code.specs.declared.Op.TheVariants as op
 use Rattle.frame_code.specs.Table.{Code}
-use Rattle.frame_code.specs.Ranges.{is_test, is_gap, is_count, is_index, is_routine, AreInRange, IsImage}
+use Rattle.frame_code.specs.Ranges.{is_gap, is_count, is_index, is_routine, AreInRange, IsImage}
 use Rattle.frame_asm.specs.Shapes.{branch_size, branch, size, entries, messages_of, shape, code_of, AreRoutines}
 use Rattle.frame_asm.proofs.Lengths.{length_shape, length_messages_of}
 
@@ -26,21 +26,15 @@ gap_in t h k = grind (arith, rules, tests)
 count_in : (n : ℕ) → 1 ≤ n → n ≤ 10000 → IsTrue (is_count n)
 count_in n h k = search (rules, tests)
 
-test_in : (b : ℕ) → IsNamedBit b → IsTrue (is_test (16 + b))
-test_in b (inl h) = grind (arith, nat_tests)
-test_in b (inr h) = grind (arith, nat_tests)
-
 both_in : (a b : List Op) → AreInRange a → AreInRange b → AreInRange (a ++ b)
 both_in [] b h k = k
 both_in (o ∷ a) b h k = (h.0, both_in a b h.1 k)
 
-branch_in : (c : Test) (p t f : ℕ) → HasNamedBits c → p + branch_size c ≤ 65535 → t < 65536 → f < 65536 → AreInRange (branch p c t f)
-branch_in failed p t f s h ht hf = (search rules, (index_in f hf, (index_in t ht, tt)))
-branch_in silent p t f s h ht hf = (search rules, (index_in f hf, (index_in t ht, tt)))
-branch_in (bit bits) p t f s h ht hf = (test_in (bit_number bits) s, (index_in f hf, (index_in t ht, tt)))
-branch_in (negated c) p t f s h ht hf = branch_in c p f t s h hf ht
-branch_in (both a b) p t f s h ht hf = both_in (branch p a (p + branch_size a) f) _ (branch_in a p _ f s.0 (omega arith) (omega arith) hf) (branch_in b _ t f s.1 (omega arith) ht hf)
-branch_in (either a b) p t f s h ht hf = both_in (branch p a t (p + branch_size a)) _ (branch_in a p t _ s.0 (omega arith) ht (omega arith)) (branch_in b _ t f s.1 (omega arith) ht hf)
+branch_in : (c : Condition) (p t f : ℕ) → p + branch_size c ≤ 65535 → t < 65536 → f < 65536 → AreInRange (branch p c t f)
+branch_in (asked k) p t f h ht hf = (search rules, (index_in f hf, (index_in t ht, tt)))
+branch_in (negated c) p t f h ht hf = branch_in c p f t h hf ht
+branch_in (both a b) p t f h ht hf = both_in (branch p a (p + branch_size a) f) _ (branch_in a p _ f (omega arith) (omega arith) hf) (branch_in b _ t f (omega arith) ht hf)
+branch_in (either a b) p t f h ht hf = both_in (branch p a t (p + branch_size a)) _ (branch_in a p t _ (omega arith) ht (omega arith)) (branch_in b _ t f (omega arith) ht hf)
 
 -- each name is that of a routine that there may be
 pub routine_small : (rs : Scope ℕ) (n : List ℕ) → AreRoutines rs → named 0 rs n < 32
@@ -63,12 +57,12 @@ shape_in rs (repeat n b) p m z c s h k = (count_in n s.0 s.1, both_in (shape rs 
 shape_in rs (choose c a b) p m z kn s h k =
     let t = p + branch_size c in
     let f = t + size a + 1 in
-    both_in (branch p c t f) _ (branch_in c p t f s.0.1 (omega arith) (omega arith) (omega arith))
+    both_in (branch p c t f) _ (branch_in c p t f (omega arith) (omega arith) (omega arith))
     (both_in (shape rs t m a) _ (shape_in rs a t m z kn.0 s.1 (omega arith) (omega arith)) (index_in (f + size b) (omega arith), shape_in rs b f (m + entries a) z kn.1 s.2 (omega arith) (omega arith)))
 shape_in rs (until c n b) p m z kn s h k =
     let l = p + 1 + branch_size c in (
       count_in n s.1 s.2,
-      both_in (branch (p + 1) c l (l + 1)) _ (branch_in c (p + 1) l (l + 1) s.0.1 (omega arith) (omega arith) (omega arith))
+      both_in (branch (p + 1) c l (l + 1)) _ (branch_in c (p + 1) l (l + 1) (omega arith) (omega arith) (omega arith))
           (index_in (l + size b + 2) (omega arith), both_in (shape rs (l + 1) m b) _ (shape_in rs b (l + 1) m z kn s.3 (omega arith) k) (index_in (p + 1) (omega arith), tt)),
     )
 shape_in rs nothing p m z c s h k = tt

@@ -6,8 +6,10 @@ use Rattle.std.proofs.lemmas.Option.{slice_get-get_or}
 use Rattle.mil_word.specs.declared.Line.{Line}
 use Rattle.mil_message.specs.declared.messages.Message.{Message}
 use Rattle.mil_message.specs.World.{World, Point, other_line, sent, asks}
-use Rattle.frame_tree.specs.Tree.{Test, failed, silent, bit, negated, both, either, bit_number}
-use Rattle.frame_tree.specs.Meaning.{times, test_meaning, attempts, turns_until}
+use Rattle.mil_message.specs.declared.outcome_test.OutcomeTest.{OutcomeTest}
+use Rattle.mil_message.specs.declared.outcome_test.OutcomeTest.TheVariants.{Failed}
+use Rattle.frame_tree.specs.Tree.{Condition, asked, negated, both, either}
+use Rattle.frame_tree.specs.Meaning.{times, condition_meaning, attempts, turns_until}
 use Rattle.frame_code.specs.declared.Op.{Op}
 use Rattle.frame_code.specs.declared.Op.TheVariants as op
 use Rattle.frame_code.specs.Table.{Code, Registers, sends, counted, act, then_run, run}
@@ -94,7 +96,7 @@ module _ {State Outcome : Type 0} (w : World State Outcome) (code : Code) (is : 
   goes false i t f cs l p h g =
       next (i + 1) f f cs cs cs false false l l p p p (one (i + 1) cs false l p (op.JumpFalse f) h) (here f f cs false l p refl)
 
-  probe_runs : (k i t f : ℕ) (cs : List ℕ) (p : Point State Outcome) → HasAt code.operations i (probe k t f) → Does i cs p (cond (asks w k p) t f) cs p
+  probe_runs : (k : OutcomeTest) (i t f : ℕ) (cs : List ℕ) (p : Point State Outcome) → HasAt code.operations i (probe k t f) → Does i cs p (cond (asks w k p) t f) cs p
   probe_runs k i t f cs p h f0 l =
       next i (i + 1) _ cs cs cs f0 (asks w k p) l l p p p (one i cs f0 l p (op.Test k) h.0) (goes (asks w k p) i t f cs l p h.1.0 h.1.1.0)
 
@@ -110,20 +112,18 @@ module _ {State Outcome : Type 0} (w : World State Outcome) (code : Code) (is : 
   or_runs true b i j t f cs p x y f0 l = x f0 l
   or_runs false b i j t f cs p x y f0 l = both_do i j _ cs cs cs f0 l p p p (x f0 l) y
 
-  pub branch_runs : (c : Test) (i t f : ℕ) (cs : List ℕ) (p : Point State Outcome) → HasAt code.operations i (branch i c t f) → Does i cs p (cond (test_meaning w c p) t f) cs p
-  branch_runs failed i t f cs p h = probe_runs 0 i t f cs p h
-  branch_runs silent i t f cs p h = probe_runs 1 i t f cs p h
-  branch_runs (bit bits) i t f cs p h = probe_runs (16 + bit_number bits) i t f cs p h
+  pub branch_runs : (c : Condition) (i t f : ℕ) (cs : List ℕ) (p : Point State Outcome) → HasAt code.operations i (branch i c t f) → Does i cs p (cond (condition_meaning w c p) t f) cs p
+  branch_runs (asked k) i t f cs p h = probe_runs k i t f cs p h
   branch_runs (negated c) i t f cs p h = λ f0 l.
-      at_end i _ _ cs cs f0 l p p (cond-not (test_meaning w c p) t f) (branch_runs c i f t cs p h f0 l)
+      at_end i _ _ cs cs f0 l p p (cond-not (condition_meaning w c p) t f) (branch_runs c i f t cs p h f0 l)
   branch_runs (both a b) i t f cs p h =
       let j = i + branch_size a in
-      and_runs (test_meaning w a p) (test_meaning w b p) i j t f cs p
+      and_runs (condition_meaning w a p) (condition_meaning w b p) i j t f cs p
       (branch_runs a i j f cs p (has_front code.operations i (branch i a j f) _ h))
       (branch_runs b j t f cs p (has_back code.operations i j (branch i a j f) _ (ap (λ n. i + n) (length_branch a i j f)) h))
   branch_runs (either a b) i t f cs p h =
       let j = i + branch_size a in
-      or_runs (test_meaning w a p) (test_meaning w b p) i j t f cs p
+      or_runs (condition_meaning w a p) (condition_meaning w b p) i j t f cs p
       (branch_runs a i t j cs p (has_front code.operations i (branch i a t j) _ h))
       (branch_runs b j t f cs p (has_back code.operations i j (branch i a t j) _ (ap (λ n. i + n) (length_branch a i t j)) h))
 
@@ -147,7 +147,7 @@ module _ {State Outcome : Type 0} (w : World State Outcome) (code : Code) (is : 
 
   -- attempts, from the test
   module _ (i m n0 : ℕ) (cs : List ℕ) (line : Line) (x : Message) (has : HasAt code.operations i (retry_shape i m n0)) (entry : slice_get code.messages m ≡ Some (line, x)) where
-    at_test : slice_get code.operations (i + 2) ≡ Some (op.Test 0)
+    at_test : slice_get code.operations (i + 2) ≡ Some (op.Test Failed)
     at_test = let e : i + 1 + 1 ≡ i + 2 = omega arith in rw e at has.1.1.0
 
     at_jump_false : slice_get code.operations (i + 3) ≡ Some (op.JumpFalse (i + 6))
@@ -175,9 +175,9 @@ module _ {State Outcome : Type 0} (w : World State Outcome) (code : Code) (is : 
         → Comes (i + 7) (suc n ∷ cs) true (other_line l) (sent w (other_line l) x p) (i + 8) cs (attempts w n (other_line l) x (sent w (other_line l) x p))
         → Comes (i + 2) (suc n ∷ cs) f l p (i + 8) cs (attempts w (suc n) l x p)
     one_attempt n l p f rest =
-        next (i + 2) (i + 3) (i + 8) (suc n ∷ cs) (suc n ∷ cs) cs f (asks w 0 p) l l p p _
-        (λ k. one (i + 2) (suc n ∷ cs) f l p (op.Test 0) at_test k ∙ ap (λ v. run w k code (regs is v (suc n ∷ cs) (asks w 0 p) l) p) three)
-        (decided (asks w 0 p))
+        next (i + 2) (i + 3) (i + 8) (suc n ∷ cs) (suc n ∷ cs) cs f (asks w Failed p) l l p p _
+        (λ k. one (i + 2) (suc n ∷ cs) f l p (op.Test Failed) at_test k ∙ ap (λ v. run w k code (regs is v (suc n ∷ cs) (asks w Failed p) l) p) three)
+        (decided (asks w Failed p))
       where
         p1 : Point State Outcome
         p1 = sent w (other_line l) x p
@@ -239,8 +239,8 @@ module _ {State Outcome : Type 0} (w : World State Outcome) (code : Code) (is : 
   choose_runs false i t f e cs p pa pb j dc da h db f0 l = both_do i f e cs cs cs f0 l p p pb (dc f0 l) db
 
   -- turns until a condition holds: the condition from a, a Leave at l, the body behind it, and the Again at e
-  module _ (a l e : ℕ) (cs : List ℕ) (c : Test) (body : Point State Outcome → Point State Outcome)
-      (tests : (ns : List ℕ) (p : Point State Outcome) → Does a ns p (cond (test_meaning w c p) l (l + 1)) ns p)
+  module _ (a l e : ℕ) (cs : List ℕ) (c : Condition) (body : Point State Outcome → Point State Outcome)
+      (tests : (ns : List ℕ) (p : Point State Outcome) → Does a ns p (cond (condition_meaning w c p) l (l + 1)) ns p)
       (at_leave : slice_get code.operations l ≡ Some (op.Leave (e + 1))) (at_again : slice_get code.operations e ≡ Some (op.Again a))
       (runs : (n : ℕ) (p : Point State Outcome) → Does (l + 1) (n ∷ cs) p e (n ∷ cs) (body p)) where
     decided : (n : ℕ) → ((q : Point State Outcome) → Does e (suc n ∷ cs) q (e + 1) cs (turns_until w n c body q)) → (p : Point State Outcome)
@@ -251,7 +251,7 @@ module _ {State Outcome : Type 0} (w : World State Outcome) (code : Code) (is : 
 
     one_turn : (n : ℕ) → ((q : Point State Outcome) → Does e (suc n ∷ cs) q (e + 1) cs (turns_until w n c body q)) → (p : Point State Outcome) → Does a (suc n ∷ cs) p (e + 1) cs (turns_until w (suc n) c body p)
     one_turn n rest p f l1 =
-        both_do a (cond (test_meaning w c p) l (l + 1)) (e + 1) (suc n ∷ cs) (suc n ∷ cs) cs f l1 p p _ (tests (suc n ∷ cs) p f l1) (decided n rest p (test_meaning w c p))
+        both_do a (cond (condition_meaning w c p) l (l + 1)) (e + 1) (suc n ∷ cs) (suc n ∷ cs) cs f l1 p p _ (tests (suc n ∷ cs) p f l1) (decided n rest p (condition_meaning w c p))
 
     until_turns : (n : ℕ) (p : Point State Outcome) → Does a (suc n ∷ cs) p (e + 1) cs (turns_until w (suc n) c body p)
     until_turns zero p =
@@ -259,8 +259,8 @@ module _ {State Outcome : Type 0} (w : World State Outcome) (code : Code) (is : 
     until_turns (suc n) p =
         one_turn (suc n) (λ q f l1. next e a (e + 1) (suc (suc n) ∷ cs) (suc n ∷ cs) cs f f l1 l1 q q _ (again_runs (suc n) e a cs f l1 q at_again) (until_turns n q f l1)) p
 
-  pub until_runs : (n i s z : ℕ) (cs : List ℕ) (c : Test) (body : Point State Outcome → Point State Outcome) (p : Point State Outcome) → 1 ≤ n → slice_get code.operations i ≡ Some (op.Loop n)
-      → ((ns : List ℕ) (p : Point State Outcome) → Does (i + 1) ns p (cond (test_meaning w c p) (i + 1 + s) (i + 1 + s + 1)) ns p)
+  pub until_runs : (n i s z : ℕ) (cs : List ℕ) (c : Condition) (body : Point State Outcome → Point State Outcome) (p : Point State Outcome) → 1 ≤ n → slice_get code.operations i ≡ Some (op.Loop n)
+      → ((ns : List ℕ) (p : Point State Outcome) → Does (i + 1) ns p (cond (condition_meaning w c p) (i + 1 + s) (i + 1 + s + 1)) ns p)
       → slice_get code.operations (i + 1 + s) ≡ Some (op.Leave (i + 1 + s + z + 2)) → slice_get code.operations (i + 1 + s + 1 + z) ≡ Some (op.Again (i + 1))
       → ((k : ℕ) (p : Point State Outcome) → Does (i + 1 + s + 1) (k ∷ cs) p (i + 1 + s + 1 + z) (k ∷ cs) (body p)) → Does i cs p (i + (s + z + 3)) cs (turns_until w n c body p)
   until_runs zero i s z cs c body p k h tests hl ha d f l = absurd (omega arith)

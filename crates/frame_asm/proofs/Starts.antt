@@ -2,7 +2,9 @@
 use Rattle.std.proofs.Common.{◌≡◌, ℕ, zero, suc, ◌+◌, ◌<◌, ◌≤◌, true, List, [], ◌∷◌, ◌++◌, length, get_or, Some, None, refl, sym, ap, ap₂, ◌∙◌, subst, arith, append_assoc}
 use Rattle.std.specs.Prelude.{nat_lt, if◌then◌else◌}
 use Rattle.std.proofs.lemmas.Bool.Decides.{nat_tests}
-use Rattle.frame_tree.specs.Tree.{Test, failed, silent, bit, negated, both, either, Tree, send, retry, gap, repeat, choose, until, nothing, chained, call, define, bit_number}
+use Rattle.mil_message.specs.declared.outcome_test.OutcomeTest.{OutcomeTest}
+use Rattle.mil_message.specs.declared.outcome_test.OutcomeTest.TheVariants.{Failed}
+use Rattle.frame_tree.specs.Tree.{Condition, asked, negated, both, either, Tree, send, retry, gap, repeat, choose, until, nothing, chained, call, define}
 use Rattle.frame_tree.specs.Names.{Scope, named}
 use Rattle.frame_tree.specs.Bounds.{CallsKnown, IsDefined}
 use Rattle.frame_code.specs.declared.Op.{Op}
@@ -45,7 +47,7 @@ is_leave m = (λ p os. refl, λ r. refl)
 is_jump : (m : ℕ) → IsInner (op.Jump m)
 is_jump m = (λ p os. refl, λ r. refl)
 
-is_test : (m : ℕ) → IsInner (op.Test m)
+is_test : (k : OutcomeTest) → IsInner (op.Test k)
 is_test m = (λ p os. refl, λ r. refl)
 
 is_jump_false : (m : ℕ) → IsInner (op.JumpFalse m)
@@ -54,17 +56,15 @@ is_jump_false m = (λ p os. refl, λ r. refl)
 is_call : (m : ℕ) → IsInner (op.Call m)
 is_call m = (λ p os. refl, λ r. refl)
 
-inner_branch : (c : Test) (p t f : ℕ) → AreInner (branch p c t f)
-inner_branch failed p t f = (is_test 0, (is_jump_false f, (is_jump t, tt)))
-inner_branch silent p t f = (is_test 1, (is_jump_false f, (is_jump t, tt)))
-inner_branch (bit bits) p t f = (is_test (16 + bit_number bits), (is_jump_false f, (is_jump t, tt)))
+inner_branch : (c : Condition) (p t f : ℕ) → AreInner (branch p c t f)
+inner_branch (asked k) p t f = (is_test k, (is_jump_false f, (is_jump t, tt)))
 inner_branch (negated c) p t f = inner_branch c p f t
 inner_branch (both a b) p t f = inner_both (branch p a (p + branch_size a) f) _ (inner_branch a p (p + branch_size a) f) (inner_branch b (p + branch_size a) t f)
 inner_branch (either a b) p t f = inner_both (branch p a t (p + branch_size a)) _ (inner_branch a p t (p + branch_size a)) (inner_branch b (p + branch_size a) t f)
 
 pub inner_shape : (rs : Scope ℕ) (t : Tree) (p m : ℕ) → CallsKnown rs t → AreInner (shape rs p m t)
 inner_shape rs (send l x) p m k = (is_send m, tt)
-inner_shape rs (retry n l x) p m k = (is_send m, (is_loop n, (is_test 0, (is_jump_false (p + 6), (is_alt m, (is_jump (p + 7), (is_leave (p + 8), (is_again (p + 2), tt))))))))
+inner_shape rs (retry n l x) p m k = (is_send m, (is_loop n, (is_test Failed, (is_jump_false (p + 6), (is_alt m, (is_jump (p + 7), (is_leave (p + 8), (is_again (p + 2), tt))))))))
 inner_shape rs (gap t) p m k = (is_gap t, tt)
 inner_shape rs (repeat n b) p m k = (is_loop n, inner_both (shape rs (p + 1) m b) _ (inner_shape rs b (p + 1) m k) (is_again (p + 1), tt))
 inner_shape rs (choose c a b) p m k =

@@ -2,30 +2,28 @@
 use Rattle.std.specs.Prelude.{ℕ, ◌+◌, ◌<◌, List, [], ◌∷◌, ◌++◌, length}
 use Rattle.mil_word.specs.declared.Line.{Line}
 use Rattle.mil_message.specs.declared.messages.Message.{Message}
-use Rattle.frame_tree.specs.Tree.{Test, failed, silent, bit, negated, both, either, Tree, send, retry, gap, repeat, choose, until, nothing, chained, call, define, bit_number}
+use Rattle.mil_message.specs.declared.outcome_test.OutcomeTest.{OutcomeTest}
+use Rattle.mil_message.specs.declared.outcome_test.OutcomeTest.TheVariants.{Failed}
+use Rattle.frame_tree.specs.Tree.{Condition, asked, negated, both, either, Tree, send, retry, gap, repeat, choose, until, nothing, chained, call, define}
 use Rattle.frame_tree.specs.Names.{Scope, named}
 use Rattle.frame_code.specs.declared.Op.{Op}
 use Rattle.frame_code.specs.declared.Op.TheVariants as op
 use Rattle.frame_code.specs.Table.{Code}
 
 -- how many operations a condition has
-abbrev pub branch_size : Test → ℕ
-branch_size failed = 3
-branch_size silent = 3
-branch_size (bit bits) = 3
+abbrev pub branch_size : Condition → ℕ
+branch_size (asked k) = 3
 branch_size (negated c) = branch_size c
 branch_size (both a b) = branch_size a + branch_size b
 branch_size (either a b) = branch_size a + branch_size b
 
 -- the operations of one test: to t where it holds, and to f where it does not
-abbrev pub probe : ℕ → ℕ → ℕ → List Op
+abbrev pub probe : OutcomeTest → ℕ → ℕ → List Op
 probe k t f = op.Test k ∷ op.JumpFalse f ∷ op.Jump t ∷ []
 
 -- the operations of a condition from place p: to t where it holds, and to f where it does not
-abbrev pub branch : ℕ → Test → ℕ → ℕ → List Op
-branch p failed t f = probe 0 t f
-branch p silent t f = probe 1 t f
-branch p (bit bits) t f = probe (16 + bit_number bits) t f
+abbrev pub branch : ℕ → Condition → ℕ → ℕ → List Op
+branch p (asked k) t f = probe k t f
 branch p (negated c) t f = branch p c f t
 branch p (both a b) t f = branch p a (p + branch_size a) f ++ branch (p + branch_size a) b t f
 branch p (either a b) t f = branch p a t (p + branch_size a) ++ branch (p + branch_size a) b t f
@@ -72,7 +70,13 @@ entries (define n b r) = entries b + entries r
 -- the first attempt, and a loop of the further ones, each on the other_line line, that is left where one did not fail
 abbrev pub retry_shape : ℕ → ℕ → ℕ → List Op
 retry_shape p m n =
-    op.Send m ∷ op.Loop n ∷ op.Test 0 ∷ op.JumpFalse (p + 6) ∷ op.Alt m ∷ op.Jump (p + 7) ∷ op.Leave (p + 8) ∷ op.Again (p + 2) ∷ []
+    op.Send m ∷ op.Loop n ∷ op.Test Failed ∷ op.JumpFalse (p + 6) ∷ op.Alt m ∷ op.Jump (p + 7) ∷ op.Leave (p + 8) ∷ op.Again (p + 2) ∷ []
+
+-- what stands in front of the body of an until from place p, whose body has s operations: the loop, the condition and the way out
+abbrev pub until_front : ℕ → Condition → ℕ → ℕ → List Op
+until_front p c n s =
+    let l = p + 1 + branch_size c in
+    op.Loop n ∷ (branch (p + 1) c l (l + 1) ++ op.Leave (l + s + 2) ∷ [])
 
 -- The operations of a frame from place p, whose messages begin at index m, where the names in scope are those of routines with
 -- these numbers: a definition is the routine behind those in scope, its body with a Return, and the rest stands behind it.

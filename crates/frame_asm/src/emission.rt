@@ -1,16 +1,16 @@
 //! Writing the operations and messages of a frame behind those that are there.
-ghost use Rattle.std.specs.Prelude.{◌≡◌, ◌+◌, ◌<◌, ◌≤◌, [], ◌∷◌, ◌++◌, length, IfOk, OnOk};
-ghost use Rattle.frame_tree.specs.Tree.{bit_number, test_of, tree_of};
+ghost use Rattle.std.specs.Prelude.{◌≡◌, ◌+◌, ◌<◌, ◌≤◌, [], ◌∷◌, ◌++◌, length, map, IfOk, OnOk};
+ghost use Rattle.frame_tree.specs.Tree.{condition_in, tree_of, choose, until, chain};
 ghost use Rattle.frame_tree.specs.Names.{named};
 ghost use Rattle.frame_tree.specs.Scopes.{scope_of};
 ghost use Rattle.frame_tree.specs.Bounds.{CallsKnown, IsDefined};
-ghost use Rattle.frame_asm.specs.Shapes.{branch_size, probe, branch, size, entries, messages_of, retry_shape, shape, AreRoutines};
+ghost use Rattle.frame_asm.specs.Shapes.{branch_size, probe, branch, size, entries, messages_of, retry_shape, until_front, shape, AreRoutines};
+ghost use Rattle.frame_code.specs.declared.Op.TheVariants as op;
 
 use crate::sizes::{branch_len, operation_count};
 use frame_code::Op;
-use frame_tree::{Cond, Frame, Name, Scope, number_of_bit};
-use mil_message::Message;
-use mil_status::StatusBits;
+use frame_tree::{Cond, Frame, Name, Scope};
+use mil_message::{Message, OutcomeTest};
 use mil_word::Line;
 use std::alloc::{AllocError, Allocator};
 
@@ -37,14 +37,12 @@ fn enter(
     Ok(index)
 }
 
-// The number of the test of a status bit.
-fn bit_test(bit: StatusBits) -> u8
-    ensures { result ≡ 16 + bit_number bit.0 }
-{
-    16 + number_of_bit(bit)
-}
-
-fn emit_test(operations: &mut Vec<Op>, test: u8, yes: u16, no: u16) -> Result<(), AllocError>
+fn emit_test(
+    operations: &mut Vec<Op>,
+    test: OutcomeTest,
+    yes: u16,
+    no: u16,
+) -> Result<(), AllocError>
     ensures { OnOk result (operations.new.items ≡ operations.old.items ++ probe test yes no) }
 {
     put(operations, Op::Test(test))?;
@@ -60,13 +58,11 @@ fn emit_branch<A: Allocator + Clone>(
     yes: u16,
     no: u16,
 ) -> Result<(), AllocError>
-    requires { length operations.old.items + branch_size (test_of condition.now) ≤ 4096 }
-    ensures { OnOk result (operations.new.items ≡ operations.old.items ++ branch (length operations.old.items) (test_of condition.now) yes no) }
+    requires { length operations.old.items + branch_size (condition_in condition.now) ≤ 4096 }
+    ensures { OnOk result (operations.new.items ≡ operations.old.items ++ branch (length operations.old.items) (condition_in condition.now) yes no) }
 {
     match condition {
-        Cond::Fail => emit_test(operations, 0, yes, no),
-        Cond::Silent => emit_test(operations, 1, yes, no),
-        Cond::Bit(bit) => emit_test(operations, bit_test(*bit), yes, no),
+        Cond::Test(test) => emit_test(operations, *test, yes, no),
         Cond::Not(c) => emit_branch(operations, c, no, yes),
         Cond::And(a, b) => {
             let middle = operations.len() as u16 + branch_len(a);
@@ -81,15 +77,30 @@ fn emit_branch<A: Allocator + Clone>(
     }
 }
 
+// A message, and the operation that sends it.
+fn emit_send(
+    operations: &mut Vec<Op>,
+    messages: &mut Vec<(Line, Message)>,
+    line: Line,
+    message: &Message,
+) -> Result<(), AllocError>
+    requires { length messages.old.items < 1024 }
+    ensures operations { OnOk result (operations.new.items ≡ operations.old.items ++ op.Send (length messages.old.items) ∷ []) }
+    ensures messages { OnOk result (messages.new.items ≡ messages.old.items ++ (line, message.now) ∷ []) }
+{
+    let index = enter(messages, line, message.copy())?;
+    put(operations, Op::Send(index))
+}
+
 // The operations of a retry that sends this message.
-fn emit_retry(operations: &mut Vec<Op>, message: u16, count: u16) -> Result<(), AllocError>
+fn emit_attempts(operations: &mut Vec<Op>, message: u16, count: u16) -> Result<(), AllocError>
     requires { length operations.old.items + 8 ≤ 4096 }
     ensures { OnOk result (operations.new.items ≡ operations.old.items ++ retry_shape (length operations.old.items) message count) }
 {
     let place = operations.len() as u16;
     put(operations, Op::Send(message))?;
     put(operations, Op::Loop(count))?;
-    put(operations, Op::Test(0))?;
+    put(operations, Op::Test(OutcomeTest::Failed))?;
     put(operations, Op::JumpFalse(place + 6))?;
     put(operations, Op::Alt(message))?;
     put(operations, Op::Jump(place + 7))?;
@@ -97,7 +108,64 @@ fn emit_retry(operations: &mut Vec<Op>, message: u16, count: u16) -> Result<(), 
     put(operations, Op::Again(place + 2))
 }
 
+// A message, and the operations of a retry that sends it.
+fn emit_retry(
+    operations: &mut Vec<Op>,
+    messages: &mut Vec<(Line, Message)>,
+    count: u8,
+    line: Line,
+    message: &Message,
+) -> Result<(), AllocError>
+    requires room { length operations.old.items + 8 ≤ 4096 }
+    requires table { length messages.old.items < 1024 }
+    ensures operations { OnOk result (operations.new.items ≡ operations.old.items ++ retry_shape (length operations.old.items) (length messages.old.items) count) }
+    ensures messages { OnOk result (messages.new.items ≡ messages.old.items ++ (line, message.now) ∷ []) }
+{
+    let index = enter(messages, line, message.copy())?;
+    emit_attempts(operations, index, count as u16)
+}
+
+// What stands in front of the first part of an if: answers the place behind the second.
+fn open_if<A: Allocator + Clone>(
+    operations: &mut Vec<Op>,
+    condition: &Cond<A>,
+    then: &Frame<A>,
+    otherwise: &Frame<A>,
+) -> Result<u16, AllocError>
+    requires { length operations.old.items + size (choose (condition_in condition.now) (tree_of then.now) (tree_of otherwise.now)) ≤ 4095 }
+    ensures operations { let first = length operations.old.items + branch_size (condition_in condition.now) in
+        OnOk result (operations.new.items ≡ operations.old.items ++ branch (length operations.old.items) (condition_in condition.now) first (first + size (tree_of then.now) + 1)) }
+    ensures end { IfOk result (λ end. end ≡ length operations.old.items + branch_size (condition_in condition.now) + size (tree_of then.now) + 1 + size (tree_of otherwise.now)) }
+{
+    let then_at = operations.len() as u16 + branch_len(condition);
+    let else_at = then_at + operation_count(then) + 1;
+    let end = else_at + operation_count(otherwise);
+    emit_branch(operations, condition, then_at, else_at)?;
+    Ok(end)
+}
+
+// What stands in front of the body of an until: answers the place that each further turn begins at.
+fn open_until<A: Allocator + Clone>(
+    operations: &mut Vec<Op>,
+    condition: &Cond<A>,
+    count: u16,
+    body: &Frame<A>,
+) -> Result<u16, AllocError>
+    requires { length operations.old.items + size (until (condition_in condition.now) count (tree_of body.now)) ≤ 4095 }
+    ensures operations { OnOk result (operations.new.items ≡ operations.old.items ++ until_front (length operations.old.items) (condition_in condition.now) count (size (tree_of body.now))) }
+    ensures turn { IfOk result (λ turn. turn ≡ length operations.old.items + 1) }
+{
+    let test_at = operations.len() as u16 + 1;
+    let leave = test_at + branch_len(condition);
+    let end = leave + operation_count(body) + 2;
+    put(operations, Op::Loop(count))?;
+    emit_branch(operations, condition, leave, leave + 1)?;
+    put(operations, Op::Leave(end))?;
+    Ok(test_at)
+}
+
 /// The operations and messages of a frame without definitions.
+#[cycle(frames)]
 pub fn emit<A: Allocator + Clone>(
     operations: &mut Vec<Op>,
     messages: &mut Vec<(Line, Message)>,
@@ -113,18 +181,12 @@ pub fn emit<A: Allocator + Clone>(
     ensures messages { OnOk result (messages.new.items ≡ messages.old.items ++ messages_of (tree_of frame.now)) }
 {
     match frame {
-        Frame::Send { line, message } => {
-            let index = enter(messages, *line, message.copy())?;
-            put(operations, Op::Send(index))
-        }
+        Frame::Send { line, message } => emit_send(operations, messages, *line, message),
         Frame::Retry {
             count,
             line,
             message,
-        } => {
-            let index = enter(messages, *line, message.copy())?;
-            emit_retry(operations, index, *count as u16)
-        }
+        } => emit_retry(operations, messages, *count, *line, message),
         Frame::Gap(ticks) => put(operations, Op::SetGap(*ticks)),
         Frame::Repeat { count, body } => {
             let first = operations.len() as u16 + 1;
@@ -137,10 +199,7 @@ pub fn emit<A: Allocator + Clone>(
             then,
             otherwise,
         } => {
-            let then_at = operations.len() as u16 + branch_len(condition);
-            let else_at = then_at + operation_count(then) + 1;
-            let end = else_at + operation_count(otherwise);
-            emit_branch(operations, condition, then_at, else_at)?;
+            let end = open_if(operations, condition, then, otherwise)?;
             emit(operations, messages, scope, then)?;
             put(operations, Op::Jump(end))?;
             emit(operations, messages, scope, otherwise)
@@ -150,25 +209,36 @@ pub fn emit<A: Allocator + Clone>(
             count,
             body,
         } => {
-            let test_at = operations.len() as u16 + 1;
-            let leave = test_at + branch_len(condition);
-            let end = leave + operation_count(body) + 2;
-            let turns = *count;
-            put(operations, Op::Loop(turns))?;
-            emit_branch(operations, condition, leave, leave + 1)?;
-            put(operations, Op::Leave(end))?;
+            let turn = open_until(operations, condition, *count, body)?;
             emit(operations, messages, scope, body)?;
-            put(operations, Op::Again(test_at))
+            put(operations, Op::Again(turn))
         }
-        Frame::Seq(frames) => {
-            for frame in frames {
-                emit(operations, messages, scope, frame)?;
-            }
-            Ok(())
-        }
+        Frame::Seq(frames) => emit_sequence(operations, messages, scope, frames),
         Frame::Call(name) => put(operations, Op::Call(routine_of(scope, name))),
         Frame::Define { .. } => Ok(()),
     }
+}
+
+// The operations and messages of these frames, in their order.
+#[cycle(frames)]
+fn emit_sequence<A: Allocator + Clone>(
+    operations: &mut Vec<Op>,
+    messages: &mut Vec<(Line, Message)>,
+    scope: &Scope<'_>,
+    frames: &Vec<Frame<A>, A>,
+) -> Result<(), AllocError>
+    requires room { length operations.old.items + size (chain (map tree_of frames.now.items)) ≤ 4095 }
+    requires table { length messages.old.items + entries (chain (map tree_of frames.now.items)) ≤ 1024 }
+    requires calls { CallsKnown (scope_of scope.now) (chain (map tree_of frames.now.items)) }
+    requires routines { AreRoutines (scope_of scope.now) }
+    ensures operations { OnOk result (operations.new.items
+        ≡ operations.old.items ++ shape (scope_of scope.now) (length operations.old.items) (length messages.old.items) (chain (map tree_of frames.now.items))) }
+    ensures messages { OnOk result (messages.new.items ≡ messages.old.items ++ messages_of (chain (map tree_of frames.now.items))) }
+{
+    for frame in frames {
+        emit(operations, messages, scope, frame)?;
+    }
+    Ok(())
 }
 
 // The number of the routine of a name.

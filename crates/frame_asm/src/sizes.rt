@@ -1,6 +1,6 @@
 //! How many operations and messages a frame has, so that each place is known before it is written.
 ghost use Rattle.std.specs.Prelude.{◌≡◌, min};
-ghost use Rattle.frame_tree.specs.Tree.{test_of, tree_of};
+ghost use Rattle.frame_tree.specs.Tree.{condition_in, tree_of};
 ghost use Rattle.frame_asm.specs.Shapes.{branch_size, size, entries};
 
 use frame_tree::{Cond, Frame};
@@ -8,10 +8,10 @@ use std::alloc::Allocator;
 
 /// How many operations a condition has, or 4096 where it has more.
 pub fn branch_len<A: Allocator + Clone>(condition: &Cond<A>) -> u16
-    ensures { result ≡ min 4096 (branch_size (test_of condition.now)) }
+    ensures { result ≡ min 4096 (branch_size (condition_in condition.now)) }
 {
     match condition {
-        Cond::Fail | Cond::Silent | Cond::Bit(_) => 3,
+        Cond::Test(_) => 3,
         Cond::Not(c) => branch_len(c),
         Cond::And(a, b) => (branch_len(a) + branch_len(b)).min(4096),
         Cond::Or(a, b) => (branch_len(a) + branch_len(b)).min(4096),

@@ -1,6 +1,6 @@
 -- Reading what was written gives it back.
 use Rattle.std.proofs.Common.{◌≡◌, ℕ, suc, ◌+◌, ◌*◌, ◌/◌, ◌%◌, ◌^◌, ◌≤◌, ◌==◌, Bool, true, false, List, [], ◌∷◌, ◌++◌, length, Ok, Some, None, refl, sym, ap, ap₂, ◌∙◌, arith, append_assoc}
-use Rattle.std.specs.Prelude.{IsTrue, not, ◌&&◌, ◌||◌, nat_le, nat_lt, if◌then◌else◌, unwrap_or}
+use Rattle.std.specs.Prelude.{IsTrue, not, ◌&&◌, ◌||◌, nat_le, nat_lt, if◌then◌else◌, option_map, unwrap_or}
 use Rattle.std.specs.List.{flat_map}
 use Rattle.std.proofs.lemmas.List.{append-nil}
 use Rattle.std.proofs.lemmas.Bool.Decides.{nat_tests}
@@ -13,6 +13,9 @@ use Rattle.mil_message.specs.declared.drafts.ModeSubaddress.TheVariants.{Zero, T
 use Rattle.mil_message.specs.declared.faults.BadMessage.{BadMessage}
 use Rattle.mil_message.specs.declared.messages.Message.{Message}
 use Rattle.mil_message.specs.declared.forms.Form.TheVariants.{ToTerminal, FromTerminal, Between, Mode, ModeFrom, ModeTo, ToAll, BetweenAll, ModeAll, ModeAllTo}
+use Rattle.mil_message.specs.declared.outcome_test.OutcomeTest.{OutcomeTest}
+use Rattle.mil_message.specs.declared.outcome_test.OutcomeTest.TheVariants.{Failed, Silent, Bit}
+use Rattle.mil_status.specs.declared.bit.StatusBit.TheVariants.{MessageError, Instrumentation, ServiceRequest, Broadcast, Busy, Subsystem, Control, Terminal}
 use Rattle.mil_message.specs.Forms.{command_word, count_field, mode_subaddress, form_number, first_command, second_command, data_words}
 use Rattle.mil_message.specs.Rules.{is_address, is_subaddress, is_count, is_code_alone, is_code_from, is_code_to, first_fault, request_for, form_of, IsLawful}
 use Rattle.mil_message.specs.Parts.{parts_of, request_at}
@@ -22,8 +25,8 @@ use Rattle.frame_code.specs.declared.Op.TheVariants.{Halt, Send, Alt, SetGap, Lo
 use Rattle.frame_code.specs.Table.{Code}
 use Rattle.frame_code.specs.Ranges as ranges
 use Rattle.frame_code.specs.Fields.{receives, transmits, calls_one, first_fits, sends_for, second_fits, words_due}
-use Rattle.frame_code.specs.Bytes.{is_new, has_new, mark, two_bytes, number_of, operand_of, operation_bytes, line_number, message_bytes, header_bytes, image_bytes, AreLawful}
-use Rattle.frame_code.specs.Reading.{two_at, mark_at, header_at, operation_of, known, operation_at, many, line_at, message_with, words_at, message_at, image_of}
+use Rattle.frame_code.specs.Bytes.{is_new, has_new, mark, two_bytes, number_of, number_of_test, operand_of, operation_bytes, line_number, message_bytes, header_bytes, image_bytes, AreLawful}
+use Rattle.frame_code.specs.Reading.{two_at, mark_at, header_at, test_of, operation_of, known, operation_at, many, line_at, message_with, words_at, message_at, image_of}
 use Rattle.frame_code.proofs.Lawful.{both}
 use Rattle.frame_code.proofs.Images.{image_reads, equal_true, words_read}
 use Rattle.frame_code.proofs.Many.{many_none, many_cons}
@@ -236,6 +239,18 @@ two_back : (n : ℕ) (rest : List ℕ) → two_at (two_bytes n ++ rest) ≡ Ok (
 unfolding two_at
 two_back n rest = let e : n % 256 + 256 * (n / 256) ≡ n = omega arith in ap (λ v. Ok (v, rest)) e
 
+test_found : (t : OutcomeTest) → test_of (number_of_test t) ≡ Some t
+test_found Failed = refl
+test_found Silent = refl
+test_found (Bit MessageError) = refl
+test_found (Bit Instrumentation) = refl
+test_found (Bit ServiceRequest) = refl
+test_found (Bit Broadcast) = refl
+test_found (Bit Busy) = refl
+test_found (Bit Subsystem) = refl
+test_found (Bit Control) = refl
+test_found (Bit Terminal) = refl
+
 operation_found : (o : Op) → IsTrue (ranges.in_range o) → operation_of (number_of o) (operand_of o) ≡ Some o
 unfolding operation_of
 operation_found Halt h = refl
@@ -246,7 +261,7 @@ operation_found (Loop n) h = ap (λ b. if b then Some (Loop n) else None) h
 operation_found (Again i) h = refl
 operation_found (Leave i) h = refl
 operation_found (Jump i) h = refl
-operation_found (Test k) h = ap (λ b. if b then Some (Test k) else None) h
+operation_found (Test t) h = ap (option_map (λ k. Test k)) (test_found t)
 operation_found (JumpFalse i) h = refl
 operation_found (Call r) h = ap (λ b. if b then Some (Call r) else None) h
 operation_found Return h = refl

@@ -1,11 +1,14 @@
 -- The bytes of an image (own choice): the mark BC01, or BC02 where an operation needs it, two counts, the operations, the messages; numbers little-endian.
-use Rattle.std.specs.Prelude.{ℕ, ◌/◌, ◌%◌, Bool, true, false, ◌||◌, List, [], ◌∷◌, ◌++◌, length, codes}
+use Rattle.std.specs.Prelude.{ℕ, ◌+◌, ◌/◌, ◌%◌, Bool, true, false, ◌||◌, List, [], ◌∷◌, ◌++◌, length, codes}
 use Rattle.std.specs.List.{flat_map}
 use Rattle.mil_word.specs.declared.Line.{Line}
 use Rattle.mil_word.specs.declared.Line.TheVariants.{A, B}
 use Rattle.mil_message.specs.Parts.{Parts, parts_of}
 use Rattle.mil_message.specs.Rules.{IsLawful}
 use Rattle.mil_message.specs.declared.messages.Message.{Message}
+use Rattle.mil_message.specs.declared.outcome_test.OutcomeTest.{OutcomeTest}
+use Rattle.mil_message.specs.declared.outcome_test.OutcomeTest.TheVariants.{Failed, Silent, Bit}
+use Rattle.mil_status.specs.Status.{place_of}
 use Rattle.frame_code.specs.declared.Op.{Op}
 use Rattle.frame_code.specs.declared.Op.TheVariants.{Halt, Send, Alt, SetGap, Loop, Again, Leave, Jump, Test, JumpFalse, Call, Return}
 use Rattle.frame_code.specs.Table.{Code}
@@ -44,6 +47,12 @@ number_of (JumpFalse i) = 9
 number_of (Call r) = 10
 number_of Return = 11
 
+-- the number of a test: 0 failed, 1 silent, and 16 more than the place of a status bit
+abbrev pub number_of_test : OutcomeTest → ℕ
+number_of_test Failed = 0
+number_of_test Silent = 1
+number_of_test (Bit b) = 16 + place_of b
+
 -- its operand; 0 for Halt and Return
 abbrev pub operand_of : Op → ℕ
 operand_of Halt = 0
@@ -54,7 +63,7 @@ operand_of (Loop n) = n
 operand_of (Again i) = i
 operand_of (Leave i) = i
 operand_of (Jump i) = i
-operand_of (Test k) = k
+operand_of (Test k) = number_of_test k
 operand_of (JumpFalse i) = i
 operand_of (Call r) = r
 operand_of Return = 0

@@ -1,13 +1,9 @@
 -- What an image may hold (own choice): how many operations and messages, and the range of each operand.
-use Rattle.std.specs.Prelude.{ℕ, ◌≤◌, Bool, true, ◌&&◌, ◌||◌, nat_lt, nat_le, List, [], ◌∷◌, length, IsTrue}
+use Rattle.std.specs.Prelude.{ℕ, ◌≤◌, Bool, true, ◌&&◌, nat_lt, nat_le, List, [], ◌∷◌, length, IsTrue}
 use Rattle.frame_code.specs.declared.Op.{Op}
 use Rattle.frame_code.specs.declared.Op.TheVariants.{Halt, Send, Alt, SetGap, Loop, Again, Leave, Jump, Test, JumpFalse, Call, Return}
 use Rattle.frame_code.specs.declared.Image.TheInside.{Inside}
 use Rattle.frame_code.specs.Table.{Code}
-
--- the tests: 0 failed, 1 silent, and 16 more than the number of a named bit of the status word (0 to 4 and 8 to 10)
-abbrev pub is_test : ℕ → Bool
-is_test k = nat_lt k 2 || (nat_le 16 k && nat_le k 20) || (nat_le 24 k && nat_le k 26)
 
 -- a gap in ticks, 40 to 65,535
 abbrev pub is_gap : ℕ → Bool
@@ -35,7 +31,7 @@ in_range (Loop n) = is_count n
 in_range (Again i) = is_index i
 in_range (Leave i) = is_index i
 in_range (Jump i) = is_index i
-in_range (Test k) = is_test k
+in_range (Test k) = true
 in_range (JumpFalse i) = is_index i
 in_range (Call r) = is_routine r
 in_range Return = true

@@ -1,9 +1,12 @@
 -- What bytes are read as (own choice): the code that they spell, else the first fault. The bytes are judged field by
 -- field, in their order.
-use Rattle.std.specs.Prelude.{◌≡◌, ℕ, zero, suc, ◌+◌, ◌*◌, ◌==◌, not, ◌&&◌, ◌||◌, nat_lt, nat_le, if◌then◌else◌, Bool, true, false, List, [], ◌∷◌, Option, Some, None, Result, Ok, Err}
+use Rattle.std.specs.Prelude.{◌≡◌, ℕ, zero, suc, ◌+◌, ◌-◌, ◌*◌, ◌==◌, not, ◌&&◌, ◌||◌, nat_lt, nat_le, if◌then◌else◌, Bool, true, false, List, [], ◌∷◌, Option, Some, None, option_map, Result, Ok, Err}
 use Rattle.mil_word.specs.declared.Line.{Line}
 use Rattle.mil_word.specs.declared.Line.TheVariants.{A, B}
 use Rattle.mil_message.specs.declared.messages.Message.{Message}
+use Rattle.mil_message.specs.declared.outcome_test.OutcomeTest.{OutcomeTest}
+use Rattle.mil_message.specs.declared.outcome_test.OutcomeTest.TheVariants.{Failed, Silent, Bit}
+use Rattle.mil_status.specs.Status.{bit_at}
 use Rattle.mil_message.specs.Parts.{request_at}
 use Rattle.mil_message.specs.Request.{Request}
 use Rattle.mil_message.specs.Rules.{form_of}
@@ -12,7 +15,7 @@ use Rattle.frame_code.specs.declared.ImageError.TheVariants as fault
 use Rattle.frame_code.specs.declared.Op.{Op}
 use Rattle.frame_code.specs.declared.Op.TheVariants.{Halt, Send, Alt, SetGap, Loop, Again, Leave, Jump, Test, JumpFalse, Call, Return}
 use Rattle.frame_code.specs.Table.{Code}
-use Rattle.frame_code.specs.Ranges.{is_gap, is_count, is_test, is_routine}
+use Rattle.frame_code.specs.Ranges.{is_gap, is_count, is_routine}
 use Rattle.frame_code.specs.Bytes.{has_new}
 use Rattle.frame_code.specs.Fields.{first_fits, second_fits, words_due}
 
@@ -46,9 +49,13 @@ unfoldable pub mark_at : List ℕ → Read Bool
 mark_at (a ∷ b ∷ c ∷ d ∷ bs) = must (a == 66 && b == 67 && c == 48 && (d == 49 || d == 50)) fault.Mark (d == 50, bs)
 mark_at _ = Err fault.Mark
 
--- the test of a number, if there is one
-abbrev pub test_of : ℕ → Option Op
-test_of k = if is_test k then Some (Test k) else None
+-- the test of a number, if there is one: 0, 1, or 16 more than the place of a status bit
+abbrev pub test_of : ℕ → Option OutcomeTest
+test_of k =
+    if k == 0 then Some Failed
+    else if k == 1 then Some Silent
+    else if nat_lt k 16 then None
+    else option_map (λ b. Bit b) (bit_at (k - 16))
 
 -- the operation of a number and an operand, if there is one
 unfoldable pub operation_of : ℕ → ℕ → Option Op
@@ -61,7 +68,7 @@ operation_of number operand =
     else if number == 5 then Some (Again operand)
     else if number == 6 then Some (Leave operand)
     else if number == 7 then Some (Jump operand)
-    else if number == 8 then test_of operand
+    else if number == 8 then option_map (λ t. Test t) (test_of operand)
     else if number == 9 then Some (JumpFalse operand)
     else if number == 10 then (if is_routine operand then Some (Call operand) else None)
     else if number == 11 then (if operand == 0 then Some Return else None)

@@ -9,7 +9,7 @@ mod fields;
 mod reading;
 mod writing;
 
-use mil_message::Message;
+use mil_message::{Message, OutcomeTest};
 use mil_word::Line;
 pub use reading::read_image;
 use std::alloc::{AllocError, AllocFailed};
@@ -39,7 +39,7 @@ pub enum Op {
     Jump(u16),
     /// Number 8: sets the flag to a test of the last outcome (false before any): 0 failed, 1 silent, 16 + b the bit b of
     /// the status words, b one of 0 to 4 and 8 to 10.
-    Test(u8),
+    Test(OutcomeTest),
     /// Number 9: goes to this place where the flag is false.
     JumpFalse(u16),
     /// Number 10: notes the place behind it, and goes to the start of the routine of this number, 0 to 31.

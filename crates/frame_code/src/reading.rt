@@ -2,7 +2,7 @@
 ghost use Rattle.std.specs.Prelude.{false, not, ◌||◌, if◌then◌else◌, Some, None, ◌∷◌, ◌++◌, ◌≡◌, ◌≢◌, ◌≤◌, ◌<◌, ◌↔◌, IsTrue, IfOk, IfSome, MatchResult, Ok, Err, length};
 ghost use Rattle.frame_code.specs.Table.{Code};
 ghost use Rattle.frame_code.specs.Ranges.{in_range, is_routine, AreInRange};
-ghost use Rattle.frame_code.specs.Bytes.{is_new, has_new, two_bytes, mark, header_bytes, number_of, operand_of, operation_bytes, line_number, message_bytes, image_bytes};
+ghost use Rattle.frame_code.specs.Bytes.{is_new, has_new, two_bytes, mark, header_bytes, number_of, number_of_test, operand_of, operation_bytes, line_number, message_bytes, image_bytes};
 ghost use Rattle.std.specs.List.{flat_map};
 ghost use Rattle.frame_code.specs.Fields as table;
 ghost use Rattle.frame_code.specs.Reading as spelled;
@@ -14,7 +14,8 @@ use crate::fields::{first_fits, second_fits, words_due};
 use crate::writing::{has_new, is_new};
 use crate::{Image, ImageError, Op};
 use arrayvec::ArrayVec;
-use mil_message::Message;
+use mil_message::{Message, OutcomeTest};
+use mil_status::StatusBit;
 use mil_word::{Command, Line};
 use std::alloc::Global;
 
@@ -89,12 +90,18 @@ fn header(bytes: &[u8]) -> Result<Opening<'_>, ImageError>
 }
 
 // The test of a number, if there is one.
-fn test_of(number: u16) -> Option<Op>
-    ensures { result ≡ spelled.test_of number }
+fn test_of(number: u16) -> Option<OutcomeTest>
+    ensures test { result ≡ spelled.test_of number }
+    ensures number { IfSome result (λ t. number_of_test t ≡ number) }
 {
     match number {
-        0..=1 | 16..=20 | 24..=26 => Some(Op::Test(number as u8)),
-        _ => None,
+        0 => Some(OutcomeTest::Failed),
+        1 => Some(OutcomeTest::Silent),
+        2..=15 => None,
+        _ => {
+            let bit = StatusBit::at(number - 16)?;
+            Some(OutcomeTest::Bit(bit))
+        }
     }
 }
 
@@ -126,7 +133,7 @@ fn operation_of(number: u8, operand: u16) -> Option<Op>
         5 => Some(Op::Again(operand)),
         6 => Some(Op::Leave(operand)),
         7 => Some(Op::Jump(operand)),
-        8 => test_of(operand),
+        8 => Some(Op::Test(test_of(operand)?)),
         9 => Some(Op::JumpFalse(operand)),
         10 => call_of(operand),
         11 => (operand == 0).then_some(Op::Return),

@@ -8,7 +8,7 @@ ghost use Rattle.frame_code.specs.Bytes as spelled;
 ghost use Rattle.frame_code.specs.Reading.{image_of};
 
 use crate::{Image, Op};
-use mil_message::Message;
+use mil_message::{Message, OutcomeTest};
 use mil_word::Line;
 use std::alloc::{AllocError, Global};
 
@@ -41,6 +41,17 @@ fn number_of(op: Op) -> u8
     }
 }
 
+// The number of a test.
+fn number_of_test(test: OutcomeTest) -> u8
+    ensures { result ≡ spelled.number_of_test test }
+{
+    match test {
+        OutcomeTest::Failed => 0,
+        OutcomeTest::Silent => 1,
+        OutcomeTest::Bit(bit) => 16 + bit.place(),
+    }
+}
+
 // The operand of an operation, 0 for Halt and Return.
 fn operand_of(op: Op) -> u16
     ensures { result ≡ spelled.operand_of op }
@@ -55,7 +66,7 @@ fn operand_of(op: Op) -> u16
         | Op::Leave(operand)
         | Op::Jump(operand)
         | Op::JumpFalse(operand) => operand,
-        Op::Test(test) => u16::from(test),
+        Op::Test(test) => u16::from(number_of_test(test)),
         Op::Call(routine) => u16::from(routine),
     }
 }

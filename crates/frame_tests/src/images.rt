@@ -3,6 +3,7 @@
 use crate::equal::{are_bytes, prints, same};
 use crate::worked::{LOOPS, POLLING, with_byte};
 use frame_code::{Image, ImageError, Op, read_image, write_image};
+use mil_message::OutcomeTest;
 use std::alloc::Global;
 use std::process::Abort;
 
@@ -10,7 +11,7 @@ const OPERATIONS: [Op; 11] = [
     Op::Loop(3),
     Op::Send(0),
     Op::Loop(2),
-    Op::Test(0),
+    Op::Test(OutcomeTest::Failed),
     Op::JumpFalse(7),
     Op::Alt(0),
     Op::Jump(8),

@@ -4,7 +4,8 @@ use crate::worked::{boxed, sequence};
 use bumpalo::Bump;
 use frame_text::{parse, print};
 use frame_tree::{Cond, Frame};
-use mil_status::StatusBits;
+use mil_message::OutcomeTest;
+use mil_status::StatusBit;
 use std::alloc::{Allocator, Global};
 use std::process::Abort;
 
@@ -148,7 +149,7 @@ fn sequences(rt: HostRuntime) {
     let alloc = rt.alloc();
     is_printed(&rt, alloc, &gaps(&rt, alloc), "gap 40\ngap 50\n");
     let frame = Frame::If {
-        condition: Cond::Bit(StatusBits(24)),
+        condition: Cond::Test(OutcomeTest::Bit(StatusBit::Broadcast)),
         then: boxed(&rt, alloc, gaps(&rt, alloc)),
         otherwise: boxed(&rt, alloc, nothing(&rt, alloc)),
     };
@@ -156,6 +157,6 @@ fn sequences(rt: HostRuntime) {
         &rt,
         alloc,
         &frame,
-        "if bit unnamed {\n  gap 40\n  gap 50\n}\n",
+        "if bit broadcast {\n  gap 40\n  gap 50\n}\n",
     );
 }

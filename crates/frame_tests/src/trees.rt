@@ -3,8 +3,9 @@ ghost use Rattle.std.specs.Prelude.{◌≤◌};
 
 use crate::equal::{are_bytes, same};
 use crate::worked::{boxed, call, define, name, polling, retry, sequence};
-use frame_tree::{Cond, Frame, Name, Scope, number_of_bit};
-use mil_status::StatusBits;
+use frame_tree::{Cond, Frame, Name, Scope};
+use mil_message::OutcomeTest;
+use mil_status::StatusBit;
 use std::alloc::Global;
 use std::process::Abort;
 
@@ -38,19 +39,13 @@ fn sizes(rt: HostRuntime) {
     has_size(&rt, &copied(&rt, rt.alloc(), &frame), 1, 10, true);
 }
 
-fn is_one_named_operator(rt: &impl Abort, condition: &Cond<Global>) {
-    same(rt, &condition.operators(), &1);
-    same(rt, &condition.has_named_bits(), &true);
-}
-
 #[test]
 fn conditions(rt: HostRuntime) {
     let alloc = rt.alloc();
-    let busy = Box::new(alloc, Cond::Bit(StatusBits::BUSY)).expect(&rt, "memory");
-    let not = Cond::Not(busy);
+    let busy = Cond::Test(OutcomeTest::Bit(StatusBit::Busy));
+    let not = Cond::Not(Box::new(alloc, busy).expect(&rt, "memory"));
     let copied: Cond<Global> = not.copy_in(&alloc).expect(&rt, "memory");
-    is_one_named_operator(&rt, &copied);
-    same(&rt, &number_of_bit(StatusBits::MESSAGE_ERROR), &10);
+    same(&rt, &copied.operators(), &1);
 }
 
 // define aa { send .. } define ab { call aa call aa } .. up to the letter, and a call of the last

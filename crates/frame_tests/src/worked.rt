@@ -3,7 +3,7 @@
 ghost use Rattle.std.specs.Prelude.{◌≤◌};
 
 use frame_tree::{Cond, Frame, Name};
-use mil_message::{Draft, Message, ModeSubaddress};
+use mil_message::{Draft, Message, ModeSubaddress, OutcomeTest};
 use mil_word::Line;
 use std::alloc::Global;
 use std::process::Abort;
@@ -116,7 +116,7 @@ pub(crate) fn polling(rt: &impl Abort, alloc: Global) -> Frame<Global> {
         body: boxed(rt, alloc, call(rt, b"poll")),
     };
     let thrice = Frame::Until {
-        condition: Cond::Fail,
+        condition: Cond::Test(OutcomeTest::Failed),
         count: 3,
         body: boxed(rt, alloc, call(rt, b"poll")),
     };

@@ -2,7 +2,7 @@
 use Rattle.std.proofs.Common.{◌≡◌, ℕ, zero, suc, ◌+◌, List, ◌++◌, Bool, true, false, refl, sym, ap, ◌∙◌, append_assoc, add-one}
 use Rattle.std.specs.Prelude.{codes, ◌&&◌}
 use Rattle.std.proofs.lemmas.List.{append-nil}
-use Rattle.frame_tree.specs.Tree.{Test, Tree, nothing, chained, choose}
+use Rattle.frame_tree.specs.Tree.{Condition, Tree, nothing, chained, choose}
 use Rattle.frame_text.specs.PrintedConditions.{condition_text}
 use Rattle.frame_text.specs.Printing.{indent, is_empty, block_text, else_text, lines}
 
@@ -37,17 +37,19 @@ piece : (before a now rest end : List ℕ) → now ≡ before ++ a → end ≡ n
 piece before a now rest end e h = h ∙ ap (λ xs. xs ++ rest) e ∙ append_assoc before a rest
 
 -- an if, piece by piece
-pub if_line : (depth : ℕ) (t : Tree) (c : Test) (a b : Tree) (before indented tested closed end : List ℕ) → t ≡ choose c a b
-    → indented ≡ before ++ indent depth → tested ≡ indented ++ (codes "if " ++ (condition_text c ++ codes " "))
+pub if_line : (depth : ℕ) (t : Tree) (c : Condition) (a b : Tree) (before tested closed end : List ℕ) → t ≡ choose c a b
+    → tested ≡ before ++ (indent depth ++ (codes "if " ++ (condition_text c ++ codes " ")))
     → closed ≡ tested ++ block_text depth (lines (depth + 1) a) → end ≡ closed ++ (else_text depth (is_empty b) (lines (depth + 1) b) ++ codes "\n")
     → end ≡ before ++ lines depth t
 unfolding lines
-if_line depth t c a b before indented tested closed end is e1 e2 e3 e4 =
+if_line depth t c a b before tested closed end is e1 e2 e3 =
     let block = block_text depth (lines (depth + 1) a) in
     let behind = else_text depth (is_empty b) (lines (depth + 1) b) ++ codes "\n" in
-    piece before (indent depth) indented _ end e1
-    (piece indented (codes "if " ++ (condition_text c ++ codes " ")) tested (block ++ behind) end e2 (piece tested block closed behind end e3 e4)
-    ∙ ap (λ xs. indented ++ xs)
+    let test = codes "if " ++ (condition_text c ++ codes " ") in
+    piece before (indent depth ++ test) tested (block ++ behind) end e1 (piece tested block closed behind end e2 e3)
+    ∙ ap (λ xs. before ++ xs)
+    (append_assoc (indent depth) test (block ++ behind)
+    ∙ ap (λ xs. indent depth ++ xs)
     (append_assoc (codes "if ") (condition_text c ++ codes " ") (block ++ behind)
     ∙ ap (λ xs. codes "if " ++ xs) (append_assoc (condition_text c) (codes " ") (block ++ behind))))
     ∙ ap (λ u. before ++ lines depth u) (sym is)

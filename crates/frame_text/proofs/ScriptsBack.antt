@@ -2,8 +2,8 @@
 use Rattle.std.proofs.Common.{◌≡◌, ℕ, zero, suc, ◌+◌, ◌-◌, ◌<◌, ◌≤◌, Bool, true, false, cond, List, [], ◌∷◌, length, Ok, refl, sym, ap, ◌∙◌, arith}
 use Rattle.std.specs.Prelude.{codes, decimal, ◌&&◌, ◌||◌}
 use Rattle.std.proofs.lemmas.Bool.{le-leb}
-use Rattle.frame_tree.specs.Tree.{Test, Tree, send, retry, gap, repeat, choose, until, nothing, chained, call, define}
-use Rattle.frame_tree.specs.Bounds.{depth_in, IsInRange, CallsKnown, IsDefined, operators, HasNamedBits}
+use Rattle.frame_tree.specs.Tree.{Condition, Tree, send, retry, gap, repeat, choose, until, nothing, chained, call, define}
+use Rattle.frame_tree.specs.Bounds.{depth_in, IsInRange, CallsKnown, IsDefined, operators}
 use Rattle.frame_tree.specs.Names as names
 use Rattle.frame_tree.specs.Names.{is_name, Scope, named, is_known}
 use Rattle.frame_text.specs.Reading.{Tokens, ◌>>=◌, same, past}
@@ -80,23 +80,23 @@ else_back ds d b ts r f q true e = else_none (block_at ds (suc d)) ts f ∙ ap (
 else_back ds d b ts r f q false e = block_back ds d b ts q
 
 -- an if, of which the blocks read back
-choose_back : (ds : Scope ℕ) (d : ℕ) (c : Test) (a b : Tree) (ts : Tokens) → operators c ≤ 16 → HasNamedBits c → IsRead true b → MayFollow ts → Back ds true d a → Back ds true d b
+choose_back : (ds : Scope ℕ) (d : ℕ) (c : Condition) (a b : Tree) (ts : Tokens) → operators c ≤ 16 → IsRead true b → MayFollow ts → Back ds true d a → Back ds true d b
     → frame_at ds (suc d) (tree_then (choose c a b) ts) ≡ Ok (choose c a b, ts)
 unfolding frame_from frame_of frame_word
-choose_back ds d c a b ts o h r f p q =
+choose_back ds d c a b ts o r f p q =
     let behind : Tokens = cond (is_empty b) ts (codes "else" ∷ codes "{" ∷ tree_then b (codes "}" ∷ ts)) in
-    ap (λ z. z >>= (λ u. block_at ds (suc d) u.1 >>= (λ v. else_at (block_at ds (suc d)) v.1 >>= (λ w. Ok (choose u.0 v.0 w.0, w.1))))) (condition_back c 16 o h (codes "{" ∷ tree_then a (codes "}" ∷ behind)))
+    ap (λ z. z >>= (λ u. block_at ds (suc d) u.1 >>= (λ v. else_at (block_at ds (suc d)) v.1 >>= (λ w. Ok (choose u.0 v.0 w.0, w.1))))) (condition_back c 16 o (codes "{" ∷ tree_then a (codes "}" ∷ behind)))
     ∙ ap (λ z. z >>= (λ v. else_at (block_at ds (suc d)) v.1 >>= (λ w. Ok (choose c v.0 w.0, w.1)))) (block_back ds d a behind p)
     ∙ ap (λ z. z >>= (λ w. Ok (choose c a w.0, w.1))) (else_back ds d b ts r f q (is_empty b) refl)
 
 -- an until, of which the block reads back
-until_back : (ds : Scope ℕ) (d : ℕ) (c : Test) (n : ℕ) (b : Tree) (ts : Tokens) → operators c ≤ 16 → HasNamedBits c → 1 ≤ n → n ≤ 10000 → Back ds true d b
+until_back : (ds : Scope ℕ) (d : ℕ) (c : Condition) (n : ℕ) (b : Tree) (ts : Tokens) → operators c ≤ 16 → 1 ≤ n → n ≤ 10000 → Back ds true d b
     → frame_at ds (suc d) (tree_then (until c n b) ts) ≡ Ok (until c n b, ts)
 unfolding frame_from frame_of frame_word past
-until_back ds d c n b ts o h low high q =
+until_back ds d c n b ts o low high q =
     let body : Tokens = codes "{" ∷ tree_then b (codes "}" ∷ ts) in
     ap (λ z. z >>= (λ u. past (codes "at") u.1 >>= (λ us. past (codes "most") us >>= (λ vs. number_within 1 10000 vs >>= (λ k. block_at ds (suc d) k.1 >>= (λ x. Ok (until u.0 k.0 x.0, x.1)))))))
-    (condition_back c 16 o h (codes "at" ∷ codes "most" ∷ decimal n ∷ body))
+    (condition_back c 16 o (codes "at" ∷ codes "most" ∷ decimal n ∷ body))
     ∙ ap (λ z. z >>= (λ k. block_at ds (suc d) k.1 >>= (λ x. Ok (until c k.0 x.0, x.1)))) (within_back 1 10000 n body (omega arith) low high)
     ∙ ap (λ z. z >>= (λ x. Ok (until c n x.0, x.1))) (block_back ds d b ts q)
 
@@ -119,9 +119,9 @@ back ds false (repeat n b) (suc d) r h w l = λ ts f.
     ∙ ap (λ z. z >>= (λ x. Ok (repeat n x.0, x.1))) (block_back ds d b ts (back ds true b d r h.2 w (omega (arith, l))))
 back ds false (choose c a b) zero r h w l = absurd (omega (arith, l))
 back ds false (choose c a b) (suc d) r h w l = λ ts f.
-    choose_back ds d c a b ts h.0.0 h.0.1 r.1 f (back ds true a d r.0 h.1 w.0 (omega (arith, l))) (back ds true b d r.1 h.2 w.1 (omega (arith, l)))
+    choose_back ds d c a b ts h.0 r.1 f (back ds true a d r.0 h.1 w.0 (omega (arith, l))) (back ds true b d r.1 h.2 w.1 (omega (arith, l)))
 back ds false (until c n b) zero r h w l = absurd (omega (arith, l))
-back ds false (until c n b) (suc d) r h w l = λ ts f. until_back ds d c n b ts h.0.0 h.0.1 h.1 h.2 (back ds true b d r h.3 w (omega (arith, l)))
+back ds false (until c n b) (suc d) r h w l = λ ts f. until_back ds d c n b ts h.0 h.1 h.2 (back ds true b d r h.3 w (omega (arith, l)))
 back ds false (call n) d r h w l = λ ts f. call_back ds d n ts r w l
 back ds false (define n b k) d r h w l = absurd r
 back ds false nothing d r h w l = absurd r

@@ -1,18 +1,16 @@
 -- A tree that a text has is sound.
 use Rattle.std.proofs.Common.{◌≡◌, ℕ, zero, suc, ◌+◌, ◌≤◌, inl, inr, max, Bool, true, false, cond, List, [], ◌∷◌, length, Option, Some, None, Result, Ok, Err, refl, sym, ap, ◌∙◌, subst, arith}
 use Rattle.std.specs.Prelude.{nat_le, ◌&&◌, ◌||◌, codes}
-use Rattle.std.specs.Str.{bytes_eq}
 use Rattle.std.proofs.lemmas.Bool.Decides.{nat_tests}
-use Rattle.mil_status.specs.Status.{bit_of_name, bit_in, status_bits, Row}
-use Rattle.frame_tree.specs.Tree.{Test, Tree, bit_number, send, retry, gap, repeat, choose, until, nothing, chained, call, define}
-use Rattle.frame_tree.specs.Bounds.{depth_in, worst_messages, operators, HasNamedBits, IsNamedBit, IsInRange, CallsKnown, IsDefined, IsSound}
+use Rattle.frame_tree.specs.Tree.{Condition, Tree, send, retry, gap, repeat, choose, until, nothing, chained, call, define}
+use Rattle.frame_tree.specs.Bounds.{depth_in, worst_messages, operators, IsInRange, CallsKnown, IsDefined, IsSound}
 use Rattle.frame_tree.specs.Names.{Scope, is_known}
 use Rattle.frame_tree.specs.Names as names
 use Rattle.std.proofs.lemmas.Bool.{leb-true}
 use Rattle.frame_text.specs.Reading.{◌>>=◌, Tokens, Reading, same, misplaced, past}
 use Rattle.frame_text.specs.Words.{number_at, number_within}
 use Rattle.frame_text.specs.Messages.{send_at}
-use Rattle.frame_text.specs.Conditions.{condition_at, condition_from, condition_of, condition_word, below_at, name_at, named, pair_at}
+use Rattle.frame_text.specs.Conditions.{condition_at, condition_from, condition_of, condition_word, below_at, name_at, pair_at}
 use Rattle.frame_text.specs.Frames.{Reader, frame_at, frame_from, frame_of, frame_word, frames_at, block_at, block_from, inner_at, else_at, label_at, call_at, main_at, fresh_name_at, definition_at, script_at}
 use Rattle.frame_text.specs.declared.faults.Cause.{Cause}
 use Rattle.frame_text.specs.declared.faults.Cause.TheVariants as cause
@@ -48,48 +46,17 @@ number_ok low high ts n e =
     let i : b.0.0 ≡ n.0 = ap (λ m. m.0) k.1 in
     (omega (arith, r.0, i), omega (arith, r.1, i))
 
--- every row of a table is a named bit
-abbrev AllNamed : List Row → Type 0
-AllNamed [] = Unit {0}
-AllNamed (row ∷ rows) = IsNamedBit (bit_number row.1) × AllNamed rows
-
-named_in : (rows : List Row) (w : List ℕ) (b : ℕ) → AllNamed rows → bit_in rows w ≡ Some b → IsNamedBit (bit_number b)
-named_in [] w b a e = absurd (cc)
-named_in (row ∷ rows) w b a e = by (bytes_eq w row.0) (λ h. named_in rows w b a.1 h) e
-  where
-    by : (t : Bool) → (bit_in rows w ≡ Some b → IsNamedBit (bit_number b)) → cond t (Some row.1) (bit_in rows w) ≡ Some b → IsNamedBit (bit_number b)
-    by true more h = let i : row.1 ≡ b = cc in subst (λ (x : ℕ). IsNamedBit (bit_number x)) i a.0
-    by false more h = more h
-
-high : (n : ℕ) → 8 ≤ n → n ≤ 10 → IsNamedBit n
-high n a b = inr (a, b)
-
-low : (n : ℕ) → n ≤ 4 → IsNamedBit n
-low n a = inl a
-
-all_named : AllNamed status_bits
-all_named = (high 10 (omega arith) (omega arith), (high 9 (omega arith) (omega arith), (high 8 (omega arith) (omega arith), (low 4 (omega arith), (low 3 (omega arith), (low 2 (omega arith), (low 1 (omega arith), (low 0 (omega arith), tt))))))))
-
-name_ok : (ts : Tokens) (n : ℕ × Tokens) → name_at ts ≡ Ok n → IsNamedBit (bit_number n.0)
-unfolding name_at
-name_ok [] n e = absurd (cc)
-name_ok (w ∷ ts) n e = by (bit_of_name w) refl e
-  where
-    by : (o : Option ℕ) → bit_of_name w ≡ o → named w o ts ≡ Ok n → IsNamedBit (bit_number n.0)
-    by (Some bits) i h = let j : bits ≡ n.0 = ap (λ m. m.0) (ok_is _ n h) in subst (λ (x : ℕ). IsNamedBit (bit_number x)) j (named_in status_bits w bits all_named i)
-    by None i h = absurd (cc)
-
 -- a condition with at most so many operators above a test
-abbrev IsWithin : ℕ → Test → Type 0
-IsWithin d c = (operators c ≤ d) × HasNamedBits c
+abbrev IsWithin : ℕ → Condition → Type 0
+IsWithin d c = operators c ≤ d
 
 abbrev ConditionReader : Type 0
-ConditionReader = Tokens → Reading Test
+ConditionReader = Tokens → Reading Condition
 
 abbrev ReadsWithin : ℕ → ConditionReader → Type 0
-ReadsWithin d reader = (ts : Tokens) (c : Test × Tokens) → reader ts ≡ Ok c → IsWithin d c.0
+ReadsWithin d reader = (ts : Tokens) (c : Condition × Tokens) → reader ts ≡ Ok c → IsWithin d c.0
 
-pair_ok : (d : ℕ) (reader : ConditionReader) → ReadsWithin d reader → (ts : Tokens) (x : (Test × Test) × Tokens) → pair_at reader ts ≡ Ok x → IsWithin d x.0.0 × IsWithin d x.0.1
+pair_ok : (d : ℕ) (reader : ConditionReader) → ReadsWithin d reader → (ts : Tokens) (x : (Condition × Condition) × Tokens) → pair_at reader ts ≡ Ok x → IsWithin d x.0.0 × IsWithin d x.0.1
 unfolding pair_at
 pair_ok d reader sound ts x e =
     let o = bind_ok (past (codes "(") ts) _ x e in
@@ -97,37 +64,37 @@ pair_ok d reader sound ts x e =
     let b = bind_ok (reader a.0.1) _ x a.2 in
     let r = bind_ok (past (codes ")") b.0.1) _ x b.2 in
     let i : (a.0.0, b.0.0) ≡ x.0 = ap (λ z. z.0) (ok_is _ x r.2) in
-    let P : Test × Test → Type 0 = λ p. IsWithin d p.0 × IsWithin d p.1 in
+    let P : Condition × Condition → Type 0 = λ p. IsWithin d p.0 × IsWithin d p.1 in
     subst P i (sound o.0 a.0 a.1, sound a.0.1 b.0 b.1)
 
-one_more : (d : ℕ) (a b : Test) → IsWithin d a × IsWithin d b → (1 + max (operators a) (operators b) ≤ suc d) × (HasNamedBits a × HasNamedBits b)
-one_more d a b h = (omega (arith, h.0.0, h.1.0), (h.0.1, h.1.1))
+one_more : (d : ℕ) (a b : Condition) → IsWithin d a × IsWithin d b → 1 + max (operators a) (operators b) ≤ suc d
+one_more d a b h = omega (arith, h.0, h.1)
 
-word_none : (k : ConditionWord) (w : List ℕ) (ts : Tokens) (c : Test × Tokens) → condition_of (Err cause.Depth) k w ts ≡ Ok c → IsWithin 0 c.0
+word_none : (k : ConditionWord) (w : List ℕ) (ts : Tokens) (c : Condition × Tokens) → condition_of (Err cause.Depth) k w ts ≡ Ok c → IsWithin 0 c.0
 unfolding condition_of
-word_none key.Fail w ts c e = subst (λ (x : Test × Tokens). IsWithin 0 x.0) (ok_is _ c e) (omega arith, tt)
-word_none key.Silent w ts c e = subst (λ (x : Test × Tokens). IsWithin 0 x.0) (ok_is _ c e) (omega arith, tt)
-word_none key.Bit w ts c e = let n = bind_ok (name_at ts) _ c e in subst (λ (x : Test × Tokens). IsWithin 0 x.0) (ok_is _ c n.2) (omega arith, name_ok ts n.0 n.1)
+word_none key.Fail w ts c e = subst (λ (x : Condition × Tokens). IsWithin 0 x.0) (ok_is _ c e) (omega arith)
+word_none key.Silent w ts c e = subst (λ (x : Condition × Tokens). IsWithin 0 x.0) (ok_is _ c e) (omega arith)
+word_none key.Bit w ts c e = let n = bind_ok (name_at ts) _ c e in subst (λ (x : Condition × Tokens). IsWithin 0 x.0) (ok_is _ c n.2) (omega arith)
 word_none key.Not w ts c e = absurd (cc)
 word_none key.All w ts c e = absurd (cc)
 word_none key.Any w ts c e = absurd (cc)
 word_none key.NoCondition w ts c e = absurd (cc)
 
-word_some : (d : ℕ) (reader : ConditionReader) → ReadsWithin d reader → (k : ConditionWord) (w : List ℕ) (ts : Tokens) (c : Test × Tokens) → condition_of (Ok reader) k w ts ≡ Ok c → IsWithin (suc d) c.0
+word_some : (d : ℕ) (reader : ConditionReader) → ReadsWithin d reader → (k : ConditionWord) (w : List ℕ) (ts : Tokens) (c : Condition × Tokens) → condition_of (Ok reader) k w ts ≡ Ok c → IsWithin (suc d) c.0
 unfolding condition_of
-word_some d reader sound key.Fail w ts c e = subst (λ (x : Test × Tokens). IsWithin (suc d) x.0) (ok_is _ c e) (omega arith, tt)
-word_some d reader sound key.Silent w ts c e = subst (λ (x : Test × Tokens). IsWithin (suc d) x.0) (ok_is _ c e) (omega arith, tt)
-word_some d reader sound key.Bit w ts c e = let n = bind_ok (name_at ts) _ c e in subst (λ (x : Test × Tokens). IsWithin (suc d) x.0) (ok_is _ c n.2) (omega arith, name_ok ts n.0 n.1)
+word_some d reader sound key.Fail w ts c e = subst (λ (x : Condition × Tokens). IsWithin (suc d) x.0) (ok_is _ c e) (omega arith)
+word_some d reader sound key.Silent w ts c e = subst (λ (x : Condition × Tokens). IsWithin (suc d) x.0) (ok_is _ c e) (omega arith)
+word_some d reader sound key.Bit w ts c e = let n = bind_ok (name_at ts) _ c e in subst (λ (x : Condition × Tokens). IsWithin (suc d) x.0) (ok_is _ c n.2) (omega arith)
 word_some d reader sound key.Not w ts c e =
     let a = bind_ok (reader ts) _ c e in
     let s = sound ts a.0 a.1 in
-    subst (λ (x : Test × Tokens). IsWithin (suc d) x.0) (ok_is _ c a.2) (omega (arith, s.0), s.1)
+    subst (λ (x : Condition × Tokens). IsWithin (suc d) x.0) (ok_is _ c a.2) (omega (arith, s))
 word_some d reader sound key.All w ts c e =
     let x = bind_ok (pair_at reader ts) _ c e in
-    subst (λ (x : Test × Tokens). IsWithin (suc d) x.0) (ok_is _ c x.2) (one_more d _ _ (pair_ok d reader sound ts x.0 x.1))
+    subst (λ (x : Condition × Tokens). IsWithin (suc d) x.0) (ok_is _ c x.2) (one_more d _ _ (pair_ok d reader sound ts x.0 x.1))
 word_some d reader sound key.Any w ts c e =
     let x = bind_ok (pair_at reader ts) _ c e in
-    subst (λ (x : Test × Tokens). IsWithin (suc d) x.0) (ok_is _ c x.2) (one_more d _ _ (pair_ok d reader sound ts x.0 x.1))
+    subst (λ (x : Condition × Tokens). IsWithin (suc d) x.0) (ok_is _ c x.2) (one_more d _ _ (pair_ok d reader sound ts x.0 x.1))
 word_some d reader sound key.NoCondition w ts c e = absurd (cc)
 
 pub condition_ok : (d : ℕ) → ReadsWithin d (condition_at d)

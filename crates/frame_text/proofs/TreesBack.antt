@@ -8,7 +8,7 @@ use Rattle.frame_text.specs.Tokens.{in_word}
 use Rattle.frame_text.proofs.Digits.{IsRun}
 use Rattle.mil_message.specs.declared.forms.Form.{Form}
 use Rattle.mil_message.specs.declared.forms.Form.TheVariants.{ToTerminal, FromTerminal, Between, Mode, ModeFrom, ModeTo, ToAll, BetweenAll, ModeAll, ModeAllTo}
-use Rattle.frame_tree.specs.Tree.{Test, Tree, send, retry, gap, repeat, choose, until, nothing, chained, call, define}
+use Rattle.frame_tree.specs.Tree.{Condition, Tree, send, retry, gap, repeat, choose, until, nothing, chained, call, define}
 use Rattle.frame_tree.specs.Bounds.{IsInRange}
 use Rattle.frame_text.specs.Reading.{Tokens, same}
 use Rattle.frame_text.specs.PrintedMessages.{line_text}
@@ -82,7 +82,7 @@ tree_spells false (repeat n b) d r h =
     (spaced_lines (number_spells n (spelled n 10000 (omega arith) h.1)) (line_spells (block_spells d (tree_spells true b (d + 1) r h.2)))))
 tree_spells false (choose c a b) d r h =
     indent_spells d (spaced_lines (word_spells (codes "if") (omega arith) (refl, (refl, tt)))
-    (spaced_lines (condition_spells c h.0.1) (by (is_empty b) (tree_spells true a (d + 1) r.0 h.1) (tree_spells true b (d + 1) r.1 h.2))))
+    (spaced_lines (condition_spells c) (by (is_empty b) (tree_spells true a (d + 1) r.0 h.1) (tree_spells true b (d + 1) r.1 h.2))))
   where
     by : (e : Bool) → SpellsLines (lines (d + 1) a) (tree_then a) → SpellsLines (lines (d + 1) b) (tree_then b)
         → SpellsLines (block_text d (lines (d + 1) a) ++ (else_text d e (lines (d + 1) b) ++ codes "\n"))
@@ -91,7 +91,7 @@ tree_spells false (choose c a b) d r h =
     by false p q = spaced_lines (block_spells d p) (spaced_lines (word_spells (codes "else") (omega arith) (refl, (refl, (refl, (refl, tt))))) (line_spells (block_spells d q)))
 tree_spells false (until c n b) d r h =
     indent_spells d (spaced_lines (word_spells (codes "until") (omega arith) (refl, (refl, (refl, (refl, (refl, tt))))))
-    (spaced_lines (condition_spells c h.0.1)
+    (spaced_lines (condition_spells c)
     (spaced_lines (word_spells (codes "at") (omega arith) (refl, (refl, tt)))
     (spaced_lines (word_spells (codes "most") (omega arith) (refl, (refl, (refl, (refl, tt)))))
     (spaced_lines (number_spells n (spelled n 10000 (omega arith) h.2)) (line_spells (block_spells d (tree_spells true b (d + 1) r h.3))))))))
@@ -139,14 +139,14 @@ message_grows (BetweenAll a s t n) ts = omega arith
 message_grows (ModeAll s c) ts = omega arith
 message_grows (ModeAllTo s c w) ts = omega arith
 
-choose_longer : (e : Bool) (c : Test) (a b : Tree) (ts : Tokens) → length (codes "}" ∷ ts) ≤ length (tree_then b (codes "}" ∷ ts)) → ((us : Tokens) → length us ≤ length (tree_then a us))
+choose_longer : (e : Bool) (c : Condition) (a b : Tree) (ts : Tokens) → length (codes "}" ∷ ts) ≤ length (tree_then b (codes "}" ∷ ts)) → ((us : Tokens) → length us ≤ length (tree_then a us))
     → length ts < length (codes "if" ∷ condition_then c (codes "{" ∷ tree_then a (codes "}" ∷ cond e ts (codes "else" ∷ codes "{" ∷ tree_then b (codes "}" ∷ ts)))))
 choose_longer true c a b ts q p = omega (arith, condition_grows c (codes "{" ∷ tree_then a (codes "}" ∷ ts)), p (codes "}" ∷ ts))
 choose_longer false c a b ts q p =
     let behind : Tokens = codes "}" ∷ codes "else" ∷ codes "{" ∷ tree_then b (codes "}" ∷ ts) in
     omega (arith, condition_grows c (codes "{" ∷ tree_then a behind), p behind, q)
 
-until_longer : (c : Test) (n : ℕ) (b : Tree) (ts : Tokens) → length (codes "}" ∷ ts) ≤ length (tree_then b (codes "}" ∷ ts))
+until_longer : (c : Condition) (n : ℕ) (b : Tree) (ts : Tokens) → length (codes "}" ∷ ts) ≤ length (tree_then b (codes "}" ∷ ts))
     → length ts < length (codes "until" ∷ condition_then c (codes "at" ∷ codes "most" ∷ decimal n ∷ codes "{" ∷ tree_then b (codes "}" ∷ ts)))
 until_longer c n b ts q = omega (arith, condition_grows c (codes "at" ∷ codes "most" ∷ decimal n ∷ codes "{" ∷ tree_then b (codes "}" ∷ ts)), q)
 

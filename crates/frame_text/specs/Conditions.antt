@@ -1,7 +1,9 @@
 -- The text of a condition (own choice).
 use Rattle.std.specs.Prelude.{ℕ, zero, suc, if◌then◌else◌, List, [], ◌∷◌, Option, Some, None, Result, Ok, Err, codes}
-use Rattle.mil_status.specs.Status.{bit_of_name}
-use Rattle.frame_tree.specs.Tree.{Test, failed, silent, bit, negated, both, either}
+use Rattle.mil_status.specs.Status.{bit_named}
+use Rattle.mil_status.specs.declared.bit.StatusBit.{StatusBit}
+use Rattle.mil_message.specs.declared.outcome_test.OutcomeTest.TheVariants.{Failed, Silent, Bit}
+use Rattle.frame_tree.specs.Tree.{Condition, asked, negated, both, either}
 use Rattle.frame_text.specs.Tokens.{tokens}
 use Rattle.frame_text.specs.Reading.{Tokens, Reading, ◌>>=◌, same, misplaced, past, to_the_end}
 use Rattle.frame_text.specs.declared.faults.Cause.{Cause}
@@ -19,28 +21,28 @@ condition_word w =
     if same w (codes "any") then word.Any else
     word.NoCondition
 
--- the status bit of a name, as the value of its set
-abbrev pub named : List ℕ → Option ℕ → Tokens → Reading ℕ
-named w (Some bits) ts = Ok (bits, ts)
+-- the status bit of a name
+abbrev pub named : List ℕ → Option StatusBit → Tokens → Reading StatusBit
+named w (Some bit) ts = Ok (bit, ts)
 named w None ts = Err (misplaced w)
 
-unfoldable pub name_at : Tokens → Reading ℕ
+unfoldable pub name_at : Tokens → Reading StatusBit
 name_at [] = Err cause.End
-name_at (w ∷ ts) = named w (bit_of_name w) ts
+name_at (w ∷ ts) = named w (bit_named w) ts
 
 abbrev pub Reader : Type 0
-Reader = Tokens → Reading Test
+Reader = Tokens → Reading Condition
 
 -- two conditions in their brackets
-unfoldable pub pair_at : Reader → Tokens → Reading (Test × Test)
+unfoldable pub pair_at : Reader → Tokens → Reading (Condition × Condition)
 pair_at below ts =
     past (codes "(") ts >>= (λ us. below us >>= (λ a. below a.1 >>= (λ b. past (codes ")") b.1 >>= (λ rest. Ok ((a.0, b.0), rest)))))
 
 -- a condition by its first word; below reads those in it, or is the fault of one level too many
-unfoldable pub condition_of : Result Reader Cause → ConditionWord → List ℕ → Tokens → Reading Test
-condition_of below word.Fail w ts = Ok (failed, ts)
-condition_of below word.Silent w ts = Ok (silent, ts)
-condition_of below word.Bit w ts = name_at ts >>= (λ name. Ok (bit name.0, name.1))
+unfoldable pub condition_of : Result Reader Cause → ConditionWord → List ℕ → Tokens → Reading Condition
+condition_of below word.Fail w ts = Ok (asked Failed, ts)
+condition_of below word.Silent w ts = Ok (asked Silent, ts)
+condition_of below word.Bit w ts = name_at ts >>= (λ name. Ok (asked (Bit name.0), name.1))
 condition_of below word.Not w ts = below >>= (λ reader. reader ts >>= (λ a. Ok (negated a.0, a.1)))
 condition_of below word.All w ts = below >>= (λ reader. pair_at reader ts >>= (λ x. Ok (both x.0.0 x.0.1, x.1)))
 condition_of below word.Any w ts = below >>= (λ reader. pair_at reader ts >>= (λ x. Ok (either x.0.0 x.0.1, x.1)))
@@ -60,5 +62,5 @@ abbrev pub condition_at : ℕ → Reader
 condition_at d ts = condition_from (below_at d) ts
 
 -- the condition of a whole text
-abbrev pub condition_of_text : List ℕ → Result Test Cause
+abbrev pub condition_of_text : List ℕ → Result Condition Cause
 condition_of_text text = condition_at 16 (tokens text) >>= (λ read. to_the_end read)

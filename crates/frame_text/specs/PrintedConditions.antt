@@ -1,21 +1,18 @@
 -- The text that a condition is printed as (own choice).
-use Rattle.std.specs.Prelude.{ℕ, ◌==◌, if◌then◌else◌, List, [], ◌∷◌, ◌++◌, codes}
-use Rattle.mil_status.specs.Status.{Row, status_bits}
-use Rattle.frame_tree.specs.Tree.{Test, failed, silent, bit, negated, both, either}
+use Rattle.std.specs.Prelude.{ℕ, List, ◌++◌, codes}
+use Rattle.mil_status.specs.Status.{name_of}
+use Rattle.mil_message.specs.declared.outcome_test.OutcomeTest.{OutcomeTest}
+use Rattle.mil_message.specs.declared.outcome_test.OutcomeTest.TheVariants.{Failed, Silent, Bit}
+use Rattle.frame_tree.specs.Tree.{Condition, asked, negated, both, either}
 
--- the name of a set of bits in a table
-abbrev pub name_in : List Row → ℕ → List ℕ
-name_in [] bits = codes "unnamed"
-name_in (row ∷ rows) bits = if bits == row.1 then row.0 else name_in rows bits
+-- the text of a test
+abbrev pub test_text : OutcomeTest → List ℕ
+test_text Failed = codes "fail"
+test_text Silent = codes "silent"
+test_text (Bit b) = codes "bit " ++ name_of b
 
--- the name of one bit of the status word, given as the value of its set; no condition of a script has a set without a name
-abbrev pub name_of_bit : ℕ → List ℕ
-name_of_bit bits = name_in status_bits bits
-
-unfoldable pub condition_text : Test → List ℕ
-condition_text failed = codes "fail"
-condition_text silent = codes "silent"
-condition_text (bit bits) = codes "bit " ++ name_of_bit bits
+unfoldable pub condition_text : Condition → List ℕ
+condition_text (asked t) = test_text t
 condition_text (negated c) = codes "not " ++ condition_text c
 condition_text (both a b) = codes "all ( " ++ (condition_text a ++ (codes " " ++ (condition_text b ++ codes " )")))
 condition_text (either a b) = codes "any ( " ++ (condition_text a ++ (codes " " ++ (condition_text b ++ codes " )")))

@@ -1,7 +1,7 @@
 //! The text of a condition.
 
 ghost use Rattle.std.specs.Prelude.{◌≡◌, ◌<◌, ◌-◌, length, IfOk};
-ghost use Rattle.frame_tree.specs.Tree.{test_of};
+ghost use Rattle.frame_tree.specs.Tree.{condition_in};
 ghost use Rattle.frame_text.specs.Tokens.{tokens};
 ghost use Rattle.frame_text.specs.Reading.{Gives};
 ghost use Rattle.frame_text.specs.Conditions.{name_at, pair_at, condition_at, below_at};
@@ -11,19 +11,20 @@ use crate::keywords::{ConditionWord, condition_word, misplaced};
 use crate::memory::or_refused;
 use crate::tokens::{after_token, fault, next};
 use frame_tree::Cond;
-use mil_status::{StatusBits, bit_named};
+use mil_message::OutcomeTest;
+use mil_status::StatusBit;
 use std::alloc::Allocator;
 
 // The status bit of a name.
 #[tactic(auto, unfolding(crate::specs::Conditions::name_at))]
-fn name(text: &[u8]) -> Result<(StatusBits, &[u8]), Fault>
-    ensures tree { Gives (λ x. (x.0.0, tokens x.1.now)) result (name_at (tokens text.now)) }
+fn name(text: &[u8]) -> Result<(StatusBit, &[u8]), Fault>
+    ensures tree { Gives (λ x. (x.0, tokens x.1.now)) result (name_at (tokens text.now)) }
     ensures fewer { IfOk result (λ x. length (tokens x.1.now) < length (tokens text.now)) }
 {
     let Some((word, rest)) = next(text) else {
         return Err(fault(Cause::End, text));
     };
-    match bit_named(word) {
+    match StatusBit::named(word) {
         Some(bit) => Ok((bit, rest)),
         None => Err(fault(misplaced(word), text)),
     }
@@ -49,7 +50,7 @@ fn pair<'a, A: Allocator + Clone>(
     text: &'a [u8],
     depth: u8,
 ) -> Result<(Box<Cond<A>, A>, Box<Cond<A>, A>, &'a [u8]), Fault>
-    ensures tree { Gives (λ x. ((test_of x.0.value, test_of x.1.value), tokens x.2.now)) result (pair_at (condition_at depth) (tokens text.now)) }
+    ensures tree { Gives (λ x. ((condition_in x.0.value, condition_in x.1.value), tokens x.2.now)) result (pair_at (condition_at depth) (tokens text.now)) }
     ensures fewer { IfOk result (λ x. length (tokens x.2.now) < length (tokens text.now)) }
 {
     let rest = after_token(text, b"(")?;
@@ -71,18 +72,18 @@ pub fn condition<'a, A: Allocator + Clone>(
     text: &'a [u8],
     depth: u8,
 ) -> Result<(Cond<A>, &'a [u8]), Fault>
-    ensures tree { Gives (λ x. (test_of x.0, tokens x.1.now)) result (condition_at depth (tokens text.now)) }
+    ensures tree { Gives (λ x. (condition_in x.0, tokens x.1.now)) result (condition_at depth (tokens text.now)) }
     ensures fewer { IfOk result (λ x. length (tokens x.1.now) < length (tokens text.now)) }
 {
     let Some((word, rest)) = next(text) else {
         return Err(fault(Cause::End, text));
     };
     match condition_word(word) {
-        ConditionWord::Fail => Ok((Cond::Fail, rest)),
-        ConditionWord::Silent => Ok((Cond::Silent, rest)),
+        ConditionWord::Fail => Ok((Cond::Test(OutcomeTest::Failed), rest)),
+        ConditionWord::Silent => Ok((Cond::Test(OutcomeTest::Silent), rest)),
         ConditionWord::Bit => {
             let (bit, rest) = name(rest)?;
-            Ok((Cond::Bit(bit), rest))
+            Ok((Cond::Test(OutcomeTest::Bit(bit)), rest))
         }
         ConditionWord::Not => {
             let depth = within(depth, text)?;

@@ -3,7 +3,7 @@
 #![tactic(auto)]
 
 ghost use Rattle.std.specs.Prelude.{◌≡◌, Ok, IfOk, IfErr, string_bytes};
-ghost use Rattle.frame_tree.specs.Tree.{test_of, tree_of};
+ghost use Rattle.frame_tree.specs.Tree.{condition_in, tree_of};
 ghost use Rattle.frame_tree.specs.Bounds.{IsSound};
 ghost use Rattle.frame_text.specs.Reading.{Answers, IsTextError};
 ghost use Rattle.frame_text.specs.Messages.{send_of_text};
@@ -66,7 +66,7 @@ pub fn read_send(text: &[u8]) -> Result<(Line, Message), ScriptError>
 
 /// The condition of a text such as `any ( fail silent )`.
 pub fn read_cond<A: Allocator + Clone>(alloc: A, text: &[u8]) -> Result<Cond<A>, ScriptError>
-    ensures tree { Answers test_of result (condition_of_text text.now) }
+    ensures tree { Answers condition_in result (condition_of_text text.now) }
     ensures place { IfErr result (λ e. StandsIn text.now e) }
 {
     match whole::condition(&alloc, text) {

@@ -1,27 +1,24 @@
 //! Conditions as text.
 
 ghost use Rattle.std.specs.Prelude.{◌≡◌, ◌++◌, OnOk, string_bytes};
-ghost use Rattle.frame_tree.specs.Tree.{test_of};
+ghost use Rattle.frame_tree.specs.Tree.{condition_in};
 ghost use Rattle.frame_text.specs.PrintedConditions as texts;
 
 use frame_tree::Cond;
-use mil_status::StatusBits;
+use mil_message::OutcomeTest;
 use std::alloc::{AllocError, Allocator};
 
-// The name of a status bit.
-fn name_of_bit(bit: StatusBits) -> &'static str
-    ensures { result.now ≡ texts.name_of_bit bit.0 }
+// A test.
+fn put_test(out: &mut String, test: OutcomeTest) -> Result<(), AllocError>
+    ensures { OnOk result (string_bytes out.new ≡ string_bytes out.old ++ texts.test_text test) }
 {
-    match bit.0 {
-        1 => "terminal",
-        2 => "control",
-        4 => "subsystem",
-        8 => "busy",
-        16 => "broadcast",
-        256 => "service_request",
-        512 => "instrumentation",
-        1024 => "message_error",
-        _ => "unnamed",
+    match test {
+        OutcomeTest::Failed => out.push_str("fail"),
+        OutcomeTest::Silent => out.push_str("silent"),
+        OutcomeTest::Bit(bit) => {
+            out.push_str("bit ")?;
+            out.push_str(bit.name())
+        }
     }
 }
 
@@ -31,15 +28,10 @@ pub fn put_condition<A: Allocator + Clone>(
     out: &mut String,
     condition: &Cond<A>,
 ) -> Result<(), AllocError>
-    ensures { OnOk result (string_bytes out.new ≡ string_bytes out.old ++ texts.condition_text (test_of condition.now)) }
+    ensures { OnOk result (string_bytes out.new ≡ string_bytes out.old ++ texts.condition_text (condition_in condition.now)) }
 {
     match condition {
-        Cond::Fail => out.push_str("fail"),
-        Cond::Silent => out.push_str("silent"),
-        Cond::Bit(bit) => {
-            out.push_str("bit ")?;
-            out.push_str(name_of_bit(*bit))
-        }
+        Cond::Test(test) => put_test(out, *test),
         Cond::Not(inner) => {
             out.push_str("not ")?;
             put_condition(out, inner)

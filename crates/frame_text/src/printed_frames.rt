@@ -1,7 +1,7 @@
 //! Frames as text, one a line.
 
 ghost use Rattle.std.specs.Prelude.{◌≡◌, true, ◌+◌, ◌++◌, OnOk, string_bytes, codes, decimal};
-ghost use Rattle.frame_tree.specs.Tree.{test_of, tree_of, retry, gap, call};
+ghost use Rattle.frame_tree.specs.Tree.{condition_in, tree_of, send, retry, gap, repeat, until, call};
 ghost use Rattle.frame_tree.specs.Names.{is_word};
 ghost use Rattle.frame_text.specs.PrintedConditions.{condition_text};
 ghost use Rattle.frame_text.specs.PrintedMessages.{send_text};
@@ -43,11 +43,25 @@ fn put_indent(out: &mut String, depth: usize) -> Result<(), AllocError>
 }
 
 // A line and a message, with the end of their line.
-fn put_send_line(out: &mut String, line: Line, message: &Message) -> Result<(), AllocError>
+fn put_message(out: &mut String, line: Line, message: &Message) -> Result<(), AllocError>
     ensures { OnOk result (string_bytes out.new ≡ string_bytes out.old ++ (send_text line message.now ++ codes "\n")) }
 {
     put_send(out, line, message)?;
     out.push_str("\n")
+}
+
+// A message that is sent once, on its line.
+#[tactic(auto, unfolding(crate::specs::Printing::lines))]
+fn put_send_line(
+    out: &mut String,
+    line: Line,
+    message: &Message,
+    depth: usize,
+) -> Result<(), AllocError>
+    ensures { OnOk result (string_bytes out.new ≡ string_bytes out.old ++ texts.lines depth (send line message.now)) }
+{
+    put_indent(out, depth)?;
+    put_message(out, line, message)
 }
 
 // A message that is sent again, on its line.
@@ -63,7 +77,7 @@ fn put_retry(
 {
     put_indent(out, depth)?;
     write!(out, "retry {count} ")?;
-    put_send_line(out, line, message)
+    put_message(out, line, message)
 }
 
 // A gap, on its line.
@@ -116,13 +130,15 @@ fn put_define(out: &mut String, name: &Name) -> Result<(), AllocError>
     out.push_str(" ")
 }
 
-// What stands in front of the first block of an if.
+// What stands in front of the first block of an if, with its indent.
 fn put_if_condition<A: Allocator + Clone>(
     out: &mut String,
     condition: &Cond<A>,
+    depth: usize,
 ) -> Result<(), AllocError>
-    ensures { OnOk result (string_bytes out.new ≡ string_bytes out.old ++ (codes "if " ++ (condition_text (test_of condition.now) ++ codes " "))) }
+    ensures { OnOk result (string_bytes out.new ≡ string_bytes out.old ++ (texts.indent depth ++ (codes "if " ++ (condition_text (condition_in condition.now) ++ codes " ")))) }
 {
+    put_indent(out, depth)?;
     out.push_str("if ")?;
     put_condition(out, condition)?;
     out.push_str(" ")
@@ -134,7 +150,7 @@ fn put_until_condition<A: Allocator + Clone>(
     condition: &Cond<A>,
     count: u16,
 ) -> Result<(), AllocError>
-    ensures { OnOk result (string_bytes out.new ≡ string_bytes out.old ++ (codes "until " ++ (condition_text (test_of condition.now) ++ (codes " at most " ++ (decimal count ++ codes " "))))) }
+    ensures { OnOk result (string_bytes out.new ≡ string_bytes out.old ++ (codes "until " ++ (condition_text (condition_in condition.now) ++ (codes " at most " ++ (decimal count ++ codes " "))))) }
 {
     out.push_str("until ")?;
     put_condition(out, condition)?;
@@ -158,6 +174,41 @@ fn put_block<A: Allocator + Clone>(
     out.push_str("}")
 }
 
+// A repeat, on its lines.
+#[cycle(lines)]
+#[tactic(auto, unfolding(crate::specs::Printing::lines))]
+fn put_repeat<A: Allocator + Clone>(
+    out: &mut String,
+    body: &Frame<A>,
+    count: u16,
+    depth: usize,
+) -> Result<(), AllocError>
+    ensures { OnOk result (string_bytes out.new ≡ string_bytes out.old ++ texts.lines depth (repeat count (tree_of body.now))) }
+{
+    put_indent(out, depth)?;
+    write!(out, "repeat {count} ")?;
+    put_block(out, body, depth)?;
+    out.push_str("\n")
+}
+
+// An until, on its lines.
+#[cycle(lines)]
+#[tactic(auto, unfolding(crate::specs::Printing::lines))]
+fn put_until<A: Allocator + Clone>(
+    out: &mut String,
+    body: &Frame<A>,
+    condition: &Cond<A>,
+    count: u16,
+    depth: usize,
+) -> Result<(), AllocError>
+    ensures { OnOk result (string_bytes out.new ≡ string_bytes out.old ++ texts.lines depth (until (condition_in condition.now) count (tree_of body.now))) }
+{
+    put_indent(out, depth)?;
+    put_until_condition(out, condition, count)?;
+    put_block(out, body, depth)?;
+    out.push_str("\n")
+}
+
 /// The lines of a frame inside so many blocks.
 #[cycle(lines)]
 #[tactic(auto, unfolding(crate::specs::Printing::lines))]
@@ -169,29 +220,20 @@ pub fn put_lines<A: Allocator + Clone>(
     ensures { OnOk result (string_bytes out.new ≡ string_bytes out.old ++ texts.lines depth (tree_of frame.now)) }
 {
     match frame {
-        Frame::Send { line, message } => {
-            put_indent(out, depth)?;
-            put_send_line(out, *line, message)
-        }
+        Frame::Send { line, message } => put_send_line(out, *line, message, depth),
         Frame::Retry {
             count,
             line,
             message,
         } => put_retry(out, *count, *line, message, depth),
         Frame::Gap(ticks) => put_gap(out, *ticks, depth),
-        Frame::Repeat { count, body } => {
-            put_indent(out, depth)?;
-            write!(out, "repeat {count} ")?;
-            put_block(out, body, depth)?;
-            out.push_str("\n")
-        }
+        Frame::Repeat { count, body } => put_repeat(out, body, *count, depth),
         Frame::If {
             condition,
             then,
             otherwise,
         } => {
-            put_indent(out, depth)?;
-            put_if_condition(out, condition)?;
+            put_if_condition(out, condition, depth)?;
             put_block(out, then, depth)?;
             put_else(out, otherwise, depth)?;
             Ok(())
@@ -200,12 +242,7 @@ pub fn put_lines<A: Allocator + Clone>(
             condition,
             count,
             body,
-        } => {
-            put_indent(out, depth)?;
-            put_until_condition(out, condition, *count)?;
-            put_block(out, body, depth)?;
-            out.push_str("\n")
-        }
+        } => put_until(out, body, condition, *count, depth),
         Frame::Seq(frames) => {
             for one in frames {
                 put_lines(out, one, depth)?;

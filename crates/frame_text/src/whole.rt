@@ -1,7 +1,7 @@
 //! Whole texts.
 
 ghost use Rattle.std.specs.Prelude.{IfOk, IfErr};
-ghost use Rattle.frame_tree.specs.Tree.{test_of, tree_of};
+ghost use Rattle.frame_tree.specs.Tree.{condition_in, tree_of};
 ghost use Rattle.frame_tree.specs.Bounds.{IsSound};
 ghost use Rattle.frame_text.specs.Reading.{Gives, IsOfText};
 ghost use Rattle.frame_text.specs.Messages.{send_of_text};
@@ -47,7 +47,7 @@ pub fn send(text: &[u8]) -> Result<(Line, Message), Fault>
 /// The condition of a whole text.
 #[tactic(auto, unfolding(crate::specs::Reading::to_the_end))]
 pub fn condition<A: Allocator + Clone>(alloc: &A, text: &[u8]) -> Result<Cond<A>, Fault>
-    ensures { Gives test_of result (condition_of_text text.now) }
+    ensures { Gives condition_in result (condition_of_text text.now) }
 {
     let (condition, rest) = conditions::condition(alloc, text, 16)?;
     match next(rest) {

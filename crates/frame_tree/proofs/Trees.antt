@@ -2,7 +2,7 @@
 use Rattle.std.proofs.Common.{◌≡◌, ℕ, ◌+◌, ◌<◌, ◌≤◌, ◌↔◌, min, max, IsTrue, true, false, arith, subst, length, get_or, List, [], ◌∷◌, ◌++◌, map, take, drop, refl, sym, ap, ap₂, ◌∙◌, rules, Vec, Box, add-one}
 use Rattle.std.proofs.lemmas.List.{take_more, drop_all, map-append}
 use Rattle.std.proofs.Math.Seq.{drop-cons}
-use Rattle.frame_tree.specs.Tree.{Tree, chain, test_of, tree_of, repeat, choose, until, nothing, chained, define}
+use Rattle.frame_tree.specs.Tree.{Tree, chain, condition_in, tree_of, repeat, choose, until, nothing, chained, define}
 use Rattle.frame_tree.specs.declared.Cond.{Cond}
 use Rattle.frame_tree.specs.Names.{Scope}
 use Rattle.frame_tree.specs.Bounds.{depth_in, messages_in, IsInRange, CallsKnown, IsDefined}
@@ -14,10 +14,10 @@ tree_seq v = search (rules, the_lemmas)
 pub tree_repeat : {A : Type 0} (n : ℕ) (b : Box (Frame A) A) → tree_of (Repeat n b) ≡ repeat n (tree_of b.value)
 tree_repeat n b = search (rules, the_lemmas)
 
-pub tree_if : {A : Type 0} (c : Cond A) (a b : Box (Frame A) A) → tree_of (If c a b) ≡ choose (test_of c) (tree_of a.value) (tree_of b.value)
+pub tree_if : {A : Type 0} (c : Cond A) (a b : Box (Frame A) A) → tree_of (If c a b) ≡ choose (condition_in c) (tree_of a.value) (tree_of b.value)
 tree_if c a b = search (rules, the_lemmas)
 
-pub tree_until : {A : Type 0} (c : Cond A) (n : ℕ) (b : Box (Frame A) A) → tree_of (Until c n b) ≡ until (test_of c) n (tree_of b.value)
+pub tree_until : {A : Type 0} (c : Cond A) (n : ℕ) (b : Box (Frame A) A) → tree_of (Until c n b) ≡ until (condition_in c) n (tree_of b.value)
 tree_until c n b = search (rules, the_lemmas)
 
 pub tree_define : {A : Type 0} (n : List ℕ) (b r : Box (Frame A) A) → tree_of (Define n b r) ≡ define n (tree_of b.value) (tree_of r.value)

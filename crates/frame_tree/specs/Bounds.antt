@@ -1,6 +1,6 @@
 -- How large a tree is, and which trees are sound (own choice).
 use Rattle.std.specs.Prelude.{◌≡◌, ℕ, ◌+◌, ◌*◌, ◌≤◌, ◌<◌, ◌⊎◌, max, true, false, [], ◌∷◌, length}
-use Rattle.frame_tree.specs.Tree.{Test, failed, silent, bit, negated, both, either, Tree, send, retry, gap, repeat, choose, until, nothing, chained, call, define, bit_number}
+use Rattle.frame_tree.specs.Tree.{Condition, asked, negated, both, either, Tree, send, retry, gap, repeat, choose, until, nothing, chained, call, define}
 use Rattle.frame_tree.specs.Names.{Scope, named, is_known}
 
 -- How many messages a tree sends at most, where a call of each name in scope sends so many: every retry is used up, an until
@@ -37,30 +37,16 @@ depth_in ds (define n b r) = max (depth_in ds b) (depth_in ((n, depth_in ds b) �
 abbrev pub depth : Tree → ℕ
 depth t = depth_in [] t
 
--- how many operators stand above a test at most
-abbrev pub operators : Test → ℕ
-operators failed = 0
-operators silent = 0
-operators (bit bits) = 0
+-- how many operators stand above a test of a condition at most
+abbrev pub operators : Condition → ℕ
+operators (asked t) = 0
 operators (negated c) = 1 + operators c
 operators (both a b) = 1 + max (operators a) (operators b)
 operators (either a b) = 1 + max (operators a) (operators b)
 
--- the number of a bit of the status word that has a name (MIL-STD-1553B 4.3.3.5.3; 5 to 7 are reserved)
-abbrev pub IsNamedBit : ℕ → Type 0
-IsNamedBit b = (b ≤ 4) ⊎ ((8 ≤ b) × (b ≤ 10))
-
-abbrev pub HasNamedBits : Test → Type 0
-HasNamedBits failed = Unit {0}
-HasNamedBits silent = Unit {0}
-HasNamedBits (bit bits) = IsNamedBit (bit_number bits)
-HasNamedBits (negated c) = HasNamedBits c
-HasNamedBits (both a b) = HasNamedBits a × HasNamedBits b
-HasNamedBits (either a b) = HasNamedBits a × HasNamedBits b
-
 -- a condition that a script may have
-abbrev pub IsCondition : Test → Type 0
-IsCondition c = (operators c ≤ 16) × HasNamedBits c
+abbrev pub IsCondition : Condition → Type 0
+IsCondition c = operators c ≤ 16
 
 -- every number of a tree in its range, and every condition one that a script may have
 abbrev pub IsInRange : Tree → Type 0

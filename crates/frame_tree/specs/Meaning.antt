@@ -2,8 +2,9 @@
 use Rattle.std.specs.Prelude.{ℕ, zero, suc, ◌+◌, Bool, not, ◌&&◌, ◌||◌, if◌then◌else◌}
 use Rattle.mil_word.specs.declared.Line.{Line}
 use Rattle.mil_message.specs.declared.messages.Message.{Message}
+use Rattle.mil_message.specs.declared.outcome_test.OutcomeTest.TheVariants.{Failed}
 use Rattle.mil_message.specs.World.{World, Point, other_line, sent, asks}
-use Rattle.frame_tree.specs.Tree.{Test, failed, silent, bit, negated, both, either, Tree, send, retry, gap, repeat, choose, until, nothing, chained, call, define, bit_number}
+use Rattle.frame_tree.specs.Tree.{Condition, asked, negated, both, either, Tree, send, retry, gap, repeat, choose, until, nothing, chained, call, define}
 use Rattle.frame_tree.specs.Expansion.{expansion}
 
 -- n times in a row
@@ -12,25 +13,23 @@ times zero f x = x
 times (suc n) f x = times n f (f x)
 
 module _ {State Outcome : Type 0} (w : World State Outcome) where
-  -- what a test says of the last outcome; a set that is not one named bit is no bit of it, and false
-  abbrev pub test_meaning : Test → Point State Outcome → Bool
-  test_meaning failed p = asks w 0 p
-  test_meaning silent p = asks w 1 p
-  test_meaning (bit bits) p = asks w (16 + bit_number bits) p
-  test_meaning (negated c) p = not (test_meaning c p)
-  test_meaning (both a b) p = test_meaning a p && test_meaning b p
-  test_meaning (either a b) p = test_meaning a p || test_meaning b p
+  -- what a condition says of the last outcome
+  abbrev pub condition_meaning : Condition → Point State Outcome → Bool
+  condition_meaning (asked t) p = asks w t p
+  condition_meaning (negated c) p = not (condition_meaning c p)
+  condition_meaning (both a b) p = condition_meaning a p && condition_meaning b p
+  condition_meaning (either a b) p = condition_meaning a p || condition_meaning b p
 
   -- at most n further attempts, each on the other line than the one before, while the last outcome is failed
   abbrev pub attempts : ℕ → Line → Message → Point State Outcome → Point State Outcome
   attempts zero line message p = p
   attempts (suc n) line message p =
-      if asks w 0 p then attempts n (other_line line) message (sent w (other_line line) message p) else p
+      if asks w Failed p then attempts n (other_line line) message (sent w (other_line line) message p) else p
 
   -- at most n turns of a body, while a condition that is looked at before each turn does not hold
-  abbrev pub turns_until : ℕ → Test → (Point State Outcome → Point State Outcome) → Point State Outcome → Point State Outcome
+  abbrev pub turns_until : ℕ → Condition → (Point State Outcome → Point State Outcome) → Point State Outcome → Point State Outcome
   turns_until zero c body p = p
-  turns_until (suc n) c body p = if test_meaning c p then p else turns_until n c body (body p)
+  turns_until (suc n) c body p = if condition_meaning c p then p else turns_until n c body (body p)
 
   -- where a run is after a frame without calls; a call that is left has nothing to stand for it
   abbrev pub plain_meaning : Tree → Point State Outcome → Point State Outcome
@@ -38,7 +37,7 @@ module _ {State Outcome : Type 0} (w : World State Outcome) where
   plain_meaning (retry n line message) p = attempts n line message (sent w line message p)
   plain_meaning (gap t) p = record p { gap = t }
   plain_meaning (repeat n body) p = times n (plain_meaning body) p
-  plain_meaning (choose c a b) p = if test_meaning c p then plain_meaning a p else plain_meaning b p
+  plain_meaning (choose c a b) p = if condition_meaning c p then plain_meaning a p else plain_meaning b p
   plain_meaning (until c n body) p = turns_until n c (plain_meaning body) p
   plain_meaning nothing p = p
   plain_meaning (chained a b) p = plain_meaning b (plain_meaning a p)

@@ -1,20 +1,19 @@
 -- A frame as plain data (own choice): the same tree under every allocator.
-use Rattle.std.specs.Prelude.{ℕ, List, [], ◌∷◌, ◌==◌, if◌then◌else◌}
+use Rattle.std.specs.Prelude.{ℕ, List, [], ◌∷◌}
 use Rattle.mil_word.specs.declared.Line.{Line}
 use Rattle.mil_message.specs.declared.messages.Message.{Message}
+use Rattle.mil_message.specs.declared.outcome_test.OutcomeTest.{OutcomeTest}
 use Rattle.frame_tree.specs.declared.Cond.{Cond}
-use Rattle.frame_tree.specs.declared.Cond.TheVariants.{Fail, Silent, Bit, Not', And', Or'}
+use Rattle.frame_tree.specs.declared.Cond.TheVariants.{Test, Not', And', Or'}
 use Rattle.frame_tree.specs.declared.Frame.{Frame, fold-Frame}
 use Rattle.frame_tree.specs.declared.Frame.TheOpen.{Frame-F}
 
--- a test of the last outcome; bits of the status word are given as the value of their set
-pub data Test : Type 0 where
-  failed : Test
-  silent : Test
-  bit : ℕ → Test
-  negated : Test → Test
-  both : Test → Test → Test
-  either : Test → Test → Test
+-- what is asked of the last outcome
+pub data Condition : Type 0 where
+  asked : OutcomeTest → Condition
+  negated : Condition → Condition
+  both : Condition → Condition → Condition
+  either : Condition → Condition → Condition
 
 -- frames one after the other are chained: one and the chain of those after it, ended by nothing; a definition is its name,
 -- its body, and the tree in which the name stands for it
@@ -23,8 +22,8 @@ pub data Tree : Type 0 where
   retry : ℕ → Line → Message → Tree
   gap : ℕ → Tree
   repeat : ℕ → Tree → Tree
-  choose : Test → Tree → Tree → Tree
-  until : Test → ℕ → Tree → Tree
+  choose : Condition → Tree → Tree → Tree
+  until : Condition → ℕ → Tree → Tree
   nothing : Tree
   chained : Tree → Tree → Tree
   call : List ℕ → Tree
@@ -34,27 +33,12 @@ abbrev pub chain : List Tree → Tree
 chain [] = nothing
 chain (t ∷ ts) = chained t (chain ts)
 
--- the number of the one status bit in this set, least significant first (MIL-STD-1553B 4.3.3.5.3); 16 for a set that is
--- not one named bit
-abbrev pub bit_number : ℕ → ℕ
-bit_number bits =
-    if bits == 1 then 0 else
-    if bits == 2 then 1 else
-    if bits == 4 then 2 else
-    if bits == 8 then 3 else
-    if bits == 16 then 4 else
-    if bits == 256 then 8 else
-    if bits == 512 then 9 else
-    if bits == 1024 then 10 else 16
-
 -- a condition as plain data
-abbrev pub test_of : {A : Type 0} → Cond A → Test
-test_of Fail = failed
-test_of Silent = silent
-test_of (Bit b) = bit b.0
-test_of (Not' p c) = negated (test_of c)
-test_of (And' p a q b) = both (test_of a) (test_of b)
-test_of (Or' p a q b) = either (test_of a) (test_of b)
+abbrev pub condition_in : {A : Type 0} → Cond A → Condition
+condition_in (Test t) = asked t
+condition_in (Not' p c) = negated (condition_in c)
+condition_in (And' p a q b) = both (condition_in a) (condition_in b)
+condition_in (Or' p a q b) = either (condition_in a) (condition_in b)
 
 -- one level of a frame, with each frame in it already seen as plain data
 abbrev pub tree_step : {A : Type 0} → Frame-F A Tree → Tree
@@ -62,8 +46,8 @@ tree_step (Frame-F.Send l m) = send l m
 tree_step (Frame-F.Retry n l m) = retry n l m
 tree_step (Frame-F.Gap t) = gap t
 tree_step (Frame-F.Repeat n b) = repeat n b.value
-tree_step (Frame-F.If c a b) = choose (test_of c) a.value b.value
-tree_step (Frame-F.Until c n b) = until (test_of c) n b.value
+tree_step (Frame-F.If c a b) = choose (condition_in c) a.value b.value
+tree_step (Frame-F.Until c n b) = until (condition_in c) n b.value
 tree_step (Frame-F.Seq v) = chain v.items
 tree_step (Frame-F.Call n) = call n
 tree_step (Frame-F.Define n b r) = define n b.value r.value

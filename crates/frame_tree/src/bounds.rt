@@ -109,22 +109,13 @@ impl<A: Allocator + Clone> Frame<A> {
                 condition,
                 then,
                 otherwise,
-            } => {
-                condition.operators() <= 16
-                    && condition.has_named_bits()
-                    && then.is_in_range()
-                    && otherwise.is_in_range()
-            }
+            } => { condition.operators() <= 16 && then.is_in_range() && otherwise.is_in_range() }
             Frame::Until {
                 condition,
                 count,
                 body,
             } => {
-                condition.operators() <= 16
-                    && condition.has_named_bits()
-                    && 1 <= *count
-                    && *count <= 10_000
-                    && body.is_in_range()
+                condition.operators() <= 16 && 1 <= *count && *count <= 10_000 && body.is_in_range()
             }
             Frame::Seq(frames) => {
                 for frame in frames {

@@ -1,9 +1,11 @@
 //! Copies of frames.
 
-ghost use Rattle.std.specs.Prelude.{◌≡◌, IfOk};
-ghost use Rattle.frame_tree.specs.Tree.{tree_of};
+ghost use Rattle.std.specs.Prelude.{◌≡◌, map, IfOk};
+ghost use Rattle.frame_tree.specs.Tree.{tree_of, send, retry};
 
 use crate::Frame;
+use mil_message::Message;
+use mil_word::Line;
 use std::alloc::{AllocError, Allocator};
 
 impl<A: Allocator + Clone> Frame<A> {
@@ -14,23 +16,18 @@ impl<A: Allocator + Clone> Frame<A> {
         self.copied(&alloc)
     }
 
+    // The same frame, each of its parts in this memory.
+    #[cycle(copies)]
     fn copied<B: Allocator + Clone>(&self, alloc: &B) -> Result<Frame<B>, AllocError>
         ensures { IfOk result (λ f. tree_of f ≡ tree_of self.now) }
     {
         match self {
-            Frame::Send { line, message } => Ok(Frame::Send {
-                line: *line,
-                message: message.copy(),
-            }),
+            Frame::Send { line, message } => Ok(send_copy(*line, message)),
             Frame::Retry {
                 count,
                 line,
                 message,
-            } => Ok(Frame::Retry {
-                count: *count,
-                line: *line,
-                message: message.copy(),
-            }),
+            } => Ok(retry_copy(*count, *line, message)),
             Frame::Gap(ticks) => Ok(Frame::Gap(*ticks)),
             Frame::Repeat { count, body } => Ok(Frame::Repeat {
                 count: *count,
@@ -54,13 +51,7 @@ impl<A: Allocator + Clone> Frame<A> {
                 count: *count,
                 body: boxed(alloc, body.copied(alloc)?)?,
             }),
-            Frame::Seq(frames) => {
-                let mut copies = Vec::new(alloc.clone()?);
-                for frame in frames {
-                    copies.push(frame.copied(alloc)?)?;
-                }
-                Ok(Frame::Seq(copies))
-            }
+            Frame::Seq(frames) => Ok(Frame::Seq(Frame::copies_of(frames, alloc)?)),
             Frame::Call(name) => Ok(Frame::Call(name.copy())),
             Frame::Define { name, body, rest } => Ok(Frame::Define {
                 name: name.copy(),
@@ -68,6 +59,42 @@ impl<A: Allocator + Clone> Frame<A> {
                 rest: boxed(alloc, rest.copied(alloc)?)?,
             }),
         }
+    }
+
+    // Copies of these frames, in their order.
+    #[cycle(copies)]
+    fn copies_of<B: Allocator + Clone>(
+        frames: &Vec<Frame<A>, A>,
+        alloc: &B,
+    ) -> Result<Vec<Frame<B>, B>, AllocError>
+        ensures { IfOk result (λ copies. map tree_of copies.items ≡ map tree_of frames.now.items) }
+    {
+        let mut copies = Vec::new(alloc.clone()?);
+        for frame in frames {
+            copies.push(frame.copied(alloc)?)?;
+        }
+        Ok(copies)
+    }
+}
+
+// The same send under any allocator: it holds none.
+fn send_copy<A: Allocator + Clone>(line: Line, message: &Message) -> Frame<A>
+    ensures { tree_of result ≡ send line message.now }
+{
+    Frame::Send {
+        line,
+        message: message.copy(),
+    }
+}
+
+// The same retry under any allocator: it holds none.
+fn retry_copy<A: Allocator + Clone>(count: u8, line: Line, message: &Message) -> Frame<A>
+    ensures { tree_of result ≡ retry count line message.now }
+{
+    Frame::Retry {
+        count,
+        line,
+        message: message.copy(),
     }
 }
 

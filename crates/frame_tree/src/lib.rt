@@ -8,9 +8,7 @@ mod frames;
 mod names;
 
 pub use bounds::expansion_keeps;
-pub use conditions::number_of_bit;
-use mil_message::Message;
-use mil_status::StatusBits;
+use mil_message::{Message, OutcomeTest};
 use mil_word::Line;
 pub use names::{Name, Scope};
 use std::alloc::Allocator;
@@ -18,12 +16,8 @@ use std::alloc::Allocator;
 /// A condition on the outcome of the last message; before any message every test in it is false.
 #[derive(Drop)]
 pub enum Cond<A: Allocator + Clone> {
-    /// The exchange failed.
-    Fail,
-    /// A reply was due and none came.
-    Silent,
-    /// One named bit of the status words received (MIL-STD-1553B 4.3.3.5.3).
-    Bit(StatusBits),
+    /// A test of the last outcome.
+    Test(OutcomeTest),
     /// The condition does not hold.
     Not(Box<Cond<A>, A>),
     /// Both conditions hold.

@@ -3,13 +3,14 @@ use Rattle.std.specs.Prelude.{ℕ, ◌+◌, Bool, false, Option, None, Some}
 use Rattle.mil_word.specs.declared.Line.{Line}
 use Rattle.mil_word.specs.declared.Line.TheVariants.{A, B}
 use Rattle.mil_message.specs.declared.messages.Message.{Message}
+use Rattle.mil_message.specs.declared.outcome_test.OutcomeTest.{OutcomeTest}
 
 -- State: what has happened so far, as the terminals' histories and the talks; Outcome: what a message came to
 pub record World (State Outcome : Type 0) : Type 0 where
   -- the message of this number, on a line, with a gap in ticks, from a state: the state after it, and what it came to
   pub exchange : ℕ → Line → Message → ℕ → State → State × Outcome
-  -- what a test of an outcome answers: test 0 is failed, 1 silent, 16 + b the status bit b
-  pub holds : ℕ → Outcome → Bool
+  -- what a test of an outcome answers
+  pub holds : OutcomeTest → Outcome → Bool
 
 -- where a run is: the state, how many messages were sent, the gap that is set, and the last outcome
 pub record Point (State Outcome : Type 0) : Type 0 where
@@ -29,10 +30,10 @@ module _ {State Outcome : Type 0} (w : World State Outcome) where
       let r = w.exchange (p.number + 1) line message p.gap p.state in
       record { state = r.0; number = p.number + 1; gap = p.gap; last = Some r.1 }
 
-  abbrev holds_of : ℕ → Option Outcome → Bool
+  abbrev holds_of : OutcomeTest → Option Outcome → Bool
   holds_of test None = false
   holds_of test (Some outcome) = w.holds test outcome
 
   -- a test of the last outcome, false before any message
-  abbrev pub asks : ℕ → Point State Outcome → Bool
+  abbrev pub asks : OutcomeTest → Point State Outcome → Bool
   asks test p = holds_of test p.last

@@ -4,8 +4,10 @@
 //! Its tests are in `mil_tests`.
 #![tactic(auto)]
 
+pub mod bit;
 pub mod block;
 pub mod status;
 
+pub use bit::StatusBit;
 pub use block::BlockBits;
-pub use status::{StatusBits, bit_named, status_word};
+pub use status::{StatusBits, status_word};

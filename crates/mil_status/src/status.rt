@@ -1,6 +1,6 @@
 //! The bits of a status word.
-ghost use Rattle.std.specs.Prelude.{◌≡◌, ◌≤◌, ◌<◌, ◌+◌, ◌*◌, ◌^◌, option_map};
-ghost use Rattle.mil_status.specs.Status.{status_of, bit_of_name};
+ghost use Rattle.std.specs.Prelude.{◌≡◌, ◌≤◌, ◌<◌, ◌+◌, ◌*◌, ◌^◌};
+ghost use Rattle.mil_status.specs.Status.{status_of};
 
 use bitflags::{Flag, Flags};
 
@@ -107,30 +107,4 @@ fn joined(address: u16, high: u16, low: u16) -> u16
     ensures { result ≡ address * 2 ^ 11 + (high * 2 ^ 8 + low) }
 {
     address << 11 | (high << 8 | low)
-}
-
-/// The bit of this name, as scripts write it: `message_error`, `instrumentation`, `service_request`, `broadcast`,
-/// `busy`, `subsystem`, `control` or `terminal`. No other text names one.
-pub fn bit_named(name: &[u8]) -> Option<StatusBits>
-    ensures { option_map (λ b. b.0) result ≡ bit_of_name name.now }
-{
-    if name == b"message_error".as_slice() {
-        Some(StatusBits::MESSAGE_ERROR)
-    } else if name == b"instrumentation".as_slice() {
-        Some(StatusBits::INSTRUMENTATION)
-    } else if name == b"service_request".as_slice() {
-        Some(StatusBits::SERVICE_REQUEST)
-    } else if name == b"broadcast".as_slice() {
-        Some(StatusBits::BROADCAST)
-    } else if name == b"busy".as_slice() {
-        Some(StatusBits::BUSY)
-    } else if name == b"subsystem".as_slice() {
-        Some(StatusBits::SUBSYSTEM)
-    } else if name == b"control".as_slice() {
-        Some(StatusBits::CONTROL)
-    } else if name == b"terminal".as_slice() {
-        Some(StatusBits::TERMINAL)
-    } else {
-        None
-    }
 }

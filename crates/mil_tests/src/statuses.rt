@@ -1,7 +1,7 @@
 //! Status words and block bits as they stand on a bus and in a recording.
 use crate::equal::same_in;
 use bitflags::Flags;
-use mil_status::{BlockBits, StatusBits, bit_named, status_word};
+use mil_status::{BlockBits, StatusBit, StatusBits, status_word};
 
 /// Bits, and the status word of terminal 5 that has them.
 const SENT: &[(StatusBits, u16)] = &[
@@ -26,18 +26,31 @@ fn statuses(rt: HostRuntime) {
     );
 }
 
-/// Names of bits, and names of none.
-const NAMES: &[(&str, Option<StatusBits>)] = &[
-    ("busy", Some(StatusBits::BUSY)),
-    ("terminal", Some(StatusBits::TERMINAL)),
-    ("", None),
-    ("Busy", None),
+/// The bits by name, and the places at which they stand.
+const BITS: &[(&str, u16, StatusBit)] = &[
+    ("message_error", 10, StatusBit::MessageError),
+    ("instrumentation", 9, StatusBit::Instrumentation),
+    ("service_request", 8, StatusBit::ServiceRequest),
+    ("broadcast", 4, StatusBit::Broadcast),
+    ("busy", 3, StatusBit::Busy),
+    ("subsystem", 2, StatusBit::Subsystem),
+    ("control", 1, StatusBit::Control),
+    ("terminal", 0, StatusBit::Terminal),
 ];
 
 #[test]
-fn names(rt: HostRuntime) {
-    for (name, wanted) in NAMES {
-        same_in(&rt, name, &bit_named(name.as_bytes()), wanted);
+fn bits(rt: HostRuntime) {
+    for (name, place, bit) in BITS {
+        same_in(&rt, name, &StatusBit::named(name.as_bytes()), &Some(*bit));
+        same_in(&rt, name, &StatusBit::at(*place), &Some(*bit));
+        same_in(&rt, name, &u16::from(bit.place()), place);
+        same_in(&rt, name, &bit.name(), name);
+    }
+    for place in [5, 6, 7, 11, 12, 13, 14, 15, 16] {
+        assert_eq!(rt; StatusBit::at(place), None);
+    }
+    for name in ["", "Busy", "busy ", "reserved"] {
+        same_in(&rt, name, &StatusBit::named(name.as_bytes()), &None);
     }
     let control = StatusBits::from_name("control");
     same_in(&rt, "control", &control, &Some(StatusBits::CONTROL));

@@ -2,7 +2,7 @@
 use Rattle.std.proofs.Common.{◌≡◌, ℕ, suc, ◌≤◌, List, [], ◌∷◌, length, Option, Some, None, refl, sym, ap, ◌∙◌, subst}
 use Rattle.std.specs.List.{AllByRecursion, slice_get}
 use Rattle.std.specs.Prelude.{Result, Ok, Err, OnOk}
-use Rattle.frame_tree.specs.Tree.{Test}
+use Rattle.frame_tree.specs.Tree.{Condition}
 use Rattle.ch11_reader.specs.Recording.{Found}
 use Rattle.bench_core.proofs.Offers.{map_at}
 use Rattle.replay.specs.Accord.{kept_in, Agrees}
@@ -27,7 +27,7 @@ rooms pairs tracks found channels cs same same_channels agrees is =
     (λ i p at. room found (length (heard_channels found)) p.job p.part
     (agrees.each i p.job p.part (map_at (λ (q : Pair). q.job) pairs i p at) (map_at (λ (q : Pair). q.part) pairs i p at)))))
 
-module _ (pairs tracks : List Pair) (found : List Found) (place : ℕ) (channels cs : List ℕ) (same : tracks ≡ pairs) (same_channels : cs ≡ channels) (test : Test)
+module _ (pairs tracks : List Pair) (found : List Found) (place : ℕ) (channels cs : List ℕ) (same : tracks ≡ pairs) (same_channels : cs ≡ channels) (test : Condition)
     (is : channels ≡ heard_channels found) where
   found_as : (r : Option ℕ) → Finds place (IsMetIn cs test tracks) r → Finds place (IsMetIn channels test pairs) r
   found_as r f =
@@ -41,6 +41,6 @@ module _ (pairs tracks : List Pair) (found : List Found) (place : ℕ) (channels
   stays f = nowhere pairs found place channels is test (found_as None f)
 
 -- a move to it stops there
-pub stops_there : {T E : Type 0} (r : Result T E) (old new : ReplayState) (test : Test) (n : ℕ) → OnOk r (new ≡ at_place n old) → IsNextMet old test n → OnOk r (IsNextMet old test new.place)
+pub stops_there : {T E : Type 0} (r : Result T E) (old new : ReplayState) (test : Condition) (n : ℕ) → OnOk r (new ≡ at_place n old) → IsNextMet old test n → OnOk r (IsNextMet old test new.place)
 stops_there (Ok x) old new test n moved met = subst (IsNextMet old test) (sym (ap (λ (s : ReplayState). s.place) moved)) met
 stops_there (Err e) old new test n moved met = tt

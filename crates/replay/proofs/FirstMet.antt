@@ -6,12 +6,13 @@ use Rattle.std.proofs.lemmas.Grind.{get_or_default_zero}
 use Rattle.std.proofs.lemmas.List.{take_more, take_all, length-append}
 use Rattle.std.proofs.lemmas.List.Sums.{count_by_more_yes, count_by_more_no}
 use Rattle.std.proofs.lemmas.Option.{slice_get_read, slice_get_within, get_or_from_slice_get}
+use Rattle.mil_message.specs.declared.outcome_test.OutcomeTest.{OutcomeTest}
 use Rattle.mil_message.specs.World.{Point, asks}
 use Rattle.mil_line.specs.Plans.{Planned}
 use Rattle.mil_bus.specs.declared.outcomes.Outcome.{Outcome}
 use Rattle.mil_bus.specs.Exchange.{BusState}
-use Rattle.frame_tree.specs.Tree.{Test, failed, silent, bit, negated, both, either, bit_number}
-use Rattle.frame_tree.specs.Meaning.{test_meaning}
+use Rattle.frame_tree.specs.Tree.{Condition, asked, negated, both, either}
+use Rattle.frame_tree.specs.Meaning.{condition_meaning}
 use Rattle.bc_machine.specs.declared.placed.Placed.{Placed}
 use Rattle.bc_machine.specs.Controller.{world_of}
 use Rattle.bc_machine.specs.Running.{MachineState}
@@ -32,22 +33,20 @@ use Rattle.replay.proofs.KeptLists.{in_front, at_seam}
 
 -- ---- what a condition says
 
-pub asks_is : (plan : List Planned) (placed : List Placed) (k : ℕ) (p : Point BusState Outcome) → asks (world_of plan placed) k p ≡ outcomes.test_of k p.last
+pub asks_is : (plan : List Planned) (placed : List Placed) (k : OutcomeTest) (p : Point BusState Outcome) → asks (world_of plan placed) k p ≡ outcomes.test_of k p.last
 asks_is plan placed k p = by_case p.last
   where
     by_case : (last : Option Outcome) → asks (world_of plan placed) k (record { state = p.state; number = p.number; gap = p.gap; last = last }) ≡ outcomes.test_of k last
     by_case None = refl
     by_case (Some o) = refl
 
-pub meaning_is : (plan : List Planned) (placed : List Placed) (t : Test) (p : Point BusState Outcome) → test_meaning (world_of plan placed) t p ≡ answer_of t p.last
-meaning_is plan placed failed p = asks_is plan placed 0 p
-meaning_is plan placed silent p = asks_is plan placed 1 p
-meaning_is plan placed (bit bits) p = asks_is plan placed (16 + bit_number bits) p
+pub meaning_is : (plan : List Planned) (placed : List Placed) (t : Condition) (p : Point BusState Outcome) → condition_meaning (world_of plan placed) t p ≡ answer_of t p.last
+meaning_is plan placed (asked t) p = asks_is plan placed t p
 meaning_is plan placed (negated c) p = ap not (meaning_is plan placed c p)
-meaning_is plan placed (both a b) p = ap (λ x. x && test_meaning (world_of plan placed) b p) (meaning_is plan placed a p) ∙ ap (λ x. answer_of a p.last && x) (meaning_is plan placed b p)
-meaning_is plan placed (either a b) p = ap (λ x. x || test_meaning (world_of plan placed) b p) (meaning_is plan placed a p) ∙ ap (λ x. answer_of a p.last || x) (meaning_is plan placed b p)
+meaning_is plan placed (both a b) p = ap (λ x. x && condition_meaning (world_of plan placed) b p) (meaning_is plan placed a p) ∙ ap (λ x. answer_of a p.last && x) (meaning_is plan placed b p)
+meaning_is plan placed (either a b) p = ap (λ x. x || condition_meaning (world_of plan placed) b p) (meaning_is plan placed a p) ∙ ap (λ x. answer_of a p.last || x) (meaning_is plan placed b p)
 
-pub says_is : (test : Test) (job : JobState) (part : ChannelPart) (number : ℕ) (m : MachineState) (last : Option Outcome) (b : Bool) → IsAfter job part number m → last ≡ m.point.last
+pub says_is : (test : Condition) (job : JobState) (part : ChannelPart) (number : ℕ) (m : MachineState) (last : Option Outcome) (b : Bool) → IsAfter job part number m → last ≡ m.point.last
     → b ≡ answer_of test last → says test job part number ≡ b
 says_is test job part number m last b is same told =
     meaning_is job.plan part.placed test (point_after job part number)
@@ -57,7 +56,7 @@ says_is test job part number m last b is same told =
 
 -- ---- one job
 
-module _ (channels : List ℕ) (test : Test) (p : Pair) (before : ℕ) where
+module _ (channels : List ℕ) (test : Condition) (p : Pair) (before : ℕ) where
   pub counts_more : (heard channel : ℕ) → before < length channels → heard ≡ count_to channels before p.job.channel → channel ≡ p.job.channel → get_or channels before 0 ≡ channel
       → heard + 1 ≡ count_to channels (before + 1) p.job.channel
   counts_more heard channel less is own here =
@@ -104,7 +103,7 @@ module _ (channels : List ℕ) (test : Test) (p : Pair) (before : ℕ) where
       (cases_lt m (before + 1))
 
 -- a message that is met is there
-pub met_within : (channels : List ℕ) (test : Test) (p : Pair) (n : ℕ) → IsMetBy channels test p n → n ≤ length channels
+pub met_within : (channels : List ℕ) (test : Condition) (p : Pair) (n : ℕ) → IsMetBy channels test p n → n ≤ length channels
 met_within channels test p n met =
     let within : met.before < length channels = slice_get_within channels met.before p.job.channel met.channel in
     omega (arith, met.next, within)
@@ -124,7 +123,7 @@ module _ (place : ℕ) (P Q R : ℕ → Type 0) (first : (n : ℕ) → P n → R
       (record { past = fb.past; met = other b fb.met; first = λ m past low r. ⊎_elim (fa.first m past (omega (arith, low, le))) (fb.first m past low) (out m r) }))
       (cases_lt a b)
 
-module _ (channels : List ℕ) (test : Test) (pairs : List Pair) (p : Pair) where
+module _ (channels : List ℕ) (test : Condition) (pairs : List Pair) (p : Pair) where
   in_first : (n : ℕ) → IsMetIn channels test pairs n → IsMetIn channels test (pairs ++ p ∷ []) n
   in_first n met = record {
     index = met.index;
@@ -147,7 +146,7 @@ module _ (channels : List ℕ) (test : Test) (pairs : List Pair) (p : Pair) wher
       inr (subst (λ (q : Pair). IsMetBy channels test q n) (sym same) met.met))
       (cases_lt met.index (length pairs))
 
-pub finds_more : (channels : List ℕ) (test : Test) (pairs : List Pair) (p : Pair) (place i : ℕ) (a b c : Option ℕ) → i < length pairs → p ≡ get_or pairs i p
+pub finds_more : (channels : List ℕ) (test : Condition) (pairs : List Pair) (p : Pair) (place i : ℕ) (a b c : Option ℕ) → i < length pairs → p ≡ get_or pairs i p
     → Finds place (IsMetIn channels test (take i pairs)) a → Finds place (IsMetBy channels test p) b → c ≡ earlier a b → Finds place (IsMetIn channels test (take (i + 1) pairs)) c
 finds_more channels test pairs p place i a b c less is fa fb same =
     subst (λ (r : Option ℕ). Finds place (IsMetIn channels test (take (i + 1) pairs)) r) (sym same)
@@ -155,12 +154,12 @@ finds_more channels test pairs p place i a b c less is fa fb same =
     (finds_both place (IsMetIn channels test (take i pairs)) (IsMetBy channels test p) (IsMetIn channels test (take i pairs ++ p ∷ []))
     (in_first channels test (take i pairs) p) (in_last channels test (take i pairs) p) (in_one channels test (take i pairs) p) a b fa fb))
 
-pub finds_all : (channels : List ℕ) (test : Test) (pairs : List Pair) (place i : ℕ) (r : Option ℕ) → length pairs ≤ i → Finds place (IsMetIn channels test (take i pairs)) r → Finds place (IsMetIn channels test pairs) r
+pub finds_all : (channels : List ℕ) (test : Condition) (pairs : List Pair) (place i : ℕ) (r : Option ℕ) → length pairs ≤ i → Finds place (IsMetIn channels test (take i pairs)) r → Finds place (IsMetIn channels test pairs) r
 finds_all channels test pairs place i r le = subst (λ (ps : List Pair). Finds place (IsMetIn channels test ps) r) (take_all i pairs le)
 
 -- ---- of a recording under the debugger
 
-module _ (pairs : List Pair) (found : List Found) (place : ℕ) (channels : List ℕ) (is : channels ≡ heard_channels found) (test : Test) where
+module _ (pairs : List Pair) (found : List Found) (place : ℕ) (channels : List ℕ) (is : channels ≡ heard_channels found) (test : Condition) where
   abbrev state : ReplayState
   state = record { jobs = jobs_in pairs; parts = parts_in pairs; found = found; place = place }
 

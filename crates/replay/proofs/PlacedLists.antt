@@ -4,13 +4,14 @@ use Rattle.std.proofs.lemmas.Bool.{eq-eqb, eqb-true, ne_eqb, cases_lt}
 use Rattle.std.proofs.lemmas.List.{append-nil}
 use Rattle.std.proofs.lemmas.List.Elements.{filter-append}
 use Rattle.mil_word.specs.declared.Line.{Line}
+use Rattle.mil_message.specs.declared.outcome_test.OutcomeTest.TheVariants.{Failed}
 use Rattle.mil_message.specs.declared.messages.Message.{Message}
 use Rattle.mil_message.specs.World.{World, Point, other_line, sent, asks}
 use Rattle.mil_line.specs.Plans.{Planned}
 use Rattle.mil_bus.specs.declared.outcomes.Outcome.{Outcome}
 use Rattle.mil_bus.specs.Exchange.{BusState}
-use Rattle.frame_tree.specs.Tree.{Test, Tree, send, retry, gap, repeat, choose, until, nothing, chained, call, define}
-use Rattle.frame_tree.specs.Meaning.{test_meaning, times, attempts, turns_until, plain_meaning}
+use Rattle.frame_tree.specs.Tree.{Condition, Tree, send, retry, gap, repeat, choose, until, nothing, chained, call, define}
+use Rattle.frame_tree.specs.Meaning.{condition_meaning, times, attempts, turns_until, plain_meaning}
 use Rattle.frame_tree.specs.Expansion.{expansion}
 use Rattle.bc_machine.specs.declared.placed.Placed.{Placed}
 use Rattle.bc_machine.specs.Controller.{placed_at, all_acted, ready, world_of}
@@ -79,7 +80,7 @@ module _ (w : World BusState Outcome) (R : BusPoint → BusPoint → Type 0) (sa
     (message : (line : Line) (m : Message) (p : BusPoint) → R p (sent w line m p)) (through : (p q s : BusPoint) → R p q → R q s → R p s) where
   attempts_keep : (n : ℕ) (line : Line) (m : Message) (p : BusPoint) → R p (attempts w n line m p)
   attempts_keep zero line m p = same p
-  attempts_keep (suc n) line m p = by_case (asks w 0 p) (attempts_keep n (other_line line) m (sent w (other_line line) m p))
+  attempts_keep (suc n) line m p = by_case (asks w Failed p) (attempts_keep n (other_line line) m (sent w (other_line line) m p))
     where
       by_case : (b : Bool) → R (sent w (other_line line) m p) (attempts w n (other_line line) m (sent w (other_line line) m p))
           → R p (cond b (attempts w n (other_line line) m (sent w (other_line line) m p)) p)
@@ -90,9 +91,9 @@ module _ (w : World BusState Outcome) (R : BusPoint → BusPoint → Type 0) (sa
   times_keep zero f keeps p = same p
   times_keep (suc n) f keeps p = through p (f p) (times n f (f p)) (keeps p) (times_keep n f keeps (f p))
 
-  turns_keep : (n : ℕ) (c : Test) (f : BusPoint → BusPoint) → ((p : BusPoint) → R p (f p)) → (p : BusPoint) → R p (turns_until w n c f p)
+  turns_keep : (n : ℕ) (c : Condition) (f : BusPoint → BusPoint) → ((p : BusPoint) → R p (f p)) → (p : BusPoint) → R p (turns_until w n c f p)
   turns_keep zero c f keeps p = same p
-  turns_keep (suc n) c f keeps p = by_case (test_meaning w c p) (through p (f p) (turns_until w n c f (f p)) (keeps p) (turns_keep n c f keeps (f p)))
+  turns_keep (suc n) c f keeps p = by_case (condition_meaning w c p) (through p (f p) (turns_until w n c f (f p)) (keeps p) (turns_keep n c f keeps (f p)))
     where
       by_case : (b : Bool) → R p (turns_until w n c f (f p)) → R p (cond b p (turns_until w n c f (f p)))
       by_case true later = same p
@@ -103,7 +104,7 @@ module _ (w : World BusState Outcome) (R : BusPoint → BusPoint → Type 0) (sa
   tree_keeps (retry n line m) p = through p (sent w line m p) (attempts w n line m (sent w line m p)) (message line m p) (attempts_keep n line m (sent w line m p))
   tree_keeps (gap t) p = gaps p t
   tree_keeps (repeat n b) p = times_keep n (plain_meaning w b) (λ q. tree_keeps b q) p
-  tree_keeps (choose c a b) p = by_case (test_meaning w c p) (tree_keeps a p) (tree_keeps b p)
+  tree_keeps (choose c a b) p = by_case (condition_meaning w c p) (tree_keeps a p) (tree_keeps b p)
     where
       by_case : (x : Bool) → R p (plain_meaning w a p) → R p (plain_meaning w b p) → R p (cond x (plain_meaning w a p) (plain_meaning w b p))
       by_case true l r = l
@@ -141,8 +142,8 @@ module _ (plan : List Planned) (made : ℕ) (actions : List Placed) where
   attempts_agree : (n : ℕ) (line : Line) (m : Message) (p : BusPoint) → (attempts w n line m p).number ≤ made → attempts v n line m p ≡ attempts w n line m p
   attempts_agree zero line m p le = refl
   attempts_agree (suc n) line m p le =
-      ap (λ x. cond x (attempts v n (other_line line) m (sent v (other_line line) m p)) p) (asks_is plan (placed_up_to made actions) 0 p ∙ sym (asks_is plan actions 0 p))
-      ∙ by_case (asks w 0 p) le (λ h. attempts_agree n (other_line line) m (sent w (other_line line) m p) h)
+      ap (λ x. cond x (attempts v n (other_line line) m (sent v (other_line line) m p)) p) (asks_is plan (placed_up_to made actions) Failed p ∙ sym (asks_is plan actions Failed p))
+      ∙ by_case (asks w Failed p) le (λ h. attempts_agree n (other_line line) m (sent w (other_line line) m p) h)
     where
       by_case : (b : Bool) → (cond b (attempts w n (other_line line) m (sent w (other_line line) m p)) p).number ≤ made
           → ((attempts w n (other_line line) m (sent w (other_line line) m p)).number ≤ made → attempts v n (other_line line) m (sent w (other_line line) m p) ≡ attempts w n (other_line line) m (sent w (other_line line) m p))
@@ -159,15 +160,15 @@ module _ (plan : List Planned) (made : ℕ) (actions : List Placed) where
       let rise : (f p).number ≤ (times n f (f p)).number = times_rise n f rises (f p) in
       ap (times n g) (agree p (omega (arith, rise, le))) ∙ times_agree n f g rises agree (f p) le
 
-  turns_rise : (n : ℕ) (c : Test) (f : BusPoint → BusPoint) → ((p : BusPoint) → p.number ≤ (f p).number) → (p : BusPoint) → p.number ≤ (turns_until w n c f p).number
+  turns_rise : (n : ℕ) (c : Condition) (f : BusPoint → BusPoint) → ((p : BusPoint) → p.number ≤ (f p).number) → (p : BusPoint) → p.number ≤ (turns_until w n c f p).number
   turns_rise = turns_keep w Rises (λ p. omega arith) (λ p t. omega arith) (λ line m p. omega arith) (λ p q s a b. omega (arith, a, b))
 
-  turns_agree : (n : ℕ) (c : Test) (f g : BusPoint → BusPoint) → ((p : BusPoint) → p.number ≤ (f p).number) → ((p : BusPoint) → (f p).number ≤ made → g p ≡ f p)
+  turns_agree : (n : ℕ) (c : Condition) (f g : BusPoint → BusPoint) → ((p : BusPoint) → p.number ≤ (f p).number) → ((p : BusPoint) → (f p).number ≤ made → g p ≡ f p)
       → (p : BusPoint) → (turns_until w n c f p).number ≤ made → turns_until v n c g p ≡ turns_until w n c f p
   turns_agree zero c f g rises agree p le = refl
   turns_agree (suc n) c f g rises agree p le =
       ap (λ x. cond x p (turns_until v n c g (g p))) (meaning_is plan (placed_up_to made actions) c p ∙ sym (meaning_is plan actions c p))
-      ∙ by_case (test_meaning w c p) le
+      ∙ by_case (condition_meaning w c p) le
       (λ h.
       let rise : (f p).number ≤ (turns_until w n c f (f p)).number = turns_rise n c f rises (f p) in
       ap (turns_until v n c g) (agree p (omega (arith, rise, h))) ∙ turns_agree n c f g rises agree (f p) h)
@@ -186,7 +187,7 @@ module _ (plan : List Planned) (made : ℕ) (actions : List Placed) where
   tree_agrees (repeat n b) p le = times_agree n (plain_meaning w b) (plain_meaning v b) (λ q. tree_rises b q) (λ q h. tree_agrees b q h) p le
   tree_agrees (choose c a b) p le =
       ap (λ x. cond x (plain_meaning v a p) (plain_meaning v b p)) (meaning_is plan (placed_up_to made actions) c p ∙ sym (meaning_is plan actions c p))
-      ∙ by_case (test_meaning w c p) le (λ h. tree_agrees a p h) (λ h. tree_agrees b p h)
+      ∙ by_case (condition_meaning w c p) le (λ h. tree_agrees a p h) (λ h. tree_agrees b p h)
     where
       by_case : (x : Bool) → (cond x (plain_meaning w a p) (plain_meaning w b p)).number ≤ made → ((plain_meaning w a p).number ≤ made → plain_meaning v a p ≡ plain_meaning w a p)
           → ((plain_meaning w b p).number ≤ made → plain_meaning v b p ≡ plain_meaning w b p) → cond x (plain_meaning v a p) (plain_meaning v b p) ≡ cond x (plain_meaning w a p) (plain_meaning w b p)

@@ -1,7 +1,7 @@
 -- The first message past a place whose outcome makes a condition true, job by job.
 use Rattle.std.specs.Prelude.{◌≡◌, ℕ, suc, ◌<◌, ◌==◌, true, List, take, count_by, slice_get, min, Option, Some, None}
 use Rattle.std.specs.Option.{MatchOption}
-use Rattle.frame_tree.specs.Tree.{Test}
+use Rattle.frame_tree.specs.Tree.{Condition}
 use Rattle.ch11_recording.specs.Items.{last_number}
 use Rattle.replay.specs.Accord.{kept_in}
 use Rattle.replay.specs.Moves.{says}
@@ -12,14 +12,14 @@ abbrev pub count_to : List ℕ → ℕ → ℕ → ℕ
 count_to channels n channel = count_by (λ c. c == channel) (take n channels)
 
 -- message n is of the job, and its outcome makes the test true
-pub record IsMetBy (channels : List ℕ) (test : Test) (p : Pair) (n : ℕ) : Type 0 where
+pub record IsMetBy (channels : List ℕ) (test : Condition) (p : Pair) (n : ℕ) : Type 0 where
   pub before : ℕ
   pub next : n ≡ suc before
   pub channel : slice_get channels before ≡ Some p.job.channel
   pub true_there : says test p.job p.part (last_number (take (count_to channels n p.job.channel) (kept_in p.job p.part))) ≡ true
 
 -- message n is of one of the jobs, and its outcome makes the test true
-pub record IsMetIn (channels : List ℕ) (test : Test) (pairs : List Pair) (n : ℕ) : Type 0 where
+pub record IsMetIn (channels : List ℕ) (test : Condition) (pairs : List Pair) (n : ℕ) : Type 0 where
   pub index : ℕ
   pub pair : Pair
   pub there : slice_get pairs index ≡ Some pair

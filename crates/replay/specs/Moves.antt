@@ -3,8 +3,8 @@ use Rattle.std.specs.Prelude.{◌≡◌, ℕ, suc, ◌<◌, Bool, true, List, le
 use Rattle.mil_message.specs.World.{Point}
 use Rattle.mil_bus.specs.declared.outcomes.Outcome.{Outcome}
 use Rattle.mil_bus.specs.Exchange.{BusState}
-use Rattle.frame_tree.specs.Tree.{Test}
-use Rattle.frame_tree.specs.Meaning.{test_meaning}
+use Rattle.frame_tree.specs.Tree.{Condition}
+use Rattle.frame_tree.specs.Meaning.{condition_meaning}
 use Rattle.job_file.specs.Jobs.{JobState, job_in}
 use Rattle.job_file.specs.Meaning.{world_at, bus_after}
 use Rattle.job_file.specs.Machines.{latest_outcome}
@@ -42,11 +42,11 @@ point_after job part number =
     record { state = bus; number = number; gap = 40; last = latest_outcome bus.talks }
 
 -- what a test says of the outcome of that message
-abbrev pub says : Test → JobState → ChannelPart → ℕ → Bool
-says test job part number = test_meaning (world_at (job_in job) part.placed) test (point_after job part number)
+abbrev pub says : Condition → JobState → ChannelPart → ℕ → Bool
+says test job part number = condition_meaning (world_at (job_in job) part.placed) test (point_after job part number)
 
 -- message n of the file, counted from 1, is of a job for whose outcome the test is true
-pub record IsMet (s : ReplayState) (test : Test) (n : ℕ) : Type 0 where
+pub record IsMet (s : ReplayState) (test : Condition) (n : ℕ) : Type 0 where
   pub index : ℕ
   pub job : JobState
   pub part : ChannelPart
@@ -58,13 +58,13 @@ pub record IsMet (s : ReplayState) (test : Test) (n : ℕ) : Type 0 where
   pub true_there : says test job part (number_at s.found n job part) ≡ true
 
 -- the first such message past the place
-pub record IsNextMet (s : ReplayState) (test : Test) (n : ℕ) : Type 0 where
+pub record IsNextMet (s : ReplayState) (test : Condition) (n : ℕ) : Type 0 where
   pub past : s.place < n
   pub met : IsMet s test n
   pub first : (m : ℕ) → s.place < m → m < n → ¬ IsMet s test m
 
 -- there is none
-abbrev pub IsNowhere : ReplayState → Test → Type 0
+abbrev pub IsNowhere : ReplayState → Condition → Type 0
 IsNowhere s test = (m : ℕ) → s.place < m → ¬ IsMet s test m
 
 -- ---- refusals

@@ -1,7 +1,7 @@
 //! The first message past a place whose outcome makes a condition true.
 ghost use Rattle.std.specs.Prelude.{◌≡◌, ◌≤◌, length};
 ghost use Rattle.std.specs.List.{AllByRecursion};
-ghost use Rattle.frame_tree.specs.Tree.{test_of};
+ghost use Rattle.frame_tree.specs.Tree.{condition_in};
 ghost use Rattle.replay.specs.Accord.{kept_in};
 ghost use Rattle.replay.specs.Finding.{count_to, earlier, IsMetBy, IsMetIn, Finds};
 ghost use Rattle.replay.specs.Tracks.{Pair};
@@ -21,7 +21,7 @@ fn first_of_job<A: Allocator + Clone>(
 ) -> Option<usize>
     requires place { place ≤ length channels.now }
     requires room { count_to channels.now (length channels.now) track.now.job.channel ≤ length (kept_in track.now.job track.now.part) }
-    ensures { Finds place (IsMetBy channels.now (test_of condition.now) track.now) result }
+    ensures { Finds place (IsMetBy channels.now (condition_in condition.now) track.now) result }
 {
     let channel = track.channel();
     let mut heard = count(&channels[..place], channel);
@@ -56,7 +56,7 @@ pub(crate) fn first_met<A: Allocator + Clone>(
 ) -> Option<usize>
     requires place { place ≤ length channels.now }
     requires room { AllByRecursion (λ (p : Pair). count_to channels.now (length channels.now) p.job.channel ≤ length (kept_in p.job p.part)) tracks.now }
-    ensures { Finds place (IsMetIn channels.now (test_of condition.now) tracks.now) result }
+    ensures { Finds place (IsMetIn channels.now (condition_in condition.now) tracks.now) result }
 {
     let mut first = None;
     for track in tracks {

@@ -1,6 +1,6 @@
 //! The debugger: a recording, and behind how many of its messages it stands.
 ghost use Rattle.std.specs.Prelude.{◌≡◌, ◌+◌, ◌-◌, ◌<◌, ◌≤◌, ◌%◌, length, slice_get, Some, IfOk, IfErr, OnOk, OnErr};
-ghost use Rattle.frame_tree.specs.Tree.{test_of};
+ghost use Rattle.frame_tree.specs.Tree.{condition_in};
 ghost use Rattle.job_file.specs.Jobs.{JobState, job_in};
 ghost use Rattle.job_file.specs.Meaning.{bus_after};
 ghost use Rattle.job_file.specs.Machines.{IsOf, IsTold};
@@ -139,9 +139,9 @@ impl<'a> Replay<'a> {
     /// To the first message past the place whose outcome makes the condition true. Y2 where there is none; a refusal leaves
     /// all as it was.
     pub fn find<A: Allocator + Clone>(&mut self, condition: &Cond<A>) -> Result<(), ReplayError>
-        ensures there { OnOk result (IsNextMet self.old (test_of condition.now) self.new.place) }
+        ensures there { OnOk result (IsNextMet self.old (condition_in condition.now) self.new.place) }
         ensures moved { OnOk result (self.new ≡ at_place self.new.place self.old) }
-        ensures refused { IfErr result (λ e. PastWhere (IsNowhere self.old (test_of condition.now)) e) }
+        ensures refused { IfErr result (λ e. PastWhere (IsNowhere self.old (condition_in condition.now)) e) }
         ensures same { OnErr result (self.new ≡ self.old) }
     {
         let timeline = &self.timeline;

@@ -190,7 +190,7 @@ fn run_from<'s, E, R: Wait + Threads + Sync>(
     let items = lists[from].as_slice();
     let ticket = trunk.split(&mut rest, Tags::none().with(tag));
     let started = start(scope, rt, trunk, ticket, tag, items);
-    let ended = run_from(
+    let mut ended = run_from(
         scope,
         rt,
         trunk,
@@ -201,36 +201,17 @@ fn run_from<'s, E, R: Wait + Threads + Sync>(
         wanted,
         taken,
     );
-    let Ended {
-        mut ticket,
-        taker,
-        taken,
-        whole,
-    } = ended;
     let Some(handle) = started else {
-        return Ended {
-            ticket,
-            taker,
-            taken,
-            whole: false,
-        };
+        ended.whole = false;
+        return ended;
     };
     let (theirs, sent_all) = handle.join(rt);
-    trunk.take_in(&mut ticket, theirs);
-    if !whole || !sent_all {
-        return Ended {
-            ticket,
-            taker,
-            taken,
-            whole: false,
-        };
+    trunk.take_in(&mut ended.ticket, theirs);
+    if !ended.whole || !sent_all {
+        ended.whole = false;
+        return ended;
     }
-    Ended {
-        ticket,
-        taker,
-        taken,
-        whole: true,
-    }
+    ended
 }
 
 // The same for all lists, in a scope of its own.

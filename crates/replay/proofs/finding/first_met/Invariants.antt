@@ -1,7 +1,7 @@
 use Rattle.std.proofs.Common.{take}
-use Rattle.frame_tree.specs.Tree.{test_of}
+use Rattle.frame_tree.specs.Tree.{condition_in}
 use Rattle.replay.specs.Finding.{IsMetIn, Finds}
 use Rattle.replay.proofs.finding.first_met.Given as goal
 
 abbrev pub invariant-loop-track : goal.invariant-loop-track
-invariant-loop-track g l = Finds l.place (IsMetIn l.channels (test_of l.condition) (take l.track-index l.tracks)) l.first
+invariant-loop-track g l = Finds l.place (IsMetIn l.channels (condition_in l.condition) (take l.track-index l.tracks)) l.first

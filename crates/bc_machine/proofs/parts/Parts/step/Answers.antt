@@ -1,14 +1,11 @@
 use Rattle.std.proofs.Common.{◌∙◌, ◌+◌, ap, refl}
 use Rattle.frame_code.specs.declared.Op.TheVariants as op
 use Rattle.bc_machine.specs.Moves.{gone}
-use Rattle.bc_machine.proofs.Rows.{to_row, to_answer, gap_at, test_at}
+use Rattle.bc_machine.proofs.Rows.{to_row, to_answer, gap_at}
 use Rattle.bc_machine.proofs.parts.Parts.step.Goals as goal
 
 pub set_gap-requires : goal.set_gap-requires
 set_gap-requires c = gap_at c.args.self.now c.in-SetGap.ticks c.requires.image c.in-SetGap.ensures
-
-pub test-requires : goal.test-requires
-test-requires c = test_at c.args.self.now c.in-Test.test c.requires.image c.in-Test.ensures
 
 pub returns-in-Halt-clause-value : goal.returns-in-Halt-clause-value
 returns-in-Halt-clause-value c = to_row c.args.self.now c.args.self.now op.Halt c.in-Halt.ensures refl

@@ -31,7 +31,7 @@ returns-clause-before g t c = λ _ k below.
     let all : sent c.join-theirs.result.0 ≡ c.index-lists-from.result.items = c.join-theirs.ensures.2 c.if-not-sent_all.false ∙ c.in-Some.ensures.2 ∙ c.as_slice-items.ensures.value in
     let within : c.args.from < length c.args.lists.now = let few = c.requires.few.1 in let other = c.if-from-lists.false in omega (arith, few, other) in
     let of_from = of_tag c.args.from c.args.from c.args.lists.now c.index-lists-from.result _ c.index-lists-from.is all (c.requires.lists c.args.from c.index-lists-from.result within) in
-    with_tag-first c.args.from _ _ _ of_from c.take_in.ensures.sent k (λ e. absurd (omega (arith, below, e))) ∙ c.run_from-ended.ensures.before c.if-not-whole.false k (omega (arith, below))
+    with_tag-first c.args.from _ _ _ of_from c.take_in.ensures.sent k (λ e. absurd (omega (arith, below, e))) ∙ c.run_from-ended.ensures.before c.if-not-ended.false k (omega (arith, below))
 
 pub returns-clause-sent : goal.returns-clause-sent
 returns-clause-sent g t c = λ _ k d from_on below.
@@ -39,8 +39,8 @@ returns-clause-sent g t c = λ _ k d from_on below.
     let within : c.args.from < length c.args.lists.now = omega (arith, from_on, below) in
     let of_from = of_tag c.args.from c.args.from c.args.lists.now c.index-lists-from.result _ c.index-lists-from.is all (c.requires.lists c.args.from c.index-lists-from.result within) in
     ⊎_elim
-    (λ (later : c.args.from < k). with_tag-first c.args.from _ _ _ of_from c.take_in.ensures.sent k (λ e. absurd (omega (arith, later, e))) ∙ c.run_from-ended.ensures.sent c.if-not-whole.false k d (omega (arith, later)) below)
+    (λ (later : c.args.from < k). with_tag-first c.args.from _ _ _ of_from c.take_in.ensures.sent k (λ e. absurd (omega (arith, later, e))) ∙ c.run_from-ended.ensures.sent c.if-not-ended.false k d (omega (arith, later)) below)
     (λ (here : k ≤ c.args.from). let is : k ≡ c.args.from = omega (arith, here, from_on) in
-    ap (λ n. with_tag (λ (x : Item). x.tag) n (sent c.take_in.new.ticket)) is ∙ with_tag-second c.args.from _ _ _ of_from c.take_in.ensures.sent (c.run_from-ended.ensures.before c.if-not-whole.false c.args.from (omega arith))
+    ap (λ n. with_tag (λ (x : Item). x.tag) n (sent c.take_in.new.ticket)) is ∙ with_tag-second c.args.from _ _ _ of_from c.take_in.ensures.sent (c.run_from-ended.ensures.before c.if-not-ended.false c.args.from (omega arith))
     ∙ all ∙ ap (λ (v : Vec Item Global). v.items) (get_or_read c.args.lists.now c.args.from c.index-lists-from.result within c.index-lists-from.is d) ∙ ap (λ n. (get_or c.args.lists.now n d).items) (sym is))
     (cases_lt c.args.from k)
