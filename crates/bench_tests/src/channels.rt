@@ -23,6 +23,7 @@ const TEN_MESSAGES: &str = "channel 2\nterminal 5\nscript\nrepeat 10 { send A rx
 
 const NO_MESSAGE: &str = "channel 1\nscript\nif fail { send A mode 5 1 }";
 
+/// The job that a text spells.
 pub(crate) fn job_of(rt: &impl Abort, alloc: Global, text: &str) -> Job {
     read_job(alloc, text.as_bytes()).ok().expect(rt, text)
 }

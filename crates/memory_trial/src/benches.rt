@@ -56,6 +56,7 @@ fn steps(alloc: Global) -> Option<Vec<Step>> {
     Some(steps)
 }
 
+/// `World::make` of two jobs.
 pub(crate) fn made(alloc: Global) -> Told {
     match made_of_two(alloc) {
         None => Told::Early,
@@ -103,6 +104,7 @@ fn report(alloc: Global, world: &mut World) -> Told {
     }
 }
 
+/// Two jobs played to their end, one step at a time.
 pub(crate) fn played(alloc: Global) -> Told {
     match world(alloc) {
         Some(mut world) => play_all(alloc, &mut world),
@@ -110,6 +112,7 @@ pub(crate) fn played(alloc: Global) -> Told {
     }
 }
 
+/// `World::report` of what was played.
 pub(crate) fn reported(alloc: Global) -> Told {
     match world(alloc) {
         Some(mut world) => report(alloc, &mut world),

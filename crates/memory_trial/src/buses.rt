@@ -8,6 +8,7 @@ use std::alloc::Global;
 /// The fault that is planned.
 const MUTED: Fault = Fault::Mute { run: 1 };
 
+/// `Terminal::make`.
 pub(crate) fn terminal_make(alloc: Global) -> Told {
     match Terminal::make(alloc, 5) {
         Ok(_) => Told::Well,
@@ -16,6 +17,7 @@ pub(crate) fn terminal_make(alloc: Global) -> Told {
     }
 }
 
+/// `Terminal::copy`.
 pub(crate) fn terminal_copy(alloc: Global) -> Told {
     match Terminal::make(alloc, 5) {
         Ok(terminal) => Told::of(terminal.copy().is_ok()),
@@ -39,6 +41,7 @@ pub(crate) fn plan_add(alloc: Global) -> Told {
     Told::Well
 }
 
+/// `Plan::copy`.
 pub(crate) fn plan_copy(alloc: Global) -> Told {
     let mut plan = Plan::make(alloc);
     for number in 1..=20u32 {
@@ -49,6 +52,7 @@ pub(crate) fn plan_copy(alloc: Global) -> Told {
     Told::of(plan.copy().is_ok())
 }
 
+/// `Bus::make`.
 pub(crate) fn bus_make(alloc: Global) -> Told {
     match Bus::make(alloc, 0, &[3, 5, 7]) {
         Ok(_) => Told::Well,
@@ -57,6 +61,7 @@ pub(crate) fn bus_make(alloc: Global) -> Told {
     }
 }
 
+/// `Bus::copy`.
 pub(crate) fn bus_copy(alloc: Global) -> Told {
     match Bus::make(alloc, 0, &[3, 5, 7]) {
         Ok(bus) => Told::of(bus.copy().is_ok()),

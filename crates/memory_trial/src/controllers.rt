@@ -16,6 +16,7 @@ fn five(alloc: Global) -> Option<Machine> {
     controller(alloc, &job_of(alloc, FIVE)?)
 }
 
+/// `Machine::copy`.
 pub(crate) fn copied(alloc: Global) -> Told {
     match five(alloc) {
         Some(machine) => Told::of(machine.copy().is_ok()),
@@ -23,6 +24,7 @@ pub(crate) fn copied(alloc: Global) -> Told {
     }
 }
 
+/// `Machine::save`.
 pub(crate) fn saved(alloc: Global) -> Told {
     match five(alloc) {
         Some(machine) => Told::of(machine.save(alloc).is_ok()),

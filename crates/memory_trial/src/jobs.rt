@@ -21,6 +21,7 @@ fn one_refused(error: &JobsError) -> Told {
     }
 }
 
+/// `read_job`.
 pub(crate) fn one(alloc: Global) -> Told {
     match read_job(alloc, HUNDRED.as_bytes()) {
         Ok(_) => Told::Well,
@@ -28,6 +29,7 @@ pub(crate) fn one(alloc: Global) -> Told {
     }
 }
 
+/// `read_jobs` of three texts.
 pub(crate) fn three(alloc: Global) -> Told {
     let texts = [HUNDRED.as_bytes(), FIVE.as_bytes(), ONE.as_bytes()];
     match read_jobs(alloc, &texts) {
@@ -36,6 +38,7 @@ pub(crate) fn three(alloc: Global) -> Told {
     }
 }
 
+/// `Job::machine`.
 pub(crate) fn machine(alloc: Global) -> Told {
     match job_of(alloc, HUNDRED) {
         Some(job) => Told::of(job.machine(alloc, job.actions()).is_ok()),

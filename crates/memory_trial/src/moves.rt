@@ -139,22 +139,27 @@ fn tried(alloc: Global, asked: Asked<'_>) -> Told {
     }
 }
 
+/// `Replay::open`.
 pub(crate) fn opened(alloc: Global) -> Told {
     tried(alloc, Asked::Open)
 }
 
+/// `Replay::forward`.
 pub(crate) fn forward(alloc: Global) -> Told {
     tried(alloc, Asked::Forward)
 }
 
+/// `Replay::back`.
 pub(crate) fn back(alloc: Global) -> Told {
     tried(alloc, Asked::Back)
 }
 
+/// `Replay::go`.
 pub(crate) fn go(alloc: Global) -> Told {
     tried(alloc, Asked::Go)
 }
 
+/// `Replay::find`.
 pub(crate) fn found(alloc: Global) -> Told {
     match read_cond(alloc, b"not bit busy") {
         Ok(condition) => tried(alloc, Asked::Find(&condition)),

@@ -6,6 +6,7 @@ use ch11_builder::{Builder, BuilderError};
 use ch11_reader::{Index, ReadError};
 use std::alloc::Global;
 
+/// `Builder::make`.
 pub(crate) fn builder(alloc: Global) -> Told {
     match Builder::make(alloc, 1, 6, 4096) {
         Ok(_) => Told::Well,
@@ -14,6 +15,7 @@ pub(crate) fn builder(alloc: Global) -> Told {
     }
 }
 
+/// `Index::build`.
 pub(crate) fn index(alloc: Global) -> Told {
     match Index::build(alloc, &FOREIGN) {
         Ok(index) => Told::well(index.total() == 1),
@@ -33,6 +35,7 @@ pub(crate) fn skipping_index(alloc: Global) -> Told {
     }
 }
 
+/// `print_report`.
 pub(crate) fn report_printed(alloc: Global) -> Told {
     match read_report(alloc, REPORT.as_bytes()) {
         Ok(report) => Told::of(print_report(alloc, &report).is_ok()),
@@ -40,6 +43,7 @@ pub(crate) fn report_printed(alloc: Global) -> Told {
     }
 }
 
+/// `read_report`.
 pub(crate) fn report_read(alloc: Global) -> Told {
     match read_report(alloc, REPORT.as_bytes()) {
         Ok(_) => Told::Well,

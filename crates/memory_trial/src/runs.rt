@@ -26,6 +26,7 @@ impl Tagged for Item {
     }
 }
 
+/// `Trunk::make`.
 pub(crate) fn trunk(alloc: Global) -> Told {
     match Trunk::<Item>::make(alloc, 2, &[1024]) {
         Ok(_) => Told::Well,
@@ -43,6 +44,7 @@ fn mailbox_of(alloc: Global, job: &Job) -> Told {
     }
 }
 
+/// `Mailbox::make`.
 pub(crate) fn mailbox(alloc: Global) -> Told {
     match job_of(alloc, FIVE) {
         Some(job) => mailbox_of(alloc, &job),
@@ -62,6 +64,7 @@ fn channel_told(answer: &Result<MemorySink, ChannelFault<MemorySink>>) -> Told {
     }
 }
 
+/// `one_channel`.
 pub(crate) fn one_channel_recorded(alloc: Global) -> Told {
     match job_of(alloc, FIVE) {
         Some(job) => { channel_told(&one_channel(alloc, &job, 6, 4096, MemorySink::make(alloc))) }
@@ -94,6 +97,7 @@ fn ran<R: Threads + Wait + Sync>(rt: &R, alloc: Global, jobs: &[Job]) -> Told {
     run_told(&run(rt, alloc, jobs, &settings, &OpenGate, sink))
 }
 
+/// `run` of two jobs.
 pub(crate) fn two_channels<R: Threads + Wait + Sync>(rt: &R, alloc: Global) -> Told {
     match jobs_of(alloc, &[FIVE, ONE]) {
         Some(jobs) => ran(rt, alloc, &jobs),

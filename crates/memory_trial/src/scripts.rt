@@ -21,15 +21,18 @@ fn answered<T>(answer: &Result<T, ScriptError>) -> Told {
     }
 }
 
+/// `parse`, under the allocator of the system.
 pub(crate) fn parsed(alloc: Global) -> Told {
     answered(&parse(alloc, SCRIPT))
 }
 
+/// `parse`, in an arena.
 pub(crate) fn parsed_in_arena(alloc: Global) -> Told {
     let arena = Bump::new(alloc);
     answered(&parse(&arena, SCRIPT))
 }
 
+/// `Frame::copy_in`.
 pub(crate) fn copied(alloc: Global) -> Told {
     match parse(alloc, SCRIPT) {
         Ok(frame) => {
@@ -40,6 +43,7 @@ pub(crate) fn copied(alloc: Global) -> Told {
     }
 }
 
+/// `print` of a frame.
 pub(crate) fn printed(alloc: Global) -> Told {
     match parse(alloc, SCRIPT) {
         Ok(frame) => Told::of(print(alloc, &frame).is_ok()),
@@ -47,6 +51,7 @@ pub(crate) fn printed(alloc: Global) -> Told {
     }
 }
 
+/// `read_cond`.
 pub(crate) fn condition(alloc: Global) -> Told {
     answered(&read_cond(alloc, b"any ( fail all ( silent not bit busy ) )"))
 }
@@ -62,6 +67,7 @@ fn image_of(alloc: Global, frame: &Frame<Global>) -> Told
     }
 }
 
+/// `assemble`.
 pub(crate) fn assembled(alloc: Global) -> Told {
     match parse(alloc, SCRIPT) {
         Ok(frame) => image_of(alloc, &frame),
@@ -69,6 +75,7 @@ pub(crate) fn assembled(alloc: Global) -> Told {
     }
 }
 
+/// `write_image`.
 pub(crate) fn image_written(alloc: Global) -> Told {
     match read_image(alloc, &LOOPS) {
         Ok(image) => Told::of(write_image(alloc, &image).is_ok()),
@@ -76,6 +83,7 @@ pub(crate) fn image_written(alloc: Global) -> Told {
     }
 }
 
+/// `read_image`.
 pub(crate) fn image_read(alloc: Global) -> Told {
     match read_image(alloc, &LOOPS) {
         Ok(_) => Told::Well,
@@ -89,6 +97,7 @@ fn program(alloc: Global) -> Option<Program> {
     load(alloc, read_image(alloc, &LOOPS).ok()?).ok()
 }
 
+/// `Program::copy`.
 pub(crate) fn program_copied(alloc: Global) -> Told {
     match program(alloc) {
         Some(program) => Told::of(program.copy().is_ok()),
