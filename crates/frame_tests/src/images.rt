@@ -4,6 +4,7 @@ use crate::equal::{are_bytes, prints, same};
 use crate::worked::{LOOPS, POLLING, with_byte};
 use frame_code::{Image, ImageError, Op, read_image, write_image};
 use mil_message::OutcomeTest;
+use mil_status::StatusBit;
 use std::alloc::Global;
 use std::process::Abort;
 
@@ -67,6 +68,43 @@ fn the_first_fault_of_bytes(rt: HostRuntime) {
     let mut changed = POLLING;
     changed[3] = 0x31;
     has_fault(&rt, alloc, &changed, ImageError::Operations);
+}
+
+/// The tests that an operation may have, by the numbers that an image gives them.
+const TESTS: [(u8, OutcomeTest); 10] = [
+    (0, OutcomeTest::Failed),
+    (1, OutcomeTest::Silent),
+    (16, OutcomeTest::Bit(StatusBit::Terminal)),
+    (17, OutcomeTest::Bit(StatusBit::Control)),
+    (18, OutcomeTest::Bit(StatusBit::Subsystem)),
+    (19, OutcomeTest::Bit(StatusBit::Busy)),
+    (20, OutcomeTest::Bit(StatusBit::Broadcast)),
+    (24, OutcomeTest::Bit(StatusBit::ServiceRequest)),
+    (25, OutcomeTest::Bit(StatusBit::Instrumentation)),
+    (26, OutcomeTest::Bit(StatusBit::MessageError)),
+];
+
+/// The fourth operation of this image is this test.
+fn tests(rt: &impl Abort, image: &Image, test: OutcomeTest) {
+    same(
+        rt,
+        &image.operations().get(3).copied(),
+        &Some(Op::Test(test)),
+    );
+}
+
+#[test]
+fn tests_by_number(rt: HostRuntime) {
+    let alloc = rt.alloc();
+    for (number, test) in TESTS {
+        let changed = with_byte(22, number);
+        let image = spelled(&rt, alloc, &changed);
+        tests(&rt, &image, test);
+        is_written(&rt, alloc, &image, &changed);
+    }
+    for number in [2, 15, 21, 23, 27, 255] {
+        has_fault(&rt, alloc, &with_byte(22, number), ImageError::Operations);
+    }
 }
 
 #[test]
