@@ -1,5 +1,5 @@
 -- What the next step does to the bus.
-use Rattle.std.proofs.Common.{◌≡◌, ◌≢◌, ℕ, zero, suc, ◌+◌, ◌-◌, ◌<◌, ◌≤◌, ◌^◌, List, [], ◌∷◌, Option, Some, None, sym, ap, ap₂, ◌∙◌, subst, refl, arith}
+use Rattle.std.proofs.Common.{◌≡◌, ◌≢◌, ℕ, zero, suc, ◌+◌, ◌-◌, ◌≤◌, ◌^◌, List, [], ◌∷◌, Option, Some, None, sym, ap, ap₂, ◌∙◌, subst, refl, arith}
 use Rattle.std.specs.Prelude.{slice_get, Bool, true, false, Result, Ok, Err, IfOk, IfSome}
 use Rattle.std.specs.declared.alloc.AllocError.{AllocError}
 use Rattle.mil_word.specs.declared.Line.{Line}

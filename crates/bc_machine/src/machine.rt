@@ -5,7 +5,6 @@ ghost use Rattle.bc_machine.specs.Running.{started, stepped, answered};
 ghost use Rattle.bc_machine.specs.UnderWay.{IsUnderWay, Tells};
 ghost use Rattle.bc_machine.specs.Alike.{AreAlike};
 
-use crate::counters::Counters;
 use crate::laws::BusSetting;
 use crate::parts::Parts;
 use crate::saved::Saved;

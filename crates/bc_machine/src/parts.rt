@@ -1,10 +1,8 @@
 //! A controller's parts, wherever its program stands.
-ghost use Rattle.std.specs.Prelude.{◌≡◌, ◌<◌, ◌≤◌, ◌+◌, ◌^◌, ◌≢◌, Some, None, if◌then◌else◌, slice_get, length, IfOk, OnOk, OnErr, IsTrue, [], ◌∷◌};
+ghost use Rattle.std.specs.Prelude.{◌≡◌, ◌<◌, ◌≤◌, ◌+◌, ◌^◌, ◌≢◌, Some, None, if◌then◌else◌, slice_get, length, IfOk, OnOk, OnErr};
 ghost use Rattle.mil_word.specs.declared.Line.{Line};
-ghost use Rattle.mil_message.specs.declared.messages.Message.{Message};
-ghost use Rattle.mil_message.specs.World.{sent, other_line};
-ghost use Rattle.mil_bus.specs.Exchange.{clock_of};
-ghost use Rattle.frame_code.specs.Table.{at_place, sends, turns, leaves, calls, comes_back};
+ghost use Rattle.mil_message.specs.World.{sent};
+ghost use Rattle.frame_code.specs.Table.{sends, turns, leaves, calls, comes_back};
 ghost use Rattle.frame_code.specs.Routines.{routine_at};
 ghost use Rattle.frame_load.specs.Judging.{IsWithin};
 ghost use Rattle.frame_code.specs.Loadable.{IsLoadable};
@@ -30,7 +28,7 @@ use mil_line::{Gap, Plan};
 use mil_message::OutcomeTest;
 use mil_monitor::observe_with;
 use mil_word::Line;
-use std::alloc::{AllocError, Global};
+use std::alloc::AllocError;
 use std::marker::Model;
 use std::snapshot::Snapshot;
 

@@ -19,8 +19,6 @@ pub struct Placed {
 }
 
 impl Placed {
-    ghost use Rattle.std.specs.Prelude.{◌≡◌};
-
     /// The same action, placed alike.
     pub fn copy(&self) -> Placed
         ensures { result ≡ self.now }
@@ -30,6 +28,17 @@ impl Placed {
             address: self.address,
             action: self.action.copy(),
         }
+    }
+
+    /// Copies of placed actions, in their order. It fails for want of memory alone.
+    pub fn copies_of(alloc: Global, placed: &[Placed]) -> Result<Vec<Placed>, AllocError>
+        ensures { IfOk result (λ v. v.items ≡ placed.now) }
+    {
+        let mut copies = Vec::with_capacity(alloc, placed.len())?;
+        for one in placed {
+            copies.push(one.copy())?;
+        }
+        Ok(copies)
     }
 }
 
@@ -43,15 +52,4 @@ pub fn act_at(bus: &mut Bus, placed: &[Placed], number: u32)
             bus.act(one.address, &one.action);
         }
     }
-}
-
-/// Copies of placed actions, in their order.
-pub fn copied(alloc: Global, placed: &[Placed]) -> Result<Vec<Placed>, AllocError>
-    ensures { IfOk result (λ v. v.items ≡ placed.now) }
-{
-    let mut copies = Vec::with_capacity(alloc, placed.len())?;
-    for one in placed {
-        copies.push(one.copy())?;
-    }
-    Ok(copies)
 }

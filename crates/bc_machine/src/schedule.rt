@@ -1,10 +1,9 @@
 //! The placed actions of a controller.
-ghost use Rattle.std.specs.Prelude.{◌≡◌, ◌↔◌, ◌+◌, ◌<◌, ◌^◌, ◌++◌, ◌∷◌, [], IfOk, IfErr, OnOk, OnErr, IsTrue};
+ghost use Rattle.std.specs.Prelude.{◌≡◌, ◌↔◌, ◌+◌, ◌<◌, ◌++◌, ◌∷◌, [], IfOk, IfErr, OnOk, OnErr, IsTrue};
 ghost use Rattle.bc_machine.specs.Controller.{placed_at};
 ghost use Rattle.bc_machine.specs.Rising.{IsRising};
 
 use crate::Placed;
-use crate::placed::copied;
 use std::alloc::{AllocError, Global};
 use std::marker::Model;
 
@@ -124,7 +123,7 @@ impl Schedule {
         ensures { IfOk result (λ s. s ≡ self.now) }
     {
         Ok(Schedule {
-            placed: copied(*self.placed.allocator(), self.placed.as_slice())?,
+            placed: Placed::copies_of(*self.placed.allocator(), self.placed.as_slice())?,
             rising: self.rising,
         })
     }

@@ -1,5 +1,5 @@
 //! One channel of a world: its controller, and what became of its messages.
-ghost use Rattle.std.specs.Prelude.{◌≡◌, ◌<◌, ◌≤◌, ◌||◌, not, if◌then◌else◌, [], ◌∷◌, ◌++◌, vec_len, Some, None, IfOk, OnOk, OnErr};
+ghost use Rattle.std.specs.Prelude.{◌≡◌, ◌<◌, ◌||◌, not, if◌then◌else◌, [], ◌∷◌, ◌++◌, vec_len, Some, None, IfOk, OnOk, OnErr};
 ghost use Rattle.std.specs.Vec.{vec_capacity};
 ghost use Rattle.ch11_recording.specs.declared.item.Item.TheVariants as item;
 ghost use Rattle.bench_core.specs.Bench.{begun_lane, with_post};
@@ -88,8 +88,7 @@ impl Lane {
     pub(crate) fn make(alloc: Global, job: &Job) -> Result<Lane, AllocError>
         ensures { IfOk result (λ l. l ≡ begun_lane job.now) }
     {
-        let mut addresses = Vec::new(alloc);
-        addresses.extend_from_slice(job.addresses())?;
+        let addresses = job.addresses().to_vec(alloc)?;
         let machine = job.machine(alloc, job.actions())?;
         let placed = ordered_actions(alloc, job)?;
         let _sound = job.program();

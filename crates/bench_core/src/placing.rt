@@ -16,7 +16,7 @@ pub fn ordered_actions(alloc: Global, job: &Job) -> Result<Vec<Placed>, AllocErr
 {
     // Its contract says that addresses are 0 to 30.
     let _addresses = job.addresses();
-    let mut actions = copied(alloc, job.actions())?;
+    let mut actions = Placed::copies_of(alloc, job.actions())?;
     actions.sort_by_key(|one| one.number)?;
     Ok(actions)
 }
@@ -50,11 +50,4 @@ pub(crate) fn add_posted(ordered: &mut Vec<Placed>, one: Placed)
     if one.number <= LAST {
         add_action(ordered, one);
     }
-}
-
-/// The same actions, placed alike.
-fn copied(alloc: Global, actions: &[Placed]) -> Result<Vec<Placed>, AllocError>
-    ensures { IfOk result (λ v. v.items ≡ actions.now) }
-{
-    actions.iter().map(|one| one.copy()).collect(alloc)
 }

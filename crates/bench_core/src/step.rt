@@ -1,3 +1,4 @@
+//! What may come next on the bench.
 use mil_host::Action;
 
 /// One step of the bench.

@@ -85,15 +85,6 @@ fn builders_of(
     Ok(builders)
 }
 
-/// The same bytes.
-fn copied(alloc: Global, bytes: &[u8]) -> Result<Vec<u8>, AllocError>
-    ensures { IfOk result (λ v. v.items ≡ bytes.now) }
-{
-    let mut copy = Vec::new(alloc);
-    copy.extend_from_slice(bytes)?;
-    Ok(copy)
-}
-
 /// The place of a channel.
 fn place_of(lanes: &[Lane], channel: u16) -> Option<usize>
     ensures { MatchOption result (AllByRecursion (λ (l : LaneState). l.channel ≢ channel) lanes.now)
@@ -150,7 +141,7 @@ impl World {
         let lanes = lanes_of(alloc, jobs)?;
         let builders = builders_of(alloc, jobs, settings.version, settings.limit)?;
         let queue = VecDeque::with_capacity(alloc, settings.queue as usize)?;
-        let file = copied(alloc, &settings.prologue)?;
+        let file = settings.prologue.to_vec(alloc)?;
         Ok(World {
             lanes,
             builders,

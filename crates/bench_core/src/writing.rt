@@ -1,7 +1,6 @@
 //! What the writer of a world does with an item.
-ghost use Rattle.std.specs.Prelude.{◌≡◌, ◌<◌, ◌≤◌, ◌+◌, ◌^◌, ◌++◌, vec_len, length, if◌then◌else◌};
+ghost use Rattle.std.specs.Prelude.{◌≡◌, ◌<◌, ◌≤◌, ◌+◌, ◌++◌, vec_len, length, if◌then◌else◌};
 ghost use Rattle.std.specs.Vec.{vec_capacity};
-ghost use Rattle.ch11_builder.specs.Held.{latest_number};
 ghost use Rattle.ch11_recording.specs.Items.{channel_of};
 ghost use Rattle.ch11_recording.specs.WrittenFile.{met, closes, closing};
 ghost use Rattle.bench_core.specs.Writing.{MayCome};

@@ -1,5 +1,5 @@
 -- Bytes as lines of pairs (own choice).
-use Rattle.std.specs.Prelude.{ℕ, ◌+◌, ◌/◌, ◌%◌, ◌==◌, Bool, ◌||◌, if◌then◌else◌, List, [], ◌∷◌, length, nat_lt}
+use Rattle.std.specs.Prelude.{ℕ, ◌+◌, ◌/◌, ◌%◌, ◌==◌, ◌||◌, if◌then◌else◌, List, [], ◌∷◌, length, nat_lt}
 
 -- the character of a hexadecimal digit
 abbrev pub digit_of : ℕ → ℕ

@@ -5,8 +5,8 @@ use Rattle.mil_message.specs.declared.forms.Due.{Due}
 use Rattle.mil_message.specs.declared.forms.Form.{Form}
 use Rattle.mil_message.specs.Forms.{replies_due}
 use Rattle.mil_bus.specs.declared.talks.Talk.{Talk}
-use Rattle.mil_bus.specs.Addresses.{stations_of}
-use Rattle.mil_bus.specs.Exchange.{BusState, talk_of}
+use Rattle.mil_bus.specs.Addresses.{fresh_bus}
+use Rattle.mil_bus.specs.Exchange.{talk_of}
 use Rattle.mil_monitor.specs.Observed.{observed}
 use Rattle.ch11_builder.specs.Packet.{Channel, Numbered, packet}
 use Rattle.frame_text.specs.declared.faults.Cause.{Cause}
@@ -18,13 +18,9 @@ use Rattle.bench_one.specs.declared.fault.OneFault.TheVariants.{Text, Memory}
 abbrev pub named : Form → List ℕ
 named form = map (λ (d : Due). d.address) (replies_due form)
 
--- a bus with fresh terminals at these addresses, before any message
-abbrev pub fresh_bus : List ℕ → BusState
-fresh_bus addresses = record { start = 0; talks = []; stations = stations_of addresses }
-
--- the exchange of the message there
+-- the exchange of the message on a bus with new terminals at these addresses
 unfoldable pub only_talk : Line → Form → Talk
-only_talk line form = talk_of (fresh_bus (named form)) line form 40 []
+only_talk line form = talk_of (fresh_bus 0 (named form)) line form 40 []
 
 abbrev pub only_record : Line → Form → Numbered
 only_record line form = record { number = 1; message = observed (only_talk line form) }

@@ -1,9 +1,8 @@
 //! One message on fresh terminals.
-ghost use Rattle.std.specs.Prelude.{◌≡◌, ◌<◌, ◌^◌, true, map, Ok, IfOk, IfErr, length, ◌≤◌};
-ghost use Rattle.mil_message.specs.Rules.{IsLawful};
+ghost use Rattle.std.specs.Prelude.{◌≡◌, ◌<◌, ◌^◌, true, Ok, IfOk, IfErr};
 ghost use Rattle.mil_bus.specs.Addresses.{is_fit};
 ghost use Rattle.mil_monitor.specs.Observed.{observed};
-ghost use Rattle.bench_one.specs.One.{named, only_talk, only_record, packet_of_send, packet_of_text, IsRefusal};
+ghost use Rattle.bench_one.specs.One.{named, only_talk, packet_of_send, packet_of_text, IsRefusal};
 
 use crate::fault::OneFault;
 use arrayvec::ArrayVec;
@@ -86,16 +85,7 @@ fn packed(
     };
     let _ = builder.push(1, recorded);
     match builder.close() {
-        Some(packet) => copied(alloc, packet),
+        Some(packet) => packet.to_vec(alloc),
         None => Ok(Vec::new(alloc)),
     }
-}
-
-/// The same bytes, in memory of their own.
-fn copied(alloc: Global, bytes: &[u8]) -> Result<Vec<u8>, AllocError>
-    ensures { IfOk result (λ copy. copy.items ≡ bytes.now) }
-{
-    let mut copy = Vec::new(alloc);
-    copy.extend_from_slice(bytes)?;
-    Ok(copy)
 }

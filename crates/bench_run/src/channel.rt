@@ -2,8 +2,6 @@
 ghost use Rattle.std.specs.Prelude.{◌≡◌, ◌<◌, ◌≤◌, ◌-◌, ◌++◌, ◌∷◌, [], true, length, vec_capacity, slice_get, Some};
 ghost use Rattle.mil_trunk.specs.Tags.{has, bound_of};
 ghost use Rattle.mil_trunk.specs.Ends.{IsTicketOf, tags_of, bounds_of, sent};
-ghost use Rattle.job_file.specs.Jobs.{tree_in, job_in};
-ghost use Rattle.job_file.specs.Machines.{IsOf};
 ghost use Rattle.bench_run.specs.Runs.{records_of, most_items};
 ghost use Rattle.ch11_builder.specs.Recorded.{IsRecorded};
 ghost use Rattle.ch11_recording.specs.Items.{numbered};

@@ -1,5 +1,4 @@
 //! What goes through the trunk.
-ghost use Rattle.std.specs.Prelude.{◌≡◌};
 
 use mil_monitor::Record;
 use mil_trunk::Tagged;

@@ -1,5 +1,5 @@
 //! Mailboxes: while a channel runs, hosts post actions for its terminals.
-ghost use Rattle.std.specs.Prelude.{◌≡◌, ◌≢◌, ◌<◌, ◌≤◌, ◌+◌, ◌^◌, ◌↔◌, ◌⊎◌, ◌++◌, ◌∷◌, [], ℕ, true, length, not, ◌&&◌, ◌||◌, Err, IfOk, OnOk, IfErr, IfSome, IfNone, IsTrue};
+ghost use Rattle.std.specs.Prelude.{◌≡◌, ◌<◌, ◌+◌, ◌^◌, ◌↔◌, ◌⊎◌, ◌++◌, ◌∷◌, [], ℕ, true, length, not, ◌&&◌, ◌||◌, Err, IfOk, OnOk, IfErr, IfSome, IfNone, IsTrue};
 ghost use Rattle.mil_trunk.specs.Tags.{has, bound_of, Includes};
 ghost use Rattle.mil_trunk.specs.Views.{with_tag, inside, outside};
 ghost use Rattle.mil_trunk.specs.Ends.{IsCapacity};
@@ -82,10 +82,9 @@ impl Mailbox {
         if capacity < 1 || capacity > 4096 {
             return Err(MailError::Capacity);
         }
-        let mut addresses = Vec::new(alloc);
-        if addresses.extend_from_slice(job.addresses()).is_err() {
+        let Ok(addresses) = job.addresses().to_vec(alloc) else {
             return Err(MailError::Memory);
-        }
+        };
         match Trunk::make(alloc, capacity, &[MOST; 64]) {
             Ok((trunk, ticket, taker)) => Ok((
                 Mailbox {

@@ -1,6 +1,5 @@
 //! What a run needs before its threads start.
-ghost use Rattle.std.specs.Prelude.{◌≡◌, ◌≤◌, length, map, vec_len, All, IfOk};
-ghost use Rattle.mil_trunk.specs.Ends.{IsCapacity};
+ghost use Rattle.std.specs.Prelude.{◌≡◌, ◌≤◌, length, vec_len, All, IfOk};
 ghost use Rattle.bench_core.specs.Lawful.{channels_of};
 ghost use Rattle.bench_run.specs.Ending.{IsReady};
 

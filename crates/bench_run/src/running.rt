@@ -1,6 +1,6 @@
 //! Jobs on threads of their own, and one recording of them all; with posts of hosts, or without.
-ghost use Rattle.std.specs.Prelude.{◌≡◌, ℕ, List, ◌-◌, ◌<◌, ◌≤◌, ◌^◌, [], length, vec_len, IfOk, IfErr, OnOk, IsTrue};
-ghost use Rattle.bench_core.specs.Lawful.{AreLawful, channels_of, format_of};
+ghost use Rattle.std.specs.Prelude.{◌≡◌, ◌-◌, ◌<◌, ◌^◌, length, vec_len, IfOk, IfErr, OnOk, IsTrue};
+ghost use Rattle.bench_core.specs.Lawful.{AreLawful};
 ghost use Rattle.bench_run.specs.declared.mailbox.Mailbox.{Mailbox};
 ghost use Rattle.bench_run.specs.Runs.{ArePairs, Ran, RefusesNoneWithRoom, Leaves};
 ghost use Rattle.bench_run.specs.Mail.{IsMadeFor};

@@ -1,16 +1,13 @@
 //! The threads of a run: each is started with its job, and joined again.
-ghost use Rattle.std.specs.Prelude.{◌≡◌, ◌≢◌, ℕ, List, ◌<◌, ◌≤◌, ◌++◌, ◌||◌, [], true, Some, length, map, slice_get, vec_len, vec_capacity, IfSome, IfOk};
+ghost use Rattle.std.specs.Prelude.{◌≡◌, ◌≢◌, ℕ, List, ◌<◌, ◌≤◌, ◌++◌, ◌||◌, [], true, Some, length, map, vec_len, vec_capacity, IfSome, IfOk};
 ghost use Rattle.std.specs.List.{AllByRecursion};
 ghost use Rattle.mil_trunk.specs.Tags.{has, bound_of, bounds_outside};
 ghost use Rattle.mil_trunk.specs.Views.{with_tag};
 ghost use Rattle.mil_trunk.specs.Ends.{IsTicketOf, capacity_of, tags_of, bounds_of, sent};
-ghost use Rattle.job_file.specs.Jobs.{tree_in, job_in};
-ghost use Rattle.job_file.specs.Machines.{IsOf};
 ghost use Rattle.ch11_recording.specs.Recording.{AreDistinct};
 ghost use Rattle.bench_core.specs.Lawful.{channels_of};
-ghost use Rattle.bench_core.specs.Settled.{kept};
-ghost use Rattle.bench_run.specs.Entries.{index_of, entries_to_the_end};
-ghost use Rattle.bench_run.specs.Runs.{ArePairs, records_of, most_items};
+ghost use Rattle.bench_run.specs.Entries.{index_of};
+ghost use Rattle.bench_run.specs.Runs.{ArePairs, most_items};
 ghost use Rattle.bench_run.specs.declared.channel.Room.{Room};
 ghost use Rattle.bench_run.specs.declared.threads.Joined.{Joined};
 ghost use Rattle.bench_run.specs.Mail.{IsInboxOf};

@@ -1,5 +1,5 @@
 -- What a frame does, by recursion on the tree, in any world (own choice).
-use Rattle.std.specs.Prelude.{ℕ, zero, suc, ◌+◌, Bool, not, ◌&&◌, ◌||◌, if◌then◌else◌}
+use Rattle.std.specs.Prelude.{ℕ, zero, suc, Bool, not, ◌&&◌, ◌||◌, if◌then◌else◌}
 use Rattle.mil_word.specs.declared.Line.{Line}
 use Rattle.mil_message.specs.declared.messages.Message.{Message}
 use Rattle.mil_message.specs.declared.outcome_test.OutcomeTest.TheVariants.{Failed}

@@ -51,7 +51,7 @@ impl<A: Allocator + Clone> Frame<A> {
                 count: *count,
                 body: boxed(alloc, body.copied(alloc)?)?,
             }),
-            Frame::Seq(frames) => Ok(Frame::Seq(Frame::copies_of(frames, alloc)?)),
+            Frame::Seq(frames) => Ok(Frame::Seq(Frame::copies_of(frames.as_slice(), alloc)?)),
             Frame::Call(name) => Ok(Frame::Call(name.copy())),
             Frame::Define { name, body, rest } => Ok(Frame::Define {
                 name: name.copy(),
@@ -64,10 +64,10 @@ impl<A: Allocator + Clone> Frame<A> {
     // Copies of these frames, in their order.
     #[cycle(copies)]
     fn copies_of<B: Allocator + Clone>(
-        frames: &Vec<Frame<A>, A>,
+        frames: &[Frame<A>],
         alloc: &B,
     ) -> Result<Vec<Frame<B>, B>, AllocError>
-        ensures { IfOk result (λ copies. map tree_of copies.items ≡ map tree_of frames.now.items) }
+        ensures { IfOk result (λ copies. map tree_of copies.items ≡ map tree_of frames.now) }
     {
         let mut copies = Vec::new(alloc.clone()?);
         for frame in frames {

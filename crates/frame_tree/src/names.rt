@@ -1,6 +1,6 @@
 //! Names of definitions, and the names in scope.
 
-ghost use Rattle.std.specs.Prelude.{◌≡◌, ◌↔◌, ◌≤◌, IsTrue, true, if◌then◌else◌, Some, None, length};
+ghost use Rattle.std.specs.Prelude.{◌≡◌, ◌≤◌, true, if◌then◌else◌, Some, None, length};
 ghost use Rattle.frame_tree.specs.Names.{is_letter, is_word, begins, is_name, same, named, is_known};
 ghost use Rattle.frame_tree.specs.Scopes.{scope_of};
 

@@ -8,24 +8,14 @@ use Rattle.frame_text.specs.Frames.{tree_of_text}
 use Rattle.frame_code.specs.Table.{Code}
 use Rattle.frame_asm.specs.Shapes.{code_of}
 use Rattle.job_file.specs.Drafts.{shown}
-use Rattle.job_file.specs.Spelled.{ChannelJob, first_or, job_of}
+use Rattle.job_file.specs.Spelled.{ChannelJob, job_with, job_of}
 use Rattle.job_file.specs.Scripts.{tree_or_nothing, tree_spelled, IsProgramOf}
 use Rattle.job_file.specs.Reading.{IsCodeRefusal, IsRefusal}
 use Rattle.job_file.specs.declared.drafts.Draft.{Draft}
 use Rattle.job_file.specs.declared.error.JobError.{JobError}
 use Rattle.job_file.specs.declared.error.JobError.TheVariants as error
 
-abbrev job_with : Draft → ℕ → Tree → ChannelJob
-job_with d channel tree = record {
-  channel = channel;
-  start = first_or 0 (shown d).starts;
-  addresses = d.addresses.items;
-  actions = d.actions.items;
-  plan = d.plan;
-  tree = tree;
-}
-
-job_is : (d : Draft) (channel : ℕ) (text : Text) (tree : Tree) → d.channel ≡ Some channel → tree_of_text text ≡ Ok tree → job_of (shown d) text ≡ Some (job_with d channel tree)
+job_is : (d : Draft) (channel : ℕ) (text : Text) (tree : Tree) → d.channel ≡ Some channel → tree_of_text text ≡ Ok tree → job_of (shown d) text ≡ Some (job_with channel (shown d) tree)
 job_is d channel text tree named read = rw (named, read) refl
 
 refused : (spelled : Option ChannelJob) (job : ChannelJob) (e : JobError) → spelled ≡ Some job → IsCodeRefusal (code_of job.tree) e → IsRefusal spelled e
@@ -38,7 +28,7 @@ refused spelled job error.Memory is r = tt
 -- a script without a program
 pub code_refused : (d : Draft) (channel : ℕ) (text : Text) (tree : Tree) (e : JobError) → d.channel ≡ Some channel → tree_of_text text ≡ Ok tree
     → IsCodeRefusal (code_of tree) e → IsRefusal (job_of (shown d) text) e
-code_refused d channel text tree e named read r = refused _ (job_with d channel tree) e (job_is d channel text tree named read) r
+code_refused d channel text tree e named read r = refused _ (job_with channel (shown d) tree) e (job_is d channel text tree named read) r
 
 -- the tree of a text that has one
 spelled_is : (text : Text) (tree : Tree) → tree_of_text text ≡ Ok tree → tree_spelled text ≡ tree
@@ -53,5 +43,5 @@ program_made text tree program read sound is =
 
 -- and the job is that of the draft and the text
 pub job_made : (d : Draft) (channel : ℕ) (text : Text) (tree : Tree) → d.channel ≡ Some channel → tree_of_text text ≡ Ok tree
-    → job_of (shown d) text ≡ Some (job_with d channel (tree_spelled text))
-job_made d channel text tree named read = job_is d channel text tree named read ∙ ap (λ t. Some (job_with d channel t)) (sym (spelled_is text tree read))
+    → job_of (shown d) text ≡ Some (job_with channel (shown d) (tree_spelled text))
+job_made d channel text tree named read = job_is d channel text tree named read ∙ ap (λ t. Some (job_with channel (shown d) t)) (sym (spelled_is text tree read))

@@ -1,9 +1,9 @@
 -- What a job means (own choice): its script's frames on the real bus, under the planned faults and placed actions.
-use Rattle.std.specs.Prelude.{ℕ, nat_le, if◌then◌else◌, List, [], map, reverse}
+use Rattle.std.specs.Prelude.{ℕ, nat_le, if◌then◌else◌, List, map, reverse}
 use Rattle.mil_message.specs.World.{World, Point}
 use Rattle.mil_bus.specs.declared.outcomes.Outcome.{Outcome}
 use Rattle.mil_bus.specs.Exchange.{BusState}
-use Rattle.mil_bus.specs.Addresses.{stations_of}
+use Rattle.mil_bus.specs.Addresses.{fresh_bus}
 use Rattle.mil_monitor.specs.declared.Record.{Record}
 use Rattle.mil_monitor.specs.Observed.{observed}
 use Rattle.frame_tree.specs.Meaning.{meaning}
@@ -12,9 +12,9 @@ use Rattle.bc_machine.specs.Controller.{world_of}
 use Rattle.bc_machine.specs.Running.{beginning}
 use Rattle.job_file.specs.Spelled.{ChannelJob}
 
--- new terminals on a bus, before any message
+-- its bus before any message
 abbrev pub bus_of : ChannelJob → BusState
-bus_of job = record { start = job.start; talks = []; stations = stations_of job.addresses }
+bus_of job = fresh_bus job.start job.addresses
 
 abbrev pub world_at : ChannelJob → List Placed → World BusState Outcome
 world_at job placed = world_of job.plan placed

@@ -7,7 +7,7 @@ ghost use Rattle.frame_asm.specs.Shapes.{code_of};
 ghost use Rattle.bc_machine.specs.Running.{started};
 ghost use Rattle.job_file.specs.JobRanges.{may_act, IsFit};
 ghost use Rattle.job_file.specs.Drafts.{shown};
-ghost use Rattle.job_file.specs.Spelled.{first_or};
+ghost use Rattle.job_file.specs.Spelled.{job_with};
 ghost use Rattle.job_file.specs.Scripts.{tree_spelled, IsProgramOf};
 ghost use Rattle.job_file.specs.Jobs.{tree_in, job_in};
 ghost use Rattle.job_file.specs.Meaning.{bus_of};
@@ -57,14 +57,7 @@ impl Job {
         requires channel { draft.channel ≡ Some channel }
         requires fit { IsFit (shown draft) }
         requires program { IsProgramOf script.text program }
-        ensures { job_in result ≡ record {
-          channel = channel;
-          start = first_or 0 (shown draft).starts;
-          addresses = (shown draft).addresses;
-          actions = (shown draft).actions;
-          plan = draft.plan;
-          tree = tree_spelled script.text;
-        } }
+        ensures { job_in result ≡ job_with channel (shown draft) (tree_spelled script.text) }
     {
         Job {
             channel,
@@ -134,21 +127,10 @@ impl Job {
     {
         let program = self.program.copy()?;
         let plan = self.plan.copy()?;
-        let placed = copied(alloc, placed)?;
+        let placed = Placed::copies_of(alloc, placed)?;
         match Bus::make(alloc, self.start, self.addresses.as_slice()) {
             Ok(bus) => Ok(Machine::start(program, bus, plan, placed)),
             Err(_) => Err(AllocError),
         }
     }
-}
-
-/// The same actions, placed alike.
-fn copied(alloc: Global, placed: &[Placed]) -> Result<Vec<Placed>, AllocError>
-    ensures { IfOk result (λ v. v.items ≡ placed.now) }
-{
-    let mut copies = Vec::with_capacity(alloc, placed.len())?;
-    for one in placed {
-        copies.push(one.copy())?;
-    }
-    Ok(copies)
 }

@@ -1,6 +1,5 @@
 //! What a line of a job says, by itself: whether it may stand where it does is judged elsewhere.
-ghost use Rattle.std.specs.Prelude.{◌≡◌, ◌≤◌, IfOk, IfErr};
-ghost use Rattle.std.specs.Option.{is_some};
+ghost use Rattle.std.specs.Prelude.{◌≡◌, IfOk, IfErr};
 ghost use Rattle.mil_host.specs.Words.{words};
 ghost use Rattle.job_file.specs.Options.{Reads};
 ghost use Rattle.job_file.specs.Lines as lines;

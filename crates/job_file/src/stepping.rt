@@ -1,5 +1,5 @@
 //! The controller of a job, from one record to the next.
-ghost use Rattle.std.specs.Prelude.{◌≡◌, ◌+◌, ◌<◌, ◌≤◌, ◌^◌, ℕ, List, Some, length, slice_get, IfSome, IfNone};
+ghost use Rattle.std.specs.Prelude.{◌≡◌, ◌+◌, ◌<◌, ◌≤◌, ◌^◌, List, Some, length, slice_get, IfSome, IfNone};
 ghost use Rattle.frame_tree.specs.Bounds.{IsSound};
 ghost use Rattle.frame_code.specs.Table.{halted};
 ghost use Rattle.bc_machine.specs.declared.placed.Placed.{Placed};

@@ -1,6 +1,8 @@
 //! Calls on jobs.
 use crate::told::Told;
 use crate::worked::{FIVE, HUNDRED, ONE, job_of};
+use bc_machine::Placed;
+use bench_core::ordered_actions;
 use job_file::{JobError, JobsError, read_job, read_jobs};
 use std::alloc::Global;
 
@@ -35,6 +37,22 @@ pub(crate) fn three(alloc: Global) -> Told {
     match read_jobs(alloc, &texts) {
         Ok(jobs) => Told::well(jobs.len() == 3),
         Err(error) => one_refused(&error),
+    }
+}
+
+/// `Placed::copies_of`, of the actions of a job.
+pub(crate) fn actions_copied(alloc: Global) -> Told {
+    match job_of(alloc, HUNDRED) {
+        Some(job) => Told::of(Placed::copies_of(alloc, job.actions()).is_ok()),
+        None => Told::Early,
+    }
+}
+
+/// `ordered_actions`.
+pub(crate) fn actions_ordered(alloc: Global) -> Told {
+    match job_of(alloc, HUNDRED) {
+        Some(job) => Told::of(ordered_actions(alloc, &job).is_ok()),
+        None => Told::Early,
     }
 }
 

@@ -1,5 +1,4 @@
 //! Calls on queues and on runs.
-ghost use Rattle.std.specs.Prelude.{◌≡◌};
 
 use crate::told::Told;
 use crate::worked::{FIVE, ONE, job_of, jobs_of};

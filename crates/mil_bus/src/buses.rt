@@ -1,10 +1,10 @@
 //! The bus.
-ghost use Rattle.std.specs.Prelude.{◌≡◌, ◌+◌, ◌<◌, ◌≤◌, ◌^◌, ◌↔◌, ◌∷◌, [], true, false, unwrap_or, IfOk, Err};
+ghost use Rattle.std.specs.Prelude.{◌≡◌, ◌+◌, ◌<◌, ◌≤◌, ◌^◌, ◌↔◌, ◌∷◌, true, false, unwrap_or, IfOk, Err};
 ghost use Rattle.std.specs.List.{list_all};
 ghost use Rattle.std.specs.Option.{is_some, option_copied};
 ghost use Rattle.mil_line.specs.Ranges.{is_in_range};
 ghost use Rattle.mil_bus.specs.Actions.{place_of, station_of, acted};
-ghost use Rattle.mil_bus.specs.Addresses.{is_fit, stations_of};
+ghost use Rattle.mil_bus.specs.Addresses.{is_fit, fresh_bus};
 ghost use Rattle.mil_bus.specs.BlockStatus.{block_of, outcome_of};
 ghost use Rattle.mil_bus.specs.Counts.{seen_of};
 ghost use Rattle.mil_bus.specs.Exchange.{exchanged, talk_of, next_start, clock_of, last_on, gap_since, least_after};
@@ -75,7 +75,7 @@ impl Bus {
     /// A bus with new terminals of these addresses, whose first talk starts at a tick. Refusals: an address over 30, or one
     /// that stands twice (B1); memory (B2).
     pub fn make(alloc: Global, start: u64, addresses: &[u8]) -> Result<Bus, BusError>
-        ensures ok { IfOk result (λ b. b ≡ record { start = start; talks = []; stations = stations_of addresses.now }) }
+        ensures ok { IfOk result (λ b. b ≡ fresh_bus start addresses.now) }
         ensures addresses { (result ≡ Err BusError.Addresses) ↔ (is_fit addresses.now ≡ false) }
     {
         if !is_fit(addresses) {

@@ -2,7 +2,6 @@
 ghost use Rattle.std.specs.Prelude.{◌≡◌, ℕ, ◌<◌, ◌≤◌, false, List, length, map, get_or, None};
 ghost use Rattle.mil_word.specs.Words.{command_in};
 ghost use Rattle.mil_terminal.specs.Station.{Station};
-ghost use Rattle.mil_bus.specs.Exchange.{hearing};
 ghost use Rattle.mil_bus.specs.DataRuns.{hearing_all, run_words, AreNoCommands};
 ghost use Rattle.mil_bus.specs.Index.{IsClosed, AreClosed, HasCome};
 

@@ -1,7 +1,6 @@
 //! A word that comes to all terminals of a bus.
 ghost use Rattle.std.specs.Prelude.{◌≡◌, ℕ, ◌<◌, ◌≤◌, false, List, length, map, get_or, slice_index};
 ghost use Rattle.std.specs.Int.{bit_at};
-ghost use Rattle.mil_word.specs.declared.Line.{Line as LineValue};
 ghost use Rattle.mil_word.specs.Wave.{word_of};
 ghost use Rattle.mil_terminal.specs.declared.events.Event.TheVariants.{Heard};
 ghost use Rattle.mil_terminal.specs.Station.{Station};

@@ -1,8 +1,6 @@
 //! A quiet that comes to all terminals of a bus, and the first answer to it.
 ghost use Rattle.std.specs.Prelude.{◌≡◌, ℕ, ◌<◌, ◌≤◌, false, None, List, length, map, get_or, take};
-ghost use Rattle.std.specs.Int.{bit_at};
 ghost use Rattle.std.specs.Option.{option_or};
-ghost use Rattle.mil_word.specs.declared.Line.{Line as LineValue};
 ghost use Rattle.mil_terminal.specs.Station.{Station};
 ghost use Rattle.mil_terminal.specs.Windows.{is_listening};
 ghost use Rattle.mil_bus.specs.Exchange.{quieted, answer, first_reply};

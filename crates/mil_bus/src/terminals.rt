@@ -1,5 +1,5 @@
 //! The terminals of a bus, in order of address.
-ghost use Rattle.std.specs.Prelude.{◌≡◌, ◌≤◌, IfOk, map, None};
+ghost use Rattle.std.specs.Prelude.{◌≡◌, IfOk, map, None};
 ghost use Rattle.std.specs.Option.{is_some, option_copied};
 ghost use Rattle.mil_bus.specs.Actions.{place_of, station_of, acting};
 ghost use Rattle.mil_bus.specs.Addresses.{stations_of};

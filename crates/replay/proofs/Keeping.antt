@@ -11,7 +11,7 @@ use Rattle.replay.specs.declared.checkpoints.Stop.{Stop}
 use Rattle.replay.specs.declared.checkpoints.Due.{Due}
 use Rattle.replay.specs.Finding.{count_to}
 use Rattle.replay.specs.Tracks.{Pair}
-use Rattle.replay.specs.Standings.{IsAt, AreKept, IsStop, AreCheckpoints, kept_of}
+use Rattle.replay.specs.Standings.{IsAt, AreKept, IsStop, AreCheckpoints, saved_of}
 use Rattle.replay.specs.Keeping.{AreKeptTo, IsBehind, IsCounted, IsDue, KeepsOn, AddsStates}
 use Rattle.replay.proofs.Counting.{is_of}
 use Rattle.replay.proofs.Lists.{one_of, each_more, each_set}
@@ -117,7 +117,7 @@ at_place p channels due s own counted now behind = record {
 
 pub kept_on : (channel : ℕ) (channels : List ℕ) (s : Standing) (first : ℕ) (old stops : List Stop) (due next : Due) (stop new : Stop) (k : Kept)
     → KeepsOn channel channels s first old due.stop stops → IsDue channels channel s.heard (length stops) due → due.heard ≡ s.heard → slice_get stops due.stop ≡ Some stop
-    → new.place ≡ stop.place → new.states.items ≡ stop.states.items ++ k ∷ [] → k ≡ kept_of s → next.stop ≡ due.stop + 1
+    → new.place ≡ stop.place → new.states.items ≡ stop.states.items ++ k ∷ [] → k ≡ saved_of s → next.stop ≡ due.stop + 1
     → KeepsOn channel channels s first old next.stop (slice_set stops due.stop new)
 kept_on channel channels s first old stops due next stop new k so_far is now there place states kept more before p own behind are =
     subst (λ (n : ℕ). AreKeptTo before p channels n (slice_set stops due.stop new)) (sym more)

@@ -25,7 +25,7 @@ use Rattle.replay.specs.declared.standings.Kept.{Kept}
 use Rattle.replay.specs.Accord.{played, kept_in}
 use Rattle.replay.specs.Finding.{count_to}
 use Rattle.replay.specs.Tracks.{Pair, jobs_in, parts_in, IsThere}
-use Rattle.replay.specs.Standings.{IsAt, AreOf, AreAt, AreUpTo, AreRestored, kept_of, AreKept, AreFirst, AreBegun}
+use Rattle.replay.specs.Standings.{IsAt, AreOf, AreAt, AreUpTo, AreRestored, saved_of, AreKept, AreFirst, AreBegun}
 use Rattle.replay.proofs.Counting.{is_of}
 use Rattle.replay.proofs.Lists.{one_of, each_more, each_set, each_mapped}
 
@@ -99,12 +99,12 @@ module _ (pairs : List Pair) (channels : List ℕ) where
   of_jobs place all is = record { long = is.long; each = λ i p s j k. (is.each i p s j k).there.of_job }
 
   -- what is kept of them stands there too
-  pub kept_there : (place : ℕ) (all : List Standing) (kept : List Kept) → AreAt pairs channels place all → kept ≡ map kept_of all → AreKept pairs channels place kept
+  pub kept_there : (place : ℕ) (all : List Standing) (kept : List Kept) → AreAt pairs channels place all → kept ≡ map saved_of all → AreKept pairs channels place kept
   kept_there place all kept is same =
       subst (AreKept pairs channels place) (sym same)
       (record {
-        long = length-map all kept_of ∙ is.long;
-        each = λ i p k j at. each_mapped kept_of (λ n (x : Kept). (q : Pair) → slice_get pairs n ≡ Some q → IsAt channels place q x.heard x.saved) all
+        long = length-map all saved_of ∙ is.long;
+        each = λ i p k j at. each_mapped saved_of (λ n (x : Kept). (q : Pair) → slice_get pairs n ≡ Some q → IsAt channels place q x.heard x.saved) all
             (λ n s there q pair. is.each n q s pair there) i k at p j;
       })
 
@@ -129,7 +129,7 @@ module _ (pairs : List Pair) (channels : List ℕ) (place : ℕ) (kept : List Ke
       let there = slice_get-some pairs n (omega (arith, less, are.long)) in
       alike there.0.job there.0.part s.machine k.saved (of.each n there.0 s there.1 at) (are.each n there.0 k there.1 of_k).there.of_job
 
-  pub restored_more : (n : ℕ) (all : List Standing) (k : Kept) (new : Standing) → AreRestored pairs kept n all → n < length all → slice_get kept n ≡ Some k → kept_of new ≡ k
+  pub restored_more : (n : ℕ) (all : List Standing) (k : Kept) (new : Standing) → AreRestored pairs kept n all → n < length all → slice_get kept n ≡ Some k → saved_of new ≡ k
       → AreRestored pairs kept (n + 1) (slice_set all n new)
   restored_more n all k new is less at same = record {
     of = record {
@@ -141,7 +141,7 @@ module _ (pairs : List Pair) (channels : List ℕ) (place : ℕ) (kept : List Ke
           i s there p j;
     };
     there = λ i s o low there of_o.
-        each_set (λ x (y : Standing). (q : Kept) → x < n + 1 → slice_get kept x ≡ Some q → kept_of y ≡ q) all n new less
+        each_set (λ x (y : Standing). (q : Kept) → x < n + 1 → slice_get kept x ≡ Some q → saved_of y ≡ q) all n new less
         (λ q small there_q. same ∙ one_of k q (sym at ∙ there_q))
         (λ x y other at_y q small there_q. is.there x y q (let smaller : x < n = ⊎_elim (λ l. l) (λ over. absurd (other (let e : x ≡ n = omega (arith, over, small) in e))) (cases_lt x n) in smaller) at_y there_q)
         i s there o low of_o;

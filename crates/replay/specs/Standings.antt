@@ -20,9 +20,13 @@ pub record IsAt (channels : List ℕ) (place : ℕ) (p : Pair) (heard : ℕ) (m 
   pub heard_is : heard ≡ count_to channels place p.job.channel
   pub there : IsThere p.job p.part (last_number (take heard (kept_in p.job p.part))) m
 
--- no job has more messages in the file than were kept
+-- a job has no more messages in the file than were kept
+abbrev pub HasRoom : List ℕ → Pair → Type 0
+HasRoom channels p = count_to channels (length channels) p.job.channel ≤ length (kept_in p.job p.part)
+
+-- no job has more
 abbrev pub HaveRoom : List Pair → List ℕ → Type 0
-HaveRoom pairs channels = (i : ℕ) (p : Pair) → slice_get pairs i ≡ Some p → count_to channels (length channels) p.job.channel ≤ length (kept_in p.job p.part)
+HaveRoom pairs channels = (i : ℕ) (p : Pair) → slice_get pairs i ≡ Some p → HasRoom channels p
 
 -- each job has a controller of its own
 pub record AreOf (pairs : List Pair) (all : List Standing) : Type 0 where
@@ -41,8 +45,8 @@ pub record AreUpTo (pairs : List Pair) (channels : List ℕ) (from to done : ℕ
   pub left : (i : ℕ) (p : Pair) (s : Standing) → done ≤ i → slice_get pairs i ≡ Some p → slice_get all i ≡ Some s → IsAt channels from p s.heard s.machine
 
 -- what is kept of a standing
-abbrev pub kept_of : Standing → Kept
-kept_of s = record { heard = s.heard; saved = s.machine }
+abbrev pub saved_of : Standing → Kept
+saved_of s = record { heard = s.heard; saved = s.machine }
 
 -- each job's controller at the place is kept
 pub record AreKept (pairs : List Pair) (channels : List ℕ) (place : ℕ) (all : List Kept) : Type 0 where
@@ -119,7 +123,7 @@ pub record AreBegun (jobs : List JobState) (parts : List ChannelPart) (all : Lis
 -- the first so many controllers were taken to what is kept, and all are still the jobs'
 pub record AreRestored (pairs : List Pair) (kept : List Kept) (done : ℕ) (all : List Standing) : Type 0 where
   pub of : AreOf pairs all
-  pub there : (i : ℕ) (s : Standing) (k : Kept) → i < done → slice_get all i ≡ Some s → slice_get kept i ≡ Some k → kept_of s ≡ k
+  pub there : (i : ℕ) (s : Standing) (k : Kept) → i < done → slice_get all i ≡ Some s → slice_get kept i ≡ Some k → saved_of s ≡ k
 
 -- the states of a place are kept, and so may be played on from
 abbrev pub Keeps : Timeline → ℕ → Type 0

@@ -2,9 +2,8 @@
 ghost use Rattle.std.specs.Prelude.{◌≡◌, ◌≤◌, length};
 ghost use Rattle.std.specs.List.{AllByRecursion};
 ghost use Rattle.frame_tree.specs.Tree.{condition_in};
-ghost use Rattle.replay.specs.Accord.{kept_in};
-ghost use Rattle.replay.specs.Finding.{count_to, earlier, IsMetBy, IsMetIn, Finds};
-ghost use Rattle.replay.specs.Tracks.{Pair};
+ghost use Rattle.replay.specs.Finding.{earlier, IsMetBy, IsMetIn, Finds};
+ghost use Rattle.replay.specs.Standings.{HasRoom};
 
 use crate::conditions::holds;
 use crate::tracks::{Track, count};
@@ -20,7 +19,7 @@ fn first_of_job<A: Allocator + Clone>(
     condition: &Cond<A>,
 ) -> Option<usize>
     requires place { place ≤ length channels.now }
-    requires room { count_to channels.now (length channels.now) track.now.job.channel ≤ length (kept_in track.now.job track.now.part) }
+    requires room { HasRoom channels.now track.now }
     ensures { Finds place (IsMetBy channels.now (condition_in condition.now) track.now) result }
 {
     let channel = track.channel();
@@ -55,7 +54,7 @@ pub(crate) fn first_met<A: Allocator + Clone>(
     condition: &Cond<A>,
 ) -> Option<usize>
     requires place { place ≤ length channels.now }
-    requires room { AllByRecursion (λ (p : Pair). count_to channels.now (length channels.now) p.job.channel ≤ length (kept_in p.job p.part)) tracks.now }
+    requires room { AllByRecursion (HasRoom channels.now) tracks.now }
     ensures { Finds place (IsMetIn channels.now (condition_in condition.now) tracks.now) result }
 {
     let mut first = None;

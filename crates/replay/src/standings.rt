@@ -2,7 +2,7 @@
 ghost use Rattle.std.specs.Prelude.{◌≡◌, ◌≤◌, length, map, IfOk, OnOk, OnErr};
 ghost use Rattle.bc_machine.specs.Alike.{AreAlike};
 ghost use Rattle.replay.specs.Tracks.{IsThere};
-ghost use Rattle.replay.specs.Standings.{HaveRoom, AreOf, AreAt, AreKept, AreBegun, kept_of};
+ghost use Rattle.replay.specs.Standings.{HaveRoom, AreOf, AreAt, AreKept, AreBegun, saved_of};
 
 use crate::tracks::Track;
 use bc_machine::{Machine, Saved};
@@ -42,7 +42,7 @@ impl Standing {
 
     /// The job's state as it is now.
     pub(crate) fn save(&self, alloc: Global) -> Result<Kept, AllocError>
-        ensures { IfOk result (λ k. k ≡ kept_of self.now) }
+        ensures { IfOk result (λ k. k ≡ saved_of self.now) }
     {
         Ok(Kept {
             heard: self.heard,
@@ -52,7 +52,7 @@ impl Standing {
 
     fn restore(&mut self, kept: &Kept) -> Result<(), AllocError>
         requires { AreAlike self.old.machine kept.now.saved }
-        ensures restored { OnOk result (kept_of self.new ≡ kept.now) }
+        ensures restored { OnOk result (saved_of self.new ≡ kept.now) }
         ensures same { OnErr result (self.new ≡ self.old) }
     {
         self.machine.restore(&kept.saved)?;
@@ -99,7 +99,7 @@ pub(crate) fn play_all(
 
 /// What is kept of all of them.
 pub(crate) fn save_all(alloc: Global, all: &[Standing]) -> Result<Vec<Kept>, AllocError>
-    ensures { IfOk result (λ v. v.items ≡ map kept_of all.now) }
+    ensures { IfOk result (λ v. v.items ≡ map saved_of all.now) }
 {
     let mut kept = Vec::with_capacity(alloc, all.len())?;
     for standing in all {

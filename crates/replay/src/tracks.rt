@@ -4,9 +4,8 @@ ghost use Rattle.ch11_recording.specs.Items.{last_number};
 ghost use Rattle.replay.specs.Accord.{kept_in, played, AgreesOn};
 ghost use Rattle.replay.specs.Playing.{FailsAt};
 ghost use Rattle.replay.specs.Places.{heard_channels, IsAfter};
-ghost use Rattle.replay.specs.Finding.{count_to};
 ghost use Rattle.replay.specs.Tracks.{IsThere, IsLast};
-ghost use Rattle.replay.specs.Standings.{IsAt};
+ghost use Rattle.replay.specs.Standings.{HasRoom, IsAt};
 ghost use Rattle.replay.specs.Keeping.{AreSpaced, AddsStates};
 
 use crate::checkpoints::Stop;
@@ -131,7 +130,7 @@ impl Track {
     pub(crate) fn play_on(&self, standing: &mut Standing, channels: &[u16], from: usize, to: usize)
         requires order { from ≤ to }
         requires end { to ≤ length channels.now }
-        requires room { count_to channels.now (length channels.now) self.now.job.channel ≤ length (kept_in self.now.job self.now.part) }
+        requires room { HasRoom channels.now self.now }
         requires at { IsAt channels.now from self.now standing.old.heard standing.old.machine }
         ensures { IsAt channels.now to self.now standing.new.heard standing.new.machine }
     {

@@ -1,4 +1,4 @@
-use Rattle.std.proofs.Common.{rules, ◌≡◌, length, [], ◌∷◌, drop, refl}
+use Rattle.std.proofs.Common.{rules}
 use Rattle.std.proofs.lemmas.List.{drop_all}
 use Rattle.bench_one.specs.Lines.{lines_of}
 use Rattle.bench_one.proofs.Shown.{appends_none, shown_step}

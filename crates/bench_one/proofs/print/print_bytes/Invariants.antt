@@ -1,4 +1,4 @@
-use Rattle.std.proofs.Common.{◌≡◌, ℕ, ◌≤◌, length, drop, List, Option}
+use Rattle.std.proofs.Common.{ℕ, drop, List, Option}
 use Rattle.std.specs.Io.KnownBytes.{Appends}
 use Rattle.bench_one.specs.Lines.{lines_of, shown_from}
 use Rattle.bench_one.proofs.print.print_bytes.Given as goal

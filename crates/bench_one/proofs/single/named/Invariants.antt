@@ -1,4 +1,4 @@
-use Rattle.std.proofs.Common.{◌≡◌, ℕ, map, take}
+use Rattle.std.proofs.Common.{◌≡◌, map, take}
 use Rattle.mil_message.specs.declared.forms.Due.{Due}
 use Rattle.bench_one.proofs.single.named.Given as goal
 

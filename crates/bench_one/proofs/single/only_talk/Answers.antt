@@ -1,4 +1,4 @@
-use Rattle.std.proofs.Common.{rules, ◌≡◌}
+use Rattle.std.proofs.Common.{rules}
 use Rattle.mil_bus.specs.Exchange.{talk_of}
 use Rattle.bench_one.specs.One.{only_talk}
 use Rattle.bench_one.proofs.single.only_talk.Goals as goal

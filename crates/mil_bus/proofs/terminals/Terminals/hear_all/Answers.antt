@@ -1,4 +1,4 @@
-use Rattle.std.proofs.Common.{◌-◌, map, drop, take, length, ap, ◌∙◌, sym, arith, length-drop}
+use Rattle.std.proofs.Common.{◌-◌, map, drop, length, ap, ◌∙◌, arith, length-drop}
 use Rattle.std.proofs.lemmas.List.{take_all}
 use Rattle.mil_bus.specs.Exchange.{all_hearing}
 use Rattle.mil_bus.specs.DataRuns.{hearing_all, run_words, run_from}

@@ -1,5 +1,5 @@
 use Rattle.std.proofs.Common.{◌≡◌, take}
-use Rattle.job_file.proofs.jobs.copied.Given as goal
+use Rattle.bc_machine.proofs.placed.Placed.copies_of.Given as goal
 
 -- what was looked at is copied
 abbrev pub invariant-loop-one : goal.invariant-loop-one
