@@ -3,7 +3,6 @@ ghost use Rattle.std.specs.Prelude.{◌≡◌, Ok, IfOk, IfErr};
 ghost use Rattle.frame_tree.specs.Tree.{tree_of};
 ghost use Rattle.frame_tree.specs.Bounds.{IsSound};
 ghost use Rattle.frame_asm.specs.Shapes.{code_of};
-ghost use Rattle.frame_text.specs.Frames.{tree_of_text};
 ghost use Rattle.frame_code.specs.Loadable.{IsLoadable};
 ghost use Rattle.bench_assemble.specs.Assembled.{image_of_text, image_of_tree, judged, IsRefusal};
 

@@ -1,9 +1,8 @@
 -- Lists of faults.
-use Rattle.std.proofs.Common.{◌≡◌, ℕ, ◌+◌, suc, List, [], ◌∷◌, ◌++◌, ap, ◌∙◌, refl, map, append_assoc, add-one}
+use Rattle.std.proofs.Common.{◌≡◌, ℕ, ◌+◌, List, [], ◌∷◌, ◌++◌, ap, ◌∙◌, refl}
 use Rattle.std.specs.Prelude.{Bool, true, false, ◌&&◌, if◌then◌else◌}
 use Rattle.std.specs.List.{filter, list_all}
 use Rattle.mil_line.specs.declared.faults.Fault.{Fault}
-use Rattle.mil_line.specs.Plans.{Planned}
 use Rattle.bench_check.specs.Unmet.{numbered}
 
 first_of : (a b : Bool) → (a && b) ≡ true → a ≡ true

@@ -3,7 +3,6 @@ use Rattle.std.proofs.Common.{◌≡◌, ℕ, List, length, ◌∙◌, ap, refl}
 use Rattle.std.specs.Prelude.{Bool}
 use Rattle.std.specs.List.{filter}
 use Rattle.mil_line.specs.declared.faults.Fault.{Fault}
-use Rattle.mil_bus.specs.declared.talks.Sent.{Sent}
 use Rattle.mil_bus.specs.declared.talks.Talk.{Talk}
 use Rattle.mil_bus.specs.Exchange.{BusState, exchange_of, talk_of, next_start}
 use Rattle.bench_check.specs.Meeting.{run_of, is_before, words_of, is_there, played, meets}

@@ -1,13 +1,11 @@
 -- The rows of an exported recording (own choice): one a message, in the file's order, behind a row with the names of
 -- the columns.
-use Rattle.std.specs.Prelude.{ℕ, ◌+◌, ◌-◌, ◌*◌, ◌/◌, ◌%◌, ◌==◌, Bool, true, false, not, ◌&&◌, nat_lt, if◌then◌else◌, List, [], ◌∷◌, ◌++◌, length, take, drop, codes, decimal}
-use Rattle.std.specs.List.{flat_map}
+use Rattle.std.specs.Prelude.{ℕ, ◌+◌, ◌-◌, ◌*◌, ◌/◌, ◌%◌, ◌==◌, Bool, not, ◌&&◌, nat_lt, if◌then◌else◌, List, [], ◌∷◌, ◌++◌, length, take, drop, codes, decimal}
 use Rattle.csv.specs.Writing.{default_writer, row_text}
 use Rattle.mil_word.specs.Fields.{has_bit, address_of, sub_of, code_of, count_of, is_mode, is_broadcast, is_transmit}
 use Rattle.ch11_f1.specs.BodyReading.{Message}
-use Rattle.ch11_layout.specs.Layouts.{size_of, word_of, first_word, first_gap, second_gap, commands_in, data_start, data_end, is_between}
+use Rattle.ch11_layout.specs.Layouts.{size_of, word_of, first_word, first_gap, second_gap, commands_in, data_start, data_end}
 use Rattle.ch11_reader.specs.Recording.{Found}
-use Rattle.ch11_reader.specs.Contents.{heard_in}
 use Rattle.bench_dump.specs.DumpText.{bus_words}
 
 -- the names of the columns

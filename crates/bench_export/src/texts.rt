@@ -1,6 +1,5 @@
 //! The texts of single fields.
 ghost use Rattle.std.specs.Prelude.{◌≡◌, ◌≤◌, ◌++◌, ◌∷◌, [], drop, OnOk, decimal};
-ghost use Rattle.bench_dump.specs.DumpText.{bus_words};
 ghost use Rattle.bench_export.specs.Rows.{micros, gap_text, words_text, block_text, name_if};
 
 use crate::row::Row;

@@ -1,5 +1,5 @@
 //! The report of one channel.
-ghost use Rattle.std.specs.Prelude.{◌≡◌, ◌≤◌, All, [], ◌∷◌, ◌++◌};
+ghost use Rattle.std.specs.Prelude.{◌≡◌, ◌≤◌, All, []};
 ghost use Rattle.mil_host.specs.Ranges.{IsInRange};
 ghost use Rattle.bc_machine.specs.declared.placed.Placed.{Placed};
 ghost use Rattle.bench_report.specs.Reports.{IsPart, IsPlaced, IsPlace, Rises, NeverFalls};

@@ -1,8 +1,8 @@
 //! A report as far as its lines have come.
 ghost use Rattle.std.specs.Prelude.{◌≡◌, IfErr};
 ghost use Rattle.bench_report.specs.declared.fault.ReportFault.TheVariants.{Order};
-ghost use Rattle.bench_report.specs.Lines.{IsLine, said};
-ghost use Rattle.bench_report.specs.Drafts.{Takes, TakesText, Reads, no_lines, closed, made_line, refused_line, placed_line, with_line, finished};
+ghost use Rattle.bench_report.specs.Lines.{IsLine};
+ghost use Rattle.bench_report.specs.Drafts.{Takes, TakesText, Reads, no_lines, closed, with_line, finished};
 
 use crate::channels::ChannelReport;
 use crate::fault::ReportFault;

@@ -1,5 +1,5 @@
 //! The report that a text spells.
-ghost use Rattle.std.specs.Prelude.{◌≡◌, IfOk, IfErr};
+ghost use Rattle.std.specs.Prelude.{IfOk, IfErr};
 ghost use Rattle.bench_report.specs.Reports.{RunReport, IsReport};
 ghost use Rattle.bench_report.specs.Spelling.{Spells};
 ghost use Rattle.bench_report.specs.Faults.{IsFirstFault};

@@ -1,8 +1,7 @@
 -- What is made of a request: the settings of a run, and the jobs of texts.
-use Rattle.std.specs.Prelude.{◌≡◌, ◌≢◌, ℕ, List}
+use Rattle.std.specs.Prelude.{◌≢◌, ℕ, List}
 use Rattle.mil_host.specs.Words.{Text}
 use Rattle.job_file.specs.Texts.{IsFirstRefused}
-use Rattle.job_file.specs.declared.error.JobError.{JobError}
 use Rattle.job_file.specs.declared.error.JobError.TheVariants as error
 use Rattle.bench_requests.specs.declared.fault.Fault.{Fault}
 use Rattle.bench_requests.specs.declared.fault.Fault.TheVariants as fault

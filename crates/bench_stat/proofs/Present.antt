@@ -1,5 +1,5 @@
 -- The channels of a recording.
-use Rattle.std.proofs.Common.{◌≡◌, ◌⊎◌, inl, inr, ℕ, ◌+◌, ◌<◌, get_or, set, take, length, List, [], ◌∷◌, ◌++◌, Bool, true, false, cond, map, refl, sym, ap, ◌∙◌, arith}
+use Rattle.std.proofs.Common.{◌≡◌, inl, inr, ℕ, ◌+◌, ◌<◌, get_or, set, take, length, List, [], ◌∷◌, ◌++◌, Bool, true, false, cond, refl, sym, ap, ◌∙◌, arith}
 use Rattle.std.specs.List.{filter, range_with_len}
 use Rattle.std.proofs.lemmas.List.{append-nil, map-id, map_push, map_more, get_or-set_same, get_or-set_other}
 use Rattle.std.proofs.lemmas.List.Folds.{list_any-append}
@@ -10,7 +10,7 @@ use Rattle.std.proofs.lemmas.List.Elements.{filter-append}
 use Rattle.ch11_header.specs.declared.header.Header.{Header}
 use Rattle.ch11_reader.specs.declared.packet.Packet.{Packet}
 use Rattle.ch11_reader.specs.Recording.{Found, holds_messages}
-use Rattle.ch11_reader.specs.Listing.{listed_behind, listing_behind, listing}
+use Rattle.ch11_reader.specs.Listing.{listing_behind, listing}
 use Rattle.bench_stat.specs.declared.channels.ChannelFigures.{ChannelFigures}
 use Rattle.bench_stat.specs.Figures.{ArePresent, headers, headers_listed, has_channel, channels_below, figures_of_channel, history_of, figures_among}
 

@@ -10,7 +10,6 @@ use Rattle.ch11_reader.specs.Recording.{Found, holds_messages}
 use Rattle.ch11_reader.specs.Contents.{reading}
 use Rattle.ch11_layout.specs.Layouts.{size_of, first_gap, second_gap}
 use Rattle.bench_stat.specs.declared.calls.Call.{Call}
-use Rattle.bench_stat.specs.declared.calls.CallKind.{CallKind}
 use Rattle.bench_stat.specs.declared.calls.CallKind.TheVariants.{Receive, Transmit, Mode}
 use Rattle.bench_stat.specs.declared.terminals.TerminalFigures.{TerminalFigures}
 use Rattle.bench_stat.specs.declared.traffic.Traffic.{Traffic}

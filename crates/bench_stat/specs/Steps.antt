@@ -1,14 +1,13 @@
 -- The figures with one more call or message.
-use Rattle.std.specs.Prelude.{ℕ, ◌+◌, ◌^◌, ◌-◌, ◌==◌, if◌then◌else◌, List, length, min, max, Option, Some, slice_set, slice_index_or}
+use Rattle.std.specs.Prelude.{ℕ, ◌+◌, ◌-◌, ◌==◌, if◌then◌else◌, List, min, max}
 use Rattle.ch11_f1.specs.BodyReading.{Message}
 use Rattle.ch11_layout.specs.Layouts.{size_of}
-use Rattle.bench_stat.specs.declared.sendings.Sending.{Sending}
 use Rattle.bench_stat.specs.declared.calls.Call.{Call}
 use Rattle.bench_stat.specs.declared.terminals.TerminalFigures.{TerminalFigures}
 use Rattle.bench_stat.specs.declared.traffic.Traffic.{Traffic}
 use Rattle.bench_stat.specs.declared.errors.Errors.{Errors}
 use Rattle.bench_stat.specs.declared.tally.Tally.{Tally}
-use Rattle.bench_stat.specs.Sendings.{is_failed, sending_of, latest}
+use Rattle.bench_stat.specs.Sendings.{is_failed, latest}
 use Rattle.bench_stat.specs.Figures.{capped, one_if, duration, is_silent, is_miscounted, is_of_other_sync, is_unsound, is_otherwise_failed, is_receive_call, is_transmit_call, is_mode_call, figures_of_channel}
 
 abbrev pub with_kind : Call → TerminalFigures → TerminalFigures

@@ -1,6 +1,5 @@
 //! The figures of a channel.
 ghost use Rattle.std.specs.Prelude.{◌≡◌};
-ghost use Rattle.ch11_reader.specs.Recording.{Found};
 ghost use Rattle.bench_stat.specs.Figures.{figures_of_channel, history_of};
 
 use crate::errors::Errors;

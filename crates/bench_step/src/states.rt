@@ -1,7 +1,7 @@
 //! What the terminals of a channel hold, as lines.
 ghost use Rattle.std.specs.Prelude.{◌≡◌, ◌++◌, OnOk, codes};
 ghost use Rattle.std.specs.Io.KnownBytes.{Appends};
-ghost use Rattle.bench_step.specs.StateText.{channel_text, field, lines_below, off_text, terminal_line, terminal_lines};
+ghost use Rattle.bench_step.specs.StateText.{channel_text, field, off_text, terminal_line, terminal_lines};
 
 use bc_machine::Machine;
 use mil_bus::Bus;

@@ -1,3 +1,4 @@
+//! The builder of a channel's packets, record by record.
 ghost use Rattle.std.specs.Prelude.{◌≡◌, ◌≤◌, ◌<◌, ◌^◌, ◌↔◌, ◌⊎◌, [], false, if◌then◌else◌, length, IfOk, IfSome, IsErrOf, MatchOption};
 ghost use Rattle.std.specs.Borrow.{sem};
 ghost use Rattle.std.specs.Io.BufRead.{Rests};

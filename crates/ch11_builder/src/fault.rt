@@ -1,3 +1,4 @@
+//! Why there is no builder.
 use std::fmt;
 
 /// Why there is no builder. The limit is judged first.

@@ -1,6 +1,6 @@
 //! The open packet of a channel in its buffer.
 ghost use Rattle.std.specs.Prelude.{◌≡◌, [], ◌∷◌, ◌++◌, ◌+◌, ◌≤◌, ◌<◌, ◌^◌, ◌==◌, ◌||◌, true, false, not, if◌then◌else◌, length, vec_len, IfOk, IfErr};
-ghost use Rattle.ch11_builder.specs.Packet.{Numbered, packet_length};
+ghost use Rattle.ch11_builder.specs.Packet.{packet_length};
 ghost use Rattle.ch11_builder.specs.Cutting.{is_empty};
 ghost use Rattle.ch11_builder.specs.Held.{Held, fresh, fits, pushed, closed, with_record, packet_of, latest_number};
 ghost use Rattle.ch11_builder.specs.Built.{State};

@@ -1,3 +1,4 @@
+//! Why bytes are no body of a packet of MIL-STD-1553 messages.
 use std::fmt;
 
 /// Why bytes are no body. Messages are judged in their order, and the length of a message before its end.

@@ -1,3 +1,4 @@
+//! Why bytes are no packet header.
 use std::fmt;
 
 /// Why bytes are no header, the first reason in this order.

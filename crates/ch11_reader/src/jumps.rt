@@ -5,7 +5,7 @@
 //! the file is long, a table is made, in one pass from the end of the file: from each place that may be a message's, how many
 //! messages a jump may pass over and how many bytes. A jump is one message, or one message and the two jumps behind it where they
 //! are equal in messages; so any number of messages is walked in some forty jumps or steps.
-ghost use Rattle.std.specs.Prelude.{◌≡◌, ℕ, ◌+◌, ◌*◌, ◌<◌, ◌≤◌, length, drop, IfOk, IfErr, IfSome, Err, slice_index_or};
+ghost use Rattle.std.specs.Prelude.{◌≡◌, ℕ, ◌+◌, ◌*◌, ◌<◌, ◌≤◌, length, IfOk, IfErr, IfSome, Err, slice_index_or};
 ghost use Rattle.ch11_f1.specs.BodyReading.{message_at, messages_at};
 ghost use Rattle.ch11_reader.specs.Walking.{between, no_jump, Leads, IsJump, AreJumps};
 

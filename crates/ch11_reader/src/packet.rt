@@ -1,5 +1,5 @@
 //! One packet of a recording.
-ghost use Rattle.std.specs.Prelude.{◌≡◌, ◌+◌, ◌*◌, ◌≤◌, length, drop, IfOk, MatchOption, MatchResult, Ok, Err, [], option_map, slice_get};
+ghost use Rattle.std.specs.Prelude.{◌≡◌, ◌+◌, ◌≤◌, length, drop, IfOk, MatchResult, Ok, Err, option_map, slice_get};
 ghost use Rattle.ch11_f1.specs.Views.{message_of};
 ghost use Rattle.ch11_header.specs.HeaderReading.{body_start};
 ghost use Rattle.ch11_reader.specs.Recording.{messages_of, packet_at};

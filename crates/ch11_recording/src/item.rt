@@ -1,3 +1,4 @@
+//! What goes into a recording, item by item.
 use mil_monitor::Record;
 
 /// What goes into a recording.

@@ -1,5 +1,5 @@
 //! One channel of a recording.
-ghost use Rattle.std.specs.Prelude.{◌≡◌, ◌<◌, ◌≤◌, ◌^◌, ◌+◌, ◌||◌, not, true, false, if◌then◌else◌, IfOk, IfErr, IsTrue, IsFalse};
+ghost use Rattle.std.specs.Prelude.{◌≡◌, ◌<◌, ◌≤◌, ◌^◌, ◌+◌, ◌||◌, not, true, false, if◌then◌else◌, IfOk, IsTrue, IsFalse};
 ghost use Rattle.ch11_writer.specs.Writing.{Puts, progress_of};
 ghost use Rattle.ch11_builder.specs.Held.{fresh, pushed, latest_number};
 ghost use Rattle.ch11_recording.specs.declared.item.Item.TheVariants as item;

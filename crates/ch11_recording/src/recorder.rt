@@ -1,5 +1,5 @@
 //! A recording that is being written.
-ghost use Rattle.std.specs.Prelude.{ℕ, List, Option, true, ◌≡◌, ◌<◌, ◌≤◌, ◌^◌, ◌+◌, ◌-◌, ◌↔◌, ◌||◌, not, [], false, length, map, is_ok, slice_get, slice_set, Some, if◌then◌else◌, IfOk, IfErr, IsOk, OnOk, IsTrue, IsFalse};
+ghost use Rattle.std.specs.Prelude.{ℕ, List, Option, true, ◌≡◌, ◌<◌, ◌≤◌, ◌^◌, ◌+◌, ◌-◌, ◌↔◌, ◌||◌, not, [], false, length, map, is_ok, slice_get, Some, if◌then◌else◌, IfOk, IfErr, IsOk, OnOk, IsTrue, IsFalse};
 ghost use Rattle.ch11_builder.specs.Held.{Held, fresh, latest_number};
 ghost use Rattle.ch11_recording.specs.declared.item.Item.TheVariants as item;
 ghost use Rattle.ch11_recording.specs.declared.item.Item.{Item};

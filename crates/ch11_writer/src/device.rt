@@ -1,3 +1,4 @@
+//! A sink over a file, or any other writer of the standard library.
 ghost use Rattle.std.specs.Prelude.{◌≡◌, false};
 
 use crate::sink::{Sink, SinkFault};

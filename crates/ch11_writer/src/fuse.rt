@@ -1,4 +1,5 @@
-ghost use Rattle.std.specs.Prelude.{◌≡◌, ◌+◌, ◌-◌, ◌<◌, ◌≤◌, ◌^◌, ◌++◌, ◌↔◌, ◌||◌, ◌==◌, [], true, false, not, length, take, min, is_ok, if◌then◌else◌, IfOk, OnErr, IsOk, Some};
+//! A sink in memory that fails once it has taken so many bytes.
+ghost use Rattle.std.specs.Prelude.{◌≡◌, ◌+◌, ◌-◌, ◌<◌, ◌^◌, ◌++◌, ◌↔◌, ◌||◌, ◌==◌, [], true, false, length, take, min, is_ok, if◌then◌else◌, IfOk, IsOk, Some};
 
 use crate::sink::{Sink, SinkFault};
 use std::alloc::Global;

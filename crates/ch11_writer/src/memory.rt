@@ -1,3 +1,4 @@
+//! A sink in memory.
 ghost use Rattle.std.specs.Prelude.{◌≡◌, ◌++◌, ◌+◌, ◌-◌, ◌<◌, ◌^◌, [], true, false, length, is_ok, if◌then◌else◌, IfOk, IsOk, Some};
 
 use crate::sink::{Sink, SinkFault};

@@ -1,3 +1,4 @@
+//! Tests of the writer over sinks that take all, stop, or fail now and then.
 ghost use Rattle.std.specs.Prelude.{◌≡◌, ◌+◌, ◌-◌, ◌<◌, ◌≤◌, ◌^◌, false, length};
 
 use super::*;

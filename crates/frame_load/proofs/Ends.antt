@@ -1,18 +1,18 @@
 -- A loadable code halts within its budget.
-use Rattle.std.proofs.Common.{rules, ◌≡◌, ◌≢◌, ℕ, zero, suc, ◌+◌, ◌-◌, ◌*◌, ◌<◌, ◌≤◌, Bool, true, false, cond, List, [], ◌∷◌, ◌++◌, length, get_or, drop, Option, Some, None, refl, sym, ap, ap₂, ◌∙◌, subst, ⊎_elim, arith, length-append}
+use Rattle.std.proofs.Common.{rules, ◌≡◌, ◌≢◌, ℕ, zero, suc, ◌+◌, ◌-◌, ◌*◌, ◌<◌, ◌≤◌, Bool, true, false, cond, List, [], ◌∷◌, length, get_or, drop, Option, Some, None, refl, sym, ap, ap₂, ◌∙◌, subst, ⊎_elim, arith}
 use Rattle.std.specs.Prelude.{slice_get, nat_lt}
 use Rattle.std.proofs.lemmas.Bool.{cases_lt}
 use Rattle.std.proofs.Math.Seq.{get_or-append_seam}
 use Rattle.mil_word.specs.declared.Line.{Line}
 use Rattle.mil_message.specs.declared.messages.Message.{Message}
-use Rattle.mil_message.specs.World.{World, Point, other_line, sent, asks}
+use Rattle.mil_message.specs.World.{World, Point, other_line}
 use Rattle.frame_code.specs.declared.Op.{Op}
 use Rattle.frame_code.specs.declared.Op.TheVariants.{Halt, Send, Alt, SetGap, Loop, Again, Leave, Jump, Test, JumpFalse, Call, Return}
-use Rattle.frame_code.specs.Table.{Code, Registers, Running, Turn, goes_on, halted, stuck, sends, turns, leaves, counted, calls, comes_back, act, step, then_run, run, start, at_place}
+use Rattle.frame_code.specs.Table.{Code, Registers, Running, Turn, goes_on, halted, stuck, sends, turns, leaves, counted, calls, comes_back, act, step, then_run, run, start}
 use Rattle.frame_code.specs.Routines.{routines, begin_of, main_of, routine_at, owner_at}
 use Rattle.frame_code.specs.Loadable.{tail, after, open_at, JumpsTo, IsLoadable}
 use Rattle.frame_load.specs.Budget.{one_each, one_sent, cost_of, sums_at, total, budget, worst_messages}
-use Rattle.frame_load.proofs.Left.{inner, turn, rest}
+use Rattle.frame_load.proofs.Left.{turn, rest}
 use Rattle.frame_load.proofs.Weights.{all_sums, price, sums_long, rest_total}
 use Rattle.frame_load.specs.Runs.{Reaches, HaltsWithin}
 use Rattle.frame_load.proofs.Never.{there, within, opened, IsReturn, same_routine, home, EndsClosed, same_home, routines_are, begun_at, begun_inside, main_begun, Fits, FitsAfter, step_fits, start_fits}

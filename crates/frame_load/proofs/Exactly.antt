@@ -1,5 +1,5 @@
 -- A code breaks one rule first.
-use Rattle.std.proofs.Common.{◌≡◌, Result, Ok, Err, refl, sym, ap, subst}
+use Rattle.std.proofs.Common.{◌≡◌, Result, Ok, Err, refl, ap, subst}
 use Rattle.std.specs.Prelude.{◌↔◌}
 use Rattle.frame_code.specs.Table.{Code}
 use Rattle.frame_load.specs.Judging.{Refuses, Judges, IsWithin}

@@ -1,15 +1,15 @@
 -- What the tables hold, from one place to the next.
-use Rattle.std.proofs.Common.{rules, tests, ◌≡◌, ◌≢◌, ℕ, zero, suc, ◌+◌, ◌-◌, ◌*◌, ◌<◌, ◌≤◌, min, List, [], ◌∷◌, length, get_or, set, Option, Some, None, refl, sym, ap, ap₂, ◌∙◌, subst, ⊎_elim, arith}
-use Rattle.std.specs.Prelude.{slice_get, IsTrue, Bool, true, false}
+use Rattle.std.proofs.Common.{rules, tests, ◌≡◌, ◌≢◌, ℕ, zero, suc, ◌+◌, ◌-◌, ◌*◌, ◌<◌, ◌≤◌, min, List, [], ◌∷◌, length, get_or, set, Some, refl, sym, ap, ap₂, ◌∙◌, subst, ⊎_elim, arith}
+use Rattle.std.specs.Prelude.{slice_get, IsTrue, true, false}
 use Rattle.std.proofs.Math.Nat.{mul_comm, mul-le-mul_left, mul-one}
 use Rattle.std.proofs.lemmas.Bool.{cases_lt}
 use Rattle.std.proofs.lemmas.List.{get_or-set_same, get_or-set_other}
 use Rattle.std.proofs.lemmas.Option.{slice_get-get_or}
 use Rattle.frame_code.specs.declared.Op.{Op}
-use Rattle.frame_code.specs.declared.Op.TheVariants.{Halt, Send, Alt, SetGap, Loop, Again, Leave, Jump, Test, JumpFalse, Call, Return}
+use Rattle.frame_code.specs.declared.Op.TheVariants.{Loop, Again}
 use Rattle.frame_code.specs.Ranges.{is_count, AreInRange}
 use Rattle.frame_code.specs.Ranges as ranges
-use Rattle.frame_code.specs.Loadable.{tail, after, open_at, LeavesTo, JumpsTo, TurnsTo, GoesWell}
+use Rattle.frame_code.specs.Loadable.{tail, after, open_at}
 use Rattle.frame_load.specs.Marks.{innermost}
 use Rattle.frame_load.specs.Budget.{turns_of, weight_in, weight}
 use Rattle.frame_load.proofs.Never.{opened}

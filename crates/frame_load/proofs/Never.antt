@@ -5,14 +5,13 @@ use Rattle.std.proofs.Math.Seq.{get_or-append_seam}
 use Rattle.std.proofs.lemmas.Bool.{cases_lt}
 use Rattle.std.proofs.lemmas.Option.{slice_get-get_or, slice_get_past}
 use Rattle.mil_word.specs.declared.Line.{Line}
-use Rattle.mil_message.specs.declared.messages.Message.{Message}
-use Rattle.mil_message.specs.World.{World, Point, other_line, sent, asks}
+use Rattle.mil_message.specs.World.{World, Point, other_line, asks}
 use Rattle.frame_code.specs.declared.Op.{Op}
 use Rattle.frame_code.specs.declared.Op.TheVariants.{Halt, Send, Alt, SetGap, Loop, Again, Leave, Jump, Test, JumpFalse, Call, Return}
 use Rattle.frame_code.specs.Table.{Code, Registers, Running, Turn, goes_on, halted, stuck, sends, turns, leaves, counted, calls, comes_back, act, step, then_run, run, start, at_place}
 use Rattle.frame_code.specs.Routines.{ends_from, ends, routines, begin_of, main_of, routine_at, passed, owner_at}
 use Rattle.frame_load.specs.Runs.{Reaches}
-use Rattle.frame_code.specs.Loadable.{tail, after, open_at, EndsInHalt, IsPaired, LeavesTo, GoesWell, HasMessage, Each, IsLoadable}
+use Rattle.frame_code.specs.Loadable.{tail, after, open_at, EndsInHalt, IsLoadable}
 
 -- what is read is within
 pub within : (os : List Op) (p : ℕ) (o : Op) → slice_get os p ≡ Some o → p < length os

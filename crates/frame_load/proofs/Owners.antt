@@ -1,5 +1,5 @@
 -- The routines of places, one after the other.
-use Rattle.std.proofs.Common.{◌≡◌, ◌≢◌, ℕ, zero, suc, ◌+◌, ◌-◌, ◌*◌, ◌<◌, ◌≤◌, min, List, [], ◌∷◌, ◌++◌, length, get_or, set, Option, Some, refl, sym, ap, ◌∙◌, subst, ⊎_elim, arith, length-append}
+use Rattle.std.proofs.Common.{◌≡◌, ◌≢◌, ℕ, zero, suc, ◌+◌, ◌-◌, ◌*◌, ◌<◌, ◌≤◌, min, List, [], ◌∷◌, ◌++◌, length, get_or, set, Some, refl, sym, ap, ◌∙◌, subst, ⊎_elim, arith}
 use Rattle.std.specs.Prelude.{slice_get}
 use Rattle.std.proofs.Math.Nat.{mul-le-mul_left, mul_comm, mul-one}
 use Rattle.std.proofs.Math.Seq.{get_or-append_seam}
@@ -8,10 +8,10 @@ use Rattle.std.proofs.lemmas.Bool.{cases_lt}
 use Rattle.std.proofs.lemmas.List.{get_or-set_same, get_or-set_other}
 use Rattle.frame_code.specs.declared.Op.{Op}
 use Rattle.frame_code.specs.declared.Op.TheVariants.{Halt, Send, Alt, SetGap, Loop, Again, Leave, Jump, Test, JumpFalse, Call, Return}
-use Rattle.frame_code.specs.Routines.{ends, routines, begin_of, passed, owner_at}
+use Rattle.frame_code.specs.Routines.{routines, begin_of, passed, owner_at}
 use Rattle.frame_code.specs.Loadable.{CallsEarlier}
 use Rattle.frame_load.specs.Budget.{weight, Sums, called, sums_after, sums_at}
-use Rattle.frame_load.proofs.Never.{within, routine_le, behind_at, routines_are}
+use Rattle.frame_load.proofs.Never.{within, routine_le, behind_at}
 use Rattle.frame_load.proofs.Weights.{sums_long}
 
 owner_step : (o : Op) (k : ℕ) → passed (Some o) k ≤ suc k

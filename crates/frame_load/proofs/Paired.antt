@@ -4,10 +4,10 @@ use Rattle.std.specs.Prelude.{slice_get, nat_lt, nat_le, nat_eq, max}
 use Rattle.std.proofs.lemmas.Bool.{cases_lt}
 use Rattle.frame_code.specs.declared.Op.{Op}
 use Rattle.frame_code.specs.declared.Op.TheVariants.{Halt, Send, Alt, SetGap, Loop, Again, Leave, Jump, Test, JumpFalse, Call, Return}
-use Rattle.frame_code.specs.Loadable.{tail, after, open_at, Each, CallsEarlier, HasRoutines, IsPaired, HasRoom, IsShallow, IsNested}
+use Rattle.frame_code.specs.Loadable.{tail, after, open_at}
 use Rattle.frame_code.specs.Routines.{routines, passed, owner_at}
 use Rattle.frame_load.specs.Budget.{called}
-use Rattle.frame_load.proofs.Depths.{Depths, depths_after, depths_at, ended_long, all_depths, depth_of, depth_at_least, depths_next}
+use Rattle.frame_load.proofs.Depths.{Depths, depths_after, depths_at, ended_long}
 use Rattle.std.proofs.Math.Seq.{get_or-append_seam}
 use Rattle.std.proofs.Math.ListN.{get_or-append}
 use Rattle.std.proofs.lemmas.List.{get_or-set_same, get_or-set_other}

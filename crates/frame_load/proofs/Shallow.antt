@@ -1,13 +1,13 @@
 -- Counting open loops decides the nesting.
-use Rattle.std.proofs.Common.{◌≡◌, ◌≢◌, ℕ, zero, suc, ◌+◌, ◌<◌, ◌≤◌, List, [], ◌∷◌, ◌++◌, length, get_or, Option, Some, None, refl, sym, ap, ◌∙◌, subst, ⊎_elim, arith}
+use Rattle.std.proofs.Common.{◌≡◌, ℕ, zero, suc, ◌+◌, ◌<◌, ◌≤◌, List, [], ◌∷◌, ◌++◌, length, get_or, Option, Some, None, refl, sym, ap, ◌∙◌, subst, ⊎_elim, arith}
 use Rattle.std.specs.Prelude.{slice_get}
 use Rattle.std.proofs.Math.Seq.{get_or-append_seam}
 use Rattle.std.proofs.Math.ListN.{get_or-append}
 use Rattle.std.proofs.lemmas.Bool.{cases_lt}
 use Rattle.frame_code.specs.declared.Op.{Op}
 use Rattle.frame_code.specs.declared.Op.TheVariants.{Halt, Send, Alt, SetGap, Loop, Again, Leave, Jump, Test, JumpFalse, Call, Return}
-use Rattle.frame_code.specs.Routines.{passed, routines, owner_at}
-use Rattle.frame_code.specs.Loadable.{open_at, Each, CallsEarlier, HasRoutines, IsPaired, HasRoom, IsShallow, IsNested}
+use Rattle.frame_code.specs.Routines.{passed, owner_at}
+use Rattle.frame_code.specs.Loadable.{open_at, CallsEarlier, HasRoutines, IsPaired, HasRoom, IsNested}
 use Rattle.frame_load.proofs.Never.{within, routine_le, same_routine, routines_are}
 use Rattle.frame_load.proofs.Depths.{Depths, depths_after, depths_at, depths_next, ended_long, all_depths, depth_of, depth_at_least}
 use Rattle.frame_load.proofs.Paired.{IsFitting, none_open}

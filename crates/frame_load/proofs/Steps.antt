@@ -1,11 +1,11 @@
 -- Each step costs one.
-use Rattle.std.proofs.Common.{rules, ◌≡◌, ◌≢◌, ℕ, zero, suc, ◌+◌, ◌-◌, ◌*◌, ◌<◌, ◌≤◌, Bool, true, false, cond, List, [], ◌∷◌, ◌++◌, length, drop, Option, Some, None, refl, sym, ap, ap₂, ◌∙◌, subst, ⊎_elim, arith, length-append}
+use Rattle.std.proofs.Common.{rules, ◌≡◌, ℕ, zero, suc, ◌+◌, ◌-◌, ◌*◌, ◌<◌, ◌≤◌, Bool, true, false, cond, List, [], ◌∷◌, ◌++◌, length, drop, Option, Some, refl, ap, ◌∙◌, arith, length-append}
 use Rattle.std.specs.Prelude.{slice_get, nat_le}
 use Rattle.frame_code.specs.declared.Op.{Op}
 use Rattle.frame_code.specs.declared.Op.TheVariants.{Halt, Send, Alt, SetGap, Loop, Again, Leave, Jump, Test, JumpFalse, Call, Return}
 use Rattle.frame_code.specs.Loadable.{tail, after, open_at}
 use Rattle.frame_code.specs.Routines.{owner_at}
-use Rattle.frame_load.proofs.Never.{there, IsOpened, opened, IsReturn, same_routine, next_up, routine_le}
+use Rattle.frame_load.proofs.Never.{there, opened, IsReturn, same_routine, next_up, routine_le}
 use Rattle.frame_load.proofs.Left.{inner, turn, rest}
 
 -- the code behind as many closed loops

@@ -1,5 +1,5 @@
 -- What is left at the start is at most the sum of the weights.
-use Rattle.std.proofs.Common.{rules, ◌≡◌, ◌≢◌, ℕ, zero, suc, ◌+◌, ◌-◌, ◌*◌, ◌<◌, ◌≤◌, List, [], ◌∷◌, ◌++◌, length, get_or, drop, Option, Some, None, refl, sym, ap, ap₂, ◌∙◌, subst, ⊎_elim, arith, length-append}
+use Rattle.std.proofs.Common.{◌≡◌, ℕ, zero, suc, ◌+◌, ◌-◌, ◌*◌, ◌<◌, ◌≤◌, List, [], ◌∷◌, ◌++◌, length, get_or, drop, Option, Some, None, refl, sym, ap, ◌∙◌, subst, arith, length-append}
 use Rattle.std.proofs.Math.Nat.{mul-add, add-mul, mul_comm, mul_assoc, mul-zero, mul-le-mul_left}
 use Rattle.std.proofs.lemmas.List.{drop_all}
 use Rattle.std.proofs.Math.Seq.{get_or-append_seam}
@@ -10,10 +10,10 @@ use Rattle.frame_code.specs.declared.Op.TheVariants.{Halt, Send, Alt, SetGap, Lo
 use Rattle.frame_code.specs.Table.{Code}
 use Rattle.frame_code.specs.Routines.{passed, owner_at}
 use Rattle.frame_code.specs.Ranges.{AreInRange}
-use Rattle.frame_code.specs.Loadable.{tail, after, open_at, Each, CallsEarlier, IsLoadable}
+use Rattle.frame_code.specs.Loadable.{after, open_at, Each, CallsEarlier, IsLoadable}
 use Rattle.frame_load.specs.Budget.{turns_of, weight_in, weight, Sums, called, sums_after, sums_at}
 use Rattle.frame_load.proofs.Left.{inner, turn, rest}
-use Rattle.frame_load.proofs.Never.{there, within, opened, IsReturn, same_routine, next_up, routine_le}
+use Rattle.frame_load.proofs.Never.{there, within, IsReturn, same_routine, next_up, routine_le}
 use Rattle.frame_load.proofs.Steps.{drop_at}
 use Rattle.frame_load.proofs.Marks.{count_of}
 

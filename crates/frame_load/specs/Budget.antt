@@ -2,7 +2,7 @@
 -- part cost, each as often as it can come, and a Call with what its routine costs.
 use Rattle.std.specs.Prelude.{ℕ, zero, suc, ◌+◌, ◌*◌, Bool, true, false, List, [], ◌∷◌, ◌++◌, length, get_or, Option, Some, None, slice_get}
 use Rattle.frame_code.specs.declared.Op.{Op}
-use Rattle.frame_code.specs.declared.Op.TheVariants.{Halt, Send, Alt, SetGap, Loop, Again, Leave, Jump, Test, JumpFalse, Call, Return}
+use Rattle.frame_code.specs.declared.Op.TheVariants.{Send, Alt, Loop, Call, Return}
 use Rattle.frame_code.specs.Loadable.{open_at}
 
 -- each operation is a step

@@ -1,7 +1,7 @@
 -- What the loader counts and notes on its way over the operations.
 use Rattle.std.specs.Prelude.{ℕ, ◌+◌, ◌-◌, nat_lt, nat_le, nat_eq, max, if◌then◌else◌, List, [], ◌∷◌, Option, Some, None}
 use Rattle.frame_code.specs.declared.Op.{Op}
-use Rattle.frame_code.specs.declared.Op.TheVariants.{Halt, Send, Alt, SetGap, Loop, Again, Leave, Jump, Test, JumpFalse, Call, Return}
+use Rattle.frame_code.specs.declared.Op.TheVariants.{Loop, Again, Leave, Call, Return}
 
 -- how many loops are open behind an operation, or None where the operation cannot stand there; a Call
 -- opens as many as its routine does at once

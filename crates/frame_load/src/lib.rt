@@ -5,7 +5,7 @@
 ghost use Rattle.std.specs.Prelude.{◌+◌, ◌≡◌, ◌≢◌, ◌≤◌, ◌<◌, ◌↔◌, ℕ, length, slice_get, Some, None, Err, IfOk};
 ghost use Rattle.mil_message.specs.World.{World, Point};
 ghost use Rattle.frame_code.specs.declared.Op.TheVariants as op;
-ghost use Rattle.frame_code.specs.Table.{Code, Running, goes_on, halted, stuck, start, step, run};
+ghost use Rattle.frame_code.specs.Table.{Code, Running, goes_on, stuck, start, step, run};
 ghost use Rattle.frame_code.specs.Routines.{main_of, routine_at};
 ghost use Rattle.frame_code.specs.Loadable.{IsLoadable};
 ghost use Rattle.frame_load.specs.Budget as sums;

@@ -1,6 +1,6 @@
 //! The text of a script: definitions, and the frames behind them.
 
-ghost use Rattle.std.specs.Prelude.{length, IfOk};
+ghost use Rattle.std.specs.Prelude.{length};
 ghost use Rattle.frame_tree.specs.Tree.{tree_of};
 ghost use Rattle.frame_tree.specs.Scopes.{scope_of};
 ghost use Rattle.frame_text.specs.Tokens.{tokens};

@@ -5,7 +5,7 @@ ghost use Rattle.frame_tree.specs.Tree.{tree_of, chain, nothing};
 ghost use Rattle.frame_text.specs.Tokens.{tokens};
 ghost use Rattle.frame_text.specs.Reading.{Gives};
 ghost use Rattle.frame_tree.specs.Scopes.{scope_of};
-ghost use Rattle.frame_text.specs.Frames.{else_at, retry_at, repeat_at, choice_at, until_at, label_at, call_at, frame_at, frames_at, block_at, inner_at, main_at};
+ghost use Rattle.frame_text.specs.Frames.{else_at, retry_at, repeat_at, choice_at, until_at, label_at, call_at, frame_at, frames_at, block_at, inner_at};
 
 use crate::conditions::condition;
 use crate::faults::{Cause, Fault};

@@ -1,6 +1,6 @@
 //! Messages as text.
 
-ghost use Rattle.std.specs.Prelude.{◌≡◌, ◌++◌, ◌∷◌, [], OnOk, string_bytes, take, map, true};
+ghost use Rattle.std.specs.Prelude.{◌≡◌, ◌++◌, ◌∷◌, [], OnOk, string_bytes, true};
 ghost use Rattle.frame_text.specs.PrintedMessages as texts;
 
 use mil_message::{Form, Message, ModeSubaddress};

@@ -1,5 +1,5 @@
 -- What a host needs to post.
-use Rattle.std.specs.Prelude.{◌≡◌, ℕ, ◌^◌, true, []}
+use Rattle.std.specs.Prelude.{◌≡◌, ◌^◌, true, []}
 use Rattle.mil_trunk.specs.Tags.{has, bound_of}
 use Rattle.bench_run.specs.declared.mailbox.Mailbox.{Mailbox}
 use Rattle.bench_run.specs.declared.mailbox.Poster.{Poster}

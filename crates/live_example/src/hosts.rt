@@ -1,5 +1,4 @@
 //! The hosts: each sets a vector word on its terminal, and then asks for service.
-ghost use Rattle.std.specs.Prelude.{◌≡◌};
 ghost use Rattle.live_example.specs.Hosts.{MayPost};
 
 use crate::gate::Posted;

@@ -1,7 +1,6 @@
 //! The text of an action, and the code of a fault in such a text.
-ghost use Rattle.std.specs.Prelude.{◌≡◌, Ok};
+ghost use Rattle.std.specs.Prelude.{◌≡◌};
 ghost use Rattle.mil_host.specs.Printing.{text_of, switch_text, direction_text};
-ghost use Rattle.mil_host.specs.Reading.{action_in};
 
 use crate::actions::Action;
 use crate::data_words::{DataWord, DataWords};

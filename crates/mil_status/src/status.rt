@@ -45,21 +45,21 @@ static FLAGS: [Flag<StatusBits>; 8] = [
 ];
 
 impl StatusBits {
-    /// The last message was not valid, or its command was illegal (4.3.3.5.3.3).
+    /// `StatusBit::MessageError` alone.
     pub const MESSAGE_ERROR: StatusBits = StatusBits(1024);
-    /// Tells a status word from a command word, where it is used (4.3.3.5.3.4).
+    /// `StatusBit::Instrumentation` alone.
     pub const INSTRUMENTATION: StatusBits = StatusBits(512);
-    /// The terminal asks for service (4.3.3.5.3.5).
+    /// `StatusBit::ServiceRequest` alone.
     pub const SERVICE_REQUEST: StatusBits = StatusBits(256);
-    /// The last valid command was a broadcast (4.3.3.5.3.7).
+    /// `StatusBit::Broadcast` alone.
     pub const BROADCAST: StatusBits = StatusBits(16);
-    /// The terminal cannot move data now (4.3.3.5.3.8).
+    /// `StatusBit::Busy` alone.
     pub const BUSY: StatusBits = StatusBits(8);
-    /// A fault in the subsystem (4.3.3.5.3.9).
+    /// `StatusBit::Subsystem` alone.
     pub const SUBSYSTEM: StatusBits = StatusBits(4);
-    /// The terminal accepts control of the bus (4.3.3.5.3.10).
+    /// `StatusBit::Control` alone.
     pub const CONTROL: StatusBits = StatusBits(2);
-    /// A fault in the terminal (4.3.3.5.3.11).
+    /// `StatusBit::Terminal` alone.
     pub const TERMINAL: StatusBits = StatusBits(1);
     /// All eight.
     pub const ALL: StatusBits = StatusBits(0x071F);

@@ -1,5 +1,5 @@
 //! The words that a terminal keeps, in one flat block.
-ghost use Rattle.std.specs.Prelude.{◌≡◌, ℕ, ◌<◌, ◌≤◌, List, [], ◌∷◌, IfOk, length, replicate, slice_set, slice_index_or};
+ghost use Rattle.std.specs.Prelude.{◌≡◌, ℕ, ◌<◌, ◌≤◌, List, [], IfOk, length, replicate, slice_set, slice_index_or};
 
 use std::alloc::{AllocError, Global};
 use std::marker::Model;

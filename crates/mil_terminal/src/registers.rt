@@ -1,6 +1,5 @@
 //! The registers of a terminal, which stand for its history.
-ghost use Rattle.std.specs.Prelude.{◌≡◌, ℕ, ◌+◌, ◌≤◌, ◌<◌, ◌==◌, ◌&&◌, not, List, [], ◌∷◌, IfOk, length, slice_index_or, replicate, ◌++◌, Some, None, if◌then◌else◌};
-ghost use Rattle.mil_word.specs.Wave.{word_of};
+ghost use Rattle.std.specs.Prelude.{◌≡◌, ◌+◌, ◌≤◌, ◌<◌, ◌==◌, ◌&&◌, not, [], ◌∷◌, IfOk, length, replicate, ◌++◌, Some, None, if◌then◌else◌};
 ghost use Rattle.mil_terminal.specs.declared.events.Event.TheVariants.{Heard, Quiet, Host};
 ghost use Rattle.mil_terminal.specs.History.{History};
 ghost use Rattle.mil_terminal.specs.Registers as registers;

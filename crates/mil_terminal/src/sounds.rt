@@ -1,5 +1,5 @@
 //! A wave that was heard, with its word.
-ghost use Rattle.std.specs.Prelude.{◌≡◌, ◌&&◌, ◌||◌, ◌==◌};
+ghost use Rattle.std.specs.Prelude.{◌≡◌, ◌||◌, ◌==◌};
 ghost use Rattle.std.specs.Option.{option_and_then};
 ghost use Rattle.mil_word.specs.declared.Word.{Word};
 ghost use Rattle.mil_word.specs.Wave.{word_of};

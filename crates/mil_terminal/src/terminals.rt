@@ -1,5 +1,5 @@
 //! The remote terminal.
-ghost use Rattle.std.specs.Prelude.{◌≡◌, ◌<◌, ◌≤◌, ◌↔◌, ◌/◌, ◌%◌, ◌^◌, ◌==◌, Err, None, [], ◌∷◌, true, false, IfOk};
+ghost use Rattle.std.specs.Prelude.{◌≡◌, ◌<◌, ◌≤◌, ◌↔◌, ◌/◌, ◌%◌, ◌^◌, ◌==◌, Err, None, [], false, IfOk};
 ghost use Rattle.mil_word.specs.declared.Line.{Line as LineValue};
 ghost use Rattle.mil_word.specs.Wave.{word_of};
 ghost use Rattle.mil_word.specs.Words.{command_in};

@@ -1,5 +1,5 @@
 //! The wave of a word, and the word of a wave.
-ghost use Rattle.std.specs.Prelude.{◌≡◌, ◌+◌, ◌*◌, ◌/◌, ◌%◌, ◌<◌, ◌≤◌, ◌^◌, ◌↔◌, ◌==◌, if◌then◌else◌, Some};
+ghost use Rattle.std.specs.Prelude.{◌≡◌, ◌+◌, ◌*◌, ◌/◌, ◌%◌, ◌<◌, ◌^◌, ◌↔◌, ◌==◌, if◌then◌else◌, Some};
 ghost use Rattle.std.specs.List.{flat_map};
 ghost use Rattle.mil_word.specs.declared.Sync.TheVariants.{CommandSync, DataSync};
 ghost use Rattle.mil_word.specs.declared.Word.{Word};

@@ -1,6 +1,5 @@
 -- Mailboxes, and at the place of each its posters and its inbox, where the lists grow at their ends.
 use Rattle.std.proofs.Common.{◌≡◌, ℕ, zero, suc, List, [], ◌∷◌, ◌++◌, length, refl, sym, ap, ◌∙◌, subst, arith}
-use Rattle.std.specs.Prelude.{Some, slice_get}
 use Rattle.bench_run.specs.declared.mailbox.Mailbox.{Mailbox}
 use Rattle.bench_run.specs.declared.mailbox.Poster.{Poster}
 use Rattle.bench_run.specs.declared.mailbox.Inbox.{Inbox}

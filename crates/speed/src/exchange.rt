@@ -9,7 +9,6 @@ use mil_line::Gap;
 use mil_message::{Draft, Message};
 use mil_monitor::observe_with;
 use mil_word::Line;
-use std::alloc::Global;
 use std::io;
 
 /// All addresses that a terminal can have.

@@ -5,7 +5,6 @@ use Rattle.bc_machine.specs.UnderWay.{IsQuiet, IsHalted}
 use Rattle.job_file.specs.Jobs.{job_in}
 use Rattle.job_file.specs.Machines.{IsOf}
 use Rattle.job_file.proofs.Nexts.{next_of, smaller, all_given}
-use Rattle.bench_check.specs.Unmet.{made}
 use Rattle.bench_check.proofs.Noted.{one_more, no_more, all_unmet}
 use Rattle.bench_check.proofs.trying.try_job.Goals as goal
 

@@ -1,4 +1,3 @@
-use Rattle.csv.specs.Writing.{text_written}
 use Rattle.ch11_f1.specs.Views.{message_of}
 use Rattle.bench_export.proofs.Written.{goes_on}
 use Rattle.bench_export.proofs.messages.write_messages.Goals as goal

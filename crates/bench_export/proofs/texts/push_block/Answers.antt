@@ -1,4 +1,3 @@
-use Rattle.std.proofs.Common.{append_assoc}
 use Rattle.std.specs.Prelude.{codes}
 use Rattle.bench_export.specs.Rows.{name_if}
 use Rattle.bench_export.proofs.Written.{eight_parts}

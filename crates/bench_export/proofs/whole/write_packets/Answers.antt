@@ -1,4 +1,4 @@
-use Rattle.std.proofs.Common.{◌+◌, ◌<◌, length, ap, arith}
+use Rattle.std.proofs.Common.{length, ap, arith}
 use Rattle.bench_dump.proofs.Packets.{no_packet, at_place, same_count}
 use Rattle.bench_export.proofs.Written.{one_packet, all_packets}
 use Rattle.bench_export.proofs.whole.write_packets.Goals as goal

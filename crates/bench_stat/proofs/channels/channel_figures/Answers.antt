@@ -1,5 +1,5 @@
 use Rattle.ch11_f1.specs.Views.{message_of}
-use Rattle.bench_stat.proofs.Histories.{goes_on, ends}
+use Rattle.bench_stat.proofs.Histories.{goes_on}
 use Rattle.bench_stat.proofs.channels.channel_figures.Goals as goal
 
 pub messages-preserved : goal.messages-preserved

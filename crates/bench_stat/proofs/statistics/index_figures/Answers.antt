@@ -1,4 +1,4 @@
-use Rattle.std.proofs.Common.{◌≡◌, ℕ, Bool, false, List, Vec, Global, get_or, sym, ap, ◌∙◌}
+use Rattle.std.proofs.Common.{ℕ, Bool, false, List, Vec, Global, get_or, sym, ap, ◌∙◌}
 use Rattle.bench_stat.specs.declared.channels.ChannelFigures.{ChannelFigures}
 use Rattle.bench_stat.specs.Figures.{headers, figures_among}
 use Rattle.bench_stat.proofs.Present.{no_channels, goes_by, goes_on}

@@ -1,6 +1,6 @@
-use Rattle.std.proofs.Common.{◌≡◌, ◌+◌, Bool, true, false, List, Vec, Global, get_or, set, take, length, vec_len, subst, sym, ap, ◌∙◌, arith}
+use Rattle.std.proofs.Common.{◌≡◌, ◌+◌, Bool, true, false, List, Vec, Global, get_or, set, take, length, vec_len, ap, ◌∙◌, arith}
 use Rattle.std.proofs.lemmas.List.{get_or-replicate, length-set, with_items_is}
-use Rattle.bench_stat.specs.Figures.{ArePresent, headers_listed}
+use Rattle.bench_stat.specs.Figures.{headers_listed}
 use Rattle.bench_stat.proofs.Present.{no_packet, marks_more, marks_same}
 use Rattle.bench_stat.proofs.statistics.present_channels.Goals as goal
 use Rattle.bench_stat.proofs.statistics.present_channels.Goals.{then-packet-eq-MESSAGES_KIND, else-packet-eq-MESSAGES_KIND}

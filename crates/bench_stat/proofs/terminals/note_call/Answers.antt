@@ -1,4 +1,3 @@
-use Rattle.std.proofs.Common.{◌≡◌}
 use Rattle.bench_stat.specs.declared.terminals.TerminalFigures.{TerminalFigures}
 use Rattle.bench_stat.proofs.Addresses.{one_more_call}
 use Rattle.bench_stat.proofs.terminals.note_call.Goals as goal

@@ -1,4 +1,4 @@
-use Rattle.std.proofs.Common.{◌≡◌, ◌<◌, length, get_or, sym, ap, ◌∙◌, arith, rules}
+use Rattle.std.proofs.Common.{◌≡◌, ◌<◌, length, get_or, sym, ◌∙◌, arith, rules}
 use Rattle.frame_code.specs.Routines.{owner_at}
 use Rattle.frame_load.proofs.Marks.{jumps_by}
 use Rattle.frame_load.proofs.checks.jumps_well.Goals as goal

@@ -1,13 +1,7 @@
-use Rattle.std.proofs.Common.{◌≡◌, ◌≢◌, ℕ, ◌+◌, ◌-◌, ◌<◌, ◌≤◌, length, get_or, min, Some, refl, sym, ap, ◌∙◌, ⊎_elim, arith, rules}
-use Rattle.std.specs.Prelude.{slice_get}
-use Rattle.std.proofs.lemmas.Bool.{cases_lt}
-use Rattle.frame_code.specs.declared.Op.{Op}
-use Rattle.frame_code.specs.declared.Op.TheVariants.{Halt, Loop, Again}
-use Rattle.frame_code.specs.Loadable.{open_at, GoesWell}
-use Rattle.frame_load.specs.Marks.{innermost}
-use Rattle.frame_load.specs.Budget.{weight}
-use Rattle.frame_load.proofs.Never.{within}
-use Rattle.frame_load.proofs.Marks.{op_at, more_marks, innermost_below, mark_loop, mark_out, back_out, mark_other, jumps_by, jumps_back, mark_weight}
+use Rattle.std.proofs.Common.{◌≡◌, ◌-◌, ◌<◌, length, get_or, sym, ap, ◌∙◌, arith, rules}
+use Rattle.frame_code.specs.declared.Op.TheVariants.{Halt}
+use Rattle.frame_code.specs.Loadable.{open_at}
+use Rattle.frame_load.proofs.Marks.{op_at, jumps_by, jumps_back}
 use Rattle.frame_load.proofs.checks.leaves_well.Goals as goal
 
 pub returns : goal.returns

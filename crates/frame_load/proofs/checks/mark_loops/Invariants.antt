@@ -1,9 +1,6 @@
-use Rattle.std.proofs.Common.{◌≡◌, ℕ, ◌<◌, ◌≤◌, length, get_or, min, Some}
-use Rattle.std.specs.Prelude.{slice_get}
-use Rattle.frame_code.specs.declared.Op.{Op}
-use Rattle.frame_code.specs.Loadable.{open_at, GoesWell, HasMessage}
+use Rattle.std.proofs.Common.{◌≡◌, ℕ, ◌<◌, get_or}
+use Rattle.frame_code.specs.Loadable.{open_at}
 use Rattle.frame_load.specs.Marks.{innermost}
-use Rattle.frame_load.specs.Budget.{weight}
 use Rattle.frame_load.proofs.checks.mark_loops.Given as goal
 
 abbrev pub invariant-loop-i : goal.invariant-loop-i

@@ -1,10 +1,9 @@
-use Rattle.std.proofs.Common.{suc, ◌≡◌, ◌+◌, ◌-◌, ◌<◌, ◌≤◌, length, get_or, Some, None, ℕ, refl, sym, ap, ◌∙◌, arith, rules}
-use Rattle.std.specs.Prelude.{slice_get, nat_eq}
+use Rattle.std.proofs.Common.{suc, ◌≡◌, ◌-◌, ◌<◌, length, Some, None, sym, ap, ◌∙◌, arith, rules}
 use Rattle.std.proofs.lemmas.List.{length-set}
 use Rattle.std.proofs.lemmas.Option.{slice_get-get_or}
-use Rattle.frame_code.specs.declared.Op.TheVariants.{Halt, Return, Call}
+use Rattle.frame_code.specs.declared.Op.TheVariants.{Halt}
 use Rattle.frame_code.specs.Loadable.{open_at}
-use Rattle.frame_load.proofs.Never.{within, next_up, routine_le}
+use Rattle.frame_load.proofs.Never.{within, next_up}
 use Rattle.frame_load.proofs.Paired.{counts_at, goes_on, none_open, called_is, called_low, one_ended, none_ended}
 use Rattle.frame_load.proofs.Shallow.{nested_by, fitting_of, call_low, owner_low}
 use Rattle.frame_load.proofs.nesting.is_nested.Goals as goal

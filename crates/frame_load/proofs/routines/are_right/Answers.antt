@@ -1,10 +1,8 @@
-use Rattle.std.proofs.Common.{◌≡◌, ◌+◌, ◌<◌, ◌≤◌, suc, length, get_or, Some, ℕ, sym, ap, ◌∙◌, subst, ⊎_elim, arith, rules}
-use Rattle.std.specs.Prelude.{slice_get, IsTrue, Bool, true, false}
-use Rattle.std.proofs.lemmas.Bool.{cases_lt}
+use Rattle.std.proofs.Common.{◌≡◌, ◌≤◌, length, get_or, sym, ap, ◌∙◌, subst, arith, rules}
+use Rattle.std.specs.Prelude.{IsTrue, true, false}
 use Rattle.std.proofs.lemmas.Option.{slice_get-get_or}
-use Rattle.frame_code.specs.declared.Op.{Op}
 use Rattle.frame_code.specs.declared.Op.TheVariants.{Halt}
-use Rattle.frame_code.specs.Routines.{routines, passed, owner_at}
+use Rattle.frame_code.specs.Routines.{routines, owner_at}
 use Rattle.frame_code.specs.Loadable.{CallsEarlier}
 use Rattle.frame_load.proofs.Never.{within, routines_are}
 use Rattle.frame_load.proofs.Marks.{is_true, not_true}

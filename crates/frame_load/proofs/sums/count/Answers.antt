@@ -1,11 +1,8 @@
-use Rattle.std.proofs.Common.{◌≡◌, ◌+◌, ◌*◌, ◌<◌, ◌≤◌, suc, min, Some, length, get_or, sym, ap, ◌∙◌, subst, arith}
+use Rattle.std.proofs.Common.{◌≡◌, ◌+◌, ◌*◌, ◌<◌, min, Some, length, get_or, sym, ap, ◌∙◌, subst, arith}
 use Rattle.std.proofs.lemmas.List.{length-set}
 use Rattle.std.proofs.lemmas.Option.{slice_get-get_or}
 use Rattle.frame_code.specs.declared.Op.TheVariants.{Halt, Return}
-use Rattle.frame_code.specs.Loadable.{CallsEarlier}
-use Rattle.frame_code.specs.Routines.{owner_at}
 use Rattle.frame_load.specs.Budget.{cost_by, Sums, called}
-use Rattle.frame_load.proofs.Never.{routine_le, routines_are}
 use Rattle.frame_load.proofs.Shallow.{call_low, owner_low}
 use Rattle.frame_load.proofs.Owners.{up_owner, same_owner, product_fits, EndedSums, one_sum, no_sum, called_capped, sums_next, now_is, end_is}
 use Rattle.frame_load.proofs.sums.count.Goals as goal

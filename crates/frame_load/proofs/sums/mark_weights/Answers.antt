@@ -1,13 +1,7 @@
-use Rattle.std.proofs.Common.{◌≡◌, ◌≢◌, ℕ, ◌+◌, ◌-◌, ◌<◌, ◌≤◌, length, get_or, min, Some, refl, sym, ap, ◌∙◌, ⊎_elim, arith, rules}
-use Rattle.std.specs.Prelude.{slice_get}
-use Rattle.std.proofs.lemmas.Bool.{cases_lt}
-use Rattle.frame_code.specs.declared.Op.{Op}
-use Rattle.frame_code.specs.declared.Op.TheVariants.{Halt, Loop, Again}
-use Rattle.frame_code.specs.Loadable.{open_at, GoesWell}
-use Rattle.frame_load.specs.Marks.{innermost}
+use Rattle.std.proofs.Common.{◌≢◌, ◌+◌, ◌-◌, ◌<◌, get_or, min, refl, sym, ap, ◌∙◌, arith}
+use Rattle.frame_code.specs.declared.Op.TheVariants.{Halt}
 use Rattle.frame_load.specs.Budget.{weight, weight_in}
-use Rattle.frame_load.proofs.Never.{within}
-use Rattle.frame_load.proofs.Marks.{op_at, more_marks, innermost_below, mark_loop, mark_out, back_out, mark_other, out_same, jumps_by, jumps_back, mark_weight}
+use Rattle.frame_load.proofs.Marks.{op_at, more_marks, innermost_below, back_out, mark_other, out_same, mark_weight}
 use Rattle.std.proofs.lemmas.List.{get_or-set_other}
 use Rattle.frame_load.proofs.sums.mark_weights.Goals as goal
 use Rattle.frame_load.proofs.sums.mark_weights.Goals.{in-Loop, in-Again+then-loops-i-eq0, in-Again+else-loops-i-eq0, in_default}

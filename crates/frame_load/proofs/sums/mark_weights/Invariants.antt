@@ -1,8 +1,4 @@
-use Rattle.std.proofs.Common.{◌≡◌, ℕ, ◌<◌, ◌≤◌, length, get_or, min, Some}
-use Rattle.std.specs.Prelude.{slice_get}
-use Rattle.frame_code.specs.declared.Op.{Op}
-use Rattle.frame_code.specs.Loadable.{open_at, GoesWell, HasMessage}
-use Rattle.frame_load.specs.Marks.{innermost}
+use Rattle.std.proofs.Common.{◌≡◌, ℕ, ◌<◌, get_or, min}
 use Rattle.frame_load.specs.Budget.{weight}
 use Rattle.frame_load.proofs.sums.mark_weights.Given as goal
 

@@ -1,4 +1,4 @@
-use Rattle.std.proofs.Common.{◌≡◌, ◌<◌, length, refl, ap, sym, ◌∙◌, arith, length-set}
+use Rattle.std.proofs.Common.{◌<◌, length, refl, ap, sym, ◌∙◌, arith, length-set}
 use Rattle.mil_word.specs.Words.{data_in}
 use Rattle.mil_terminal.proofs.Runs.{value_put}
 use Rattle.mil_terminal.proofs.pending.put_values.Goals as goal

@@ -1,4 +1,4 @@
-use Rattle.std.proofs.Common.{arith, ◌≡◌, ◌<◌, ◌^◌}
+use Rattle.std.proofs.Common.{arith, ◌≡◌, ◌^◌}
 use Rattle.std.specs.Prelude.{◌==◌}
 use Rattle.mil_trunk.specs.Tags.{bound_of}
 use Rattle.mil_trunk.proofs.Tagging.{length-filter_le}
