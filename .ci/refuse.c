@@ -1,6 +1,6 @@
-// Refuses one growth of memory: loaded in front of the C library (LD_PRELOAD), it lets the call of `malloc` or `realloc` fail whose
-// number, counted from 1, the variable REFUSED_GROWTH names, and then makes the file that REFUSED_FILE names. It includes no header, so
-// that the kit's compiler alone can build it.
+// Refuses one growth of memory: loaded in front of the C library (LD_PRELOAD), it lets the call of `malloc` or
+// `realloc` fail whose number, counted from 1, the variable REFUSED_GROWTH names, and then makes the file that
+// REFUSED_FILE names. It includes no header, so that the kit's compiler alone can build it.
 void *dlsym(void *handle, const char *name);
 char *getenv(const char *name);
 long atol(const char *text);

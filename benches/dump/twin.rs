@@ -225,8 +225,9 @@ fn recording() -> Vec<u8> {
     file
 }
 
-// 100 MB of headers one behind the other. Each says that its packet goes on to the end of the file, and what is a header to one is a
-// message of 24 bytes to those before it; so each body is walked to the end of the file before it turns out to have a fault.
+// 100 MB of headers one behind the other. Each says that its packet goes on to the end of the file, and what is a
+// header to one is a message of 24 bytes to those before it; so each body is walked to the end of the file before it
+// turns out to have a fault.
 fn headers() -> Vec<u8> {
     let mut file = Vec::new();
     let count = 100_000_000usize / 24;

@@ -1,5 +1,5 @@
-// The same in plain Rust: job texts read to programs, timed alike, and texts to time them on. One source of a job's text: the lines
-// above the script, a lexer that walks the bytes, a recursive descent to a tree, the assembler.
+// The same in plain Rust: job texts read to programs, timed alike, and texts to time them on. One source of a job's
+// text: the lines above the script, a lexer that walks the bytes, a recursive descent to a tree, the assembler.
 #![allow(dead_code)]
 use std::time::Instant;
 

@@ -1,5 +1,5 @@
-// Exchanges on a bus. A run that no fault touches is sent, heard and counted as a whole, by the values of its words; only under a
-// fault are there waves.
+// Exchanges on a bus. A run that no fault touches is sent, heard and counted as a whole, by the values of its words;
+// only under a fault are there waves.
 use crate::messages::{Fault, Ready, altered, late_gap};
 use crate::records::Seen;
 use crate::terminals::Terminal;

@@ -1,4 +1,5 @@
-// The same rules in plain Rust: a bus of terminals, exchanges and their records, timed alike. No code of the repository is in it.
+// The same rules in plain Rust: a bus of terminals, exchanges and their records, timed alike. No code of the repository
+// is in it.
 mod buses;
 mod messages;
 mod records;

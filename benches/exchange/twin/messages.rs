@@ -47,7 +47,8 @@ impl Message {
     }
 }
 
-// A message, and what is known of it before it is sent: the values of its words, commands first, and the replies that are due.
+// A message, and what is known of it before it is sent: the values of its words, commands first, and the replies that
+// are due.
 pub struct Ready {
     pub values: List<u16, 34>,
     pub commands: usize,

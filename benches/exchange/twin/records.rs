@@ -75,7 +75,8 @@ impl Seen {
             _ => {}
         }
     }
-    // A whole run without a fault, which begins with this word: of the controller, or a status word with its data words.
+    // A whole run without a fault, which begins with this word: of the controller, or a status word with its data
+    // words.
     pub fn note_run(&mut self, due: u8, run: u8, gap: u16, first: u16, count: usize) {
         let came = Some(Came { gap, first: Some(Word { is_command: true, value: first }), count: count as u8 });
         match run {

@@ -27,8 +27,8 @@ pub enum Entry {
     End { index: u8 },
 }
 
-// Sends each message: where it is paced, it waits for room in the queue; else it offers the message once, and lists the numbers of
-// those that a full queue refused.
+// Sends each message: where it is paced, it waits for room in the queue; else it offers the message once, and lists the
+// numbers of those that a full queue refused.
 fn channel(index: u8, mut controller: Controller, queue: SyncSender<Entry>, paced: bool) -> (u32, Vec<u32>) {
     let mut refused = Vec::new();
     while let Some(record) = controller.next() {

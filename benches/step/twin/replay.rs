@@ -1,4 +1,5 @@
-// A recording, the controllers of its jobs at a place, the states at places 0, 64, 128 .., and those at which the latest 32 moves ended.
+// A recording, the controllers of its jobs at a place, the states at places 0, 64, 128 .., and those at which the
+// latest 32 moves ended.
 use crate::controller::Controller;
 use crate::records::Record;
 use crate::saved::{Saved, restore, save};

@@ -1,4 +1,5 @@
-// What is kept of a controller: its few fields, and of each terminal its registers and the slots that hold words, packed.
+// What is kept of a controller: its few fields, and of each terminal its registers and the slots that hold words,
+// packed.
 use crate::controller::Controller;
 use crate::terminals::{Conditions, Terminal};
 

@@ -1,12 +1,12 @@
 -- The actions placed at a message, and its exchange.
-use Rattle.std.proofs.Common.{ap, ◌≡◌, ◌≤◌, ◌+◌, ℕ, suc, List, [], ◌∷◌, refl, ap₂, arith}
+use Rattle.std.proofs.Common.{ap, ◌≡◌, ◌≤◌, ◌+◌, ℕ, suc, List, [], ◌∷◌, refl, ap₂, max, arith}
 use Rattle.mil_word.specs.declared.Line.{Line}
 use Rattle.mil_message.specs.declared.forms.Form.{Form}
 use Rattle.mil_line.specs.declared.faults.Fault.{Fault}
 use Rattle.mil_bus.specs.declared.talks.Sent.{Sent}
 use Rattle.mil_bus.specs.declared.talks.Talk.{Talk}
 use Rattle.mil_bus.specs.Times.{end_of, end_from, lasting}
-use Rattle.mil_bus.specs.Exchange.{BusState, exchanged, talk_of, clock_of, next_start}
+use Rattle.mil_bus.specs.Exchange.{BusState, exchanged, talk_of, clock_of, next_start, now_of, talk_start}
 use Rattle.mil_bus.specs.Actions.{acted}
 use Rattle.bc_machine.specs.declared.placed.Placed.{Placed}
 use Rattle.bc_machine.specs.Controller.{all_acted, placed_at, ready}
@@ -23,6 +23,14 @@ acted_start (p ∷ ps) b = acted_start ps (acted b p.address p.action)
 pub ready_talks : (placed : List Placed) (number : ℕ) (b : BusState) → (ready placed number b).talks ≡ b.talks
 unfolding ready
 ready_talks placed number b = acted_talks (placed_at number placed) b
+
+acted_least : (ps : List Placed) (b : BusState) → (all_acted b ps).least_start ≡ b.least_start
+acted_least [] b = refl
+acted_least (p ∷ ps) b = acted_least ps (acted b p.address p.action)
+
+pub ready_least : (placed : List Placed) (number : ℕ) (b : BusState) → (ready placed number b).least_start ≡ b.least_start
+unfolding ready
+ready_least placed number b = acted_least (placed_at number placed) b
 
 pub ready_start : (placed : List Placed) (number : ℕ) (b : BusState) → (ready placed number b).start ≡ b.start
 unfolding ready
@@ -46,15 +54,15 @@ ends_after : (place tick : ℕ) (sent : List Sent) → tick ≤ end_from place t
 ends_after place tick [] = omega arith
 ends_after place tick (w ∷ ws) = omega (arith, ends_after (suc place) (tick + lasting place w.gap) ws)
 
-pub talk_follows : (b : BusState) (line : Line) (message : Form) (gap : ℕ) (faults : List Fault) → clock_of b.start b.talks ≤ (talk_of b line message gap faults).start
+pub talk_follows : (b : BusState) (line : Line) (message : Form) (gap : ℕ) (faults : List Fault) → now_of b ≤ (talk_of b line message gap faults).start
 unfolding talk_of
-talk_follows b line message gap faults = starts_after b.start b.talks gap
+talk_follows b line message gap faults = omega (arith, starts_after b.start b.talks gap)
 
 pub talk_ends : (t : Talk) → t.start ≤ end_of t
 talk_ends t = ends_after 0 t.start t.sent.items
 
-pub ready_clock : (placed : List Placed) (number : ℕ) (b : BusState) → clock_of (ready placed number b).start (ready placed number b).talks ≡ clock_of b.start b.talks
-ready_clock placed number b = ap₂ clock_of (ready_start placed number b) (ready_talks placed number b)
+pub ready_clock : (placed : List Placed) (number : ℕ) (b : BusState) → now_of (ready placed number b) ≡ now_of b
+ready_clock placed number b = ap₂ max (ap₂ clock_of (ready_start placed number b) (ready_talks placed number b)) (ready_least placed number b)
 
 -- what counts is which actions are placed at the number
 pub ready_same : (number : ℕ) (ps qs : List Placed) (b : BusState) → placed_at number ps ≡ placed_at number qs → ready ps number b ≡ ready qs number b

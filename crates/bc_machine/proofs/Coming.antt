@@ -7,7 +7,7 @@ use Rattle.mil_message.specs.declared.messages.Message.{Message}
 use Rattle.mil_message.specs.World.{other_line}
 use Rattle.mil_line.specs.Plans.{faults_of}
 use Rattle.mil_bus.specs.declared.talks.Talk.{Talk}
-use Rattle.mil_bus.specs.Exchange.{BusState, exchanged, talk_of, clock_of, next_start}
+use Rattle.mil_bus.specs.Exchange.{BusState, exchanged, talk_of, now_of, talk_start}
 use Rattle.frame_code.specs.declared.Op.{Op}
 use Rattle.frame_code.specs.declared.Op.TheVariants.{Halt, Send, Alt, SetGap, Loop, Again, Leave, Jump, Test, JumpFalse, Call, Return}
 use Rattle.mil_line.specs.declared.faults.Fault.{Fault}
@@ -32,11 +32,11 @@ module _ (m : MachineState) where
   about_comes line message u low h is =
       let number = m.point.number + 1 in
       let b = ready m.placed number m.point.state in
-      let same : clock_of u.bus.start u.bus.talks ≡ clock_in m = ap (λ (v : BusState). clock_of v.start v.talks) h.bus ∙ ready_clock m.placed number m.point.state in
+      let same : now_of u.bus ≡ clock_in m = ap now_of h.bus ∙ ready_clock m.placed number m.point.state in
       record {
         bus = h.bus;
         clock = omega (arith, same, low);
-        start = ap (λ (t : Talk). t.start) h.talk ∙ sym (ap₂ (λ (v : BusState) g. next_start v.start v.talks g) h.bus h.gap);
+        start = ap (λ (t : Talk). t.start) h.talk ∙ sym (ap₂ (λ (v : BusState) g. talk_start v g) h.bus h.gap);
         talks = ap (λ (z : MachineState). z.point.state.talks) is ∙ ap₂ (λ (t : Talk) ts. t ∷ ts) (sym h.talk) (ready_talks m.placed number m.point.state);
         number = ap (λ (z : MachineState). z.point.number) is;
         taken = ap (λ (z : MachineState). z.taken) is;

@@ -2,7 +2,7 @@
 use Rattle.std.proofs.Common.{◌≡◌, ◌≢◌, ℕ, suc, ◌+◌, ◌*◌, ◌≤◌, ◌<◌, ◌^◌, Some, length, sym, ap, subst, refl, arith}
 use Rattle.std.specs.Prelude.{slice_get}
 use Rattle.mil_message.specs.World.{World, Point}
-use Rattle.mil_bus.specs.Exchange.{BusState, clock_of}
+use Rattle.mil_bus.specs.Exchange.{BusState, now_of}
 use Rattle.mil_bus.specs.declared.outcomes.Outcome.{Outcome}
 use Rattle.frame_code.specs.declared.Op.TheVariants as op
 use Rattle.frame_code.specs.Table.{Code, Running, Turn, goes_on, halted, stuck, step, run, start}
@@ -51,7 +51,7 @@ module _ (laws : Laws) (m : MachineState) (u : IsUnderWay m) where
   tells soon = told m going (omega (arith, soon, u.clock, few))
 
   clock_next : (n : MachineState) (r : Stepped) → clock_in n ≤ clock_in m + 2 ^ 24 → Tells m n r → clock_in n ≤ 2 ^ 47 + n.point.number * 2 ^ 24
-  clock_next n Ran soon t = let same : clock_in n ≡ clock_in m = ap (λ (b : BusState). clock_of b.start b.talks) t.state in omega (arith, u.clock, same, t.number)
+  clock_next n Ran soon t = let same : clock_in n ≡ clock_in m = ap now_of t.state in omega (arith, u.clock, same, t.number)
   clock_next n (Sent r) soon t = omega (arith, u.clock, soon, t.number)
   clock_next n Halted soon t = let same : clock_in n ≡ clock_in m = ap clock_in t.same in let number : n.point.number ≡ m.point.number = ap (λ (z : MachineState). z.point.number) t.same in omega (arith, u.clock, same, number)
 

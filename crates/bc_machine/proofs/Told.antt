@@ -35,7 +35,7 @@ module _ (m : MachineState) where
         taken = refl;
         small = omega (arith, small, talk_ends t);
         follows = omega (arith, follows, ready_clock m.placed number m.point.state);
-        ends = talk_ends t;
+        ends = omega (arith, talk_ends t);
       }
 
   counted_told : (k : ℕ) (ns : List ℕ) (i : ℕ) → IsQuiet m (moved_by (counted (world_in m) k ns i m.at m.point) m)

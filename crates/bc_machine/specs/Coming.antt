@@ -3,7 +3,7 @@ use Rattle.std.specs.Prelude.{◌≡◌, ◌+◌, ◌<◌, ◌^◌, ◌∷◌, O
 use Rattle.mil_word.specs.declared.Line.{Line}
 use Rattle.mil_message.specs.declared.forms.Form.{Form}
 use Rattle.mil_line.specs.Plans.{faults_of}
-use Rattle.mil_bus.specs.Exchange.{talk_of, next_start, clock_of}
+use Rattle.mil_bus.specs.Exchange.{talk_of, talk_start, now_of}
 use Rattle.bc_machine.specs.declared.upcoming.Upcoming.{Upcoming}
 use Rattle.bc_machine.specs.Controller.{ready}
 use Rattle.bc_machine.specs.Running.{MachineState, stepped}
@@ -18,8 +18,8 @@ pub record IsAbout (m : MachineState) (line : Line) (message : Form) (u : Upcomi
 -- this gap
 pub record IsComing (m : MachineState) (u : Upcoming) : Type 0 where
   pub bus : u.bus ≡ ready m.placed (m.point.number + 1) m.point.state
-  pub clock : clock_of u.bus.start u.bus.talks < 2 ^ 60
-  pub start : u.talk.start ≡ next_start u.bus.start u.bus.talks u.gap
+  pub clock : now_of u.bus < 2 ^ 60
+  pub start : u.talk.start ≡ talk_start u.bus u.gap
   pub talks : (stepped m).point.state.talks ≡ u.talk ∷ m.point.state.talks
   pub number : (stepped m).point.number ≡ m.point.number + 1
   pub taken : (stepped m).taken ≡ m.taken + 1

@@ -4,7 +4,7 @@ use Rattle.mil_message.specs.World.{World, Point}
 use Rattle.mil_line.specs.Plans.{Planned}
 use Rattle.mil_bus.specs.declared.talks.Talk.{Talk}
 use Rattle.mil_bus.specs.declared.outcomes.Outcome.{Outcome}
-use Rattle.mil_bus.specs.Exchange.{BusState, clock_of}
+use Rattle.mil_bus.specs.Exchange.{BusState, now_of}
 use Rattle.mil_monitor.specs.Observed.{observed}
 use Rattle.frame_code.specs.declared.Op.{Op}
 use Rattle.frame_code.specs.declared.Op.TheVariants as op
@@ -70,6 +70,6 @@ answer_of _ talks = Ran
 unfoldable pub answered : MachineState → Stepped
 answered m = answer_of (slice_get m.code.operations m.at.place) (stepped m).point.state.talks
 
--- when the last word on either line ended
+-- now: when the last word on either line ended, or the least start of its bus where that is later
 abbrev pub clock_in : MachineState → ℕ
-clock_in m = clock_of m.point.state.start m.point.state.talks
+clock_in m = now_of m.point.state

@@ -1,6 +1,6 @@
 //! A controller whose program is under way.
 ghost use Rattle.std.specs.Prelude.{◌≡◌, ◌≤◌, ◌^◌, IfOk, OnOk, OnErr};
-ghost use Rattle.mil_bus.specs.Exchange.{clock_of};
+ghost use Rattle.mil_bus.specs.Exchange.{now_of};
 ghost use Rattle.bc_machine.specs.Running.{started, stepped, answered};
 ghost use Rattle.bc_machine.specs.UnderWay.{IsUnderWay, Tells};
 ghost use Rattle.bc_machine.specs.Alike.{AreAlike};
@@ -35,10 +35,10 @@ impl Model for Machine {
 }
 
 impl Machine {
-    /// A program at its beginning, on a bus, with the faults planned and the actions placed for its messages. Condition: the
-    /// clock of the bus is at most 2^47 ticks. It takes no memory.
+    /// A program at its beginning, on a bus, with the faults planned and the actions placed for its messages. Condition: it is
+    /// at most tick 2^47 on the bus. It takes no memory.
     pub fn start(program: Program, bus: Bus, plan: Plan, placed: Vec<Placed>) -> Machine
-        requires { clock_of bus.start bus.talks ≤ 2 ^ 47 }
+        requires { now_of bus ≤ 2 ^ 47 }
         ensures value { result ≡ started program bus plan placed.items }
         ensures under_way { IsUnderWay result }
     {

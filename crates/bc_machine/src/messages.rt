@@ -2,7 +2,7 @@
 ghost use Rattle.std.specs.Prelude.{◌≡◌, ◌≤◌, ◌+◌, ◌^◌, ◌∷◌, ◌++◌};
 ghost use Rattle.mil_bus.specs.BlockStatus.{block_of};
 ghost use Rattle.mil_bus.specs.Counts.{seen_of};
-ghost use Rattle.mil_bus.specs.Exchange.{clock_of};
+ghost use Rattle.mil_bus.specs.Exchange.{now_of};
 ghost use Rattle.bc_machine.specs.Controller.{ready, world_of};
 
 use crate::placed::act_at;
@@ -15,7 +15,7 @@ use mil_word::Line;
 /// The actions that are placed at a number act: those of the beginning, and then those that were placed later.
 pub fn act_both(bus: &mut Bus, placed: &Schedule, posted: &Schedule, number: u32)
     ensures bus { bus.new ≡ ready (placed.now ++ posted.now) number bus.old }
-    ensures clock { clock_of bus.new.start bus.new.talks ≡ clock_of bus.old.start bus.old.talks }
+    ensures clock { now_of bus.new ≡ now_of bus.old }
 {
     act_at(bus, placed.around(number), number);
     act_at(bus, posted.around(number), number);
@@ -35,13 +35,13 @@ pub fn exchange(
     talk: &mut Talk,
     seen: &mut Seen,
 ) -> Verdict
-    requires { clock_of bus.old.start bus.old.talks ≤ 2 ^ 48 }
+    requires { now_of bus.old ≤ 2 ^ 48 }
     ensures bus { bus.new ≡ ((world_of plan.now (placed.now ++ posted.now)).exchange number line message.now gap bus.old).0 }
     ensures outcome { result.outcome ≡ ((world_of plan.now (placed.now ++ posted.now)).exchange number line message.now gap bus.old).1 }
     ensures seen { seen.new ≡ seen_of talk.new.message talk.new.sent.items }
     ensures block { result.block ≡ block_of talk.new.line talk.new.message seen.new }
     ensures talks { bus.new.talks ≡ talk.new ∷ bus.old.talks }
-    ensures soon { clock_of bus.new.start bus.new.talks ≤ clock_of bus.old.start bus.old.talks + 2 ^ 24 }
+    ensures soon { now_of bus.new ≤ now_of bus.old + 2 ^ 24 }
 {
     act_both(bus, placed, posted, number);
     let faults = plan.faults(number);

@@ -1,6 +1,6 @@
 //! Actions of hosts, each placed at a message.
 ghost use Rattle.std.specs.Prelude.{◌≡◌, IfOk};
-ghost use Rattle.mil_bus.specs.Exchange.{clock_of};
+ghost use Rattle.mil_bus.specs.Exchange.{now_of};
 ghost use Rattle.bc_machine.specs.Controller.{ready};
 
 use mil_bus::Bus;
@@ -45,7 +45,7 @@ impl Placed {
 /// The actions that are placed at a number act, in their order.
 pub fn act_at(bus: &mut Bus, placed: &[Placed], number: u32)
     ensures bus { bus.new ≡ ready placed.now number bus.old }
-    ensures clock { clock_of bus.new.start bus.new.talks ≡ clock_of bus.old.start bus.old.talks }
+    ensures clock { now_of bus.new ≡ now_of bus.old }
 {
     for one in placed {
         if one.number == number {

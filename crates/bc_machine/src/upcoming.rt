@@ -2,7 +2,7 @@
 ghost use Rattle.std.specs.Prelude.{◌≡◌, true, ◌<◌, ◌≤◌, ◌^◌, length, slice_get, IfOk, IfSome};
 ghost use Rattle.std.specs.List.{list_all};
 ghost use Rattle.mil_line.specs.Ranges.{is_in_range};
-ghost use Rattle.mil_bus.specs.Exchange.{clock_of, talk_of};
+ghost use Rattle.mil_bus.specs.Exchange.{now_of, talk_of};
 ghost use Rattle.bc_machine.specs.Running.{clock_in};
 ghost use Rattle.bc_machine.specs.Moves.{line_of};
 ghost use Rattle.bc_machine.specs.MayStep.{IsAble};
@@ -40,7 +40,7 @@ fn prepared(
     gap: Gap,
     faults: &[Fault],
 ) -> Result<Upcoming, AllocError>
-    requires clock { clock_of bus.start bus.talks < 2 ^ 60 }
+    requires clock { now_of bus < 2 ^ 60 }
     requires in_range { list_all is_in_range faults.now ≡ true }
     ensures bus { IfOk result (λ u. u.bus ≡ bus) }
     ensures gap { IfOk result (λ u. u.gap ≡ gap) }

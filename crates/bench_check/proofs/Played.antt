@@ -4,16 +4,16 @@ use Rattle.std.specs.Prelude.{Bool}
 use Rattle.std.specs.List.{filter}
 use Rattle.mil_line.specs.declared.faults.Fault.{Fault}
 use Rattle.mil_bus.specs.declared.talks.Talk.{Talk}
-use Rattle.mil_bus.specs.Exchange.{BusState, exchange_of, talk_of, next_start}
+use Rattle.mil_bus.specs.Exchange.{BusState, exchange_of, talk_of, talk_start}
 use Rattle.bench_check.specs.Meeting.{run_of, is_before, words_of, is_there, played, meets}
 
 -- the words of a talk whose message is that of another, and starts when that does
-played_is : (b : BusState) (t again : Talk) (gap : ℕ) (faults : List Fault) → t.start ≡ next_start b.start b.talks gap → again ≡ talk_of b t.line t.message gap faults → again.sent.items ≡ played b t faults
+played_is : (b : BusState) (t again : Talk) (gap : ℕ) (faults : List Fault) → t.start ≡ talk_start b gap → again ≡ talk_of b t.line t.message gap faults → again.sent.items ≡ played b t faults
 unfolding talk_of exchange_of played
 played_is b t again gap faults start is = ap (λ (v : Talk). v.sent.items) is ∙ (rw start refl)
 
 -- what is answered of a fault, once its message was played under the faults of earlier runs
-pub meets_is : (b copy : BusState) (t again : Talk) (gap : ℕ) (faults before given : List Fault) (f : Fault) (run words : ℕ) (answer : Bool) → t.start ≡ next_start b.start b.talks gap
+pub meets_is : (b copy : BusState) (t again : Talk) (gap : ℕ) (faults before given : List Fault) (f : Fault) (run words : ℕ) (answer : Bool) → t.start ≡ talk_start b gap
     → copy ≡ b → run ≡ run_of f → before ≡ filter (is_before run) faults → given ≡ before → again ≡ talk_of copy t.line t.message gap given
     → words ≡ length (words_of run again.sent.items) → answer ≡ is_there words f → answer ≡ meets b t faults f
 meets_is b copy t again gap faults before given f run words answer start same of_run kept all is count there =

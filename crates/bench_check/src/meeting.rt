@@ -2,7 +2,7 @@
 ghost use Rattle.std.specs.Prelude.{◌≡◌, ◌<◌, ◌^◌, true, length, IfOk};
 ghost use Rattle.std.specs.List.{filter, list_all};
 ghost use Rattle.mil_line.specs.Ranges.{is_in_range};
-ghost use Rattle.mil_bus.specs.Exchange.{clock_of, next_start};
+ghost use Rattle.mil_bus.specs.Exchange.{now_of, talk_start};
 ghost use Rattle.bench_check.specs.Meeting as spec;
 
 use bc_machine::Upcoming;
@@ -68,8 +68,8 @@ pub fn meets(
     faults: &[Fault],
     fault: &Fault,
 ) -> Result<bool, AllocError>
-    requires clock { clock_of coming.now.bus.start coming.now.bus.talks < 2 ^ 60 }
-    requires start { coming.now.talk.start ≡ next_start coming.now.bus.start coming.now.bus.talks coming.now.gap }
+    requires clock { now_of coming.now.bus < 2 ^ 60 }
+    requires start { coming.now.talk.start ≡ talk_start coming.now.bus coming.now.gap }
     requires in_range { list_all is_in_range faults.now ≡ true }
     ensures { IfOk result (λ b. b ≡ spec.meets coming.now.bus coming.now.talk faults.now fault.now) }
 {

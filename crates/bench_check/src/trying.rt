@@ -3,7 +3,7 @@ ghost use Rattle.std.specs.Prelude.{◌≡◌, ◌++◌, ◌+◌, ◌-◌, ◌<�
 ghost use Rattle.std.specs.List.{filter, list_all};
 ghost use Rattle.mil_line.specs.Ranges.{is_in_range};
 ghost use Rattle.mil_line.specs.Plans.{faults_of};
-ghost use Rattle.mil_bus.specs.Exchange.{clock_of, next_start};
+ghost use Rattle.mil_bus.specs.Exchange.{now_of, talk_start};
 ghost use Rattle.bench_check.specs.Meeting.{meets as is_met};
 ghost use Rattle.bench_check.specs.Unmet as spec;
 ghost use Rattle.bench_check.specs.Rooms.{room_of};
@@ -29,8 +29,8 @@ fn note_faults(
     coming: &Upcoming,
     faults: &[Fault],
 ) -> Result<(), AllocError>
-    requires clock { clock_of coming.now.bus.start coming.now.bus.talks < 2 ^ 60 }
-    requires start { coming.now.talk.start ≡ next_start coming.now.bus.start coming.now.bus.talks coming.now.gap }
+    requires clock { now_of coming.now.bus < 2 ^ 60 }
+    requires start { coming.now.talk.start ≡ talk_start coming.now.bus coming.now.gap }
     requires in_range { list_all is_in_range faults.now ≡ true }
     ensures { OnOk result (unmet.new.items ≡ unmet.old.items ++ spec.numbered number (filter (λ f. not (is_met coming.now.bus coming.now.talk faults.now f)) faults.now)) }
 {
@@ -84,8 +84,8 @@ fn note<W: Write>(
     calls: &mut Calls,
     out: &mut W,
 ) -> Result<(), CheckFault>
-    requires clock { clock_of coming.now.bus.start coming.now.bus.talks < 2 ^ 60 }
-    requires start { coming.now.talk.start ≡ next_start coming.now.bus.start coming.now.bus.talks coming.now.gap }
+    requires clock { now_of coming.now.bus < 2 ^ 60 }
+    requires start { coming.now.talk.start ≡ talk_start coming.now.bus coming.now.gap }
     ensures { OnOk result (unmet.new.items ≡ unmet.old.items ++ spec.numbered number (filter (λ f. not (is_met coming.now.bus coming.now.talk (faults_of number job.now.plan) f)) (faults_of number job.now.plan))) }
 {
     let mut text = String::new(alloc);

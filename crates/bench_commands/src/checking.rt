@@ -16,7 +16,7 @@ Each message is shown with its number in its channel, its time, and its line and
 the actions placed at it, the faults planned for it, and what it came to: the status words, and the block status
 word by the names of its bits. Then follows what is probably a mistake: a planned fault that meets nothing, an
 action that no message reaches, a message to a terminal that is not there, a terminal that is never called; and how
-much room the queue of `bench run` needs for nothing to be refused.
+much room the queue of `bench run --drop` needs for nothing to be refused.
 
 Example:
   bench check avionics.job";

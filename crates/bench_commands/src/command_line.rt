@@ -1,13 +1,26 @@
 //! The command line of `bench`: its commands, their arguments with their ranges, and their help.
 
 use crate::checking::{check_command, check_request};
+use crate::completed_run::{Completing, completing_in, with_completing};
+use crate::completing::{CompleteRequest, complete_command, complete_request};
+use crate::context::{Context, context_in, context_option};
+use crate::decoding::{DecodeRequest, asks_for_messages, decode_request, with_decoding};
+use crate::judged_run::judge_option;
+use crate::judging::{JudgeRequest, judge_command, judge_request};
 use crate::looking_line::{
-    draw_command, draw_request, explain_command, export_command, stat_command,
+    draw_command, draw_request, explain_command, explain_request, export_command, stat_command,
 };
 use bench_requests::{Fault, RunRequest};
 use clap::error::ErrorKind;
 use clap::{Arg, ArgAction, ArgMatches, Command, Error, value_parser};
 use std::alloc::{AllocError, Global};
+
+/// What a command line asks, and when the lines that explain a fault stand behind it.
+#[derive(Debug, Drop)]
+pub struct Asked<'a> {
+    pub request: Request<'a>,
+    pub context: Context,
+}
 
 /// What a command line asks.
 #[derive(Debug, Drop)]
@@ -22,14 +35,20 @@ pub enum Request<'a> {
     Assemble {
         script: &'a str,
         image: &'a str,
+        force: bool,
     },
-    /// Jobs, recorded into a file.
-    Run(RunRequest<'a>),
+    /// Jobs, recorded into a file, or into the complete file of their recording.
+    Run {
+        request: RunRequest<'a>,
+        completing: Option<Completing<'a>>,
+    },
     /// The packets and messages of a recording, printed as lines, or with `skip` whatever is sound of it.
     Dump {
         recording: &'a str,
         skip: bool,
     },
+    /// The messages of a recording, or some of them, printed as lines.
+    Decode(DecodeRequest<'a>),
     /// Jobs, tried without a recording.
     Check {
         jobs: Vec<&'a str>,
@@ -45,13 +64,18 @@ pub enum Request<'a> {
     Export {
         recording: &'a str,
         out: &'a str,
+        force: bool,
     },
     /// The messages of a recording over time, written to a file as a picture.
     Draw(DrawRequest<'a>),
-    /// What a code means, or all codes.
+    /// A recording, made into the file that other tools expect.
+    Complete(CompleteRequest<'a>),
+    /// What codes mean; all of them where none is given.
     Explain {
-        code: Option<&'a str>,
+        codes: Vec<&'a str>,
     },
+    /// A recording, judged by rules.
+    Judge(JudgeRequest<'a>),
 }
 
 /// What is to be drawn, and where to.
@@ -67,6 +91,8 @@ pub struct DrawRequest<'a> {
     pub from: u32,
     /// The number of the last one.
     pub to: u32,
+    /// Whether a file of another kind may be replaced.
+    pub force: bool,
 }
 
 /// What is to be walked through.
@@ -82,17 +108,32 @@ pub struct StepRequest<'a> {
 
 /// What the words ask, the program's name first. An error is a usage fault, the help or the version that was asked
 /// for, or want of memory: its kind says which.
-pub fn read<'a>(alloc: Global, words: &'a [String]) -> Result<Request<'a>, Error> {
+pub fn read<'a>(alloc: Global, words: &'a [String]) -> Result<Asked<'a>, Error> {
     let matches = bench_command(alloc)?.try_get_matches_from(words)?;
+    Ok(Asked {
+        context: context_in(&matches),
+        request: request_in(alloc, &matches)?,
+    })
+}
+
+/// The command that was given, with its arguments.
+fn request_in<'a>(alloc: Global, matches: &ArgMatches<'a>) -> Result<Request<'a>, AllocError> {
     Ok(match matches.subcommand() {
         Some(("assemble", given)) => Request::Assemble {
             script: given.get_str("SCRIPT").unwrap_or(""),
             image: given.get_str("IMAGE").unwrap_or(""),
+            force: given.get_flag("force"),
         },
-        Some(("run", given)) => Request::Run(run_request(alloc, given)?),
+        Some(("run", given)) => Request::Run {
+            request: run_request(alloc, given)?,
+            completing: completing_in(given),
+        },
         Some(("check", given)) => Request::Check {
             jobs: check_request(alloc, given)?,
         },
+        Some(("dump", given)) if asks_for_messages(given) => {
+            Request::Decode(decode_request(given))
+        }
         Some(("dump", given)) => Request::Dump {
             recording: given.get_str("RECORDING").unwrap_or(""),
             skip: given.get_flag("skip"),
@@ -105,13 +146,16 @@ pub fn read<'a>(alloc: Global, words: &'a [String]) -> Result<Request<'a>, Error
         Some(("export", given)) => Request::Export {
             recording: given.get_str("RECORDING").unwrap_or(""),
             out: given.get_str("out").unwrap_or(""),
+            force: given.get_flag("force"),
         },
         Some(("draw", given)) => Request::Draw(draw_request(given)),
+        Some(("complete", given)) => Request::Complete(complete_request(given)),
         Some(("explain", given)) => Request::Explain {
-            code: given.get_str("CODE"),
+            codes: explain_request(alloc, given)?,
         },
+        Some(("judge", given)) => Request::Judge(judge_request(given)),
         Some((_, given)) => one_request(given),
-        None => one_request(&matches),
+        None => one_request(matches),
     })
 }
 
@@ -129,9 +173,10 @@ fn bench_command<'a>(alloc: Global) -> Result<Command<'a>, AllocError> {
         .version("0.1.0")
         .bin_name("bench")?
         .subcommand_required(true)
+        .arg(context_option(alloc))?
         .arg_required_else_help(true)
         .after_help(
-            "Exit status: 0 done, 1 the input was refused, 2 usage, 3 a file or a stream failed, 4 no memory.",
+            "Exit status: 0 done, 1 the input was refused, 2 usage, 3 a file or a stream failed, 4 no memory, 5 a rule is not held.",
         )
         .subcommand(one_command(alloc)?)?
         .subcommand(assemble_command(alloc)?)?
@@ -142,6 +187,8 @@ fn bench_command<'a>(alloc: Global) -> Result<Command<'a>, AllocError> {
         .subcommand(stat_command(alloc)?)?
         .subcommand(export_command(alloc)?)?
         .subcommand(draw_command(alloc)?)?
+        .subcommand(judge_command(alloc)?)?
+        .subcommand(complete_command(alloc)?)?
         .subcommand(explain_command(alloc)?)
 }
 
@@ -155,21 +202,32 @@ fn assemble_command<'a>(alloc: Global) -> Result<Command<'a>, AllocError> {
     Command::new(alloc, "assemble")
         .about("Assembles a script into an image for the bus controller, and prints its sizes")
         .after_help("Example:\n  bench assemble poll.script poll.bc")
+        .arg(force(alloc))?
         .arg(script)?
         .arg(image)
 }
 
 /// What the help of `bench run` ends with.
 const RUN_NOTES: &str = "\
-Prints how many packets and messages the recording has. A message that finds the queue full is refused,
-and listed in the report by its number in its channel; nothing is refused with --hold, or where the queue has
-room for all that the jobs may send (the guide says how much that is).
+Prints how many packets and messages the recording has, to standard error where the recording goes to standard
+output. Buses wait while the queue is full, so that every message is recorded. With --drop they never wait: a
+message that finds the queue full is refused, and listed in the report by its number in its channel; how many
+were is said on standard error (the guide says how much room a queue needs so that none is).
 
-No file is written over that is read, or written twice. A recording that is there stays as it is where the
-jobs or settings are refused (U1, U2, U5); the report of an earlier run is emptied when the recording begins.
+Recording and report are written under the names FILE.part, and take the place of what is there together, once
+both are whole: a run that is interrupted leaves what was there. After U4 the recording has what the file took.
+No file is written over that is read, that another run is writing, or that is of another kind.
+
+With --judge the recording is read back behind the counts and judged by rules, as bench judge does: status 5 where
+one is not held. Recording and report are kept either way. The rules are read first: a fault of theirs costs no run.
+
+With --complete the file is what `bench complete` makes of the recording, which is kept in memory until it ends:
+a setup record first, a time packet each second, packets in order of time. --setup, --time and --time-channel are
+those of `bench complete`, with the version of --version.
 
 Example:
-  bench run --out flight.ch11 --report flight.report avionics.job stores.job";
+  bench run --out flight.ch11 --report flight.report avionics.job stores.job
+  bench run --complete --setup flight.tmats --out flight.ch10 --report flight.report avionics.job stores.job";
 
 fn run_command<'a>(alloc: Global) -> Result<Command<'a>, AllocError> {
     let jobs = Arg::new(alloc, "JOB").num_args(0usize..).help(
@@ -179,7 +237,8 @@ fn run_command<'a>(alloc: Global) -> Result<Command<'a>, AllocError> {
         .about("Runs jobs, each on a thread of its own, and records them all into one file")
         .disable_version_flag(true)
         .after_help(RUN_NOTES);
-    with_files(alloc, with_settings(alloc, command)?)?.arg(jobs)
+    let command = with_files(alloc, with_settings(alloc, command)?)?;
+    with_completing(alloc, command)?.arg(jobs)
 }
 
 /// The settings of a run.
@@ -189,12 +248,22 @@ fn with_settings<'a>(alloc: Global, command: Command<'a>) -> Result<Command<'a>,
     let hold = Arg::new(alloc, "hold")
         .long("hold")
         .action(ArgAction::SetTrue)
-        .help("Buses wait while the queue is full, so that no message is refused");
+        .conflicts_with("drop")?
+        .help(
+            "Buses wait while the queue is full, so that no message is refused: so it is without this option too",
+        );
+    let drop = Arg::new(alloc, "drop")
+        .long("drop")
+        .action(ArgAction::SetTrue)
+        .help(
+            "Buses never wait: a message that finds the queue full is refused, and is missing from the recording",
+        );
     command
         .arg(version(alloc).default_value("6"))?
         .arg(setting(alloc, "limit", limit).default_value("65536"))?
         .arg(setting(alloc, "queue", queue).default_value("4096"))?
-        .arg(hold)
+        .arg(hold)?
+        .arg(drop)
 }
 
 /// The files of a run but its jobs.
@@ -204,8 +273,18 @@ fn with_files<'a>(alloc: Global, command: Command<'a>) -> Result<Command<'a>, Al
     let report = "The file to write the report to; it is written only where the recording is whole";
     command
         .arg(file(alloc, "prologue", prologue))?
+        .arg(judge_option(alloc))?
         .arg(file(alloc, "out", "The file to write the recording to").required(true))?
-        .arg(file(alloc, "report", report).required(true))
+        .arg(file(alloc, "report", report).required(true))?
+        .arg(force(alloc))
+}
+
+/// The leave to replace a file that is there, whatever it is.
+pub(crate) fn force<'a>(alloc: Global) -> Arg<'a> {
+    Arg::new(alloc, "force")
+        .long("force")
+        .action(ArgAction::SetTrue)
+        .help("Replaces a file that is there even where it is not of the kind that is written")
 }
 
 /// An option whose number the command judges.
@@ -227,7 +306,7 @@ pub(crate) fn file<'a>(alloc: Global, name: &'a str, help: &'a str) -> Arg<'a> {
 }
 
 /// The data type version of what is written.
-fn version<'a>(alloc: Global) -> Arg<'a> {
+pub(crate) fn version<'a>(alloc: Global) -> Arg<'a> {
     Arg::new(alloc, "version")
         .long("version")
         .value_name("N")
@@ -252,9 +331,14 @@ the second.
 A recording with a fault is refused, and nothing is shown, unless --skip is given: then a line
 `skipped OFFSET length LENGTH FAULT` stands in the place of the bytes that are no packet.
 
+With --decode each message is a line as people read it, with its time in seconds, its number in the file and in
+its channel, its form, status words, data words and errors by name; packets have no line. --channel, --line,
+--errors, --from and --to show some messages alone, numbered as in the file, decoded or not.
+
 Example:
   bench dump flight.ch11
-  bench dump --skip cut.ch11";
+  bench dump --skip cut.ch11
+  bench dump --decode --errors --channel 2 flight.ch11";
 
 fn dump_command<'a>(alloc: Global) -> Result<Command<'a>, AllocError> {
     let skip = Arg::new(alloc, "skip")
@@ -264,11 +348,12 @@ fn dump_command<'a>(alloc: Global) -> Result<Command<'a>, AllocError> {
     let recording = Arg::new(alloc, "RECORDING")
         .required(true)
         .help("The Chapter 11 file to show");
-    Command::new(alloc, "dump")
+    let command = Command::new(alloc, "dump")
         .about("Shows the packets and messages of a recording, or its first fault")
         .after_help(DUMP_NOTES)
         .arg(skip)?
-        .arg(recording)
+        .arg(recording)?;
+    with_decoding(alloc, command)
 }
 
 /// What the help of `bench step` ends with.
@@ -281,6 +366,7 @@ the recording are past.
   find COND       on to the next message whose outcome makes a condition true: fail (message error), silent
                   (no response), bit NAME (of a status word), not COND, all ( COND COND ), any ( COND COND )
   state           for each channel the number of its last message, and the registers of its terminals
+  state --all     the same, and where their hosts have made them deaf or mute
 
 A move prints the place, as in `at 7`; Y2 where there is no such message, Y3 at the beginning. Another line
 prints `unknown`.
@@ -351,8 +437,10 @@ fn run_request<'a>(alloc: Global, given: &ArgMatches<'a>) -> Result<RunRequest<'
         version: given.get_one::<u8>("version").unwrap_or(6),
         limit: given.get_one::<u32>("limit").unwrap_or(65536),
         queue: given.get_one::<u32>("queue").unwrap_or(4096),
-        hold: given.get_flag("hold"),
+        drops: given.get_flag("drop"),
+        force: given.get_flag("force"),
         prologue: given.get_str("prologue"),
+        judge: given.get_str("judge"),
         out: given.get_str("out").unwrap_or(""),
         report: given.get_str("report").unwrap_or(""),
         jobs,

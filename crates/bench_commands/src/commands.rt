@@ -1,23 +1,32 @@
 //! The commands of `bench`: each reads its files, calls one proved function, and prints.
 
 use crate::checking::check_jobs;
-use crate::command_line::{self, Request};
-use crate::looking::{draw_picture, export_rows, show_explanation, show_statistics};
+use crate::command_line::{self, Asked, Request};
+use crate::completing::complete_recording;
+use crate::decoding::show_messages;
+use crate::explaining::show_explanations;
+use crate::given_words::{word_at_fault, words_of};
+use crate::judging::judge_recording;
+use crate::looking::{draw_picture, export_rows, show_statistics, tell_of_loss};
 use crate::pointing::point;
 use crate::recording::run_jobs;
 use crate::stepping::step_through;
 use bench_assemble::{AssembleFault, Sizes, assemble_text, print_sizes};
 use bench_dump::{DumpFault, dump};
+use bench_files::{Hold, Kind, leads_to_output};
 use bench_one::{OneFault, one, print_bytes};
-use bench_requests::{Fault, read_whole, told_apart, write_whole};
+use bench_requests::{Fault, read_whole, replaceable, told_apart, write_new};
 use clap::Error;
 use clap::error::ErrorKind;
+use std::io;
 use std::io::{BufWriter, IsTerminal, Write};
 use std::process::ExitCode;
 use std::rt::{Clock, Env, Files};
 use std::sync::Wait;
 use std::thread::Threads;
-use std::{env, io};
+
+/// The exit status of a usage fault.
+const USAGE: u8 = 2;
 
 /// Reads the command line, does what it asks, and says how the process ends. What it says of faults and of its
 /// progress goes to `errors`.
@@ -27,35 +36,43 @@ pub fn run<
 >(rt: &R, errors: &E) -> ExitCode
 where
     R::Reader: IsTerminal,
+    R::File: Hold,
 {
     match words_of(rt) {
         Ok(words) => run_words(rt, errors, words.as_slice()),
         Err(error) if error.kind() == io::ErrorKind::OutOfMemory => stop(errors, &Fault::Memory),
         Err(error) => {
-            let _ = eprintln!(errors; "bench: reading the command line: {error}");
-            ExitCode::from(2)
+            match word_at_fault(rt) {
+                Ok(Some(word)) => {
+                    let _ = eprintln!(errors;
+                        "error: '{word}' is not UTF-8: a file of such a name has to be renamed, or linked by another name"
+                    );
+                }
+                _ => {
+                    let _ = eprintln!(errors; "bench: reading the command line: {error}");
+                }
+            }
+            ExitCode::from(USAGE)
         }
     }
 }
 
-fn words_of<R: Env + AllocGlobal>(rt: &R) -> io::Result<Vec<String>> {
-    Ok(env::args(rt)?.collect(rt.alloc())?)
-}
-
 fn run_words<
-    R: Files + AllocGlobal + Input + Print + Clock + Threads + Wait + Sync,
+    R: Env + Files + AllocGlobal + Input + Print + Clock + Threads + Wait + Sync,
     E: Eprint + IsTerminal + Sync,
 >(rt: &R, errors: &E, words: &[String]) -> ExitCode
 where
     R::Reader: IsTerminal,
+    R::File: Hold,
 {
     match command_line::read(rt.alloc(), words) {
-        Ok(request) => match obey(rt, errors, &request) {
+        Ok(asked) => match obey(rt, errors, &asked) {
             Ok(()) => ExitCode::SUCCESS,
-            Err(fault @ Fault::OneFile { .. }) => misused(rt, errors, &fault),
+            Err(fault @ Fault::NotHeld) => ExitCode::from(fault.status()),
+            Err(fault) if fault.status() == USAGE => misused(rt, errors, &fault),
             Err(fault) => {
                 let status = stop(errors, &fault);
-                point(rt, errors, &request, &fault);
+                point(rt, errors, &asked, &fault);
                 status
             }
         },
@@ -70,7 +87,7 @@ fn explain<R: Print, E: Eprint>(rt: &R, errors: &E, error: &Error) -> ExitCode {
     }
     if error.use_stderr() {
         let _ = eprint!(errors; "{error}");
-        return ExitCode::from(2);
+        return ExitCode::from(USAGE);
     }
     match print!(rt; "{error}") {
         Ok(()) => ExitCode::SUCCESS,
@@ -93,27 +110,44 @@ fn stop<E: Eprint>(errors: &E, fault: &Fault<'_>) -> ExitCode {
 
 fn obey<
     'a,
-    R: Files + AllocGlobal + Input + Print + Clock + Threads + Wait + Sync,
+    R: Env + Files + AllocGlobal + Input + Print + Clock + Threads + Wait + Sync,
     E: Eprint + IsTerminal + Sync,
->(rt: &R, errors: &E, request: &Request<'a>) -> Result<(), Fault<'a>>
+>(rt: &R, errors: &E, asked: &Asked<'a>) -> Result<(), Fault<'a>>
 where
     R::Reader: IsTerminal,
+    R::File: Hold,
 {
-    match request {
+    match &asked.request {
         Request::One {
             channel,
             version,
             text,
         } => run_one(rt, *channel, *version, text),
-        Request::Assemble { script, image } => run_assemble(rt, script, image),
-        Request::Run(request) => run_jobs(rt, errors, request),
+        Request::Assemble {
+            script,
+            image,
+            force,
+        } => run_assemble(rt, errors, script, image, *force),
+        Request::Run {
+            request,
+            completing,
+        } => run_jobs(rt, errors, request, completing.as_ref()),
         Request::Check { jobs } => check_jobs(rt, jobs),
-        Request::Dump { recording, skip } => show(rt, recording, *skip),
-        Request::Step(request) => step_through(rt, errors, request),
-        Request::Stat { recording, rows } => show_statistics(rt, recording, *rows),
-        Request::Export { recording, out } => export_rows(rt, recording, out),
+        Request::Dump { recording, skip } => show(rt, errors, recording, *skip),
+        Request::Decode(request) => show_messages(rt, errors, request),
+        Request::Step(request) => {
+            step_through(rt, errors, request, asked.context.is_shown(errors))
+        }
+        Request::Stat { recording, rows } => show_statistics(rt, errors, recording, *rows),
+        Request::Export {
+            recording,
+            out,
+            force,
+        } => export_rows(rt, recording, out, *force),
         Request::Draw(request) => draw_picture(rt, request),
-        Request::Explain { code } => show_explanation(rt, *code),
+        Request::Complete(request) => complete_recording(rt, errors, request),
+        Request::Explain { codes } => show_explanations(rt, codes),
+        Request::Judge(request) => judge_recording(rt, request),
     }
 }
 
@@ -140,19 +174,30 @@ fn print_to_output<R: AllocGlobal + Print>(rt: &R, bytes: &[u8]) -> io::Result<(
     out.flush()
 }
 
-fn run_assemble<'a, R: Files + AllocGlobal + Print>(
+fn run_assemble<'a, R: Files + AllocGlobal + Print, E: Eprint>(
     rt: &R,
+    errors: &E,
     script: &'a str,
     image: &'a str,
-) -> Result<(), Fault<'a>> {
+    force: bool,
+) -> Result<(), Fault<'a>>
+where
+    R::File: Hold,
+{
     told_apart(rt, &[image], &[script])?;
+    replaceable(rt, image, Kind::Image, force)?;
     let text = read_whole(rt, script)?;
     let (bytes, sizes) = match assemble_text(rt.alloc(), text.as_slice()) {
         Ok(made) => made,
         Err(AssembleFault::Memory) => return Err(Fault::Memory),
         Err(fault) => return Err(Fault::Script(fault)),
     };
-    write_whole(rt, image, bytes.as_slice())?;
+    let is_output = leads_to_output(rt, image);
+    write_new(rt, image, Kind::Image, force, bytes.as_slice())?;
+    if is_output {
+        let _ = eprintln!(errors; "{sizes}");
+        return Ok(());
+    }
     match print_sizes_to_output(rt, &sizes) {
         Ok(()) => Ok(()),
         Err(error) => Err(Fault::of_stream("-", &error)),
@@ -165,14 +210,18 @@ fn print_sizes_to_output<R: AllocGlobal + Print>(rt: &R, sizes: &Sizes) -> io::R
     out.flush()
 }
 
-fn show<'a, R: Files + AllocGlobal + Print>(
+fn show<'a, R: Files + AllocGlobal + Print, E: Eprint + IsTerminal>(
     rt: &R,
+    errors: &E,
     recording: &'a str,
     skip: bool,
 ) -> Result<(), Fault<'a>> {
     let bytes = read_whole(rt, recording)?;
     match dump(rt.alloc(), bytes.as_slice(), &mut io::writer(rt), skip) {
-        Ok(()) => Ok(()),
+        Ok(()) => {
+            tell_of_loss(rt, errors, bytes.as_slice());
+            Ok(())
+        }
         Err(DumpFault::Refused(refusal)) => Err(Fault::Recording(refusal)),
         Err(DumpFault::Memory) => Err(Fault::Memory),
         Err(DumpFault::Device) => Err(Fault::Device("-")),

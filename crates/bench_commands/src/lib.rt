@@ -5,10 +5,22 @@
 mod checking;
 mod command_line;
 mod commands;
+mod completed_run;
+mod completing;
+mod context;
+mod decoding;
+mod differing;
+mod explaining;
+mod given_words;
+mod judged_run;
+mod judging;
 mod looking;
 mod looking_line;
+mod misplaced;
 mod pointing;
+mod reasoning;
 mod recording;
+mod refusing;
 mod stepping;
 
 pub use commands::run;

@@ -1,7 +1,7 @@
 //! The command line of the commands for people who look: `bench stat`, `bench export`, `bench draw` and `bench
 //! explain`.
 
-use crate::command_line::{DrawRequest, file};
+use crate::command_line::{DrawRequest, file, force};
 use clap::{Arg, ArgAction, ArgMatches, Command, value_parser};
 use std::alloc::{AllocError, Global};
 
@@ -31,7 +31,8 @@ pub(crate) fn export_command<'a>(alloc: Global) -> Result<Command<'a>, AllocErro
         .about("Writes one row of comma-separated values a message")
         .after_help("Example:\n  bench export flight.ch11 --out flight.csv")
         .arg(recording)?
-        .arg(out)
+        .arg(out)?
+        .arg(force(alloc))
 }
 
 /// What the help of `bench draw` ends with.
@@ -63,6 +64,7 @@ pub(crate) fn draw_command<'a>(alloc: Global) -> Result<Command<'a>, AllocError>
         .arg(recording)?
         .arg(out)?
         .arg(channel)?
+        .arg(force(alloc))?
         .arg(bound(
             alloc,
             "from",
@@ -89,16 +91,27 @@ pub(crate) fn draw_request<'a>(given: &ArgMatches<'a>) -> DrawRequest<'a> {
         channel: given.get_one::<u16>("channel"),
         from: given.get_one::<u32>("from").unwrap_or(1),
         to: given.get_one::<u32>("to").unwrap_or(4_294_967_295),
+        force: given.get_flag("force"),
     }
 }
 
 /// The command line of `bench explain`.
 pub(crate) fn explain_command<'a>(alloc: Global) -> Result<Command<'a>, AllocError> {
-    let code = Arg::new(alloc, "CODE").help(
-        "The code to explain, as in S7; all codes where there is none",
+    let code = Arg::new(alloc, "CODE").num_args(0usize..).help(
+        "The code to explain, as S7 or s7, or several; all codes where there is none",
     );
     Command::new(alloc, "explain")
         .about("Says what a fault means, and what to do")
-        .after_help("Example:\n  bench explain S7")
+        .after_help("Examples:\n  bench explain S7\n  bench explain s4 m1")
         .arg(code)
+}
+
+/// The codes that are to be explained, as they were given.
+pub(crate) fn explain_request<'a>(
+    alloc: Global,
+    given: &ArgMatches<'a>,
+) -> Result<Vec<&'a str>, AllocError> {
+    let mut codes = Vec::new(alloc);
+    codes.extend_from_slice(given.get_strs("CODE").unwrap_or(&[]))?;
+    Ok(codes)
 }

@@ -1,134 +1,214 @@
-//! What a terminal shows behind a fault line: the place in the text that was refused, or the system's own words.
+//! What stands behind a fault line, on a terminal or where it is asked for: the place in the text that was refused
+//! with the reason, the system's own words, or what the fault's code means. The line itself and the exit status stay
+//! as they are.
 
-use crate::command_line::Request;
+use crate::command_line::{Asked, Request};
+use crate::differing::difference_of;
+use crate::misplaced::recording_in_place;
+use crate::reasoning::{reason_of_job, reason_of_script};
+use crate::refusing::refusal_of;
 use bench_assemble::AssembleFault;
+use bench_explain::explain;
+use bench_one::OneFault;
+use bench_reasons::{Place, Reason, Text, explained, put_place};
 use bench_requests::{Fault, read_whole};
 use job_file::{JobError, read_job};
+use std::alloc::AllocError;
+use std::fmt::Write;
 use std::io;
 use std::io::IsTerminal;
 use std::rt::Files;
 
-/// How many bytes of a line are shown at most.
-const SHOWN: usize = 200;
-
-/// A line of a text, counted from 1, and a column of it, counted from 1 by bytes, where there is one.
-#[derive(Clone, Copy)]
-struct Spot {
-    line: u64,
-    column: Option<u64>,
-}
-
-/// Explains a fault behind its line, where the errors go to a terminal: the name of the refused text with its line and a mark under
-/// the column, or the system's words. A text is read once more for it, and nothing is shown where that fails.
+/// Explains a fault behind its line, where that is asked for. A text is read once more for it, and where that fails,
+/// or memory is refused, nothing is shown.
 pub fn point<R: Files + AllocGlobal, E: Eprint + IsTerminal>(
     rt: &R,
     errors: &E,
-    request: &Request<'_>,
+    asked: &Asked<'_>,
     fault: &Fault<'_>,
 ) {
-    if !errors.is_terminal() {
+    if !asked.context.is_shown(errors) {
         return;
     }
-    match (fault, request) {
-        (Fault::System { code, .. }, _) => {
-            let error = io::Error::from_raw_os_error(*code);
-            let _ = eprintln!(errors; "  {error}");
-        }
-        (Fault::Script(AssembleFault::Text { place, .. }), Request::Assemble { script, .. }) => {
-            let spot = Spot {
-                line: place.line,
-                column: Some(place.column),
-            };
-            show_file(rt, errors, script, spot);
-        }
-        (Fault::Job(error), Request::Run(run)) => show_job(rt, errors, &run.jobs, error),
-        (Fault::Job(error), Request::Check { jobs }) => show_job(rt, errors, jobs, error),
-        (Fault::Job(error), Request::Step(step)) => show_job(rt, errors, &step.jobs, error),
-        _ => {}
+    if let Fault::System { code, .. } = fault {
+        let error = io::Error::from_raw_os_error(*code);
+        let _ = eprintln!(errors; "  {error}");
+        return;
+    }
+    if let Fault::Busy(_) = fault {
+        let _ = eprintln!(errors;
+            "  another run is writing this file: wait until it has ended, or name another file"
+        );
+        return;
+    }
+    if let Ok(text) = lines_of(rt, &asked.request, fault) {
+        let _ = eprint!(errors; "{text}");
     }
 }
 
-/// Where a job is refused.
-fn spot_of(error: &JobError) -> Option<Spot> {
-    match error {
-        JobError::Line { line, .. }
-        | JobError::Assembly { line, .. }
-        | JobError::Loading { line, .. } => Some(Spot {
-            line: *line,
-            column: None,
-        }),
-        JobError::Script { place, .. } => Some(Spot {
-            line: place.line,
-            column: Some(place.column),
-        }),
-        JobError::Memory => None,
-    }
-}
-
-/// Shows the place in the first of these job files that is refused so.
-fn show_job<R: Files + AllocGlobal, E: Eprint>(
+/// The lines that explain a fault; those of its code where there is nothing else to say.
+fn lines_of<R: Files + AllocGlobal>(
     rt: &R,
-    errors: &E,
+    request: &Request<'_>,
+    fault: &Fault<'_>,
+) -> Result<String, AllocError> {
+    match particular(rt, request, fault)? {
+        Some(text) => Ok(text),
+        None => meaning(rt, fault),
+    }
+}
+
+/// What there is to say of this fault in these files.
+fn particular<R: Files + AllocGlobal>(
+    rt: &R,
+    request: &Request<'_>,
+    fault: &Fault<'_>,
+) -> Result<Option<String>, AllocError> {
+    match (fault, request) {
+        (Fault::Text(OneFault::Text { cause, place }), Request::One { text, .. }) => {
+            let bytes = text.as_bytes();
+            let reason = reason_of_script(rt.alloc(), bytes, Text::Send, *cause, *place)?;
+            told(rt, "TEXT", bytes, reason)
+        }
+        (Fault::Script(AssembleFault::Text { cause, place }), Request::Assemble { script, .. }) =>
+            match read_whole(rt, script) {
+                Ok(text) => {
+                    if let Some(lines) = recording_in_place(rt, script, &text)? {
+                        return Ok(Some(lines));
+                    }
+                    let reason = reason_of_script(rt.alloc(), &text, Text::Script, *cause, *place)?;
+                    told(rt, script, &text, reason)
+                }
+                Err(_) => Ok(None),
+            },
+        (Fault::Job(error), _) => job_at_fault(rt, jobs_in(request), error),
+        (Fault::Run(error), _) => refusal_of(rt, request, *error),
+        (Fault::Report(error), Request::Step(step)) => {
+            line_at_fault(rt, step.report, error.line, fault)
+        }
+        (Fault::Rules(error), Request::Judge(judge)) => {
+            line_at_fault(rt, judge.rules.unwrap_or(""), error.line, fault)
+        }
+        (Fault::Mismatch { channel, number }, Request::Step(step)) => {
+            difference_of(rt, step, *channel, *number)
+        }
+        _ => Ok(None),
+    }
+}
+
+/// The jobs that a request names.
+fn jobs_in<'r, 'a>(request: &'r Request<'a>) -> &'r [&'a str] {
+    match request {
+        Request::Run { request: run, .. } => run.jobs.as_slice(),
+        Request::Check { jobs } => jobs.as_slice(),
+        Request::Step(step) => step.jobs.as_slice(),
+        _ => &[],
+    }
+}
+
+/// The reason with its place, as lines.
+fn told<R: AllocGlobal>(
+    rt: &R,
+    name: &str,
+    text: &[u8],
+    reason: Option<Reason>,
+) -> Result<Option<String>, AllocError> {
+    match reason {
+        Some(reason) => Ok(Some(explained(rt.alloc(), name, text, &reason)?)),
+        None => Ok(None),
+    }
+}
+
+/// Why the first of these jobs is refused that is refused so.
+fn job_at_fault<R: Files + AllocGlobal>(
+    rt: &R,
     names: &[&str],
     error: &JobError,
-) {
-    let Some(spot) = spot_of(error) else {
-        return;
-    };
+) -> Result<Option<String>, AllocError> {
     for name in names {
         let Ok(text) = read_whole(rt, name) else {
-            return;
+            return Ok(None);
         };
-        if let Err(found) = read_job(rt.alloc(), text.as_slice()) {
-            if found == *error {
-                show_line(errors, name, text.as_slice(), spot);
+        match read_job(rt.alloc(), &text) {
+            Ok(_) => {}
+            Err(found) if found == *error => {
+                return match recording_in_place(rt, name, &text)? {
+                    Some(lines) => Ok(Some(lines)),
+                    None => job_lines(rt, name, &text, error),
+                };
             }
-            return;
+            Err(_) => return Ok(None),
         }
     }
+    Ok(None)
 }
 
-fn show_file<R: Files + AllocGlobal, E: Eprint>(rt: &R, errors: &E, name: &str, spot: Spot) {
-    if let Ok(text) = read_whole(rt, name) {
-        show_line(errors, name, text.as_slice(), spot);
-    }
-}
-
-/// The bytes of a line of the text, counted from 1, without its line feed; nothing where there is no such line.
-fn line_of(text: &[u8], number: u64) -> &[u8] {
-    let mut left = number;
-    for line in text.split(|byte| *byte == b'\n') {
-        if left <= 1 {
-            return line;
+/// Why a job is refused, as lines: the reason of its text, or its line `script` with what the code means.
+fn job_lines<R: AllocGlobal>(
+    rt: &R,
+    name: &str,
+    text: &[u8],
+    error: &JobError,
+) -> Result<Option<String>, AllocError> {
+    match error {
+        JobError::Assembly { line, .. } | JobError::Loading { line, .. } => {
+            let mut out = line_shown(rt, name, text, *line)?;
+            put_meaning(&mut out, format!(in rt.alloc(); "{error}")?.as_str())?;
+            Ok(Some(out))
         }
-        left -= 1;
+        _ => told(rt, name, text, reason_of_job(rt.alloc(), text, error)?),
     }
-    b""
 }
 
-/// Shows a line of a text as far as it is plain, and a mark under its column.
-fn show_line<E: Eprint>(errors: &E, name: &str, text: &[u8], spot: Spot) {
-    let number = spot.line;
-    let _ = eprintln!(errors; "  {name}:{number}");
-    let line = line_of(text, number);
-    let _ = eprint!(errors; "  | ");
-    for byte in line.iter().take(SHOWN) {
-        let shown = if (b' '..=b'~').contains(byte) {
-            char::from(*byte)
-        } else {
-            '?'
-        };
-        let _ = eprint!(errors; "{shown}");
-    }
-    let _ = eprintln!(errors; "");
-    let Some(column) = spot.column else {
-        return;
+/// A line of a text, marked where it begins.
+fn line_shown<R: AllocGlobal>(
+    rt: &R,
+    name: &str,
+    text: &[u8],
+    line: u64,
+) -> Result<String, AllocError> {
+    let mut out = String::new(rt.alloc());
+    put_place(&mut out, name, text, Place { line, column: 1 }, 1)?;
+    Ok(out)
+}
+
+/// The line of a report or of rules that is refused, and what that means.
+fn line_at_fault<R: Files + AllocGlobal>(
+    rt: &R,
+    name: &str,
+    line: u64,
+    fault: &Fault<'_>,
+) -> Result<Option<String>, AllocError> {
+    let Ok(text) = read_whole(rt, name) else {
+        return Ok(None);
     };
-    if column <= SHOWN as u64 {
-        let _ = eprint!(errors; "  | ");
-        for _ in 1..column {
-            let _ = eprint!(errors; " ");
+    let mut out = line_shown(rt, name, &text, line)?;
+    put_meaning(&mut out, format!(in rt.alloc(); "{fault}")?.as_str())?;
+    Ok(Some(out))
+}
+
+/// What a fault's code means, as lines.
+fn meaning<R: AllocGlobal>(rt: &R, fault: &Fault<'_>) -> Result<String, AllocError> {
+    let mut out = String::new(rt.alloc());
+    match fault {
+        Fault::Unknown(_) => {
+            out.push_str("  there is no such code; bench explain lists those that there are\n")?
         }
-        let _ = eprintln!(errors; "^");
+        Fault::Device(_) => put_meaning(&mut out, "device")?,
+        _ => put_meaning(&mut out, format!(in rt.alloc(); "{fault}")?.as_str())?,
     }
+    Ok(out)
+}
+
+/// Puts what the last code in a fault's text means, and what to do.
+fn put_meaning(out: &mut String, fault: &str) -> Result<(), AllocError> {
+    let mut found = None;
+    for word in fault.split(' ') {
+        found = explain(word).or(found);
+    }
+    if let Some(explanation) = found {
+        let (means, remedy) = (explanation.means, explanation.remedy);
+        write!(out, "  {means}\n  {remedy}\n")?;
+    }
+    Ok(())
 }

@@ -1,106 +1,193 @@
 //! `bench run`: jobs recorded into a file, and their report beside it.
 ghost use Rattle.std.specs.Prelude.{◌-◌, ◌<◌, ◌^◌};
 
+use crate::completed_run::{
+    Completing, additions_in, record_completed, setup_in, setup_text, start_in,
+};
+use crate::judged_run::{judge_run, rules_of_run};
 use bench_core::{Settings, judge};
-use bench_record::{Counts, print_counts, record_jobs_held, record_jobs_with_progress};
+use bench_files::Hold;
+use bench_record::{Counts, print_counts, record_jobs_held, record_jobs_with_progress, refusals};
 use bench_report::{Report, print_report};
 use bench_requests::{
-    Fault, RunRequest, empty_if_there, empty_open, jobs_of, open_as_it_is, read_texts, read_whole,
-    settings_of, told_apart, told_apart_from_open, write_whole,
+    Ending, Fault, RunFiles, RunRequest, ending_of_run, ending_of_settings, jobs_of, read_texts,
+    read_whole, settings_of, told_apart,
 };
+use bench_run::RunError;
 use ch11_writer::{Sink, StdSink};
 use job_file::Job;
 use std::alloc::{AllocError, Global};
-use std::fs::OpenFile;
 use std::io;
 use std::io::{BufWriter, IsTerminal, Write};
-use std::rt::{Clock, Files};
+use std::rt::{Clock, Env, Files};
 use std::sync::Wait;
 use std::thread::Threads;
 
-/// Records the jobs into the out file; once that is whole, writes the report and prints how much was recorded. Before anything else
-/// the files that are written are told apart from one another and from those that are read. Then all files are read before the first
-/// of them is judged. Jobs and settings are judged before a file that is there is touched; the out file is made, and a report of an
-/// earlier run is emptied, before the first message is recorded.
+/// Records the jobs into the out file; once that is whole, writes the report and prints how much was recorded. Before
+/// anything else the files that are written are told apart from one another and from those that are read. Then all
+/// files are read before the first of them is judged. Recording and report take the place of what is there together,
+/// once both are whole; jobs and settings are judged behind whether they can be written. Rules are read and judged
+/// before all that; the recording is judged by them behind its counts. Where that is asked for, the complete file of
+/// the recording stands in its place.
 pub fn run_jobs<
     'a,
-    R: Files + AllocGlobal + Print + Clock + Threads + Wait + Sync,
+    R: Env + Files + AllocGlobal + Print + Clock + Threads + Wait + Sync,
     E: Eprint + IsTerminal + Sync,
->(rt: &R, errors: &E, request: &RunRequest<'a>) -> Result<(), Fault<'a>> {
+>(
+    rt: &R,
+    errors: &E,
+    request: &RunRequest<'a>,
+    completing: Option<&Completing<'a>>,
+) -> Result<(), Fault<'a>>
+where
+    R::File: Hold,
+{
+    let start = start_in(completing)?;
     told_apart(
         rt,
         &[request.out, request.report],
-        &files_read(rt.alloc(), request)?,
+        &files_read(rt.alloc(), request, completing)?,
     )?;
+    RunFiles::judge(rt, request)?;
+    let rules = rules_of_run(rt, request)?;
     let prologue = match request.prologue {
         Some(name) => read_whole(rt, name)?,
         None => Vec::new(rt.alloc()),
     };
+    let setup = setup_text(rt, completing)?;
     let texts = read_texts(rt, &request.jobs)?;
+    let additions = additions_in(rt.alloc(), completing, start, &setup, request.version)?;
     let jobs = jobs_of(rt.alloc(), &texts)?;
     let settings = settings_of(request, prologue);
-    let out = open_as_it_is(rt, request.out)?;
+    let files = RunFiles::begin(rt, request)?;
     if let Err(refused) = judge(&jobs, &settings) {
+        files.end(rt, ending_of_settings(&refused))?;
         return Err(Fault::of_settings(refused));
     }
-    make_room(rt, request, &out)?;
-    let sink = StdSink::make(out);
-    let report = record(rt, errors, request.hold, &jobs, &settings, sink)?;
-    let text = print_report(rt.alloc(), &report)?;
-    write_whole(rt, request.report, text.as_bytes())?;
-    match print_counts_to_output(rt, &Counts::of_report(&report)) {
-        Ok(()) => Ok(()),
-        Err(error) => Err(Fault::of_stream("-", &error)),
+    match additions {
+        None => record_into(rt, errors, request.drops, &jobs, &settings, files)?,
+        Some(additions) => {
+            record_completed(rt, errors, request, &jobs, &settings, &additions, files)?
+        }
+    }
+    match rules {
+        Some(rules) => judge_run(rt, errors, request, &rules),
+        None => Ok(()),
     }
 }
 
+/// Records jobs and settings that may be run into files that were begun, and prints how much was recorded.
+fn record_into<
+    'a,
+    R: Files + AllocGlobal + Print + Clock + Threads + Wait + Sync,
+    E: Eprint + IsTerminal + Sync,
+>(
+    rt: &R,
+    errors: &E,
+    drops: bool,
+    jobs: &[Job],
+    settings: &Settings,
+    files: RunFiles<'a, R::File>,
+) -> Result<(), Fault<'a>>
+where
+    R::File: Hold,
+{
+    let mut files = files;
+    let file = match files.recording(rt) {
+        Ok(file) => file,
+        Err(fault) => {
+            files.end(rt, Ending::Broken)?;
+            return Err(fault);
+        }
+    };
+    match record(rt, errors, drops, jobs, settings, StdSink::make(file)) {
+        Ok((report, sink)) => {
+            drop(sink);
+            finish(rt, errors, files, &report)
+        }
+        Err(error) => {
+            files.end(rt, ending_of_run(&error))?;
+            Err(Fault::of_run(&error))
+        }
+    }
+}
+
+/// Writes the report of a recording that is whole, gives both their places, and prints how much was recorded.
+pub(crate) fn finish<'a, R: Files + AllocGlobal + Print, E: Eprint>(
+    rt: &R,
+    errors: &E,
+    files: RunFiles<'a, R::File>,
+    report: &Report,
+) -> Result<(), Fault<'a>>
+where
+    R::File: Hold,
+{
+    let is_output = files.are_output();
+    let text = print_report(rt.alloc(), report)?;
+    files.finish(rt, text.as_bytes())?;
+    tell(rt, errors, is_output, report)
+}
+
+/// Prints how much was recorded, to the standard error where the recording went to the standard output; and how many
+/// messages were refused, where any were.
+fn tell<'a, R: AllocGlobal + Print, E: Eprint>(
+    rt: &R,
+    errors: &E,
+    is_output: bool,
+    report: &Report,
+) -> Result<(), Fault<'a>> {
+    let counts = Counts::of_report(report);
+    if is_output {
+        let _ = eprintln!(errors; "{counts}");
+    } else if let Err(error) = print_counts_to_output(rt, &counts) {
+        return Err(Fault::of_stream("-", &error));
+    }
+    let text = refusals(rt.alloc(), report)?;
+    if !text.is_empty() {
+        let _ = eprintln!(errors; "bench: {text}");
+    }
+    Ok(())
+}
+
 /// The files that a run reads.
-fn files_read<'a>(alloc: Global, request: &RunRequest<'a>) -> Result<Vec<&'a str>, AllocError> {
+fn files_read<'a>(
+    alloc: Global,
+    request: &RunRequest<'a>,
+    completing: Option<&Completing<'a>>,
+) -> Result<Vec<&'a str>, AllocError> {
     let mut names = Vec::new(alloc);
     names.extend_from_slice(&request.jobs)?;
     if let Some(prologue) = request.prologue {
         names.push(prologue)?;
     }
+    if let Some(rules) = request.judge {
+        names.push(rules)?;
+    }
+    if let Some(setup) = setup_in(completing) {
+        names.push(setup)?;
+    }
     Ok(names)
 }
 
-/// Takes the bytes of an earlier run out of its report and then out of the out file, which is open.
-fn make_room<'a, R: Files>(
-    rt: &R,
-    request: &RunRequest<'a>,
-    out: &R::File,
-) -> Result<(), Fault<'a>> {
-    if let Ok(metadata) = out.metadata() {
-        told_apart_from_open(rt, &metadata, request.out, request.report)?;
-    }
-    empty_if_there(rt, request.report)?;
-    empty_open(out, request.out)
-}
-
-/// The report of a recording that is whole, with buses that are held where that is asked. The sink is let go, which closes a file.
-fn record<
-    'a,
+/// The report of a recording that is whole, with buses that are held unless messages may be refused; and its sink.
+pub(crate) fn record<
     R: AllocGlobal + Clock + Threads + Wait + Sync,
     E: Eprint + IsTerminal + Sync,
     S: Sink + Drop,
 >(
     rt: &R,
     errors: &E,
-    hold: bool,
+    drops: bool,
     jobs: &[Job],
     settings: &Settings,
     sink: S,
-) -> Result<Report, Fault<'a>>
+) -> Result<(Report, S), RunError<S>>
     requires countable { S.failures sink < 2 ^ 64 - 1 }
 {
-    let answer = if hold {
-        record_jobs_held(rt, rt.alloc(), errors, jobs, settings, sink)
-    } else {
+    if drops {
         record_jobs_with_progress(rt, rt.alloc(), errors, jobs, settings, sink)
-    };
-    match answer {
-        Ok((report, _)) => Ok(report),
-        Err(error) => Err(Fault::of_run(&error)),
+    } else {
+        record_jobs_held(rt, rt.alloc(), errors, jobs, settings, sink)
     }
 }
 

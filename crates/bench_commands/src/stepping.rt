@@ -1,6 +1,7 @@
 //! `bench step`: a recording, walked through by lines of the standard input.
 
 use crate::command_line::StepRequest;
+use bench_reasons::Explained;
 use bench_report::{Report, ReportError, ReportFault, read_report};
 use bench_requests::{Fault, jobs_of, read_texts, read_whole};
 use bench_step::{Prompted, step};
@@ -12,11 +13,13 @@ use std::io::{BufReader, BufWriter, Input, IsTerminal};
 use std::rt::Files;
 
 /// Walks through a recording as the lines of the standard input ask, and answers each of them on the standard output. All files are
-/// read before the first of them is judged: the recording, then the report, then the jobs.
+/// read before the first of them is judged: the recording, then the report, then the jobs. Where that is asked for, the reason of a
+/// reply that refuses a line goes to `errors`.
 pub fn step_through<'a, R: Files + AllocGlobal + Input + Print, E: Eprint + IsTerminal>(
     rt: &R,
     errors: &E,
     request: &StepRequest<'a>,
+    explains: bool,
 ) -> Result<(), Fault<'a>>
 where
     R::Reader: IsTerminal,
@@ -27,7 +30,7 @@ where
     judge_recording(rt.alloc(), &recording)?;
     let report = judge_report(rt.alloc(), &report)?;
     let jobs = jobs_of(rt.alloc(), &texts)?;
-    walk(rt, errors, &jobs, &report, &recording)
+    walk(rt, errors, explains, &jobs, &report, &recording)
 }
 
 /// A recording is judged before the report and the jobs are.
@@ -55,6 +58,7 @@ fn judge_report<'a>(alloc: Global, text: &[u8]) -> Result<Report, Fault<'a>> {
 fn walk<'a, R: AllocGlobal + Input + Print, E: Eprint + IsTerminal>(
     rt: &R,
     errors: &E,
+    explains: bool,
     jobs: &[Job],
     report: &Report,
     recording: &[u8],
@@ -68,7 +72,7 @@ where
         Err(error) => return Err(Fault::of_stream("-", &error)),
     };
     let mut out = match BufWriter::new(rt.alloc(), io::writer(rt)) {
-        Ok(out) => out,
+        Ok(out) => Explained::begin(out, errors, explains),
         Err(error) => return Err(Fault::of_stream("-", &error)),
     };
     match step(rt.alloc(), jobs, report, recording, &mut input, &mut out) {

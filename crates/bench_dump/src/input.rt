@@ -1,10 +1,12 @@
 //! A file read whole.
-ghost use Rattle.std.specs.Prelude.{◌≡◌, ◌+◌, ◌*◌, ◌<◌, ◌≤◌, length, [], IfOk, IfSome, OnOk};
+ghost use Rattle.std.specs.Prelude.{◌≡◌, ◌+◌, ◌*◌, ◌<◌, ◌≤◌, ◌++◌, length, [], false, Ok, IfOk, IfErr, IfSome, OnOk};
 ghost use Rattle.std.specs.Io.KnownBytes.{IsAtEnd};
-ghost use Rattle.bench_dump.specs.Reads.{IsRead};
+ghost use Rattle.bench_dump.specs.Printing.{IsOther};
+ghost use Rattle.bench_dump.specs.Reads.{IsRead, IsFaultOf, given};
 
 use crate::fault::DumpFault;
 use std::alloc::Global;
+use std::io;
 use std::io::{ErrorKind, Read};
 
 /// How many bytes a read asks for at most.
@@ -13,18 +15,17 @@ const PIECE: usize = 65536;
 /// How many reads there are at most.
 const READS: u32 = 1_000_000;
 
-/// One read: appends what it gave, and answers whether there may be more. Nothing is given by a read that
-/// was interrupted.
-fn read_piece<R: Read>(
-    input: &mut R,
-    piece: &mut [u8],
-    bytes: &mut Vec<u8>,
-) -> Result<bool, DumpFault>
-    requires { 0 < length piece.old }
-    ensures read { IfOk result (IsRead (R.remaining input.old) (R.remaining input.new) bytes.old.items bytes.new.items) }
-    ensures few { OnOk result (length bytes.new.items ≤ length bytes.old.items + length piece.old) }
+/// Keeps what a read gave, and answers whether there may be more. Nothing is given by a read that was interrupted; one
+/// that failed otherwise is a device's fault. Condition: the read gave no more than the piece has.
+fn keep(read: io::Result<usize>, piece: &[u8], bytes: &mut Vec<u8>) -> Result<bool, DumpFault>
+    requires { IfOk read (λ count. count ≤ length piece.now) }
+    ensures kept { OnOk result (bytes.new.items ≡ bytes.old.items ++ given read piece.now) }
+    ensures few { OnOk result (length bytes.new.items ≤ length bytes.old.items + length piece.now) }
+    ensures ended { IfOk result (λ more. more ≡ false → read ≡ Ok 0) }
+    ensures fault { IfErr result (IsFaultOf read) }
+    ensures failed { IfErr result IsOther }
 {
-    match input.read(piece) {
+    match read {
         Ok(0) => Ok(false),
         Ok(count) => {
             bytes.extend_from_slice(&piece[..count])?;
@@ -35,12 +36,28 @@ fn read_piece<R: Read>(
     }
 }
 
+/// One read: appends what it gave, and answers whether there may be more.
+fn read_piece<R: Read>(
+    input: &mut R,
+    piece: &mut [u8],
+    bytes: &mut Vec<u8>,
+) -> Result<bool, DumpFault>
+    requires { 0 < length piece.old }
+    ensures read { IfOk result (IsRead (R.remaining input.old) (R.remaining input.new) bytes.old.items bytes.new.items) }
+    ensures few { OnOk result (length bytes.new.items ≤ length bytes.old.items + length piece.old) }
+    ensures failed { IfErr result IsOther }
+{
+    let read = input.read(piece);
+    keep(read, piece, bytes)
+}
+
 /// Reads a file to its end behind no bytes yet.
 fn read_to_end<R: Read>(input: &mut R, mut bytes: Vec<u8>) -> Result<Vec<u8>, DumpFault>
     requires { bytes.items ≡ [] }
     ensures whole { IfOk result (λ bytes. IfSome (R.remaining input.old) (λ xs. bytes.items ≡ xs)) }
     ensures end { OnOk result (IsAtEnd (R.remaining input.new)) }
     ensures few { IfOk result (λ bytes. length bytes.items ≤ READS * PIECE) }
+    ensures failed { IfErr result IsOther }
 {
     let mut piece = [0u8; PIECE];
     'reads: for _made in 0..READS {
@@ -51,12 +68,13 @@ fn read_to_end<R: Read>(input: &mut R, mut bytes: Vec<u8>) -> Result<Vec<u8>, Du
     Err(DumpFault::Device)
 }
 
-/// Reads a file to its end, in at most 1,000,000 reads of up to 65,536 bytes: one more is a device fault,
-/// as an error of the reader is. A read that was interrupted counts and is made again.
+/// Reads a file to its end, in at most 1,000,000 reads of up to 65,536 bytes: one more is a device fault, as an error
+/// of the reader is. A read that was interrupted counts and is made again. Any other fault is want of memory.
 pub fn read_all<R: Read>(alloc: Global, input: &mut R) -> Result<Vec<u8>, DumpFault>
     ensures whole { IfOk result (λ bytes. IfSome (R.remaining input.old) (λ xs. bytes.items ≡ xs)) }
     ensures end { OnOk result (IsAtEnd (R.remaining input.new)) }
     ensures few { IfOk result (λ bytes. length bytes.items ≤ READS * PIECE) }
+    ensures failed { IfErr result IsOther }
 {
     read_to_end(input, Vec::new(alloc))
 }
@@ -67,6 +85,7 @@ pub fn read_sized<R: Read>(alloc: Global, input: &mut R, size: u64) -> Result<Ve
     ensures whole { IfOk result (λ bytes. IfSome (R.remaining input.old) (λ xs. bytes.items ≡ xs)) }
     ensures end { OnOk result (IsAtEnd (R.remaining input.new)) }
     ensures few { IfOk result (λ bytes. length bytes.items ≤ READS * PIECE) }
+    ensures failed { IfErr result IsOther }
 {
     let bytes = Vec::with_capacity(alloc, size as usize)?;
     read_to_end(input, bytes)

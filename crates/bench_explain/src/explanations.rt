@@ -1,24 +1,26 @@
 //! The explanation of a code.
-ghost use Rattle.std.specs.Prelude.{◌≡◌, IfSome};
+ghost use Rattle.std.specs.Prelude.{◌≡◌, map, IfSome};
+ghost use Rattle.std.specs.Char.{to_ascii_lowercase};
 
 use crate::explanation::Explanation;
-use crate::{buses, jobs, recordings, runs, scripts};
+use crate::{buses, jobs, recordings, rules, runs, scripts};
 
-/// All explanations: those of scripts, jobs, recordings, runs and buses, each group in the order of its codes.
-pub fn groups() -> [&'static [Explanation]; 5] {
+/// All explanations: those of scripts, jobs, recordings, runs, rules and buses, each group in the order of its codes.
+pub fn groups() -> [&'static [Explanation]; 6] {
     [
         &scripts::EXPLANATIONS,
         &jobs::EXPLANATIONS,
         &recordings::EXPLANATIONS,
         &runs::EXPLANATIONS,
+        &rules::EXPLANATIONS,
         &buses::EXPLANATIONS,
     ]
 }
 
-/// The explanation of a code, as the program prints it: a letter and digits, or `device`, `memory`, `unknown`. None of another
-/// word.
+/// The explanation of a code, in capital or small letters: a letter and digits, or `device`, `memory`, `unknown`.
+/// None of another word.
 pub fn explain(code: &str) -> Option<&'static Explanation>
-    ensures { IfSome result (λ explanation. explanation.now.code.now ≡ code.now) }
+    ensures { IfSome result (λ explanation. map to_ascii_lowercase explanation.now.code.now ≡ map to_ascii_lowercase code.now) }
 {
     for group in groups() {
         if let Some(explanation) = among(group, code) {
@@ -30,10 +32,10 @@ pub fn explain(code: &str) -> Option<&'static Explanation>
 
 /// The explanation of a code among these.
 fn among(group: &'static [Explanation], code: &str) -> Option<&'static Explanation>
-    ensures { IfSome result (λ explanation. explanation.now.code.now ≡ code.now) }
+    ensures { IfSome result (λ explanation. map to_ascii_lowercase explanation.now.code.now ≡ map to_ascii_lowercase code.now) }
 {
     for explanation in group {
-        if explanation.code == code {
+        if explanation.code.eq_ignore_ascii_case(code) {
             return Some(explanation);
         }
     }

@@ -7,13 +7,14 @@ pub(crate) static EXPLANATIONS: [Explanation; 14] = [
     Explanation {
         code: "J1",
         means: "an unknown word in a job, or one that is missing or left over",
-        remedy: "Compare the line with the table in docs/jobs.md; words are parted by spaces, and a tab is no space.",
+        remedy: "Compare the line with those of docs/jobs.md; words are parted by spaces, and a tab is no space.",
         example: "terminals 5",
     },
     Explanation {
         code: "J2",
-        means: "not a number, or a number out of its range",
-        remedy: "Channels are 1 to 65535, terminals 0 to 30, message numbers 1 to 1000000, a start tick at most 140737488355328.",
+        means: "not a number, a number out of its range, or more than 1000000 actions of series lines",
+        remedy: "Channels are 1 to 65535, terminals 0 to 30, message numbers and steps 1 to 1000000 with the first at most the last, \
+                 subaddresses of series 1 to 29, a start tick at most 140737488355328.",
         example: "terminal 31",
     },
     Explanation {
@@ -24,8 +25,8 @@ pub(crate) static EXPLANATIONS: [Explanation; 14] = [
     },
     Explanation {
         code: "J4",
-        means: "a terminal twice, or an at line whose terminal no line above names",
-        remedy: "Name each terminal once, above the at lines of its host.",
+        means: "a terminal twice, or an at or series line whose terminal no line above names",
+        remedy: "Name each terminal once, above the at and series lines of its host.",
         example: "terminal 5 and below it terminal 5",
     },
     Explanation {

@@ -8,6 +8,7 @@ mod explanations;
 mod jobs;
 mod printing;
 mod recordings;
+mod rules;
 mod runs;
 mod scripts;
 

@@ -3,7 +3,7 @@
 use crate::explanation::Explanation;
 
 /// Each code of them, in order.
-pub(crate) static EXPLANATIONS: [Explanation; 17] = [
+pub(crate) static EXPLANATIONS: [Explanation; 23] = [
     Explanation {
         code: "U1",
         means: "two jobs of one channel",
@@ -12,8 +12,8 @@ pub(crate) static EXPLANATIONS: [Explanation; 17] = [
     },
     Explanation {
         code: "U2",
-        means: "no job, more than eight, or --limit or --queue out of range",
-        remedy: "Name 1 to 8 jobs; --limit is 256 to 524288 and --queue 1 to 4096.",
+        means: "no job, more than 32, or --limit or --queue out of range",
+        remedy: "Name 1 to 32 jobs; --limit is 256 to 524288 and --queue 1 to 4096.",
         example: "bench run --queue 0 ..",
     },
     Explanation {
@@ -38,7 +38,7 @@ pub(crate) static EXPLANATIONS: [Explanation; 17] = [
         code: "X1",
         means: "a word of a report that cannot stand there, is missing or is left over",
         remedy: "Use the report of the run as it was written.",
-        example: "made five",
+        example: "made 5 5",
     },
     Explanation {
         code: "X2",
@@ -93,6 +93,42 @@ pub(crate) static EXPLANATIONS: [Explanation; 17] = [
         means: "memory was refused at a step",
         remedy: "Only programs that use bench_core see it.",
         example: "World::play",
+    },
+    Explanation {
+        code: "O3",
+        means: "an action posted to an address at which its channel has no terminal",
+        remedy: "Only programs that use bench_core see it.",
+        example: "World::play",
+    },
+    Explanation {
+        code: "O4",
+        means: "more posts of a channel than the settings allow",
+        remedy: "Only programs that use bench_core see it: raise Settings::posts, up to 65536.",
+        example: "World::play",
+    },
+    Explanation {
+        code: "E1",
+        means: "a capacity of a mailbox outside 1 to 4096 posts",
+        remedy: "Only programs that use bench_run see it: choose a capacity in the range.",
+        example: "Mailbox::make",
+    },
+    Explanation {
+        code: "E2",
+        means: "memory was refused for a mailbox",
+        remedy: "Only programs that use bench_run see it: give the program more memory.",
+        example: "Mailbox::make",
+    },
+    Explanation {
+        code: "E3",
+        means: "a post to an address at which the job has no terminal",
+        remedy: "Only programs that use bench_run see it: post to a terminal of the job.",
+        example: "Mailbox::post",
+    },
+    Explanation {
+        code: "E4",
+        means: "a post to a mailbox that is full",
+        remedy: "Only programs that use bench_run see it: post again later, or make a larger mailbox.",
+        example: "Mailbox::post",
     },
     Explanation {
         code: "Q1",

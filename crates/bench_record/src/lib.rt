@@ -5,7 +5,9 @@
 mod counts;
 mod progress;
 mod recording;
+mod refused;
 
 pub use counts::{Counts, print_counts};
 pub use progress::Progress;
 pub use recording::{record_jobs, record_jobs_held, record_jobs_with_progress};
+pub use refused::refusals;

@@ -1,3 +1,5 @@
 pub mod Status
 pub mod Requests
 pub mod Apart
+pub mod Endings
+pub mod Losses

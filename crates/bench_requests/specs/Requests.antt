@@ -1,8 +1,12 @@
--- What is made of a request: the settings of a run, and the jobs of texts.
-use Rattle.std.specs.Prelude.{◌≢◌, ℕ, List}
+-- What is made of a request: the settings of a run, the jobs of texts, and rules.
+use Rattle.std.specs.Prelude.{◌≡◌, ◌≢◌, ℕ, List, Ok, Err}
 use Rattle.mil_host.specs.Words.{Text}
 use Rattle.job_file.specs.Texts.{IsFirstRefused}
 use Rattle.job_file.specs.declared.error.JobError.TheVariants as error
+use Rattle.judge_rules.specs.declared.fault.RuleError.{RuleError}
+use Rattle.judge_rules.specs.declared.fault.RuleFault.{RuleFault}
+use Rattle.judge_rules.specs.declared.fault.RuleFault.TheVariants as rule
+use Rattle.judge_rules.specs.Rules.{AllRules}
 use Rattle.bench_requests.specs.declared.fault.Fault.{Fault}
 use Rattle.bench_requests.specs.declared.fault.Fault.TheVariants as fault
 
@@ -11,3 +15,18 @@ abbrev pub IsRefusedJob : List Text → Fault → Type 0
 IsRefusedJob texts (fault.Job why) = (why ≢ error.Memory) × ((index : ℕ) × IsFirstRefused texts index why)
 IsRefusedJob texts fault.Memory = Unit {0}
 IsRefusedJob texts _ = ⊥
+
+abbrev with_fault : RuleError → RuleFault → Fault
+with_fault e rule.Memory = fault.Memory
+with_fault e rule.Word = fault.Rules e
+with_fault e rule.Number = fault.Rules e
+with_fault e rule.Range = fault.Rules e
+
+-- the fault of rules that were refused
+abbrev pub fault_of_rules : RuleError → Fault
+fault_of_rules e = with_fault e e.fault
+
+-- the first fault of a text of rules, or want of memory where it has none
+abbrev pub IsRefusedText : AllRules → Fault → Type 0
+IsRefusedText (Ok rules) found = found ≡ fault.Memory
+IsRefusedText (Err e) found = found ≡ fault_of_rules e

@@ -1,5 +1,8 @@
 -- The exit status of a fault (own choice); 0 is done and 2 usage.
-use Rattle.std.specs.Prelude.{◌≡◌, ℕ, codes}
+use Rattle.std.specs.Prelude.{◌≡◌, ℕ, List, codes}
+use Rattle.bench_files.specs.declared.kind.Kind.{Kind}
+use Rattle.bench_files.specs.declared.error.OutError.{OutError}
+use Rattle.bench_files.specs.declared.error.OutError.TheVariants as out
 use Rattle.bench_core.specs.declared.settings.WorldError.{WorldError}
 use Rattle.bench_core.specs.declared.settings.WorldError.TheVariants as world
 use Rattle.bench_run.specs.declared.error.RunError.{RunError}
@@ -7,7 +10,8 @@ use Rattle.bench_run.specs.declared.error.RunError.TheVariants as run
 use Rattle.bench_step.specs.declared.fault.StepFault.{StepFault}
 use Rattle.bench_step.specs.declared.fault.StepFault.TheVariants as step
 use Rattle.bench_requests.specs.declared.fault.Fault.{Fault}
-use Rattle.bench_requests.specs.declared.fault.Fault.TheVariants.{Text, Script, Recording, Report, Mismatch, Job, Run, Sink, Device, System, Unknown, Memory, OneFile}
+use Rattle.bench_requests.specs.declared.fault.Fault.TheVariants.{Text, Script, Recording, Report, Mismatch, Job, Run, Sink, Device, System, Unknown, Rules, NotHeld, Memory, OneFile, Busy, OtherKind, OtherPart, Usage}
+use Rattle.bench_requests.specs.declared.fault.Fault.TheVariants.{NoneSelected}
 
 abbrev pub status_of : Fault → ℕ
 -- the input was refused
@@ -19,13 +23,23 @@ status_of (Mismatch channel number) = 1
 status_of (Job fault) = 1
 status_of (Run fault) = 1
 status_of (Unknown code) = 1
+status_of (Rules fault) = 1
+status_of NoneSelected = 1
 -- a file or a stream failed
 status_of (Sink taken) = 3
 status_of (Device name) = 3
 status_of (System name code) = 3
 status_of Memory = 4
+-- a rule is not held
+status_of NotHeld = 5
 -- two files of the command line are one
 status_of (OneFile written other) = 2
+-- another process writes the file
+status_of (Busy name) = 3
+-- a file of another kind would be written over
+status_of (OtherKind name kind) = 2
+status_of (OtherPart name kind) = 2
+status_of (Usage text) = 2
 
 -- the fault of jobs and settings that may not be run
 abbrev pub fault_of_settings : WorldError → Fault
@@ -42,6 +56,14 @@ fault_of (run.Prologue sink) = Run world.Prologue
 fault_of (run.Memory sink) = Memory
 fault_of (run.Sink sink report taken) = Sink taken
 
+-- the fault of a file of this name that one of this kind cannot be written to
+abbrev pub IsOfOut : List ℕ → Kind → OutError → Fault → Type 0
+IsOfOut name kind (out.System error) fault = Unit {0}
+IsOfOut name kind out.Busy (Busy told) = told.now ≡ name
+IsOfOut name kind out.OtherKind (OtherKind told wanted) = (told.now ≡ name) × (wanted ≡ kind)
+IsOfOut name kind out.OtherPart (OtherPart told wanted) = (told.now ≡ name) × (wanted ≡ kind)
+IsOfOut name kind error fault = ⊥
+
 -- the fault of standard input or output
 abbrev pub IsStandardDevice : Fault → Type 0
 IsStandardDevice (Device name) = name.now ≡ codes "-"
@@ -52,5 +74,6 @@ abbrev pub IsOfStep : StepFault → Fault → Type 0
 IsOfStep (step.Refused refusal) f = f ≡ Recording refusal
 IsOfStep (step.Mismatch channel number) f = f ≡ Mismatch channel number
 IsOfStep step.Memory f = f ≡ Memory
+IsOfStep step.LineMemory f = f ≡ Memory
 IsOfStep step.Input f = IsStandardDevice f
 IsOfStep step.Output f = IsStandardDevice f

@@ -3,6 +3,8 @@ ghost use Rattle.std.specs.Prelude.{◌≡◌};
 ghost use Rattle.bench_requests.specs.Apart.{is_same_place};
 
 use crate::fault::Fault;
+use bench_files::{followed, part_of};
+use std::alloc::AllocError;
 use std::fs::{self, Metadata};
 use std::os::unix::fs::{FileTypeExt, MetadataExt};
 use std::rt::Files;
@@ -90,10 +92,39 @@ fn place_named<'a, R: Files>(rt: &R, name: &'a str) -> Place<'a> {
     }
 }
 
-/// Refuses, as a usage fault, a file that is to be written and is also one of these others.
-fn apart<'a, R: Files>(rt: &R, written: &'a str, others: &[&'a str]) -> Result<(), Fault<'a>> {
+/// The name itself where something is there; else the name of what would be there, where a link leads to it.
+fn led<R: Files + AllocGlobal>(rt: &R, name: &str) -> Result<String, AllocError> {
+    if fs::metadata(rt, name).is_err() {
+        if let Ok(path) = followed(rt, name) {
+            return Ok(path);
+        }
+    }
+    String::from_str(rt.alloc(), name)
+}
+
+/// The name that a file has until it is whole.
+fn part_named<R: Files + AllocGlobal>(rt: &R, name: &str) -> Result<String, AllocError> {
+    match followed(rt, name) {
+        Ok(path) => part_of(rt.alloc(), path.as_str()),
+        Err(_) => part_of(rt.alloc(), name),
+    }
+}
+
+/// Refuses, as a usage fault, a file that is to be written and is also one of these others, or is one of them until it
+/// is whole.
+fn apart<'a, R: Files + AllocGlobal>(
+    rt: &R,
+    written: &'a str,
+    others: &[&'a str],
+) -> Result<(), Fault<'a>> {
+    let path = led(rt, written)?;
+    let part = part_named(rt, written)?;
     for other in others {
-        if is_same_place(place_named(rt, written), place_named(rt, other)) {
+        let others_path = led(rt, other)?;
+        let place = place_named(rt, others_path.as_str());
+        if is_same_place(place_named(rt, path.as_str()), place)
+            || is_same_place(place_named(rt, part.as_str()), place)
+        {
             return Err(Fault::OneFile { written, other });
         }
     }
@@ -101,7 +132,7 @@ fn apart<'a, R: Files>(rt: &R, written: &'a str, others: &[&'a str]) -> Result<(
 }
 
 /// Refuses, as a usage fault, a file that a command is to write and also to read, or to write twice.
-pub fn told_apart<'a, R: Files>(
+pub fn told_apart<'a, R: Files + AllocGlobal>(
     rt: &R,
     written: &[&'a str],
     read: &[&'a str],
@@ -109,20 +140,8 @@ pub fn told_apart<'a, R: Files>(
     for index in 0..written.len() {
         let name = written[index];
         apart(rt, name, &written[index + 1..])?;
+        apart(rt, name, &written[..index])?;
         apart(rt, name, read)?;
-    }
-    Ok(())
-}
-
-/// The same of a file that is open for writing, and the name of another that is to be written.
-pub fn told_apart_from_open<'a, R: Files>(
-    rt: &R,
-    open: &Metadata,
-    written: &'a str,
-    other: &'a str,
-) -> Result<(), Fault<'a>> {
-    if is_same_place(place_of(open), place_named(rt, other)) {
-        return Err(Fault::OneFile { written, other });
     }
     Ok(())
 }

@@ -1,15 +1,17 @@
 //! Why `bench` stops, and with which exit status.
 ghost use Rattle.std.specs.Prelude.{◌≡◌};
-ghost use Rattle.bench_requests.specs.Status.{status_of, fault_of, fault_of_settings, IsOfStep};
+ghost use Rattle.bench_requests.specs.Status.{status_of, fault_of, fault_of_settings, IsOfOut, IsOfStep};
 
 use bench_assemble::AssembleFault;
 use bench_core::WorldError;
+use bench_files::{Kind, OutError};
 use bench_one::OneFault;
 use bench_report::ReportError;
 use bench_run::RunError;
 use bench_step::StepFault;
 use ch11_reader::Refusal;
 use job_file::JobError;
+use judge_rules::RuleError;
 use std::alloc::AllocError;
 use std::io;
 use thiserror::Error;
@@ -50,16 +52,37 @@ pub enum Fault<'a> {
     /// There is no such code to explain.
     #[error("unknown {0}")]
     Unknown(&'a str),
+    /// The text of rules was refused.
+    #[error("{0}")]
+    Rules(RuleError),
+    /// No message of a recording is among those that were asked for.
+    #[error("no message is selected")]
+    NoneSelected,
+    /// A rule is not held. All was printed.
+    #[error("a rule is not held")]
+    NotHeld,
     /// Memory was refused.
     #[error("memory")]
     Memory,
     /// A usage fault: this file would be written over, since it is also the other one.
     #[error("'{written}' and '{other}' are one file, which would be written over")]
     OneFile { written: &'a str, other: &'a str },
+    /// Another process is writing this file.
+    #[error("device {0}")]
+    Busy(&'a str),
+    /// A usage fault: this file is there, and is not of the kind that would take its place.
+    #[error("'{name}' is no {kind}, and would be written over; --force allows it")]
+    OtherKind { name: &'a str, kind: Kind },
+    /// A usage fault: what is there under the name that a file has until it is whole is of another kind.
+    #[error("'{name}.part' is no part of a {kind}, and would be written over: move it away")]
+    OtherPart { name: &'a str, kind: Kind },
+    /// Another usage fault, which the files or the words of the command line show.
+    #[error("{0}")]
+    Usage(&'static str),
 }
 
 impl<'a> Fault<'a> {
-    /// The exit status: 1 input refused, 2 usage, 3 device, 4 memory.
+    /// The exit status: 1 input refused, 2 usage, 3 device, 4 memory, 5 a rule is not held.
     pub fn status(&self) -> u8
         ensures { result ≡ status_of self.now }
     {
@@ -67,11 +90,15 @@ impl<'a> Fault<'a> {
             Fault::Text(_) | Fault::Script(_) | Fault::Recording(_) => 1,
             Fault::Job(_) | Fault::Run(_) => 1,
             Fault::Report(_) | Fault::Mismatch { .. } => 1,
-            Fault::Unknown(_) => 1,
+            Fault::Rules(_) | Fault::Unknown(_) => 1,
+            Fault::NoneSelected => 1,
             Fault::Sink { .. } | Fault::Device(_) => 3,
             Fault::System { .. } => 3,
             Fault::Memory => 4,
-            Fault::OneFile { .. } => 2,
+            Fault::NotHeld => 5,
+            Fault::OneFile { .. } | Fault::Usage(_) => 2,
+            Fault::Busy(_) => 3,
+            Fault::OtherKind { .. } | Fault::OtherPart { .. } => 2,
         }
     }
 
@@ -108,8 +135,20 @@ impl<'a> Fault<'a> {
                 channel: *channel,
                 number: *number,
             },
-            StepFault::Memory => Fault::Memory,
+            StepFault::Memory | StepFault::LineMemory => Fault::Memory,
             StepFault::Input | StepFault::Output => Fault::Device("-"),
+        }
+    }
+
+    /// The fault of a file with this name that cannot be written by one of this kind.
+    pub fn of_out(name: &'a str, kind: Kind, error: &OutError) -> Fault<'a>
+        ensures { IsOfOut name.now kind error.now result }
+    {
+        match error {
+            OutError::System(error) => Fault::of_stream(name, error),
+            OutError::Busy => Fault::Busy(name),
+            OutError::OtherKind => Fault::OtherKind { name, kind },
+            OutError::OtherPart => Fault::OtherPart { name, kind },
         }
     }
 

@@ -2,7 +2,8 @@
 
 use crate::fault::Fault;
 use bench_dump::{DumpFault, read_sized};
-use std::fs::{self, OpenFile, OpenOptions};
+use bench_files::{Hold, Kind, OutFile, refuse_other_kind};
+use std::fs::{self, OpenFile};
 use std::io::Write;
 use std::rt::Files;
 
@@ -14,8 +15,9 @@ fn size_of<F: OpenFile>(file: &F) -> u64 {
     }
 }
 
-/// All bytes of a file. Room for as many as it is said to have is asked for before the first is read. One that cannot be opened or
-/// read, or that does not end within 1,000,000 reads of up to 65,536 bytes (own choice), is a device fault with its name as given.
+/// All bytes of a file. Room for as many as it is said to have is asked for before the first is read. One that cannot
+/// be opened or read, or that does not end within 1,000,000 reads of up to 65,536 bytes (own choice), is a device
+/// fault with its name as given.
 pub fn read_whole<'a, R: Files + AllocGlobal>(rt: &R, name: &'a str) -> Result<Vec<u8>, Fault<'a>> {
     let mut file = match fs::open(rt, name) {
         Ok(file) => file,
@@ -42,57 +44,112 @@ pub fn read_texts<'a, R: Files + AllocGlobal>(
     Ok(texts)
 }
 
-/// Makes a file of these bytes, in the place of one that is there. One that cannot be made or written is a device fault with its
-/// name as given.
-pub fn write_whole<'a, R: Files>(rt: &R, name: &'a str, bytes: &[u8]) -> Result<(), Fault<'a>> {
-    let mut file = create(rt, name)?;
-    match file.write_all(bytes) {
-        Ok(()) => Ok(()),
-        Err(error) => Err(Fault::of_stream(name, &error)),
-    }
-}
-
-/// A file open for writing, with all that it has where it is there already, and empty where it is not. One that cannot be made or
-/// opened is a device fault with its name as given.
-pub fn open_as_it_is<'a, R: Files>(rt: &R, name: &'a str) -> Result<R::File, Fault<'a>> {
-    let mut options = OpenOptions::new();
-    options.write(true).create(true);
-    match options.open(rt, name) {
-        Ok(file) => Ok(file),
-        Err(error) => Err(Fault::of_stream(name, &error)),
-    }
-}
-
-/// Takes all bytes out of an open file; a stream stays as it is.
-pub fn empty_open<'a, F: OpenFile>(file: &F, name: &'a str) -> Result<(), Fault<'a>> {
-    let metadata = match file.metadata() {
-        Ok(metadata) => metadata,
-        Err(error) => return Err(Fault::of_stream(name, &error)),
-    };
-    if !metadata.is_file() {
+/// Refuses, as a usage fault, a file that is there and is of another kind, unless it may be replaced in any case.
+pub fn replaceable<'a, R: Files>(
+    rt: &R,
+    name: &'a str,
+    kind: Kind,
+    force: bool,
+) -> Result<(), Fault<'a>> {
+    if force {
         return Ok(());
     }
-    match file.set_len(0) {
+    match refuse_other_kind(rt, name, kind) {
         Ok(()) => Ok(()),
+        Err(error) => Err(Fault::of_out(name, kind, &error)),
+    }
+}
+
+/// Begins to write a file of this kind; what is there stays until it is whole. One that cannot be written is a device
+/// fault with its name as given, and so is one that another process is writing; one of another kind is a usage fault,
+/// unless it may be replaced.
+pub fn begin<'a, R: Files + AllocGlobal>(
+    rt: &R,
+    name: &'a str,
+    kind: Kind,
+    force: bool,
+) -> Result<OutFile<'a, R::File>, Fault<'a>>
+where
+    R::File: Hold,
+{
+    match OutFile::begin(rt, name, kind, force) {
+        Ok(file) => Ok(file),
+        Err(error) => Err(Fault::of_out(name, kind, &error)),
+    }
+}
+
+/// Where the bytes of a file that was begun go. One that cannot be opened is a device fault with its name as given.
+pub fn writer_of<'a, R: Files>(
+    rt: &R,
+    name: &'a str,
+    file: &mut OutFile<'a, R::File>,
+) -> Result<R::File, Fault<'a>>
+where
+    R::File: Hold,
+{
+    match file.writer(rt) {
+        Ok(writer) => Ok(writer),
         Err(error) => Err(Fault::of_stream(name, &error)),
     }
 }
 
-/// Takes all bytes out of a file that is there; a stream stays as it is, and where there is no file none is made.
-pub fn empty_if_there<'a, R: Files>(rt: &R, name: &'a str) -> Result<(), Fault<'a>> {
-    match fs::metadata(rt, name) {
-        Ok(metadata) if metadata.is_file() => {
-            let file = open_as_it_is(rt, name)?;
-            empty_open(&file, name)
+/// Gives a file that is whole its place. One that cannot be replaced is a device fault with its name as given.
+pub fn put_in_place<'a, R: Files>(
+    rt: &R,
+    name: &'a str,
+    file: OutFile<'a, R::File>,
+) -> Result<(), Fault<'a>>
+where
+    R::File: Hold,
+{
+    let synced = file.sync();
+    match synced {
+        Ok(()) => match file.take_place(rt) {
+            Ok(()) => Ok(()),
+            Err(error) => Err(Fault::of_stream(name, &error)),
+        },
+        Err(error) => {
+            file.give_up(rt);
+            Err(Fault::of_stream(name, &error))
         }
-        _ => Ok(()),
     }
 }
 
-/// An empty file, in the place of one that is there. One that cannot be made is a device fault with its name as given.
-pub fn create<'a, R: Files>(rt: &R, name: &'a str) -> Result<R::File, Fault<'a>> {
-    match fs::create(rt, name) {
-        Ok(file) => Ok(file),
+/// Makes a file of these bytes, in the place of one that is there, which stays until the new one is whole. It is
+/// refused as `begin` says.
+pub fn write_new<'a, R: Files + AllocGlobal>(
+    rt: &R,
+    name: &'a str,
+    kind: Kind,
+    force: bool,
+    bytes: &[u8],
+) -> Result<(), Fault<'a>>
+where
+    R::File: Hold,
+{
+    let mut file = begin(rt, name, kind, force)?;
+    match write_bytes(rt, name, &mut file, bytes) {
+        Ok(()) => put_in_place(rt, name, file),
+        Err(fault) => {
+            file.give_up(rt);
+            Err(fault)
+        }
+    }
+}
+
+/// Writes all these bytes into a file that was begun.
+pub(crate) fn write_bytes<'a, R: Files>(
+    rt: &R,
+    name: &'a str,
+    file: &mut OutFile<'a, R::File>,
+    bytes: &[u8],
+) -> Result<(), Fault<'a>>
+where
+    R::File: Hold,
+{
+    let mut writer = writer_of(rt, name, file)?;
+    match writer.write_all(bytes) {
+        Ok(()) => Ok(()),
         Err(error) => Err(Fault::of_stream(name, &error)),
     }
 }

@@ -2,15 +2,23 @@
 #![tactic(auto)]
 
 mod apart;
+mod ending;
+mod endings;
 mod fault;
 mod files;
 mod jobs;
+mod losses;
+mod rules;
+mod run_files;
 mod settings;
 
-pub use apart::{Place, told_apart, told_apart_from_open};
+pub use apart::{Place, told_apart};
+pub use ending::Ending;
+pub use endings::{ending_of_run, ending_of_settings};
 pub use fault::Fault;
-pub use files::{
-    create, empty_if_there, empty_open, open_as_it_is, read_texts, read_whole, write_whole,
-};
+pub use files::{begin, put_in_place, read_texts, read_whole, replaceable, write_new, writer_of};
 pub use jobs::jobs_of;
+pub use losses::tells_of_loss;
+pub use rules::rules_of;
+pub use run_files::RunFiles;
 pub use settings::{RunRequest, settings_of};

@@ -12,10 +12,14 @@ pub struct RunRequest<'a> {
     pub limit: u32,
     /// How many items the queue holds at most, in range or not.
     pub queue: u32,
-    /// Whether buses wait while the queue is full, so that no message is refused.
-    pub hold: bool,
+    /// Whether messages that find the queue full are refused; else buses wait while it is full.
+    pub drops: bool,
+    /// Whether files of another kind may be replaced.
+    pub force: bool,
     /// The file of the packets that stand in front of all others.
     pub prologue: Option<&'a str>,
+    /// The file of the rules to judge the recording by, if any.
+    pub judge: Option<&'a str>,
     /// The file to write the recording to.
     pub out: &'a str,
     /// The file to write the report to.

@@ -8,7 +8,7 @@ use Rattle.bench_run.specs.declared.mailbox.Inbox.{Inbox}
 use Rattle.bench_run.specs.declared.error.RunError.{RunError}
 use Rattle.bench_run.specs.declared.error.RunError.TheVariants as fault
 use Rattle.bench_run.specs.Runs.{Ran, IsCut, Leaves}
-use Rattle.bench_run.specs.Live.{RanLive, LeavesLate, LeavesLive}
+use Rattle.bench_run.specs.Live.{RanLive, HaveMail, LeavesLate, LeavesLive}
 use Rattle.bench_run.proofs.Lives.{lives_are_jobs}
 
 module _ {S : Type 0} (taken : S → Option (List ℕ)) where
@@ -29,10 +29,12 @@ module _ {S : Type 0} (taken : S → Option (List ℕ)) where
     subst (λ (js : List JobState). IsCut taken js s before report count sink) (lives_are_jobs jobs inboxes back report.channels left.2.0 left.2.1) left.2.2,
   )
 
-  pub left_late : (failures : S → ℕ) (most : ℕ) (jobs : List JobState) (s : Settings) (boxes : List Mailbox) (inboxes : List Inbox) (before : S) (e : RunError S) (back : List Inbox)
-      → LeavesLate taken failures most jobs s inboxes before e back → LeavesLive taken failures most jobs s boxes inboxes before e back
-  left_late failures most jobs s boxes inboxes before (fault.Settings sink) back left = absurd left
-  left_late failures most jobs s boxes inboxes before (fault.ChannelTwice sink) back left = absurd left
-  left_late failures most jobs s boxes inboxes before (fault.Prologue sink) back left = absurd left
-  left_late failures most jobs s boxes inboxes before (fault.Memory sink) back left = left
-  left_late failures most jobs s boxes inboxes before (fault.Sink sink report count) back left = left
+  pub left_late : (failures : S → ℕ) (most : ℕ) (jobs : List JobState) (s : Settings)
+      (boxes : List Mailbox) (inboxes : List Inbox) (before : S) (e : RunError S) (back : List Inbox)
+      → HaveMail jobs boxes inboxes → LeavesLate taken failures most jobs s inboxes before e back
+      → LeavesLive taken failures most jobs s boxes inboxes before e back
+  left_late failures most jobs s boxes inboxes before (fault.Settings sink) back mail left = absurd left
+  left_late failures most jobs s boxes inboxes before (fault.ChannelTwice sink) back mail left = absurd left
+  left_late failures most jobs s boxes inboxes before (fault.Prologue sink) back mail left = absurd left
+  left_late failures most jobs s boxes inboxes before (fault.Memory sink) back mail left = (mail, left)
+  left_late failures most jobs s boxes inboxes before (fault.Sink sink report count) back mail left = (mail, left)

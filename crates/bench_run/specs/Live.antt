@@ -93,7 +93,8 @@ LeavesLate taken failures most jobs s inboxes before (fault.Sink sink report cou
     × ((lives : List JobState) × AreLive most jobs inboxes back report.channels lives × IsCut taken lives s before report count sink)
 LeavesLate taken failures most jobs s inboxes before other back = ⊥
 
--- What a refusal says and leaves, as of a run: a missing mailbox or inbox, or one of another job, counts with the settings.
+-- What a refusal says and leaves, as of a run: a missing mailbox or inbox, or one of another job, counts with the
+-- settings, so every other refusal says that the mailboxes and inboxes were those of the jobs.
 abbrev pub LeavesLive : {S : Type 0} → (S → Option (List ℕ)) → (S → ℕ) → ℕ → List JobState → Settings → List Mailbox → List Inbox → S → RunError S → List Inbox → Type 0
 LeavesLive taken failures most jobs s boxes inboxes before (fault.Settings sink) back =
     (sink ≡ before) × (back ≡ inboxes) × ¬ (AreInRange jobs s × HaveMail jobs boxes inboxes)
@@ -101,6 +102,8 @@ LeavesLive taken failures most jobs s boxes inboxes before (fault.ChannelTwice s
     (sink ≡ before) × (back ≡ inboxes) × AreInRange jobs s × HaveMail jobs boxes inboxes × ¬ AreDistinct (channels_of jobs)
 LeavesLive taken failures most jobs s boxes inboxes before (fault.Prologue sink) back =
     (sink ≡ before) × (back ≡ inboxes) × AreInRange jobs s × HaveMail jobs boxes inboxes × AreDistinct (channels_of jobs) × ¬ IsPrologue s.prologue.items
-LeavesLive taken failures most jobs s boxes inboxes before (fault.Memory sink) back = LeavesLate taken failures most jobs s inboxes before (fault.Memory sink) back
+LeavesLive taken failures most jobs s boxes inboxes before (fault.Memory sink) back =
+    HaveMail jobs boxes inboxes × LeavesLate taken failures most jobs s inboxes before (fault.Memory sink) back
 LeavesLive taken failures most jobs s boxes inboxes before (fault.Sink sink report count) back =
-    LeavesLate taken failures most jobs s inboxes before (fault.Sink sink report count) back
+    HaveMail jobs boxes inboxes
+    × LeavesLate taken failures most jobs s inboxes before (fault.Sink sink report count) back

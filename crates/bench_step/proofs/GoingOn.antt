@@ -4,6 +4,7 @@ use Rattle.std.specs.Prelude.{Bool, true, false, ◌||◌}
 use Rattle.std.proofs.KnownBytes.{Appends-trans, Appends-nil}
 use Rattle.std.specs.List.{before_first}
 use Rattle.std.specs.Io.KnownBytes.{IsAtEnd}
+use Rattle.std.specs.declared.io.ErrorKind.{ErrorKind}
 use Rattle.std.specs.Io.BufRead.{take_through, drop_through, DropsThrough}
 use Rattle.mil_host.specs.Words.{Text}
 use Rattle.job_file.specs.Jobs.{JobState}
@@ -13,7 +14,7 @@ use Rattle.bench_report.proofs.LineLemmas.{text_lines-none}
 use Rattle.replay.specs.Moves.{ReplayState}
 use Rattle.bench_step.specs.Commands.{asked}
 use Rattle.bench_step.specs.Session.{Replies, after_reply, reply_text, is_memory, AreReplies, after_replies, session_text, any_memory}
-use Rattle.bench_step.specs.Answering.{IsAnswered, IsSession, IsAccepted, IsWhole, IsEnded, IsReaders, IsCutShort, opened}
+use Rattle.bench_step.specs.Answering.{IsAnswered, IsSession, IsAccepted, IsThrough, IsEnded, IsReaders, IsCutShort, opened}
 use Rattle.bench_step.specs.declared.replies.Reply.{Reply}
 use Rattle.bench_step.specs.declared.fault.StepFault.{StepFault}
 use Rattle.bench_step.specs.declared.fault.StepFault.TheVariants as fault
@@ -118,22 +119,28 @@ all_read s mid (Some text) leaves got gets refused h end =
     sym (h.read.2 ∙ (rw (same, none) (append-nil h.lines)))
 
 -- a session that its reader cut short
-pub cut_short : (s last : ReplayState) (left leaves got gets : Option (List ℕ)) (refused : Bool) (f : StepFault) → IsSession s last left leaves got gets refused → IsReaders f → IsCutShort s left got gets f
-cut_short s last left leaves got gets refused (fault.Refused r) h is = absurd is
-cut_short s last left leaves got gets refused (fault.Mismatch channel number) h is = absurd is
-cut_short s last left leaves got gets refused fault.Memory h is = record { last = last; leaves = leaves; refused = refused; session = h }
-cut_short s last left leaves got gets refused fault.Input h is = record { last = last; leaves = leaves; refused = refused; session = h }
-cut_short s last left leaves got gets refused fault.Output h is = absurd is
+pub cut_short : (s last : ReplayState) (left leaves got gets : Option (List ℕ)) (refused : Bool) (kind : ErrorKind) (f : StepFault)
+    → IsSession s last left leaves got gets refused → IsReaders kind f → IsCutShort s left got gets f
+cut_short s last left leaves got gets refused kind (fault.Refused r) h is = absurd is
+cut_short s last left leaves got gets refused kind (fault.Mismatch channel number) h is = absurd is
+cut_short s last left leaves got gets refused kind fault.Memory h is = absurd is
+cut_short s last left leaves got gets refused kind fault.LineMemory h is =
+    record { last = last; leaves = leaves; refused = refused; session = h }
+cut_short s last left leaves got gets refused kind fault.Input h is =
+    record { last = last; leaves = leaves; refused = refused; session = h }
+cut_short s last left leaves got gets refused kind fault.Output h is = absurd is
 
--- a session of all lines, for none of which memory was refused
-pub whole : (jobs : List JobState) (parts : List ChannelPart) (recording : List ℕ) (s last : ReplayState) (left leaves got gets : Option (List ℕ)) (refused : Bool) → IsAccepted jobs parts recording → s ≡ opened jobs parts recording
-    → refused ≡ false → IsSession s last left leaves got gets refused → IsEnded left leaves → IsWhole jobs parts recording left leaves got gets
-whole jobs parts recording s last left leaves got gets refused accepted is none h end =
-    let session : IsSession (opened jobs parts recording) last left leaves got gets false = rw (is, none) at h in
+-- a session of all lines, and whether memory was refused for one of them
+pub through : (jobs : List JobState) (parts : List ChannelPart) (recording : List ℕ) (s last : ReplayState)
+    (left leaves got gets : Option (List ℕ)) (refused known : Bool) → IsAccepted jobs parts recording → s ≡ opened jobs parts recording
+    → refused ≡ known → IsSession s last left leaves got gets refused → IsEnded left leaves
+    → IsThrough jobs parts recording left leaves got gets known
+through jobs parts recording s last left leaves got gets refused known accepted is told h end =
+    let session : IsSession (opened jobs parts recording) last left leaves got gets known = rw (is, told) at h in
     record {
       accepted = accepted;
       last = last;
       session = session;
-      all = all_read (opened jobs parts recording) last left leaves got gets false session end;
+      all = all_read (opened jobs parts recording) last left leaves got gets known session end;
       ended = end;
     }

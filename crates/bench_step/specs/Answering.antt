@@ -1,6 +1,8 @@
 -- What a session reads and writes.
-use Rattle.std.specs.Prelude.{◌≡◌, ℕ, Bool, false, List, [], ◌++◌, ◌⊎◌, Option, Some, IfSome, Ok, Err}
+use Rattle.std.specs.Prelude.{◌≡◌, ◌≢◌, ℕ, Bool, true, false, List, [], ◌++◌, ◌⊎◌, Option, Some, IfSome, Ok, Err}
 use Rattle.std.specs.Io.KnownBytes.{Appends}
+use Rattle.std.specs.declared.io.ErrorKind.{ErrorKind}
+use Rattle.std.specs.declared.io.ErrorKind.TheVariants.{OutOfMemory}
 use Rattle.mil_host.specs.Words.{Text}
 use Rattle.job_file.specs.Jobs.{JobState}
 use Rattle.bench_report.specs.Reports.{ChannelPart}
@@ -48,21 +50,28 @@ pub record IsAccepted (jobs : List JobState) (parts : List ChannelPart) (recordi
 abbrev pub IsEnded : Option (List ℕ) → Option (List ℕ) → Type 0
 IsEnded left leaves = IfSome left (λ text. leaves ≡ Some [])
 
--- they were, and all lines were answered, for none of which memory was refused
-pub record IsWhole (jobs : List JobState) (parts : List ChannelPart) (recording : List ℕ) (left leaves got gets : Option (List ℕ)) : Type 0 where
+-- they were, and all lines were answered; whether memory was refused for one of them
+pub record IsThrough (jobs : List JobState) (parts : List ChannelPart) (recording : List ℕ)
+    (left leaves got gets : Option (List ℕ)) (refused : Bool) : Type 0 where
   pub accepted : IsAccepted jobs parts recording
   pub last : ReplayState
-  pub session : IsSession (opened jobs parts recording) last left leaves got gets false
+  pub session : IsSession (opened jobs parts recording) last left leaves got gets refused
   pub all : IfSome left (λ text. session.lines ≡ text_lines text)
   pub ended : IsEnded left leaves
 
--- the fault of a reader
-abbrev pub IsReaders : StepFault → Type 0
-IsReaders (fault.Refused r) = ⊥
-IsReaders (fault.Mismatch channel number) = ⊥
-IsReaders fault.Memory = Unit {0}
-IsReaders fault.Input = Unit {0}
-IsReaders fault.Output = ⊥
+-- they were, and all lines were answered, for none of which memory was refused
+abbrev pub IsWhole : List JobState → List ChannelPart → List ℕ
+    → Option (List ℕ) → Option (List ℕ) → Option (List ℕ) → Option (List ℕ) → Type 0
+IsWhole jobs parts recording left leaves got gets = IsThrough jobs parts recording left leaves got gets false
+
+-- the fault of a reader whose error is of this kind
+abbrev pub IsReaders : ErrorKind → StepFault → Type 0
+IsReaders kind (fault.Refused r) = ⊥
+IsReaders kind (fault.Mismatch channel number) = ⊥
+IsReaders kind fault.Memory = ⊥
+IsReaders kind fault.LineMemory = kind ≡ OutOfMemory
+IsReaders kind fault.Input = kind ≢ OutOfMemory
+IsReaders kind fault.Output = ⊥
 
 -- the first lines were answered, and the writer got no more than their answers
 pub record IsFront (s : ReplayState) (left got gets : Option (List ℕ)) : Type 0 where
@@ -75,7 +84,8 @@ pub record IsFront (s : ReplayState) (left got gets : Option (List ℕ)) : Type 
 abbrev pub IsCutShort : ReplayState → Option (List ℕ) → Option (List ℕ) → Option (List ℕ) → StepFault → Type 0
 IsCutShort s left got gets (fault.Refused r) = ⊥
 IsCutShort s left got gets (fault.Mismatch channel number) = ⊥
-IsCutShort s left got gets fault.Memory = IsFront s left got gets
+IsCutShort s left got gets fault.Memory = ⊥
+IsCutShort s left got gets fault.LineMemory = IsFront s left got gets
 IsCutShort s left got gets fault.Input = IsFront s left got gets
 IsCutShort s left got gets fault.Output = Unit {0}
 
@@ -86,6 +96,7 @@ IsRefusal jobs parts recording (fault.Refused r) = packets_in recording ≡ Err 
 IsRefusal jobs parts recording (fault.Mismatch channel number) =
     (packets_in recording ≡ Ok (found_in recording)) × IsFirstDifference jobs parts (found_in recording) channel number
 IsRefusal jobs parts recording fault.Memory = packets_in recording ≡ Ok (found_in recording)
+IsRefusal jobs parts recording fault.LineMemory = ⊥
 IsRefusal jobs parts recording fault.Input = ⊥
 IsRefusal jobs parts recording fault.Output = ⊥
 
@@ -98,8 +109,10 @@ pub record IsUntouched (left leaves got gets : Option (List ℕ)) : Type 0 where
 abbrev pub IsBegun : List JobState → List ChannelPart → List ℕ → Option (List ℕ) → Option (List ℕ) → Option (List ℕ) → StepFault → Type 0
 IsBegun jobs parts recording left got gets f = IsAccepted jobs parts recording × IsCutShort (opened jobs parts recording) left got gets f
 
--- The debugger was not opened, and no line was read; or its session was cut short; or memory was refused for what some line asks,
--- and all other lines were answered.
+-- The debugger was not opened, and no line was read; or its session was cut short; or all lines were answered, and
+-- memory was refused for what some of them asks.
 abbrev pub Ends : List JobState → List ChannelPart → List ℕ → Option (List ℕ) → Option (List ℕ) → Option (List ℕ) → Option (List ℕ) → StepFault → Type 0
 Ends jobs parts recording left leaves got gets f =
-    (IsRefusal jobs parts recording f × IsUntouched left leaves got gets) ⊎ IsBegun jobs parts recording left got gets f
+    (IsRefusal jobs parts recording f × IsUntouched left leaves got gets)
+    ⊎ (IsBegun jobs parts recording left got gets f
+    ⊎ ((f ≡ fault.Memory) × IsThrough jobs parts recording left leaves got gets true))

@@ -7,6 +7,8 @@ use Rattle.mil_host.specs.Words.{Text, is_space, words}
 use Rattle.frame_tree.specs.Tree.{Condition, condition_in}
 use Rattle.frame_text.specs.Conditions.{condition_of_text}
 use Rattle.frame_text.specs.declared.faults.Cause.{Cause}
+use Rattle.bench_step.specs.declared.details.Detail.{Detail}
+use Rattle.bench_step.specs.declared.details.Detail.TheVariants.{Registers, Host}
 use Rattle.bench_step.specs.declared.commands.Command.{Command}
 use Rattle.bench_step.specs.declared.commands.Command.TheVariants as command
 
@@ -18,8 +20,10 @@ pub data Asked : Type 0 where
   go : ℕ → Asked
   -- on to the next message whose outcome makes the condition true
   find : Condition → Asked
-  -- what the terminals hold
-  state : Asked
+  -- what the terminals hold, in this detail
+  state : Detail → Asked
+  -- `find`, and behind it no condition
+  no_condition : Asked
   -- nothing that a line may ask
   unknown : Asked
 
@@ -58,7 +62,12 @@ going (word ∷ more ∷ rest) = unknown
 -- all that stands behind `find`
 abbrev pub finding : Result Condition Cause → Asked
 finding (Ok test) = find test
-finding (Err cause) = unknown
+finding (Err cause) = no_condition
+
+-- nothing, or `--all`, behind `state`
+abbrev pub showing : List Text → Asked
+showing [] = state Registers
+showing (word ∷ rest) = if bytes_eq word (codes "--all") then alone (state Host) rest else unknown
 
 -- a line by its first word
 abbrev pub asked_by : Text → Text → Asked
@@ -67,7 +76,7 @@ asked_by word rest =
     else if bytes_eq word (codes "back") then alone back (words rest)
     else if bytes_eq word (codes "go") then going (words rest)
     else if bytes_eq word (codes "find") then finding (condition_of_text rest)
-    else if bytes_eq word (codes "state") then alone state (words rest)
+    else if bytes_eq word (codes "state") then showing (words rest)
     else unknown
 
 unfoldable pub asked : Text → Asked
@@ -79,8 +88,9 @@ TakesMemory forward = ⊥
 TakesMemory back = ⊥
 TakesMemory (go place) = ⊥
 TakesMemory (find test) = Unit {0}
-TakesMemory state = ⊥
-TakesMemory unknown = Unit {0}
+TakesMemory (state detail) = ⊥
+TakesMemory no_condition = Unit {0}
+TakesMemory unknown = ⊥
 
 -- what a command asks, whatever memory its condition lies in
 abbrev pub asked_of : Command → Asked
@@ -88,5 +98,6 @@ asked_of command.Forward = forward
 asked_of command.Back = back
 asked_of (command.Go place) = go place
 asked_of (command.Find condition) = find (condition_in condition)
-asked_of command.State = state
+asked_of (command.State detail) = state detail
+asked_of command.NoCondition = no_condition
 asked_of command.Unknown = unknown

@@ -1,5 +1,5 @@
 -- A session (own choice): lines, and what is replied to each of them, from the state that those before it left.
-use Rattle.std.specs.Prelude.{◌≡◌, ◌+◌, ◌-◌, ◌<◌, ◌≤◌, Bool, true, false, List, [], ◌∷◌, ◌++◌, codes, decimal}
+use Rattle.std.specs.Prelude.{◌≡◌, ◌+◌, ◌-◌, ◌<◌, ◌≤◌, ◌⊎◌, Bool, true, false, List, [], ◌∷◌, ◌++◌, codes, decimal}
 use Rattle.std.specs.List.{flat_map, zip, list_any}
 use Rattle.mil_host.specs.Words.{Text}
 use Rattle.job_file.specs.Jobs.{JobState, job_in}
@@ -10,22 +10,23 @@ use Rattle.replay.specs.declared.error.ReplayError.TheVariants as error
 use Rattle.replay.specs.Codes.{error_text}
 use Rattle.replay.specs.Places.{number_at}
 use Rattle.replay.specs.Moves.{ReplayState, at_place, total_of, IsNextMet, IsNowhere, PastWhere, StartWhere}
-use Rattle.bench_step.specs.Commands.{Asked, forward, back, go, find, state, unknown, asked}
+use Rattle.bench_step.specs.Commands.{Asked, forward, back, go, find, state, no_condition, unknown, asked}
 use Rattle.bench_step.specs.StateText.{channel_text}
+use Rattle.bench_step.specs.declared.details.Detail.{Detail}
 use Rattle.bench_step.specs.declared.replies.Reply.{Reply}
 use Rattle.bench_step.specs.declared.replies.Reply.TheVariants as reply
 
 -- ---- the text of a state
 
 -- the lines of a job's channel at the place where the debugger stands
-abbrev pub job_text : ReplayState → JobState → ChannelPart → Text
-job_text s job part =
+abbrev pub job_text : Detail → ReplayState → JobState → ChannelPart → Text
+job_text detail s job part =
     let number = number_at s.found s.place job part in
-    channel_text job.channel number (bus_after (job_in job) part.placed number)
+    channel_text detail job.channel number (bus_after (job_in job) part.placed number)
 
 -- the lines of all channels, in the order of the jobs
-unfoldable pub state_text : ReplayState → Text
-state_text s = flat_map (λ (p : JobState × ChannelPart). job_text s p.0 p.1) (zip s.jobs s.parts)
+unfoldable pub state_text : Detail → ReplayState → Text
+state_text detail s = flat_map (λ (p : JobState × ChannelPart). job_text detail s p.0 p.1) (zip s.jobs s.parts)
 
 -- ---- one line
 
@@ -36,7 +37,8 @@ IsMemory error.Past = ⊥
 IsMemory error.Start = ⊥
 IsMemory error.Memory = Unit {0}
 
--- what may be replied in a state to a line that asks this; a line that is none may have a condition that memory is refused for
+-- What may be replied in a state to a line that asks this. Memory may be refused for a move that can be made, and for
+-- what stands behind `find`, before it is known whether that is a condition that some message meets.
 abbrev pub Replies : ReplayState → Asked → Reply → Type 0
 Replies s forward (reply.At n) = (s.place < total_of s) × (n ≡ s.place + 1)
 Replies s forward (reply.Refused e) = PastWhere (total_of s ≤ s.place) e
@@ -45,24 +47,25 @@ Replies s back (reply.Refused e) = StartWhere (s.place ≡ 0) e
 Replies s (go n) (reply.At m) = (n ≤ total_of s) × (m ≡ n)
 Replies s (go n) (reply.Refused e) = PastWhere (total_of s < n) e
 Replies s (find test) (reply.At n) = IsNextMet s test n
-Replies s (find test) (reply.Refused e) = PastWhere (IsNowhere s test) e
-Replies s state reply.Shown = Unit {0}
+Replies s (find test) (reply.Refused e) = PastWhere (IsNowhere s test) e ⊎ IsMemory e
+Replies s (state detail) (reply.Shown shown) = shown ≡ detail
+Replies s no_condition reply.Unknown = Unit {0}
+Replies s no_condition (reply.Refused e) = IsMemory e
 Replies s unknown reply.Unknown = Unit {0}
-Replies s unknown (reply.Refused e) = IsMemory e
 Replies s _ _ = ⊥
 
 -- the state behind a line: only a move that was made changes it
 abbrev pub after_reply : Reply → ReplayState → ReplayState
 after_reply (reply.At n) s = at_place n s
 after_reply (reply.Refused e) s = s
-after_reply reply.Shown s = s
+after_reply (reply.Shown detail) s = s
 after_reply reply.Unknown s = s
 
 -- what is printed in that state
 abbrev pub reply_text : Reply → ReplayState → Text
 reply_text (reply.At n) s = codes "at " ++ (decimal n ++ codes "\n")
 reply_text (reply.Refused e) s = error_text e ++ codes "\n"
-reply_text reply.Shown s = state_text s
+reply_text (reply.Shown detail) s = state_text detail s
 reply_text reply.Unknown s = codes "unknown\n"
 
 -- memory was refused
@@ -72,7 +75,7 @@ is_memory (reply.Refused (error.Mismatch channel number)) = false
 is_memory (reply.Refused error.Past) = false
 is_memory (reply.Refused error.Start) = false
 is_memory (reply.Refused error.Memory) = true
-is_memory reply.Shown = false
+is_memory (reply.Shown detail) = false
 is_memory reply.Unknown = false
 
 -- ---- all lines

@@ -1,21 +1,29 @@
--- The text of what the terminals of a channel hold (own choice): a line for the channel, and behind it one for each terminal.
-use Rattle.std.specs.Prelude.{ℕ, Bool, true, false, [], ◌++◌, Option, Some, None, codes, decimal}
+-- The text of what the terminals of a channel hold (own choice): a line for the channel, and behind it one for each
+-- terminal, or two where what its host set is asked for too.
+use Rattle.std.specs.Prelude.{ℕ, Bool, true, false, not, [], ◌++◌, Option, Some, None, codes, decimal}
 use Rattle.std.proofs.Common.{zero, suc}
 use Rattle.mil_host.specs.Words.{Text}
 use Rattle.mil_host.specs.Printing.{data_text}
 use Rattle.mil_word.specs.declared.Line.TheVariants.{A, B}
 use Rattle.mil_terminal.specs.Station.{Station}
+use Rattle.mil_terminal.specs.Host.{is_deaf, is_mute}
 use Rattle.mil_terminal.specs.Status.{status}
 use Rattle.mil_terminal.specs.Registers.{last_command, vector, bit_word, sync_word, is_transmitter_on}
 use Rattle.mil_bus.specs.Actions.{station_of}
 use Rattle.mil_bus.specs.Exchange.{BusState}
+use Rattle.bench_step.specs.declared.details.Detail.{Detail}
+use Rattle.bench_step.specs.declared.details.Detail.TheVariants.{Registers, Host}
+
+-- the lines for which something holds: whether for A, and whether for B
+abbrev pub lines_text : Bool → Bool → Text
+lines_text false false = codes "-"
+lines_text true false = codes "A"
+lines_text false true = codes "B"
+lines_text true true = codes "AB"
 
 -- the transmitters that are off, where these are on
 abbrev pub off_text : Bool → Bool → Text
-off_text true true = codes "-"
-off_text false true = codes "A"
-off_text true false = codes "B"
-off_text false false = codes "AB"
+off_text a b = lines_text (not a) (not b)
 
 -- a name and a register
 abbrev pub field : Text → ℕ → Text
@@ -32,22 +40,34 @@ terminal_line s =
     ++ (field (codes " sync ") (sync_word s.own s.history)
     ++ (codes " off " ++ off_text (is_transmitter_on s.own A s.history) (is_transmitter_on s.own B s.history) ++ codes "\n"))))))
 
--- the line of the terminal at an address, if there is one
-abbrev pub line_of : Option Station → Text
-line_of None = []
-line_of (Some s) = terminal_line s
+-- the line of what its host set: the lines on which it is deaf, and those on which it is mute
+unfoldable pub host_line : Station → Text
+host_line s =
+    codes "terminal " ++ (decimal s.own
+    ++ (codes " deaf " ++ (lines_text (is_deaf A s.history) (is_deaf B s.history)
+    ++ (codes " mute " ++ (lines_text (is_mute A s.history) (is_mute B s.history) ++ codes "\n")))))
 
--- the lines of the terminals below an address, in order of address
-abbrev pub lines_below : ℕ → BusState → Text
-lines_below zero bus = []
-lines_below (suc address) bus = lines_below address bus ++ line_of (station_of address bus.stations)
+-- what is shown of a terminal
+abbrev pub terminal_text : Detail → Station → Text
+terminal_text Registers s = terminal_line s
+terminal_text Host s = terminal_line s ++ host_line s
 
-unfoldable pub terminal_lines : BusState → Text
-terminal_lines bus = lines_below 31 bus
+-- what is shown of the terminal at an address, if there is one
+abbrev pub text_of : Detail → Option Station → Text
+text_of detail None = []
+text_of detail (Some s) = terminal_text detail s
+
+-- what is shown of the terminals below an address, in order of address
+abbrev pub lines_below : Detail → ℕ → BusState → Text
+lines_below detail zero bus = []
+lines_below detail (suc address) bus = lines_below detail address bus ++ text_of detail (station_of address bus.stations)
+
+unfoldable pub terminal_lines : Detail → BusState → Text
+terminal_lines detail bus = lines_below detail 31 bus
 
 -- a channel's line: its number, and that of the last message that its bus has met
 unfoldable pub channel_line : ℕ → ℕ → Text
 channel_line channel number = codes "channel " ++ (decimal channel ++ (codes " number " ++ (decimal number ++ codes "\n")))
 
-abbrev pub channel_text : ℕ → ℕ → BusState → Text
-channel_text channel number bus = channel_line channel number ++ terminal_lines bus
+abbrev pub channel_text : Detail → ℕ → ℕ → BusState → Text
+channel_text detail channel number bus = channel_line channel number ++ terminal_lines detail bus

@@ -2,8 +2,9 @@
 ghost use Rattle.std.specs.Prelude.{◌≡◌, IfOk, OnErr};
 ghost use Rattle.mil_host.specs.Words.{words};
 ghost use Rattle.frame_text.specs.Conditions.{condition_of_text};
-ghost use Rattle.bench_step.specs.Commands.{asked, asked_of, alone, going, finding, TakesMemory};
+ghost use Rattle.bench_step.specs.Commands.{asked, asked_of, alone, going, finding, showing, TakesMemory};
 
+use crate::details::Detail;
 use crate::words::split_word;
 use frame_text::{ScriptError, read_cond};
 use frame_tree::Cond;
@@ -22,8 +23,10 @@ pub enum Command {
     Go(u64),
     /// On to the next message whose outcome makes the condition true.
     Find(Cond<Global>),
-    /// What the terminals hold.
-    State,
+    /// What the terminals hold, in this detail.
+    State(Detail),
+    /// A `find` with no condition behind it.
+    NoCondition,
     /// Nothing that a line may ask.
     Unknown,
 }
@@ -62,13 +65,28 @@ fn finding(alloc: Global, rest: &[u8]) -> Result<Command, AllocError>
 {
     match read_cond(alloc, rest) {
         Ok(condition) => Ok(Command::Find(condition)),
-        Err(ScriptError::Text { .. }) => Ok(Command::Unknown),
+        Err(ScriptError::Text { .. }) => Ok(Command::NoCondition),
         Err(ScriptError::Memory { .. }) => Err(AllocError),
     }
 }
 
-/// What a line asks: `forward`, `back`, `go N`, `find COND` or `state`. Spaces alone part its words; a number has one to ten
-/// digits; the condition is all that stands behind `find`. Memory is taken for a condition alone.
+/// What the terminals hold: no word, or `--all` alone.
+fn showing(rest: &[u8]) -> Command
+    ensures { asked_of result ≡ showing (words rest.now) }
+{
+    let Some((word, behind)) = next_word(rest) else {
+        return Command::State(Detail::Registers);
+    };
+    if word == b"--all".as_slice() {
+        alone(Command::State(Detail::Host), behind)
+    } else {
+        Command::Unknown
+    }
+}
+
+/// What a line asks: `forward`, `back`, `go N`, `find COND`, `state` or `state --all`. Spaces alone part its words; a
+/// number has one to ten digits; the condition is all that stands behind `find`. Memory is taken for what stands
+/// behind `find` alone.
 #[tactic(auto, unfolding(crate::specs::Commands::asked))]
 pub fn read_command(alloc: Global, line: &[u8]) -> Result<Command, AllocError>
     ensures read { IfOk result (λ c. asked_of c ≡ asked line.now) }
@@ -84,7 +102,7 @@ pub fn read_command(alloc: Global, line: &[u8]) -> Result<Command, AllocError>
     } else if word == b"find".as_slice() {
         finding(alloc, rest)
     } else if word == b"state".as_slice() {
-        Ok(alone(Command::State, rest))
+        Ok(showing(rest))
     } else {
         Ok(Command::Unknown)
     }

@@ -8,6 +8,7 @@ forward, back   one message of the recording on, or back
 go N            to the place where N messages are past, 0 for the beginning
 find COND       on to the next message whose outcome makes a condition true, as in: find any ( fail silent )
 state           the channels, and the registers of their terminals
+state --all     what the hosts of the terminals set, too
 ";
 
 /// A reader of lines that shows a prompt before it reads, where lines and errors are those of a terminal; nothing is shown

@@ -1,4 +1,5 @@
 //! Why a session ended before its lines did, or with a refusal for memory.
+ghost use Rattle.std.specs.IoError.{error_kind};
 ghost use Rattle.bench_step.specs.Answering.{IsReaders};
 
 use ch11_reader::Refusal;
@@ -16,9 +17,10 @@ pub enum StepFault {
         /// The number of the message in its channel, counted from 1; 0 where the channels themselves disagree.
         number: u32,
     },
-    /// Memory was refused: before the first line, for a line as it was read, or for what a line asked, where all other lines were
-    /// answered.
+    /// Memory was refused: before the first line, or for what a line asked, where all lines were answered.
     Memory,
+    /// Memory was refused for a line as it was read.
+    LineMemory,
     /// The lines could not be read.
     Input,
     /// The writer failed, which may have got some of an answer.
@@ -38,19 +40,19 @@ impl fmt::Display for StepFault {
             StepFault::Mismatch { channel, number } => {
                 write!(f, "Y1 channel {channel} number {number}")
             }
-            StepFault::Memory => write!(f, "memory"),
+            StepFault::Memory | StepFault::LineMemory => write!(f, "memory"),
             StepFault::Input | StepFault::Output => write!(f, "device -"),
         }
     }
 }
 
 impl StepFault {
-    /// The fault of a reader.
+    /// The fault of a reader: memory was refused for a line, or the lines could not be read.
     pub(crate) fn of_reader(error: &io::Error) -> StepFault
-        ensures { IsReaders result }
+        ensures { IsReaders (error_kind error.now) result }
     {
         if error.kind() == io::ErrorKind::OutOfMemory {
-            StepFault::Memory
+            StepFault::LineMemory
         } else {
             StepFault::Input
         }

@@ -3,6 +3,7 @@
 
 mod commands;
 mod console;
+mod details;
 mod fault;
 mod laws;
 mod replies;
@@ -12,6 +13,7 @@ mod words;
 
 pub use commands::{Command, read_command};
 pub use console::Prompted;
+pub use details::Detail;
 pub use fault::StepFault;
 pub use laws::replies_are_determined;
 pub use replies::Reply;

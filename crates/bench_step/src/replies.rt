@@ -5,6 +5,7 @@ ghost use Rattle.bench_step.specs.Commands.{asked, asked_of};
 ghost use Rattle.bench_step.specs.Session.{Replies, after_reply, is_memory, reply_text, state_text};
 
 use crate::commands::{Command, read_command};
+use crate::details::Detail;
 use crate::states::print_channel;
 use replay::{Replay, ReplayError};
 use std::alloc::Global;
@@ -18,8 +19,8 @@ pub enum Reply {
     At(u64),
     /// Why it was not made.
     Refused(ReplayError),
-    /// What the terminals hold.
-    Shown,
+    /// What the terminals hold, in this detail.
+    Shown(Detail),
     /// The line asks nothing that a line may ask.
     Unknown,
 }
@@ -27,7 +28,7 @@ pub enum Reply {
 impl Reply {
     /// What is replied to a move, made or not.
     fn to_move(replay: &Replay<'_>, moved: Result<(), ReplayError>) -> Reply
-        ensures { MatchResult moved (λ _. result ≡ Reply.At replay.now.place) (λ e. result ≡ Reply.Refused e) }
+        ensures { MatchResult moved (λ _. result ≡ Reply.At replay.now.state.place) (λ e. result ≡ Reply.Refused e) }
     {
         match moved {
             Ok(()) => Reply::At(replay.place()),
@@ -44,32 +45,32 @@ impl Reply {
 
     /// Prints the reply, in the state that the line left.
     pub(crate) fn print<W: Write>(&self, out: &mut W, replay: &Replay<'_>) -> io::Result<()>
-        ensures { OnOk result (Appends (W.contents out.old) (W.contents out.new) (reply_text self.now replay.now)) }
+        ensures { OnOk result (Appends (W.contents out.old) (W.contents out.new) (reply_text self.now replay.now.state)) }
     {
         match self {
             Reply::At(place) => writeln!(out, "at {place}"),
             Reply::Refused(fault) => writeln!(out, "{fault}"),
-            Reply::Shown => print_state(out, replay),
+            Reply::Shown(detail) => print_state(out, *detail, replay),
             Reply::Unknown => writeln!(out, "unknown"),
         }
     }
 }
 
-/// Prints what the terminals of all channels hold, in the order of the jobs.
+/// Prints what the terminals of all channels hold, in this detail and in the order of the jobs.
 #[tactic(auto, unfolding(crate::specs::Session::state_text))]
-fn print_state<W: Write>(out: &mut W, replay: &Replay<'_>) -> io::Result<()>
-    ensures { OnOk result (Appends (W.contents out.old) (W.contents out.new) (state_text replay.now)) }
+fn print_state<W: Write>(out: &mut W, detail: Detail, replay: &Replay<'_>) -> io::Result<()>
+    ensures { OnOk result (Appends (W.contents out.old) (W.contents out.new) (state_text detail replay.now.state)) }
 {
     for index in 0..replay.jobs() {
-        print_channel(out, replay.channel(index), replay.state(index))?;
+        print_channel(out, detail, replay.channel(index), replay.state(index))?;
     }
     Ok(())
 }
 
 /// Does what a command asks.
 fn obey(replay: &mut Replay<'_>, command: &Command) -> Reply
-    ensures lawful { Replies replay.old (asked_of command.now) result }
-    ensures after { replay.new ≡ after_reply result replay.old }
+    ensures lawful { Replies replay.old.state (asked_of command.now) result }
+    ensures after { replay.new.state ≡ after_reply result replay.old.state }
 {
     match command {
         Command::Forward => {
@@ -88,16 +89,16 @@ fn obey(replay: &mut Replay<'_>, command: &Command) -> Reply
             let moved = replay.find(condition);
             Reply::to_move(replay, moved)
         }
-        Command::State => Reply::Shown,
-        Command::Unknown => Reply::Unknown,
+        Command::State(detail) => Reply::Shown(*detail),
+        Command::NoCondition | Command::Unknown => Reply::Unknown,
     }
 }
 
 /// Does what a line asks.
 #[tactic(auto, using(crate::proofs::Asking::refused_memory))]
 pub(crate) fn reply_to(alloc: Global, replay: &mut Replay<'_>, line: &[u8]) -> Reply
-    ensures lawful { Replies replay.old (asked line.now) result }
-    ensures after { replay.new ≡ after_reply result replay.old }
+    ensures lawful { Replies replay.old.state (asked line.now) result }
+    ensures after { replay.new.state ≡ after_reply result replay.old.state }
 {
     match read_command(alloc, line) {
         Ok(command) => obey(replay, &command),

@@ -22,7 +22,8 @@ pub fn answer<W: Write>(
     line: &[u8],
     out: &mut W,
 ) -> io::Result<bool>
-    ensures { IfOk result (λ refused. IsAnswered replay.old replay.new line.now (W.contents out.old) (W.contents out.new) refused) }
+    ensures { IfOk result (λ refused. IsAnswered replay.old.state replay.new.state line.now
+        (W.contents out.old) (W.contents out.new) refused) }
 {
     let reply = reply_to(alloc, replay, line);
     reply.print(out, replay)?;
@@ -58,9 +59,11 @@ fn answer_all<R: BufRead, W: Write>(
     input: &mut R,
     out: &mut W,
 ) -> Result<bool, StepFault>
-    ensures all { IfOk result (λ refused. IsSession replay.old replay.new (R.remaining input.old) (R.remaining input.new) (W.contents out.old) (W.contents out.new) refused) }
+    ensures all { IfOk result (λ refused. IsSession replay.old.state replay.new.state
+        (R.remaining input.old) (R.remaining input.new) (W.contents out.old) (W.contents out.new) refused) }
     ensures end { OnOk result (IsEnded (R.remaining input.old) (R.remaining input.new)) }
-    ensures first { IfErr result (IsCutShort replay.old (R.remaining input.old) (W.contents out.old) (W.contents out.new)) }
+    ensures first { IfErr result
+        (IsCutShort replay.old.state (R.remaining input.old) (W.contents out.old) (W.contents out.new)) }
 {
     let mut line = Vec::new(alloc);
     let mut refused = false;
@@ -86,7 +89,7 @@ fn open<'a>(
     report: &Report,
     recording: &'a [u8],
 ) -> Result<Replay<'a>, StepFault>
-    ensures ok { IfOk result (λ r. r ≡ opened jobs.now report.now.channels recording.now) }
+    ensures ok { IfOk result (λ r. r.state ≡ opened jobs.now report.now.channels recording.now) }
     ensures accepted { OnOk result (IsAccepted jobs.now report.now.channels recording.now) }
     ensures refused { IfErr result (IsRefusal jobs.now report.now.channels recording.now) }
 {
@@ -104,9 +107,9 @@ fn open<'a>(
     }
 }
 
-/// The debugger of a recording, driven by lines: `forward`, `back`, `go N`, `find COND` and `state`. It stands before the first
-/// message at first, and answers each line at once; where memory is refused for what a line asks, it prints `memory`, stands where
-/// it stood, and goes on, and answers with that fault at the end of the lines.
+/// The debugger of a recording, driven by lines: `forward`, `back`, `go N`, `find COND`, `state` and `state --all`. It
+/// stands before the first message at first, and answers each line at once; where memory is refused for what a line
+/// asks, it prints `memory`, stands where it stood, and goes on, and answers with that fault at the end of the lines.
 ///
 /// Before the first line is read: the fault of a recording that can't be read, and then the first difference between jobs, report
 /// and recording (Y1).

@@ -1,8 +1,9 @@
 //! What the terminals of a channel hold, as lines.
 ghost use Rattle.std.specs.Prelude.{◌≡◌, ◌++◌, OnOk, codes};
 ghost use Rattle.std.specs.Io.KnownBytes.{Appends};
-ghost use Rattle.bench_step.specs.StateText.{channel_text, field, off_text, terminal_line, terminal_lines};
+ghost use Rattle.bench_step.specs.StateText.{channel_text, field, host_line, lines_text, off_text, terminal_line, terminal_lines, terminal_text};
 
+use crate::details::Detail;
 use bc_machine::Machine;
 use mil_bus::Bus;
 use mil_terminal::Terminal;
@@ -27,15 +28,15 @@ impl fmt::Display for Digits {
     }
 }
 
-/// The transmitters that are off, where these are on.
-fn off(a: bool, b: bool) -> &'static str
-    ensures { result.now ≡ off_text a b }
+/// The lines for which something holds: whether for A, and whether for B.
+fn lines(a: bool, b: bool) -> &'static str
+    ensures { result.now ≡ lines_text a b }
 {
     match (a, b) {
-        (true, true) => "-",
-        (false, true) => "A",
-        (true, false) => "B",
-        (false, false) => "AB",
+        (false, false) => "-",
+        (true, false) => "A",
+        (false, true) => "B",
+        (true, true) => "AB",
     }
 }
 
@@ -47,11 +48,11 @@ fn print_field<W: Write>(out: &mut W, name: &str, value: u16) -> io::Result<()>
     write!(out, "{name}{digits}")
 }
 
-/// Prints which transmitters are off, and the end of the line.
+/// Prints which transmitters are off, where these are on, and the end of the line.
 fn print_off<W: Write>(out: &mut W, a: bool, b: bool) -> io::Result<()>
     ensures { OnOk result (Appends (W.contents out.old) (W.contents out.new) (codes " off " ++ off_text a b ++ codes "\n")) }
 {
-    let off = off(a, b);
+    let off = lines(!a, !b);
     writeln!(out, " off {off}")
 }
 
@@ -73,26 +74,53 @@ fn print_terminal<W: Write>(out: &mut W, terminal: &Terminal) -> io::Result<()>
     )
 }
 
-/// Prints a line for each terminal of a bus, in order of address.
+/// Prints the line of what its host set, as `terminal 5 deaf - mute A`.
+#[tactic(auto, unfolding(crate::specs::StateText::host_line))]
+fn print_host<W: Write>(out: &mut W, terminal: &Terminal) -> io::Result<()>
+    ensures { OnOk result (Appends (W.contents out.old) (W.contents out.new) (host_line terminal.now)) }
+{
+    let address = terminal.address();
+    let deaf = lines(terminal.deaf(Line::A), terminal.deaf(Line::B));
+    let mute = lines(terminal.mute(Line::A), terminal.mute(Line::B));
+    writeln!(out, "terminal {address} deaf {deaf} mute {mute}")
+}
+
+/// Prints what is to be shown of a terminal.
+fn print_detail<W: Write>(out: &mut W, detail: Detail, terminal: &Terminal) -> io::Result<()>
+    ensures { OnOk result (Appends (W.contents out.old) (W.contents out.new) (terminal_text detail terminal.now)) }
+{
+    print_terminal(out, terminal)?;
+    match detail {
+        Detail::Registers => Ok(()),
+        Detail::Host => print_host(out, terminal),
+    }
+}
+
+/// Prints what is to be shown of each terminal of a bus, in order of address.
 #[tactic(auto, unfolding(crate::specs::StateText::terminal_lines))]
-fn print_terminals<W: Write>(out: &mut W, bus: &Bus) -> io::Result<()>
-    ensures { OnOk result (Appends (W.contents out.old) (W.contents out.new) (terminal_lines bus.now)) }
+fn print_terminals<W: Write>(out: &mut W, detail: Detail, bus: &Bus) -> io::Result<()>
+    ensures { OnOk result (Appends (W.contents out.old) (W.contents out.new) (terminal_lines detail bus.now)) }
 {
     for address in 0..31u8 {
         if let Some(terminal) = bus.terminal(address) {
-            print_terminal(out, terminal)?;
+            print_detail(out, detail, terminal)?;
         }
     }
     Ok(())
 }
 
 /// Prints what the terminals of a channel hold: a line for the channel, with the number of the last message that its bus has met,
-/// and one for each terminal. It takes no memory.
+/// and one or two for each terminal, by the detail. It takes no memory.
 #[tactic(auto, unfolding(crate::specs::StateText::channel_line))]
-pub fn print_channel<W: Write>(out: &mut W, channel: u16, machine: &Machine) -> io::Result<()>
-    ensures { OnOk result (Appends (W.contents out.old) (W.contents out.new) (channel_text channel machine.now.point.number machine.now.point.state)) }
+pub fn print_channel<W: Write>(
+    out: &mut W,
+    detail: Detail,
+    channel: u16,
+    machine: &Machine,
+) -> io::Result<()>
+    ensures { OnOk result (Appends (W.contents out.old) (W.contents out.new) (channel_text detail channel machine.now.point.number machine.now.point.state)) }
 {
     let number = machine.number();
     writeln!(out, "channel {channel} number {number}")?;
-    print_terminals(out, machine.bus())
+    print_terminals(out, detail, machine.bus())
 }

@@ -17,8 +17,8 @@ const SESSIONS: [(&str, &str); 5] = [
     ),
     // Lines that ask nothing.
     (
-        "\n \nForward\nforward 2\nback 1\ngo\ngo x\ngo 1 2\ngo +1\ngo 12345678901\nfind\nfind foo\nfind fail fail\nfind any ( fail )\nstate 1\nforward\r\n\tback\nbogus\n",
-        "unknown\nunknown\nunknown\nunknown\nunknown\nunknown\nunknown\nunknown\nunknown\nunknown\nunknown\nunknown\nunknown\nunknown\nunknown\nunknown\nunknown\nunknown\n",
+        "\n \nForward\nforward 2\nback 1\ngo\ngo x\ngo 1 2\ngo +1\ngo 12345678901\nfind\nfind foo\nfind fail fail\nfind any ( fail )\nstate 1\nstate --al\nstate all\nstate --all 1\nstate --all --all\nforward\r\n\tback\nbogus\n",
+        "unknown\nunknown\nunknown\nunknown\nunknown\nunknown\nunknown\nunknown\nunknown\nunknown\nunknown\nunknown\nunknown\nunknown\nunknown\nunknown\nunknown\nunknown\nunknown\nunknown\nunknown\nunknown\n",
     ),
     // Spaces part words.
     (
@@ -58,6 +58,74 @@ channel 2 number 2
 terminal 30 status F000 last F3F1 vector 0000 bit 0000 sync BEEF off A
 ";
 
+/// Two terminals whose hosts have made them deaf and mute, and one whose host has not.
+const FAILING: &str = "\
+channel 3
+terminal 9
+terminal 5
+terminal 30
+at 1 5 mute A on
+at 2 5 deaf B on
+at 2 9 deaf A on
+at 2 9 mute A on
+at 2 9 mute B on
+at 3 5 mute A off
+at 3 9 deaf B on
+script
+repeat 3 { send A mode 5 1 }
+";
+
+const FAILING_REPORT: &str = "\
+channel 3
+made 3
+placed 1 5 mute A on
+placed 2 5 deaf B on
+placed 2 9 deaf A on
+placed 2 9 mute A on
+placed 2 9 mute B on
+placed 3 5 mute A off
+placed 3 9 deaf B on
+packets 1
+";
+
+const FAILING_STATES: &str = "\
+channel 3 number 0
+terminal 5 status 2800 last 0000 vector 0000 bit 0000 sync 0000 off -
+terminal 5 deaf - mute -
+terminal 9 status 4800 last 0000 vector 0000 bit 0000 sync 0000 off -
+terminal 9 deaf - mute -
+terminal 30 status F000 last 0000 vector 0000 bit 0000 sync 0000 off -
+terminal 30 deaf - mute -
+at 1
+channel 3 number 1
+terminal 5 status 2800 last 2FE1 vector 0000 bit 0000 sync 0000 off -
+terminal 5 deaf - mute A
+terminal 9 status 4800 last 0000 vector 0000 bit 0000 sync 0000 off -
+terminal 9 deaf - mute -
+terminal 30 status F000 last 0000 vector 0000 bit 0000 sync 0000 off -
+terminal 30 deaf - mute -
+at 2
+channel 3 number 2
+terminal 5 status 2800 last 2FE1 vector 0000 bit 0000 sync 0000 off -
+terminal 5 deaf B mute A
+terminal 9 status 4800 last 0000 vector 0000 bit 0000 sync 0000 off -
+terminal 9 deaf A mute AB
+terminal 30 status F000 last 0000 vector 0000 bit 0000 sync 0000 off -
+terminal 30 deaf - mute -
+at 3
+channel 3 number 3
+terminal 5 status 2800 last 2FE1 vector 0000 bit 0000 sync 0000 off -
+terminal 5 deaf B mute -
+terminal 9 status 4800 last 0000 vector 0000 bit 0000 sync 0000 off -
+terminal 9 deaf AB mute AB
+terminal 30 status F000 last 0000 vector 0000 bit 0000 sync 0000 off -
+terminal 30 deaf - mute -
+channel 3 number 3
+terminal 5 status 2800 last 2FE1 vector 0000 bit 0000 sync 0000 off -
+terminal 9 status 4800 last 0000 vector 0000 bit 0000 sync 0000 off -
+terminal 30 status F000 last 0000 vector 0000 bit 0000 sync 0000 off -
+";
+
 /// The whole printed text of a session that memory was refused for at no line.
 fn prints(rt: &impl Abort, alloc: Global, one: &Subject, lines: &str, printed: &str) {
     let mut out = Vec::new(alloc);
@@ -79,4 +147,12 @@ fn channels_in_the_order_of_jobs(rt: HostRuntime) {
     let both = subject_of(&rt, rt.alloc(), &[FIRST, SECOND], BOTH_REPORT);
     let lines = "state\nforward\nstate\ngo 4\nstate\n";
     prints(&rt, rt.alloc(), &both, lines, BOTH_STATES);
+}
+
+#[test]
+fn what_hosts_set(rt: HostRuntime) {
+    let failing = subject_of(&rt, rt.alloc(), &[FAILING], FAILING_REPORT);
+    let lines =
+        "state --all\nforward\n  state   --all \nforward\nstate --all\ngo 3\nstate --all\nstate\n";
+    prints(&rt, rt.alloc(), &failing, lines, FAILING_STATES);
 }

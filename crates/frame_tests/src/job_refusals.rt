@@ -6,7 +6,7 @@ use std::alloc::Global;
 use std::process::Abort;
 
 /// A text, and what is printed of its fault.
-type Told = (&'static str, &'static str);
+pub(crate) type Told = (&'static str, &'static str);
 
 /// Faults of lines.
 const LINES: [Told; 21] = [
@@ -98,7 +98,8 @@ fn has_fault(rt: &impl Abort, alloc: Global, row: &str, text: &str, fault: &str)
     }
 }
 
-fn each_fault(rt: &impl Abort, alloc: Global, table: &[Told]) {
+/// Each text of the table is refused with its fault.
+pub(crate) fn each_fault(rt: &impl Abort, alloc: Global, table: &[Told]) {
     for (text, fault) in table {
         has_fault(rt, alloc, text, text, fault);
     }

@@ -8,7 +8,7 @@ use std::alloc::Global;
 use std::process::Abort;
 
 /// The text of a job, and the records of the job under its own actions.
-type Played = (&'static str, &'static [Row]);
+pub(crate) type Played = (&'static str, &'static [Row]);
 
 /// A command to send 32 words that were never written, and its answer.
 const ZEROS: &[u16] = &[
@@ -216,7 +216,8 @@ fn plays(rt: &impl Abort, alloc: Global, text: &str, rows: &[Row]) {
     sends(rt, alloc, text, &mut machine, 1_000, rows);
 }
 
-fn each_plays(rt: &impl Abort, alloc: Global, table: &[Played]) {
+/// Each job of the table sends the messages of its rows.
+pub(crate) fn each_plays(rt: &impl Abort, alloc: Global, table: &[Played]) {
     for (text, rows) in table {
         plays(rt, alloc, text, rows);
     }

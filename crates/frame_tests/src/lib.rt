@@ -19,6 +19,8 @@ mod jobs_together;
 #[cfg(test)]
 mod loading;
 #[cfg(test)]
+mod many_messages;
+#[cfg(test)]
 mod records;
 #[cfg(test)]
 mod text_faults;

@@ -5,7 +5,7 @@ use Rattle.std.specs.List.{position_or_len, before_first, after_first}
 use Rattle.std.proofs.lemmas.List.{append-nil, length-append, length-drop}
 use Rattle.mil_host.specs.Words.{Text, words, has_bytes}
 use Rattle.job_file.specs.Options.{◌>>=◌}
-use Rattle.job_file.specs.Lines.{Said, blank, script, channel, start, terminal, action, fault, said, said_in}
+use Rattle.job_file.specs.Lines.{Said, blank, script, channel, start, terminal, action, fault, faults, series, said, said_in}
 use Rattle.job_file.specs.HeadLines.{Head, head_of, may_stand, are_lawful, is_none_yet}
 use Rattle.job_file.specs.Drafts.{with_line}
 use Rattle.job_file.specs.Spelled.{is_line_end, lines_of, text_of, is_script, all_said}
@@ -126,6 +126,8 @@ is_script_line (Some (start n)) is = cc
 is_script_line (Some (terminal n)) is = cc
 is_script_line (Some (action number address text)) is = cc
 is_script_line (Some (fault number f)) is = cc
+is_script_line (Some (faults span f)) is = cc
+is_script_line (Some (series s)) is = cc
 
 module _ (text rest line behind : Text) (old new : Head) (n : ℕ) (i : IsReadTo text rest old n) (some : 1 ≤ length rest)
     (first : line ≡ before_first is_line_end rest) (after : behind ≡ after_first is_line_end rest) where

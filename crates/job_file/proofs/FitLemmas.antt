@@ -1,20 +1,23 @@
 -- Lines in their ranges make a head that keeps the ranges of a job.
-use Rattle.std.proofs.Common.{◌≡◌, ℕ, ◌≤◌, List, [], ◌∷◌, ◌++◌, refl, arith}
+use Rattle.std.proofs.Common.{◌≡◌, ℕ, ◌+◌, ◌*◌, ◌<◌, ◌≤◌, List, [], ◌∷◌, ◌++◌, refl, ◌∙◌, arith}
 use Rattle.std.specs.Prelude.{Bool, true, false, not, ◌&&◌, ◌||◌, ◌==◌, nat_le, Result, Ok, Err}
 use Rattle.std.specs.Option.{option_to_list}
 use Rattle.std.specs.Result.{is_ok}
-use Rattle.std.specs.List.{list_any, list_all}
+use Rattle.std.specs.List.{list_any, list_all, range_with_len}
 use Rattle.std.proofs.lemmas.Bool.{le-leb}
 use Rattle.std.proofs.lemmas.Bool.Decides.{nat_tests}
-use Rattle.std.proofs.lemmas.List.Folds.{list_any-append, list_all-append}
+use Rattle.std.proofs.lemmas.List.Folds.{list_any-append, list_all-append, list_all-map}
 use Rattle.mil_host.specs.Reading.{in_words}
 use Rattle.mil_host.specs.declared.actions.Action.{Action}
 use Rattle.mil_host.specs.declared.reading.BadAction.{BadAction}
 use Rattle.mil_bus.specs.Addresses.{is_fit}
 use Rattle.bc_machine.specs.declared.placed.Placed.{Placed}
-use Rattle.job_file.specs.Lines.{Said, blank, script, channel, start, terminal, action, fault}
+use Rattle.job_file.specs.Lines.{Said, blank, script, channel, start, terminal, action, fault, faults, series}
+use Rattle.job_file.specs.declared.spans.Series.{Series}
+use Rattle.job_file.specs.Spans.{IsSpan, count_of, number_at, placed_at, placed_by}
+use Rattle.job_file.proofs.SpanLemmas.{number_high, all_counted}
 use Rattle.job_file.specs.Entries.{IsInRange}
-use Rattle.job_file.specs.HeadLines.{Head, has, placing, may_stand, is_none_yet}
+use Rattle.job_file.specs.HeadLines.{Head, has, has_room, placing, may_stand, is_none_yet}
 use Rattle.job_file.specs.JobRanges.{may_act, IsFit}
 use Rattle.job_file.specs.Drafts.{with_line}
 
@@ -33,6 +36,9 @@ or_left false b h = refl
 or_right : (a b : Bool) → (a || b) ≡ false → b ≡ false
 or_right true b h = cc
 or_right false b h = h
+
+both : {a b : Bool} → a ≡ true → b ≡ true → (a && b) ≡ true
+both e f = rw (e, f) refl
 
 not_true : (a : Bool) → not a ≡ true → a ≡ false
 not_true true h = cc
@@ -76,6 +82,17 @@ first_start : (h : Head) (ns : List ℕ) (n : ℕ) → h.starts ≡ ns → IsFit
 first_start h [] n is fit high none = record { channels = fit.channels; starts = (high, tt); addresses = fit.addresses; actions = fit.actions }
 first_start h (m ∷ ms) n is fit high none = cc
 
+-- the actions of a series
+series_acts : (xs : List ℕ) (s : Series) → IsSpan s.span → has s.address xs ≡ true → list_all (may_act xs) (placed_by s) ≡ true
+series_acts xs s i here =
+    list_all-map (may_act xs) (placed_at s) (range_with_len 0 (count_of s.span))
+    ∙ all_counted (λ k. may_act xs (placed_at s k)) 0 (count_of s.span) (λ k lt. one k lt)
+  where
+    one : (k : ℕ) → k < 0 + count_of s.span → may_act xs (placed_at s k) ≡ true
+    one k lt =
+        let low : 1 ≤ number_at s.span k = omega (arith, i.low) in
+        rw (le-leb 1 (number_at s.span k) low, le-leb (number_at s.span k) 1000000 (number_high s.span k i (omega (arith, lt))), here) refl
+
 -- one more line
 pub fit_with : (s : Said) (h : Head) → IsInRange s → may_stand s h ≡ true → IsFit h → IsFit (with_line s h)
 fit_with blank h range stands fit = fit
@@ -94,4 +111,11 @@ fit_with (action number address text) h range stands fit = record {
   addresses = fit.addresses;
   actions = act_push h.addresses h.actions number address (in_words text) fit.actions range.0 range.1 stands;
 }
+fit_with (series s) h range stands fit = record {
+  channels = fit.channels;
+  starts = fit.starts;
+  addresses = fit.addresses;
+  actions = list_all-append (may_act h.addresses) h.actions (placed_by s) ∙ both fit.actions (series_acts h.addresses s range.0 (and_right (has_room (count_of s.span) h) (has s.address h.addresses) stands));
+}
+fit_with (faults span f) h range stands fit = record { channels = fit.channels; starts = fit.starts; addresses = fit.addresses; actions = fit.actions }
 fit_with (fault number f) h range stands fit = record { channels = fit.channels; starts = fit.starts; addresses = fit.addresses; actions = fit.actions }

@@ -1,16 +1,18 @@
 -- Line by line to the job of a text.
-use Rattle.std.proofs.Common.{◌≡◌, ℕ, List, [], ◌∷◌, ◌++◌, length, refl, sym, ap, ◌∙◌, append_assoc, arith, inl, inr}
+use Rattle.std.proofs.Common.{◌≡◌, ℕ, ◌+◌, List, [], ◌∷◌, ◌++◌, length, refl, sym, ap, ◌∙◌, append_assoc, arith, inl, inr}
 use Rattle.std.specs.Prelude.{Bool, true, false, cond, Option, Some, None, Result, Ok, Err}
-use Rattle.std.specs.Option.{option_to_list}
-use Rattle.std.specs.List.{filter_map, before_first, after_first}
+use Rattle.std.specs.List.{filter_map, flat_map, sum_by, before_first, after_first}
 use Rattle.std.proofs.lemmas.List.{append-nil}
 use Rattle.std.proofs.lemmas.List.Elements.{filter_map-append}
+use Rattle.std.proofs.lemmas.Grind.{flat_map-append}
+use Rattle.std.proofs.lemmas.List.Sums.{sum_by-append}
+use Rattle.std.proofs.Math.Nat.{add-zero, zero-add}
 use Rattle.mil_host.specs.Words.{Text}
-use Rattle.mil_host.specs.Reading.{in_words}
 use Rattle.job_file.specs.Options.{◌>>=◌}
-use Rattle.job_file.specs.Lines.{Said, blank, script, channel, start, terminal, action, fault, said, said_in}
-use Rattle.job_file.specs.HeadLines.{Head, head_of, placed_of, placing, may_stand, are_lawful}
+use Rattle.job_file.specs.Lines.{Said, blank, script, channel, start, terminal, action, fault, faults, series, said, said_in}
+use Rattle.job_file.specs.HeadLines.{Head, head_of, may_stand, are_lawful}
 use Rattle.job_file.specs.Drafts.{with_line}
+use Rattle.job_file.specs.Spans.{count_of}
 use Rattle.job_file.specs.Spelled.{ChannelJob, is_line_end, lines_of, text_of, is_script, with_line_above, parted, all_said, lawful, job_of, spelled}
 use Rattle.job_file.specs.Errors.{IsOfLine}
 use Rattle.job_file.specs.JobRanges.{IsFit}
@@ -76,20 +78,19 @@ no_line : (above : List Said) → job_behind above (lines_of []) ≡ job_behind 
 unfolding said_in
 no_line above = refl
 
-kept : {Y : Type 0} (f : Said → Option Y) (s : Said) (o : Option Y) → f s ≡ o → filter_map f (s ∷ []) ≡ option_to_list o
-kept f s None e = rw e refl
-kept f s (Some y) e = rw e refl
-
 -- one more line in a head
 pub head_with : (above : List Said) (s : Said) → head_of (above ++ s ∷ []) ≡ with_line s (head_of above)
-head_with above blank = simp (filter_map-append, append-nil)
-head_with above script = simp (filter_map-append, append-nil)
-head_with above (channel n) = simp (filter_map-append, append-nil)
-head_with above (start n) = simp (filter_map-append, append-nil)
-head_with above (terminal n) = simp (filter_map-append, append-nil)
-head_with above (action number address text) =
-    simp (filter_map-append, append-nil, kept placed_of (action number address text) (placing number address (in_words text)) refl)
-head_with above (fault number f) = simp (filter_map-append, append-nil)
+head_with above blank = simp (filter_map-append, flat_map-append, sum_by-append, add-zero, append-nil)
+head_with above script = simp (filter_map-append, flat_map-append, sum_by-append, add-zero, append-nil)
+head_with above (channel n) = simp (filter_map-append, flat_map-append, sum_by-append, add-zero, append-nil)
+head_with above (start n) = simp (filter_map-append, flat_map-append, sum_by-append, add-zero, append-nil)
+head_with above (terminal n) = simp (filter_map-append, flat_map-append, sum_by-append, add-zero, append-nil)
+head_with above (action number address text) = simp (filter_map-append, flat_map-append, sum_by-append, add-zero, append-nil)
+head_with above (fault number f) = simp (filter_map-append, flat_map-append, sum_by-append, add-zero, append-nil)
+head_with above (faults span f) = simp (filter_map-append, flat_map-append, sum_by-append, add-zero, append-nil)
+head_with above (series s) =
+    simp (filter_map-append, flat_map-append, sum_by-append, append-nil)
+    (ap (λ n. record (with_line (series s) (head_of above)) { from_series = (head_of above).from_series + n }) (zero-add (count_of s.span)))
 
 -- the job of a text that is left, behind lines that said this
 abbrev pub job_left : List Said → Text → Option ChannelJob
@@ -171,5 +172,5 @@ module _ (text rest line behind : Text) (above : List Said) (old new : Head) (sh
   line_refused n r refusal.Memory (error.Loading m g) is takes of = absurd of
   line_refused n r refusal.Memory error.Memory is takes of = tt
 
-pub fit_at_first : (h : Head) → h ≡ record { channels = []; starts = []; addresses = []; actions = []; plan = [] } → IsFit h
+pub fit_at_first : (h : Head) → h ≡ record { channels = []; starts = []; addresses = []; actions = []; plan = []; from_series = 0 } → IsFit h
 fit_at_first h e = rw e (record { channels = tt; starts = tt; addresses = refl; actions = refl })

@@ -1,3 +1,4 @@
+pub mod SpanLemmas
 pub mod LineLemmas
 pub mod FitLemmas
 pub mod HeadLemmas

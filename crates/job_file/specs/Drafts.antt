@@ -1,8 +1,9 @@
 -- A draft of a job as what its lines say, and one more line.
-use Rattle.std.specs.Prelude.{◌≡◌, true, false, [], ◌∷◌, ◌++◌, Result, Ok, Err}
+use Rattle.std.specs.Prelude.{◌≡◌, ◌+◌, true, false, [], ◌∷◌, ◌++◌, map, Result, Ok, Err}
 use Rattle.std.specs.Option.{option_to_list}
 use Rattle.mil_host.specs.Reading.{in_words}
-use Rattle.job_file.specs.Lines.{Said, blank, script, channel, start, terminal, action, fault}
+use Rattle.job_file.specs.Lines.{Said, blank, script, channel, start, terminal, action, fault, faults, series}
+use Rattle.job_file.specs.Spans.{count_of, numbers_of, placed_by}
 use Rattle.job_file.specs.HeadLines.{Head, placing, may_stand}
 use Rattle.job_file.specs.declared.drafts.Draft.{Draft}
 use Rattle.job_file.specs.declared.error.Refusal.{Refusal}
@@ -15,6 +16,7 @@ shown d = record {
   addresses = d.addresses.items;
   actions = d.actions.items;
   plan = d.plan;
+  from_series = d.from_series;
 }
 
 abbrev pub with_line : Said → Head → Head
@@ -25,6 +27,8 @@ with_line (start n) h = record h { starts = h.starts ++ n ∷ [] }
 with_line (terminal n) h = record h { addresses = h.addresses ++ n ∷ [] }
 with_line (action number address text) h = record h { actions = h.actions ++ option_to_list (placing number address (in_words text)) }
 with_line (fault number f) h = record h { plan = h.plan ++ (number, f) ∷ [] }
+with_line (faults span f) h = record h { plan = h.plan ++ map (λ number. (number, f)) (numbers_of span) }
+with_line (series s) h = record h { actions = h.actions ++ placed_by s; from_series = h.from_series + count_of s.span }
 
 -- the line may stand there, and was taken in; or it may not, but for want of memory
 abbrev pub Takes : Said → Head → Head → Result (Unit {0}) Refusal → Type 0

@@ -1,7 +1,8 @@
 -- What an entry says.
 use Rattle.std.specs.Prelude.{◌≤◌}
 use Rattle.mil_host.specs.Words.{words}
-use Rattle.job_file.specs.Lines.{Said, blank, script, channel, start, terminal, action, fault}
+use Rattle.job_file.specs.Lines.{Said, blank, script, channel, start, terminal, action, fault, faults, series}
+use Rattle.job_file.specs.Spans.{IsSpan}
 use Rattle.job_file.specs.declared.lines.Entry.{Entry}
 use Rattle.job_file.specs.declared.lines.Entry.TheVariants as entry
 
@@ -13,6 +14,8 @@ said_by (entry.Start n) = start n
 said_by (entry.Terminal n) = terminal n
 said_by (entry.Action number address text) = action number address (words text.now)
 said_by (entry.Fault number f) = fault number f
+said_by (entry.Faults span f) = faults span f
+said_by (entry.Series s) = series s
 
 -- each number in its range
 abbrev pub IsInRange : Said → Type 0
@@ -23,3 +26,5 @@ IsInRange (start n) = n ≤ 140737488355328
 IsInRange (terminal n) = n ≤ 30
 IsInRange (action number address text) = (1 ≤ number) × (number ≤ 1000000) × (address ≤ 30)
 IsInRange (fault number f) = Unit {0}
+IsInRange (faults span f) = IsSpan span
+IsInRange (series s) = IsSpan s.span × (s.address ≤ 30) × (1 ≤ s.sub) × (s.sub ≤ 29)

@@ -1,21 +1,23 @@
 -- The first fault of a job's text (own choice): its lines in their order, and in a line first its words, then its numbers, then its
 -- place behind the lines above it; then the script.
-use Rattle.std.specs.Prelude.{◌≡◌, ℕ, ◌+◌, nat_lt, Bool, true, false, ◌&&◌, if◌then◌else◌, List, [], ◌∷◌, ◌++◌, length, Option, Some, None, Result, Ok, Err}
+use Rattle.std.specs.Prelude.{◌≡◌, ℕ, ◌+◌, nat_lt, Bool, true, false, ◌&&◌, if◌then◌else◌, List, [], ◌∷◌, ◌++◌, length, map, Option, Some, None, Result, Ok, Err}
 use Rattle.std.specs.Option.{is_some}
 use Rattle.mil_host.specs.Words.{Text, words, has_bytes}
 use Rattle.mil_host.specs.Reading.{in_words}
 use Rattle.mil_host.specs.declared.actions.Action.{Action}
 use Rattle.mil_host.specs.declared.reading.BadAction.{BadAction}
-use Rattle.mil_line.specs.Plans.{faults_of}
+use Rattle.mil_line.specs.Plans.{Planned, faults_of}
 use Rattle.mil_line.specs.Ranges.{is_number, is_in_range}
+use Rattle.mil_line.specs.declared.faults.Fault.{Fault as PlannedFault}
 use Rattle.mil_line.specs.declared.error.LineError.TheVariants.{TooMany, OutOfRange}
 use Rattle.frame_tree.specs.Tree.{Tree}
 use Rattle.frame_text.specs.Frames.{tree_of_text}
 use Rattle.frame_text.specs.declared.faults.Cause.{Cause}
 use Rattle.frame_code.specs.Table.{Code}
 use Rattle.frame_asm.specs.Shapes.{code_of}
-use Rattle.job_file.specs.Lines.{Said, blank, script, channel, start, terminal, action, fault, keyword_of, fault_word_of, sync_of, first, ended, one, two, three, four, is_comment, said}
-use Rattle.job_file.specs.HeadLines.{Head, head_of, has, is_none_yet, are_lawful}
+use Rattle.job_file.specs.Lines.{Said, blank, script, channel, start, terminal, action, fault, faults, series, keyword_of, fault_word_of, sync_of, first, ended, one, two, three, four, front, is_comment, said}
+use Rattle.job_file.specs.Spans.{count_of, numbers_of}
+use Rattle.job_file.specs.HeadLines.{Head, head_of, has, has_room, is_none_yet, are_lawful}
 use Rattle.job_file.specs.Spelled.{lines_of, text_of, is_script, all_said}
 use Rattle.job_file.specs.Reading.{IsTooLong, IsTooMuch}
 use Rattle.job_file.specs.declared.keywords.Keyword.{Keyword}
@@ -49,6 +51,8 @@ are_words_behind keyword.Start ws = is_some (one ws)
 are_words_behind keyword.Terminal ws = is_some (one ws)
 are_words_behind keyword.At ws = there (first ws) (λ n. there (first n.1) (λ a. is_some (first a.1)))
 are_words_behind keyword.Fault ws = there (first ws) (λ n. there (first n.1) (λ k. there (fault_word_of k.0) (λ kind. are_fault_words kind k.1)))
+are_words_behind keyword.Faults ws = there (front ws) (λ n. there (first n.1) (λ k. there (fault_word_of k.0) (λ kind. are_fault_words kind k.1)))
+are_words_behind keyword.Series ws = there (front ws) (λ n. is_some (four n.1))
 are_words_behind keyword.Script ws = is_some (ended ws script)
 
 -- a line's words are those of one of the kinds of line
@@ -60,7 +64,22 @@ abbrev pub bad_action : Result Action BadAction → Option LineFault
 bad_action (Ok a) = None
 bad_action (Err bad) = Some (BadActionOf bad)
 
--- what is wrong with the place of a line behind those above: J3, J4; or, where its place is well, J5 the action, J6 the fault
+-- what is wrong with a fault of a message behind these: a fifth one, or one out of its ranges
+abbrev pub plan_fault : List Planned → PlannedFault → ℕ → Option LineFault
+plan_fault plan f number =
+    if nat_lt (length (faults_of number plan)) 4
+    then (if is_number number && is_in_range f then None else Some (BadFaultOf OutOfRange))
+    else Some (BadFaultOf TooMany)
+
+-- the first that is something
+abbrev pub first_fault : List (Option LineFault) → Option LineFault
+first_fault [] = None
+first_fault (None ∷ rest) = first_fault rest
+first_fault (Some why ∷ rest) = Some why
+
+-- What is wrong with the place of a line behind those above: J2 more actions of series than a job may have; J3, J4; or,
+-- where its place is well, J5 the action, J6 the fault. The messages of one line differ, so that none is refused for another
+-- of them.
 abbrev pub place_fault : Said → Head → Option LineFault
 place_fault blank above = None
 place_fault script above = if is_none_yet above.channels then Some Order else None
@@ -68,10 +87,12 @@ place_fault (channel n) above = if is_none_yet above.channels then None else Som
 place_fault (start n) above = if is_none_yet above.starts then None else Some Order
 place_fault (terminal n) above = if has n above.addresses then Some Terminal else None
 place_fault (action number address text) above = if has address above.addresses then bad_action (in_words text) else Some Terminal
-place_fault (fault number f) above =
-    if nat_lt (length (faults_of number above.plan)) 4
-    then (if is_number number && is_in_range f then None else Some (BadFaultOf OutOfRange))
-    else Some (BadFaultOf TooMany)
+place_fault (fault number f) above = plan_fault above.plan f number
+place_fault (faults span f) above = first_fault (map (plan_fault above.plan f) (numbers_of span))
+place_fault (series s) above =
+    if has_room (count_of s.span) above
+    then (if has s.address above.addresses then None else Some Terminal)
+    else Some Number
 
 abbrev pub number_or_place : Option Said → Head → Option LineFault
 number_or_place None above = Some Number
@@ -106,6 +127,8 @@ takes_room (Some (start n)) = false
 takes_room (Some (terminal n)) = true
 takes_room (Some (action number address text)) = true
 takes_room (Some (fault number f)) = true
+takes_room (Some (faults span f)) = true
+takes_room (Some (series s)) = true
 
 abbrev pub takes_room_at : List Text → Bool
 takes_room_at [] = false

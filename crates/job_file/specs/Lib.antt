@@ -1,5 +1,6 @@
 pub mod Options
 pub mod Numbers
+pub mod Spans
 pub mod Lines
 pub mod Entries
 pub mod HeadLines

@@ -12,6 +12,8 @@ use Rattle.job_file.specs.declared.keywords.Keyword.{Keyword}
 use Rattle.job_file.specs.declared.keywords.Keyword.TheVariants as keyword
 use Rattle.job_file.specs.declared.keywords.FaultWord.{FaultWord}
 use Rattle.job_file.specs.declared.keywords.FaultWord.TheVariants as word
+use Rattle.job_file.specs.declared.spans.Span.{Span}
+use Rattle.job_file.specs.declared.spans.Series.{Series}
 
 pub data Said : Type 0 where
   -- an empty line, or a comment
@@ -25,6 +27,10 @@ pub data Said : Type 0 where
   action : ℕ → ℕ → List Text → Said
   -- the number of a message, and a fault of it
   fault : ℕ → Fault → Said
+  -- messages, and a fault of each of them
+  faults : Span → Fault → Said
+  -- messages, and what a terminal's host puts up before each of them
+  series : Series → Said
 
 abbrev pub keyword_of : Text → Option Keyword
 keyword_of w =
@@ -33,6 +39,8 @@ keyword_of w =
     else if bytes_eq w (codes "terminal") then Some keyword.Terminal
     else if bytes_eq w (codes "at") then Some keyword.At
     else if bytes_eq w (codes "fault") then Some keyword.Fault
+    else if bytes_eq w (codes "faults") then Some keyword.Faults
+    else if bytes_eq w (codes "series") then Some keyword.Series
     else if bytes_eq w (codes "script") then Some keyword.Script
     else None
 
@@ -72,6 +80,10 @@ three ws = first ws >>= (λ a. two a.1 >>= (λ b. Some (a.0, b.0, b.1)))
 
 unfoldable pub four : List Text → Option (Text × Text × Text × Text)
 four ws = first ws >>= (λ a. three a.1 >>= (λ b. Some (a.0, b.0, b.1, b.2)))
+
+-- the first three words and those behind them
+unfoldable pub front : List Text → Option ((Text × Text × Text) × List Text)
+front ws = first ws >>= (λ a. first a.1 >>= (λ b. first b.1 >>= (λ c. Some ((a.0, b.0, c.0), c.1))))
 
 -- `mask RUN INDEX HALF_BITS`, `drop RUN INDEX`, `add RUN INDEX c|d WORD`, `late RUN TICKS` and `mute RUN`
 unfoldable pub mask_in : List Text → Option Fault
@@ -119,12 +131,34 @@ fault_in ws =
     first ws >>= (λ n. first n.1 >>= (λ k. fault_word_of k.0 >>= (λ kind. fault_of kind k.1 >>= (λ f.
     number_of n.0 >>= (λ number. Some (fault number f))))))
 
+-- `FIRST LAST STEP`
+unfoldable pub span_of : Text × Text × Text → Option Span
+span_of w =
+    number_within 1 1000000 w.0 >>= (λ low. number_within low 1000000 w.1 >>= (λ high. number_within 1 1000000 w.2 >>= (λ step.
+    Some (record { first = low; last = high; step = step }))))
+
+unfoldable pub faults_in : List Text → Option Said
+faults_in ws =
+    front ws >>= (λ n. first n.1 >>= (λ k. fault_word_of k.0 >>= (λ kind. fault_of kind k.1 >>= (λ f.
+    span_of n.0 >>= (λ span. Some (faults span f))))))
+
+-- `ADDRESS SUB START ADD` of these messages
+unfoldable pub series_of : Span → Text × Text × Text × Text → Option Series
+series_of span w =
+    number_within 0 30 w.0 >>= (λ address. number_within 1 29 w.1 >>= (λ sub. data_word_of w.2 >>= (λ begin. data_word_of w.3 >>= (λ add.
+    Some (record { span = span; address = address; sub = sub; start = begin; add = add })))))
+
+unfoldable pub series_in : List Text → Option Said
+series_in ws = front ws >>= (λ n. four n.1 >>= (λ w. span_of n.0 >>= (λ span. series_of span w >>= (λ s. Some (series s)))))
+
 unfoldable pub of_keyword : Keyword → List Text → Option Said
 of_keyword keyword.Channel ws = channel_in ws
 of_keyword keyword.Start ws = start_in ws
 of_keyword keyword.Terminal ws = terminal_in ws
 of_keyword keyword.At ws = action_in ws
 of_keyword keyword.Fault ws = fault_in ws
+of_keyword keyword.Faults ws = faults_in ws
+of_keyword keyword.Series ws = series_in ws
 of_keyword keyword.Script ws = ended ws script
 
 -- a word that begins with #

@@ -1,16 +1,18 @@
 //! A job as far as its lines were read.
-ghost use Rattle.std.specs.Prelude.{◌≡◌, true, [], Some, OnOk, IfErr};
+ghost use Rattle.std.specs.Prelude.{◌≡◌, ◌<◌, ◌≤◌, true, [], map, Some, None, OnOk, IfOk, IfErr};
 ghost use Rattle.mil_host.specs.Words.{words};
 ghost use Rattle.job_file.specs.HeadLines.{has};
 ghost use Rattle.job_file.specs.Lines.{channel, start, terminal, action, said};
 ghost use Rattle.job_file.specs.Lines as says;
-ghost use Rattle.job_file.specs.Entries.{said_by};
+ghost use Rattle.job_file.specs.Entries.{said_by, IsInRange};
+ghost use Rattle.job_file.specs.Spans.{IsSpan, numbers_of};
 ghost use Rattle.job_file.specs.Drafts.{shown, Takes};
 ghost use Rattle.job_file.specs.Reading.{TakesLine, AreInRange};
-ghost use Rattle.job_file.specs.Faults.{IsEntryRefused, IsLineRefused, are_line_words};
+ghost use Rattle.job_file.specs.Faults.{IsEntryRefused, IsLineRefused, are_line_words, plan_fault, first_fault};
 
 use crate::error::{LineFault, Refusal};
 use crate::lines::{Entry, read_line};
+use crate::spans::{Series, Span};
 use bc_machine::Placed;
 use mil_host::read_action;
 use mil_line::{Fault, LineError, Plan};
@@ -33,12 +35,14 @@ pub struct Draft {
     pub addresses: Vec<u8>,
     pub actions: Vec<Placed>,
     pub plan: Plan,
+    /// How many of the actions are those of series.
+    pub from_series: u32,
 }
 
 impl Draft {
     /// Nothing was said.
     pub fn make(alloc: Global) -> Draft
-        ensures { shown result ≡ record { channels = []; starts = []; addresses = []; actions = []; plan = [] } }
+        ensures { shown result ≡ record { channels = []; starts = []; addresses = []; actions = []; plan = []; from_series = 0 } }
     {
         Draft {
             channel: None,
@@ -46,6 +50,7 @@ impl Draft {
             addresses: Vec::new(alloc),
             actions: Vec::new(alloc),
             plan: Plan::make(alloc),
+            from_series: 0,
         }
     }
 
@@ -124,8 +129,83 @@ impl Draft {
         }
     }
 
+    /// Whether one more fault may be planned for the message of this number.
+    fn may_plan(&self, number: u32, fault: &Fault) -> Result<(), LineFault>
+        requires low { 1 ≤ number }
+        requires high { number ≤ 1000000 }
+        ensures fine { IfOk result (λ _. plan_fault self.now.plan fault.now number ≡ None) }
+        ensures wrong { IfErr result (λ why. plan_fault self.now.plan fault.now number ≡ Some why) }
+    {
+        if self.plan.faults(number).is_full() {
+            return Err(LineFault::Fault(LineError::TooMany));
+        }
+        if !fault.is_in_range() {
+            return Err(LineFault::Fault(LineError::OutOfRange));
+        }
+        Ok(())
+    }
+
+    /// Whether the fault may be planned for each of these messages.
+    fn may_plan_all(&self, span: Span, fault: &Fault) -> Result<(), LineFault>
+        requires { IsSpan span }
+        ensures fine { IfOk result (λ _. first_fault (map (plan_fault self.now.plan fault.now) (numbers_of span)) ≡ None) }
+        ensures wrong { IfErr result (λ why. first_fault (map (plan_fault self.now.plan fault.now) (numbers_of span)) ≡ Some why) }
+    {
+        for before in 0..span.count() {
+            self.may_plan(span.number(before), fault)?;
+        }
+        Ok(())
+    }
+
+    /// The messages are judged before any of them is planned for, so that want of memory hides no refusal. They differ, so
+    /// that memory alone can be refused then.
+    fn plan_faults(&mut self, span: Span, fault: Fault) -> Result<(), Refusal>
+        requires { IsSpan span }
+        ensures takes { Takes (says.faults span fault) (shown self.old) (shown self.new) result }
+        ensures refused { IfErr result (IsEntryRefused (says.faults span fault) (shown self.old)) }
+    {
+        self.may_plan_all(span, &fault)?;
+        for before in 0..span.count() {
+            match self.plan.add(span.number(before), fault) {
+                Ok(()) => {}
+                Err(_) => return Err(Refusal::Memory),
+            }
+        }
+        Ok(())
+    }
+
+    /// Room for the actions is made at once, since a series may have a million.
+    fn place_series(&mut self, series: &Series) -> Result<(), Refusal>
+        requires { IsInRange (says.series series.now) }
+        ensures takes { Takes (says.series series.now) (shown self.old) (shown self.new) result }
+        ensures refused { IfErr result (IsEntryRefused (says.series series.now) (shown self.old)) }
+    {
+        let count = series.span.count();
+        let Some(total) = self.from_series.checked_add(count) else {
+            return Err(Refusal::Line(LineFault::Number));
+        };
+        if total > 1_000_000 {
+            return Err(Refusal::Line(LineFault::Number));
+        }
+        if !self.has(series.address) {
+            return Err(Refusal::Line(LineFault::Terminal));
+        }
+        if self.actions.reserve(count as usize).is_err() {
+            return Err(Refusal::Memory);
+        }
+        for before in 0..count {
+            match self.actions.push(series.placed(before)) {
+                Ok(()) => {}
+                Err(_) => return Err(Refusal::Memory),
+            }
+        }
+        self.from_series = total;
+        Ok(())
+    }
+
     /// Takes in what a line says; the line of the script leaves the draft as it is.
     fn take(&mut self, entry: &Entry<'_>) -> Result<Taken, Refusal>
+        requires { IsInRange (said_by entry.now) }
         ensures takes { TakesLine (Some (said_by entry.now)) (shown self.old) (shown self.new) result }
         ensures refused { IfErr result (IsEntryRefused (said_by entry.now) (shown self.old)) }
     {
@@ -141,6 +221,8 @@ impl Draft {
                 text,
             } => self.place(*number, *address, text)?,
             Entry::Fault { number, fault } => self.plan_fault(*number, *fault)?,
+            Entry::Faults { span, fault } => self.plan_faults(*span, *fault)?,
+            Entry::Series(series) => self.place_series(series)?,
         }
         Ok(Taken::Line)
     }

@@ -13,12 +13,12 @@ use std::fmt::{self, Display, Formatter, Write};
 pub enum LineFault {
     /// J1: an unknown word, a word missing or left over.
     Word,
-    /// J2: a number that is none, or a channel, a start tick, a terminal, or the message or terminal of an action, out of its
-    /// range.
+    /// J2: a number that is none, or a channel, a start tick, a terminal, the message or terminal of an action, or a number
+    /// of a line of many messages, out of its range; or a series past the 1,000,000th action of all series.
     Number,
     /// J3: `channel` twice or missing, `start` twice, `script` missing.
     Order,
-    /// J4: a terminal twice, or an action whose terminal no line above names.
+    /// J4: a terminal twice, or an action or a series whose terminal no line above names.
     Terminal,
     /// J5: the action, with H1, H2 or H3.
     Action(BadAction),

@@ -15,6 +15,8 @@ pub enum Keyword {
     Terminal,
     At,
     Fault,
+    Faults,
+    Series,
     Script,
 }
 
@@ -43,6 +45,10 @@ pub fn keyword_in(word: &[u8]) -> Result<Keyword, LineFault>
         Ok(Keyword::At)
     } else if word == b"fault".as_slice() {
         Ok(Keyword::Fault)
+    } else if word == b"faults".as_slice() {
+        Ok(Keyword::Faults)
+    } else if word == b"series".as_slice() {
+        Ok(Keyword::Series)
     } else if word == b"script".as_slice() {
         Ok(Keyword::Script)
     } else {

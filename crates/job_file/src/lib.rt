@@ -10,6 +10,7 @@ mod lines;
 mod numbers;
 mod reading;
 mod scripts;
+mod spans;
 mod stepping;
 mod text_lines;
 mod texts;

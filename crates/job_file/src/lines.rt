@@ -1,17 +1,19 @@
 //! What a line of a job says, by itself: whether it may stand where it does is judged elsewhere.
-ghost use Rattle.std.specs.Prelude.{◌≡◌, IfOk, IfErr};
+ghost use Rattle.std.specs.Prelude.{◌≡◌, ◌≤◌, IfOk, IfErr};
 ghost use Rattle.mil_host.specs.Words.{words};
 ghost use Rattle.job_file.specs.Options.{Reads};
 ghost use Rattle.job_file.specs.Lines as lines;
 ghost use Rattle.job_file.specs.Entries.{said_by, IsInRange};
+ghost use Rattle.job_file.specs.Spans.{IsSpan};
 ghost use Rattle.job_file.specs.Faults.{Judges, are_fault_words, are_words_behind, are_line_words};
-ghost use Rattle.job_file.specs.declared.error.LineFault.TheVariants.{Word as BadWord};
+ghost use Rattle.job_file.specs.declared.error.LineFault.TheVariants.{Word as BadWord, Number as BadNumber};
 ghost use Rattle.job_file.specs.declared.keywords.FaultWord.TheVariants as kinds;
 ghost use Rattle.job_file.specs.declared.keywords.Keyword.TheVariants as keywords;
 
 use crate::error::LineFault;
 use crate::keywords::{FaultWord, Keyword, fault_word_in, keyword_in, sync_in};
 use crate::numbers::{data_word, half_bits, number, number_within, start_tick};
+use crate::spans::{Series, Span};
 use mil_host::next_word;
 use mil_line::Fault;
 use mil_word::Word;
@@ -40,6 +42,13 @@ pub enum Entry<'a> {
         number: u32,
         fault: Fault,
     },
+    /// A fault of each of these messages; its own ranges are not judged yet.
+    Faults {
+        span: Span,
+        fault: Fault,
+    },
+    /// Actions of a terminal's host, one before each of these messages.
+    Series(Series),
 }
 
 /// The first word, and what comes after it.
@@ -106,6 +115,18 @@ fn four_words(text: &[u8]) -> Result<(&[u8], &[u8], &[u8], &[u8]), LineFault>
     let (first, rest) = first_word(text)?;
     let (second, third, fourth) = three_words(rest)?;
     Ok((first, second, third, fourth))
+}
+
+/// The first three words, and what comes after them.
+#[tactic(auto, unfolding(crate::specs::Lines::front))]
+fn front(text: &[u8]) -> Result<(&[u8], &[u8], &[u8], &[u8]), LineFault>
+    ensures value { Reads (λ x. ((x.0.now, x.1.now, x.2.now), words x.3.now)) result (lines.front (words text.now)) }
+    ensures words { IfErr result (λ f. f ≡ BadWord) }
+{
+    let (first, rest) = first_word(text)?;
+    let (second, rest) = first_word(rest)?;
+    let (third, rest) = first_word(rest)?;
+    Ok((first, second, third, rest))
 }
 
 #[tactic(auto, unfolding(crate::specs::Lines::mask_in))]
@@ -252,6 +273,73 @@ fn fault(text: &[u8]) -> Result<Entry<'_>, LineFault>
     Ok(Entry::Fault { number, fault })
 }
 
+/// The messages of three words: the first, the last, and the step.
+#[tactic(auto, unfolding(crate::specs::Lines::span_of))]
+fn span(first: &[u8], last: &[u8], step: &[u8]) -> Result<Span, LineFault>
+    ensures value { Reads (λ s. s) result (lines.span_of (first.now, last.now, step.now)) }
+    ensures range { IfOk result IsSpan }
+    ensures fault { IfErr result (λ f. f ≡ BadNumber) }
+{
+    let first = number_within(first, 1, 1_000_000)?;
+    let last = number_within(last, first, 1_000_000)?;
+    let step = number_within(step, 1, 1_000_000)?;
+    Ok(Span { first, last, step })
+}
+
+#[tactic(auto, unfolding(crate::specs::Lines::faults_in))]
+fn faults(text: &[u8]) -> Result<Entry<'_>, LineFault>
+    ensures said { Reads said_by result (lines.faults_in (words text.now)) }
+    ensures range { IfOk result (λ e. IsInRange (said_by e)) }
+    ensures words { Judges result (are_words_behind keywords.Faults (words text.now)) }
+{
+    let (first, last, step, rest) = front(text)?;
+    let (name, rest) = first_word(rest)?;
+    let kind = fault_word_in(name)?;
+    let fault = fault_named(kind, rest)?;
+    let span = span(first, last, step)?;
+    Ok(Entry::Faults { span, fault })
+}
+
+/// What a series places at these messages: four words, the address, the subaddress, the first data word and what is added.
+#[tactic(auto, unfolding(crate::specs::Lines::series_of))]
+fn series_at(
+    span: Span,
+    address: &[u8],
+    sub: &[u8],
+    start: &[u8],
+    add: &[u8],
+) -> Result<Series, LineFault>
+    ensures value { Reads (λ s. s) result (lines.series_of span (address.now, sub.now, start.now, add.now)) }
+    ensures span { IfOk result (λ s. s.span ≡ span) }
+    ensures range { IfOk result (λ s. (s.address ≤ 30) × (1 ≤ s.sub) × (s.sub ≤ 29)) }
+    ensures fault { IfErr result (λ f. f ≡ BadNumber) }
+{
+    let address = number_within(address, 0, 30)?;
+    let sub = number_within(sub, 1, 29)?;
+    let start = data_word(start)?;
+    let add = data_word(add)?;
+    Ok(Series {
+        span,
+        address: address as u8,
+        sub: sub as u8,
+        start,
+        add,
+    })
+}
+
+#[tactic(auto, unfolding(crate::specs::Lines::series_in))]
+fn series(text: &[u8]) -> Result<Entry<'_>, LineFault>
+    ensures said { Reads said_by result (lines.series_in (words text.now)) }
+    ensures range { IfOk result (λ e. IsInRange (said_by e)) }
+    ensures words { Judges result (are_words_behind keywords.Series (words text.now)) }
+{
+    let (first, last, step, rest) = front(text)?;
+    let (address, sub, start, add) = four_words(rest)?;
+    let span = span(first, last, step)?;
+    let series = series_at(span, address, sub, start, add)?;
+    Ok(Entry::Series(series))
+}
+
 fn script(text: &[u8]) -> Result<Entry<'_>, LineFault>
     ensures said { Reads said_by result (lines.ended (words text.now) lines.script) }
     ensures range { IfOk result (λ e. IsInRange (said_by e)) }
@@ -273,6 +361,8 @@ fn after_keyword(keyword: Keyword, text: &[u8]) -> Result<Entry<'_>, LineFault>
         Keyword::Terminal => terminal(text),
         Keyword::At => action(text),
         Keyword::Fault => fault(text),
+        Keyword::Faults => faults(text),
+        Keyword::Series => series(text),
         Keyword::Script => script(text),
     }
 }
@@ -286,8 +376,9 @@ fn is_comment(word: &[u8]) -> bool
     }
 }
 
-/// What a line says: `channel N`, `start TICK`, `terminal ADDRESS`, `at NUMBER ADDRESS ACTION`, `fault NUMBER FAULT`, `script`,
-/// a comment or nothing. J1, then J2.
+/// What a line says: `channel N`, `start TICK`, `terminal ADDRESS`, `at NUMBER ADDRESS ACTION`, `fault NUMBER FAULT`,
+/// `faults FIRST LAST STEP FAULT`, `series FIRST LAST STEP ADDRESS SUB START ADD`, `script`, a comment or nothing. J1, then
+/// J2.
 #[tactic(auto, unfolding(crate::specs::Lines::said_in))]
 pub fn read_line(line: &[u8]) -> Result<Entry<'_>, LineFault>
     ensures said { Reads said_by result (lines.said line.now) }

@@ -1,6 +1,11 @@
-//! Tests of the commands for people who look: `bench_stat`, `bench_export`, `bench_draw` and `bench_explain`, and with them of `ch11_layout`.
+//! Tests of the commands for people who look: `bench_stat`, `bench_export`, `bench_draw`, `bench_explain`, `bench_complete` and
+//! `bench_decode`, and with them of `ch11_layout`.
 #![tactic(auto)]
 
+#[cfg(test)]
+mod completions;
+#[cfg(test)]
+mod decodings;
 #[cfg(test)]
 mod equal;
 #[cfg(test)]
@@ -13,3 +18,5 @@ mod made;
 mod pictures;
 #[cfg(test)]
 mod statistics;
+#[cfg(test)]
+mod verdicts;

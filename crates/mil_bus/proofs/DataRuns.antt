@@ -9,7 +9,7 @@ use Rattle.mil_bus.specs.declared.talks.Sent.{Sent}
 use Rattle.mil_terminal.specs.Station.{Station, after}
 use Rattle.mil_terminal.specs.Runs.{heard, after_all}
 use Rattle.mil_bus.specs.declared.talks.Source.{Source}
-use Rattle.mil_bus.specs.Exchange.{sends, hearing, all_hearing, words_of}
+use Rattle.mil_bus.specs.Exchange.{misses, hearing, all_hearing, words_of}
 use Rattle.mil_bus.specs.DataRuns.{hearing_all, run_words, gap_at, run_from}
 use Rattle.mil_bus.specs.declared.talk_runs.Run.{Run}
 use Rattle.mil_bus.proofs.Indexing.{hearing-own}
@@ -73,27 +73,27 @@ run-cut line run n waves xs =
     ∙ sym (all_hearing-append line (run_words run (take n waves)) (run_words (run_from n run) (drop n waves)) xs)
     ∙ ap (λ vs. all_hearing line vs xs) (words_of-cut run.number run.source run.gap n waves)
 
-hearing-sent : (line : Line) (w : Sent) (s : Station) → sends w.source s.own ≡ true → hearing line w s ≡ s
-hearing-sent line w s own = rw own refl
+hearing-missed : (line : Line) (w : Sent) (s : Station) → misses line w.source s ≡ true → hearing line w s ≡ s
+hearing-missed line w s missed = rw missed refl
 
-hearing-other : (line : Line) (w : Sent) (s : Station) → sends w.source s.own ≡ false → hearing line w s ≡ after s (Heard line w.wave w.gap)
+hearing-other : (line : Line) (w : Sent) (s : Station) → misses line w.source s ≡ false → hearing line w s ≡ after s (Heard line w.wave w.gap)
 hearing-other line w s other = rw other refl
 
-own_go : (line : Line) (number : ℕ) (source : Source) (gap : ℕ) (waves : List ℕ) (s : Station) → sends source s.own ≡ true → hearing_all line (words_of number source gap waves) s ≡ s
-own_go line number source gap [] s own = refl
-own_go line number source gap (w ∷ ws) s own =
-    ap (hearing_all line (words_of number source 20 ws)) (hearing-sent line (record { wave = w; gap = gap; run = number; source = source }) s own) ∙ own_go line number source 20 ws s own
+missed_go : (line : Line) (number : ℕ) (source : Source) (gap : ℕ) (waves : List ℕ) (s : Station) → misses line source s ≡ true → hearing_all line (words_of number source gap waves) s ≡ s
+missed_go line number source gap [] s missed = refl
+missed_go line number source gap (w ∷ ws) s missed =
+    ap (hearing_all line (words_of number source 20 ws)) (hearing-missed line (record { wave = w; gap = gap; run = number; source = source }) s missed) ∙ missed_go line number source 20 ws s missed
 
-heard_go : (line : Line) (number : ℕ) (source : Source) (gap : ℕ) (waves : List ℕ) (s : Station) → sends source s.own ≡ false
+heard_go : (line : Line) (number : ℕ) (source : Source) (gap : ℕ) (waves : List ℕ) (s : Station) → misses line source s ≡ false
     → hearing_all line (words_of number source gap waves) s ≡ after_all s (heard line gap waves)
 heard_go line number source gap [] s other = refl
 heard_go line number source gap (w ∷ ws) s other =
     ap (hearing_all line (words_of number source 20 ws)) (hearing-other line (record { wave = w; gap = gap; run = number; source = source }) s other)
     ∙ heard_go line number source 20 ws (after s (Heard line w gap)) other
 
--- a station does not hear what it sends
-pub run-own : (line : Line) (run : Run) (waves : List ℕ) (s : Station) → sends run.source s.own ≡ true → s ≡ hearing_all line (run_words run waves) s
-run-own line run waves s own = sym (own_go line run.number run.source run.gap waves s own)
+-- a station does not hear what it sends, nor anything on a line where it is deaf
+pub run-missed : (line : Line) (run : Run) (waves : List ℕ) (s : Station) → misses line run.source s ≡ true → s ≡ hearing_all line (run_words run waves) s
+run-missed line run waves s missed = sym (missed_go line run.number run.source run.gap waves s missed)
 
-pub run-heard : (line : Line) (run : Run) (waves : List ℕ) (s : Station) → sends run.source s.own ≡ false → after_all s (heard line run.gap waves) ≡ hearing_all line (run_words run waves) s
+pub run-heard : (line : Line) (run : Run) (waves : List ℕ) (s : Station) → misses line run.source s ≡ false → after_all s (heard line run.gap waves) ≡ hearing_all line (run_words run waves) s
 run-heard line run waves s other = sym (heard_go line run.number run.source run.gap waves s other)

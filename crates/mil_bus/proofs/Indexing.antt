@@ -5,17 +5,26 @@ use Rattle.std.proofs.lemmas.List.{get_or-map, length-map, get_or_push, get_or_a
 use Rattle.std.proofs.lemmas.Bool.{eqb-true, eq-eqb, false≢true}
 use Rattle.std.specs.Int.{bit_at}
 use Rattle.mil_word.specs.declared.Line.{Line}
-use Rattle.mil_terminal.specs.declared.events.Event.TheVariants.{Heard}
+use Rattle.mil_terminal.specs.declared.events.Event.TheVariants.{Heard, Quiet}
 use Rattle.mil_terminal.specs.Station.{Station, after}
 use Rattle.mil_bus.specs.declared.talks.Sent.{Sent}
-use Rattle.mil_bus.specs.Exchange.{hearing, sends}
+use Rattle.mil_terminal.specs.Host.{is_deaf}
+use Rattle.mil_bus.specs.Exchange.{hearing, misses, quieted}
 use Rattle.mil_bus.specs.Index.{IsClosed, AreClosed, IsIndex, IsIndexBelow}
 
 -- hearing changes no address
 pub hearing-own : (line : Line) (w : Sent) (s : Station) → (hearing line w s).own ≡ s.own
-hearing-own line w s = go (sends w.source s.own)
+hearing-own line w s = go (misses line w.source s)
   where
     go : (b : Bool) → (if b then s else after s (Heard line w.wave w.gap)).own ≡ s.own
+    go true = refl
+    go false = refl
+
+-- nor does a quiet
+pub quieted-own : (line : Line) (s : Station) → (quieted line s).own ≡ s.own
+quieted-own line s = go (is_deaf line s.history)
+  where
+    go : (b : Bool) → (if b then s else after s (Quiet line)).own ≡ s.own
     go true = refl
     go false = refl
 

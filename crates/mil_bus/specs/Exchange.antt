@@ -18,6 +18,7 @@ use Rattle.mil_terminal.specs.declared.events.Event.TheVariants.{Heard, Quiet}
 use Rattle.mil_terminal.specs.declared.replies.Reply.{Reply}
 use Rattle.mil_terminal.specs.Station.{Station, after}
 use Rattle.mil_terminal.specs.Replies.{reply}
+use Rattle.mil_terminal.specs.Host.{is_deaf, is_mute}
 
 -- what a sender gives: a gap, and the waves of its words
 pub record Offer : Type 0 where
@@ -43,17 +44,22 @@ abbrev pub sends : Source → ℕ → Bool
 sends Controller own = false
 sends (Terminal address) own = address == own
 
--- a word, heard by a station that did not send it
+-- whether the words of a sender do not come to a station: its own, and all on a line where it is deaf
+abbrev pub misses : Line → Source → Station → Bool
+misses line source s = sends source s.own || is_deaf line s.history
+
+-- a word, heard by a station that did not send it and is not deaf on its line
 abbrev pub hearing : Line → Sent → Station → Station
-hearing line w s = if sends w.source s.own then s else after s (Heard line w.wave w.gap)
+hearing line w s = if misses line w.source s then s else after s (Heard line w.wave w.gap)
 
 -- words, each heard by all
 abbrev pub all_hearing : Line → List Sent → List Station → List Station
 all_hearing line [] stations = stations
 all_hearing line (w ∷ ws) stations = all_hearing line ws (map (hearing line w) stations)
 
+-- a quiet, which does not come to a station that is deaf on its line
 abbrev pub quieted : Line → Station → Station
-quieted line s = after s (Quiet line)
+quieted line s = if is_deaf line s.history then s else after s (Quiet line)
 
 -- the wave of a word of a reply, by its place: its status comes first
 abbrev pub reply_wave : ℕ → ℕ → ℕ
@@ -68,9 +74,13 @@ reply_waves (status ∷ values) = command_wave status ∷ map data_wave values
 abbrev pub offer_of : ℕ → Reply → Offer
 offer_of own r = record { source = Terminal own; gap = r.gap; waves = reply_waves r.words.items }
 
--- what a station answers to a quiet
+-- whether nothing that a station replies comes on a line: no quiet of it comes to the station, or its transmitter there fails
+abbrev pub is_unheard : Line → Station → Bool
+is_unheard line s = is_deaf line s.history || is_mute line s.history
+
+-- what a station answers to a quiet, as far as it comes on the line
 abbrev pub answer : Line → Station → Option Offer
-answer line s = option_map (offer_of s.own) (reply s.own line s.history)
+answer line s = if is_unheard line s then None else option_map (offer_of s.own) (reply s.own line s.history)
 
 -- the first answer to a quiet, in order of address
 abbrev pub first_reply : Line → List Station → Option Offer
@@ -97,9 +107,11 @@ runs (suc left) line faults run (Some offer) s =
     let words = run_sent (40 - length s.sent) faults run offer in
     runs left line faults (suc run) (next_offer line words (all_hearing line words s.stations)) (standing_after line words s)
 
--- a bus: its start tick, its talks, the latest first, and its stations in order of address
+-- a bus: its start tick, its least start (the tick before which no talk starts), its talks, the latest first, and its stations
+-- in order of address
 pub record BusState : Type 0 where
   pub start : ℕ
+  pub least_start : ℕ
   pub talks : List Talk
   pub stations : List Station
 
@@ -112,10 +124,22 @@ clock_of start (t ∷ ts) = end_of t
 abbrev pub least_after : Talk → ℕ
 least_after t = if (outcome_of t.message t.sent.items).failed || is_controllers_last t.sent.items then 180 else 40
 
--- when the next talk starts, where this gap is asked for
+-- now: when the last word on either line ended, or the least start where that is later
+abbrev pub now_of : BusState → ℕ
+now_of b = max (clock_of b.start b.talks) b.least_start
+
+-- no talk starts before this tick, nor before what was asked for earlier
+abbrev pub paced : ℕ → BusState → BusState
+paced tick b = record { start = b.start; least_start = max b.least_start tick; talks = b.talks; stations = b.stations }
+
+-- when the next talk would start by its gap alone, where this gap is asked for
 abbrev pub next_start : ℕ → List Talk → ℕ → ℕ
 next_start start [] gap = start
 next_start start (t ∷ ts) gap = end_of t + (max gap (least_after t) - 20)
+
+-- when it starts: no sooner than at the least start
+abbrev pub talk_start : BusState → ℕ → ℕ
+talk_start b gap = max (next_start b.start b.talks gap) b.least_start
 
 abbrev pub has_word : List Sent → Bool
 has_word [] = false
@@ -138,12 +162,12 @@ controllers line message tick talks =
 -- what the exchange of a message comes to; forty runs do, since each but the last puts a word on the line
 unfoldable pub exchange_of : BusState → Line → Form → ℕ → List Fault → Standing
 exchange_of b line message gap faults =
-    runs 40 line faults 0 (Some (controllers line message (next_start b.start b.talks gap) b.talks)) (record { sent = []; stations = b.stations })
+    runs 40 line faults 0 (Some (controllers line message (talk_start b gap) b.talks)) (record { sent = []; stations = b.stations })
 
 unfoldable pub talk_of : BusState → Line → Form → ℕ → List Fault → Talk
 talk_of b line message gap faults =
-    record { start = next_start b.start b.talks gap; line = line; message = message; sent = record { items = (exchange_of b line message gap faults).sent } }
+    record { start = talk_start b gap; line = line; message = message; sent = record { items = (exchange_of b line message gap faults).sent } }
 
 unfoldable pub exchanged : BusState → Line → Form → ℕ → List Fault → BusState
 exchanged b line message gap faults =
-    record { start = b.start; talks = talk_of b line message gap faults ∷ b.talks; stations = (exchange_of b line message gap faults).stations }
+    record { start = b.start; least_start = b.least_start; talks = talk_of b line message gap faults ∷ b.talks; stations = (exchange_of b line message gap faults).stations }

@@ -7,7 +7,7 @@ ghost use Rattle.mil_bus.specs.Actions.{place_of, station_of, acted};
 ghost use Rattle.mil_bus.specs.Addresses.{is_fit, fresh_bus};
 ghost use Rattle.mil_bus.specs.BlockStatus.{block_of, outcome_of};
 ghost use Rattle.mil_bus.specs.Counts.{seen_of};
-ghost use Rattle.mil_bus.specs.Exchange.{exchanged, talk_of, next_start, clock_of, last_on, gap_since, least_after};
+ghost use Rattle.mil_bus.specs.Exchange.{exchanged, talk_of, next_start, talk_start, clock_of, now_of, paced, last_on, gap_since, least_after};
 
 use crate::addresses::is_fit;
 use crate::offers::Offered;
@@ -23,11 +23,12 @@ use mil_word::Line;
 use std::alloc::{AllocError, Global};
 use std::marker::Model;
 
-/// Up to 31 terminals on the two lines of a bus. Contracts see the start tick, the talks so far, the latest first, and the
-/// terminals' addresses and histories, in order of address; no value holds a list of talks.
+/// Up to 31 terminals on the two lines of a bus. Contracts see the start tick, the least start, the talks so far, the latest first,
+/// and the terminals' addresses and histories, in order of address; no value holds a list of talks.
 #[derive(Drop)]
 pub struct Bus {
     pub(crate) begin: u64,
+    pub(crate) least_start: u64,
     pub(crate) clock: u64,
     pub(crate) least: Option<u16>,
     pub(crate) on_a: Option<u64>,
@@ -42,7 +43,7 @@ impl Model for Bus {
 
     ghost Value = { BusState };
 
-    ghost view = { λ b. record { start = b.begin; talks = b.past; stations = b.terminals } };
+    ghost view = { λ b. record { start = b.begin; least_start = b.least_start; talks = b.past; stations = b.terminals } };
 
     ghost invariant = { λ b. KeepsTimes b.begin b.clock b.least b.on_a b.on_b b.past };
 }
@@ -72,7 +73,7 @@ fn gap_from(end: Option<u64>, tick: u64) -> Gap
 }
 
 impl Bus {
-    /// A bus with new terminals of these addresses, whose first talk starts at a tick. Refusals: an address over 30, or one
+    /// A bus with new terminals of these addresses, whose first talk starts at a tick; its least start is 0. Refusals: an address over 30, or one
     /// that stands twice (B1); memory (B2).
     pub fn make(alloc: Global, start: u64, addresses: &[u8]) -> Result<Bus, BusError>
         ensures ok { IfOk result (λ b. b ≡ fresh_bus start addresses.now) }
@@ -84,6 +85,7 @@ impl Bus {
         match Terminals::make(alloc, addresses) {
             Ok(terminals) => Ok(Bus {
                 begin: start,
+                least_start: 0,
                 clock: start,
                 least: None,
                 on_a: None,
@@ -102,11 +104,24 @@ impl Bus {
         self.clock
     }
 
-    /// When the next talk starts.
+    /// Now, in ticks: the clock, or the least start where that is later.
+    pub fn now(&self) -> u64
+        ensures { result ≡ now_of self.now }
+    {
+        self.clock.max(self.least_start)
+    }
+
+    /// Raises the least start to a tick, where it is lower: no talk from now on starts before that tick (own choice).
+    pub fn pace(&mut self, tick: u64)
+        ensures { self.new ≡ paced tick self.old }
+    {
+        self.least_start = self.least_start.max(tick);
+    }
+
+    /// When the next talk would start by its gap alone.
     fn next_start(&self, gap: Gap) -> u64
         requires { clock_of self.now.start self.now.talks < 2 ^ 60 }
         ensures value { result ≡ next_start self.now.start self.now.talks gap }
-        ensures small { result < 2 ^ 61 }
         ensures soon { result ≤ clock_of self.now.start self.now.talks + 2 ^ 17 }
         ensures after { clock_of self.now.start self.now.talks ≤ result }
     {
@@ -114,6 +129,17 @@ impl Bus {
             None => self.begin,
             Some(least) => self.clock + u64::from(gap.ticks().max(least)).saturating_sub(20),
         }
+    }
+
+    /// When the next talk starts.
+    fn talk_start(&self, gap: Gap) -> u64
+        requires { now_of self.now < 2 ^ 60 }
+        ensures value { result ≡ talk_start self.now gap }
+        ensures small { result < 2 ^ 61 }
+        ensures soon { result ≤ now_of self.now + 2 ^ 17 }
+        ensures after { now_of self.now ≤ result }
+    {
+        self.next_start(gap).max(self.least_start)
     }
 
     /// The gap from the last word on a line.
@@ -134,7 +160,9 @@ impl Bus {
         requires small { talk.now.start < 2 ^ 61 }
         requires after { clock_of self.old.start self.old.talks ≤ talk.now.start }
         ensures soon { clock_of self.new.start self.new.talks ≤ talk.now.start + 2 ^ 23 }
-        ensures value { self.new ≡ record { start = self.old.start; talks = talk.now ∷ self.old.talks; stations = self.old.stations } }
+        ensures later { talk.now.start ≤ clock_of self.new.start self.new.talks }
+        ensures least { self.new.least_start ≡ self.old.least_start }
+        ensures value { self.new ≡ record { start = self.old.start; least_start = self.old.least_start; talks = talk.now ∷ self.old.talks; stations = self.old.stations } }
     {
         let end = talk.end();
         self.clock = end;
@@ -149,15 +177,17 @@ impl Bus {
     }
 
     /// The exchange of one message on a line, at a gap of ticks from the last word on either line, which is raised to 180
-    /// where the talk before failed or its last word was the controller's, and to 40 otherwise. It takes no memory.
+    /// where the talk before failed or its last word was the controller's, and to 40 otherwise. No talk starts before the least
+    /// start. It takes no memory.
     ///
     /// The faults are those planned for the message, at most four, in the order of the plan.
     pub fn exchange(&mut self, line: Line, message: &Message, gap: Gap, faults: &[Fault]) -> Talk
-        requires clock { clock_of self.old.start self.old.talks < 2 ^ 60 }
+        requires clock { now_of self.old < 2 ^ 60 }
         requires in_range { list_all is_in_range faults.now ≡ true }
         ensures bus { self.new ≡ exchanged self.old line message.now gap faults.now }
         ensures talk { result ≡ talk_of self.old line message.now gap faults.now }
-        ensures soon { clock_of self.new.start self.new.talks ≤ clock_of self.old.start self.old.talks + 2 ^ 24 }
+        ensures soon { now_of self.new ≤ now_of self.old + 2 ^ 24 }
+        ensures later { now_of self.old ≤ now_of self.new }
     {
         let mut seen = Seen::none();
         self.exchange_seen(line, message, gap, faults, &mut seen)
@@ -173,12 +203,13 @@ impl Bus {
         faults: &[Fault],
         seen: &mut Seen,
     ) -> Talk
-        requires clock { clock_of self.old.start self.old.talks < 2 ^ 60 }
+        requires clock { now_of self.old < 2 ^ 60 }
         requires in_range { list_all is_in_range faults.now ≡ true }
         ensures bus { self.new ≡ exchanged self.old line message.now gap faults.now }
         ensures talk { result ≡ talk_of self.old line message.now gap faults.now }
         ensures seen { seen.new ≡ seen_of result.message result.sent.items }
-        ensures soon { clock_of self.new.start self.new.talks ≤ clock_of self.old.start self.old.talks + 2 ^ 24 }
+        ensures soon { now_of self.new ≤ now_of self.old + 2 ^ 24 }
+        ensures later { now_of self.old ≤ now_of self.new }
     {
         let mut talk = Talk::none();
         let _ = self.exchange_into(line, message, gap, faults, &mut talk, seen);
@@ -195,16 +226,17 @@ impl Bus {
         talk: &mut Talk,
         seen: &mut Seen,
     ) -> Verdict
-        requires clock { clock_of self.old.start self.old.talks < 2 ^ 60 }
+        requires clock { now_of self.old < 2 ^ 60 }
         requires in_range { list_all is_in_range faults.now ≡ true }
         ensures bus { self.new ≡ exchanged self.old line message.now gap faults.now }
         ensures talk { talk.new ≡ talk_of self.old line message.now gap faults.now }
         ensures seen { seen.new ≡ seen_of talk.new.message talk.new.sent.items }
         ensures block { result.block ≡ block_of talk.new.line talk.new.message seen.new }
         ensures outcome { result.outcome ≡ outcome_of talk.new.message talk.new.sent.items }
-        ensures soon { clock_of self.new.start self.new.talks ≤ clock_of self.old.start self.old.talks + 2 ^ 24 }
+        ensures soon { now_of self.new ≤ now_of self.old + 2 ^ 24 }
+        ensures later { now_of self.old ≤ now_of self.new }
     {
-        let start = self.next_start(gap);
+        let start = self.talk_start(gap);
         let mut offer = Offered {
             source: Source::Controller,
             gap: self.gap_on(line, start),
@@ -249,6 +281,7 @@ impl Bus {
         let terminals = self.terminals.copy()?;
         Ok(Bus {
             begin: self.begin,
+            least_start: self.least_start,
             clock: self.clock,
             least: self.least,
             on_a: self.on_a,

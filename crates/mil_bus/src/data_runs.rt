@@ -7,7 +7,7 @@ ghost use Rattle.mil_bus.specs.Index.{IsClosed, AreClosed, HasCome};
 
 use crate::Sent;
 use crate::bits::{next_set, with_bit};
-use crate::hearing::{is_sender, pass};
+use crate::hearing::{misses, pass};
 use crate::talk_runs::Run;
 use mil_line::Gap;
 use mil_terminal::Terminal;
@@ -86,13 +86,14 @@ fn pass_all_between(
     }
 }
 
-/// The words of a run that are no commands come to a terminal, which hears them unless they are its own.
+/// The words of a run that are no commands come to a terminal, which hears them unless they are its own or it is deaf
+/// there.
 #[inline]
 fn hear_words(terminal: &mut Terminal, line: Line, run: &Run, waves: &[Wave])
     requires { AreNoCommands 0 waves.now }
     ensures { terminal.new ≡ hearing_all line (run_words run.now waves.now) terminal.old }
 {
-    if !is_sender(run.source, terminal.address()) {
+    if !misses(terminal, line, run.source) {
         terminal.hear_run(line, run.gap, waves);
     }
 }

@@ -5,7 +5,7 @@ ghost use Rattle.mil_word.specs.Wave.{word_of};
 ghost use Rattle.mil_terminal.specs.declared.events.Event.TheVariants.{Heard};
 ghost use Rattle.mil_terminal.specs.Station.{Station};
 ghost use Rattle.mil_terminal.specs.Windows.{is_listening, opens};
-ghost use Rattle.mil_bus.specs.Exchange.{hearing, sends};
+ghost use Rattle.mil_bus.specs.Exchange.{hearing, sends, misses};
 ghost use Rattle.mil_bus.specs.Index.{IsClosed, AreClosed, HasCome, is_command_to};
 
 use crate::bits::{next_set, with_bit};
@@ -36,7 +36,7 @@ pub fn concerned(places: &[u8; 32], opened: u32, decoded: Option<Word>) -> u32
 
 /// Whether a word is this terminal's own.
 #[inline]
-pub fn is_sender(source: Source, own: u8) -> bool
+fn is_sender(source: Source, own: u8) -> bool
     ensures { result ≡ sends source own }
 {
     match source {
@@ -45,13 +45,21 @@ pub fn is_sender(source: Source, own: u8) -> bool
     }
 }
 
+/// Whether the words of a sender do not come to a terminal: they are its own, or it is deaf on their line.
+#[inline]
+pub fn misses(terminal: &Terminal, line: Line, source: Source) -> bool
+    ensures { result ≡ misses line source terminal.now }
+{
+    is_sender(source, terminal.address()) || terminal.deaf(line)
+}
+
 /// A word comes to a terminal; whether a window of it is open afterwards.
 fn tell(terminal: &mut Terminal, line: Line, sent: &Sent, decoded: Option<Word>) -> bool
     requires { decoded ≡ word_of sent.now.wave }
     ensures after { terminal.new ≡ hearing line sent.now terminal.old }
     ensures closed { result ≡ false → IsClosed terminal.new }
 {
-    if !is_sender(sent.source, terminal.address()) {
+    if !misses(terminal, line, sent.source) {
         terminal.hear_word(line, sent.wave, decoded, sent.gap);
     }
     terminal.is_listening(Line::A) || terminal.is_listening(Line::B)
@@ -65,7 +73,7 @@ pub fn pass(terminal: &mut Terminal, line: Line, sent: &Sent)
     ensures after { terminal.new ≡ hearing line sent.now terminal.old }
     ensures closed { IsClosed terminal.new }
 {
-    if !is_sender(sent.source, terminal.address()) {
+    if !misses(terminal, line, sent.source) {
         terminal.pass(line, sent.wave, sent.gap);
     }
 }

@@ -21,14 +21,22 @@ pub struct Quieted {
     pub answered: bool,
 }
 
-/// A quiet comes to a terminal, whose answer counts where there was none before; whether there is one now.
+/// A quiet comes to a terminal, unless it is deaf there; its answer counts where there was none before and the terminal is not
+/// mute there. Whether there is one now.
 fn quiet_one(terminal: &mut Terminal, line: Line, answered: bool, offer: &mut Offered) -> bool
     ensures after { terminal.new ≡ quieted line terminal.old }
     ensures first { given result offer.new ≡ option_or (given answered offer.old) (answer line terminal.old) }
 {
+    if terminal.deaf(line) {
+        return answered;
+    }
     let own = terminal.address();
+    let mute = terminal.mute(line);
     match terminal.quiet(line) {
         Some(reply) => {
+            if mute {
+                return answered;
+            }
             if !answered {
                 offer.put(own, &reply);
             }
@@ -53,7 +61,9 @@ fn pass(terminal: &mut Terminal, line: Line)
     ensures closed { IsClosed terminal.new }
     ensures silent { answer line terminal.old ≡ None }
 {
-    terminal.pass_quiet(line);
+    if !terminal.deaf(line) {
+        terminal.pass_quiet(line);
+    }
 }
 
 /// A quiet comes to the terminals from one place up to another, none of which has an open window.

@@ -8,12 +8,13 @@ use history::History;
 use std::alloc::AllocError;
 use std::marker::Model;
 
-/// A bus as it was when it was saved, in less memory than a bus takes: 72 bytes for each terminal, and two for each word that the
+/// A bus as it was when it was saved, in less memory than a bus takes: 80 bytes for each terminal, and two for each word that the
 /// terminal holds and for each list of them that is not empty, but for open windows and marks. Contracts see what they see of the
 /// bus.
 #[derive(Drop)]
 pub struct SavedBus {
     begin: u64,
+    least_start: u64,
     clock: u64,
     least: Option<u16>,
     on_a: Option<u64>,
@@ -28,7 +29,7 @@ impl Model for SavedBus {
 
     ghost Value = { BusState };
 
-    ghost view = { λ b. record { start = b.begin; talks = b.past; stations = b.terminals } };
+    ghost view = { λ b. record { start = b.begin; least_start = b.least_start; talks = b.past; stations = b.terminals } };
 
     ghost invariant = { λ b. KeepsTimes b.begin b.clock b.least b.on_a b.on_b b.past };
 }
@@ -40,6 +41,7 @@ impl Bus {
     {
         Ok(SavedBus {
             begin: self.begin,
+            least_start: self.least_start,
             clock: self.clock,
             least: self.least,
             on_a: self.on_a,
@@ -57,6 +59,7 @@ impl Bus {
     {
         self.terminals.restore(&saved.terminals)?;
         self.begin = saved.begin;
+        self.least_start = saved.least_start;
         self.clock = saved.clock;
         self.least = saved.least;
         self.on_a = saved.on_a;

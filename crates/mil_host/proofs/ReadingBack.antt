@@ -1,6 +1,6 @@
 -- A printed action reads back.
-use Rattle.std.proofs.Common.{◌≡◌, ℕ, zero, suc, ◌≤◌, ◌<◌, List, Bool, true, false, [], ◌∷◌, length, refl, ap, arith, All}
-use Rattle.std.specs.Prelude.{Ok, codes, decimal, map, nat_lt, nat_le, ◌&&◌}
+use Rattle.std.proofs.Common.{◌≡◌, ℕ, zero, suc, ◌≤◌, ◌<◌, List, Bool, true, false, [], ◌∷◌, drop, length, refl, sym, ap, ◌∙◌, arith, All}
+use Rattle.std.specs.Prelude.{Ok, Some, slice_get, codes, decimal, map, nat_lt, nat_le, ◌&&◌}
 use Rattle.std.specs.List.{list_all}
 use Rattle.std.specs.Char.{digit_value}
 use Rattle.std.specs.Str.Parse.{AllDigits}
@@ -9,14 +9,23 @@ use Rattle.std.proofs.lemmas.Str.Parse.{digit_from_value}
 use Rattle.std.proofs.lemmas.Fmt.{decimal_is_IsNumeral}
 use Rattle.std.proofs.lemmas.List.Elements.{All-tail}
 use Rattle.numerals.proofs.Back.{decimal_back, four_back}
+use Rattle.mil_word.specs.declared.Line.{Line}
+use Rattle.mil_word.specs.declared.Line.TheVariants.{A, B}
 use Rattle.mil_host.specs.Values.{PutUp, Marked}
 use Rattle.mil_host.specs.Words.{Text, has_bytes}
-use Rattle.mil_host.specs.Reading.{action_in, in_words, number_of, data_of, value_or_fault, all_data, only_switch, only_mark}
-use Rattle.mil_host.specs.Printing.{text_of, words_of, data_text, switch_text, direction_text, mark_words}
+use Rattle.mil_host.specs.Reading.{action_in, in_words, of_word, name_of, number_of, data_of, value_or_fault, all_data, only_switch, only_line_switch, only_mark}
+use Rattle.mil_host.specs.Printing.{text_of, words_of, data_text, switch_text, line_text, direction_text, mark_words}
 use Rattle.mil_host.specs.Ranges.{IsInRange, IsPutUp, IsMark}
 use Rattle.mil_host.specs.declared.actions.Action.{Action}
-use Rattle.mil_host.specs.declared.actions.Action.TheVariants.{Transmit, Busy, Service, Subsystem, Fault, Control, Vector, SelfTest, Illegal, Legal, Response}
+use Rattle.mil_host.specs.declared.actions.Action.TheVariants.{Transmit, Busy, Service, Subsystem, Fault, Control, Vector, SelfTest, Illegal, Legal, Response, Deaf, Mute}
 use Rattle.mil_host.proofs.Spacing.{AreVisible, IsWord, AreWords, words-spaced, one_line-spaced}
+
+-- the first word of a text names the action
+pub in_words-first : (texts rest : List Text) (word : Text) → Some word ≡ slice_get texts 0 → rest ≡ drop 1 texts → in_words texts ≡ of_word (name_of word) rest
+in_words-first [] rest word first is = cc
+in_words-first (text ∷ texts) rest word first is =
+    let same : word ≡ text = cc in
+    ap (λ (t : Text). of_word (name_of t) texts) (sym same) ∙ ap (of_word (name_of word)) (sym is)
 
 -- four hexadecimal digits spell a data word
 record IsData (value : ℕ) (word : Text) : Type 0 where
@@ -88,6 +97,10 @@ switch_word : (on : Bool) → IsWord (switch_text on)
 switch_word true = record { some = refl; visible = (refl, (refl, tt)) }
 switch_word false = record { some = refl; visible = (refl, (refl, (refl, tt))) }
 
+line_word : (line : Line) → IsWord (line_text line)
+line_word A = record { some = refl; visible = (refl, tt) }
+line_word B = record { some = refl; visible = (refl, tt) }
+
 direction_word : (transmit : Bool) → IsWord (direction_text transmit)
 direction_word true = record { some = refl; visible = (refl, (refl, (refl, (refl, (refl, (refl, (refl, (refl, tt)))))))) }
 direction_word false = record { some = refl; visible = (refl, (refl, (refl, (refl, (refl, (refl, (refl, tt))))))) }
@@ -136,10 +149,18 @@ are_words (SelfTest value) range = (named (codes "selftest") refl refl, ((data_w
 are_words (Illegal mark) range = (named (codes "illegal") refl refl, are_mark_words mark range)
 are_words (Legal mark) range = (named (codes "legal") refl refl, are_mark_words mark range)
 are_words (Response ticks) range = (named (codes "response") refl refl, ((number 40 120 ticks range.0 range.1 (omega arith)).is, tt))
+are_words (Deaf line on) range = (named (codes "deaf") refl refl, (line_word line, (switch_word on, tt)))
+are_words (Mute line on) range = (named (codes "mute") refl refl, (line_word line, (switch_word on, tt)))
 
 switch_back : (on : Bool) → only_switch (switch_text on ∷ []) ≡ Ok on
 switch_back true = refl
 switch_back false = refl
+
+line_switch_back : (line : Line) (on : Bool) → only_line_switch (line_text line ∷ switch_text on ∷ []) ≡ Ok (line, on)
+line_switch_back A true = refl
+line_switch_back A false = refl
+line_switch_back B true = refl
+line_switch_back B false = refl
 
 words_back : (a : Action) → IsInRange a → in_words (words_of a) ≡ Ok a
 words_back (Transmit put) range = put_up_back put range
@@ -153,6 +174,8 @@ words_back (SelfTest value) range = rw (data_word value range).reads refl
 words_back (Illegal mark) range = rw (mark_back mark range) refl
 words_back (Legal mark) range = rw (mark_back mark range) refl
 words_back (Response ticks) range = rw (number 40 120 ticks range.0 range.1 (omega arith)).reads refl
+words_back (Deaf line on) range = rw (line_switch_back line on) refl
+words_back (Mute line on) range = rw (line_switch_back line on) refl
 
 -- the text of an action in range spells it
 pub reads-back : (a : Action) → IsInRange a → action_in (text_of a) ≡ Ok a

@@ -3,12 +3,14 @@
 use Rattle.std.specs.Prelude.{ℕ, Bool, true, false, ◌/◌, ◌%◌, List, [], ◌∷◌, ◌++◌, map, codes, decimal}
 use Rattle.std.specs.Fmt.{digit_glyph}
 use Rattle.std.specs.List.{flat_map}
+use Rattle.mil_word.specs.declared.Line.{Line}
+use Rattle.mil_word.specs.declared.Line.TheVariants.{A, B}
 use Rattle.mil_host.specs.Values.{Marked}
 use Rattle.mil_host.specs.Words.{Text}
 use Rattle.mil_host.specs.declared.reading.BadAction.{BadAction}
 use Rattle.mil_host.specs.declared.reading.BadAction.TheVariants.{Word, Number, Range}
 use Rattle.mil_host.specs.declared.actions.Action.{Action}
-use Rattle.mil_host.specs.declared.actions.Action.TheVariants.{Transmit, Busy, Service, Subsystem, Fault, Control, Vector, SelfTest, Illegal, Legal, Response}
+use Rattle.mil_host.specs.declared.actions.Action.TheVariants.{Transmit, Busy, Service, Subsystem, Fault, Control, Vector, SelfTest, Illegal, Legal, Response, Deaf, Mute}
 
 -- two hexadecimal digits
 abbrev pub byte_text : ℕ → Text
@@ -21,6 +23,10 @@ data_text value = byte_text (value / 256) ++ byte_text (value % 256)
 abbrev pub switch_text : Bool → Text
 switch_text true = codes "on"
 switch_text false = codes "off"
+
+abbrev pub line_text : Line → Text
+line_text A = codes "A"
+line_text B = codes "B"
 
 abbrev pub direction_text : Bool → Text
 direction_text true = codes "transmit"
@@ -42,6 +48,8 @@ words_of (SelfTest value) = codes "selftest" ∷ data_text value ∷ []
 words_of (Illegal mark) = codes "illegal" ∷ mark_words mark
 words_of (Legal mark) = codes "legal" ∷ mark_words mark
 words_of (Response ticks) = codes "response" ∷ decimal ticks ∷ []
+words_of (Deaf line on) = codes "deaf" ∷ line_text line ∷ switch_text on ∷ []
+words_of (Mute line on) = codes "mute" ∷ line_text line ∷ switch_text on ∷ []
 
 -- a space, and then a word
 abbrev pub spaced_word : Text → Text

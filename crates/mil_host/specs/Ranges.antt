@@ -2,7 +2,7 @@
 use Rattle.std.specs.Prelude.{◌≤◌, ◌<◌, length, All}
 use Rattle.mil_host.specs.Values.{PutUp, Marked}
 use Rattle.mil_host.specs.declared.actions.Action.{Action}
-use Rattle.mil_host.specs.declared.actions.Action.TheVariants.{Transmit, Busy, Service, Subsystem, Fault, Control, Vector, SelfTest, Illegal, Legal, Response}
+use Rattle.mil_host.specs.declared.actions.Action.TheVariants.{Transmit, Busy, Service, Subsystem, Fault, Control, Vector, SelfTest, Illegal, Legal, Response, Deaf, Mute}
 
 -- a subaddress of 1 to 29, and 1 to 32 data words of 16 bits
 pub record IsPutUp (put : PutUp) : Type 0 where
@@ -32,3 +32,5 @@ IsInRange (SelfTest value) = value < 65536
 IsInRange (Illegal mark) = IsMark mark
 IsInRange (Legal mark) = IsMark mark
 IsInRange (Response ticks) = (40 ≤ ticks) × (ticks ≤ 120)
+IsInRange (Deaf line on) = Unit {0}
+IsInRange (Mute line on) = Unit {0}

@@ -3,14 +3,16 @@ use Rattle.std.specs.Prelude.{ℕ, Bool, true, false, ◌&&◌, nat_le, List, []
 use Rattle.std.proofs.Common.{zero, suc}
 use Rattle.std.specs.Str.{bytes_eq}
 use Rattle.numerals.specs.Numerals.{spelled}
+use Rattle.mil_word.specs.declared.Line.{Line}
+use Rattle.mil_word.specs.declared.Line.TheVariants.{A, B}
 use Rattle.mil_host.specs.Values.{PutUp, Marked}
 use Rattle.mil_host.specs.Words.{Text, words}
 use Rattle.mil_host.specs.declared.reading.BadAction.{BadAction}
 use Rattle.mil_host.specs.declared.reading.BadAction.TheVariants.{Word, Number, Range}
 use Rattle.mil_host.specs.declared.names.Name.{Name}
-use Rattle.mil_host.specs.declared.names.Name.TheVariants.{TransmitName, BusyName, ServiceName, SubsystemName, FaultName, ControlName, VectorName, SelfTestName, IllegalName, LegalName, ResponseName}
+use Rattle.mil_host.specs.declared.names.Name.TheVariants.{TransmitName, BusyName, ServiceName, SubsystemName, FaultName, ControlName, VectorName, SelfTestName, IllegalName, LegalName, ResponseName, DeafName, MuteName}
 use Rattle.mil_host.specs.declared.actions.Action.{Action}
-use Rattle.mil_host.specs.declared.actions.Action.TheVariants.{Transmit, Busy, Service, Subsystem, Fault, Control, Vector, SelfTest, Illegal, Legal, Response}
+use Rattle.mil_host.specs.declared.actions.Action.TheVariants.{Transmit, Busy, Service, Subsystem, Fault, Control, Vector, SelfTest, Illegal, Legal, Response, Deaf, Mute}
 
 abbrev pub Read : Type 0 → Type 0
 Read X = Result X BadAction
@@ -37,7 +39,7 @@ value_or_fault (Some n) = Ok n
 abbrev pub data_of : Text → Read ℕ
 data_of word = value_or_fault (spelled 16 4 4 word)
 
--- the first of the words is a number of this range, a data word, `on` or `off`, or a direction
+-- the first of the words is a number of this range, a data word, `on` or `off`, a line, or a direction
 
 abbrev pub number_in : ℕ → ℕ → List Text → Read ℕ
 number_in low high [] = Err Word
@@ -53,6 +55,13 @@ one_of first second word = if bytes_eq word first then Ok true else if bytes_eq 
 abbrev pub switch_in : List Text → Read Bool
 switch_in [] = Err Word
 switch_in (word ∷ rest) = one_of (codes "on") (codes "off") word
+
+abbrev pub line_of : Text → Read Line
+line_of word = and_then (one_of (codes "A") (codes "B") word) (λ first. Ok (if first then A else B))
+
+abbrev pub line_in : List Text → Read Line
+line_in [] = Err Word
+line_in (word ∷ rest) = line_of word
 
 abbrev pub direction_in : List Text → Read Bool
 direction_in [] = Err Word
@@ -77,6 +86,10 @@ some_data (word ∷ rest) = all_data 32 (word ∷ rest)
 
 abbrev pub only_switch : List Text → Read Bool
 only_switch rest = and_then (switch_in rest) (λ on. and_end (drop 1 rest) on)
+
+-- a line, and `on` or `off`
+abbrev pub only_line_switch : List Text → Read (Line × Bool)
+only_line_switch rest = and_then (line_in rest) (λ line. and_then (switch_in (drop 1 rest)) (λ on. and_end (drop 2 rest) (line, on)))
 
 abbrev pub only_data : List Text → Read ℕ
 only_data rest = and_then (data_in rest) (λ value. and_end (drop 1 rest) value)
@@ -116,6 +129,8 @@ of_name SelfTestName rest = as_action SelfTest (only_data rest)
 of_name IllegalName rest = as_action Illegal (only_mark rest)
 of_name LegalName rest = as_action Legal (only_mark rest)
 of_name ResponseName rest = as_action Response (only_ticks rest)
+of_name DeafName rest = as_action (λ told. Deaf told.0 told.1) (only_line_switch rest)
+of_name MuteName rest = as_action (λ told. Mute told.0 told.1) (only_line_switch rest)
 
 -- the name that a word spells
 abbrev pub name_of : Text → Option Name
@@ -131,6 +146,8 @@ name_of word =
     else if bytes_eq word (codes "illegal") then Some IllegalName
     else if bytes_eq word (codes "legal") then Some LegalName
     else if bytes_eq word (codes "response") then Some ResponseName
+    else if bytes_eq word (codes "deaf") then Some DeafName
+    else if bytes_eq word (codes "mute") then Some MuteName
     else None
 
 abbrev pub of_word : Option Name → List Text → Read Action

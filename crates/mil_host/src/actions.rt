@@ -5,6 +5,7 @@ ghost use Rattle.mil_host.specs.Reading.{action_in};
 ghost use Rattle.mil_host.specs.Printing.{text_of};
 
 use crate::values::{Mark, ResponseGap, TransmitWords};
+use mil_word::Line;
 
 /// What the host sets on its remote terminal. At first everything is off, each subaddress and count is legal,
 /// the vector word and the self-test result are 0000, the response time is 80 ticks and no transmit words are put up (own choice).
@@ -32,6 +33,11 @@ pub enum Action {
     Legal(Mark),
     /// The response time (4.3.3.8).
     Response(ResponseGap),
+    /// Whether the terminal's receiver on a line fails: on a bus it meets no word and no quiet of that line (own choice).
+    Deaf { line: Line, on: bool },
+    /// Whether its transmitter on a line fails unnoticed: on a bus it acts there as ever, and nothing of its replies is sent
+    /// (own choice).
+    Mute { line: Line, on: bool },
 }
 
 impl Action {
@@ -51,6 +57,14 @@ impl Action {
             Action::Illegal(mark) => Action::Illegal(*mark),
             Action::Legal(mark) => Action::Legal(*mark),
             Action::Response(gap) => Action::Response(*gap),
+            Action::Deaf { line, on } => Action::Deaf {
+                line: *line,
+                on: *on,
+            },
+            Action::Mute { line, on } => Action::Mute {
+                line: *line,
+                on: *on,
+            },
         }
     }
 
@@ -80,7 +94,9 @@ impl Action {
             | Action::Service(_)
             | Action::Subsystem(_)
             | Action::Fault(_)
-            | Action::Control(_) => {}
+            | Action::Control(_)
+            | Action::Deaf { line: _, on: _ }
+            | Action::Mute { line: _, on: _ } => {}
         }
     }
 }

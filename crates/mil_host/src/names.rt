@@ -16,6 +16,8 @@ pub enum Name {
     IllegalName,
     LegalName,
     ResponseName,
+    DeafName,
+    MuteName,
 }
 
 /// The name that a word spells.
@@ -44,6 +46,10 @@ pub fn name_in(word: &[u8]) -> Option<Name>
         Some(Name::LegalName)
     } else if word == b"response".as_slice() {
         Some(Name::ResponseName)
+    } else if word == b"deaf".as_slice() {
+        Some(Name::DeafName)
+    } else if word == b"mute".as_slice() {
+        Some(Name::MuteName)
     } else {
         None
     }

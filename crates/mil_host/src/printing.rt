@@ -1,17 +1,27 @@
 //! The text of an action, and the code of a fault in such a text.
 ghost use Rattle.std.specs.Prelude.{◌≡◌};
-ghost use Rattle.mil_host.specs.Printing.{text_of, switch_text, direction_text};
+ghost use Rattle.mil_host.specs.Printing.{text_of, switch_text, direction_text, line_text};
 
 use crate::actions::Action;
 use crate::data_words::{DataWord, DataWords};
 use crate::reading::BadAction;
 use crate::values::Mark;
+use mil_word::Line;
 use std::fmt;
 
 fn switch(on: bool) -> &'static str
     ensures { result.now ≡ switch_text on }
 {
     if on { "on" } else { "off" }
+}
+
+fn letter(line: Line) -> &'static str
+    ensures { result.now ≡ line_text line }
+{
+    match line {
+        Line::A => "A",
+        Line::B => "B",
+    }
 }
 
 fn direction(mark: &Mark) -> &'static str
@@ -83,6 +93,8 @@ impl fmt::Display for Action {
                 let ticks = gap.ticks();
                 write!(f, "response {ticks}")
             }
+            Action::Deaf { line, on } => write!(f, "deaf {} {}", letter(*line), switch(*on)),
+            Action::Mute { line, on } => write!(f, "mute {} {}", letter(*line), switch(*on)),
         }
     }
 }

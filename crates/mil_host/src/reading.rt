@@ -1,12 +1,13 @@
 //! The action that a text spells.
-ghost use Rattle.std.specs.Prelude.{◌≡◌, ◌≤◌, Ok, Err, length, drop, IfOk, MatchResult};
-ghost use Rattle.mil_host.specs.Reading.{action_in, of_name, number_in, data_in, one_of, switch_in, direction_in, and_end, some_data, only_switch, only_data, only_ticks, only_words, only_mark, data_of, number_of};
+ghost use Rattle.std.specs.Prelude.{◌≡◌, ◌≤◌, Ok, Err, true, length, drop, IfOk, MatchResult};
+ghost use Rattle.mil_host.specs.Reading.{action_in, of_name, number_in, data_in, one_of, line_of, line_in, switch_in, direction_in, and_end, some_data, only_switch, only_line_switch, only_data, only_ticks, only_words, only_mark, data_of, number_of};
 
 use crate::actions::Action;
 use crate::names::{Name, name_in};
 use crate::values::{Mark, ResponseGap, TransmitWords};
 use crate::words::Words;
 use arrayvec::ArrayVec;
+use mil_word::Line;
 use numerals::spelled;
 
 /// Why a text spells no action.
@@ -58,6 +59,17 @@ fn yes_or_no(word: &[u8], first: &[u8], second: &[u8]) -> Result<bool, BadAction
     }
 }
 
+/// The line that a word names.
+fn line_named(word: &[u8]) -> Result<Line, BadAction>
+    ensures { result ≡ line_of word.now }
+{
+    if yes_or_no(word, b"A", b"B")? {
+        Ok(Line::A)
+    } else {
+        Ok(Line::B)
+    }
+}
+
 /// A number as the next word.
 fn read_number(words: &mut Words<'_>, low: u8, high: u8) -> Result<u8, BadAction>
     ensures value { result ≡ number_in low high words.old }
@@ -92,6 +104,17 @@ fn read_switch(words: &mut Words<'_>) -> Result<bool, BadAction>
     }
 }
 
+/// `A` or `B` as the next word.
+fn read_line(words: &mut Words<'_>) -> Result<Line, BadAction>
+    ensures value { result ≡ line_in words.old }
+    ensures rest { words.new ≡ drop 1 words.old }
+{
+    match words.next() {
+        Some(word) => line_named(word),
+        None => Err(BadAction::Word),
+    }
+}
+
 /// `transmit` or `receive` as the next word.
 fn read_direction(words: &mut Words<'_>) -> Result<bool, BadAction>
     ensures value { result ≡ direction_in words.old }
@@ -119,6 +142,15 @@ fn read_only_switch(words: &mut Words<'_>) -> Result<bool, BadAction>
 {
     let on = read_switch(words)?;
     read_end(words, on)
+}
+
+/// A line and `on` or `off`, and no more.
+fn read_only_line_switch(words: &mut Words<'_>) -> Result<(Line, bool), BadAction>
+    ensures { result ≡ only_line_switch words.old }
+{
+    let line = read_line(words)?;
+    let on = read_switch(words)?;
+    read_end(words, (line, on))
 }
 
 /// A data word, and no more.
@@ -192,12 +224,20 @@ fn read_named(name: Name, words: &mut Words<'_>) -> Result<Action, BadAction>
         Name::IllegalName => Ok(Action::Illegal(read_only_mark(words)?)),
         Name::LegalName => Ok(Action::Legal(read_only_mark(words)?)),
         Name::ResponseName => Ok(Action::Response(read_only_ticks(words)?)),
+        Name::DeafName => {
+            let (line, on) = read_only_line_switch(words)?;
+            Ok(Action::Deaf { line, on })
+        }
+        Name::MuteName => {
+            let (line, on) = read_only_line_switch(words)?;
+            Ok(Action::Mute { line, on })
+        }
     }
 }
 
 /// The action that a text spells, of words parted by one or more spaces: `transmit SUB WORD..`, `busy on|off`, `service on|off`,
 /// `subsystem on|off`, `fault on|off`, `control on|off`, `vector WORD`, `selftest WORD`, `illegal receive|transmit SUB COUNT`,
-/// `legal receive|transmit SUB COUNT` or `response TICKS` (own choice). The first fault from left to right is answered.
+/// `legal receive|transmit SUB COUNT`, `response TICKS`, `deaf A|B on|off` or `mute A|B on|off` (own choice). The first fault from left to right is answered.
 #[tactic(auto, unfolding(crate::specs::Reading::action_in))]
 pub fn read_action(text: &[u8]) -> Result<Action, BadAction>
     ensures { result ≡ action_in text.now }

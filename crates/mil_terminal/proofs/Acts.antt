@@ -7,7 +7,7 @@ use Rattle.std.specs.Option.{option_map}
 use Rattle.mil_word.specs.declared.Line.{Line}
 use Rattle.mil_host.specs.Values.{PutUp}
 use Rattle.mil_host.specs.declared.actions.Action.{Action}
-use Rattle.mil_host.specs.declared.actions.Action.TheVariants.{Transmit, Busy, Service, Subsystem, Fault, Control, Vector, SelfTest, Illegal, Legal, Response}
+use Rattle.mil_host.specs.declared.actions.Action.TheVariants.{Transmit, Busy, Service, Subsystem, Fault, Control, Vector, SelfTest, Illegal, Legal, Response, Deaf, Mute}
 use Rattle.mil_terminal.specs.declared.events.Event.{Event}
 use Rattle.mil_terminal.specs.declared.events.Event.TheVariants.{Host}
 use Rattle.mil_terminal.specs.History.{History}
@@ -97,6 +97,8 @@ told_none (SelfTest word) other sub = refl
 told_none (Illegal mark) other sub = refl
 told_none (Legal mark) other sub = refl
 told_none (Response ticks) other sub = refl
+told_none (Deaf line on) other sub = refl
+told_none (Mute line on) other sub = refl
 
 -- ---- at first
 

@@ -38,6 +38,8 @@ settings_heard r line wave gap past is = record {
   self_test = is.self_test;
   response = is.response;
   marks = is.marks;
+  deaf = is.deaf;
+  mute = is.mute;
 }
 
 pub settings_quiet : (r : Registers) (line : Line) (past : History) → AreSettings r.host past → AreSettings r.host (Quiet line ∷ past)
@@ -52,6 +54,8 @@ settings_quiet r line past is = record {
   self_test = is.self_test;
   response = is.response;
   marks = is.marks;
+  deaf = is.deaf;
+  mute = is.mute;
 }
 
 pub put_up_heard : (block : List (List ℕ)) (line : Line) (wave gap : ℕ) (past : History) → ArePutUp block past → ArePutUp block (Heard line wave gap ∷ past)

@@ -1,53 +1,70 @@
 -- What the host has set, after one more action.
-use Rattle.std.proofs.Common.{◌≡◌, ℕ, ◌<◌, ◌≤◌, ◌∷◌, refl, ◌∙◌}
+use Rattle.std.proofs.Common.{◌≡◌, ℕ, ◌<◌, ◌≤◌, ◌∷◌, refl, ap, ◌∙◌}
 use Rattle.std.specs.Prelude.{Bool, true, false, Some, None, if◌then◌else◌, unwrap_or}
+use Rattle.mil_word.specs.declared.Line.{Line}
+use Rattle.mil_word.specs.declared.Line.TheVariants.{A, B}
+use Rattle.mil_word.specs.Words.{same_line}
 use Rattle.mil_host.specs.Values.{PutUp, Marked}
-use Rattle.mil_host.specs.declared.actions.Action.TheVariants.{Transmit, Busy, Service, Subsystem, Fault, Control, Vector, SelfTest, Illegal, Legal, Response}
+use Rattle.mil_host.specs.declared.actions.Action.TheVariants.{Transmit, Busy, Service, Subsystem, Fault, Control, Vector, SelfTest, Illegal, Legal, Response, Deaf, Mute}
 use Rattle.mil_terminal.specs.declared.events.Event.TheVariants.{Host}
 use Rattle.mil_terminal.specs.History.{History}
-use Rattle.mil_terminal.specs.Host.{is_mark, is_marked_illegal}
+use Rattle.mil_terminal.specs.Host.{is_mark, is_marked_illegal, is_deaf, is_mute}
 use Rattle.mil_terminal.specs.Registers.{vector}
 use Rattle.mil_terminal.specs.Marking.{is_set}
+use Rattle.mil_terminal.specs.ByLines.{on_line, with_line}
+use Rattle.mil_terminal.specs.declared.by_lines.ByLine.{ByLine}
 use Rattle.mil_terminal.specs.declared.marks.Marks.{Marks}
 use Rattle.mil_terminal.specs.declared.host.Settings.{Settings}
 use Rattle.mil_terminal.specs.StandsFor.{AreSettings}
 
+-- a condition of each line, at first
+pub on_none : (c : ByLine) → c ≡ record { a = false; b = false } → (line : Line) → on_line c line ≡ false
+on_none c is A = ap (λ (x : ByLine). x.a) is
+on_none c is B = ap (λ (x : ByLine). x.b) is
+
+-- a condition of each line, after one more action
+told_on : (c : ByLine) (line l : Line) (on was : Bool) → on_line c l ≡ was → on_line (with_line c line on) l ≡ unwrap_or (if same_line line l then Some on else None) was
+told_on c A A on was is = refl
+told_on c A B on was is = is
+told_on c B A on was is = is
+told_on c B B on was is = refl
+
 module _ (s : Settings) (h : History) (is : AreSettings s h) where
   pub set_transmit : (put : PutUp) → AreSettings s (Host (Transmit put) ∷ h)
   unfolding vector
-  set_transmit put = record { busy = is.busy; service = is.service; subsystem = is.subsystem; fault = is.fault; control = is.control; vector = is.vector; self_test = is.self_test; response = is.response; marks = is.marks }
+  set_transmit put = record { busy = is.busy; service = is.service; subsystem = is.subsystem; fault = is.fault; control = is.control; vector = is.vector; self_test = is.self_test; response = is.response; marks = is.marks; deaf = is.deaf; mute = is.mute }
 
   pub set_busy : (on : Bool) → AreSettings (record s { busy = on }) (Host (Busy on) ∷ h)
   unfolding vector
-  set_busy on = record { busy = refl; service = is.service; subsystem = is.subsystem; fault = is.fault; control = is.control; vector = is.vector; self_test = is.self_test; response = is.response; marks = is.marks }
+  set_busy on = record { busy = refl; service = is.service; subsystem = is.subsystem; fault = is.fault; control = is.control; vector = is.vector; self_test = is.self_test; response = is.response; marks = is.marks; deaf = is.deaf; mute = is.mute }
 
   pub set_service : (on : Bool) → AreSettings (record s { service = on }) (Host (Service on) ∷ h)
   unfolding vector
-  set_service on = record { busy = is.busy; service = refl; subsystem = is.subsystem; fault = is.fault; control = is.control; vector = is.vector; self_test = is.self_test; response = is.response; marks = is.marks }
+  set_service on = record { busy = is.busy; service = refl; subsystem = is.subsystem; fault = is.fault; control = is.control; vector = is.vector; self_test = is.self_test; response = is.response; marks = is.marks; deaf = is.deaf; mute = is.mute }
 
   pub set_subsystem : (on : Bool) → AreSettings (record s { subsystem = on }) (Host (Subsystem on) ∷ h)
   unfolding vector
-  set_subsystem on = record { busy = is.busy; service = is.service; subsystem = refl; fault = is.fault; control = is.control; vector = is.vector; self_test = is.self_test; response = is.response; marks = is.marks }
+  set_subsystem on = record { busy = is.busy; service = is.service; subsystem = refl; fault = is.fault; control = is.control; vector = is.vector; self_test = is.self_test; response = is.response; marks = is.marks; deaf = is.deaf; mute = is.mute }
 
   pub set_fault : (on : Bool) → AreSettings (record s { fault = on }) (Host (Fault on) ∷ h)
   unfolding vector
-  set_fault on = record { busy = is.busy; service = is.service; subsystem = is.subsystem; fault = refl; control = is.control; vector = is.vector; self_test = is.self_test; response = is.response; marks = is.marks }
+  set_fault on = record { busy = is.busy; service = is.service; subsystem = is.subsystem; fault = refl; control = is.control; vector = is.vector; self_test = is.self_test; response = is.response; marks = is.marks; deaf = is.deaf; mute = is.mute }
 
   pub set_control : (on : Bool) → AreSettings (record s { control = on }) (Host (Control on) ∷ h)
   unfolding vector
-  set_control on = record { busy = is.busy; service = is.service; subsystem = is.subsystem; fault = is.fault; control = refl; vector = is.vector; self_test = is.self_test; response = is.response; marks = is.marks }
+  set_control on = record { busy = is.busy; service = is.service; subsystem = is.subsystem; fault = is.fault; control = refl; vector = is.vector; self_test = is.self_test; response = is.response; marks = is.marks; deaf = is.deaf; mute = is.mute }
 
   pub set_vector : (word : ℕ) → AreSettings (record s { vector = word }) (Host (Vector word) ∷ h)
   unfolding vector
-  set_vector word = record { busy = is.busy; service = is.service; subsystem = is.subsystem; fault = is.fault; control = is.control; vector = refl; self_test = is.self_test; response = is.response; marks = is.marks }
+  set_vector word = record { busy = is.busy; service = is.service; subsystem = is.subsystem; fault = is.fault; control = is.control; vector = refl; self_test = is.self_test; response = is.response; marks = is.marks; deaf = is.deaf; mute = is.mute }
 
   pub set_self_test : (word : ℕ) → AreSettings (record s { self_test = word }) (Host (SelfTest word) ∷ h)
   unfolding vector
-  set_self_test word = record { busy = is.busy; service = is.service; subsystem = is.subsystem; fault = is.fault; control = is.control; vector = is.vector; self_test = refl; response = is.response; marks = is.marks }
+  set_self_test word = record { busy = is.busy; service = is.service; subsystem = is.subsystem; fault = is.fault; control = is.control; vector = is.vector; self_test = refl; response = is.response; marks = is.marks; deaf = is.deaf; mute = is.mute }
 
   pub set_response : (ticks : ℕ) → AreSettings (record s { response = ticks }) (Host (Response ticks) ∷ h)
   unfolding vector
-  set_response ticks = record { busy = is.busy; service = is.service; subsystem = is.subsystem; fault = is.fault; control = is.control; vector = is.vector; self_test = is.self_test; response = refl; marks = is.marks }
+  set_response ticks = record { busy = is.busy; service = is.service; subsystem = is.subsystem; fault = is.fault; control = is.control; vector = is.vector; self_test = is.self_test; response = refl; marks = is.marks; deaf = is.deaf; mute = is.mute }
 
   marked : (on b old was : Bool) → old ≡ was → (if b then on else old) ≡ unwrap_or (if b then Some on else None) was
   marked on true old was same = refl
@@ -67,6 +84,8 @@ module _ (s : Settings) (h : History) (is : AreSettings s h) where
     self_test = is.self_test;
     response = is.response;
     marks = λ t sub n sub_lt n_ge n_le. set t sub n sub_lt n_ge n_le ∙ marked true (is_mark t sub n mark) (is_set s.marks t sub n) (is_marked_illegal t sub n h) (is.marks t sub n sub_lt n_ge n_le);
+    deaf = is.deaf;
+    mute = is.mute;
   }
 
   pub set_legal : (mark : Marked) (marks : Marks)
@@ -83,4 +102,38 @@ module _ (s : Settings) (h : History) (is : AreSettings s h) where
     self_test = is.self_test;
     response = is.response;
     marks = λ t sub n sub_lt n_ge n_le. set t sub n sub_lt n_ge n_le ∙ marked false (is_mark t sub n mark) (is_set s.marks t sub n) (is_marked_illegal t sub n h) (is.marks t sub n sub_lt n_ge n_le);
+    deaf = is.deaf;
+    mute = is.mute;
+  }
+
+  pub set_deaf : (line : Line) (on : Bool) → AreSettings (record s { deaf = with_line s.deaf line on }) (Host (Deaf line on) ∷ h)
+  unfolding vector
+  set_deaf line on = record {
+    busy = is.busy;
+    service = is.service;
+    subsystem = is.subsystem;
+    fault = is.fault;
+    control = is.control;
+    vector = is.vector;
+    self_test = is.self_test;
+    response = is.response;
+    marks = is.marks;
+    deaf = λ l. told_on s.deaf line l on (is_deaf l h) (is.deaf l);
+    mute = is.mute;
+  }
+
+  pub set_mute : (line : Line) (on : Bool) → AreSettings (record s { mute = with_line s.mute line on }) (Host (Mute line on) ∷ h)
+  unfolding vector
+  set_mute line on = record {
+    busy = is.busy;
+    service = is.service;
+    subsystem = is.subsystem;
+    fault = is.fault;
+    control = is.control;
+    vector = is.vector;
+    self_test = is.self_test;
+    response = is.response;
+    marks = is.marks;
+    deaf = is.deaf;
+    mute = λ l. told_on s.mute line l on (is_mute l h) (is.mute l);
   }

@@ -1,9 +1,10 @@
 -- What the host of a terminal has set by the end of a history.
 use Rattle.std.specs.Prelude.{ℕ, Bool, true, false, ◌&&◌, ◌==◌, List, [], Option, Some, None, if◌then◌else◌}
-use Rattle.mil_word.specs.Words.{same_bool}
+use Rattle.mil_word.specs.declared.Line.{Line}
+use Rattle.mil_word.specs.Words.{same_bool, same_line}
 use Rattle.mil_host.specs.Values.{Marked}
 use Rattle.mil_host.specs.declared.actions.Action.{Action}
-use Rattle.mil_host.specs.declared.actions.Action.TheVariants.{Transmit, Busy, Service, Subsystem, Fault, Control, Vector, SelfTest, Illegal, Legal, Response}
+use Rattle.mil_host.specs.declared.actions.Action.TheVariants.{Transmit, Busy, Service, Subsystem, Fault, Control, Vector, SelfTest, Illegal, Legal, Response, Deaf, Mute}
 use Rattle.mil_terminal.specs.History.{History, latest_set}
 
 abbrev pub told_busy : Action → Option Bool
@@ -51,6 +52,14 @@ told_illegal transmit sub count (Illegal mark) = if is_mark transmit sub count m
 told_illegal transmit sub count (Legal mark) = if is_mark transmit sub count mark then Some false else None
 told_illegal transmit sub count _ = None
 
+abbrev pub told_deaf : Line → Action → Option Bool
+told_deaf line (Deaf l on) = if same_line l line then Some on else None
+told_deaf line _ = None
+
+abbrev pub told_mute : Line → Action → Option Bool
+told_mute line (Mute l on) = if same_line l line then Some on else None
+told_mute line _ = None
+
 -- at first everything is off
 
 abbrev pub is_busy : History → Bool
@@ -84,3 +93,11 @@ words_put_up sub h = latest_set (told_words sub) [] h
 -- whether commands of this direction, subaddress and count are illegal (4.4.3.4)
 abbrev pub is_marked_illegal : Bool → ℕ → ℕ → History → Bool
 is_marked_illegal transmit sub count h = latest_set (told_illegal transmit sub count) false h
+
+-- whether nothing of a line comes to the terminal, whose receiver there fails (own choice)
+abbrev pub is_deaf : Line → History → Bool
+is_deaf line h = latest_set (told_deaf line) false h
+
+-- whether nothing of its replies comes on a line, where its transmitter fails (own choice)
+abbrev pub is_mute : Line → History → Bool
+is_mute line h = latest_set (told_mute line) false h

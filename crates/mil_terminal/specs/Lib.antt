@@ -8,6 +8,7 @@ pub mod Replies
 pub mod Station
 pub mod Runs
 pub mod Slots
+pub mod ByLines
 pub mod Marking
 pub mod Phases
 pub mod Updates

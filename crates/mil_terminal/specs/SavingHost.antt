@@ -31,4 +31,6 @@ settings_kept s marks = record {
   self_test = s.self_test;
   response = s.response;
   marks = marks;
+  deaf = s.deaf;
+  mute = s.mute;
 }

@@ -1,13 +1,15 @@
 -- Which histories the registers of a terminal stand for (inside the terminal).
 use Rattle.std.specs.Prelude.{◌≡◌, ℕ, ◌+◌, ◌<◌, ◌≤◌, Bool, not, List, [], Option, Some, None, slice_index_or, length}
+use Rattle.mil_word.specs.declared.Line.{Line}
 use Rattle.mil_word.specs.declared.Line.TheVariants.{A, B}
 use Rattle.mil_terminal.specs.declared.events.Event.{Event}
 use Rattle.mil_terminal.specs.History.{History}
-use Rattle.mil_terminal.specs.Host.{is_busy, requests_service, has_subsystem_fault, has_fault, accepts_control, self_test, response_gap, words_put_up, is_marked_illegal}
+use Rattle.mil_terminal.specs.Host.{is_busy, requests_service, has_subsystem_fault, has_fault, accepts_control, self_test, response_gap, words_put_up, is_marked_illegal, is_deaf, is_mute}
 use Rattle.mil_terminal.specs.Windows.{latest_window, undecided}
 use Rattle.mil_terminal.specs.Registers.{last_command, received, received_from_all, sync_word, bit_word, vector, is_transmitter_on, is_flag_inhibited}
 use Rattle.mil_terminal.specs.Status.{conditions}
 use Rattle.mil_terminal.specs.Marking.{is_set}
+use Rattle.mil_terminal.specs.ByLines.{on_line}
 use Rattle.mil_terminal.specs.Phases.{IsPending, window_of}
 use Rattle.mil_terminal.specs.declared.pending.Pending.{Pending}
 use Rattle.mil_terminal.specs.declared.switches.Switches.{Switches}
@@ -26,6 +28,8 @@ pub record AreSettings (s : Settings) (h : History) : Type 0 where
   pub self_test : s.self_test ≡ self_test h
   pub response : s.response ≡ response_gap h
   pub marks : (t : Bool) (sub n : ℕ) → sub < 32 → 1 ≤ n → n ≤ 32 → is_set s.marks t sub n ≡ is_marked_illegal t sub n h
+  pub deaf : (line : Line) → on_line s.deaf line ≡ is_deaf line h
+  pub mute : (line : Line) → on_line s.mute line ≡ is_mute line h
 
 -- what codes 4 to 8 have switched
 pub record AreSwitches (own : ℕ) (s : Switches) (h : History) : Type 0 where

@@ -3,6 +3,7 @@ ghost use Rattle.std.specs.Prelude.{◌≡◌, [], ◌∷◌};
 ghost use Rattle.mil_terminal.specs.declared.events.Event.TheVariants.{Host as host_event};
 ghost use Rattle.mil_terminal.specs.History.{History};
 
+use crate::by_lines::ByLine;
 use crate::marks::Marks;
 use mil_host::Action;
 use mil_line::Gap;
@@ -19,6 +20,8 @@ pub struct Settings {
     pub self_test: u16,
     pub response: Gap,
     pub marks: Marks,
+    pub deaf: ByLine,
+    pub mute: ByLine,
 }
 
 impl Settings {
@@ -38,6 +41,8 @@ impl Settings {
             self_test: 0,
             response: Gap::of(80),
             marks: Marks::none(),
+            deaf: ByLine::none(),
+            mute: ByLine::none(),
         }
     }
 
@@ -57,6 +62,8 @@ impl Settings {
             Action::Illegal(mark) => self.marks.set(*mark, true),
             Action::Legal(mark) => self.marks.set(*mark, false),
             Action::Response(gap) => self.response = Gap::of(u16::from(gap.ticks())),
+            Action::Deaf { line, on } => self.deaf.set(*line, *on),
+            Action::Mute { line, on } => self.mute.set(*line, *on),
         }
     }
 
@@ -74,6 +81,8 @@ impl Settings {
             self_test: self.self_test,
             response: self.response,
             marks: self.marks.copy(),
+            deaf: self.deaf,
+            mute: self.mute,
         }
     }
 }

@@ -5,6 +5,7 @@
 
 mod addresses;
 mod blocks;
+mod by_lines;
 mod commands;
 mod conditions;
 mod error;

@@ -2,6 +2,7 @@
 ghost use Rattle.std.specs.Prelude.{◌≡◌, ◌+◌, ◌≤◌, ◌<◌, ◌==◌, ◌&&◌, not, [], ◌∷◌, IfOk, length, replicate, ◌++◌, Some, None, if◌then◌else◌};
 ghost use Rattle.mil_terminal.specs.declared.events.Event.TheVariants.{Heard, Quiet, Host};
 ghost use Rattle.mil_terminal.specs.History.{History};
+ghost use Rattle.mil_terminal.specs.Host.{is_deaf, is_mute};
 ghost use Rattle.mil_terminal.specs.Registers as registers;
 ghost use Rattle.mil_terminal.specs.Status.{status};
 ghost use Rattle.mil_terminal.specs.Replies as replies;
@@ -324,6 +325,22 @@ impl Registers {
         ensures { (h : History) → StandsFor self.now h → result ≡ registers.is_flag_inhibited self.now.own h }
     {
         self.switches.inhibited
+    }
+
+    /// Whether the terminal is deaf on the line.
+    #[inline]
+    pub fn deaf(&self, line: Line) -> bool
+        ensures { (h : History) → StandsFor self.now h → result ≡ is_deaf line h }
+    {
+        self.host.deaf.has(line)
+    }
+
+    /// Whether it is mute there.
+    #[inline]
+    pub fn mute(&self, line: Line) -> bool
+        ensures { (h : History) → StandsFor self.now h → result ≡ is_mute line h }
+    {
+        self.host.mute.has(line)
     }
 
     /// The words that were received at the subaddress.

@@ -3,6 +3,7 @@ ghost use Rattle.std.specs.Prelude.{◌≡◌, IfOk};
 ghost use Rattle.mil_terminal.specs.SavingHost.{kept_marks, marks_kept, window_kept, settings_kept};
 
 use crate::addresses::Address;
+use crate::by_lines::ByLine;
 use crate::conditions::Conditions;
 use crate::host::Settings;
 use crate::marks::Marks;
@@ -33,6 +34,8 @@ pub struct SavedSettings {
     subsystem: bool,
     fault: bool,
     control: bool,
+    deaf: ByLine,
+    mute: ByLine,
 }
 
 /// What is kept of the registers: what is rare only where it is there, and the words packed. The widest fields stand first, since
@@ -84,6 +87,8 @@ impl Settings {
             subsystem: self.subsystem,
             fault: self.fault,
             control: self.control,
+            deaf: self.deaf,
+            mute: self.mute,
         }
     }
 }
@@ -103,6 +108,8 @@ impl SavedSettings {
             self_test: self.self_test,
             response: self.response,
             marks,
+            deaf: self.deaf,
+            mute: self.mute,
         }
     }
 }

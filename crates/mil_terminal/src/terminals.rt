@@ -4,6 +4,7 @@ ghost use Rattle.mil_word.specs.declared.Line.{Line as LineValue};
 ghost use Rattle.mil_word.specs.Wave.{word_of};
 ghost use Rattle.mil_word.specs.Words.{command_in};
 ghost use Rattle.mil_terminal.specs.declared.events.Event.TheVariants.{Heard, Quiet, Host};
+ghost use Rattle.mil_terminal.specs.Host.{is_deaf, is_mute};
 ghost use Rattle.mil_terminal.specs.Registers as registers;
 ghost use Rattle.mil_terminal.specs.Replies as replies;
 ghost use Rattle.mil_terminal.specs.Status as statuses;
@@ -222,6 +223,24 @@ impl Terminal {
         ensures { result ≡ registers.is_flag_inhibited self.now.own self.now.history }
     {
         self.registers.flag_inhibited()
+    }
+
+    /// Whether the host has made the terminal deaf on the line, as it is not at first. A bus brings it no word and no quiet
+    /// of that line then; what it is brought it takes as ever.
+    #[inline]
+    pub fn deaf(&self, line: Line) -> bool
+        ensures { result ≡ is_deaf line self.now.history }
+    {
+        self.registers.deaf(line)
+    }
+
+    /// Whether the host has made it mute on the line, as it is not at first. A bus sends none of its replies there then; the
+    /// terminal acts and answers as ever.
+    #[inline]
+    pub fn mute(&self, line: Line) -> bool
+        ensures { result ≡ is_mute line self.now.history }
+    {
+        self.registers.mute(line)
     }
 
     /// The words that the latest receive command to this terminal left at a subaddress of 1 to 30; none at first.

@@ -20,6 +20,13 @@ const FAULTS: &[(&str, BadAction)] = &[
     ("transmit 30 0001", BadAction::Range),
     ("", BadAction::Word),
     ("busy on off", BadAction::Word),
+    ("deaf", BadAction::Word),
+    ("deaf C on", BadAction::Word),
+    ("deaf on", BadAction::Word),
+    ("mute a on", BadAction::Word),
+    ("mute A", BadAction::Word),
+    ("mute A maybe", BadAction::Word),
+    ("mute B on on", BadAction::Word),
 ];
 
 #[test]
@@ -54,6 +61,10 @@ const PRINTED: &[&str] = &[
     "illegal receive 3 4",
     "legal transmit 30 32",
     "response 120",
+    "deaf A on",
+    "deaf B off",
+    "mute A off",
+    "mute B on",
 ];
 
 /// The action that a text spells is printed as that text.

@@ -11,8 +11,10 @@ use std::alloc::Global;
 use std::process::Abort;
 
 mod addresses;
+mod failing;
 mod faults;
 mod messages;
+mod paces;
 
 /// A bus with its plan, and the number of the last message.
 #[derive(Drop)]
@@ -52,6 +54,10 @@ enum Step {
     ReceivedFromAll(u8, u8, &'static [u16]),
     /// The bus's clock.
     Clock(u64),
+    /// No talk starts before this tick.
+    Pace(u64),
+    /// When the bus stands.
+    Now(u64),
 }
 
 /// A fault.
@@ -223,6 +229,8 @@ impl Setting {
                 self.has_received_from_all(rt, row, address, subaddress, words)
             }
             Step::Clock(ticks) => same_in(rt, row, &self.bus.clock(), &ticks),
+            Step::Pace(tick) => self.bus.pace(tick),
+            Step::Now(ticks) => same_in(rt, row, &self.bus.now(), &ticks),
         }
     }
 
@@ -239,7 +247,7 @@ impl Setting {
     /// The record of the next message.
     fn send(&mut self, rt: &impl Abort, line: Line, draft: Draft<'_>) -> Record {
         let message = Message::check(draft).expect(rt, "a draft in range");
-        assert!(rt; self.bus.clock() < 1 << 60);
+        assert!(rt; self.bus.now() < 1 << 60);
         self.number = self.number.wrapping_add(1);
         let faults = self.plan.faults(self.number);
         let mut seen = Seen::none();

@@ -1,13 +1,14 @@
 -- A recording under the debugger goes to the first message that is met.
 use Rattle.std.proofs.Common.{◌≡◌, ℕ, suc, ◌≤◌, List, [], ◌∷◌, length, Option, Some, None, refl, sym, ap, ◌∙◌, subst}
 use Rattle.std.specs.List.{AllByRecursion, slice_get}
-use Rattle.std.specs.Prelude.{Result, Ok, Err, OnOk}
+use Rattle.std.specs.Prelude.{Result, Ok, Err, OnOk, IfErr}
 use Rattle.frame_tree.specs.Tree.{Condition}
 use Rattle.ch11_reader.specs.Recording.{Found}
 use Rattle.bench_core.proofs.Offers.{map_at}
 use Rattle.replay.specs.Accord.{kept_in, Agrees}
 use Rattle.replay.specs.Places.{heard_channels}
-use Rattle.replay.specs.Moves.{ReplayState, at_place, IsNextMet, IsNowhere}
+use Rattle.replay.specs.Moves.{ReplayState, at_place, IsNextMet, IsNowhere, PastWhere, IsMemory}
+use Rattle.replay.specs.declared.error.ReplayError.{ReplayError}
 use Rattle.replay.specs.Tracks.{Pair, jobs_in, parts_in}
 use Rattle.replay.specs.Finding.{count_to, IsMetIn, Finds}
 use Rattle.replay.proofs.Counting.{room}
@@ -44,3 +45,9 @@ module _ (pairs tracks : List Pair) (found : List Found) (place : ℕ) (channels
 pub stops_there : {T E : Type 0} (r : Result T E) (old new : ReplayState) (test : Condition) (n : ℕ) → OnOk r (new ≡ at_place n old) → IsNextMet old test n → OnOk r (IsNextMet old test new.place)
 stops_there (Ok x) old new test n moved met = subst (IsNextMet old test) (sym (ap (λ (s : ReplayState). s.place) moved)) met
 stops_there (Err e) old new test n moved met = tt
+
+-- want of memory for a move to it, where there is one
+pub somewhere : {T : Type 0} (r : Result T ReplayError) (s : ReplayState) (test : Condition) (n : ℕ) → IfErr r (λ e. IsMemory e) → IsNextMet s test n
+    → IfErr r (λ e. PastWhere (IsNowhere s test) e)
+somewhere (Ok x) s test n memory met = tt
+somewhere (Err e) s test n memory met = subst (PastWhere (IsNowhere s test)) (sym memory) (λ none. none n met.past met.met)

@@ -22,8 +22,17 @@ pub record ReplayState : Type 0 where
   pub found : List Found
   pub place : ℕ
 
+-- where a debugger stands when it is opened
+abbrev pub opened : List JobState → List ChannelPart → List Found → ReplayState
+opened jobs parts found = record { jobs = jobs; parts = parts; found = found; place = 0 }
+
 abbrev pub at_place : ℕ → ReplayState → ReplayState
 at_place place s = record { jobs = s.jobs; parts = s.parts; found = s.found; place = place }
+
+-- the debugger: where it stands, and how many messages of the file its last move that succeeded has played
+pub record DebuggerState : Type 0 where
+  pub state : ReplayState
+  pub replayed : ℕ
 
 -- how many messages the file has
 abbrev pub total_of : ReplayState → ℕ
@@ -76,19 +85,19 @@ OpensNot jobs parts found error.Past = ⊥
 OpensNot jobs parts found error.Start = ⊥
 OpensNot jobs parts found error.Memory = Unit {0}
 
--- Y2, only where there is nowhere to go to, or want of memory
+-- Y2, only where there is nowhere to go to, or want of memory, only where there is somewhere
 abbrev pub PastWhere : Type 0 → ReplayError → Type 0
 PastWhere P (error.Mismatch channel number) = ⊥
 PastWhere P error.Past = P
 PastWhere P error.Start = ⊥
-PastWhere P error.Memory = Unit {0}
+PastWhere P error.Memory = ¬ P
 
--- Y3, only where there is nowhere to go back to, or want of memory
+-- Y3, only where there is nowhere to go back to, or want of memory, only where there is somewhere
 abbrev pub StartWhere : Type 0 → ReplayError → Type 0
 StartWhere P (error.Mismatch channel number) = ⊥
 StartWhere P error.Past = ⊥
 StartWhere P error.Start = P
-StartWhere P error.Memory = Unit {0}
+StartWhere P error.Memory = ¬ P
 
 -- want of memory alone
 abbrev pub IsMemory : ReplayError → Type 0

@@ -6,7 +6,8 @@ ghost use Rattle.job_file.specs.Meaning.{bus_after};
 ghost use Rattle.job_file.specs.Machines.{IsOf, IsTold};
 ghost use Rattle.replay.specs.Accord.{Agrees};
 ghost use Rattle.replay.specs.Places.{number_at};
-ghost use Rattle.replay.specs.Moves.{at_place, total_of, OfJob, IsNextMet, IsNowhere, OpensNot, PastWhere, StartWhere, IsMemory};
+ghost use Rattle.replay.specs.Moves.{opened, at_place, total_of, OfJob, IsNextMet, IsNowhere};
+ghost use Rattle.replay.specs.Moves.{OpensNot, PastWhere, StartWhere, IsMemory};
 
 use crate::checkpoints::empty_stops;
 use crate::error::ReplayError;
@@ -22,8 +23,9 @@ use job_file::Job;
 use std::alloc::{Allocator, Global};
 use std::marker::Model;
 
-/// A recording under the debugger, with the jobs and the report of its run, which agree with it. Contracts see the jobs, their
-/// parts of the report, the packets of the file, and the place: behind how many messages of the file it stands.
+/// A recording under the debugger, with the jobs and the report of its run, which agree with it. Contracts see the
+/// jobs, their parts of the report, the packets of the file, the place, which is behind how many messages it
+/// stands, and how many messages the last move that succeeded has played.
 #[derive(Drop)]
 pub struct Replay<'a> {
     index: Index<'a>,
@@ -35,17 +37,30 @@ pub struct Replay<'a> {
 impl<'a> Model for Replay<'a> {
     ghost use Rattle.job_file.specs.contracts.scripts.Script as scripts;
     ghost use Rattle.std.specs.Coded.{codes};
-    ghost use Rattle.replay.specs.Moves.{ReplayState};
+    ghost use Rattle.replay.specs.Moves.{DebuggerState};
     ghost use Rattle.replay.specs.Tracks.{jobs_in, parts_in};
     ghost use Rattle.replay.specs.Replaying.{IsReplay};
 
-    ghost Value = { ReplayState };
+    ghost Value = { DebuggerState };
 
     ghost coded = { Prim.hlevel (codes, scripts.the_row.coded) };
 
-    ghost view = { λ r. record { jobs = jobs_in r.timeline.tracks.items; parts = parts_in r.timeline.tracks.items; found = r.index; place = r.place } };
+    ghost view = { λ r. record {
+      state = record {
+        jobs = jobs_in r.timeline.tracks.items;
+        parts = parts_in r.timeline.tracks.items;
+        found = r.index;
+        place = r.place;
+      };
+      replayed = r.replayed;
+    } };
 
-    ghost invariant = { λ r. IsReplay (record { jobs = jobs_in r.timeline.tracks.items; parts = parts_in r.timeline.tracks.items; found = r.index; place = r.place }) r.timeline r.replayed };
+    ghost invariant = { λ r. IsReplay (record {
+      jobs = jobs_in r.timeline.tracks.items;
+      parts = parts_in r.timeline.tracks.items;
+      found = r.index;
+      place = r.place;
+    }) r.timeline r.replayed };
 }
 
 impl<'a> Replay<'a> {
@@ -60,7 +75,8 @@ impl<'a> Replay<'a> {
         report: &Report,
         index: Index<'a>,
     ) -> Result<Replay<'a>, ReplayError>
-        ensures ok { IfOk result (λ r. r ≡ record { jobs = jobs.now; parts = report.now.channels; found = index.entry; place = 0 }) }
+        ensures ok { IfOk result (λ r. r.state ≡ opened jobs.now report.now.channels index.entry) }
+        ensures none { IfOk result (λ r. r.replayed ≡ 0) }
         ensures agrees { OnOk result (Agrees jobs.now report.now.channels index.entry) }
         ensures mismatch { IfErr result (λ e. OpensNot jobs.now report.now.channels index.entry e) }
     {
@@ -82,8 +98,9 @@ impl<'a> Replay<'a> {
 
     /// To a place behind so many messages of the file. Condition: it has as many. Y4 leaves all as it was.
     fn move_to(&mut self, n: u64) -> Result<(), ReplayError>
-        requires { n ≤ total_of self.old }
-        ensures moved { OnOk result (self.new ≡ at_place n self.old) }
+        requires { n ≤ total_of self.old.state }
+        ensures moved { OnOk result (self.new.state ≡ at_place n self.old.state) }
+        ensures ahead { OnOk result (self.old.state.place ≤ n → self.new.replayed ≤ n - self.old.state.place) }
         ensures refused { IfErr result (λ e. IsMemory e) }
         ensures same { OnErr result (self.new ≡ self.old) }
     {
@@ -97,11 +114,13 @@ impl<'a> Replay<'a> {
         }
     }
 
-    /// To the next message of the file. Y2 where there is none; a refusal leaves all as it was.
+    /// To the next message of the file, by playing that one at most. Y2 where there is none; a refusal leaves all as it
+    /// was.
     pub fn forward(&mut self) -> Result<(), ReplayError>
-        ensures there { OnOk result (self.old.place < total_of self.old) }
-        ensures moved { OnOk result (self.new ≡ at_place (self.old.place + 1) self.old) }
-        ensures refused { IfErr result (λ e. PastWhere (total_of self.old ≤ self.old.place) e) }
+        ensures there { OnOk result (self.old.state.place < total_of self.old.state) }
+        ensures moved { OnOk result (self.new.state ≡ at_place (self.old.state.place + 1) self.old.state) }
+        ensures few { OnOk result (self.new.replayed ≤ 1) }
+        ensures refused { IfErr result (λ e. PastWhere (total_of self.old.state ≤ self.old.state.place) e) }
         ensures same { OnErr result (self.new ≡ self.old) }
     {
         if self.place >= self.total() {
@@ -112,9 +131,9 @@ impl<'a> Replay<'a> {
 
     /// To the message before. Y3 at the start; a refusal leaves all as it was.
     pub fn back(&mut self) -> Result<(), ReplayError>
-        ensures there { OnOk result (0 < self.old.place) }
-        ensures moved { OnOk result (self.new ≡ at_place (self.old.place - 1) self.old) }
-        ensures refused { IfErr result (λ e. StartWhere (self.old.place ≡ 0) e) }
+        ensures there { OnOk result (0 < self.old.state.place) }
+        ensures moved { OnOk result (self.new.state ≡ at_place (self.old.state.place - 1) self.old.state) }
+        ensures refused { IfErr result (λ e. StartWhere (self.old.state.place ≡ 0) e) }
         ensures same { OnErr result (self.new ≡ self.old) }
     {
         if self.place == 0 {
@@ -125,9 +144,9 @@ impl<'a> Replay<'a> {
 
     /// To the place behind so many messages of the file. Y2 where it has fewer; a refusal leaves all as it was.
     pub fn go(&mut self, n: u64) -> Result<(), ReplayError>
-        ensures there { OnOk result (n ≤ total_of self.old) }
-        ensures moved { OnOk result (self.new ≡ at_place n self.old) }
-        ensures refused { IfErr result (λ e. PastWhere (total_of self.old < n) e) }
+        ensures there { OnOk result (n ≤ total_of self.old.state) }
+        ensures moved { OnOk result (self.new.state ≡ at_place n self.old.state) }
+        ensures refused { IfErr result (λ e. PastWhere (total_of self.old.state < n) e) }
         ensures same { OnErr result (self.new ≡ self.old) }
     {
         if n > self.total() {
@@ -139,9 +158,9 @@ impl<'a> Replay<'a> {
     /// To the first message past the place whose outcome makes the condition true. Y2 where there is none; a refusal leaves
     /// all as it was.
     pub fn find<A: Allocator + Clone>(&mut self, condition: &Cond<A>) -> Result<(), ReplayError>
-        ensures there { OnOk result (IsNextMet self.old (condition_in condition.now) self.new.place) }
-        ensures moved { OnOk result (self.new ≡ at_place self.new.place self.old) }
-        ensures refused { IfErr result (λ e. PastWhere (IsNowhere self.old (condition_in condition.now)) e) }
+        ensures there { OnOk result (IsNextMet self.old.state (condition_in condition.now) self.new.state.place) }
+        ensures moved { OnOk result (self.new.state ≡ at_place self.new.state.place self.old.state) }
+        ensures refused { IfErr result (λ e. PastWhere (IsNowhere self.old.state (condition_in condition.now)) e) }
         ensures same { OnErr result (self.new ≡ self.old) }
     {
         let timeline = &self.timeline;
@@ -158,39 +177,41 @@ impl<'a> Replay<'a> {
 
     /// Behind how many messages of the file the debugger stands, 0 to all of them.
     pub fn place(&self) -> u64
-        ensures value { result ≡ self.now.place }
-        ensures within { result ≤ total_of self.now }
+        ensures value { result ≡ self.now.state.place }
+        ensures within { result ≤ total_of self.now.state }
     {
         self.place
     }
 
-    /// How many messages of the file the last move that succeeded has played, from the nearest state that was kept: no more than
-    /// stand behind the place since the last multiple of 64, so 63 at most, and none before any move.
+    /// How many messages of the file the last move that succeeded has played, from the nearest state that was kept: no
+    /// more than stand between the last multiple of 64 and the place, so 63 at most; one at most where it was to the
+    /// next message; and none before any move. A refusal leaves it as it was.
     pub fn replayed(&self) -> u64
-        ensures few { result ≤ self.now.place % 64 }
+        ensures value { result ≡ self.now.replayed }
+        ensures few { result ≤ self.now.state.place % 64 }
     {
         self.replayed
     }
 
     /// How many messages the file has.
     pub fn total(&self) -> u64
-        ensures { result ≡ total_of self.now }
+        ensures { result ≡ total_of self.now.state }
     {
         self.timeline.channels.len() as u64
     }
 
     /// How many jobs there are.
     pub fn jobs(&self) -> usize
-        ensures value { result ≡ length self.now.jobs }
-        ensures agrees { Agrees self.now.jobs self.now.parts self.now.found }
+        ensures value { result ≡ length self.now.state.jobs }
+        ensures agrees { Agrees self.now.state.jobs self.now.state.parts self.now.state.found }
     {
         self.timeline.tracks.len()
     }
 
     /// The channel of the job at an index, 1 to 65,535. Condition: there is such a job.
     pub fn channel(&self, index: usize) -> u16
-        requires { index < length self.now.jobs }
-        ensures { (job : JobState) → slice_get self.now.jobs index ≡ Some job → result ≡ job.channel }
+        requires { index < length self.now.state.jobs }
+        ensures { (job : JobState) → slice_get self.now.state.jobs index ≡ Some job → result ≡ job.channel }
     {
         self.timeline.tracks[index].channel()
     }
@@ -198,10 +219,13 @@ impl<'a> Replay<'a> {
     /// The controller of the job at an index as it was behind the latest message of its channel among those before the place,
     /// and before any where there is none. Condition: there is such a job.
     pub fn state(&self, index: usize) -> &Machine
-        requires { index < length self.now.jobs }
-        ensures of_job { OfJob self.now index (λ job part. IsOf (job_in job) part.placed result.now) }
-        ensures number { OfJob self.now index (λ job part. result.now.point.number ≡ number_at self.now.found self.now.place job part) }
-        ensures bus { OfJob self.now index (λ job part. result.now.point.state ≡ bus_after (job_in job) part.placed (number_at self.now.found self.now.place job part)) }
+        requires { index < length self.now.state.jobs }
+        ensures of_job { OfJob self.now.state index (λ job part. IsOf (job_in job) part.placed result.now) }
+        ensures number { OfJob self.now.state index
+            (λ job part. result.now.point.number ≡ number_at self.now.state.found self.now.state.place job part) }
+        ensures bus { OfJob self.now.state index
+            (λ job part. result.now.point.state
+            ≡ bus_after (job_in job) part.placed (number_at self.now.state.found self.now.state.place job part)) }
         ensures outcome { IsTold result.now }
     {
         let track = &self.timeline.tracks[index];

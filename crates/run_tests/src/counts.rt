@@ -1,5 +1,5 @@
-//! The counts of a report, and their line.
-use bench_record::{Counts, print_counts};
+//! The counts of a report and their line, and how many messages were refused.
+use bench_record::{Counts, print_counts, refusals};
 use bench_report::read_report;
 use std::alloc::Global;
 use std::process::Abort;
@@ -32,4 +32,22 @@ fn refused_messages_are_not_in_the_recording(rt: HostRuntime) {
 #[test]
 fn an_empty_report(rt: HostRuntime) {
     has_counts(&rt, rt.alloc(), "packets 0\n", 0, 0);
+}
+
+/// What is said of the refused messages of the report that a text spells.
+fn tells(rt: &impl Abort, alloc: Global, text: &str, wanted: &str) {
+    let report = read_report(alloc, text.as_bytes())
+        .ok()
+        .expect(rt, "a report");
+    let said = refusals(alloc, &report).expect(rt, "memory");
+    assert_eq!(rt; said.as_str(), wanted);
+}
+
+#[test]
+fn refused_messages_are_told_by_channel(rt: HostRuntime) {
+    let text =
+        "channel 1\nmade 5\nrefused 3\nrefused 4\nchannel 2\nmade 5\nchannel 3\nmade 1\nrefused 1\npackets 2\n";
+    let wanted = "3 messages were refused at a full queue, 2 of channel 1, 1 of channel 3";
+    tells(&rt, rt.alloc(), text, wanted);
+    tells(&rt, rt.alloc(), "channel 1\nmade 5\npackets 1\n", "");
 }

@@ -69,7 +69,7 @@ fn name_of(kind: u64) -> &'static str {
 fn round(bus: &mut Bus, message: &Message, exchanges: u32) -> u64 {
     let mut sum = 0u64;
     for _ in 0..exchanges {
-        if bus.clock() < 1 << 60 {
+        if bus.now() < 1 << 60 {
             let talk = bus.exchange(Line::A, message, Gap::of(40), &[]);
             sum = sum.wrapping_add(talk.sent.len() as u64);
         }
@@ -82,7 +82,7 @@ fn observed_round(bus: &mut Bus, message: &Message, exchanges: u32) -> u64 {
     let mut sum = 0u64;
     let mut talk = Talk::none();
     for _ in 0..exchanges {
-        if bus.clock() < 1 << 60 {
+        if bus.now() < 1 << 60 {
             let mut seen = Seen::none();
             let verdict = bus.exchange_into(
                 Line::A,

@@ -1,5 +1,5 @@
 use Rattle.std.proofs.Common.{◌≡◌, drop}
-use Rattle.mil_bus.specs.Exchange.{clock_of}
+use Rattle.mil_bus.specs.Exchange.{now_of}
 use Rattle.bc_machine.specs.Controller.{all_acted, placed_at}
 use Rattle.bc_machine.proofs.placed.act_at.Given as goal
 
@@ -7,5 +7,5 @@ use Rattle.bc_machine.proofs.placed.act_at.Given as goal
 abbrev pub invariant-loop-one : goal.invariant-loop-one
 invariant-loop-one l = record {
   left : all_acted l.bus (placed_at l.number (drop l.one-index l.placed)) ≡ all_acted l.initial.bus (placed_at l.number l.placed);
-  clock : clock_of l.bus.start l.bus.talks ≡ clock_of l.initial.bus.start l.initial.bus.talks;
+  clock : now_of l.bus ≡ now_of l.initial.bus;
 }

@@ -5,10 +5,10 @@ use Rattle.bench_step.proofs.sessions.answer_all.Goals as goal
 use Rattle.bench_step.proofs.sessions.answer_all.Goals.{then-refused, else-refused}
 
 pub lines-init : goal.lines-init
-lines-init g c = begins c.args.replay.now _ _
+lines-init g c = begins c.args.replay.now.state _ _
 
 pub returns-in-Err-clause-first : goal.returns-in-Err-clause-first
-returns-in-Err-clause-first g c = cut_short _ _ _ _ _ _ _ _ c.lines.invariant c.of_reader.ensures
+returns-in-Err-clause-first g c = cut_short _ _ _ _ _ _ _ _ _ c.lines.invariant c.of_reader.ensures
 
 pub lines-preserved : goal.lines-preserved
 lines-preserved g c =

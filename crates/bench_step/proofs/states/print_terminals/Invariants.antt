@@ -4,4 +4,4 @@ use Rattle.bench_step.proofs.states.print_terminals.Given as goal
 
 -- the lines of the terminals so far
 abbrev pub invariant-loop-address : goal.invariant-loop-address
-invariant-loop-address g l = Appends (g.W.Write.contents l.fn.out) (g.W.Write.contents l.out) (lines_below l.address l.bus)
+invariant-loop-address g l = Appends (g.W.Write.contents l.fn.out) (g.W.Write.contents l.out) (lines_below l.fn.detail l.address l.bus)

@@ -1,14 +1,14 @@
 use Rattle.std.proofs.Common.{◌≡◌, true, false, ◌∙◌}
-use Rattle.mil_bus.specs.Exchange.{sends}
-use Rattle.mil_bus.proofs.DataRuns.{run-heard, run-own}
+use Rattle.mil_bus.specs.Exchange.{misses}
+use Rattle.mil_bus.proofs.DataRuns.{run-heard, run-missed}
 use Rattle.mil_bus.proofs.data_runs.hear_words.Goals as goal
 
-pub returns-then-not-is_sender : goal.returns-then-not-is_sender
-returns-then-not-is_sender c =
-    let other : sends c.args.run.now.source c.args.terminal.now.own ≡ false = cc in
+pub returns-then-not-misses : goal.returns-then-not-misses
+returns-then-not-misses c =
+    let other : misses c.args.line c.args.run.now.source c.args.terminal.now ≡ false = cc in
     c.hear_run.ensures ∙ run-heard c.args.line c.args.run.now c.args.waves.now c.args.terminal.now other
 
-pub returns-else-not-is_sender : goal.returns-else-not-is_sender
-returns-else-not-is_sender c =
-    let own : sends c.args.run.now.source c.args.terminal.now.own ≡ true = cc in
-    run-own c.args.line c.args.run.now c.args.waves.now c.args.terminal.now own
+pub returns-else-not-misses : goal.returns-else-not-misses
+returns-else-not-misses c =
+    let missed : misses c.args.line c.args.run.now.source c.args.terminal.now ≡ true = cc in
+    run-missed c.args.line c.args.run.now c.args.waves.now c.args.terminal.now missed

@@ -1,4 +1,4 @@
-use Rattle.mil_terminal.proofs.Setting.{set_transmit, set_busy, set_service, set_subsystem, set_fault, set_control, set_vector, set_self_test, set_illegal, set_legal, set_response}
+use Rattle.mil_terminal.proofs.Setting.{set_transmit, set_busy, set_service, set_subsystem, set_fault, set_control, set_vector, set_self_test, set_illegal, set_legal, set_response, set_deaf, set_mute}
 use Rattle.mil_terminal.proofs.host.Settings.set.Goals as goal
 
 pub returns-in-Transmit : goal.returns-in-Transmit
@@ -33,3 +33,9 @@ returns-in-Legal c = λ h is. rw c.in-Legal.is (set_legal c.args.self.now h is c
 
 pub returns-in-Response : goal.returns-in-Response
 returns-in-Response c = λ h is. rw (c.in-Response.is, c.of-self.ensures, c.from.ensures, c.ticks.ensures.value) (set_response c.args.self.now h is c.in-Response.gap)
+
+pub returns-in-Deaf : goal.returns-in-Deaf
+returns-in-Deaf c = λ h is. rw (c.in-Deaf.is, c.set-in-Deaf.ensures) (set_deaf c.args.self.now h is c.in-Deaf.line c.in-Deaf.on)
+
+pub returns-in-Mute : goal.returns-in-Mute
+returns-in-Mute c = λ h is. rw (c.in-Mute.is, c.set-in-Mute.ensures) (set_mute c.args.self.now h is c.in-Mute.line c.in-Mute.on)

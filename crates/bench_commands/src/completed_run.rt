@@ -1,0 +1,207 @@
+//! `bench run --complete`: jobs recorded, and the complete file made of their recording at once.
+
+use crate::command_line::file;
+use crate::completing::{fault_of, start_of, with_time, write_out};
+use crate::recording::{finish, record};
+use bench_complete::{Additions, CompleteFault, Completion, UtcSecond};
+use bench_core::Settings;
+use bench_files::Hold;
+use bench_report::Report;
+use bench_requests::{Ending, Fault, RunFiles, RunRequest, read_whole};
+use bench_run::RunError;
+use ch11_writer::MemorySink;
+use clap::{Arg, ArgAction, ArgMatches, Command};
+use job_file::{Job, next_record};
+use std::alloc::{AllocError, Global};
+use std::io::IsTerminal;
+use std::rt::{Clock, Files};
+use std::sync::Wait;
+use std::thread::Threads;
+
+/// How the recording of a run is completed.
+#[derive(Clone, Copy, Debug)]
+pub struct Completing<'a> {
+    /// The file of the setup record's text.
+    pub setup: Option<&'a str>,
+    /// The time at tick 0, as a text.
+    pub time: Option<&'a str>,
+    /// The channel of the time packets.
+    pub time_channel: u16,
+}
+
+/// The options of `bench run` that have its recording completed.
+pub(crate) fn with_completing<'a>(
+    alloc: Global,
+    command: Command<'a>,
+) -> Result<Command<'a>, AllocError> {
+    let complete = Arg::new(alloc, "complete")
+        .long("complete")
+        .action(ArgAction::SetTrue)
+        .help("Writes the complete file of the recording, as `bench complete` makes it");
+    let setup = file(
+        alloc,
+        "setup",
+        "With --complete: the text of the setup record (TMATS) to put in front, 1 to 524000 bytes",
+    )
+    .requires_arg("complete")?;
+    with_time(alloc, command.arg(complete)?.arg(setup)?, Some("complete"))
+}
+
+/// How the recording of a run is to be completed, where it is.
+pub(crate) fn completing_in<'a>(given: &ArgMatches<'a>) -> Option<Completing<'a>> {
+    if !given.get_flag("complete") {
+        return None;
+    }
+    Some(Completing {
+        setup: given.get_str("setup"),
+        time: given.get_str("time"),
+        time_channel: given.get_one::<u16>("time-channel").unwrap_or(65535),
+    })
+}
+
+/// The time at tick 0 that a run is given.
+pub(crate) fn start_in<'a>(
+    completing: Option<&Completing<'a>>,
+) -> Result<Option<UtcSecond>, Fault<'a>> {
+    match completing {
+        Some(asked) => start_of(asked.time),
+        None => Ok(None),
+    }
+}
+
+/// The file of the setup record's text that a run is given.
+pub(crate) fn setup_in<'a>(completing: Option<&Completing<'a>>) -> Option<&'a str> {
+    match completing {
+        Some(asked) => asked.setup,
+        None => None,
+    }
+}
+
+/// The text of the setup record that a run is given; no byte where there is none.
+pub(crate) fn setup_text<'a, R: Files + AllocGlobal>(
+    rt: &R,
+    completing: Option<&Completing<'a>>,
+) -> Result<Vec<u8>, Fault<'a>> {
+    match setup_in(completing) {
+        Some(name) => read_whole(rt, name),
+        None => Ok(Vec::new(rt.alloc())),
+    }
+}
+
+/// What is added to the recording of a run, if it is completed. The size of the setup record's text is judged.
+pub(crate) fn additions_in<'a, 'b>(
+    alloc: Global,
+    completing: Option<&Completing<'a>>,
+    start: Option<UtcSecond>,
+    setup: &'b [u8],
+    version: u8,
+) -> Result<Option<Additions<'b>>, Fault<'a>> {
+    let Some(asked) = completing else {
+        return Ok(None);
+    };
+    let additions = Additions {
+        setup: asked.setup.map(|_| setup),
+        start,
+        time_channel: asked.time_channel,
+        version,
+    };
+    match Completion::plan(alloc, &[], &additions) {
+        Ok(_) => Ok(Some(additions)),
+        Err(fault) => Err(fault_of(fault, "")),
+    }
+}
+
+/// Whether a job makes a message.
+fn is_heard(alloc: Global, job: &Job) -> Result<bool, AllocError> {
+    let mut machine = job.machine(alloc, job.actions())?;
+    Ok(next_record(&mut machine).is_some())
+}
+
+/// The fault that the recording will have whatever is in its other packets: one that its prologue has already, or time
+/// packets on the channel of a job that makes a message, which is in the recording where buses are held.
+fn judge_before(
+    alloc: Global,
+    jobs: &[Job],
+    settings: &Settings,
+    drops: bool,
+    additions: &Additions<'_>,
+) -> Result<(), CompleteFault> {
+    match Completion::plan(alloc, &settings.prologue, additions) {
+        Ok(_) | Err(CompleteFault::Refused(_)) => {}
+        Err(fault) => return Err(fault),
+    }
+    if drops || additions.start.is_none() {
+        return Ok(());
+    }
+    for job in jobs {
+        if job.channel() == additions.time_channel && is_heard(alloc, job)? {
+            return Err(CompleteFault::ChannelTaken);
+        }
+    }
+    Ok(())
+}
+
+/// Records jobs and settings that may be run, and writes the complete file of the recording into files that were begun;
+/// then the report, and how much was recorded. Where there is a fault, what was there stays.
+pub(crate) fn record_completed<
+    'a,
+    R: Files + AllocGlobal + Print + Clock + Threads + Wait + Sync,
+    E: Eprint + IsTerminal + Sync,
+>(
+    rt: &R,
+    errors: &E,
+    request: &RunRequest<'a>,
+    jobs: &[Job],
+    settings: &Settings,
+    additions: &Additions<'_>,
+    files: RunFiles<'a, R::File>,
+) -> Result<(), Fault<'a>>
+where
+    R::File: Hold,
+{
+    let mut files = files;
+    match complete_into(rt, errors, request, jobs, settings, additions, &mut files) {
+        Ok(report) => finish(rt, errors, files, &report),
+        Err(fault) => {
+            files.end(rt, Ending::Broken)?;
+            Err(fault)
+        }
+    }
+}
+
+/// Records jobs, and writes the complete file of the recording, which is kept in memory until then. What is to be added
+/// is judged before the first message as far as that needs no recording, and again behind the last.
+fn complete_into<
+    'a,
+    R: Files + AllocGlobal + Clock + Threads + Wait + Sync,
+    E: Eprint + IsTerminal + Sync,
+>(
+    rt: &R,
+    errors: &E,
+    request: &RunRequest<'a>,
+    jobs: &[Job],
+    settings: &Settings,
+    additions: &Additions<'_>,
+    files: &mut RunFiles<'a, R::File>,
+) -> Result<Report, Fault<'a>>
+where
+    R::File: Hold,
+{
+    if let Err(fault) = judge_before(rt.alloc(), jobs, settings, request.drops, additions) {
+        return Err(fault_of(fault, ""));
+    }
+    let sink = MemorySink::make(rt.alloc());
+    let (report, sink) = match record(rt, errors, request.drops, jobs, settings, sink) {
+        Ok(recorded) => recorded,
+        Err(RunError::Sink { .. }) => return Err(Fault::Memory),
+        Err(error) => return Err(Fault::of_run(&error)),
+    };
+    match Completion::plan(rt.alloc(), sink.bytes(), additions) {
+        Ok(completion) => {
+            let writer = files.recording(rt)?;
+            write_out(rt.alloc(), request.out, writer, &completion)?;
+            Ok(report)
+        }
+        Err(fault) => Err(fault_of(fault, "")),
+    }
+}

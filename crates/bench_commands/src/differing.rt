@@ -1,0 +1,34 @@
+//! Where jobs, report and recording do not agree: what was expected, and what the recording has.
+
+use crate::command_line::StepRequest;
+use bench_difference::difference;
+use bench_report::read_report;
+use bench_requests::{jobs_of, read_texts, read_whole};
+use ch11_reader::Index;
+use std::alloc::AllocError;
+use std::rt::Files;
+
+/// The lines that say so. The files are read once more, and there are none where that fails.
+pub(crate) fn difference_of<R: Files + AllocGlobal>(
+    rt: &R,
+    step: &StepRequest<'_>,
+    channel: u16,
+    number: u32,
+) -> Result<Option<String>, AllocError> {
+    let (Ok(recording), Ok(report), Ok(texts)) = (
+        read_whole(rt, step.recording),
+        read_whole(rt, step.report),
+        read_texts(rt, &step.jobs),
+    ) else {
+        return Ok(None);
+    };
+    let (Ok(index), Ok(report), Ok(jobs)) = (
+        Index::build(rt.alloc(), &recording),
+        read_report(rt.alloc(), &report),
+        jobs_of(rt.alloc(), &texts),
+    ) else {
+        return Ok(None);
+    };
+    let text = difference(rt.alloc(), &jobs, &report, &index, channel, number)?;
+    Ok(Some(text))
+}

@@ -1,0 +1,82 @@
+//! `bench run --judge`: the rules of a run, read before it begins, and the verdicts on what it recorded.
+
+use crate::judging::{index_of, print_verdicts, verdict_on};
+use bench_files::leads_to_output;
+use bench_judge::{judge, verdict_text};
+use bench_requests::{Fault, RunRequest, read_whole, rules_of};
+use clap::Arg;
+use judge_rules::Rule;
+use std::alloc::Global;
+use std::fs;
+use std::os::unix::fs::FileTypeExt;
+use std::rt::{Env, Files};
+
+/// The rules of a run, and the text that spells them.
+#[derive(Drop)]
+pub(crate) struct RunRules {
+    text: Vec<u8>,
+    rules: Vec<Rule>,
+}
+
+/// The option that names the rules of a run.
+pub(crate) fn judge_option<'a>(alloc: Global) -> Arg<'a> {
+    Arg::new(alloc, "judge")
+        .long("judge")
+        .value_name("RULES")
+        .help(
+            "The rules to judge the recording by once it is whole; status 5 where one is not held",
+        )
+}
+
+/// Whether a recording of this name can be read back: one that goes to a pipe or a device is gone, and one that goes
+/// to the standard output would have the verdicts behind it.
+fn is_kept<R: Files>(rt: &R, name: &str) -> bool {
+    if leads_to_output(rt, name) {
+        return false;
+    }
+    match fs::metadata(rt, name) {
+        Ok(metadata) => {
+            let kind = metadata.file_type();
+            !(kind.is_char_device() || kind.is_fifo() || kind.is_socket())
+        }
+        Err(_) => true,
+    }
+}
+
+/// The rules that a run is to be judged by, if any. A recording that cannot be read back is a usage fault then.
+pub(crate) fn rules_of_run<'a, R: Files + AllocGlobal>(
+    rt: &R,
+    request: &RunRequest<'a>,
+) -> Result<Option<RunRules>, Fault<'a>> {
+    let Some(name) = request.judge else {
+        return Ok(None);
+    };
+    if !is_kept(rt, request.out) {
+        return Err(Fault::Usage(
+            "--judge reads the recording back: --out has to be a file, and no pipe, device or standard output",
+        ));
+    }
+    let text = read_whole(rt, name)?;
+    let rules = rules_of(rt.alloc(), text.as_slice())?;
+    Ok(Some(RunRules { text, rules }))
+}
+
+/// Judges what a run recorded, and prints the verdicts where its counts went. Where a rule is not held it ends with a
+/// fault of its own.
+pub(crate) fn judge_run<'a, R: Env + Files + AllocGlobal + Print, E: Eprint>(
+    rt: &R,
+    errors: &E,
+    request: &RunRequest<'a>,
+    given: &RunRules,
+) -> Result<(), Fault<'a>> {
+    let bytes = read_whole(rt, request.out)?;
+    let index = index_of(rt.alloc(), bytes.as_slice(), false)?;
+    let verdicts = judge(rt.alloc(), &index, given.rules.as_slice())?;
+    if leads_to_output(rt, request.report) {
+        let text = verdict_text(rt.alloc(), verdicts.as_slice())?;
+        let _ = eprint!(errors; "{text}");
+    } else {
+        print_verdicts(rt, &index, given.text.as_slice(), verdicts.as_slice())?;
+    }
+    verdict_on(verdicts.as_slice())
+}

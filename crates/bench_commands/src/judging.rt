@@ -1,0 +1,206 @@
+//! `bench judge`: whether a recording is what rules expect.
+
+use crate::command_line::{file, force};
+use bench_files::{Hold, Kind};
+use bench_judge::{Verdict, colored_text, judge, junit_text, not_held, verdict_text};
+use bench_requests::{Fault, read_whole, replaceable, rules_of, told_apart, write_new};
+use ch11_reader::{Index, ReadError};
+use clap::{Arg, ArgAction, ArgMatches, Command};
+use judge_rules::Rule;
+use std::alloc::{AllocError, Global};
+use std::io::{self, BufWriter, Write};
+use std::os::unix::fs::FileTypeExt;
+use std::rt::{Env, Files};
+use std::{env, fs};
+
+/// The rule by which a recording is judged where there is no file of rules.
+const STANDARD: &[u8] = b"expect any clean";
+
+/// What is to be judged.
+#[derive(Debug, Drop)]
+pub struct JudgeRequest<'a> {
+    /// The file of the recording.
+    pub recording: &'a str,
+    /// The file of the rules; each message is to be clean where there is none.
+    pub rules: Option<&'a str>,
+    /// The file to write the verdicts to as JUnit XML, if any.
+    pub junit: Option<&'a str>,
+    /// Whether a damaged recording is judged as far as it is sound.
+    pub skip: bool,
+    /// Whether a file of another kind may be replaced by the verdicts.
+    pub force: bool,
+}
+
+/// What the help of `bench judge` ends with.
+const NOTES: &str = "\
+RULES is a text, a rule a line: expect [channel N] [line A|B] SELECTOR CHECK. Without it each message has to be
+clean: of one of the standard's ten forms, all replies in time, no word too many or too few.
+
+  SELECTOR  any, rx A S, tx A S, rt A S A S (sender first), mode A C, brx S, brt A S S (sender first), bmode C
+            address A, subaddress S, mode code C: a number, or * for any
+  CHECK     ok, fail, clean, status WORD [mask WORD], data [WORD | .... | WORD/MASK]..,
+            response LOW HIGH (ticks of 0.1 us), period LOW HIGH (us), count LOW HIGH
+
+A rule is held where no message that it selects misses it and it selects one at least. Prints a line for each
+message that misses a rule, one for each rule, and how many rules are not held.
+Exit status: 0 all rules are held, 5 one is not; else as for all commands.
+
+Example:
+  bench judge flight.ch11 flight.rules --junit flight.xml";
+
+/// The command line of `bench judge`.
+pub(crate) fn judge_command<'a>(alloc: Global) -> Result<Command<'a>, AllocError> {
+    let recording = Arg::new(alloc, "RECORDING")
+        .required(true)
+        .help("The Chapter 11 file to judge");
+    let rules = Arg::new(alloc, "RULES").help("The rules to judge it by, as a text");
+    let skip = Arg::new(alloc, "skip")
+        .long("skip")
+        .action(ArgAction::SetTrue)
+        .help("Judges what is sound of a damaged recording");
+    Command::new(alloc, "judge")
+        .about("Judges a recording by rules, or by the standard")
+        .after_help(NOTES)
+        .arg(file(
+            alloc,
+            "junit",
+            "The file to write a JUnit report to, a test case a rule",
+        ))?
+        .arg(skip)?
+        .arg(force(alloc))?
+        .arg(recording)?
+        .arg(rules)
+}
+
+/// What `bench judge` is asked for.
+pub(crate) fn judge_request<'a>(given: &ArgMatches<'a>) -> JudgeRequest<'a> {
+    JudgeRequest {
+        recording: given.get_str("RECORDING").unwrap_or(""),
+        rules: given.get_str("RULES"),
+        junit: given.get_str("junit"),
+        skip: given.get_flag("skip"),
+        force: given.get_flag("force"),
+    }
+}
+
+/// Judges a recording, whose faults come before those of the rules, and prints the verdicts. Where a rule is not held
+/// it ends with a fault of its own. The JUnit file, which may be none of the others, is written behind what is printed.
+pub fn judge_recording<'a, R: Env + Files + AllocGlobal + Print>(
+    rt: &R,
+    request: &JudgeRequest<'a>,
+) -> Result<(), Fault<'a>>
+where
+    R::File: Hold,
+{
+    if let Some(junit) = request.junit {
+        let rules = request.rules.unwrap_or(request.recording);
+        told_apart(rt, &[junit], &[request.recording, rules])?;
+        replaceable(rt, junit, Kind::Verdicts, request.force)?;
+    }
+    let bytes = read_whole(rt, request.recording)?;
+    let text = match request.rules {
+        Some(name) => read_whole(rt, name)?,
+        None => standard(rt.alloc())?,
+    };
+    let index = index_of(rt.alloc(), bytes.as_slice(), request.skip)?;
+    let rules = rules_of(rt.alloc(), text.as_slice())?;
+    judge_by(rt, request, &index, text.as_slice(), rules.as_slice())
+}
+
+/// The text of the rule that holds where none is given.
+fn standard<'a>(alloc: Global) -> Result<Vec<u8>, Fault<'a>> {
+    match STANDARD.to_vec(alloc) {
+        Ok(text) => Ok(text),
+        Err(_) => Err(Fault::Memory),
+    }
+}
+
+/// The packets of a recording, or why it is refused.
+pub(crate) fn index_of<'a, 'b>(
+    alloc: Global,
+    recording: &'b [u8],
+    skip: bool,
+) -> Result<Index<'b>, Fault<'a>> {
+    if skip {
+        return match Index::build_skipping(alloc, recording) {
+            Ok(found) => Ok(found.index),
+            Err(_) => Err(Fault::Memory),
+        };
+    }
+    match Index::build(alloc, recording) {
+        Ok(index) => Ok(index),
+        Err(ReadError::Refused(refusal)) => Err(Fault::Recording(refusal)),
+        Err(ReadError::Memory) => Err(Fault::Memory),
+    }
+}
+
+/// Judges by these rules, of which this is the text.
+fn judge_by<'a, R: Env + Files + AllocGlobal + Print>(
+    rt: &R,
+    request: &JudgeRequest<'a>,
+    index: &Index<'_>,
+    text: &[u8],
+    rules: &[Rule],
+) -> Result<(), Fault<'a>>
+where
+    R::File: Hold,
+{
+    let alloc = rt.alloc();
+    let verdicts = judge(alloc, index, rules)?;
+    print_verdicts(rt, index, text, verdicts.as_slice())?;
+    if let Some(junit) = request.junit {
+        let report = junit_text(alloc, text, verdicts.as_slice())?;
+        write_new(rt, junit, Kind::Verdicts, request.force, report.as_slice())?;
+    }
+    verdict_on(verdicts.as_slice())
+}
+
+/// Prints the verdicts on the rules of this text, for people where they go to a terminal.
+pub(crate) fn print_verdicts<'a, R: Env + Files + AllocGlobal + Print>(
+    rt: &R,
+    index: &Index<'_>,
+    text: &[u8],
+    verdicts: &[Verdict],
+) -> Result<(), Fault<'a>> {
+    if is_for_people(rt) {
+        let shown = colored_text(rt.alloc(), index, text, verdicts)?;
+        print_text(rt, shown.as_slice())
+    } else {
+        let shown = verdict_text(rt.alloc(), verdicts)?;
+        print_text(rt, shown.as_bytes())
+    }
+}
+
+/// The fault of a rule that is not held, where there is one.
+pub(crate) fn verdict_on<'a>(verdicts: &[Verdict]) -> Result<(), Fault<'a>> {
+    if not_held(verdicts) == 0 {
+        Ok(())
+    } else {
+        Err(Fault::NotHeld)
+    }
+}
+
+/// Whether the standard output is a terminal whose user wants colors.
+pub(crate) fn is_for_people<R: Env + Files + AllocGlobal>(rt: &R) -> bool {
+    if env::var(rt, "NO_COLOR").is_ok() {
+        return false;
+    }
+    match fs::metadata(rt, "/dev/stdout") {
+        Ok(metadata) => metadata.file_type().is_char_device(),
+        Err(_) => false,
+    }
+}
+
+/// Prints a text.
+fn print_text<'a, R: AllocGlobal + Print>(rt: &R, text: &[u8]) -> Result<(), Fault<'a>> {
+    match write_text(rt, text) {
+        Ok(()) => Ok(()),
+        Err(error) => Err(Fault::of_stream("-", &error)),
+    }
+}
+
+fn write_text<R: AllocGlobal + Print>(rt: &R, text: &[u8]) -> io::Result<()> {
+    let mut out = BufWriter::new(rt.alloc(), io::writer(rt))?;
+    out.write_all(text)?;
+    out.flush()
+}

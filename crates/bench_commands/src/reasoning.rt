@@ -1,0 +1,84 @@
+//! Faults of scripts and jobs as those that have their reasons in words.
+
+use bench_reasons::{
+    LineFault, MessageFault, Place, Reason, ScriptFault, Text, job_script_reason, line_reason,
+    script_reason,
+};
+use frame_text::Cause;
+use job_file::JobError;
+use mil_host::BadAction;
+use mil_line::LineError;
+use mil_message::BadMessage;
+use std::alloc::{AllocError, Global};
+
+/// Why a script, or a line and a message, is refused.
+pub(crate) fn reason_of_script(
+    alloc: Global,
+    text: &[u8],
+    kind: Text,
+    cause: Cause,
+    place: frame_text::Place,
+) -> Result<Option<Reason>, AllocError> {
+    script_reason(alloc, text, kind, script_fault(cause), place_of(place))
+}
+
+/// Why a job is refused; none where its text alone does not say.
+pub(crate) fn reason_of_job(
+    alloc: Global,
+    text: &[u8],
+    error: &JobError,
+) -> Result<Option<Reason>, AllocError> {
+    match error {
+        JobError::Line { line, fault } => line_reason(alloc, text, *line, line_fault(*fault)),
+        JobError::Script { cause, place } => {
+            job_script_reason(alloc, text, script_fault(*cause), place_of(*place))
+        }
+        JobError::Assembly { .. } | JobError::Loading { .. } | JobError::Memory => Ok(None),
+    }
+}
+
+fn place_of(place: frame_text::Place) -> Place {
+    Place {
+        line: place.line,
+        column: place.column,
+    }
+}
+
+fn script_fault(cause: Cause) -> ScriptFault {
+    match cause {
+        Cause::Byte => ScriptFault::Byte,
+        Cause::Token => ScriptFault::Token,
+        Cause::Number => ScriptFault::Number,
+        Cause::Message(bad) => ScriptFault::Message(message_fault(bad)),
+        Cause::End => ScriptFault::End,
+        Cause::Depth => ScriptFault::Depth,
+        Cause::Range => ScriptFault::Range,
+        Cause::Messages => ScriptFault::Messages,
+        Cause::Name => ScriptFault::Name,
+        Cause::Definitions => ScriptFault::Definitions,
+    }
+}
+
+fn message_fault(bad: BadMessage) -> MessageFault {
+    match bad {
+        BadMessage::Address => MessageFault::Address,
+        BadMessage::Subaddress => MessageFault::Subaddress,
+        BadMessage::CountOrCode => MessageFault::CountOrCode,
+        BadMessage::SameEnds => MessageFault::SameEnds,
+        BadMessage::ModeWord => MessageFault::ModeWord,
+    }
+}
+
+fn line_fault(fault: job_file::LineFault) -> LineFault {
+    match fault {
+        job_file::LineFault::Word => LineFault::Word,
+        job_file::LineFault::Number => LineFault::Number,
+        job_file::LineFault::Order => LineFault::Order,
+        job_file::LineFault::Terminal => LineFault::Terminal,
+        job_file::LineFault::Action(BadAction::Word) => LineFault::ActionWord,
+        job_file::LineFault::Action(BadAction::Number) => LineFault::ActionNumber,
+        job_file::LineFault::Action(BadAction::Range) => LineFault::ActionRange,
+        job_file::LineFault::Fault(LineError::TooMany) => LineFault::FaultCount,
+        job_file::LineFault::Fault(_) => LineFault::FaultRange,
+    }
+}

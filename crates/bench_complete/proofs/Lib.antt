@@ -1,0 +1,15 @@
+pub mod Merged
+pub mod Heads
+pub mod Linked
+pub mod Standing
+pub mod Running
+pub mod Extents
+pub mod Sound
+pub mod Unique
+pub mod Planned
+pub mod Days
+pub mod Alone
+pub mod Again
+pub mod Added
+pub mod Readable
+pub mod Written

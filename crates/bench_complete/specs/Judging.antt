@@ -1,0 +1,95 @@
+-- What is refused (own choice).
+use Rattle.std.specs.Prelude.{◌≡◌, ℕ, ◌+◌, ◌-◌, ◌/◌, ◌<◌, ◌≤◌, ◌^◌, ◌++◌, drop, ◌==◌, ◌&&◌, Bool, true, false, nat_lt, is_some, if◌then◌else◌, List, [], length, Option, None, Some, option_map, Result, Ok, Err}
+use Rattle.std.specs.List.{list_any, AllByRecursion}
+use Rattle.ch11_reader.specs.declared.fault.Refusal.{Refusal}
+use Rattle.ch11_reader.specs.declared.packet.Packet.{Packet}
+use Rattle.ch11_reader.specs.Recording.{Found, found_or_none, messages_of, packet_at}
+use Rattle.bench_complete.specs.declared.additions.Additions.{Additions}
+use Rattle.bench_complete.specs.declared.extent.Extent.{Extent}
+use Rattle.bench_complete.specs.declared.fault.CompleteFault.{CompleteFault}
+use Rattle.bench_complete.specs.declared.fault.CompleteFault.TheVariants as faults
+use Rattle.bench_complete.specs.declared.times.Times.{Times}
+use Rattle.bench_complete.specs.Pieces.{kept}
+use Rattle.bench_complete.specs.Merging.{of_channel}
+use Rattle.bench_complete.specs.TimePackets.{times_in}
+use Rattle.bench_complete.specs.Complete.{Plan, Completes, plan_for, extent_of, low_of}
+use Rattle.bench_complete.specs.Lanes.{IsSmall}
+
+-- a packet of this type is among them
+abbrev pub has_kind : ℕ → List Found → Bool
+has_kind kind ps = list_any (λ (p : Found). p.header.kind == kind) ps
+
+-- a packet of this channel is among them
+abbrev pub has_channel : ℕ → List Found → Bool
+has_channel channel ps = list_any (λ (p : Found). p.header.channel == channel) ps
+
+-- the text of a setup record has 1 to 524,000 bytes
+abbrev pub is_setup : Option (List ℕ) → Bool
+is_setup None = true
+is_setup (Some text) = nat_lt 0 (length text) && nat_lt (length text) 524001
+
+-- more than 1,000,000 whole seconds
+abbrev pub is_too_long : Option Extent → Bool
+is_too_long None = false
+is_too_long (Some e) = nat_lt 1000000 (e.high / 10000000 - e.low / 10000000 + 1)
+
+-- the first usage fault that hangs on the recording: a second setup record, time packets on a channel that is taken, or too many
+abbrev pub misuse_of : Bool → Bool → Bool → Option CompleteFault
+misuse_of twice taken long =
+    if twice then Some faults.SetupTwice else (if taken then Some faults.ChannelTaken else (if long then Some faults.TooLong else None))
+
+abbrev pub misuse : List ℕ → List Found → Additions → Option CompleteFault
+misuse file ps a = misuse_of (is_some a.setup && has_kind 1 ps) (is_some a.start && has_channel a.time_channel ps) (is_some a.start && is_too_long (extent_of (kept file ps)))
+
+-- the same by the entries of an index
+abbrev pub misuse_by : List Packet → Additions → Option Extent → Option CompleteFault
+misuse_by es a x =
+    misuse_of (is_some a.setup && list_any (λ (e : Packet). e.header.kind == 1) es) (is_some a.start && list_any (λ (e : Packet). e.header.channel == a.time_channel) es) (is_some a.start && is_too_long x)
+
+abbrev pub unless_misused : Option CompleteFault → List Found → Result (List Found) CompleteFault
+unless_misused None ps = Ok ps
+unless_misused (Some f) ps = Err f
+
+abbrev pub judged_recording : List ℕ → Result (List Found) Refusal → Additions → Result (List Found) CompleteFault
+judged_recording file (Err r) a = Err (faults.Refused r)
+judged_recording file (Ok ps) a = unless_misused (misuse file ps a) ps
+
+-- the packets that are completed, or the first fault: the size of the setup text, then the recording's own, then usage faults that hang
+-- on the recording
+abbrev pub judged : List ℕ → Result (List Found) Refusal → Additions → Result (List Found) CompleteFault
+judged file read a =
+    if is_setup (option_map (λ text. text.now) a.setup) then judged_recording file read a else Err faults.SetupSize
+
+-- what judging answers: a plan, or the first fault; want of memory only for a recording that can be read
+abbrev pub Answers : List ℕ → Result (List Found) Refusal → Additions → Result Plan CompleteFault → Type 0
+Answers file read a (Ok c) = (ps : List Found) × (judged file read a ≡ Ok ps) × (c ≡ plan_for file ps a)
+Answers file read a (Err faults.Memory) = read ≡ Ok (found_or_none read)
+Answers file read a (Err faults.SetupSize) = judged file read a ≡ Err faults.SetupSize
+Answers file read a (Err (faults.Refused r)) = judged file read a ≡ Err (faults.Refused r)
+Answers file read a (Err faults.SetupTwice) = judged file read a ≡ Err faults.SetupTwice
+Answers file read a (Err faults.ChannelTaken) = judged file read a ≡ Err faults.ChannelTaken
+Answers file read a (Err faults.TooLong) = judged file read a ≡ Err faults.TooLong
+Answers file read a (Err faults.Device) = ⊥
+
+-- a packet of a file: it reads as this at its offset
+pub record ReadsAt (file : List ℕ) (p : Found) : Type 0 where
+  pub packet : packet_at (drop p.offset file) ≡ Ok p.header
+  pub messages : p.messages ≡ messages_of p.header (drop p.offset file)
+  pub within : p.offset + p.header.packet_length ≤ length file
+  pub counter : p.header.counter < 2 ^ 48
+
+abbrev pub AllReadAt : List ℕ → List Found → Type 0
+AllReadAt file ps = AllByRecursion (ReadsAt file) ps
+
+-- what a plan rests on
+pub record IsPlanned (file : List ℕ) (ps : List Found) (t : Times) (low : ℕ) (setup : Option (List ℕ)) : Type 0 where
+  pub sound : AllReadAt file ps
+  pub small : IsSmall t
+  pub lowest : low ≡ low_of (extent_of (times_in t ++ kept file ps))
+  pub few : low < 2 ^ 48
+  pub free : t.first < t.end → of_channel t.channel (kept file ps) ≡ []
+  pub text : is_setup setup ≡ true
+
+-- a recording that could be read was completed: a writer got the file of its plan
+abbrev pub IsCompleted : List ℕ → Result (List Found) Refusal → Additions → Option (List ℕ) → Option (List ℕ) → Type 0
+IsCompleted file read a got gets = (ps : List Found) × (judged file read a ≡ Ok ps) × Completes (plan_for file ps a) got gets

@@ -1,0 +1,33 @@
+-- Packets on their way into a file.
+use Rattle.std.specs.Prelude.{ℕ, ◌==◌, Bool, not, if◌then◌else◌, List, [], ◌∷◌, ◌++◌, take, drop}
+use Rattle.ch11_header.specs.declared.header.Header.{Header}
+use Rattle.ch11_reader.specs.declared.packet.Packet.{Packet}
+use Rattle.ch11_reader.specs.Recording.{Found}
+
+-- a packet: what its header says, and all of its bytes
+pub record Piece : Type 0 where
+  pub header : Header
+  pub bytes : List ℕ
+
+-- the bytes of packets, one behind the other (IRIG 106-17 Chapter 11: a recording is a sequence of packets)
+abbrev pub bytes_of : List Piece → List ℕ
+bytes_of [] = []
+bytes_of (p ∷ ps) = p.bytes ++ bytes_of ps
+
+-- the packet that stands at an offset of a file
+abbrev pub piece_at : List ℕ → ℕ → Header → Piece
+piece_at file offset h = record { header = h; bytes = take h.packet_length (drop offset file) }
+
+-- a packet goes over unless it is an index of a recording (type 03), whose offsets would be wrong
+abbrev pub goes_over : Header → Bool
+goes_over h = not (h.kind == 3)
+
+-- the packets of a recording that go over
+abbrev pub kept : List ℕ → List Found → List Piece
+kept file [] = []
+kept file (p ∷ ps) = if goes_over p.header then piece_at file p.offset p.header ∷ kept file ps else kept file ps
+
+-- the same by the entries of an index
+abbrev pub kept_entries : List ℕ → List Packet → List Piece
+kept_entries file [] = []
+kept_entries file (e ∷ es) = if goes_over e.header then piece_at file e.offset e.header ∷ kept_entries file es else kept_entries file es

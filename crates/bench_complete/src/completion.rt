@@ -1,0 +1,190 @@
+//! A recording that was judged, and the complete file of it.
+ghost use Rattle.std.specs.Prelude.{◌≡◌, ◌≤◌, true, option_map, OnOk, IfOk, MatchResult, None, Some};
+ghost use Rattle.ch11_reader.specs.Recording.{packets_in};
+ghost use Rattle.ch11_reader.specs.Skipping.{packets_read, skips_in};
+ghost use Rattle.bench_complete.specs.Complete.{Completes, low_by, plan_for, times_between};
+ghost use Rattle.bench_complete.specs.Judging.{AllReadAt, Answers, IsCompleted, is_setup, misuse};
+
+use crate::additions::Additions;
+use crate::extent::{Extent, extent_of};
+use crate::fault::CompleteFault;
+use crate::judging::{is_setup, judge};
+use crate::lanes::Lanes;
+use crate::links::link;
+use crate::merge::merge;
+use crate::setup::write_front;
+use crate::times::{SECOND, Times};
+use ch11_reader::{Index, ReadError, Skip, SkippingIndex};
+use std::alloc::Global;
+use std::io::Write;
+use std::marker::Model;
+
+/// A recording that can be completed: what stands in the complete file.
+#[derive(Drop)]
+pub struct Completion<'a> {
+    file: &'a [u8],
+    index: Index<'a>,
+    setup: Option<&'a [u8]>,
+    times: Times,
+    low: u64,
+}
+
+impl<'a> Model for Completion<'a> {
+    ghost use Rattle.std.specs.Prelude.{◌++◌, option_map};
+    ghost use Rattle.bench_complete.specs.Pieces.{kept};
+    ghost use Rattle.bench_complete.specs.TimePackets.{times_in};
+    ghost use Rattle.bench_complete.specs.Complete.{Plan};
+    ghost use Rattle.bench_complete.specs.Judging.{IsPlanned};
+
+    ghost Value = { Plan };
+
+    ghost view = { λ c. record {
+      setup = option_map (λ text. text.now) c.setup;
+      version = c.times.version;
+      parts = times_in c.times ++ kept c.file.now c.index;
+    } };
+
+    ghost invariant = { λ c. IsPlanned c.file.now c.index c.times c.low (option_map (λ text. text.now) c.setup) };
+}
+
+/// The time packets that are asked for, between the counters of a recording.
+fn times_of(additions: &Additions<'_>, extent: Option<Extent>) -> Times
+    ensures { result ≡ times_between additions.now additions.now.start extent }
+{
+    let none = Times {
+        start: 0,
+        channel: additions.time_channel,
+        version: additions.version,
+        first: 0,
+        end: 0,
+    };
+    let Some(start) = additions.start else {
+        return none;
+    };
+    let Some(extent) = extent else {
+        return none;
+    };
+    Times {
+        start: start.second,
+        channel: additions.time_channel,
+        version: additions.version,
+        first: extent.low / SECOND,
+        end: extent.high / SECOND + 1,
+    }
+}
+
+/// The lowest counter of time packets and of those of a recording.
+fn lowest(times: &Times, extent: Option<Extent>) -> u64
+    requires { times.now.first ≤ 28147498 }
+    ensures { result ≡ low_by times.now extent }
+{
+    match extent {
+        None => 0,
+        Some(found) => {
+            if times.first < times.end {
+                times.first * SECOND
+            } else {
+                found.low
+            }
+        }
+    }
+}
+
+impl<'a> Completion<'a> {
+    /// The completion of packets.
+    fn of(
+        file: &'a [u8],
+        index: Index<'a>,
+        additions: &Additions<'a>,
+    ) -> Result<Completion<'a>, CompleteFault>
+        requires sound { AllReadAt file.now index }
+        requires text { is_setup (option_map (λ text. text.now) additions.now.setup) ≡ true }
+        ensures { MatchResult result (λ c. (misuse file.now index.entry additions.now ≡ None) × (c ≡ plan_for file.now index.entry additions.now))
+            (λ f. misuse file.now index.entry additions.now ≡ Some f) }
+    {
+        let extent = extent_of(index.packets());
+        if let Err(fault) = judge(additions, index.packets(), extent) {
+            return Err(fault);
+        }
+        let times = times_of(additions, extent);
+        let low = lowest(&times, extent);
+        Ok(Completion {
+            file,
+            index,
+            setup: additions.setup,
+            times,
+            low,
+        })
+    }
+
+    /// Reads a recording and judges what is to be added to it. The size of a setup text is judged first, then the recording, then the
+    /// usage faults that hang on it. Memory is answered only where the recording can be read.
+    pub fn plan(
+        alloc: Global,
+        file: &'a [u8],
+        additions: &Additions<'a>,
+    ) -> Result<Completion<'a>, CompleteFault>
+        ensures { Answers file.now (packets_in file.now) additions.now result }
+    {
+        if !is_setup(additions.setup) {
+            return Err(CompleteFault::SetupSize);
+        }
+        match Index::build(alloc, file) {
+            Ok(index) => Completion::of(file, index, additions),
+            Err(ReadError::Refused(refusal)) => Err(CompleteFault::Refused(refusal)),
+            Err(ReadError::Memory) => Err(CompleteFault::Memory),
+        }
+    }
+
+    /// The same for whatever is sound in a recording, with the bytes that were skipped. No recording is refused.
+    pub fn plan_skipping(
+        alloc: Global,
+        file: &'a [u8],
+        additions: &Additions<'a>,
+    ) -> Result<(Completion<'a>, Vec<Skip>), CompleteFault>
+        ensures planned { IfOk result (λ x. x.0 ≡ plan_for file.now (packets_read file.now) additions.now) }
+        ensures skipped { IfOk result (λ x. x.1.items ≡ skips_in file.now) }
+        ensures judged { IfOk result (λ x. misuse file.now (packets_read file.now) additions.now ≡ None) }
+    {
+        if !is_setup(additions.setup) {
+            return Err(CompleteFault::SetupSize);
+        }
+        let found = match Index::build_skipping(alloc, file) {
+            Ok(found) => found,
+            Err(_) => return Err(CompleteFault::Memory),
+        };
+        let SkippingIndex { index, skips } = found;
+        match Completion::of(file, index, additions) {
+            Ok(completion) => Ok((completion, skips)),
+            Err(fault) => Err(fault),
+        }
+    }
+
+    /// Writes the complete file: the setup record, and behind it all packets, merged.
+    pub fn write<W: Write>(&self, alloc: Global, out: &mut W) -> Result<(), CompleteFault>
+        ensures { OnOk result (Completes self.now (W.contents out.old) (W.contents out.new)) }
+    {
+        let lanes = Lanes {
+            file: self.file,
+            packets: self.index.packets(),
+            times: self.times,
+        };
+        let links = link(alloc, lanes.packets)?;
+        let heads = lanes.heads(alloc, &links)?;
+        write_front(self.times.version, self.low, self.setup, out)?;
+        merge(&lanes, &links, heads, out)
+    }
+}
+
+/// Completes a recording.
+pub fn complete<W: Write>(
+    alloc: Global,
+    file: &[u8],
+    additions: &Additions<'_>,
+    out: &mut W,
+) -> Result<(), CompleteFault>
+    ensures { OnOk result (IsCompleted file.now (packets_in file.now) additions.now (W.contents out.old) (W.contents out.new)) }
+{
+    let completion = Completion::plan(alloc, file, additions)?;
+    completion.write(alloc, out)
+}

@@ -1,0 +1,47 @@
+//! Why a recording was not completed.
+use ch11_reader::Refusal;
+use std::alloc::{AllocError, AllocFailed};
+use std::io;
+
+/// Why a recording was not completed. The variants stand in the order in which they are judged, but for the last two.
+#[derive(Clone, Copy, Debug, PartialEq, Eq)]
+pub enum CompleteFault {
+    /// A usage fault: the text of the setup record has no byte, or more than 524,000.
+    SetupSize,
+
+    /// The recording can't be read: K1 to K5, N2 or F1 to F3 with the packet's offset.
+    Refused(Refusal),
+
+    /// A usage fault: the recording has computer generated data of Format 1 (type 01), as a setup record is, already.
+    SetupTwice,
+
+    /// A usage fault: the channel of the time packets has packets in the recording.
+    ChannelTaken,
+
+    /// A usage fault: there would be more than 1,000,000 time packets.
+    TooLong,
+
+    /// Memory was refused.
+    Memory,
+
+    /// The writer failed, which may have got some of the file.
+    Device,
+}
+
+impl From<AllocError> for CompleteFault {
+    fn from(_: AllocError) -> CompleteFault {
+        CompleteFault::Memory
+    }
+}
+
+impl<T: Drop> From<AllocFailed<T>> for CompleteFault {
+    fn from(_: AllocFailed<T>) -> CompleteFault {
+        CompleteFault::Memory
+    }
+}
+
+impl From<io::Error> for CompleteFault {
+    fn from(_: io::Error) -> CompleteFault {
+        CompleteFault::Device
+    }
+}

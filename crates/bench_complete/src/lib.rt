@@ -1,0 +1,24 @@
+//! The command `bench complete`: a recording made into the file that other Chapter 10 and 11 tools expect, with a setup record in
+//! front, a time packet each second, and packets in order of time. Its tests are in `look_tests`.
+#![tactic(auto)]
+
+mod additions;
+mod bcd;
+mod completion;
+mod extent;
+mod fault;
+mod head;
+mod judging;
+mod lanes;
+mod laws;
+mod links;
+mod merge;
+mod setup;
+mod time_packet;
+mod times;
+mod utc;
+
+pub use additions::{Additions, UtcSecond};
+pub use completion::{Completion, complete};
+pub use fault::CompleteFault;
+pub use laws::{merge_is_unique, reading_stays};

@@ -1,0 +1,34 @@
+//! The merge of all channels.
+ghost use Rattle.std.specs.Prelude.{OnOk};
+ghost use Rattle.std.specs.BinaryHeap.{IsHeap, heap_items};
+ghost use Rattle.bench_complete.specs.Merging.{of_channel};
+ghost use Rattle.bench_complete.specs.Lanes.{AreHeads, AreInFile, AreLinked, IsSmall, Merges, head_cmp, parts_of};
+
+use crate::fault::CompleteFault;
+use crate::head::Head;
+use crate::lanes::{Lanes, push_some};
+use crate::links::Links;
+use std::collections::BinaryHeap;
+use std::io::Write;
+
+/// Writes all packets, always the head that stands first.
+pub(crate) fn merge<W: Write>(
+    lanes: &Lanes<'_>,
+    links: &Links,
+    mut heads: BinaryHeap<Head>,
+    out: &mut W,
+) -> Result<(), CompleteFault>
+    requires small { IsSmall lanes.now.times }
+    requires within { AreInFile lanes.now.file.now lanes.now.packets.now }
+    requires linked { AreLinked lanes.now.packets.now 0 links.now.first.items links.now.next.items }
+    requires heads { AreHeads lanes.now.file.now lanes.now.packets.now lanes.now.times (heap_items heads)
+        (λ channel. of_channel channel (parts_of lanes.now.file.now lanes.now.packets.now lanes.now.times)) }
+    requires heap { IsHeap head_cmp (heap_items heads) }
+    ensures { OnOk result (Merges (parts_of lanes.now.file.now lanes.now.packets.now lanes.now.times) (W.contents out.old) (W.contents out.new)) }
+{
+    'packets: while let Some(head) = heads.pop() {
+        lanes.write(&head, out)?;
+        push_some(&mut heads, lanes.behind(links, &head))?;
+    }
+    Ok(())
+}

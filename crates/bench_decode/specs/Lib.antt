@@ -1,0 +1,4 @@
+pub mod Forms
+pub mod Numbering
+pub mod Selecting
+pub mod Times

@@ -1,0 +1,22 @@
+//! The messages of a recording as people read them: what `bench dump --decode` prints, a line a message.
+//! Its tests are in `look_tests`.
+#![tactic(auto)]
+
+mod fields;
+mod forms;
+mod line;
+mod messages;
+mod modes;
+mod numbers;
+mod replies;
+mod selection;
+mod times;
+mod whole;
+
+pub use forms::Form;
+pub use line::{Line, Shown};
+pub use messages::{Place, write_message};
+pub use numbers::Numbers;
+pub use selection::{Bus, Selection};
+pub use times::Time;
+pub use whole::{Output, decode};

@@ -1,0 +1,203 @@
+//! Lines on their way to a writer, in columns.
+
+use crate::times::Time;
+use ch11_f1::Seen;
+use ch11_layout::word_at;
+use std::alloc::{AllocError, Global};
+use std::io;
+use std::io::Write;
+
+/// How many bytes there is room for.
+const SIZE: usize = 65536;
+
+/// How many bytes are free at least where a line is begun or goes on: more than its columns and 32 words take.
+const ROOM: usize = 2048;
+
+/// The most digits that a number has.
+const DIGITS: usize = 20;
+
+const HEXADECIMAL: [u8; 16] = *b"0123456789ABCDEF";
+
+const SPACES: [u8; 64] = [b' '; 64];
+
+const RED: &[u8] = b"\x1b[31m";
+
+const PLAIN: &[u8] = b"\x1b[0m";
+
+/// How lines are shown: `Colored` has errors and the bits of status words in red, for a terminal.
+#[derive(Clone, Copy, Debug, PartialEq, Eq)]
+pub enum Shown {
+    Plain,
+    Colored,
+}
+
+/// Lines that wait for the writer, at most 65,536 bytes of them.
+#[derive(Drop)]
+pub struct Line {
+    bytes: Vec<u8>,
+    len: usize,
+    // where the line began on which the text stands, less the bytes on it that take no column
+    begin: usize,
+    shown: Shown,
+}
+
+impl Line {
+    /// No line yet. All memory is taken here.
+    pub fn new(alloc: Global, shown: Shown) -> Result<Line, AllocError> {
+        Ok(Line {
+            bytes: vec![in alloc; 0; SIZE]?,
+            len: 0,
+            begin: 0,
+            shown,
+        })
+    }
+
+    /// Text, which there is room for.
+    #[inline(always)]
+    pub(crate) fn put(&mut self, text: &[u8]) {
+        let begin = self.len;
+        let end = begin.saturating_add(text.len());
+        if begin <= end && end <= self.bytes.len() {
+            self.bytes.as_mut_slice()[begin..end].copy_from_slice(text);
+            self.len = end;
+        }
+    }
+
+    /// A new line.
+    pub(crate) fn end_line(&mut self) {
+        self.put(b"\n");
+        self.begin = self.len;
+    }
+
+    /// Spaces up to a column.
+    pub(crate) fn fill_to(&mut self, column: usize) {
+        let used = self.len.saturating_sub(self.begin);
+        let missing = column.saturating_sub(used).min(SPACES.len());
+        self.put(&SPACES[..missing]);
+    }
+
+    /// Spaces up to a column, and one at least.
+    pub(crate) fn pad_to(&mut self, column: usize) {
+        self.put(b" ");
+        self.fill_to(column);
+    }
+
+    /// Text in red from here on, where lines are coloured.
+    pub(crate) fn begin_red(&mut self) {
+        self.put_hidden(RED);
+    }
+
+    /// Text as ever from here on.
+    pub(crate) fn end_red(&mut self) {
+        self.put_hidden(PLAIN);
+    }
+
+    /// Bytes that take no column.
+    fn put_hidden(&mut self, bytes: &[u8]) {
+        if self.shown == Shown::Colored {
+            self.put(bytes);
+            self.begin = self.begin.saturating_add(bytes.len());
+        }
+    }
+
+    /// A number, with spaces before it up to a width of at most 20.
+    pub(crate) fn put_right(&mut self, number: u64, width: usize) {
+        let mut digits = [b' '; DIGITS];
+        let mut at = DIGITS;
+        let mut rest = number;
+        'pairs: while at >= 2 && rest >= 10 {
+            at -= 2;
+            let pair = (rest % 100) as u8;
+            digits[at] = b'0' + pair / 10;
+            digits[at + 1] = b'0' + pair % 10;
+            rest /= 100;
+        }
+        if at > 0 && (rest > 0 || number == 0) {
+            at -= 1;
+            digits[at] = b'0' + (rest % 10) as u8;
+        }
+        let from = at.min(DIGITS.saturating_sub(width));
+        self.put(&digits[from..]);
+    }
+
+    /// A number.
+    pub(crate) fn put_number(&mut self, number: u64) {
+        self.put_right(number, 0);
+    }
+
+    /// A label and a number.
+    pub(crate) fn put_labelled(&mut self, label: &[u8], number: u64) {
+        self.put(label);
+        self.put_number(number);
+    }
+
+    /// A time in seconds with seven decimals, the whole ones at least five columns wide.
+    pub(crate) fn put_seconds(&mut self, time: Time) {
+        self.put_right(time.seconds, 5);
+        let mut digits = [b'.'; 8];
+        let mut rest = time.ticks;
+        'digits: for place in 0..7usize {
+            digits[7 - place] = b'0' + (rest % 10) as u8;
+            rest /= 10;
+        }
+        self.put(&digits);
+    }
+
+    /// A word as four hexadecimal digits behind a space.
+    #[inline(always)]
+    pub(crate) fn put_word(&mut self, word: u16) {
+        self.put(b" ");
+        self.put_digits(word);
+    }
+
+    /// A word as four hexadecimal digits.
+    #[inline(always)]
+    pub(crate) fn put_digits(&mut self, word: u16) {
+        self.put(&[
+            HEXADECIMAL[(word >> 12 & 15) as usize],
+            HEXADECIMAL[(word >> 8 & 15) as usize],
+            HEXADECIMAL[(word >> 4 & 15) as usize],
+            HEXADECIMAL[(word & 15) as usize],
+        ]);
+    }
+
+    /// The words of a message from a place up to another, each behind a space.
+    pub(crate) fn put_words<W: Write>(
+        &mut self,
+        out: &mut W,
+        seen: &Seen<'_>,
+        from: usize,
+        to: usize,
+    ) -> io::Result<()> {
+        'words: for place in from..to {
+            self.hand_on(out)?;
+            self.put_word(word_at(seen.words, place));
+        }
+        Ok(())
+    }
+
+    /// Hands what waits on to the writer where there is little room left.
+    #[inline(always)]
+    pub(crate) fn hand_on<W: Write>(&mut self, out: &mut W) -> io::Result<()> {
+        if self.len.saturating_add(ROOM) > SIZE {
+            self.hand_over(out)?;
+        }
+        Ok(())
+    }
+
+    /// Hands all that waits on to the writer.
+    fn hand_over<W: Write>(&mut self, out: &mut W) -> io::Result<()> {
+        if self.len <= self.bytes.len() {
+            out.write_all(&self.bytes.as_slice()[..self.len])?;
+        }
+        self.len = 0;
+        self.begin = 0;
+        Ok(())
+    }
+
+    /// Hands all that waits on to the writer, and flushes it.
+    pub fn finish<W: Write>(&mut self, out: &mut W) -> io::Result<()> {
+        self.hand_over(out)?;
+        out.flush()
+    }
+}

@@ -1,0 +1,107 @@
+//! A message as a line.
+
+use crate::fields::{has_names, put_block, put_form};
+use crate::forms::Form;
+use crate::line::Line;
+use crate::replies::put_replies;
+use crate::times::Time;
+use ch11_f1::Seen;
+use ch11_layout::{Layout, is_set};
+use std::io;
+use std::io::Write;
+
+/// The names of the columns up to the form, and those behind it.
+pub(crate) const FIRST_COLUMNS: &[u8] = b"message       seconds channel  number line form";
+
+pub(crate) const OTHER_COLUMNS: &[u8] = b"status words, responses   data words, block status";
+
+/// Where the columns begin that the others stand before: line, form, status words and data words.
+const LINE: usize = 38;
+
+const FORM: usize = 43;
+
+pub(crate) const REPLIES: usize = 77;
+
+const WORDS: usize = 103;
+
+/// Where a message stands.
+#[derive(Clone, Copy, Debug, PartialEq, Eq)]
+pub struct Place {
+    /// Its number, counted from 1 over the file.
+    pub number: u64,
+    /// Its channel.
+    pub channel: u16,
+    /// Its number in the channel, counted from 1.
+    pub in_channel: u64,
+}
+
+/// Writes a message as people read it, on one line: its number, its time in seconds, its channel, its number there, the
+/// line, the form in the words of a script with what a mode command asks, the status words with the names of their bits
+/// and the response times, the data words, and the names of the bits of its block status word. A message of no known
+/// form has its block status word, its gap times word and all its words as hexadecimal digits. What waits in `line` may
+/// go to the writer before or behind; a fault is the writer's.
+pub fn write_message<W: Write>(
+    line: &mut Line,
+    out: &mut W,
+    place: &Place,
+    seen: &Seen<'_>,
+) -> io::Result<()> {
+    line.hand_on(out)?;
+    put_place(line, place, seen);
+    let form = Form::of(seen);
+    if form == Form::Unknown {
+        put_raw(line, seen);
+        put_data(line, out, seen, 0, seen.words.len() / 2)?;
+    } else {
+        let layout = Layout::of(seen);
+        line.pad_to(FORM);
+        put_form(line, form);
+        line.pad_to(REPLIES);
+        put_replies(line, seen, &layout);
+        put_data(line, out, seen, layout.data_start, layout.data_end)?;
+    }
+    put_block(line, seen.block);
+    line.end_line();
+    Ok(())
+}
+
+/// Puts the columns in front of the form.
+fn put_place(line: &mut Line, place: &Place, seen: &Seen<'_>) {
+    line.put_right(place.number, 7);
+    line.put(b" ");
+    line.put_seconds(Time::of(seen.stamp));
+    line.put(b" ");
+    line.put_right(u64::from(place.channel), 7);
+    line.put(b" ");
+    line.put_right(place.in_channel, 7);
+    line.pad_to(LINE);
+    line.put(if is_set(seen.block, 13) { b"B" } else { b"A" });
+}
+
+/// Puts that a message has no known form, its block status word and its gap times word.
+fn put_raw(line: &mut Line, seen: &Seen<'_>) {
+    line.pad_to(FORM);
+    line.begin_red();
+    put_form(line, Form::Unknown);
+    line.end_red();
+    line.pad_to(REPLIES);
+    line.put(b"block");
+    line.put_word(seen.block);
+    line.put(b" gaps");
+    line.put_word(seen.gaps);
+}
+
+/// Puts the words from a place up to another, and comes to the column of data words where these or names follow.
+fn put_data<W: Write>(
+    line: &mut Line,
+    out: &mut W,
+    seen: &Seen<'_>,
+    from: usize,
+    to: usize,
+) -> io::Result<()> {
+    if from >= to && !has_names(seen.block) {
+        return Ok(());
+    }
+    line.fill_to(WORDS - 1);
+    line.put_words(out, seen, from, to)
+}

@@ -1,0 +1,116 @@
+//! Status words and response times.
+
+use crate::line::Line;
+use ch11_f1::Seen;
+use ch11_layout::{Layout, first_gap, is_set, second_gap, word_at};
+use mil_word::{Command, Status};
+
+/// A status word that came: of which terminal it was due, and behind which gap it came, in ticks.
+#[derive(Clone, Copy)]
+struct Reply {
+    status: u16,
+    due: u8,
+    gap: u8,
+}
+
+/// Puts the status words of a message, each with the names of its bits and its response time.
+pub(crate) fn put_replies(line: &mut Line, seen: &Seen<'_>, layout: &Layout) {
+    let between = is_set(seen.block, 11);
+    let front = front_of(seen, layout);
+    let back = back_of(seen, layout, between);
+    let first_told = front.is_some() || back.is_some() && !between;
+    let second_told = back.is_some() && between;
+    let mut behind: &[u8] = b"";
+    for reply in [front, back] {
+        if let Some(reply) = reply {
+            line.put(behind);
+            put_reply(line, reply);
+            behind = b", ";
+        }
+    }
+    for (told, gap) in [
+        (first_told, first_gap(seen)),
+        (second_told, second_gap(seen)),
+    ] {
+        if !told && gap != 0 {
+            line.put(behind);
+            line.put(b"no status word");
+            put_gap(line, gap);
+            behind = b", ";
+        }
+    }
+    if behind.is_empty() {
+        line.put(b"-");
+    }
+}
+
+/// The status word in front of the data words, of the terminal that sends them.
+fn front_of(seen: &Seen<'_>, layout: &Layout) -> Option<Reply> {
+    if layout.commands >= layout.data_start {
+        return None;
+    }
+    let command = word_at(seen.words, if layout.commands == 2 { 1 } else { 0 });
+    Some(Reply {
+        status: word_at(seen.words, layout.commands),
+        due: Command::of(command).address(),
+        gap: first_gap(seen),
+    })
+}
+
+/// The status word behind the data words, of the terminal that receives them.
+fn back_of(seen: &Seen<'_>, layout: &Layout, between: bool) -> Option<Reply> {
+    if layout.data_end >= layout.words {
+        return None;
+    }
+    Some(Reply {
+        status: word_at(seen.words, layout.data_end),
+        due: Command::of(word_at(seen.words, 0)).address(),
+        gap: if between {
+            second_gap(seen)
+        } else {
+            first_gap(seen)
+        },
+    })
+}
+
+fn put_reply(line: &mut Line, reply: Reply) {
+    line.put_digits(reply.status);
+    let address = Status::of(reply.status).address();
+    if address != reply.due || reply.status & 0x07FF != 0 {
+        line.begin_red();
+        if address != reply.due {
+            line.put_labelled(b" from ", u64::from(address));
+        }
+        put_bits(line, reply.status);
+        line.end_red();
+    }
+    put_gap(line, reply.gap);
+}
+
+/// Puts the names of the bits of a status word that are set (MIL-STD-1553B 4.3.3.5.3).
+fn put_bits(line: &mut Line, status: u16) {
+    let word = Status::of(status);
+    let bits: [(bool, &[u8]); 9] = [
+        (word.has_message_error(), b" message_error"),
+        (word.has_instrumentation(), b" instrumentation"),
+        (word.has_service_request(), b" service_request"),
+        (status & 0x00E0 != 0, b" reserved"),
+        (word.has_broadcast_received(), b" broadcast"),
+        (word.has_busy(), b" busy"),
+        (word.has_subsystem_flag(), b" subsystem"),
+        (word.has_control_acceptance(), b" control"),
+        (word.has_terminal_flag(), b" terminal"),
+    ];
+    for (set, name) in bits {
+        if set {
+            line.put(name);
+        }
+    }
+}
+
+/// Puts a gap in microseconds.
+fn put_gap(line: &mut Line, gap: u8) {
+    line.put_labelled(b" ", u64::from(gap / 10));
+    line.put_labelled(b".", u64::from(gap % 10));
+    line.put(b" us");
+}

@@ -1,0 +1,185 @@
+//! A whole recording.
+
+use crate::line::{Line, Shown};
+use crate::messages::{FIRST_COLUMNS, OTHER_COLUMNS, Place, REPLIES, write_message};
+use crate::numbers::Numbers;
+use crate::selection::Selection;
+use bench_dump::DumpFault;
+use ch11_f1::{Messages, Seen};
+use ch11_reader::{Index, ReadError, Skip};
+use std::alloc::Global;
+use std::io;
+use std::io::Write;
+
+/// How a recording is printed.
+#[derive(Clone, Copy, Debug, PartialEq, Eq)]
+pub struct Output {
+    /// Which messages.
+    pub selection: Selection,
+    /// As people read them, or else as in a dump.
+    pub decoded: bool,
+    /// Plain or coloured.
+    pub shown: Shown,
+    /// Whether a damaged recording is printed as far as it is sound, with what was skipped.
+    pub skip: bool,
+}
+
+/// What a recording is printed with, on the way.
+#[derive(Drop)]
+struct Printing {
+    line: Line,
+    numbers: Numbers,
+    count: u64,
+}
+
+/// Prints the selected messages of a recording, a line each, in the file's order, and answers how many there were; in
+/// front of the first, where they are decoded, stands a line with the names of the columns. A recording that can't be
+/// read is refused with its first fault, and nothing is printed; but with `skip` it is read as far as it is sound, and
+/// a line for each skip stands among the others in the order of their offsets.
+pub fn decode<W: Write>(
+    alloc: Global,
+    bytes: &[u8],
+    out: &mut W,
+    output: &Output,
+) -> Result<u64, DumpFault> {
+    if output.skip {
+        return match Index::build_skipping(alloc, bytes) {
+            Ok(found) => decode_index(alloc, &found.index, &found.skips, out, output),
+            Err(_) => Err(DumpFault::Memory),
+        };
+    }
+    match Index::build(alloc, bytes) {
+        Ok(index) => decode_index(alloc, &index, &[], out, output),
+        Err(ReadError::Refused(refusal)) => Err(DumpFault::Refused(refusal)),
+        Err(ReadError::Memory) => Err(DumpFault::Memory),
+    }
+}
+
+/// Prints the packets of a recording that was read, and the skips among them.
+fn decode_index<W: Write>(
+    alloc: Global,
+    index: &Index<'_>,
+    skips: &[Skip],
+    out: &mut W,
+    output: &Output,
+) -> Result<u64, DumpFault> {
+    let mut printing = Printing {
+        line: Line::new(alloc, output.shown)?,
+        numbers: Numbers::new(alloc)?,
+        count: 0,
+    };
+    let packets = index.packets();
+    let mut rest = skips;
+    'packets: for place in 0..packets.len() {
+        let messages = messages_at(index, place);
+        let packet = &packets[place];
+        rest = put_skips(alloc, &mut printing.line, out, rest, packet.offset)?;
+        let (before, channel) = (packet.before, packet.header.channel);
+        put_messages(&mut printing, out, output, before, channel, messages)?;
+    }
+    put_skips(alloc, &mut printing.line, out, rest, usize::MAX)?;
+    printing.line.finish(out)?;
+    Ok(printing.count)
+}
+
+/// The messages of the packet at a place.
+fn messages_at<'a>(index: &Index<'a>, place: usize) -> Messages<'a> {
+    if place < index.packets().len() {
+        index.messages_in(place)
+    } else {
+        Messages::none()
+    }
+}
+
+/// Prints the first skips, as long as they lie in front of an offset, and answers those behind them.
+fn put_skips<'s, W: Write>(
+    alloc: Global,
+    line: &mut Line,
+    out: &mut W,
+    skips: &'s [Skip],
+    offset: usize,
+) -> Result<&'s [Skip], DumpFault> {
+    let mut rest = skips;
+    'skips: while let Some((skip, others)) = rest.split_first() {
+        if skip.offset >= offset {
+            break;
+        }
+        line.hand_on(out)?;
+        line.put_labelled(b"skipped ", skip.offset as u64);
+        line.put_labelled(b" length ", skip.length as u64);
+        let fault = format!(in alloc; " {}", skip.fault)?;
+        line.put(fault.as_bytes());
+        line.end_line();
+        rest = others;
+    }
+    Ok(rest)
+}
+
+/// Prints the selected ones of a packet's messages, behind so many messages of the file.
+fn put_messages<W: Write>(
+    printing: &mut Printing,
+    out: &mut W,
+    output: &Output,
+    before: u64,
+    channel: u16,
+    messages: Messages<'_>,
+) -> io::Result<()> {
+    let mut number = before;
+    let mut rest = messages;
+    'messages: while let Some(seen) = rest.next() {
+        number = number.saturating_add(1);
+        let place = Place {
+            number,
+            channel,
+            in_channel: printing.numbers.next(channel),
+        };
+        if output.selection.selects(number, channel, &seen) {
+            put_message(printing, out, output.decoded, &place, &seen)?;
+        }
+    }
+    Ok(())
+}
+
+/// Prints a message, and in front of the first one the names of the columns, where it is decoded.
+fn put_message<W: Write>(
+    printing: &mut Printing,
+    out: &mut W,
+    decoded: bool,
+    place: &Place,
+    seen: &Seen<'_>,
+) -> io::Result<()> {
+    if !decoded {
+        printing.count = printing.count.saturating_add(1);
+        return put_as_dump(&mut printing.line, out, place, seen);
+    }
+    if printing.count == 0 {
+        printing.line.hand_on(out)?;
+        printing.line.put(FIRST_COLUMNS);
+        printing.line.pad_to(REPLIES);
+        printing.line.put(OTHER_COLUMNS);
+        printing.line.end_line();
+    }
+    printing.count = printing.count.saturating_add(1);
+    write_message(&mut printing.line, out, place, seen)
+}
+
+/// Prints a message as a dump has it.
+fn put_as_dump<W: Write>(
+    line: &mut Line,
+    out: &mut W,
+    place: &Place,
+    seen: &Seen<'_>,
+) -> io::Result<()> {
+    line.hand_on(out)?;
+    line.put_labelled(b"message ", place.number);
+    line.put_labelled(b" channel ", u64::from(place.channel));
+    line.put_labelled(b" stamp ", seen.stamp);
+    line.put(b" block");
+    line.put_word(seen.block);
+    line.put(b" gaps");
+    line.put_word(seen.gaps);
+    line.put(b" words");
+    line.put_words(out, seen, 0, seen.words.len() / 2)?;
+    line.end_line();
+    Ok(())
+}

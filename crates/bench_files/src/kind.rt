@@ -1,0 +1,33 @@
+//! What commands write.
+use std::fmt::{self, Display, Formatter, Write};
+
+/// What a command writes into a file.
+#[derive(Clone, Copy, Debug, PartialEq, Eq)]
+pub enum Kind {
+    /// Packets, the first of which begins with the sync pattern (IRIG 106-17, 11.2.1.1).
+    Recording,
+    /// The report of a run.
+    Report,
+    /// The image of a script.
+    Image,
+    /// Messages as comma-separated values.
+    Rows,
+    /// Messages as a picture.
+    Picture,
+    /// Verdicts, as a JUnit report.
+    Verdicts,
+}
+
+/// `recording`, `report`, `image`, `table of messages`, `picture`, `JUnit report`.
+impl Display for Kind {
+    fn fmt<W: Write>(&self, f: &mut Formatter<W>) -> fmt::Result {
+        f.write_str(match self {
+            Kind::Recording => "recording",
+            Kind::Report => "report",
+            Kind::Image => "image",
+            Kind::Rows => "table of messages",
+            Kind::Picture => "picture",
+            Kind::Verdicts => "JUnit report",
+        })
+    }
+}

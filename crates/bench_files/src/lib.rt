@@ -1,0 +1,18 @@
+//! Files that are written beside their place and take it once they are whole, so that what was there is kept until
+//! then.
+#![tactic(auto)]
+
+mod beginnings;
+mod error;
+mod kind;
+mod names;
+mod out_file;
+mod part;
+mod place;
+
+pub use beginnings::is_of_kind;
+pub use error::OutError;
+pub use kind::Kind;
+pub use names::{followed, part_of};
+pub use out_file::OutFile;
+pub use place::{Hold, leads_to_output, refuse_other_kind};

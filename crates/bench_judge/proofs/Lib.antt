@@ -1,0 +1,5 @@
+mod Forms
+mod Moments
+mod Passing
+mod Whole
+mod Tallying

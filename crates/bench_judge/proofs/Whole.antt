@@ -1,0 +1,177 @@
+-- A recording that is passed: no message, the messages of a packet, the packets, and the verdicts at the end.
+use Rattle.std.proofs.Common.{◌≡◌, ℕ, zero, suc, ◌+◌, ◌<◌, ◌≤◌, List, [], ◌∷◌, ◌++◌, length, take, drop, refl, ap, sym, ◌∙◌, subst, inl, inr, arith, append_assoc, append-nil, reverse, add-one, length-append}
+use Rattle.std.specs.Prelude.{Option, Some, None, slice_get, map}
+use Rattle.std.specs.List.{flat_map}
+use Rattle.std.proofs.lemmas.Bool.{cases_eq}
+use Rattle.std.proofs.lemmas.Option.{slice_get_within}
+use Rattle.std.proofs.lemmas.List.{reverse-append, map-append, length-map, length-reverse, take_all}
+use Rattle.std.proofs.lemmas.Grind.{flat_map-append}
+use Rattle.ch11_f1.specs.BodyReading.{Message}
+use Rattle.ch11_reader.specs.declared.packet.Packet.{Packet}
+use Rattle.ch11_reader.specs.Recording.{Found}
+use Rattle.ch11_reader.specs.Contents.{heard_of, heard_in, total_in}
+use Rattle.bench_dump.proofs.Packets.{IsAt}
+use Rattle.judge_rules.specs.declared.rules.Rule.{Rule}
+use Rattle.bench_judge.specs.declared.tallies.Tally.{Tally}
+use Rattle.bench_judge.specs.declared.verdicts.Verdict.{Verdict}
+use Rattle.bench_judge.specs.Verdicts.{Heard, IsVerdict, IsVerdictWith, AreVerdicts}
+use Rattle.bench_judge.specs.Tallies.{IsTally, AreTallies}
+
+-- an element of a list with one more: one of the list, or the last
+pub data Place (X : Type 0) (xs : List X) (x : X) (k : ℕ) (y : X) : Type 0 where
+  Earlier : k < length xs → slice_get xs k ≡ Some y → Place X xs x k y
+  Last : k ≡ length xs → x ≡ y → Place X xs x k y
+
+later : {X : Type 0} (x : X) (xs : List X) (last : X) (k : ℕ) (y : X) → Place X xs last k y → Place X (x ∷ xs) last (suc k) y
+later x xs last k y (Earlier within there) = Earlier (omega (arith, within)) there
+later x xs last k y (Last at is) = Last (ap suc at) is
+
+pub place_of : {X : Type 0} (xs : List X) (x : X) (k : ℕ) (y : X) → slice_get (xs ++ x ∷ []) k ≡ Some y → Place X xs x k y
+place_of [] x zero y is = Last refl cc
+place_of [] x (suc k) y is = absurd cc
+place_of (z ∷ zs) x zero y is = Earlier (omega arith) is
+place_of (z ∷ zs) x (suc k) y is = later z zs x k y (place_of zs x k y is)
+
+-- each tally is of no messages
+pub record AreNew (tallies : List Tally) : Type 0 where
+  pub each : (k : ℕ) (tally : Tally) → slice_get tallies k ≡ Some tally → (rule : Rule) → IsTally rule [] tally
+
+pub new-none : AreNew []
+new-none = record { each = λ k tally there. absurd cc }
+
+pub new-more : (tallies : List Tally) (tally : Tally) → AreNew tallies → ((rule : Rule) → IsTally rule [] tally) → AreNew (tallies ++ tally ∷ [])
+new-more tallies tally are one = record { each = λ k other there rule. go k other rule (place_of tallies tally k other there) }
+  where
+    go : (k : ℕ) (other : Tally) (rule : Rule) → Place Tally tallies tally k other → IsTally rule [] other
+    go k other rule (Earlier within there) = are.each k other there rule
+    go k other rule (Last at is) = subst (λ (t : Tally). IsTally rule [] t) is (one rule)
+
+pub new-all : (rules : List Rule) (tallies : List Tally) → length tallies ≡ length rules → AreNew tallies → AreTallies rules [] tallies
+new-all rules tallies many are = record { many = many; each = λ k rule tally there got. are.each k tally got rule }
+
+abbrev pub with_channel : ℕ → Message → Heard
+with_channel channel = λ (m : Message). (channel, m)
+
+-- the messages of a packet so far are counted
+pub record IsPassing (rules : List Rule) (channel before number : ℕ) (all rest : List Message) (history : List Heard) (tallies : List Tally) : Type 0 where
+  pub passed : List Message
+  pub split : passed ++ rest ≡ all
+  pub counted : number ≡ before + length passed
+  pub tallied : AreTallies rules (reverse (map (with_channel channel) passed) ++ history) tallies
+
+pub passing-none : (rules : List Rule) (channel before : ℕ) (all : List Message) (history : List Heard) (tallies : List Tally) → AreTallies rules history tallies → IsPassing rules channel before before all all history tallies
+passing-none rules channel before all history tallies are = record { passed = []; split = refl; counted = omega arith; tallied = are }
+
+pub length-history : (channel : ℕ) (passed : List Message) (history : List Heard) → length (reverse (map (with_channel channel) passed) ++ history) ≡ length passed + length history
+length-history channel passed history =
+    omega (arith, length-append (reverse (map (with_channel channel) passed)) history, length-reverse (map (with_channel channel) passed), length-map passed (with_channel channel))
+
+one_more : (channel : ℕ) (passed : List Message) (m : Message) (history : List Heard)
+    → reverse (map (with_channel channel) (passed ++ m ∷ [])) ++ history ≡ (channel, m) ∷ (reverse (map (with_channel channel) passed) ++ history)
+one_more channel passed m history =
+    ap (λ (hs : List Heard). reverse hs ++ history) (map-append (with_channel channel) passed (m ∷ []))
+    ∙ ap (λ (hs : List Heard). hs ++ history) (reverse-append (map (with_channel channel) passed) ((channel, m) ∷ []))
+
+pub passing-more : (rules : List Rule) (channel before number : ℕ) (all rest others : List Message) (m : Message) (history : List Heard) (tallies next : List Tally) → IsPassing rules channel before number all rest history tallies → rest ≡ m ∷ others
+    → before ≡ length history
+    → ((hs : List Heard) → AreTallies rules hs tallies → number + 1 ≡ length hs + 1 → AreTallies rules ((channel, m) ∷ hs) next)
+    → IsPassing rules channel before (number + 1) all others history next
+passing-more rules channel before number all rest others m history tallies next p is from noted = record {
+  passed = p.passed ++ m ∷ [];
+  split = append_assoc p.passed (m ∷ []) others ∙ ap (λ (ms : List Message). p.passed ++ ms) (sym is) ∙ p.split;
+  counted = omega (arith, p.counted, length-append p.passed (m ∷ []));
+  tallied = subst (λ (hs : List Heard). AreTallies rules hs next) (sym (one_more channel p.passed m history))
+      (noted (reverse (map (with_channel channel) p.passed) ++ history) p.tallied (omega (arith, p.counted, from, length-history channel p.passed history)));
+}
+
+pub passing-all : (rules : List Rule) (channel before number : ℕ) (all rest : List Message) (history : List Heard) (tallies : List Tally) → IsPassing rules channel before number all rest history tallies → rest ≡ []
+    → AreTallies rules (reverse (map (with_channel channel) all) ++ history) tallies
+passing-all rules channel before number all rest history tallies p none =
+    subst (λ (ms : List Message). AreTallies rules (reverse (map (with_channel channel) ms) ++ history) tallies)
+    (sym (append-nil p.passed) ∙ ap (λ (ms : List Message). p.passed ++ ms) (sym none) ∙ p.split) p.tallied
+
+take_more : {X : Type 0} (xs : List X) (k : ℕ) (x : X) → slice_get xs k ≡ Some x → take (suc k) xs ≡ take k xs ++ x ∷ []
+take_more [] k x is = absurd cc
+take_more (y ∷ ys) zero x is = let same : y ≡ x = cc in rw same refl
+take_more (y ∷ ys) (suc k) x is = rw (take_more ys k x is) refl
+
+pub length-heard : (ps : List Found) → length (heard_in ps) ≡ total_in ps
+length-heard [] = refl
+length-heard (p ∷ ps) = omega (arith, length-append (heard_of p) (heard_in ps), length-map p.messages (with_channel p.header.channel), length-heard ps)
+
+-- so many messages are behind
+pub before_packet : (ps : List Found) (place : ℕ) (e : Packet) → IsAt 0 ps place e → e.before ≡ length (reverse (heard_in (take place ps)))
+before_packet ps place e at = omega (arith, at.before, length-reverse (heard_in (take place ps)), length-heard (take place ps))
+
+pub packets-more : (rules : List Rule) (ps : List Found) (place : ℕ) (e : Packet) (tallies : List Tally) → (at : IsAt 0 ps place e)
+    → AreTallies rules (reverse (map (with_channel e.header.channel) at.packet.messages) ++ reverse (heard_in (take place ps))) tallies
+    → AreTallies rules (reverse (heard_in (take (place + 1) ps))) tallies
+packets-more rules ps place e tallies at are = subst (λ (hs : List Heard). AreTallies rules hs tallies) (sym same) are
+  where
+    taken : take (place + 1) ps ≡ take place ps ++ at.packet ∷ []
+    taken = rw add-one (take_more ps place at.packet at.there)
+
+    heard : heard_in (take (place + 1) ps) ≡ heard_in (take place ps) ++ heard_of at.packet
+    heard = ap heard_in taken ∙ flat_map-append heard_of (take place ps) (at.packet ∷ []) ∙ ap (λ (hs : List Heard). heard_in (take place ps) ++ hs) (append-nil (heard_of at.packet))
+
+    same : reverse (heard_in (take (place + 1) ps)) ≡ reverse (map (with_channel e.header.channel) at.packet.messages) ++ reverse (heard_in (take place ps))
+    same = rw at.header (ap reverse heard ∙ reverse-append (heard_in (take place ps)) (heard_of at.packet))
+
+-- the tallies so far have their verdicts
+pub record IsJudging (rules : List Rule) (all rest : List Tally) (verdicts : List Verdict) : Type 0 where
+  pub done : List Tally
+  pub split : done ++ rest ≡ all
+  pub many : length verdicts ≡ length done
+  pub each : (k : ℕ) (rule : Rule) (tally : Tally) (verdict : Verdict) → slice_get rules k ≡ Some rule → slice_get done k ≡ Some tally → slice_get verdicts k ≡ Some verdict → IsVerdictWith rule tally.selected tally.missed.items verdict
+
+pub judging-none : (rules : List Rule) (all : List Tally) → IsJudging rules all all []
+judging-none rules all = record { done = []; split = refl; many = refl; each = λ k rule tally verdict there got has. absurd cc }
+
+some_same : {X : Type 0} (x y : X) → Some x ≡ Some y → x ≡ y
+some_same x y is = cc
+
+pub judging-within : (rules : List Rule) (all rest others : List Tally) (tally : Tally) (verdicts : List Verdict) → IsJudging rules all rest verdicts → length all ≡ length rules → rest ≡ tally ∷ others → length verdicts < length rules
+judging-within rules all rest others tally verdicts j many is = omega (arith, j.many, many, ap length j.split, length-append j.done rest, ap length is)
+
+pub judging-more : (rules : List Rule) (all rest others : List Tally) (tally : Tally) (verdicts : List Verdict) (rule : Rule) (verdict : Verdict) → IsJudging rules all rest verdicts → rest ≡ tally ∷ others → slice_get rules (length verdicts) ≡ Some rule
+    → IsVerdictWith rule tally.selected tally.missed.items verdict → IsJudging rules all others (verdicts ++ verdict ∷ [])
+judging-more rules all rest others tally verdicts rule verdict j is there one = record {
+  done = j.done ++ tally ∷ [];
+  split = append_assoc j.done (tally ∷ []) others ∙ ap (λ (ts : List Tally). j.done ++ ts) (sym is) ∙ j.split;
+  many = omega (arith, length-append verdicts (verdict ∷ []), length-append j.done (tally ∷ []), j.many);
+  each = λ k r t v asked got has. go k r t v asked (place_of j.done tally k t got) (place_of verdicts verdict k v has);
+}
+  where
+    go : (k : ℕ) (r : Rule) (t : Tally) (v : Verdict) → slice_get rules k ≡ Some r → Place Tally j.done tally k t → Place Verdict verdicts verdict k v → IsVerdictWith r t.selected t.missed.items v
+    go k r t v asked (Earlier a got) (Earlier b has) = j.each k r t v asked got has
+    go k r t v asked (Earlier a got) (Last b has) = absurd (omega (arith, a, b, j.many))
+    go k r t v asked (Last a got) (Earlier b has) = absurd (omega (arith, a, b, j.many))
+    go k r t v asked (Last a got) (Last b has) =
+        let same : rule ≡ r = some_same rule r (sym there ∙ ap (slice_get rules) (sym b) ∙ asked) in
+        subst (λ (x : Rule). IsVerdictWith x t.selected t.missed.items v) same
+        (subst (λ (x : Tally). IsVerdictWith rule x.selected x.missed.items v) got (subst (λ (x : Verdict). IsVerdictWith rule tally.selected tally.missed.items x) has one))
+
+verdict_with : (rule : Rule) (history : List Heard) (tally : Tally) (verdict : Verdict) → IsTally rule history tally → IsVerdictWith rule tally.selected tally.missed.items verdict → IsVerdict rule history verdict
+verdict_with rule history tally verdict is with = rw (is.selected, is.missed) at with
+
+pub judging-all : (rules : List Rule) (all rest : List Tally) (verdicts : List Verdict) (history : List Heard) → IsJudging rules all rest verdicts → rest ≡ [] → AreTallies rules history all → AreVerdicts rules history verdicts
+judging-all rules all rest verdicts history j none are = record {
+  many = omega (arith, j.many, are.many, ap length whole);
+  each = λ k rule verdict asked has. go k rule verdict asked has (slice_get j.done k) refl;
+}
+  where
+    whole : j.done ≡ all
+    whole = sym (append-nil j.done) ∙ ap (λ (ts : List Tally). j.done ++ ts) (sym none) ∙ j.split
+
+    missing : (k : ℕ) → slice_get j.done k ≡ None → length j.done ≤ k
+    missing k is = past j.done k is
+      where
+        past : {X : Type 0} (xs : List X) (k : ℕ) → slice_get xs k ≡ None → length xs ≤ k
+        past [] k is = omega arith
+        past (x ∷ xs) zero is = absurd cc
+        past (x ∷ xs) (suc k) is = omega (arith, past xs k is)
+
+    go : (k : ℕ) (rule : Rule) (verdict : Verdict) → slice_get rules k ≡ Some rule → slice_get verdicts k ≡ Some verdict → (found : Option Tally) → slice_get j.done k ≡ found → IsVerdict rule history verdict
+    go k rule verdict asked has None is = absurd (omega (arith, missing k is, j.many, slice_get_within verdicts k verdict has))
+    go k rule verdict asked has (Some tally) is =
+        verdict_with rule history tally verdict (are.each k rule tally asked (ap (λ (ts : List Tally). slice_get ts k) (sym whole) ∙ is)) (j.each k rule tally verdict asked is has)

@@ -1,0 +1,14 @@
+use Rattle.std.proofs.Common.{◌≡◌, ℕ, [], length}
+use Rattle.std.specs.Prelude.{Some, slice_get}
+use Rattle.judge_rules.specs.declared.rules.Rule.{Rule}
+use Rattle.bench_judge.specs.declared.tallies.Tally.{Tally}
+use Rattle.bench_judge.specs.Tallies.{IsTally}
+use Rattle.bench_judge.proofs.Whole.{AreNew}
+use Rattle.bench_judge.proofs.judging.no_tallies.Given as goal
+
+-- each tally so far is of no messages
+abbrev pub invariant-rules : goal.invariant-rules
+invariant-rules l = record {
+  many : length l.tallies.items ≡ l._rule-index;
+  new : AreNew l.tallies.items;
+}

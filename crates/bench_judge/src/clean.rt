@@ -1,0 +1,136 @@
+//! Messages as the standard has them.
+ghost use Rattle.std.specs.Prelude.{◌≡◌, ◌-◌, ◌≤◌, Some, if◌then◌else◌};
+ghost use Rattle.ch11_f1.specs.Views.{message_of};
+ghost use Rattle.ch11_layout.specs.Layouts.{layout_of};
+ghost use Rattle.bench_judge.specs.Clean as spec;
+ghost use Rattle.bench_judge.specs.Words.{data_count};
+
+use crate::replies::{replies_fit, sends_no_data, words_due};
+use crate::words::{data_words, statuses};
+use ch11_f1::Seen;
+use ch11_layout::{Layout, first_gap, is_set, second_gap, word_at};
+use mil_message::Message;
+use mil_mode::{ModeRow, broadcast_allowed, mode_of};
+use mil_word::Command;
+
+/// The greatest number of data words (MIL-STD-1553B 4.3.3.5.1.5).
+const MOST_WORDS: usize = 32;
+
+/// Whether a block status word has none of the bits of errors.
+fn has_no_error(block: u16) -> bool
+    ensures { result ≡ spec.has_no_error block }
+{
+    !is_set(block, 12)
+        && !is_set(block, 10)
+        && !is_set(block, 9)
+        && !is_set(block, 5)
+        && !is_set(block, 4)
+        && !is_set(block, 3)
+}
+
+/// Whether the standard assigns a mode command's code, and lets it be sent to all terminals where it is.
+fn may_be_sent(command: Command) -> bool
+    ensures { result ≡ spec.may_be_sent command }
+{
+    if !command.is_mode() {
+        return true;
+    }
+    let (transmit, code) = (command.is_transmit(), command.code());
+    matches!(mode_of(transmit, code), ModeRow::Known)
+        && (!command.is_broadcast() || broadcast_allowed(transmit, code))
+}
+
+/// The number of the form of a mode command.
+fn mode_form(command: Command) -> u8
+    ensures { result ≡ spec.mode_form command }
+{
+    if command.is_transmit() {
+        if command.is_broadcast() {
+            8
+        } else if mil_mode::data_words(true, command.code()) == 0 {
+            3
+        } else {
+            4
+        }
+    } else if command.is_broadcast() {
+        9
+    } else {
+        5
+    }
+}
+
+/// The number of the form whose first command this would be, alone or as the first of two.
+fn form_number(two: bool, first: Command) -> u8
+    ensures { result ≡ spec.form_number_of two first }
+{
+    if two {
+        if first.is_broadcast() { 7 } else { 2 }
+    } else if first.is_mode() {
+        mode_form(first)
+    } else if first.is_transmit() {
+        1
+    } else if first.is_broadcast() {
+        6
+    } else {
+        0
+    }
+}
+
+/// The message of one of the ten forms that has these parts.
+fn message_with(number: u8, first: u16, second: u16, words: &[u16]) -> Option<Message>
+    ensures { result ≡ spec.form_with (record { number = number; first = first; second = second; words = words.now }) }
+{
+    Message::of_parts(number, first, second, words)
+}
+
+/// The message of one of the ten forms whose words a recorded message may have. Condition: at most 32 of its words are data words.
+fn message_in(seen: &Seen<'_>, layout: &Layout) -> Option<Message>
+    requires same { layout.now ≡ layout_of (message_of seen.now) }
+    requires few { layout.now.data_end - layout.now.data_start ≤ 32 }
+    ensures { result ≡ spec.form_with (spec.parts_in (message_of seen.now)) }
+{
+    let two = layout.commands == 2;
+    let first = word_at(seen.words, 0);
+    let second = if two { word_at(seen.words, 1) } else { 0 };
+    let number = form_number(two, Command::of(first));
+    if matches!(number, 0 | 5 | 6 | 9) {
+        let words = data_words(seen, layout);
+        message_with(number, first, second, words.as_slice())
+    } else {
+        message_with(number, first, second, &[])
+    }
+}
+
+/// Whether the data words are as many as controller and terminal send, or none where the terminal's status tells so.
+fn data_fit(message: &Message, count: usize, statuses: &[u16]) -> bool
+    ensures { result ≡ spec.data_fit message.now count statuses.now }
+{
+    let due = usize::from(words_due(message.replies_due().as_slice()));
+    count == message.data_words().len() + due || count == 0 && 0 < due && sends_no_data(statuses)
+}
+
+/// Whether a message is as the standard has it: of one of the ten forms, with a mode code that the standard assigns, all replies in
+/// time and no word too many or too few (MIL-STD-1553B 4.3.3.6, with Notice 2).
+#[tactic(auto, unfolding(crate::specs::Clean::clean))]
+pub fn is_clean(seen: &Seen<'_>) -> bool
+    ensures { result ≡ spec.clean (message_of seen.now) }
+{
+    if !has_no_error(seen.block) || !may_be_sent(Command::of(word_at(seen.words, 0))) {
+        return false;
+    }
+    let layout = Layout::of(seen);
+    let count = layout.data_end.saturating_sub(layout.data_start);
+    if count > MOST_WORDS {
+        return false;
+    }
+    let Some(message) = message_in(seen, &layout) else {
+        return false;
+    };
+    let statuses = statuses(seen, &layout);
+    data_fit(&message, count, statuses.as_slice())
+        && replies_fit(
+            message.replies_due().as_slice(),
+            statuses.as_slice(),
+            &[first_gap(seen), second_gap(seen)],
+        )
+}

@@ -1,0 +1,119 @@
+//! Verdicts as a JUnit XML file: a test case a rule.
+use crate::numbers::put_number;
+use crate::verdicts::{Verdict, not_held};
+use judge_rules::next_line;
+use std::alloc::{AllocError, Global};
+
+/// How many messages that miss a rule are told of it.
+const TOLD: usize = 100;
+
+/// The length of the UTF-8 character with which bytes begin, 0 where it is none that an XML text may have.
+fn character_len(bytes: &[u8]) -> usize {
+    let Some(&first) = bytes.first() else {
+        return 0;
+    };
+    let (len, least) = match first {
+        b'\t' | 0x20..=0x7F => return 1,
+        0xC2..=0xDF => (2, 0x80),
+        0xE0 => (3, 0xA0),
+        0xE1..=0xEE => (3, 0x80),
+        0xF0 => (4, 0x90),
+        0xF1..=0xF3 => (4, 0x80),
+        _ => return 0,
+    };
+    if bytes.len() < len {
+        return 0;
+    }
+    let sound = bytes[1] >= least && bytes[1..len].iter().all(|byte| *byte & 0xC0 == 0x80);
+    if sound && !(first == 0xED && bytes[1] >= 0xA0) {
+        len
+    } else {
+        0
+    }
+}
+
+/// Appends a text as the value of an attribute; a byte that is no part of a character is a question mark.
+fn put_escaped(text: &mut Vec<u8>, value: &[u8]) -> Result<(), AllocError> {
+    let mut rest = value;
+    while let Some((first, others)) = rest.split_first() {
+        let len = character_len(rest);
+        match *first {
+            b'&' => text.extend_from_slice(b"&amp;")?,
+            b'<' => text.extend_from_slice(b"&lt;")?,
+            b'>' => text.extend_from_slice(b"&gt;")?,
+            b'"' => text.extend_from_slice(b"&quot;")?,
+            _ if len == 0 || rest.len() < len => text.extend_from_slice(b"?")?,
+            _ => text.extend_from_slice(&rest[..len])?,
+        }
+        rest = if 1 < len && len <= rest.len() {
+            &rest[len..]
+        } else {
+            others
+        };
+    }
+    Ok(())
+}
+
+/// Appends why a rule is not held.
+fn put_reason(text: &mut Vec<u8>, verdict: &Verdict) -> Result<(), AllocError> {
+    if verdict.miscounted {
+        return put_number(text, b"count ", verdict.selected);
+    }
+    if verdict.missed.is_empty() {
+        return text.extend_from_slice(b"no message is selected");
+    }
+    put_number(text, b"selected ", verdict.selected)?;
+    put_number(text, b" missed ", verdict.missed.len() as u64)
+}
+
+/// Appends the test case of a rule, named by its text.
+fn put_case(text: &mut Vec<u8>, name: &[u8], verdict: &Verdict) -> Result<(), AllocError> {
+    put_number(text, b"  <testcase classname=\"line ", verdict.line)?;
+    text.extend_from_slice(b"\" name=\"")?;
+    put_escaped(text, name)?;
+    if verdict.held {
+        return text.extend_from_slice(b"\"/>\n");
+    }
+    text.extend_from_slice(b"\">\n    <failure message=\"")?;
+    put_reason(text, verdict)?;
+    text.extend_from_slice(b"\">")?;
+    for miss in verdict.missed.iter().take(TOLD) {
+        put_number(text, b"\nmessage ", miss.number)?;
+        put_number(text, b" channel ", u64::from(miss.channel))?;
+        put_number(text, b" stamp ", miss.stamp)?;
+    }
+    text.extend_from_slice(b"</failure>\n  </testcase>\n")
+}
+
+/// A JUnit file of verdicts on the rules that a text spells: a test case a rule, in their order, named by the line of the rule. Of a
+/// rule that is not held it has up to 100 of the messages that miss it.
+pub fn junit_text(
+    alloc: Global,
+    rules_text: &[u8],
+    verdicts: &[Verdict],
+) -> Result<Vec<u8>, AllocError> {
+    let mut text = Vec::new(alloc);
+    text.extend_from_slice(b"<?xml version=\"1.0\" encoding=\"UTF-8\"?>\n")?;
+    put_number(
+        &mut text,
+        b"<testsuite name=\"bench judge\" tests=\"",
+        verdicts.len() as u64,
+    )?;
+    put_number(&mut text, b"\" failures=\"", not_held(verdicts))?;
+    text.extend_from_slice(b"\">\n")?;
+    let (mut rest, mut line) = (rules_text, 0u64);
+    for verdict in verdicts {
+        let mut name: &[u8] = b"";
+        for _ in line..verdict.line {
+            let Some((first, behind)) = next_line(rest) else {
+                break;
+            };
+            name = first;
+            rest = behind;
+        }
+        line = verdict.line;
+        put_case(&mut text, name.trim_ascii(), verdict)?;
+    }
+    text.extend_from_slice(b"</testsuite>\n")?;
+    Ok(text)
+}

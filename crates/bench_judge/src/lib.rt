@@ -1,0 +1,24 @@
+//! The command `bench judge`: which messages of a recording a rule selects, which of them miss it, and whether it is held.
+//! Its tests are in `look_tests`.
+#![tactic(auto)]
+
+mod checks;
+mod clean;
+mod colored;
+mod judging;
+mod junit;
+mod lines;
+mod numbers;
+mod replies;
+mod selection;
+mod tallies;
+mod verdicts;
+mod words;
+
+pub use clean::is_clean;
+pub use colored::colored_text;
+pub use judging::judge;
+pub use junit::junit_text;
+pub use lines::verdict_text;
+pub use selection::selects;
+pub use verdicts::{Miss, Verdict, not_held};

@@ -1,0 +1,78 @@
+//! The verdict of a rule while the recording is passed.
+ghost use Rattle.std.specs.Prelude.{◌≡◌, ◌+◌, ◌∷◌, ◌<◌, ◌≤◌, [], true, List, length, OnOk, IfOk};
+ghost use Rattle.ch11_f1.specs.Views.{message_of};
+ghost use Rattle.bench_judge.specs.Checks.{meets as spec_meets};
+ghost use Rattle.bench_judge.specs.Selection.{selects as selects_message};
+ghost use Rattle.bench_judge.specs.Verdicts.{Heard, latest_stamp};
+ghost use Rattle.bench_judge.specs.Tallies.{IsTally, IsLatest};
+
+use crate::checks::{follows_in, meets, period_of};
+use crate::selection::selects;
+use crate::verdicts::Miss;
+use ch11_f1::Seen;
+use judge_rules::{Check, Rule};
+use std::alloc::{AllocError, Global};
+use std::collections::HashMap;
+
+/// How many messages a rule selects so far, those of them that miss it, and for a rule of a period the stamp of the newest selected
+/// message of each channel.
+#[derive(Drop)]
+pub(crate) struct Tally {
+    pub(crate) selected: u64,
+    pub(crate) missed: Vec<Miss>,
+    pub(crate) latest: HashMap<u16, u64>,
+}
+
+impl Tally {
+    /// Nothing was selected yet.
+    pub(crate) fn new(alloc: Global) -> Tally
+        ensures { (rule : Rule) → IsTally rule [] result }
+    {
+        Tally {
+            selected: 0,
+            missed: Vec::new(alloc),
+            latest: HashMap::new(alloc),
+        }
+    }
+
+    /// Whether a selected message meets a check. For a check of a period its stamp is the newest of its channel from now on.
+    fn meets(&mut self, check: &Check, channel: u16, seen: &Seen<'_>) -> Result<bool, AllocError>
+        ensures selected { self.new.selected ≡ self.old.selected }
+        ensures missed { self.new.missed ≡ self.old.missed }
+        ensures met { (rule : Rule) → (history : List Heard) → rule.check ≡ check.now → IsLatest rule history self.old → IfOk result (λ met. met ≡ spec_meets check.now (latest_stamp rule channel history) (message_of seen.now)) }
+        ensures latest { (rule : Rule) → (history : List Heard) → rule.check ≡ check.now → selects_message rule channel (message_of seen.now) ≡ true → IsLatest rule history self.old → OnOk result (IsLatest rule ((channel, message_of seen.now) ∷ history) self.new) }
+    {
+        match period_of(check) {
+            Some(bounds) => {
+                let before = self.latest.insert(channel, seen.stamp)?;
+                Ok(follows_in(&bounds, before, seen.stamp))
+            }
+            None => Ok(meets(check, None, seen)),
+        }
+    }
+
+    /// One more message, with its number and its channel.
+    pub(crate) fn note(
+        &mut self,
+        rule: &Rule,
+        number: u64,
+        channel: u16,
+        seen: &Seen<'_>,
+    ) -> Result<(), AllocError>
+        ensures { (history : List Heard) → IsTally rule.now history self.old → number ≡ length history + 1 → OnOk result (IsTally rule.now ((channel, message_of seen.now) ∷ history) self.new) }
+    {
+        if !selects(rule, channel, seen) {
+            return Ok(());
+        }
+        let met = self.meets(&rule.check, channel, seen)?;
+        self.selected = self.selected.saturating_add(1);
+        if !met {
+            self.missed.push(Miss {
+                number,
+                channel,
+                stamp: seen.stamp,
+            })?;
+        }
+        Ok(())
+    }
+}

@@ -1,0 +1,30 @@
+//! Why the script of a job is refused.
+
+use crate::fault::ScriptFault;
+use crate::places::Place;
+use crate::reason::Reason;
+use crate::scripts::{Text, reason_behind};
+use crate::words::next_word;
+use std::alloc::{AllocError, Global};
+
+/// Why the script of a job is refused with a fault at a place of the whole text; none where that is no fault of it.
+pub fn job_script_reason(
+    alloc: Global,
+    text: &[u8],
+    fault: ScriptFault,
+    place: Place,
+) -> Result<Option<Reason>, AllocError> {
+    reason_behind(alloc, text, script_of(text), Text::Script, fault, place)
+}
+
+/// What stands behind the line `script`.
+fn script_of(text: &[u8]) -> &[u8] {
+    let mut left = text.len();
+    for line in text.split(|byte| *byte == b'\n') {
+        left = left.saturating_sub(line.len().saturating_add(1));
+        if next_word(line).is_some_and(|(word, _)| word == b"script".as_slice()) {
+            return text.split_at(text.len().saturating_sub(left)).1;
+        }
+    }
+    b""
+}

@@ -1,0 +1,193 @@
+//! The kinds of words that stand in scripts and jobs: which words are of a kind, and how that is said.
+ghost use Rattle.std.specs.Prelude.{◌≤◌};
+
+use numerals::spelled;
+
+/// A kind of word.
+#[derive(Clone, Copy, Debug, PartialEq, Eq)]
+pub enum Kind {
+    /// The line of a message, bus A or bus B.
+    Line,
+    /// The address of a terminal (MIL-STD-1553B 4.3.3.5.1.2).
+    Address,
+    /// A subaddress that is not one of mode commands (4.3.3.5.1.4).
+    Subaddress,
+    /// A count of data words (4.3.3.5.1.5).
+    Count,
+    /// A mode code (4.3.3.5.1.7).
+    ModeCode,
+    /// How many times a block runs.
+    Turns,
+    /// How many times a message is sent again.
+    Retries,
+    /// A gap before messages, in ticks.
+    Gap,
+    /// The period of a frame, in microseconds.
+    Period,
+    /// A data word.
+    DataWord,
+    /// The name of a status bit.
+    StatusBit,
+    /// The name that a definition gives.
+    NewName,
+    /// The name of a definition.
+    Name,
+    /// The number of a channel.
+    Channel,
+    /// The tick of the first message.
+    StartTick,
+    /// The number of a message in its channel.
+    MessageNumber,
+    /// How far the messages of a line are apart.
+    Step,
+    /// A run of a message.
+    Run,
+    /// A run that is a reply.
+    ReplyRun,
+    /// The place of a word in its run.
+    Index,
+    /// Half bits to be inverted.
+    HalfBits,
+    /// The sync of a word.
+    Sync,
+    /// The response time of a late reply, in ticks.
+    LateTicks,
+    /// The response time of a terminal, in ticks.
+    ResponseTicks,
+    /// A subaddress that a host puts words up for.
+    TransmitSubaddress,
+    /// Whether something is on.
+    Switch,
+    /// The direction of a command.
+    Direction,
+}
+
+/// What is wrong with a word.
+#[derive(Clone, Copy, Debug, PartialEq, Eq)]
+pub enum Slip {
+    /// It is none of the words that may stand there.
+    Word,
+    /// It is not written as a number, or as a data word.
+    Form,
+    /// Its number is out of its range.
+    Range,
+}
+
+/// Whether a word is a number from `least` to `greatest`, of at most so many decimal digits.
+fn number_slip(word: &[u8], digits: usize, least: u64, greatest: u64) -> Option<Slip>
+    requires { digits ≤ 15 }
+{
+    match spelled(10, 1, digits, word) {
+        None => Some(Slip::Form),
+        Some(number) if number < least || greatest < number => Some(Slip::Range),
+        Some(_) => None,
+    }
+}
+
+fn word_slip(word: &[u8], words: &[&str]) -> Option<Slip> {
+    for one in words {
+        if one.as_bytes() == word {
+            return None;
+        }
+    }
+    Some(Slip::Word)
+}
+
+/// Whether a word is one of exactly so many hexadecimal digits, and not all of them zero where that is asked.
+fn hexadecimal_slip(word: &[u8], digits: usize, not_zero: bool) -> Option<Slip>
+    requires { digits ≤ 15 }
+{
+    match spelled(16, digits, digits, word) {
+        None => Some(Slip::Form),
+        Some(0) if not_zero => Some(Slip::Range),
+        Some(_) => None,
+    }
+}
+
+impl Kind {
+    /// What is wrong with a word in the place of one of this kind. Names are not judged.
+    pub fn slip(self, word: &[u8]) -> Option<Slip> {
+        match self {
+            Kind::Line => word_slip(word, &["A", "B"]),
+            Kind::Sync => word_slip(word, &["c", "d"]),
+            Kind::Switch => word_slip(word, &["on", "off"]),
+            Kind::Direction => word_slip(word, &["receive", "transmit"]),
+            Kind::DataWord => hexadecimal_slip(word, 4, false),
+            Kind::HalfBits => hexadecimal_slip(word, 10, true),
+            Kind::StartTick => number_slip(word, 15, 0, 140_737_488_355_328),
+            Kind::StatusBit | Kind::NewName | Kind::Name => None,
+            _ => {
+                let (least, greatest) = self.range();
+                number_slip(word, 7, least, greatest)
+            }
+        }
+    }
+
+    /// The range of a number of up to seven digits.
+    fn range(self) -> (u64, u64) {
+        match self {
+            Kind::Address => (0, 30),
+            Kind::Subaddress => (1, 30),
+            Kind::Count => (1, 32),
+            Kind::ModeCode => (0, 31),
+            Kind::Turns => (1, 10_000),
+            Kind::Retries => (1, 8),
+            Kind::Gap => (40, 65_535),
+            Kind::Period => (100, 6_553_500),
+            Kind::Channel => (1, 65_535),
+            Kind::MessageNumber | Kind::Step => (1, 1_000_000),
+            Kind::Run => (0, 2),
+            Kind::ReplyRun => (1, 2),
+            Kind::Index => (0, 39),
+            Kind::LateTicks => (121, 255),
+            Kind::ResponseTicks => (40, 120),
+            Kind::TransmitSubaddress => (1, 29),
+            _ => (0, 9_999_999),
+        }
+    }
+
+    /// Which words are of this kind.
+    pub fn allowed(self) -> &'static str {
+        match self {
+            Kind::Line => "a line is A or B, for bus A or bus B",
+            Kind::Address => "terminal addresses are 0 to 30; brx sends to all",
+            Kind::Subaddress =>
+                "subaddresses are 1 to 30; 0 and 31 are those of mode commands, mode0 and mode",
+            Kind::Count => "a message has 1 to 32 data words",
+            Kind::ModeCode => "mode codes are 0 to 31",
+            Kind::Turns => "a block is repeated 1 to 10000 times",
+            Kind::Retries => "a message is sent again 1 to 8 times",
+            Kind::Gap => "a gap is 40 to 65535 ticks of 0.1 us",
+            Kind::Period => "a period is 100 to 6553500 us, in hundreds of them",
+            Kind::DataWord => "a data word has exactly four hexadecimal digits, as 00FF",
+            Kind::StatusBit => {
+                "the bits are message_error, instrumentation, service_request, broadcast, busy, subsystem, control, terminal"
+            }
+            Kind::NewName => "a definition has a name of its own, as in define poll { .. }",
+            Kind::Name => "a call names a frame that is defined above it, as in call poll",
+            _ => self.allowed_in_jobs(),
+        }
+    }
+
+    /// Which words are of a kind that stands in jobs alone.
+    fn allowed_in_jobs(self) -> &'static str {
+        match self {
+            Kind::Channel => "channels are 1 to 65535",
+            Kind::StartTick => "a start tick is 0 to 140737488355328, in ticks of 0.1 us",
+            Kind::MessageNumber => "messages are numbered from 1 to 1000000",
+            Kind::Step => "a step from one message to the next is 1 to 1000000",
+            Kind::Run => "run 0 is what the controller sends, runs 1 and 2 are the replies",
+            Kind::ReplyRun => "a reply is run 1 or run 2",
+            Kind::Index => "the words of a run are 0 to 39",
+            Kind::HalfBits =>
+                "a mask has ten hexadecimal digits, not all zero; docs/jobs.md has them ready",
+            Kind::Sync => "a word has command sync, c, or data sync, d",
+            Kind::LateTicks => "a late reply comes 121 to 255 ticks of 0.1 us behind the message",
+            Kind::ResponseTicks => "a response time is 40 to 120 ticks of 0.1 us",
+            Kind::TransmitSubaddress => "a host puts words up for subaddresses 1 to 29",
+            Kind::Switch => "on or off stands here",
+            Kind::Direction => "receive or transmit stands here",
+            _ => "another word stands here",
+        }
+    }
+}

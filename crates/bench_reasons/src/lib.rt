@@ -1,0 +1,33 @@
+//! Why a text is refused, in words: which of its words is at fault, what is wrong with it, and what to do. What is
+//! said here stands behind a fault's line, and changes nothing of that line.
+#![tactic(auto)]
+
+mod fault;
+mod jobs;
+mod kinds;
+mod lines;
+mod messages;
+mod places;
+mod reason;
+mod repeated;
+mod scripts;
+mod session;
+mod showing;
+mod spans;
+mod symbols;
+#[cfg(test)]
+mod tests;
+mod tokens;
+mod view;
+mod walk;
+mod words;
+
+pub use fault::{LineFault, MessageFault, ScriptFault};
+pub use jobs::job_script_reason;
+pub use lines::line_reason;
+pub use places::Place;
+pub use reason::{Other, Reason};
+pub use scripts::{Text, script_reason};
+pub use session::Explained;
+pub use showing::{explained, put_place};
+pub use view::{View, part_shown};

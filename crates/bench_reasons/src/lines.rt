@@ -1,0 +1,186 @@
+//! Why a line of a job is refused.
+
+use crate::fault::LineFault;
+use crate::kinds::Slip;
+use crate::places::{Place, line_of};
+use crate::reason::Reason;
+use crate::repeated::{order_reason, terminal_reason};
+use crate::spans::{count_of_actions, order_of_messages};
+use crate::symbols::Symbol;
+use crate::walk::{Walk, text_of};
+use crate::words::next_word;
+use std::alloc::{AllocError, Global};
+
+/// What is wrong with a word of a line: the column of its first byte, counted from 1, and how many it has.
+#[derive(Clone, Copy)]
+struct Found<'a> {
+    word: &'a [u8],
+    column: u64,
+    why: &'static str,
+    remedy: &'static str,
+}
+
+/// The column, counted from 1, at which so many bytes of a line are left.
+fn column_at(line: &[u8], left: usize) -> u64 {
+    (line.len().saturating_sub(left) as u64).saturating_add(1)
+}
+
+/// What is wrong with a word that has to be what the symbol says.
+fn slip_of(symbol: Symbol, word: &[u8]) -> Option<Slip> {
+    match symbol {
+        Symbol::One(kind) | Symbol::Rest(kind) => kind.slip(word),
+        _ if symbol.behind(text_of(word)).is_none() => Some(Slip::Word),
+        _ => None,
+    }
+}
+
+fn why_of(slip: Slip) -> &'static str {
+    match slip {
+        Slip::Word => "this word cannot stand here",
+        Slip::Form => "this is not written as a number that may stand here",
+        Slip::Range => "this number is out of its range",
+    }
+}
+
+/// The first word of a line with a slip; where words are looked for, also the first that is left over, or the place
+/// of the first that is missing.
+fn find(alloc: Global, line: &[u8], slip: Slip) -> Result<Option<Found<'_>>, AllocError> {
+    let mut walk = Walk::begin(alloc, &[Symbol::Entry])?;
+    let mut rest = line;
+    for _ in 0..line.len() {
+        let Some((word, behind)) = next_word(rest) else {
+            break;
+        };
+        let left = word.len().saturating_add(behind.len());
+        let column = column_at(line, left);
+        let Some(symbol) = walk.wanted(text_of(word)) else {
+            return Ok(
+                (slip == Slip::Word).then_some(Found {
+                    word,
+                    column,
+                    why: "nothing more may stand in this line",
+                    remedy: "take it out",
+                }),
+            );
+        };
+        if slip_of(symbol, word) == Some(slip) {
+            return Ok(Some(Found {
+                word,
+                column,
+                why: why_of(slip),
+                remedy: symbol.allowed(),
+            }));
+        }
+        if !walk.take(text_of(word), left)? {
+            return Ok(None);
+        }
+        rest = behind;
+    }
+    Ok(missing(&mut walk, line, slip))
+}
+
+/// The place of a word that is missing at the end of a line.
+fn missing<'a>(walk: &mut Walk, line: &'a [u8], slip: Slip) -> Option<Found<'a>> {
+    if slip != Slip::Word {
+        return None;
+    }
+    let symbol = walk.missing()?;
+    Some(Found {
+        word: b"".as_slice(),
+        column: column_at(line, 0),
+        why: "a word is missing here",
+        remedy: symbol.allowed(),
+    })
+}
+
+/// What a carriage return or a tab does in a word; the column is that of the byte.
+fn hidden(found: Found<'_>) -> Found<'_> {
+    for (index, byte) in found.word.iter().enumerate() {
+        let column = found.column.saturating_add(index as u64);
+        match *byte {
+            b'\r' => {
+                return Found {
+                    word: b"\r".as_slice(),
+                    column,
+                    why: "a carriage return (CR) ends this line, and is part of its last word",
+                    remedy: "save the file with lines that end in LF alone, as by tr -d '\\r'",
+                };
+            }
+            b'\t' => {
+                return Found {
+                    word: b"\t".as_slice(),
+                    column,
+                    why: "a tab stands in this word",
+                    remedy: "words are parted by spaces alone",
+                };
+            }
+            _ => {}
+        }
+    }
+    found
+}
+
+/// The reason of what was found in a line.
+fn reason_of(number: u64, found: Option<Found<'_>>) -> Option<Reason> {
+    let found = hidden(found?);
+    let place = Place {
+        line: number,
+        column: found.column,
+    };
+    Some(Reason::at(place, found.word.len(), found.why, found.remedy))
+}
+
+/// Why a line is refused for a slip.
+fn slip_reason(
+    alloc: Global,
+    text: &[u8],
+    number: u64,
+    slip: Slip,
+) -> Result<Option<Reason>, AllocError> {
+    Ok(reason_of(number, find(alloc, line_of(text, number), slip)?))
+}
+
+/// Why a line is refused for a number that is none or out of its range, or for numbers that do not go together.
+fn number_reason(alloc: Global, text: &[u8], number: u64) -> Result<Option<Reason>, AllocError> {
+    if let Some(reason) = slip_reason(alloc, text, number, Slip::Form)? {
+        return Ok(Some(reason));
+    }
+    if let Some(reason) = order_of_messages(text, number) {
+        return Ok(Some(reason));
+    }
+    match slip_reason(alloc, text, number, Slip::Range)? {
+        Some(reason) => Ok(Some(reason)),
+        None => Ok(count_of_actions(text, number)),
+    }
+}
+
+/// Why a line of a job, counted from 1, is refused; none where that is no fault of it.
+pub fn line_reason(
+    alloc: Global,
+    text: &[u8],
+    number: u64,
+    fault: LineFault,
+) -> Result<Option<Reason>, AllocError> {
+    match fault {
+        LineFault::Word | LineFault::ActionWord => slip_reason(alloc, text, number, Slip::Word),
+        LineFault::Number => number_reason(alloc, text, number),
+        LineFault::ActionNumber => slip_reason(alloc, text, number, Slip::Form),
+        LineFault::ActionRange | LineFault::FaultRange => slip_reason(
+            alloc,
+            text,
+            number,
+            Slip::Range,
+        ),
+        LineFault::Order => Ok(Some(order_reason(text, number))),
+        LineFault::Terminal => Ok(terminal_reason(text, number)),
+        LineFault::FaultCount => Ok(Some(Reason::at(
+            Place {
+                line: number,
+                column: 1,
+            },
+            line_of(text, number).len(),
+            "this is the fifth fault of its message",
+            "a message has at most four",
+        ))),
+    }
+}

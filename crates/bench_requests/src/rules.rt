@@ -1,0 +1,29 @@
+//! Rules, judged once their file is read.
+ghost use Rattle.std.specs.Prelude.{◌≡◌, Ok, IfOk, IfErr};
+ghost use Rattle.judge_rules.specs.Rules.{rules_in};
+ghost use Rattle.bench_requests.specs.Requests.{IsRefusedText, fault_of_rules};
+
+use crate::fault::Fault;
+use judge_rules::{Rule, RuleError, RuleFault, read_rules};
+use std::alloc::Global;
+
+/// The fault of rules that were refused.
+fn fault_of<'a>(error: RuleError) -> Fault<'a>
+    ensures { result ≡ fault_of_rules error }
+{
+    match error.fault {
+        RuleFault::Memory => Fault::Memory,
+        RuleFault::Word | RuleFault::Number | RuleFault::Range => Fault::Rules(error),
+    }
+}
+
+/// The rules that a text spells, or its first fault. Memory is answered only for a text without a fault.
+pub fn rules_of<'a>(alloc: Global, text: &[u8]) -> Result<Vec<Rule>, Fault<'a>>
+    ensures rules { IfOk result (λ rules. rules_in text.now ≡ Ok rules.items) }
+    ensures refused { IfErr result (IsRefusedText (rules_in text.now)) }
+{
+    match read_rules(alloc, text) {
+        Ok(rules) => Ok(rules),
+        Err(error) => Err(fault_of(error)),
+    }
+}

@@ -1,0 +1,41 @@
+-- The messages of a line that speaks of many, and the actions of a series (own choice).
+use Rattle.std.specs.Prelude.{ℕ, ◌+◌, ◌-◌, ◌*◌, ◌/◌, ◌%◌, ◌≤◌, List, [], ◌∷◌, map}
+use Rattle.std.specs.List.{range_with_len}
+use Rattle.mil_host.specs.declared.actions.Action.TheVariants.{Transmit}
+use Rattle.bc_machine.specs.declared.placed.Placed.{Placed}
+use Rattle.job_file.specs.declared.spans.Span.{Span}
+use Rattle.job_file.specs.declared.spans.Series.{Series}
+
+-- each number in its range, and the first no later than the last
+pub record IsSpan (s : Span) : Type 0 where
+  pub low : 1 ≤ s.first
+  pub rising : s.first ≤ s.last
+  pub high : s.last ≤ 1000000
+  pub apart : 1 ≤ s.step
+
+-- how many messages there are from the first to the last, one at each step
+abbrev pub count_of : Span → ℕ
+count_of s = (s.last - s.first) / s.step + 1
+
+-- the number of the k-th of them, k from 0
+abbrev pub number_at : Span → ℕ → ℕ
+number_at s k = s.first + k * s.step
+
+-- FIRST, FIRST + STEP and so on, up to LAST
+abbrev pub numbers_of : Span → List ℕ
+numbers_of s = map (number_at s) (range_with_len 0 (count_of s))
+
+-- the data word of the k-th message of a series
+abbrev pub word_at : Series → ℕ → ℕ
+word_at s k = (s.start + k * s.add) % 65536
+
+-- its action: the terminal puts this word up for a transmit command at the subaddress
+abbrev pub placed_at : Series → ℕ → Placed
+placed_at s k = record {
+  number = number_at s.span k;
+  address = s.address;
+  action = Transmit (record { sub = s.sub; words = word_at s k ∷ [] });
+}
+
+abbrev pub placed_by : Series → List Placed
+placed_by s = map (placed_at s) (range_with_len 0 (count_of s.span))

@@ -1,0 +1,46 @@
+-- Rules that were read, and what the rest of the text gives.
+use Rattle.std.proofs.Common.{◌≡◌, ℕ, ◌+◌, List, [], ◌∷◌, ◌++◌, refl, ap, sym, ◌∙◌, append_assoc}
+use Rattle.std.specs.Prelude.{Option, Some, None, Ok, Err}
+use Rattle.std.proofs.lemmas.Bool.{eq-eqb, ne_eqb}
+use Rattle.mil_host.specs.Words.{Text}
+use Rattle.judge_rules.specs.declared.fault.RuleError.{RuleError}
+use Rattle.judge_rules.specs.declared.fault.RuleFault.{RuleFault}
+use Rattle.judge_rules.specs.declared.fault.RuleFault.TheVariants.{Memory, Range}
+use Rattle.judge_rules.specs.declared.rules.Rule.{Rule}
+use Rattle.judge_rules.specs.Lines.{said}
+use Rattle.judge_rules.specs.Rules.{AllRules, in_front, rules_from, Fits, FitsAt}
+
+-- rules in front of those that the rest gives
+abbrev pub prefixed : List Rule → AllRules → AllRules
+prefixed rules (Ok more) = Ok (rules ++ more)
+prefixed rules (Err e) = Err e
+
+pub prefixed-none : (rest : AllRules) → prefixed [] rest ≡ rest
+prefixed-none (Ok more) = refl
+prefixed-none (Err e) = refl
+
+pub prefixed-one : (rules : List Rule) (rule : Rule) (rest : AllRules) → prefixed rules (in_front rule rest) ≡ prefixed (rules ++ rule ∷ []) rest
+prefixed-one rules rule (Ok more) = ap Ok (sym (append_assoc rules (rule ∷ []) more))
+prefixed-one rules rule (Err e) = refl
+
+-- an answer that fits the rest fits the whole
+pub fits-more : (line : ℕ) (e : RuleError) (rule : Rule) (rest : AllRules) → FitsAt line e rest → FitsAt line e (in_front rule rest)
+fits-more line e rule (Ok more) fits = fits
+fits-more line e rule (Err f) fits = fits
+
+pub fits-whole : (line : ℕ) (e : RuleError) (rules : List Rule) (rule : Rule) (rest : AllRules) → FitsAt line e rest → Fits e (prefixed rules (in_front rule rest))
+fits-whole line e rules rule (Ok more) fits = ap (λ (x : RuleError). x.fault) fits
+fits-whole line e rules rule (Err f) fits = fits
+
+-- the first line that is left has a fault, is one rule too many, says nothing, or is a rule
+pub from-fault : (before line : ℕ) (first : Text) (rest : List Text) (f : RuleFault) → said line first ≡ Some (Err f) → rules_from before line (first ∷ rest) ≡ Err (record { fault = f; line = line })
+from-fault before line first rest f is = rw is refl
+
+pub from-many : (before line : ℕ) (first : Text) (rest : List Text) (rule : Rule) → said line first ≡ Some (Ok rule) → before ≡ 10000 → rules_from before line (first ∷ rest) ≡ Err (record { fault = Range; line = line })
+from-many before line first rest rule is many = rw (is, eq-eqb before 10000 many) refl
+
+pub from-none : (before line : ℕ) (first : Text) (rest : List Text) → said line first ≡ None → rules_from before line (first ∷ rest) ≡ rules_from before (line + 1) rest
+from-none before line first rest is = rw is refl
+
+pub from-rule : (before line : ℕ) (first : Text) (rest : List Text) (rule : Rule) → said line first ≡ Some (Ok rule) → (before ≡ 10000 → ⊥) → rules_from before line (first ∷ rest) ≡ in_front rule (rules_from (before + 1) (line + 1) rest)
+from-rule before line first rest rule is few = rw (is, ne_eqb before 10000 few) refl

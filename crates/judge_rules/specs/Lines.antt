@@ -1,0 +1,67 @@
+-- The rule of a line (own choice): `expect`, perhaps a channel, perhaps a line of the bus, a selector and a check.
+use Rattle.std.specs.Prelude.{ℕ, ◌==◌, Bool, true, false, List, [], ◌∷◌, drop, Ok, Err, Option, Some, None, codes, if◌then◌else◌}
+use Rattle.std.specs.Str.{bytes_eq}
+use Rattle.mil_host.specs.Words.{Text, words}
+use Rattle.judge_rules.specs.declared.fault.RuleFault.TheVariants.{Word}
+use Rattle.judge_rules.specs.declared.rules.Bus.{Bus}
+use Rattle.judge_rules.specs.declared.rules.Bus.TheVariants as bus
+use Rattle.judge_rules.specs.declared.rules.Selector.{Selector}
+use Rattle.judge_rules.specs.declared.rules.Check.{Check}
+use Rattle.judge_rules.specs.declared.rules.Rule.{Rule}
+use Rattle.judge_rules.specs.Faults.{Read, both, made}
+use Rattle.judge_rules.specs.Values.{begins_with, number_in}
+use Rattle.judge_rules.specs.Selectors.{selector_in, behind_selector}
+use Rattle.judge_rules.specs.Checks.{check_in}
+
+-- the channel, where the words begin with one
+abbrev pub channel_in : List Text → Read (Option ℕ)
+channel_in rest = if begins_with (codes "channel") rest then made Some (number_in 1 65535 (drop 1 rest)) else Ok None
+
+abbrev pub behind_channel : List Text → List Text
+behind_channel rest = if begins_with (codes "channel") rest then drop 2 rest else rest
+
+abbrev pub bus_of : Text → Read (Option Bus)
+bus_of word =
+    if bytes_eq word (codes "A") then Ok (Some bus.A)
+    else if bytes_eq word (codes "B") then Ok (Some bus.B)
+    else Err Word
+
+abbrev pub first_bus : List Text → Read (Option Bus)
+first_bus [] = Err Word
+first_bus (word ∷ rest) = bus_of word
+
+-- the line of the bus, where the words begin with one
+abbrev pub bus_in : List Text → Read (Option Bus)
+bus_in rest = if begins_with (codes "line") rest then first_bus (drop 1 rest) else Ok None
+
+abbrev pub behind_bus : List Text → List Text
+behind_bus rest = if begins_with (codes "line") rest then drop 2 rest else rest
+
+abbrev pub with_parts : ℕ → Read ((Option ℕ × Option Bus) × (Selector × Check)) → Read Rule
+with_parts line read =
+    made (λ (place, asked). record { line = line; channel = place.0; bus = place.1; selector = asked.0; check = asked.1 }) read
+
+-- the rule of the words behind `expect`, in a line of this number
+abbrev pub rule_behind : ℕ → List Text → Read Rule
+rule_behind line rest =
+    let behind = behind_bus (behind_channel rest) in
+    with_parts line (both (both (channel_in rest) (bus_in (behind_channel rest))) (both (selector_in behind) (check_in (behind_selector behind))))
+
+unfoldable pub rule_in : ℕ → List Text → Read Rule
+rule_in line rest = if begins_with (codes "expect") rest then rule_behind line (drop 1 rest) else Err Word
+
+-- a line without words, or one whose first begins with `#`
+abbrev pub is_comment : Text → Bool
+is_comment [] = false
+is_comment (b ∷ bs) = b == 35
+
+abbrev pub has_no_rule : List Text → Bool
+has_no_rule [] = true
+has_no_rule (word ∷ rest) = is_comment word
+
+abbrev pub is_passed_over : Text → Bool
+is_passed_over text = has_no_rule (words text)
+
+-- what a line of this number says, if it isn't passed over
+unfoldable pub said : ℕ → Text → Option (Read Rule)
+said line text = if is_passed_over text then None else Some (rule_in line (words text))

@@ -1,0 +1,19 @@
+//! Rules by which a recording is judged: what they are, and the rules that a text spells.
+//! Its tests are in `look_tests`.
+#![tactic(auto)]
+
+mod channels;
+mod checks;
+mod fault;
+mod line_rules;
+mod reading;
+mod rules;
+mod selectors;
+mod text_lines;
+mod values;
+mod words;
+
+pub use fault::{RuleError, RuleFault};
+pub use reading::{MOST_RULES, read_rules};
+pub use rules::{Bounds, Bus, Check, Datum, Rule, Selector};
+pub use text_lines::next_line;

@@ -1,0 +1,56 @@
+//! The rule that a line spells.
+ghost use Rattle.std.specs.Prelude.{◌≡◌};
+ghost use Rattle.judge_rules.specs.Lines as spec;
+
+use crate::channels::{read_bus, read_channel};
+use crate::checks::read_check;
+use crate::fault::{RuleFault, both};
+use crate::rules::Rule;
+use crate::selectors::read_selector;
+use crate::words::Words;
+use mil_host::next_word;
+
+/// Whether a line is passed over: it has no words, or its first begins with `#`.
+fn is_passed_over(text: &[u8]) -> bool
+    ensures { result ≡ spec.is_passed_over text.now }
+{
+    match next_word(text) {
+        Some((word, _)) => word.first() == Some(&b'#'),
+        None => true,
+    }
+}
+
+/// The rule of a line's words.
+#[tactic(auto, unfolding(crate::specs::Lines::rule_in))]
+fn read_words(line: u64, words: &mut Words<'_>) -> Result<Rule, RuleFault>
+    ensures { result ≡ spec.rule_in line words.old }
+{
+    if !words.takes(b"expect") {
+        return Err(RuleFault::Word);
+    }
+    let channel = read_channel(words);
+    let bus = read_bus(words);
+    let selector = read_selector(words);
+    let check = read_check(words);
+    let place = both(channel, bus);
+    let asked = both(selector, check);
+    let ((channel, bus), (selector, check)) = both(place, asked)?;
+    Ok(Rule {
+        line,
+        channel,
+        bus,
+        selector,
+        check,
+    })
+}
+
+/// The rule that a line spells, with this number; `None` where the line is passed over.
+#[tactic(auto, unfolding(crate::specs::Lines::said))]
+pub(crate) fn read_line(line: u64, text: &[u8]) -> Option<Result<Rule, RuleFault>>
+    ensures { result ≡ spec.said line text.now }
+{
+    if is_passed_over(text) {
+        return None;
+    }
+    Some(read_words(line, &mut Words::of(text)))
+}

@@ -1,0 +1,155 @@
+//! The selector of a rule.
+ghost use Rattle.std.specs.Prelude.{◌≡◌, drop};
+ghost use Rattle.judge_rules.specs.Selectors as spec;
+
+use crate::fault::{RuleFault, both};
+use crate::rules::Selector;
+use crate::values::read_choice;
+use crate::words::Words;
+
+/// The greatest address of a terminal.
+const LAST_ADDRESS: u8 = 30;
+/// The first and the last subaddress that is none of mode commands.
+const FIRST_SUBADDRESS: u8 = 1;
+
+const LAST_SUBADDRESS: u8 = 30;
+/// The greatest mode code.
+const LAST_CODE: u8 = 31;
+
+fn read_address(words: &mut Words<'_>) -> Result<Option<u8>, RuleFault>
+    ensures value { result ≡ spec.address_in words.old }
+    ensures rest { words.new ≡ drop 1 words.old }
+{
+    read_choice(words, 0, LAST_ADDRESS)
+}
+
+fn read_subaddress(words: &mut Words<'_>) -> Result<Option<u8>, RuleFault>
+    ensures value { result ≡ spec.subaddress_in words.old }
+    ensures rest { words.new ≡ drop 1 words.old }
+{
+    read_choice(words, FIRST_SUBADDRESS, LAST_SUBADDRESS)
+}
+
+fn read_code(words: &mut Words<'_>) -> Result<Option<u8>, RuleFault>
+    ensures value { result ≡ spec.code_in words.old }
+    ensures rest { words.new ≡ drop 1 words.old }
+{
+    read_choice(words, 0, LAST_CODE)
+}
+
+/// An address and a subaddress: one end of a transfer.
+fn read_end(words: &mut Words<'_>) -> Result<(Option<u8>, Option<u8>), RuleFault>
+    ensures value { result ≡ spec.end_in words.old }
+    ensures rest { words.new ≡ drop 2 words.old }
+{
+    let address = read_address(words);
+    let subaddress = read_subaddress(words);
+    both(address, subaddress)
+}
+
+fn read_receive(words: &mut Words<'_>) -> Result<Selector, RuleFault>
+    ensures value { result ≡ spec.receive_in words.old }
+    ensures rest { words.new ≡ drop 2 words.old }
+{
+    let (address, subaddress) = read_end(words)?;
+    Ok(Selector::Receive {
+        address,
+        subaddress,
+    })
+}
+
+fn read_transmit(words: &mut Words<'_>) -> Result<Selector, RuleFault>
+    ensures value { result ≡ spec.transmit_in words.old }
+    ensures rest { words.new ≡ drop 2 words.old }
+{
+    let (address, subaddress) = read_end(words)?;
+    Ok(Selector::Transmit {
+        address,
+        subaddress,
+    })
+}
+
+#[tactic(auto, unfolding(crate::specs::Selectors::between_in, crate::specs::Selectors::behind_ends))]
+fn read_between(words: &mut Words<'_>) -> Result<Selector, RuleFault>
+    ensures value { result ≡ spec.between_in words.old }
+    ensures rest { words.new ≡ spec.behind_ends words.old }
+{
+    let from = read_end(words);
+    let to = read_end(words);
+    let ((sender, sender_subaddress), (receiver, receiver_subaddress)) = both(from, to)?;
+    Ok(Selector::Between {
+        sender,
+        sender_subaddress,
+        receiver,
+        receiver_subaddress,
+    })
+}
+
+fn read_mode(words: &mut Words<'_>) -> Result<Selector, RuleFault>
+    ensures value { result ≡ spec.mode_in words.old }
+    ensures rest { words.new ≡ drop 2 words.old }
+{
+    let address = read_address(words);
+    let code = read_code(words);
+    let (address, code) = both(address, code)?;
+    Ok(Selector::Mode { address, code })
+}
+
+fn read_receive_all(words: &mut Words<'_>) -> Result<Selector, RuleFault>
+    ensures value { result ≡ spec.receive_all_in words.old }
+    ensures rest { words.new ≡ drop 1 words.old }
+{
+    let subaddress = read_subaddress(words)?;
+    Ok(Selector::ReceiveAll { subaddress })
+}
+
+fn read_between_all(words: &mut Words<'_>) -> Result<Selector, RuleFault>
+    ensures value { result ≡ spec.between_all_in words.old }
+    ensures rest { words.new ≡ drop 3 words.old }
+{
+    let from = read_end(words);
+    let to = read_subaddress(words);
+    let ((sender, sender_subaddress), receiver_subaddress) = both(from, to)?;
+    Ok(Selector::BetweenAll {
+        sender,
+        sender_subaddress,
+        receiver_subaddress,
+    })
+}
+
+fn read_mode_all(words: &mut Words<'_>) -> Result<Selector, RuleFault>
+    ensures value { result ≡ spec.mode_all_in words.old }
+    ensures rest { words.new ≡ drop 1 words.old }
+{
+    let code = read_code(words)?;
+    Ok(Selector::ModeAll { code })
+}
+
+/// The selector that the next words spell.
+pub(crate) fn read_selector(words: &mut Words<'_>) -> Result<Selector, RuleFault>
+    ensures value { result ≡ spec.selector_in words.old }
+    ensures rest { words.new ≡ spec.behind_selector words.old }
+{
+    let Some(name) = words.next() else {
+        return Err(RuleFault::Word);
+    };
+    if name == b"any".as_slice() {
+        Ok(Selector::Any)
+    } else if name == b"rx".as_slice() {
+        read_receive(words)
+    } else if name == b"tx".as_slice() {
+        read_transmit(words)
+    } else if name == b"rt".as_slice() {
+        read_between(words)
+    } else if name == b"mode".as_slice() {
+        read_mode(words)
+    } else if name == b"brx".as_slice() {
+        read_receive_all(words)
+    } else if name == b"brt".as_slice() {
+        read_between_all(words)
+    } else if name == b"bmode".as_slice() {
+        read_mode_all(words)
+    } else {
+        Err(RuleFault::Word)
+    }
+}

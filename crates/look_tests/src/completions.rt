@@ -1,0 +1,216 @@
+//! What `bench complete` makes of recordings, worked out by hand.
+use crate::equal::same_in;
+use crate::made::{FOREIGN, recorded};
+use bench_complete::{Additions, CompleteFault, Completion, UtcSecond, complete};
+use std::alloc::Global;
+use std::process::Abort;
+
+/// A poll at tick 15,000,000.
+const LATE: &str = "channel 1\nterminal 5\nstart 15000000\nscript\nsend A mode 5 1\n";
+
+/// The setup record of the text AB, and the time packet of 2024-12-31T23:59:59, in a leap year.
+const FRONT: [u8; 68] = [
+    0x25, 0xEB, 0x00, 0x00, 0x20, 0x00, 0x00, 0x00, 0x06, 0x00, 0x00, 0x00, 0x06, 0x00, 0x00, 0x01,
+    0x80, 0x96, 0x98, 0x00, 0x00, 0x00, 0x69, 0x83, 0x0C, 0x00, 0x00, 0x00, 0x41, 0x42, 0x00, 0x00,
+    0x25, 0xEB, 0x07, 0x00, 0x24, 0x00, 0x00, 0x00, 0x0C, 0x00, 0x00, 0x00, 0x06, 0x00, 0x00, 0x11,
+    0x80, 0x96, 0x98, 0x00, 0x00, 0x00, 0x7A, 0x93, 0x30, 0x03, 0x00, 0x00, 0x00, 0x59, 0x59, 0x23,
+    0x31, 0x12, 0x24, 0x20,
+];
+
+/// The options of a text, a time and a channel.
+fn additions<'a>(setup: Option<&'a [u8]>, time: &str, time_channel: u16) -> Additions<'a> {
+    Additions {
+        setup,
+        start: UtcSecond::read(time),
+        time_channel,
+        version: 6,
+    }
+}
+
+/// A file is completed to these bytes, or refused so.
+fn is_completed(
+    rt: &impl Abort,
+    alloc: Global,
+    file: &[u8],
+    added: &Additions<'_>,
+    wanted: Result<&[u8], CompleteFault>,
+) {
+    let mut out = Vec::new(alloc);
+    let answer = complete(alloc, file, added, &mut out);
+    match wanted {
+        Ok(bytes) => {
+            same_in(rt, "answer", &answer, &Ok(()));
+            same_in(rt, "file", &out.as_slice(), &bytes);
+        }
+        Err(fault) => same_in(rt, "fault", &answer, &Err(fault)),
+    }
+}
+
+/// The setup record and the time packet stand in front, and what is complete stays so.
+#[test]
+fn a_late_poll_is_completed(rt: HostRuntime) {
+    let file = recorded(&rt, rt.alloc(), &[LATE]);
+    let mut wanted = FRONT.to_vec(rt.alloc()).expect(&rt, "memory");
+    wanted.extend_from_slice(&file).expect(&rt, "memory");
+    let added = additions(Some(b"AB"), "2024-12-31T23:59:58", 7);
+    is_completed(&rt, rt.alloc(), &file, &added, Ok(&wanted));
+    let none = additions(None, "", 65535);
+    is_completed(&rt, rt.alloc(), &wanted, &none, Ok(&wanted));
+    is_completed(&rt, rt.alloc(), &FOREIGN, &none, Ok(&FOREIGN));
+}
+
+/// What the options get wrong.
+#[test]
+fn misuses_are_refused(rt: HostRuntime) {
+    let file = recorded(&rt, rt.alloc(), &[LATE]);
+    let empty = additions(Some(b""), "", 65535);
+    is_completed(
+        &rt,
+        rt.alloc(),
+        &file,
+        &empty,
+        Err(CompleteFault::SetupSize),
+    );
+    let twice = additions(Some(b"AB"), "", 65535);
+    is_completed(
+        &rt,
+        rt.alloc(),
+        &FOREIGN,
+        &twice,
+        Err(CompleteFault::SetupTwice),
+    );
+    let taken = additions(None, "2024-12-31T23:59:58", 1);
+    is_completed(
+        &rt,
+        rt.alloc(),
+        &file,
+        &taken,
+        Err(CompleteFault::ChannelTaken),
+    );
+}
+
+/// Times of the years 1970 to 2099 as seconds, and texts that are none.
+#[test]
+fn times_are_read(rt: HostRuntime) {
+    let second = |text: &str| UtcSecond::read(text).map(|read| read.second);
+    same_in(&rt, "first", &second("1970-01-01T00:00:00"), &Some(0));
+    same_in(
+        &rt,
+        "last",
+        &second("2099-12-31T23:59:59"),
+        &Some(4102444799),
+    );
+    same_in(
+        &rt,
+        "leap day",
+        &second("2000-02-29T12:34:56"),
+        &Some(951827696),
+    );
+    same_in(&rt, "no leap day", &second("2023-02-29T00:00:00"), &None);
+    same_in(&rt, "too late", &second("2100-01-01T00:00:00"), &None);
+    same_in(&rt, "no T", &second("2024-12-31 23:59:58"), &None);
+    same_in(&rt, "no leap second", &second("2016-12-31T23:59:60"), &None);
+}
+
+/// How many bytes a packet with one poll has: a header of 24, a word of 4, a message of 18, and filler.
+const POLL: usize = 48;
+
+/// A recording from tick 0 to tick 10,000,000 that begins at this time has two whole seconds: their time packets have
+/// these bodies, and each stands in front of the poll of its counter.
+fn turns(rt: &impl Abort, alloc: Global, time: &str, first: [u8; 12], last: [u8; 12]) {
+    let early = "channel 1\nterminal 5\nscript\nsend A mode 5 1\n";
+    let late = "channel 2\nterminal 5\nstart 10000000\nscript\nsend A mode 5 1\n";
+    let file = recorded(rt, alloc, &[early, late]);
+    let mut out = Vec::new(alloc);
+    let answer = complete(alloc, &file, &additions(None, time, 7), &mut out);
+    same_in(rt, time, &answer, &Ok(()));
+    same_in(rt, "length", &out.len(), &(2 * (36 + POLL)));
+    same_in(rt, "first body", &&out[24..36], &first.as_slice());
+    same_in(rt, "first poll", &&out[36..36 + POLL], &&file[..POLL]);
+    let behind = 36 + POLL;
+    same_in(
+        rt,
+        "last body",
+        &&out[behind + 24..behind + 36],
+        &last.as_slice(),
+    );
+    same_in(rt, "last poll", &&out[behind + 36..], &&file[POLL..]);
+}
+
+/// Years, leap years and leap days begin where the calendar has them, and the last second is the one at the highest
+/// counter.
+#[test]
+fn seconds_turn_as_the_calendar_does(rt: HostRuntime) {
+    turns(
+        &rt,
+        rt.alloc(),
+        "2023-12-31T23:59:59",
+        [0x30, 2, 0, 0, 0, 0x59, 0x59, 0x23, 0x31, 0x12, 0x23, 0x20],
+        [0x30, 3, 0, 0, 0, 0, 0, 0, 0x01, 0x01, 0x24, 0x20],
+    );
+    turns(
+        &rt,
+        rt.alloc(),
+        "1999-12-31T23:59:59",
+        [0x30, 2, 0, 0, 0, 0x59, 0x59, 0x23, 0x31, 0x12, 0x99, 0x19],
+        [0x30, 3, 0, 0, 0, 0, 0, 0, 0x01, 0x01, 0x00, 0x20],
+    );
+    turns(
+        &rt,
+        rt.alloc(),
+        "2099-12-31T23:59:59",
+        [0x30, 2, 0, 0, 0, 0x59, 0x59, 0x23, 0x31, 0x12, 0x99, 0x20],
+        [0x30, 2, 0, 0, 0, 0, 0, 0, 0x01, 0x01, 0x00, 0x21],
+    );
+    turns(
+        &rt,
+        rt.alloc(),
+        "2024-02-28T23:59:59",
+        [0x30, 3, 0, 0, 0, 0x59, 0x59, 0x23, 0x28, 0x02, 0x24, 0x20],
+        [0x30, 3, 0, 0, 0, 0, 0, 0, 0x29, 0x02, 0x24, 0x20],
+    );
+    turns(
+        &rt,
+        rt.alloc(),
+        "2023-02-28T12:34:58",
+        [0x30, 2, 0, 0, 0, 0x58, 0x34, 0x12, 0x28, 0x02, 0x23, 0x20],
+        [0x30, 2, 0, 0, 0, 0x59, 0x34, 0x12, 0x28, 0x02, 0x23, 0x20],
+    );
+}
+
+/// An index of a recording (type 03) is left out, and its channel is taken all the same.
+#[test]
+fn an_index_is_left_out(rt: HostRuntime) {
+    let late = recorded(&rt, rt.alloc(), &[LATE]);
+    let mut file = FRONT[32..].to_vec(rt.alloc()).expect(&rt, "memory");
+    file[15] = 0x03;
+    file[23] = 0x85;
+    file.extend_from_slice(&late).expect(&rt, "memory");
+    let none = additions(None, "", 65535);
+    is_completed(&rt, rt.alloc(), &file, &none, Ok(&late));
+    let taken = additions(None, "2024-12-31T23:59:58", 7);
+    is_completed(
+        &rt,
+        rt.alloc(),
+        &file,
+        &taken,
+        Err(CompleteFault::ChannelTaken),
+    );
+}
+
+/// Of a damaged recording what is sound is completed, and what is not is told.
+#[test]
+fn what_is_sound_is_completed(rt: HostRuntime) {
+    let late = recorded(&rt, rt.alloc(), &[LATE]);
+    let mut file = [0u8; 8].to_vec(rt.alloc()).expect(&rt, "memory");
+    file.extend_from_slice(&late).expect(&rt, "memory");
+    let none = additions(None, "", 65535);
+    let planned = Completion::plan_skipping(rt.alloc(), &file, &none);
+    let (completion, skips) = planned.expect(&rt, "a plan");
+    let mut out = Vec::new(rt.alloc());
+    completion.write(rt.alloc(), &mut out).expect(&rt, "a file");
+    same_in(&rt, "file", &out.as_slice(), &late.as_slice());
+    same_in(&rt, "skips", &skips.len(), &1);
+    same_in(&rt, "offset", &skips[0].offset, &0);
+    same_in(&rt, "length", &skips[0].length, &8);
+}

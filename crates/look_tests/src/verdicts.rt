@@ -1,0 +1,171 @@
+//! What `bench judge` says of recordings, worked out by hand.
+use crate::equal::{reads, same_in};
+use crate::made::{FOREIGN, FORMS, TRANSFER, recorded};
+use bench_judge::{judge, junit_text, verdict_text};
+use ch11_reader::Index;
+use judge_rules::read_rules;
+use std::alloc::Global;
+use std::process::Abort;
+
+/// A word of the first message is lost, which has no reply then; two mode commands follow, 48.0 µs apart.
+const LOST: &str =
+    "channel 1\nterminal 5\nfault 1 drop 0 3\nscript\nsend A rx 5 1 [0001 0002 0003]\nsend A mode 5 2\nsend A mode 5 2\n";
+
+/// The same on another channel.
+const LOST_AGAIN: &str =
+    "channel 2\nterminal 5\nfault 1 drop 0 3\nscript\nsend A rx 5 1 [0001 0002 0003]\nsend A mode 5 2\nsend A mode 5 2\n";
+
+/// A rule by which the recording of `LOST` is judged, and what is printed.
+const ROWS: [(&str, &str); 9] = [
+    (
+        "expect rx 5 1 fail",
+        "rule 1 selected 1 missed 0\nrules 1 missed 0\n",
+    ),
+    (
+        "expect mode 5 2 status 2C00",
+        "rule 1 selected 2 missed 0\nrules 1 missed 0\n",
+    ),
+    (
+        "expect any clean",
+        "missed 1 message 1 channel 1 stamp 0\nrule 1 selected 3 missed 1\nrules 1 missed 1\n",
+    ),
+    (
+        "expect mode 5 2 period 40 50",
+        "rule 1 selected 2 missed 0\nrules 1 missed 0\n",
+    ),
+    (
+        "expect tx * * ok",
+        "rule 1 selected 0 missed 0\nrules 1 missed 1\n",
+    ),
+    (
+        "expect mode 5 2 period 49 50",
+        "missed 1 message 3 channel 1 stamp 1240\nrule 1 selected 2 missed 1\nrules 1 missed 1\n",
+    ),
+    (
+        "expect mode 5 2 status 2C01 mask FFFE",
+        "rule 1 selected 2 missed 0\nrules 1 missed 0\n",
+    ),
+    (
+        "expect any count 4 9",
+        "missed 1 count 3\nrule 1 selected 3 missed 1\nrules 1 missed 1\n",
+    ),
+    (
+        "expect rx 5 1 data .... 0002",
+        "rule 1 selected 1 missed 0\nrules 1 missed 0\n",
+    ),
+];
+
+/// A text of rules, and the first fault that it has.
+const FAULTS: [(&str, &str); 8] = [
+    ("expect tx 5", "I1 line 1"),
+    ("expect rx 31 1 ok", "I3 line 1"),
+    ("expect any response 50 40", "I3 line 1"),
+    ("expect rx 31 1", "I1 line 1"),
+    ("expect any ok\nexpect rx 31 1 status 12", "I2 line 2"),
+    ("# none\n\n", "I1 line 3"),
+    ("", "I1 line 1"),
+    ("expect any status 0000 mask 0000 0000", "I1 line 1"),
+];
+
+/// A byte of the foreign message, by which it is no longer as the standard has it: command, gap and status word.
+const UNCLEAN: [(&str, usize, u8); 6] = [
+    ("one data word too many", 86, 0x22),
+    ("a reply to a broadcast", 87, 0xF8),
+    ("a late status", 82, 121),
+    ("a status of another terminal", 95, 0x30),
+    ("a reserved bit of the status", 94, 0x20),
+    ("a block status bit of an error", 81, 0x10),
+];
+
+/// What is printed of rules and a recording.
+fn judged(rt: &impl Abort, alloc: Global, file: &[u8], rules: &str) -> String {
+    let index = Index::build(alloc, file).ok().expect(rt, "a recording");
+    let rules = read_rules(alloc, rules.as_bytes()).ok().expect(rt, "rules");
+    let verdicts = judge(alloc, &index, rules.as_slice()).expect(rt, "memory");
+    verdict_text(alloc, verdicts.as_slice()).expect(rt, "memory")
+}
+
+#[test]
+fn rules_select_and_miss(rt: HostRuntime) {
+    let file = recorded(&rt, rt.alloc(), &[LOST]);
+    for (rules, printed) in ROWS {
+        let text = judged(&rt, rt.alloc(), &file, rules);
+        same_in(&rt, rules, &text.as_str(), &printed);
+    }
+}
+
+#[test]
+fn a_period_is_that_of_a_channel(rt: HostRuntime) {
+    let file = recorded(&rt, rt.alloc(), &[LOST, LOST_AGAIN]);
+    let text = judged(
+        &rt,
+        rt.alloc(),
+        &file,
+        "\nexpect mode 5 2 period 48 48\nexpect channel 2 mode 5 2 period 48 48\n",
+    );
+    reads(
+        &rt,
+        text.as_bytes(),
+        "rule 2 selected 4 missed 0\nrule 3 selected 2 missed 0\nrules 2 missed 0\n",
+    );
+}
+
+#[test]
+fn faults_of_rules_are_told(rt: HostRuntime) {
+    for (rules, printed) in FAULTS {
+        let fault = read_rules(rt.alloc(), rules.as_bytes())
+            .err()
+            .expect(&rt, "a fault");
+        let text = fault.to_string(rt.alloc()).expect(&rt, "memory");
+        same_in(&rt, rules, &text.as_str(), &printed);
+    }
+}
+
+#[test]
+fn each_form_is_clean(rt: HostRuntime) {
+    let file = recorded(&rt, rt.alloc(), &[FORMS, TRANSFER]);
+    let text = judged(&rt, rt.alloc(), &file, "expect any clean");
+    reads(
+        &rt,
+        text.as_bytes(),
+        "rule 1 selected 8 missed 0\nrules 1 missed 0\n",
+    );
+}
+
+#[test]
+fn what_is_not_clean_is_told(rt: HostRuntime) {
+    let text = judged(&rt, rt.alloc(), &FOREIGN, "expect any clean");
+    reads(
+        &rt,
+        text.as_bytes(),
+        "rule 1 selected 1 missed 0\nrules 1 missed 0\n",
+    );
+    for (row, place, byte) in UNCLEAN {
+        let mut file = FOREIGN;
+        assert!(&rt; place < file.len());
+        file[place] = byte;
+        let text = judged(&rt, rt.alloc(), &file, "expect any clean");
+        same_in(
+            &rt,
+            row,
+            &text.as_str(),
+            &"missed 1 message 1 channel 1 stamp 0\nrule 1 selected 1 missed 1\nrules 1 missed 1\n",
+        );
+    }
+}
+
+#[test]
+fn a_report_has_a_test_case_a_rule(rt: HostRuntime) {
+    let index = Index::build(rt.alloc(), &FOREIGN)
+        .ok()
+        .expect(&rt, "a recording");
+    let text = b"# two rules\n  expect any clean\nexpect tx * * ok\n";
+    let rules = read_rules(rt.alloc(), text).ok().expect(&rt, "rules");
+    let verdicts = judge(rt.alloc(), &index, rules.as_slice()).expect(&rt, "memory");
+    let report = junit_text(rt.alloc(), text, verdicts.as_slice()).expect(&rt, "memory");
+    reads(
+        &rt,
+        report.as_slice(),
+        "<?xml version=\"1.0\" encoding=\"UTF-8\"?>\n<testsuite name=\"bench judge\" tests=\"2\" failures=\"1\">\n  <testcase classname=\"line 2\" name=\"expect any clean\"/>\n  <testcase classname=\"line 3\" name=\"expect tx * * ok\">\n    <failure message=\"no message is selected\"></failure>\n  </testcase>\n</testsuite>\n",
+    );
+}

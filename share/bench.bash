@@ -1,0 +1,71 @@
+# Completions of bench for bash: source this file.
+_bench_words() {
+    mapfile -t COMPREPLY < <(compgen -W "$1" -- "$2")
+}
+
+# (with -o filenames bash quotes the spaces of a name)
+_bench_files() {
+    compopt -o filenames
+    mapfile -t COMPREPLY < <(compgen -f -- "$1")
+}
+
+_bench() {
+    local word=${COMP_WORDS[COMP_CWORD]} before=${COMP_WORDS[COMP_CWORD - 1]} command='' place
+    local commands="one assemble run check dump step stat export draw judge complete explain help"
+    for ((place = 1; place < COMP_CWORD; place++)); do
+        case ${COMP_WORDS[place]} in
+            --context) place=$((place + 1)) ;;
+            -*) ;;
+            *)
+                command=${COMP_WORDS[place]}
+                break
+                ;;
+        esac
+    done
+    case $before in
+        --context)
+            _bench_words "auto always never" "$word"
+            return
+            ;;
+        --line)
+            _bench_words "A B" "$word"
+            return
+            ;;
+        --out | --report | --prologue | --judge | --junit | --setup)
+            _bench_files "$word"
+            return
+            ;;
+        --version | --limit | --queue | --channel | --from | --to | --time | --time-channel)
+            [ -z "$command" ] || return
+            ;;
+    esac
+    local options="--context --help"
+    case $command in
+        '') options="$options --version" ;;
+        one) options="--channel --version $options" ;;
+        assemble) options="--force $options" ;;
+        run)
+            options="--version --limit --queue --hold --drop --force --prologue --judge --out --report $options"
+            options="--complete --setup --time --time-channel $options"
+            ;;
+        dump) options="--skip --decode --channel --line --errors --from --to $options" ;;
+        stat) options="--csv $options" ;;
+        export) options="--out --force $options" ;;
+        complete) options="--out --force --setup --time --time-channel --version --skip $options" ;;
+        judge) options="--junit --force --skip $options" ;;
+        draw) options="--out --force --channel --from --to $options" ;;
+    esac
+    case $word in
+        -*)
+            _bench_words "$options" "$word"
+            return
+            ;;
+    esac
+    case $command in
+        '') _bench_words "$commands" "$word" ;;
+        help) _bench_words "$commands" "$word" ;;
+        explain) _bench_words "$("${COMP_WORDS[0]}" explain 2>/dev/null | cut -d ' ' -f 1)" "$word" ;;
+        *) _bench_files "$word" ;;
+    esac
+}
+complete -F _bench bench
