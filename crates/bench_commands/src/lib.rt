@@ -21,6 +21,7 @@ mod pointing;
 mod reasoning;
 mod recording;
 mod refusing;
+mod run_line;
 mod stepping;
 
 pub use commands::run;

@@ -115,26 +115,41 @@ fn times_are_read(rt: HostRuntime) {
 /// How many bytes a packet with one poll has: a header of 24, a word of 4, a message of 18, and filler.
 const POLL: usize = 48;
 
+/// The bytes from one place up to another, none where the file is shorter.
+fn part(file: &[u8], from: usize, to: usize) -> &[u8] {
+    file.get(from..to).unwrap_or(&[])
+}
+
 /// A recording from tick 0 to tick 10,000,000 that begins at this time has two whole seconds: their time packets have
 /// these bodies, and each stands in front of the poll of its counter.
 fn turns(rt: &impl Abort, alloc: Global, time: &str, first: [u8; 12], last: [u8; 12]) {
-    let early = "channel 1\nterminal 5\nscript\nsend A mode 5 1\n";
+    let at_once = "channel 1\nterminal 5\nscript\nsend A mode 5 1\n";
     let late = "channel 2\nterminal 5\nstart 10000000\nscript\nsend A mode 5 1\n";
-    let file = recorded(rt, alloc, &[early, late]);
+    let file = recorded(rt, alloc, &[at_once, late]);
     let mut out = Vec::new(alloc);
     let answer = complete(alloc, &file, &additions(None, time, 7), &mut out);
     same_in(rt, time, &answer, &Ok(()));
     same_in(rt, "length", &out.len(), &(2 * (36 + POLL)));
-    same_in(rt, "first body", &&out[24..36], &first.as_slice());
-    same_in(rt, "first poll", &&out[36..36 + POLL], &&file[..POLL]);
-    let behind = 36 + POLL;
+    let early = 36 + POLL;
+    same_in(rt, "first body", &part(&out, 24, 36), &first.as_slice());
+    same_in(
+        rt,
+        "first poll",
+        &part(&out, 36, early),
+        &part(&file, 0, POLL),
+    );
     same_in(
         rt,
         "last body",
-        &&out[behind + 24..behind + 36],
+        &part(&out, early + 24, early + 36),
         &last.as_slice(),
     );
-    same_in(rt, "last poll", &&out[behind + 36..], &&file[POLL..]);
+    same_in(
+        rt,
+        "last poll",
+        &part(&out, early + 36, 2 * early),
+        &part(&file, POLL, 2 * POLL),
+    );
 }
 
 /// Years, leap years and leap days begin where the calendar has them, and the last second is the one at the highest
@@ -211,6 +226,6 @@ fn what_is_sound_is_completed(rt: HostRuntime) {
     completion.write(rt.alloc(), &mut out).expect(&rt, "a file");
     same_in(&rt, "file", &out.as_slice(), &late.as_slice());
     same_in(&rt, "skips", &skips.len(), &1);
-    same_in(&rt, "offset", &skips[0].offset, &0);
-    same_in(&rt, "length", &skips[0].length, &8);
+    let first = skips.first().map(|skip| (skip.offset, skip.length));
+    same_in(&rt, "skipped", &first, &Some((0, 8)));
 }

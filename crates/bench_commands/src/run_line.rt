@@ -1,0 +1,111 @@
+//! The command line of `bench run`.
+
+use crate::command_line::{file, force, version};
+use crate::completed_run::with_completing;
+use crate::judged_run::judge_option;
+use bench_requests::RunRequest;
+use clap::{Arg, ArgAction, ArgMatches, Command, value_parser};
+use std::alloc::{AllocError, Global};
+
+/// What the help of `bench run` ends with.
+const RUN_NOTES: &str = "\
+Prints how many packets and messages the recording has, to standard error where the recording goes to standard
+output. Buses wait while the queue is full, so that every message is recorded. With --drop they never wait: a
+message that finds the queue full is refused, and listed in the report by its number in its channel; how many
+were is said on standard error (the guide says how much room a queue needs so that none is).
+
+Recording and report are written under the names FILE.part, and take the place of what is there together, once
+both are whole: a run that is interrupted leaves what was there. After U4 the recording has what the file took.
+No file is written over that is read, that another run is writing, or that is of another kind.
+
+With --judge the recording is read back behind the counts and judged by rules, as bench judge does: status 5 where
+one is not held. Recording and report are kept either way. The rules are read first: a fault of theirs costs no run.
+
+With --complete the file is what `bench complete` makes of the recording, which is kept in memory until it ends:
+a setup record first, a time packet each second, packets in order of time. --setup, --time and --time-channel are
+those of `bench complete`, with the version of --version.
+
+Example:
+  bench run --out flight.ch11 --report flight.report avionics.job stores.job
+  bench run --complete --setup flight.tmats --out flight.ch10 --report flight.report avionics.job stores.job";
+
+pub(crate) fn run_command<'a>(alloc: Global) -> Result<Command<'a>, AllocError> {
+    let jobs = Arg::new(alloc, "JOB").num_args(0usize..).help(
+        "The job of a channel, as a text; 1 to 32 of them, each of another channel",
+    );
+    let command = Command::new(alloc, "run")
+        .about("Runs jobs, each on a thread of its own, and records them all into one file")
+        .disable_version_flag(true)
+        .after_help(RUN_NOTES);
+    let command = with_files(alloc, with_settings(alloc, command)?)?;
+    with_completing(alloc, command)?.arg(jobs)
+}
+
+/// The settings of a run.
+fn with_settings<'a>(alloc: Global, command: Command<'a>) -> Result<Command<'a>, AllocError> {
+    let limit = "How many bytes a packet has at most, 256 to 524288";
+    let queue = "How many messages may wait in the queue at most, 1 to 4096";
+    let hold = Arg::new(alloc, "hold")
+        .long("hold")
+        .action(ArgAction::SetTrue)
+        .conflicts_with("drop")?
+        .help(
+            "Buses wait while the queue is full, so that no message is refused: so it is without this option too",
+        );
+    let drop = Arg::new(alloc, "drop")
+        .long("drop")
+        .action(ArgAction::SetTrue)
+        .help(
+            "Buses never wait: a message that finds the queue full is refused, and is missing from the recording",
+        );
+    command
+        .arg(version(alloc).default_value("6"))?
+        .arg(setting(alloc, "limit", limit).default_value("65536"))?
+        .arg(setting(alloc, "queue", queue).default_value("4096"))?
+        .arg(hold)?
+        .arg(drop)
+}
+
+/// The files of a run but its jobs.
+fn with_files<'a>(alloc: Global, command: Command<'a>) -> Result<Command<'a>, AllocError> {
+    let prologue =
+        "Packets to put in front of all others, such as a setup record (TMATS); none of MIL-STD-1553 messages";
+    let report = "The file to write the report to; it is written only where the recording is whole";
+    command
+        .arg(file(alloc, "prologue", prologue))?
+        .arg(judge_option(alloc))?
+        .arg(file(alloc, "out", "The file to write the recording to").required(true))?
+        .arg(file(alloc, "report", report).required(true))?
+        .arg(force(alloc))
+}
+
+/// An option whose number the command judges.
+fn setting<'a>(alloc: Global, name: &'a str, help: &'a str) -> Arg<'a> {
+    Arg::new(alloc, name)
+        .long(name)
+        .value_name("N")
+        .value_parser(value_parser!(u32).range(0..=4_294_967_295))
+        .allow_negative_numbers(true)
+        .help(help)
+}
+
+/// The jobs of a run, and how they are recorded.
+pub(crate) fn run_request<'a>(
+    alloc: Global,
+    given: &ArgMatches<'a>,
+) -> Result<RunRequest<'a>, AllocError> {
+    let mut jobs = Vec::new(alloc);
+    jobs.extend_from_slice(given.get_strs("JOB").unwrap_or(&[]))?;
+    Ok(RunRequest {
+        version: given.get_one::<u8>("version").unwrap_or(6),
+        limit: given.get_one::<u32>("limit").unwrap_or(65536),
+        queue: given.get_one::<u32>("queue").unwrap_or(4096),
+        drops: given.get_flag("drop"),
+        force: given.get_flag("force"),
+        prologue: given.get_str("prologue"),
+        judge: given.get_str("judge"),
+        out: given.get_str("out").unwrap_or(""),
+        report: given.get_str("report").unwrap_or(""),
+        jobs,
+    })
+}
