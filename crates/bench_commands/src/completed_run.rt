@@ -169,6 +169,16 @@ where
     }
 }
 
+/// What is to be added, with the text of its setup record at a place of its own.
+fn with_text<'b>(additions: &Additions<'_>, text: &'b [u8]) -> Additions<'b> {
+    Additions {
+        setup: additions.setup.map(|_| text),
+        start: additions.start,
+        time_channel: additions.time_channel,
+        version: additions.version,
+    }
+}
+
 /// Records jobs, and writes the complete file of the recording, which is kept in memory until then. What is to be added
 /// is judged before the first message as far as that needs no recording, and again behind the last.
 fn complete_into<
@@ -196,7 +206,8 @@ where
         Err(RunError::Sink { .. }) => return Err(Fault::Memory),
         Err(error) => return Err(Fault::of_run(&error)),
     };
-    match Completion::plan(rt.alloc(), sink.bytes(), additions) {
+    let text = additions.setup.unwrap_or(&[]);
+    match Completion::plan(rt.alloc(), sink.bytes(), &with_text(additions, text)) {
         Ok(completion) => {
             let writer = files.recording(rt)?;
             write_out(rt.alloc(), request.out, writer, &completion)?;
