@@ -1,5 +1,6 @@
-//! What is said of mistakes, with the mark under the word at fault; the lines are those that stand behind the fault of a command.
-use crate::{
+//! What is said of mistakes, with the mark under the word at fault; the lines are those that stand behind the fault of a
+//! command.
+use bench_reasons::{
     LineFault, MessageFault, Place, Reason, ScriptFault, Text, explained, job_script_reason,
     line_reason, script_reason,
 };

@@ -1,8 +1,8 @@
-//! Scripts against worked images and refusals.
+//! What `bench assemble` makes of scripts, against worked images and refusals.
 ghost use Rattle.frame_tree.specs.Tree.{tree_of};
 ghost use Rattle.frame_tree.specs.Bounds.{IsSound};
 
-use super::*;
+use bench_assemble::{AssembleFault, Sizes, assemble_text, print_sizes};
 use bumpalo::Bump;
 use frame_asm::assemble;
 use frame_code::write_image;

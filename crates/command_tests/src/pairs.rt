@@ -1,6 +1,6 @@
-//! What the command prints, against worked packets.
+//! What `bench one` prints, against worked packets.
 
-use crate::print_bytes;
+use bench_one::print_bytes;
 
 #[test]
 fn prints_sixteen_pairs_a_line(rt: HostRuntime) {
