@@ -1,5 +1,4 @@
 //! The command `bench one`: a message on fresh terminals, as the bytes of a packet and as lines of pairs.
-//! Its tests are in `command_tests`.
 #![tactic(auto)]
 
 mod fault;
@@ -9,3 +8,6 @@ mod single;
 pub use fault::OneFault;
 pub use print::print_bytes;
 pub use single::one;
+
+#[cfg(test)]
+mod tests;

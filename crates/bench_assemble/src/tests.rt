@@ -1,8 +1,8 @@
-//! What `bench assemble` makes of scripts, against worked images and refusals.
+//! Scripts against worked images and refusals.
 ghost use Rattle.frame_tree.specs.Tree.{tree_of};
 ghost use Rattle.frame_tree.specs.Bounds.{IsSound};
 
-use bench_assemble::{AssembleFault, Sizes, assemble_text, print_sizes};
+use super::*;
 use bumpalo::Bump;
 use frame_asm::assemble;
 use frame_code::write_image;

@@ -1,6 +1,6 @@
-//! What `bench one` prints, against worked packets.
+//! What the command prints, against worked packets.
 
-use bench_one::print_bytes;
+use crate::print_bytes;
 
 #[test]
 fn prints_sixteen_pairs_a_line(rt: HostRuntime) {

@@ -1,6 +1,5 @@
-//! What is said of mistakes, with the mark under the word at fault; the lines are those that stand behind the fault of a
-//! command.
-use bench_reasons::{
+//! What is said of mistakes, with the mark under the word at fault; the lines are those that stand behind the fault of a command.
+use crate::{
     LineFault, MessageFault, Place, Reason, ScriptFault, Text, explained, job_script_reason,
     line_reason, script_reason,
 };
