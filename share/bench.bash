@@ -31,11 +31,19 @@ _bench() {
             _bench_words "A B" "$word"
             return
             ;;
+        --hex)
+            _bench_words "0x" "$word"
+            return
+            ;;
+        --by)
+            _bench_words "terminal subaddress" "$word"
+            return
+            ;;
         --out | --report | --prologue | --judge | --junit | --setup)
             _bench_files "$word"
             return
             ;;
-        --version | --limit | --queue | --channel | --from | --to | --time | --time-channel)
+        --version | --limit | --queue | --channel | --only | --from | --to | --time | --time-channel)
             [ -z "$command" ] || return
             ;;
     esac
@@ -48,12 +56,16 @@ _bench() {
             options="--version --limit --queue --hold --drop --force --prologue --judge --out --report $options"
             options="--complete --setup --time --time-channel $options"
             ;;
-        dump) options="--skip --decode --channel --line --errors --from --to $options" ;;
-        stat) options="--csv $options" ;;
-        export) options="--out --force $options" ;;
+        check) options="--summary --decode $options" ;;
+        dump) options="--skip --time --decode --by-time --channel --line --only --errors --from --to $options" ;;
+        stat) options="--csv --long --by --load --channel --line --only --errors --from --to $options" ;;
+        export)
+            options="--out --force --frames --hex --vcd $options"
+            options="--channel --line --only --errors --from --to $options"
+            ;;
         complete) options="--out --force --setup --time --time-channel --version --skip $options" ;;
         judge) options="--junit --force --skip $options" ;;
-        draw) options="--out --force --channel --from --to $options" ;;
+        draw) options="--out --force --channel --line --only --errors --from --to $options" ;;
     esac
     case $word in
         -*)

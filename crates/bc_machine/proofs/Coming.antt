@@ -1,5 +1,5 @@
 -- What the next step does to the bus.
-use Rattle.std.proofs.Common.{◌≡◌, ◌≢◌, ℕ, zero, suc, ◌+◌, ◌-◌, ◌≤◌, ◌^◌, List, [], ◌∷◌, Option, Some, None, sym, ap, ap₂, ◌∙◌, subst, refl, arith}
+use Rattle.std.proofs.Common.{◌≡◌, ◌≢◌, ℕ, ◌+◌, ◌≤◌, ◌<◌, ◌^◌, List, ◌∷◌, Option, Some, None, sym, ap, ap₂, ◌∙◌, subst, refl, arith}
 use Rattle.std.specs.Prelude.{slice_get, Bool, true, false, Result, Ok, Err, IfOk, IfSome}
 use Rattle.std.specs.declared.alloc.AllocError.{AllocError}
 use Rattle.mil_word.specs.declared.Line.{Line}
@@ -7,19 +7,20 @@ use Rattle.mil_message.specs.declared.messages.Message.{Message}
 use Rattle.mil_message.specs.World.{other_line}
 use Rattle.mil_line.specs.Plans.{faults_of}
 use Rattle.mil_bus.specs.declared.talks.Talk.{Talk}
-use Rattle.mil_bus.specs.Exchange.{BusState, exchanged, talk_of, now_of, talk_start}
+use Rattle.mil_bus.specs.Exchange.{BusState, exchanged, talk_of, now_of, talk_start, played}
 use Rattle.frame_code.specs.declared.Op.{Op}
-use Rattle.frame_code.specs.declared.Op.TheVariants.{Halt, Send, Alt, SetGap, Loop, Again, Leave, Jump, Test, JumpFalse, Call, Return}
+use Rattle.frame_code.specs.declared.Op.TheVariants.{Halt, Send, Alt, SetGap, Loop, Again, Leave, Jump, Test, JumpFalse, Call, Return, Begin, Pace}
 use Rattle.mil_line.specs.declared.faults.Fault.{Fault}
-use Rattle.frame_code.specs.Table.{act, sends, turns, counted, leaves, calls, comes_back, stuck}
-use Rattle.frame_code.specs.Routines.{routine_at}
+use Rattle.frame_code.specs.Table.{act, sends, stuck}
 use Rattle.bc_machine.specs.declared.upcoming.Upcoming.{Upcoming}
 use Rattle.bc_machine.specs.Controller.{ready}
 use Rattle.bc_machine.specs.Running.{MachineState, world_in, turn_of, moved_by, stepped, clock_in}
 use Rattle.bc_machine.specs.Moves.{line_of}
 use Rattle.bc_machine.specs.MayStep.{IsAble}
+use Rattle.bc_machine.specs.UnderWay.{IsQuiet}
 use Rattle.bc_machine.specs.Coming.{IsAbout, IsComing, IsStill}
 use Rattle.bc_machine.proofs.Acts.{ready_talks, ready_clock}
+use Rattle.bc_machine.proofs.Told.{told_by}
 
 module _ (m : MachineState) where
   -- a row that sends this message on this line
@@ -42,49 +43,42 @@ module _ (m : MachineState) where
         taken = ap (λ (z : MachineState). z.taken) is;
       }
 
-  -- the state and the number stand still
-  abbrev IsSame : MachineState → Type 0
-  IsSame n = (n.point.state ≡ m.point.state) × (n.point.number ≡ m.point.number)
+  -- the number stands still, and what was played on the bus
+  abbrev IsStillAt : MachineState → Type 0
+  IsStillAt n = (played n.point.state ≡ played m.point.state) × (n.point.number ≡ m.point.number)
 
-  counted_still : (k : ℕ) (ns : List ℕ) (i : ℕ) → IsSame (moved_by (counted (world_in m) k ns i m.at m.point) m)
-  counted_still zero ns i = (refl, refl)
-  counted_still (suc k) ns i = (refl, refl)
+  quiet_is : (n : MachineState) → IsQuiet m n → IsStillAt n
+  quiet_is n q = (q.state, q.number)
 
-  turns_still : (cs : List ℕ) (i : ℕ) → IsSame (moved_by (turns (world_in m) cs i m.at m.point) m)
-  turns_still [] i = (refl, refl)
-  turns_still (n ∷ ns) i = counted_still (n - 1) ns i
+  abbrev after : Op → MachineState
+  after o = moved_by (act (world_in m) (Some o) m.code m.at m.point) m
 
-  leaves_still : (cs : List ℕ) (i : ℕ) → IsSame (moved_by (leaves (world_in m) cs i m.at m.point) m)
-  leaves_still [] i = (refl, refl)
-  leaves_still (n ∷ ns) i = (refl, refl)
+  -- nothing is sent
+  none : {X : Type 0} → 0 < 0 → X
+  none h = absurd (omega (arith, h))
 
-  calls_still : (begin : Option ℕ) → IsSame (moved_by (calls (world_in m) begin m.at m.point) m)
-  calls_still None = (refl, refl)
-  calls_still (Some i) = (refl, refl)
-
-  comes_back_still : (places : List ℕ) → IsSame (moved_by (comes_back (world_in m) places m.at m.point) m)
-  comes_back_still [] = (refl, refl)
-  comes_back_still (i ∷ is) = (refl, refl)
-
-  still_row : (o : Op) → ((x : ℕ) → o ≡ Send x → ⊥) → ((x : ℕ) → o ≡ Alt x → ⊥) → IsSame (moved_by (act (world_in m) (Some o) m.code m.at m.point) m)
-  still_row Halt s a = (refl, refl)
-  still_row (Send i) s a = absurd (s i refl)
-  still_row (Alt i) s a = absurd (a i refl)
-  still_row (SetGap t) s a = (refl, refl)
-  still_row (Loop n) s a = (refl, refl)
-  still_row (Again i) s a = turns_still m.at.counters i
-  still_row (Leave i) s a = leaves_still m.at.counters i
-  still_row (Jump i) s a = (refl, refl)
-  still_row (Test k) s a = (refl, refl)
-  still_row (JumpFalse i) s a = (refl, refl)
-  still_row (Call r) s a = calls_still (routine_at m.code.operations r)
-  still_row Return s a = comes_back_still m.at.returns
+  still_row : (o : Op) → slice_get m.code.operations m.at.place ≡ Some o → act (world_in m) (Some o) m.code m.at m.point ≢ stuck → ((x : ℕ) → o ≡ Send x → ⊥) → ((x : ℕ) → o ≡ Alt x → ⊥) → IsStillAt (after o)
+  still_row Halt e going s a = (refl, refl)
+  still_row (Send i) e going s a = absurd (s i refl)
+  still_row (Alt i) e going s a = absurd (a i refl)
+  still_row (SetGap t) e going s a = quiet_is _ (told_by m (Some (SetGap t)) e going none)
+  still_row (Loop n) e going s a = quiet_is _ (told_by m (Some (Loop n)) e going none)
+  still_row (Again i) e going s a = quiet_is _ (told_by m (Some (Again i)) e going none)
+  still_row (Leave i) e going s a = quiet_is _ (told_by m (Some (Leave i)) e going none)
+  still_row (Jump i) e going s a = quiet_is _ (told_by m (Some (Jump i)) e going none)
+  still_row (Test k) e going s a = quiet_is _ (told_by m (Some (Test k)) e going none)
+  still_row (JumpFalse i) e going s a = quiet_is _ (told_by m (Some (JumpFalse i)) e going none)
+  still_row (Call r) e going s a = quiet_is _ (told_by m (Some (Call r)) e going none)
+  still_row Return e going s a = quiet_is _ (told_by m (Some Return) e going none)
+  still_row Begin e going s a = quiet_is _ (told_by m (Some Begin) e going none)
+  still_row (Pace h) e going s a = quiet_is _ (told_by m (Some (Pace h)) e going none)
 
   -- an operation that sends nothing
-  pub still : (o : Op) → slice_get m.code.operations m.at.place ≡ Some o → ((x : ℕ) → o ≡ Send x → ⊥) → ((x : ℕ) → o ≡ Alt x → ⊥) → IsStill m
+  pub still : (o : Op) → slice_get m.code.operations m.at.place ≡ Some o → turn_of m ≢ stuck → ((x : ℕ) → o ≡ Send x → ⊥) → ((x : ℕ) → o ≡ Alt x → ⊥) → IsStill m
   unfolding stepped
-  still o e s a =
-      let is : IsSame (stepped m) = subst (λ v. IsSame (moved_by (act (world_in m) v m.code m.at m.point) m)) (sym e) (still_row o s a) in
+  still o e going s a =
+      let row : act (world_in m) (Some o) m.code m.at m.point ≢ stuck = λ h. going (ap (λ v. act (world_in m) v m.code m.at m.point) e ∙ h) in
+      let is : IsStillAt (stepped m) = subst (λ v. IsStillAt (moved_by (act (world_in m) v m.code m.at m.point) m)) (sym e) (still_row o e row s a) in
       record { state = is.0; number = is.1 }
 
   -- the row of an operation that sends a message which is there

@@ -1,10 +1,11 @@
-pub mod Stacks
 pub mod Acts
+pub mod Numbers
 pub mod Posted
 pub mod Around
 pub mod Runs
 pub mod Steps
 pub mod Rows
+pub mod OpenFrames
 pub mod Told
 pub mod Next
 pub mod Coming

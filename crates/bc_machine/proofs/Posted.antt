@@ -11,82 +11,21 @@ use Rattle.mil_line.specs.Plans.{Planned}
 use Rattle.mil_bus.specs.Exchange.{BusState}
 use Rattle.mil_bus.specs.declared.outcomes.Outcome.{Outcome}
 use Rattle.frame_code.specs.declared.Op.{Op}
-use Rattle.frame_code.specs.declared.Op.TheVariants.{Halt, Send, Alt, SetGap, Loop, Again, Leave, Jump, Test, JumpFalse, Call, Return}
-use Rattle.frame_code.specs.Table.{Code, Registers, Running, Turn, goes_on, halted, stuck, act, sends, counted, turns, leaves, step, then_run, run, calls, comes_back}
+use Rattle.frame_code.specs.declared.Op.TheVariants.{Halt, Send, Alt, SetGap, Loop, Again, Leave, Jump, Test, JumpFalse, Call, Return, Begin, Pace}
+use Rattle.frame_code.specs.Table.{Code, Registers, Running, Turn, goes_on, halted, stuck, act, sends, counted, turns, leaves, step, then_run, run, calls, comes_back, keeps_pace}
 use Rattle.frame_code.specs.Routines.{routine_at}
+use Rattle.frame_load.specs.Budget.{cost_of, one_period}
+use Rattle.frame_load.specs.Runs.{pays, paid}
 use Rattle.bc_machine.specs.declared.placed.Placed.{Placed}
 use Rattle.bc_machine.specs.Controller.{placed_at, world_of, all_acted, ready}
 use Rattle.bc_machine.specs.Running.{MachineState, turn_of}
 use Rattle.bc_machine.specs.UnderWay.{IsUnderWay}
 use Rattle.bc_machine.specs.Posting.{with_placed, AreAlikeSoFar}
 use Rattle.bc_machine.proofs.Acts.{ready_same}
+use Rattle.bc_machine.proofs.Numbers.{run_rises}
 
 abbrev Place : Type 0
 Place = Running BusState Outcome
-
--- ---- numbers never fall
-
-module _ (w : World BusState Outcome) where
-  sends_rise : (o : Option (Line × Message)) (on : Line → Line) (r : Registers) (p : Point BusState Outcome) (x : Place) → sends w o on r p ≡ goes_on x → p.number ≤ x.point.number
-  sends_rise None on r p x e = absurd cc
-  sends_rise (Some m) on r p x e =
-      let is : record { at = record r { place = r.place + 1; line = on m.0 }; point = sent w (on m.0) m.1 p } ≡ x = cc in
-      let number : p.number + 1 ≡ x.point.number = ap (λ (y : Place). y.point.number) is in
-      omega (arith, number)
-
-  stays : (a : Registers) (p : Point BusState Outcome) (x : Place) → goes_on (record { at = a; point = p }) ≡ goes_on x → p.number ≤ x.point.number
-  stays a p x e =
-      let is : record { at = a; point = p } ≡ x = cc in
-      let number : p.number ≡ x.point.number = ap (λ (y : Place). y.point.number) is in
-      omega (arith, number)
-
-  counted_rise : (k : ℕ) (ns : List ℕ) (i : ℕ) (r : Registers) (p : Point BusState Outcome) (x : Place) → counted w k ns i r p ≡ goes_on x → p.number ≤ x.point.number
-  counted_rise zero ns i r p x e = stays (record r { place = r.place + 1; counters = ns }) p x e
-  counted_rise (suc k) ns i r p x e = stays (record r { place = i; counters = suc k ∷ ns }) p x e
-
-  turns_rise : (ns : List ℕ) (i : ℕ) (r : Registers) (p : Point BusState Outcome) (x : Place) → turns w ns i r p ≡ goes_on x → p.number ≤ x.point.number
-  turns_rise [] i r p x e = absurd cc
-  turns_rise (n ∷ ns) i r p x e = counted_rise (n - 1) ns i r p x e
-
-  leaves_rise : (ns : List ℕ) (i : ℕ) (r : Registers) (p : Point BusState Outcome) (x : Place) → leaves w ns i r p ≡ goes_on x → p.number ≤ x.point.number
-  leaves_rise [] i r p x e = absurd cc
-  leaves_rise (n ∷ ns) i r p x e = stays (record r { place = i; counters = ns }) p x e
-
-  calls_rise : (o : Option ℕ) (r : Registers) (p : Point BusState Outcome) (x : Place) → calls w o r p ≡ goes_on x → p.number ≤ x.point.number
-  calls_rise None r p x e = absurd cc
-  calls_rise (Some i) r p x e = stays (record r { place = i; returns = (r.place + 1) ∷ r.returns }) p x e
-
-  backs_rise : (is : List ℕ) (r : Registers) (p : Point BusState Outcome) (x : Place) → comes_back w is r p ≡ goes_on x → p.number ≤ x.point.number
-  backs_rise [] r p x e = absurd cc
-  backs_rise (i ∷ is) r p x e = stays (record r { place = i; returns = is }) p x e
-
-  act_rises : (o : Option Op) (code : Code) (r : Registers) (p : Point BusState Outcome) (x : Place) → act w o code r p ≡ goes_on x → p.number ≤ x.point.number
-  act_rises None code r p x e = absurd cc
-  act_rises (Some Halt) code r p x e = absurd cc
-  act_rises (Some (Send m)) code r p x e = sends_rise (slice_get code.messages m) (λ l. l) r p x e
-  act_rises (Some (Alt m)) code r p x e = sends_rise (slice_get code.messages m) (λ l. other_line r.line) r p x e
-  act_rises (Some (SetGap t)) code r p x e = stays (record r { place = r.place + 1 }) (record p { gap = t }) x e
-  act_rises (Some (Loop n)) code r p x e = stays (record r { place = r.place + 1; counters = n ∷ r.counters }) p x e
-  act_rises (Some (Again i)) code r p x e = turns_rise r.counters i r p x e
-  act_rises (Some (Leave i)) code r p x e = leaves_rise r.counters i r p x e
-  act_rises (Some (Jump i)) code r p x e = stays (record r { place = i }) p x e
-  act_rises (Some (Test k)) code r p x e = stays (record r { place = r.place + 1; flag = asks w k p }) p x e
-  act_rises (Some (JumpFalse i)) code r p x e = stays (record r { place = cond r.flag (r.place + 1) i }) p x e
-  act_rises (Some (Call n)) code r p x e = calls_rise (routine_at code.operations n) r p x e
-  act_rises (Some Return) code r p x e = backs_rise r.returns r p x e
-
-  run_rises : (code : Code) (n : ℕ) (r : Registers) (p : Point BusState Outcome) (x : Place) → run w n code r p ≡ goes_on x → p.number ≤ x.point.number
-  run_rises code zero r p x e = stays r p x e
-  run_rises code (suc n) r p x e = by_turn (step w code r p) refl e (λ y h. run_rises code n y.at y.point x h)
-    where
-      by_turn : (t : Turn Place) → step w code r p ≡ t → then_run w t (record { at = r; point = p }) (run w n code) ≡ goes_on x
-          → ((y : Place) → run w n code y.at y.point ≡ goes_on x → y.point.number ≤ x.point.number) → p.number ≤ x.point.number
-      by_turn (goes_on y) s h more =
-          let first = act_rises (slice_get code.operations r.place) code r p y s in
-          let rest = more y h in
-          omega (arith, first, rest)
-      by_turn halted s h more = stays r p x h
-      by_turn stuck s h more = absurd cc
 
 -- ---- two lists that are alike up to a message
 
@@ -135,6 +74,10 @@ module _ (plan : List Planned) (ps qs : List Placed) (top : ℕ) (same : (n : �
   backs_alike [] r p = refl
   backs_alike (i ∷ is) r p = refl
 
+  paces_alike : (bs : List ℕ) (h : ℕ) (r : Registers) (p : Point BusState Outcome) → keeps_pace v bs h r p ≡ keeps_pace w bs h r p
+  paces_alike [] h r p = refl
+  paces_alike (b ∷ bs) h r p = refl
+
   act_alike : (o : Option Op) (code : Code) (r : Registers) (p : Point BusState Outcome) (x : Place) → act w o code r p ≡ goes_on x → x.point.number ≤ top → act v o code r p ≡ goes_on x
   act_alike None code r p x e le = e
   act_alike (Some Halt) code r p x e le = e
@@ -149,6 +92,8 @@ module _ (plan : List Planned) (ps qs : List Placed) (top : ℕ) (same : (n : �
   act_alike (Some (JumpFalse i)) code r p x e le = e
   act_alike (Some (Call n)) code r p x e le = calls_alike (routine_at code.operations n) r p ∙ e
   act_alike (Some Return) code r p x e le = backs_alike r.returns r p ∙ e
+  act_alike (Some Begin) code r p x e le = e
+  act_alike (Some (Pace h)) code r p x e le = paces_alike r.frames h r p ∙ e
 
   sends_halt : (o : Option (Line × Message)) (on : Line → Line) (r : Registers) (p : Point BusState Outcome) → sends w o on r p ≡ halted → sends v o on r p ≡ halted
   sends_halt None on r p e = e
@@ -168,6 +113,8 @@ module _ (plan : List Planned) (ps qs : List Placed) (top : ℕ) (same : (n : �
   act_halts (Some (JumpFalse i)) code r p e = e
   act_halts (Some (Call n)) code r p e = calls_alike (routine_at code.operations n) r p ∙ e
   act_halts (Some Return) code r p e = backs_alike r.returns r p ∙ e
+  act_halts (Some Begin) code r p e = absurd cc
+  act_halts (Some (Pace h)) code r p e = paces_alike r.frames h r p ∙ e
 
   run_alike : (code : Code) (n : ℕ) (r : Registers) (p : Point BusState Outcome) (x : Place) → run w n code r p ≡ goes_on x → x.point.number ≤ top → run v n code r p ≡ goes_on x
   run_alike code zero r p x e le = e
@@ -183,16 +130,37 @@ module _ (plan : List Planned) (ps qs : List Placed) (top : ℕ) (same : (n : �
           ap (λ (t : Turn Place). then_run v t (record { at = r; point = p }) (run v n code)) (act_halts (slice_get code.operations r.place) code r p s) ∙ h
       by_turn stuck s h more = absurd cc
 
+  -- and what it pays on the way
+  paid_alike : (cost : Op → ℕ) (code : Code) (n : ℕ) (r : Registers) (p : Point BusState Outcome) (x : Place) → run w n code r p ≡ goes_on x → x.point.number ≤ top
+      → paid v cost n code r p ≡ paid w cost n code r p
+  paid_alike cost code zero r p x e le = refl
+  paid_alike cost code (suc n) r p x e le = by_turn (step w code r p) refl e (λ y h. paid_alike cost code n y.at y.point x h le)
+    where
+      by_turn : (t : Turn Place) → step w code r p ≡ t → then_run w t (record { at = r; point = p }) (run w n code) ≡ goes_on x
+          → ((y : Place) → run w n code y.at y.point ≡ goes_on x → paid v cost n code y.at y.point ≡ paid w cost n code y.at y.point)
+          → pays v (step v code r p) (cost_of cost (slice_get code.operations r.place)) (paid v cost n code) ≡ pays w t (cost_of cost (slice_get code.operations r.place)) (paid w cost n code)
+      by_turn (goes_on y) s h more =
+          let rest = run_rises w code n y.at y.point x h in
+          ap (λ (t : Turn Place). pays v t (cost_of cost (slice_get code.operations r.place)) (paid v cost n code)) (act_alike (slice_get code.operations r.place) code r p y s (omega (arith, rest, le)))
+          ∙ ap (λ k. cost_of cost (slice_get code.operations r.place) + k) (more y h)
+      by_turn halted s h more =
+          ap (λ (t : Turn Place). pays v t (cost_of cost (slice_get code.operations r.place)) (paid v cost n code)) (act_halts (slice_get code.operations r.place) code r p s)
+      by_turn stuck s h more = absurd cc
+
 -- ---- as a controller meets them
 
 pub free : (m : MachineState) (placed : List Placed) → IsUnderWay m → AreAlikeSoFar m placed → IsUnderWay (with_placed m placed)
 free m placed u alike = record {
   loadable = u.loadable;
   within = u.within;
+  short = u.short;
   reached = run_alike m.plan m.placed placed m.point.number alike m.code m.taken _ _ (record { at = m.at; point = m.point }) u.reached (omega arith);
   steps = u.steps;
   messages = u.messages;
-  clock = u.clock;
+  clock =
+      let same = paid_alike m.plan m.placed placed m.point.number alike one_period m.code m.taken _ _ (record { at = m.at; point = m.point }) u.reached (omega arith) in
+      omega (arith, u.clock, same);
+  begun = u.begun;
 }
 
 pub halts_alike : (m : MachineState) (placed : List Placed) → turn_of m ≡ halted → turn_of (with_placed m placed) ≡ halted

@@ -1,9 +1,12 @@
--- Runs of a code, one step more, and where they end.
-use Rattle.std.proofs.Common.{◌≡◌, ◌≤◌, ◌<◌, ℕ, zero, suc, sym, ap, ◌∙◌, refl, ⊎_elim, arith}
+-- Runs of a code, one step more and what it costs, and where they end.
+use Rattle.std.proofs.Common.{◌≡◌, ◌≤◌, ◌<◌, ◌+◌, ℕ, zero, suc, sym, ap, ◌∙◌, refl, ⊎_elim, arith}
 use Rattle.std.proofs.lemmas.Bool.{cases_lt}
+use Rattle.std.specs.Prelude.{slice_get}
 use Rattle.mil_message.specs.World.{World, Point}
+use Rattle.frame_code.specs.declared.Op.{Op}
 use Rattle.frame_code.specs.Table.{Code, Registers, Running, Turn, goes_on, halted, stuck, step, then_run, run, start}
-use Rattle.frame_load.specs.Runs.{HaltsWithin}
+use Rattle.frame_load.specs.Budget.{cost_of}
+use Rattle.frame_load.specs.Runs.{HaltsWithin, pays, paid}
 
 module _ {State Outcome : Type 0} (w : World State Outcome) (code : Code) where
   -- one step more
@@ -23,6 +26,27 @@ module _ {State Outcome : Type 0} (w : World State Outcome) (code : Code) where
       let s : step w code r p ≡ goes_on y = ap (λ v. step w code v.at v.point) here ∙ e in
       ap (λ t. then_run w t (record { at = r; point = p }) (run w zero code)) s
   run_more (suc n) r p x y e h = then_more n r p x y (step w code r p) refl (λ z g. run_more n z.at z.point x y e g) e h
+
+  -- a step more costs what its operation does
+  pub paid_more : (cost : Op → ℕ) (n : ℕ) (r : Registers) (p : Point State Outcome) (x y : Running State Outcome) → step w code x.at x.point ≡ goes_on y → run w n code r p ≡ goes_on x
+      → paid w cost (suc n) code r p ≡ paid w cost n code r p + cost_of cost (slice_get code.operations x.at.place)
+  paid_more cost zero r p x y e h =
+      let here : record { at = r; point = p } ≡ x = cc in
+      let s : step w code r p ≡ goes_on y = ap (λ v. step w code v.at v.point) here ∙ e in
+      let one : paid w cost 1 code r p ≡ cost_of cost (slice_get code.operations r.place) + 0 = ap (λ t. pays w t (cost_of cost (slice_get code.operations r.place)) (paid w cost 0 code)) s in
+      let place : cost_of cost (slice_get code.operations r.place) ≡ cost_of cost (slice_get code.operations x.at.place) = ap (λ (v : Running State Outcome). cost_of cost (slice_get code.operations v.at.place)) here in
+      omega (arith, one, place)
+  paid_more cost (suc n) r p x y e h = by_turn (step w code r p) refl h (λ z g. paid_more cost n z.at z.point x y e g)
+    where
+      by_turn : (t : Turn (Running State Outcome)) → step w code r p ≡ t → then_run w t (record { at = r; point = p }) (run w n code) ≡ goes_on x
+          → ((z : Running State Outcome) → run w n code z.at z.point ≡ goes_on x → paid w cost (suc n) code z.at z.point ≡ paid w cost n code z.at z.point + cost_of cost (slice_get code.operations x.at.place))
+          → pays w t (cost_of cost (slice_get code.operations r.place)) (paid w cost (suc n) code) ≡ pays w t (cost_of cost (slice_get code.operations r.place)) (paid w cost n code) + cost_of cost (slice_get code.operations x.at.place)
+      by_turn (goes_on z) s g more = let rest = more z g in omega (arith, rest)
+      by_turn halted s g more =
+          let here : record { at = r; point = p } ≡ x = cc in
+          let no : halted ≡ goes_on y = sym s ∙ ap (λ v. step w code v.at v.point) here ∙ e in
+          absurd cc
+      by_turn stuck s g more = absurd cc
 
   -- a run that has halted stands still
   pub run_halted : (n : ℕ) (r : Registers) (p : Point State Outcome) → step w code r p ≡ halted → run w n code r p ≡ goes_on (record { at = r; point = p })

@@ -3,7 +3,7 @@ use Rattle.std.specs.Prelude.{◌≡◌, ◌+◌, ◌<◌, ◌^◌, ◌∷◌, O
 use Rattle.mil_word.specs.declared.Line.{Line}
 use Rattle.mil_message.specs.declared.forms.Form.{Form}
 use Rattle.mil_line.specs.Plans.{faults_of}
-use Rattle.mil_bus.specs.Exchange.{talk_of, talk_start, now_of}
+use Rattle.mil_bus.specs.Exchange.{talk_of, talk_start, now_of, played}
 use Rattle.bc_machine.specs.declared.upcoming.Upcoming.{Upcoming}
 use Rattle.bc_machine.specs.Controller.{ready}
 use Rattle.bc_machine.specs.Running.{MachineState, stepped}
@@ -24,9 +24,9 @@ pub record IsComing (m : MachineState) (u : Upcoming) : Type 0 where
   pub number : (stepped m).point.number ≡ m.point.number + 1
   pub taken : (stepped m).taken ≡ m.taken + 1
 
--- the next step sends nothing
+-- the next step sends nothing: what was played on the bus stands still; at most its least start rises
 pub record IsStill (m : MachineState) : Type 0 where
-  pub state : (stepped m).point.state ≡ m.point.state
+  pub state : played (stepped m).point.state ≡ played m.point.state
   pub number : (stepped m).point.number ≡ m.point.number
 
 abbrev pub Comes : MachineState → Option Upcoming → Type 0

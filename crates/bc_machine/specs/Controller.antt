@@ -11,7 +11,7 @@ use Rattle.mil_line.specs.Plans.{Planned, faults_of}
 use Rattle.mil_bus.specs.declared.talks.Talk.{Talk}
 use Rattle.mil_bus.specs.declared.outcomes.Outcome.{Outcome}
 use Rattle.mil_bus.specs.BlockStatus.{outcome_of}
-use Rattle.mil_bus.specs.Exchange.{BusState, exchanged, talk_of}
+use Rattle.mil_bus.specs.Exchange.{BusState, exchanged, talk_of, now_of, paced}
 use Rattle.mil_bus.specs.Actions.{acted}
 use Rattle.bc_machine.specs.declared.placed.Placed.{Placed}
 
@@ -46,4 +46,6 @@ world_of plan placed = record {
     outcome_in (talk_of (ready placed number b) line message gap (faults_of number plan)),
   );
   holds = holds;
+  now = now_of;
+  paced = paced;
 }

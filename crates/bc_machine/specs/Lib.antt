@@ -2,10 +2,11 @@ pub mod Controller
 pub mod Outcomes
 pub mod Rising
 pub mod Running
+pub mod Frames
 pub mod UnderWay
 pub mod Moves
 pub mod MayStep
-pub mod Counters
+pub mod Stacks
 pub mod StartingBus
 pub mod PlainMachine
 pub mod Posting

@@ -3,7 +3,7 @@ use Rattle.std.specs.Prelude.{ℕ, ◌+◌, Bool, true, false, ◌∷◌}
 use Rattle.mil_word.specs.declared.Line.{Line}
 use Rattle.mil_message.specs.World.{other_line}
 use Rattle.frame_code.specs.Table.{Registers, at_place}
-use Rattle.bc_machine.specs.Running.{MachineState}
+use Rattle.bc_machine.specs.Running.{MachineState, clock_in}
 
 -- one more step was taken, and these are the registers after it
 abbrev pub with_registers : MachineState → Registers → MachineState
@@ -17,6 +17,10 @@ gap_set m ticks = record { code = m.code; plan = m.plan; placed = m.placed; begu
 
 abbrev pub opened : MachineState → ℕ → MachineState
 opened m count = with_registers m (record m.at { counters = count ∷ m.at.counters })
+
+-- a frame begins now
+abbrev pub framed : MachineState → MachineState
+framed m = with_registers m (record m.at { frames = clock_in m ∷ m.at.frames })
 
 abbrev pub flagged : MachineState → Bool → MachineState
 flagged m flag = with_registers m (record m.at { flag = flag })

@@ -10,6 +10,6 @@ state_kept s = record {
   placed = s.placed.value ++ s.posted.value;
   begun = s.begun.value.0;
   taken = s.taken;
-  at = record { place = s.place; counters = s.counters; returns = s.returns; flag = s.flag; line = s.line };
+  at = record { place = s.place; counters = s.counters; returns = s.returns; frames = s.frames; flag = s.flag; line = s.line };
   point = record { state = s.bus; number = s.number; gap = s.gap; last = s.last };
 }

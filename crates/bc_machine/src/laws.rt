@@ -1,5 +1,5 @@
 //! What holds of every run of a controller.
-ghost use Rattle.std.specs.Prelude.{◌≡◌, ◌≢◌, ◌≤◌, ℕ, List};
+ghost use Rattle.std.specs.Prelude.{◌≡◌, ◌≢◌, ◌≤◌, ◌-◌, ℕ, List};
 ghost use Rattle.mil_line.specs.Plans.{Planned};
 ghost use Rattle.mil_bus.specs.Exchange.{BusState};
 ghost use Rattle.frame_code.specs.Table.{Code, halted, stuck};
@@ -24,16 +24,17 @@ impl Setting for BusSetting {
     ghost Outcome = { Outcome };
 }
 
-/// Law: a controller that runs a loadable code on any bus, under any plan and any placed actions, is never stuck: it never
-/// meets a bad place, an empty list of counters, an empty list of return places, or a routine or a message that is not there. It sends at most as many messages as the
-/// code's sum says, and has halted after as many steps as its budget.
+/// Law: a controller that runs a loadable code on any bus, under any plan and any placed actions, is never stuck: it
+/// never meets a bad place, an empty list of counters, of return places or of open frames, or a routine or a message that
+/// is not there. It sends at most as many messages as the code's sum says, and stands at a Halt after one step less than
+/// its budget, which counts the Halt too.
 pub fn controller_runs()
     ensures never_stuck { (code : Code) (b : BusState) (plan : List Planned) (placed : List Placed) (n : ℕ) →
         IsLoadable code → turn_of (after_steps n (started code b plan placed)) ≢ stuck }
     ensures messages { (code : Code) (b : BusState) (plan : List Planned) (placed : List Placed) (n : ℕ) →
         IsLoadable code → (after_steps n (started code b plan placed)).point.number ≤ worst_messages code.operations }
     ensures halts { (code : Code) (b : BusState) (plan : List Planned) (placed : List Placed) →
-        IsLoadable code → turn_of (after_steps (budget code.operations) (started code b plan placed)) ≡ halted }
+        IsLoadable code → turn_of (after_steps (budget code.operations - 1) (started code b plan placed)) ≡ halted }
 {
     loadable_runs::<BusSetting>();
 }

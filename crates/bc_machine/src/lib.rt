@@ -2,7 +2,7 @@
 #![tactic(auto)]
 
 mod begun;
-mod counters;
+mod frames;
 mod laws;
 mod machine;
 mod messages;
@@ -10,11 +10,12 @@ mod outcomes;
 mod parts;
 mod placed;
 mod posting;
-mod returns;
 mod saved;
 mod schedule;
+mod stack;
 mod upcoming;
 
+pub use frames::Closing;
 pub use laws::{actions_to_come_are_free, controller_runs};
 pub use machine::Machine;
 use mil_monitor::Record;

@@ -4,22 +4,22 @@ ghost use Rattle.mil_word.specs.declared.Line.{Line};
 ghost use Rattle.mil_message.specs.World.{sent};
 ghost use Rattle.frame_code.specs.Table.{sends, turns, leaves, calls, comes_back};
 ghost use Rattle.frame_code.specs.Routines.{routine_at};
-ghost use Rattle.frame_load.specs.Judging.{IsWithin};
+ghost use Rattle.frame_load.specs.Judging.{IsWithin, HasShortPeriods};
 ghost use Rattle.frame_code.specs.Loadable.{IsLoadable};
 ghost use Rattle.bc_machine.specs.Running.{started, moved_by, stepped, answered, latest, clock_in, world_in};
 ghost use Rattle.bc_machine.specs.Outcomes.{test_of};
 ghost use Rattle.bc_machine.specs.Moves as moves;
 ghost use Rattle.bc_machine.specs.Moves.{line_of};
+ghost use Rattle.bc_machine.specs.Frames.{most_ticks};
 ghost use Rattle.bc_machine.specs.MayStep.{IsAble};
 ghost use Rattle.bc_machine.specs.Alike.{AreAlike};
 
 use crate::begun::{Begun, begun_with, same};
-use crate::counters::Counters;
 use crate::messages::exchange;
 use crate::outcomes::{asks, other};
-use crate::returns::Returns;
 use crate::saved::SavedParts;
 use crate::schedule::Schedule;
+use crate::stack::Stack;
 use crate::{Placed, Stepped};
 use frame_code::Op;
 use frame_load::Program;
@@ -42,8 +42,9 @@ pub struct Parts {
     begun: Snapshot<Begun>,
     taken: u32,
     place: u16,
-    counters: Counters,
-    returns: Returns,
+    counters: Stack<u16, 17>,
+    returns: Stack<u16, 32>,
+    pub(crate) frames: Stack<u64, 16>,
     flag: bool,
     pub(crate) line: Line,
     pub(crate) bus: Bus,
@@ -70,6 +71,7 @@ impl Parts {
         ensures value { result ≡ started program bus plan placed.items }
         ensures loadable { IsLoadable program }
         ensures within { IsWithin program }
+        ensures short { HasShortPeriods program }
     {
         let _image = program.image();
         let begun = begun_with(&bus);
@@ -84,8 +86,9 @@ impl Parts {
             begun,
             taken: 0,
             place,
-            counters: Counters::none(),
-            returns: Returns::none(),
+            counters: Stack::none(),
+            returns: Stack::none(),
+            frames: Stack::none(),
             flag: false,
             line: Line::A,
             bus,
@@ -116,7 +119,7 @@ impl Parts {
     }
 
     /// Goes on to the next place.
-    fn go_on(&mut self) -> Stepped
+    pub(crate) fn go_on(&mut self) -> Stepped
         requires taken { self.old.taken < 2 ^ 31 }
         requires place { self.old.at.place < 4096 }
         ensures value { self.new ≡ moves.gone self.old (self.old.at.place + 1) }
@@ -257,7 +260,7 @@ impl Parts {
         requires { IsAble self.old }
         ensures value { self.new ≡ stepped self.old }
         ensures answer { result ≡ answered self.old }
-        ensures soon { clock_in self.new ≤ clock_in self.old + 2 ^ 24 }
+        ensures soon { clock_in self.new ≤ clock_in self.old + most_ticks self.old }
     {
         match self.op() {
             Op::Halt => Stepped::Halted,
@@ -281,6 +284,11 @@ impl Parts {
             Op::JumpFalse(place) => self.jump_false(place),
             Op::Call(routine) => self.call(routine),
             Op::Return => self.come_back(),
+            Op::Begin => {
+                self.open_frame();
+                self.go_on()
+            }
+            Op::Pace(hundreds) => self.close_frame(hundreds),
         }
     }
 
@@ -319,6 +327,7 @@ impl Parts {
             place: self.place,
             counters: self.counters.copy(),
             returns: self.returns.copy(),
+            frames: self.frames.copy(),
             flag: self.flag,
             line: self.line,
             bus: self.bus.copy()?,
@@ -344,6 +353,7 @@ impl Parts {
             place: self.place,
             counters: self.counters.copy(),
             returns: self.returns.copy(),
+            frames: self.frames.copy(),
             flag: self.flag,
             line: self.line,
             bus: self.bus.save()?,
@@ -364,6 +374,7 @@ impl Parts {
         self.place = saved.place;
         self.counters = saved.counters.copy();
         self.returns = saved.returns.copy();
+        self.frames = saved.frames.copy();
         self.flag = saved.flag;
         self.line = saved.line;
         self.number = saved.number;

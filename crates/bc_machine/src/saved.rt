@@ -1,8 +1,7 @@
 //! What is kept of a controller, for it to be taken back there.
 use crate::begun::Begun;
-use crate::counters::Counters;
-use crate::returns::Returns;
 use crate::schedule::Schedule;
+use crate::stack::Stack;
 use frame_load::Program;
 use mil_bus::{Outcome, SavedBus};
 use mil_line::{Gap, Plan};
@@ -21,8 +20,10 @@ pub struct SavedParts {
     pub begun: Snapshot<Begun>,
     pub taken: u32,
     pub place: u16,
-    pub counters: Counters,
-    pub returns: Returns,
+    pub counters: Stack<u16, 17>,
+    pub returns: Stack<u16, 32>,
+    /// The tick at which each began.
+    pub frames: Stack<u64, 16>,
     pub flag: bool,
     pub line: Line,
     pub bus: SavedBus,

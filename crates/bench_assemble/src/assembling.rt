@@ -4,7 +4,7 @@ ghost use Rattle.frame_tree.specs.Tree.{tree_of};
 ghost use Rattle.frame_tree.specs.Bounds.{IsSound};
 ghost use Rattle.frame_asm.specs.Shapes.{code_of};
 ghost use Rattle.frame_code.specs.Loadable.{IsLoadable};
-ghost use Rattle.bench_assemble.specs.Assembled.{image_of_text, image_of_tree, judged, IsRefusal};
+ghost use Rattle.bench_assemble.specs.Assembled.{image_of_text, image_of_tree, judged, IsRefusal, told_as};
 
 use crate::{AssembleFault, Sizes};
 use frame_asm::{AsmError, assemble};
@@ -15,8 +15,8 @@ use frame_tree::Frame;
 use std::alloc::Global;
 
 /// The bytes of the image of a script, and its sizes. A text that has no tree is refused with its first fault (S1 to S8);
-/// then code of more than 4096 operations (A1), more than 1024 messages (A2), and a program over its budget (P5); then
-/// memory.
+/// then code of more than 4096 operations (A1), more than 1024 messages (A2), a program over its budget (P5), and
+/// periods that come to more than 2^46 ticks (P8); then memory.
 pub fn assemble_text(alloc: Global, text: &[u8]) -> Result<(Vec<u8>, Sizes), AssembleFault>
     ensures image { IfOk result (λ x. image_of_text text.now ≡ Ok (x.0.items, x.1)) }
     ensures refused { IfErr result (IsRefusal (image_of_text text.now)) }
@@ -59,7 +59,7 @@ fn program_of(alloc: Global, frame: &Frame<Global>) -> Result<Program, AssembleF
     }
 }
 
-/// The program of an image that breaks no rule of the loader but the last.
+/// The program of an image that breaks no rule of the loader but the last two.
 fn loaded(alloc: Global, image: Image) -> Result<Program, AssembleFault>
     requires loadable { IsLoadable image }
     ensures program { IfOk result (λ p. judged image ≡ Ok p) }
@@ -67,7 +67,17 @@ fn loaded(alloc: Global, image: Image) -> Result<Program, AssembleFault>
 {
     match load(alloc, image) {
         Ok(program) => Ok(program),
-        Err(LoadError::Memory) => Err(AssembleFault::Memory),
-        Err(_) => Err(AssembleFault::Budget),
+        Err(why) => Err(told(why)),
+    }
+}
+
+/// What a refusal of the loader is told as.
+fn told(why: LoadError) -> AssembleFault
+    ensures { result ≡ told_as why }
+{
+    match why {
+        LoadError::Periods => AssembleFault::Periods,
+        LoadError::Memory => AssembleFault::Memory,
+        _ => AssembleFault::Budget,
     }
 }

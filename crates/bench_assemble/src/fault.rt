@@ -17,14 +17,16 @@ pub enum AssembleFault {
     Operations,
     /// A2: there are more than 1024 messages in the table.
     Messages,
-    /// P5: a run may take more than 100,000,000 steps or send more than 1,000,000 messages. The code of a script breaks no
-    /// other rule of the loader.
+    /// P5: a run may take more than 100,000,000 steps or send more than 1,000,000 messages.
     Budget,
+    /// P8: the periods of the frames that a run may close come to more than 2^46 ticks. The code of a script breaks no other
+    /// rule of the loader than these two.
+    Periods,
     /// Memory was refused.
     Memory,
 }
 
-/// `S7 line 1 column 8`, `A1`, `P5`, `memory`.
+/// `S7 line 1 column 8`, `A1`, `P5`, `P8`, `memory`.
 impl fmt::Display for AssembleFault {
     ghost use Rattle.bench_assemble.specs.Letters.{letters_of};
 
@@ -42,6 +44,7 @@ impl fmt::Display for AssembleFault {
             AssembleFault::Operations => write!(f, "{}", AsmError::Operations),
             AssembleFault::Messages => write!(f, "{}", AsmError::Messages),
             AssembleFault::Budget => write!(f, "{}", LoadError::Budget),
+            AssembleFault::Periods => write!(f, "{}", LoadError::Periods),
             AssembleFault::Memory => f.write_str("memory"),
         }
     }

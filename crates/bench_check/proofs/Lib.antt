@@ -1,3 +1,4 @@
 pub mod Filtered
 pub mod Noted
+pub mod Overruns
 pub mod Played

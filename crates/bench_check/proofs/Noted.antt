@@ -1,18 +1,37 @@
 -- What one message adds to the faults that met nothing.
-use Rattle.std.proofs.Common.{◌≡◌, ℕ, suc, ◌+◌, ◌-◌, List, ◌∷◌, ◌++◌, ap, ap₂, ◌∙◌, sym, add-one}
+use Rattle.std.proofs.Common.{◌≡◌, ℕ, suc, ◌+◌, ◌-◌, List, ◌∷◌, [], ◌++◌, refl, ap, ap₂, ◌∙◌, sym, add-one}
 use Rattle.std.specs.Prelude.{not}
 use Rattle.std.specs.List.{filter}
 use Rattle.mil_line.specs.Plans.{Planned, faults_of}
-use Rattle.mil_bus.specs.Exchange.{BusState}
+use Rattle.mil_bus.specs.Exchange.{BusState, played}
+use Rattle.mil_bus.specs.Actions.{acted}
+use Rattle.mil_bus.specs.declared.talks.Talk.{Talk}
+use Rattle.mil_line.specs.declared.faults.Fault.{Fault}
 use Rattle.frame_tree.specs.Bounds.{IsSound}
 use Rattle.bc_machine.specs.declared.upcoming.Upcoming.{Upcoming}
-use Rattle.bc_machine.specs.Controller.{ready}
+use Rattle.bc_machine.specs.declared.placed.Placed.{Placed}
+use Rattle.bc_machine.specs.Controller.{placed_at, all_acted, ready}
 use Rattle.bc_machine.specs.Running.{MachineState, stepped}
 use Rattle.bc_machine.specs.Coming.{IsComing, IsStill}
 use Rattle.job_file.specs.Jobs.{JobState, tree_in, job_in}
 use Rattle.job_file.specs.Machines.{IsOf, BusSoFar}
-use Rattle.bench_check.specs.Meeting.{meets}
+use Rattle.bench_check.specs.Meeting.{meets, sent_under}
 use Rattle.bench_check.specs.Unmet.{bus_at, met_behind, unmet_of, unmet_behind, unmet_up_to, numbered, planned_behind, made, unmet}
+
+-- the actions of hosts leave the least start of a bus alone, and have nothing to do with it
+all_played : (ps : List Placed) (b : BusState) → all_acted (played b) ps ≡ played (all_acted b ps)
+all_played [] b = refl
+all_played (p ∷ ps) b = all_played ps (acted b p.address p.action)
+
+ready_played : (ps : List Placed) (n : ℕ) (b : BusState) → ready ps n (played b) ≡ played (ready ps n b)
+unfolding ready
+ready_played ps n b = all_played (placed_at n ps) b
+
+-- so it has none to do with what faults meet
+unmet_played : (b : BusState) (ts : List Talk) (faults : List Fault) → unmet_of (played b) ts faults ≡ unmet_of b ts faults
+unfolding sent_under
+unmet_played b [] faults = refl
+unmet_played b (t ∷ ts) faults = refl
 
 -- the faults of a message that is coming and meet nothing are those that the definition has
 coming_is : BusSoFar → (job : JobState) (m n : MachineState) (u : Upcoming) → IsSound (tree_in job) → IsOf (job_in job) job.actions m → IsOf (job_in job) job.actions n → n ≡ stepped m → IsComing m u
@@ -21,12 +40,13 @@ unfolding unmet_behind
 coming_is so_far job m n u sound of next is h =
     let k = m.point.number in
     let faults = faults_of (k + 1) job.plan in
-    let here : m.point.state ≡ bus_at job k = so_far (job_in job) job.actions m sound of in
+    let here : played m.point.state ≡ bus_at job k = so_far (job_in job) job.actions m sound of in
     let number : n.point.number ≡ k + 1 = ap (λ (z : MachineState). z.point.number) is ∙ h.number in
-    let then : n.point.state ≡ bus_at job (k + 1) = so_far (job_in job) job.actions n sound next ∙ ap (bus_at job) number in
-    let met : met_behind job k ≡ u.bus = sym (h.bus ∙ ap₂ (λ ps b. ready ps (k + 1) b) of.actions here) in
+    let then : played n.point.state ≡ bus_at job (k + 1) = so_far (job_in job) job.actions n sound next ∙ ap (bus_at job) number in
+    let met : met_behind job k ≡ played u.bus =
+    sym (ap played h.bus ∙ sym (ready_played m.placed (k + 1) m.point.state) ∙ ap₂ (λ ps b. ready ps (k + 1) b) of.actions here) in
     let talks : (bus_at job (k + 1)).talks ≡ u.talk ∷ m.point.state.talks = ap (λ (b : BusState). b.talks) (sym then) ∙ ap (λ (z : MachineState). z.point.state.talks) is ∙ h.talks in
-    ap (numbered (k + 1)) (ap₂ (λ b ts. unmet_of b ts faults) met talks)
+    ap (numbered (k + 1)) (ap₂ (λ b ts. unmet_of b ts faults) met talks ∙ unmet_played u.bus (u.talk ∷ m.point.state.talks) faults)
 
 -- one more message
 pub one_more : BusSoFar → (job : JobState) (m n : MachineState) (u : Upcoming) (number : ℕ) (old new : List Planned) → IsSound (tree_in job) → IsOf (job_in job) job.actions m → IsOf (job_in job) job.actions n → n ≡ stepped m → IsComing m u

@@ -5,11 +5,11 @@ use Rattle.std.specs.List.{filter}
 use Rattle.mil_line.specs.declared.faults.Fault.{Fault}
 use Rattle.mil_bus.specs.declared.talks.Talk.{Talk}
 use Rattle.mil_bus.specs.Exchange.{BusState, exchange_of, talk_of, talk_start}
-use Rattle.bench_check.specs.Meeting.{run_of, is_before, words_of, is_there, played, meets}
+use Rattle.bench_check.specs.Meeting.{run_of, is_before, words_of, is_there, sent_under, meets}
 
 -- the words of a talk whose message is that of another, and starts when that does
-played_is : (b : BusState) (t again : Talk) (gap : ℕ) (faults : List Fault) → t.start ≡ talk_start b gap → again ≡ talk_of b t.line t.message gap faults → again.sent.items ≡ played b t faults
-unfolding talk_of exchange_of played
+played_is : (b : BusState) (t again : Talk) (gap : ℕ) (faults : List Fault) → t.start ≡ talk_start b gap → again ≡ talk_of b t.line t.message gap faults → again.sent.items ≡ sent_under b t faults
+unfolding talk_of exchange_of sent_under
 played_is b t again gap faults start is = ap (λ (v : Talk). v.sent.items) is ∙ (rw start refl)
 
 -- what is answered of a fault, once its message was played under the faults of earlier runs

@@ -32,11 +32,11 @@ is_there words (Late run ticks) = nat_lt 0 words
 is_there words (Mute run) = nat_lt 0 words
 
 -- the words of the message of a talk that starts when the talk does, on this bus, under these faults
-unfoldable pub played : BusState → Talk → List Fault → List Sent
-played b t faults =
+unfoldable pub sent_under : BusState → Talk → List Fault → List Sent
+sent_under b t faults =
     (runs 40 t.line faults 0 (Some (controllers t.line t.message t.start b.talks)) (record { sent = []; stations = b.stations })).sent
 
 -- A fault meets something where its run has its place, as the run's sender gives it: under the faults of earlier runs alone, since
 -- these say whether and how the run comes about.
 abbrev pub meets : BusState → Talk → List Fault → Fault → Bool
-meets b t faults f = is_there (length (words_of (run_of f) (played b t (filter (is_before (run_of f)) faults)))) f
+meets b t faults f = is_there (length (words_of (run_of f) (sent_under b t (filter (is_before (run_of f)) faults)))) f

@@ -1,7 +1,9 @@
 //! What a job that was tried came to.
 use crate::calls::Calls;
 use crate::fault::CheckFault;
+use crate::frames::{Overrun, parts_of, period_of};
 use crate::messages::put_action;
+use crate::oddities::Oddities;
 use crate::planned::put_fault;
 use job_file::Job;
 use mil_line::Fault;
@@ -19,6 +21,10 @@ pub struct Findings {
     pub unmet: Vec<(u32, Fault)>,
     /// Who is called.
     pub calls: Calls,
+    /// The frames that took longer than their period, in the order of their ends.
+    pub overruns: Vec<Overrun>,
+    /// What else is odd.
+    pub oddities: Oddities,
     /// How many items of the queue the job may take: one for each message that its script may send, and one for its
     /// end.
     pub room: u64,
@@ -32,21 +38,82 @@ pub fn print_findings<W: Write>(
     out: &mut W,
 ) -> Result<(), CheckFault> {
     let mut text = String::new(alloc);
-    put_unmet(&mut text, findings)?;
-    put_unreached(&mut text, job, findings.made)?;
-    put_strangers(&mut text, job, &findings.calls)?;
-    put_uncalled(&mut text, job, &findings.calls)?;
+    put_mistakes(&mut text, job, findings)?;
+    print_mistakes(text.as_bytes(), findings, out)
+}
+
+/// Prints how many messages there are, how many of them have an error, and the same as `print_findings`; among what is
+/// probably a mistake are also subaddresses that transmit and were never filled, and messages that were answered with
+/// the message error bit and not sent again.
+pub fn print_summary<W: Write>(
+    alloc: Global,
+    job: &Job,
+    findings: &Findings,
+    out: &mut W,
+) -> Result<(), CheckFault> {
+    let mut text = String::new(alloc);
+    put_mistakes(&mut text, job, findings)?;
+    put_unfilled(&mut text, job, &findings.oddities)?;
+    put_left(&mut text, &findings.oddities)?;
+    let (made, failed) = (findings.made, findings.oddities.failed());
+    writeln!(out, "messages {made}, with an error {failed}")?;
+    print_mistakes(text.as_bytes(), findings, out)
+}
+
+/// Puts the mistakes that a job that is tried shows.
+fn put_mistakes(text: &mut String, job: &Job, findings: &Findings) -> Result<(), AllocError> {
+    put_unmet(text, findings)?;
+    put_overruns(text, &findings.overruns)?;
+    put_unreached(text, job, findings.made)?;
+    put_strangers(text, job, &findings.calls)?;
+    put_uncalled(text, job, &findings.calls)
+}
+
+/// Prints these mistakes, and the room that the queue needs.
+fn print_mistakes<W: Write>(
+    text: &[u8],
+    findings: &Findings,
+    out: &mut W,
+) -> Result<(), CheckFault> {
     if text.is_empty() {
         out.write_all(b"nothing looks like a mistake\n")?;
     } else {
         out.write_all(b"probably a mistake:\n")?;
-        out.write_all(text.as_bytes())?;
+        out.write_all(text)?;
     }
     let room = findings.room;
     writeln!(
         out,
         "queue {room}: with room for so many nothing of this job is refused"
     )?;
+    Ok(())
+}
+
+/// The subaddresses that transmit and were never filled, of the terminals that are there.
+fn put_unfilled(text: &mut String, job: &Job, oddities: &Oddities) -> Result<(), AllocError> {
+    for address in job.addresses() {
+        for sub in 1..31u8 {
+            let first = oddities.unfilled(*address, sub);
+            if first > 0 {
+                write!(
+                    text,
+                    "  terminal {address} transmits from subaddress {sub} in message {first}, and no words were put up there\n"
+                )?;
+            }
+        }
+    }
+    Ok(())
+}
+
+/// The messages that were answered with the message error bit and not sent again.
+fn put_left(text: &mut String, oddities: &Oddities) -> Result<(), AllocError> {
+    let (left, first) = (oddities.left(), oddities.first_left());
+    if left > 0 {
+        write!(
+            text,
+            "  message {first} is the first of {left} that are answered with message_error and not sent again\n"
+        )?;
+    }
     Ok(())
 }
 
@@ -65,6 +132,19 @@ fn put_unmet(text: &mut String, findings: &Findings) -> Result<(), AllocError> {
         }
     }
     Ok(())
+}
+
+/// The frames that took longer than their period: the first of them, and how many there are.
+fn put_overruns(text: &mut String, overruns: &Vec<Overrun>) -> Result<(), AllocError> {
+    let Some(first) = overruns.first() else {
+        return Ok(());
+    };
+    let (number, period, count) = (first.number, period_of(first.hundreds), overruns.len());
+    let (whole, part) = parts_of(first.ticks);
+    write!(
+        text,
+        "  the frame of {period} us that ends behind message {number} is {whole}.{part} us too long, the first of {count}\n"
+    )
 }
 
 /// The placed actions that no message reaches.

@@ -4,14 +4,21 @@
 
 mod calls;
 mod fault;
+mod filling;
 mod findings;
+mod frames;
 mod meeting;
 mod messages;
+mod oddities;
 mod planned;
 mod trying;
 
 pub use calls::Calls;
 pub use fault::CheckFault;
-pub use findings::{Findings, print_findings};
+pub use filling::is_filled;
+pub use findings::{Findings, print_findings, print_summary};
+pub use frames::Overrun;
 pub use meeting::meets;
+pub use messages::Bits;
+pub use oddities::Oddities;
 pub use trying::try_job;

@@ -4,10 +4,20 @@ use bitflags::Flags;
 use frame_text::print;
 use frame_tree::Frame;
 use mil_bus::Talk;
-use mil_status::BlockBits;
+use mil_status::{BlockBits, StatusBit};
 use mil_word::raw_bits;
 use std::alloc::{AllocError, Global};
 use std::fmt::Write;
+
+/// How status words are shown: as four hexadecimal digits alone, or with the names of their bits behind them.
+#[derive(Clone, Copy, Debug, PartialEq, Eq)]
+pub enum Bits {
+    Digits,
+    Names,
+}
+
+/// The bits of a status word that have no terminal address (MIL-STD-1553B 4.3.3.5.3).
+const PLACES: u16 = 11;
 
 /// Puts the line of a message: its number, its time, and its line and form in a script's words.
 pub(crate) fn put_message(
@@ -48,20 +58,49 @@ pub(crate) fn put_action(text: &mut String, one: &Placed) -> Result<(), AllocErr
     write!(text, "at {number} {address} {action}")
 }
 
-/// Puts what a message came to: the first word of each reply, and the bits of the block status word by name.
-pub(crate) fn put_outcome(text: &mut String, talk: &Talk) -> Result<(), AllocError> {
-    text.push_str("  status")?;
+/// Puts the names of the bits of a status word that are set, each behind a space.
+fn put_names(text: &mut String, word: u16) -> Result<(), AllocError> {
+    for count in 0..PLACES {
+        let place = PLACES - 1 - count;
+        if word >> place & 1 == 1 {
+            text.push_str(" ")?;
+            text.push_str(name_at(place))?;
+        }
+    }
+    Ok(())
+}
+
+/// The name of the bit at a place of a status word.
+fn name_at(place: u16) -> &'static str {
+    match StatusBit::at(place) {
+        Some(bit) => bit.name(),
+        None => "reserved",
+    }
+}
+
+/// Puts the first word of each reply, behind a space each.
+fn put_replies(text: &mut String, talk: &Talk, bits: Bits) -> Result<(), AllocError> {
     let mut run = 0u8;
     for sent in talk.sent.as_slice() {
         if sent.run != run {
             let word = raw_bits(sent.wave);
             write!(text, " {word:04X}")?;
+            if bits == Bits::Names {
+                put_names(text, word)?;
+            }
         }
         run = sent.run;
     }
     if run == 0 {
         text.push_str(" none")?;
     }
+    Ok(())
+}
+
+/// Puts what a message came to: the first word of each reply, and the bits of the block status word by name.
+pub(crate) fn put_outcome(text: &mut String, talk: &Talk, bits: Bits) -> Result<(), AllocError> {
+    text.push_str("  status")?;
+    put_replies(text, talk, bits)?;
     text.push_str(", block")?;
     let block = talk.block(&talk.seen());
     for flag in BlockBits::flags() {

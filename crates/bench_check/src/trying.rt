@@ -7,18 +7,29 @@ ghost use Rattle.mil_bus.specs.Exchange.{now_of, talk_start};
 ghost use Rattle.bench_check.specs.Meeting.{meets as is_met};
 ghost use Rattle.bench_check.specs.Unmet as spec;
 ghost use Rattle.bench_check.specs.Rooms.{room_of};
+ghost use Rattle.bench_check.specs.Overruns.{overruns, overruns_at};
 
 use crate::calls::Calls;
 use crate::fault::CheckFault;
 use crate::findings::Findings;
+use crate::frames::{Overrun, note_frame};
 use crate::meeting::meets;
-use crate::messages::{put_actions, put_message, put_outcome};
+use crate::messages::{Bits, put_actions, put_message, put_outcome};
+use crate::oddities::Oddities;
 use crate::planned::put_fault;
-use bc_machine::{Stepped, Upcoming};
+use bc_machine::{Machine, Stepped, Upcoming};
 use job_file::{Job, job_runs};
 use mil_line::{Fault, Plan};
 use std::alloc::{AllocError, Global};
 use std::io::Write;
+
+/// What is told of the messages on the way, and how.
+#[derive(Clone, Copy)]
+struct Told {
+    bits: Bits,
+    calls: Calls,
+    oddities: Oddities,
+}
 
 /// Puts a line for each fault that is planned for a message, and keeps those that meet nothing.
 fn note_faults(
@@ -81,7 +92,7 @@ fn note<W: Write>(
     number: u32,
     coming: &Upcoming,
     unmet: &mut Vec<(u32, Fault)>,
-    calls: &mut Calls,
+    told: &mut Told,
     out: &mut W,
 ) -> Result<(), CheckFault>
     requires clock { now_of coming.now.bus < 2 ^ 60 }
@@ -93,29 +104,58 @@ fn note<W: Write>(
     put_actions(&mut text, number, job.actions())?;
     let faults = job.plan().faults(number);
     note_faults(alloc, &mut text, unmet, number, coming, faults.as_slice())?;
-    put_outcome(&mut text, &coming.talk)?;
-    calls.note(number, &coming.talk.message);
+    put_outcome(&mut text, &coming.talk, told.bits)?;
+    told.calls.note(number, &coming.talk.message);
+    told.oddities.note(number, job.actions(), &coming.talk);
+    out.write_all(text.as_bytes())?;
+    Ok(())
+}
+
+/// Prints the line of a frame that the next step closes, and keeps it where it took longer than its period.
+fn close<W: Write>(
+    alloc: Global,
+    overruns: &mut Vec<Overrun>,
+    machine: &Machine,
+    out: &mut W,
+) -> Result<(), CheckFault>
+    ensures { OnOk result (overruns.new.items ≡ overruns.old.items ++ overruns_at machine.now) }
+{
+    let mut text = String::new(alloc);
+    note_frame(&mut text, overruns, machine)?;
     out.write_all(text.as_bytes())?;
     Ok(())
 }
 
 /// Tries a job: prints each of its messages, with the actions that are placed at it, the faults that are planned for it
-/// and what it comes to; and answers what was found. It fails for want of memory, and where the writer does.
-pub fn try_job<W: Write>(alloc: Global, job: &Job, out: &mut W) -> Result<Findings, CheckFault>
+/// and what it comes to, and behind each frame with a period what time was left of it; and answers what was found. It fails
+/// for want of memory, and where the writer does.
+pub fn try_job<W: Write>(
+    alloc: Global,
+    job: &Job,
+    bits: Bits,
+    out: &mut W,
+) -> Result<Findings, CheckFault>
     ensures made { IfOk result (λ f. f.made ≡ spec.made job.now) }
     ensures unmet { IfOk result (λ f. f.unmet.items ≡ spec.unmet job.now) }
     ensures room { IfOk result (λ f. f.room ≡ room_of job.now) }
+    ensures overruns { IfOk result (λ f. f.overruns.items ≡ overruns job.now) }
 {
     job_runs();
     let room = job.program().worst_messages() + 1;
-    let mut calls = Calls::none();
+    let mut told = Told {
+        bits,
+        calls: Calls::none(),
+        oddities: Oddities::none(),
+    };
     let mut unmet = Vec::new(alloc);
+    let mut overruns = Vec::new(alloc);
     let mut machine = job.machine(alloc, job.actions())?;
     'steps: loop {
+        close(alloc, &mut overruns, &machine, out)?;
         match machine.upcoming()? {
             Some(coming) => {
                 let number = machine.number() + 1;
-                note(alloc, job, number, &coming, &mut unmet, &mut calls, out)?;
+                note(alloc, job, number, &coming, &mut unmet, &mut told, out)?;
                 let _ = machine.step();
             }
             None => match machine.step() {
@@ -127,10 +167,13 @@ pub fn try_job<W: Write>(alloc: Global, job: &Job, out: &mut W) -> Result<Findin
     }
     let made = machine.number();
     add_never_sent(&mut unmet, job.plan(), made)?;
+    told.oddities.finish();
     Ok(Findings {
         made,
         unmet,
-        calls,
+        overruns,
+        calls: told.calls,
+        oddities: told.oddities,
         room,
     })
 }

@@ -1,9 +1,9 @@
 //! `bench check`: jobs tried without a recording.
 
-use bench_check::{CheckFault, print_findings, try_job};
+use bench_check::{Bits, CheckFault, print_findings, print_summary, try_job};
 use bench_core::{Settings, judge};
 use bench_requests::{Fault, jobs_of, read_texts};
-use clap::{Arg, ArgMatches, Command};
+use clap::{Arg, ArgAction, ArgMatches, Command};
 use job_file::Job;
 use std::alloc::{AllocError, Global};
 use std::io;
@@ -18,36 +18,70 @@ word by the names of its bits. Then follows what is probably a mistake: a planne
 action that no message reaches, a message to a terminal that is not there, a terminal that is never called; and how
 much room the queue of `bench run --drop` needs for nothing to be refused.
 
+With --summary the messages are only counted, and what is probably a mistake goes further: a terminal that transmits
+from a subaddress where no words were put up, and messages that are answered with message_error and not sent again.
+
 Example:
-  bench check avionics.job";
+  bench check avionics.job
+  bench check --summary avionics.job stores.job";
 
 /// The command line of `bench check`.
 pub(crate) fn check_command<'a>(alloc: Global) -> Result<Command<'a>, AllocError> {
     let jobs = Arg::new(alloc, "JOB").num_args(0usize..).help(
         "The job of a channel, as a text; 1 to 32 of them, each of another channel",
     );
+    let summary = Arg::new(alloc, "summary")
+        .long("summary")
+        .action(ArgAction::SetTrue)
+        .help("Says only what is probably a mistake, and how many messages there are");
+    let decode = Arg::new(alloc, "decode")
+        .long("decode")
+        .action(ArgAction::SetTrue)
+        .help("Shows the bits of each status word by their names too");
     Command::new(alloc, "check")
         .about("Tries jobs without a recording, and says what is probably a mistake")
         .after_help(CHECK_NOTES)
+        .arg(summary)?
+        .arg(decode)?
         .arg(jobs)
 }
 
-/// The files of the jobs to be tried.
+/// Which jobs are to be tried, and how this is told.
+#[derive(Debug, Drop)]
+pub struct CheckRequest<'a> {
+    /// The files of the jobs.
+    pub jobs: Vec<&'a str>,
+    /// Whether only mistakes and counts are told.
+    pub summary: bool,
+    /// How status words are shown.
+    pub bits: Bits,
+}
+
+/// What `bench check` is asked for.
 pub(crate) fn check_request<'a>(
     alloc: Global,
     given: &ArgMatches<'a>,
-) -> Result<Vec<&'a str>, AllocError> {
+) -> Result<CheckRequest<'a>, AllocError> {
     let mut jobs = Vec::new(alloc);
     jobs.extend_from_slice(given.get_strs("JOB").unwrap_or(&[]))?;
-    Ok(jobs)
+    Ok(CheckRequest {
+        jobs,
+        summary: given.get_flag("summary"),
+        bits: if given.get_flag("decode") {
+            Bits::Names
+        } else {
+            Bits::Digits
+        },
+    })
 }
 
 /// Tries jobs, one after the other, each under a line with the name of its file where there are several. All files
 /// are read and judged before the first job is tried, as for a run.
 pub fn check_jobs<'a, R: Files + AllocGlobal + Print>(
     rt: &R,
-    names: &[&'a str],
+    request: &CheckRequest<'a>,
 ) -> Result<(), Fault<'a>> {
+    let names = request.jobs.as_slice();
     let texts = read_texts(rt, names)?;
     let jobs = jobs_of(rt.alloc(), &texts)?;
     let settings = Settings {
@@ -64,7 +98,7 @@ pub fn check_jobs<'a, R: Files + AllocGlobal + Print>(
         Ok(out) => out,
         Err(error) => return Err(Fault::of_stream("-", &error)),
     };
-    match check_each(rt.alloc(), names, &jobs, &mut out) {
+    match check_each(rt.alloc(), request, &jobs, &mut out) {
         Ok(()) => {}
         Err(CheckFault::Memory) => return Err(Fault::Memory),
         Err(CheckFault::Device) => return Err(Fault::Device("-")),
@@ -78,19 +112,17 @@ pub fn check_jobs<'a, R: Files + AllocGlobal + Print>(
 /// Tries each job, and prints the room that all of them need together where there are several.
 fn check_each<W: Write>(
     alloc: Global,
-    names: &[&str],
+    request: &CheckRequest<'_>,
     jobs: &[Job],
     out: &mut W,
 ) -> Result<(), CheckFault> {
     let several = jobs.len() > 1;
     let mut room = 0u64;
-    for (name, job) in names.iter().zip(jobs) {
+    for (name, job) in request.jobs.iter().zip(jobs) {
         if several {
             writeln!(out, "{name}")?;
         }
-        let findings = try_job(alloc, job, out)?;
-        print_findings(alloc, job, &findings, out)?;
-        room = room.saturating_add(findings.room);
+        room = room.saturating_add(check_one(alloc, request, job, out)?);
     }
     if several {
         writeln!(
@@ -99,4 +131,21 @@ fn check_each<W: Write>(
         )?;
     }
     Ok(())
+}
+
+/// Tries a job, and answers how much room it needs.
+fn check_one<W: Write>(
+    alloc: Global,
+    request: &CheckRequest<'_>,
+    job: &Job,
+    out: &mut W,
+) -> Result<u64, CheckFault> {
+    if request.summary {
+        let findings = try_job(alloc, job, request.bits, &mut io::sink())?;
+        print_summary(alloc, job, &findings, out)?;
+        return Ok(findings.room);
+    }
+    let findings = try_job(alloc, job, request.bits, out)?;
+    print_findings(alloc, job, &findings, out)?;
+    Ok(findings.room)
 }

@@ -1,15 +1,16 @@
 //! The command line of `bench`: its commands, their arguments with their ranges, and their help.
 
-use crate::checking::{check_command, check_request};
+use crate::checking::{CheckRequest, check_command, check_request};
 use crate::completed_run::{Completing, completing_in};
 use crate::completing::{CompleteRequest, complete_command, complete_request};
 use crate::context::{Context, context_in, context_option};
 use crate::decoding::{DecodeRequest, asks_for_messages, decode_request, with_decoding};
+use crate::exporting::{ExportRequest, export_command, export_request};
 use crate::judging::{JudgeRequest, judge_command, judge_request};
-use crate::looking_line::{
-    draw_command, draw_request, explain_command, explain_request, export_command, stat_command,
-};
+use crate::looking_line::{draw_command, draw_request, explain_command, explain_request};
 use crate::run_line::{run_command, run_request};
+use crate::selecting::GivenSelection;
+use crate::statistics::{StatRequest, stat_command, stat_request};
 use bench_requests::{Fault, RunRequest};
 use clap::error::ErrorKind;
 use clap::{Arg, ArgAction, ArgMatches, Command, Error, value_parser};
@@ -42,30 +43,23 @@ pub enum Request<'a> {
         request: RunRequest<'a>,
         completing: Option<Completing<'a>>,
     },
-    /// The packets and messages of a recording, printed as lines, or with `skip` whatever is sound of it.
+    /// The packets and messages of a recording, printed as lines, or with `skip` whatever is sound of it; with `times` the time of
+    /// day behind each stamp.
     Dump {
         recording: &'a str,
         skip: bool,
+        times: bool,
     },
     /// The messages of a recording, or some of them, printed as lines.
     Decode(DecodeRequest<'a>),
     /// Jobs, tried without a recording.
-    Check {
-        jobs: Vec<&'a str>,
-    },
+    Check(CheckRequest<'a>),
     /// A recording, walked through by lines of the standard input.
     Step(StepRequest<'a>),
     /// The figures of a recording: aligned for people, or as rows of comma-separated values.
-    Stat {
-        recording: &'a str,
-        rows: bool,
-    },
-    /// The messages of a recording, written to a file as rows of comma-separated values.
-    Export {
-        recording: &'a str,
-        out: &'a str,
-        force: bool,
-    },
+    Stat(StatRequest<'a>),
+    /// The messages of a recording, written to a file for other programs.
+    Export(ExportRequest<'a>),
     /// The messages of a recording over time, written to a file as a picture.
     Draw(DrawRequest<'a>),
     /// A recording, made into the file that other tools expect.
@@ -85,12 +79,8 @@ pub struct DrawRequest<'a> {
     pub recording: &'a str,
     /// The file to write the picture to.
     pub out: &'a str,
-    /// The only channel to draw, if not all.
-    pub channel: Option<u16>,
-    /// The number of the first message to draw, counted from 1 over the file.
-    pub from: u32,
-    /// The number of the last one.
-    pub to: u32,
+    /// Which of its messages.
+    pub selection: GivenSelection<'a>,
     /// Whether a file of another kind may be replaced.
     pub force: bool,
 }
@@ -128,26 +118,18 @@ fn request_in<'a>(alloc: Global, matches: &ArgMatches<'a>) -> Result<Request<'a>
             request: run_request(alloc, given)?,
             completing: completing_in(given),
         },
-        Some(("check", given)) => Request::Check {
-            jobs: check_request(alloc, given)?,
-        },
+        Some(("check", given)) => Request::Check(check_request(alloc, given)?),
         Some(("dump", given)) if asks_for_messages(given) => {
             Request::Decode(decode_request(given))
         }
         Some(("dump", given)) => Request::Dump {
             recording: given.get_str("RECORDING").unwrap_or(""),
             skip: given.get_flag("skip"),
+            times: given.get_flag("time"),
         },
         Some(("step", given)) => Request::Step(step_request(alloc, given)?),
-        Some(("stat", given)) => Request::Stat {
-            recording: given.get_str("RECORDING").unwrap_or(""),
-            rows: given.get_flag("csv"),
-        },
-        Some(("export", given)) => Request::Export {
-            recording: given.get_str("RECORDING").unwrap_or(""),
-            out: given.get_str("out").unwrap_or(""),
-            force: given.get_flag("force"),
-        },
+        Some(("stat", given)) => Request::Stat(stat_request(given)),
+        Some(("export", given)) => Request::Export(export_request(given)),
         Some(("draw", given)) => Request::Draw(draw_request(given)),
         Some(("complete", given)) => Request::Complete(complete_request(given)),
         Some(("explain", given)) => Request::Explain {
@@ -249,14 +231,39 @@ the second.
 A recording with a fault is refused, and nothing is shown, unless --skip is given: then a line
 `skipped OFFSET length LENGTH FAULT` stands in the place of the bytes that are no packet.
 
+With --time each stamp is followed by its time of day, ` time YYYY-MM-DDTHH:MM:SS.fffffff` (UTC), by the last
+time packet at or before it. A recording without time packets, as `bench complete --time` writes them, has none.
+
 With --decode each message is a line as people read it, with its time in seconds, its number in the file and in
-its channel, its form, status words, data words and errors by name; packets have no line. --channel, --line,
---errors, --from and --to show some messages alone, numbered as in the file, decoded or not.
+its channel, its form, status words, data words and errors by name; packets have no line. --channel, --line, --only,
+--errors, --from and --to show some messages alone, numbered as in the file, decoded or not. --by-time shows them
+in the order of their time stamps, all channels together, those of one stamp in the file's order.
+
+  SELECTOR  any, rx A S, tx A S, rt A S A S (sender first), mode A C, brx S, brt A S S (sender first), bmode C
+            address A, subaddress S, mode code C: a number, or * for any
+  BOUND     the number of a message in the file, as 7, or a time, as 1.2s, 350ms or 12us, down to 0.1us
 
 Example:
   bench dump flight.ch11
   bench dump --skip cut.ch11
-  bench dump --decode --errors --channel 2 flight.ch11";
+  bench dump --decode --errors --channel 2 flight.ch11
+  bench dump --decode --by-time --only \"tx 5 3\" --from 1.2s flight.ch11";
+
+/// The option for times of day, which lines of decoded and of chosen messages do not have.
+fn times<'a>(alloc: Global) -> Result<Arg<'a>, AllocError> {
+    Arg::new(alloc, "time")
+        .long("time")
+        .action(ArgAction::SetTrue)
+        .help("Shows the time of day behind each time stamp, by the recording's time packets")
+        .conflicts_with("decode")?
+        .conflicts_with("by-time")?
+        .conflicts_with("channel")?
+        .conflicts_with("line")?
+        .conflicts_with("only")?
+        .conflicts_with("errors")?
+        .conflicts_with("from")?
+        .conflicts_with("to")
+}
 
 fn dump_command<'a>(alloc: Global) -> Result<Command<'a>, AllocError> {
     let skip = Arg::new(alloc, "skip")
@@ -270,6 +277,7 @@ fn dump_command<'a>(alloc: Global) -> Result<Command<'a>, AllocError> {
         .about("Shows the packets and messages of a recording, or its first fault")
         .after_help(DUMP_NOTES)
         .arg(skip)?
+        .arg(times(alloc)?)?
         .arg(recording)?;
     with_decoding(alloc, command)
 }

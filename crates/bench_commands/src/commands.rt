@@ -5,14 +5,16 @@ use crate::command_line::{self, Asked, Request};
 use crate::completing::complete_recording;
 use crate::decoding::show_messages;
 use crate::explaining::show_explanations;
+use crate::exporting::export_recording;
 use crate::given_words::{word_at_fault, words_of};
 use crate::judging::judge_recording;
-use crate::looking::{draw_picture, export_rows, show_statistics, tell_of_loss};
+use crate::looking::{draw_picture, tell_of_loss};
 use crate::pointing::point;
 use crate::recording::run_jobs;
+use crate::statistics::show_statistics;
 use crate::stepping::step_through;
 use bench_assemble::{AssembleFault, Sizes, assemble_text, print_sizes};
-use bench_dump::{DumpFault, dump};
+use bench_dump::{DumpFault, dump, dump_with_times};
 use bench_files::{Hold, Kind, leads_to_output};
 use bench_one::{OneFault, one, print_bytes};
 use bench_requests::{Fault, read_whole, replaceable, told_apart, write_new};
@@ -132,18 +134,18 @@ where
             request,
             completing,
         } => run_jobs(rt, errors, request, completing.as_ref()),
-        Request::Check { jobs } => check_jobs(rt, jobs),
-        Request::Dump { recording, skip } => show(rt, errors, recording, *skip),
+        Request::Check(request) => check_jobs(rt, request),
+        Request::Dump {
+            recording,
+            skip,
+            times,
+        } => show(rt, errors, recording, *skip, *times),
         Request::Decode(request) => show_messages(rt, errors, request),
         Request::Step(request) => {
             step_through(rt, errors, request, asked.context.is_shown(errors))
         }
-        Request::Stat { recording, rows } => show_statistics(rt, errors, recording, *rows),
-        Request::Export {
-            recording,
-            out,
-            force,
-        } => export_rows(rt, recording, out, *force),
+        Request::Stat(request) => show_statistics(rt, errors, request),
+        Request::Export(request) => export_recording(rt, request),
         Request::Draw(request) => draw_picture(rt, request),
         Request::Complete(request) => complete_recording(rt, errors, request),
         Request::Explain { codes } => show_explanations(rt, codes),
@@ -215,9 +217,15 @@ fn show<'a, R: Files + AllocGlobal + Print, E: Eprint + IsTerminal>(
     errors: &E,
     recording: &'a str,
     skip: bool,
+    times: bool,
 ) -> Result<(), Fault<'a>> {
     let bytes = read_whole(rt, recording)?;
-    match dump(rt.alloc(), bytes.as_slice(), &mut io::writer(rt), skip) {
+    let printed = if times {
+        dump_with_times(rt.alloc(), bytes.as_slice(), &mut io::writer(rt), skip)
+    } else {
+        dump(rt.alloc(), bytes.as_slice(), &mut io::writer(rt), skip)
+    };
+    match printed {
         Ok(()) => {
             tell_of_loss(rt, errors, bytes.as_slice());
             Ok(())

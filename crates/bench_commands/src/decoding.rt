@@ -2,10 +2,12 @@
 
 use crate::judging::is_for_people;
 use crate::looking::tell_of_loss;
-use bench_decode::{Bus, Output, Selection, Shown, decode};
+use crate::selecting::{GivenSelection, given_selection, selection_in, with_selection};
+use bench_decode::{Output, Shown, decode};
 use bench_dump::DumpFault;
 use bench_requests::{Fault, read_whole};
-use clap::{Arg, ArgAction, ArgMatches, Command, value_parser};
+use bench_select::Selection;
+use clap::{Arg, ArgAction, ArgMatches, Command};
 use std::alloc::{AllocError, Global};
 use std::io::{self, IsTerminal};
 use std::rt::{Env, Files};
@@ -16,14 +18,16 @@ pub struct DecodeRequest<'a> {
     /// The file of the recording.
     pub recording: &'a str,
     /// Which of its messages.
-    pub selection: Selection,
+    pub selection: GivenSelection<'a>,
     /// Whether as people read them, or else as in any dump.
     pub decoded: bool,
     /// Whether a damaged recording is shown as far as it is sound.
     pub skip: bool,
+    /// Whether in the order of their stamps, or else in the file's.
+    pub by_time: bool,
 }
 
-/// The command line of `bench dump` with `--decode` and the selection of messages.
+/// The command line of `bench dump` with `--decode`, `--by-time` and the selection of messages.
 pub(crate) fn with_decoding<'a>(
     alloc: Global,
     command: Command<'a>,
@@ -33,29 +37,13 @@ pub(crate) fn with_decoding<'a>(
         "decode",
         "Shows each message as people read it, on one line",
     );
-    let errors = flag(alloc, "errors", "Shows only messages with an error");
-    let channel = Arg::new(alloc, "channel")
-        .long("channel")
-        .value_name("N")
-        .value_parser(value_parser!(u16).range(1..=65535))
-        .allow_negative_numbers(true)
-        .help("Shows only messages of this channel, 1 to 65535");
-    let line = Arg::new(alloc, "line")
-        .long("line")
-        .value_name("LINE")
-        .value_parser(["A", "B"].as_slice())
-        .help("Shows only messages on this line (bus)");
-    command
-        .arg(decode)?
-        .arg(channel)?
-        .arg(line)?
-        .arg(errors)?
-        .arg(bound(
-            alloc,
-            "from",
-            "Shows no message before this one, by its number in the file",
-        ))?
-        .arg(bound(alloc, "to", "Shows no message behind this one"))
+    let by_time = flag(
+        alloc,
+        "by-time",
+        "Shows messages of all channels in the order of their time stamps",
+    );
+    let command = command.arg(decode)?.arg(by_time)?;
+    with_selection(alloc, command)
 }
 
 fn flag<'a>(alloc: Global, name: &'a str, help: &'a str) -> Arg<'a> {
@@ -65,49 +53,19 @@ fn flag<'a>(alloc: Global, name: &'a str, help: &'a str) -> Arg<'a> {
         .help(help)
 }
 
-/// An option with the number of a message.
-fn bound<'a>(alloc: Global, name: &'a str, help: &'a str) -> Arg<'a> {
-    Arg::new(alloc, name)
-        .long(name)
-        .value_name("N")
-        .value_parser(value_parser!(u32).range(1..=4_294_967_295))
-        .allow_negative_numbers(true)
-        .help(help)
-}
-
-/// Whether `bench dump` is asked for messages alone: decoded, or some of them.
+/// Whether `bench dump` is asked for messages alone: decoded, by time, or some of them.
 pub(crate) fn asks_for_messages(given: &ArgMatches<'_>) -> bool {
-    given.get_flag("decode") || selection_in(given) != Selection::all()
-}
-
-fn selection_in(given: &ArgMatches<'_>) -> Selection {
-    let all = Selection::all();
-    Selection {
-        channel: given.get_one::<u16>("channel"),
-        line: match given.get_str("line") {
-            Some("A") => Some(Bus::A),
-            Some(_) => Some(Bus::B),
-            None => None,
-        },
-        errors: given.get_flag("errors"),
-        from: match given.get_one::<u32>("from") {
-            Some(number) => u64::from(number),
-            None => all.from,
-        },
-        to: match given.get_one::<u32>("to") {
-            Some(number) => u64::from(number),
-            None => all.to,
-        },
-    }
+    given.get_flag("decode") || given.get_flag("by-time") || !given_selection(given).is_empty()
 }
 
 /// What `bench dump` is asked for.
 pub(crate) fn decode_request<'a>(given: &ArgMatches<'a>) -> DecodeRequest<'a> {
     DecodeRequest {
         recording: given.get_str("RECORDING").unwrap_or(""),
-        selection: selection_in(given),
+        selection: given_selection(given),
         decoded: given.get_flag("decode"),
         skip: given.get_flag("skip"),
+        by_time: given.get_flag("by-time"),
     }
 }
 
@@ -118,9 +76,10 @@ pub(crate) fn show_messages<'a, R: Env + Files + AllocGlobal + Print, E: Eprint 
     errors: &E,
     request: &DecodeRequest<'a>,
 ) -> Result<(), Fault<'a>> {
+    let selection = selection_in(&request.selection)?;
     let bytes = read_whole(rt, request.recording)?;
     let output = Output {
-        selection: request.selection,
+        selection,
         decoded: request.decoded,
         shown: if request.decoded && is_for_people(rt) {
             Shown::Colored
@@ -128,9 +87,10 @@ pub(crate) fn show_messages<'a, R: Env + Files + AllocGlobal + Print, E: Eprint 
             Shown::Plain
         },
         skip: request.skip,
+        by_time: request.by_time,
     };
     match decode(rt.alloc(), bytes.as_slice(), &mut io::writer(rt), &output) {
-        Ok(0) if request.selection != Selection::all() => Err(Fault::NoneSelected),
+        Ok(0) if selection != Selection::all() => Err(Fault::NoneSelected),
         Ok(_) => {
             tell_of_loss(rt, errors, bytes.as_slice());
             Ok(())

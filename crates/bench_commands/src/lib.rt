@@ -11,6 +11,7 @@ mod context;
 mod decoding;
 mod differing;
 mod explaining;
+mod exporting;
 mod given_words;
 mod judged_run;
 mod judging;
@@ -22,6 +23,8 @@ mod reasoning;
 mod recording;
 mod refusing;
 mod run_line;
+mod selecting;
+mod statistics;
 mod stepping;
 
 pub use commands::run;

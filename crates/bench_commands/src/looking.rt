@@ -1,41 +1,15 @@
-//! `bench stat`, `bench export` and `bench draw`: what there is to see in a recording.
+//! `bench draw`: what there is to see in a recording, and whether messages are missing from it.
 
 use crate::command_line::DrawRequest;
-use bench_draw::{Selection, draw};
-use bench_export::{ExportFault, export};
+use crate::selecting::selection_in;
+use bench_clock::Clock;
+use bench_draw::draw;
 use bench_files::{Hold, Kind};
-use bench_requests::{
-    Fault, begin, put_in_place, read_whole, replaceable, tells_of_loss, told_apart, write_new,
-    writer_of,
-};
-use bench_stat::{ChannelFigures, print_rows, print_statistics, stat};
+use bench_requests::{Fault, read_whole, replaceable, tells_of_loss, told_apart, write_new};
 use ch11_reader::{Index, ReadError};
 use std::alloc::Global;
-use std::io;
-use std::io::{BufWriter, IsTerminal, Write};
+use std::io::IsTerminal;
 use std::rt::Files;
-
-/// Prints the figures of a recording, aligned for people or as rows of comma-separated values.
-pub fn show_statistics<'a, R: Files + AllocGlobal + Print, E: Eprint + IsTerminal>(
-    rt: &R,
-    errors: &E,
-    recording: &'a str,
-    rows: bool,
-) -> Result<(), Fault<'a>> {
-    let bytes = read_whole(rt, recording)?;
-    let figures = match stat(rt.alloc(), bytes.as_slice()) {
-        Ok(figures) => figures,
-        Err(ReadError::Refused(refusal)) => return Err(Fault::Recording(refusal)),
-        Err(ReadError::Memory) => return Err(Fault::Memory),
-    };
-    match print_figures(rt, figures.as_slice(), rows) {
-        Ok(()) => {
-            tell_of_loss(rt, errors, bytes.as_slice());
-            Ok(())
-        }
-        Err(error) => Err(Fault::of_stream("-", &error)),
-    }
-}
 
 /// Says on a terminal that messages are missing from a recording, where its packets say so; of a damaged one those
 /// that are sound.
@@ -58,65 +32,8 @@ pub(crate) fn is_lossy<R: AllocGlobal>(rt: &R, bytes: &[u8]) -> bool {
     }
 }
 
-fn print_figures<R: AllocGlobal + Print>(
-    rt: &R,
-    figures: &[ChannelFigures],
-    rows: bool,
-) -> io::Result<()> {
-    let mut out = BufWriter::new(rt.alloc(), io::writer(rt))?;
-    if rows {
-        print_rows(&mut out, figures)?;
-    } else {
-        print_statistics(&mut out, figures)?;
-    }
-    out.flush()
-}
-
-/// Writes the messages of a recording as rows of comma-separated values. The out file takes the place of what is there
-/// once it is whole; it may not be the recording itself.
-pub fn export_rows<'a, R: Files + AllocGlobal>(
-    rt: &R,
-    recording: &'a str,
-    out: &'a str,
-    force: bool,
-) -> Result<(), Fault<'a>>
-where
-    R::File: Hold,
-{
-    told_apart(rt, &[out], &[recording])?;
-    replaceable(rt, out, Kind::Rows, force)?;
-    let bytes = read_whole(rt, recording)?;
-    let index = index_of(rt.alloc(), bytes.as_slice())?;
-    let mut file = begin(rt, out, Kind::Rows, force)?;
-    let answer = match writer_of(rt, out, &mut file) {
-        Ok(writer) => write_rows(rt.alloc(), &index, out, writer),
-        Err(fault) => Err(fault),
-    };
-    match answer {
-        Ok(()) => put_in_place(rt, out, file),
-        Err(fault) => {
-            file.give_up(rt);
-            Err(fault)
-        }
-    }
-}
-
-/// Writes the rows of a recording to the out file of this name.
-fn write_rows<'a, W: Write + Drop>(
-    alloc: Global,
-    index: &Index<'_>,
-    out: &'a str,
-    writer: W,
-) -> Result<(), Fault<'a>> {
-    match export(alloc, index, writer) {
-        Ok(_) => Ok(()),
-        Err(ExportFault::Memory) => Err(Fault::Memory),
-        Err(ExportFault::Device) => Err(Fault::Device(out)),
-    }
-}
-
 /// The packets of a recording, or why it is refused.
-fn index_of<'a, 'b>(alloc: Global, recording: &'b [u8]) -> Result<Index<'b>, Fault<'a>> {
+pub(crate) fn index_of<'a, 'b>(alloc: Global, recording: &'b [u8]) -> Result<Index<'b>, Fault<'a>> {
     match Index::build(alloc, recording) {
         Ok(index) => Ok(index),
         Err(ReadError::Refused(refusal)) => Err(Fault::Recording(refusal)),
@@ -125,7 +42,8 @@ fn index_of<'a, 'b>(alloc: Global, recording: &'b [u8]) -> Result<Index<'b>, Fau
 }
 
 /// Writes the messages of a recording, or those that were selected, as a picture. The out file takes the place of what
-/// is there once it is whole; it may not be the recording itself.
+/// is there once it is whole; it may not be the recording itself. Where a selection has no message, nothing is written, and
+/// that is said.
 pub fn draw_picture<'a, R: Files + AllocGlobal>(
     rt: &R,
     request: &DrawRequest<'a>,
@@ -133,21 +51,21 @@ pub fn draw_picture<'a, R: Files + AllocGlobal>(
 where
     R::File: Hold,
 {
+    let selection = selection_in(&request.selection)?;
     told_apart(rt, &[request.out], &[request.recording])?;
     replaceable(rt, request.out, Kind::Picture, request.force)?;
     let bytes = read_whole(rt, request.recording)?;
     let index = index_of(rt.alloc(), bytes.as_slice())?;
-    let selection = Selection {
-        channel: request.channel,
-        from: u64::from(request.from),
-        to: u64::from(request.to),
-    };
-    let picture = draw(rt.alloc(), &index, &selection)?;
+    let clock = Clock::of(rt.alloc(), bytes.as_slice(), index.packets())?;
+    let drawing = draw(rt.alloc(), &index, &selection, &clock)?;
+    if drawing.messages == 0 && !request.selection.is_empty() {
+        return Err(Fault::NoneSelected);
+    }
     write_new(
         rt,
         request.out,
         Kind::Picture,
         request.force,
-        picture.as_slice(),
+        drawing.text.as_slice(),
     )
 }

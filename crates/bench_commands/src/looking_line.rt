@@ -1,46 +1,18 @@
-//! The command line of the commands for people who look: `bench stat`, `bench export`, `bench draw` and `bench
-//! explain`.
+//! The command line of the commands for people who look: `bench draw` and `bench explain`.
 
 use crate::command_line::{DrawRequest, file, force};
-use clap::{Arg, ArgAction, ArgMatches, Command, value_parser};
+use crate::selecting::{given_selection, with_selection};
+use clap::{Arg, ArgAction, ArgMatches, Command};
 use std::alloc::{AllocError, Global};
-
-/// The command line of `bench stat`.
-pub(crate) fn stat_command<'a>(alloc: Global) -> Result<Command<'a>, AllocError> {
-    let recording = Arg::new(alloc, "RECORDING")
-        .required(true)
-        .help("The Chapter 11 file to count in");
-    let rows = Arg::new(alloc, "csv")
-        .long("csv")
-        .action(ArgAction::SetTrue)
-        .help("One row of comma-separated values a terminal");
-    Command::new(alloc, "stat")
-        .about("Shows bus load, errors, retries and response times of a recording")
-        .after_help("Example:\n  bench stat flight.ch11")
-        .arg(rows)?
-        .arg(recording)
-}
-
-/// The command line of `bench export`.
-pub(crate) fn export_command<'a>(alloc: Global) -> Result<Command<'a>, AllocError> {
-    let recording = Arg::new(alloc, "RECORDING")
-        .required(true)
-        .help("The Chapter 11 file to export");
-    let out = file(alloc, "out", "The file to write the rows to").required(true);
-    Command::new(alloc, "export")
-        .about("Writes one row of comma-separated values a message")
-        .after_help("Example:\n  bench export flight.ch11 --out flight.csv")
-        .arg(recording)?
-        .arg(out)?
-        .arg(force(alloc))
-}
 
 /// What the help of `bench draw` ends with.
 const DRAW_NOTES: &str = "\
 Each channel has a lane for bus A and one for bus B. Over the time that a message took stand its command words
-with the terminal that they call, its data words, and the status words with the terminal that answered; a red
-mark above stands for an error and its kind. Messages that are too close for that are drawn as one shade, the
-darker the busier; --from and --to show a part of them. A browser shows the line of `bench dump` at each bar.
+with the terminal that they call, its data words, and the status words with the terminal that answered; over it
+its number, the address, R to receive or T to transmit and the subaddress; a red mark stands for an error and its
+kind. Of up to 24 messages all are labelled, of more those that have the room. Where messages are too close for
+that, the load of the line in percent is drawn; --from and --to show a part of them. Where the mouse rests on a
+bar, a browser shows the message decoded.
 
 Example:
   bench draw flight.ch11 --out flight.svg
@@ -51,46 +23,22 @@ pub(crate) fn draw_command<'a>(alloc: Global) -> Result<Command<'a>, AllocError>
     let recording = Arg::new(alloc, "RECORDING")
         .required(true)
         .help("The Chapter 11 file to draw");
-    let channel = Arg::new(alloc, "channel")
-        .long("channel")
-        .value_name("N")
-        .value_parser(value_parser!(u16).range(1..=65535))
-        .allow_negative_numbers(true)
-        .help("Draws this channel alone, 1 to 65535");
     let out = file(alloc, "out", "The file to write the picture to, as SVG").required(true);
-    Command::new(alloc, "draw")
+    let command = Command::new(alloc, "draw")
         .about("Draws the messages of a recording over time, as a picture for a browser")
         .after_help(DRAW_NOTES)
         .arg(recording)?
         .arg(out)?
-        .arg(channel)?
-        .arg(force(alloc))?
-        .arg(bound(
-            alloc,
-            "from",
-            "Draws no message before this one, by its number in the file",
-        ))?
-        .arg(bound(alloc, "to", "Draws no message behind this one"))
+        .arg(force(alloc))?;
+    with_selection(alloc, command)
 }
 
-/// An option with the number of a message.
-fn bound<'a>(alloc: Global, name: &'a str, help: &'a str) -> Arg<'a> {
-    Arg::new(alloc, name)
-        .long(name)
-        .value_name("N")
-        .value_parser(value_parser!(u32).range(1..=4_294_967_295))
-        .allow_negative_numbers(true)
-        .help(help)
-}
-
-/// What `bench draw` is asked for: a whole recording, all channels, where the line does not say.
+/// What `bench draw` is asked for.
 pub(crate) fn draw_request<'a>(given: &ArgMatches<'a>) -> DrawRequest<'a> {
     DrawRequest {
         recording: given.get_str("RECORDING").unwrap_or(""),
         out: given.get_str("out").unwrap_or(""),
-        channel: given.get_one::<u16>("channel"),
-        from: given.get_one::<u32>("from").unwrap_or(1),
-        to: given.get_one::<u32>("to").unwrap_or(4_294_967_295),
+        selection: given_selection(given),
         force: given.get_flag("force"),
     }
 }

@@ -100,7 +100,7 @@ fn particular<R: Files + AllocGlobal>(
 fn jobs_in<'r, 'a>(request: &'r Request<'a>) -> &'r [&'a str] {
     match request {
         Request::Run { request: run, .. } => run.jobs.as_slice(),
-        Request::Check { jobs } => jobs.as_slice(),
+        Request::Check(request) => request.jobs.as_slice(),
         Request::Step(step) => step.jobs.as_slice(),
         _ => &[],
     }

@@ -18,11 +18,16 @@ pub(crate) fn refusal_of<R: Files + AllocGlobal>(
         (WorldError::Settings, Request::Run { request: run, .. }) => Ok(Some(setting_at_fault(
             rt, run,
         )?)),
-        (WorldError::Settings, Request::Check { jobs }) => Ok(Some(count_of_jobs(rt, jobs.len())?)),
+        (WorldError::Settings, Request::Check(request)) => {
+            Ok(Some(count_of_jobs(rt, request.jobs.len())?))
+        }
         (WorldError::ChannelTwice, Request::Run { request: run, .. }) => jobs_of_one_channel(
             rt, &run.jobs,
         ),
-        (WorldError::ChannelTwice, Request::Check { jobs }) => jobs_of_one_channel(rt, jobs),
+        (WorldError::ChannelTwice, Request::Check(request)) => jobs_of_one_channel(
+            rt,
+            &request.jobs,
+        ),
         _ => Ok(None),
     }
 }

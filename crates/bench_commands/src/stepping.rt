@@ -67,6 +67,7 @@ where
     R::Reader: IsTerminal,
 {
     let lines = Prompted::begin(rt.reader(), errors);
+    let manner = lines.manner();
     let mut input = match BufReader::new(rt.alloc(), lines) {
         Ok(input) => input,
         Err(error) => return Err(Fault::of_stream("-", &error)),
@@ -75,7 +76,15 @@ where
         Ok(out) => Explained::begin(out, errors, explains),
         Err(error) => return Err(Fault::of_stream("-", &error)),
     };
-    match step(rt.alloc(), jobs, report, recording, &mut input, &mut out) {
+    match step(
+        rt.alloc(),
+        manner,
+        jobs,
+        report,
+        recording,
+        &mut input,
+        &mut out,
+    ) {
         Ok(()) => Ok(()),
         Err(fault) => Err(Fault::of_step(&fault)),
     }

@@ -8,8 +8,8 @@ use Rattle.ch11_header.specs.HeaderReading.{with_lawful_lengths}
 use Rattle.ch11_header.proofs.Again.{read_again}
 use Rattle.ch11_reader.specs.Recording.{packet_at}
 use Rattle.bench_complete.specs.declared.times.Times.{Times}
-use Rattle.bench_complete.specs.Calendar.{day_numbered}
-use Rattle.bench_complete.specs.TimePackets.{time_body, time_header, time_piece, times_from}
+use Rattle.bench_clock.specs.TimeBody.{body_of}
+use Rattle.bench_complete.specs.TimePackets.{time_header, time_piece, times_from}
 use Rattle.bench_complete.specs.SetupRecord.{filler_for, setup_header, setup_piece}
 use Rattle.bench_complete.proofs.Again.{IsWhole, AreWhole}
 
@@ -36,7 +36,7 @@ time_size t second = refl
 time_read : (t : Times) (second : ℕ) → second < 28147498 → t.channel < 2 ^ 16 → t.version < 2 ^ 8 → packet_at (time_piece t second).bytes ≡ Ok (time_header t second)
 unfolding packet_at
 time_read t second small channel version =
-    let header = read_again (time_header t second) (time_body (day_numbered ((t.start + second) / 86400)) ((t.start + second) % 86400)) (time_fits t second small channel version) (time_lawful t second) in
+    let header = read_again (time_header t second) (body_of (t.start + second)) (time_fits t second small channel version) (time_lawful t second) in
     rw (header, time_size t second) refl
 
 pub times_whole : (t : Times) (count second : ℕ) → second + count ≤ 28147498 → t.channel < 2 ^ 16 → t.version < 2 ^ 8 → AreWhole (times_from t count second)

@@ -7,7 +7,6 @@ pub mod Extents
 pub mod Sound
 pub mod Unique
 pub mod Planned
-pub mod Days
 pub mod Alone
 pub mod Again
 pub mod Added

@@ -1,6 +1,5 @@
 pub mod Pieces
 pub mod Merging
-pub mod Calendar
 pub mod TimePackets
 pub mod SetupRecord
 pub mod Complete

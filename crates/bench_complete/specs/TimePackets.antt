@@ -1,23 +1,10 @@
--- Time packets (IRIG 106-17 Chapter 11, time data packets, Format 1; the layout of the body is a profile of ours).
-use Rattle.std.specs.Prelude.{ℕ, zero, suc, ◌+◌, ◌-◌, ◌*◌, ◌/◌, ◌%◌, if◌then◌else◌, pos, List, [], ◌∷◌, ◌++◌}
-use Rattle.jiff_core.specs.Calendar.{is_leap_year}
+-- Time packets (IRIG 106-17 Chapter 11, time data packets, Format 1).
+use Rattle.std.specs.Prelude.{ℕ, zero, suc, ◌+◌, ◌-◌, ◌*◌, ◌%◌, List, [], ◌∷◌, ◌++◌}
 use Rattle.ch11_header.specs.declared.header.Header.{Header}
 use Rattle.ch11_header.specs.HeaderBytes.{header_bytes}
 use Rattle.bench_complete.specs.declared.times.Times.{Times}
 use Rattle.bench_complete.specs.Pieces.{Piece}
-use Rattle.bench_complete.specs.Calendar.{Day, day_numbered}
-
--- a number below 100 as binary coded decimals: the tens in bits 7 to 4
-abbrev pub two_digits : ℕ → ℕ
-two_digits n = n / 10 * 16 + n % 10
-
--- a day and a second of it: time source 0 (bits 3 to 0), format 3 (bits 7 to 4), bit 8 a leap year, bit 9 day and month; then
--- hundredths, seconds, minutes, hours, day, month, and the year's last two and first two digits
-abbrev pub time_body : Day → ℕ → List ℕ
-time_body d second =
-    0x30 ∷ (if is_leap_year (pos d.year) then 3 else 2) ∷ 0 ∷ 0
-    ∷ 0 ∷ two_digits (second % 60) ∷ two_digits (second / 60 % 60) ∷ two_digits (second / 3600)
-    ∷ two_digits d.day ∷ two_digits d.month ∷ two_digits (d.year % 100) ∷ two_digits (d.year / 100) ∷ []
+use Rattle.bench_clock.specs.TimeBody.{body_of}
 
 abbrev pub time_header : Times → ℕ → Header
 time_header t second = record {
@@ -35,7 +22,7 @@ time_header t second = record {
 abbrev pub time_piece : Times → ℕ → Piece
 time_piece t second = record {
   header = time_header t second;
-  bytes = header_bytes (time_header t second) ++ time_body (day_numbered ((t.start + second) / 86400)) ((t.start + second) % 86400);
+  bytes = header_bytes (time_header t second) ++ body_of (t.start + second);
 }
 
 -- the time packets of so many seconds from one on

@@ -3,7 +3,6 @@
 #![tactic(auto)]
 
 mod additions;
-mod bcd;
 mod completion;
 mod extent;
 mod fault;

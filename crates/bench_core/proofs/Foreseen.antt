@@ -1,5 +1,5 @@
 -- Actions that are placed at messages to come change none of a job's messages so far.
-use Rattle.std.proofs.Common.{◌≡◌, ℕ, zero, suc, ◌+◌, ◌<◌, ◌≤◌, ◌⊎◌, inl, inr, Bool, true, false, cond, eqb, ne_eqb, List, [], ◌∷◌, ◌++◌, take, refl, sym, ap, ◌∙◌, ⊎_elim, subst, arith}
+use Rattle.std.proofs.Common.{◌≡◌, ℕ, zero, suc, ◌+◌, ◌*◌, ◌<◌, ◌≤◌, ◌⊎◌, inl, inr, Bool, true, false, cond, eqb, ne_eqb, List, [], ◌∷◌, ◌++◌, take, refl, sym, ap, ◌∙◌, ⊎_elim, subst, arith}
 use Rattle.std.proofs.lemmas.Bool.{cases_lt}
 use Rattle.std.proofs.lemmas.List.{append-nil, take-take}
 use Rattle.std.proofs.lemmas.List.Elements.{filter-append}
@@ -7,11 +7,11 @@ use Rattle.mil_word.specs.declared.Line.{Line}
 use Rattle.mil_host.specs.declared.actions.Action.{Action}
 use Rattle.mil_message.specs.declared.outcome_test.OutcomeTest.TheVariants.{Failed}
 use Rattle.mil_message.specs.declared.messages.Message.{Message}
-use Rattle.mil_message.specs.World.{World, other_line, sent, asks}
+use Rattle.mil_message.specs.World.{World, other_line, sent, asks, now_at, paced_to}
 use Rattle.mil_line.specs.Plans.{Planned}
 use Rattle.mil_bus.specs.declared.outcomes.Outcome.{Outcome}
 use Rattle.mil_bus.specs.Exchange.{BusState}
-use Rattle.frame_tree.specs.Tree.{Condition, Tree, send, retry, gap, repeat, choose, until, nothing, chained, call, define}
+use Rattle.frame_tree.specs.Tree.{Condition, Tree, send, retry, gap, repeat, choose, until, timed, nothing, chained, call, define}
 use Rattle.frame_tree.specs.Expansion.{expansion}
 use Rattle.frame_tree.specs.Meaning.{condition_meaning, times, attempts, turns_until, plain_meaning}
 use Rattle.bc_machine.specs.declared.placed.Placed.{Placed}
@@ -21,7 +21,7 @@ use Rattle.bc_machine.proofs.Acts.{ready_same}
 use Rattle.job_file.specs.Jobs.{job_in}
 use Rattle.job_file.specs.Spelled.{ChannelJob}
 use Rattle.job_file.specs.Meaning.{bus_of, end_of, records_in, records}
-use Rattle.job_file.proofs.Growth.{Grows, grows_same, grows_gap, grows_through, records_first}
+use Rattle.job_file.proofs.Growth.{Grows, grows_same, grows_gap, grows_paced, grows_through, records_first}
 use Rattle.bench_core.specs.Bench.{LaneState, all_records, with_post}
 use Rattle.bench_core.proofs.Growing.{BusPoint, asks_alike, tests_alike, sent_grows, attempts_grow, times_grow, turns_grow, tree_grows}
 
@@ -115,6 +115,10 @@ module _ (plan : List Planned) (ps qs : List Placed) (k : ℕ) (same : AreSameUp
   tree_alike (repeat n b) p begun = times_alike n (plain_meaning w b) (plain_meaning v b) (tree_grows plan ps b) (tree_grows plan qs b) (λ q up. tree_alike b q up) p begun
   tree_alike (choose c a b) p begun = rw (tests_alike plan ps qs c p) (choice_alike (condition_meaning w c p) (tree_alike a p begun) (tree_alike b p begun))
   tree_alike (until c n b) p begun = turns_alike n c (plain_meaning w b) (plain_meaning v b) (tree_grows plan ps b) (tree_grows plan qs b) (λ q up. tree_alike b q up) p begun
+  tree_alike (timed h b) p begun =
+      let tick : ℕ = now_at w p + 1000 * h in
+      then_alike (plain_meaning w b p) (plain_meaning v b p) (paced_to w tick) (paced_to v tick) (tree_alike b p begun) (grows_paced plan ps tick) (grows_paced plan qs tick)
+      (λ up. inl (refl, grows_through first (plain_meaning w b p) (paced_to w tick (plain_meaning w b p)) up (grows_paced plan ps tick (plain_meaning w b p))))
   tree_alike nothing p begun = inl (refl, begun)
   tree_alike (chained a b) p begun =
       then_alike (plain_meaning w a p) (plain_meaning v a p) (plain_meaning w b) (plain_meaning v b) (tree_alike a p begun) (tree_grows plan ps b) (tree_grows plan qs b)

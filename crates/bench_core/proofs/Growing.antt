@@ -1,19 +1,19 @@
 -- The talks of a bus only grow with a frame, whatever actions are placed; and no test sees these but by the last outcome.
-use Rattle.std.proofs.Common.{◌≡◌, ℕ, zero, suc, Bool, true, false, not, ◌&&◌, ◌||◌, cond, List, refl, ap, ◌∙◌}
+use Rattle.std.proofs.Common.{◌≡◌, ℕ, zero, suc, ◌+◌, ◌*◌, Bool, true, false, not, ◌&&◌, ◌||◌, cond, List, refl, ap, ◌∙◌}
 use Rattle.std.specs.Prelude.{Option, Some, None}
 use Rattle.mil_word.specs.declared.Line.{Line}
 use Rattle.mil_message.specs.declared.outcome_test.OutcomeTest.TheVariants.{Failed}
 use Rattle.mil_message.specs.declared.outcome_test.OutcomeTest.{OutcomeTest}
 use Rattle.mil_message.specs.declared.messages.Message.{Message}
-use Rattle.mil_message.specs.World.{World, Point, other_line, sent, asks}
+use Rattle.mil_message.specs.World.{World, Point, other_line, sent, asks, now_at, paced_to}
 use Rattle.mil_line.specs.Plans.{Planned}
 use Rattle.mil_bus.specs.declared.outcomes.Outcome.{Outcome}
 use Rattle.mil_bus.specs.Exchange.{BusState}
-use Rattle.frame_tree.specs.Tree.{Condition, asked, negated, both, either, Tree, send, retry, gap, repeat, choose, until, nothing, chained, call, define}
+use Rattle.frame_tree.specs.Tree.{Condition, asked, negated, both, either, Tree, send, retry, gap, repeat, choose, until, timed, nothing, chained, call, define}
 use Rattle.frame_tree.specs.Meaning.{condition_meaning, times, attempts, turns_until, plain_meaning}
 use Rattle.bc_machine.specs.declared.placed.Placed.{Placed}
 use Rattle.bc_machine.specs.Controller.{world_of}
-use Rattle.job_file.proofs.Growth.{Grows, grows_same, grows_gap, grows_through, grows_message}
+use Rattle.job_file.proofs.Growth.{Grows, grows_same, grows_gap, grows_paced, grows_through, grows_message}
 
 abbrev pub BusPoint : Type 0
 BusPoint = Point BusState Outcome
@@ -76,6 +76,10 @@ module _ (plan : List Planned) (placed : List Placed) where
   tree_grows (repeat n b) p = times_grow n (plain_meaning w b) (λ q. tree_grows b q) p
   tree_grows (choose c a b) p = either_grows p (plain_meaning w a p) (plain_meaning w b p) (condition_meaning w c p) (tree_grows a p) (tree_grows b p)
   tree_grows (until c n b) p = turns_grow n c (plain_meaning w b) (λ q. tree_grows b q) p
+  tree_grows (timed h b) p =
+      let tick : ℕ = now_at w p + 1000 * h in
+      let body : BusPoint = plain_meaning w b p in
+      grows_through p body (paced_to w tick body) (tree_grows b p) (grows_paced plan placed tick body)
   tree_grows nothing p = grows_same p
   tree_grows (chained a b) p =
       grows_through p (plain_meaning w a p) (plain_meaning w b (plain_meaning w a p)) (tree_grows a p) (tree_grows b (plain_meaning w a p))

@@ -1,4 +1,4 @@
+pub mod ByTime
 pub mod Forms
 pub mod Numbering
-pub mod Selecting
 pub mod Times

@@ -2,6 +2,8 @@
 //! Its tests are in `look_tests`.
 #![tactic(auto)]
 
+mod chosen;
+mod details;
 mod fields;
 mod forms;
 mod line;
@@ -9,14 +11,15 @@ mod messages;
 mod modes;
 mod numbers;
 mod replies;
-mod selection;
 mod times;
 mod whole;
 
+pub use bench_select::{Bound, Bus, Selection, Selector};
+pub use chosen::{Chosen, messages_by_time};
+pub use details::put_details;
 pub use forms::Form;
 pub use line::{Line, Shown};
 pub use messages::{Place, write_message};
 pub use numbers::Numbers;
-pub use selection::{Bus, Selection};
 pub use times::Time;
 pub use whole::{Output, decode};

@@ -63,6 +63,18 @@ impl Line {
         }
     }
 
+    /// The text that waits.
+    pub fn text(&self) -> &[u8] {
+        let end = self.len.min(self.bytes.len());
+        &self.bytes.as_slice()[..end]
+    }
+
+    /// Drops the text that waits.
+    pub(crate) fn clear(&mut self) {
+        self.len = 0;
+        self.begin = 0;
+    }
+
     /// A new line.
     pub(crate) fn end_line(&mut self) {
         self.put(b"\n");
@@ -134,6 +146,11 @@ impl Line {
     /// A time in seconds with seven decimals, the whole ones at least five columns wide.
     pub(crate) fn put_seconds(&mut self, time: Time) {
         self.put_right(time.seconds, 5);
+        self.put_decimals(time);
+    }
+
+    /// The point and the seven decimals of a time in seconds.
+    pub(crate) fn put_decimals(&mut self, time: Time) {
         let mut digits = [b'.'; 8];
         let mut rest = time.ticks;
         'digits: for place in 0..7usize {

@@ -1,10 +1,11 @@
 //! A whole recording.
 
+use crate::chosen::messages_by_time;
 use crate::line::{Line, Shown};
 use crate::messages::{FIRST_COLUMNS, OTHER_COLUMNS, Place, REPLIES, write_message};
 use crate::numbers::Numbers;
-use crate::selection::Selection;
 use bench_dump::DumpFault;
+use bench_select::Selection;
 use ch11_f1::{Messages, Seen};
 use ch11_reader::{Index, ReadError, Skip};
 use std::alloc::Global;
@@ -22,6 +23,8 @@ pub struct Output {
     pub shown: Shown,
     /// Whether a damaged recording is printed as far as it is sound, with what was skipped.
     pub skip: bool,
+    /// In the order of their stamps, all channels together, or else in the file's order.
+    pub by_time: bool,
 }
 
 /// What a recording is printed with, on the way.
@@ -33,9 +36,10 @@ struct Printing {
 }
 
 /// Prints the selected messages of a recording, a line each, in the file's order, and answers how many there were; in
-/// front of the first, where they are decoded, stands a line with the names of the columns. A recording that can't be
-/// read is refused with its first fault, and nothing is printed; but with `skip` it is read as far as it is sound, and
-/// a line for each skip stands among the others in the order of their offsets.
+/// front of the first, where they are decoded, stands a line with the names of the columns. With `by_time` they are in
+/// the order of their stamps, and those of one stamp in the file's order. A recording that can't be read is refused
+/// with its first fault, and nothing is printed; but with `skip` it is read as far as it is sound, and a line for each
+/// skip stands among the others in the order of their offsets, or with `by_time` in front of all of them.
 pub fn decode<W: Write>(
     alloc: Global,
     bytes: &[u8],
@@ -68,6 +72,12 @@ fn decode_index<W: Write>(
         numbers: Numbers::new(alloc)?,
         count: 0,
     };
+    if output.by_time {
+        put_skips(alloc, &mut printing.line, out, skips, usize::MAX)?;
+        put_by_time(alloc, &mut printing, out, output, index)?;
+        printing.line.finish(out)?;
+        return Ok(printing.count);
+    }
     let packets = index.packets();
     let mut rest = skips;
     'packets: for place in 0..packets.len() {
@@ -80,6 +90,21 @@ fn decode_index<W: Write>(
     put_skips(alloc, &mut printing.line, out, rest, usize::MAX)?;
     printing.line.finish(out)?;
     Ok(printing.count)
+}
+
+/// Prints the selected messages of a recording in the order of their stamps.
+fn put_by_time<W: Write>(
+    alloc: Global,
+    printing: &mut Printing,
+    out: &mut W,
+    output: &Output,
+    index: &Index<'_>,
+) -> Result<(), DumpFault> {
+    let messages = messages_by_time(alloc, index, &output.selection)?;
+    'messages: for one in messages.as_slice() {
+        put_message(printing, out, output.decoded, &one.place, &one.seen)?;
+    }
+    Ok(())
 }
 
 /// The messages of the packet at a place.

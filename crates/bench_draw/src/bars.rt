@@ -1,19 +1,30 @@
 //! Messages as bars.
 
+use crate::labels::direction;
 use crate::picture::Picture;
-use crate::scale::{LEFT, Run, Scale, end_of, runs_of};
+use crate::rows::{BAR, Lane};
+use crate::scale::{LEFT, Run, Scale, WORD, end_of, runs_of};
+use bench_decode::{Line, Place, put_details};
 use ch11_f1::Seen;
 use ch11_layout::{Role, is_set, word_at};
+use mil_word::Command;
 use std::alloc::{AllocError, Global};
+use std::str;
 
-/// How many words a tip shows at most.
-const TIP: usize = 40;
+/// How many tenths of a pixel a bar takes at least that shows an address, or whom a command calls with its subaddress;
+/// the same of a command to all terminals; and for each data word.
+const ADDRESS_ROOM: u64 = 140;
 
-/// Where a bar stands: its upper edge, in pixels from the top.
-#[derive(Clone, Copy)]
-pub(crate) struct Lane {
-    pub(crate) top: u64,
-}
+const SUBADDRESS_ROOM: u64 = 420;
+
+const BROADCAST_ROOM: u64 = 540;
+
+const BROADCAST_SUBADDRESS_ROOM: u64 = 820;
+
+const DATA_ROOM: u64 = 280;
+
+/// How many tenths of a pixel a bar takes at least that has an edge.
+const EDGED: u64 = 30;
 
 fn color(role: Role) -> &'static str {
     match role {
@@ -23,89 +34,165 @@ fn color(role: Role) -> &'static str {
     }
 }
 
-/// Draws a message: a bar for the words of each role, the address on a command or status word, a mark where there is
-/// an error, and a tip.
+/// Draws a message: a bar for the words of each role with what there is room for, a mark where there is an error, and
+/// where the mouse rests on it the message as people read it.
 pub(crate) fn draw_bar(
     alloc: Global,
     picture: &mut Picture,
     scale: &Scale,
-    lane: Lane,
-    number: u64,
-    channel: u16,
+    lane: &Lane,
+    details: &mut Line,
+    place: &Place,
     seen: &Seen<'_>,
 ) -> Result<(), AllocError> {
     let mut text = String::new(alloc);
-    text.push_str("<g>")?;
-    put_tip(&mut text, number, channel, seen)?;
-    let mut before = 0usize;
-    for run in runs_of(seen) {
-        if run.words > 0 {
-            let first = word_at(seen.words, before);
-            put_run(&mut text, scale, lane, &run, first)?;
-        }
-        before = before.saturating_add(run.words as usize);
-    }
+    text.push_str("<g><title>")?;
+    put_details(details, place, seen);
+    text.push_str(str::from_utf8(details.text()).unwrap_or(""))?;
+    text.push_str("</title>")?;
+    put_runs(&mut text, scale, lane, seen)?;
     put_error(&mut text, scale, lane, seen)?;
     text.push_str("</g>\n")?;
     picture.put(text.as_str())
 }
 
-/// The message's line of a dump, cut behind forty words.
-fn put_tip(
-    text: &mut String,
-    number: u64,
-    channel: u16,
-    seen: &Seen<'_>,
-) -> Result<(), AllocError> {
-    let (stamp, block, gaps) = (seen.stamp, seen.block, seen.gaps);
-    write!(
-        text,
-        "<title>message {number} channel {channel} stamp {stamp} block {block:04X} gaps {gaps:04X} words"
-    )?;
-    let words = seen.words.len() / 2;
-    for place in 0..words.min(TIP) {
-        let word = word_at(seen.words, place);
-        write!(text, " {word:04X}")?;
-    }
-    if words > TIP {
-        text.push_str(" ..")?;
-    }
-    text.push_str("</title>")
-}
-
-fn put_run(
+/// Puts the words of a message, those of one role behind one another as a bar.
+fn put_runs(
     text: &mut String,
     scale: &Scale,
-    lane: Lane,
-    run: &Run,
-    first: u16,
+    lane: &Lane,
+    seen: &Seen<'_>,
 ) -> Result<(), AllocError> {
-    let left = scale.tenths(run.begin);
-    let width = scale.tenths(run.end()).saturating_sub(left).max(5);
-    let (x, x_part) = (LEFT.saturating_add(left / 10), left % 10);
-    let (wide, wide_part) = (width / 10, width % 10);
-    let (top, fill) = (lane.top, color(run.role));
-    write!(
-        text,
-        "<rect x=\"{x}.{x_part}\" y=\"{top}\" width=\"{wide}.{wide_part}\" height=\"22\""
-    )?;
-    write!(text, " class=\"b\" fill=\"{fill}\"/>")?;
-    if wide >= 16 && !matches!(run.role, Role::Data) {
-        let address = first / 2048;
-        let (middle, base) = (x.saturating_add(wide / 2), top.saturating_add(15));
-        write!(
-            text,
-            "<text x=\"{middle}\" y=\"{base}\" class=\"a\">{address}</text>"
-        )?;
+    let mut before = 0usize;
+    for run in runs_of(seen) {
+        if run.words > 0 {
+            put_run(text, scale, lane, &run)?;
+            put_words(text, scale, lane, &run, seen, before)?;
+        }
+        before = before.saturating_add(run.words as usize);
     }
     Ok(())
 }
 
-/// Puts a mark over a message that has an error, with the kinds of its errors where there is room.
+/// Puts the bar of a run.
+fn put_run(text: &mut String, scale: &Scale, lane: &Lane, run: &Run) -> Result<(), AllocError> {
+    let left = scale.tenths(run.begin);
+    let width = scale.tenths(run.end()).saturating_sub(left).max(10);
+    let (x, x_part) = (LEFT.saturating_add(left / 10), left % 10);
+    let (wide, wide_part) = (width / 10, width % 10);
+    let (top, fill) = (lane.bars, color(run.role));
+    write!(
+        text,
+        "<rect x=\"{x}.{x_part}\" y=\"{top}\" width=\"{wide}.{wide_part}\" height=\"{BAR}\""
+    )?;
+    if width >= EDGED {
+        text.push_str(" class=\"b\"")?;
+    }
+    write!(text, " fill=\"{fill}\"/>")?;
+    Ok(())
+}
+
+/// Puts into the bar of a run what its words say, of which so many of the message stand before it.
+fn put_words(
+    text: &mut String,
+    scale: &Scale,
+    lane: &Lane,
+    run: &Run,
+    seen: &Seen<'_>,
+    before: usize,
+) -> Result<(), AllocError> {
+    let base = lane.bars.saturating_add(15);
+    let first = word_at(seen.words, before);
+    match run.role {
+        Role::Data => put_data(text, scale, base, run, seen, before),
+        Role::Command => put_command(text, scale, base, run, Command::of(first)),
+        Role::Status => {
+            let (middle, wide) = middle_of(scale, run.begin, run.end());
+            if wide >= ADDRESS_ROOM {
+                let address = first / 2048;
+                write!(
+                    text,
+                    "<text x=\"{middle}\" y=\"{base}\" class=\"a\">{address}</text>"
+                )?;
+            }
+            Ok(())
+        }
+    }
+}
+
+/// The pixel in the middle of a time, and how many tenths of a pixel the time takes.
+fn middle_of(scale: &Scale, begin: u64, end: u64) -> (u64, u64) {
+    let (left, right) = (scale.tenths(begin), scale.tenths(end));
+    (
+        LEFT.saturating_add(left.saturating_add(right) / 20),
+        right.saturating_sub(left),
+    )
+}
+
+/// Puts whom a command calls: its address, and T or R and the subaddress where there is room; to all terminals by name.
+fn put_command(
+    text: &mut String,
+    scale: &Scale,
+    base: u64,
+    run: &Run,
+    command: Command,
+) -> Result<(), AllocError> {
+    let (middle, wide) = middle_of(scale, run.begin, run.end());
+    let all = command.is_broadcast();
+    let (least, ample) = if all {
+        (BROADCAST_ROOM, BROADCAST_SUBADDRESS_ROOM)
+    } else {
+        (ADDRESS_ROOM, SUBADDRESS_ROOM)
+    };
+    if wide < least {
+        return Ok(());
+    }
+    let (address, subaddress) = (command.address(), command.subaddress());
+    let direction = direction(command.is_transmit());
+    write!(text, "<text x=\"{middle}\" y=\"{base}\" class=\"a\">")?;
+    if all {
+        text.push_str("broadcast")?;
+    } else {
+        write!(text, "{address}")?;
+    }
+    if wide >= ample {
+        write!(text, " {direction} {subaddress}")?;
+    }
+    text.push_str("</text>")
+}
+
+/// Puts data words as hexadecimal digits, each in its part of the bar, where these are wide enough.
+fn put_data(
+    text: &mut String,
+    scale: &Scale,
+    base: u64,
+    run: &Run,
+    seen: &Seen<'_>,
+    before: usize,
+) -> Result<(), AllocError> {
+    let (_, wide) = middle_of(scale, run.begin, run.end());
+    if wide < run.words.saturating_mul(DATA_ROOM) {
+        return Ok(());
+    }
+    let mut begin = run.begin;
+    for place in 0..run.words as usize {
+        let end = begin.saturating_add(WORD);
+        let (middle, _) = middle_of(scale, begin, end);
+        let word = word_at(seen.words, before.saturating_add(place));
+        write!(
+            text,
+            "<text x=\"{middle}\" y=\"{base}\" class=\"d\">{word:04X}</text>"
+        )?;
+        begin = end;
+    }
+    Ok(())
+}
+
+/// Puts a mark over a message that has an error, and under it the kinds of its errors where there is room.
 fn put_error(
     text: &mut String,
     scale: &Scale,
-    lane: Lane,
+    lane: &Lane,
     seen: &Seen<'_>,
 ) -> Result<(), AllocError> {
     if !is_set(seen.block, 12) {
@@ -114,13 +201,13 @@ fn put_error(
     let left = scale.tenths(seen.stamp);
     let width = scale.tenths(end_of(seen)).saturating_sub(left);
     let (x, wide) = (LEFT.saturating_add(left / 10), (width / 10).max(2));
-    let top = lane.top.saturating_sub(3);
+    let top = lane.bars.saturating_sub(3);
     write!(
         text,
         "<rect x=\"{x}\" y=\"{top}\" width=\"{wide}\" height=\"3\" fill=\"#c22\"/>"
     )?;
     if wide >= KIND {
-        let base = lane.top.saturating_sub(5);
+        let base = lane.bars.saturating_add(BAR + 11);
         write!(text, "<text x=\"{x}\" y=\"{base}\" class=\"e\">")?;
         put_kinds(text, seen.block, wide)?;
         text.push_str("</text>")?;

@@ -1,14 +1,19 @@
 //! A recording as a picture: the bus over time.
+//! Its tests are in `look_tests`.
 #![tactic(auto)]
 
+mod axis;
 mod bars;
-mod density;
 mod drawing;
+mod extent;
 mod frame;
+mod labels;
+mod lanes;
+mod load;
 mod picture;
+mod rows;
 mod scale;
-mod selection;
 
-pub use drawing::draw;
+pub use axis::{Unit, step_of};
+pub use drawing::{Drawing, draw};
 pub use picture::MOST_BYTES;
-pub use selection::Selection;

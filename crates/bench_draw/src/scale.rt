@@ -9,8 +9,11 @@ pub(crate) const WIDTH: u64 = 1200;
 /// Where the time begins, in pixels from the left.
 pub(crate) const LEFT: u64 = 90;
 
+/// How many parts of the time have a load of their own.
+pub(crate) const PARTS: usize = 100;
+
 /// How many ticks a word takes.
-const WORD: u64 = 200;
+pub(crate) const WORD: u64 = 200;
 
 /// From which tick to which the picture goes.
 #[derive(Clone, Copy)]
@@ -33,6 +36,41 @@ impl Scale {
         let behind = u128::from(tick.saturating_sub(self.begin));
         let place = behind * 10 * u128::from(WIDTH) / u128::from(self.span.max(1));
         u64::try_from(place).unwrap_or(u64::MAX).min(10 * WIDTH)
+    }
+
+    /// How many tenths of a pixel so many ticks take.
+    pub(crate) fn length(&self, ticks: u64) -> u64 {
+        self.tenths(self.begin.saturating_add(ticks))
+    }
+
+    /// The pixel of a tick, of which the time has 1200.
+    pub(crate) fn pixel(&self, tick: u64) -> usize {
+        ((self.tenths(tick) / 10) as usize).min(WIDTH as usize - 1)
+    }
+
+    /// The hundredth of the time that a tick is in, 0 to 99.
+    pub(crate) fn part(&self, tick: u64) -> usize {
+        self.pixel(tick) / (WIDTH as usize / PARTS)
+    }
+
+    /// The tick at which a hundredth of the time begins.
+    fn edge(&self, part: usize) -> u64 {
+        let behind = u128::from(self.span) * part as u128 / PARTS as u128;
+        self.begin
+            .saturating_add(u64::try_from(behind).unwrap_or(u64::MAX))
+    }
+
+    /// How many ticks a hundredth of the time has.
+    pub(crate) fn ticks_in(&self, part: usize) -> u64 {
+        self.edge(part.saturating_add(1))
+            .saturating_sub(self.edge(part))
+    }
+
+    /// How many ticks of a hundredth of the time lie from one tick up to another.
+    pub(crate) fn shared(&self, part: usize, begin: u64, end: u64) -> u64 {
+        let from = begin.max(self.edge(part));
+        let to = end.min(self.edge(part.saturating_add(1)));
+        to.saturating_sub(from)
     }
 }
 

@@ -2,3 +2,4 @@ pub mod Packets
 pub mod Placing
 pub mod SkipLines
 pub mod Steps
+pub mod Timeless

@@ -4,3 +4,4 @@ pub mod Printing
 pub mod Reads
 pub mod FaultText
 pub mod SkippingText
+pub mod TimedText

@@ -5,6 +5,7 @@
 mod digits;
 mod fault;
 mod input;
+mod laws;
 mod lines;
 mod output;
 mod places;
@@ -13,5 +14,6 @@ mod text;
 
 pub use fault::DumpFault;
 pub use input::{read_all, read_sized};
+pub use laws::timeless_is_plain;
 pub use lines::put_words;
-pub use output::dump;
+pub use output::{dump, dump_with_times};

@@ -1,17 +1,17 @@
 //! The whole dump, through one buffer.
-ghost use Rattle.std.specs.Prelude.{◌≡◌, ◌+◌, ◌<◌, ◌^◌, length, false, [], OnOk, IfErr, Err};
+ghost use Rattle.std.specs.Prelude.{◌≡◌, ◌+◌, ◌<◌, ◌^◌, length, true, false, [], OnOk, IfErr, Err};
 ghost use Rattle.std.specs.Io.KnownBytes.{Appends};
 ghost use Rattle.ch11_reader.specs.declared.fault.Refusal.{Refusal};
 ghost use Rattle.ch11_reader.specs.Recording.{packets_in};
-ghost use Rattle.ch11_reader.specs.Skipping.{packets_read, skips_in};
-ghost use Rattle.bench_dump.specs.DumpText.{message_lines};
-ghost use Rattle.bench_dump.specs.SkippingText.{skipping_text, text_of};
+ghost use Rattle.bench_dump.specs.SkippingText.{text_of};
+ghost use Rattle.bench_dump.specs.TimedText.{clock_of, text_by, timed_lines, timed_text};
 ghost use Rattle.bench_dump.specs.Printing.{Carries, IsAnswerBy, IsOther};
 
 use crate::fault::DumpFault;
 use crate::lines::put_packet_line;
 use crate::skips::{dump_skips, dump_skips_before};
 use crate::text::Text;
+use bench_clock::Clock;
 use ch11_f1::Messages;
 use ch11_reader::{Index, ReadError, Skip};
 use std::alloc::Global;
@@ -32,23 +32,24 @@ pub(crate) fn hand_on<W: Write>(text: &mut Text, out: &mut W) -> Result<(), Dump
     Ok(())
 }
 
-/// The lines of a packet's messages, behind so many messages of the file.
+/// The lines of a packet's messages, behind so many messages of the file, with the times of day that a clock tells.
 fn dump_messages<W: Write>(
     text: &mut Text,
     out: &mut W,
     before: u64,
     channel: u16,
+    clock: &Clock,
     messages: Messages<'_>,
 ) -> Result<(), DumpFault>
     requires { before + length messages < 2 ^ 64 }
-    ensures printed { OnOk result (Carries (W.contents out.old) text.old (W.contents out.new) text.new (message_lines before channel messages.entry)) }
+    ensures printed { OnOk result (Carries (W.contents out.old) text.old (W.contents out.new) text.new (timed_lines clock.now before channel messages.entry)) }
     ensures failed { IfErr result IsOther }
 {
     let mut number = before;
     let mut rest = messages;
     'lines: while let Some(seen) = rest.next() {
         number += 1;
-        text.put_message(number, channel, &seen)?;
+        text.put_message(number, channel, clock.at(seen.stamp), &seen)?;
         hand_on(text, out)?;
     }
     Ok(())
@@ -63,36 +64,89 @@ pub fn dump<W: Write>(alloc: Global, bytes: &[u8], out: &mut W, skip: bool) -> R
     ensures printed { OnOk result (Appends (W.contents out.old) (W.contents out.new) (text_of skip bytes.now)) }
     ensures refused { (r : Refusal) → skip ≡ false → packets_in bytes.now ≡ Err r → out.new ≡ out.old }
 {
+    dump_by(alloc, bytes, out, skip, false)
+}
+
+/// The same with the time of day behind each stamp, where the recording's time packets tell one. Without a time packet it is the same
+/// text.
+pub fn dump_with_times<W: Write>(
+    alloc: Global,
+    bytes: &[u8],
+    out: &mut W,
+    skip: bool,
+) -> Result<(), DumpFault>
+    ensures answer { IsAnswerBy skip result (packets_in bytes.now) }
+    ensures printed { OnOk result (Appends (W.contents out.old) (W.contents out.new) (text_by true skip bytes.now)) }
+    ensures refused { (r : Refusal) → skip ≡ false → packets_in bytes.now ≡ Err r → out.new ≡ out.old }
+{
+    dump_by(alloc, bytes, out, skip, true)
+}
+
+/// Prints a recording, with or without times of day.
+fn dump_by<W: Write>(
+    alloc: Global,
+    bytes: &[u8],
+    out: &mut W,
+    skip: bool,
+    timed: bool,
+) -> Result<(), DumpFault>
+    ensures answer { IsAnswerBy skip result (packets_in bytes.now) }
+    ensures printed { OnOk result (Appends (W.contents out.old) (W.contents out.new) (text_by timed skip bytes.now)) }
+    ensures refused { (r : Refusal) → skip ≡ false → packets_in bytes.now ≡ Err r → out.new ≡ out.old }
+{
     if skip {
-        return dump_skipping(alloc, bytes, out);
+        return dump_skipping(alloc, bytes, out, timed);
     }
     let index = match Index::build(alloc, bytes) {
         Ok(index) => index,
         Err(ReadError::Refused(refusal)) => return Err(DumpFault::Refused(refusal)),
         Err(ReadError::Memory) => return Err(DumpFault::Memory),
     };
-    dump_index(alloc, &index, &[], out)
+    dump_index(alloc, bytes, &index, &[], out, timed)
 }
 
 /// Prints whatever is sound in a recording.
-fn dump_skipping<W: Write>(alloc: Global, bytes: &[u8], out: &mut W) -> Result<(), DumpFault>
-    ensures printed { OnOk result (Appends (W.contents out.old) (W.contents out.new) (skipping_text (skips_in bytes.now) (packets_read bytes.now))) }
+fn dump_skipping<W: Write>(
+    alloc: Global,
+    bytes: &[u8],
+    out: &mut W,
+    timed: bool,
+) -> Result<(), DumpFault>
+    ensures printed { OnOk result (Appends (W.contents out.old) (W.contents out.new) (text_by timed true bytes.now)) }
     ensures failed { IfErr result IsOther }
 {
     match Index::build_skipping(alloc, bytes) {
-        Ok(found) => dump_index(alloc, &found.index, &found.skips, out),
+        Ok(found) => dump_index(alloc, bytes, &found.index, &found.skips, out, timed),
         Err(_) => Err(DumpFault::Memory),
     }
 }
 
-/// Prints the packets of a recording that was read, and the skips among them.
+/// Prints the packets of a recording that was read, and the skips among them, with or without times of day.
 fn dump_index<W: Write>(
+    alloc: Global,
+    bytes: &[u8],
+    index: &Index<'_>,
+    skips: &[Skip],
+    out: &mut W,
+    timed: bool,
+) -> Result<(), DumpFault>
+    ensures printed { OnOk result (Appends (W.contents out.old) (W.contents out.new) (timed_text (clock_of timed bytes.now index.now) skips.now index.now)) }
+    ensures failed { IfErr result IsOther }
+{
+    let told = if timed { index.packets() } else { &[] };
+    let clock = Clock::of(alloc, bytes, told)?;
+    print_index(alloc, index, skips, out, &clock)
+}
+
+/// Prints packets and skips, with the times of day that a clock tells.
+fn print_index<W: Write>(
     alloc: Global,
     index: &Index<'_>,
     skips: &[Skip],
     out: &mut W,
+    clock: &Clock,
 ) -> Result<(), DumpFault>
-    ensures printed { OnOk result (Appends (W.contents out.old) (W.contents out.new) (skipping_text skips.now index.now)) }
+    ensures printed { OnOk result (Appends (W.contents out.old) (W.contents out.new) (timed_text clock.now skips.now index.now)) }
     ensures failed { IfErr result IsOther }
 {
     let mut text = Text::new(alloc);
@@ -107,6 +161,7 @@ fn dump_index<W: Write>(
             out,
             packet.before,
             packet.header.channel,
+            clock,
             index.messages_in(place),
         )?;
     }

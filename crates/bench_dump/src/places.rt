@@ -1,14 +1,17 @@
 //! The parts of a message's line, written one behind the other into a buffer that has room for all of them.
-ghost use Rattle.std.specs.Prelude.{◌≡◌, ◌+◌, ◌*◌, ◌/◌, ◌≤◌, ◌∷◌, ◌++◌, length, decimal};
+ghost use Rattle.std.specs.Prelude.{◌≡◌, ◌+◌, ◌*◌, ◌/◌, ◌≤◌, ◌∷◌, ◌++◌, length, decimal, option_map};
 ghost use Rattle.ch11_f1.specs.Views.{message_of};
-ghost use Rattle.bench_dump.specs.DumpText.{bus_words, byte_digits, message_line, word_digits};
+ghost use Rattle.bench_dump.specs.DumpText.{bus_words, byte_digits, word_digits};
 ghost use Rattle.bench_dump.specs.Places.{IsPlaced};
+ghost use Rattle.bench_dump.specs.TimedText.{time_words, timed_line};
 
 use crate::digits::{place_byte, place_decimal};
+use bench_clock::UtcTime;
 use ch11_f1::Seen;
 
-/// How many bytes a message's line has at most beside its bus words: 44 of labels, three numbers of up to 20 and two words of 4.
-pub(crate) const MESSAGE_HEAD: usize = 112;
+/// How many bytes a message's line has at most beside its bus words: 50 of labels, three numbers of up to 20, two words of 4 and a time
+/// of 27.
+pub(crate) const MESSAGE_HEAD: usize = 145;
 
 /// Places bytes.
 #[inline(always)]
@@ -83,22 +86,40 @@ pub(crate) fn place_bus_words(buffer: &mut [u8], start: usize, words: &[u8]) -> 
     at
 }
 
-/// Places the line of a message.
+/// Places a time of day behind its label, where there is one.
+#[inline(always)]
+fn place_time(buffer: &mut [u8], at: usize, time: Option<UtcTime>) -> usize
+    requires { at + 33 ≤ length buffer.old }
+    ensures placed { IsPlaced buffer.old buffer.new at (time_words (option_map (λ t. t.ticks) time)) result }
+    ensures few { result ≤ at + 33 }
+{
+    match time {
+        None => at,
+        Some(time) => {
+            let middle = place_label(buffer, at, b" time ");
+            place_label(buffer, middle, &time.text())
+        }
+    }
+}
+
+/// Places the line of a message, with a time of day or without.
 #[inline]
-#[tactic(auto, unfolding(crate::specs::DumpText::message_line))]
+#[tactic(auto, unfolding(crate::specs::TimedText::timed_line))]
 pub(crate) fn place_message(
     buffer: &mut [u8],
     start: usize,
     number: u64,
     channel: u16,
+    time: Option<UtcTime>,
     seen: &Seen<'_>,
 ) -> usize
     requires { start + (MESSAGE_HEAD + 5 * (length seen.now.words.now / 2)) ≤ length buffer.old }
-    ensures { IsPlaced buffer.old buffer.new start (message_line number channel (message_of seen.now)) result }
+    ensures { IsPlaced buffer.old buffer.new start (timed_line (option_map (λ t. t.ticks) time) number channel (message_of seen.now)) result }
 {
     let at = place_number(buffer, start, b"message ", number);
     let at = place_number(buffer, at, b" channel ", channel as u64);
     let at = place_number(buffer, at, b" stamp ", seen.stamp);
+    let at = place_time(buffer, at, time);
     let at = place_word(buffer, at, b" block ", seen.block);
     let at = place_word(buffer, at, b" gaps ", seen.gaps);
     let at = place_label(buffer, at, b" words");

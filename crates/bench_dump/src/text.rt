@@ -1,9 +1,10 @@
 //! Text on its way to a writer.
-ghost use Rattle.std.specs.Prelude.{◌≡◌, ◌+◌, ◌≤◌, ◌++◌, [], length, take, vec_len, OnOk};
+ghost use Rattle.std.specs.Prelude.{◌≡◌, ◌+◌, ◌≤◌, ◌++◌, [], length, take, vec_len, option_map, OnOk};
 ghost use Rattle.ch11_f1.specs.Views.{message_of};
-ghost use Rattle.bench_dump.specs.DumpText.{message_line};
+ghost use Rattle.bench_dump.specs.TimedText.{timed_line};
 
 use crate::places::{MESSAGE_HEAD, place_bytes, place_message};
+use bench_clock::UtcTime;
 use ch11_f1::Seen;
 use std::alloc::{AllocError, Global};
 use std::marker::Model;
@@ -98,15 +99,16 @@ impl Text {
         Ok(())
     }
 
-    /// Appends the line of a message.
+    /// Appends the line of a message, with a time of day or without.
     #[inline]
     pub(crate) fn put_message(
         &mut self,
         number: u64,
         channel: u16,
+        time: Option<UtcTime>,
         seen: &Seen<'_>,
     ) -> Result<(), AllocError>
-        ensures { OnOk result (self.new ≡ self.old ++ message_line number channel (message_of seen.now)) }
+        ensures { OnOk result (self.new ≡ self.old ++ timed_line (option_map (λ t. t.ticks) time) number channel (message_of seen.now)) }
     {
         let words = (seen.words.len() / 2).saturating_mul(5);
         make_room(
@@ -115,7 +117,7 @@ impl Text {
             words.saturating_add(MESSAGE_HEAD),
         )?;
         let buffer = self.bytes.as_mut_slice();
-        self.len = place_message(buffer, self.len, number, channel, seen);
+        self.len = place_message(buffer, self.len, number, channel, time, seen);
         Ok(())
     }
 }

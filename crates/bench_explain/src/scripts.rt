@@ -3,7 +3,7 @@
 use crate::explanation::Explanation;
 
 /// Each code of them, in order.
-pub(crate) static EXPLANATIONS: [Explanation; 32] = [
+pub(crate) static EXPLANATIONS: [Explanation; 33] = [
     Explanation {
         code: "S1",
         means: "a byte that is in no token of the script language",
@@ -42,7 +42,7 @@ pub(crate) static EXPLANATIONS: [Explanation; 32] = [
     },
     Explanation {
         code: "S7",
-        means: "a number out of its range: repeat and until 1 to 10000, retry 1 to 8, gap 40 to 65535",
+        means: "a number out of its range: repeat and until 1 to 10000, retry 1 to 8, gap 40 to 65535, frame 100 to 6553500 in hundreds",
         remedy: "Choose a number in the range; loops in one another multiply.",
         example: "repeat 0 { send A mode 5 1 }",
     },
@@ -126,7 +126,7 @@ pub(crate) static EXPLANATIONS: [Explanation; 32] = [
     },
     Explanation {
         code: "P2",
-        means: "loops of an image that do not pair in a routine, or more than 17 open at once, those of called routines counted",
+        means: "loops or frames of an image that do not pair in a routine, or more than 17 loops or 16 frames open at once",
         remedy: "Assemble the script again.",
         example: "an image that was changed by hand",
     },
@@ -161,8 +161,14 @@ pub(crate) static EXPLANATIONS: [Explanation; 32] = [
         example: "an image that was changed by hand",
     },
     Explanation {
+        code: "P8",
+        means: "the periods of the script's frames come to more than 2^46 ticks (81 days) in one run",
+        remedy: "Lower the periods, or the counts of the loops that the frames stand in.",
+        example: "repeat 10000 { repeat 1000 { frame 6553500 { } } }",
+    },
+    Explanation {
         code: "C1",
-        means: "no image: fewer than four bytes, or another mark than BC01 and BC02",
+        means: "no image: fewer than four bytes, or another mark than BC01, BC02 and BC03",
         remedy: "Name a file that bench assemble wrote.",
         example: "a script in the place of an image",
     },
@@ -192,8 +198,8 @@ pub(crate) static EXPLANATIONS: [Explanation; 32] = [
     },
     Explanation {
         code: "C6",
-        means: "an image with the mark BC02 that has no operation above 9",
-        remedy: "Assemble the script again: without calls it is an image with the mark BC01.",
+        means: "an image with the mark BC02 that has no operation above 9, or BC03 with none above 11",
+        remedy: "Assemble the script again: the mark is the lowest that knows all operations.",
         example: "an image that was changed by hand",
     },
 ];

@@ -1,1 +1,6 @@
+pub mod Changing
+pub mod Dumping
+pub mod Framing
+pub mod Looking
+pub mod Parts
 pub mod Written

@@ -1,11 +1,8 @@
--- The rows of an exported recording (own choice): one a message, in the file's order, behind a row with the names of
--- the columns.
-use Rattle.std.specs.Prelude.{ℕ, ◌+◌, ◌-◌, ◌*◌, ◌/◌, ◌%◌, ◌==◌, Bool, not, ◌&&◌, nat_lt, if◌then◌else◌, List, [], ◌∷◌, ◌++◌, length, take, drop, codes, decimal}
-use Rattle.csv.specs.Writing.{default_writer, row_text}
+-- The columns of a message in an exported recording (own choice), and their names.
+use Rattle.std.specs.Prelude.{ℕ, ◌+◌, ◌-◌, ◌*◌, ◌/◌, ◌%◌, ◌==◌, Bool, not, ◌&&◌, nat_lt, if◌then◌else◌, List, [], ◌∷◌, ◌++◌, take, drop, codes, decimal}
 use Rattle.mil_word.specs.Fields.{has_bit, address_of, sub_of, code_of, count_of, is_mode, is_broadcast, is_transmit}
 use Rattle.ch11_f1.specs.BodyReading.{Message}
 use Rattle.ch11_layout.specs.Layouts.{size_of, word_of, first_word, first_gap, second_gap, commands_in, data_start, data_end}
-use Rattle.ch11_reader.specs.Recording.{Found}
 use Rattle.bench_dump.specs.DumpText.{bus_words}
 
 -- the names of the columns
@@ -109,17 +106,3 @@ answered_fields m =
 -- the fields of message n
 abbrev pub row_of : ℕ → ℕ → Message → List (List ℕ)
 row_of n channel m = sent_fields n channel m ++ (called_fields m ++ answered_fields m)
-
--- the rows of messages of one channel, behind so many messages of the file
-abbrev pub rows_text : ℕ → ℕ → List Message → List ℕ
-rows_text before channel [] = []
-rows_text before channel (m ∷ ms) = row_text default_writer (row_of (before + 1) channel m) ++ rows_text (before + 1) channel ms
-
--- the rows of packets, behind so many messages of the file
-abbrev pub packets_text : ℕ → List Found → List ℕ
-packets_text before [] = []
-packets_text before (p ∷ ps) = rows_text before p.header.channel p.messages ++ packets_text (before + length p.messages) ps
-
--- a whole recording
-abbrev pub export_text : List Found → List ℕ
-export_text ps = row_text default_writer names ++ packets_text 0 ps

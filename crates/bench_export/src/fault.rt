@@ -1,6 +1,7 @@
 //! Why a recording was not exported, or not to its end.
 use csv::ErrorKind;
 use std::alloc::AllocError;
+use std::io;
 
 /// Why an export failed.
 #[derive(Clone, Copy, Debug, PartialEq, Eq)]
@@ -25,5 +26,11 @@ impl ExportFault {
 impl From<AllocError> for ExportFault {
     fn from(_: AllocError) -> ExportFault {
         ExportFault::Memory
+    }
+}
+
+impl From<io::Error> for ExportFault {
+    fn from(_: io::Error) -> ExportFault {
+        ExportFault::Device
     }
 }

@@ -11,8 +11,24 @@ use ch11_layout::{Layout, first_gap, is_set, second_gap, word_at};
 use mil_word::Command;
 use std::alloc::AllocError;
 
+/// The fields of message n. The text is room for a field.
+pub(crate) fn push_fields(
+    row: &mut Row,
+    text: &mut Vec<u8>,
+    number: u64,
+    channel: u16,
+    seen: &Seen<'_>,
+) -> Result<(), AllocError>
+    ensures { OnOk result (row.new ≡ row.old ++ spec.row_of number channel (message_of seen.now)) }
+{
+    push_sent(row, text, number, channel, seen)?;
+    push_called(row, seen)?;
+    push_answered(row, text, seen)?;
+    Ok(())
+}
+
 /// When and how message n was sent. The text is room for a field.
-pub(crate) fn push_sent(
+fn push_sent(
     row: &mut Row,
     text: &mut Vec<u8>,
     number: u64,
@@ -28,14 +44,15 @@ pub(crate) fn push_sent(
     row.push(form_name(seen))
 }
 
-fn line_name(seen: &Seen<'_>) -> &'static [u8]
+/// The line of a message.
+pub(crate) fn line_name(seen: &Seen<'_>) -> &'static [u8]
     ensures { result.now ≡ spec.line_text (message_of seen.now) }
 {
     if is_set(seen.block, 13) { b"B" } else { b"A" }
 }
 
 /// The form of a message by its commands (MIL-STD-1553B 4.3.3.6).
-fn form_name(seen: &Seen<'_>) -> &'static [u8]
+pub(crate) fn form_name(seen: &Seen<'_>) -> &'static [u8]
     ensures { result.now ≡ spec.form_text (message_of seen.now) }
 {
     let layout = Layout::of(seen);
@@ -102,11 +119,7 @@ fn push_if(row: &mut Row, there: bool, number: u8) -> Result<(), AllocError>
 }
 
 /// What was answered. The text is room for a field.
-pub(crate) fn push_answered(
-    row: &mut Row,
-    text: &mut Vec<u8>,
-    seen: &Seen<'_>,
-) -> Result<(), AllocError>
+fn push_answered(row: &mut Row, text: &mut Vec<u8>, seen: &Seen<'_>) -> Result<(), AllocError>
     ensures { OnOk result (row.new ≡ row.old ++ spec.answered_fields (message_of seen.now)) }
 {
     let layout = Layout::of(seen);

@@ -1,13 +1,28 @@
-//! The command `bench export`: a recording as comma-separated values, a row a message.
+//! The command `bench export`: a recording as comma-separated values, a row a message, or as a value change dump.
 //! Its tests are in `look_tests`.
 #![tactic(auto)]
 
+mod changes;
+mod choosing;
+mod columns;
 mod fault;
 mod fields;
+mod flags;
+mod heads;
 mod messages;
+mod moments;
+mod names;
+mod present;
 mod row;
+mod signals;
 mod texts;
+mod values;
+mod waves;
 mod whole;
 
+pub use changes::{Change, Driven};
+pub use choosing::selects_any;
+pub use columns::Columns;
 pub use fault::ExportFault;
-pub use whole::export;
+pub use waves::export_waves;
+pub use whole::{Table, export};

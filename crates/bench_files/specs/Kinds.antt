@@ -3,7 +3,7 @@
 use Rattle.std.specs.Prelude.{◌==◌, ◌||◌, ◌&&◌, ◌∷◌, [], ℕ, List, Bool, true, if◌then◌else◌, codes, nat_eq}
 use Rattle.std.specs.List.{starts_with}
 use Rattle.bench_files.specs.declared.kind.Kind.{Kind}
-use Rattle.bench_files.specs.declared.kind.Kind.TheVariants.{Recording, Report, Image, Rows, Picture, Verdicts}
+use Rattle.bench_files.specs.declared.kind.Kind.TheVariants.{Recording, Report, Image, Rows, Picture, Verdicts, Waves}
 
 -- what stands behind the first line feed
 abbrev pub behind_line : List ℕ → List ℕ
@@ -24,3 +24,4 @@ is_of_kind Image (b ∷ rest) = starts_with nat_eq (b ∷ rest) (codes "BC0")
 is_of_kind Rows (b ∷ rest) = starts_with nat_eq (b ∷ rest) (codes "number,channel,")
 is_of_kind Picture (b ∷ rest) = starts_with nat_eq (b ∷ rest) (codes "<svg ")
 is_of_kind Verdicts (b ∷ rest) = starts_with nat_eq (b ∷ rest) (codes "<?xml ")
+is_of_kind Waves (b ∷ rest) = starts_with nat_eq (b ∷ rest) (codes "$comment kind: ")

@@ -43,5 +43,6 @@ pub fn is_of_kind(kind: Kind, beginning: &[u8]) -> bool
         Kind::Rows => beginning.starts_with(b"number,channel,"),
         Kind::Picture => beginning.starts_with(b"<svg "),
         Kind::Verdicts => beginning.starts_with(b"<?xml "),
+        Kind::Waves => beginning.starts_with(b"$comment kind: "),
     }
 }

@@ -16,9 +16,11 @@ pub enum Kind {
     Picture,
     /// Verdicts, as a JUnit report.
     Verdicts,
+    /// The lines of buses over time, as a value change dump.
+    Waves,
 }
 
-/// `recording`, `report`, `image`, `table of messages`, `picture`, `JUnit report`.
+/// `recording`, `report`, `image`, `table of messages`, `picture`, `JUnit report`, `value change dump`.
 impl Display for Kind {
     fn fmt<W: Write>(&self, f: &mut Formatter<W>) -> fmt::Result {
         f.write_str(match self {
@@ -28,6 +30,7 @@ impl Display for Kind {
             Kind::Rows => "table of messages",
             Kind::Picture => "picture",
             Kind::Verdicts => "JUnit report",
+            Kind::Waves => "value change dump",
         })
     }
 }

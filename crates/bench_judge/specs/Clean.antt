@@ -1,5 +1,5 @@
 -- A message as the standard has it (MIL-STD-1553B 4.3.3.6, with Notice 2).
-use Rattle.std.specs.Prelude.{ℕ, ◌+◌, ◌==◌, Bool, true, false, not, ◌&&◌, ◌||◌, nat_le, nat_lt, if◌then◌else◌, List, [], ◌∷◌, length, Option, Some, None, Result, Ok, Err, unwrap_or}
+use Rattle.std.specs.Prelude.{◌≡◌, ℕ, ◌+◌, ◌==◌, Bool, true, false, not, ◌&&◌, ◌||◌, nat_le, nat_lt, if◌then◌else◌, List, [], ◌∷◌, length, Option, Some, None, Result, Ok, Err, unwrap_or}
 use Rattle.std.specs.List.{list_all}
 use Rattle.std.specs.Str.{bytes_eq}
 use Rattle.mil_word.specs.Fields.{has_bit, address_of, code_of, is_broadcast, is_transmit, is_mode, has_message_error, has_busy}
@@ -14,7 +14,8 @@ use Rattle.mil_message.specs.Request.{Request}
 use Rattle.mil_message.specs.Rules.{checked}
 use Rattle.ch11_f1.specs.BodyReading.{Message}
 use Rattle.ch11_layout.specs.Layouts.{first_word}
-use Rattle.bench_judge.specs.Words.{has_two, second_word, statuses, data_words, data_count, gaps}
+use Rattle.bench_select.specs.Selectors.{second_word}
+use Rattle.bench_judge.specs.Words.{has_two, statuses, data_words, data_count, gaps}
 
 -- block status bits of errors: a message error of any kind, a format error, no response or a late one, another number of words than
 -- due, another sync, and an unsound word
@@ -123,3 +124,8 @@ unfoldable pub clean : Message → Bool
 clean m =
     has_no_error m.block && may_be_sent (first_word m)
     && nat_le (data_count m) 32 && is_sent_as (form_with (parts_in m)) m
+
+-- what is known of a message, if anything is: whether it is clean
+abbrev pub IsKnown : Option Bool → Message → Type 0
+IsKnown None m = Unit {0}
+IsKnown (Some known) m = known ≡ clean m

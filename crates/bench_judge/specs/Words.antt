@@ -13,9 +13,6 @@ has_one m = commands_in m == 1
 abbrev pub has_two : Message → Bool
 has_two m = commands_in m == 2
 
-abbrev pub second_word : Message → ℕ
-second_word m = word_of m.bytes 1
-
 -- the status words in front of the data words and behind them
 abbrev pub statuses_by : Layout → List ℕ → List ℕ
 statuses_by l bytes =

@@ -3,8 +3,9 @@ ghost use Rattle.std.specs.Prelude.{◌≡◌, ◌+◌, ◌<◌, ◌^◌, length
 ghost use Rattle.std.specs.List.{list_all};
 ghost use Rattle.ch11_f1.specs.Views.{message_of};
 ghost use Rattle.bench_judge.specs.Checks as spec;
+ghost use Rattle.bench_judge.specs.Clean.{IsKnown};
 
-use crate::clean::is_clean;
+use crate::clean::clean_once;
 use crate::words::statuses;
 use ch11_f1::Seen;
 use ch11_layout::{Layout, first_gap, is_set, second_gap, word_at};
@@ -132,14 +133,22 @@ pub(crate) fn is_count(check: &Check) -> bool
     matches!(check, Check::Count(_))
 }
 
-/// Whether a message meets a check, where the selected message before it in its channel, if there is one, had this stamp.
-pub(crate) fn meets(check: &Check, before: Option<u64>, seen: &Seen<'_>) -> bool
-    ensures { result ≡ spec.meets check.now before (message_of seen.now) }
+/// Whether a message meets a check, where the selected message before it in its channel, if there is one, had this stamp. Whether the
+/// message is clean is worked out at most once.
+pub(crate) fn meets(
+    check: &Check,
+    before: Option<u64>,
+    seen: &Seen<'_>,
+    known: &mut Option<bool>,
+) -> bool
+    requires { IsKnown known.old (message_of seen.now) }
+    ensures met { result ≡ spec.meets check.now before (message_of seen.now) }
+    ensures known { IsKnown known.new (message_of seen.now) }
 {
     match check {
         Check::Sound => !is_set(seen.block, 12),
         Check::Failed => is_set(seen.block, 12),
-        Check::Clean => is_clean(seen),
+        Check::Clean => clean_once(known, seen),
         Check::Status(datum) => has_status(datum, seen),
         Check::Data(wanted) => has_data(wanted.as_slice(), seen),
         Check::Response(bounds) => responds_in(bounds, seen),

@@ -134,3 +134,17 @@ pub fn is_clean(seen: &Seen<'_>) -> bool
             &[first_gap(seen), second_gap(seen)],
         )
 }
+
+/// Whether a message is clean, which is worked out where it is not known yet, and known from then on.
+pub(crate) fn clean_once(known: &mut Option<bool>, seen: &Seen<'_>) -> bool
+    requires { spec.IsKnown known.old (message_of seen.now) }
+    ensures value { result ≡ spec.clean (message_of seen.now) }
+    ensures known { spec.IsKnown known.new (message_of seen.now) }
+{
+    if let Some(clean) = *known {
+        return clean;
+    }
+    let clean = is_clean(seen);
+    *known = Some(clean);
+    clean
+}

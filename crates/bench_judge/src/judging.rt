@@ -43,7 +43,7 @@ fn no_tallies(alloc: Global, rules: &[Rule]) -> Result<Vec<Tally>, AllocError>
     Ok(tallies)
 }
 
-/// One more message for each rule.
+/// One more message for each rule; whether it is clean is worked out at most once.
 fn note_message(
     rules: &[Rule],
     tallies: &mut [Tally],
@@ -54,8 +54,9 @@ fn note_message(
     requires { length tallies.old ≡ length rules.now }
     ensures { (history : List Heard) → AreTallies rules.now history tallies.old → number ≡ length history + 1 → OnOk result (AreTallies rules.now ((channel, message_of seen.now) ∷ history) tallies.new) }
 {
+    let mut known = None;
     'rules: for place in 0..rules.len() {
-        tallies[place].note(&rules[place], number, channel, seen)?;
+        tallies[place].note(&rules[place], number, channel, seen, &mut known)?;
     }
     Ok(())
 }

@@ -2,6 +2,7 @@
 ghost use Rattle.std.specs.Prelude.{◌≡◌, ◌+◌, ◌∷◌, ◌<◌, ◌≤◌, [], true, List, length, OnOk, IfOk};
 ghost use Rattle.ch11_f1.specs.Views.{message_of};
 ghost use Rattle.bench_judge.specs.Checks.{meets as spec_meets};
+ghost use Rattle.bench_judge.specs.Clean.{IsKnown};
 ghost use Rattle.bench_judge.specs.Selection.{selects as selects_message};
 ghost use Rattle.bench_judge.specs.Verdicts.{Heard, latest_stamp};
 ghost use Rattle.bench_judge.specs.Tallies.{IsTally, IsLatest};
@@ -36,7 +37,15 @@ impl Tally {
     }
 
     /// Whether a selected message meets a check. For a check of a period its stamp is the newest of its channel from now on.
-    fn meets(&mut self, check: &Check, channel: u16, seen: &Seen<'_>) -> Result<bool, AllocError>
+    fn meets(
+        &mut self,
+        check: &Check,
+        channel: u16,
+        seen: &Seen<'_>,
+        known: &mut Option<bool>,
+    ) -> Result<bool, AllocError>
+        requires { IsKnown known.old (message_of seen.now) }
+        ensures known { IsKnown known.new (message_of seen.now) }
         ensures selected { self.new.selected ≡ self.old.selected }
         ensures missed { self.new.missed ≡ self.old.missed }
         ensures met { (rule : Rule) → (history : List Heard) → rule.check ≡ check.now → IsLatest rule history self.old → IfOk result (λ met. met ≡ spec_meets check.now (latest_stamp rule channel history) (message_of seen.now)) }
@@ -47,24 +56,27 @@ impl Tally {
                 let before = self.latest.insert(channel, seen.stamp)?;
                 Ok(follows_in(&bounds, before, seen.stamp))
             }
-            None => Ok(meets(check, None, seen)),
+            None => Ok(meets(check, None, seen, known)),
         }
     }
 
-    /// One more message, with its number and its channel.
+    /// One more message, with its number and its channel, and whether it is clean where that is known.
     pub(crate) fn note(
         &mut self,
         rule: &Rule,
         number: u64,
         channel: u16,
         seen: &Seen<'_>,
+        known: &mut Option<bool>,
     ) -> Result<(), AllocError>
-        ensures { (history : List Heard) → IsTally rule.now history self.old → number ≡ length history + 1 → OnOk result (IsTally rule.now ((channel, message_of seen.now) ∷ history) self.new) }
+        requires { IsKnown known.old (message_of seen.now) }
+        ensures known { IsKnown known.new (message_of seen.now) }
+        ensures noted { (history : List Heard) → IsTally rule.now history self.old → number ≡ length history + 1 → OnOk result (IsTally rule.now ((channel, message_of seen.now) ∷ history) self.new) }
     {
         if !selects(rule, channel, seen) {
             return Ok(());
         }
-        let met = self.meets(&rule.check, channel, seen)?;
+        let met = self.meets(&rule.check, channel, seen, known)?;
         self.selected = self.selected.saturating_add(1);
         if !met {
             self.missed.push(Miss {

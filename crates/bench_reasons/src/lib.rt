@@ -1,5 +1,5 @@
 //! Why a text is refused, in words: which of its words is at fault, what is wrong with it, and what to do. What is
-//! said here stands behind a fault's line, and changes nothing of that line.
+//! said here stands behind a fault's line, and changes nothing of that line. Its tests are in `command_tests`.
 #![tactic(auto)]
 
 mod fault;
@@ -15,8 +15,6 @@ mod session;
 mod showing;
 mod spans;
 mod symbols;
-#[cfg(test)]
-mod tests;
 mod tokens;
 mod view;
 mod walk;

@@ -1,6 +1,10 @@
 -- An entry, a controller and an inbox may go to another thread, and a job and a mailbox may be seen by one.
-use denote.Param.Send.{IsSend, IsSync, sendable}
-use denote.Param.SendFields.{declared_send, declared_sync}
+use denote.RattleType.{RattleType}
+use denote.Param.Send.{IsSend, IsSync, sendable, number_array_send, view_send}
+use denote.Param.{ArrayAt}
+use denote.Param.SendFields.{declared_send, declared_sync, as_row_send}
+use denote.Struct.Field.{row_field}
+use Rattle.std.specs.declared.default.Default.{Ghosts}
 use Rattle.std.proofs.Crossing.{crosses}
 use Rattle.std.proofs.MapsCrossing as maps
 use Rattle.frame_load.specs.contracts.Program as program
@@ -11,10 +15,11 @@ use Rattle.mil_bus.specs.contracts.terminals.Terminals as terminals
 use Rattle.mil_bus.specs.contracts.buses.Bus as bus
 use Rattle.bc_machine.specs.contracts.placed.Placed as placed
 use Rattle.bc_machine.specs.contracts.schedule.Schedule as schedule
-use Rattle.bc_machine.specs.contracts.counters.Counters as counters
-use Rattle.bc_machine.specs.contracts.returns.Returns as returns
+use Rattle.bc_machine.specs.contracts.stack.Stack as stack
+use Rattle.bc_machine.specs.contracts.stack.Stack.TheInside as inside
 use Rattle.mil_bus.specs.contracts.outcomes.Outcome as outcome
 use Rattle.bc_machine.specs.contracts.parts.Parts as parts
+use Rattle.bc_machine.specs.contracts.parts.Parts.TheInside as parts_inside
 use Rattle.bc_machine.specs.contracts.machine.Machine as machine
 use Rattle.job_file.specs.contracts.jobs.Job as job
 use Rattle.bench_run.specs.contracts.entry.Entry as entry
@@ -55,20 +60,20 @@ terminals_send = search (terminal_send, sendable, crosses) depth 40 fits 10000
 bus_send : IsSend bus.the_row
 bus_send = search (terminals_send, sendable, crosses) depth 40 fits 10000
 
-counters_send : IsSend counters.the_row
-counters_send = search (sendable, crosses) depth 40 fits 10000
-
 schedule_send : IsSend schedule.the_row
 schedule_send = search (placed_send, sendable, crosses) depth 40 fits 10000
 
-returns_send : IsSend returns.the_row
-returns_send = search (sendable, crosses) depth 40 fits 10000
+-- a stack, where what is in it may go
+stack_send : (T N : RattleType) (given : Ghosts T.Denot) → IsSend T → IsSend (stack.the_row T N given)
+stack_send T N given sent =
+    let slots = as_row_send (row_field (ArrayAt T N)) (number_array_send T N sent) in
+    view_send (inside.the_row T N given) _ _ _ _ (declared_send (inside.the_type T N given) (slots, (search (sendable, crosses) depth 40, tt)))
 
 outcome_send : IsSend outcome.the_row
 outcome_send = search (sendable, crosses) depth 40 fits 10000
 
 parts_send : IsSend parts.the_row
-parts_send = search (program_send, plan_send, bus_send, counters_send, schedule_send, returns_send, outcome_send, sendable, crosses) depth 80 fits 20000
+parts_send = view_send parts_inside.the_row _ _ _ _ (declared_send parts_inside.the_type ((search (program_send, sendable, crosses) depth 40 fits 20000), ((search (plan_send, sendable, crosses) depth 40 fits 20000), ((search (schedule_send, sendable, crosses) depth 40 fits 20000), ((search (schedule_send, sendable, crosses) depth 40 fits 20000), ((search (sendable, crosses) depth 40 fits 20000), ((search (sendable, crosses) depth 40 fits 20000), ((search (sendable, crosses) depth 40 fits 20000), ((search (stack_send, sendable, crosses) depth 40 fits 20000), ((search (stack_send, sendable, crosses) depth 40 fits 20000), ((search (stack_send, sendable, crosses) depth 40 fits 20000), ((search (sendable, crosses) depth 40 fits 20000), ((search (sendable, crosses) depth 40 fits 20000), ((search (bus_send, sendable, crosses) depth 40 fits 20000), ((search (sendable, crosses) depth 40 fits 20000), ((search (sendable, crosses) depth 40 fits 20000), ((search (outcome_send, sendable, crosses) depth 40 fits 20000), ((search (sendable, crosses) depth 40 fits 20000), tt))))))))))))))))))
 
 pub machine_send : IsSend machine.the_row
 machine_send = search (parts_send, sendable, crosses) depth 40 fits 10000

@@ -1,5 +1,5 @@
 -- One more to count.
-use Rattle.std.proofs.Common.{◌≡◌, ℕ, ◌+◌, ◌-◌, ◌==◌, Bool, true, false, if◌then◌else◌, List, ◌∷◌, length, sym, ap, ◌∙◌, arith}
+use Rattle.std.proofs.Common.{◌≡◌, ℕ, ◌+◌, ◌==◌, Bool, true, false, if◌then◌else◌, List, ◌∷◌, length, sym, ap, ◌∙◌, arith}
 use Rattle.std.specs.List.{sum_by, count_by}
 use Rattle.std.proofs.lemmas.List.Sums.{sum_by-cons}
 use Rattle.ch11_f1.specs.BodyReading.{Message}
@@ -17,7 +17,7 @@ capped_more x y = omega arith
 pub counted_more : {X : Type 0} (p : X → Bool) (x : X) (xs : List X) → capped (capped (count_by p xs) + one_if (p x)) ≡ capped (count_by p (x ∷ xs))
 counted_more {X} p x xs = capped_more (count_by p xs) (one_if (p x)) ∙ ap capped (sym (sum_by-cons (λ (y : X). one_if (p y)) x xs))
 
-summed_more : {X : Type 0} (f : X → ℕ) (x : X) (xs : List X) → capped (capped (sum_by f xs) + f x) ≡ capped (sum_by f (x ∷ xs))
+pub summed_more : {X : Type 0} (f : X → ℕ) (x : X) (xs : List X) → capped (capped (sum_by f xs) + f x) ≡ capped (sum_by f (x ∷ xs))
 summed_more f x xs = capped_more (sum_by f xs) (f x) ∙ ap capped (sym (sum_by-cons f x xs))
 
 pub one_more : {X : Type 0} (x : X) (xs : List X) → capped (capped (length xs) + 1) ≡ capped (length (x ∷ xs))

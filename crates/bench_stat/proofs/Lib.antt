@@ -2,3 +2,5 @@ pub mod Counting
 pub mod Addresses
 pub mod Present
 pub mod Histories
+pub mod Following
+pub mod Packets

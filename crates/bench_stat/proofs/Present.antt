@@ -12,7 +12,10 @@ use Rattle.ch11_reader.specs.declared.packet.Packet.{Packet}
 use Rattle.ch11_reader.specs.Recording.{Found, holds_messages}
 use Rattle.ch11_reader.specs.Listing.{listing_behind, listing}
 use Rattle.bench_stat.specs.declared.channels.ChannelFigures.{ChannelFigures}
-use Rattle.bench_stat.specs.Figures.{ArePresent, headers, headers_listed, has_channel, channels_below, figures_of_channel, history_of, figures_among}
+use Rattle.bench_stat.specs.Figures.{ArePresent, headers, headers_listed, has_channel, is_listed, channels_below, figures_of_channel, figures_among}
+use Rattle.bench_stat.specs.Chosen.{history_of}
+use Rattle.bench_select.specs.declared.selection.Selection.{Selection}
+use Rattle.bench_select.specs.Selectors.{is_chosen}
 
 headers_behind : (earlier ps : List Found) → headers_listed (listing_behind earlier ps) ≡ headers ps
 headers_behind earlier [] = refl
@@ -25,36 +28,41 @@ same_headers ps entries is = ap headers_listed is ∙ headers_behind [] ps
 numbers_more : (n : ℕ) → range_with_len 0 (n + 1) ≡ range_with_len 0 n ++ n ∷ []
 numbers_more n = sym (map-id (range_with_len 0 (n + 1))) ∙ map-range_with_len_more (λ (x : ℕ). x) 0 n n (omega arith) ∙ ap (λ (xs : List ℕ). xs ++ n ∷ []) (map-id (range_with_len 0 n))
 
-channels_more : (n : ℕ) (hs : List Header) → channels_below (n + 1) hs ≡ channels_below n hs ++ filter (λ (channel : ℕ). has_channel channel hs) (n ∷ [])
+channels_more : (s : Selection) (n : ℕ) (hs : List Header) → channels_below s (n + 1) hs ≡ channels_below s n hs ++ filter (is_listed s hs) (n ∷ [])
 unfolding channels_below
-channels_more n hs =
-    ap (filter (λ (channel : ℕ). has_channel channel hs)) (numbers_more n) ∙ filter-append (λ (channel : ℕ). has_channel channel hs) (range_with_len 0 n) (n ∷ [])
+channels_more s n hs = ap (filter (is_listed s hs)) (numbers_more n) ∙ filter-append (is_listed s hs) (range_with_len 0 n) (n ∷ [])
 
-pub no_channels : (hs : List Header) → channels_below 0 hs ≡ []
+pub no_channels : (s : Selection) (hs : List Header) → channels_below s 0 hs ≡ []
 unfolding channels_below
-no_channels hs = refl
+no_channels s hs = refl
 
-pub channel_absent : (n : ℕ) (hs : List Header) → has_channel n hs ≡ false → channels_below (n + 1) hs ≡ channels_below n hs
-channel_absent n hs absent = channels_more n hs ∙ ap (λ (b : Bool). channels_below n hs ++ cond b (n ∷ []) []) absent ∙ append-nil (channels_below n hs)
+channel_absent : (s : Selection) (n : ℕ) (hs : List Header) → is_listed s hs n ≡ false → channels_below s (n + 1) hs ≡ channels_below s n hs
+channel_absent s n hs absent = channels_more s n hs ∙ ap (λ (b : Bool). channels_below s n hs ++ cond b (n ∷ []) []) absent ∙ append-nil (channels_below s n hs)
 
-pub channel_present : (n : ℕ) (hs : List Header) → has_channel n hs ≡ true → channels_below (n + 1) hs ≡ channels_below n hs ++ n ∷ []
-channel_present n hs present = channels_more n hs ∙ ap (λ (b : Bool). channels_below n hs ++ cond b (n ∷ []) []) present
+channel_present : (s : Selection) (n : ℕ) (hs : List Header) → is_listed s hs n ≡ true → channels_below s (n + 1) hs ≡ channels_below s n hs ++ n ∷ []
+channel_present s n hs present = channels_more s n hs ∙ ap (λ (b : Bool). channels_below s n hs ++ cond b (n ∷ []) []) present
 
--- one more channel, of which there are no packets of messages
-pub goes_by : (n : ℕ) (ps : List Found) (entries : List Packet) (marks : List Bool) (mark : Bool) (figures : List ChannelFigures)
-    → entries ≡ listing ps → ArePresent marks (headers_listed entries) → n < 65536 → mark ≡ get_or marks n false → mark ≡ false
-    → figures ≡ figures_among (channels_below n (headers ps)) ps → figures ≡ figures_among (channels_below (n + 1) (headers ps)) ps
-goes_by n ps entries marks mark figures listed present below marked absent is =
-    is ∙ ap (λ (cs : List ℕ). figures_among cs ps) (sym (channel_absent n (headers ps) (ap (has_channel n) (sym (same_headers ps entries listed)) ∙ sym (present n below) ∙ sym marked ∙ absent)))
+-- whether a channel is listed is told by the marks
+told : (s : Selection) (n : ℕ) (ps : List Found) (entries : List Packet) (marks : List Bool) (listed : Bool)
+    → entries ≡ listing ps → ArePresent marks (headers_listed entries) → n < 65536 → listed ≡ (is_chosen s.channel n && get_or marks n false) → is_listed s (headers ps) n ≡ listed
+told s n ps entries marks listed same present below is =
+    ap (λ (hs : List Header). is_chosen s.channel n && has_channel n hs) (sym (same_headers ps entries same)) ∙ ap (λ (b : Bool). is_chosen s.channel n && b) (sym (present n below)) ∙ sym is
 
--- one more channel, of which there are some
-pub goes_on : (n : ℕ) (ps : List Found) (entries : List Packet) (marks : List Bool) (mark : Bool) (figures : List ChannelFigures) (more : ChannelFigures)
-    → entries ≡ listing ps → ArePresent marks (headers_listed entries) → n < 65536 → mark ≡ get_or marks n false → mark ≡ true
-    → more ≡ figures_of_channel n (history_of ps n) → figures ≡ figures_among (channels_below n (headers ps)) ps → figures ++ more ∷ [] ≡ figures_among (channels_below (n + 1) (headers ps)) ps
-goes_on n ps entries marks mark figures more listed present below marked there one is =
-    ap (λ (x : ChannelFigures). figures ++ x ∷ []) one ∙ ap (λ (xs : List ChannelFigures). xs ++ figures_of_channel n (history_of ps n) ∷ []) is
-    ∙ sym (map_push (λ (channel : ℕ). figures_of_channel channel (history_of ps channel)) (channels_below n (headers ps)) n)
-    ∙ ap (λ (cs : List ℕ). figures_among cs ps) (sym (channel_present n (headers ps) (ap (has_channel n) (sym (same_headers ps entries listed)) ∙ sym (present n below) ∙ sym marked ∙ there)))
+-- one more channel, which is not listed
+pub goes_by : (s : Selection) (n : ℕ) (ps : List Found) (entries : List Packet) (marks : List Bool) (listed : Bool) (figures : List ChannelFigures)
+    → entries ≡ listing ps → ArePresent marks (headers_listed entries) → n < 65536 → listed ≡ (is_chosen s.channel n && get_or marks n false) → listed ≡ false
+    → figures ≡ figures_among s (channels_below s n (headers ps)) ps → figures ≡ figures_among s (channels_below s (n + 1) (headers ps)) ps
+goes_by s n ps entries marks listed figures same present below told_by absent is =
+    is ∙ ap (λ (cs : List ℕ). figures_among s cs ps) (sym (channel_absent s n (headers ps) (told s n ps entries marks listed same present below told_by ∙ absent)))
+
+-- one more channel, which is listed
+pub goes_on : (s : Selection) (n : ℕ) (ps : List Found) (entries : List Packet) (marks : List Bool) (listed : Bool) (figures : List ChannelFigures) (more : ChannelFigures)
+    → entries ≡ listing ps → ArePresent marks (headers_listed entries) → n < 65536 → listed ≡ (is_chosen s.channel n && get_or marks n false) → listed ≡ true
+    → more ≡ figures_of_channel n (history_of s ps n) → figures ≡ figures_among s (channels_below s n (headers ps)) ps → figures ++ more ∷ [] ≡ figures_among s (channels_below s (n + 1) (headers ps)) ps
+goes_on s n ps entries marks listed figures more same present below told_by there one is =
+    ap (λ (x : ChannelFigures). figures ++ x ∷ []) one ∙ ap (λ (xs : List ChannelFigures). xs ++ figures_of_channel n (history_of s ps n) ∷ []) is
+    ∙ sym (map_push (λ (channel : ℕ). figures_of_channel channel (history_of s ps channel)) (channels_below s n (headers ps)) n)
+    ∙ ap (λ (cs : List ℕ). figures_among s cs ps) (sym (channel_present s n (headers ps) (told s n ps entries marks listed same present below told_by ∙ there)))
 
 or_false : (b : Bool) → (b || false) ≡ b
 or_false true = refl

@@ -1,13 +1,15 @@
 -- What is counted of a channel's messages, which stand newest first (own choice). Counts and sums go as far as 64 bits
 -- count them.
-use Rattle.std.specs.Prelude.{◌≡◌, ◌<◌, slice_index_or, ℕ, ◌+◌, ◌*◌, ◌-◌, ◌^◌, ◌==◌, Bool, true, false, not, ◌&&◌, ◌||◌, if◌then◌else◌, List, [], ◌∷◌, length, map, reverse, min, max}
+use Rattle.std.specs.Prelude.{◌≡◌, ◌<◌, slice_index_or, ℕ, ◌+◌, ◌*◌, ◌-◌, ◌^◌, ◌==◌, Bool, true, false, not, ◌&&◌, ◌||◌, if◌then◌else◌, List, [], ◌∷◌, length, map, min, max}
 use Rattle.std.specs.List.{sum_by, count_by, filter, list_any, range_with_len}
 use Rattle.mil_word.specs.Fields.{has_bit}
 use Rattle.ch11_header.specs.declared.header.Header.{Header}
 use Rattle.ch11_f1.specs.BodyReading.{Message}
 use Rattle.ch11_reader.specs.declared.packet.Packet.{Packet}
 use Rattle.ch11_reader.specs.Recording.{Found, holds_messages}
-use Rattle.ch11_reader.specs.Contents.{reading}
+use Rattle.bench_select.specs.declared.selection.Selection.{Selection}
+use Rattle.bench_select.specs.Selectors.{is_chosen}
+use Rattle.bench_stat.specs.Chosen.{history_of}
 use Rattle.ch11_layout.specs.Layouts.{size_of, first_gap, second_gap}
 use Rattle.bench_stat.specs.declared.calls.Call.{Call}
 use Rattle.bench_stat.specs.declared.calls.CallKind.TheVariants.{Receive, Transmit, Mode}
@@ -140,18 +142,18 @@ headers_listed entries = map (λ (e : Packet). e.header) entries
 abbrev pub ArePresent : List Bool → List Header → Type 0
 ArePresent marks hs = (c : ℕ) → c < 65536 → slice_index_or marks c false ≡ has_channel c hs
 
--- the channels below a number of which there are such packets, in rising order
-unfoldable pub channels_below : ℕ → List Header → List ℕ
-channels_below bound hs = filter (λ channel. has_channel channel hs) (range_with_len 0 bound)
+-- the selection is of the channel, and there are such packets of it
+abbrev pub is_listed : Selection → List Header → ℕ → Bool
+is_listed s hs channel = is_chosen s.channel channel && has_channel channel hs
 
--- the messages of a channel, newest first
-abbrev pub history_of : List Found → ℕ → List Message
-history_of ps channel = reverse (reading ps channel)
+-- these channels below a number, in rising order
+unfoldable pub channels_below : Selection → ℕ → List Header → List ℕ
+channels_below s bound hs = filter (is_listed s hs) (range_with_len 0 bound)
 
 -- the figures of these channels
-abbrev pub figures_among : List ℕ → List Found → List ChannelFigures
-figures_among channels ps = map (λ channel. figures_of_channel channel (history_of ps channel)) channels
+abbrev pub figures_among : Selection → List ℕ → List Found → List ChannelFigures
+figures_among s channels ps = map (λ channel. figures_of_channel channel (history_of s ps channel)) channels
 
--- the figures of all channels of a recording, in rising order of their numbers
-abbrev pub statistics : List Found → List ChannelFigures
-statistics ps = figures_among (channels_below 65536 (headers ps)) ps
+-- the figures of the channels of a recording that a selection is of, in rising order of their numbers
+abbrev pub statistics : Selection → List Found → List ChannelFigures
+statistics s ps = figures_among s (channels_below s 65536 (headers ps)) ps

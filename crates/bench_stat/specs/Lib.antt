@@ -1,4 +1,9 @@
 pub mod Sendings
+pub mod Chosen
 pub mod Figures
 pub mod Steps
-pub mod Answers
+pub mod Flows
+pub mod Entries
+pub mod Replies
+pub mod Slices
+pub mod Details

@@ -37,7 +37,12 @@ kind_of command = if is_mode command then Mode else if is_transmit command then 
 
 -- a command word with its message's error, and the response time of the terminal that it calls
 abbrev pub call_by : ℕ → Bool → ℕ → Call
-call_by command failed response = record { address = address_of command; kind = kind_of command; failed = failed; response = response }
+call_by command failed response = record {
+  address = address_of command;
+  kind = kind_of command;
+  failed = failed;
+  response = response;
+}
 
 -- the calls of a message that was sent so, the latest first: where there are two, the second calls the sender, whose
 -- reply is the first
@@ -66,7 +71,9 @@ is_same_word (Some a) None = false
 -- a retry on the other line: the message before it had an error, the commands are the same, the line is the other one
 abbrev pub is_retry : Sending → Sending → Bool
 is_retry before now =
-    before.failed && (not (if before.line_b then now.line_b else not now.line_b) && (is_same_word before.first now.first && is_same_word before.second now.second))
+    before.failed
+    && (not (if before.line_b then now.line_b else not now.line_b)
+    && (is_same_word before.first now.first && is_same_word before.second now.second))
 
 abbrev pub is_retry_behind : Option Sending → Sending → Bool
 is_retry_behind None now = false

@@ -8,8 +8,8 @@ use crate::counts::counted;
 use ch11_f1::Seen;
 use ch11_layout::is_set;
 
-/// How many messages had which error, by the block status word (IRIG 106-17 Chapter 11). A message counts under each kind
-/// that it has. Counts go as far as 64 bits count.
+/// How many messages had which error, by the block status word (IRIG 106-17 Chapter 11). A message counts under each
+/// kind that it has. Counts go as far as 64 bits count.
 #[derive(Clone, Copy, Debug, PartialEq, Eq)]
 pub struct Errors {
     /// Messages with an error of whatever kind: bit 12.

@@ -1,4 +1,4 @@
-//! The figures as text: aligned for people, or rows of comma-separated values.
+//! The figures of a channel and its terminals as text: aligned for people, or rows of comma-separated values.
 
 use crate::channels::ChannelFigures;
 use crate::errors::Errors;
@@ -23,6 +23,7 @@ struct Parts {
 }
 
 impl Parts {
+    /// A number of tenths.
     fn of_tenths(number: u64) -> Parts {
         Parts {
             whole: number / 10,
@@ -30,6 +31,7 @@ impl Parts {
         }
     }
 
+    /// A number of hundredths.
     fn of_hundredths(number: u64) -> Parts {
         Parts {
             whole: number / 100,
@@ -38,17 +40,9 @@ impl Parts {
     }
 }
 
-/// Writes the figures of each channel as lines aligned for people. A fault is the writer's.
-pub fn print_statistics<W: Write>(out: &mut W, figures: &[ChannelFigures]) -> io::Result<()> {
-    for channel in figures {
-        print_channel(out, channel)?;
-    }
-    Ok(())
-}
-
-/// Writes a row of comma-separated values for each terminal address that was called, behind a row with the names of the columns.
-/// A fault is the writer's.
-pub fn print_rows<W: Write>(out: &mut W, figures: &[ChannelFigures]) -> io::Result<()> {
+/// Writes a row of comma-separated values for each terminal address that was called, behind a row with the names of the
+/// columns. A fault is the writer's.
+pub(crate) fn print_rows<W: Write>(out: &mut W, figures: &[ChannelFigures]) -> io::Result<()> {
     writeln!(out, "{NAMES}")?;
     for channel in figures {
         for (address, terminal) in channel.terminals.iter().enumerate() {
@@ -60,23 +54,19 @@ pub fn print_rows<W: Write>(out: &mut W, figures: &[ChannelFigures]) -> io::Resu
     Ok(())
 }
 
-fn print_channel<W: Write>(out: &mut W, figures: &ChannelFigures) -> io::Result<()> {
-    let channel = figures.channel;
-    writeln!(out, "channel {channel}")?;
-    print_traffic(out, &figures.traffic)?;
-    print_errors(out, &figures.errors)?;
-    let retries = figures.retries;
-    writeln!(out, "  retries   {retries} on the other line")?;
-    print_terminals(out, &figures.terminals)
-}
-
-fn print_traffic<W: Write>(out: &mut W, traffic: &Traffic) -> io::Result<()> {
+/// Writes how much a channel carried. The span is in µs.
+pub(crate) fn print_traffic<W: Write>(out: &mut W, traffic: &Traffic) -> io::Result<()> {
     let span = Parts::of_tenths(traffic.span());
     let (whole, part) = (span.whole, span.part);
     writeln!(out, "  span      {whole}.{part} us")?;
     let (messages, words) = (traffic.messages, traffic.words);
     writeln!(out, "  messages  {messages}")?;
     writeln!(out, "  words     {words}")?;
+    print_load_line(out, traffic)
+}
+
+/// Writes the bus load in per cent, '-' where no time passed.
+pub(crate) fn print_load_line<W: Write>(out: &mut W, traffic: &Traffic) -> io::Result<()> {
     match traffic.load() {
         Some(load) => {
             let load = Parts::of_hundredths(load);
@@ -87,7 +77,13 @@ fn print_traffic<W: Write>(out: &mut W, traffic: &Traffic) -> io::Result<()> {
     }
 }
 
-fn print_errors<W: Write>(out: &mut W, errors: &Errors) -> io::Result<()> {
+/// Writes how many messages were a retry on the other line.
+pub(crate) fn print_retries<W: Write>(out: &mut W, retries: u64) -> io::Result<()> {
+    writeln!(out, "  retries   {retries} on the other line")
+}
+
+/// Writes how many messages had an error, and how many of them each kind.
+pub(crate) fn print_errors<W: Write>(out: &mut W, errors: &Errors) -> io::Result<()> {
     let (messages, response, words) = (errors.messages, errors.response, errors.word_count);
     let (sync, unsound, other) = (errors.sync, errors.unsound, errors.other);
     writeln!(
@@ -96,7 +92,12 @@ fn print_errors<W: Write>(out: &mut W, errors: &Errors) -> io::Result<()> {
     )
 }
 
-fn print_terminals<W: Write>(out: &mut W, terminals: &[TerminalFigures]) -> io::Result<()> {
+/// Writes a line for each terminal address that was called, under a line with the names of the columns; nothing where
+/// none was called.
+pub(crate) fn print_terminals<W: Write>(
+    out: &mut W,
+    terminals: &[TerminalFigures],
+) -> io::Result<()> {
     let called = terminals.iter().any(|terminal| terminal.commands() > 0);
     if called {
         writeln!(out, "{COLUMNS}")?;
@@ -109,6 +110,8 @@ fn print_terminals<W: Write>(out: &mut W, terminals: &[TerminalFigures]) -> io::
     Ok(())
 }
 
+/// Writes the line of a terminal address, which is 'all' for 31, the address of all terminals. Response times are in
+/// µs, '-' where there was no response.
 fn print_terminal<W: Write>(
     out: &mut W,
     address: usize,
@@ -139,6 +142,7 @@ fn print_terminal<W: Write>(
     writeln!(out, " {whole:>10}.{part}")
 }
 
+/// Writes the row of a terminal address. Response times are in µs, and empty where there was no response.
 fn print_row<W: Write>(
     out: &mut W,
     channel: u16,

@@ -67,7 +67,7 @@ impl Traffic {
 }
 
 /// How long a message takes, in ticks, as far as 64 bits count.
-fn time_of(seen: &Seen<'_>) -> u64
+pub(crate) fn time_of(seen: &Seen<'_>) -> u64
     ensures { result ≡ capped (duration (message_of seen.now)) }
 {
     let (first, second) = (first_gap(seen), second_gap(seen));

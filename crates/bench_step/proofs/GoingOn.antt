@@ -13,29 +13,42 @@ use Rattle.bench_report.specs.Spelling.{is_line_end, text_lines}
 use Rattle.bench_report.proofs.LineLemmas.{text_lines-none}
 use Rattle.replay.specs.Moves.{ReplayState}
 use Rattle.bench_step.specs.Commands.{asked}
-use Rattle.bench_step.specs.Session.{Replies, after_reply, reply_text, is_memory, AreReplies, after_replies, session_text, any_memory}
-use Rattle.bench_step.specs.Answering.{IsAnswered, IsSession, IsAccepted, IsThrough, IsEnded, IsReaders, IsCutShort, opened}
+use Rattle.bench_step.specs.Session.{Replies, after_reply, reply_text, is_memory, is_end, MayTell, AreReplies, after_replies, AreTold, session_text, any_memory}
+use Rattle.bench_step.specs.Answering.{IsAnswered, IsSession, IsAllRead, IsAccepted, IsThrough, IsEnded, IsReaders, IsCutShort, is_quit, up_to_quit, any_quit, opened}
+use Rattle.bench_step.specs.declared.manners.Manner.{Manner}
 use Rattle.bench_step.specs.declared.replies.Reply.{Reply}
+use Rattle.bench_step.proofs.Ending.{end_is, one_more_quit, last_quits, all_to_quit, none_quits}
 use Rattle.bench_step.specs.declared.fault.StepFault.{StepFault}
 use Rattle.bench_step.specs.declared.fault.StepFault.TheVariants as fault
 use Rattle.bench_step.proofs.Lines.{line_read, some_left}
 
 -- one more reply
-one_more_reply : (s : ReplayState) (lines : List Text) (replies : List Reply) (line : Text) (r : Reply) → AreReplies s lines replies → Replies (after_replies replies s) (asked line) r → AreReplies s (lines ++ line ∷ []) (replies ++ r ∷ [])
-one_more_reply s [] [] line r are this = (this, tt)
-one_more_reply s [] (q ∷ qs) line r are this = absurd are
-one_more_reply s (l ∷ ls) [] line r are this = absurd are
-one_more_reply s (l ∷ ls) (q ∷ qs) line r are this = (are.0, one_more_reply (after_reply q s) ls qs line r are.1 this)
+one_more_reply : (manner : Manner) (s : ReplayState) (lines : List Text) (replies : List Reply) (line : Text) (r : Reply) → AreReplies manner s lines replies
+    → Replies (after_replies replies s) (asked manner line) r → AreReplies manner s (lines ++ line ∷ []) (replies ++ r ∷ [])
+one_more_reply manner s [] [] line r are this = (this, tt)
+one_more_reply manner s [] (q ∷ qs) line r are this = absurd are
+one_more_reply manner s (l ∷ ls) [] line r are this = absurd are
+one_more_reply manner s (l ∷ ls) (q ∷ qs) line r are this = (are.0, one_more_reply manner (after_reply q s) ls qs line r are.1 this)
 
 one_more_after : (s : ReplayState) (replies : List Reply) (r : Reply) → after_replies (replies ++ r ∷ []) s ≡ after_reply r (after_replies replies s)
 one_more_after s [] r = refl
 one_more_after s (q ∷ qs) r = one_more_after (after_reply q s) qs r
 
-one_more_text : (s : ReplayState) (replies : List Reply) (r : Reply) → session_text (replies ++ r ∷ []) s ≡ session_text replies s ++ reply_text r (after_reply r (after_replies replies s))
-one_more_text s [] r = append-nil (reply_text r (after_reply r s))
-one_more_text s (q ∷ qs) r =
-    ap (λ (l : Text). reply_text q (after_reply q s) ++ l) (one_more_text (after_reply q s) qs r)
-    ∙ sym (append_assoc (reply_text q (after_reply q s)) (session_text qs (after_reply q s)) (reply_text r (after_reply r (after_replies qs (after_reply q s)))))
+one_more_told : (manner : Manner) (replies : List Reply) (ts : List Text) (r : Reply) (t : Text) → AreTold manner replies ts → MayTell manner r t
+    → AreTold manner (replies ++ r ∷ []) (ts ++ t ∷ [])
+one_more_told manner [] [] r t are this = (this, tt)
+one_more_told manner [] (u ∷ us) r t are this = absurd are
+one_more_told manner (q ∷ qs) [] r t are this = absurd are
+one_more_told manner (q ∷ qs) (u ∷ us) r t are this = (are.0, one_more_told manner qs us r t are.1 this)
+
+one_more_text : (manner : Manner) (s : ReplayState) (replies : List Reply) (ts : List Text) (r : Reply) (t : Text) → AreTold manner replies ts
+    → session_text (replies ++ r ∷ []) (ts ++ t ∷ []) s ≡ session_text replies ts s ++ (reply_text r (after_reply r (after_replies replies s)) ++ t)
+one_more_text manner s [] [] r t are = append-nil (reply_text r (after_reply r s) ++ t)
+one_more_text manner s [] (u ∷ us) r t are = absurd are
+one_more_text manner s (q ∷ qs) [] r t are = absurd are
+one_more_text manner s (q ∷ qs) (u ∷ us) r t are =
+    ap (λ (l : Text). (reply_text q (after_reply q s) ++ u) ++ l) (one_more_text manner (after_reply q s) qs us r t are.1)
+    ∙ sym (append_assoc (reply_text q (after_reply q s) ++ u) (session_text qs us (after_reply q s)) (reply_text r (after_reply r (after_replies qs (after_reply q s))) ++ t))
 
 one_more_memory : (replies : List Reply) (r : Reply) → any_memory (replies ++ r ∷ []) ≡ (any_memory replies || is_memory r)
 one_more_memory [] r = or_false (is_memory r)
@@ -49,9 +62,17 @@ one_more_memory (q ∷ qs) r = go (is_memory q) (one_more_memory qs r)
     go true is = refl
     go false is = is
 
+-- a session that goes on: no line so far ends it
+pub record IsGoingOn (manner : Manner) (s new : ReplayState) (left leaves got gets : Option (List ℕ)) (refused : Bool) : Type 0 where
+  pub session : IsSession manner s new left leaves got gets refused
+  pub on : any_quit manner session.lines ≡ false
+
 -- no line was read yet
-pub begins : (s : ReplayState) (left got : Option (List ℕ)) → IsSession s s left left got got false
-begins s left got = record { lines = []; replies = []; read = known left; lawful = tt; after = refl; printed = Appends-nil got; memory = refl }
+pub begins : (manner : Manner) (s : ReplayState) (left got : Option (List ℕ)) → IsGoingOn manner s s left left got got false
+begins manner s left got = record {
+  session = record { lines = []; replies = []; told = []; read = known left; lawful = tt; after = refl; tells = tt; printed = Appends-nil got; memory = refl };
+  on = refl;
+}
   where
     known : (left : Option (List ℕ)) → IfSome left (λ text. (rest : List ℕ) × (left ≡ Some rest) × (text_lines text ≡ [] ++ text_lines rest))
     known None = tt
@@ -76,71 +97,123 @@ more_read (Some text) (Some xs) then lines line bytes some is gave drops so_far 
     (drop_through 10 xs, drops, so_far.2 ∙ (rw (← same, first) (sym (append_assoc lines (line ∷ []) (text_lines (drop_through 10 xs))))))
 
 -- one more line was read and answered
-pub goes_on : (s mid new : ReplayState) (left leaves then got gets last : Option (List ℕ)) (line bytes : Text) (before this after : Bool) → IsSession s mid left leaves got gets before
+goes_on : (manner : Manner) (s mid new : ReplayState) (left leaves then got gets last : Option (List ℕ)) (line bytes : Text) (before this after ends : Bool)
+    → IsSession manner s mid left leaves got gets before
     → 0 < length bytes → line ≡ before_first is_line_end bytes → IfSome leaves (λ xs. bytes ≡ take_through 10 xs) → DropsThrough leaves then 10
-    → IsAnswered mid new line gets last this → after ≡ (before || this) → IsSession s new left then got last after
-goes_on s mid new left leaves then got gets last line bytes before this after h some is gave drops a both = record {
+    → IsAnswered manner mid new line gets last this ends → after ≡ (before || this) → IsSession manner s new left then got last after
+goes_on manner s mid new left leaves then got gets last line bytes before this after ends h some is gave drops a both = record {
   lines = h.lines ++ line ∷ [];
   replies = h.replies ++ a.reply ∷ [];
+  told = h.told ++ a.told ∷ [];
   read = more_read left leaves then h.lines line bytes some is gave drops h.read;
-  lawful = one_more_reply s h.lines h.replies line a.reply h.lawful (rw (← h.after) a.lawful);
+  lawful = one_more_reply manner s h.lines h.replies line a.reply h.lawful (rw (← h.after) a.lawful);
   after = a.after ∙ (rw h.after (sym (one_more_after s h.replies a.reply)));
-  printed = rw (one_more_text s h.replies a.reply, ← h.after, ← a.after) (Appends-trans got gets last (session_text h.replies s) (reply_text a.reply new) h.printed a.printed);
+  tells = one_more_told manner h.replies h.told a.reply a.told h.tells a.tells;
+  printed = rw (one_more_text manner s h.replies h.told a.reply a.told h.tells, ← h.after, ← a.after) (Appends-trans got gets last (session_text h.replies h.told s) (reply_text a.reply new ++ a.told) h.printed a.printed);
   memory = both ∙ (rw (h.memory, a.memory) (sym (one_more_memory h.replies a.reply)));
 }
 
+-- whether a line that was answered ends the session
+ends_is : (manner : Manner) (old new : ReplayState) (line : Text) (got gets : Option (List ℕ)) (refused ends : Bool) → IsAnswered manner old new line got gets refused ends
+    → is_quit (asked manner line) ≡ ends
+ends_is manner old new line got gets refused ends a = end_is old (asked manner line) a.reply a.lawful ∙ sym a.end
+
+-- one more line, which does not end it
+pub still_on : (manner : Manner) (s mid new : ReplayState) (left leaves then got gets last : Option (List ℕ)) (line bytes : Text) (before this after ends : Bool)
+    → IsGoingOn manner s mid left leaves got gets before → ends ≡ false
+    → 0 < length bytes → line ≡ before_first is_line_end bytes → IfSome leaves (λ xs. bytes ≡ take_through 10 xs) → DropsThrough leaves then 10
+    → IsAnswered manner mid new line gets last this ends → after ≡ (before || this) → IsGoingOn manner s new left then got last after
+unfolding goes_on
+still_on manner s mid new left leaves then got gets last line bytes before this after ends h other some is gave drops a both = record {
+  session = goes_on manner s mid new left leaves then got gets last line bytes before this after ends h.session some is gave drops a both;
+  on = one_more_quit manner h.session.lines line h.on (ends_is manner mid new line gets last this ends a ∙ other);
+}
+
+-- what is read where the last line ends it
+quit_read : (manner : Manner) (left leaves : Option (List ℕ)) (lines : List Text) (line : Text) → any_quit manner lines ≡ false → is_quit (asked manner line) ≡ true
+    → IfSome left (λ text. (rest : List ℕ) × (leaves ≡ Some rest) × (text_lines text ≡ (lines ++ line ∷ []) ++ text_lines rest))
+    → IfSome left (λ text. lines ++ line ∷ [] ≡ up_to_quit manner (text_lines text))
+quit_read manner None leaves lines line none quits read = tt
+quit_read manner (Some text) leaves lines line none quits read =
+    sym (ap (up_to_quit manner) read.2 ∙ all_to_quit manner lines line (text_lines read.0) none quits)
+
+-- one more line, which ends it
+pub quits : (manner : Manner) (s mid new : ReplayState) (left leaves then got gets last : Option (List ℕ)) (line bytes : Text) (before this after ends : Bool)
+    → IsGoingOn manner s mid left leaves got gets before → ends ≡ true
+    → 0 < length bytes → line ≡ before_first is_line_end bytes → IfSome leaves (λ xs. bytes ≡ take_through 10 xs) → DropsThrough leaves then 10
+    → IsAnswered manner mid new line gets last this ends → after ≡ (before || this) → IsAllRead manner s new left then got last after
+unfolding goes_on
+quits manner s mid new left leaves then got gets last line bytes before this after ends h over some is gave drops a both =
+    let here : is_quit (asked manner line) ≡ true = ends_is manner mid new line gets last this ends a ∙ over in
+    let session = goes_on manner s mid new left leaves then got gets last line bytes before this after ends h.session some is gave drops a both in
+    record {
+      session = session;
+      all = quit_read manner left then h.session.lines line h.on here session.read;
+      ended = λ none. absurd (last_quits manner h.session.lines line here none);
+    }
+
 -- the reader is at its end
-pub ends : (s mid : ReplayState) (left leaves then got gets : Option (List ℕ)) (refused : Bool) → IsSession s mid left leaves got gets refused → IsAtEnd leaves → DropsThrough leaves then 10
-    → IsSession s mid left then got gets refused × IsEnded left then
-ends s mid None leaves then got gets refused h end drops =
-    (record { lines = h.lines; replies = h.replies; read = tt; lawful = h.lawful; after = h.after; printed = h.printed; memory = h.memory }, tt)
-ends s mid (Some text) None then got gets refused h end drops = let wrong = h.read.1 in cc
-ends s mid (Some text) (Some xs) then got gets refused h end drops =
+ends : (manner : Manner) (s mid : ReplayState) (left leaves then got gets : Option (List ℕ)) (refused : Bool) → (h : IsSession manner s mid left leaves got gets refused) → IsAtEnd leaves → DropsThrough leaves then 10
+    → (t : IsSession manner s mid left then got gets refused) × (t.lines ≡ h.lines) × IsEnded left then
+ends manner s mid None leaves then got gets refused h end drops =
+    (record { lines = h.lines; replies = h.replies; told = h.told; read = tt; lawful = h.lawful; after = h.after; tells = h.tells; printed = h.printed; memory = h.memory }, refl, tt)
+ends manner s mid (Some text) None then got gets refused h end drops = let wrong = h.read.1 in cc
+ends manner s mid (Some text) (Some xs) then got gets refused h end drops =
     let none : then ≡ Some [] = drops ∙ (rw end refl) in
     let same : h.read.0 ≡ [] = let is = h.read.1 in cc in (
       record {
         lines = h.lines;
         replies = h.replies;
+        told = h.told;
         read = ([], none, h.read.2 ∙ (rw same refl));
         lawful = h.lawful;
         after = h.after;
+        tells = h.tells;
         printed = h.printed;
         memory = h.memory;
       },
+      refl,
       none,
     )
 
 -- the lines of a reader whose bytes are known were all answered
-pub all_read : (s mid : ReplayState) (left leaves got gets : Option (List ℕ)) (refused : Bool) → (h : IsSession s mid left leaves got gets refused) → IsEnded left leaves → IfSome left (λ text. h.lines ≡ text_lines text)
-all_read s mid None leaves got gets refused h end = tt
-all_read s mid (Some text) leaves got gets refused h end =
+all_read : (manner : Manner) (s mid : ReplayState) (left leaves got gets : Option (List ℕ)) (refused : Bool) → (h : IsSession manner s mid left leaves got gets refused)
+    → any_quit manner h.lines ≡ false → IsEnded left leaves → IfSome left (λ text. h.lines ≡ up_to_quit manner (text_lines text))
+all_read manner s mid None leaves got gets refused h on end = tt
+all_read manner s mid (Some text) leaves got gets refused h on end =
     let same : h.read.0 ≡ [] = let is = h.read.1 in cc in
     let none : text_lines [] ≡ [] = text_lines-none [] refl in
-    sym (h.read.2 ∙ (rw (same, none) (append-nil h.lines)))
+    let lines : text_lines text ≡ h.lines = h.read.2 ∙ (rw (same, none) (append-nil h.lines)) in
+    sym (ap (up_to_quit manner) lines ∙ none_quits manner h.lines on)
+
+-- all lines were answered, of which none ends the session
+pub all_lines : (manner : Manner) (s mid : ReplayState) (left leaves then got gets : Option (List ℕ)) (refused : Bool) → IsGoingOn manner s mid left leaves got gets refused
+    → IsAtEnd leaves → DropsThrough leaves then 10 → IsAllRead manner s mid left then got gets refused
+all_lines manner s mid left leaves then got gets refused h end drops =
+    let over = ends manner s mid left leaves then got gets refused h.session end drops in
+    let on : any_quit manner over.0.lines ≡ false = rw over.1 h.on in
+    record {
+      session = over.0;
+      all = all_read manner s mid left then got gets refused over.0 on over.2;
+      ended = λ none. over.2;
+    }
 
 -- a session that its reader cut short
-pub cut_short : (s last : ReplayState) (left leaves got gets : Option (List ℕ)) (refused : Bool) (kind : ErrorKind) (f : StepFault)
-    → IsSession s last left leaves got gets refused → IsReaders kind f → IsCutShort s left got gets f
-cut_short s last left leaves got gets refused kind (fault.Refused r) h is = absurd is
-cut_short s last left leaves got gets refused kind (fault.Mismatch channel number) h is = absurd is
-cut_short s last left leaves got gets refused kind fault.Memory h is = absurd is
-cut_short s last left leaves got gets refused kind fault.LineMemory h is =
-    record { last = last; leaves = leaves; refused = refused; session = h }
-cut_short s last left leaves got gets refused kind fault.Input h is =
-    record { last = last; leaves = leaves; refused = refused; session = h }
-cut_short s last left leaves got gets refused kind fault.Output h is = absurd is
+pub cut_short : (manner : Manner) (s last : ReplayState) (left leaves got gets : Option (List ℕ)) (refused : Bool) (kind : ErrorKind) (f : StepFault)
+    → IsGoingOn manner s last left leaves got gets refused → IsReaders kind f → IsCutShort manner s left got gets f
+cut_short manner s last left leaves got gets refused kind (fault.Refused r) h is = absurd is
+cut_short manner s last left leaves got gets refused kind (fault.Mismatch channel number) h is = absurd is
+cut_short manner s last left leaves got gets refused kind fault.Memory h is = absurd is
+cut_short manner s last left leaves got gets refused kind fault.LineMemory h is =
+    record { last = last; leaves = leaves; refused = refused; session = h.session }
+cut_short manner s last left leaves got gets refused kind fault.Input h is =
+    record { last = last; leaves = leaves; refused = refused; session = h.session }
+cut_short manner s last left leaves got gets refused kind fault.Output h is = absurd is
 
 -- a session of all lines, and whether memory was refused for one of them
-pub through : (jobs : List JobState) (parts : List ChannelPart) (recording : List ℕ) (s last : ReplayState)
-    (left leaves got gets : Option (List ℕ)) (refused known : Bool) → IsAccepted jobs parts recording → s ≡ opened jobs parts recording
-    → refused ≡ known → IsSession s last left leaves got gets refused → IsEnded left leaves
-    → IsThrough jobs parts recording left leaves got gets known
-through jobs parts recording s last left leaves got gets refused known accepted is told h end =
-    let session : IsSession (opened jobs parts recording) last left leaves got gets known = rw (is, told) at h in
-    record {
-      accepted = accepted;
-      last = last;
-      session = session;
-      all = all_read (opened jobs parts recording) last left leaves got gets known session end;
-      ended = end;
-    }
+pub through : (manner known_manner : Manner) (jobs : List JobState) (parts : List ChannelPart) (recording : List ℕ) (s last : ReplayState)
+    (left leaves got gets : Option (List ℕ)) (refused known : Bool) → IsAccepted jobs parts recording → s ≡ opened jobs parts recording → known_manner ≡ manner
+    → refused ≡ known → IsAllRead known_manner s last left leaves got gets refused
+    → IsThrough manner jobs parts recording left leaves got gets known
+through manner known_manner jobs parts recording s last left leaves got gets refused known accepted is same told h =
+    record { accepted = accepted; last = last; read = rw (is, same, told) at h }

@@ -1,6 +1,8 @@
-pub mod Appending
 pub mod Asking
+pub mod Moving
+pub mod Looking
 pub mod Pairs
 pub mod Lines
+pub mod Ending
 pub mod GoingOn
 pub mod Determined

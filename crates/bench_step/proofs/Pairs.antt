@@ -1,5 +1,5 @@
 -- The lines of all channels, one after the other.
-use Rattle.std.proofs.Common.{◌≡◌, ℕ, zero, suc, ◌<◌, List, [], ◌∷◌, ◌++◌, length, take, map, refl, sym, ap, ◌∙◌, append_assoc, append-nil, arith, Some, slice_get, flat_map, zip}
+use Rattle.std.proofs.Common.{◌≡◌, ℕ, zero, suc, ◌<◌, ◌≤◌, List, [], ◌∷◌, ◌++◌, length, take, map, refl, sym, ap, ◌∙◌, append_assoc, append-nil, arith, Some, slice_get, get_or, flat_map, zip}
 use Rattle.mil_host.specs.Words.{Text}
 use Rattle.job_file.specs.Jobs.{JobState}
 use Rattle.ch11_reader.specs.Recording.{Found}
@@ -47,3 +47,15 @@ pub all_pairs : (jobs : List JobState) (parts : List ChannelPart) → length par
 all_pairs [] parts same = refl
 all_pairs (j ∷ jobs) [] same = absurd (omega arith)
 all_pairs (j ∷ jobs) (p ∷ parts) same = ap (λ (l : List Pair). (j, p) ∷ l) (all_pairs jobs parts (omega arith))
+
+-- what stands at an index
+pub read_part : (parts : List ChannelPart) (i : ℕ) (p part : ChannelPart) → slice_get parts i ≡ Some part → get_or parts i p ≡ part
+read_part [] i p part there = absurd cc
+read_part (q ∷ qs) zero p part there = cc
+read_part (q ∷ qs) (suc i) p part there = read_part qs i p part there
+
+-- nothing stands past the end
+pub no_part : (parts : List ChannelPart) (i : ℕ) (part : ChannelPart) → length parts ≤ i → slice_get parts i ≡ Some part → ⊥
+no_part [] i part past there = cc
+no_part (q ∷ qs) zero part past there = omega arith
+no_part (q ∷ qs) (suc i) part past there = no_part qs i part (omega arith) there

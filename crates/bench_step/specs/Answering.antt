@@ -1,5 +1,6 @@
 -- What a session reads and writes.
-use Rattle.std.specs.Prelude.{◌≡◌, ◌≢◌, ℕ, Bool, true, false, List, [], ◌++◌, ◌⊎◌, Option, Some, IfSome, Ok, Err}
+use Rattle.std.specs.Prelude.{◌≡◌, ◌≢◌, ℕ, Bool, true, false, List, [], ◌∷◌, ◌++◌, ◌⊎◌, if◌then◌else◌, Option, Some, IfSome, Ok, Err}
+use Rattle.std.specs.List.{list_any}
 use Rattle.std.specs.Io.KnownBytes.{Appends}
 use Rattle.std.specs.declared.io.ErrorKind.{ErrorKind}
 use Rattle.std.specs.declared.io.ErrorKind.TheVariants.{OutOfMemory}
@@ -7,35 +8,55 @@ use Rattle.mil_host.specs.Words.{Text}
 use Rattle.job_file.specs.Jobs.{JobState}
 use Rattle.bench_report.specs.Reports.{ChannelPart}
 use Rattle.bench_report.specs.Spelling.{text_lines}
-use Rattle.ch11_reader.specs.Recording.{packets_in}
+use Rattle.ch11_reader.specs.Recording.{Found, packets_in}
 use Rattle.ch11_reader.specs.Indexed.{found_in}
 use Rattle.replay.specs.Accord.{Agrees}
 use Rattle.replay.specs.Differences.{IsFirstDifference}
 use Rattle.replay.specs.Moves.{ReplayState}
-use Rattle.bench_step.specs.Commands.{asked}
-use Rattle.bench_step.specs.Session.{Replies, after_reply, reply_text, is_memory, AreReplies, after_replies, session_text, any_memory}
+use Rattle.bench_step.specs.Commands.{Asked, quit, asked}
+use Rattle.bench_step.specs.Session.{Replies, after_reply, reply_text, is_memory, is_end, MayTell, AreReplies, after_replies, AreTold, session_text, any_memory}
+use Rattle.bench_step.specs.declared.manners.Manner.{Manner}
 use Rattle.bench_step.specs.declared.replies.Reply.{Reply}
 use Rattle.bench_step.specs.declared.fault.StepFault.{StepFault}
 use Rattle.bench_step.specs.declared.fault.StepFault.TheVariants as fault
 
--- a line was answered: from one state to the next, with what the writer got, and whether memory was refused
-pub record IsAnswered (old new : ReplayState) (line : Text) (got gets : Option (List ℕ)) (refused : Bool) : Type 0 where
+-- a line was answered: from one state to the next, with what the writer got, and whether memory was refused, and the session ends
+pub record IsAnswered (manner : Manner) (old new : ReplayState) (line : Text) (got gets : Option (List ℕ)) (refused ends : Bool) : Type 0 where
   pub reply : Reply
-  pub lawful : Replies old (asked line) reply
+  pub told : Text
+  pub lawful : Replies old (asked manner line) reply
   pub after : new ≡ after_reply reply old
-  pub printed : Appends got gets (reply_text reply new)
+  pub tells : MayTell manner reply told
+  pub printed : Appends got gets (reply_text reply new ++ told)
   pub memory : refused ≡ is_memory reply
+  pub end : ends ≡ is_end reply
 
 -- Lines were answered from a state on. Where the reader's bytes are known, they are the first lines of its text, and these bytes
 -- are left of it.
-pub record IsSession (s new : ReplayState) (left leaves got gets : Option (List ℕ)) (refused : Bool) : Type 0 where
+pub record IsSession (manner : Manner) (s new : ReplayState) (left leaves got gets : Option (List ℕ)) (refused : Bool) : Type 0 where
   pub lines : List Text
   pub replies : List Reply
+  pub told : List Text
   pub read : IfSome left (λ text. (rest : List ℕ) × (leaves ≡ Some rest) × (text_lines text ≡ lines ++ text_lines rest))
-  pub lawful : AreReplies s lines replies
+  pub lawful : AreReplies manner s lines replies
   pub after : new ≡ after_replies replies s
-  pub printed : Appends got gets (session_text replies s)
+  pub tells : AreTold manner replies told
+  pub printed : Appends got gets (session_text replies told s)
   pub memory : refused ≡ any_memory replies
+
+-- a line that ends the session
+abbrev pub is_quit : Asked → Bool
+is_quit quit = true
+is_quit _ = false
+
+-- the lines up to the first that ends the session, that one too
+abbrev pub up_to_quit : Manner → List Text → List Text
+up_to_quit manner [] = []
+up_to_quit manner (line ∷ lines) = if is_quit (asked manner line) then line ∷ [] else line ∷ up_to_quit manner lines
+
+-- some line ends it
+abbrev pub any_quit : Manner → List Text → Bool
+any_quit manner lines = list_any (λ (line : Text). is_quit (asked manner line)) lines
 
 -- the state in which a debugger is opened
 abbrev pub opened : List JobState → List ChannelPart → List ℕ → ReplayState
@@ -50,19 +71,35 @@ pub record IsAccepted (jobs : List JobState) (parts : List ChannelPart) (recordi
 abbrev pub IsEnded : Option (List ℕ) → Option (List ℕ) → Type 0
 IsEnded left leaves = IfSome left (λ text. leaves ≡ Some [])
 
--- they were, and all lines were answered; whether memory was refused for one of them
-pub record IsThrough (jobs : List JobState) (parts : List ChannelPart) (recording : List ℕ)
+-- All lines were answered, up to the first that ends the session. Where none ends it, nothing is left.
+pub record IsAllRead (manner : Manner) (s new : ReplayState) (left leaves got gets : Option (List ℕ)) (refused : Bool) : Type 0 where
+  pub session : IsSession manner s new left leaves got gets refused
+  pub all : IfSome left (λ text. session.lines ≡ up_to_quit manner (text_lines text))
+  pub ended : any_quit manner session.lines ≡ false → IsEnded left leaves
+
+-- they were accepted, and all those lines were answered; whether memory was refused for one of them
+pub record IsThrough (manner : Manner) (jobs : List JobState) (parts : List ChannelPart) (recording : List ℕ)
     (left leaves got gets : Option (List ℕ)) (refused : Bool) : Type 0 where
   pub accepted : IsAccepted jobs parts recording
   pub last : ReplayState
-  pub session : IsSession (opened jobs parts recording) last left leaves got gets refused
-  pub all : IfSome left (λ text. session.lines ≡ text_lines text)
-  pub ended : IsEnded left leaves
+  pub read : IsAllRead manner (opened jobs parts recording) last left leaves got gets refused
 
--- they were, and all lines were answered, for none of which memory was refused
-abbrev pub IsWhole : List JobState → List ChannelPart → List ℕ
+-- a debugger on a recording: jobs, report and recording are those that it was opened with, and this is what the file holds
+pub record IsOpen (s : ReplayState) (jobs : List JobState) (parts : List ChannelPart) (found : List Found) (recording : List ℕ) : Type 0 where
+  pub jobs_are : s.jobs ≡ jobs
+  pub parts_are : s.parts ≡ parts
+  pub found_is : s.found ≡ found
+  pub read : found ≡ found_in recording
+
+-- a debugger, and the manner in which lines are answered
+pub record SessionState : Type 0 where
+  pub debugger : ReplayState
+  pub manner : Manner
+
+-- they were, and all those lines were answered, for none of which memory was refused
+abbrev pub IsWhole : Manner → List JobState → List ChannelPart → List ℕ
     → Option (List ℕ) → Option (List ℕ) → Option (List ℕ) → Option (List ℕ) → Type 0
-IsWhole jobs parts recording left leaves got gets = IsThrough jobs parts recording left leaves got gets false
+IsWhole manner jobs parts recording left leaves got gets = IsThrough manner jobs parts recording left leaves got gets false
 
 -- the fault of a reader whose error is of this kind
 abbrev pub IsReaders : ErrorKind → StepFault → Type 0
@@ -74,20 +111,20 @@ IsReaders kind fault.Input = kind ≢ OutOfMemory
 IsReaders kind fault.Output = ⊥
 
 -- the first lines were answered, and the writer got no more than their answers
-pub record IsFront (s : ReplayState) (left got gets : Option (List ℕ)) : Type 0 where
+pub record IsFront (manner : Manner) (s : ReplayState) (left got gets : Option (List ℕ)) : Type 0 where
   pub last : ReplayState
   pub leaves : Option (List ℕ)
   pub refused : Bool
-  pub session : IsSession s last left leaves got gets refused
+  pub session : IsSession manner s last left leaves got gets refused
 
 -- a session was cut short by its reader, or by its writer, of which nothing more is known
-abbrev pub IsCutShort : ReplayState → Option (List ℕ) → Option (List ℕ) → Option (List ℕ) → StepFault → Type 0
-IsCutShort s left got gets (fault.Refused r) = ⊥
-IsCutShort s left got gets (fault.Mismatch channel number) = ⊥
-IsCutShort s left got gets fault.Memory = ⊥
-IsCutShort s left got gets fault.LineMemory = IsFront s left got gets
-IsCutShort s left got gets fault.Input = IsFront s left got gets
-IsCutShort s left got gets fault.Output = Unit {0}
+abbrev pub IsCutShort : Manner → ReplayState → Option (List ℕ) → Option (List ℕ) → Option (List ℕ) → StepFault → Type 0
+IsCutShort manner s left got gets (fault.Refused r) = ⊥
+IsCutShort manner s left got gets (fault.Mismatch channel number) = ⊥
+IsCutShort manner s left got gets fault.Memory = ⊥
+IsCutShort manner s left got gets fault.LineMemory = IsFront manner s left got gets
+IsCutShort manner s left got gets fault.Input = IsFront manner s left got gets
+IsCutShort manner s left got gets fault.Output = Unit {0}
 
 -- Why a debugger was not opened. The recording's fault comes first, and only where it has one; then the first difference between
 -- jobs, report and recording; want of memory where the recording can be read.
@@ -106,13 +143,13 @@ pub record IsUntouched (left leaves got gets : Option (List ℕ)) : Type 0 where
   pub writer : gets ≡ got
 
 -- they were accepted, and the session was cut short
-abbrev pub IsBegun : List JobState → List ChannelPart → List ℕ → Option (List ℕ) → Option (List ℕ) → Option (List ℕ) → StepFault → Type 0
-IsBegun jobs parts recording left got gets f = IsAccepted jobs parts recording × IsCutShort (opened jobs parts recording) left got gets f
+abbrev pub IsBegun : Manner → List JobState → List ChannelPart → List ℕ → Option (List ℕ) → Option (List ℕ) → Option (List ℕ) → StepFault → Type 0
+IsBegun manner jobs parts recording left got gets f = IsAccepted jobs parts recording × IsCutShort manner (opened jobs parts recording) left got gets f
 
--- The debugger was not opened, and no line was read; or its session was cut short; or all lines were answered, and
--- memory was refused for what some of them asks.
-abbrev pub Ends : List JobState → List ChannelPart → List ℕ → Option (List ℕ) → Option (List ℕ) → Option (List ℕ) → Option (List ℕ) → StepFault → Type 0
-Ends jobs parts recording left leaves got gets f =
+-- The debugger was not opened, and no line was read; or its session was cut short; or all lines were answered, up to the first
+-- that ends it, and memory was refused for what some of them asks.
+abbrev pub Ends : Manner → List JobState → List ChannelPart → List ℕ → Option (List ℕ) → Option (List ℕ) → Option (List ℕ) → Option (List ℕ) → StepFault → Type 0
+Ends manner jobs parts recording left leaves got gets f =
     (IsRefusal jobs parts recording f × IsUntouched left leaves got gets)
-    ⊎ (IsBegun jobs parts recording left got gets f
-    ⊎ ((f ≡ fault.Memory) × IsThrough jobs parts recording left leaves got gets true))
+    ⊎ (IsBegun manner jobs parts recording left got gets f
+    ⊎ ((f ≡ fault.Memory) × IsThrough manner jobs parts recording left leaves got gets true))

@@ -1,5 +1,5 @@
 -- What a line of a session asks (own choice). Spaces alone part its words, so that a CR is part of one.
-use Rattle.std.specs.Prelude.{ℕ, if◌then◌else◌, List, [], ◌∷◌, Option, Some, None, Result, Ok, Err, codes}
+use Rattle.std.specs.Prelude.{ℕ, nat_le, Bool, ◌&&◌, if◌then◌else◌, List, [], ◌∷◌, Option, Some, None, Result, Ok, Err, codes}
 use Rattle.std.specs.List.{before_first, after_first}
 use Rattle.std.specs.Str.{bytes_eq}
 use Rattle.numerals.specs.Numerals.{spelled}
@@ -7,21 +7,35 @@ use Rattle.mil_host.specs.Words.{Text, is_space, words}
 use Rattle.frame_tree.specs.Tree.{Condition, condition_in}
 use Rattle.frame_text.specs.Conditions.{condition_of_text}
 use Rattle.frame_text.specs.declared.faults.Cause.{Cause}
-use Rattle.bench_step.specs.declared.details.Detail.{Detail}
-use Rattle.bench_step.specs.declared.details.Detail.TheVariants.{Registers, Host}
+use Rattle.bench_state.specs.declared.details.Detail.{Detail}
+use Rattle.bench_state.specs.declared.details.Detail.TheVariants.{Registers, Host, Data}
+use Rattle.bench_places.specs.declared.sought.Sought.{Sought}
+use Rattle.bench_places.specs.declared.sought.Sought.TheVariants.{Channel}
+use Rattle.bench_step.specs.declared.manners.Manner.{Manner}
+use Rattle.bench_step.specs.declared.manners.Manner.TheVariants.{Given, Typed}
 use Rattle.bench_step.specs.declared.commands.Command.{Command}
 use Rattle.bench_step.specs.declared.commands.Command.TheVariants as command
 
 pub data Asked : Type 0 where
-  -- one message of the recording on, and one back
-  forward : Asked
-  back : Asked
+  -- so many messages of the recording on, and so many back
+  forward : ℕ → Asked
+  back : ℕ → Asked
   -- to a place: so many messages of the recording are past
   go : ℕ → Asked
-  -- on to the next message whose outcome makes the condition true
+  -- to the message of a number, counted from 1, among all that meet what is asked of them
+  seek : Sought → ℕ → Asked
+  -- on to the next message whose outcome makes the condition true, and back to the latest one before the place
   find : Condition → Asked
+  find_back : Condition → Asked
   -- what the terminals hold, in this detail
   state : Detail → Asked
+  -- the message at the place, and the message of a number, as people read it
+  show : Asked
+  show_at : ℕ → Asked
+  -- the commands
+  help : Asked
+  -- the end of the session
+  quit : Asked
   -- `find`, and behind it no condition
   no_condition : Asked
   -- nothing that a line may ask
@@ -44,60 +58,129 @@ abbrev pub alone : Asked → List Text → Asked
 alone command [] = command
 alone command (w ∷ ws) = unknown
 
--- a place, where a word spells one
-abbrev pub going_to : Option ℕ → Asked
-going_to None = unknown
-going_to (Some place) = go place
-
 -- a number of one to ten decimal digits
-abbrev pub place_in : Text → Asked
-place_in word = going_to (spelled 10 1 10 word)
+abbrev pub number_in : Text → Option ℕ
+number_in word = spelled 10 1 10 word
 
--- the only word behind `go`
+-- a number up to another
+abbrev pub at_most : ℕ → Option ℕ → Option ℕ
+at_most most None = None
+at_most most (Some n) = if nat_le n most then Some n else None
+
+abbrev pub number_up_to : ℕ → Text → Option ℕ
+number_up_to most word = at_most most (number_in word)
+
+-- the number that the only word is
+abbrev pub only_number : List Text → Option ℕ
+only_number [] = None
+only_number (word ∷ []) = number_in word
+only_number (word ∷ more ∷ rest) = None
+
+-- the only two words
+abbrev pub two_words : List Text → Option (Text × Text)
+two_words [] = None
+two_words (word ∷ []) = None
+two_words (word ∷ other ∷ []) = Some (word, other)
+two_words (word ∷ other ∷ more ∷ rest) = None
+
+-- what a number asks, where there is one
+abbrev pub with_number : (ℕ → Asked) → Option ℕ → Asked
+with_number asks None = unknown
+with_number asks (Some n) = asks n
+
+-- how many messages: one, or, where lines are typed, the only number behind the word
+abbrev pub steps : Manner → List Text → Option ℕ
+steps manner [] = Some 1
+steps Given (word ∷ rest) = None
+steps Typed (word ∷ rest) = only_number (word ∷ rest)
+
+-- the message of a number of a channel
+abbrev pub nth_of : Option ℕ → Option ℕ → Asked
+nth_of None n = unknown
+nth_of (Some channel) None = unknown
+nth_of (Some channel) (Some n) = seek (Channel channel) n
+
+abbrev pub of_channel : Option (Text × Text) → Asked
+of_channel None = unknown
+of_channel (Some x) = nth_of (number_up_to 65535 x.0) (number_in x.1)
+
+-- behind `go`: a place, or a channel and the number of one of its messages
 abbrev pub going : List Text → Asked
 going [] = unknown
-going (word ∷ []) = place_in word
-going (word ∷ more ∷ rest) = unknown
+going (word ∷ rest) =
+    if bytes_eq word (codes "channel") then of_channel (two_words rest) else with_number go (only_number (word ∷ rest))
 
--- all that stands behind `find`
-abbrev pub finding : Result Condition Cause → Asked
-finding (Ok test) = find test
-finding (Err cause) = no_condition
+-- all that stands behind `find`, and behind `find back`
+abbrev pub finding : (Condition → Asked) → Result Condition Cause → Asked
+finding asks (Ok test) = asks test
+finding asks (Err cause) = no_condition
+
+abbrev pub finding_in : Text → Asked
+finding_in rest =
+    if bytes_eq (first_word rest) (codes "back") then finding find_back (condition_of_text (behind_word rest))
+    else finding find (condition_of_text rest)
+
+-- what `state` shows: where lines are typed, what hosts set too
+abbrev pub plain : Manner → Detail
+plain Given = Registers
+plain Typed = Host
 
 -- nothing, or `--all`, behind `state`
-abbrev pub showing : List Text → Asked
-showing [] = state Registers
-showing (word ∷ rest) = if bytes_eq word (codes "--all") then alone (state Host) rest else unknown
+abbrev pub showing : Manner → List Text → Asked
+showing manner [] = state (plain manner)
+showing manner (word ∷ rest) = if bytes_eq word (codes "--all") then alone (state Host) rest else unknown
+
+-- a terminal and one of its subaddresses for data (MIL-STD-1553B 4.3.3.5.1.2, 4.3.3.5.1.4)
+abbrev pub words_at : Option ℕ → Option ℕ → Asked
+words_at None subaddress = unknown
+words_at (Some address) None = unknown
+words_at (Some address) (Some subaddress) = if nat_le 1 subaddress then state (Data address subaddress) else unknown
+
+abbrev pub holding : Option (Text × Text) → Asked
+holding None = unknown
+holding (Some x) = words_at (number_up_to 30 x.0) (number_up_to 30 x.1)
+
+-- behind `show`: nothing, or the number of a message
+abbrev pub telling : List Text → Asked
+telling [] = show
+telling (word ∷ rest) = with_number show_at (only_number (word ∷ rest))
 
 -- a line by its first word
-abbrev pub asked_by : Text → Text → Asked
-asked_by word rest =
-    if bytes_eq word (codes "forward") then alone forward (words rest)
-    else if bytes_eq word (codes "back") then alone back (words rest)
+abbrev pub asked_by : Manner → Text → Text → Asked
+asked_by manner word rest =
+    if bytes_eq word (codes "forward") then with_number forward (steps manner (words rest))
+    else if bytes_eq word (codes "back") then with_number back (steps manner (words rest))
     else if bytes_eq word (codes "go") then going (words rest)
-    else if bytes_eq word (codes "find") then finding (condition_of_text rest)
-    else if bytes_eq word (codes "state") then showing (words rest)
+    else if bytes_eq word (codes "find") then finding_in rest
+    else if bytes_eq word (codes "state") then showing manner (words rest)
+    else if bytes_eq word (codes "data") then holding (two_words (words rest))
+    else if bytes_eq word (codes "show") then telling (words rest)
+    else if bytes_eq word (codes "help") then alone help (words rest)
+    else if bytes_eq word (codes "quit") then alone quit (words rest)
     else unknown
 
-unfoldable pub asked : Text → Asked
-asked line = asked_by (first_word line) (behind_word line)
+unfoldable pub asked : Manner → Text → Asked
+asked manner line = asked_by manner (first_word line) (behind_word line)
 
 -- memory is taken for what stands behind `find` alone, also where that is no condition
 abbrev pub TakesMemory : Asked → Type 0
-TakesMemory forward = ⊥
-TakesMemory back = ⊥
-TakesMemory (go place) = ⊥
 TakesMemory (find test) = Unit {0}
-TakesMemory (state detail) = ⊥
+TakesMemory (find_back test) = Unit {0}
 TakesMemory no_condition = Unit {0}
-TakesMemory unknown = ⊥
+TakesMemory _ = ⊥
 
 -- what a command asks, whatever memory its condition lies in
 abbrev pub asked_of : Command → Asked
-asked_of command.Forward = forward
-asked_of command.Back = back
+asked_of (command.Forward n) = forward n
+asked_of (command.Back n) = back n
 asked_of (command.Go place) = go place
+asked_of (command.Seek sought n) = seek sought n
 asked_of (command.Find condition) = find (condition_in condition)
+asked_of (command.FindBack condition) = find_back (condition_in condition)
 asked_of (command.State detail) = state detail
+asked_of command.Show = show
+asked_of (command.ShowAt n) = show_at n
+asked_of command.Help = help
+asked_of command.Quit = quit
 asked_of command.NoCondition = no_condition
 asked_of command.Unknown = unknown

@@ -1,5 +1,6 @@
 pub mod Commands
-pub mod StateText
+pub mod HelpText
+pub mod Backwards
 pub mod Session
 pub mod Answering
 pub mod FaultText

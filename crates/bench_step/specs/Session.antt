@@ -1,18 +1,25 @@
 -- A session (own choice): lines, and what is replied to each of them, from the state that those before it left.
-use Rattle.std.specs.Prelude.{◌≡◌, ◌+◌, ◌-◌, ◌<◌, ◌≤◌, ◌⊎◌, Bool, true, false, List, [], ◌∷◌, ◌++◌, codes, decimal}
+use Rattle.std.specs.Prelude.{◌≡◌, ◌≢◌, ℕ, ◌+◌, ◌-◌, ◌<◌, ◌≤◌, ◌==◌, ◌⊎◌, Bool, true, false, not, List, [], ◌∷◌, ◌++◌, None, Some, codes, decimal}
 use Rattle.std.specs.List.{flat_map, zip, list_any}
 use Rattle.mil_host.specs.Words.{Text}
+use Rattle.frame_tree.specs.Tree.{Condition}
 use Rattle.job_file.specs.Jobs.{JobState, job_in}
 use Rattle.job_file.specs.Meaning.{bus_after}
+use Rattle.ch11_reader.specs.Contents.{message_numbered}
 use Rattle.bench_report.specs.Reports.{ChannelPart}
 use Rattle.replay.specs.declared.error.ReplayError.{ReplayError}
 use Rattle.replay.specs.declared.error.ReplayError.TheVariants as error
 use Rattle.replay.specs.Codes.{error_text}
 use Rattle.replay.specs.Places.{number_at}
-use Rattle.replay.specs.Moves.{ReplayState, at_place, total_of, IsNextMet, IsNowhere, PastWhere, StartWhere}
-use Rattle.bench_step.specs.Commands.{Asked, forward, back, go, find, state, no_condition, unknown, asked}
-use Rattle.bench_step.specs.StateText.{channel_text}
-use Rattle.bench_step.specs.declared.details.Detail.{Detail}
+use Rattle.replay.specs.Moves.{ReplayState, at_place, total_of, IsMet, IsNextMet, IsNowhere, PastWhere, StartWhere}
+use Rattle.bench_state.specs.declared.details.Detail.{Detail}
+use Rattle.bench_state.specs.StateText.{channel_text}
+use Rattle.bench_places.specs.Places.{place_of}
+use Rattle.bench_step.specs.Commands.{Asked, forward, back, go, seek, find, find_back, state, show, show_at, help, quit, no_condition, unknown, asked}
+use Rattle.bench_step.specs.HelpText.{help_text}
+use Rattle.bench_step.specs.Backwards.{IsLatest}
+use Rattle.bench_step.specs.declared.manners.Manner.{Manner}
+use Rattle.bench_step.specs.declared.manners.Manner.TheVariants.{Given, Typed}
 use Rattle.bench_step.specs.declared.replies.Reply.{Reply}
 use Rattle.bench_step.specs.declared.replies.Reply.TheVariants as reply
 
@@ -22,7 +29,7 @@ use Rattle.bench_step.specs.declared.replies.Reply.TheVariants as reply
 abbrev pub job_text : Detail → ReplayState → JobState → ChannelPart → Text
 job_text detail s job part =
     let number = number_at s.found s.place job part in
-    channel_text detail job.channel number (bus_after (job_in job) part.placed number)
+    channel_text detail job.channel number part.placed (bus_after (job_in job) part.placed number)
 
 -- the lines of all channels, in the order of the jobs
 unfoldable pub state_text : Detail → ReplayState → Text
@@ -37,65 +44,112 @@ IsMemory error.Past = ⊥
 IsMemory error.Start = ⊥
 IsMemory error.Memory = Unit {0}
 
--- What may be replied in a state to a line that asks this. Memory may be refused for a move that can be made, and for
--- what stands behind `find`, before it is known whether that is a condition that some message meets.
+-- no message before the place makes it true
+abbrev pub IsNoneBefore : ReplayState → Condition → Type 0
+IsNoneBefore s test = (m : ℕ) → m < s.place → ¬ IsMet s test m
+
+-- the file has a message of this number
+abbrev pub IsThere : ReplayState → ℕ → Type 0
+IsThere s n = message_numbered s.found n ≢ None
+
+abbrev pub IsAbsent : ReplayState → ℕ → Type 0
+IsAbsent s n = message_numbered s.found n ≡ None
+
+-- What may be replied in a state to a line that asks this. Memory may be refused for a move that can be made, for a
+-- message that is there, and for what stands behind `find`, before it is known whether that is a condition that some
+-- message meets.
 abbrev pub Replies : ReplayState → Asked → Reply → Type 0
-Replies s forward (reply.At n) = (s.place < total_of s) × (n ≡ s.place + 1)
-Replies s forward (reply.Refused e) = PastWhere (total_of s ≤ s.place) e
-Replies s back (reply.At n) = (0 < s.place) × (n ≡ s.place - 1)
-Replies s back (reply.Refused e) = StartWhere (s.place ≡ 0) e
+Replies s (forward k) (reply.At n) = (s.place + k ≤ total_of s) × (n ≡ s.place + k)
+Replies s (forward k) (reply.Refused e) = PastWhere (total_of s < s.place + k) e
+Replies s (back k) (reply.At n) = (k ≤ s.place) × (n ≡ s.place - k)
+Replies s (back k) (reply.Refused e) = StartWhere (s.place < k) e
 Replies s (go n) (reply.At m) = (n ≤ total_of s) × (m ≡ n)
 Replies s (go n) (reply.Refused e) = PastWhere (total_of s < n) e
+Replies s (seek sought n) (reply.At m) = place_of sought 0 n s.found ≡ Some m
+Replies s (seek sought n) (reply.Refused e) = PastWhere (place_of sought 0 n s.found ≡ None) e
 Replies s (find test) (reply.At n) = IsNextMet s test n
 Replies s (find test) (reply.Refused e) = PastWhere (IsNowhere s test) e ⊎ IsMemory e
+Replies s (find_back test) (reply.At n) = IsLatest s test s.place n
+Replies s (find_back test) (reply.Refused e) = PastWhere (IsNoneBefore s test) e ⊎ IsMemory e
 Replies s (state detail) (reply.Shown shown) = shown ≡ detail
+Replies s show (reply.Message n) = IsThere s s.place × (n ≡ s.place)
+Replies s show (reply.Refused e) = PastWhere (IsAbsent s s.place) e
+Replies s (show_at n) (reply.Message m) = IsThere s n × (m ≡ n)
+Replies s (show_at n) (reply.Refused e) = PastWhere (IsAbsent s n) e
+Replies s help reply.Help = Unit {0}
+Replies s quit reply.Quit = Unit {0}
 Replies s no_condition reply.Unknown = Unit {0}
 Replies s no_condition (reply.Refused e) = IsMemory e
 Replies s unknown reply.Unknown = Unit {0}
 Replies s _ _ = ⊥
 
+-- what is replied to a move to a place of the recording
+abbrev pub IsMoveTo : ℕ → Reply → Type 0
+IsMoveTo place (reply.At n) = n ≡ place
+IsMoveTo place (reply.Refused e) = IsMemory e
+IsMoveTo place _ = ⊥
+
 -- the state behind a line: only a move that was made changes it
 abbrev pub after_reply : Reply → ReplayState → ReplayState
 after_reply (reply.At n) s = at_place n s
-after_reply (reply.Refused e) s = s
-after_reply (reply.Shown detail) s = s
-after_reply reply.Unknown s = s
+after_reply _ s = s
 
--- what is printed in that state
+-- what is printed in that state, the message as people read it excepted
 abbrev pub reply_text : Reply → ReplayState → Text
 reply_text (reply.At n) s = codes "at " ++ (decimal n ++ codes "\n")
 reply_text (reply.Refused e) s = error_text e ++ codes "\n"
 reply_text (reply.Shown detail) s = state_text detail s
+reply_text (reply.Message n) s = []
+reply_text reply.Help s = help_text
+reply_text reply.Quit s = []
 reply_text reply.Unknown s = codes "unknown\n"
+
+-- whether the message of a number is shown as people read it: where that is asked, and behind each move where lines are typed
+abbrev pub tells_message : Manner → Reply → Bool
+tells_message manner (reply.Message n) = true
+tells_message Typed (reply.At n) = not (n == 0)
+tells_message manner _ = false
+
+-- the text of a message is that of a decoder, of which nothing is said here; there is none where no message is shown
+abbrev pub MayTell : Manner → Reply → Text → Type 0
+MayTell manner r told = tells_message manner r ≡ false → told ≡ []
 
 -- memory was refused
 abbrev pub is_memory : Reply → Bool
-is_memory (reply.At n) = false
-is_memory (reply.Refused (error.Mismatch channel number)) = false
-is_memory (reply.Refused error.Past) = false
-is_memory (reply.Refused error.Start) = false
 is_memory (reply.Refused error.Memory) = true
-is_memory (reply.Shown detail) = false
-is_memory reply.Unknown = false
+is_memory _ = false
+
+-- the session ends
+abbrev pub is_end : Reply → Bool
+is_end reply.Quit = true
+is_end _ = false
 
 -- ---- all lines
 
 -- to each line its reply
-abbrev pub AreReplies : ReplayState → List Text → List Reply → Type 0
-AreReplies s [] [] = Unit {0}
-AreReplies s [] (r ∷ rs) = ⊥
-AreReplies s (line ∷ lines) [] = ⊥
-AreReplies s (line ∷ lines) (r ∷ rs) = Replies s (asked line) r × AreReplies (after_reply r s) lines rs
+abbrev pub AreReplies : Manner → ReplayState → List Text → List Reply → Type 0
+AreReplies manner s [] [] = Unit {0}
+AreReplies manner s [] (r ∷ rs) = ⊥
+AreReplies manner s (line ∷ lines) [] = ⊥
+AreReplies manner s (line ∷ lines) (r ∷ rs) = Replies s (asked manner line) r × AreReplies manner (after_reply r s) lines rs
 
 -- the state behind all of them
 abbrev pub after_replies : List Reply → ReplayState → ReplayState
 after_replies [] s = s
 after_replies (r ∷ rs) s = after_replies rs (after_reply r s)
 
+-- to each reply the text of the message that is shown behind it, if one is
+abbrev pub AreTold : Manner → List Reply → List Text → Type 0
+AreTold manner [] [] = Unit {0}
+AreTold manner [] (t ∷ ts) = ⊥
+AreTold manner (r ∷ rs) [] = ⊥
+AreTold manner (r ∷ rs) (t ∷ ts) = MayTell manner r t × AreTold manner rs ts
+
 -- all that is printed
-abbrev pub session_text : List Reply → ReplayState → Text
-session_text [] s = []
-session_text (r ∷ rs) s = reply_text r (after_reply r s) ++ session_text rs (after_reply r s)
+abbrev pub session_text : List Reply → List Text → ReplayState → Text
+session_text [] ts s = []
+session_text (r ∷ rs) [] s = []
+session_text (r ∷ rs) (t ∷ ts) s = (reply_text r (after_reply r s) ++ t) ++ session_text rs ts (after_reply r s)
 
 -- memory was refused at some line
 abbrev pub any_memory : List Reply → Bool
@@ -104,4 +158,5 @@ any_memory replies = list_any is_memory replies
 -- where memory is refused for no line, what is replied to the lines is determined
 abbrev pub RepliesAreDetermined : Type 0
 RepliesAreDetermined =
-    (s : ReplayState) (lines : List Text) (replies others : List Reply) → AreReplies s lines replies → AreReplies s lines others → any_memory replies ≡ false → any_memory others ≡ false → replies ≡ others
+    (manner : Manner) (s : ReplayState) (lines : List Text) (replies others : List Reply) → AreReplies manner s lines replies → AreReplies manner s lines others
+    → any_memory replies ≡ false → any_memory others ≡ false → replies ≡ others

@@ -1,11 +1,14 @@
 //! What a line of a session asks.
-ghost use Rattle.std.specs.Prelude.{◌≡◌, IfOk, OnErr};
+ghost use Rattle.std.specs.Prelude.{◌≡◌, ◌≤◌, IfOk, IfSome, OnErr};
 ghost use Rattle.mil_host.specs.Words.{words};
 ghost use Rattle.frame_text.specs.Conditions.{condition_of_text};
-ghost use Rattle.bench_step.specs.Commands.{asked, asked_of, alone, going, finding, showing, TakesMemory};
+ghost use Rattle.std.specs.Prelude.{option_map};
+ghost use Rattle.bench_step.specs.Commands.{Asked, asked, asked_of, asked_by, alone, find, find_back, finding, finding_in, forward, back, go, show_at, going, holding, number_up_to, of_channel, only_number, plain, showing, steps, telling, two_words, with_number, TakesMemory};
 
-use crate::details::Detail;
+use crate::manners::Manner;
 use crate::words::split_word;
+use bench_places::Sought;
+use bench_state::Detail;
 use frame_text::{ScriptError, read_cond};
 use frame_tree::Cond;
 use mil_host::next_word;
@@ -15,16 +18,28 @@ use std::alloc::{AllocError, Global};
 /// What a line of a session asks.
 #[derive(Drop)]
 pub enum Command {
-    /// One message of the recording on.
-    Forward,
-    /// One message back.
-    Back,
+    /// So many messages of the recording on.
+    Forward(u64),
+    /// So many messages back.
+    Back(u64),
     /// To the place where so many messages of the recording are past.
     Go(u64),
+    /// To the message of a number, counted from 1, among all that meet what is asked of them.
+    Seek(Sought, u64),
     /// On to the next message whose outcome makes the condition true.
     Find(Cond<Global>),
+    /// Back to the latest message before the place whose outcome makes it true.
+    FindBack(Cond<Global>),
     /// What the terminals hold, in this detail.
     State(Detail),
+    /// The message at the place, as people read it.
+    Show,
+    /// The message of a number.
+    ShowAt(u64),
+    /// The commands.
+    Help,
+    /// The end of the session.
+    Quit,
     /// A `find` with no condition behind it.
     NoCondition,
     /// Nothing that a line may ask.
@@ -41,27 +56,107 @@ fn alone(command: Command, rest: &[u8]) -> Command
     }
 }
 
-/// A place: one word of one to ten decimal digits.
+/// A number up to another.
+fn number_up_to(most: u64, word: &[u8]) -> Option<u64>
+    ensures value { result ≡ number_up_to most word.now }
+    ensures within { IfSome result (λ n. n ≤ most) }
+{
+    match spelled(10, 1, 10, word) {
+        Some(number) if number <= most => Some(number),
+        _ => None,
+    }
+}
+
+/// The number that the only word is: one to ten digits.
+fn only_number(rest: &[u8]) -> Option<u64>
+    ensures { result ≡ only_number (words rest.now) }
+{
+    let (word, behind) = next_word(rest)?;
+    match next_word(behind) {
+        Some(_) => None,
+        None => spelled(10, 1, 10, word),
+    }
+}
+
+/// The only two words.
+fn two_words(rest: &[u8]) -> Option<(&[u8], &[u8])>
+    ensures { option_map (λ x. (x.0.now, x.1.now)) result ≡ two_words (words rest.now) }
+{
+    let (word, behind) = next_word(rest)?;
+    let (other, end) = next_word(behind)?;
+    match next_word(end) {
+        Some(_) => None,
+        None => Some((word, other)),
+    }
+}
+
+/// How many messages: one, or, where lines are typed, the only number behind the word.
+fn steps(manner: Manner, rest: &[u8]) -> Option<u64>
+    ensures { result ≡ steps manner (words rest.now) }
+{
+    if next_word(rest).is_none() {
+        return Some(1);
+    }
+    match manner {
+        Manner::Given => None,
+        Manner::Typed => only_number(rest),
+    }
+}
+
+/// So many messages on.
+fn going_on(manner: Manner, rest: &[u8]) -> Command
+    ensures { asked_of result ≡ with_number forward (steps manner (words rest.now)) }
+{
+    match steps(manner, rest) {
+        Some(count) => Command::Forward(count),
+        None => Command::Unknown,
+    }
+}
+
+/// So many messages back.
+fn going_back(manner: Manner, rest: &[u8]) -> Command
+    ensures { asked_of result ≡ with_number back (steps manner (words rest.now)) }
+{
+    match steps(manner, rest) {
+        Some(count) => Command::Back(count),
+        None => Command::Unknown,
+    }
+}
+
+/// A message of a channel by its number there.
+fn of_channel(rest: &[u8]) -> Command
+    ensures { asked_of result ≡ of_channel (two_words (words rest.now)) }
+{
+    let Some((channel, number)) = two_words(rest) else {
+        return Command::Unknown;
+    };
+    match (number_up_to(65535, channel), spelled(10, 1, 10, number)) {
+        (Some(channel), Some(number)) => Command::Seek(Sought::Channel(channel as u16), number),
+        _ => Command::Unknown,
+    }
+}
+
+/// A place: one word of one to ten decimal digits; or a message of a channel.
 fn going(rest: &[u8]) -> Command
     ensures { asked_of result ≡ going (words rest.now) }
 {
     let Some((word, behind)) = next_word(rest) else {
         return Command::Unknown;
     };
-    if next_word(behind).is_some() {
-        return Command::Unknown;
+    if word == b"channel".as_slice() {
+        return of_channel(behind);
     }
-    match spelled(10, 1, 10, word) {
+    match only_number(rest) {
         Some(place) => Command::Go(place),
         None => Command::Unknown,
     }
 }
 
-/// A condition.
+/// A condition, on the messages behind the place.
 #[tactic(auto, using(crate::proofs::Asking::finding_takes))]
 fn finding(alloc: Global, rest: &[u8]) -> Result<Command, AllocError>
-    ensures read { IfOk result (λ c. asked_of c ≡ finding (condition_of_text rest.now)) }
-    ensures memory { OnErr result (TakesMemory (finding (condition_of_text rest.now))) }
+    ensures read { IfOk result (λ c. asked_of c ≡ finding find (condition_of_text rest.now)) }
+    ensures memory { OnErr result (TakesMemory (finding find (condition_of_text rest.now))) }
 {
     match read_cond(alloc, rest) {
         Ok(condition) => Ok(Command::Find(condition)),
@@ -70,12 +165,48 @@ fn finding(alloc: Global, rest: &[u8]) -> Result<Command, AllocError>
     }
 }
 
+/// A condition, on the messages before the place.
+#[tactic(auto, using(crate::proofs::Asking::finding_back_takes))]
+fn finding_back(alloc: Global, rest: &[u8]) -> Result<Command, AllocError>
+    ensures read { IfOk result (λ c. asked_of c ≡ finding find_back (condition_of_text rest.now)) }
+    ensures memory { OnErr result (TakesMemory (finding find_back (condition_of_text rest.now))) }
+{
+    match read_cond(alloc, rest) {
+        Ok(condition) => Ok(Command::FindBack(condition)),
+        Err(ScriptError::Text { .. }) => Ok(Command::NoCondition),
+        Err(ScriptError::Memory { .. }) => Err(AllocError),
+    }
+}
+
+/// A condition, behind `back` or alone.
+fn finding_in(alloc: Global, rest: &[u8]) -> Result<Command, AllocError>
+    ensures read { IfOk result (λ c. asked_of c ≡ finding_in rest.now) }
+    ensures memory { OnErr result (TakesMemory (finding_in rest.now)) }
+{
+    let (word, behind) = split_word(rest);
+    if word == b"back".as_slice() {
+        finding_back(alloc, behind)
+    } else {
+        finding(alloc, rest)
+    }
+}
+
+/// What `state` shows.
+fn plain(manner: Manner) -> Detail
+    ensures { result ≡ plain manner }
+{
+    match manner {
+        Manner::Given => Detail::Registers,
+        Manner::Typed => Detail::Host,
+    }
+}
+
 /// What the terminals hold: no word, or `--all` alone.
-fn showing(rest: &[u8]) -> Command
-    ensures { asked_of result ≡ showing (words rest.now) }
+fn showing(manner: Manner, rest: &[u8]) -> Command
+    ensures { asked_of result ≡ showing manner (words rest.now) }
 {
     let Some((word, behind)) = next_word(rest) else {
-        return Command::State(Detail::Registers);
+        return Command::State(plain(manner));
     };
     if word == b"--all".as_slice() {
         alone(Command::State(Detail::Host), behind)
@@ -84,26 +215,72 @@ fn showing(rest: &[u8]) -> Command
     }
 }
 
-/// What a line asks: `forward`, `back`, `go N`, `find COND`, `state` or `state --all`. Spaces alone part its words; a
-/// number has one to ten digits; the condition is all that stands behind `find`. Memory is taken for what stands
-/// behind `find` alone.
-#[tactic(auto, unfolding(crate::specs::Commands::asked))]
-pub fn read_command(alloc: Global, line: &[u8]) -> Result<Command, AllocError>
-    ensures read { IfOk result (λ c. asked_of c ≡ asked line.now) }
-    ensures memory { OnErr result (TakesMemory (asked line.now)) }
+/// The words of a terminal: its address, 0 to 30, and a subaddress, 1 to 30.
+fn holding(rest: &[u8]) -> Command
+    ensures { asked_of result ≡ holding (two_words (words rest.now)) }
 {
-    let (word, rest) = split_word(line);
+    let Some((address, subaddress)) = two_words(rest) else {
+        return Command::Unknown;
+    };
+    match (number_up_to(30, address), number_up_to(30, subaddress)) {
+        (Some(address), Some(subaddress)) if 1 <= subaddress => Command::State(Detail::Data {
+            address: address as u8,
+            subaddress: subaddress as u8,
+        }),
+        _ => Command::Unknown,
+    }
+}
+
+/// A message: that at the place, or that of a number.
+fn telling(rest: &[u8]) -> Command
+    ensures { asked_of result ≡ telling (words rest.now) }
+{
+    if next_word(rest).is_none() {
+        return Command::Show;
+    }
+    match only_number(rest) {
+        Some(number) => Command::ShowAt(number),
+        None => Command::Unknown,
+    }
+}
+
+/// What a line asks, by its first word and what stands behind it.
+fn read_by(alloc: Global, manner: Manner, word: &[u8], rest: &[u8]) -> Result<Command, AllocError>
+    ensures read { IfOk result (λ c. asked_of c ≡ asked_by manner word.now rest.now) }
+    ensures memory { OnErr result (TakesMemory (asked_by manner word.now rest.now)) }
+{
     if word == b"forward".as_slice() {
-        Ok(alone(Command::Forward, rest))
+        Ok(going_on(manner, rest))
     } else if word == b"back".as_slice() {
-        Ok(alone(Command::Back, rest))
+        Ok(going_back(manner, rest))
     } else if word == b"go".as_slice() {
         Ok(going(rest))
     } else if word == b"find".as_slice() {
-        finding(alloc, rest)
+        finding_in(alloc, rest)
     } else if word == b"state".as_slice() {
-        Ok(showing(rest))
+        Ok(showing(manner, rest))
+    } else if word == b"data".as_slice() {
+        Ok(holding(rest))
+    } else if word == b"show".as_slice() {
+        Ok(telling(rest))
+    } else if word == b"help".as_slice() {
+        Ok(alone(Command::Help, rest))
+    } else if word == b"quit".as_slice() {
+        Ok(alone(Command::Quit, rest))
     } else {
         Ok(Command::Unknown)
     }
+}
+
+/// What a line asks: `forward`, `back`, `go N`, `go channel C N`, `find COND`, `find back COND`, `state`, `state --all`,
+/// `data ADDRESS SUBADDRESS`, `show`, `show N`, `help` or `quit`; where it is typed also `forward N` and `back N`. Spaces
+/// alone part its words; a number has one to ten digits; the condition is all that stands behind `find` or `back`.
+/// Memory is taken for what stands behind `find` alone.
+#[tactic(auto, unfolding(crate::specs::Commands::asked))]
+pub fn read_command(alloc: Global, manner: Manner, line: &[u8]) -> Result<Command, AllocError>
+    ensures read { IfOk result (λ c. asked_of c ≡ asked manner line.now) }
+    ensures memory { OnErr result (TakesMemory (asked manner line.now)) }
+{
+    let (word, rest) = split_word(line);
+    read_by(alloc, manner, word, rest)
 }

@@ -1,15 +1,8 @@
 //! A session at a terminal: the list of the commands, and a prompt before each line.
+use crate::help::commands;
+use crate::manners::Manner;
 use std::io;
 use std::io::{IsTerminal, Read};
-
-/// What a session at a terminal begins with.
-const COMMANDS: &str = "\
-forward, back   one message of the recording on, or back
-go N            to the place where N messages are past, 0 for the beginning
-find COND       on to the next message whose outcome makes a condition true, as in: find any ( fail silent )
-state           the channels, and the registers of their terminals
-state --all     what the hosts of the terminals set, too
-";
 
 /// A reader of lines that shows a prompt before it reads, where lines and errors are those of a terminal; nothing is shown
 /// otherwise. The reads of a terminal give a line each.
@@ -25,12 +18,22 @@ impl<'a, R: Read + IsTerminal + Drop, E: Eprint + IsTerminal> Prompted<'a, R, E>
     pub fn begin(lines: R, errors: &'a E) -> Prompted<'a, R, E> {
         let at_terminal = lines.is_terminal() && errors.is_terminal();
         if at_terminal {
-            let _ = eprint!(errors; "{COMMANDS}");
+            let lines = commands();
+            let _ = eprint!(errors; "{lines}");
         }
         Prompted {
             lines,
             errors,
             at_terminal,
+        }
+    }
+
+    /// How the lines come.
+    pub fn manner(&self) -> Manner {
+        if self.at_terminal {
+            Manner::Typed
+        } else {
+            Manner::Given
         }
     }
 }

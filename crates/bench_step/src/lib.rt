@@ -1,20 +1,26 @@
 //! The command `bench step`: a debugger that walks through a recording, driven by lines of text.
+//! Its tests are in `bench_step_tests`.
 #![tactic(auto)]
 
+mod backwards;
 mod commands;
 mod console;
-mod details;
+mod decoding;
 mod fault;
+mod help;
 mod laws;
+mod manners;
+mod moves;
+mod opening;
 mod replies;
+mod session;
 mod sessions;
-mod states;
 mod words;
 
 pub use commands::{Command, read_command};
 pub use console::Prompted;
-pub use details::Detail;
 pub use fault::StepFault;
 pub use laws::replies_are_determined;
+pub use manners::Manner;
 pub use replies::Reply;
-pub use sessions::{answer, step};
+pub use sessions::step;

@@ -1,5 +1,5 @@
 //! What a session shows at a terminal.
-use bench_step::Prompted;
+use bench_step::{Manner, Prompted};
 use std::fmt::Display;
 use std::io::{self, IsTerminal, Read};
 use std::process::Abort;
@@ -88,6 +88,13 @@ go N            to the place where N messages are past, 0 for the beginning
 find COND       on to the next message whose outcome makes a condition true, as in: find any ( fail silent )
 state           the channels, and the registers of their terminals
 state --all     what the hosts of the terminals set, too
+forward N, back N   so many messages on, or back (where lines are typed)
+go channel C N  to message N of channel C
+find back COND  back to the latest message before the place whose outcome makes a condition true
+show, show N    the message at the place, or message N, as people read it
+data A S        what terminal A holds at subaddress S: received, received from all, to transmit
+help            these lines
+quit            ends the session
 ";
 
 /// Lines that are typed, or come from a file: what is shown at first, and what behind it once they are read.
@@ -95,6 +102,8 @@ fn shows<R: Wait + AllocGlobal + Abort>(rt: &R, typed: bool, first: &str, second
     let screen = Screen::make(rt);
     let mut lines = Prompted::begin(Keys { left: 2, typed }, &screen);
     assert!(rt; screen.shows(first, ""));
+    let manner = if typed { Manner::Typed } else { Manner::Given };
+    assert_eq!(rt; lines.manner(), manner);
     let is_read = read_on(&mut lines).is_ok();
     assert!(rt; is_read);
     assert!(rt; screen.shows(first, second));

@@ -4,8 +4,14 @@
 #[cfg(test)]
 mod console;
 #[cfg(test)]
+mod holdings;
+#[cfg(test)]
 mod made;
 #[cfg(test)]
 mod refusals;
 #[cfg(test)]
 mod sessions;
+#[cfg(test)]
+mod streams;
+#[cfg(test)]
+mod walks;

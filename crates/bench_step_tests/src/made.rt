@@ -1,11 +1,11 @@
 //! Jobs, recordings and reports to step through.
 use bench_channel::one_channel;
 use bench_report::{Report, read_report};
-use bench_step::{StepFault, step};
+use bench_step::{Manner, StepFault, step};
 use ch11_writer::{MemorySink, Sink};
 use job_file::{Job, read_job};
 use std::alloc::Global;
-use std::io::Write;
+use std::io::{BufRead, Write};
 use std::process::Abort;
 
 /// The job of a message that loses a word on its way, and of two questions for the status.
@@ -72,7 +72,26 @@ impl Subject {
         out: &mut W,
     ) -> (Result<(), StepFault>, &'a [u8]) {
         let mut input = lines.as_bytes();
-        let ended = step(alloc, &self.jobs, &self.report, &self.file, &mut input, out);
+        let ended = self.session_of(alloc, Manner::Given, &mut input, out);
         (ended, input)
+    }
+
+    /// How a session of the lines of a reader ends, where they come in this manner.
+    pub(crate) fn session_of<R: BufRead, W: Write>(
+        &self,
+        alloc: Global,
+        manner: Manner,
+        input: &mut R,
+        out: &mut W,
+    ) -> Result<(), StepFault> {
+        step(
+            alloc,
+            manner,
+            &self.jobs,
+            &self.report,
+            &self.file,
+            input,
+            out,
+        )
     }
 }

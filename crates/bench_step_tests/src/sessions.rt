@@ -92,34 +92,46 @@ const FAILING_STATES: &str = "\
 channel 3 number 0
 terminal 5 status 2800 last 0000 vector 0000 bit 0000 sync 0000 off -
 terminal 5 deaf - mute -
+terminal 5 marks -
 terminal 9 status 4800 last 0000 vector 0000 bit 0000 sync 0000 off -
 terminal 9 deaf - mute -
+terminal 9 marks -
 terminal 30 status F000 last 0000 vector 0000 bit 0000 sync 0000 off -
 terminal 30 deaf - mute -
+terminal 30 marks -
 at 1
 channel 3 number 1
 terminal 5 status 2800 last 2FE1 vector 0000 bit 0000 sync 0000 off -
 terminal 5 deaf - mute A
+terminal 5 marks -
 terminal 9 status 4800 last 0000 vector 0000 bit 0000 sync 0000 off -
 terminal 9 deaf - mute -
+terminal 9 marks -
 terminal 30 status F000 last 0000 vector 0000 bit 0000 sync 0000 off -
 terminal 30 deaf - mute -
+terminal 30 marks -
 at 2
 channel 3 number 2
 terminal 5 status 2800 last 2FE1 vector 0000 bit 0000 sync 0000 off -
 terminal 5 deaf B mute A
+terminal 5 marks -
 terminal 9 status 4800 last 0000 vector 0000 bit 0000 sync 0000 off -
 terminal 9 deaf A mute AB
+terminal 9 marks -
 terminal 30 status F000 last 0000 vector 0000 bit 0000 sync 0000 off -
 terminal 30 deaf - mute -
+terminal 30 marks -
 at 3
 channel 3 number 3
 terminal 5 status 2800 last 2FE1 vector 0000 bit 0000 sync 0000 off -
 terminal 5 deaf B mute -
+terminal 5 marks -
 terminal 9 status 4800 last 0000 vector 0000 bit 0000 sync 0000 off -
 terminal 9 deaf AB mute AB
+terminal 9 marks -
 terminal 30 status F000 last 0000 vector 0000 bit 0000 sync 0000 off -
 terminal 30 deaf - mute -
+terminal 30 marks -
 channel 3 number 3
 terminal 5 status 2800 last 2FE1 vector 0000 bit 0000 sync 0000 off -
 terminal 9 status 4800 last 0000 vector 0000 bit 0000 sync 0000 off -

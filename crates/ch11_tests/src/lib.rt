@@ -1,11 +1,13 @@
 //! Tests of Chapter 11 files, against worked bytes: bodies of `ch11_f1`, packets of `ch11_builder`, recordings of `ch11_recording`,
-//! what `ch11_reader` reads of them, and what `bench_dump` prints.
+//! what `ch11_reader` reads of them, what `bench_dump` prints, and times of day by `bench_clock`.
 #![tactic(auto)]
 
 #[cfg(test)]
 mod bodies;
 #[cfg(test)]
 mod builders;
+#[cfg(test)]
+mod clocks;
 #[cfg(test)]
 mod dumps;
 #[cfg(test)]

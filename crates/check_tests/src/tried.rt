@@ -1,5 +1,5 @@
 //! What `bench check` says of jobs, worked out by hand.
-use bench_check::{print_findings, try_job};
+use bench_check::{Bits, print_findings, print_summary, try_job};
 use job_file::read_job;
 use std::alloc::Global;
 use std::process::Abort;
@@ -75,19 +75,122 @@ nothing looks like a mistake
 queue 4: with room for so many nothing of this job is refused
 ";
 
-/// What a job of this text comes to.
-fn comes_to(rt: &impl Abort, alloc: Global, job: &str, wanted: &str) {
-    let job = read_job(alloc, job.as_bytes()).ok().expect(rt, "a job");
+/// A subaddress that was never filled, one that wraps around and one that is filled in time; and an illegal command, which is
+/// answered with the message error bit and not sent again.
+const ODD: &str = "channel 1
+terminal 5
+at 1 5 illegal receive 2 1
+at 2 5 transmit 3 00AA
+script
+send A rx 5 2 [0001]
+send A tx 5 3 1
+send A tx 5 4 1
+send B tx 5 4 2
+send A tx 5 30 1
+";
+
+const ODDITIES: &str = "messages 5, with an error 0
+probably a mistake:
+  terminal 5 transmits from subaddress 4 in message 3, and no words were put up there
+  message 1 is the first of 1 that are answered with message_error and not sent again
+queue 6: with room for so many nothing of this job is refused
+";
+
+/// An illegal command that is sent again, and legal then. It takes three words and a response of 8.0 µs.
+const REPEATED: &str = "channel 1
+terminal 5
+at 1 5 illegal receive 2 1
+at 2 5 legal receive 2 1
+script
+send A rx 5 2 [0001]
+send B rx 5 2 [0001]
+";
+
+const REPEATED_NAMES: &str = "message 1 at 0.0 us: send A rx 5 2 [0001]
+  at 1 5 illegal receive 2 1
+  status 2C00 message_error, block clear
+message 2 at 68.0 us: send B rx 5 2 [0001]
+  at 2 5 legal receive 2 1
+  status 2800, block line_b
+nothing looks like a mistake
+queue 3: with room for so many nothing of this job is refused
+";
+
+const REPEATED_SUMMARY: &str = "messages 2, with an error 0
+nothing looks like a mistake
+queue 3: with room for so many nothing of this job is refused
+";
+
+/// How a job is told.
+#[derive(Clone, Copy)]
+struct Row {
+    job: &'static str,
+    summary: bool,
+    bits: Bits,
+    wanted: &'static str,
+}
+
+const ROWS: [Row; 6] = [
+    Row {
+        job: MISTAKEN,
+        summary: false,
+        bits: Bits::Digits,
+        wanted: MISTAKES,
+    },
+    Row {
+        job: TRANSFER,
+        summary: false,
+        bits: Bits::Digits,
+        wanted: TRANSFERRED,
+    },
+    Row {
+        job: FAULTY,
+        summary: false,
+        bits: Bits::Digits,
+        wanted: FAULTED,
+    },
+    Row {
+        job: ODD,
+        summary: true,
+        bits: Bits::Digits,
+        wanted: ODDITIES,
+    },
+    Row {
+        job: REPEATED,
+        summary: false,
+        bits: Bits::Names,
+        wanted: REPEATED_NAMES,
+    },
+    Row {
+        job: REPEATED,
+        summary: true,
+        bits: Bits::Digits,
+        wanted: REPEATED_SUMMARY,
+    },
+];
+
+/// What the job of a row comes to.
+fn comes_to(rt: &impl Abort, alloc: Global, row: &Row) {
+    let job = read_job(alloc, row.job.as_bytes()).ok().expect(rt, "a job");
     let mut out = Vec::new(alloc);
-    let findings = try_job(alloc, &job, &mut out).ok().expect(rt, "findings");
-    let is_printed = print_findings(alloc, &job, &findings, &mut out).is_ok();
-    assert!(rt; is_printed);
-    assert_eq!(rt; out.as_slice(), wanted.as_bytes());
+    let findings = try_job(alloc, &job, row.bits, &mut out)
+        .ok()
+        .expect(rt, "findings");
+    if row.summary {
+        out.clear();
+    }
+    let printed = if row.summary {
+        print_summary(alloc, &job, &findings, &mut out)
+    } else {
+        print_findings(alloc, &job, &findings, &mut out)
+    };
+    assert!(rt; printed.is_ok());
+    assert_eq!(rt; out.as_slice(), row.wanted.as_bytes());
 }
 
 #[test]
 fn jobs_are_tried(rt: HostRuntime) {
-    comes_to(&rt, rt.alloc(), MISTAKEN, MISTAKES);
-    comes_to(&rt, rt.alloc(), TRANSFER, TRANSFERRED);
-    comes_to(&rt, rt.alloc(), FAULTY, FAULTED);
+    for row in &ROWS {
+        comes_to(&rt, rt.alloc(), row);
+    }
 }

@@ -1,6 +1,6 @@
 -- How many operations and messages a frame has.
 use Rattle.std.proofs.Common.{◌≡◌, ℕ, ◌+◌, [], ◌∷◌, ◌++◌, length, refl, ap₂, ◌∙◌, arith, length-append}
-use Rattle.frame_tree.specs.Tree.{Condition, asked, negated, both, either, Tree, send, retry, gap, repeat, choose, until, nothing, chained, call, define}
+use Rattle.frame_tree.specs.Tree.{Condition, asked, negated, both, either, Tree, send, retry, gap, repeat, choose, until, timed, nothing, chained, call, define}
 use Rattle.frame_tree.specs.Names.{Scope}
 use Rattle.frame_code.specs.declared.Op.TheVariants as op
 use Rattle.frame_asm.specs.Shapes.{branch_size, branch, size, messages_of, entries, shape}
@@ -27,6 +27,8 @@ length_shape (until c n b) rs p m =
     let body = shape rs (l + 1) m b in
     let rest = op.Leave (l + size b + 2) ∷ (body ++ op.Again (p + 1) ∷ []) in
     omega (arith, length-append (branch (p + 1) c l (l + 1)) rest, length-append body (op.Again (p + 1) ∷ []), length_branch c (p + 1) l (l + 1), length_shape b rs (l + 1) m)
+length_shape (timed h b) rs p m =
+    omega (arith, length-append (shape rs (p + 1) m b) (op.Pace h ∷ []), length_shape b rs (p + 1) m)
 length_shape nothing rs p m = refl
 length_shape (call n) rs p m = refl
 length_shape (define n b r) rs p m =
@@ -42,6 +44,7 @@ length_messages_of (gap t) = refl
 length_messages_of (repeat n b) = length_messages_of b
 length_messages_of (choose c a b) = omega (arith, length-append (messages_of a) (messages_of b), length_messages_of a, length_messages_of b)
 length_messages_of (until c n b) = length_messages_of b
+length_messages_of (timed h b) = length_messages_of b
 length_messages_of nothing = refl
 length_messages_of (call n) = refl
 length_messages_of (define n b r) = omega (arith, length-append (messages_of b) (messages_of r), length_messages_of b, length_messages_of r)

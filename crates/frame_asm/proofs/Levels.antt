@@ -1,8 +1,8 @@
--- The loops that are open behind a frame's operations are those that were open before.
+-- The brackets that are open behind a frame's operations are those that were open before.
 use Rattle.std.proofs.Common.{◌≡◌, ℕ, suc, ◌+◌, List, [], ◌∷◌, ◌++◌, length, Some, refl, ap, ◌∙◌, arith}
 use Rattle.std.specs.Prelude.{slice_get}
 use Rattle.mil_message.specs.declared.outcome_test.OutcomeTest.TheVariants.{Failed}
-use Rattle.frame_tree.specs.Tree.{Condition, asked, negated, both, either, Tree, send, retry, gap, repeat, choose, until, nothing, chained, call, define}
+use Rattle.frame_tree.specs.Tree.{Condition, asked, negated, both, either, Tree, send, retry, gap, repeat, choose, until, timed, nothing, chained, call, define}
 use Rattle.frame_tree.specs.Names.{Scope, named}
 use Rattle.frame_code.specs.declared.Op.{Op}
 use Rattle.frame_code.specs.declared.Op.TheVariants as op
@@ -19,7 +19,7 @@ module _ (os : List Op) where
   pub next : (p : ℕ) (o : Op) → slice_get os p ≡ Some o → open_at os (p + 1) ≡ after (Some o) p (open_at os p)
   next p o at = let s : p + 1 ≡ suc p = omega arith in ap (open_at os) s ∙ ap (λ v. after v p (open_at os p)) at
 
-  -- a list without Loop and Again
+  -- a list without operations that open or close a bracket
   flat : (p : ℕ) (ys : List Op) → HasAt os p ys → AllFlat ys → open_at os (p + length ys) ≡ open_at os p
   flat p [] h f = let s : p + 0 ≡ p = omega arith in ap (open_at os) s
   flat p (y ∷ ys) h f =
@@ -60,6 +60,12 @@ module _ (os : List Op) where
       let inside = level rs (p + 1) m b (has_front os (p + 1) (shape rs (p + 1) m b) (op.Again (p + 1) ∷ []) h.1) in
       let back = has_back os (p + 1) q (shape rs (p + 1) m b) (op.Again (p + 1) ∷ []) (omega (arith, length_shape b rs (p + 1) m)) h.1 in
       ap (open_at os) s ∙ next q (op.Again (p + 1)) back.0 ∙ ap tail (inside ∙ next p (op.Loop n) h.0)
+  level rs p m (timed n b) h =
+      let q = p + 1 + size b in
+      let s : p + (size b + 2) ≡ q + 1 = omega arith in
+      let inside = level rs (p + 1) m b (has_front os (p + 1) (shape rs (p + 1) m b) (op.Pace n ∷ []) h.1) in
+      let back = has_back os (p + 1) q (shape rs (p + 1) m b) (op.Pace n ∷ []) (omega (arith, length_shape b rs (p + 1) m)) h.1 in
+      ap (open_at os) s ∙ next q (op.Pace n) back.0 ∙ ap tail (inside ∙ next p op.Begin h.0)
   level rs p m (until c n b) h =
       let l = p + 1 + branch_size c in
       let test = branch (p + 1) c l (l + 1) in

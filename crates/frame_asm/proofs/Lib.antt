@@ -8,5 +8,7 @@ pub mod Branches
 pub mod Frames
 pub mod Ranges
 pub mod Levels
+pub mod Counts
+pub mod Opened
 pub mod Loads
 pub mod Loadable

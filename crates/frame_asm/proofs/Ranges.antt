@@ -3,13 +3,13 @@ use Rattle.std.proofs.Common.{◌≡◌, ℕ, ◌+◌, ◌<◌, ◌≤◌, List,
 use Rattle.std.specs.Prelude.{IsTrue, if◌then◌else◌}
 use Rattle.mil_word.specs.declared.Line.{Line}
 use Rattle.mil_message.specs.declared.messages.Message.{Message}
-use Rattle.frame_tree.specs.Tree.{Condition, asked, negated, both, either, Tree, send, retry, gap, repeat, choose, until, nothing, chained, call, define}
+use Rattle.frame_tree.specs.Tree.{Condition, asked, negated, both, either, Tree, send, retry, gap, repeat, choose, until, timed, nothing, chained, call, define}
 use Rattle.frame_tree.specs.Names.{Scope, same, named}
 use Rattle.frame_tree.specs.Bounds.{IsInRange, CallsKnown, IsDefined}
 use Rattle.frame_code.specs.declared.Op.{Op}
 use Rattle.frame_code.specs.declared.Op.TheVariants as op
 use Rattle.frame_code.specs.Table.{Code}
-use Rattle.frame_code.specs.Ranges.{is_gap, is_count, is_index, is_routine, AreInRange, IsImage}
+use Rattle.frame_code.specs.Ranges.{is_gap, is_count, is_index, is_routine, is_period, AreInRange, IsImage}
 use Rattle.frame_asm.specs.Shapes.{branch_size, branch, size, entries, messages_of, shape, code_of, AreRoutines}
 use Rattle.frame_asm.proofs.Lengths.{length_shape, length_messages_of}
 
@@ -24,6 +24,9 @@ gap_in t h k = grind (arith, rules, tests)
 
 count_in : (n : ℕ) → 1 ≤ n → n ≤ 10000 → IsTrue (is_count n)
 count_in n h k = search (rules, tests)
+
+period_in : (h : ℕ) → 1 ≤ h → h ≤ 65535 → IsTrue (is_period h)
+period_in h l u = grind (arith, rules, tests)
 
 both_in : (a b : List Op) → AreInRange a → AreInRange b → AreInRange (a ++ b)
 both_in [] b h k = k
@@ -64,6 +67,7 @@ shape_in rs (until c n b) p m z kn s h k =
       both_in (branch (p + 1) c l (l + 1)) _ (branch_in c (p + 1) l (l + 1) (omega arith) (omega arith) (omega arith))
           (index_in (l + size b + 2) (omega arith), both_in (shape rs (l + 1) m b) _ (shape_in rs b (l + 1) m z kn s.3 (omega arith) k) (index_in (p + 1) (omega arith), tt)),
     )
+shape_in rs (timed t b) p m z c s h k = (search rules, both_in (shape rs (p + 1) m b) _ (shape_in rs b (p + 1) m z c s.2 (omega arith) k) (period_in t s.0 s.1, tt))
 shape_in rs nothing p m z c s h k = tt
 shape_in rs (chained a b) p m z c s h k = both_in (shape rs p m a) _ (shape_in rs a p m z c.0 s.0 (omega arith) (omega arith)) (shape_in rs b _ _ z c.1 s.1 (omega arith) (omega arith))
 shape_in rs (call n) p m z c s h k = (routine_in rs n z, tt)
@@ -77,6 +81,7 @@ all_in rs (gap t) p m z c s h k = shape_in rs (gap t) p m z c s h k
 all_in rs (repeat n b) p m z c s h k = shape_in rs (repeat n b) p m z c s h k
 all_in rs (choose v a b) p m z c s h k = shape_in rs (choose v a b) p m z c s h k
 all_in rs (until v n b) p m z c s h k = shape_in rs (until v n b) p m z c s h k
+all_in rs (timed t b) p m z c s h k = shape_in rs (timed t b) p m z c s h k
 all_in rs nothing p m z c s h k = shape_in rs nothing p m z c s h k
 all_in rs (chained a b) p m z c s h k = shape_in rs (chained a b) p m z c s h k
 all_in rs (call n) p m z c s h k = shape_in rs (call n) p m z c s h k

@@ -39,33 +39,33 @@ has_all (i ∷ is) pre =
     let rest' = subst (λ l. HasAt l (length (pre ++ i ∷ [])) is) (append_assoc pre (i ∷ []) is) rest in
     (here, subst (λ m. HasAt (pre ++ i ∷ is) m is) n rest')
 
-abbrev pub regs : List ℕ → ℕ → List ℕ → Bool → Line → Registers
-regs is i cs f l = record { place = i; counters = cs; returns = is; flag = f; line = l }
+abbrev pub regs : List ℕ → List ℕ → ℕ → List ℕ → Bool → Line → Registers
+regs is fs i cs f l = record { place = i; counters = cs; returns = is; frames = fs; flag = f; line = l }
 
--- runs that keep these return places
-module _ {State Outcome : Type 0} (w : World State Outcome) (code : Code) (is : List ℕ) where
+-- runs that keep these return places and open frames
+module _ {State Outcome : Type 0} (w : World State Outcome) (code : Code) (is fs : List ℕ) where
   -- one operation
   pub one : (i : ℕ) (cs : List ℕ) (f : Bool) (l : Line) (p : Point State Outcome) (o : Op) → slice_get code.operations i ≡ Some o → (k : ℕ)
-      → run w (suc k) code (regs is i cs f l) p ≡ then_run w (act w (Some o) code (regs is i cs f l) p) (record { at = regs is i cs f l; point = p }) (run w k code)
-  one i cs f l p o h k = ap (λ v. then_run w (act w v code (regs is i cs f l) p) (record { at = regs is i cs f l; point = p }) (run w k code)) h
+      → run w (suc k) code (regs is fs i cs f l) p ≡ then_run w (act w (Some o) code (regs is fs i cs f l) p) (record { at = regs is fs i cs f l; point = p }) (run w k code)
+  one i cs f l p o h k = ap (λ v. then_run w (act w v code (regs is fs i cs f l) p) (record { at = regs is fs i cs f l; point = p }) (run w k code)) h
 
   -- the machine comes from here to there
   pub record Comes (i : ℕ) (cs : List ℕ) (f : Bool) (l : Line) (p : Point State Outcome) (i' : ℕ) (cs' : List ℕ) (p' : Point State Outcome) : Type 0 where
     pub flag : Bool
     pub line : Line
-    pub by : (k : ℕ) → (j : ℕ) × (run w j code (regs is i cs f l) p ≡ run w k code (regs is i' cs' flag line) p')
+    pub by : (k : ℕ) → (j : ℕ) × (run w j code (regs is fs i cs f l) p ≡ run w k code (regs is fs i' cs' flag line) p')
 
   abbrev pub Does : ℕ → List ℕ → Point State Outcome → ℕ → List ℕ → Point State Outcome → Type 0
   Does i cs p i' cs' p' = (f : Bool) (l : Line) → Comes i cs f l p i' cs' p'
 
   -- one step, and what follows
   pub next : (i i1 i2 : ℕ) (cs cs1 cs2 : List ℕ) (f f1 : Bool) (l l1 : Line) (p p1 p2 : Point State Outcome)
-      → ((k : ℕ) → run w (suc k) code (regs is i cs f l) p ≡ run w k code (regs is i1 cs1 f1 l1) p1) → Comes i1 cs1 f1 l1 p1 i2 cs2 p2 → Comes i cs f l p i2 cs2 p2
+      → ((k : ℕ) → run w (suc k) code (regs is fs i cs f l) p ≡ run w k code (regs is fs i1 cs1 f1 l1) p1) → Comes i1 cs1 f1 l1 p1 i2 cs2 p2 → Comes i cs f l p i2 cs2 p2
   next i i1 i2 cs cs1 cs2 f f1 l l1 p p1 p2 s c =
       record { flag = c.flag; line = c.line; by = λ k. let a = c.by k in (suc a.0, s a.0 ∙ a.1) }
 
   pub here : (i i' : ℕ) (cs : List ℕ) (f : Bool) (l : Line) (p : Point State Outcome) → i ≡ i' → Comes i cs f l p i' cs p
-  here i i' cs f l p e = record { flag = f; line = l; by = λ k. (k, ap (λ n. run w k code (regs is n cs f l) p) e) }
+  here i i' cs f l p e = record { flag = f; line = l; by = λ k. (k, ap (λ n. run w k code (regs is fs n cs f l) p) e) }
 
   pub both_do : (i i1 i2 : ℕ) (cs cs1 cs2 : List ℕ) (f : Bool) (l : Line) (p p1 p2 : Point State Outcome) → Comes i cs f l p i1 cs1 p1 → Does i1 cs1 p1 i2 cs2 p2 → Comes i cs f l p i2 cs2 p2
   both_do i i1 i2 cs cs1 cs2 f l p p1 p2 a d =
@@ -77,16 +77,16 @@ module _ {State Outcome : Type 0} (w : World State Outcome) (code : Code) (is : 
 
   -- a message
   pub send_runs : (i m : ℕ) (cs : List ℕ) (p : Point State Outcome) (l : Line) (x : Message) → slice_get code.operations i ≡ Some (op.Send m) → slice_get code.messages m ≡ Some (l, x)
-      → (f : Bool) (l0 : Line) (k : ℕ) → run w (suc k) code (regs is i cs f l0) p ≡ run w k code (regs is (i + 1) cs f l) (sent w l x p)
+      → (f : Bool) (l0 : Line) (k : ℕ) → run w (suc k) code (regs is fs i cs f l0) p ≡ run w k code (regs is fs (i + 1) cs f l) (sent w l x p)
   send_runs i m cs p l x h g f l0 k =
       one i cs f l0 p (op.Send m) h k
-      ∙ ap (λ v. then_run w (sends w v (λ l. l) (regs is i cs f l0) p) (record { at = regs is i cs f l0; point = p }) (run w k code)) g
+      ∙ ap (λ v. then_run w (sends w v (λ l. l) (regs is fs i cs f l0) p) (record { at = regs is fs i cs f l0; point = p }) (run w k code)) g
 
   alt_runs : (i m : ℕ) (cs : List ℕ) (p : Point State Outcome) (l : Line) (x : Message) → slice_get code.operations i ≡ Some (op.Alt m) → slice_get code.messages m ≡ Some (l, x)
-      → (f : Bool) (l0 : Line) (k : ℕ) → run w (suc k) code (regs is i cs f l0) p ≡ run w k code (regs is (i + 1) cs f (other_line l0)) (sent w (other_line l0) x p)
+      → (f : Bool) (l0 : Line) (k : ℕ) → run w (suc k) code (regs is fs i cs f l0) p ≡ run w k code (regs is fs (i + 1) cs f (other_line l0)) (sent w (other_line l0) x p)
   alt_runs i m cs p l x h g f l0 k =
       one i cs f l0 p (op.Alt m) h k
-      ∙ ap (λ v. then_run w (sends w v (λ l. other_line l0) (regs is i cs f l0) p) (record { at = regs is i cs f l0; point = p }) (run w k code)) g
+      ∙ ap (λ v. then_run w (sends w v (λ l. other_line l0) (regs is fs i cs f l0) p) (record { at = regs is fs i cs f l0; point = p }) (run w k code)) g
 
   -- a test
   goes : (b : Bool) (i t f : ℕ) (cs : List ℕ) (l : Line) (p : Point State Outcome) → slice_get code.operations (i + 1) ≡ Some (op.JumpFalse f) → slice_get code.operations (i + 1 + 1) ≡ Some (op.Jump t) → Comes (i + 1) cs b l p (cond b t f) cs p
@@ -129,11 +129,11 @@ module _ {State Outcome : Type 0} (w : World State Outcome) (code : Code) (is : 
 
   -- the end of a turn, where the counter was suc n
   again_runs : (n i j : ℕ) (cs : List ℕ) (f : Bool) (l : Line) (p : Point State Outcome) → slice_get code.operations i ≡ Some (op.Again j)
-      → (k : ℕ) → run w (suc k) code (regs is i (suc n ∷ cs) f l) p ≡ then_run w (counted w n cs j (regs is i (suc n ∷ cs) f l) p) (record { at = regs is i (suc n ∷ cs) f l; point = p }) (run w k code)
+      → (k : ℕ) → run w (suc k) code (regs is fs i (suc n ∷ cs) f l) p ≡ then_run w (counted w n cs j (regs is fs i (suc n ∷ cs) f l) p) (record { at = regs is fs i (suc n ∷ cs) f l; point = p }) (run w k code)
   again_runs n i j cs f l p h k =
       let e : suc n - 1 ≡ n = omega arith in
       one i (suc n ∷ cs) f l p (op.Again j) h k
-      ∙ ap (λ v. then_run w (counted w v cs j (regs is i (suc n ∷ cs) f l) p) (record { at = regs is i (suc n ∷ cs) f l; point = p }) (run w k code)) e
+      ∙ ap (λ v. then_run w (counted w v cs j (regs is fs i (suc n ∷ cs) f l) p) (record { at = regs is fs i (suc n ∷ cs) f l; point = p }) (run w k code)) e
 
   -- n + 1 turns of a loop, from its first operation
   loop_runs : (n i e : ℕ) (cs : List ℕ) (body : Point State Outcome → Point State Outcome) → slice_get code.operations e ≡ Some (op.Again i)
@@ -176,7 +176,7 @@ module _ {State Outcome : Type 0} (w : World State Outcome) (code : Code) (is : 
         → Comes (i + 2) (suc n ∷ cs) f l p (i + 8) cs (attempts w (suc n) l x p)
     one_attempt n l p f rest =
         next (i + 2) (i + 3) (i + 8) (suc n ∷ cs) (suc n ∷ cs) cs f (asks w Failed p) l l p p _
-        (λ k. one (i + 2) (suc n ∷ cs) f l p (op.Test Failed) at_test k ∙ ap (λ v. run w k code (regs is v (suc n ∷ cs) (asks w Failed p) l) p) three)
+        (λ k. one (i + 2) (suc n ∷ cs) f l p (op.Test Failed) at_test k ∙ ap (λ v. run w k code (regs is fs v (suc n ∷ cs) (asks w Failed p) l) p) three)
         (decided (asks w Failed p))
       where
         p1 : Point State Outcome
@@ -194,9 +194,9 @@ module _ {State Outcome : Type 0} (w : World State Outcome) (code : Code) (is : 
         decided : (b : Bool) → Comes (i + 3) (suc n ∷ cs) b l p (i + 8) cs (cond b (attempts w n (other_line l) x (sent w (other_line l) x p)) p)
         decided true =
             next (i + 3) (i + 4) (i + 8) (suc n ∷ cs) (suc n ∷ cs) cs true true l l p p _
-            (λ k. one (i + 3) (suc n ∷ cs) true l p (op.JumpFalse (i + 6)) at_jump_false k ∙ ap (λ v. run w k code (regs is v (suc n ∷ cs) true l) p) four)
+            (λ k. one (i + 3) (suc n ∷ cs) true l p (op.JumpFalse (i + 6)) at_jump_false k ∙ ap (λ v. run w k code (regs is fs v (suc n ∷ cs) true l) p) four)
             (next (i + 4) (i + 5) (i + 8) (suc n ∷ cs) (suc n ∷ cs) cs true true l (other_line l) p (sent w (other_line l) x p) _
-            (λ k. alt_runs (i + 4) m (suc n ∷ cs) p line x at_alt entry true l k ∙ ap (λ v. run w k code (regs is v (suc n ∷ cs) true (other_line l)) (sent w (other_line l) x p)) five)
+            (λ k. alt_runs (i + 4) m (suc n ∷ cs) p line x at_alt entry true l k ∙ ap (λ v. run w k code (regs is fs v (suc n ∷ cs) true (other_line l)) (sent w (other_line l) x p)) five)
             (next (i + 5) (i + 7) (i + 8) (suc n ∷ cs) (suc n ∷ cs) cs true true (other_line l) (other_line l) (sent w (other_line l) x p) (sent w (other_line l) x p) _
             (λ k. one (i + 5) (suc n ∷ cs) true (other_line l) (sent w (other_line l) x p) (op.Jump (i + 7)) at_jump k)
             rest))
@@ -221,7 +221,7 @@ module _ {State Outcome : Type 0} (w : World State Outcome) (code : Code) (is : 
       let e : i + 1 + 1 ≡ i + 2 = omega arith in
       next i (i + 1) (i + 8) cs cs cs f f l line p (sent w line x p) _ (send_runs i m cs p line x has.0 entry f l)
       (next (i + 1) (i + 2) (i + 8) cs (suc n ∷ cs) cs f f line line (sent w line x p) (sent w line x p) _
-      (λ k. one (i + 1) cs f line (sent w line x p) (op.Loop (suc n)) has.1.0 k ∙ ap (λ v. run w k code (regs is v (suc n ∷ cs) f line) (sent w line x p)) e)
+      (λ k. one (i + 1) cs f line (sent w line x p) (op.Loop (suc n)) has.1.0 k ∙ ap (λ v. run w k code (regs is fs v (suc n ∷ cs) f line) (sent w line x p)) e)
       (attempts_run i m (suc n) cs line x has entry n line (sent w line x p) f))
 
   pub repeat_runs : (n i z : ℕ) (cs : List ℕ) (body : Point State Outcome → Point State Outcome) (p : Point State Outcome) → 1 ≤ n → slice_get code.operations i ≡ Some (op.Loop n) → slice_get code.operations (i + 1 + z) ≡ Some (op.Again (i + 1))

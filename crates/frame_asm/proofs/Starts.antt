@@ -4,7 +4,7 @@ use Rattle.std.specs.Prelude.{nat_lt, if◌then◌else◌}
 use Rattle.std.proofs.lemmas.Bool.Decides.{nat_tests}
 use Rattle.mil_message.specs.declared.outcome_test.OutcomeTest.{OutcomeTest}
 use Rattle.mil_message.specs.declared.outcome_test.OutcomeTest.TheVariants.{Failed}
-use Rattle.frame_tree.specs.Tree.{Condition, asked, negated, both, either, Tree, send, retry, gap, repeat, choose, until, nothing, chained, call, define}
+use Rattle.frame_tree.specs.Tree.{Condition, asked, negated, both, either, Tree, send, retry, gap, repeat, choose, until, timed, nothing, chained, call, define}
 use Rattle.frame_tree.specs.Names.{Scope, named}
 use Rattle.frame_tree.specs.Bounds.{CallsKnown, IsDefined}
 use Rattle.frame_code.specs.declared.Op.{Op}
@@ -53,6 +53,12 @@ is_test m = (λ p os. refl, λ r. refl)
 is_jump_false : (m : ℕ) → IsInner (op.JumpFalse m)
 is_jump_false m = (λ p os. refl, λ r. refl)
 
+is_begin : IsInner op.Begin
+is_begin = (λ p os. refl, λ r. refl)
+
+is_pace : (m : ℕ) → IsInner (op.Pace m)
+is_pace m = (λ p os. refl, λ r. refl)
+
 is_call : (m : ℕ) → IsInner (op.Call m)
 is_call m = (λ p os. refl, λ r. refl)
 
@@ -74,6 +80,7 @@ inner_shape rs (choose c a b) p m k =
 inner_shape rs (until c n b) p m k =
     let l = p + 1 + branch_size c in
     (is_loop n, inner_both (branch (p + 1) c l (l + 1)) _ (inner_branch c (p + 1) l (l + 1)) (is_leave (l + size b + 2), inner_both (shape rs (l + 1) m b) _ (inner_shape rs b (l + 1) m k) (is_again (p + 1), tt)))
+inner_shape rs (timed h b) p m k = (is_begin, inner_both (shape rs (p + 1) m b) _ (inner_shape rs b (p + 1) m k) (is_pace h, tt))
 inner_shape rs nothing p m k = tt
 inner_shape rs (chained a b) p m k = inner_both (shape rs p m a) _ (inner_shape rs a p m k.0) (inner_shape rs b (p + size a) (m + entries a) k.1)
 inner_shape rs (call n) p m k = (is_call (named 0 rs n), tt)
@@ -99,6 +106,7 @@ starts_of rs (gap t) p m k = main_starts rs (gap t) p m k
 starts_of rs (repeat n b) p m k = main_starts rs (repeat n b) p m k
 starts_of rs (choose c a b) p m k = main_starts rs (choose c a b) p m k
 starts_of rs (until c n b) p m k = main_starts rs (until c n b) p m k
+starts_of rs (timed h b) p m k = main_starts rs (timed h b) p m k
 starts_of rs nothing p m k = main_starts rs nothing p m k
 starts_of rs (chained a b) p m k = main_starts rs (chained a b) p m k
 starts_of rs (call n) p m k = main_starts rs (call n) p m k

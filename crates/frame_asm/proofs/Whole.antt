@@ -2,7 +2,7 @@
 use Rattle.std.proofs.Common.{◌≡◌, ℕ, suc, ◌+◌, Bool, true, false, [], ◌∷◌, ◌++◌, length, Some, refl, sym, ap, subst, arith, append_assoc}
 use Rattle.std.specs.Prelude.{slice_get, ◌||◌, if◌then◌else◌}
 use Rattle.mil_message.specs.World.{World, Point}
-use Rattle.frame_tree.specs.Tree.{Tree, send, retry, gap, repeat, choose, until, nothing, chained, call, define}
+use Rattle.frame_tree.specs.Tree.{Tree, send, retry, gap, repeat, choose, until, timed, nothing, chained, call, define}
 use Rattle.frame_tree.specs.Names.{Scope, same, named, is_known}
 use Rattle.frame_tree.specs.Expansion.{expanded}
 use Rattle.frame_tree.specs.Meaning.{plain_meaning}
@@ -21,7 +21,7 @@ module _ {State Outcome : Type 0} (w : World State Outcome) (code : Code) where
   -- main comes to a Halt, where the tree leads
   record Ends (t : Tree) (p : Point State Outcome) : Type 0 where
     place : ℕ
-    does : Does w code [] (main_of code.operations) [] p place [] (plain_meaning w t p)
+    does : Does w code [] [] (main_of code.operations) [] p place [] (plain_meaning w t p)
     halt : slice_get code.operations place ≡ Some op.Halt
 
   none_there : AreThere w code [] []
@@ -35,10 +35,10 @@ module _ {State Outcome : Type 0} (w : World State Outcome) (code : Code) where
       → Stands code.operations (length rs) i t → AreThere w code rs ds → Ends (expanded ds t) p
   main_runs rs ds t i m p none k c h g s there =
       let main : i ≡ main_of code.operations = sym (main_there code.operations (length rs) i t none s) in
-      let does = tree_runs w code rs ds there t i m [] [] p c k (has_front code.operations i (shape rs i m t) (op.Halt ∷ []) h) g in
+      let does = tree_runs w code rs ds there t i m [] [] [] p c k (has_front code.operations i (shape rs i m t) (op.Halt ∷ []) h) g in
       record {
         place = i + size t;
-        does = subst (λ v. Does w code [] v [] p (i + size t) [] (plain_meaning w (expanded ds t) p)) main does;
+        does = subst (λ v. Does w code [] [] v [] p (i + size t) [] (plain_meaning w (expanded ds t) p)) main does;
         halt = (has_back code.operations i (i + size t) (shape rs i m t) (op.Halt ∷ []) (ap (λ z. i + z) (length_shape t rs i m)) h).0;
       }
 
@@ -50,6 +50,7 @@ module _ {State Outcome : Type 0} (w : World State Outcome) (code : Code) where
   all_runs rs ds (repeat n b) i m p k c h g s there = main_runs rs ds (repeat n b) i m p refl k c h g s there
   all_runs rs ds (choose v a b) i m p k c h g s there = main_runs rs ds (choose v a b) i m p refl k c h g s there
   all_runs rs ds (until v n b) i m p k c h g s there = main_runs rs ds (until v n b) i m p refl k c h g s there
+  all_runs rs ds (timed n b) i m p k c h g s there = main_runs rs ds (timed n b) i m p refl k c h g s there
   all_runs rs ds nothing i m p k c h g s there = main_runs rs ds nothing i m p refl k c h g s there
   all_runs rs ds (chained a b) i m p k c h g s there = main_runs rs ds (chained a b) i m p refl k c h g s there
   all_runs rs ds (call n) i m p k c h g s there = main_runs rs ds (call n) i m p refl k c h g s there
@@ -70,7 +71,7 @@ module _ {State Outcome : Type 0} (w : World State Outcome) (code : Code) where
         ends = i + size b;
         at = routine_there os (length rs) i n b r s;
         back = hr.0;
-        does = λ is cs v. tree_runs w code rs ds there b i m is cs v c.0 k.2 hb gb;
+        does = λ is fs cs v. tree_runs w code rs ds there b i m is fs cs v c.0 k.2 hb gb;
       } in
       all_runs inner ((n, body) ∷ ds) r j (m + entries b) p k.3 c.1 hr.1 gr (stands_next os (length rs) i j n b r one s)
       (λ x e. picked (same n x) (is_known rs x) (length rs) (named 0 rs x) body (named nothing ds x) e routine (there x))
@@ -81,7 +82,7 @@ behaves w t p c k =
     let r = all_runs w code [] [] t 0 0 p k c (has_all (code.operations) []) (has_all (messages_of t) []) (stands_first code.operations t (starts_of [] t 0 0 k)) (none_there w code) in
     let d = r.does false (start code).line in
     let a = d.by 0 in
-    let last = regs [] r.place [] d.flag d.line in
+    let last = regs [] [] r.place [] d.flag d.line in
     record {
       steps = a.0;
       last = last;

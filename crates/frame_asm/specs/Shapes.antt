@@ -4,7 +4,7 @@ use Rattle.mil_word.specs.declared.Line.{Line}
 use Rattle.mil_message.specs.declared.messages.Message.{Message}
 use Rattle.mil_message.specs.declared.outcome_test.OutcomeTest.{OutcomeTest}
 use Rattle.mil_message.specs.declared.outcome_test.OutcomeTest.TheVariants.{Failed}
-use Rattle.frame_tree.specs.Tree.{Condition, asked, negated, both, either, Tree, send, retry, gap, repeat, choose, until, nothing, chained, call, define}
+use Rattle.frame_tree.specs.Tree.{Condition, asked, negated, both, either, Tree, send, retry, gap, repeat, choose, until, timed, nothing, chained, call, define}
 use Rattle.frame_tree.specs.Names.{Scope, named}
 use Rattle.frame_code.specs.declared.Op.{Op}
 use Rattle.frame_code.specs.declared.Op.TheVariants as op
@@ -36,6 +36,7 @@ size (gap t) = 1
 size (repeat n b) = size b + 2
 size (choose c a b) = branch_size c + size a + 1 + size b
 size (until c n b) = branch_size c + size b + 3
+size (timed h b) = size b + 2
 size nothing = 0
 size (chained a b) = size a + size b
 size (call n) = 1
@@ -49,6 +50,7 @@ messages_of (gap t) = []
 messages_of (repeat n b) = messages_of b
 messages_of (choose c a b) = messages_of a ++ messages_of b
 messages_of (until c n b) = messages_of b
+messages_of (timed h b) = messages_of b
 messages_of nothing = []
 messages_of (chained a b) = messages_of a ++ messages_of b
 messages_of (call n) = []
@@ -62,6 +64,7 @@ entries (gap t) = 0
 entries (repeat n b) = entries b
 entries (choose c a b) = entries a + entries b
 entries (until c n b) = entries b
+entries (timed h b) = entries b
 entries nothing = 0
 entries (chained a b) = entries a + entries b
 entries (call n) = 0
@@ -92,6 +95,7 @@ shape rs p m (choose c a b) =
 shape rs p m (until c n b) =
     let l = p + 1 + branch_size c in
     op.Loop n ∷ (branch (p + 1) c l (l + 1) ++ (op.Leave (l + size b + 2) ∷ (shape rs (l + 1) m b ++ op.Again (p + 1) ∷ [])))
+shape rs p m (timed h b) = op.Begin ∷ (shape rs (p + 1) m b ++ op.Pace h ∷ [])
 shape rs p m nothing = []
 shape rs p m (chained a b) = shape rs p m a ++ shape rs (p + size a) (m + entries a) b
 shape rs p m (call n) = op.Call (named 0 rs n) ∷ []

@@ -213,6 +213,11 @@ pub fn emit<A: Allocator + Clone>(
             emit(operations, messages, scope, body)?;
             put(operations, Op::Again(turn))
         }
+        Frame::Timed { hundreds, body } => {
+            put(operations, Op::Begin)?;
+            emit(operations, messages, scope, body)?;
+            put(operations, Op::Pace(*hundreds))
+        }
         Frame::Seq(frames) => emit_sequence(operations, messages, scope, frames),
         Frame::Call(name) => put(operations, Op::Call(routine_of(scope, name))),
         Frame::Define { .. } => Ok(()),
@@ -283,7 +288,7 @@ pub fn emit_all<'a, A: Allocator + Clone>(
         Frame::Send { .. } | Frame::Retry { .. } | Frame::Gap(_) | Frame::Call(_) => {
             emit(operations, messages, scope, frame)
         }
-        Frame::Repeat { .. } | Frame::Until { .. } | Frame::If { .. } => {
+        Frame::Repeat { .. } | Frame::Until { .. } | Frame::If { .. } | Frame::Timed { .. } => {
             emit(operations, messages, scope, frame)
         }
         Frame::Seq(_) => emit(operations, messages, scope, frame),

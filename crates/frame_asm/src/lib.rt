@@ -83,7 +83,7 @@ fn build<A: Allocator + Clone>(alloc: Global, frame: &Frame<A>) -> Result<Image,
 }
 
 /// The image of a frame. Condition: the frame is sound. The image is the code of the frame's tree, whatever the allocators;
-/// the loader may refuse it for its budget alone.
+/// the loader may refuse it for its budget or its periods alone.
 pub fn assemble<A: Allocator + Clone>(alloc: Global, frame: &Frame<A>) -> Result<Image, AsmError>
     requires { IsSound (tree_of frame.now) }
     ensures image { IfOk result (λ image. image ≡ code_of (tree_of frame.now)) }

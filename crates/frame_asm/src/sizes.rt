@@ -25,7 +25,9 @@ pub fn operation_count<A: Allocator + Clone>(frame: &Frame<A>) -> u16
     match frame {
         Frame::Send { .. } | Frame::Gap(_) | Frame::Call(_) => 1,
         Frame::Retry { .. } => 8,
-        Frame::Repeat { body, .. } => (operation_count(body) + 2).min(4096),
+        Frame::Repeat { body, .. } | Frame::Timed { body, .. } => {
+            (operation_count(body) + 2).min(4096)
+        }
         Frame::If {
             condition,
             then,
@@ -67,6 +69,7 @@ pub fn entry_count<A: Allocator + Clone>(frame: &Frame<A>) -> u16
         Frame::Send { .. } | Frame::Retry { .. } => 1,
         Frame::Gap(_) | Frame::Call(_) => 0,
         Frame::Repeat { body, .. } | Frame::Until { body, .. } => entry_count(body),
+        Frame::Timed { body, .. } => entry_count(body),
         Frame::If {
             then,
             otherwise,

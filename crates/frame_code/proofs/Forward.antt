@@ -1,5 +1,5 @@
 -- Reading what was written gives it back.
-use Rattle.std.proofs.Common.{◌≡◌, ℕ, suc, ◌+◌, ◌*◌, ◌/◌, ◌%◌, ◌^◌, ◌≤◌, ◌==◌, Bool, true, false, List, [], ◌∷◌, ◌++◌, length, Ok, Some, None, refl, sym, ap, ap₂, ◌∙◌, arith, append_assoc}
+use Rattle.std.proofs.Common.{◌≡◌, ℕ, zero, suc, ◌+◌, ◌*◌, ◌/◌, ◌%◌, ◌^◌, ◌≤◌, ◌==◌, Bool, true, false, List, [], ◌∷◌, ◌++◌, length, Ok, Some, None, refl, sym, ap, ap₂, ◌∙◌, arith, append_assoc}
 use Rattle.std.specs.Prelude.{IsTrue, not, ◌&&◌, ◌||◌, nat_le, nat_lt, if◌then◌else◌, option_map, unwrap_or}
 use Rattle.std.specs.List.{flat_map}
 use Rattle.std.proofs.lemmas.List.{append-nil}
@@ -21,15 +21,16 @@ use Rattle.mil_message.specs.Rules.{is_address, is_subaddress, is_count, is_code
 use Rattle.mil_message.specs.Parts.{parts_of, request_at}
 use Rattle.mil_message.proofs.ReadBack.{read_back}
 use Rattle.frame_code.specs.declared.Op.{Op}
-use Rattle.frame_code.specs.declared.Op.TheVariants.{Halt, Send, Alt, SetGap, Loop, Again, Leave, Jump, Test, JumpFalse, Call, Return}
+use Rattle.frame_code.specs.declared.Op.TheVariants.{Halt, Send, Alt, SetGap, Loop, Again, Leave, Jump, Test, JumpFalse, Call, Return, Begin, Pace}
 use Rattle.frame_code.specs.Table.{Code}
 use Rattle.frame_code.specs.Ranges as ranges
 use Rattle.frame_code.specs.Fields.{receives, transmits, calls_one, first_fits, sends_for, second_fits, words_due}
-use Rattle.frame_code.specs.Bytes.{is_new, has_new, mark, two_bytes, number_of, number_of_test, operand_of, operation_bytes, line_number, message_bytes, header_bytes, image_bytes, AreLawful}
+use Rattle.frame_code.specs.Bytes.{version_of, version_for, mark, two_bytes, number_of, number_of_test, operand_of, operation_bytes, line_number, message_bytes, header_bytes, image_bytes, AreLawful}
 use Rattle.frame_code.specs.Reading.{two_at, mark_at, header_at, test_of, operation_of, known, operation_at, many, line_at, message_with, words_at, message_at, image_of}
 use Rattle.frame_code.proofs.Lawful.{both}
 use Rattle.frame_code.proofs.Images.{image_reads, equal_true, words_read}
 use Rattle.frame_code.proofs.Many.{many_none, many_cons}
+use Rattle.frame_code.proofs.Versions.{number_small, some_version, few_versions}
 
 -- rules without a fault are met
 un2 : (a b : Bool) (x y : BadMessage) → first_fault ((a, x) ∷ (b, y) ∷ []) ≡ None → (a ≡ true) × (b ≡ true)
@@ -265,56 +266,21 @@ operation_found (Test t) h = ap (option_map (λ k. Test k)) (test_found t)
 operation_found (JumpFalse i) h = refl
 operation_found (Call r) h = ap (λ b. if b then Some (Call r) else None) h
 operation_found Return h = refl
+operation_found Begin h = refl
+operation_found (Pace t) h = ap (λ b. if b then Some (Pace t) else None) h
 
-number_small : (w : Bool) (o : Op) → (not w && is_new o) ≡ false → nat_lt (number_of o) (known w) ≡ true
-number_small true Halt h = refl
-number_small false Halt h = refl
-number_small true (Send m) h = refl
-number_small false (Send m) h = refl
-number_small true (Alt m) h = refl
-number_small false (Alt m) h = refl
-number_small true (SetGap t) h = refl
-number_small false (SetGap t) h = refl
-number_small true (Loop n) h = refl
-number_small false (Loop n) h = refl
-number_small true (Again i) h = refl
-number_small false (Again i) h = refl
-number_small true (Leave i) h = refl
-number_small false (Leave i) h = refl
-number_small true (Jump i) h = refl
-number_small false (Jump i) h = refl
-number_small true (Test k) h = refl
-number_small false (Test k) h = refl
-number_small true (JumpFalse i) h = refl
-number_small false (JumpFalse i) h = refl
-number_small true (Call r) h = refl
-number_small false (Call r) h = cc
-number_small true Return h = refl
-number_small false Return h = cc
-
-operation_step : (w : Bool) (number operand : ℕ) (rest : List ℕ) (o : Op) → nat_lt number (known w) ≡ true → operation_of number operand ≡ Some o → operation_at w (number ∷ 0 ∷ two_bytes operand ++ rest) ≡ Ok (o, rest)
+operation_step : (v : ℕ) (number operand : ℕ) (rest : List ℕ) (o : Op) → nat_lt number (known v) ≡ true → operation_of number operand ≡ Some o → operation_at v (number ∷ 0 ∷ two_bytes operand ++ rest) ≡ Ok (o, rest)
 unfolding operation_at
-operation_step w number operand rest o h e = rw (h, two_back operand rest, e) refl
+operation_step v number operand rest o h e = rw (h, two_back operand rest, e) refl
 
-operation_back : (w : Bool) (o : Op) (rest : List ℕ) → IsTrue (ranges.in_range o) → (not w && is_new o) ≡ false → operation_at w (operation_bytes o ++ rest) ≡ Ok (o, rest)
-operation_back w o rest h k = operation_step w (number_of o) (operand_of o) rest o (number_small w o k) (operation_found o h)
+operation_back : (v : ℕ) (o : Op) (rest : List ℕ) → IsTrue (ranges.in_range o) → version_of o ≤ v → operation_at v (operation_bytes o ++ rest) ≡ Ok (o, rest)
+operation_back v o rest h k = operation_step v (number_of o) (operand_of o) rest o (number_small v o k) (operation_found o h)
 
--- the mark knows the first operation, and those behind it
-first_known : (w a b : Bool) → (not w && (a || b)) ≡ false → ((not w && a) ≡ false) × ((not w && b) ≡ false)
-first_known true a b h = (refl, refl)
-first_known false true b h = cc
-first_known false false b h = (refl, h)
-
-marked : (w : Bool) → (not w && w) ≡ false
-marked true = refl
-marked false = refl
-
-operations_back : (w : Bool) (os : List Op) (rest : List ℕ) → ranges.AreInRange os → (not w && has_new os) ≡ false → many (operation_at w) (length os) (flat_map operation_bytes os ++ rest) ≡ Ok (os, rest)
-operations_back w [] rest h k = many_none (operation_at w) rest
-operations_back w (o ∷ os) rest h k =
-    let p = first_known w (is_new o) (has_new os) k in
-    ap (many (operation_at w) (suc (length os))) (append_assoc (operation_bytes o) (flat_map operation_bytes os) rest)
-    ∙ many_cons (operation_at w) (length os) (operation_bytes o ++ (flat_map operation_bytes os ++ rest)) (flat_map operation_bytes os ++ rest) rest o os (operation_back w o (flat_map operation_bytes os ++ rest) h.0 p.0) (operations_back w os rest h.1 p.1)
+operations_back : (v : ℕ) (os : List Op) (rest : List ℕ) → ranges.AreInRange os → version_for os ≤ v → many (operation_at v) (length os) (flat_map operation_bytes os ++ rest) ≡ Ok (os, rest)
+operations_back v [] rest h k = many_none (operation_at v) rest
+operations_back v (o ∷ os) rest h k =
+    ap (many (operation_at v) (suc (length os))) (append_assoc (operation_bytes o) (flat_map operation_bytes os) rest)
+    ∙ many_cons (operation_at v) (length os) (operation_bytes o ++ (flat_map operation_bytes os ++ rest)) (flat_map operation_bytes os ++ rest) rest o os (operation_back v o (flat_map operation_bytes os ++ rest) h.0 (omega arith)) (operations_back v os rest h.1 (omega arith))
 
 words_back : (ws : List ℕ) (rest : List ℕ) → many two_at (length ws) (flat_map two_bytes ws ++ rest) ≡ Ok (ws, rest)
 words_back [] rest = many_none two_at rest
@@ -346,27 +312,25 @@ messages_back (m ∷ ms) rest h =
     ap (many message_at (suc (length ms))) (append_assoc (message_bytes m) (flat_map message_bytes ms) rest)
     ∙ many_cons message_at (length ms) (message_bytes m ++ (flat_map message_bytes ms ++ rest)) (flat_map message_bytes ms ++ rest) rest m ms (message_back m.0 m.1 (flat_map message_bytes ms ++ rest) h.0) (messages_back ms rest h.1)
 
-mark_back : (w : Bool) (rest : List ℕ) → mark_at (mark w ++ rest) ≡ Ok (w, rest)
+mark_back : (v : ℕ) (rest : List ℕ) → 1 ≤ v → v ≤ 3 → mark_at (mark v ++ rest) ≡ Ok (v, rest)
 unfolding mark_at
-mark_back true rest = refl
-mark_back false rest = refl
+mark_back zero rest h g = absurd (omega arith)
+mark_back (suc zero) rest h g = refl
+mark_back (suc (suc zero)) rest h g = refl
+mark_back (suc (suc (suc zero))) rest h g = refl
+mark_back (suc (suc (suc (suc v)))) rest h g = absurd (omega arith)
 
-header_back : (w : Bool) (n m : ℕ) (rest : List ℕ) → n ≤ 4096 → m ≤ 1024 → header_at (header_bytes w n m ++ rest) ≡ Ok (w, n, m, rest)
+header_back : (v : ℕ) (n m : ℕ) (rest : List ℕ) → 1 ≤ v → v ≤ 3 → n ≤ 4096 → m ≤ 1024 → header_at (header_bytes v n m ++ rest) ≡ Ok (v, n, m, rest)
 unfolding header_at
-header_back true n m rest h g = rw (mark_back true (two_bytes n ++ (two_bytes m ++ rest)), two_back n (two_bytes m ++ rest), le_true n 4096 h, two_back m rest, le_true m 1024 g) refl
-header_back false n m rest h g = rw (mark_back false (two_bytes n ++ (two_bytes m ++ rest)), two_back n (two_bytes m ++ rest), le_true n 4096 h, two_back m rest, le_true m 1024 g) refl
-
-fit : (w : Bool) → (not w || w) ≡ true
-fit true = refl
-fit false = refl
+header_back v n m rest low high h g = rw (mark_back v (two_bytes n ++ (two_bytes m ++ rest)) low high, two_back n (two_bytes m ++ rest), le_true n 4096 h, two_back m rest, le_true m 1024 g) refl
 
 pub image_back : (code : Code) → ranges.IsImage code → AreLawful code.messages → image_of (image_bytes code) ≡ Ok code
 image_back code i l =
-    let w = has_new code.operations in
+    let v = version_for code.operations in
     let n = length code.operations in
     let m = length code.messages in
     let os = flat_map operation_bytes code.operations in
     let ms = flat_map message_bytes code.messages in
     let last : ms ++ [] ≡ ms = simp append-nil in
-    let e : image_bytes code ≡ header_bytes w n m ++ (os ++ (ms ++ [])) = append_assoc (header_bytes w n m) os ms ∙ ap (λ z. header_bytes w n m ++ (os ++ z)) (sym last) in
-    ap image_of e ∙ image_reads w (header_bytes w n m ++ (os ++ (ms ++ []))) (os ++ (ms ++ [])) (ms ++ []) n m code.operations code.messages (header_back w n m (os ++ (ms ++ [])) i.operations i.messages) (operations_back w code.operations (ms ++ []) i.operands (marked w)) (messages_back code.messages [] l) (fit w)
+    let e : image_bytes code ≡ header_bytes v n m ++ (os ++ (ms ++ [])) = append_assoc (header_bytes v n m) os ms ∙ ap (λ z. header_bytes v n m ++ (os ++ z)) (sym last) in
+    ap image_of e ∙ image_reads v (header_bytes v n m ++ (os ++ (ms ++ []))) (os ++ (ms ++ [])) (ms ++ []) n m code.operations code.messages (header_back v n m (os ++ (ms ++ [])) (some_version code.operations) (few_versions code.operations) i.operations i.messages) (operations_back v code.operations (ms ++ []) i.operands (omega arith)) (messages_back code.messages [] l) (le_true v v (omega arith))

@@ -1,6 +1,6 @@
 -- What an image is read as, by its parts.
-use Rattle.std.proofs.Common.{◌≡◌, ℕ, ◌==◌, true, List, [], ◌∷◌, ◌++◌, length, Result, Ok, Err, Some, refl, sym, ap, ap₂, ◌∙◌, arith, append_assoc}
-use Rattle.std.specs.Prelude.{IfOk, Bool, false, not, ◌||◌}
+use Rattle.std.proofs.Common.{◌≡◌, ℕ, ◌==◌, true, List, [], ◌∷◌, ◌++◌, length, Result, Ok, Err, Some, refl, sym, ap, ◌∙◌, arith}
+use Rattle.std.specs.Prelude.{IfOk, nat_le}
 use Rattle.std.specs.List.{flat_map}
 use Rattle.std.proofs.lemmas.Bool.Decides.{nat_tests}
 use Rattle.mil_word.specs.declared.Line.{Line}
@@ -8,26 +8,15 @@ use Rattle.mil_message.specs.declared.messages.Message.{Message}
 use Rattle.mil_message.specs.Parts.{parts_of, request_at}
 use Rattle.frame_code.specs.declared.ImageError.{ImageError}
 use Rattle.frame_code.specs.declared.Op.{Op}
-use Rattle.std.proofs.lemmas.List.{append-nil}
 use Rattle.frame_code.specs.declared.ImageError.TheVariants as fault
-use Rattle.frame_code.specs.Bytes.{has_new, two_bytes, line_number, parts_bytes, message_bytes, operation_bytes, header_bytes, image_bytes}
+use Rattle.frame_code.specs.Bytes.{version_for, two_bytes, line_number, parts_bytes, message_bytes}
 use Rattle.frame_code.specs.Fields.{words_due}
 use Rattle.frame_code.specs.Reading.{many, two_at, words_at, header_at, operation_at, message_at, message_with, image_of, Faults}
 use Rattle.frame_code.proofs.Lawful.{parts}
 
-pub image_reads : (w : Bool) (bs r0 r1 : List ℕ) (n m : ℕ) (os : List Op) (ms : List (Line × Message)) → header_at bs ≡ Ok (w, n, m, r0) → many (operation_at w) n r0 ≡ Ok (os, r1) → many message_at m r1 ≡ Ok (ms, []) → (not w || has_new os) ≡ true → image_of bs ≡ Ok (record { operations = os; messages = ms })
+pub image_reads : (v : ℕ) (bs r0 r1 : List ℕ) (n m : ℕ) (os : List Op) (ms : List (Line × Message)) → header_at bs ≡ Ok (v, n, m, r0) → many (operation_at v) n r0 ≡ Ok (os, r1) → many message_at m r1 ≡ Ok (ms, []) → nat_le v (version_for os) ≡ true → image_of bs ≡ Ok (record { operations = os; messages = ms })
 unfolding image_of
-image_reads w bs r0 r1 n m os ms h o k f = rw (h, o, k, f) refl
-
--- the mark BC02 with no operation that needs it
-pub image_unfit : (w : Bool) (bs r0 r1 : List ℕ) (n m : ℕ) (os : List Op) (ms : List (Line × Message)) → header_at bs ≡ Ok (w, n, m, r0) → many (operation_at w) n r0 ≡ Ok (os, r1) → many message_at m r1 ≡ Ok (ms, []) → (not w || has_new os) ≡ false → image_of bs ≡ Err fault.Version
-unfolding image_of
-image_unfit w bs r0 r1 n m os ms h o k f = rw (h, o, k, f) refl
-
--- bytes behind the last message
-pub image_long : (w : Bool) (bs r0 r1 rest : List ℕ) (n m b : ℕ) (os : List Op) (ms : List (Line × Message)) → header_at bs ≡ Ok (w, n, m, r0) → many (operation_at w) n r0 ≡ Ok (os, r1) → many message_at m r1 ≡ Ok (ms, b ∷ rest) → image_of bs ≡ Err fault.Length
-unfolding image_of
-image_long w bs r0 r1 rest n m b os ms h o k = rw (h, o, k) refl
+image_reads v bs r0 r1 n m os ms h o k f = rw (h, o, k, f) refl
 
 pub equal_true : (a b : ℕ) → a ≡ b → (a == b) ≡ true
 equal_true a b e = grind (arith, nat_tests)
@@ -58,18 +47,13 @@ pub none_left : (xs : List ℕ) → length xs ≡ 0 → xs ≡ []
 none_left [] e = refl
 none_left (x ∷ xs) e = absurd (omega arith)
 
--- the first fault
-pub header_fails : (bs : List ℕ) (e : ImageError) → header_at bs ≡ Err e → image_of bs ≡ Err e
+pub operations_fail : (v : ℕ) (bs r0 : List ℕ) (n m : ℕ) (e : ImageError) → header_at bs ≡ Ok (v, n, m, r0) → many (operation_at v) n r0 ≡ Err e → image_of bs ≡ Err e
 unfolding image_of
-header_fails bs e h = rw h refl
+operations_fail v bs r0 n m e h o = rw (h, o) refl
 
-pub operations_fail : (w : Bool) (bs r0 : List ℕ) (n m : ℕ) (e : ImageError) → header_at bs ≡ Ok (w, n, m, r0) → many (operation_at w) n r0 ≡ Err e → image_of bs ≡ Err e
+pub messages_fail : (v : ℕ) (bs r0 r1 : List ℕ) (n m : ℕ) (os : List Op) (e : ImageError) → header_at bs ≡ Ok (v, n, m, r0) → many (operation_at v) n r0 ≡ Ok (os, r1) → many message_at m r1 ≡ Err e → image_of bs ≡ Err e
 unfolding image_of
-operations_fail w bs r0 n m e h o = rw (h, o) refl
-
-pub messages_fail : (w : Bool) (bs r0 r1 : List ℕ) (n m : ℕ) (os : List Op) (e : ImageError) → header_at bs ≡ Ok (w, n, m, r0) → many (operation_at w) n r0 ≡ Ok (os, r1) → many message_at m r1 ≡ Err e → image_of bs ≡ Err e
-unfolding image_of
-messages_fail w bs r0 r1 n m os e h o k = rw (h, o, k) refl
+messages_fail v bs r0 r1 n m os e h o k = rw (h, o, k) refl
 
 pub faults_through : {X Y : Type 0} (e : ImageError) (r : Result X ImageError) (s : Result Y ImageError) → (r ≡ Err e → s ≡ Err e) → Faults e r → Faults e s
 faults_through fault.Mark r s f h = f h
@@ -78,19 +62,3 @@ faults_through fault.Operations r s f h = f h
 faults_through fault.Messages r s f h = f h
 faults_through fault.Version r s f h = f h
 faults_through fault.Memory r s f h = tt
-
--- a mark that fits is that of the image
-pub mark_fits : (w b : Bool) → (not w || b) ≡ true → (w ≡ false → b ≡ false) → w ≡ b
-mark_fits true true h k = refl
-mark_fits true false h k = cc
-mark_fits false b h k = sym (k refl)
-
--- the bytes of an image
-pub image_spelled : (w : Bool) (bs r0 r1 r2 : List ℕ) (n m : ℕ) (os : List Op) (ms : List (Line × Message)) → w ≡ has_new os → length os ≡ n → length ms ≡ m → bs ≡ header_bytes w n m ++ r0 → r0 ≡ flat_map operation_bytes os ++ r1 → r1 ≡ flat_map message_bytes ms ++ r2 → r2 ≡ []
-    → bs ≡ image_bytes (record { operations = os; messages = ms })
-image_spelled w bs r0 r1 r2 n m os ms lw ln lm e0 e1 e2 e3 =
-    let last : flat_map message_bytes ms ++ [] ≡ flat_map message_bytes ms = simp append-nil in
-    e0 ∙ ap (λ z. header_bytes w n m ++ z) (e1 ∙ ap (λ z. flat_map operation_bytes os ++ z) (e2 ∙ ap (λ z. flat_map message_bytes ms ++ z) e3 ∙ last))
-    ∙ ap (λ v. header_bytes v n m ++ (flat_map operation_bytes os ++ flat_map message_bytes ms)) lw
-    ∙ ap₂ (λ x y. header_bytes (has_new os) x y ++ (flat_map operation_bytes os ++ flat_map message_bytes ms)) (sym ln) (sym lm)
-    ∙ sym (append_assoc (header_bytes (has_new os) (length os) (length ms)) (flat_map operation_bytes os) (flat_map message_bytes ms))

@@ -1,5 +1,6 @@
 pub mod Many
 pub mod Pairs
+pub mod Versions
 pub mod Lawful
 pub mod Images
 pub mod Forward

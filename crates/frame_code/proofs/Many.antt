@@ -3,24 +3,20 @@ use Rattle.std.proofs.Common.{◌≡◌, ℕ, suc, ◌+◌, ◌-◌, ◌<◌, �
 use Rattle.std.proofs.lemmas.List.{append-nil}
 use Rattle.frame_code.specs.declared.ImageError.{ImageError}
 use Rattle.frame_code.specs.declared.ImageError.TheVariants as fault
-use Rattle.std.specs.Prelude.{IsTrue, Bool, true, false, ◌||◌}
+use Rattle.std.specs.Prelude.{IsTrue}
 use Rattle.mil_word.specs.declared.Line.{Line}
 use Rattle.mil_message.specs.declared.messages.Message.{Message}
 use Rattle.mil_message.specs.Rules.{IsLawful}
-use Rattle.frame_code.specs.Bytes.{is_new, has_new, AreLawful}
+use Rattle.frame_code.specs.Bytes.{AreLawful}
 use Rattle.std.specs.List.{flat_map}
 use Rattle.frame_code.specs.declared.Op.{Op}
 use Rattle.frame_code.specs.Ranges.{in_range, AreInRange}
-use Rattle.frame_code.specs.Reading.{◌>>=◌, Read, many, many_new, operation_at, behind, Faults}
+use Rattle.frame_code.specs.Reading.{◌>>=◌, Read, many, behind, Faults}
 
 -- what is read comes behind this list
 abbrev pub onto : {X : Type 0} → List X → Read (List X) → Read (List X)
 onto xs (Ok y) = Ok (xs ++ y.0, y.1)
 onto xs (Err e) = Err e
-
-pub onto_none : {X : Type 0} (r : Read (List X)) → r ≡ onto [] r
-onto_none (Ok y) = refl
-onto_none (Err e) = refl
 
 pub faults : {Y : Type 0} (e : ImageError) (read : Result Y ImageError) → read ≡ Err e → Faults e read
 faults fault.Mark read is = is
@@ -96,68 +92,3 @@ module _ {X : Type 0} (one : List ℕ → Read X) where
 
   pub behind_end : (n i : ℕ) (bs : List ℕ) → n ≤ i → behind (many one (n - i) bs) ≡ Ok bs
   behind_end n i bs h = let none : n - i ≡ 0 = omega arith in ap (λ k. behind (many one k bs)) none ∙ ap behind (many_none bs)
-
--- whether an operation is new, or one of those that are read
-abbrev pub or_new : Bool → Result (Bool × List ℕ) ImageError → Result (Bool × List ℕ) ImageError
-or_new b (Ok x) = Ok (b || x.0, x.1)
-or_new b (Err e) = Err e
-
-pub or_none : (r : Result (Bool × List ℕ) ImageError) → r ≡ or_new false r
-or_none (Ok x) = refl
-or_none (Err e) = refl
-
-either_more : (a b c : Bool) → (a || (b || c)) ≡ ((a || b) || c)
-either_more true b c = refl
-either_more false b c = refl
-
-or_false : (b : Bool) → (b || false) ≡ b
-or_false true = refl
-or_false false = refl
-
-or_with : (b : Bool) (o : Op) (r : Read (List Op)) → or_new b (many_new (r >>= (λ ys. Ok (o ∷ ys.0, ys.1)))) ≡ or_new (b || is_new o) (many_new r)
-or_with b o (Ok y) = ap (λ z. Ok (z, y.1)) (either_more b (is_new o) (has_new y.0))
-or_with b o (Err e) = refl
-
-module _ (new : Bool) where
-  pub news_more : (b : Bool) (n i : ℕ) (bs next : List ℕ) (o : Op) → i < n → operation_at new bs ≡ Ok (o, next)
-      → or_new b (many_new (many (operation_at new) (n - i) bs)) ≡ or_new (b || is_new o) (many_new (many (operation_at new) (n - (i + 1)) next))
-  news_more b n i bs next o h e =
-      ap (λ k. or_new b (many_new (many (operation_at new) k bs))) (left (operation_at new) n i h)
-      ∙ ap (λ r. or_new b (many_new r)) (many_with (operation_at new) (n - (i + 1)) bs next o e)
-      ∙ or_with b o (many (operation_at new) (n - (i + 1)) next)
-
-  pub news_fail : (b : Bool) (n i : ℕ) (bs : List ℕ) (e : ImageError) → i < n → operation_at new bs ≡ Err e → or_new b (many_new (many (operation_at new) (n - i) bs)) ≡ Err e
-  news_fail b n i bs e h is =
-      ap (λ k. or_new b (many_new (many (operation_at new) k bs))) (left (operation_at new) n i h)
-      ∙ ap (λ r. or_new b (many_new r)) (many_fails (operation_at new) (n - (i + 1)) bs e is)
-
-  pub news_end : (b : Bool) (n i : ℕ) (bs : List ℕ) → n ≤ i → or_new b (many_new (many (operation_at new) (n - i) bs)) ≡ Ok (b, bs)
-  news_end b n i bs h =
-      let none : n - i ≡ 0 = omega arith in
-      ap (λ k. or_new b (many_new (many (operation_at new) k bs))) none ∙ ap (λ r. or_new b (many_new r)) (many_none (operation_at new) bs) ∙ ap (λ z. Ok (z, bs)) (or_false b)
-
--- what was read, where it is known what is behind it and whether it has new ones
-got : Result (Bool × List ℕ) ImageError → Bool × List ℕ
-got (Ok x) = x
-got (Err e) = (false, [])
-
-pub news_ok : (r : Read (List Op)) (b : Bool) (rest : List ℕ) → many_new r ≡ Ok (b, rest) → (os : List Op) × (r ≡ Ok (os, rest)) × (has_new os ≡ b)
-unfolding got
-news_ok (Ok x) b rest e = (x.0, ap (λ z. Ok (x.0, z)) (ap (λ r. (got r).1) e), ap (λ r. (got r).0) e)
-news_ok (Err y) b rest e = absurd (cc)
-
-pub news_fails : (r : Read (List Op)) (e : ImageError) → many_new r ≡ Err e → r ≡ Err e
-news_fails (Ok x) e h = absurd (cc)
-news_fails (Err y) e h = cc
-
-either_none : (a b : Bool) → a ≡ false → b ≡ false → (a || b) ≡ false
-either_none true b e f = cc
-either_none false b e f = f
-
-pub old_more : (os : List Op) (o : Op) → has_new os ≡ false → is_new o ≡ false → has_new (os ++ o ∷ []) ≡ false
-old_more [] o h k = either_none (is_new o) false k refl
-old_more (x ∷ os) o h k = let p = both_none (is_new x) (has_new os) h in either_none (is_new x) (has_new (os ++ o ∷ [])) p.0 (old_more os o p.1 k)
-  where
-    both_none : (a b : Bool) → (a || b) ≡ false → (a ≡ false) × (b ≡ false)
-    both_none true b e = cc
-    both_none false b e = (refl, e)

@@ -1,5 +1,6 @@
--- The bytes of an image (own choice): the mark BC01, or BC02 where an operation needs it, two counts, the operations, the messages; numbers little-endian.
-use Rattle.std.specs.Prelude.{ℕ, ◌+◌, ◌/◌, ◌%◌, Bool, true, false, ◌||◌, List, [], ◌∷◌, ◌++◌, length, codes}
+-- The bytes of an image (own choice): the lowest of the marks BC01, BC02 and BC03 that knows all operations, two
+-- counts, the operations, the messages; numbers little-endian.
+use Rattle.std.specs.Prelude.{ℕ, ◌+◌, ◌/◌, ◌%◌, max, List, [], ◌∷◌, ◌++◌, length, codes}
 use Rattle.std.specs.List.{flat_map}
 use Rattle.mil_word.specs.declared.Line.{Line}
 use Rattle.mil_word.specs.declared.Line.TheVariants.{A, B}
@@ -10,27 +11,29 @@ use Rattle.mil_message.specs.declared.outcome_test.OutcomeTest.{OutcomeTest}
 use Rattle.mil_message.specs.declared.outcome_test.OutcomeTest.TheVariants.{Failed, Silent, Bit}
 use Rattle.mil_status.specs.Status.{place_of}
 use Rattle.frame_code.specs.declared.Op.{Op}
-use Rattle.frame_code.specs.declared.Op.TheVariants.{Halt, Send, Alt, SetGap, Loop, Again, Leave, Jump, Test, JumpFalse, Call, Return}
+use Rattle.frame_code.specs.declared.Op.TheVariants.{Halt, Send, Alt, SetGap, Loop, Again, Leave, Jump, Test, JumpFalse, Call, Return, Begin, Pace}
 use Rattle.frame_code.specs.Table.{Code}
 
 -- a number of two bytes, the low one first
 abbrev pub two_bytes : ℕ → List ℕ
 two_bytes n = n % 256 ∷ n / 256 ∷ []
 
--- whether there is an operation that the mark BC01 does not know
-abbrev pub is_new : Op → Bool
-is_new (Call r) = true
-is_new Return = true
-is_new _ = false
+-- the version of an image that an operation needs: which of the marks BC01, BC02 and BC03 is the first to know it
+abbrev pub version_of : Op → ℕ
+version_of (Call r) = 2
+version_of Return = 2
+version_of Begin = 3
+version_of (Pace h) = 3
+version_of _ = 1
 
-abbrev pub has_new : List Op → Bool
-has_new [] = false
-has_new (o ∷ os) = is_new o || has_new os
+-- the lowest version that knows all of these operations
+abbrev pub version_for : List Op → ℕ
+version_for [] = 1
+version_for (o ∷ os) = max (version_of o) (version_for os)
 
--- the mark, for operations with new ones and without
-abbrev pub mark : Bool → List ℕ
-mark true = codes "BC02"
-mark false = codes "BC01"
+-- the mark of a version: its last letter is the version's digit
+abbrev pub mark : ℕ → List ℕ
+mark version = codes "BC0" ++ (48 + version) ∷ []
 
 -- the number of an operation
 abbrev pub number_of : Op → ℕ
@@ -46,6 +49,8 @@ number_of (Test k) = 8
 number_of (JumpFalse i) = 9
 number_of (Call r) = 10
 number_of Return = 11
+number_of Begin = 12
+number_of (Pace h) = 13
 
 -- the number of a test: 0 failed, 1 silent, and 16 more than the place of a status bit
 abbrev pub number_of_test : OutcomeTest → ℕ
@@ -53,7 +58,7 @@ number_of_test Failed = 0
 number_of_test Silent = 1
 number_of_test (Bit b) = 16 + place_of b
 
--- its operand; 0 for Halt and Return
+-- its operand; 0 for Halt, Return and Begin
 abbrev pub operand_of : Op → ℕ
 operand_of Halt = 0
 operand_of (Send m) = m
@@ -67,6 +72,8 @@ operand_of (Test k) = number_of_test k
 operand_of (JumpFalse i) = i
 operand_of (Call r) = r
 operand_of Return = 0
+operand_of Begin = 0
+operand_of (Pace h) = h
 
 -- four bytes: the number, 00, and the operand
 abbrev pub operation_bytes : Op → List ℕ
@@ -85,12 +92,12 @@ abbrev pub message_bytes : Line × Message → List ℕ
 message_bytes m = parts_bytes m.0 (parts_of m.1)
 
 -- the mark, and how many operations and messages there are
-abbrev pub header_bytes : Bool → ℕ → ℕ → List ℕ
-header_bytes new operations messages = mark new ++ two_bytes operations ++ two_bytes messages
+abbrev pub header_bytes : ℕ → ℕ → ℕ → List ℕ
+header_bytes version operations messages = mark version ++ two_bytes operations ++ two_bytes messages
 
 abbrev pub image_bytes : Code → List ℕ
 image_bytes code =
-    header_bytes (has_new code.operations) (length code.operations) (length code.messages)
+    header_bytes (version_for code.operations) (length code.operations) (length code.messages)
     ++ flat_map operation_bytes code.operations ++ flat_map message_bytes code.messages
 
 -- each message has one of the ten forms, all its numbers in their ranges

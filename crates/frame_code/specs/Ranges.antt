@@ -1,7 +1,7 @@
 -- What an image may hold (own choice): how many operations and messages, and the range of each operand.
 use Rattle.std.specs.Prelude.{ℕ, ◌≤◌, Bool, true, ◌&&◌, nat_lt, nat_le, List, [], ◌∷◌, length, IsTrue}
 use Rattle.frame_code.specs.declared.Op.{Op}
-use Rattle.frame_code.specs.declared.Op.TheVariants.{Halt, Send, Alt, SetGap, Loop, Again, Leave, Jump, Test, JumpFalse, Call, Return}
+use Rattle.frame_code.specs.declared.Op.TheVariants.{Halt, Send, Alt, SetGap, Loop, Again, Leave, Jump, Test, JumpFalse, Call, Return, Begin, Pace}
 use Rattle.frame_code.specs.declared.Image.TheInside.{Inside}
 use Rattle.frame_code.specs.Table.{Code}
 
@@ -21,6 +21,10 @@ is_index i = nat_lt i 65536
 abbrev pub is_routine : ℕ → Bool
 is_routine r = nat_lt r 32
 
+-- a period in hundreds of µs, 1 to 65,535
+abbrev pub is_period : ℕ → Bool
+is_period h = nat_le 1 h && nat_lt h 65536
+
 -- whether the operand of an operation is in its range
 abbrev pub in_range : Op → Bool
 in_range Halt = true
@@ -35,6 +39,8 @@ in_range (Test k) = true
 in_range (JumpFalse i) = is_index i
 in_range (Call r) = is_routine r
 in_range Return = true
+in_range Begin = true
+in_range (Pace h) = is_period h
 
 abbrev pub AreInRange : List Op → Type 0
 AreInRange [] = Unit {0}

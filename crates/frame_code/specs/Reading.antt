@@ -1,6 +1,6 @@
 -- What bytes are read as (own choice): the code that they spell, else the first fault. The bytes are judged field by
 -- field, in their order.
-use Rattle.std.specs.Prelude.{◌≡◌, ℕ, zero, suc, ◌+◌, ◌-◌, ◌*◌, ◌==◌, not, ◌&&◌, ◌||◌, nat_lt, nat_le, if◌then◌else◌, Bool, true, false, List, [], ◌∷◌, Option, Some, None, option_map, Result, Ok, Err}
+use Rattle.std.specs.Prelude.{◌≡◌, ℕ, zero, suc, ◌+◌, ◌-◌, ◌*◌, ◌==◌, ◌&&◌, ◌||◌, nat_lt, nat_le, if◌then◌else◌, Bool, List, [], ◌∷◌, Option, Some, None, option_map, Result, Ok, Err}
 use Rattle.mil_word.specs.declared.Line.{Line}
 use Rattle.mil_word.specs.declared.Line.TheVariants.{A, B}
 use Rattle.mil_message.specs.declared.messages.Message.{Message}
@@ -13,10 +13,10 @@ use Rattle.mil_message.specs.Rules.{form_of}
 use Rattle.frame_code.specs.declared.ImageError.{ImageError}
 use Rattle.frame_code.specs.declared.ImageError.TheVariants as fault
 use Rattle.frame_code.specs.declared.Op.{Op}
-use Rattle.frame_code.specs.declared.Op.TheVariants.{Halt, Send, Alt, SetGap, Loop, Again, Leave, Jump, Test, JumpFalse, Call, Return}
+use Rattle.frame_code.specs.declared.Op.TheVariants.{Halt, Send, Alt, SetGap, Loop, Again, Leave, Jump, Test, JumpFalse, Call, Return, Begin, Pace}
 use Rattle.frame_code.specs.Table.{Code}
-use Rattle.frame_code.specs.Ranges.{is_gap, is_count, is_routine}
-use Rattle.frame_code.specs.Bytes.{has_new}
+use Rattle.frame_code.specs.Ranges.{is_gap, is_count, is_routine, is_period}
+use Rattle.frame_code.specs.Bytes.{version_for}
 use Rattle.frame_code.specs.Fields.{first_fits, second_fits, words_due}
 
 infixl 10 ◌>>=◌
@@ -44,9 +44,9 @@ two_at bs = do
   high ← byte_at low.1
   Ok (low.0 + 256 * high.0, high.1)
 
--- the mark BC01, or BC02: whether it is the second
-unfoldable pub mark_at : List ℕ → Read Bool
-mark_at (a ∷ b ∷ c ∷ d ∷ bs) = must (a == 66 && b == 67 && c == 48 && (d == 49 || d == 50)) fault.Mark (d == 50, bs)
+-- the mark BC01, BC02 or BC03: the version, 1 to 3
+unfoldable pub mark_at : List ℕ → Read ℕ
+mark_at (a ∷ b ∷ c ∷ d ∷ bs) = must (a == 66 && b == 67 && c == 48 && (d == 49 || d == 50 || d == 51)) fault.Mark (d - 48, bs)
 mark_at _ = Err fault.Mark
 
 -- the test of a number, if there is one: 0, 1, or 16 more than the place of a status bit
@@ -72,23 +72,24 @@ operation_of number operand =
     else if number == 9 then Some (JumpFalse operand)
     else if number == 10 then (if is_routine operand then Some (Call operand) else None)
     else if number == 11 then (if operand == 0 then Some Return else None)
+    else if number == 12 then (if operand == 0 then Some Begin else None)
+    else if number == 13 then (if is_period operand then Some (Pace operand) else None)
     else None
 
--- how many operations the mark knows
-abbrev pub known : Bool → ℕ
-known true = 12
-known false = 10
+-- how many operations a version knows: ten, with routines twelve, with frames that have a period fourteen
+abbrev pub known : ℕ → ℕ
+known version = if version == 1 then 10 else if version == 2 then 12 else 14
 
 -- what there is, else the fault
 abbrev pub present : {X : Type 0} → ImageError → Option X → Result X ImageError
 present e None = Err e
 present e (Some x) = Ok x
 
--- four bytes: a number that the mark knows, 00, and an operand in its range
-unfoldable pub operation_at : Bool → List ℕ → Read Op
-operation_at new bs = do
+-- four bytes: a number that the version knows, 00, and an operand in its range
+unfoldable pub operation_at : ℕ → List ℕ → Read Op
+operation_at version bs = do
   number ← byte_at bs
-  _ ← must (nat_lt number.0 (known new)) fault.Operations number
+  _ ← must (nat_lt number.0 (known version)) fault.Operations number
   pad ← byte_at number.1
   _ ← must (pad.0 == 0) fault.Operations pad
   operand ← two_at pad.1
@@ -139,12 +140,12 @@ abbrev pub at_end : List ℕ → Code → Result Code ImageError
 at_end [] code = Ok code
 at_end (b ∷ bs) code = Err fault.Length
 
--- the mark BC02 is for codes that need it
-abbrev pub fitting : Bool → Code → Result Code ImageError
-fitting new code = must (not new || has_new code.operations) fault.Version code
+-- a mark is for codes that need it: no lower one knows all of their operations
+abbrev pub fitting : ℕ → Code → Result Code ImageError
+fitting version code = must (nat_le version (version_for code.operations)) fault.Version code
 
 -- the mark, and the two counts
-unfoldable pub header_at : List ℕ → Result (Bool × ℕ × ℕ × List ℕ) ImageError
+unfoldable pub header_at : List ℕ → Result (ℕ × ℕ × ℕ × List ℕ) ImageError
 header_at bs = do
   mark ← mark_at bs
   operations ← two_at mark.1
@@ -185,7 +186,7 @@ abbrev pub behind : {X : Type 0} → Read X → Result (List ℕ) ImageError
 behind (Ok x) = Ok x.1
 behind (Err e) = Err e
 
--- whether one of the operations that were read is new, and what is behind them
-abbrev pub many_new : Read (List Op) → Result (Bool × List ℕ) ImageError
-many_new (Ok x) = Ok (has_new x.0, x.1)
-many_new (Err e) = Err e
+-- the version that the operations that were read need, and what is behind them
+abbrev pub many_versions : Read (List Op) → Result (ℕ × List ℕ) ImageError
+many_versions (Ok x) = Ok (version_for x.0, x.1)
+many_versions (Err e) = Err e

@@ -1,11 +1,11 @@
 -- The operation table (own choice): what a step of each operation does, in any world that takes messages.
-use Rattle.std.specs.Prelude.{ℕ, zero, suc, ◌+◌, ◌-◌, List, [], ◌∷◌, Bool, false, Option, None, Some, slice_get, if◌then◌else◌}
+use Rattle.std.specs.Prelude.{ℕ, zero, suc, ◌+◌, ◌-◌, ◌*◌, List, [], ◌∷◌, Bool, false, Option, None, Some, slice_get, if◌then◌else◌}
 use Rattle.mil_word.specs.declared.Line.{Line}
 use Rattle.mil_word.specs.declared.Line.TheVariants.{A}
 use Rattle.mil_message.specs.declared.messages.Message.{Message}
-use Rattle.mil_message.specs.World.{World, Point, other_line, sent, asks}
+use Rattle.mil_message.specs.World.{World, Point, other_line, sent, asks, now_at, paced_to}
 use Rattle.frame_code.specs.declared.Op.{Op}
-use Rattle.frame_code.specs.declared.Op.TheVariants.{Halt, Send, Alt, SetGap, Loop, Again, Leave, Jump, Test, JumpFalse, Call, Return}
+use Rattle.frame_code.specs.declared.Op.TheVariants.{Halt, Send, Alt, SetGap, Loop, Again, Leave, Jump, Test, JumpFalse, Call, Return, Begin, Pace}
 use Rattle.frame_code.specs.Routines.{main_of, routine_at}
 
 -- an image as plain data: its operations, and the messages that they send, each with its line
@@ -13,12 +13,14 @@ pub record Code : Type 0 where
   pub operations : List Op
   pub messages : List (Line × Message)
 
--- what the controller has beside the point: the place of the next operation, the counters (the top one first), the return
--- places (the latest first), the flag, and the line of the last message
+-- what the controller has beside the point: the place of the next operation, the counters (the top one first), the
+-- return places (the latest first), the ticks at which the open frames began (the latest first), the flag, and the line
+-- of the last message
 pub record Registers : Type 0 where
   pub place : ℕ
   pub counters : List ℕ
   pub returns : List ℕ
+  pub frames : List ℕ
   pub flag : Bool
   pub line : Line
 
@@ -26,8 +28,8 @@ pub record Running (State Outcome : Type 0) : Type 0 where
   pub at : Registers
   pub point : Point State Outcome
 
--- how a step ends; it is stuck at a place with no operation, an empty counter list, a message that is not there, a routine that
--- is not there, or an empty list of return places
+-- how a step ends; it is stuck at a place with no operation, an empty counter list, a message that is not there, a
+-- routine that is not there, an empty list of return places, or an empty list of open frames
 pub data Turn (X : Type 0) : Type 0 where
   goes_on : X → Turn X
   halted : Turn X
@@ -35,7 +37,7 @@ pub data Turn (X : Type 0) : Type 0 where
 
 -- at the first operation of main; at first the flag is false, and A counts as the last line
 abbrev pub start : Code → Registers
-start code = record { place = main_of code.operations; counters = []; returns = []; flag = false; line = A }
+start code = record { place = main_of code.operations; counters = []; returns = []; frames = []; flag = false; line = A }
 
 abbrev pub at_place : Registers → ℕ → Registers
 at_place r i = record r { place = i }
@@ -70,6 +72,11 @@ module _ {State Outcome : Type 0} (w : World State Outcome) where
   comes_back [] r p = stuck
   comes_back (i ∷ is) r p = goes_on (record { at = record r { place = i; returns = is }; point = p })
 
+  -- closes the frame that was opened last: nothing is sent before its period of h hundreds of µs has passed
+  abbrev pub keeps_pace : List ℕ → ℕ → Registers → Point State Outcome → Turn (Running State Outcome)
+  keeps_pace [] h r p = stuck
+  keeps_pace (b ∷ bs) h r p = goes_on (record { at = record r { place = r.place + 1; frames = bs }; point = paced_to w (b + 1000 * h) p })
+
   -- one row an operation
   abbrev pub act : Option Op → Code → Registers → Point State Outcome → Turn (Running State Outcome)
   act None code r p = stuck
@@ -85,6 +92,8 @@ module _ {State Outcome : Type 0} (w : World State Outcome) where
   act (Some (JumpFalse i)) code r p = goes_on (record { at = at_place r (if r.flag then r.place + 1 else i); point = p })
   act (Some (Call n)) code r p = calls (routine_at code.operations n) r p
   act (Some Return) code r p = comes_back r.returns r p
+  act (Some Begin) code r p = goes_on (record { at = record r { place = r.place + 1; frames = now_at w p ∷ r.frames }; point = p })
+  act (Some (Pace h)) code r p = keeps_pace r.frames h r p
 
   -- one step of a code
   abbrev pub step : Code → Registers → Point State Outcome → Turn (Running State Outcome)

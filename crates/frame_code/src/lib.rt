@@ -1,5 +1,5 @@
-//! The code of the bus controller (own choice): twelve operations, images of them, and the bytes of an image. Its tests
-//! are in `frame_tests`.
+//! The code of the bus controller (own choice): fourteen operations, images of them, and the bytes of an image. Its
+//! tests are in `frame_tests`.
 #![tactic(auto)]
 
 ghost use Rattle.std.specs.Prelude.{◌≡◌, IfOk};
@@ -47,6 +47,11 @@ pub enum Op {
     /// Number 11: goes to the place that was noted last, and forgets it; a routine ends here. Main begins behind the last one,
     /// and the machine starts there.
     Return,
+    /// Number 12: opens a frame, and notes now as the tick at which it begins.
+    Begin,
+    /// Number 13: closes the frame that was opened last: nothing is sent before so many hundreds of µs, 1 to 65,535,
+    /// have passed since it began.
+    Pace(u16),
 }
 
 /// What the controller runs: at most 4096 operations, each with its operand in its range, and the at most 1024 messages
@@ -112,16 +117,16 @@ impl Image {
 /// Why bytes are not an image. They are judged field by field in their order; want of memory comes last.
 #[derive(Clone, Copy, PartialEq, Eq, Debug)]
 pub enum ImageError {
-    /// C1: there are fewer than four bytes, or they are neither the mark BC01 nor BC02.
+    /// C1: there are fewer than four bytes, or they are none of the marks BC01, BC02 and BC03.
     Mark,
     /// C2: the bytes end too early, or go on behind the last message.
     Length,
-    /// C3: an operation's number is over 9 (with the mark BC02 over 11), its second byte is not 00, its operand is out of its range, or there are more
-    /// than 4096 operations.
+    /// C3: an operation's number is over 9 (with the mark BC02 over 11, with BC03 over 13), its second byte is not 00, its
+    /// operand is out of its range, or there are more than 4096 operations.
     Operations,
     /// C4: there are more than 1024 messages, or no message of the form has the field.
     Messages,
-    /// C6: the mark is BC02, and no operation needs it.
+    /// C6: the mark is BC02 or BC03, and a lower one knows all operations.
     Version,
     /// C5: memory was refused.
     Memory,

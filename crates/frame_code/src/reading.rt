@@ -1,17 +1,17 @@
 //! The image that bytes spell. The bytes are judged first, which takes no memory, and then the image is made.
-ghost use Rattle.std.specs.Prelude.{false, not, ◌||◌, if◌then◌else◌, Some, None, ◌∷◌, ◌++◌, ◌≡◌, ◌≢◌, ◌≤◌, ◌<◌, ◌↔◌, IsTrue, IfOk, IfSome, MatchResult, Ok, Err, length};
+ghost use Rattle.std.specs.Prelude.{nat_le, if◌then◌else◌, Some, None, ◌∷◌, ◌++◌, ◌≡◌, ◌≢◌, ◌≤◌, ◌<◌, ◌↔◌, IsTrue, IfOk, IfSome, MatchResult, Ok, Err, length};
 ghost use Rattle.frame_code.specs.Table.{Code};
 ghost use Rattle.frame_code.specs.Ranges.{in_range, is_routine, AreInRange};
-ghost use Rattle.frame_code.specs.Bytes.{is_new, has_new, two_bytes, mark, header_bytes, number_of, number_of_test, operand_of, operation_bytes, line_number, message_bytes, image_bytes};
+ghost use Rattle.frame_code.specs.Bytes.{version_of, version_for, two_bytes, mark, header_bytes, number_of, number_of_test, operand_of, operation_bytes, line_number, message_bytes, image_bytes};
 ghost use Rattle.std.specs.List.{flat_map};
 ghost use Rattle.frame_code.specs.Fields as table;
 ghost use Rattle.frame_code.specs.Reading as spelled;
-ghost use Rattle.frame_code.specs.Reading.{Reads, Builds, behind, many_new, image_of};
+ghost use Rattle.frame_code.specs.Reading.{Reads, Builds, behind, many_versions, image_of};
 ghost use Rattle.frame_code.specs.declared.ImageError.{ImageError};
 ghost use Rattle.frame_code.specs.declared.Op.TheVariants as op;
 
 use crate::fields::{first_fits, second_fits, words_due};
-use crate::writing::{has_new, is_new};
+use crate::writing::{version_for, version_of};
 use crate::{Image, ImageError, Op};
 use arrayvec::ArrayVec;
 use mil_message::{Message, OutcomeTest};
@@ -42,15 +42,15 @@ fn two(bytes: &[u8]) -> Result<(u16, &[u8]), ImageError>
     Ok((u16::from(low) + 256 * u16::from(high), rest))
 }
 
-// Whether the mark is BC02, and the bytes behind it.
+// The version that the mark tells, 1 to 3, and the bytes behind it.
 #[tactic(auto, unfolding(crate::specs::Reading::mark_at))]
-fn mark(bytes: &[u8]) -> Result<(bool, &[u8]), ImageError>
+fn mark(bytes: &[u8]) -> Result<(u8, &[u8]), ImageError>
     ensures mark { Reads (λ x. (x.0, x.1.now)) result (spelled.mark_at bytes.now) }
     ensures spelled { IfOk result (λ x. bytes.now ≡ mark x.0 ++ x.1.now) }
+    ensures range { IfOk result (λ x. 1 ≤ x.0) }
 {
     match bytes {
-        [b'B', b'C', b'0', b'1', rest @ ..] => Ok((false, rest)),
-        [b'B', b'C', b'0', b'2', rest @ ..] => Ok((true, rest)),
+        [b'B', b'C', b'0', digit @ b'1'..=b'3', rest @ ..] => Ok((*digit - b'0', rest)),
         _ => Err(ImageError::Mark),
     }
 }
@@ -58,7 +58,7 @@ fn mark(bytes: &[u8]) -> Result<(bool, &[u8]), ImageError>
 // What stands before the operations.
 #[derive(Clone, Copy)]
 struct Opening<'a> {
-    new: bool,
+    version: u8,
     operations: u16,
     messages: u16,
     rest: &'a [u8],
@@ -67,12 +67,13 @@ struct Opening<'a> {
 // The mark and the two counts, and the bytes behind them.
 #[tactic(auto, unfolding(crate::specs::Reading::header_at))]
 fn header(bytes: &[u8]) -> Result<Opening<'_>, ImageError>
-    ensures fields { Reads (λ x. (x.new, x.operations, x.messages, x.rest.now)) result (spelled.header_at bytes.now) }
-    ensures spelled { IfOk result (λ x. bytes.now ≡ header_bytes x.new x.operations x.messages ++ x.rest.now) }
+    ensures fields { Reads (λ x. (x.version, x.operations, x.messages, x.rest.now)) result (spelled.header_at bytes.now) }
+    ensures spelled { IfOk result (λ x. bytes.now ≡ header_bytes x.version x.operations x.messages ++ x.rest.now) }
     ensures operations { IfOk result (λ x. x.operations ≤ 4096) }
+    ensures version { IfOk result (λ x. 1 ≤ x.version) }
     ensures messages { IfOk result (λ x. x.messages ≤ 1024) }
 {
-    let (new, rest) = mark(bytes)?;
+    let (version, rest) = mark(bytes)?;
     let (operations, rest) = two(rest)?;
     if operations > 4096 {
         return Err(ImageError::Operations);
@@ -82,7 +83,7 @@ fn header(bytes: &[u8]) -> Result<Opening<'_>, ImageError>
         return Err(ImageError::Messages);
     }
     Ok(Opening {
-        new,
+        version,
         operations,
         messages,
         rest,
@@ -137,27 +138,33 @@ fn operation_of(number: u8, operand: u16) -> Option<Op>
         9 => Some(Op::JumpFalse(operand)),
         10 => call_of(operand),
         11 => (operand == 0).then_some(Op::Return),
+        12 => (operand == 0).then_some(Op::Begin),
+        13 => (operand >= 1).then_some(Op::Pace(operand)),
         _ => None,
     }
 }
 
-// How many operations the mark knows.
-fn known(new: bool) -> u8
-    ensures { result ≡ spelled.known new }
+// How many operations a version knows.
+fn known(version: u8) -> u8
+    ensures { result ≡ spelled.known version }
 {
-    if new { 12 } else { 10 }
+    match version {
+        1 => 10,
+        2 => 12,
+        _ => 14,
+    }
 }
 
-// An operation: a number that the mark knows, 00, and an operand in its range.
+// An operation: a number that the version knows, 00, and an operand in its range.
 #[tactic(auto, unfolding(crate::specs::Reading::operation_at))]
-fn operation(new: bool, bytes: &[u8]) -> Result<(Op, &[u8]), ImageError>
-    ensures operation { Reads (λ x. (x.0, x.1.now)) result (spelled.operation_at new bytes.now) }
+fn operation(version: u8, bytes: &[u8]) -> Result<(Op, &[u8]), ImageError>
+    ensures operation { Reads (λ x. (x.0, x.1.now)) result (spelled.operation_at version bytes.now) }
     ensures range { IfOk result (λ x. IsTrue (in_range x.0)) }
     ensures spelled { IfOk result (λ x. bytes.now ≡ operation_bytes x.0 ++ x.1.now) }
-    ensures old { IfOk result (λ x. new ≡ false → is_new x.0 ≡ false) }
+    ensures known { IfOk result (λ x. (1 ≤ version) → version_of x.0 ≤ version) }
 {
     let (number, rest) = byte(bytes)?;
-    if number >= known(new) {
+    if number >= known(version) {
         return Err(ImageError::Operations);
     }
     let (pad, rest) = byte(rest)?;
@@ -250,24 +257,18 @@ fn message(bytes: &[u8]) -> Result<((Line, Message), &[u8]), ImageError>
     body(form, line, first, second, rest)
 }
 
-fn with_new(found: bool, op: Op) -> bool
-    ensures { result ≡ found || is_new op }
-{
-    found || is_new(op)
-}
-
-// Whether an operation among so many is new, and the bytes behind them.
-fn past_operations(new: bool, count: u16, bytes: &[u8]) -> Result<(bool, &[u8]), ImageError>
-    ensures { Reads (λ x. (x.0, x.1.now)) result (many_new (spelled.many (spelled.operation_at new) count bytes.now)) }
+// The version that so many operations need, and the bytes behind them.
+fn past_operations(version: u8, count: u16, bytes: &[u8]) -> Result<(u8, &[u8]), ImageError>
+    ensures { Reads (λ x. (x.0, x.1.now)) result (many_versions (spelled.many (spelled.operation_at version) count bytes.now)) }
 {
     let mut rest = bytes;
-    let mut found = false;
+    let mut needed = 1;
     for _ in 0..count {
-        let (op, next) = operation(new, rest)?;
-        found = with_new(found, op);
+        let (op, next) = operation(version, rest)?;
+        needed = version_of(op).max(needed);
         rest = next;
     }
-    Ok((found, rest))
+    Ok((needed, rest))
 }
 
 // The bytes behind so many messages.
@@ -288,12 +289,12 @@ fn judge(bytes: &[u8]) -> Result<(), ImageError>
     ensures { MatchResult result (λ _. (code : Code) × (image_of bytes.now ≡ Ok code)) (λ e. image_of bytes.now ≡ Err e) }
 {
     let header = header(bytes)?;
-    let (found, rest) = past_operations(header.new, header.operations, header.rest)?;
+    let (needed, rest) = past_operations(header.version, header.operations, header.rest)?;
     let rest = past_messages(header.messages, rest)?;
     match rest.split_first() {
         Some(_) => Err(ImageError::Length),
         None => {
-            if fits(header.new, found) {
+            if fits(header.version, needed) {
                 Ok(())
             } else {
                 Err(ImageError::Version)
@@ -302,22 +303,22 @@ fn judge(bytes: &[u8]) -> Result<(), ImageError>
     }
 }
 
-// The mark BC02 is for codes that need it.
-fn fits(new: bool, found: bool) -> bool
-    ensures { result ≡ not new || found }
+// A mark is for codes that need it: its version is no higher than the one that they need.
+fn fits(version: u8, needed: u8) -> bool
+    ensures { result ≡ nat_le version needed }
 {
-    !new || found
+    version <= needed
 }
 
 // So many operations.
 fn operations(
     alloc: Global,
-    new: bool,
+    version: u8,
     count: u16,
     bytes: &[u8],
 ) -> Result<(Vec<Op>, &[u8]), ImageError>
-    ensures operations { Builds (λ x. (x.0.items, x.1.now)) result (spelled.many (spelled.operation_at new) count bytes.now) }
-    ensures old { IfOk result (λ x. new ≡ false → has_new x.0.items ≡ false) }
+    ensures operations { Builds (λ x. (x.0.items, x.1.now)) result (spelled.many (spelled.operation_at version) count bytes.now) }
+    ensures known { IfOk result (λ x. (1 ≤ version) → version_for x.0.items ≤ version) }
     ensures range { IfOk result (λ x. AreInRange x.0.items) }
     ensures count { IfOk result (λ x. length x.0.items ≡ count) }
     ensures spelled { IfOk result (λ x. bytes.now ≡ flat_map operation_bytes x.0.items ++ x.1.now) }
@@ -325,7 +326,7 @@ fn operations(
     let mut found = Vec::new(alloc);
     let mut rest = bytes;
     for _ in 0..count {
-        let (op, next) = operation(new, rest)?;
+        let (op, next) = operation(version, rest)?;
         found.push(op)?;
         rest = next;
     }
@@ -359,12 +360,12 @@ fn build(alloc: Global, bytes: &[u8]) -> Result<Image, ImageError>
     ensures spelled { IfOk result (λ image. bytes.now ≡ image_bytes image) }
 {
     let header = header(bytes)?;
-    let (operations, rest) = operations(alloc, header.new, header.operations, header.rest)?;
+    let (operations, rest) = operations(alloc, header.version, header.operations, header.rest)?;
     let (messages, rest) = messages(alloc, header.messages, rest)?;
     match rest.split_first() {
         Some(_) => Err(ImageError::Length),
         None => {
-            if !fits(header.new, has_new(&operations)) {
+            if !fits(header.version, version_for(&operations)) {
                 return Err(ImageError::Version);
             }
             Ok(Image {

@@ -1,5 +1,5 @@
 //! The bytes of an image.
-ghost use Rattle.std.specs.Prelude.{◌≡◌, ◌++◌, Ok, IfOk, OnOk};
+ghost use Rattle.std.specs.Prelude.{◌≡◌, ◌≤◌, ◌++◌, Ok, IfOk, OnOk};
 ghost use Rattle.std.specs.List.{flat_map};
 ghost use Rattle.mil_message.specs.Rules.{IsLawful};
 ghost use Rattle.mil_message.specs.Parts.{parts_of};
@@ -38,6 +38,8 @@ fn number_of(op: Op) -> u8
         Op::JumpFalse(_) => 9,
         Op::Call(_) => 10,
         Op::Return => 11,
+        Op::Begin => 12,
+        Op::Pace(_) => 13,
     }
 }
 
@@ -52,12 +54,12 @@ fn number_of_test(test: OutcomeTest) -> u8
     }
 }
 
-// The operand of an operation, 0 for Halt and Return.
+// The operand of an operation, 0 for Halt, Return and Begin.
 fn operand_of(op: Op) -> u16
     ensures { result ≡ spelled.operand_of op }
 {
     match op {
-        Op::Halt | Op::Return => 0,
+        Op::Halt | Op::Return | Op::Begin => 0,
         Op::Send(operand)
         | Op::Alt(operand)
         | Op::SetGap(operand)
@@ -65,34 +67,42 @@ fn operand_of(op: Op) -> u16
         | Op::Again(operand)
         | Op::Leave(operand)
         | Op::Jump(operand)
-        | Op::JumpFalse(operand) => operand,
+        | Op::JumpFalse(operand)
+        | Op::Pace(operand) => operand,
         Op::Test(test) => u16::from(number_of_test(test)),
         Op::Call(routine) => u16::from(routine),
     }
 }
 
-/// Whether the mark BC01 does not know the operation: it is a Call or a Return.
-pub fn is_new(op: Op) -> bool
-    ensures { result ≡ spelled.is_new op }
+/// The version of an image that the operation needs: 3 for Begin and Pace, 2 for Call and Return, 1 for all others.
+pub fn version_of(op: Op) -> u8
+    ensures value { result ≡ spelled.version_of op }
+    ensures range { (1 ≤ result) × (result ≤ 3) }
 {
-    matches!(op, Op::Call(_) | Op::Return)
-}
-
-/// Whether there is an operation that the mark BC01 does not know.
-pub fn has_new(operations: &[Op]) -> bool
-    ensures { result ≡ spelled.has_new operations.now }
-{
-    match operations.split_first() {
-        None => false,
-        Some((op, rest)) => is_new(*op) || has_new(rest),
+    match op {
+        Op::Begin | Op::Pace(_) => 3,
+        Op::Call(_) | Op::Return => 2,
+        _ => 1,
     }
 }
 
-// The mark of an image, with new operations and without.
-fn mark(new: bool) -> &'static [u8]
-    ensures { result.now ≡ spelled.mark new }
+/// The lowest version of an image that knows all of these operations, 1 to 3.
+pub fn version_for(operations: &[Op]) -> u8
+    ensures value { result ≡ spelled.version_for operations.now }
+    ensures range { (1 ≤ result) × (result ≤ 3) }
 {
-    if new { b"BC02" } else { b"BC01" }
+    match operations.split_first() {
+        None => 1,
+        Some((op, rest)) => version_of(*op).max(version_for(rest)),
+    }
+}
+
+// The mark of an image of this version, 1 to 3.
+fn mark(version: u8) -> [u8; 4]
+    requires { (1 ≤ version) × (version ≤ 3) }
+    ensures { result ≡ spelled.mark version }
+{
+    [b'B', b'C', b'0', b'0' + version]
 }
 
 fn put_operation(bytes: &mut Vec<u8>, op: Op) -> Result<(), AllocError>
@@ -173,7 +183,7 @@ fn written(alloc: Global, image: &Image) -> Result<Vec<u8>, AllocError>
     let operations = image.operations();
     let messages = image.messages();
     let mut bytes = Vec::new(alloc);
-    bytes.extend_from_slice(mark(has_new(operations)))?;
+    bytes.extend_from_slice(&mark(version_for(operations)))?;
     put_two(&mut bytes, operations.len() as u16)?;
     put_two(&mut bytes, messages.len() as u16)?;
     put_operations(&mut bytes, operations)?;
@@ -181,7 +191,8 @@ fn written(alloc: Global, image: &Image) -> Result<Vec<u8>, AllocError>
     Ok(bytes)
 }
 
-/// The bytes of an image, with the mark BC01 where no operation is above 9 and BC02 else; `read_image` gives the image back.
+/// The bytes of an image, with the lowest mark that knows all operations: BC01 where none has a number above 9, BC02
+/// where none has one above 11, else BC03. `read_image` gives the image back.
 pub fn write_image(alloc: Global, image: &Image) -> Result<Vec<u8>, AllocError>
     ensures bytes { IfOk result (λ bytes. bytes.items ≡ spelled.image_bytes image.now) }
     ensures read_back { IfOk result (λ bytes. image_of bytes.items ≡ Ok image.now) }

@@ -1,5 +1,5 @@
 -- The routines of places, one after the other.
-use Rattle.std.proofs.Common.{◌≡◌, ◌≢◌, ℕ, zero, suc, ◌+◌, ◌-◌, ◌*◌, ◌<◌, ◌≤◌, min, List, [], ◌∷◌, ◌++◌, length, get_or, set, Some, refl, sym, ap, ◌∙◌, subst, ⊎_elim, arith}
+use Rattle.std.proofs.Common.{◌≡◌, ◌≢◌, ℕ, zero, suc, ◌+◌, ◌*◌, ◌<◌, ◌≤◌, min, List, [], ◌∷◌, ◌++◌, length, get_or, set, Some, refl, sym, ap, ◌∙◌, subst, ⊎_elim, arith}
 use Rattle.std.specs.Prelude.{slice_get}
 use Rattle.std.proofs.Math.Nat.{mul-le-mul_left, mul_comm, mul-one}
 use Rattle.std.proofs.Math.Seq.{get_or-append_seam}
@@ -7,11 +7,11 @@ use Rattle.std.proofs.Math.ListN.{get_or-append}
 use Rattle.std.proofs.lemmas.Bool.{cases_lt}
 use Rattle.std.proofs.lemmas.List.{get_or-set_same, get_or-set_other}
 use Rattle.frame_code.specs.declared.Op.{Op}
-use Rattle.frame_code.specs.declared.Op.TheVariants.{Halt, Send, Alt, SetGap, Loop, Again, Leave, Jump, Test, JumpFalse, Call, Return}
+use Rattle.frame_code.specs.declared.Op.TheVariants.{Halt, Send, Alt, SetGap, Loop, Again, Leave, Jump, Test, JumpFalse, Call, Return, Begin, Pace}
 use Rattle.frame_code.specs.Routines.{routines, begin_of, passed, owner_at}
 use Rattle.frame_code.specs.Loadable.{CallsEarlier}
 use Rattle.frame_load.specs.Budget.{weight, Sums, called, sums_after, sums_at}
-use Rattle.frame_load.proofs.Never.{within, routine_le, behind_at}
+use Rattle.frame_load.proofs.Opened.{within, routine_le, behind_at}
 use Rattle.frame_load.proofs.Weights.{sums_long}
 
 owner_step : (o : Op) (k : ℕ) → passed (Some o) k ≤ suc k
@@ -98,29 +98,26 @@ capped_sum cap a w c t w' t' one ew et =
         let q : cap ≤ w * (c + t) = product cap w (c + t) 0 (omega (arith, e)) large in
         omega (arith, p, q)
 
-pub product_fits : (c w x : ℕ) → w ≤ c → x ≤ c + 1 → w * x ≤ c * (c + 1)
-product_fits c w x h k = omega (arith, mul-le-mul_left w k, mul-le-mul_left (c + 1) h, mul_comm w (c + 1), mul_comm c (c + 1))
-
-module _ (cost : Op → ℕ) (os : List Op) where
+module _ (cap : ℕ) (some : 1 ≤ cap) (cost : Op → ℕ) (os : List Op) where
   -- the sums of the routines that ended, each cut at the cap
   abbrev pub EndedSums : ℕ → List ℕ → Type 0
-  EndedSums i ended = (r : ℕ) → r < owner_at os i → get_or ended r 0 ≡ min 100000001 (get_or (sums_at cost os i).ended r 0)
+  EndedSums i ended = (r : ℕ) → r < owner_at os i → get_or ended r 0 ≡ min cap (get_or (sums_at cost os i).ended r 0)
 
   pub sums_next : (i : ℕ) (o : Op) → slice_get os i ≡ Some o → sums_at cost os (i + 1) ≡ sums_after cost (Some o) (weight os i) (sums_at cost os i)
   sums_next i o at = (let s : i + 1 ≡ suc i = omega arith in ap (sums_at cost os) s) ∙ ap (λ v. sums_after cost v (weight os i) (sums_at cost os i)) at
 
-  pub one_sum : (i k x : ℕ) (ended : List ℕ) → slice_get os i ≡ Some Return → k ≡ owner_at os i → k < length ended → x ≡ min 100000001 ((sums_at cost os i).now + weight os i * cost Return) → EndedSums i ended → EndedSums (i + 1) (set ended k x)
+  pub one_sum : (i k x : ℕ) (ended : List ℕ) → slice_get os i ≡ Some Return → k ≡ owner_at os i → k < length ended → x ≡ min cap ((sums_at cost os i).now + weight os i * cost Return) → EndedSums i ended → EndedSums (i + 1) (set ended k x)
   one_sum i k x ended at e inside is below r h =
       let s = sums_at cost os i in
       let y = s.now + weight os i * cost Return in
       let next : (sums_at cost os (i + 1)).ended ≡ s.ended ++ y ∷ [] = ap (λ (z : Sums). z.ended) (sums_next i Return at) in
       ⊎_elim (λ lt.
       let apart : r ≢ k = λ z. omega (arith, z, lt, e) in
-      get_or-set_other ended k r x 0 apart ∙ below r lt ∙ ap (min 100000001) (sym (ap (λ ds. get_or ds r 0) next ∙ get_or-append s.ended (y ∷ []) 0 r (omega (arith, lt, sums_long cost os i)))))
+      get_or-set_other ended k r x 0 apart ∙ below r lt ∙ ap (min cap) (sym (ap (λ ds. get_or ds r 0) next ∙ get_or-append s.ended (y ∷ []) 0 r (omega (arith, lt, sums_long cost os i)))))
       (λ le.
       let same : r ≡ k = omega (arith, le, h, up_owner os i at, e) in
       ap (λ j. get_or (set ended k x) j 0) same ∙ get_or-set_same ended k x 0 inside ∙ is
-      ∙ ap (min 100000001) (sym (ap (λ ds. get_or ds r 0) next ∙ ap (λ j. get_or (s.ended ++ y ∷ []) j 0) (same ∙ e ∙ sym (sums_long cost os i)) ∙ get_or-append_seam s.ended y [] 0)))
+      ∙ ap (min cap) (sym (ap (λ ds. get_or ds r 0) next ∙ ap (λ j. get_or (s.ended ++ y ∷ []) j 0) (same ∙ e ∙ sym (sums_long cost os i)) ∙ get_or-append_seam s.ended y [] 0)))
       (cases_lt r (owner_at os i))
 
   kept_sums : (o : Op) (w : ℕ) (s : Sums) → (o ≡ Return → ⊥) → (sums_after cost (Some o) w s).ended ≡ s.ended
@@ -129,10 +126,10 @@ module _ (cost : Op → ℕ) (os : List Op) where
 
   pub no_sum : (i : ℕ) (o : Op) (ended : List ℕ) → slice_get os i ≡ Some o → (o ≡ Return → ⊥) → EndedSums i ended → EndedSums (i + 1) ended
   no_sum i o ended at h below r l =
-      below r (omega (arith, l, same_owner os i o at h)) ∙ ap (λ ds. min 100000001 (get_or ds r 0)) (sym (ap (λ (z : Sums). z.ended) (sums_next i o at) ∙ kept_sums o (weight os i) (sums_at cost os i) h))
+      below r (omega (arith, l, same_owner os i o at h)) ∙ ap (λ ds. min cap (get_or ds r 0)) (sym (ap (λ (z : Sums). z.ended) (sums_next i o at) ∙ kept_sums o (weight os i) (sums_at cost os i) h))
 
   -- what a Call's routine costs, cut at the cap
-  pub called_capped : (i c : ℕ) (o : Op) (ended : List ℕ) → c ≡ called o ended → CallsEarlier (owner_at os i) o → EndedSums i ended → c ≡ min 100000001 (called o (sums_at cost os i).ended)
+  pub called_capped : (i c : ℕ) (o : Op) (ended : List ℕ) → c ≡ called o ended → CallsEarlier (owner_at os i) o → EndedSums i ended → c ≡ min cap (called o (sums_at cost os i).ended)
   called_capped i c (Call r) ended e h below = e ∙ below r h
   called_capped i c Halt ended e h below = omega (arith, e)
   called_capped i c (Send m) ended e h below = omega (arith, e)
@@ -145,19 +142,21 @@ module _ (cost : Op → ℕ) (os : List Op) where
   called_capped i c (Test k) ended e h below = omega (arith, e)
   called_capped i c (JumpFalse k) ended e h below = omega (arith, e)
   called_capped i c Return ended e h below = omega (arith, e)
+  called_capped i c Begin ended e h below = omega (arith, e)
+  called_capped i c (Pace t) ended e h below = omega (arith, e)
 
   now_sums : (o : Op) (w : ℕ) (s : Sums) → (o ≡ Return → ⊥) → (sums_after cost (Some o) w s).now ≡ s.now + w * (cost o + called o s.ended)
   now_sums Return w s h = absurd (h refl)
   now_sums _ w s h = refl
 
-  pub now_is : (i : ℕ) (o : Op) (now now' w c : ℕ) → slice_get os i ≡ Some o → (o ≡ Return → ⊥) → now ≡ min 100000001 (sums_at cost os i).now → w ≡ min 100000001 (weight os i) → c ≡ min 100000001 (called o (sums_at cost os i).ended)
-      → now' ≡ min (now + w * (cost o + c)) 100000001 → now' ≡ min 100000001 (sums_at cost os (i + 1)).now
+  pub now_is : (i : ℕ) (o : Op) (now now' w c : ℕ) → slice_get os i ≡ Some o → (o ≡ Return → ⊥) → now ≡ min cap (sums_at cost os i).now → w ≡ min cap (weight os i) → c ≡ min cap (called o (sums_at cost os i).ended)
+      → now' ≡ min (now + w * (cost o + c)) cap → now' ≡ min cap (sums_at cost os (i + 1)).now
   now_is i o now now' w c at h en ew ec is =
-      is ∙ ap (λ z. min (z + w * (cost o + c)) 100000001) en ∙ capped_sum 100000001 (sums_at cost os i).now (weight os i) (cost o) (called o (sums_at cost os i).ended) w c (omega arith) ew ec
-      ∙ ap (min 100000001) (sym (ap (λ (z : Sums). z.now) (sums_next i o at) ∙ now_sums o (weight os i) (sums_at cost os i) h))
+      is ∙ ap (λ z. min (z + w * (cost o + c)) cap) en ∙ capped_sum cap (sums_at cost os i).now (weight os i) (cost o) (called o (sums_at cost os i).ended) w c some ew ec
+      ∙ ap (min cap) (sym (ap (λ (z : Sums). z.now) (sums_next i o at) ∙ now_sums o (weight os i) (sums_at cost os i) h))
 
-  pub end_is : (i now now' w c : ℕ) → slice_get os i ≡ Some Return → now ≡ min 100000001 (sums_at cost os i).now → w ≡ min 100000001 (weight os i) → c ≡ 0 → now' ≡ min (now + w * (cost Return + c)) 100000001
-      → now' ≡ min 100000001 ((sums_at cost os i).now + weight os i * cost Return)
+  pub end_is : (i now now' w c : ℕ) → slice_get os i ≡ Some Return → now ≡ min cap (sums_at cost os i).now → w ≡ min cap (weight os i) → c ≡ 0 → now' ≡ min (now + w * (cost Return + c)) cap
+      → now' ≡ min cap ((sums_at cost os i).now + weight os i * cost Return)
   end_is i now now' w c at en ew ec is =
       let plain : cost Return + 0 ≡ cost Return = omega arith in
-      is ∙ ap (λ z. min (z + w * (cost Return + c)) 100000001) en ∙ capped_sum 100000001 (sums_at cost os i).now (weight os i) (cost Return) 0 w c (omega arith) ew (omega (arith, ec)) ∙ ap (λ z. min 100000001 ((sums_at cost os i).now + weight os i * z)) plain
+      is ∙ ap (λ z. min (z + w * (cost Return + c)) cap) en ∙ capped_sum cap (sums_at cost os i).now (weight os i) (cost Return) 0 w c some ew (omega (arith, ec)) ∙ ap (λ z. min cap ((sums_at cost os i).now + weight os i * z)) plain

@@ -6,23 +6,21 @@ use Rattle.std.proofs.Math.Seq.{get_or-append_seam}
 use Rattle.std.proofs.Math.ListN.{get_or-append}
 use Rattle.std.specs.Prelude.{slice_get}
 use Rattle.frame_code.specs.declared.Op.{Op}
-use Rattle.frame_code.specs.declared.Op.TheVariants.{Halt, Send, Alt, SetGap, Loop, Again, Leave, Jump, Test, JumpFalse, Call, Return}
+use Rattle.frame_code.specs.declared.Op.TheVariants.{Halt, Send, Alt, SetGap, Loop, Again, Leave, Jump, Test, JumpFalse, Call, Return, Begin, Pace}
 use Rattle.frame_code.specs.Table.{Code}
 use Rattle.frame_code.specs.Routines.{passed, owner_at}
 use Rattle.frame_code.specs.Ranges.{AreInRange}
 use Rattle.frame_code.specs.Loadable.{after, open_at, Each, CallsEarlier, IsLoadable}
 use Rattle.frame_load.specs.Budget.{turns_of, weight_in, weight, Sums, called, sums_after, sums_at}
 use Rattle.frame_load.proofs.Left.{inner, turn, rest}
-use Rattle.frame_load.proofs.Never.{there, within, IsReturn, same_routine, next_up, routine_le}
+use Rattle.frame_load.proofs.Opened.{there, IsReturn, same_routine, next_up, routine_le}
 use Rattle.frame_load.proofs.Steps.{drop_at}
 use Rattle.frame_load.proofs.Marks.{count_of}
 
--- the weights of the open loops' insides, the innermost first, and of what is outside them
-abbrev pub next_of : Op → ℕ → List ℕ → List ℕ
-next_of (Loop n) w ws = n * w ∷ w ∷ ws
-next_of (Again i) w [] = w ∷ []
-next_of (Again i) w (v ∷ ws) = v ∷ ws
-next_of _ w ws = w ∷ ws
+-- the weights of the insides of the open brackets, the innermost first, and of what is outside them; behind the innermost
+abbrev popped : ℕ → List ℕ → List ℕ
+popped w [] = w ∷ []
+popped w (v ∷ ws) = v ∷ ws
 
 module _ (cost : Op → ℕ) where
   -- the weighted sum over a code, where the place has these weights
@@ -30,8 +28,9 @@ module _ (cost : Op → ℕ) where
   summed ws [] = 0
   summed [] (o ∷ os) = 0
   summed (w ∷ ws) (Loop n ∷ os) = w * cost (Loop n) + summed (n * w ∷ w ∷ ws) os
-  summed (w ∷ []) (Again i ∷ os) = w * cost (Again i) + summed (w ∷ []) os
-  summed (w ∷ v ∷ ws) (Again i ∷ os) = w * cost (Again i) + summed (v ∷ ws) os
+  summed (w ∷ ws) (Again i ∷ os) = w * cost (Again i) + summed (popped w ws) os
+  summed (w ∷ ws) (Begin ∷ os) = w * cost Begin + summed (1 * w ∷ w ∷ ws) os
+  summed (w ∷ ws) (Pace h ∷ os) = w * cost (Pace h) + summed (popped w ws) os
   summed (w ∷ ws) (Return ∷ os) = w * cost Return
   summed (w ∷ ws) (o ∷ os) = w * cost o + summed (w ∷ ws) os
 
@@ -40,6 +39,16 @@ module _ (cost : Op → ℕ) where
   Mixed c [] [] [] = Unit {0}
   Mixed c (w ∷ ws) (u ∷ us) (v ∷ vs) = (w ≡ u + c * v) × Mixed c ws us vs
   Mixed c _ _ _ = ⊥
+
+  mixed_popped : (c w u v : ℕ) (ws us vs : List ℕ) → Mixed c (w ∷ ws) (u ∷ us) (v ∷ vs) → Mixed c (popped w ws) (popped u us) (popped v vs)
+  mixed_popped c w u v [] [] [] m = m
+  mixed_popped c w u v [] [] (z ∷ vs) m = absurd m.1
+  mixed_popped c w u v [] (y ∷ us) [] m = absurd m.1
+  mixed_popped c w u v [] (y ∷ us) (z ∷ vs) m = absurd m.1
+  mixed_popped c w u v (x ∷ ws) [] [] m = absurd m.1
+  mixed_popped c w u v (x ∷ ws) [] (z ∷ vs) m = absurd m.1
+  mixed_popped c w u v (x ∷ ws) (y ∷ us) [] m = absurd m.1
+  mixed_popped c w u v (x ∷ ws) (y ∷ us) (z ∷ vs) m = m.1
 
   times_mixed : (n c w u v : ℕ) → w ≡ u + c * v → n * w ≡ n * u + c * (n * v)
   times_mixed n c w u v e = ap (λ x. n * x) e ∙ mul-add n u (c * v) ∙ ap (λ x. n * u + x) (sym (mul_assoc n c v) ∙ ap (λ x. x * v) (mul_comm n c) ∙ mul_assoc c n v)
@@ -58,14 +67,9 @@ module _ (cost : Op → ℕ) where
   linear c (o ∷ os) (w ∷ ws) [] vs m = absurd m
   linear c (o ∷ os) (w ∷ ws) (u ∷ us) [] m = absurd m
   linear c (Loop n ∷ os) (w ∷ ws) (u ∷ us) (v ∷ vs) m = join c _ _ _ _ _ _ (paid_mixed (cost (Loop n)) c w u v m.0) (linear c os (n * w ∷ w ∷ ws) (n * u ∷ u ∷ us) (n * v ∷ v ∷ vs) (times_mixed n c w u v m.0, m))
-  linear c (Again i ∷ os) (w ∷ []) (u ∷ []) (v ∷ []) m = join c _ _ _ _ _ _ (paid_mixed (cost (Again i)) c w u v m.0) (linear c os (w ∷ []) (u ∷ []) (v ∷ []) m)
-  linear c (Again i ∷ os) (w ∷ []) (u ∷ []) (v ∷ v' ∷ vs) m = absurd m.1
-  linear c (Again i ∷ os) (w ∷ []) (u ∷ u' ∷ us) (v ∷ []) m = absurd m.1
-  linear c (Again i ∷ os) (w ∷ []) (u ∷ u' ∷ us) (v ∷ v' ∷ vs) m = absurd m.1
-  linear c (Again i ∷ os) (w ∷ w' ∷ ws) (u ∷ []) (v ∷ []) m = absurd m.1
-  linear c (Again i ∷ os) (w ∷ w' ∷ ws) (u ∷ []) (v ∷ v' ∷ vs) m = absurd m.1
-  linear c (Again i ∷ os) (w ∷ w' ∷ ws) (u ∷ u' ∷ us) (v ∷ []) m = absurd m.1
-  linear c (Again i ∷ os) (w ∷ w' ∷ ws) (u ∷ u' ∷ us) (v ∷ v' ∷ vs) m = join c _ _ _ _ _ _ (paid_mixed (cost (Again i)) c w u v m.0) (linear c os (w' ∷ ws) (u' ∷ us) (v' ∷ vs) m.1)
+  linear c (Again i ∷ os) (w ∷ ws) (u ∷ us) (v ∷ vs) m = join c _ _ _ _ _ _ (paid_mixed (cost (Again i)) c w u v m.0) (linear c os (popped w ws) (popped u us) (popped v vs) (mixed_popped c w u v ws us vs m))
+  linear c (Begin ∷ os) (w ∷ ws) (u ∷ us) (v ∷ vs) m = join c _ _ _ _ _ _ (paid_mixed (cost Begin) c w u v m.0) (linear c os (1 * w ∷ w ∷ ws) (1 * u ∷ u ∷ us) (1 * v ∷ v ∷ vs) (times_mixed 1 c w u v m.0, m))
+  linear c (Pace h ∷ os) (w ∷ ws) (u ∷ us) (v ∷ vs) m = join c _ _ _ _ _ _ (paid_mixed (cost (Pace h)) c w u v m.0) (linear c os (popped w ws) (popped u us) (popped v vs) (mixed_popped c w u v ws us vs m))
   linear c (Return ∷ os) (w ∷ ws) (u ∷ us) (v ∷ vs) m = paid_mixed (cost Return) c w u v m.0
   linear c (o ∷ os) (w ∷ ws) (u ∷ us) (v ∷ vs) m = join c _ _ _ _ _ _ (paid_mixed (cost o) c w u v m.0) (linear c os (w ∷ ws) (u ∷ us) (v ∷ vs) m)
 
@@ -83,7 +87,7 @@ module _ (cost : Op → ℕ) where
   owed [] = 0
   owed (x ∷ xs) = (x.0 - 1) * x.1 + owed xs
 
-  -- weight 1 within these loops
+  -- weight 1 within these brackets
   abbrev Within : List (ℕ × ℕ) → List ℕ → Type 0
   Within [] (w ∷ ws) = Unit {0}
   Within (x ∷ xs) (w ∷ ws) = (w ≡ 1) × Within xs ws
@@ -108,6 +112,10 @@ module _ (cost : Op → ℕ) where
   inner_summed (Again i ∷ os) (x ∷ []) (w ∷ []) r h = absurd h.1
   inner_summed (Again i ∷ os) (x ∷ y ∷ xs) (w ∷ []) r h = absurd h.1
   inner_summed (Again i ∷ os) (x ∷ xs) (w ∷ v ∷ ws) r h = omega (arith, inner_summed os xs (v ∷ ws) r.1 h.1, ap (λ v. v * cost (Again i)) h.0)
+  inner_summed (Begin ∷ os) (x ∷ xs) (w ∷ ws) r h = omega (arith, inner_summed os ((1, 0) ∷ x ∷ xs) (1 * w ∷ w ∷ ws) r.1 (omega (arith, h.0), h), ap (λ v. v * cost Begin) h.0)
+  inner_summed (Pace t ∷ os) (x ∷ []) (w ∷ []) r h = absurd h.1
+  inner_summed (Pace t ∷ os) (x ∷ y ∷ xs) (w ∷ []) r h = absurd h.1
+  inner_summed (Pace t ∷ os) (x ∷ xs) (w ∷ v ∷ ws) r h = omega (arith, inner_summed os xs (v ∷ ws) r.1 h.1, ap (λ v. v * cost (Pace t)) h.0)
   inner_summed (Return ∷ os) (x ∷ xs) (w ∷ ws) r h = omega (arith, ap (λ v. v * cost Return) h.0)
   inner_summed (o ∷ os) (x ∷ xs) (w ∷ ws) r h = omega (arith, inner_summed os (x ∷ xs) (w ∷ ws) r.1 h, ap (λ v. v * cost o) h.0)
 
@@ -137,6 +145,14 @@ module _ (cost : Op → ℕ) where
   rest_summed (Again i ∷ os) (x ∷ []) (w ∷ []) r h = absurd h.1
   rest_summed (Again i ∷ os) (x ∷ y ∷ xs) (w ∷ []) r h = absurd h.1
   rest_summed (Again i ∷ os) (x ∷ xs) (w ∷ v ∷ ws) r h = omega (arith, rest_summed os xs (v ∷ ws) r.1 h.1, ap (λ v. v * cost (Again i)) h.0)
+  rest_summed (Begin ∷ os) xs (w ∷ ws) r h =
+      let one : w ≡ 1 = head_one xs w ws h in
+      omega (arith, rest_summed os ((1, 0) ∷ xs) (1 * w ∷ w ∷ ws) r.1 (omega (arith, one), h), ap (λ v. v * cost Begin) one)
+  rest_summed (Pace t ∷ os) [] (w ∷ []) r h = omega (arith, rest_summed os [] (w ∷ []) r.1 h, ap (λ v. v * cost (Pace t)) h)
+  rest_summed (Pace t ∷ os) [] (w ∷ v ∷ ws) r h = absurd h
+  rest_summed (Pace t ∷ os) (x ∷ []) (w ∷ []) r h = absurd h.1
+  rest_summed (Pace t ∷ os) (x ∷ y ∷ xs) (w ∷ []) r h = absurd h.1
+  rest_summed (Pace t ∷ os) (x ∷ xs) (w ∷ v ∷ ws) r h = omega (arith, rest_summed os xs (v ∷ ws) r.1 h.1, ap (λ v. v * cost (Pace t)) h.0)
   rest_summed (Return ∷ os) xs (w ∷ ws) r h = omega (arith, ap (λ v. v * cost Return) (head_one xs w ws h))
   rest_summed (o ∷ os) xs (w ∷ ws) r h = omega (arith, rest_summed os xs (w ∷ ws) r.1 h, ap (λ v. v * cost o) (head_one xs w ws h))
 
@@ -151,6 +167,11 @@ module _ (cost : Op → ℕ) where
     summed_at (Again i) p [] ds e g = refl
     summed_at (Again i) p (s ∷ []) ds e g = refl
     summed_at (Again i) p (s ∷ t ∷ st) ds e g = refl
+    summed_at Begin p [] ds e g = ap (λ v. 1 * cost Begin + summed (turns_of v * 1 ∷ 1 ∷ []) ds) (sym e)
+    summed_at Begin p (s ∷ st) ds e g = ap (λ v. weight_in os (s ∷ st) * cost Begin + summed (turns_of v * weight_in os (s ∷ st) ∷ weight_in os (s ∷ st) ∷ weights_of st) ds) (sym e)
+    summed_at (Pace h) p [] ds e g = refl
+    summed_at (Pace h) p (s ∷ []) ds e g = refl
+    summed_at (Pace h) p (s ∷ t ∷ st) ds e g = refl
     summed_at Return p st ds e g = absurd (g tt)
     summed_at _ p [] ds e g = refl
     summed_at _ p (s ∷ st) ds e g = refl
@@ -247,6 +268,8 @@ module _ (cost : Op → ℕ) (os : List Op) where
   up_by p (Jump i) e le h more = goes_up p (Jump i) e (λ z. z) le h refl more
   up_by p (Test k) e le h more = goes_up p (Test k) e (λ z. z) le h refl more
   up_by p (JumpFalse i) e le h more = goes_up p (JumpFalse i) e (λ z. z) le h refl more
+  up_by p Begin e le h more = goes_up p Begin e (λ z. z) le h refl more
+  up_by p (Pace t) e le h more = goes_up p (Pace t) e (λ z. z) le h refl more
   up_by p (Call r) e le h more = goes_up p (Call r) e (λ z. z) le h refl more
 
   sums_up : (d p : ℕ) → p + d ≡ length os → Each os (λ p. CallsEarlier (owner_at os p)) → Sums_up p

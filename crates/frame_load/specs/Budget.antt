@@ -1,8 +1,8 @@
--- How many steps a code takes at most, and how many messages it sends (own choice): the sum of what the operations of its main
--- part cost, each as often as it can come, and a Call with what its routine costs.
-use Rattle.std.specs.Prelude.{ℕ, zero, suc, ◌+◌, ◌*◌, Bool, true, false, List, [], ◌∷◌, ◌++◌, length, get_or, Option, Some, None, slice_get}
+-- How many steps a code takes at most, how many messages it sends, and what its periods come to (own choice): the sum
+-- of what the operations of its main part cost, each as often as it can come, and a Call with what its routine costs.
+use Rattle.std.specs.Prelude.{ℕ, zero, suc, ◌+◌, ◌*◌, List, [], ◌∷◌, ◌++◌, length, get_or, Option, Some, None, slice_get}
 use Rattle.frame_code.specs.declared.Op.{Op}
-use Rattle.frame_code.specs.declared.Op.TheVariants.{Send, Alt, Loop, Call, Return}
+use Rattle.frame_code.specs.declared.Op.TheVariants.{Send, Alt, Loop, Call, Return, Pace}
 use Rattle.frame_code.specs.Loadable.{open_at}
 
 -- each operation is a step
@@ -15,17 +15,17 @@ one_sent (Send m) = 1
 one_sent (Alt m) = 1
 one_sent _ = 0
 
--- messages, or steps
-abbrev pub cost_by : Bool → Op → ℕ
-cost_by true = one_sent
-cost_by false = one_each
+-- the period of a Pace, in ticks
+abbrev pub one_period : Op → ℕ
+one_period (Pace h) = 1000 * h
+one_period _ = 0
 
 -- how often a loop goes round
 abbrev pub turns_of : Option Op → ℕ
 turns_of (Some (Loop n)) = n
 turns_of _ = 1
 
--- the product of the counts of these loops, each given by its place
+-- the product of the counts of the loops among these brackets, each given by its place
 abbrev pub weight_in : List Op → List ℕ → ℕ
 weight_in os [] = 1
 weight_in os (s ∷ st) = turns_of (slice_get os s) * weight_in os st
@@ -34,8 +34,8 @@ weight_in os (s ∷ st) = turns_of (slice_get os s) * weight_in os st
 abbrev pub weight : List Op → ℕ → ℕ
 weight os p = weight_in os (open_at os p)
 
--- what the operations of a routine cost before a place, and what each routine costs that ended before it, its Calls counted with
--- what they call
+-- what the operations of a routine cost before a place, and what each routine costs that ended before it, its Calls
+-- counted with what they call
 pub record Sums : Type 0 where
   pub now : ℕ
   pub ended : List ℕ
@@ -67,6 +67,10 @@ module _ (cost : Op → ℕ) where
 -- how many steps a run takes at most
 abbrev pub budget : List Op → ℕ
 budget os = total one_each os
+
+-- how many ticks its periods have together
+abbrev pub periods : List Op → ℕ
+periods os = total one_period os
 
 -- how many messages it sends at most
 abbrev pub worst_messages : List Op → ℕ

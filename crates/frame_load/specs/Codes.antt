@@ -1,7 +1,7 @@
 -- The letters of the loader's refusals (own choice).
 use Rattle.std.specs.Prelude.{ℕ, List, codes}
 use Rattle.frame_load.specs.declared.LoadError.{LoadError}
-use Rattle.frame_load.specs.declared.LoadError.TheVariants.{End, Routines, Nesting, Jumps, Messages, Budget, Memory}
+use Rattle.frame_load.specs.declared.LoadError.TheVariants.{End, Routines, Nesting, Jumps, Messages, Budget, Memory, Periods}
 
 abbrev pub code_of : LoadError → List ℕ
 code_of Jumps = codes "P1"
@@ -11,3 +11,4 @@ code_of End = codes "P4"
 code_of Budget = codes "P5"
 code_of Memory = codes "P6"
 code_of Routines = codes "P7"
+code_of Periods = codes "P8"

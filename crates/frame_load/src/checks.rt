@@ -3,7 +3,7 @@ ghost use Rattle.std.specs.Prelude.{◌≡◌, ◌≤◌, ◌<◌, ◌↔◌, �
 ghost use Rattle.frame_code.specs.Loadable.{open_at, EndsInHalt, LeavesTo, JumpsTo, TurnsTo, GoesWell, HasMessage, Each};
 ghost use Rattle.frame_code.specs.Routines.{owner_at};
 ghost use Rattle.frame_code.specs.declared.Op.{Op};
-ghost use Rattle.frame_load.specs.Marks.{innermost};
+ghost use Rattle.frame_load.specs.Marks.{AreBrackets};
 
 use frame_code::Op;
 
@@ -14,21 +14,21 @@ pub fn ends_in_halt(operations: &[Op]) -> bool
     matches!(operations, [.., Op::Halt])
 }
 
-/// Writes for each place of at most 4096 its innermost loop, by the place of its Loop plus one; 0 outside all.
-pub fn mark_loops(operations: &[Op], loops: &mut [u16; 4096])
+/// Writes for each place of at most 4096 its innermost bracket, by the place of what opens it plus one; 0 outside all.
+pub fn mark_brackets(operations: &[Op], brackets: &mut [u16; 4096])
     requires { length operations.now ≤ 4096 }
-    ensures { (p : ℕ) → p < length operations.now → get_or loops.new p 0 ≡ innermost (open_at operations.now p) }
+    ensures { AreBrackets operations.now brackets.new }
 {
     let mut current: u16 = 0;
     for i in 0..operations.len() {
-        loops[i] = current;
+        brackets[i] = current;
         current = match operations[i] {
-            Op::Loop(_) => i as u16 + 1,
-            Op::Again(_) => {
+            Op::Loop(_) | Op::Begin => i as u16 + 1,
+            Op::Again(_) | Op::Pace(_) => {
                 if current == 0 {
                     0
                 } else {
-                    loops[current as usize - 1]
+                    brackets[current as usize - 1]
                 }
             }
             _ => current,
@@ -36,11 +36,11 @@ pub fn mark_loops(operations: &[Op], loops: &mut [u16; 4096])
     }
 }
 
-// Whether the Again of the place's innermost loop stands just before the target.
-fn leaves_well(operations: &[Op], loops: &[u16; 4096], place: usize, target: usize) -> bool
+// Whether the Again that closes the place's innermost bracket stands just before the target.
+fn leaves_well(operations: &[Op], brackets: &[u16; 4096], place: usize, target: usize) -> bool
     requires size { length operations.now ≤ 4096 }
     requires place { place < length operations.now }
-    requires marked { (p : ℕ) → p < length operations.now → get_or loops.now p 0 ≡ innermost (open_at operations.now p) }
+    requires marked { AreBrackets operations.now brackets.now }
     ensures { IsTrue result ↔ LeavesTo operations.now (open_at operations.now place) target }
 {
     if target == 0 {
@@ -53,20 +53,20 @@ fn leaves_well(operations: &[Op], loops: &[u16; 4096], place: usize, target: usi
     let Op::Again(_) = operations[before] else {
         return false;
     };
-    loops[before] == loops[place]
+    brackets[before] == brackets[place]
 }
 
 // Whether a jump from this place may go to the target.
 fn jumps_well(
     operations: &[Op],
-    loops: &[u16; 4096],
+    brackets: &[u16; 4096],
     routines: &[u8; 4096],
     place: usize,
     target: usize,
 ) -> bool
     requires size { length operations.now ≤ 4096 }
     requires place { place < length operations.now }
-    requires marked { (p : ℕ) → p < length operations.now → get_or loops.now p 0 ≡ innermost (open_at operations.now p) }
+    requires marked { AreBrackets operations.now brackets.now }
     requires numbered { (p : ℕ) → p < length operations.now → get_or routines.now p 0 ≡ owner_at operations.now p }
     ensures { IsTrue result ↔ JumpsTo operations.now place target }
 {
@@ -76,45 +76,45 @@ fn jumps_well(
     if operations.len() <= target {
         return false;
     }
-    loops[target] == loops[place] && routines[target] == routines[place]
+    brackets[target] == brackets[place] && routines[target] == routines[place]
 }
 
 // Whether an Again at this place may go to the target.
-fn turns_well(operations: &[Op], loops: &[u16; 4096], place: usize, target: u16) -> bool
+fn turns_well(operations: &[Op], brackets: &[u16; 4096], place: usize, target: u16) -> bool
     requires size { length operations.now ≤ 4096 }
     requires place { place < length operations.now }
-    requires marked { (p : ℕ) → p < length operations.now → get_or loops.now p 0 ≡ innermost (open_at operations.now p) }
+    requires marked { AreBrackets operations.now brackets.now }
     ensures { IsTrue result ↔ TurnsTo (open_at operations.now place) target }
 {
-    target != 0 && loops[place] == target
+    target != 0 && brackets[place] == target
 }
 
 // Whether the operation at this place goes where it may.
-fn goes_well(operations: &[Op], loops: &[u16; 4096], routines: &[u8; 4096], place: usize) -> bool
+fn goes_well(operations: &[Op], brackets: &[u16; 4096], routines: &[u8; 4096], place: usize) -> bool
     requires size { length operations.now ≤ 4096 }
     requires place { place < length operations.now }
-    requires marked { (p : ℕ) → p < length operations.now → get_or loops.now p 0 ≡ innermost (open_at operations.now p) }
+    requires marked { AreBrackets operations.now brackets.now }
     requires numbered { (p : ℕ) → p < length operations.now → get_or routines.now p 0 ≡ owner_at operations.now p }
     ensures { (o : Op) → slice_get operations.now place ≡ Some o → IsTrue result ↔ GoesWell operations.now place o }
 {
     match operations[place] {
-        Op::Again(i) => turns_well(operations, loops, place, i),
-        Op::Leave(i) => leaves_well(operations, loops, place, i as usize),
-        Op::Jump(i) => jumps_well(operations, loops, routines, place, i as usize),
-        Op::JumpFalse(i) => jumps_well(operations, loops, routines, place, i as usize),
+        Op::Again(i) => turns_well(operations, brackets, place, i),
+        Op::Leave(i) => leaves_well(operations, brackets, place, i as usize),
+        Op::Jump(i) => jumps_well(operations, brackets, routines, place, i as usize),
+        Op::JumpFalse(i) => jumps_well(operations, brackets, routines, place, i as usize),
         _ => true,
     }
 }
 
-/// Whether all operations go where they may, told by the innermost loop and by the routine of each place.
-pub fn all_go_well(operations: &[Op], loops: &[u16; 4096], routines: &[u8; 4096]) -> bool
+/// Whether all operations go where they may, told by the innermost bracket and by the routine of each place.
+pub fn all_go_well(operations: &[Op], brackets: &[u16; 4096], routines: &[u8; 4096]) -> bool
     requires size { length operations.now ≤ 4096 }
-    requires marked { (p : ℕ) → p < length operations.now → get_or loops.now p 0 ≡ innermost (open_at operations.now p) }
+    requires marked { AreBrackets operations.now brackets.now }
     requires numbered { (p : ℕ) → p < length operations.now → get_or routines.now p 0 ≡ owner_at operations.now p }
     ensures { IsTrue result ↔ Each operations.now (GoesWell operations.now) }
 {
     for i in 0..operations.len() {
-        if !goes_well(operations, loops, routines, i) {
+        if !goes_well(operations, brackets, routines, i) {
             return false;
         }
     }

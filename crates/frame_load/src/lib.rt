@@ -2,15 +2,17 @@
 //! sends. Its tests are in `frame_tests`.
 #![tactic(auto)]
 
-ghost use Rattle.std.specs.Prelude.{◌+◌, ◌≡◌, ◌≢◌, ◌≤◌, ◌<◌, ◌↔◌, ℕ, length, slice_get, Some, None, Err, IfOk};
+ghost use Rattle.std.specs.Prelude.{◌+◌, ◌-◌, ◌≡◌, ◌≢◌, ◌≤◌, ◌<◌, ◌↔◌, ℕ, length, slice_get, Some, None, Err, IfOk, IfErr};
 ghost use Rattle.mil_message.specs.World.{World, Point};
+ghost use Rattle.frame_code.specs.declared.Op.{Op};
 ghost use Rattle.frame_code.specs.declared.Op.TheVariants as op;
 ghost use Rattle.frame_code.specs.Table.{Code, Running, goes_on, stuck, start, step, run};
 ghost use Rattle.frame_code.specs.Routines.{main_of, routine_at};
 ghost use Rattle.frame_code.specs.Loadable.{IsLoadable};
 ghost use Rattle.frame_load.specs.Budget as sums;
-ghost use Rattle.frame_load.specs.Runs.{Reaches, HaltsWithin};
-ghost use Rattle.frame_load.specs.Judging.{Judges, Refuses, IsWithin};
+ghost use Rattle.frame_load.specs.Marks.{AreBrackets};
+ghost use Rattle.frame_load.specs.Runs.{Reaches, HaltsWithin, EachReached, paid};
+ghost use Rattle.frame_load.specs.Judging.{Judges, Refuses, IsWithin, HasShortPeriods};
 ghost use Rattle.frame_load.specs.declared.LoadError.{LoadError};
 
 mod checks;
@@ -18,6 +20,7 @@ mod nesting;
 mod routines;
 mod sums;
 
+use crate::sums::Counted;
 use frame_code::{Image, Setting};
 use std::alloc::{AllocError, Global};
 use std::fmt;
@@ -28,13 +31,16 @@ use std::marker::Model;
 pub enum LoadError {
     /// P4: there is no operation, or the last is not Halt.
     End,
-    /// P7: there are more than 32 routines, or a Call is of one that is not there or does not end before the Call's own begins.
+    /// P7: there are more than 32 routines, or a Call is of one that is not there or does not end before the Call's own
+    /// begins.
     Routines,
-    /// P2: Loop and Again do not pair as brackets in a routine, a Leave stands outside every loop, or more than 17 loops are open,
-    /// those that a Call opens counted.
+    /// P2: Loop with Again and Begin with Pace do not pair as two kinds of brackets of one nesting in a routine, a
+    /// Leave stands outside every loop, or more than 17 loops or more than 16 frames are open, those that a Call opens
+    /// counted.
     Nesting,
-    /// P1: an operation goes where it must not: an Again not behind its Loop, a Leave not behind the Again of its innermost
-    /// loop, a Jump or JumpFalse not to a later operation of its routine in the same innermost loop.
+    /// P1: an operation goes where it must not: an Again not behind its Loop, a Leave not behind the Again of its loop,
+    /// or one that stands in a frame within its loop, a Jump or JumpFalse not to a later operation of its routine in
+    /// the same innermost bracket.
     Jumps,
     /// P3: the message of a Send or Alt is not there.
     Messages,
@@ -42,6 +48,8 @@ pub enum LoadError {
     Budget,
     /// P6: memory was refused; `load` takes none, and never answers it.
     Memory,
+    /// P8: the periods of all frames that a run may close come to more than 2^46 ticks.
+    Periods,
 }
 
 impl fmt::Display for LoadError {
@@ -59,6 +67,7 @@ impl fmt::Display for LoadError {
             LoadError::Budget => "P5",
             LoadError::Memory => "P6",
             LoadError::Routines => "P7",
+            LoadError::Periods => "P8",
         })
     }
 }
@@ -91,6 +100,7 @@ impl Program {
         ensures value { result.now ≡ self.now }
         ensures loadable { IsLoadable self.now }
         ensures within { IsWithin self.now }
+        ensures short { HasShortPeriods self.now }
     {
         &self.image
     }
@@ -110,8 +120,8 @@ impl Program {
         self.starts[self.main as usize]
     }
 
-    /// How many steps a run takes at most, 1 to 100,000,000: the sum over the operations of the main part of the product of the
-    /// counts of the loops that they stand in, a Call counted together with what its routine takes.
+    /// How many steps a run takes at most, 1 to 100,000,000: the sum over the operations of the main part of the
+    /// product of the counts of the loops that they stand in, a Call counted together with what its routine takes.
     pub fn budget(&self) -> u64
         ensures value { result ≡ sums.budget self.now.operations }
         ensures within { result ≤ 100000000 }
@@ -141,31 +151,38 @@ impl Program {
     }
 }
 
-/// Law: in any world a run of a code that keeps the loader's rules never meets a bad place, an empty counter list, an empty
-/// list of return places, or a routine or a message that is not there; it stands at an operation with at most 17 counters, and
-/// at fewer at a Loop, and with at most 32 return places, and at fewer at a Call; it sends at most as many messages as the
-/// code's sum says, and halts within its budget.
+/// Law: in any world a run of a code that keeps the loader's rules never meets a bad place, an empty counter list, an
+/// empty list of return places or of open frames, or a routine or a message that is not there; it stands at an
+/// operation with at most 17 counters, and at fewer at a Loop, with at most 16 open frames, and at fewer at a Begin,
+/// and with at most 32 return places, and at fewer at a Call; whatever operations cost, its steps cost together at most
+/// what the code's sum says; so it sends at most as many messages as that sum says, and halts within its budget, which
+/// counts the Halt too.
 pub fn loadable_runs<W: Setting>()
-    ensures never_stuck { (w : World W.State W.Outcome) (code : Code) (from : Point W.State W.Outcome) (x : Running W.State W.Outcome) →
-        IsLoadable code → Reaches w code from x → step w code x.at x.point ≢ stuck }
+    ensures never_stuck { EachReached W.State W.Outcome (λ w code from x. step w code x.at x.point ≢ stuck) }
     ensures begins { (w : World W.State W.Outcome) (code : Code) (from : Point W.State W.Outcome) →
         IsLoadable code → Reaches w code from (record { at = start code; point = from }) }
-    ensures goes_on { (w : World W.State W.Outcome) (code : Code) (from : Point W.State W.Outcome) (x y : Running W.State W.Outcome) →
-        IsLoadable code → Reaches w code from x → step w code x.at x.point ≡ goes_on y → Reaches w code from y }
-    ensures inside { (w : World W.State W.Outcome) (code : Code) (from : Point W.State W.Outcome) (x : Running W.State W.Outcome) →
-        IsLoadable code → Reaches w code from x → x.at.place < length code.operations }
-    ensures counters { (w : World W.State W.Outcome) (code : Code) (from : Point W.State W.Outcome) (x : Running W.State W.Outcome) →
-        IsLoadable code → Reaches w code from x → length x.at.counters ≤ 17 }
-    ensures room { (w : World W.State W.Outcome) (code : Code) (from : Point W.State W.Outcome) (x : Running W.State W.Outcome) (n : ℕ) →
-        IsLoadable code → Reaches w code from x → slice_get code.operations x.at.place ≡ Some (op.Loop n) → length x.at.counters < 17 }
-    ensures returns { (w : World W.State W.Outcome) (code : Code) (from : Point W.State W.Outcome) (x : Running W.State W.Outcome) →
-        IsLoadable code → Reaches w code from x → length x.at.returns ≤ 32 }
-    ensures room_to_call { (w : World W.State W.Outcome) (code : Code) (from : Point W.State W.Outcome) (x : Running W.State W.Outcome) (k : ℕ) →
-        IsLoadable code → Reaches w code from x → slice_get code.operations x.at.place ≡ Some (op.Call k) → length x.at.returns < 32 }
-    ensures messages { (w : World W.State W.Outcome) (code : Code) (from : Point W.State W.Outcome) (x : Running W.State W.Outcome) →
-        IsLoadable code → Reaches w code from x → x.point.number ≤ from.number + sums.worst_messages code.operations }
+    ensures goes_on { (w : World W.State W.Outcome) (code : Code) (from : Point W.State W.Outcome)
+        (x y : Running W.State W.Outcome) → IsLoadable code → Reaches w code from x →
+        step w code x.at x.point ≡ goes_on y → Reaches w code from y }
+    ensures inside { EachReached W.State W.Outcome (λ w code from x. x.at.place < length code.operations) }
+    ensures counters { EachReached W.State W.Outcome (λ w code from x. length x.at.counters ≤ 17) }
+    ensures room { (w : World W.State W.Outcome) (code : Code) (from : Point W.State W.Outcome)
+        (x : Running W.State W.Outcome) (n : ℕ) → IsLoadable code → Reaches w code from x →
+        slice_get code.operations x.at.place ≡ Some (op.Loop n) → length x.at.counters < 17 }
+    ensures opened { EachReached W.State W.Outcome (λ w code from x. length x.at.frames ≤ 16) }
+    ensures room_to_begin { EachReached W.State W.Outcome (λ w code from x.
+        slice_get code.operations x.at.place ≡ Some op.Begin → length x.at.frames < 16) }
+    ensures returns { EachReached W.State W.Outcome (λ w code from x. length x.at.returns ≤ 32) }
+    ensures room_to_call { (w : World W.State W.Outcome) (code : Code) (from : Point W.State W.Outcome)
+        (x : Running W.State W.Outcome) (k : ℕ) → IsLoadable code → Reaches w code from x →
+        slice_get code.operations x.at.place ≡ Some (op.Call k) → length x.at.returns < 32 }
+    ensures costs { (w : World W.State W.Outcome) (cost : Op → ℕ) (n : ℕ) (code : Code)
+        (from : Point W.State W.Outcome) → IsLoadable code →
+        paid w cost n code (start code) from ≤ sums.total cost code.operations }
+    ensures messages { EachReached W.State W.Outcome (λ w code from x.
+        x.point.number ≤ from.number + sums.worst_messages code.operations) }
     ensures halts { (w : World W.State W.Outcome) (code : Code) (from : Point W.State W.Outcome) →
-        IsLoadable code → HaltsWithin w code (sums.budget code.operations) (start code) from }
+        IsLoadable code → HaltsWithin w code (sums.budget code.operations - 1) (start code) from }
 {}
 
 // The most steps that a run may take.
@@ -173,6 +190,32 @@ const STEPS: u64 = 100_000_000;
 
 // The most messages that a run may send.
 const MESSAGES: u64 = 1_000_000;
+
+// The most ticks that the periods of a run may come to.
+const PERIODS: u64 = 1 << 46;
+
+// How many steps a run takes at most, and how many messages it sends, or the first rule on sums that the image breaks.
+fn weigh(image: &Image, brackets: &[u16; 4096]) -> Result<(u64, u64), LoadError>
+    requires loadable { IsLoadable image.now }
+    requires marked { AreBrackets image.now.operations brackets.now }
+    ensures kept { IfOk result (λ most. IsWithin image.now × HasShortPeriods image.now) }
+    ensures value { IfOk result (λ most.
+        (most.0 ≡ sums.budget image.now.operations) × (most.1 ≡ sums.worst_messages image.now.operations)) }
+    ensures broken { IfErr result (Refuses image.now) }
+{
+    let operations = image.operations();
+    let mut weights = [0; 4096];
+    sums::mark_weights(operations, brackets, &mut weights);
+    let budget = sums::count(operations, &weights, Counted::Steps);
+    let worst_messages = sums::count(operations, &weights, Counted::Messages);
+    if STEPS < budget || MESSAGES < worst_messages {
+        return Err(LoadError::Budget);
+    }
+    if PERIODS < sums::count(operations, &weights, Counted::Periods) {
+        return Err(LoadError::Periods);
+    }
+    Ok((budget, worst_messages))
+}
 
 // The program of an image, or the first rule that it breaks.
 fn judge(image: Image) -> Result<Program, LoadError>
@@ -185,26 +228,20 @@ fn judge(image: Image) -> Result<Program, LoadError>
     if !routines::are_right(operations) {
         return Err(LoadError::Routines);
     }
-    if !nesting::is_nested(operations) {
+    let mut brackets = [0; 4096];
+    checks::mark_brackets(operations, &mut brackets);
+    if !nesting::is_nested(operations, &brackets) {
         return Err(LoadError::Nesting);
     }
-    let mut loops = [0; 4096];
-    checks::mark_loops(operations, &mut loops);
     let mut numbers = [0; 4096];
     routines::number(operations, &mut numbers);
-    if !checks::all_go_well(operations, &loops, &numbers) {
+    if !checks::all_go_well(operations, &brackets, &numbers) {
         return Err(LoadError::Jumps);
     }
     if !checks::all_have_messages(operations, image.messages().len()) {
         return Err(LoadError::Messages);
     }
-    let mut weights = [0; 4096];
-    sums::mark_weights(operations, &loops, &mut weights);
-    let budget = sums::count(operations, &weights, false);
-    let worst_messages = sums::count(operations, &weights, true);
-    if STEPS < budget || MESSAGES < worst_messages {
-        return Err(LoadError::Budget);
-    }
+    let (budget, worst_messages) = weigh(&image, &brackets)?;
     let mut starts = [0; 33];
     let main = routines::find(operations, &mut starts);
     Ok(Program {
@@ -216,8 +253,8 @@ fn judge(image: Image) -> Result<Program, LoadError>
     })
 }
 
-/// The program of an image that keeps all rules, else the first rule that it breaks, in the order P4, P7, P2, P1, P3, P5. It takes
-/// no memory, and time linear in the image.
+/// The program of an image that keeps all rules, else the first rule that it breaks, in the order P4, P7, P2, P1, P3,
+/// P5, P8. It takes no memory, and time linear in the image.
 pub fn load(_alloc: Global, image: Image) -> Result<Program, LoadError>
     ensures judged { Judges image result }
     ensures exact { (e : LoadError) → (result ≡ Err e) ↔ Refuses image e }

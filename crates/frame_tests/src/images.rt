@@ -1,10 +1,11 @@
 //! Images and their bytes.
 
 use crate::equal::{are_bytes, prints, same};
-use crate::worked::{LOOPS, POLLING, with_byte};
+use crate::worked::{LOOPS, PACED, POLLING, paced_with, with_byte};
 use frame_code::{Image, ImageError, Op, read_image, write_image};
 use mil_message::OutcomeTest;
 use mil_status::StatusBit;
+use mil_word::Line;
 use std::alloc::Global;
 use std::process::Abort;
 
@@ -50,6 +51,32 @@ fn bytes_to_image_and_back(rt: HostRuntime) {
     is_written(&rt, rt.alloc(), &image, &POLLING);
 }
 
+/// The image sends this message alone, on line A.
+fn sends_one(rt: &impl Abort, image: &Image, command: u16, words: &[u16]) {
+    same(rt, &image.messages().len(), &1);
+    for (line, message) in image.messages() {
+        same(rt, line, &Line::A);
+        same(rt, &message.commands().first.value(), &command);
+        same(rt, &message.data_words(), &words);
+    }
+}
+
+#[test]
+fn a_frame_with_a_period_and_back(rt: HostRuntime) {
+    let image = spelled(&rt, rt.alloc(), &PACED);
+    let operations = [Op::Begin, Op::Send(0), Op::Pace(10), Op::Halt];
+    same(&rt, &image.operations(), &operations.as_slice());
+    sends_one(&rt, &image, 0x2821, &[1]);
+    is_written(&rt, rt.alloc(), &image, &PACED);
+    // the longest period
+    let mut longest = paced_with(18, 0xff);
+    longest[19] = 0xff;
+    let image = spelled(&rt, rt.alloc(), &longest);
+    let pace = image.operations().get(2).copied();
+    same(&rt, &pace, &Some(Op::Pace(65_535)));
+    is_written(&rt, rt.alloc(), &image, &longest);
+}
+
 fn has_fault(rt: &impl Abort, alloc: Global, bytes: &[u8], fault: ImageError) {
     same(rt, &read_image(alloc, bytes).err(), &Some(fault));
 }
@@ -68,6 +95,24 @@ fn the_first_fault_of_bytes(rt: HostRuntime) {
     let mut changed = POLLING;
     changed[3] = 0x31;
     has_fault(&rt, alloc, &changed, ImageError::Operations);
+}
+
+#[test]
+fn faults_of_frames_with_a_period(rt: HostRuntime) {
+    let alloc = rt.alloc();
+    // neither BC02 nor BC01 knows Begin, and there is no BC04
+    has_fault(&rt, alloc, &paced_with(3, 0x32), ImageError::Operations);
+    has_fault(&rt, alloc, &paced_with(3, 0x31), ImageError::Operations);
+    has_fault(&rt, alloc, &paced_with(3, 0x34), ImageError::Mark);
+    // number 14, Begin with an operand, Pace 0
+    has_fault(&rt, alloc, &paced_with(8, 14), ImageError::Operations);
+    has_fault(&rt, alloc, &paced_with(10, 1), ImageError::Operations);
+    has_fault(&rt, alloc, &paced_with(18, 0), ImageError::Operations);
+    // BC03 where BC01 or BC02 knows all operations
+    has_fault(&rt, alloc, &with_byte(3, 0x33), ImageError::Version);
+    let mut changed = POLLING;
+    changed[3] = 0x33;
+    has_fault(&rt, alloc, &changed, ImageError::Version);
 }
 
 /// The tests that an operation may have, by the numbers that an image gives them.

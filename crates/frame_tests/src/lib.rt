@@ -9,6 +9,8 @@ mod controllers;
 #[cfg(test)]
 mod equal;
 #[cfg(test)]
+mod frames;
+#[cfg(test)]
 mod images;
 #[cfg(test)]
 mod job_refusals;

@@ -42,7 +42,7 @@ fn is_refused(rt: &impl Abort, alloc: Global, bytes: &[u8], fault: LoadError) {
 }
 
 /// Images that are refused, with their faults.
-const REFUSED: [(&[u8], LoadError); 7] = [
+const REFUSED: [(&[u8], LoadError); 13] = [
     (
         &[
             0x42, 0x43, 0x30, 0x32, 2, 0, 0, 0, 10, 0, 0, 0, 0, 0, 0, 0, // Call 0, Halt
@@ -82,6 +82,50 @@ const REFUSED: [(&[u8], LoadError); 7] = [
             5, 0, 2, 0, 5, 0, 1, 0, 0, 0, 0, 0, // Again 2, Again 1, Halt
         ],
         LoadError::Budget,
+    ),
+    (
+        &[
+            0x42, 0x43, 0x30, 0x33, 2, 0, 0, 0, 12, 0, 0, 0, 0, 0, 0, 0, // Begin, Halt
+        ],
+        LoadError::Nesting,
+    ),
+    (
+        &[
+            0x42, 0x43, 0x30, 0x33, 2, 0, 0, 0, 13, 0, 1, 0, 0, 0, 0, 0, // Pace 1, Halt
+        ],
+        LoadError::Nesting,
+    ),
+    (
+        &[
+            0x42, 0x43, 0x30, 0x33, 5, 0, 0, 0, // five operations
+            12, 0, 0, 0, 4, 0, 2, 0, 13, 0, 1, 0, // Begin, Loop 2, Pace 1
+            5, 0, 2, 0, 0, 0, 0, 0, // Again 2, Halt
+        ],
+        LoadError::Nesting,
+    ),
+    (
+        &[
+            0x42, 0x43, 0x30, 0x33, 6, 0, 0, 0, // six operations
+            4, 0, 2, 0, 12, 0, 0, 0, 6, 0, 5, 0, // Loop 2, Begin, Leave 5
+            13, 0, 1, 0, 5, 0, 1, 0, 0, 0, 0, 0, // Pace 1, Again 1, Halt
+        ],
+        LoadError::Jumps,
+    ),
+    (
+        &[
+            0x42, 0x43, 0x30, 0x33, 4, 0, 0, 0, // four operations
+            7, 0, 2, 0, 12, 0, 0, 0, 13, 0, 1, 0, // Jump 2, Begin, Pace 1
+            0, 0, 0, 0, // Halt
+        ],
+        LoadError::Jumps,
+    ),
+    (
+        &[
+            0x42, 0x43, 0x30, 0x33, 7, 0, 0, 0, // seven operations
+            4, 0, 0x10, 0x27, 4, 0, 0xE8, 0x03, 12, 0, 0, 0, // Loop 10000, Loop 1000, Begin
+            13, 0, 0xFF, 0xFF, 5, 0, 2, 0, 5, 0, 1, 0, 0, 0, 0, 0, // Pace 65535, Again 2, Again 1, Halt
+        ],
+        LoadError::Periods,
     ),
 ];
 
@@ -134,6 +178,7 @@ fn refusals_are_printed_by_their_letters(rt: HostRuntime) {
         (LoadError::Budget, "P5"),
         (LoadError::Memory, "P6"),
         (LoadError::Routines, "P7"),
+        (LoadError::Periods, "P8"),
     ] {
         prints(&rt, rt.alloc(), letters, &refusal, letters);
     }

@@ -55,7 +55,13 @@ const EARLY_ENDS: [Told; 8] = [
 ];
 
 /// Numbers out of their ranges, and too many messages.
-const RANGES: [Told; 14] = [
+const RANGES: [Told; 20] = [
+    ("frame 150 { }", "S7 line 1 column 7"),
+    ("frame 0 { }", "S7 line 1 column 7"),
+    ("gap 50\n frame 6553600 { @", "S7 line 2 column 8"),
+    ("frame 100 { frame 6553500 { } }", "none"),
+    ("frame x { }", "S3 line 1 column 7"),
+    ("frame { }", "S2 line 1 column 7"),
     ("repeat 0 { }", "S7 line 1 column 8"),
     ("repeat 0 { @", "S7 line 1 column 8"),
     ("gap 50\ngap 39 gap 60", "S7 line 2 column 5"),

@@ -10,7 +10,11 @@ use std::alloc::{Allocator, Global};
 use std::process::Abort;
 
 /// Texts, and what they print as.
-const PRINTED: [(&str, &str); 10] = [
+const PRINTED: [(&str, &str); 11] = [
+    (
+        "frame 0020000{frame 100{}gap 50}",
+        "frame 20000 {\n  frame 100 {\n  }\n  gap 50\n}\n",
+    ),
     (
         "if any(fail silent){gap 50}",
         "if any ( fail silent ) {\n  gap 50\n}\n",

@@ -28,11 +28,27 @@ pub const POLLING: [u8; 96] = [
     3, 0, 0xe1, 0x2f, 0, 0, 0, 0, // the message
 ];
 
+/// The bytes of the image of `frame 1000 { send A rx 5 1 [0001] }`.
+pub const PACED: [u8; 34] = [
+    0x42, 0x43, 0x30, 0x33, 4, 0, 1, 0, // the mark and the counts
+    12, 0, 0, 0, 1, 0, 0, 0, 13, 0, 10, 0, 0, 0, 0, 0, // Begin, Send 0, Pace 10, Halt
+    0, 0, 0x21, 0x28, 0, 0, 1, 0, 1, 0, // the message
+];
+
 /// The bytes of `LOOPS` with another byte at this place.
 pub(crate) fn with_byte(place: usize, byte: u8) -> [u8; 62]
     requires { place ≤ 61 }
 {
     let mut changed = LOOPS;
+    changed[place] = byte;
+    changed
+}
+
+/// The bytes of `PACED` with another byte at this place.
+pub(crate) fn paced_with(place: usize, byte: u8) -> [u8; 34]
+    requires { place ≤ 33 }
+{
+    let mut changed = PACED;
     changed[place] = byte;
     changed
 }

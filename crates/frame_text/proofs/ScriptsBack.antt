@@ -1,13 +1,13 @@
 -- What is read of the tokens of a printed tree.
-use Rattle.std.proofs.Common.{◌≡◌, ℕ, zero, suc, ◌+◌, ◌-◌, ◌<◌, ◌≤◌, Bool, true, false, cond, List, [], ◌∷◌, length, Ok, refl, sym, ap, ◌∙◌, arith}
+use Rattle.std.proofs.Common.{◌≡◌, ℕ, zero, suc, ◌+◌, ◌*◌, ◌-◌, ◌/◌, ◌%◌, ◌<◌, ◌≤◌, Bool, true, false, cond, List, [], ◌∷◌, length, Ok, refl, sym, ap, ◌∙◌, arith}
 use Rattle.std.specs.Prelude.{codes, decimal, ◌&&◌, ◌||◌}
 use Rattle.std.proofs.lemmas.Bool.{le-leb}
-use Rattle.frame_tree.specs.Tree.{Condition, Tree, send, retry, gap, repeat, choose, until, nothing, chained, call, define}
+use Rattle.frame_tree.specs.Tree.{Condition, Tree, send, retry, gap, repeat, choose, until, timed, nothing, chained, call, define}
 use Rattle.frame_tree.specs.Bounds.{depth_in, IsInRange, CallsKnown, IsDefined, operators}
 use Rattle.frame_tree.specs.Names as names
 use Rattle.frame_tree.specs.Names.{is_name, Scope, named, is_known}
 use Rattle.frame_text.specs.Reading.{Tokens, ◌>>=◌, same, past}
-use Rattle.frame_text.specs.Words.{number_within}
+use Rattle.frame_text.specs.Words.{number_within, period_at}
 use Rattle.frame_text.specs.Messages.{send_at}
 use Rattle.frame_text.specs.Frames.{Reader, frame_at, frame_from, frame_of, frame_word, frames_at, block_at, block_from, inner_at, else_at, label_at, call_at, main_at, definition_at, script_at}
 use Rattle.frame_text.specs.Printing.{is_empty}
@@ -21,6 +21,17 @@ use Rattle.frame_text.proofs.TreesBack.{tree_then, begins, follows, longer, numb
 within_back : (low high n : ℕ) (ts : Tokens) → high ≤ 65535 → low ≤ n → n ≤ high → number_within low high (decimal n ∷ ts) ≡ Ok (n, ts)
 unfolding number_within
 within_back low high n ts k l h = rw (number_then n ts (number_spelled n high k h), le-leb low n l, le-leb n high h) refl
+
+hundred_times : (h : ℕ) → (h * 100) % 100 ≡ 0
+hundred_times h = omega arith
+
+hundredth : (h : ℕ) → (h * 100) / 100 ≡ h
+hundredth h = omega arith
+
+period_back : (h : ℕ) (ts : Tokens) → 1 ≤ h → h ≤ 65535 → period_at (decimal (h * 100) ∷ ts) ≡ Ok (h, ts)
+unfolding period_at number_within
+period_back h ts l k =
+    rw (number_then (h * 100) ts (omega (arith, k)), le-leb 100 (h * 100) (omega (arith, l)), le-leb (h * 100) 6553500 (omega (arith, k)), hundred_times h, hundredth h) refl
 
 else_none : (block : Reader) (ts : Tokens) → MayFollow ts → else_at block ts ≡ Ok (nothing, ts)
 unfolding else_at
@@ -43,6 +54,7 @@ frame_not_empty (gap n) e r i = absurd (cc)
 frame_not_empty (repeat n b) e r i = absurd (cc)
 frame_not_empty (choose c a b) e r i = absurd (cc)
 frame_not_empty (until c n b) e r i = absurd (cc)
+frame_not_empty (timed n b) e r i = absurd (cc)
 frame_not_empty (call n) e r i = absurd (cc)
 frame_not_empty (define n b k) e r i = r
 frame_not_empty nothing e r i = r
@@ -70,6 +82,7 @@ empty_is (gap n) r e = absurd r
 empty_is (repeat n b) r e = absurd r
 empty_is (choose c a b) r e = absurd r
 empty_is (until c n b) r e = absurd r
+empty_is (timed n b) r e = absurd r
 empty_is (call n) r e = absurd r
 empty_is (define n b k) r e = absurd r
 
@@ -100,6 +113,13 @@ until_back ds d c n b ts o low high q =
     ∙ ap (λ z. z >>= (λ k. block_at ds (suc d) k.1 >>= (λ x. Ok (until c k.0 x.0, x.1)))) (within_back 1 10000 n body (omega arith) low high)
     ∙ ap (λ z. z >>= (λ x. Ok (until c n x.0, x.1))) (block_back ds d b ts q)
 
+-- a frame with a period, of which the block reads back
+timed_back : (ds : Scope ℕ) (d : ℕ) (n : ℕ) (b : Tree) (ts : Tokens) → 1 ≤ n → n ≤ 65535 → Back ds true d b → frame_at ds (suc d) (tree_then (timed n b) ts) ≡ Ok (timed n b, ts)
+unfolding frame_from frame_of frame_word
+timed_back ds d n b ts low high q =
+    ap (λ z. z >>= (λ k. block_at ds (suc d) k.1 >>= (λ x. Ok (timed k.0 x.0, x.1)))) (period_back n (codes "{" ∷ tree_then b (codes "}" ∷ ts)) low high)
+    ∙ ap (λ z. z >>= (λ x. Ok (timed n x.0, x.1))) (block_back ds d b ts q)
+
 -- a call of a name in scope
 call_back : (ds : Scope ℕ) (d : ℕ) (n : List ℕ) (ts : Tokens) → is_name n ≡ true → is_known ds n ≡ true → named 0 ds n ≤ d → call_at ds d (n ∷ ts) ≡ Ok (call n, ts)
 unfolding label_at
@@ -122,6 +142,8 @@ back ds false (choose c a b) (suc d) r h w l = λ ts f.
     choose_back ds d c a b ts h.0 r.1 f (back ds true a d r.0 h.1 w.0 (omega (arith, l))) (back ds true b d r.1 h.2 w.1 (omega (arith, l)))
 back ds false (until c n b) zero r h w l = absurd (omega (arith, l))
 back ds false (until c n b) (suc d) r h w l = λ ts f. until_back ds d c n b ts h.0 h.1 h.2 (back ds true b d r h.3 w (omega (arith, l)))
+back ds false (timed n b) zero r h w l = absurd (omega (arith, l))
+back ds false (timed n b) (suc d) r h w l = λ ts f. timed_back ds d n b ts h.0 h.1 (back ds true b d r h.2 w (omega (arith, l)))
 back ds false (call n) d r h w l = λ ts f. call_back ds d n ts r w l
 back ds false (define n b k) d r h w l = absurd r
 back ds false nothing d r h w l = absurd r
@@ -140,6 +162,7 @@ back ds true (gap n) d r h w l = absurd r
 back ds true (repeat n b) d r h w l = absurd r
 back ds true (choose c a b) d r h w l = absurd r
 back ds true (until c n b) d r h w l = absurd r
+back ds true (timed n b) d r h w l = absurd r
 back ds true (call n) d r h w l = absurd r
 back ds true (define n b k) d r h w l = absurd r
 
@@ -161,6 +184,7 @@ main_back ds (gap k) r h w l n s = absurd r
 main_back ds (repeat k b) r h w l n s = absurd r
 main_back ds (choose c a b) r h w l n s = absurd r
 main_back ds (until c k b) r h w l n s = absurd r
+main_back ds (timed k b) r h w l n s = absurd r
 main_back ds (call k) r h w l n s = absurd r
 main_back ds (define k b q) r h w l n s = absurd r
 
@@ -173,6 +197,7 @@ first_word (chained (gap n) b) r w ts e = let i : codes "gap" ≡ w = cc in ap (
 first_word (chained (repeat n a) b) r w ts e = let i : codes "repeat" ≡ w = cc in ap (λ z. same z (codes "define")) (sym i)
 first_word (chained (choose c p q) b) r w ts e = let i : codes "if" ≡ w = cc in ap (λ z. same z (codes "define")) (sym i)
 first_word (chained (until c n a) b) r w ts e = let i : codes "until" ≡ w = cc in ap (λ z. same z (codes "define")) (sym i)
+first_word (chained (timed n a) b) r w ts e = let i : codes "frame" ≡ w = cc in ap (λ z. same z (codes "define")) (sym i)
 first_word (chained (call n) b) r w ts e = let i : codes "call" ≡ w = cc in ap (λ z. same z (codes "define")) (sym i)
 first_word (chained nothing b) r w ts e = absurd r.0
 first_word (chained (chained p q) b) r w ts e = absurd r.0
@@ -183,6 +208,7 @@ first_word (gap k) r w ts e = absurd r
 first_word (repeat k b) r w ts e = absurd r
 first_word (choose c a b) r w ts e = absurd r
 first_word (until c k b) r w ts e = absurd r
+first_word (timed k b) r w ts e = absurd r
 first_word (call k) r w ts e = absurd r
 first_word (define k b q) r w ts e = absurd r
 
@@ -197,6 +223,7 @@ alike_known ds es h (gap n) k = tt
 alike_known ds es h (repeat n b) k = alike_known ds es h b k
 alike_known ds es h (choose c a b) k = (alike_known ds es h a k.0, alike_known ds es h b k.1)
 alike_known ds es h (until c n b) k = alike_known ds es h b k
+alike_known ds es h (timed n b) k = alike_known ds es h b k
 alike_known ds es h nothing k = tt
 alike_known ds es h (chained a b) k = (alike_known ds es h a k.0, alike_known ds es h b k.1)
 alike_known ds es h (call n) k = h n ∙ k
@@ -227,4 +254,5 @@ script_back (gap n) k ds es a few s h w l = absurd s
 script_back (repeat n b) k ds es a few s h w l = absurd s
 script_back (choose c p q) k ds es a few s h w l = absurd s
 script_back (until c n b) k ds es a few s h w l = absurd s
+script_back (timed n b) k ds es a few s h w l = absurd s
 script_back (call n) k ds es a few s h w l = absurd s

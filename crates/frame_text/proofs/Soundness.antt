@@ -1,14 +1,14 @@
 -- A tree that a text has is sound.
-use Rattle.std.proofs.Common.{◌≡◌, ℕ, zero, suc, ◌+◌, ◌≤◌, max, Bool, true, false, cond, List, [], ◌∷◌, length, Result, Ok, Err, refl, sym, ap, ◌∙◌, subst, arith}
-use Rattle.std.specs.Prelude.{nat_le, ◌&&◌, ◌||◌, codes}
+use Rattle.std.proofs.Common.{◌≡◌, ℕ, zero, suc, ◌+◌, ◌/◌, ◌%◌, ◌≤◌, max, Bool, true, false, cond, List, [], ◌∷◌, length, Result, Ok, Err, refl, sym, ap, ◌∙◌, subst, arith}
+use Rattle.std.specs.Prelude.{nat_eq, nat_le, ◌&&◌, ◌||◌, codes}
 use Rattle.std.proofs.lemmas.Bool.Decides.{nat_tests}
-use Rattle.frame_tree.specs.Tree.{Condition, Tree, send, retry, gap, repeat, choose, until, nothing, chained, call, define}
+use Rattle.frame_tree.specs.Tree.{Condition, Tree, send, retry, gap, repeat, choose, until, timed, nothing, chained, call, define}
 use Rattle.frame_tree.specs.Bounds.{depth_in, worst_messages, operators, IsInRange, CallsKnown, IsDefined, IsSound}
 use Rattle.frame_tree.specs.Names.{Scope, is_known}
 use Rattle.frame_tree.specs.Names as names
 use Rattle.std.proofs.lemmas.Bool.{leb-true}
 use Rattle.frame_text.specs.Reading.{◌>>=◌, Tokens, Reading, same, misplaced, past}
-use Rattle.frame_text.specs.Words.{number_at, number_within}
+use Rattle.frame_text.specs.Words.{number_at, number_within, period_at}
 use Rattle.frame_text.specs.Messages.{send_at}
 use Rattle.frame_text.specs.Conditions.{condition_at, condition_from, condition_of, condition_word, below_at, name_at, pair_at}
 use Rattle.frame_text.specs.Frames.{Reader, frame_at, frame_from, frame_of, frame_word, frames_at, block_at, block_from, inner_at, else_at, label_at, call_at, main_at, fresh_name_at, definition_at, script_at}
@@ -44,6 +44,15 @@ number_ok low high ts n e =
     let k = chosen (nat_le low b.0.0 && nat_le b.0.0 high) b.0 n cause.Range b.2 in
     let r = both_true low b.0.0 high k.0 in
     let i : b.0.0 ≡ n.0 = ap (λ m. m.0) k.1 in
+    (omega (arith, r.0, i), omega (arith, r.1, i))
+
+period_ok : (ts : Tokens) (n : ℕ × Tokens) → period_at ts ≡ Ok n → (1 ≤ n.0) × (n.0 ≤ 65535)
+unfolding period_at
+period_ok ts n e =
+    let b = bind_ok (number_within 100 6553500 ts) _ n e in
+    let r = number_ok 100 6553500 ts b.0 b.1 in
+    let k = chosen (nat_eq (b.0.0 % 100) 0) (b.0.0 / 100, b.0.1) n cause.Range b.2 in
+    let i : b.0.0 / 100 ≡ n.0 = ap (λ m. m.0) k.1 in
     (omega (arith, r.0, i), omega (arith, r.1, i))
 
 -- a condition with at most so many operators above a test
@@ -169,6 +178,12 @@ word_ok ds d calls block known sound word.Until w ts x e =
     let s = sound n.0.1 b.0 b.1 in
     let r = number_ok 1 10000 v.0 n.0 n.1 in
     subst (λ (z : Tree × Tokens). IsTreeWithin ds d z.0) (ok_is _ x b.2) (s.0, (condition_ok 16 ts c.0 c.1, r.0, r.1, s.1), s.2)
+word_ok ds d calls block known sound word.Timed w ts x e =
+    let n = bind_ok (period_at ts) _ x e in
+    let b = bind_ok (block n.0.1) _ x n.2 in
+    let s = sound n.0.1 b.0 b.1 in
+    let r = period_ok ts n.0 n.1 in
+    subst (λ (z : Tree × Tokens). IsTreeWithin ds d z.0) (ok_is _ x b.2) (s.0, (r.0, r.1, s.1), s.2)
 word_ok ds d calls block known sound word.Call w ts x e = known ts x e
 word_ok ds d calls block known sound word.NoFrame w ts x e = absurd (cc)
 
@@ -228,6 +243,7 @@ alike_known ds es h (gap n) k = tt
 alike_known ds es h (repeat n b) k = alike_known ds es h b k
 alike_known ds es h (choose c a b) k = (alike_known ds es h a k.0, alike_known ds es h b k.1)
 alike_known ds es h (until c n b) k = alike_known ds es h b k
+alike_known ds es h (timed n b) k = alike_known ds es h b k
 alike_known ds es h nothing k = tt
 alike_known ds es h (chained a b) k = (alike_known ds es h a k.0, alike_known ds es h b k.1)
 alike_known ds es h (call n) k = sym (h n) ∙ k
@@ -241,6 +257,7 @@ defined_of ds (gap n) k = k
 defined_of ds (repeat n b) k = k
 defined_of ds (choose c a b) k = k
 defined_of ds (until c n b) k = k
+defined_of ds (timed n b) k = k
 defined_of ds nothing k = k
 defined_of ds (chained a b) k = k
 defined_of ds (call n) k = k

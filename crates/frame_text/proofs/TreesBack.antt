@@ -1,5 +1,5 @@
 -- The tokens of printed trees, and what is read of them.
-use Rattle.std.proofs.Common.{◌≡◌, ℕ, ◌+◌, ◌<◌, ◌≤◌, ◌^◌, Bool, true, false, cond, List, [], ◌∷◌, ◌++◌, length, refl, sym, arith, subst}
+use Rattle.std.proofs.Common.{◌≡◌, ℕ, ◌+◌, ◌*◌, ◌<◌, ◌≤◌, ◌^◌, Bool, true, false, cond, List, [], ◌∷◌, ◌++◌, length, refl, sym, arith, subst}
 use Rattle.std.specs.Prelude.{codes, decimal, nat_eq, nat_le, ◌&&◌, ◌||◌}
 use Rattle.std.proofs.lemmas.Bool.Decides.{nat_tests}
 use Rattle.frame_tree.specs.Names as names
@@ -8,7 +8,7 @@ use Rattle.frame_text.specs.Tokens.{in_word}
 use Rattle.frame_text.proofs.Digits.{IsRun}
 use Rattle.mil_message.specs.declared.forms.Form.{Form}
 use Rattle.mil_message.specs.declared.forms.Form.TheVariants.{ToTerminal, FromTerminal, Between, Mode, ModeFrom, ModeTo, ToAll, BetweenAll, ModeAll, ModeAllTo}
-use Rattle.frame_tree.specs.Tree.{Condition, Tree, send, retry, gap, repeat, choose, until, nothing, chained, call, define}
+use Rattle.frame_tree.specs.Tree.{Condition, Tree, send, retry, gap, repeat, choose, until, timed, nothing, chained, call, define}
 use Rattle.frame_tree.specs.Bounds.{IsInRange}
 use Rattle.frame_text.specs.Reading.{Tokens, same}
 use Rattle.frame_text.specs.PrintedMessages.{line_text}
@@ -27,6 +27,7 @@ script_of (gap n) r = r
 script_of (repeat n b) r = r
 script_of (choose c a b) r = r
 script_of (until c n b) r = r
+script_of (timed n b) r = r
 script_of (call n) r = r
 script_of (define n b k) r = absurd r
 
@@ -39,6 +40,7 @@ tree_then (repeat n b) ts = codes "repeat" ∷ decimal n ∷ codes "{" ∷ tree_
 tree_then (choose c a b) ts =
     codes "if" ∷ condition_then c (codes "{" ∷ tree_then a (codes "}" ∷ cond (is_empty b) ts (codes "else" ∷ codes "{" ∷ tree_then b (codes "}" ∷ ts))))
 tree_then (until c n b) ts = codes "until" ∷ condition_then c (codes "at" ∷ codes "most" ∷ decimal n ∷ codes "{" ∷ tree_then b (codes "}" ∷ ts))
+tree_then (timed n b) ts = codes "frame" ∷ decimal (n * 100) ∷ codes "{" ∷ tree_then b (codes "}" ∷ ts)
 tree_then (call n) ts = codes "call" ∷ n ∷ ts
 tree_then (define n b r) ts = codes "define" ∷ n ∷ codes "{" ∷ tree_then b (codes "}" ∷ tree_then r ts)
 tree_then nothing ts = ts
@@ -49,6 +51,9 @@ number_spelled n k h l = omega (arith, h, l)
 
 spelled : (n k : ℕ) → k ≤ 65535 → n ≤ k → n < 2 ^ 64
 spelled n k h l = omega (arith, h, l)
+
+period_spelled : (h : ℕ) → h ≤ 65535 → h * 100 < 2 ^ 64
+period_spelled h l = omega (arith, l)
 
 -- a name is a run of letters, digits and _
 word_byte : (b : ℕ) → (names.is_letter b || (nat_le 48 b && nat_le b 57) || nat_eq b 95) ≡ true → in_word b ≡ true
@@ -95,6 +100,9 @@ tree_spells false (until c n b) d r h =
     (spaced_lines (word_spells (codes "at") (omega arith) (refl, (refl, tt)))
     (spaced_lines (word_spells (codes "most") (omega arith) (refl, (refl, (refl, (refl, tt)))))
     (spaced_lines (number_spells n (spelled n 10000 (omega arith) h.2)) (line_spells (block_spells d (tree_spells true b (d + 1) r h.3))))))))
+tree_spells false (timed n b) d r h =
+    indent_spells d (spaced_lines (word_spells (codes "frame") (omega arith) (refl, (refl, (refl, (refl, (refl, tt))))))
+    (spaced_lines (number_spells (n * 100) (period_spelled n h.1)) (line_spells (block_spells d (tree_spells true b (d + 1) r h.2)))))
 tree_spells false (call n) d r h = indent_spells d (spaced_lines (word_spells (codes "call") (omega arith) (refl, (refl, (refl, (refl, tt))))) (line_spells (name_spells n r)))
 tree_spells false (define n b k) d r h = absurd r
 tree_spells false nothing d r h = absurd r
@@ -107,6 +115,7 @@ tree_spells true (gap n) d r h = absurd r
 tree_spells true (repeat n b) d r h = absurd r
 tree_spells true (choose c a b) d r h = absurd r
 tree_spells true (until c n b) d r h = absurd r
+tree_spells true (timed n b) d r h = absurd r
 tree_spells true (call n) d r h = absurd r
 tree_spells true (define n b k) d r h = absurd r
 
@@ -121,6 +130,7 @@ script_spells (gap n) r h = absurd r
 script_spells (repeat n b) r h = absurd r
 script_spells (choose c a b) r h = absurd r
 script_spells (until c n b) r h = absurd r
+script_spells (timed n b) r h = absurd r
 script_spells (call n) r h = absurd r
 
 words_grow : (ws : List ℕ) (ts : Tokens) → length ts ≤ length (words_then ws ts)
@@ -158,6 +168,7 @@ grows (gap n) ts = omega arith
 grows (repeat n b) ts = omega (arith, grows b (codes "}" ∷ ts))
 grows (choose c a b) ts = omega (arith, choose_longer (is_empty b) c a b ts (grows b (codes "}" ∷ ts)) (grows a))
 grows (until c n b) ts = omega (arith, until_longer c n b ts (grows b (codes "}" ∷ ts)))
+grows (timed n b) ts = omega (arith, grows b (codes "}" ∷ ts))
 grows (call n) ts = omega arith
 grows (define n b r) ts = omega (arith, grows b (codes "}" ∷ tree_then r ts), grows r ts)
 grows nothing ts = omega arith
@@ -179,6 +190,7 @@ begins (gap n) r ts = record { word = codes "gap"; more = decimal n ∷ ts; is =
 begins (repeat n b) r ts = record { word = codes "repeat"; more = decimal n ∷ codes "{" ∷ tree_then b (codes "}" ∷ ts); is = refl; goes = refl; no_bracket = refl; no_else = refl }
 begins (choose c a b) r ts = record { word = codes "if"; more = condition_then c (codes "{" ∷ tree_then a (codes "}" ∷ cond (is_empty b) ts (codes "else" ∷ codes "{" ∷ tree_then b (codes "}" ∷ ts)))); is = refl; goes = refl; no_bracket = refl; no_else = refl }
 begins (until c n b) r ts = record { word = codes "until"; more = condition_then c (codes "at" ∷ codes "most" ∷ decimal n ∷ codes "{" ∷ tree_then b (codes "}" ∷ ts)); is = refl; goes = refl; no_bracket = refl; no_else = refl }
+begins (timed n b) r ts = record { word = codes "frame"; more = decimal (n * 100) ∷ codes "{" ∷ tree_then b (codes "}" ∷ ts); is = refl; goes = refl; no_bracket = refl; no_else = refl }
 begins (call n) r ts = record { word = codes "call"; more = n ∷ ts; is = refl; goes = refl; no_bracket = refl; no_else = refl }
 begins (define n b k) r ts = absurd r
 begins nothing r ts = absurd r
@@ -194,6 +206,7 @@ follows (gap n) r ts f = absurd r
 follows (repeat n b) r ts f = absurd r
 follows (choose c a b) r ts f = absurd r
 follows (until c n b) r ts f = absurd r
+follows (timed n b) r ts f = absurd r
 follows (call n) r ts f = absurd r
 follows (define n b k) r ts f = absurd r
 
@@ -205,6 +218,7 @@ longer (gap n) r ts = omega arith
 longer (repeat n b) r ts = omega (arith, grows b (codes "}" ∷ ts))
 longer (choose c a b) r ts = choose_longer (is_empty b) c a b ts (grows b (codes "}" ∷ ts)) (grows a)
 longer (until c n b) r ts = until_longer c n b ts (grows b (codes "}" ∷ ts))
+longer (timed n b) r ts = omega (arith, grows b (codes "}" ∷ ts))
 longer (call n) r ts = omega arith
 longer (define n b k) r ts = absurd r
 longer nothing r ts = absurd r

@@ -7,7 +7,7 @@ use Rattle.frame_tree.specs.Bounds.{IsSound, worst_messages, depth_in}
 use Rattle.frame_tree.specs.Names.{is_name, Scope, named, is_known}
 use Rattle.frame_text.specs.Tokens.{lex, tokens}
 use Rattle.frame_text.specs.Reading.{Tokens, ◌>>=◌, same, misplaced, past}
-use Rattle.frame_text.specs.Words.{number_within}
+use Rattle.frame_text.specs.Words.{number_within, period_at}
 use Rattle.frame_text.specs.Messages.{send_at}
 use Rattle.frame_text.specs.Conditions.{condition_at}
 use Rattle.frame_text.specs.Frames.{Reader, frame_at, frame_from, frame_of, frame_word, frames_at, block_at, block_from, inner_at, else_at, label_at, call_at, main_at, fresh_name_at, definition_at, script_at, bounded, tree_of_text}
@@ -62,6 +62,10 @@ word_read calls block known reads word.Until w ts x e =
     let u = bind_ok (past (codes "at") c.0.1) _ x c.2 in
     let v = bind_ok (past (codes "most") u.0) _ x u.2 in
     let n = bind_ok (number_within 1 10000 v.0) _ x v.2 in
+    let b = bind_ok (block n.0.1) _ x n.2 in
+    subst (λ (z : Tree × Tokens). IsRead false z.0) (ok_is _ x b.2) (reads n.0.1 b.0 b.1)
+word_read calls block known reads word.Timed w ts x e =
+    let n = bind_ok (period_at ts) _ x e in
     let b = bind_ok (block n.0.1) _ x n.2 in
     subst (λ (z : Tree × Tokens). IsRead false z.0) (ok_is _ x b.2) (reads n.0.1 b.0 b.1)
 word_read calls block known reads word.Call w ts x e = known ts x e

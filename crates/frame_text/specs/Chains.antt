@@ -3,7 +3,7 @@ use Rattle.std.specs.Prelude.{◌≡◌, ℕ, ◌<◌, Bool, true, false, List, 
 use Rattle.mil_message.specs.declared.forms.Form.{Form}
 use Rattle.mil_message.specs.Forms.{data_words}
 use Rattle.mil_message.specs.Rules.{IsLawful}
-use Rattle.frame_tree.specs.Tree.{Tree, send, retry, gap, repeat, choose, until, nothing, chained, call, define}
+use Rattle.frame_tree.specs.Tree.{Tree, send, retry, gap, repeat, choose, until, timed, nothing, chained, call, define}
 use Rattle.frame_tree.specs.Names.{is_name}
 use Rattle.frame_tree.specs.Bounds.{IsSound}
 use Rattle.frame_text.specs.Frames.{tree_of_text}
@@ -29,6 +29,7 @@ IsRead true (gap n) = ⊥
 IsRead true (repeat n b) = ⊥
 IsRead true (choose c a b) = ⊥
 IsRead true (until c n b) = ⊥
+IsRead true (timed h b) = ⊥
 IsRead true (call n) = ⊥
 IsRead true (define n b r) = ⊥
 IsRead false nothing = ⊥
@@ -39,6 +40,7 @@ IsRead false (gap n) = Unit {0}
 IsRead false (repeat n b) = IsRead true b
 IsRead false (choose c a b) = IsRead true a × IsRead true b
 IsRead false (until c n b) = IsRead true b
+IsRead false (timed h b) = IsRead true b
 IsRead false (call n) = is_name n ≡ true
 IsRead false (define n b r) = ⊥
 

@@ -1,11 +1,11 @@
 -- The text of frames: the grammar of a script (own choice), and the tree of a text or its first fault.
 use Rattle.std.specs.Prelude.{ℕ, zero, suc, nat_le, if◌then◌else◌, List, [], ◌∷◌, length, Result, Ok, Err, codes}
-use Rattle.frame_tree.specs.Tree.{Tree, send, retry, gap, repeat, choose, until, nothing, chained, call, define}
+use Rattle.frame_tree.specs.Tree.{Tree, send, retry, gap, repeat, choose, until, timed, nothing, chained, call, define}
 use Rattle.frame_tree.specs.Bounds.{worst_messages, depth_in}
 use Rattle.frame_tree.specs.Names.{is_name, Scope, named, is_known}
 use Rattle.frame_text.specs.Tokens.{tokens}
 use Rattle.frame_text.specs.Reading.{Tokens, Reading, ◌>>=◌, same, misplaced, past}
-use Rattle.frame_text.specs.Words.{number_within}
+use Rattle.frame_text.specs.Words.{number_within, period_at}
 use Rattle.frame_text.specs.Messages.{send_at}
 use Rattle.frame_text.specs.Conditions.{condition_at}
 use Rattle.frame_text.specs.declared.faults.Cause.{Cause}
@@ -21,6 +21,7 @@ frame_word w =
     if same w (codes "repeat") then word.Repeat else
     if same w (codes "if") then word.If else
     if same w (codes "until") then word.Until else
+    if same w (codes "frame") then word.Timed else
     if same w (codes "call") then word.Call else
     word.NoFrame
 
@@ -33,7 +34,7 @@ else_at block [] = Ok (nothing, [])
 else_at block (w ∷ ts) = if same w (codes "else") then block ts else Ok (nothing, w ∷ ts)
 
 -- behind the first word of a frame: what is sent once and again, what is repeated, what is chosen, what runs until a
--- condition holds; block reads a block in its braces
+-- condition holds, what has a period; block reads a block in its braces
 abbrev pub retry_at : Reader
 retry_at ts = number_within 1 8 ts >>= (λ n. past (codes "send") n.1 >>= (λ us. send_at us >>= (λ x. Ok (retry n.0 x.0.0 x.0.1, x.1))))
 
@@ -47,6 +48,9 @@ abbrev pub until_at : Reader → Reader
 until_at block ts =
     condition_at 16 ts
     >>= (λ c. past (codes "at") c.1 >>= (λ us. past (codes "most") us >>= (λ vs. number_within 1 10000 vs >>= (λ n. block n.1 >>= (λ b. Ok (until c.0 n.0 b.0, b.1))))))
+
+abbrev pub timed_at : Reader → Reader
+timed_at block ts = period_at ts >>= (λ n. block n.1 >>= (λ b. Ok (timed n.0 b.0, b.1)))
 
 -- the name of a definition
 unfoldable pub label_at : Tokens → Reading (List ℕ)
@@ -69,6 +73,7 @@ frame_of calls block word.Gap w ts = number_within 40 65535 ts >>= (λ n. Ok (ga
 frame_of calls block word.Repeat w ts = repeat_at block ts
 frame_of calls block word.If w ts = choice_at block ts
 frame_of calls block word.Until w ts = until_at block ts
+frame_of calls block word.Timed w ts = timed_at block ts
 frame_of calls block word.Call w ts = calls ts
 frame_of calls block word.NoFrame w ts = Err (misplaced w)
 

@@ -1,5 +1,5 @@
--- Numbers and data words.
-use Rattle.std.specs.Prelude.{ℕ, nat_le, ◌&&◌, if◌then◌else◌, List, [], ◌∷◌, take, Option, Some, None, Result, Ok, Err, codes}
+-- Numbers, periods and data words.
+use Rattle.std.specs.Prelude.{ℕ, ◌/◌, ◌%◌, nat_eq, nat_le, ◌&&◌, if◌then◌else◌, List, [], ◌∷◌, take, Option, Some, None, Result, Ok, Err, codes}
 use Rattle.numerals.specs.Numerals as numerals
 use Rattle.frame_text.specs.Reading.{Tokens, Reading, ◌>>=◌, same, is_word, misplaced, past}
 use Rattle.frame_text.specs.declared.faults.Cause.{Cause}
@@ -30,6 +30,14 @@ number_at (w ∷ ts) = spelled w (number_of w) >>= (λ n. Ok (n, ts))
 unfoldable pub number_within : ℕ → ℕ → Tokens → Reading ℕ
 number_within low high ts =
     number_at ts >>= (λ n. if nat_le low n.0 && nat_le n.0 high then Ok n else Err cause.Range)
+
+-- a period in hundreds of µs, of its number of µs
+abbrev pub hundreds_of : ℕ → Tokens → Reading ℕ
+hundreds_of n ts = if nat_eq (n % 100) 0 then Ok (n / 100, ts) else Err cause.Range
+
+-- a period: a number of µs, a multiple of 100 from 100 to 6,553,500
+unfoldable pub period_at : Tokens → Reading ℕ
+period_at ts = number_within 100 6553500 ts >>= (λ n. hundreds_of n.0 n.1)
 
 -- data words up to the closing bracket
 unfoldable pub words_at : Tokens → Reading (List ℕ)

@@ -20,7 +20,7 @@ pub enum Cause {
     /// braces of a definition are no block. Or more than 16 operators above a test of a condition, at the operator.
     Depth,
     /// S7: a number out of its range: a repeat or an until outside 1 to 10,000, a retry outside 1 to 8, a gap outside 40 to
-    /// 65,535.
+    /// 65,535, a period of a frame that is no multiple of 100 µs from 100 to 6,553,500.
     Range,
     /// S10: a definition of a name that was defined before, or a call of one that was not, at the name.
     Name,

@@ -5,7 +5,7 @@ ghost use Rattle.frame_tree.specs.Tree.{tree_of, chain, nothing};
 ghost use Rattle.frame_text.specs.Tokens.{tokens};
 ghost use Rattle.frame_text.specs.Reading.{Gives};
 ghost use Rattle.frame_tree.specs.Scopes.{scope_of};
-ghost use Rattle.frame_text.specs.Frames.{else_at, retry_at, repeat_at, choice_at, until_at, label_at, call_at, frame_at, frames_at, block_at, inner_at};
+ghost use Rattle.frame_text.specs.Frames.{else_at, retry_at, repeat_at, choice_at, until_at, timed_at, label_at, call_at, frame_at, frames_at, block_at, inner_at};
 
 use crate::conditions::condition;
 use crate::faults::{Cause, Fault};
@@ -13,7 +13,7 @@ use crate::keywords::{FrameWord, frame_word, is, misplaced};
 use crate::memory::or_refused;
 use crate::messages::send;
 use crate::tokens::{after_token, fault, next};
-use crate::words::number_in_range;
+use crate::words::{number_in_range, period};
 use frame_tree::{Frame, Name, Scope};
 use std::alloc::Allocator;
 
@@ -247,6 +247,24 @@ fn until<'a, A: Allocator + Clone>(
     ))
 }
 
+// A block with a period, behind its first word.
+#[cycle(frames)]
+fn timed<'a, A: Allocator + Clone>(
+    alloc: &A,
+    text: &'a [u8],
+    scope: &Scope<'_>,
+    depth: u8,
+) -> Result<(Frame<A>, &'a [u8]), Fault>
+    ensures tree { Gives (λ x. (tree_of x.0, tokens x.1.now)) result (timed_at (block_at (scope_of scope.now) depth) (tokens text.now)) }
+    ensures fewer { IfOk result (λ x. length (tokens x.1.now) < length (tokens text.now)) }
+{
+    let (hundreds, rest) = period(text)?;
+    let (body, rest) = block(alloc, rest, scope, depth)?;
+    let own = or_refused!(alloc.clone(), rest);
+    let body = or_refused!(Box::new(own, body), rest);
+    Ok((Frame::Timed { hundreds, body }, rest))
+}
+
 /// A frame with at most `depth` blocks in one another.
 #[cycle(frames)]
 #[tactic(auto, unfolding(crate::specs::Frames::frame_from, crate::specs::Frames::frame_of))]
@@ -275,6 +293,7 @@ pub fn frame<'a, A: Allocator + Clone>(
         FrameWord::Repeat => repeat(alloc, rest, scope, depth),
         FrameWord::If => choice(alloc, rest, scope, depth),
         FrameWord::Until => until(alloc, rest, scope, depth),
+        FrameWord::Timed => timed(alloc, rest, scope, depth),
         FrameWord::Call => call(text, rest, scope, depth),
         FrameWord::NoFrame => Err(fault(misplaced(word), text)),
     }

@@ -45,6 +45,7 @@ pub enum FrameWord {
     Repeat,
     If,
     Until,
+    Timed,
     Call,
     NoFrame,
 }
@@ -178,6 +179,9 @@ pub fn frame_word(word: &[u8]) -> FrameWord
     }
     if is(word, b"until") {
         return FrameWord::Until;
+    }
+    if is(word, b"frame") {
+        return FrameWord::Timed;
     }
     if is(word, b"call") {
         return FrameWord::Call;

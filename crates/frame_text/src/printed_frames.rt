@@ -1,7 +1,7 @@
 //! Frames as text, one a line.
 
 ghost use Rattle.std.specs.Prelude.{◌≡◌, true, ◌+◌, ◌++◌, OnOk, string_bytes, codes, decimal};
-ghost use Rattle.frame_tree.specs.Tree.{condition_in, tree_of, send, retry, gap, repeat, until, call};
+ghost use Rattle.frame_tree.specs.Tree.{condition_in, tree_of, send, retry, gap, repeat, until, timed, call};
 ghost use Rattle.frame_tree.specs.Names.{is_word};
 ghost use Rattle.frame_text.specs.PrintedConditions.{condition_text};
 ghost use Rattle.frame_text.specs.PrintedMessages.{send_text};
@@ -209,6 +209,24 @@ fn put_until<A: Allocator + Clone>(
     out.push_str("\n")
 }
 
+// A frame with a period, on its lines.
+#[cycle(lines)]
+#[tactic(auto, unfolding(crate::specs::Printing::lines))]
+fn put_timed<A: Allocator + Clone>(
+    out: &mut String,
+    body: &Frame<A>,
+    hundreds: u16,
+    depth: usize,
+) -> Result<(), AllocError>
+    ensures { OnOk result (string_bytes out.new ≡ string_bytes out.old ++ texts.lines depth (timed hundreds (tree_of body.now))) }
+{
+    let period = u32::from(hundreds) * 100;
+    put_indent(out, depth)?;
+    write!(out, "frame {period} ")?;
+    put_block(out, body, depth)?;
+    out.push_str("\n")
+}
+
 /// The lines of a frame inside so many blocks.
 #[cycle(lines)]
 #[tactic(auto, unfolding(crate::specs::Printing::lines))]
@@ -243,6 +261,7 @@ pub fn put_lines<A: Allocator + Clone>(
             count,
             body,
         } => put_until(out, body, condition, *count, depth),
+        Frame::Timed { hundreds, body } => put_timed(out, body, *hundreds, depth),
         Frame::Seq(frames) => {
             for one in frames {
                 put_lines(out, one, depth)?;

@@ -1,9 +1,9 @@
-//! Numbers and data words.
+//! Numbers, periods and data words.
 
 ghost use Rattle.std.specs.Prelude.{◌≡◌, ◌<◌, ◌≤◌, ◌++◌, ◌∷◌, [], length, take, IfOk, option_map, IfErr};
 ghost use Rattle.frame_text.specs.Tokens.{tokens};
-ghost use Rattle.frame_text.specs.Reading.{Gives, IsCause, IsOfText};
-ghost use Rattle.frame_text.specs.Words.{number_of, data_word_of, unspelled, number_at, number_within, words_at, counted, bracketed_at, optional_at};
+ghost use Rattle.frame_text.specs.Reading.{Gives, IsAtToken, IsCause, IsOfText};
+ghost use Rattle.frame_text.specs.Words.{number_of, data_word_of, unspelled, number_at, number_within, period_at, words_at, counted, bracketed_at, optional_at};
 
 use crate::faults::{Cause, Fault};
 use crate::keywords::{is, is_word, misplaced};
@@ -34,6 +34,7 @@ fn data_word_in(word: &[u8]) -> Option<u16>
 fn unspelled_fault(word: &[u8], text: &[u8]) -> Fault
     ensures cause { IsCause (unspelled word.now) result }
     ensures of_text { IsOfText result }
+    ensures place { IsAtToken text.now result }
 {
     let cause = if is_word(word) {
         Cause::Number
@@ -49,6 +50,7 @@ pub fn number(text: &[u8]) -> Result<(u32, &[u8]), Fault>
     ensures tree { Gives (λ x. (x.0, tokens x.1.now)) result (number_at (tokens text.now)) }
     ensures fewer { IfOk result (λ x. length (tokens x.1.now) < length (tokens text.now)) }
     ensures of_text { IfErr result (λ e. IsOfText e) }
+    ensures place { IfErr result (λ e. IsAtToken text.now e) }
 {
     let Some((word, rest)) = next(text) else {
         return Err(fault(Cause::End, text));
@@ -65,6 +67,7 @@ pub fn number_in_range(text: &[u8], low: u32, high: u32) -> Result<(u32, &[u8]),
     ensures tree { Gives (λ x. (x.0, tokens x.1.now)) result (number_within low high (tokens text.now)) }
     ensures fewer { IfOk result (λ x. length (tokens x.1.now) < length (tokens text.now)) }
     ensures of_text { IfErr result (λ e. IsOfText e) }
+    ensures place { IfErr result (λ e. IsAtToken text.now e) }
     ensures within { IfOk result (λ x. (low ≤ x.0) × (x.0 ≤ high)) }
 {
     let (n, rest) = number(text)?;
@@ -72,6 +75,20 @@ pub fn number_in_range(text: &[u8], low: u32, high: u32) -> Result<(u32, &[u8]),
         return Err(fault(Cause::Range, text));
     }
     Ok((n, rest))
+}
+
+/// A period: a number of µs, a multiple of 100 from 100 to 6,553,500. The answer is in hundreds of µs.
+#[tactic(auto, unfolding(crate::specs::Words::period_at))]
+pub fn period(text: &[u8]) -> Result<(u16, &[u8]), Fault>
+    ensures tree { Gives (λ x. (x.0, tokens x.1.now)) result (period_at (tokens text.now)) }
+    ensures fewer { IfOk result (λ x. length (tokens x.1.now) < length (tokens text.now)) }
+    ensures place { IfErr result (λ e. IsAtToken text.now e) }
+{
+    let (micros, rest) = number_in_range(text, 100, 6_553_500)?;
+    if micros % 100 != 0 {
+        return Err(fault(Cause::Range, text));
+    }
+    Ok(((micros / 100) as u16, rest))
 }
 
 // One more data word, where it still counts.

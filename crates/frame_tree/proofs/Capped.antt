@@ -1,6 +1,6 @@
 -- A count that is cut at a limit, and what comes of it.
 use Rattle.std.proofs.Common.{◌≡◌, ℕ, zero, suc, ◌*◌, min, Bool, true, false, List, [], ◌∷◌, refl, ap, ◌∙◌, arith, if◌then◌else◌}
-use Rattle.frame_tree.specs.Tree.{Tree, send, retry, gap, repeat, choose, until, nothing, chained, call, define}
+use Rattle.frame_tree.specs.Tree.{Tree, send, retry, gap, repeat, choose, until, timed, nothing, chained, call, define}
 use Rattle.frame_tree.specs.Names.{Scope, named, same}
 use Rattle.frame_tree.specs.Bounds.{messages_in, depth_in}
 
@@ -37,6 +37,7 @@ messages_alike k (gap t) ds es h = refl
 messages_alike k (repeat n b) ds es h = times_alike k n (messages_in ds b) (messages_in es b) (messages_alike k b ds es h)
 messages_alike k (choose c a b) ds es h = omega (arith, messages_alike k a ds es h, messages_alike k b ds es h)
 messages_alike k (until c n b) ds es h = times_alike k n (messages_in ds b) (messages_in es b) (messages_alike k b ds es h)
+messages_alike k (timed t b) ds es h = messages_alike k b ds es h
 messages_alike k nothing ds es h = refl
 messages_alike k (chained a b) ds es h = omega (arith, messages_alike k a ds es h, messages_alike k b ds es h)
 messages_alike k (call n) ds es h = named_alike k ds es n h
@@ -49,6 +50,7 @@ depth_alike k (gap t) ds es h = refl
 depth_alike k (repeat n b) ds es h = omega (arith, depth_alike k b ds es h)
 depth_alike k (choose c a b) ds es h = omega (arith, depth_alike k a ds es h, depth_alike k b ds es h)
 depth_alike k (until c n b) ds es h = omega (arith, depth_alike k b ds es h)
+depth_alike k (timed t b) ds es h = omega (arith, depth_alike k b ds es h)
 depth_alike k nothing ds es h = refl
 depth_alike k (chained a b) ds es h = omega (arith, depth_alike k a ds es h, depth_alike k b ds es h)
 depth_alike k (call n) ds es h = named_alike k ds es n h

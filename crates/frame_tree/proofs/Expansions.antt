@@ -1,7 +1,7 @@
 -- What the expansion of a tree keeps.
 use Rattle.std.proofs.Common.{◌≡◌, ℕ, ◌≤◌, ◌*◌, ◌+◌, max, Bool, true, false, List, [], ◌∷◌, refl, ap, ap₂, ◌∙◌, subst, arith}
 use Rattle.std.specs.Prelude.{if◌then◌else◌}
-use Rattle.frame_tree.specs.Tree.{Tree, send, retry, gap, repeat, choose, until, nothing, chained, call, define}
+use Rattle.frame_tree.specs.Tree.{Tree, send, retry, gap, repeat, choose, until, timed, nothing, chained, call, define}
 use Rattle.frame_tree.specs.Names.{Scope, named, same}
 use Rattle.frame_tree.specs.Bounds.{messages_in, depth_in, CallsKnown}
 use Rattle.frame_tree.specs.Expansion.{expanded}
@@ -31,6 +31,7 @@ messages_kept (gap t) cs ds vs h = refl
 messages_kept (repeat n b) cs ds vs h = ap (λ x. n * x) (messages_kept b cs ds vs h)
 messages_kept (choose c a b) cs ds vs h = ap₂ (λ x y. max x y) (messages_kept a cs ds vs h) (messages_kept b cs ds vs h)
 messages_kept (until c n b) cs ds vs h = ap (λ x. n * x) (messages_kept b cs ds vs h)
+messages_kept (timed t b) cs ds vs h = messages_kept b cs ds vs h
 messages_kept nothing cs ds vs h = refl
 messages_kept (chained a b) cs ds vs h = ap₂ (λ x y. x + y) (messages_kept a cs ds vs h) (messages_kept b cs ds vs h)
 messages_kept (call n) cs ds vs h = send_named cs ds vs n h
@@ -61,6 +62,7 @@ depth_kept (gap t) cs ds vs h = omega arith
 depth_kept (repeat n b) cs ds vs h = omega (arith, depth_kept b cs ds vs h)
 depth_kept (choose c a b) cs ds vs h = omega (arith, depth_kept a cs ds vs h, depth_kept b cs ds vs h)
 depth_kept (until c n b) cs ds vs h = omega (arith, depth_kept b cs ds vs h)
+depth_kept (timed t b) cs ds vs h = omega (arith, depth_kept b cs ds vs h)
 depth_kept nothing cs ds vs h = omega arith
 depth_kept (chained a b) cs ds vs h = omega (arith, depth_kept a cs ds vs h, depth_kept b cs ds vs h)
 depth_kept (call n) cs ds vs h = deep_named cs ds vs n h
@@ -86,6 +88,7 @@ plain_kept (gap t) ds h = tt
 plain_kept (repeat n b) ds h = plain_kept b ds h
 plain_kept (choose c a b) ds h = (plain_kept a ds h, plain_kept b ds h)
 plain_kept (until c n b) ds h = plain_kept b ds h
+plain_kept (timed t b) ds h = plain_kept b ds h
 plain_kept nothing ds h = tt
 plain_kept (chained a b) ds h = (plain_kept a ds h, plain_kept b ds h)
 plain_kept (call n) ds h = plain_named ds n h

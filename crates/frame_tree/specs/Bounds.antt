@@ -1,6 +1,6 @@
 -- How large a tree is, and which trees are sound (own choice).
 use Rattle.std.specs.Prelude.{◌≡◌, ℕ, ◌+◌, ◌*◌, ◌≤◌, ◌<◌, max, true, false, [], ◌∷◌, length}
-use Rattle.frame_tree.specs.Tree.{Condition, asked, negated, both, either, Tree, send, retry, gap, repeat, choose, until, nothing, chained, call, define}
+use Rattle.frame_tree.specs.Tree.{Condition, asked, negated, both, either, Tree, send, retry, gap, repeat, choose, until, timed, nothing, chained, call, define}
 use Rattle.frame_tree.specs.Names.{Scope, named, is_known}
 
 -- How many messages a tree sends at most, where a call of each name in scope sends so many: every retry is used up, an until
@@ -12,6 +12,7 @@ messages_in ds (gap t) = 0
 messages_in ds (repeat n b) = n * messages_in ds b
 messages_in ds (choose c a b) = max (messages_in ds a) (messages_in ds b)
 messages_in ds (until c n b) = n * messages_in ds b
+messages_in ds (timed h b) = messages_in ds b
 messages_in ds nothing = 0
 messages_in ds (chained a b) = messages_in ds a + messages_in ds b
 messages_in ds (call n) = named 0 ds n
@@ -20,7 +21,7 @@ messages_in ds (define n b r) = messages_in ((n, messages_in ds b) ∷ ds) r
 abbrev pub worst_messages : Tree → ℕ
 worst_messages t = messages_in [] t
 
--- How many repeats, ifs and untils stand in one another, where in a call of each name in scope so many do; the body of a
+-- How many repeats, ifs, untils and frames with a period stand in one another, where in a call of each name in scope so many do; the body of a
 -- definition counts, called or not.
 abbrev pub depth_in : Scope ℕ → Tree → ℕ
 depth_in ds (send l m) = 0
@@ -29,6 +30,7 @@ depth_in ds (gap t) = 0
 depth_in ds (repeat n b) = 1 + depth_in ds b
 depth_in ds (choose c a b) = 1 + max (depth_in ds a) (depth_in ds b)
 depth_in ds (until c n b) = 1 + depth_in ds b
+depth_in ds (timed h b) = 1 + depth_in ds b
 depth_in ds nothing = 0
 depth_in ds (chained a b) = max (depth_in ds a) (depth_in ds b)
 depth_in ds (call n) = named 0 ds n
@@ -56,6 +58,7 @@ IsInRange (gap t) = (40 ≤ t) × (t ≤ 65535)
 IsInRange (repeat n b) = (1 ≤ n) × (n ≤ 10000) × IsInRange b
 IsInRange (choose c a b) = IsCondition c × IsInRange a × IsInRange b
 IsInRange (until c n b) = IsCondition c × (1 ≤ n) × (n ≤ 10000) × IsInRange b
+IsInRange (timed h b) = (1 ≤ h) × (h ≤ 65535) × IsInRange b
 IsInRange nothing = Unit {0}
 IsInRange (chained a b) = IsInRange a × IsInRange b
 IsInRange (call n) = Unit {0}
@@ -69,6 +72,7 @@ CallsKnown ds (gap t) = Unit {0}
 CallsKnown ds (repeat n b) = CallsKnown ds b
 CallsKnown ds (choose c a b) = CallsKnown ds a × CallsKnown ds b
 CallsKnown ds (until c n b) = CallsKnown ds b
+CallsKnown ds (timed h b) = CallsKnown ds b
 CallsKnown ds nothing = Unit {0}
 CallsKnown ds (chained a b) = CallsKnown ds a × CallsKnown ds b
 CallsKnown ds (call n) = is_known ds n ≡ true

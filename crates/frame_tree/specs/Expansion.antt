@@ -1,6 +1,6 @@
 -- The expansion of a tree (own choice): each call replaced by the body of its definition, and no definition.
 use Rattle.std.specs.Prelude.{[], ◌∷◌}
-use Rattle.frame_tree.specs.Tree.{Tree, send, retry, gap, repeat, choose, until, nothing, chained, call, define}
+use Rattle.frame_tree.specs.Tree.{Tree, send, retry, gap, repeat, choose, until, timed, nothing, chained, call, define}
 use Rattle.frame_tree.specs.Names.{Scope, named}
 
 -- the expansion where these trees stand for the names in scope
@@ -11,6 +11,7 @@ expanded ds (gap t) = gap t
 expanded ds (repeat n b) = repeat n (expanded ds b)
 expanded ds (choose c a b) = choose c (expanded ds a) (expanded ds b)
 expanded ds (until c n b) = until c n (expanded ds b)
+expanded ds (timed h b) = timed h (expanded ds b)
 expanded ds nothing = nothing
 expanded ds (chained a b) = chained (expanded ds a) (expanded ds b)
 expanded ds (call n) = named nothing ds n

@@ -16,7 +16,7 @@ pub data Condition : Type 0 where
   either : Condition → Condition → Condition
 
 -- frames one after the other are chained: one and the chain of those after it, ended by nothing; a definition is its name,
--- its body, and the tree in which the name stands for it
+-- its body, and the tree in which the name stands for it; a frame with a period has it in hundreds of µs
 pub data Tree : Type 0 where
   send : Line → Message → Tree
   retry : ℕ → Line → Message → Tree
@@ -24,6 +24,7 @@ pub data Tree : Type 0 where
   repeat : ℕ → Tree → Tree
   choose : Condition → Tree → Tree → Tree
   until : Condition → ℕ → Tree → Tree
+  timed : ℕ → Tree → Tree
   nothing : Tree
   chained : Tree → Tree → Tree
   call : List ℕ → Tree
@@ -48,6 +49,7 @@ tree_step (Frame-F.Gap t) = gap t
 tree_step (Frame-F.Repeat n b) = repeat n b.value
 tree_step (Frame-F.If c a b) = choose (condition_in c) a.value b.value
 tree_step (Frame-F.Until c n b) = until (condition_in c) n b.value
+tree_step (Frame-F.Timed h b) = timed h b.value
 tree_step (Frame-F.Seq v) = chain v.items
 tree_step (Frame-F.Call n) = call n
 tree_step (Frame-F.Define n b r) = define n b.value r.value

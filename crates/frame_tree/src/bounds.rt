@@ -29,6 +29,7 @@ impl<A: Allocator + Clone> Frame<A> {
             Frame::Gap(_) => 0,
             Frame::Repeat { count, body } => times_capped(*count, body.messages_in(scope)),
             Frame::Until { count, body, .. } => times_capped(*count, body.messages_in(scope)),
+            Frame::Timed { body, .. } => body.messages_in(scope),
             Frame::If {
                 then,
                 otherwise,
@@ -48,8 +49,8 @@ impl<A: Allocator + Clone> Frame<A> {
         }
     }
 
-    /// How many repeats, ifs and untils stand in one another, those in the bodies of its calls with them, 17 where it is more
-    /// than 16; the body of a definition counts, called or not.
+    /// How many repeats, ifs, untils and frames with a period stand in one another, those in the bodies of its calls with
+    /// them, 17 where it is more than 16; the body of a definition counts, called or not.
     pub fn depth(&self) -> u32
         ensures { result ≡ min 17 (depth (tree_of self.now)) }
     {
@@ -64,6 +65,7 @@ impl<A: Allocator + Clone> Frame<A> {
             Frame::Send { .. } | Frame::Retry { .. } | Frame::Gap(_) => 0,
             Frame::Repeat { body, .. } => (body.depth_in(scope) + 1).min(17),
             Frame::Until { body, .. } => (body.depth_in(scope) + 1).min(17),
+            Frame::Timed { body, .. } => (body.depth_in(scope) + 1).min(17),
             Frame::If {
                 then,
                 otherwise,
@@ -117,6 +119,7 @@ impl<A: Allocator + Clone> Frame<A> {
             } => {
                 condition.operators() <= 16 && 1 <= *count && *count <= 10_000 && body.is_in_range()
             }
+            Frame::Timed { hundreds, body } => 1 <= *hundreds && body.is_in_range(),
             Frame::Seq(frames) => {
                 for frame in frames {
                     if !frame.is_in_range() {
@@ -137,6 +140,7 @@ impl<A: Allocator + Clone> Frame<A> {
         match self {
             Frame::Send { .. } | Frame::Retry { .. } | Frame::Gap(_) => true,
             Frame::Repeat { body, .. } | Frame::Until { body, .. } => body.calls_known(scope),
+            Frame::Timed { body, .. } => body.calls_known(scope),
             Frame::If {
                 then,
                 otherwise,
@@ -171,6 +175,7 @@ impl<A: Allocator + Clone> Frame<A> {
             Frame::Repeat { .. } | Frame::Until { .. } | Frame::If { .. } => self.calls_known(
                 scope,
             ),
+            Frame::Timed { .. } => self.calls_known(scope),
             Frame::Seq(_) => self.calls_known(scope),
             Frame::Call(name) => scope.has(name),
         }

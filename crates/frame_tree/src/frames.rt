@@ -51,6 +51,10 @@ impl<A: Allocator + Clone> Frame<A> {
                 count: *count,
                 body: boxed(alloc, body.copied(alloc)?)?,
             }),
+            Frame::Timed { hundreds, body } => Ok(Frame::Timed {
+                hundreds: *hundreds,
+                body: boxed(alloc, body.copied(alloc)?)?,
+            }),
             Frame::Seq(frames) => Ok(Frame::Seq(Frame::copies_of(frames.as_slice(), alloc)?)),
             Frame::Call(name) => Ok(Frame::Call(name.copy())),
             Frame::Define { name, body, rest } => Ok(Frame::Define {

@@ -61,6 +61,12 @@ pub enum Frame<A: Allocator + Clone> {
         count: u16,
         body: Box<Frame<A>, A>,
     },
+    /// Runs the body; what is behind it starts `hundreds` (1 to 65,535) times 100 µs after the body began, or as soon as it can
+    /// where the body took longer.
+    Timed {
+        hundreds: u16,
+        body: Box<Frame<A>, A>,
+    },
     /// Runs frames one after the other.
     Seq(Vec<Frame<A>, A>),
     /// Runs the body of the definition of this name.

@@ -1,19 +1,30 @@
 -- The job of a draft and a script.
-use Rattle.std.proofs.Common.{◌≡◌, ℕ, refl, sym, ap, subst, ◌∙◌}
-use Rattle.std.specs.Prelude.{Option, Some, Ok}
+use Rattle.std.proofs.Common.{◌≡◌, ℕ, ◌<◌, ◌≤◌, List, [], ◌∷◌, length, refl, sym, ap, subst, ◌∙◌, ⊎_elim}
+use Rattle.std.specs.Prelude.{◌↔◌, false, Option, Some, Result, Ok, Err, IfOk}
+use Rattle.std.proofs.lemmas.Bool.{cases_lt}
 use Rattle.mil_host.specs.Words.{Text}
 use Rattle.frame_tree.specs.Tree.{Tree}
 use Rattle.frame_tree.specs.Bounds.{IsSound}
 use Rattle.frame_text.specs.Frames.{tree_of_text}
 use Rattle.frame_code.specs.Table.{Code}
 use Rattle.frame_asm.specs.Shapes.{code_of}
+use Rattle.frame_asm.specs.declared.AsmError.{AsmError}
+use Rattle.frame_asm.specs.declared.AsmError.TheVariants as assembler
+use Rattle.frame_load.specs.Judging.{IsWithin, HasShortPeriods, Judges}
+use Rattle.frame_load.specs.declared.LoadError.{LoadError}
+use Rattle.job_file.specs.Options.{◌>>=◌}
+use Rattle.job_file.specs.HeadLines.{Head, is_none_yet}
 use Rattle.job_file.specs.Drafts.{shown}
-use Rattle.job_file.specs.Spelled.{ChannelJob, job_with, job_of}
+use Rattle.job_file.specs.Spelled.{ChannelJob, job_with, job_of, first_of, spelled}
 use Rattle.job_file.specs.Scripts.{tree_or_nothing, tree_spelled, IsProgramOf}
-use Rattle.job_file.specs.Reading.{IsCodeRefusal, IsRefusal}
+use Rattle.job_file.specs.Reading.{IsCodeRefusal, IsRefusal, HasProgram}
+use Rattle.job_file.specs.Faults.{IsHead, IsFirstFault}
+use Rattle.job_file.specs.Jobs.{JobState, tree_in, job_in}
+use Rattle.job_file.specs.Texts.{IsAccepted}
 use Rattle.job_file.specs.declared.drafts.Draft.{Draft}
 use Rattle.job_file.specs.declared.error.JobError.{JobError}
 use Rattle.job_file.specs.declared.error.JobError.TheVariants as error
+use Rattle.job_file.proofs.FirstFaults.{script_refused}
 
 job_is : (d : Draft) (channel : ℕ) (text : Text) (tree : Tree) → d.channel ≡ Some channel → tree_of_text text ≡ Ok tree → job_of (shown d) text ≡ Some (job_with channel (shown d) tree)
 job_is d channel text tree named read = rw (named, read) refl
@@ -30,6 +41,18 @@ pub code_refused : (d : Draft) (channel : ℕ) (text : Text) (tree : Tree) (e : 
     → IsCodeRefusal (code_of tree) e → IsRefusal (job_of (shown d) text) e
 code_refused d channel text tree e named read r = refused _ (job_with channel (shown d) tree) e (job_is d channel text tree named read) r
 
+-- an image that was made, and that the loader accepted
+pub program_kept : (code image program : Code) (made : Result Code AsmError) (loaded : Result Code LoadError) → made ≡ Ok image → IfOk made (λ i. i ≡ code)
+    → (made ≡ Err assembler.Operations) ↔ (4096 < length code.operations)
+    → (made ≡ Err assembler.Messages) ↔ ((length code.operations ≤ 4096) × (1024 < length code.messages))
+    → loaded ≡ Ok program → Judges image loaded → HasProgram code
+program_kept code image program made loaded is same long many loads judged =
+    let same_code : image ≡ code = rw is at same in
+    let j : Judges image (Ok program) = rw loads at judged in
+    let operations : length code.operations ≤ 4096 = ⊎_elim (λ more. absurd (let e = long.1 more in cc)) (λ le. le) (cases_lt 4096 (length code.operations)) in
+    let messages : length code.messages ≤ 1024 = ⊎_elim (λ more. absurd (let e = many.1 (operations, more) in cc)) (λ le. le) (cases_lt 1024 (length code.messages)) in
+    record { operations = operations; messages = messages; within = subst IsWithin same_code j.2; short = subst HasShortPeriods same_code j.3 }
+
 -- the tree of a text that has one
 spelled_is : (text : Text) (tree : Tree) → tree_of_text text ≡ Ok tree → tree_spelled text ≡ tree
 unfolding tree_spelled
@@ -45,3 +68,33 @@ program_made text tree program read sound is =
 pub job_made : (d : Draft) (channel : ℕ) (text : Text) (tree : Tree) → d.channel ≡ Some channel → tree_of_text text ≡ Ok tree
     → job_of (shown d) text ≡ Some (job_with channel (shown d) (tree_spelled text))
 job_made d channel text tree named read = job_is d channel text tree named read ∙ ap (λ t. Some (job_with channel (shown d) t)) (sym (spelled_is text tree read))
+
+-- whose image is that of the script
+pub job_kept : (text : Text) (tree : Tree) (job : ChannelJob) (channel : ℕ) (head : Head) → job ≡ job_with channel head (tree_spelled text) → tree_of_text text ≡ Ok tree
+    → HasProgram (code_of tree) → HasProgram (code_of job.tree)
+job_kept text tree job channel head is read kept =
+    let same : job.tree ≡ tree = ap (λ (j : ChannelJob). j.tree) is ∙ spelled_is text tree read in
+    subst (λ t. HasProgram (code_of t)) (sym same) kept
+
+-- a text that gives a job
+pub accepted : (text : Text) (o : Option ChannelJob) (r : Result JobState JobError) → spelled text ≡ o → IfOk r (λ j. o ≡ Some (job_in j)) → IfOk r (λ j. HasProgram (code_of (tree_in j)))
+    → IfOk r (λ _. IsAccepted text)
+accepted text o (Ok j) read is kept = record {
+  job = job_in j;
+  spells = read ∙ is;
+  operations = kept.operations;
+  messages = kept.messages;
+  within = kept.within;
+  short = kept.short;
+}
+accepted text o (Err e) read is kept = tt
+
+named : {Y : Type 0} (channels : List ℕ) (next : ℕ → Option Y) (y : Y) → (first_of channels >>= next) ≡ Some y → is_none_yet channels ≡ false
+named [] next y e = absurd (cc)
+named (n ∷ ns) next y e = refl
+
+-- and may want memory at its script at the latest
+pub room_wanted : (text : Text) (head : Head) (n : ℕ) (behind : Text) (r : Result JobState JobError) → IsHead text head n behind → IfOk r (λ j. job_of head behind ≡ Some (job_in j))
+    → IfOk r (λ _. IsFirstFault text error.Memory)
+room_wanted text head n behind (Ok j) h is = script_refused text head n behind error.Memory h (named head.channels _ (job_in j) is)
+room_wanted text head n behind (Err e) h is = tt

@@ -5,7 +5,7 @@ use Rattle.std.proofs.lemmas.List.{length-append, length-map, reverse-append, le
 use Rattle.std.proofs.Math.Seq.{take-append_seam}
 use Rattle.mil_word.specs.declared.Line.{Line}
 use Rattle.mil_message.specs.declared.messages.Message.{Message}
-use Rattle.mil_message.specs.World.{Point, sent}
+use Rattle.mil_message.specs.World.{Point, sent, paced_to}
 use Rattle.mil_line.specs.Plans.{Planned, faults_of}
 use Rattle.mil_bus.specs.declared.talks.Talk.{Talk}
 use Rattle.mil_bus.specs.declared.outcomes.Outcome.{Outcome}
@@ -28,6 +28,9 @@ grows_same p = ([], refl, omega arith)
 
 pub grows_gap : (p : BusPoint) (t : ℕ) → Grows p (record p { gap = t })
 grows_gap p t = ([], refl, omega arith)
+
+pub grows_paced : (plan : List Planned) (placed : List Placed) (t : ℕ) (p : BusPoint) → Grows p (paced_to (world_of plan placed) t p)
+grows_paced plan placed t p = ([], refl, omega arith)
 
 pub grows_through : (p q s : BusPoint) → Grows p q → Grows q s → Grows p s
 grows_through p q s a b =

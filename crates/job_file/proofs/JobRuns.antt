@@ -3,7 +3,7 @@ use Rattle.std.proofs.Common.{◌≡◌, List, length, take, refl, sym, ap, ◌�
 use Rattle.std.proofs.lemmas.Bool.{cases_lt}
 use Rattle.mil_message.specs.World.{World, Point}
 use Rattle.mil_bus.specs.declared.outcomes.Outcome.{Outcome}
-use Rattle.mil_bus.specs.Exchange.{BusState}
+use Rattle.mil_bus.specs.Exchange.{BusState, played}
 use Rattle.frame_tree.specs.Tree.{Tree}
 use Rattle.frame_tree.specs.Bounds.{IsSound}
 use Rattle.frame_tree.specs.Meaning.{meaning}
@@ -19,7 +19,7 @@ use Rattle.job_file.specs.Meaning.{bus_of, world_at, end_of, records_in, records
 use Rattle.job_file.specs.Machines.{IsOf}
 use Rattle.job_file.proofs.Moves.{run_keeps, run_ends}
 use Rattle.job_file.proofs.Limits.{run_agrees, stands_still}
-use Rattle.job_file.proofs.Growth.{Grows, grows_same, grows_gap, grows_through, grows_message, records_count, records_first}
+use Rattle.job_file.proofs.Growth.{Grows, grows_same, grows_gap, grows_paced, grows_through, grows_message, records_count, records_first}
 
 abbrev pub CodeMeans : Type 0
 CodeMeans = (w : World BusState Outcome) (t : Tree) (p : Point BusState Outcome) → IsSound t → Behaves w t (code_of t) p
@@ -40,7 +40,7 @@ halts_here job placed m of e = rw (of.code, of.plan, of.actions) at e
 pub counted : (job : ChannelJob) (placed : List Placed) (m : MachineState) → IsOf job placed m → m.point.number ≡ length (records_in m.point.state)
 counted job placed m of =
     records_count (beginning (bus_of job)) m.point refl refl
-    (run_keeps (world_at job placed) (code_of job.tree) Grows grows_same grows_gap (grows_message job.plan placed) grows_through m.taken (start (code_of job.tree)) (beginning (bus_of job)) (here m) (reached job placed m of))
+    (run_keeps (world_at job placed) (code_of job.tree) Grows grows_same grows_gap (grows_message job.plan placed) (grows_paced job.plan placed) grows_through m.taken (start (code_of job.tree)) (beginning (bus_of job)) (here m) (reached job placed m of))
 
 module _ (means : CodeMeans) (job : ChannelJob) (placed : List Placed) (m : MachineState) (sound : IsSound job.tree) (of : IsOf job placed m) where
   pub so_far : records_in m.point.state ≡ take m.point.number (records job placed)
@@ -51,10 +51,10 @@ module _ (means : CodeMeans) (job : ChannelJob) (placed : List Placed) (m : Mach
       let b : Behaves w job.tree code first = means w job.tree first sound in
       let way : run w m.taken code (start code) first ≡ goes_on (here m) = reached job placed m of in
       records_first first m.point (end_of job placed) refl refl
-      (run_keeps w code Grows grows_same grows_gap (grows_message job.plan placed) grows_through m.taken (start code) first (here m) way)
-      (run_ends w code Grows grows_same grows_gap (grows_message job.plan placed) grows_through m.taken b.steps (start code) first (here m) (record { at = b.last; point = end_of job placed }) way b.comes b.halts)
+      (run_keeps w code Grows grows_same grows_gap (grows_message job.plan placed) (grows_paced job.plan placed) grows_through m.taken (start code) first (here m) way)
+      (run_ends w code Grows grows_same grows_gap (grows_message job.plan placed) (grows_paced job.plan placed) grows_through m.taken b.steps (start code) first (here m) (record { at = b.last; point = end_of job placed }) way b.comes b.halts)
 
-  pub bus_so_far : m.point.state ≡ bus_after job placed m.point.number
+  pub bus_so_far : played m.point.state ≡ bus_after job placed m.point.number
   bus_so_far =
       let w = world_at job placed in
       let k = m.point.number in
@@ -62,7 +62,7 @@ module _ (means : CodeMeans) (job : ChannelJob) (placed : List Placed) (m : Mach
       let first = beginning (bus_of job) in
       let b : Behaves (up_to k w) job.tree code first = means (up_to k w) job.tree first sound in
       let way : run (up_to k w) m.taken code (start code) first ≡ goes_on (here m) = run_agrees w k code m.taken (start code) first (here m) (reached job placed m of) (omega arith) in
-      sym (stands_still w k code m.taken b.steps (start code) first (here m) (record { at = b.last; point = meaning (up_to k w) job.tree first }) way b.comes b.halts (omega arith))
+      sym (stands_still w k code played (λ t s. refl) m.taken b.steps (start code) first (here m) (record { at = b.last; point = meaning (up_to k w) job.tree first }) way b.comes b.halts (omega arith))
 
   pub all_records : turn_of m ≡ halted → records_in m.point.state ≡ records job placed
   all_records e =

@@ -1,18 +1,19 @@
 -- What every step of a run keeps, in any world.
-use Rattle.std.proofs.Common.{◌≡◌, ℕ, zero, suc, ◌-◌, List, [], ◌∷◌, refl, sym, ap, ◌∙◌, subst}
+use Rattle.std.proofs.Common.{◌≡◌, ℕ, zero, suc, ◌+◌, ◌-◌, ◌*◌, List, [], ◌∷◌, refl, sym, ap, ◌∙◌, subst}
 use Rattle.std.specs.Prelude.{Option, Some, None, slice_get}
 use Rattle.mil_word.specs.declared.Line.{Line}
 use Rattle.mil_message.specs.declared.messages.Message.{Message}
-use Rattle.mil_message.specs.World.{World, Point, other_line, sent}
+use Rattle.mil_message.specs.World.{World, Point, other_line, sent, paced_to}
 use Rattle.frame_code.specs.declared.Op.{Op}
 use Rattle.frame_code.specs.declared.Op.TheVariants as op
-use Rattle.frame_code.specs.Table.{Code, Registers, Running, Turn, goes_on, halted, stuck, sends, counted, turns, leaves, act, step, then_run, run, calls, comes_back}
+use Rattle.frame_code.specs.Table.{Code, Registers, Running, Turn, goes_on, halted, stuck, sends, counted, turns, leaves, act, step, then_run, run, calls, comes_back, keeps_pace}
 use Rattle.frame_code.specs.Routines.{routine_at}
 use Rattle.bc_machine.proofs.Runs.{run_halted}
 
 module _ {State Outcome : Type 0} (w : World State Outcome) (code : Code) (R : Point State Outcome → Point State Outcome → Type 0)
     (same : (p : Point State Outcome) → R p p) (gap : (p : Point State Outcome) (t : ℕ) → R p (record p { gap = t }))
     (message : (line : Line) (m : Message) (p : Point State Outcome) → R p (sent w line m p))
+    (paced : (t : ℕ) (p : Point State Outcome) → R p (paced_to w t p))
     (through : (p q s : Point State Outcome) → R p q → R q s → R p s) where
   comes : (p : Point State Outcome) (y x : Running State Outcome) → goes_on y ≡ goes_on x → R p y.point → R p x.point
   comes p y x e h = let is : y ≡ x = cc in subst (λ (v : Running State Outcome). R p v.point) is h
@@ -41,6 +42,10 @@ module _ {State Outcome : Type 0} (w : World State Outcome) (code : Code) (R : P
   backs_keep [] r p x e = absurd (cc)
   backs_keep (i ∷ is) r p x e = comes p _ x e (same p)
 
+  pace_keeps : (bs : List ℕ) (h : ℕ) (r : Registers) (p : Point State Outcome) (x : Running State Outcome) → keeps_pace w bs h r p ≡ goes_on x → R p x.point
+  pace_keeps [] h r p x e = absurd (cc)
+  pace_keeps (b ∷ bs) h r p x e = comes p _ x e (paced (b + 1000 * h) p)
+
   act_keeps : (o : Option Op) (code : Code) (r : Registers) (p : Point State Outcome) (x : Running State Outcome) → act w o code r p ≡ goes_on x → R p x.point
   act_keeps None code r p x e = absurd (cc)
   act_keeps (Some op.Halt) code r p x e = absurd (cc)
@@ -55,6 +60,8 @@ module _ {State Outcome : Type 0} (w : World State Outcome) (code : Code) (R : P
   act_keeps (Some (op.JumpFalse i)) code r p x e = comes p _ x e (same p)
   act_keeps (Some (op.Call n)) code r p x e = calls_keep (routine_at code.operations n) r p x e
   act_keeps (Some op.Return) code r p x e = backs_keep r.returns r p x e
+  act_keeps (Some op.Begin) code r p x e = comes p _ x e (same p)
+  act_keeps (Some (op.Pace h)) code r p x e = pace_keeps r.frames h r p x e
 
   pub step_keeps : (r : Registers) (p : Point State Outcome) (x : Running State Outcome) → step w code r p ≡ goes_on x → R p x.point
   step_keeps r p x e = act_keeps (slice_get code.operations r.place) code r p x e

@@ -16,3 +16,4 @@ pub mod PlainJob
 pub mod Meaning
 pub mod Machines
 pub mod Texts
+pub mod Printing

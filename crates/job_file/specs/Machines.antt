@@ -2,6 +2,7 @@
 use Rattle.std.specs.Prelude.{◌≡◌, List, [], ◌∷◌, length, take, Option, Some, None}
 use Rattle.mil_bus.specs.declared.talks.Talk.{Talk}
 use Rattle.mil_bus.specs.declared.outcomes.Outcome.{Outcome}
+use Rattle.mil_bus.specs.Exchange.{played}
 use Rattle.frame_tree.specs.Bounds.{IsSound}
 use Rattle.frame_code.specs.Table.{halted}
 use Rattle.frame_asm.specs.Shapes.{code_of}
@@ -50,11 +51,11 @@ RecordsSoFar =
     (job : ChannelJob) (placed : List Placed) (m : MachineState) → IsSound job.tree → IsOf job placed m
     → records_in m.point.state ≡ take m.point.number (records job placed)
 
--- the bus is the job's after that many messages
+-- what was played on the bus is what the job has played after that many messages
 abbrev pub BusSoFar : Type 0
 BusSoFar =
     (job : ChannelJob) (placed : List Placed) (m : MachineState) → IsSound job.tree → IsOf job placed m
-    → m.point.state ≡ bus_after job placed m.point.number
+    → played m.point.state ≡ bus_after job placed m.point.number
 
 -- where it halts, the records are all of the job's
 abbrev pub AllRecords : Type 0

@@ -2,7 +2,7 @@
 use Rattle.std.specs.Prelude.{ℕ, nat_le, if◌then◌else◌, List, map, reverse}
 use Rattle.mil_message.specs.World.{World, Point}
 use Rattle.mil_bus.specs.declared.outcomes.Outcome.{Outcome}
-use Rattle.mil_bus.specs.Exchange.{BusState}
+use Rattle.mil_bus.specs.Exchange.{BusState, played}
 use Rattle.mil_bus.specs.Addresses.{fresh_bus}
 use Rattle.mil_monitor.specs.declared.Record.{Record}
 use Rattle.mil_monitor.specs.Observed.{observed}
@@ -37,8 +37,10 @@ up_to k w = record {
   exchange = λ number line message gap b.
       (if nat_le number k then (w.exchange number line message gap b).0 else b, (w.exchange number line message gap b).1);
   holds = w.holds;
+  now = w.now;
+  paced = w.paced;
 }
 
--- the bus after the first k messages: its talks, and what its terminals have met
+-- what was played on the bus after the first k messages: its talks, and what its terminals have met
 abbrev pub bus_after : ChannelJob → List Placed → ℕ → BusState
-bus_after job placed k = (meaning (up_to k (world_at job placed)) job.tree (beginning (bus_of job))).state
+bus_after job placed k = played (meaning (up_to k (world_at job placed)) job.tree (beginning (bus_of job))).state

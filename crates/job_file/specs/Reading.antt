@@ -1,12 +1,12 @@
 -- What the reading of a job answers.
-use Rattle.std.specs.Prelude.{◌≡◌, ◌<◌, true, false, Bool, length, Option, Some, None, Result, Ok, Err}
+use Rattle.std.specs.Prelude.{◌≡◌, ◌<◌, ◌≤◌, true, false, Bool, length, Option, Some, None, Result, Ok, Err}
 use Rattle.frame_tree.specs.Tree.{Tree}
 use Rattle.frame_text.specs.declared.faults.Cause.{Cause}
 use Rattle.frame_code.specs.Table.{Code}
 use Rattle.frame_asm.specs.Shapes.{code_of}
 use Rattle.frame_asm.specs.declared.AsmError.{AsmError}
 use Rattle.frame_asm.specs.declared.AsmError.TheVariants as assembler
-use Rattle.frame_load.specs.Judging.{IsWithin}
+use Rattle.frame_load.specs.Judging.{IsWithin, HasShortPeriods}
 use Rattle.frame_load.specs.declared.LoadError.{LoadError}
 use Rattle.frame_load.specs.declared.LoadError.TheVariants as loader
 use Rattle.job_file.specs.Lines.{Said}
@@ -47,16 +47,24 @@ IsScriptRefusal read (error.Script cause place) = read ≡ Err cause
 IsScriptRefusal read error.Memory = Unit {0}
 IsScriptRefusal read _ = ⊥
 
--- an image that is too long
+-- an image that is too long: its operations count first
 abbrev pub IsTooLong : Code → AsmError → Type 0
 IsTooLong code assembler.Operations = 4096 < length code.operations
-IsTooLong code assembler.Messages = 1024 < length code.messages
+IsTooLong code assembler.Messages = (length code.operations ≤ 4096) × (1024 < length code.messages)
 IsTooLong code assembler.Memory = ⊥
 
--- an image that the loader refuses for its budget; it refuses none for another cause
+-- an image that the loader refuses for its budget, or where that is kept for its periods; it refuses none for another cause
 abbrev pub IsTooMuch : Code → LoadError → Type 0
 IsTooMuch code loader.Budget = ¬ IsWithin code
+IsTooMuch code loader.Periods = IsWithin code × ¬ HasShortPeriods code
 IsTooMuch code _ = ⊥
+
+-- an image of which a program is made: it is not too long, and the loader refuses it for nothing
+pub record HasProgram (code : Code) : Type 0 where
+  pub operations : length code.operations ≤ 4096
+  pub messages : length code.messages ≤ 1024
+  pub within : IsWithin code
+  pub short : HasShortPeriods code
 
 abbrev pub IsCodeRefusal : Code → JobError → Type 0
 IsCodeRefusal code (error.Assembly line why) = IsTooLong code why
@@ -65,7 +73,7 @@ IsCodeRefusal code error.Memory = Unit {0}
 IsCodeRefusal code _ = ⊥
 
 -- A refusal for another cause than memory: there is no job, or its script has an image that is too long or that the loader
--- refuses for its budget.
+-- refuses for its budget or its periods.
 abbrev pub IsRefusal : Option ChannelJob → JobError → Type 0
 IsRefusal spelled (error.Line line why) = spelled ≡ None
 IsRefusal spelled (error.Script cause place) = spelled ≡ None

@@ -1,18 +1,30 @@
 -- The jobs of several texts, in their order (own choice).
-use Rattle.std.specs.Prelude.{◌≡◌, ℕ, List, map, take, slice_get, Some}
+use Rattle.std.specs.Prelude.{◌≡◌, ℕ, ◌<◌, ◌≤◌, List, length, map, slice_get, Some}
 use Rattle.mil_host.specs.Words.{Text}
+use Rattle.frame_asm.specs.Shapes.{code_of}
+use Rattle.frame_load.specs.Judging.{IsWithin, HasShortPeriods}
 use Rattle.job_file.specs.Spelled.{ChannelJob, spelled}
 use Rattle.job_file.specs.Reading.{IsRefusal}
+use Rattle.job_file.specs.Faults.{IsFirstFault}
 use Rattle.job_file.specs.declared.error.JobError.{JobError}
 
 -- each text spells the job at its place
 abbrev pub AreSpelled : List Text → List ChannelJob → Type 0
 AreSpelled texts jobs = map spelled texts ≡ map Some jobs
 
--- the first text that is refused, and why: those before it spell a job each
+-- a text that gives a job: what it spells has an image that is not too long, and that the loader accepts
+pub record IsAccepted (text : Text) : Type 0 where
+  pub job : ChannelJob
+  pub spells : spelled text ≡ Some job
+  pub operations : length (code_of job.tree).operations ≤ 4096
+  pub messages : length (code_of job.tree).messages ≤ 1024
+  pub within : IsWithin (code_of job.tree)
+  pub short : HasShortPeriods (code_of job.tree)
+
+-- the first text that is refused, and why: those before it give a job each
 pub record IsFirstRefused (texts : List Text) (index : ℕ) (fault : JobError) : Type 0 where
   pub text : Text
   pub there : slice_get texts index ≡ Some text
   pub refused : IsRefusal (spelled text) fault
-  pub jobs : List ChannelJob
-  pub before : AreSpelled (take index texts) jobs
+  pub first : IsFirstFault text fault
+  pub before : (i : ℕ) (earlier : Text) → i < index → slice_get texts i ≡ Some earlier → IsAccepted earlier

@@ -53,7 +53,7 @@ pub enum JobError {
     Script { cause: Cause, place: Place },
     /// J7 with A1 or A2, at the line `script`: the script has no image.
     Assembly { line: u64, fault: AsmError },
-    /// J7 with P5, at the line `script`: the loader refuses the image.
+    /// J7 with P5 or P8, at the line `script`: the loader refuses the image.
     Loading { line: u64, fault: LoadError },
     /// J8: memory was refused.
     Memory,
@@ -71,8 +71,13 @@ impl JobError {
     }
 }
 
-/// `J4 line 3`, `J5 line 4 H3`, `J6 line 3 L2`, `J7 line 9 column 3 S2`, `J7 line 9 column 3 S4 M3`, `J7 line 9 P5`, `J8`.
+/// `J4 line 3`, `J5 line 4 H3`, `J6 line 3 L2`, `J7 line 9 column 3 S2`, `J7 line 9 column 3 S4 M3`, `J7 line 9 P5`,
+/// `J7 line 9 P8`, `J8`.
 impl Display for JobError {
+    ghost use Rattle.job_file.specs.Printing.{fault_text};
+
+    ghost output = { fault_text };
+
     fn fmt<W: Write>(&self, f: &mut Formatter<W>) -> fmt::Result {
         match self {
             JobError::Line { line, fault } => match fault {

@@ -7,9 +7,10 @@ ghost use Rattle.frame_asm.specs.Shapes.{code_of};
 ghost use Rattle.job_file.specs.Drafts.{shown};
 ghost use Rattle.job_file.specs.JobRanges.{IsFit};
 ghost use Rattle.job_file.specs.Spelled.{spelled, job_of};
-ghost use Rattle.job_file.specs.Reading.{IsRefusal, IsScriptRefusal, IsCodeRefusal};
+ghost use Rattle.job_file.specs.Reading.{IsRefusal, IsScriptRefusal, IsCodeRefusal, HasProgram};
 ghost use Rattle.job_file.specs.Faults.{IsHead, IsFirstFault, IsScriptRefused, IsLineOf};
-ghost use Rattle.job_file.specs.Jobs.{job_in};
+ghost use Rattle.job_file.specs.Jobs.{tree_in, job_in};
+ghost use Rattle.job_file.specs.Texts.{IsAccepted};
 
 use crate::drafts::{Draft, Taken};
 use crate::error::{JobError, LineFault};
@@ -93,6 +94,7 @@ fn program(alloc: Global, line: u64, frame: &Frame<&Bump>) -> Result<Program, Jo
     ensures program { IfOk result (λ p. p ≡ code_of (tree_of frame.now)) }
     ensures refused { IfErr result (IsCodeRefusal (code_of (tree_of frame.now))) }
     ensures line { IfErr result (IsLineOf line) }
+    ensures well { IfOk result (λ _. HasProgram (code_of (tree_of frame.now))) }
 {
     let image = match assemble(alloc, frame) {
         Ok(image) => image,
@@ -126,6 +128,7 @@ fn finish(
     ensures job { IfOk result (λ j. job_of (shown draft) script.now ≡ Some (job_in j)) }
     ensures refused { IfErr result (IsRefusal (job_of (shown draft) script.now)) }
     ensures first { IfErr result (IsScriptRefused (shown draft) line script.now) }
+    ensures well { IfOk result (λ j. HasProgram (code_of (tree_in j))) }
 {
     let Some(channel) = draft.channel else {
         return Err(JobError::Line {
@@ -143,8 +146,12 @@ fn finish(
 /// The job that a text spells, whose script's tree stands in the arena meanwhile.
 pub(crate) fn read_in(alloc: Global, arena: &mut Bump, text: &[u8]) -> Result<Job, JobError>
     ensures job { IfOk result (λ j. spelled text.now ≡ Some (job_in j)) }
+    ensures accepted { IfOk result (λ _. IsAccepted text.now) }
     ensures refused { IfErr result (IsRefusal (spelled text.now)) }
     ensures first { IfErr result (IsFirstFault text.now) }
+
+    // Want of memory may still be answered of a text that gives a job, where there is no room for the job itself.
+    ensures room { IfOk result (λ _. IsFirstFault text.now JobError.Memory) }
 {
     let Head {
         draft,
@@ -156,9 +163,11 @@ pub(crate) fn read_in(alloc: Global, arena: &mut Bump, text: &[u8]) -> Result<Jo
 
 /// The job that a text spells: lines `channel N`, `start TICK`, `terminal ADDRESS`, `at NUMBER ADDRESS ACTION` and
 /// `fault NUMBER FAULT`, and below a line `script` the script. The first fault is answered, line by line: J1 to J6, then J7 of the
-/// script, and J8 where memory is refused. The script's tree stands in an arena, which is given up once the image is made.
+/// script, where A1 counts before A2, and P5 before P8; and J8 where memory is refused. The script's tree stands in an
+/// arena, which is given up once the image is made.
 pub fn read_job(alloc: Global, text: &[u8]) -> Result<Job, JobError>
     ensures job { IfOk result (λ j. spelled text.now ≡ Some (job_in j)) }
+    ensures accepted { IfOk result (λ _. IsAccepted text.now) }
     ensures refused { IfErr result (IsRefusal (spelled text.now)) }
     ensures first { IfErr result (IsFirstFault text.now) }
 {

@@ -19,6 +19,10 @@ pub struct JobsError {
 
 /// The fault as it stands for one text.
 impl Display for JobsError {
+    ghost use Rattle.job_file.specs.Printing.{fault_text};
+
+    ghost output = { λ e. fault_text e.fault };
+
     fn fmt<W: Write>(&self, f: &mut Formatter<W>) -> fmt::Result {
         write!(f, "{}", self.fault)
     }

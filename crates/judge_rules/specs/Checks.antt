@@ -7,13 +7,8 @@ use Rattle.judge_rules.specs.declared.rules.Bounds.{Bounds}
 use Rattle.judge_rules.specs.declared.rules.Datum.{Datum}
 use Rattle.judge_rules.specs.declared.rules.Check.{Check}
 use Rattle.judge_rules.specs.declared.rules.Check.TheVariants.{Sound, Failed, Clean, Status, Data, Response, Period, Count}
-use Rattle.judge_rules.specs.Faults.{Read, both, made}
+use Rattle.judge_rules.specs.Faults.{Read, both, made, ended}
 use Rattle.judge_rules.specs.Values.{word_in, bounds_in, data_in}
-
--- no word is left over
-abbrev pub ended : {X : Type 0} → Read X → List Text → Read X
-ended value [] = value
-ended value (word ∷ rest) = Err Word
 
 abbrev pub mask_in : List Text → Read ℕ
 mask_in [] = Ok 0xFFFF

@@ -1,5 +1,6 @@
 -- Which fault of a line counts (own choice): a word that doesn't stand there before what is no number, and that before a range.
-use Rattle.std.specs.Prelude.{Result, Ok, Err}
+use Rattle.std.specs.Prelude.{Result, Ok, Err, List, [], ◌∷◌}
+use Rattle.mil_host.specs.Words.{Text}
 use Rattle.judge_rules.specs.declared.fault.RuleFault.{RuleFault}
 use Rattle.judge_rules.specs.declared.fault.RuleFault.TheVariants.{Word, Number, Range, Memory}
 
@@ -37,3 +38,8 @@ both (Err f) (Err g) = Err (lower f g)
 abbrev pub made : {A B : Type 0} → (A → B) → Read A → Read B
 made make (Ok a) = Ok (make a)
 made make (Err f) = Err f
+
+-- no word is left over
+abbrev pub ended : {X : Type 0} → Read X → List Text → Read X
+ended value [] = value
+ended value (word ∷ rest) = Err Word

@@ -1,11 +1,11 @@
 -- The selector of a rule (own choice): a name, and behind it numbers or `*`.
 use Rattle.std.specs.Prelude.{ℕ, List, [], ◌∷◌, drop, Ok, Err, Option, codes, if◌then◌else◌}
 use Rattle.std.specs.Str.{bytes_eq}
-use Rattle.mil_host.specs.Words.{Text}
+use Rattle.mil_host.specs.Words.{Text, words}
 use Rattle.judge_rules.specs.declared.fault.RuleFault.TheVariants.{Word}
 use Rattle.judge_rules.specs.declared.rules.Selector.{Selector}
 use Rattle.judge_rules.specs.declared.rules.Selector.TheVariants.{Any, Receive, Transmit, Between, Mode, ReceiveAll, BetweenAll, ModeAll}
-use Rattle.judge_rules.specs.Faults.{Read, both, made}
+use Rattle.judge_rules.specs.Faults.{Read, both, made, ended}
 use Rattle.judge_rules.specs.Values.{choice_in}
 
 -- the address of a terminal, a subaddress that is none of mode commands, and a mode code (4.3.3.5.1)
@@ -82,3 +82,7 @@ behind_name name rest =
 abbrev pub behind_selector : List Text → List Text
 behind_selector [] = []
 behind_selector (name ∷ rest) = behind_name name rest
+
+-- the selector that a text spells, where it is all that the text says
+abbrev pub selector_of : Text → Read Selector
+selector_of text = ended (selector_in (words text)) (behind_selector (words text))

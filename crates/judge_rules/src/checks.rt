@@ -5,22 +5,12 @@ ghost use Rattle.judge_rules.specs.Checks as spec;
 use crate::fault::{RuleFault, both};
 use crate::rules::{Bounds, Check, Datum};
 use crate::values::{read_bounds, read_data, read_word};
-use crate::words::Words;
+use crate::words::{Words, ended};
 
 /// The longest gap that a recording tells, in ticks.
 const MOST_TICKS: u32 = 255;
 /// The greatest number of seven digits.
 const MOST: u32 = 9_999_999;
-
-/// No word is left.
-fn ended<T: Drop>(words: &mut Words<'_>, value: Result<T, RuleFault>) -> Result<T, RuleFault>
-    ensures { result ≡ spec.ended value words.old }
-{
-    match words.next() {
-        Some(_) => Err(RuleFault::Word),
-        None => value,
-    }
-}
 
 /// A mask, all bits where there is none.
 fn read_mask(words: &mut Words<'_>) -> Result<u16, RuleFault>

@@ -16,4 +16,5 @@ mod words;
 pub use fault::{RuleError, RuleFault};
 pub use reading::{MOST_RULES, read_rules};
 pub use rules::{Bounds, Bus, Check, Datum, Rule, Selector};
+pub use selectors::selector_of;
 pub use text_lines::next_line;

@@ -5,7 +5,7 @@ ghost use Rattle.judge_rules.specs.Selectors as spec;
 use crate::fault::{RuleFault, both};
 use crate::rules::Selector;
 use crate::values::read_choice;
-use crate::words::Words;
+use crate::words::{Words, ended};
 
 /// The greatest address of a terminal.
 const LAST_ADDRESS: u8 = 30;
@@ -152,4 +152,14 @@ pub(crate) fn read_selector(words: &mut Words<'_>) -> Result<Selector, RuleFault
     } else {
         Err(RuleFault::Word)
     }
+}
+
+/// The selector that a text spells, in the words of a rule and no others, as `tx 5 3` or `rt * * 7 *`. Else its fault: a word that
+/// does not stand there, is missing or is left over before what is no number, and that before a number out of its range.
+pub fn selector_of(text: &[u8]) -> Result<Selector, RuleFault>
+    ensures { result ≡ spec.selector_of text.now }
+{
+    let mut words = Words::of(text);
+    let selector = read_selector(&mut words);
+    ended(&mut words, selector)
 }

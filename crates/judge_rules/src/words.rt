@@ -2,8 +2,10 @@
 ghost use Rattle.std.specs.Prelude.{◌≡◌, slice_get, drop, if◌then◌else◌};
 ghost use Rattle.std.specs.Option.{option_copied};
 ghost use Rattle.mil_host.specs.Words.{words};
+ghost use Rattle.judge_rules.specs.Faults as faults;
 ghost use Rattle.judge_rules.specs.Values.{begins_with};
 
+use crate::fault::RuleFault;
 use mil_host::next_word;
 use std::marker::Model;
 
@@ -59,5 +61,18 @@ impl<'a> Words<'a> {
             }
             None => false,
         }
+    }
+}
+
+/// A value, behind which no word is left.
+pub(crate) fn ended<T: Drop>(
+    words: &mut Words<'_>,
+    value: Result<T, RuleFault>,
+) -> Result<T, RuleFault>
+    ensures { result ≡ faults.ended value words.old }
+{
+    match words.next() {
+        Some(_) => Err(RuleFault::Word),
+        None => value,
     }
 }

@@ -1,7 +1,9 @@
 //! What `bench dump --decode` shows of messages, worked out by hand.
 use crate::equal::{reads, same, same_in};
 use crate::made::{FOREIGN, TRANSFER, recorded};
-use bench_decode::{Bus, Line, Numbers, Output, Place, Selection, Shown, decode, write_message};
+use bench_decode::{
+    Bound, Bus, Line, Numbers, Output, Place, Selection, Shown, decode, write_message,
+};
 use ch11_f1::Seen;
 use std::alloc::Global;
 use std::process::Abort;
@@ -324,13 +326,15 @@ const ALL: Output = Output {
     selection: Selection {
         channel: None,
         line: None,
+        selector: None,
         errors: false,
-        from: 1,
-        to: 100,
+        from: None,
+        to: None,
     },
     decoded: true,
     shown: Shown::Plain,
     skip: false,
+    by_time: false,
 };
 
 /// Numbers count over the file and in the channel, behind other channels too; a file of another recorder.
@@ -348,13 +352,13 @@ fn messages_are_chosen(rt: HostRuntime) {
     let file = recorded(&rt, rt.alloc(), &[POLL, TRANSFER, POLL]);
     let mut output = ALL;
     output.selection.channel = Some(1);
-    output.selection.from = 4;
+    output.selection.from = Some(Bound::Number(4));
     shows(&rt, rt.alloc(), &file, &output, CHOSEN_LINES, 1);
     output.decoded = false;
     shows(&rt, rt.alloc(), &file, &output, CHOSEN_DUMP, 1);
     output.selection = ALL.selection;
     output.selection.line = Some(Bus::B);
-    output.selection.to = 1;
+    output.selection.to = Some(Bound::Number(1));
     shows(&rt, rt.alloc(), &file, &output, POLL_DUMP, 1);
     output.selection.line = Some(Bus::A);
     shows(&rt, rt.alloc(), &file, &output, "", 0);

@@ -1,7 +1,8 @@
 //! What `bench export` writes of recordings, worked out by hand.
-use crate::equal::reads;
+use crate::equal::{reads, same};
 use crate::made::{FOREIGN, FORMS, RETRY, TRANSFER, recorded};
-use bench_export::export;
+use bench_export::{Columns, Table, export, selects_any};
+use bench_select::{Bound, Selection};
 use ch11_reader::Index;
 use std::alloc::Global;
 use std::process::Abort;
@@ -18,16 +19,53 @@ const FORMS_ROWS: &str =
 const FOREIGN_ROWS: &str =
     "number,channel,time_us,line,form,terminal,subaddress,count,mode_code,sender,sender_subaddress,status_words,block_status,gap1_us,gap2_us,data_words\n1,1,0.0,A,BC to RT,5,1,3,,,,2800,,8.0,,0001 0002 0003\n";
 
-/// The rows of a file.
-fn has_rows(rt: &impl Abort, alloc: Global, file: &[u8], wanted: &str) {
+/// The fourth and the fifth of the retries.
+const CHOSEN_ROWS: &str =
+    "number,channel,time_us,line,form,terminal,subaddress,count,mode_code,sender,sender_subaddress,status_words,block_status,gap1_us,gap2_us,data_words\n4,1,335.1,B,BC to RT,5,1,3,,,,2800,line_b,8.0,,0001 0002 0003\n5,1,443.1,A,BC to RT,5,1,3,,,,,message_error response_timeout word_count_error,,,0001 0002\n";
+
+/// Three errors, each with a retry on the other line: no reply, a late one, and a data word lost.
+const RETRY_FRAMES: &str = "\
+number,channel,time_s,line,form,tr,terminal,subaddress,count,mode_code,sender,sender_subaddress,gap1_us,gap2_us,status1,status2,status_message_error,status_instrumentation,status_service_request,status_broadcast,status_busy,status_subsystem,status_control,status_terminal,message_error,format_error,response_timeout,word_count_error,sync_type_error,invalid_word_error,data_words,word1,word2,word3,word4,word5,word6,word7,word8,word9,word10,word11,word12,word13,word14,word15,word16,word17,word18,word19,word20,word21,word22,word23,word24,word25,word26,word27,word28,word29,word30,word31,word32\n\
+1,1,0.0000000,A,BC to RT,R,5,1,3,,,,,,,,,,,,,,,,1,0,1,0,0,0,3,0001,0002,0003,,,,,,,,,,,,,,,,,,,,,,,,,,,,,\n\
+2,1,0.0000960,B,BC to RT,R,5,1,3,,,,8.0,,2800,,0,0,0,0,0,0,0,0,0,0,0,0,0,0,3,0001,0002,0003,,,,,,,,,,,,,,,,,,,,,,,,,,,,,\n\
+3,1,0.0002040,A,BC to RT,R,5,1,3,,,,17.1,,2800,,0,0,0,0,0,0,0,0,1,0,1,0,0,0,3,0001,0002,0003,,,,,,,,,,,,,,,,,,,,,,,,,,,,,\n\
+4,1,0.0003351,B,BC to RT,R,5,1,3,,,,8.0,,2800,,0,0,0,0,0,0,0,0,0,0,0,0,0,0,3,0001,0002,0003,,,,,,,,,,,,,,,,,,,,,,,,,,,,,\n\
+5,1,0.0004431,A,BC to RT,R,5,1,3,,,,,,,,,,,,,,,,1,0,1,1,0,0,2,0001,0002,,,,,,,,,,,,,,,,,,,,,,,,,,,,,,\n\
+6,1,0.0005191,B,BC to RT,R,5,1,3,,,,8.0,,2800,,0,0,0,0,0,0,0,0,0,0,0,0,0,0,3,0001,0002,0003,,,,,,,,,,,,,,,,,,,,,,,,,,,,,\n\
+";
+
+/// Two status words and two response times; words behind 0x.
+const TRANSFER_FRAMES: &str = "\
+number,channel,time_s,line,form,tr,terminal,subaddress,count,mode_code,sender,sender_subaddress,gap1_us,gap2_us,status1,status2,status_message_error,status_instrumentation,status_service_request,status_broadcast,status_busy,status_subsystem,status_control,status_terminal,message_error,format_error,response_timeout,word_count_error,sync_type_error,invalid_word_error,data_words,word1,word2,word3,word4,word5,word6,word7,word8,word9,word10,word11,word12,word13,word14,word15,word16,word17,word18,word19,word20,word21,word22,word23,word24,word25,word26,word27,word28,word29,word30,word31,word32\n\
+1,1,0.0000000,A,RT to RT,R,3,4,2,,7,1,8.0,8.0,0x3800,0x1800,0,0,0,0,0,0,0,0,0,0,0,0,0,0,2,0xAAAA,0x5555,,,,,,,,,,,,,,,,,,,,,,,,,,,,,,\n\
+2,1,0.0001340,A,mode,T,3,31,,2,,,8.0,,0x1800,,0,0,0,0,0,0,0,0,0,0,0,0,0,0,0,,,,,,,,,,,,,,,,,,,,,,,,,,,,,,,,\n\
+";
+
+/// The rows of selected messages of a file.
+fn has_table(rt: &impl Abort, alloc: Global, file: &[u8], table: &Table, wanted: &str) {
     let index = Index::build(alloc, file).ok().expect(rt, "a recording");
-    let rows = export(alloc, &index, Vec::new(alloc)).ok();
+    let rows = export(alloc, &index, table, Vec::new(alloc)).ok();
     reads(rt, &rows.expect(rt, "rows"), wanted);
+}
+
+/// The rows of a file.
+fn has_rows(rt: &impl Abort, alloc: Global, file: &[u8], columns: Columns, wanted: &str) {
+    let table = Table {
+        columns,
+        selection: Selection::all(),
+    };
+    has_table(rt, alloc, file, &table, wanted);
 }
 
 /// The rows of the recording of a job.
 fn is_exported(rt: &impl Abort, alloc: Global, job: &str, wanted: &str) {
-    has_rows(rt, alloc, &recorded(rt, alloc, &[job]), wanted);
+    has_rows(
+        rt,
+        alloc,
+        &recorded(rt, alloc, &[job]),
+        Columns::Messages,
+        wanted,
+    );
 }
 
 /// Retries; both ends of a transfer; the other forms; a file of another recorder.
@@ -36,5 +74,39 @@ fn messages_are_rows(rt: HostRuntime) {
     is_exported(&rt, rt.alloc(), RETRY, RETRY_ROWS);
     is_exported(&rt, rt.alloc(), TRANSFER, TRANSFER_ROWS);
     is_exported(&rt, rt.alloc(), FORMS, FORMS_ROWS);
-    has_rows(&rt, rt.alloc(), &FOREIGN, FOREIGN_ROWS);
+    has_rows(&rt, rt.alloc(), &FOREIGN, Columns::Messages, FOREIGN_ROWS);
+}
+
+/// A column for each value: bits of status words and errors, data words, words behind 0x.
+#[test]
+fn values_are_columns(rt: HostRuntime) {
+    let bare = Columns::Frames { prefixed: false };
+    let retry = recorded(&rt, rt.alloc(), &[RETRY]);
+    has_rows(&rt, rt.alloc(), &retry, bare, RETRY_FRAMES);
+    let prefixed = Columns::Frames { prefixed: true };
+    let transfer = recorded(&rt, rt.alloc(), &[TRANSFER]);
+    has_rows(&rt, rt.alloc(), &transfer, prefixed, TRANSFER_FRAMES);
+}
+
+/// Of a file, whether a selection has a message.
+fn has_any(rt: &impl Abort, alloc: Global, file: &[u8], selection: &Selection, wanted: bool) {
+    let index = Index::build(alloc, file).ok().expect(rt, "a recording");
+    same(rt, &selects_any(&index, selection), &wanted);
+}
+
+/// Some messages alone, with the numbers of the file; and a selection of none.
+#[test]
+fn selected_messages_are_rows(rt: HostRuntime) {
+    let retry = recorded(&rt, rt.alloc(), &[RETRY]);
+    let mut table = Table {
+        columns: Columns::Messages,
+        selection: Selection::all(),
+    };
+    table.selection.from = Some(Bound::Time(3351));
+    table.selection.to = Some(Bound::Number(5));
+    has_table(&rt, rt.alloc(), &retry, &table, CHOSEN_ROWS);
+    has_any(&rt, rt.alloc(), &retry, &table.selection, true);
+    table.selection.channel = Some(2);
+    has_any(&rt, rt.alloc(), &retry, &table.selection, false);
+    has_any(&rt, rt.alloc(), b"", &Selection::all(), false);
 }

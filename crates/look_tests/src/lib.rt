@@ -1,5 +1,5 @@
 //! Tests of the commands for people who look: `bench_stat`, `bench_export`, `bench_draw`, `bench_explain`, `bench_complete` and
-//! `bench_decode`, and with them of `ch11_layout`.
+//! `bench_decode`, and with them of `bench_select` and `ch11_layout`.
 #![tactic(auto)]
 
 #[cfg(test)]
@@ -17,6 +17,10 @@ mod made;
 #[cfg(test)]
 mod pictures;
 #[cfg(test)]
+mod selections;
+#[cfg(test)]
 mod statistics;
 #[cfg(test)]
 mod verdicts;
+#[cfg(test)]
+mod waves;

@@ -1,7 +1,10 @@
 //! What `bench draw` draws of recordings, worked out by hand.
+use crate::completions::{FRONT, LATE};
 use crate::equal::same_in;
-use crate::made::{FOREIGN, RETRY, recorded};
-use bench_draw::{MOST_BYTES, Selection, draw};
+use crate::made::{FOREIGN, FORMS, RETRY, recorded};
+use bench_clock::Clock;
+use bench_draw::{MOST_BYTES, draw};
+use bench_select::{Bound, Bus, Selection};
 use ch11_reader::Index;
 use std::alloc::Global;
 use std::process::Abort;
@@ -9,6 +12,9 @@ use std::process::Abort;
 /// Four hundred messages of 46.0 µs each with 2.0 µs between them: three pixels for each.
 const MANY: &str =
     "channel 7\nterminal 5\nfault 200 mute 1\nscript\nrepeat 400 { send B mode 5 2 }\n";
+
+/// A hundred messages of 46.0 µs, one in 575.0 µs: a load of 8 percent.
+const SPARSE: &str = "channel 7\nterminal 5\nscript\nrepeat 100 { send A mode 5 2 gap 5310 }\n";
 
 /// How often a piece stands in a picture.
 fn count_of(picture: &[u8], piece: &[u8]) -> usize {
@@ -21,12 +27,24 @@ fn count_of(picture: &[u8], piece: &[u8]) -> usize {
 /// A piece, in the picture of which messages it is looked for, and how often it stands there.
 type Row = (u64, u64, &'static str, usize);
 
-/// A message of 106.0 µs over 1200 pixels from pixel 90 on: the command for 20.0, data for 60.0, 6.0 of pause, the status for 20.0.
-const FOREIGN_ROWS: [Row; 5] = [
-    (1, 1, "x=\"90.0\" y=\"110\" width=\"226.4\"", 1),
-    (1, 1, "x=\"316.4\" y=\"110\" width=\"679.2\"", 1),
-    (1, 1, "x=\"1063.5\" y=\"110\" width=\"226.5\"", 1),
-    (1, 1, "class=\"a\">5</text>", 2),
+/// A message of 106.0 µs over 1200 pixels from pixel 90 on: the command for 20.0, data for 60.0, 6.0 of pause, the status
+/// for 20.0; ten steps of 10 µs go into it.
+const FOREIGN_ROWS: [Row; 11] = [
+    (1, 1, "x=\"90.0\" y=\"138\" width=\"226.4\"", 1),
+    (1, 1, "x=\"316.4\" y=\"138\" width=\"679.2\"", 1),
+    (1, 1, "x=\"1063.5\" y=\"138\" width=\"226.5\"", 1),
+    (1, 1, "class=\"a\">5</text>", 1),
+    (1, 1, "class=\"a\">5 R 1</text>", 1),
+    (1, 1, "class=\"d\">0003</text>", 1),
+    (1, 1, "class=\"n\">1</text>", 1),
+    (1, 1, "class=\"t\">", 11),
+    (1, 1, "class=\"t\">100</text>", 1),
+    (
+        1,
+        1,
+        "time in \u{b5}s from the start of the first message, at 0.0000000 s<",
+        1,
+    ),
     (2, 9, "no message is selected", 1),
 ];
 
@@ -36,46 +54,174 @@ const RETRY_ROWS: [Row; 4] = [
     (
         2,
         2,
-        "<g><title>message 2 channel 1 stamp 960 block 2000 gaps 0050 words 2823 0001 0002 0003 2800</title>",
+        "<g><title>message 2, channel 1, number 2 there, line B\n0.0000960 s\nrx 5 1 3\nstatus words: 2800 8.0 us\ndata words: 0001 0002 0003</title>",
         1,
     ),
     (1, 6, "class=\"e\">NR", 3),
     (1, 6, "class=\"e\">NR WC", 1),
 ];
 
-/// Of many messages no bar, but the mark of the one that has an error.
-const MANY_ROWS: [Row; 3] = [
+/// Of many messages no bar, but the mark of the one that has an error, and the load of line B; 24 of them with their
+/// labels, and of 60, twenty pixels for each, one in three, where a label takes fifty.
+const MANY_ROWS: [Row; 7] = [
     (1, 400, "<g>", 0),
     (1, 400, "<title>message 200</title>", 1),
+    (1, 400, "class=\"r\">100 %</text>", 1),
     (1, 100, "<g>", 100),
+    (1, 100, "class=\"r\">", 0),
+    (1, 24, "class=\"n\">", 24),
+    (1, 60, "class=\"n\">", 20),
 ];
 
-/// A piece stands so often in the picture of some messages, which is not too large.
-fn has_piece(rt: &impl Abort, alloc: Global, index: &Index<'_>, row: &Row) {
-    let (from, to, piece, wanted) = *row;
-    let selection = Selection {
-        channel: None,
-        from,
-        to,
-    };
-    let picture = draw(alloc, index, &selection).ok().expect(rt, "memory");
-    same_in(rt, piece, &(picture.len() <= MOST_BYTES), &true);
-    same_in(rt, piece, &count_of(&picture, piece.as_bytes()), &wanted);
+/// In the first of a hundred parts of 569.7 µs lies one message: 80 thousandths of the load, drawn 32 of the 40 pixels
+/// that stand for ten percent.
+const SPARSE_ROWS: [Row; 4] = [
+    (1, 100, "<g>", 0),
+    (1, 100, "class=\"r\">10 %</text>", 1),
+    (1, 100, "d=\"M90 146H90V114.0", 1),
+    (1, 100, "time in ms from", 1),
+];
+
+/// A poll at 1.5 seconds, behind the time packet of 2024-12-31T23:59:59 at the first.
+const LATE_ROWS: [Row; 1] = [(
+    1,
+    1,
+    "time in \u{b5}s from the start of the first message, at 1.5000000 s, 2024-12-31T23:59:59.5000000 UTC<",
+    1,
+)];
+
+/// The forms of messages by their labels.
+const FORMS_ROWS: [Row; 7] = [
+    (1, 6, "class=\"l\">5 T 2</text>", 1),
+    (1, 6, "class=\"l\">mode 17</text>", 1),
+    (1, 6, "class=\"l\">5 R</text>", 1),
+    (1, 6, "class=\"l\">broadcast</text>", 3),
+    (1, 6, "class=\"l\">R 1</text>", 1),
+    (1, 6, "class=\"l\">R 4, 5 T 1</text>", 1),
+    (1, 6, "class=\"l\">T mode 1</text>", 1),
+];
+
+/// A piece stands so often in the picture of some messages, which is not too large and says how many they are.
+fn has_piece(
+    rt: &impl Abort,
+    alloc: Global,
+    file: &[u8],
+    selection: &Selection,
+    row: (u64, &str, usize),
+) {
+    let (messages, piece, wanted) = row;
+    let index = Index::build(alloc, file).ok().expect(rt, "a recording");
+    let clock = Clock::of(alloc, file, index.packets())
+        .ok()
+        .expect(rt, "memory");
+    let drawing = draw(alloc, &index, selection, &clock)
+        .ok()
+        .expect(rt, "memory");
+    same_in(rt, piece, &(drawing.text.len() <= MOST_BYTES), &true);
+    same_in(rt, piece, &drawing.messages, &messages);
+    same_in(
+        rt,
+        piece,
+        &count_of(&drawing.text, piece.as_bytes()),
+        &wanted,
+    );
 }
 
-/// The pieces of some rows stand in the pictures of a file.
-fn has_pieces(rt: &impl Abort, alloc: Global, file: &[u8], rows: &[Row]) {
-    let index = Index::build(alloc, file).ok().expect(rt, "a recording");
-    for row in rows {
-        has_piece(rt, alloc, &index, row);
+/// The pieces of some rows stand in the pictures of a file with so many messages.
+fn has_pieces(rt: &impl Abort, alloc: Global, file: &[u8], messages: u64, rows: &[Row]) {
+    for (from, to, piece, wanted) in rows {
+        let selection = Selection {
+            channel: None,
+            line: None,
+            selector: None,
+            errors: false,
+            from: Some(Bound::Number(*from)),
+            to: Some(Bound::Number(*to)),
+        };
+        let last = (*to).min(messages);
+        let chosen = last.saturating_add(1).saturating_sub(*from);
+        has_piece(rt, alloc, file, &selection, (chosen, *piece, *wanted));
     }
 }
 
 #[test]
 fn pieces_stand_where_they_should(rt: HostRuntime) {
-    has_pieces(&rt, rt.alloc(), &FOREIGN, &FOREIGN_ROWS);
+    has_pieces(&rt, rt.alloc(), &FOREIGN, 1, &FOREIGN_ROWS);
     let retry = recorded(&rt, rt.alloc(), &[RETRY]);
-    has_pieces(&rt, rt.alloc(), &retry, &RETRY_ROWS);
+    has_pieces(&rt, rt.alloc(), &retry, 6, &RETRY_ROWS);
     let many = recorded(&rt, rt.alloc(), &[MANY]);
-    has_pieces(&rt, rt.alloc(), &many, &MANY_ROWS);
+    has_pieces(&rt, rt.alloc(), &many, 400, &MANY_ROWS);
+    let sparse = recorded(&rt, rt.alloc(), &[SPARSE]);
+    has_pieces(&rt, rt.alloc(), &sparse, 100, &SPARSE_ROWS);
+    let late = recorded(&rt, rt.alloc(), &[LATE]);
+    let mut dated = FRONT.to_vec(rt.alloc()).expect(&rt, "memory");
+    dated.extend_from_slice(&late).expect(&rt, "memory");
+    has_pieces(&rt, rt.alloc(), &dated, 1, &LATE_ROWS);
+    let forms = recorded(&rt, rt.alloc(), &[FORMS]);
+    has_pieces(&rt, rt.alloc(), &forms, 6, &FORMS_ROWS);
+}
+
+/// Of the messages of three retries those with an error, those on line B, those from a time on, and none.
+const CHOSEN: [(Selection, u64, &str, usize); 4] = [
+    (
+        Selection {
+            channel: None,
+            line: None,
+            selector: None,
+            errors: true,
+            from: None,
+            to: None,
+        },
+        3,
+        "class=\"n\">5</text>",
+        1,
+    ),
+    (
+        Selection {
+            channel: Some(1),
+            line: Some(Bus::B),
+            selector: None,
+            errors: false,
+            from: None,
+            to: None,
+        },
+        3,
+        "class=\"n\">5</text>",
+        0,
+    ),
+    (
+        Selection {
+            channel: None,
+            line: None,
+            selector: None,
+            errors: false,
+            from: Some(Bound::Time(960)),
+            to: None,
+        },
+        5,
+        "class=\"n\">",
+        5,
+    ),
+    (
+        Selection {
+            channel: Some(2),
+            line: None,
+            selector: None,
+            errors: false,
+            from: None,
+            to: None,
+        },
+        0,
+        "no message is selected",
+        1,
+    ),
+];
+
+#[test]
+fn chosen_messages_are_drawn(rt: HostRuntime) {
+    let retry = recorded(&rt, rt.alloc(), &[RETRY]);
+    for (selection, messages, piece, wanted) in CHOSEN {
+        let row = (messages, piece, wanted);
+        has_piece(&rt, rt.alloc(), &retry, &selection, row);
+    }
 }

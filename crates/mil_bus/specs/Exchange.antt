@@ -132,6 +132,11 @@ now_of b = max (clock_of b.start b.talks) b.least_start
 abbrev pub paced : ℕ → BusState → BusState
 paced tick b = record { start = b.start; least_start = max b.least_start tick; talks = b.talks; stations = b.stations }
 
+-- What was played on a bus: its talks, and what its stations have met. The least start is left out: it has an effect on a talk
+-- that follows alone.
+abbrev pub played : BusState → BusState
+played b = record { start = b.start; least_start = 0; talks = b.talks; stations = b.stations }
+
 -- when the next talk would start by its gap alone, where this gap is asked for
 abbrev pub next_start : ℕ → List Talk → ℕ → ℕ
 next_start start [] gap = start

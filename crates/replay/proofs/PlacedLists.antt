@@ -1,16 +1,16 @@
 -- Two lists of placed actions that are alike up to the last message give the same messages.
-use Rattle.std.proofs.Common.{◌≡◌, ◌≢◌, ℕ, zero, suc, ◌+◌, ◌<◌, ◌≤◌, Bool, true, false, cond, eqb, List, [], ◌∷◌, ◌++◌, length, refl, sym, ap, ◌∙◌, ⊎_elim, arith}
+use Rattle.std.proofs.Common.{◌≡◌, ◌≢◌, ℕ, zero, suc, ◌+◌, ◌*◌, ◌<◌, ◌≤◌, Bool, true, false, cond, eqb, List, [], ◌∷◌, ◌++◌, length, refl, sym, ap, ◌∙◌, ⊎_elim, arith}
 use Rattle.std.proofs.lemmas.Bool.{eq-eqb, eqb-true, ne_eqb, cases_lt}
 use Rattle.std.proofs.lemmas.List.{append-nil}
 use Rattle.std.proofs.lemmas.List.Elements.{filter-append}
 use Rattle.mil_word.specs.declared.Line.{Line}
 use Rattle.mil_message.specs.declared.outcome_test.OutcomeTest.TheVariants.{Failed}
 use Rattle.mil_message.specs.declared.messages.Message.{Message}
-use Rattle.mil_message.specs.World.{World, Point, other_line, sent, asks}
+use Rattle.mil_message.specs.World.{World, Point, other_line, sent, asks, now_at, paced_to}
 use Rattle.mil_line.specs.Plans.{Planned}
 use Rattle.mil_bus.specs.declared.outcomes.Outcome.{Outcome}
 use Rattle.mil_bus.specs.Exchange.{BusState}
-use Rattle.frame_tree.specs.Tree.{Condition, Tree, send, retry, gap, repeat, choose, until, nothing, chained, call, define}
+use Rattle.frame_tree.specs.Tree.{Condition, Tree, send, retry, gap, repeat, choose, until, timed, nothing, chained, call, define}
 use Rattle.frame_tree.specs.Meaning.{condition_meaning, times, attempts, turns_until, plain_meaning}
 use Rattle.frame_tree.specs.Expansion.{expansion}
 use Rattle.bc_machine.specs.declared.placed.Placed.{Placed}
@@ -18,7 +18,7 @@ use Rattle.bc_machine.specs.Controller.{placed_at, all_acted, ready, world_of}
 use Rattle.bc_machine.specs.Running.{beginning}
 use Rattle.job_file.specs.Spelled.{ChannelJob}
 use Rattle.job_file.specs.Meaning.{bus_of, world_at, end_of, records_in, records}
-use Rattle.job_file.proofs.Growth.{Grows, grows_same, grows_gap, grows_through, grows_message, records_count}
+use Rattle.job_file.proofs.Growth.{Grows, grows_same, grows_gap, grows_paced, grows_through, grows_message, records_count}
 use Rattle.bench_core.specs.Placing.{placed_up_to}
 use Rattle.replay.proofs.FirstMet.{asks_is, meaning_is}
 
@@ -77,7 +77,7 @@ same_ready made actions n b low high = ap (all_acted b) (same_at n made actions 
 -- ---- what every tree keeps
 
 module _ (w : World BusState Outcome) (R : BusPoint → BusPoint → Type 0) (same : (p : BusPoint) → R p p) (gaps : (p : BusPoint) (t : ℕ) → R p (record p { gap = t }))
-    (message : (line : Line) (m : Message) (p : BusPoint) → R p (sent w line m p)) (through : (p q s : BusPoint) → R p q → R q s → R p s) where
+    (message : (line : Line) (m : Message) (p : BusPoint) → R p (sent w line m p)) (paced : (t : ℕ) (p : BusPoint) → R p (paced_to w t p)) (through : (p q s : BusPoint) → R p q → R q s → R p s) where
   attempts_keep : (n : ℕ) (line : Line) (m : Message) (p : BusPoint) → R p (attempts w n line m p)
   attempts_keep zero line m p = same p
   attempts_keep (suc n) line m p = by_case (asks w Failed p) (attempts_keep n (other_line line) m (sent w (other_line line) m p))
@@ -110,6 +110,8 @@ module _ (w : World BusState Outcome) (R : BusPoint → BusPoint → Type 0) (sa
       by_case true l r = l
       by_case false l r = r
   tree_keeps (until c n b) p = turns_keep n c (plain_meaning w b) (λ q. tree_keeps b q) p
+  tree_keeps (timed h b) p =
+      through p (plain_meaning w b p) (paced_to w (now_at w p + 1000 * h) (plain_meaning w b p)) (tree_keeps b p) (paced (now_at w p + 1000 * h) (plain_meaning w b p))
   tree_keeps nothing p = same p
   tree_keeps (call n) p = same p
   tree_keeps (define n b r) p = tree_keeps r p
@@ -128,13 +130,13 @@ module _ (plan : List Planned) (made : ℕ) (actions : List Placed) where
   Rises p q = p.number ≤ q.number
 
   tree_rises : (t : Tree) (p : BusPoint) → p.number ≤ (plain_meaning w t p).number
-  tree_rises = tree_keeps w Rises (λ p. omega arith) (λ p t. omega arith) (λ line m p. omega arith) (λ p q s a b. omega (arith, a, b))
+  tree_rises = tree_keeps w Rises (λ p. omega arith) (λ p t. omega arith) (λ line m p. omega arith) (λ t p. omega arith) (λ p q s a b. omega (arith, a, b))
 
   attempts_rise : (n : ℕ) (line : Line) (m : Message) (p : BusPoint) → p.number ≤ (attempts w n line m p).number
-  attempts_rise = attempts_keep w Rises (λ p. omega arith) (λ p t. omega arith) (λ line m p. omega arith) (λ p q s a b. omega (arith, a, b))
+  attempts_rise = attempts_keep w Rises (λ p. omega arith) (λ p t. omega arith) (λ line m p. omega arith) (λ t p. omega arith) (λ p q s a b. omega (arith, a, b))
 
   times_rise : (n : ℕ) (f : BusPoint → BusPoint) → ((p : BusPoint) → p.number ≤ (f p).number) → (p : BusPoint) → p.number ≤ (times n f p).number
-  times_rise = times_keep w Rises (λ p. omega arith) (λ p t. omega arith) (λ line m p. omega arith) (λ p q s a b. omega (arith, a, b))
+  times_rise = times_keep w Rises (λ p. omega arith) (λ p t. omega arith) (λ line m p. omega arith) (λ t p. omega arith) (λ p q s a b. omega (arith, a, b))
 
   sent_agrees : (line : Line) (m : Message) (p : BusPoint) → p.number + 1 ≤ made → sent v line m p ≡ sent w line m p
   sent_agrees line m p le = rw (same_ready made actions (p.number + 1) p.state (omega arith) le) refl
@@ -161,7 +163,7 @@ module _ (plan : List Planned) (made : ℕ) (actions : List Placed) where
       ap (times n g) (agree p (omega (arith, rise, le))) ∙ times_agree n f g rises agree (f p) le
 
   turns_rise : (n : ℕ) (c : Condition) (f : BusPoint → BusPoint) → ((p : BusPoint) → p.number ≤ (f p).number) → (p : BusPoint) → p.number ≤ (turns_until w n c f p).number
-  turns_rise = turns_keep w Rises (λ p. omega arith) (λ p t. omega arith) (λ line m p. omega arith) (λ p q s a b. omega (arith, a, b))
+  turns_rise = turns_keep w Rises (λ p. omega arith) (λ p t. omega arith) (λ line m p. omega arith) (λ t p. omega arith) (λ p q s a b. omega (arith, a, b))
 
   turns_agree : (n : ℕ) (c : Condition) (f g : BusPoint → BusPoint) → ((p : BusPoint) → p.number ≤ (f p).number) → ((p : BusPoint) → (f p).number ≤ made → g p ≡ f p)
       → (p : BusPoint) → (turns_until w n c f p).number ≤ made → turns_until v n c g p ≡ turns_until w n c f p
@@ -194,6 +196,7 @@ module _ (plan : List Planned) (made : ℕ) (actions : List Placed) where
       by_case true h l r = l h
       by_case false h l r = r h
   tree_agrees (until c n b) p le = turns_agree n c (plain_meaning w b) (plain_meaning v b) (λ q. tree_rises b q) (λ q h. tree_agrees b q h) p le
+  tree_agrees (timed h b) p le = ap (paced_to w (now_at w p + 1000 * h)) (tree_agrees b p le)
   tree_agrees nothing p le = refl
   tree_agrees (call n) p le = refl
   tree_agrees (define n b r) p le = tree_agrees r p le
@@ -204,6 +207,6 @@ module _ (plan : List Planned) (made : ℕ) (actions : List Placed) where
 pub suffices : (job : ChannelJob) (actions : List Placed) (made : ℕ) → length (records job actions) ≤ made → records job (placed_up_to made actions) ≡ records job actions
 suffices job actions made le =
     let grown : Grows (beginning (bus_of job)) (end_of job actions) =
-    tree_keeps (world_at job actions) Grows grows_same grows_gap (grows_message job.plan actions) grows_through (expansion job.tree) (beginning (bus_of job)) in
+    tree_keeps (world_at job actions) Grows grows_same grows_gap (grows_message job.plan actions) (grows_paced job.plan actions) grows_through (expansion job.tree) (beginning (bus_of job)) in
     let count : (end_of job actions).number ≡ length (records job actions) = records_count (beginning (bus_of job)) (end_of job actions) refl refl grown in
     ap (λ (p : BusPoint). records_in p.state) (tree_agrees job.plan made actions (expansion job.tree) (beginning (bus_of job)) (omega (arith, count, le)))

@@ -1,5 +1,6 @@
 -- Where the channels of a recording are at a place in it: behind so many of its messages (own choice).
 use Rattle.std.specs.Prelude.{◌≡◌, ℕ, ◌==◌, List, map, take, count_by}
+use Rattle.mil_bus.specs.Exchange.{played}
 use Rattle.bc_machine.specs.Running.{MachineState}
 use Rattle.job_file.specs.Jobs.{JobState, job_in}
 use Rattle.job_file.specs.Meaning.{bus_after}
@@ -28,5 +29,5 @@ number_at found place job part = last_number (take (heard_of found place job.cha
 pub record IsAfter (job : JobState) (part : ChannelPart) (number : ℕ) (m : MachineState) : Type 0 where
   pub of_job : IsOf (job_in job) part.placed m
   pub number_is : m.point.number ≡ number
-  pub bus : m.point.state ≡ bus_after (job_in job) part.placed number
+  pub bus : played m.point.state ≡ bus_after (job_in job) part.placed number
   pub told : IsTold m

@@ -1,5 +1,6 @@
 //! The debugger: a recording, and behind how many of its messages it stands.
 ghost use Rattle.std.specs.Prelude.{◌≡◌, ◌+◌, ◌-◌, ◌<◌, ◌≤◌, ◌%◌, length, slice_get, Some, IfOk, IfErr, OnOk, OnErr};
+ghost use Rattle.mil_bus.specs.Exchange.{played};
 ghost use Rattle.frame_tree.specs.Tree.{condition_in};
 ghost use Rattle.job_file.specs.Jobs.{JobState, job_in};
 ghost use Rattle.job_file.specs.Meaning.{bus_after};
@@ -224,7 +225,7 @@ impl<'a> Replay<'a> {
         ensures number { OfJob self.now.state index
             (λ job part. result.now.point.number ≡ number_at self.now.state.found self.now.state.place job part) }
         ensures bus { OfJob self.now.state index
-            (λ job part. result.now.point.state
+            (λ job part. played result.now.point.state
             ≡ bus_after (job_in job) part.placed (number_at self.now.state.found self.now.state.place job part)) }
         ensures outcome { IsTold result.now }
     {

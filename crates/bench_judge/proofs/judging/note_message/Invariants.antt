@@ -1,5 +1,6 @@
 use Rattle.std.proofs.Common.{◌≡◌, ◌+◌, List, length}
 use Rattle.ch11_f1.specs.Views.{message_of}
+use Rattle.bench_judge.specs.Clean.{IsKnown}
 use Rattle.bench_judge.specs.Verdicts.{Heard}
 use Rattle.bench_judge.specs.Tallies.{AreTallies}
 use Rattle.bench_judge.proofs.Passing.{IsNoting}
@@ -8,6 +9,7 @@ use Rattle.bench_judge.proofs.judging.note_message.Given as goal
 -- the tallies of the rules so far count the message
 abbrev pub invariant-rules : goal.invariant-rules
 invariant-rules l = record {
+  known : IsKnown l.known (message_of l.seen);
   many : length l.tallies ≡ length l.rules;
   noting : (history : List Heard) → AreTallies l.rules history l.fn.tallies → l.number ≡ length history + 1 → IsNoting l.rules (l.channel, message_of l.seen) history l.tallies l.place;
 }

@@ -10,10 +10,9 @@ loop-index-preserved g c =
     let same = same_count s.jobs s.parts s.found c.jobs-index-end.ensures.agrees in
     let inside : c.loop-index.index < length s.jobs = omega (arith, c.jobs-index-end.ensures.value, c.loop-index-test.true) in
     let pair = pair_at s.jobs s.parts c.loop-index.index same inside in
-    let printed =
-    rw (c.channel.ensures pair.job pair.job_there, c.state.ensures.number pair.job pair.part pair.job_there pair.part_there, c.state.ensures.bus pair.job pair.part pair.job_there pair.part_there)
-    at c.in_ok-print_channel.ensures in
-    rw (add-one, pair.more (λ (p : Pair). job_text c.args.detail s p.0 p.1)) (Appends-trans (g.W.Write.contents c.args.out.now) (g.W.Write.contents c.loop-index.out) (g.W.Write.contents c.print_channel.new.out) _ _ c.loop-index.invariant printed)
+    rw (add-one, pair.more (λ (p : Pair). job_text c.args.detail s p.0 p.1))
+    (Appends-trans (g.W.Write.contents c.args.out.now) (g.W.Write.contents c.loop-index.out) (g.W.Write.contents c.print_job.new.out) _ _ c.loop-index.invariant
+    (c.in_ok-print_job.ensures pair.job pair.part pair.job_there pair.part_there))
 
 pub returns : goal.returns
 unfolding state_text

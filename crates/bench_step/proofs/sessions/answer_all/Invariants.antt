@@ -1,6 +1,10 @@
-use Rattle.bench_step.specs.Answering.{IsSession}
+use Rattle.std.proofs.Common.{◌≡◌}
+use Rattle.bench_step.proofs.GoingOn.{IsGoingOn}
 use Rattle.bench_step.proofs.sessions.answer_all.Given as goal
 
--- the lines so far were answered
+-- the lines so far were answered, and none of them ends the session
 abbrev pub invariant-lines : goal.invariant-lines
-invariant-lines g l = IsSession l.fn.replay.state l.replay.state (g.R.Read.remaining l.fn.input) (g.R.Read.remaining l.input) (g.W.Write.contents l.fn.out) (g.W.Write.contents l.out) l.refused
+invariant-lines g l = record {
+  on : IsGoingOn l.fn.session.manner l.fn.session.debugger l.session.debugger (g.R.Read.remaining l.fn.input) (g.R.Read.remaining l.input) (g.W.Write.contents l.fn.out) (g.W.Write.contents l.out) l.refused;
+  manner : l.session.manner ≡ l.fn.session.manner;
+}

@@ -1,11 +1,11 @@
-use Rattle.std.proofs.Common.{◌≡◌, ◌-◌, get_or, Some, refl, sym, ap, ◌∙◌, ⊎_elim, arith}
+use Rattle.std.proofs.Common.{◌≡◌, get_or, Some, refl, sym, ap, ◌∙◌, ⊎_elim, arith}
 use Rattle.std.specs.Prelude.{slice_get}
 use Rattle.std.proofs.lemmas.Bool.{cases_lt}
 use Rattle.frame_code.specs.declared.Op.TheVariants.{Halt}
 use Rattle.frame_code.specs.Loadable.{GoesWell}
-use Rattle.frame_load.proofs.Never.{within}
+use Rattle.frame_load.proofs.Opened.{within}
 use Rattle.frame_load.proofs.Marks.{op_at}
-use Rattle.std.proofs.Common.{subst, true, false}
+use Rattle.std.proofs.Common.{subst}
 use Rattle.std.specs.Prelude.{IsTrue}
 use Rattle.frame_load.proofs.Marks.{is_true, not_true}
 use Rattle.frame_load.proofs.checks.all_go_well.Goals as goal

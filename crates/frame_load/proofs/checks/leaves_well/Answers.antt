@@ -7,7 +7,7 @@ use Rattle.frame_load.proofs.checks.leaves_well.Goals as goal
 pub returns : goal.returns
 returns c =
     let os = c.args.operations.now in
-    let t = c.args.loops.now in
+    let t = c.args.brackets.now in
     let q = c.args.target - 1 in
     let inside : q < length os = omega arith in (
       λ y. (q, c.in-Again.field-0, omega arith, op_at os q Halt _ inside c.in-Again.is, jumps_by os t c.args.place q c.requires.marked c.requires.place inside (let e : get_or t q 0 ≡ get_or t c.args.place 0 = search rules in e)),

@@ -1,10 +1,10 @@
 use Rattle.std.proofs.Common.{◌≡◌, ◌≤◌, length, get_or, sym, ap, ◌∙◌, subst, arith, rules}
-use Rattle.std.specs.Prelude.{IsTrue, true, false}
+use Rattle.std.specs.Prelude.{IsTrue}
 use Rattle.std.proofs.lemmas.Option.{slice_get-get_or}
 use Rattle.frame_code.specs.declared.Op.TheVariants.{Halt}
 use Rattle.frame_code.specs.Routines.{routines, owner_at}
 use Rattle.frame_code.specs.Loadable.{CallsEarlier}
-use Rattle.frame_load.proofs.Never.{within, routines_are}
+use Rattle.frame_load.proofs.Opened.{within, routines_are}
 use Rattle.frame_load.proofs.Marks.{is_true, not_true}
 use Rattle.frame_load.proofs.Owners.{next_owner, more_earlier}
 use Rattle.frame_load.proofs.routines.are_right.Goals as goal

@@ -3,7 +3,7 @@ use Rattle.std.proofs.lemmas.Option.{slice_get-get_or}
 use Rattle.std.proofs.lemmas.List.{get_or-set_other}
 use Rattle.frame_code.specs.declared.Op.TheVariants.{Halt}
 use Rattle.frame_code.specs.Routines.{owner_at}
-use Rattle.frame_load.proofs.Never.{routine_le, routines_are}
+use Rattle.frame_load.proofs.Opened.{routine_le, routines_are}
 use Rattle.frame_load.proofs.Owners.{up_owner, same_owner, one_start, no_start, starts_are, StartsSoFar}
 use Rattle.frame_load.proofs.routines.find.Goals as goal
 use Rattle.frame_load.proofs.routines.find.Goals.{in-Return, in_default}

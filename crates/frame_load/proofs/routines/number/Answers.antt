@@ -2,7 +2,7 @@ use Rattle.std.proofs.Common.{length, arith}
 use Rattle.std.proofs.lemmas.Option.{slice_get-get_or}
 use Rattle.frame_code.specs.declared.Op.TheVariants.{Halt}
 use Rattle.frame_code.specs.Routines.{owner_at}
-use Rattle.frame_load.proofs.Never.{routine_le, routines_are}
+use Rattle.frame_load.proofs.Opened.{routine_le, routines_are}
 use Rattle.frame_load.proofs.Marks.{more_marks}
 use Rattle.frame_load.proofs.Owners.{next_owner}
 use Rattle.frame_load.proofs.routines.number.Goals as goal

@@ -1,12 +1,19 @@
-use Rattle.std.proofs.Common.{◌≡◌, ◌+◌, ◌*◌, ◌<◌, min, Some, length, get_or, sym, ap, ◌∙◌, subst, arith}
+use Rattle.std.proofs.Common.{◌≡◌, ◌+◌, ◌*◌, ◌^◌, ◌<◌, ◌≤◌, min, Some, length, get_or, sym, ap, ◌∙◌, subst, arith}
 use Rattle.std.proofs.lemmas.List.{length-set}
 use Rattle.std.proofs.lemmas.Option.{slice_get-get_or}
 use Rattle.frame_code.specs.declared.Op.TheVariants.{Halt, Return}
-use Rattle.frame_load.specs.Budget.{cost_by, Sums, called}
+use Rattle.frame_load.specs.Budget.{Sums, called}
+use Rattle.frame_load.specs.Marks.{counted}
+use Rattle.frame_load.proofs.Marks.{range_at}
 use Rattle.frame_load.proofs.Shallow.{call_low, owner_low}
-use Rattle.frame_load.proofs.Owners.{up_owner, same_owner, product_fits, EndedSums, one_sum, no_sum, called_capped, sums_next, now_is, end_is}
+use Rattle.frame_load.proofs.Owners.{up_owner, same_owner, EndedSums, one_sum, no_sum, called_capped, sums_next, now_is, end_is}
 use Rattle.frame_load.proofs.sums.count.Goals as goal
 use Rattle.frame_load.proofs.sums.count.Goals.{in-Return, in_default}
+
+pub cost-requires : goal.cost-requires
+cost-requires c =
+    let os = c.args.operations.now in
+    range_at os c.loop-i.i _ c.requires.range (slice_get-get_or os c.loop-i.i Halt c.loop-i-test.true)
 
 pub called-requires : goal.called-requires
 called-requires c = λ r e.
@@ -18,21 +25,19 @@ pub overflow_add-one : goal.overflow_add-one
 overflow_add-one c =
     let os = c.args.operations.now in
     let i = c.loop-i.i in
-    omega (arith, c.cost.ensures.small, called_capped (cost_by c.args.messages) os i c.called.result _ c.loop-i.ended c.called.ensures (c.requires.routines.earlier i _ (slice_get-get_or os i Halt c.loop-i-test.true)) c.loop-i.invariant.ended)
+    omega (arith, c.cost.ensures.small, called_capped (2 ^ 46 + 1) (omega arith) (counted c.args.what) os i c.called.result _ c.loop-i.ended c.called.ensures (c.requires.routines.earlier i _ (slice_get-get_or os i Halt c.loop-i-test.true)) c.loop-i.invariant.ended)
 
-pub overflow_mul-weights : goal.overflow_mul-weights
-overflow_mul-weights c =
+pub added-now-requires-clause-now : goal.added-now-requires-clause-now
+added-now-requires-clause-now c = omega (arith, c.loop-i.invariant.now)
+
+pub added-now-requires-clause-weight : goal.added-now-requires-clause-weight
+added-now-requires-clause-weight c = omega (arith, c.requires.marked c.loop-i.i c.loop-i-test.true)
+
+pub added-now-requires-clause-one : goal.added-now-requires-clause-one
+added-now-requires-clause-one c =
     let os = c.args.operations.now in
     let i = c.loop-i.i in
-    let k = called_capped (cost_by c.args.messages) os i c.called.result _ c.loop-i.ended c.called.ensures (c.requires.routines.earlier i _ (slice_get-get_or os i Halt c.loop-i-test.true)) c.loop-i.invariant.ended in
-    omega (arith, product_fits 100000001 (get_or c.args.weights.now i 0) (c.cost.result + c.called.result) (omega (arith, c.requires.marked i c.loop-i-test.true)) (omega (arith, c.cost.ensures.small, k)))
-
-pub overflow_add-now : goal.overflow_add-now
-overflow_add-now c =
-    let os = c.args.operations.now in
-    let i = c.loop-i.i in
-    let k = called_capped (cost_by c.args.messages) os i c.called.result _ c.loop-i.ended c.called.ensures (c.requires.routines.earlier i _ (slice_get-get_or os i Halt c.loop-i-test.true)) c.loop-i.invariant.ended in
-    omega (arith, c.loop-i.invariant.now, product_fits 100000001 (get_or c.args.weights.now i 0) (c.cost.result + c.called.result) (omega (arith, c.requires.marked i c.loop-i-test.true)) (omega (arith, c.cost.ensures.small, k)))
+    omega (arith, c.cost.ensures.small, called_capped (2 ^ 46 + 1) (omega arith) (counted c.args.what) os i c.called.result _ c.loop-i.ended c.called.ensures (c.requires.routines.earlier i _ (slice_get-get_or os i Halt c.loop-i-test.true)) c.loop-i.invariant.ended)
 
 pub bounds-ended-routine : goal.bounds-ended-routine
 bounds-ended-routine c =
@@ -51,29 +56,31 @@ loop-i-preserved c =
     let os = c.args.operations.now in
     let i = c.loop-i.i in
     let g = c.loop-i.invariant in
-    let cost = cost_by c.args.messages in
+    let cap = 2 ^ 46 + 1 in
+    let some : 1 ≤ cap = omega arith in
+    let cost = counted c.args.what in
     let at = slice_get-get_or os i Halt c.loop-i-test.true in
     let w = get_or c.args.weights.now i 0 in
     let mark = c.requires.marked i c.loop-i-test.true in
     let o = get_or os i Halt in
-    let k = called_capped cost os i c.called.result o c.loop-i.ended c.called.ensures (c.requires.routines.earlier i o at) g.ended in
-    let sum : c.min-now.result ≡ min (c.loop-i.now + w * (cost o + c.called.result)) 100000001 = omega (arith, c.min-now.ensures, ap (λ z. w * (z + c.called.result)) c.cost.ensures.value) in
+    let k = called_capped cap some cost os i c.called.result o c.loop-i.ended c.called.ensures (c.requires.routines.earlier i o at) g.ended in
+    let sum : c.added-now.result ≡ min (c.loop-i.now + w * (cost o + c.called.result)) cap = omega (arith, c.added-now.ensures, ap (λ z. w * (z + c.called.result)) c.cost.ensures.value) in
     elim c.match-op.branch [
       | in-Return v ↦
           let here = at ∙ ap Some v.in-Return.is in
           let few : c.loop-i.routine < length c.loop-i.ended = omega (arith, g.long, g.number, up_owner os i here, owner_low os c.requires.routines (i + 1) (omega (arith, c.loop-i-test.true))) in
           let none : c.called.result ≡ 0 = c.called.ensures ∙ ap (λ z. called z c.loop-i.ended) v.in-Return.is in
-          let whole = end_is cost os i c.loop-i.now c.min-now.result w c.called.result here g.now mark none (sum ∙ ap (λ z. min (c.loop-i.now + w * (cost z + c.called.result)) 100000001) v.in-Return.is) in
+          let whole = end_is cap some cost os i c.loop-i.now c.added-now.result w c.called.result here g.now mark none (sum ∙ ap (λ z. min (c.loop-i.now + w * (cost z + c.called.result)) cap) v.in-Return.is) in
           record {
-            now = v.now-is ∙ ap (min 100000001) (sym (ap (λ (z : Sums). z.now) (sums_next cost os i Return here)));
-            long = ap length v.ended-is ∙ length-set c.loop-i.ended c.loop-i.routine c.min-now.result ∙ g.long;
+            now = v.now-is ∙ ap (min cap) (sym (ap (λ (z : Sums). z.now) (sums_next cap some cost os i Return here)));
+            long = ap length v.ended-is ∙ length-set c.loop-i.ended c.loop-i.routine c.added-now.result ∙ g.long;
             number = v.routine-is ∙ (omega (arith, g.number, up_owner os i here));
-            ended = subst (λ xs. EndedSums cost os (i + 1) xs) (sym v.ended-is) (one_sum cost os i c.loop-i.routine c.min-now.result c.loop-i.ended here g.number few whole g.ended);
+            ended = subst (λ xs. EndedSums cap some cost os (i + 1) xs) (sym v.ended-is) (one_sum cap some cost os i c.loop-i.routine c.added-now.result c.loop-i.ended here g.number few whole g.ended);
           }
       | in_default v ↦ record {
-        now = v.now-is ∙ now_is cost os i o c.loop-i.now c.min-now.result w c.called.result at (λ e. v.in_default.not-Return e) g.now mark k sum;
+        now = v.now-is ∙ now_is cap some cost os i o c.loop-i.now c.added-now.result w c.called.result at (λ e. v.in_default.not-Return e) g.now mark k sum;
         long = ap length v.ended-is ∙ g.long;
         number = v.routine-is ∙ g.number ∙ sym (same_owner os i o at (λ e. v.in_default.not-Return e));
-        ended = subst (λ xs. EndedSums cost os (i + 1) xs) (sym v.ended-is) (no_sum cost os i o c.loop-i.ended at (λ e. v.in_default.not-Return e) g.ended);
+        ended = subst (λ xs. EndedSums cap some cost os (i + 1) xs) (sym v.ended-is) (no_sum cap some cost os i o c.loop-i.ended at (λ e. v.in_default.not-Return e) g.ended);
       }
     ]

@@ -20,6 +20,9 @@ decreases-choice g l = 5 * l.depth + 2
 abbrev pub decreases-until : goal.decreases-until
 decreases-until g l = 5 * l.depth + 1
 
+abbrev pub decreases-timed : goal.decreases-timed
+decreases-timed g l = 5 * l.depth + 1
+
 abbrev pub decreases-frame : goal.decreases-frame
 decreases-frame g l = 5 * l.depth + 3
 

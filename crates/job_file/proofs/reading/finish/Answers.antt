@@ -2,7 +2,9 @@ use Rattle.std.proofs.Common.{subst, sym}
 use Rattle.std.proofs.lemmas.Result.{err_from_is_err_and}
 use Rattle.frame_tree.specs.Tree.{tree_of}
 use Rattle.job_file.specs.Scripts.{IsProgramOf}
-use Rattle.job_file.proofs.Finishing.{code_refused, program_made, job_made}
+use Rattle.job_file.specs.Drafts.{shown}
+use Rattle.job_file.specs.Jobs.{job_in}
+use Rattle.job_file.proofs.Finishing.{code_refused, program_made, job_made, job_kept}
 use Rattle.job_file.proofs.reading.finish.Goals as goal
 
 pub returns-in_err-program-clause-refused : goal.returns-in_err-program-clause-refused
@@ -17,3 +19,7 @@ make-requires-clause-program c =
 pub returns-clause-job : goal.returns-clause-job
 returns-clause-job c =
     rw (c.make.ensures, c.of.ensures) (job_made c.args.draft c.in-Some.channel c.args.script.now (tree_of c.in_ok-frame.frame) c.in-Some.is c.in_ok-frame.ensures.tree)
+
+pub returns-clause-well : goal.returns-clause-well
+returns-clause-well c =
+    job_kept c.args.script.now (tree_of c.in_ok-frame.frame) (job_in c.make.result) c.in-Some.channel (shown c.args.draft) (rw c.of.ensures at c.make.ensures) c.in_ok-frame.ensures.tree c.in_ok-program.ensures.well

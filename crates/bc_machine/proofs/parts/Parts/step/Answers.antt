@@ -78,3 +78,15 @@ returns-in-Return-clause-value c = to_row c.args.self.now c.come_back.new.self o
 
 pub returns-in-Return-clause-answer : goal.returns-in-Return-clause-answer
 returns-in-Return-clause-answer c = to_answer c.args.self.now c.come_back.new.self op.Return c.come_back.result c.in-Return.ensures (returns-in-Return-clause-value c) c.come_back.ensures.answer
+
+pub returns-in-Begin-clause-value : goal.returns-in-Begin-clause-value
+returns-in-Begin-clause-value c = to_row c.args.self.now c.go_on-in-Begin.new.self op.Begin c.in-Begin.ensures (c.go_on-in-Begin.ensures.value ∙ ap (λ m. gone m (m.at.place + 1)) c.open_frame.ensures)
+
+pub returns-in-Begin-clause-answer : goal.returns-in-Begin-clause-answer
+returns-in-Begin-clause-answer c = to_answer c.args.self.now c.go_on-in-Begin.new.self op.Begin c.go_on-in-Begin.result c.in-Begin.ensures (returns-in-Begin-clause-value c) c.go_on-in-Begin.ensures.answer
+
+pub returns-in-Pace-clause-value : goal.returns-in-Pace-clause-value
+returns-in-Pace-clause-value c = to_row c.args.self.now c.close_frame.new.self (op.Pace c.in-Pace.hundreds) c.in-Pace.ensures (c.close_frame.ensures.value)
+
+pub returns-in-Pace-clause-answer : goal.returns-in-Pace-clause-answer
+returns-in-Pace-clause-answer c = to_answer c.args.self.now c.close_frame.new.self (op.Pace c.in-Pace.hundreds) c.close_frame.result c.in-Pace.ensures (returns-in-Pace-clause-value c) c.close_frame.ensures.answer

@@ -8,4 +8,4 @@ pub returns-in_ok-about-in-Alt : goal.returns-in_ok-about-in-Alt
 returns-in_ok-about-in-Alt c = alt_comes c.args.self.now c.in-Alt.index c.in_ok-about-in-Alt.field-0 c.requires c.in-Alt.ensures c.in_ok-about-in-Alt.ensures
 
 pub returns-in_default : goal.returns-in_default
-returns-in_default c = still c.args.self.now c.op.result c.op.ensures c.in_default.not-Send c.in_default.not-Alt
+returns-in_default c = still c.args.self.now c.op.result c.op.ensures c.requires.going c.in_default.not-Send c.in_default.not-Alt

@@ -6,8 +6,8 @@ use Rattle.bench_judge.specs.Verdicts.{Heard, selected}
 use Rattle.bench_judge.proofs.Tallying.{tally-more, tally-met, tally-missed, told}
 use Rattle.bench_judge.proofs.tallies.Tally.note.Goals as goal
 
-pub returns-in_ok-push : goal.returns-in_ok-push
-returns-in_ok-push c history is counted =
+pub returns-in_ok-push-clause-noted : goal.returns-in_ok-push-clause-noted
+returns-in_ok-push-clause-noted c history is counted =
     let rule = c.args.rule.now in
     let h : Heard = (c.args.channel, message_of c.args.seen.now) in
     let miss : Miss = record { number = c.args.number; channel = c.args.channel; stamp = c.args.seen.now.stamp } in
@@ -23,8 +23,8 @@ returns-in_ok-push c history is counted =
     (c.in_ok-push.ensures.items ∙ ap (λ (v : Vec Miss Global). v.items ++ miss ∷ []) c.in_ok-met.ensures.missed)
     (c.in_ok-met.ensures.latest rule history refl sel is.latest)
 
-pub returns-else-not-met : goal.returns-else-not-met
-returns-else-not-met c history is counted =
+pub returns-else-not-met-clause-noted : goal.returns-else-not-met-clause-noted
+returns-else-not-met-clause-noted c history is counted =
     let rule = c.args.rule.now in
     let h : Heard = (c.args.channel, message_of c.args.seen.now) in
     let chosen : c.selects.result ≡ true = grind (arith, common_steps) in

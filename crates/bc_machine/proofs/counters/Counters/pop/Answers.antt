@@ -1,6 +1,0 @@
-use Rattle.std.proofs.Common.{◌-◌, arith}
-use Rattle.bc_machine.proofs.Stacks.{length_stacked}
-use Rattle.bc_machine.proofs.counters.Counters.pop.Goals as goal
-
-pub returns-clause-room : goal.returns-clause-room
-returns-clause-room c = omega (arith, length_stacked c.self.inside.slots (c.self.inside.depth - 1), c.self.invariant, c.if-self-eq0.false)

@@ -1,0 +1,69 @@
+-- What the steps of a job's controller add to the frames that took longer than their period.
+use Rattle.std.proofs.Common.{◌≡◌, ℕ, zero, suc, ◌+◌, ◌-◌, ◌≤◌, List, [], ◌∷◌, ◌++◌, refl, ap, sym, ◌∙◌, append_assoc, append-nil, arith}
+use Rattle.std.specs.Prelude.{Option, Some, None, slice_get}
+use Rattle.frame_code.specs.declared.Op.{Op}
+use Rattle.frame_code.specs.declared.Op.TheVariants as op
+use Rattle.frame_code.specs.Table.{Code, Registers, Turn, goes_on, halted, stuck, act, keeps_pace, Running}
+use Rattle.frame_load.specs.Budget.{budget}
+use Rattle.mil_message.specs.World.{World, Point}
+use Rattle.mil_bus.specs.declared.outcomes.Outcome.{Outcome}
+use Rattle.mil_bus.specs.Exchange.{BusState}
+use Rattle.bc_machine.specs.Frames.{closed_by}
+use Rattle.bc_machine.specs.Running.{MachineState, stepped, turn_of, world_in, moved_by}
+use Rattle.bc_machine.specs.UnderWay.{IsUnderWay}
+use Rattle.job_file.proofs.Nexts.{same_code}
+use Rattle.bench_check.specs.declared.frames.Overrun.{Overrun}
+use Rattle.bench_check.specs.Overruns.{late_of, overruns_at, overruns_in}
+
+-- the frames of the steps to come are those of the next one and of the steps behind it
+pub one_more_step : (items new all : List Overrun) (m n : MachineState) → n ≡ stepped m → n.taken ≡ m.taken + 1 → IsUnderWay n → new ≡ items ++ overruns_at m
+    → items ++ overruns_in (budget m.code.operations - m.taken) m ≡ all → new ++ overruns_in (budget n.code.operations - n.taken) n ≡ all
+one_more_step items new all m n is took way added so_far =
+    let code : budget n.code.operations ≡ budget m.code.operations = ap (λ (v : MachineState). budget v.code.operations) is ∙ ap (λ (v : Code). budget v.operations) (same_code m) in
+    let low : n.taken ≤ budget n.code.operations = way.steps in
+    let left : budget m.code.operations - m.taken ≡ suc (budget n.code.operations - n.taken) = omega (arith, code, took, low) in
+    let rest : ℕ = budget n.code.operations - n.taken in
+    ap (λ xs. xs ++ overruns_in rest n) added
+    ∙ append_assoc items (overruns_at m) (overruns_in rest n)
+    ∙ ap (λ z. items ++ (overruns_at m ++ overruns_in rest z)) is
+    ∙ ap (λ k. items ++ overruns_in k m) (sym left)
+    ∙ so_far
+
+-- an operation that ends the program closes no frame
+closes_none : {S O : Type 0} (w : World S O) (o : Option Op) (code : Code) (r : Registers) (p : Point S O) → act w o code r p ≡ halted → closed_by o r.frames ≡ None
+closes_none w None code r p e = refl
+closes_none w (Some op.Halt) code r p e = refl
+closes_none w (Some (op.Send m)) code r p e = refl
+closes_none w (Some (op.Alt m)) code r p e = refl
+closes_none w (Some (op.SetGap t)) code r p e = refl
+closes_none w (Some (op.Loop n)) code r p e = refl
+closes_none w (Some (op.Again i)) code r p e = refl
+closes_none w (Some (op.Leave i)) code r p e = refl
+closes_none w (Some (op.Jump i)) code r p e = refl
+closes_none w (Some (op.Test t)) code r p e = refl
+closes_none w (Some (op.JumpFalse i)) code r p e = refl
+closes_none w (Some (op.Call n)) code r p e = refl
+closes_none w (Some op.Return) code r p e = refl
+closes_none w (Some op.Begin) code r p e = refl
+closes_none w (Some (op.Pace h)) code r p e = by_frames r.frames e
+  where
+    by_frames : (bs : List ℕ) → keeps_pace w bs h r p ≡ halted → closed_by (Some (op.Pace h)) bs ≡ None
+    by_frames [] e = refl
+    by_frames (b ∷ bs) e = absurd (cc)
+
+-- where a controller has halted, no frame is closed
+none_at : (m : MachineState) → turn_of m ≡ halted → overruns_at m ≡ []
+none_at m ends = ap (λ c. late_of c m) (closes_none (world_in m) (slice_get m.code.operations m.at.place) m.code m.at m.point ends)
+
+stands : (m : MachineState) → turn_of m ≡ halted → stepped m ≡ m
+unfolding stepped
+stands m ends = ap (λ t. moved_by t m) ends
+
+none_in : (k : ℕ) (m : MachineState) → turn_of m ≡ halted → overruns_in k m ≡ []
+none_in zero m ends = refl
+none_in (suc k) m ends = ap (λ xs. xs ++ overruns_in k (stepped m)) (none_at m ends) ∙ ap (overruns_in k) (stands m ends) ∙ none_in k m ends
+
+-- so that those so far are all
+pub all_there : (items new all : List Overrun) (k : ℕ) (m : MachineState) → turn_of m ≡ halted → items ++ overruns_in k m ≡ all → new ≡ items ++ overruns_at m → new ≡ all
+all_there items new all k m ends so_far is =
+    is ∙ ap (λ xs. items ++ xs) (none_at m ends) ∙ ap (λ xs. items ++ xs) (sym (none_in k m ends)) ∙ so_far

@@ -1,0 +1,19 @@
+-- Whether a terminal has words to transmit (own choice): its host put some up, by an action that is placed at the message or at one
+-- before it.
+use Rattle.std.specs.Prelude.{ℕ, ◌==◌, ◌&&◌, Bool, false, nat_le, List}
+use Rattle.std.specs.List.{list_any}
+use Rattle.mil_host.specs.declared.actions.Action.{Action}
+use Rattle.mil_host.specs.declared.actions.Action.TheVariants.{Transmit}
+use Rattle.bc_machine.specs.declared.placed.Placed.{Placed}
+
+-- the action puts words up at this subaddress
+abbrev pub puts_up : ℕ → Action → Bool
+puts_up sub (Transmit words) = words.sub == sub
+puts_up sub _ = false
+
+-- it is done at this terminal, before or at the message of a number
+abbrev pub fills : ℕ → ℕ → ℕ → Placed → Bool
+fills number address sub p = nat_le p.number number && (p.address == address && puts_up sub p.action)
+
+abbrev pub is_filled : ℕ → ℕ → ℕ → List Placed → Bool
+is_filled number address sub actions = list_any (fills number address sub) actions

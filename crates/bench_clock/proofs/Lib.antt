@@ -1,0 +1,4 @@
+pub mod Days
+pub mod Bodies
+pub mod Rises
+pub mod Rulings

@@ -1,0 +1,5 @@
+pub mod Calendar
+pub mod TimeBody
+pub mod Clock
+pub mod Rising
+pub mod TimeText

@@ -1,0 +1,23 @@
+-- A time of day as text: YYYY-MM-DDTHH:MM:SS and seven digits of a second behind a point (ISO 8601, UTC).
+use Rattle.std.specs.Prelude.{ℕ, ◌+◌, ◌/◌, ◌%◌, List, [], ◌∷◌}
+use Rattle.bench_clock.specs.Calendar.{Day, day_numbered}
+
+-- the last decimal digit of a number
+abbrev pub digit : ℕ → ℕ
+digit n = 48 + n % 10
+
+-- a day, a second of it, and ticks of 0.1 µs of that second
+abbrev pub text_of : Day → ℕ → ℕ → List ℕ
+text_of d second ticks =
+    digit (d.year / 1000) ∷ digit (d.year / 100) ∷ digit (d.year / 10) ∷ digit d.year
+    ∷ 45 ∷ digit (d.month / 10) ∷ digit d.month
+    ∷ 45 ∷ digit (d.day / 10) ∷ digit d.day
+    ∷ 84 ∷ digit (second / 36000) ∷ digit (second / 3600)
+    ∷ 58 ∷ digit (second / 60 % 60 / 10) ∷ digit (second / 60 % 60)
+    ∷ 58 ∷ digit (second % 60 / 10) ∷ digit (second % 60)
+    ∷ 46 ∷ digit (ticks / 1000000) ∷ digit (ticks / 100000) ∷ digit (ticks / 10000) ∷ digit (ticks / 1000) ∷ digit (ticks / 100) ∷ digit (ticks / 10) ∷ digit ticks
+    ∷ []
+
+-- the time so many ticks of 0.1 µs behind 1970-01-01T00:00:00
+abbrev pub time_text : ℕ → List ℕ
+time_text ticks = text_of (day_numbered (ticks / 10000000 / 86400)) (ticks / 10000000 % 86400) (ticks % 10000000)

@@ -1,0 +1,209 @@
+//! `bench export`: the messages of a recording for spreadsheets, data frames and waveform viewers.
+
+use crate::command_line::{file, force};
+use crate::looking::index_of;
+use crate::selecting::{GivenSelection, given_selection, selection_in, with_selection};
+use bench_export::{Columns, ExportFault, Table, export, export_waves, selects_any};
+use bench_files::{Hold, Kind};
+use bench_requests::{Fault, begin, put_in_place, read_whole, replaceable, told_apart, writer_of};
+use bench_select::Selection;
+use ch11_reader::Index;
+use clap::{Arg, ArgAction, ArgMatches, Command};
+use std::alloc::{AllocError, Global};
+use std::io::{BufWriter, Write};
+use std::rt::Files;
+
+/// As what messages are exported.
+#[derive(Clone, Copy, Debug, PartialEq, Eq)]
+pub enum Exported {
+    /// Rows of comma-separated values with these columns.
+    Rows(Columns),
+    /// A value change dump.
+    Waves,
+}
+
+impl Exported {
+    /// The kind of the file.
+    fn kind(self) -> Kind {
+        match self {
+            Exported::Rows(_) => Kind::Rows,
+            Exported::Waves => Kind::Waves,
+        }
+    }
+}
+
+/// What is to be exported, and where to.
+#[derive(Debug, Drop)]
+pub struct ExportRequest<'a> {
+    /// The file of the recording.
+    pub recording: &'a str,
+    /// The file to write to.
+    pub out: &'a str,
+    /// As what.
+    pub exported: Exported,
+    /// Which of its messages.
+    pub selection: GivenSelection<'a>,
+    /// Whether a file of another kind may be replaced.
+    pub force: bool,
+}
+
+/// What the help of `bench export` ends with.
+const EXPORT_NOTES: &str = "\
+With --frames each value has a column of its own, for data frames: the time in seconds, T/R, response times, status
+words, each bit of a status word and each error as 0 or 1, and each data word. --hex 0x puts 0x in front of words, so
+that a spreadsheet takes none for a number.
+
+With --vcd the file is a value change dump (IEEE 1364), as GTKWave shows it: for each channel and line the word on the
+line, its kind (1 command, 2 data, 3 status), its terminal and the number of its message.
+
+--channel, --line, --only, --errors, --from and --to choose messages, numbered as in the file.
+
+Examples:
+  bench export flight.ch11 --out flight.csv
+  bench export flight.ch11 --frames --hex 0x --out frames.csv
+  bench export flight.ch11 --vcd --only \"tx 5 2\" --out flight.vcd";
+
+/// The command line of `bench export`.
+pub(crate) fn export_command<'a>(alloc: Global) -> Result<Command<'a>, AllocError> {
+    let recording = Arg::new(alloc, "RECORDING")
+        .required(true)
+        .help("The Chapter 11 file to export");
+    let out = file(alloc, "out", "The file to write to").required(true);
+    let command = Command::new(alloc, "export")
+        .about("Writes one row of comma-separated values a message, or a value change dump")
+        .after_help(EXPORT_NOTES)
+        .arg(recording)?
+        .arg(out)?
+        .arg(force(alloc))?;
+    with_selection(alloc, with_forms(alloc, command)?)
+}
+
+/// The options that say as what messages are exported.
+fn with_forms<'a>(alloc: Global, command: Command<'a>) -> Result<Command<'a>, AllocError> {
+    let frames = Arg::new(alloc, "frames")
+        .long("frames")
+        .action(ArgAction::SetTrue)
+        .help("Writes rows with a column for each value, for data frames");
+    let hex = Arg::new(alloc, "hex")
+        .long("hex")
+        .value_name("PREFIX")
+        .value_parser(["0x"].as_slice())
+        .requires_arg("frames")?
+        .help("With --frames: puts 0x in front of words");
+    let vcd = Arg::new(alloc, "vcd")
+        .long("vcd")
+        .action(ArgAction::SetTrue)
+        .conflicts_with("frames")?
+        .help("Writes a value change dump, for waveform viewers");
+    command.arg(frames)?.arg(hex)?.arg(vcd)
+}
+
+/// What `bench export` is asked for.
+pub(crate) fn export_request<'a>(given: &ArgMatches<'a>) -> ExportRequest<'a> {
+    ExportRequest {
+        recording: given.get_str("RECORDING").unwrap_or(""),
+        out: given.get_str("out").unwrap_or(""),
+        exported: exported_in(given),
+        selection: given_selection(given),
+        force: given.get_flag("force"),
+    }
+}
+
+fn exported_in(given: &ArgMatches<'_>) -> Exported {
+    if given.get_flag("vcd") {
+        Exported::Waves
+    } else if given.get_flag("frames") {
+        Exported::Rows(Columns::Frames {
+            prefixed: given.get_str("hex").is_some(),
+        })
+    } else {
+        Exported::Rows(Columns::Messages)
+    }
+}
+
+/// Writes the messages of a recording, or those that were selected, for other programs. The out file takes the place of
+/// what is there once it is whole; it may not be the recording itself. Where a selection has no message, nothing is
+/// written.
+pub(crate) fn export_recording<'a, R: Files + AllocGlobal>(
+    rt: &R,
+    request: &ExportRequest<'a>,
+) -> Result<(), Fault<'a>>
+where
+    R::File: Hold,
+{
+    let selection = selection_in(&request.selection)?;
+    let (out, kind) = (request.out, request.exported.kind());
+    told_apart(rt, &[out], &[request.recording])?;
+    replaceable(rt, out, kind, request.force)?;
+    let bytes = read_whole(rt, request.recording)?;
+    let index = index_of(rt.alloc(), bytes.as_slice())?;
+    if !request.selection.is_empty() && !selects_any(&index, &selection) {
+        return Err(Fault::NoneSelected);
+    }
+    let mut file = begin(rt, out, kind, request.force)?;
+    let answer = match writer_of(rt, out, &mut file) {
+        Ok(writer) => write_exported(rt.alloc(), &index, &selection, request, writer),
+        Err(fault) => Err(fault),
+    };
+    match answer {
+        Ok(()) => put_in_place(rt, out, file),
+        Err(fault) => {
+            file.give_up(rt);
+            Err(fault)
+        }
+    }
+}
+
+/// Writes what is asked for to the out file.
+fn write_exported<'a, W: Write + Drop>(
+    alloc: Global,
+    index: &Index<'_>,
+    selection: &Selection,
+    request: &ExportRequest<'a>,
+    writer: W,
+) -> Result<(), Fault<'a>> {
+    let written = match request.exported {
+        Exported::Rows(columns) => write_rows(alloc, index, selection, columns, writer),
+        Exported::Waves => write_dump(alloc, index, selection, writer),
+    };
+    match written {
+        Ok(()) => Ok(()),
+        Err(ExportFault::Memory) => Err(Fault::Memory),
+        Err(ExportFault::Device) => Err(Fault::Device(request.out)),
+    }
+}
+
+/// Writes rows.
+fn write_rows<W: Write + Drop>(
+    alloc: Global,
+    index: &Index<'_>,
+    selection: &Selection,
+    columns: Columns,
+    writer: W,
+) -> Result<(), ExportFault> {
+    let table = Table {
+        columns,
+        selection: *selection,
+    };
+    match export(alloc, index, &table, writer) {
+        Ok(_) => Ok(()),
+        Err(fault) => Err(fault),
+    }
+}
+
+/// Writes a value change dump.
+fn write_dump<W: Write + Drop>(
+    alloc: Global,
+    index: &Index<'_>,
+    selection: &Selection,
+    writer: W,
+) -> Result<(), ExportFault> {
+    let Ok(mut out) = BufWriter::new(alloc, writer) else {
+        return Err(ExportFault::Memory);
+    };
+    export_waves(alloc, index, selection, &mut out)?;
+    match out.flush() {
+        Ok(()) => Ok(()),
+        Err(_) => Err(ExportFault::Device),
+    }
+}

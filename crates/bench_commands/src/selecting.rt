@@ -1,0 +1,147 @@
+//! The options that choose messages of a recording, for all commands that look at one.
+
+use bench_requests::Fault;
+use bench_select::{Bound, Bus, Selection, Selector, read_bound};
+use clap::{Arg, ArgAction, ArgMatches, Command, value_parser};
+use judge_rules::{RuleFault, selector_of};
+use std::alloc::{AllocError, Global};
+
+/// What a command line says of a selection.
+#[derive(Clone, Copy, Debug)]
+pub struct GivenSelection<'a> {
+    channel: Option<u16>,
+    line: Option<&'a str>,
+    only: Option<&'a str>,
+    errors: bool,
+    from: Option<&'a str>,
+    to: Option<&'a str>,
+}
+
+impl GivenSelection<'_> {
+    /// Whether no option of a selection was given.
+    pub(crate) fn is_empty(&self) -> bool {
+        !self.errors
+            && self.channel.is_none()
+            && self.line.is_none()
+            && self.only.is_none()
+            && self.from.is_none()
+            && self.to.is_none()
+    }
+}
+
+/// A command with the options that choose messages.
+pub(crate) fn with_selection<'a>(
+    alloc: Global,
+    command: Command<'a>,
+) -> Result<Command<'a>, AllocError> {
+    let channel = Arg::new(alloc, "channel")
+        .long("channel")
+        .value_name("N")
+        .value_parser(value_parser!(u16).range(1..=65535))
+        .allow_negative_numbers(true)
+        .help("Only messages of this channel, 1 to 65535");
+    let line = Arg::new(alloc, "line")
+        .long("line")
+        .value_name("LINE")
+        .value_parser(["A", "B"].as_slice())
+        .help("Only messages on this line (bus)");
+    let errors = Arg::new(alloc, "errors")
+        .long("errors")
+        .action(ArgAction::SetTrue)
+        .help("Only messages with an error");
+    command
+        .arg(channel)?
+        .arg(line)?
+        .arg(worded(
+            alloc,
+            "only",
+            "SELECTOR",
+            "Only these messages, in the words of rules, as \"tx 5 3\", \"rt * * 7 *\" or \"mode * 2\"",
+        ))?
+        .arg(errors)?
+        .arg(worded(
+            alloc,
+            "from",
+            "BOUND",
+            "No message before this one: its number in the file, or a time, as 1.2s, 350ms or 12us",
+        ))?
+        .arg(worded(
+            alloc,
+            "to",
+            "BOUND",
+            "No message behind this one, or behind this time",
+        ))
+}
+
+/// An option whose text the command reads.
+fn worded<'a>(alloc: Global, name: &'a str, value: &'a str, help: &'a str) -> Arg<'a> {
+    Arg::new(alloc, name)
+        .long(name)
+        .value_name(value)
+        .allow_negative_numbers(true)
+        .help(help)
+}
+
+/// What a command line says of a selection.
+pub(crate) fn given_selection<'a>(given: &ArgMatches<'a>) -> GivenSelection<'a> {
+    GivenSelection {
+        channel: given.get_one::<u16>("channel"),
+        line: given.get_str("line"),
+        only: given.get_str("only"),
+        errors: given.get_flag("errors"),
+        from: given.get_str("from"),
+        to: given.get_str("to"),
+    }
+}
+
+/// The selection that a command line asks for, or the usage fault of an option that spells none.
+pub(crate) fn selection_in<'a>(given: &GivenSelection<'a>) -> Result<Selection, Fault<'a>> {
+    Ok(Selection {
+        channel: given.channel,
+        line: match given.line {
+            Some("A") => Some(Bus::A),
+            Some(_) => Some(Bus::B),
+            None => None,
+        },
+        selector: selector_in(given.only)?,
+        errors: given.errors,
+        from: bound_in(
+            given.from,
+            "--from takes the number of a message, counted from 1, or a time, as 1.2s, 350ms or 12us",
+        )?,
+        to: bound_in(
+            given.to,
+            "--to takes the number of a message, counted from 1, or a time, as 1.2s, 350ms or 12us",
+        )?,
+    })
+}
+
+/// The bound that an option spells, if it is given.
+fn bound_in<'a>(text: Option<&'a str>, fault: &'static str) -> Result<Option<Bound>, Fault<'a>> {
+    let Some(text) = text else {
+        return Ok(None);
+    };
+    match read_bound(text.as_bytes()) {
+        Some(bound) => Ok(Some(bound)),
+        None => Err(Fault::Usage(fault)),
+    }
+}
+
+/// The selector that an option spells, if it is given.
+fn selector_in<'a>(text: Option<&'a str>) -> Result<Option<Selector>, Fault<'a>> {
+    let Some(text) = text else {
+        return Ok(None);
+    };
+    match selector_of(text.as_bytes()) {
+        Ok(selector) => Ok(Some(selector)),
+        Err(RuleFault::Number) => Err(Fault::Usage(
+            "--only takes a selector of rules, as \"tx 5 3\" or \"mode * 2\", with a number or * in each place",
+        )),
+        Err(RuleFault::Range) => Err(Fault::Usage(
+            "--only takes addresses of 0 to 30, subaddresses of 1 to 30 and mode codes of 0 to 31",
+        )),
+        Err(_) => Err(Fault::Usage(
+            "--only takes a selector of rules: any, rx A S, tx A S, rt A S A S, mode A C, brx S, brt A S S or bmode C",
+        )),
+    }
+}

@@ -1,0 +1,142 @@
+//! `bench stat`: the figures of a recording.
+
+use crate::looking::{index_of, tell_of_loss};
+use crate::selecting::{GivenSelection, given_selection, selection_in, with_selection};
+use bench_requests::{Fault, read_whole};
+use bench_select::Selection;
+use bench_stat::{ChannelFigures, Shown, StatFault, print_page, print_tables, stat};
+use ch11_reader::Index;
+use clap::{Arg, ArgAction, ArgMatches, Command};
+use std::alloc::{AllocError, Global};
+use std::io;
+use std::io::{BufWriter, IsTerminal, Write};
+use std::rt::Files;
+
+/// What is to be counted in, and what is to be shown of it.
+#[derive(Clone, Copy, Debug)]
+pub struct StatRequest<'a> {
+    /// The file of the recording.
+    pub recording: &'a str,
+    /// Which of its messages.
+    pub selection: GivenSelection<'a>,
+    /// Whether as rows of comma-separated values, or else aligned for people.
+    pub rows: bool,
+    /// What more is shown.
+    pub shown: Shown,
+}
+
+/// What the help of `bench stat` ends with.
+const STAT_NOTES: &str = "\
+Each channel with messages is told by the share of its time in which words were on the bus, its errors by their kind,
+its retries, and its terminals with their commands and response times. --channel, --line, --only, --errors, --from and
+--to count in some messages alone, chosen as by bench dump.
+
+Example:
+  bench stat flight.ch11
+  bench stat --long --by subaddress flight.ch11
+  bench stat --load --csv --channel 2 flight.ch11";
+
+/// The command line of `bench stat`.
+pub(crate) fn stat_command<'a>(alloc: Global) -> Result<Command<'a>, AllocError> {
+    let recording = Arg::new(alloc, "RECORDING")
+        .required(true)
+        .help("The Chapter 11 file to count in");
+    let by = Arg::new(alloc, "by")
+        .long("by")
+        .value_name("WHAT")
+        .value_parser(["terminal", "subaddress"].as_slice())
+        .help("One row a terminal, or one a terminal, direction and subaddress");
+    let command = Command::new(alloc, "stat")
+        .about("Shows bus load, errors, retries and response times of a recording")
+        .after_help(STAT_NOTES)
+        .arg(shows(alloc, "csv", "One row of comma-separated values a terminal"))?
+        .arg(shows(
+            alloc,
+            "long",
+            "Shows messages that are missing, rates, gaps and status bits too",
+        ))?
+        .arg(by)?
+        .arg(shows(
+            alloc,
+            "load",
+            "Shows the bus load over time, in twenty slices",
+        ))?;
+    with_selection(alloc, command)?.arg(recording)
+}
+
+/// An option that shows something.
+fn shows<'a>(alloc: Global, name: &'a str, help: &'a str) -> Arg<'a> {
+    Arg::new(alloc, name)
+        .long(name)
+        .action(ArgAction::SetTrue)
+        .help(help)
+}
+
+/// What `bench stat` is asked for.
+pub(crate) fn stat_request<'a>(given: &ArgMatches<'a>) -> StatRequest<'a> {
+    StatRequest {
+        recording: given.get_str("RECORDING").unwrap_or(""),
+        selection: given_selection(given),
+        rows: given.get_flag("csv"),
+        shown: Shown {
+            long: given.get_flag("long"),
+            by_subaddress: matches!(given.get_str("by"), Some("subaddress")),
+            load: given.get_flag("load"),
+        },
+    }
+}
+
+/// Prints the figures of a recording, aligned for people or as rows of comma-separated values. Where a selection has no
+/// messages, it says so and ends with the status of a refused input.
+pub fn show_statistics<'a, R: Files + AllocGlobal + Print, E: Eprint + IsTerminal>(
+    rt: &R,
+    errors: &E,
+    request: &StatRequest<'a>,
+) -> Result<(), Fault<'a>> {
+    let selection = selection_in(&request.selection)?;
+    let bytes = read_whole(rt, request.recording)?;
+    let index = index_of(rt.alloc(), bytes.as_slice())?;
+    let figures = match stat(rt.alloc(), &index, &selection) {
+        Ok(figures) => figures,
+        Err(_) => return Err(Fault::Memory),
+    };
+    if selection != Selection::all() && counts_nothing(figures.as_slice()) {
+        return Err(Fault::NoneSelected);
+    }
+    print_figures(rt, &index, &selection, figures.as_slice(), request)?;
+    tell_of_loss(rt, errors, bytes.as_slice());
+    Ok(())
+}
+
+/// Whether no message was counted.
+fn counts_nothing(figures: &[ChannelFigures]) -> bool {
+    figures.iter().all(|channel| channel.traffic.messages == 0)
+}
+
+fn print_figures<'a, R: AllocGlobal + Print>(
+    rt: &R,
+    index: &Index<'_>,
+    selection: &Selection,
+    figures: &[ChannelFigures],
+    request: &StatRequest<'a>,
+) -> Result<(), Fault<'a>> {
+    let mut out = match BufWriter::new(rt.alloc(), io::writer(rt)) {
+        Ok(out) => out,
+        Err(error) => return Err(Fault::of_stream("-", &error)),
+    };
+    let shown = &request.shown;
+    let printed = if request.rows {
+        print_tables(rt.alloc(), &mut out, index, selection, figures, shown)
+    } else {
+        print_page(rt.alloc(), &mut out, index, selection, figures, shown)
+    };
+    match printed {
+        Ok(()) => {}
+        Err(StatFault::Memory) => return Err(Fault::Memory),
+        Err(StatFault::Device) => return Err(Fault::Device("-")),
+    }
+    match out.flush() {
+        Ok(()) => Ok(()),
+        Err(error) => Err(Fault::of_stream("-", &error)),
+    }
+}

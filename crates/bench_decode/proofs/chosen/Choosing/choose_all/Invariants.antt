@@ -1,0 +1,14 @@
+use Rattle.std.proofs.Common.{◌≡◌, ◌+◌, List, length}
+use Rattle.bench_decode.specs.ByTime.{Heard, AreChosen}
+use Rattle.bench_decode.proofs.Passing.{IsPassing}
+use Rattle.bench_decode.proofs.chosen.Choosing.choose_all.Given as goal
+
+-- those of the messages so far are chosen
+abbrev pub invariant-messages : goal.invariant-messages
+invariant-messages l = record {
+  counted : l.number + length l.rest ≡ l.before + length l.fn.messages;
+  passing : (history : List Heard) → AreChosen l.selection history l.fn.self → l.before ≡ length history → IsPassing (λ (hs : List Heard). AreChosen l.selection hs l.self) l.channel l.before l.number l.fn.messages l.rest history;
+}
+
+abbrev pub decreases-messages : goal.decreases-messages
+decreases-messages l = length l.rest

@@ -1,0 +1,110 @@
+//! The chosen messages of a recording, in the order of their stamps.
+ghost use Rattle.std.specs.Prelude.{◌≡◌, ◌+◌, ◌<◌, ◌^◌, ◌++◌, ◌∷◌, List, length, map, reverse, IfOk, OnOk};
+ghost use Rattle.ch11_f1.specs.BodyReading.{Message};
+ghost use Rattle.ch11_f1.specs.Views.{message_of};
+ghost use Rattle.ch11_reader.specs.Contents.{heard_in};
+ghost use Rattle.bench_decode.specs.ByTime.{Heard, AreByTime, AreChosen, chosen, told_of};
+
+use crate::messages::Place;
+use crate::numbers::Numbers;
+use bench_select::Selection;
+use ch11_f1::{Messages, Seen};
+use ch11_reader::Index;
+use std::alloc::{AllocError, Global};
+
+/// A chosen message of a recording.
+#[derive(Clone, Copy, Debug)]
+pub struct Chosen<'a> {
+    /// Where it stands in the file.
+    pub place: Place,
+    pub seen: Seen<'a>,
+}
+
+/// The chosen messages of a recording on the way through it, and how many there were of each channel.
+#[derive(Drop)]
+struct Choosing<'a> {
+    found: Vec<Chosen<'a>>,
+    numbers: Numbers,
+}
+
+/// The messages of a recording that a selection chooses, in the order of their stamps, all channels together; those of
+/// one stamp are in the file's order. It copies no words. An error is want of memory.
+pub fn messages_by_time<'a>(
+    alloc: Global,
+    index: &Index<'a>,
+    selection: &Selection,
+) -> Result<Vec<Chosen<'a>>, AllocError>
+    ensures { IfOk result (λ found. AreByTime (chosen selection.now (reverse (heard_in index.now))) found.items) }
+{
+    let mut found = chosen_messages(alloc, index, selection)?;
+    found.sort_by_key(|one| one.seen.stamp)?;
+    Ok(found)
+}
+
+/// The messages of a recording that a selection chooses, in the file's order.
+fn chosen_messages<'a>(
+    alloc: Global,
+    index: &Index<'a>,
+    selection: &Selection,
+) -> Result<Vec<Chosen<'a>>, AllocError>
+    ensures { IfOk result (λ found. map told_of found.items ≡ chosen selection.now (reverse (heard_in index.now))) }
+{
+    let mut choosing = Choosing {
+        found: Vec::new(alloc),
+        numbers: Numbers::new(alloc)?,
+    };
+    let packets = index.packets();
+    'packets: for place in 0..packets.len() {
+        let packet = &packets[place];
+        choosing.choose_all(
+            selection,
+            packet.before,
+            packet.header.channel,
+            index.messages_in(place),
+        )?;
+    }
+    Ok(choosing.found)
+}
+
+impl<'a> Choosing<'a> {
+    /// The next message of the file, which is of this number and channel.
+    fn choose(
+        &mut self,
+        selection: &Selection,
+        number: u64,
+        channel: u16,
+        seen: &Seen<'a>,
+    ) -> Result<(), AllocError>
+        ensures { (history : List Heard) → AreChosen selection.now history self.old → number ≡ length history + 1 → OnOk result (AreChosen selection.now ((channel, message_of seen.now) ∷ history) self.new) }
+    {
+        let place = Place {
+            number,
+            channel,
+            in_channel: self.numbers.next(channel),
+        };
+        if selection.selects(number, channel, seen) {
+            self.found.push(Chosen { place, seen: *seen })?;
+        }
+        Ok(())
+    }
+
+    /// The messages of a packet of this channel, behind so many messages of the file.
+    fn choose_all(
+        &mut self,
+        selection: &Selection,
+        before: u64,
+        channel: u16,
+        messages: Messages<'a>,
+    ) -> Result<(), AllocError>
+        requires { before + length messages < 2 ^ 64 }
+        ensures { (history : List Heard) → AreChosen selection.now history self.old → before ≡ length history → OnOk result (AreChosen selection.now (reverse (map (λ (m : Message). (channel, m)) messages.entry) ++ history) self.new) }
+    {
+        let mut number = before;
+        let mut rest = messages;
+        'messages: while let Some(seen) = rest.next() {
+            number += 1;
+            self.choose(selection, number, channel, &seen)?;
+        }
+        Ok(())
+    }
+}

@@ -1,5 +1,0 @@
-use Rattle.std.proofs.Common.{length}
-use Rattle.bench_draw.proofs.drawing.draw_messages.Given as goal
-
-abbrev pub decreases-messages : goal.decreases-messages
-decreases-messages l = length l.rest

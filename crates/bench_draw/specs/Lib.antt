@@ -1,0 +1,3 @@
+pub mod Axis
+pub mod Chosen
+pub mod Labels

@@ -1,0 +1,121 @@
+//! What is to be drawn: which channels, which time, and how.
+ghost use Rattle.std.specs.Prelude.{◌≡◌, ◌+◌, ◌<◌, ◌^◌, length, IfOk, OnOk};
+ghost use Rattle.bench_draw.specs.Chosen.{capped, chosen, chosen_in};
+
+use crate::rows::Rows;
+use crate::scale::{Scale, end_of};
+use bench_select::Selection;
+use ch11_f1::{Messages, Seen};
+use ch11_reader::{Index, Packet};
+use std::alloc::{AllocError, Global};
+
+/// How many channels a picture has at most.
+const CHANNELS: usize = 32;
+
+/// How many messages a picture has at most whose labels are all drawn.
+const LABELLED: u64 = 24;
+
+/// How many tenths of a pixel a message takes at least that is drawn as a bar.
+const BAR: u64 = 40;
+
+/// What is to be drawn: the channels with selected messages, how many messages these are, the time that they take, and
+/// how many ticks the shortest and the longest of them take.
+#[derive(Drop)]
+pub(crate) struct Extent {
+    pub(crate) channels: Vec<u16>,
+    pub(crate) messages: u64,
+    pub(crate) begin: u64,
+    pub(crate) end: u64,
+    pub(crate) shortest: u64,
+    pub(crate) longest: u64,
+}
+
+impl Extent {
+    /// The extent of the selected messages of a recording; the channels are the first 32 that the file has, in rising
+    /// order.
+    pub(crate) fn of(
+        alloc: Global,
+        index: &Index<'_>,
+        selection: &Selection,
+    ) -> Result<Extent, AllocError>
+        ensures { IfOk result (λ extent. extent.messages ≡ capped (chosen selection.now index.now)) }
+    {
+        let mut extent = Extent {
+            channels: Vec::new(alloc),
+            messages: 0,
+            begin: u64::MAX,
+            end: 0,
+            shortest: u64::MAX,
+            longest: 0,
+        };
+        let packets = index.packets();
+        'packets: for place in 0..packets.len() {
+            widen_by(
+                &mut extent,
+                selection,
+                &packets[place],
+                index.messages_in(place),
+            )?;
+        }
+        extent.channels.sort()?;
+        Ok(extent)
+    }
+
+    /// What the lanes show: all messages as bars with labels if they are few, and else as bars those that have the room,
+    /// with the load where some have not.
+    pub(crate) fn rows(&self, scale: &Scale) -> Rows {
+        let all = self.messages <= LABELLED;
+        Rows {
+            all,
+            bars: all || is_bar(scale, self.longest),
+            load: !all && !is_bar(scale, self.shortest),
+        }
+    }
+}
+
+/// Whether a message of so many ticks has the room of a bar.
+pub(crate) fn is_bar(scale: &Scale, ticks: u64) -> bool {
+    scale.length(ticks) >= BAR
+}
+
+/// The extent with the selected ones of a packet's messages.
+fn widen_by(
+    extent: &mut Extent,
+    selection: &Selection,
+    packet: &Packet,
+    messages: Messages<'_>,
+) -> Result<(), AllocError>
+    requires { packet.now.before + length messages < 2 ^ 64 }
+    ensures { OnOk result (extent.new.messages ≡ capped (extent.old.messages + chosen_in selection.now packet.now.before packet.now.header.channel messages.entry)) }
+{
+    let channel = packet.header.channel;
+    let mut number = packet.before;
+    let mut found = 0u64;
+    let mut rest = messages;
+    'messages: while let Some(seen) = rest.next() {
+        number += 1;
+        if selection.selects(number, channel, &seen) {
+            found += 1;
+            widen(extent, channel, &seen)?;
+        }
+    }
+    let total = extent.messages.saturating_add(found);
+    extent.messages = total;
+    Ok(())
+}
+
+/// The extent with one more message, which is not counted yet.
+fn widen(extent: &mut Extent, channel: u16, seen: &Seen<'_>) -> Result<(), AllocError>
+    ensures { extent.new.messages ≡ extent.old.messages }
+{
+    let end = end_of(seen);
+    let ticks = end.saturating_sub(seen.stamp);
+    extent.begin = extent.begin.min(seen.stamp);
+    extent.end = extent.end.max(end);
+    extent.shortest = extent.shortest.min(ticks);
+    extent.longest = extent.longest.max(ticks);
+    if extent.channels.len() < CHANNELS && !extent.channels.contains(&channel) {
+        extent.channels.push(channel)?;
+    }
+    Ok(())
+}

@@ -1,0 +1,62 @@
+-- The text of a dump with times of day (own choice): the lines of any dump, and behind the stamp of a message its time of day, where
+-- the recording's time packets tell one.
+use Rattle.std.specs.Prelude.{◌≡◌, ℕ, ◌+◌, Bool, true, false, List, [], ◌∷◌, ◌++◌, length, codes, decimal, Option, None, Some}
+use Rattle.ch11_f1.specs.BodyReading.{Message}
+use Rattle.ch11_reader.specs.declared.skip.Skip.{Skip}
+use Rattle.ch11_reader.specs.Recording.{Found}
+use Rattle.ch11_reader.specs.Listing.{listing}
+use Rattle.ch11_reader.specs.Indexed.{found_in}
+use Rattle.ch11_reader.specs.Skipping.{packets_read, skips_in}
+use Rattle.bench_clock.specs.declared.clock.Mark.{Mark}
+use Rattle.bench_clock.specs.Clock.{marks_in, time_at}
+use Rattle.bench_clock.specs.TimeText.{time_text}
+use Rattle.bench_dump.specs.DumpText.{bus_words, packet_line, word_digits}
+use Rattle.bench_dump.specs.SkippingText.{skip_lines, skips_before, skips_behind, text_of}
+
+abbrev pub time_words : Option ℕ → List ℕ
+time_words None = []
+time_words (Some ticks) = codes " time " ++ time_text ticks
+
+-- the line of message n on a channel, with a time of day
+unfoldable pub timed_line : Option ℕ → ℕ → ℕ → Message → List ℕ
+timed_line time n channel m =
+    (codes "message " ++ decimal n)
+    ++ ((codes " channel " ++ decimal channel)
+    ++ ((codes " stamp " ++ decimal m.stamp)
+    ++ (time_words time
+    ++ ((codes " block " ++ word_digits m.block)
+    ++ ((codes " gaps " ++ word_digits m.gaps)
+    ++ (codes " words" ++ (bus_words m.bytes ++ codes "\n")))))))
+
+-- the lines of messages on a channel, behind so many messages of the file
+abbrev pub timed_lines : List Mark → ℕ → ℕ → List Message → List ℕ
+timed_lines clock before channel [] = []
+timed_lines clock before channel (m ∷ ms) = timed_line (time_at clock m.stamp) (before + 1) channel m ++ timed_lines clock (before + 1) channel ms
+
+-- the lines of packets, behind so many messages, and in front of each packet those of the skips that lie in front of it
+abbrev pub timed_in_order : List Mark → ℕ → List Skip → List Found → List ℕ
+timed_in_order clock before skips [] = skip_lines skips
+timed_in_order clock before skips (p ∷ ps) =
+    skip_lines (skips_before p.offset skips)
+    ++ (packet_line p.offset p.header (length p.messages)
+    ++ (timed_lines clock before p.header.channel p.messages ++ timed_in_order clock (before + length p.messages) (skips_behind p.offset skips) ps))
+
+-- the dump of packets and skips
+abbrev pub timed_text : List Mark → List Skip → List Found → List ℕ
+timed_text clock skips ps = timed_in_order clock 0 skips ps
+
+-- the clock by which a file's packets are printed; none where no times are asked for
+abbrev pub clock_of : Bool → List ℕ → List Found → List Mark
+clock_of false file ps = []
+clock_of true file ps = marks_in file (listing ps)
+
+-- the dump of a file, with or without times of day: of a sound one, or of whatever is sound in it
+abbrev pub text_by : Bool → Bool → List ℕ → List ℕ
+text_by timed false file = timed_text (clock_of timed file (found_in file)) [] (found_in file)
+text_by timed true file = timed_text (clock_of timed file (packets_read file)) (skips_in file) (packets_read file)
+
+-- without a time packet that counts, the dump with times of day is the dump
+abbrev pub TimelessIsPlain : Type 0
+TimelessIsPlain =
+    (file : List ℕ) → (marks_in file (listing (found_in file)) ≡ [] → text_by true false file ≡ text_of false file)
+    × (marks_in file (listing (packets_read file)) ≡ [] → text_by true true file ≡ text_of true file)

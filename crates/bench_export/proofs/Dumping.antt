@@ -1,0 +1,141 @@
+-- The text of a value change dump that was written so far.
+use Rattle.std.proofs.Common.{◌≡◌, inl, inr, ℕ, zero, suc, ◌+◌, ◌-◌, ◌/◌, ◌%◌, ◌<◌, ◌≤◌, ◌==◌, nat_lt, Bool, true, false, if◌then◌else◌, List, [], ◌∷◌, ◌++◌, length, take, drop, set, get_or, Option, None, refl, sym, ap, subst, ◌∙◌, append_assoc, add-one, drop-cons, arith}
+use Rattle.std.specs.Io.KnownBytes.{Appends}
+use Rattle.std.specs.Prelude.{◌||◌, codes}
+use Rattle.std.proofs.lemmas.Bool.{cases_eq, eq-eqb, ne_eqb}
+use Rattle.std.proofs.lemmas.List.{append-nil, drop_all, get_or-set_same, get_or-set_other}
+use Rattle.std.proofs.lemmas.List.Folds.{list_any-append}
+use Rattle.bench_dump.proofs.Steps.{appends_both, appends_nothing}
+use Rattle.bench_export.specs.declared.changes.Change.{Change}
+use Rattle.std.proofs.lemmas.Bool.Decides.{nat_tests}
+use Rattle.bench_export.specs.Waves.{binary, has_channel, marked, ArePresent, channels_text, present_text, scope_text, idle_text, start_text, head_text, first_tick, notes, change_text, changes_text}
+
+or_false : (b : Bool) → (b || false) ≡ b
+or_false true = refl
+or_false false = refl
+
+or_true : (b : Bool) → (b || true) ≡ true
+or_true true = refl
+or_true false = refl
+
+has_one_more : (k : ℕ) (cs : List Change) (c : Change) → has_channel k (cs ++ c ∷ []) ≡ (has_channel k cs || (c.channel == k))
+has_one_more k cs c =
+    list_any-append (λ (x : Change). x.channel == k) cs (c ∷ []) ∙ ap (λ (b : Bool). has_channel k cs || b) (or_false (c.channel == k))
+
+-- one more change is marked
+pub mark_more : (cs : List Change) (c : Change) (marks : List Bool) → length marks ≡ 65536 → ArePresent marks cs → ArePresent (set marks c.channel true) (cs ++ c ∷ [])
+mark_more cs c marks long present k below = elim (cases_eq c.channel k) [
+  | inl e ↦
+      ap (λ (j : ℕ). get_or (set marks c.channel true) j false) (sym e) ∙ get_or-set_same marks c.channel true false (omega (arith, e, long))
+      ∙ sym (has_one_more k cs c ∙ rw (eq-eqb c.channel k e) (or_true (has_channel k cs)))
+  | inr n ↦
+      get_or-set_other marks c.channel k true false (λ e. n (sym e)) ∙ present k below
+      ∙ sym (has_one_more k cs c ∙ rw (ne_eqb c.channel k n) (or_false (has_channel k cs)))
+]
+
+regroup : (t a b c d e : List ℕ) → ((((t ++ a) ++ b) ++ c) ++ d) ++ e ≡ t ++ (a ++ (b ++ (c ++ (d ++ e))))
+regroup t a b c d e = simp append_assoc
+
+-- no channel's text was put yet
+pub no_channels : (got : List ℕ) (text : ℕ → List ℕ) (has : ℕ → Bool) → got ≡ got ++ channels_text text has 0
+unfolding channels_text
+no_channels got text has = sym (append-nil got)
+
+-- one more channel, of which there is text, or none
+pub channel_more : (got mid gets : List ℕ) (text : ℕ → List ℕ) (has : ℕ → Bool) (k : ℕ) → has k ≡ true → mid ≡ got ++ channels_text text has k
+    → gets ≡ mid ++ text k → gets ≡ got ++ channels_text text has (k + 1)
+unfolding channels_text
+channel_more got mid gets text has k there a b =
+    b ∙ ap (λ (l : List ℕ). l ++ text k) a ∙ append_assoc got (channels_text text has k) (text k)
+    ∙ ap (λ (x : Bool). got ++ (channels_text text has k ++ (if x then text k else []))) (sym there)
+    ∙ ap (λ (j : ℕ). got ++ channels_text text has j) (sym (add-one k))
+
+pub channel_same : (got mid : List ℕ) (text : ℕ → List ℕ) (has : ℕ → Bool) (k : ℕ) → has k ≡ false → mid ≡ got ++ channels_text text has k
+    → mid ≡ got ++ channels_text text has (k + 1)
+unfolding channels_text
+channel_same got mid text has k absent a =
+    a ∙ ap (λ (l : List ℕ). got ++ l) (sym (append-nil (channels_text text has k)))
+    ∙ ap (λ (x : Bool). got ++ (channels_text text has k ++ (if x then text k else []))) (sym absent)
+    ∙ ap (λ (j : ℕ). got ++ channels_text text has j) (sym (add-one k))
+
+-- tests that agree give the same texts
+same_texts : (text : ℕ → List ℕ) (p q : ℕ → Bool) (n : ℕ) → ((k : ℕ) → k < n → p k ≡ q k) → channels_text text p n ≡ channels_text text q n
+unfolding channels_text
+same_texts text p q zero agree = refl
+same_texts text p q (suc n) agree =
+    ap (λ (l : List ℕ). l ++ (if p n then text n else [])) (same_texts text p q n (λ k less. agree k (omega arith)))
+    ∙ ap (λ (x : Bool). channels_text text q n ++ (if x then text n else [])) (agree n (omega arith))
+
+pub same_present : (text : ℕ → List ℕ) (marks : List Bool) (cs : List Change) → ArePresent marks cs → channels_text text (marked marks) 65536 ≡ present_text text cs
+same_present text marks cs present = same_texts text (marked marks) (λ k. has_channel k cs) 65536 present
+
+-- the parts of a head
+pub head_put : (t0 t1 t2 t3 t4 t5 : List ℕ) (marks : List Bool) (cs : List Change) → ArePresent marks cs → t1 ≡ t0 ++ notes
+    → t2 ≡ t1 ++ channels_text scope_text (marked marks) 65536 → t3 ≡ t2 ++ start_text (first_tick cs)
+    → t4 ≡ t3 ++ channels_text idle_text (marked marks) 65536 → t5 ≡ t4 ++ codes "$end\n" → t5 ≡ t0 ++ head_text cs
+unfolding head_text
+head_put t0 t1 t2 t3 t4 t5 marks cs present e1 e2 e3 e4 e5 =
+    e5 ∙ ap (λ (l : List ℕ). l ++ end) (e4 ∙ ap (λ (l : List ℕ). l ++ idles) (e3 ∙ ap (λ (l : List ℕ). l ++ start) (e2 ∙ ap (λ (l : List ℕ). l ++ scopes) e1)))
+    ∙ regroup t0 notes scopes start idles end
+    ∙ ap (λ (l : List ℕ). t0 ++ (notes ++ (l ++ (start ++ (idles ++ end))))) (same_present scope_text marks cs present)
+    ∙ ap (λ (l : List ℕ). t0 ++ (notes ++ (present_text scope_text cs ++ (start ++ (l ++ end))))) (same_present idle_text marks cs present)
+  where
+    scopes : List ℕ
+    scopes = channels_text scope_text (marked marks) 65536
+
+    start : List ℕ
+    start = start_text (first_tick cs)
+
+    idles : List ℕ
+    idles = channels_text idle_text (marked marks) 65536
+
+    end : List ℕ
+    end = codes "$end\n"
+
+-- binary digits in front of the last, and the last
+pub binary_more : (t0 t1 t2 : List ℕ) (rest most value : ℕ) → rest + 1 ≡ most → 2 ≤ value → t1 ≡ t0 ++ binary rest (value / 2)
+    → t2 ≡ t1 ++ (48 + value % 2) ∷ [] → t2 ≡ t0 ++ binary most value
+unfolding binary
+binary_more t0 t1 t2 rest most value is large a b =
+    let less : nat_lt value 2 ≡ false = grind (arith, nat_tests) in
+    b ∙ ap (λ (l : List ℕ). l ++ (48 + value % 2) ∷ []) a ∙ append_assoc t0 (binary rest (value / 2)) ((48 + value % 2) ∷ [])
+    ∙ ap (λ (x : Bool). t0 ++ ((if x then [] else binary rest (value / 2)) ++ (48 + value % 2) ∷ [])) (sym less)
+    ∙ ap (λ (k : ℕ). t0 ++ binary k value) (sym (add-one rest) ∙ is)
+
+pub binary_last : (t0 t2 : List ℕ) (most value : ℕ) → (most ≡ 0 → ⊥) → value < 2 → t2 ≡ t0 ++ (48 + value % 2) ∷ [] → t2 ≡ t0 ++ binary most value
+unfolding binary
+binary_last t0 t2 zero value some small b = absurd (some refl)
+binary_last t0 t2 (suc most) value some small b =
+    let less : nat_lt value 2 ≡ true = grind (arith, nat_tests) in
+    b ∙ ap (λ (x : Bool). t0 ++ ((if x then [] else binary most (value / 2)) ++ (48 + value % 2) ∷ [])) (sym less)
+
+-- what a place past the end is read as
+abbrev pub no_change : Change
+no_change = record { tick = 0; channel = 0; on_b = false; driven = None }
+
+-- the change at a place, and those behind it
+pub split_at : (cs : List Change) (i : ℕ) (d : Change) → i < length cs → drop i cs ≡ get_or cs i d ∷ drop (i + 1) cs
+split_at cs i d within = rw (add-one, drop-cons cs i d)
+
+-- the changes before a place were written, the last of them at a tick
+pub record IsWriting (got gets : Option (List ℕ)) (first last place : ℕ) (cs : List Change) : Type 0 where
+  pub more : List ℕ
+  pub written : Appends got gets more
+  pub text : more ++ changes_text last (drop place cs) ≡ changes_text first cs
+
+pub begins : (got : Option (List ℕ)) (first : ℕ) (cs : List Change) → IsWriting got got first first 0 cs
+begins got first cs = record { more = []; written = appends_nothing got; text = refl }
+
+pub goes_on : (got mid gets : Option (List ℕ)) (first last place : ℕ) (cs : List Change) (c : Change) → drop place cs ≡ c ∷ drop (place + 1) cs → IsWriting got mid first last place cs
+    → Appends mid gets (change_text last c) → IsWriting got gets first c.tick (place + 1) cs
+goes_on got mid gets first last place cs c split g one = record {
+  more = g.more ++ change_text last c;
+  written = appends_both got mid gets g.more (change_text last c) g.written one;
+  text =
+      append_assoc g.more (change_text last c) (changes_text c.tick (drop (place + 1) cs))
+      ∙ ap (λ (l : List Change). g.more ++ changes_text last l) (sym split) ∙ g.text;
+}
+
+pub ends : (got gets : Option (List ℕ)) (first last place : ℕ) (cs : List Change) → length cs ≤ place → IsWriting got gets first last place cs → Appends got gets (changes_text first cs)
+ends got gets first last place cs past g =
+    subst (Appends got gets) (sym (append-nil g.more) ∙ ap (λ (l : List Change). g.more ++ changes_text last l) (sym (drop_all place cs past)) ∙ g.text) g.written

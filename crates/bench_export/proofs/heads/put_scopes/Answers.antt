@@ -1,0 +1,20 @@
+use Rattle.std.proofs.Common.{ℕ, Vec, Global, sym, ap, ◌∙◌}
+use Rattle.bench_export.specs.Waves.{marked, scope_text}
+use Rattle.bench_export.proofs.Dumping.{no_channels, channel_more, channel_same}
+use Rattle.bench_export.proofs.heads.put_scopes.Goals as goal
+use Rattle.bench_export.proofs.heads.put_scopes.Goals.{then-is_present+in_ok-put_scope, else-is_present}
+
+pub channels-init : goal.channels-init
+channels-init c = no_channels c.args.text.now.items scope_text (marked c.args.present.now)
+
+pub channels-preserved : goal.channels-preserved
+channels-preserved c = elim c.if-is_present.branch [
+  | then-is_present+in_ok-put_scope w ↦
+      ap (λ (v : Vec ℕ Global). v.items) w.text-is
+      ∙ channel_more c.args.text.now.items c.channels.text.items w.put_scope.new.text.items scope_text (marked c.args.present.now) c.channels.channel
+      (sym c.is_present.ensures ∙ w.if-is_present.true) c.channels.invariant w.in_ok-put_scope.ensures
+  | else-is_present w ↦
+      ap (λ (v : Vec ℕ Global). v.items) w.text-is
+      ∙ channel_same c.args.text.now.items c.channels.text.items scope_text (marked c.args.present.now) c.channels.channel
+      (sym c.is_present.ensures ∙ w.if-is_present.false) c.channels.invariant
+]

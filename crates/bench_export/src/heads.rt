@@ -1,0 +1,181 @@
+//! What stands in front of the changes of a value change dump.
+ghost use Rattle.std.specs.Prelude.{◌≡◌, ◌++◌, ◌<◌, length, OnOk};
+ghost use Rattle.bench_export.specs.Waves as spec;
+
+use crate::changes::Change;
+use crate::present::{CHANNELS, is_present};
+use crate::signals::{Wire, letter_of, put_code, put_number, put_values};
+use std::alloc::AllocError;
+
+/// Puts what the kinds of words are, and the unit of time.
+fn put_notes(text: &mut Vec<u8>) -> Result<(), AllocError>
+    ensures { OnOk result (text.new.items ≡ text.old.items ++ spec.notes) }
+{
+    text.extend_from_slice(
+        b"$comment kind: 1 command word, 2 data word, 3 status word; z: the line is idle $end\n",
+    )?;
+    text.extend_from_slice(b"$timescale 100 ns $end\n")?;
+    Ok(())
+}
+
+/// Puts the declaration of a signal of a line.
+#[tactic(auto, unfolding(crate::specs::Waves::declared_text))]
+fn put_declared(
+    text: &mut Vec<u8>,
+    size: &[u8],
+    letter: &[u8],
+    name: &[u8],
+    wire: Wire,
+) -> Result<(), AllocError>
+    ensures { OnOk result (text.new.items ≡ text.old.items ++ spec.declared_text size.now letter.now name.now wire.on_b wire.channel) }
+{
+    text.extend_from_slice(b"$var ")?;
+    text.extend_from_slice(size)?;
+    text.extend_from_slice(b" ")?;
+    put_code(text, letter, wire)?;
+    text.extend_from_slice(b" ")?;
+    text.extend_from_slice(name)?;
+    text.extend_from_slice(b" $end\n")
+}
+
+/// Puts the name of a line, in front of its signals.
+fn put_opening(text: &mut Vec<u8>, on_b: bool) -> Result<(), AllocError>
+    ensures { OnOk result (text.new.items ≡ text.old.items ++ spec.opening_text on_b) }
+{
+    text.extend_from_slice(b"$scope module ")?;
+    text.extend_from_slice(letter_of(on_b))?;
+    text.extend_from_slice(b" $end\n")?;
+    Ok(())
+}
+
+/// Puts the declarations of the signals of a line.
+#[tactic(auto, unfolding(crate::specs::Waves::line_text))]
+fn put_line(text: &mut Vec<u8>, wire: Wire) -> Result<(), AllocError>
+    ensures { OnOk result (text.new.items ≡ text.old.items ++ spec.line_text wire.on_b wire.channel) }
+{
+    put_opening(text, wire.on_b)?;
+    put_declared(text, b"reg 16", b"w", b"word", wire)?;
+    put_declared(text, b"reg 2", b"k", b"kind", wire)?;
+    put_declared(text, b"reg 5", b"t", b"terminal", wire)?;
+    put_declared(text, b"integer 64", b"m", b"message", wire)?;
+    text.extend_from_slice(b"$upscope $end\n")
+}
+
+/// Puts the name of a channel, in front of its lines.
+fn put_channel(text: &mut Vec<u8>, channel: u16) -> Result<(), AllocError>
+    ensures { OnOk result (text.new.items ≡ text.old.items ++ spec.channel_text channel) }
+{
+    text.extend_from_slice(b"$scope module channel_")?;
+    put_number(text, u128::from(channel))?;
+    text.extend_from_slice(b" $end\n")?;
+    Ok(())
+}
+
+/// Puts the declarations of the signals of a channel.
+fn put_scope(text: &mut Vec<u8>, channel: u16) -> Result<(), AllocError>
+    ensures { OnOk result (text.new.items ≡ text.old.items ++ spec.scope_text channel) }
+{
+    put_channel(text, channel)?;
+    put_line(
+        text,
+        Wire {
+            on_b: false,
+            channel,
+        },
+    )?;
+    put_line(
+        text,
+        Wire {
+            on_b: true,
+            channel,
+        },
+    )?;
+    text.extend_from_slice(b"$upscope $end\n")?;
+    Ok(())
+}
+
+/// Puts that the lines of a channel are idle.
+fn put_idle(text: &mut Vec<u8>, channel: u16) -> Result<(), AllocError>
+    ensures { OnOk result (text.new.items ≡ text.old.items ++ spec.idle_text channel) }
+{
+    put_values(
+        text,
+        None,
+        Wire {
+            on_b: false,
+            channel,
+        },
+    )?;
+    put_values(
+        text,
+        None,
+        Wire {
+            on_b: true,
+            channel,
+        },
+    )
+}
+
+/// Puts the declarations of all channels that are marked.
+fn put_scopes(text: &mut Vec<u8>, present: &[bool]) -> Result<(), AllocError>
+    requires { length present.now ≡ CHANNELS }
+    ensures { OnOk result (text.new.items ≡ text.old.items ++ spec.channels_text spec.scope_text (spec.marked present.now) 65536) }
+{
+    'channels: for channel in 0..CHANNELS {
+        if is_present(present, channel) {
+            put_scope(text, channel as u16)?;
+        }
+    }
+    Ok(())
+}
+
+/// Puts that the lines of all channels that are marked are idle.
+fn put_idles(text: &mut Vec<u8>, present: &[bool]) -> Result<(), AllocError>
+    requires { length present.now ≡ CHANNELS }
+    ensures { OnOk result (text.new.items ≡ text.old.items ++ spec.channels_text spec.idle_text (spec.marked present.now) 65536) }
+{
+    'channels: for channel in 0..CHANNELS {
+        if is_present(present, channel) {
+            put_idle(text, channel as u16)?;
+        }
+    }
+    Ok(())
+}
+
+/// The tick of the first change, 0 where there is none.
+pub(crate) fn first_tick(changes: &[Change]) -> u128
+    ensures { result ≡ spec.first_tick changes.now }
+{
+    match changes.split_first() {
+        Some((first, _)) => first.tick,
+        None => 0,
+    }
+}
+
+/// Puts the end of the declarations, and the first tick.
+fn put_start(text: &mut Vec<u8>, tick: u128) -> Result<(), AllocError>
+    ensures { OnOk result (text.new.items ≡ text.old.items ++ spec.start_text tick) }
+{
+    text.extend_from_slice(b"$enddefinitions $end\n#")?;
+    put_number(text, tick)?;
+    text.extend_from_slice(b"\n$dumpvars\n")?;
+    Ok(())
+}
+
+/// Puts what stands in front of changes, of which the marks are those of their channels.
+pub(crate) fn put_head(
+    text: &mut Vec<u8>,
+    present: &[bool],
+    changes: &[Change],
+) -> Result<(), AllocError>
+    requires many { length present.now ≡ CHANNELS }
+    requires present { spec.ArePresent present.now changes.now }
+    ensures { OnOk result (text.new.items ≡ text.old.items ++ spec.head_text changes.now) }
+{
+    put_notes(text)?;
+    put_scopes(text, present)?;
+    put_start(text, first_tick(changes))?;
+    put_idles(text, present)?;
+    text.extend_from_slice(b"$end\n")?;
+    Ok(())
+}

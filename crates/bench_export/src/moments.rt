@@ -1,0 +1,73 @@
+//! When the words of a recorded message are on the line.
+ghost use Rattle.std.specs.Prelude.{◌≡◌, ◌-◌, ◌<◌, ◌≤◌, ◌^◌};
+ghost use Rattle.ch11_f1.specs.Views.{message_of};
+ghost use Rattle.ch11_layout.specs.Layouts.{layout_of, last_gap};
+ghost use Rattle.bench_export.specs.Moments as spec;
+
+use ch11_f1::Seen;
+use ch11_layout::{Layout, first_gap, is_set, second_gap};
+
+/// How many ticks of 0.1 µs a word takes (MIL-STD-1553B 4.3.3.3).
+pub(crate) const WORD: u128 = 200;
+
+/// The gap, in ticks, of words with nothing between them (MIL-STD-1553B 4.3.3.7).
+const CLOSE: u8 = 20;
+
+/// What lies between two words with this gap, in ticks.
+fn pause(gap: u8) -> u128
+    ensures value { result ≡ gap - 20 }
+    ensures small { result ≤ 255 }
+{
+    u128::from(gap.saturating_sub(CLOSE))
+}
+
+/// The gap of the reply behind the data words.
+fn gap_behind(seen: &Seen<'_>, layout: &Layout) -> u8
+    requires { layout.now ≡ layout_of (message_of seen.now) }
+    ensures { result ≡ last_gap (message_of seen.now) }
+{
+    if is_set(seen.block, 11) {
+        second_gap(seen)
+    } else if layout.commands < layout.data_start {
+        0
+    } else {
+        first_gap(seen)
+    }
+}
+
+/// What lies in front of the word at a place, because of the status word in front of the data words.
+fn front_pause(seen: &Seen<'_>, layout: &Layout, place: usize) -> u128
+    requires { layout.now ≡ layout_of (message_of seen.now) }
+    ensures value { result ≡ spec.front_pause (message_of seen.now) place }
+    ensures small { result ≤ 255 }
+{
+    if layout.commands < layout.data_start && layout.commands <= place {
+        pause(first_gap(seen))
+    } else {
+        0
+    }
+}
+
+/// What lies in front of the word at a place, because of the status word behind the data words.
+fn back_pause(seen: &Seen<'_>, layout: &Layout, place: usize) -> u128
+    requires { layout.now ≡ layout_of (message_of seen.now) }
+    ensures value { result ≡ spec.back_pause (message_of seen.now) place }
+    ensures small { result ≤ 255 }
+{
+    if layout.data_end < layout.words && layout.data_end <= place {
+        pause(gap_behind(seen, layout))
+    } else {
+        0
+    }
+}
+
+/// The tick at which the word at a place begins.
+#[tactic(auto, unfolding(crate::specs::Moments::begin_of))]
+pub(crate) fn begin_of(seen: &Seen<'_>, layout: &Layout, place: usize) -> u128
+    requires { layout.now ≡ layout_of (message_of seen.now) }
+    ensures value { result ≡ spec.begin_of (message_of seen.now) place }
+    ensures small { result < 2 ^ 100 }
+{
+    let behind = u128::from(seen.stamp) + WORD * place as u128;
+    behind + front_pause(seen, layout, place) + back_pause(seen, layout, place)
+}

@@ -1,0 +1,89 @@
+-- One more message on the way through a recording.
+use Rattle.std.proofs.Common.{◌≡◌, ℕ, zero, suc, ◌+◌, ◌-◌, ◌<◌, List, [], ◌∷◌, length, take, drop, Option, Some, None, refl, sym, ap, ◌∙◌, arith}
+use Rattle.std.specs.Prelude.{true, false}
+use Rattle.std.specs.Option.{MatchOption}
+use Rattle.bench_places.specs.Places.{Heard, meets, places_behind, numbered, count_of}
+use Rattle.bench_places.specs.declared.sought.Sought.{Sought}
+
+pub drop_next : (xs : List Heard) (i : ℕ) (h : Heard) (hs : List Heard) → drop i xs ≡ h ∷ hs → drop (suc i) xs ≡ hs
+drop_next [] zero h hs is = absurd cc
+drop_next [] (suc i) h hs is = absurd cc
+drop_next (x ∷ xs) zero h hs is = cc
+drop_next (x ∷ xs) (suc i) h hs is = drop_next xs i h hs is
+
+pub drop_none : (xs : List Heard) (i : ℕ) → drop i xs ≡ [] → drop (suc i) xs ≡ []
+drop_none [] i is = refl
+drop_none (x ∷ xs) zero is = absurd cc
+drop_none (x ∷ xs) (suc i) is = drop_none xs i is
+
+pub counts_next : (channel : ℕ) (xs : List Heard) (i : ℕ) (h : Heard) (hs : List Heard) → drop i xs ≡ h ∷ hs → count_of channel (take (suc i) xs) ≡ count_of channel (take i xs) + count_of channel (h ∷ [])
+counts_next channel [] zero h hs is = absurd cc
+counts_next channel [] (suc i) h hs is = absurd cc
+counts_next channel (x ∷ xs) zero h hs is = let same : x ≡ h = cc in omega (arith, ap (λ (y : Heard). count_of channel (y ∷ [])) same)
+counts_next channel (x ∷ xs) (suc i) h hs is = omega (arith, counts_next channel xs i h hs is)
+
+pub counts_none : (channel : ℕ) (xs : List Heard) (i : ℕ) → drop i xs ≡ [] → count_of channel (take (suc i) xs) ≡ count_of channel (take i xs)
+counts_none channel [] zero is = refl
+counts_none channel [] (suc i) is = refl
+counts_none channel (x ∷ xs) zero is = absurd cc
+counts_none channel (x ∷ xs) (suc i) is = omega (arith, counts_none channel xs i is)
+
+-- a message that is not sought
+pub passes : (sought : Sought) (before n : ℕ) (h : Heard) (hs : List Heard) → meets sought h ≡ false → numbered n (places_behind before sought (h ∷ hs)) ≡ numbered n (places_behind (before + 1) sought hs)
+passes sought before n h hs not = rw not refl
+
+-- one that is, but not the one of the number
+pub counts_down : (sought : Sought) (before n : ℕ) (h : Heard) (hs : List Heard) → meets sought h ≡ true → 1 < n
+    → numbered n (places_behind before sought (h ∷ hs)) ≡ numbered (n - 1) (places_behind (before + 1) sought hs)
+counts_down sought before zero h hs here more = absurd (omega arith)
+counts_down sought before (suc zero) h hs here more = absurd (omega arith)
+counts_down sought before (suc (suc n)) h hs here more = let less : suc (suc n) - 1 ≡ suc n = omega arith in rw (here, less) refl
+
+-- the one of the number
+pub found_here : (sought : Sought) (before : ℕ) (h : Heard) (hs : List Heard) → meets sought h ≡ true → numbered 1 (places_behind before sought (h ∷ hs)) ≡ Some (before + 1)
+found_here sought before h hs here = rw here refl
+
+-- no message is left
+pub none_left : (n : ℕ) → numbered n [] ≡ None
+none_left zero = refl
+none_left (suc n) = refl
+
+-- one more message was taken
+pub drops : {A : Type 0} (view : A → Heard) (r : Option A) (all rest new : List Heard) (i : ℕ) → rest ≡ drop i all
+    → MatchOption r ((rest ≡ []) × (new ≡ [])) (λ x. rest ≡ view x ∷ new) → new ≡ drop (i + 1) all
+drops view None all rest new i is steps =
+    let next : suc i ≡ i + 1 = omega arith in
+    steps.1 ∙ sym (drop_none all i (sym is ∙ steps.0)) ∙ ap (λ (k : ℕ). drop k all) next
+drops view (Some x) all rest new i is steps =
+    let next : suc i ≡ i + 1 = omega arith in
+    sym (drop_next all i (view x) new (sym is ∙ steps)) ∙ ap (λ (k : ℕ). drop k all) next
+
+-- and counted
+pub counts : {A : Type 0} (view : A → Heard) (channel : ℕ) (r : Option A) (all rest new : List Heard) (i count add : ℕ) → rest ≡ drop i all
+    → MatchOption r ((rest ≡ []) × (new ≡ [])) (λ x. rest ≡ view x ∷ new) → count ≡ count_of channel (take i all)
+    → MatchOption r (add ≡ 0) (λ x. add ≡ count_of channel (view x ∷ [])) → count + add ≡ count_of channel (take (i + 1) all)
+counts view channel None all rest new i count add is steps so_far one =
+    let next : suc i ≡ i + 1 = omega arith in
+    omega (arith, so_far, one, counts_none channel all i (sym is ∙ steps.0), ap (λ (k : ℕ). count_of channel (take k all)) next)
+counts view channel (Some x) all rest new i count add is steps so_far one =
+    let next : suc i ≡ i + 1 = omega arith in
+    omega (arith, so_far, one, counts_next channel all i (view x) new (sym is ∙ steps), ap (λ (k : ℕ). count_of channel (take k all)) next)
+
+-- on the way to the message of a number: one that is not sought
+pub goes_past : (sought : Sought) (place left : ℕ) (h : Heard) (rest new : List Heard) → rest ≡ h ∷ new → meets sought h ≡ false
+    → numbered left (places_behind (place + 1) sought new) ≡ numbered left (places_behind place sought rest)
+goes_past sought place left h rest new is other = rw is (sym (passes sought place left h new other))
+
+-- one that is, with others to come
+pub goes_down : (sought : Sought) (place left : ℕ) (h : Heard) (rest new : List Heard) → rest ≡ h ∷ new → meets sought h ≡ true → 1 < left
+    → numbered (left - 1) (places_behind (place + 1) sought new) ≡ numbered left (places_behind place sought rest)
+goes_down sought place left h rest new is one more = rw is (sym (counts_down sought place left h new one more))
+
+-- the one of the number
+pub is_here : (sought : Sought) (place left : ℕ) (h : Heard) (rest new : List Heard) → rest ≡ h ∷ new → meets sought h ≡ true → left ≡ 1
+    → Some (place + 1) ≡ numbered left (places_behind place sought rest)
+is_here sought place left h rest new is one last = rw (is, last) (sym (found_here sought place h new one))
+
+-- none
+pub is_none : (sought : Sought) (place left : ℕ) (rest : List Heard) → rest ≡ [] → None ≡ numbered left (places_behind place sought rest)
+is_none sought place left rest is = rw is (sym (none_left left))

@@ -1,0 +1,39 @@
+-- The places of a recording's messages: they are counted from 1, over all channels, in the file's order (own choice).
+use Rattle.std.specs.Prelude.{ℕ, zero, suc, ◌+◌, ◌==◌, nat_le, Bool, if◌then◌else◌, List, [], ◌∷◌, take, drop, slice_get, Option, None}
+use Rattle.ch11_f1.specs.BodyReading.{Message}
+use Rattle.ch11_reader.specs.Recording.{Found}
+use Rattle.ch11_reader.specs.Contents.{heard_in}
+use Rattle.bench_places.specs.declared.sought.Sought.{Sought}
+use Rattle.bench_places.specs.declared.sought.Sought.TheVariants.{Channel, Time}
+
+-- a message with its channel
+abbrev pub Heard : Type 0
+Heard = ℕ × Message
+
+abbrev pub meets : Sought → Heard → Bool
+meets (Channel one) h = h.0 == one
+meets (Time ticks) h = nat_le ticks h.1.stamp
+
+-- the places of those that meet it, of messages that stand behind so many others
+abbrev pub places_behind : ℕ → Sought → List Heard → List ℕ
+places_behind before sought [] = []
+places_behind before sought (h ∷ hs) =
+    if meets sought h then (before + 1) ∷ places_behind (before + 1) sought hs else places_behind (before + 1) sought hs
+
+-- the one of a number, counted from 1
+abbrev pub numbered : ℕ → List ℕ → Option ℕ
+numbered zero places = None
+numbered (suc n) places = slice_get places n
+
+-- the place of the message of a number among those past a place that meet it
+abbrev pub place_of : Sought → ℕ → ℕ → List Found → Option ℕ
+place_of sought from n found = numbered n (places_behind from sought (drop from (heard_in found)))
+
+-- how many messages are of a channel
+abbrev pub count_of : ℕ → List Heard → ℕ
+count_of channel [] = 0
+count_of channel (h ∷ hs) = (if h.0 == channel then 1 else 0) + count_of channel hs
+
+-- how many of them there are up to a place
+abbrev pub count_to : ℕ → ℕ → List Found → ℕ
+count_to channel place found = count_of channel (take place (heard_in found))

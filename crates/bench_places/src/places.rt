@@ -1,0 +1,83 @@
+//! The places of messages.
+ghost use Rattle.std.specs.Prelude.{◌≡◌, ◌≤◌, ◌<◌, ◌+◌, ◌^◌, ◌∷◌, [], drop, length, MatchOption};
+ghost use Rattle.ch11_f1.specs.Views.{message_of};
+ghost use Rattle.bench_places.specs.Places.{count_of, count_to, numbered, place_of, places_behind};
+
+use crate::messages::Following;
+use crate::sought::Sought;
+use ch11_f1::Seen;
+use ch11_reader::Index;
+
+/// The messages behind so many of these.
+fn past<'a, 'i>(messages: Following<'a, 'i>, count: u64) -> Following<'a, 'i>
+    ensures { result ≡ drop count messages.entry }
+{
+    let mut rest = messages;
+    for _passed in 0..count {
+        let _ = rest.next();
+    }
+    rest
+}
+
+/// The place of the message of a number, counted from 1, among those that meet it, where they stand behind so many
+/// others.
+#[tactic(auto, using(crate::proofs::Walking::goes_past, crate::proofs::Walking::goes_down, crate::proofs::Walking::is_here, crate::proofs::Walking::is_none))]
+fn nth_behind(messages: Following<'_, '_>, sought: &Sought, before: u64, n: u64) -> Option<u64>
+    requires { before + length messages < 2 ^ 64 }
+    ensures { result ≡ numbered n (places_behind before sought.now messages.entry) }
+{
+    if n == 0 {
+        return None;
+    }
+    let mut left = n;
+    let mut place = before;
+    let mut rest = messages;
+    'messages: while let Some((channel, seen)) = rest.next() {
+        place += 1;
+        if sought.is_met(channel, &seen) {
+            left -= 1;
+            if left == 0 {
+                return Some(place);
+            }
+        }
+    }
+    None
+}
+
+/// The place of the message of a number, counted from 1, among those past a place that meet what is asked of them; `None`
+/// where there are fewer. The messages are walked from the first one on.
+#[tactic(auto, using(crate::proofs::Packets::few_left, crate::proofs::Packets::none_past))]
+pub fn nth_place(index: &Index<'_>, sought: &Sought, from: u64, n: u64) -> Option<u64>
+    ensures { result ≡ place_of sought.now from n index.now }
+{
+    if index.total() < from {
+        return None;
+    }
+    nth_behind(past(Following::all(index), from), sought, from, n)
+}
+
+/// 1 where the message is of the channel, and else 0.
+fn one_if_of(heard: &Option<(u16, Seen<'_>)>, channel: u16) -> u64
+    ensures value { MatchOption heard.now (result ≡ 0) (λ h. result ≡ count_of channel ((h.0, message_of h.1) ∷ [])) }
+    ensures few { result ≤ 1 }
+{
+    match heard {
+        Some((one, _)) if *one == channel => 1,
+        _ => 0,
+    }
+}
+
+/// How many messages of a channel there are up to a place, that of the place included: so the number in its channel of
+/// the message there. The messages are walked from the first one on.
+pub fn number_in_channel(index: &Index<'_>, channel: u16, place: u64) -> u64
+    ensures value { result ≡ count_to channel place index.now }
+    ensures few { result ≤ place }
+{
+    let mut rest = Following::all(index);
+    let mut count = 0;
+    for _passed in 0..place {
+        let heard = rest.next();
+        count += one_if_of(&heard, channel);
+    }
+    count
+}

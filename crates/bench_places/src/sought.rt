@@ -1,0 +1,27 @@
+//! What is asked of a message.
+ghost use Rattle.std.specs.Prelude.{◌≡◌};
+ghost use Rattle.ch11_f1.specs.Views.{message_of};
+ghost use Rattle.bench_places.specs.Places.{meets};
+
+use ch11_f1::Seen;
+
+/// What is asked of a message.
+#[derive(Clone, Copy, Debug, PartialEq, Eq)]
+pub enum Sought {
+    /// To be of this channel.
+    Channel(u16),
+    /// To have a stamp of so many ticks of 0.1 µs, or a later one.
+    Time(u64),
+}
+
+impl Sought {
+    /// Whether a message of a channel meets it.
+    pub(crate) fn is_met(&self, channel: u16, seen: &Seen<'_>) -> bool
+        ensures { result ≡ meets self.now (channel, message_of seen.now) }
+    {
+        match self {
+            Sought::Channel(one) => channel == *one,
+            Sought::Time(ticks) => *ticks <= seen.stamp,
+        }
+    }
+}

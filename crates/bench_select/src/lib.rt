@@ -1,0 +1,12 @@
+//! One way to choose messages of a recording, for all commands that look at one: by channel, line, form, errors, number and time.
+//! Its tests are in `look_tests`.
+#![tactic(auto)]
+
+mod bounds;
+mod selection;
+mod selectors;
+
+pub use bounds::{Bound, read_bound};
+pub use judge_rules::{Bus, Selector};
+pub use selection::Selection;
+pub use selectors::{is_of, is_on, selects_commands};

@@ -1,0 +1,149 @@
+//! Which messages a selector is about, and which are of a channel and on a line.
+ghost use Rattle.std.specs.Prelude.{◌≡◌};
+ghost use Rattle.ch11_f1.specs.Views.{message_of};
+ghost use Rattle.ch11_layout.specs.Layouts.{commands_in};
+ghost use Rattle.bench_select.specs.Selectors as spec;
+
+use ch11_f1::Seen;
+use ch11_layout::{is_set, word_at};
+use judge_rules::{Bus, Selector};
+use mil_word::Command;
+
+/// Whether a number is the one that was chosen; each is where none was.
+fn is_chosen(choice: Option<u8>, number: u8) -> bool
+    ensures { result ≡ spec.is_chosen choice number }
+{
+    match choice {
+        Some(chosen) => number == chosen,
+        None => true,
+    }
+}
+
+/// Whether a command calls the terminal that was chosen, and not all terminals.
+fn calls(choice: Option<u8>, command: Command) -> bool
+    ensures { result ≡ spec.calls choice command }
+{
+    !command.is_broadcast() && is_chosen(choice, command.address())
+}
+
+/// A command to receive at the subaddress that was chosen.
+fn receives(choice: Option<u8>, command: Command) -> bool
+    ensures { result ≡ spec.receives choice command }
+{
+    command.is_receive() && is_chosen(choice, command.subaddress())
+}
+
+/// A command to transmit from the subaddress that was chosen.
+fn transmits(choice: Option<u8>, command: Command) -> bool
+    ensures { result ≡ spec.transmits choice command }
+{
+    !command.is_mode() && command.is_transmit() && is_chosen(choice, command.subaddress())
+}
+
+/// A mode command with the code that was chosen.
+fn has_code(choice: Option<u8>, command: Command) -> bool
+    ensures { result ≡ spec.has_code choice command }
+{
+    command.is_mode() && is_chosen(choice, command.code())
+}
+
+/// Whether a selector is about a message with this one command.
+fn selects_one(selector: Selector, command: Command) -> bool
+    ensures { result ≡ spec.selects_one selector command }
+{
+    match selector {
+        Selector::Any => true,
+        Selector::Receive {
+            address,
+            subaddress,
+        } => calls(address, command) && receives(subaddress, command),
+        Selector::Transmit {
+            address,
+            subaddress,
+        } => calls(address, command) && transmits(subaddress, command),
+        Selector::Mode { address, code } => calls(address, command) && has_code(code, command),
+        Selector::ReceiveAll { subaddress } => {
+            command.is_broadcast() && receives(subaddress, command)
+        }
+        Selector::ModeAll { code } => command.is_broadcast() && has_code(code, command),
+        Selector::Between { .. } | Selector::BetweenAll { .. } => false,
+    }
+}
+
+/// Whether a selector is about a message with these two commands.
+fn selects_two(selector: Selector, first: Command, second: Command) -> bool
+    ensures { result ≡ spec.selects_two selector first second }
+{
+    match selector {
+        Selector::Any => true,
+        Selector::Between {
+            sender,
+            sender_subaddress,
+            receiver,
+            receiver_subaddress,
+        } => {
+            calls(receiver, first)
+                && receives(receiver_subaddress, first)
+                && calls(sender, second)
+                && transmits(sender_subaddress, second)
+        }
+        Selector::BetweenAll {
+            sender,
+            sender_subaddress,
+            receiver_subaddress,
+        } => {
+            first.is_broadcast()
+                && receives(receiver_subaddress, first)
+                && calls(sender, second)
+                && transmits(sender_subaddress, second)
+        }
+        _ => false,
+    }
+}
+
+/// How many of a message's words are commands.
+fn commands(seen: &Seen<'_>) -> usize
+    ensures { result ≡ commands_in (message_of seen.now) }
+{
+    let words = seen.words.len() / 2;
+    if words == 0 {
+        0
+    } else if is_set(seen.block, 11) && words > 1 {
+        2
+    } else {
+        1
+    }
+}
+
+/// Whether a selector is about a message, by its commands: a message without words has none, and is of `any` alone.
+pub fn selects_commands(selector: Selector, seen: &Seen<'_>) -> bool
+    ensures { result ≡ spec.selects_commands selector (message_of seen.now) }
+{
+    let first = Command::of(word_at(seen.words, 0));
+    match commands(seen) {
+        0 => matches!(selector, Selector::Any),
+        1 => selects_one(selector, first),
+        _ => selects_two(selector, first, Command::of(word_at(seen.words, 1))),
+    }
+}
+
+/// Whether a message of this block status word was on the line of the bus that was chosen; each was where none was.
+pub fn is_on(bus: Option<Bus>, block: u16) -> bool
+    ensures { result ≡ spec.is_on bus block }
+{
+    match bus {
+        None => true,
+        Some(Bus::A) => !is_set(block, 13),
+        Some(Bus::B) => is_set(block, 13),
+    }
+}
+
+/// Whether a channel is the one that was chosen; each is where none was.
+pub fn is_of(choice: Option<u16>, channel: u16) -> bool
+    ensures { result ≡ spec.is_chosen choice channel }
+{
+    match choice {
+        Some(chosen) => channel == chosen,
+        None => true,
+    }
+}

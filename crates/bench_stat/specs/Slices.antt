@@ -1,0 +1,25 @@
+-- The load of a channel over time (own choice): for each slice of a span, how long messages take of it, in ticks.
+use Rattle.std.specs.Prelude.{◌≡◌, ℕ, ◌+◌, ◌-◌, List, min, max}
+use Rattle.std.specs.List.{sum_by, All}
+use Rattle.ch11_f1.specs.BodyReading.{Message}
+use Rattle.bench_stat.specs.declared.slices.Slice.{Slice}
+use Rattle.bench_stat.specs.Figures.{capped}
+use Rattle.bench_stat.specs.Flows.{end_of}
+
+-- how long a message takes of the time from one tick up to another
+abbrev pub overlap : ℕ → ℕ → Message → ℕ
+overlap begin end m = min end (end_of m) - max begin m.stamp
+
+abbrev pub busy_in : ℕ → ℕ → List Message → ℕ
+busy_in begin end history = capped (sum_by (overlap begin end) history)
+
+-- each slice has its part of the messages' time
+abbrev pub IsBusy : List Message → Slice → Type 0
+IsBusy history s = s.busy ≡ busy_in s.begin s.«end» history
+
+abbrev pub AreBusy : List Message → List Slice → Type 0
+AreBusy history slices = All (IsBusy history) slices
+
+-- one more message
+abbrev pub with_part : Message → Slice → Slice
+with_part m s = record s { busy = capped (s.busy + overlap s.begin s.«end» m) }

@@ -1,0 +1,60 @@
+//! Messages by terminal, direction and subaddress.
+ghost use Rattle.std.specs.Prelude.{◌≡◌, ◌∷◌, [], List, length, IfOk};
+ghost use Rattle.ch11_f1.specs.BodyReading.{Message};
+ghost use Rattle.ch11_f1.specs.Views.{message_of};
+ghost use Rattle.bench_stat.specs.Entries.{AreEntries, is_same as are_same, with_choice};
+
+use crate::flows::Flow;
+use crate::sendings::Sending;
+use ch11_f1::Seen;
+use std::alloc::{AllocError, Global};
+
+/// How many entries there are: command words without their last field have 11 bits.
+pub(crate) const ENTRIES: usize = 2048;
+
+/// How many command words are of one entry.
+const COMMANDS: u16 = 32;
+
+/// A flow for each entry, of no messages.
+pub(crate) fn no_entries(alloc: Global) -> Result<Vec<Flow>, AllocError>
+    ensures { IfOk result (λ v. AreEntries [] v.items) }
+{
+    let entries = vec![in alloc; Flow::none(); ENTRIES]?;
+    Ok(entries)
+}
+
+/// One more message for the entry of a command, where there is one.
+fn note_choice(entries: &mut [Flow], command: Option<u16>, seen: &Seen<'_>)
+    requires { length entries.old ≡ ENTRIES }
+    ensures { entries.new ≡ with_choice command (message_of seen.now) entries.old }
+{
+    if let Some(command) = command {
+        let place = usize::from(command / COMMANDS);
+        let mut flow = entries[place];
+        flow.note(seen);
+        entries[place] = flow;
+    }
+}
+
+/// Whether both commands are there and of one entry.
+fn is_same(first: Option<u16>, second: Option<u16>) -> bool
+    ensures { result ≡ are_same first second }
+{
+    match (first, second) {
+        (Some(first), Some(second)) => first / COMMANDS == second / COMMANDS,
+        _ => false,
+    }
+}
+
+/// One more message, for the entries of its commands.
+pub(crate) fn note_entries(entries: &mut [Flow], seen: &Seen<'_>)
+    requires { length entries.old ≡ ENTRIES }
+    ensures { (history : List Message) → AreEntries history entries.old → AreEntries (message_of seen.now ∷ history) entries.new }
+{
+    let sending = Sending::of(seen);
+    note_choice(entries, sending.first, seen);
+    if is_same(sending.first, sending.second) {
+        return;
+    }
+    note_choice(entries, sending.second, seen);
+}

@@ -1,0 +1,79 @@
+//! How messages follow one another.
+ghost use Rattle.std.specs.Prelude.{◌≡◌, ◌∷◌, [], List};
+ghost use Rattle.ch11_f1.specs.BodyReading.{Message};
+ghost use Rattle.ch11_f1.specs.Views.{message_of};
+ghost use Rattle.bench_stat.specs.Flows as spec;
+
+use crate::counts::{counted, more};
+use crate::traffic::time_of;
+use ch11_f1::Seen;
+use ch11_layout::is_set;
+
+/// The gap between messages, in ticks of 0.1 µs, where nothing lies between them: half a parity bit and half a sync
+/// (MIL-STD-1553B 4.3.3.7).
+const NO_PAUSE: u64 = 20;
+
+/// Messages that follow one another, such as those of a channel, or those with a terminal and a subaddress. Counts and
+/// times go as far as 64 bits count; times are ticks of 0.1 µs.
+#[derive(Clone, Copy, Debug, PartialEq, Eq)]
+pub struct Flow {
+    /// How many messages.
+    pub messages: u64,
+    /// How many of them had an error: block status bit 12.
+    pub errors: u64,
+    /// The end of the latest message, where there is one.
+    pub ended: Option<u64>,
+    /// The least gap between a message and the next one, 2^64 - 1 where there is none.
+    pub least_gap: u64,
+    /// The greatest gap, 0 where there is none. No gap is less than 20 ticks.
+    pub greatest_gap: u64,
+}
+
+impl Flow {
+    /// No messages.
+    pub fn none() -> Flow
+        ensures { result ≡ spec.flow_of [] }
+    {
+        Flow {
+            messages: 0,
+            errors: 0,
+            ended: None,
+            least_gap: u64::MAX,
+            greatest_gap: 0,
+        }
+    }
+
+    fn note_gap(&mut self, seen: &Seen<'_>)
+        ensures { self.new ≡ spec.with_gap self.old.ended (message_of seen.now) self.old }
+    {
+        if let Some(ended) = self.ended {
+            let gap = more(seen.stamp.saturating_sub(ended), NO_PAUSE);
+            self.least_gap = gap.min(self.least_gap);
+            self.greatest_gap = gap.max(self.greatest_gap);
+        }
+    }
+
+    fn note_message(&mut self, seen: &Seen<'_>)
+        ensures { self.new ≡ spec.with_message (message_of seen.now) self.old }
+    {
+        self.note_gap(seen);
+        self.messages = more(self.messages, 1);
+        self.errors = counted(self.errors, is_set(seen.block, 12));
+        self.ended = Some(end_of(seen));
+    }
+
+    /// One more message, behind the others.
+    pub fn note(&mut self, seen: &Seen<'_>)
+        ensures new { self.new ≡ spec.with_message (message_of seen.now) self.old }
+        ensures flow { (history : List Message) → self.old ≡ spec.flow_of history → self.new ≡ spec.flow_of (message_of seen.now ∷ history) }
+    {
+        self.note_message(seen);
+    }
+}
+
+/// The end of a message, in ticks, as far as 64 bits count.
+pub(crate) fn end_of(seen: &Seen<'_>) -> u64
+    ensures { result ≡ spec.end_of (message_of seen.now) }
+{
+    more(seen.stamp, time_of(seen))
+}

@@ -1,0 +1,157 @@
+//! The figures as a page for people, with what more is asked for.
+
+use crate::channels::ChannelFigures;
+use crate::details::{Details, flows_by_subaddress, load_over_time};
+use crate::fault::StatFault;
+use crate::flows::Flow;
+use crate::losses::Losses;
+use crate::printing::{
+    print_errors, print_load_line, print_retries, print_terminals, print_traffic,
+};
+use crate::replies::Replies;
+use crate::tables::{print_load, print_subaddresses};
+use crate::traffic::Traffic;
+use crate::units::{rate, write_hundredths, write_time};
+use bench_select::Selection;
+use ch11_reader::Index;
+use std::alloc::Global;
+use std::io;
+use std::io::Write;
+
+/// What is shown of a recording beside the figures that are always shown.
+#[derive(Clone, Copy, Debug, PartialEq, Eq)]
+pub struct Shown {
+    /// Messages that are missing, rates, gaps and status bits, and times in ms and s where they are long.
+    pub long: bool,
+    /// A table by terminal, direction and subaddress in place of that by terminal.
+    pub by_subaddress: bool,
+    /// The load over time.
+    pub load: bool,
+}
+
+/// Writes the figures of each channel as lines aligned for people. They are those of the selected messages of the
+/// recording. It fails for want of memory, and where the writer does.
+pub fn print_page<W: Write>(
+    alloc: Global,
+    out: &mut W,
+    index: &Index<'_>,
+    selection: &Selection,
+    figures: &[ChannelFigures],
+    shown: &Shown,
+) -> Result<(), StatFault> {
+    if shown.long {
+        print_losses(out, index, figures)?;
+    }
+    for channel in figures {
+        print_head(out, index, selection, channel, shown.long)?;
+        if shown.by_subaddress {
+            let flows = flows_by_subaddress(alloc, index, selection, channel.channel)?;
+            print_subaddresses(out, flows.as_slice(), channel.traffic.span())?;
+        } else {
+            print_terminals(out, &channel.terminals)?;
+        }
+        if shown.load {
+            print_load_of(alloc, out, index, selection, channel)?;
+        }
+    }
+    Ok(())
+}
+
+/// Writes which channels have packets that say that messages are missing.
+fn print_losses<W: Write>(
+    out: &mut W,
+    index: &Index<'_>,
+    figures: &[ChannelFigures],
+) -> io::Result<()> {
+    for channel in figures {
+        let losses = Losses::of(index, channel.channel);
+        if losses.overflows > 0 || losses.jumps > 0 {
+            let (number, overflows, jumps) = (channel.channel, losses.overflows, losses.jumps);
+            writeln!(
+                out,
+                "messages are missing from channel {number}: packets with the overflow flag {overflows}, jumps of the sequence number {jumps}"
+            )?;
+        }
+    }
+    Ok(())
+}
+
+/// Writes the figures of a channel but its tables.
+fn print_head<W: Write>(
+    out: &mut W,
+    index: &Index<'_>,
+    selection: &Selection,
+    figures: &ChannelFigures,
+    long: bool,
+) -> io::Result<()> {
+    let channel = figures.channel;
+    writeln!(out, "channel {channel}")?;
+    if !long {
+        print_traffic(out, &figures.traffic)?;
+        print_errors(out, &figures.errors)?;
+        return print_retries(out, figures.retries);
+    }
+    let details = Details::of(index, selection, channel);
+    print_long_traffic(out, &figures.traffic)?;
+    print_gaps(out, &details.flow)?;
+    print_errors(out, &figures.errors)?;
+    print_retries(out, figures.retries)?;
+    print_replies(out, &details.replies)
+}
+
+/// Writes how much a channel carried, with messages a second where any time passed. The span is in µs, ms or s by its
+/// size.
+fn print_long_traffic<W: Write>(out: &mut W, traffic: &Traffic) -> io::Result<()> {
+    let (messages, words) = (traffic.messages, traffic.words);
+    write!(out, "  span      ")?;
+    write_time(out, traffic.span())?;
+    write!(out, "\n  messages  {messages}")?;
+    if let Some(rate) = rate(messages, traffic.span()) {
+        write!(out, ", ")?;
+        write_hundredths(out, rate)?;
+        write!(out, " a second")?;
+    }
+    writeln!(out, "\n  words     {words}")?;
+    print_load_line(out, traffic)
+}
+
+/// Writes the least and the greatest gap between two messages, '-' where there are fewer than two.
+fn print_gaps<W: Write>(out: &mut W, flow: &Flow) -> io::Result<()> {
+    if flow.messages < 2 {
+        return writeln!(out, "  gaps      -");
+    }
+    write!(out, "  gaps      ")?;
+    write_time(out, flow.least_gap)?;
+    write!(out, " least, ")?;
+    write_time(out, flow.greatest_gap)?;
+    writeln!(out, " greatest")
+}
+
+/// Writes how many status words there were, and in how many of them each bit was set.
+fn print_replies<W: Write>(out: &mut W, replies: &Replies) -> io::Result<()> {
+    let words = replies.words;
+    write!(out, "  status    {words} words:")?;
+    let mut comma = "";
+    for (name, count) in replies.bits() {
+        write!(out, "{comma} {name} {count}")?;
+        comma = ",";
+    }
+    writeln!(out)
+}
+
+/// Writes the load over time of a channel.
+fn print_load_of<W: Write>(
+    alloc: Global,
+    out: &mut W,
+    index: &Index<'_>,
+    selection: &Selection,
+    figures: &ChannelFigures,
+) -> Result<(), StatFault> {
+    if figures.traffic.span() == 0 {
+        return Ok(());
+    }
+    let (begin, end) = (figures.traffic.begin, figures.traffic.end);
+    let slices = load_over_time(alloc, index, selection, figures.channel, begin, end)?;
+    print_load(out, slices.as_slice())?;
+    Ok(())
+}

@@ -1,0 +1,235 @@
+//! The figures as rows of comma-separated values, a table for each that is asked for.
+
+use crate::channels::ChannelFigures;
+use crate::details::{Details, flows_by_subaddress, load_over_time};
+use crate::fault::StatFault;
+use crate::flows::Flow;
+use crate::losses::Losses;
+use crate::page::Shown;
+use crate::printing::print_rows;
+use crate::slices::Slice;
+use crate::units::{rate, write_hundredths, write_us};
+use bench_select::Selection;
+use ch11_reader::Index;
+use std::alloc::Global;
+use std::io;
+use std::io::Write;
+
+/// The columns of the figures of channels.
+const FIGURES: &str = "channel,figure,value";
+
+/// The columns of the messages by terminal, direction and subaddress.
+const SUBADDRESSES: &str =
+    "channel,terminal,direction,subaddress,messages,errors,least_gap_us,greatest_gap_us,per_second";
+
+/// The columns of the load over time.
+const LOAD: &str = "channel,begin_us,end_us,load_percent";
+
+/// Writes the figures as rows of comma-separated values: those of the channels where they are asked for, then those of
+/// terminals or of subaddresses, then the load over time where it is asked for; each table behind a row with the names
+/// of its columns, and an empty line between two of them. It fails for want of memory, and where the writer does.
+pub fn print_tables<W: Write>(
+    alloc: Global,
+    out: &mut W,
+    index: &Index<'_>,
+    selection: &Selection,
+    figures: &[ChannelFigures],
+    shown: &Shown,
+) -> Result<(), StatFault> {
+    if shown.long {
+        writeln!(out, "{FIGURES}")?;
+        for channel in figures {
+            write_figures(out, index, selection, channel)?;
+        }
+        writeln!(out, "")?;
+    }
+    if shown.by_subaddress {
+        writeln!(out, "{SUBADDRESSES}")?;
+        for channel in figures {
+            let flows = flows_by_subaddress(alloc, index, selection, channel.channel)?;
+            write_flows(out, channel, flows.as_slice())?;
+        }
+    } else {
+        print_rows(out, figures)?;
+    }
+    if shown.load {
+        writeln!(out, "\n{LOAD}")?;
+        for channel in figures {
+            let (begin, end) = (channel.traffic.begin, channel.traffic.end);
+            let slices = load_over_time(alloc, index, selection, channel.channel, begin, end)?;
+            write_slices(out, channel, slices.as_slice())?;
+        }
+    }
+    Ok(())
+}
+
+/// Writes a row for each figure of a channel.
+fn write_figures<W: Write>(
+    out: &mut W,
+    index: &Index<'_>,
+    selection: &Selection,
+    figures: &ChannelFigures,
+) -> io::Result<()> {
+    let channel = figures.channel;
+    let losses = Losses::of(index, channel);
+    write_count(out, channel, "overflow_packets", losses.overflows as u64)?;
+    write_count(out, channel, "sequence_jumps", losses.jumps as u64)?;
+    write_traffic(out, figures)?;
+    let details = Details::of(index, selection, channel);
+    write_gap(
+        out,
+        channel,
+        "least_gap_us",
+        &details.flow,
+        details.flow.least_gap,
+    )?;
+    write_gap(
+        out,
+        channel,
+        "greatest_gap_us",
+        &details.flow,
+        details.flow.greatest_gap,
+    )?;
+    write_errors(out, figures)?;
+    write_count(out, channel, "status_words", details.replies.words)?;
+    for (name, count) in details.replies.bits() {
+        writeln!(out, "{channel},status_{name},{count}")?;
+    }
+    Ok(())
+}
+
+/// Writes a row with a number.
+fn write_count<W: Write>(out: &mut W, channel: u16, name: &str, count: u64) -> io::Result<()> {
+    writeln!(out, "{channel},{name},{count}")
+}
+
+/// Writes the rows of how much a channel carried; those of its rate and its load are empty where no time passed.
+fn write_traffic<W: Write>(out: &mut W, figures: &ChannelFigures) -> io::Result<()> {
+    let (channel, traffic) = (figures.channel, &figures.traffic);
+    write!(out, "{channel},span_us,")?;
+    write_us(out, traffic.span())?;
+    writeln!(out, "")?;
+    write_count(out, channel, "messages", traffic.messages)?;
+    write_count(out, channel, "words", traffic.words)?;
+    write_share(
+        out,
+        channel,
+        "messages_per_second",
+        rate(traffic.messages, traffic.span()),
+    )?;
+    write_share(out, channel, "bus_load_percent", traffic.load())
+}
+
+/// Writes a row with hundredths, or with nothing.
+fn write_share<W: Write>(
+    out: &mut W,
+    channel: u16,
+    name: &str,
+    share: Option<u64>,
+) -> io::Result<()> {
+    write!(out, "{channel},{name},")?;
+    if let Some(share) = share {
+        write_hundredths(out, share)?;
+    }
+    writeln!(out, "")
+}
+
+/// Writes a row with a gap, or with nothing where there is none.
+fn write_gap<W: Write>(
+    out: &mut W,
+    channel: u16,
+    name: &str,
+    flow: &Flow,
+    gap: u64,
+) -> io::Result<()> {
+    write!(out, "{channel},{name},")?;
+    if flow.messages > 1 {
+        write_us(out, gap)?;
+    }
+    writeln!(out, "")
+}
+
+/// Writes a row for each kind of error, behind one for all messages with an error, then one for the retries.
+fn write_errors<W: Write>(out: &mut W, figures: &ChannelFigures) -> io::Result<()> {
+    let (channel, errors) = (figures.channel, &figures.errors);
+    let rows = [
+        ("errors", errors.messages),
+        ("errors_response", errors.response),
+        ("errors_word_count", errors.word_count),
+        ("errors_sync", errors.sync),
+        ("errors_unsound_word", errors.unsound),
+        ("errors_other", errors.other),
+        ("retries", figures.retries),
+    ];
+    for (name, count) in rows {
+        writeln!(out, "{channel},{name},{count}")?;
+    }
+    Ok(())
+}
+
+/// Writes a row for each terminal, direction and subaddress with messages.
+fn write_flows<W: Write>(out: &mut W, figures: &ChannelFigures, flows: &[Flow]) -> io::Result<()> {
+    let (channel, span) = (figures.channel, figures.traffic.span());
+    for (entry, flow) in flows.iter().enumerate() {
+        if flow.messages > 0 {
+            write_flow(out, channel, entry, flow, span)?;
+        }
+    }
+    Ok(())
+}
+
+/// Writes the row of an entry, which is a terminal, a direction and a subaddress. Its gaps are empty for a single
+/// message, and its rate where no time passed. The span is the channel's, in ticks.
+fn write_flow<W: Write>(
+    out: &mut W,
+    channel: u16,
+    entry: usize,
+    flow: &Flow,
+    span: u64,
+) -> io::Result<()> {
+    let (address, subaddress) = (entry / 64, entry % 32);
+    let direction = if entry / 32 % 2 == 1 { "T" } else { "R" };
+    let (messages, errors) = (flow.messages, flow.errors);
+    write!(
+        out,
+        "{channel},{address},{direction},{subaddress},{messages},{errors},"
+    )?;
+    if messages > 1 {
+        write_us(out, flow.least_gap)?;
+        write!(out, ",")?;
+        write_us(out, flow.greatest_gap)?;
+        write!(out, ",")?;
+    } else {
+        write!(out, ",,")?;
+    }
+    if let Some(rate) = rate(messages, span) {
+        write_hundredths(out, rate)?;
+    }
+    writeln!(out, "")
+}
+
+/// Writes a row for each slice of a channel's span, none where there is no span.
+fn write_slices<W: Write>(
+    out: &mut W,
+    figures: &ChannelFigures,
+    slices: &[Slice],
+) -> io::Result<()> {
+    if figures.traffic.span() == 0 {
+        return Ok(());
+    }
+    for slice in slices {
+        write_slice(out, figures.channel, slice)?;
+    }
+    Ok(())
+}
+
+/// Writes the row of a slice: its begin, its end and its load.
+fn write_slice<W: Write>(out: &mut W, channel: u16, slice: &Slice) -> io::Result<()> {
+    write!(out, "{channel},")?;
+    write_us(out, slice.begin)?;
+    write!(out, ",")?;
+    write_us(out, slice.end)?;
+    write!(out, ",")?;
+    write_hundredths(out, slice.load())?;
+    writeln!(out, "")
+}

@@ -1,0 +1,74 @@
+//! The load of a channel over time.
+ghost use Rattle.std.specs.Prelude.{◌≡◌, ◌∷◌, [], List, length, map, IfOk};
+ghost use Rattle.ch11_f1.specs.BodyReading.{Message};
+ghost use Rattle.ch11_f1.specs.Views.{message_of};
+ghost use Rattle.bench_stat.specs.Slices as spec;
+
+use crate::counts::more;
+use crate::flows::end_of;
+use ch11_f1::Seen;
+use std::alloc::{AllocError, Global};
+
+/// How many slices a span is shown in.
+pub(crate) const SLICES: u64 = 20;
+
+/// A part of a span, and how long messages take of it, as far as 64 bits count. Times are ticks of 0.1 µs.
+#[derive(Clone, Copy, Debug, PartialEq, Eq)]
+pub struct Slice {
+    /// Where it begins.
+    pub begin: u64,
+    /// Where it ends.
+    pub end: u64,
+    /// How long the bus was busy in it.
+    pub busy: u64,
+}
+
+impl Slice {
+    /// The share of the slice in which the bus was busy, in hundredths of a per cent.
+    pub fn load(&self) -> u64 {
+        let span = u128::from(self.end.saturating_sub(self.begin));
+        if span == 0 {
+            return 0;
+        }
+        let share = u128::from(self.busy) * 10_000 / span;
+        u64::try_from(share).unwrap_or(u64::MAX)
+    }
+
+    /// One more message.
+    fn note(&mut self, seen: &Seen<'_>)
+        ensures { self.new ≡ spec.with_part (message_of seen.now) self.old }
+    {
+        let begin = seen.stamp.max(self.begin);
+        let end = end_of(seen).min(self.end);
+        self.busy = more(self.busy, end.saturating_sub(begin));
+    }
+}
+
+/// Slices of equal length that a span lies in, in which the bus was not busy. The last one ends up to 20 ticks behind
+/// the span.
+pub(crate) fn idle_slices(alloc: Global, begin: u64, end: u64) -> Result<Vec<Slice>, AllocError>
+    ensures { IfOk result (λ v. spec.AreBusy [] v.items) }
+{
+    let length = end.saturating_sub(begin) / SLICES + 1;
+    let mut slices = Vec::new(alloc);
+    let mut at = begin;
+    'slices: for _ in 0..SLICES {
+        let next = at.saturating_add(length);
+        slices.push(Slice {
+            begin: at,
+            end: next,
+            busy: 0,
+        })?;
+        at = next;
+    }
+    Ok(slices)
+}
+
+/// One more message.
+pub(crate) fn note_slices(slices: &mut [Slice], seen: &Seen<'_>)
+    ensures { (history : List Message) → spec.AreBusy history slices.old → spec.AreBusy (message_of seen.now ∷ history) slices.new }
+{
+    'slices: for slice in slices.iter_mut() {
+        slice.note(seen);
+    }
+}

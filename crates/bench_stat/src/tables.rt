@@ -1,0 +1,100 @@
+//! The tables of a page: messages by terminal, direction and subaddress, and the load over time.
+
+use crate::flows::Flow;
+use crate::slices::Slice;
+use crate::units::rate;
+use std::io;
+use std::io::Write;
+
+/// The columns of the messages by terminal, direction and subaddress.
+const COLUMNS: &str =
+    "  terminal  T/R  subaddress   messages     errors  least gap us  greatest gap us    per second";
+
+/// The bar of a full load.
+const BAR: [u8; 50] = [b'#'; 50];
+
+/// How many hundredths of a per cent a mark of the bar stands for.
+const MARK: u64 = 200;
+
+/// How many ticks of 0.1 µs a second has.
+const SECOND: u64 = 10_000_000;
+
+/// Writes a line for each terminal, direction and subaddress with messages, under a line with the names of the columns.
+/// The span is the channel's, in ticks.
+pub(crate) fn print_subaddresses<W: Write>(
+    out: &mut W,
+    flows: &[Flow],
+    span: u64,
+) -> io::Result<()> {
+    let called = flows.iter().any(|flow| flow.messages > 0);
+    if called {
+        writeln!(out, "{COLUMNS}")?;
+    }
+    for (entry, flow) in flows.iter().enumerate() {
+        if flow.messages > 0 {
+            print_entry(out, entry, flow, span)?;
+        }
+    }
+    Ok(())
+}
+
+/// Writes the line of an entry, which is a terminal, a direction and a subaddress. The address of all terminals is
+/// 'all', a mode command's subaddress is 'mode 0' or 'mode 31', and the rate is '-' where no time passed.
+fn print_entry<W: Write>(out: &mut W, entry: usize, flow: &Flow, span: u64) -> io::Result<()> {
+    let address = entry / 64;
+    if address == 31 {
+        write!(out, "       all")?;
+    } else {
+        write!(out, "{address:>10}")?;
+    }
+    let direction = if entry / 32 % 2 == 1 { "T" } else { "R" };
+    let subaddress = entry % 32;
+    let (messages, errors) = (flow.messages, flow.errors);
+    write!(out, "{direction:>5}")?;
+    if subaddress == 0 || subaddress == 31 {
+        write!(out, "     mode {subaddress:>2}")?;
+    } else {
+        write!(out, "{subaddress:>12}")?;
+    }
+    write!(out, " {messages:>10} {errors:>10}")?;
+    print_gap_columns(out, flow)?;
+    match rate(messages, span) {
+        Some(rate) => {
+            let (whole, part) = (rate / 100, rate % 100);
+            writeln!(out, " {whole:>10}.{part:02}")
+        }
+        None => writeln!(out, "             -"),
+    }
+}
+
+/// Writes the least and the greatest gap of an entry in µs, '-' where it has fewer than two messages.
+fn print_gap_columns<W: Write>(out: &mut W, flow: &Flow) -> io::Result<()> {
+    if flow.messages < 2 {
+        return write!(out, "             -                -");
+    }
+    let (whole, part) = (flow.least_gap / 10, flow.least_gap % 10);
+    write!(out, " {whole:>11}.{part}")?;
+    let (whole, part) = (flow.greatest_gap / 10, flow.greatest_gap % 10);
+    write!(out, " {whole:>14}.{part}")
+}
+
+/// Writes the load over time: a line for each slice with its begin in seconds, its load, and a bar with a mark for each
+/// two per cent.
+pub(crate) fn print_load<W: Write>(out: &mut W, slices: &[Slice]) -> io::Result<()> {
+    writeln!(out, "       seconds     load")?;
+    for slice in slices {
+        let (seconds, ticks) = (slice.begin / SECOND, slice.begin % SECOND);
+        let load = slice.load();
+        let (whole, part) = (load / 100, load % 100);
+        write!(out, " {seconds:>5}.{ticks:07} {whole:>3}.{part:02} %  ")?;
+        out.write_all(bar_of(load))?;
+        out.write_all(b"\n")?;
+    }
+    Ok(())
+}
+
+/// The bar of a load in hundredths of a per cent, at most that of a full one.
+fn bar_of(load: u64) -> &'static [u8] {
+    let marks = (load / MARK).min(BAR.len() as u64) as usize;
+    &BAR[..marks]
+}

@@ -1,0 +1,44 @@
+//! Times and rates as people read them.
+
+use std::io;
+use std::io::Write;
+
+/// How many ticks of 0.1 µs a millisecond and a second have.
+const MILLISECOND: u64 = 10_000;
+
+const SECOND: u64 = 10_000_000;
+
+/// Writes a time in ticks as µs, ms or s by its size.
+pub(crate) fn write_time<W: Write>(out: &mut W, ticks: u64) -> io::Result<()> {
+    if ticks < MILLISECOND {
+        let (whole, part) = (ticks / 10, ticks % 10);
+        write!(out, "{whole}.{part} us")
+    } else if ticks < SECOND {
+        let (whole, part) = (ticks / MILLISECOND, ticks % MILLISECOND);
+        write!(out, "{whole}.{part:04} ms")
+    } else {
+        let (whole, part) = (ticks / SECOND, ticks % SECOND);
+        write!(out, "{whole}.{part:07} s")
+    }
+}
+
+/// Writes a number of hundredths.
+pub(crate) fn write_hundredths<W: Write>(out: &mut W, number: u64) -> io::Result<()> {
+    let (whole, part) = (number / 100, number % 100);
+    write!(out, "{whole}.{part:02}")
+}
+
+/// Writes a time in ticks as µs, without the unit.
+pub(crate) fn write_us<W: Write>(out: &mut W, ticks: u64) -> io::Result<()> {
+    let (whole, part) = (ticks / 10, ticks % 10);
+    write!(out, "{whole}.{part}")
+}
+
+/// Hundredths of messages a second, rounded down; None where no time passed.
+pub(crate) fn rate(messages: u64, span: u64) -> Option<u64> {
+    if span == 0 {
+        return None;
+    }
+    let rate = u128::from(messages) * 100 * u128::from(SECOND) / u128::from(span);
+    Some(u64::try_from(rate).unwrap_or(u64::MAX))
+}

@@ -1,0 +1,12 @@
+//! What the terminals of a bus hold, as lines: their registers, what their hosts set, and their data words.
+//! Its tests are in `bench_step_tests`.
+#![tactic(auto)]
+
+mod data;
+mod details;
+mod marks;
+mod printing;
+mod states;
+
+pub use details::Detail;
+pub use states::print_channel;

@@ -1,0 +1,146 @@
+//! What the terminals of a channel hold, as lines.
+ghost use Rattle.std.specs.Prelude.{◌≡◌, ◌++◌, OnOk, codes};
+ghost use Rattle.std.specs.Io.KnownBytes.{Appends};
+ghost use Rattle.bench_state.specs.StateText.{channel_text, field, host_line, lines_text, off_text, set_lines, terminal_line, terminal_lines, terminal_text};
+
+use crate::data::print_data;
+use crate::details::Detail;
+use crate::marks::Marks;
+use crate::printing::Digits;
+use bc_machine::Placed;
+use mil_bus::Bus;
+use mil_terminal::Terminal;
+use mil_word::Line;
+use std::io;
+use std::io::Write;
+
+/// The lines for which something holds: whether for A, and whether for B.
+fn lines(a: bool, b: bool) -> &'static str
+    ensures { result.now ≡ lines_text a b }
+{
+    match (a, b) {
+        (false, false) => "-",
+        (true, false) => "A",
+        (false, true) => "B",
+        (true, true) => "AB",
+    }
+}
+
+/// Prints a name and a register.
+fn print_field<W: Write>(out: &mut W, name: &str, value: u16) -> io::Result<()>
+    ensures { OnOk result (Appends (W.contents out.old) (W.contents out.new) (field name.now value)) }
+{
+    let digits = Digits(value);
+    write!(out, "{name}{digits}")
+}
+
+/// Prints which transmitters are off, where these are on, and the end of the line.
+fn print_off<W: Write>(out: &mut W, a: bool, b: bool) -> io::Result<()>
+    ensures { OnOk result (Appends (W.contents out.old) (W.contents out.new) (codes " off " ++ off_text a b ++ codes "\n")) }
+{
+    let off = lines(!a, !b);
+    writeln!(out, " off {off}")
+}
+
+/// Prints the line of a terminal, as
+/// `terminal 5 status 2800 last 2823 vector 0000 bit 0000 sync 0000 off -`.
+fn print_terminal<W: Write>(out: &mut W, terminal: &Terminal) -> io::Result<()>
+    ensures { OnOk result (Appends (W.contents out.old) (W.contents out.new) (terminal_line terminal.now)) }
+{
+    write!(out, "terminal {}", terminal.address())?;
+    print_field(out, " status ", terminal.status())?;
+    print_field(out, " last ", terminal.last_command())?;
+    print_field(out, " vector ", terminal.vector())?;
+    print_field(out, " bit ", terminal.bit_word())?;
+    print_field(out, " sync ", terminal.sync_word())?;
+    print_off(
+        out,
+        terminal.transmitter_on(Line::A),
+        terminal.transmitter_on(Line::B),
+    )
+}
+
+/// Prints the line of what its host set, as `terminal 5 deaf - mute A`.
+#[tactic(auto, unfolding(crate::specs::StateText::host_line))]
+fn print_host<W: Write>(out: &mut W, terminal: &Terminal) -> io::Result<()>
+    ensures { OnOk result (Appends (W.contents out.old) (W.contents out.new) (host_line terminal.now)) }
+{
+    let address = terminal.address();
+    let deaf = lines(terminal.deaf(Line::A), terminal.deaf(Line::B));
+    let mute = lines(terminal.mute(Line::A), terminal.mute(Line::B));
+    writeln!(out, "terminal {address} deaf {deaf} mute {mute}")
+}
+
+/// Prints the two lines of what its host set by the message of a number, where these actions were placed.
+fn print_set<W: Write>(
+    out: &mut W,
+    number: u32,
+    placed: &[Placed],
+    terminal: &Terminal,
+) -> io::Result<()>
+    ensures { OnOk result (Appends (W.contents out.old) (W.contents out.new) (set_lines number placed.now terminal.now)) }
+{
+    print_host(out, terminal)?;
+    let address = terminal.address();
+    let marks = Marks::by(placed, address, number);
+    marks.print(out, address)
+}
+
+/// Prints what is to be shown of a terminal.
+fn print_detail<W: Write>(
+    out: &mut W,
+    detail: Detail,
+    number: u32,
+    placed: &[Placed],
+    terminal: &Terminal,
+) -> io::Result<()>
+    ensures { OnOk result (Appends (W.contents out.old) (W.contents out.new) (terminal_text detail number placed.now terminal.now)) }
+{
+    match detail {
+        Detail::Registers => print_terminal(out, terminal),
+        Detail::Host => {
+            print_terminal(out, terminal)?;
+            print_set(out, number, placed, terminal)
+        }
+        Detail::Data {
+            address,
+            subaddress,
+        } => print_data(out, address, subaddress, terminal),
+    }
+}
+
+/// Prints what is to be shown of each terminal of a bus, in order of address.
+#[tactic(auto, unfolding(crate::specs::StateText::terminal_lines))]
+fn print_terminals<W: Write>(
+    out: &mut W,
+    detail: Detail,
+    number: u32,
+    placed: &[Placed],
+    bus: &Bus,
+) -> io::Result<()>
+    ensures { OnOk result (Appends (W.contents out.old) (W.contents out.new) (terminal_lines detail number placed.now bus.now)) }
+{
+    for address in 0..31u8 {
+        if let Some(terminal) = bus.terminal(address) {
+            print_detail(out, detail, number, placed, terminal)?;
+        }
+    }
+    Ok(())
+}
+
+/// Prints what the terminals of a channel hold: a line for the channel, with the number of the last message that its bus has met,
+/// and behind it what the detail shows of each terminal, where these actions of hosts were placed. It takes no memory.
+#[tactic(auto, unfolding(crate::specs::StateText::channel_line))]
+pub fn print_channel<W: Write>(
+    out: &mut W,
+    detail: Detail,
+    channel: u16,
+    number: u32,
+    placed: &[Placed],
+    bus: &Bus,
+) -> io::Result<()>
+    ensures { OnOk result (Appends (W.contents out.old) (W.contents out.new) (channel_text detail channel number placed.now bus.now)) }
+{
+    writeln!(out, "channel {channel} number {number}")?;
+    print_terminals(out, detail, number, placed, bus)
+}

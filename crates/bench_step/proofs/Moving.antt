@@ -1,0 +1,71 @@
+-- What is replied to a move.
+use Rattle.std.proofs.Common.{◌≡◌, ℕ, ◌+◌, ◌-◌, ◌<◌, ◌≤◌, List, Some, None, ap, sym, subst, ◌∙◌, arith}
+use Rattle.replay.specs.declared.error.ReplayError.TheVariants as error
+use Rattle.replay.specs.Moves.{ReplayState, total_of}
+use Rattle.bench_places.specs.declared.sought.Sought.{Sought}
+use Rattle.bench_places.specs.Places.{place_of}
+use Rattle.bench_step.specs.Commands.{forward, back, seek, show, show_at}
+use Rattle.job_file.specs.Jobs.{JobState}
+use Rattle.ch11_reader.specs.Recording.{Found}
+use Rattle.bench_report.specs.Reports.{ChannelPart}
+use Rattle.bench_step.specs.Answering.{IsOpen}
+use Rattle.bench_step.specs.Session.{Replies, IsMoveTo, after_reply}
+use Rattle.bench_step.specs.declared.replies.Reply.{Reply}
+use Rattle.bench_step.specs.declared.replies.Reply.TheVariants as reply
+
+pub moved_on : (s : ReplayState) (k : ℕ) (r : Reply) → s.place + k ≤ total_of s → IsMoveTo (s.place + k) r → Replies s (forward k) r
+moved_on s k (reply.At n) within is = (within, is)
+moved_on s k (reply.Refused (error.Mismatch c n)) within is = absurd is
+moved_on s k (reply.Refused error.Past) within is = absurd is
+moved_on s k (reply.Refused error.Start) within is = absurd is
+moved_on s k (reply.Refused error.Memory) within is = λ past. absurd (omega arith)
+moved_on s k (reply.Shown detail) within is = absurd is
+moved_on s k (reply.Message n) within is = absurd is
+moved_on s k reply.Help within is = absurd is
+moved_on s k reply.Quit within is = absurd is
+moved_on s k reply.Unknown within is = absurd is
+
+pub moved_back : (s : ReplayState) (k : ℕ) (r : Reply) → k ≤ s.place → IsMoveTo (s.place - k) r → Replies s (back k) r
+moved_back s k (reply.At n) within is = (within, is)
+moved_back s k (reply.Refused (error.Mismatch c n)) within is = absurd is
+moved_back s k (reply.Refused error.Past) within is = absurd is
+moved_back s k (reply.Refused error.Start) within is = absurd is
+moved_back s k (reply.Refused error.Memory) within is = λ past. absurd (omega arith)
+moved_back s k (reply.Shown detail) within is = absurd is
+moved_back s k (reply.Message n) within is = absurd is
+moved_back s k reply.Help within is = absurd is
+moved_back s k reply.Quit within is = absurd is
+moved_back s k reply.Unknown within is = absurd is
+
+pub sought : (s : ReplayState) (what : Sought) (k place : ℕ) (r : Reply) → place_of what 0 k s.found ≡ Some place → IsMoveTo place r → Replies s (seek what k) r
+sought s what k place (reply.At n) there is = there ∙ ap Some (sym is)
+sought s what k place (reply.Refused (error.Mismatch c n)) there is = absurd is
+sought s what k place (reply.Refused error.Past) there is = absurd is
+sought s what k place (reply.Refused error.Start) there is = absurd is
+sought s what k place (reply.Refused error.Memory) there is = λ none. cc
+sought s what k place (reply.Shown detail) there is = absurd is
+sought s what k place (reply.Message n) there is = absurd is
+sought s what k place reply.Help there is = absurd is
+sought s what k place reply.Quit there is = absurd is
+sought s what k place reply.Unknown there is = absurd is
+
+-- a reply leaves the debugger on the same recording
+pub still_open : (s new : ReplayState) (jobs : List JobState) (parts : List ChannelPart) (found : List Found) (recording : List ℕ) (r : Reply)
+    → IsOpen s jobs parts found recording → new ≡ after_reply r s → IsOpen new jobs parts found recording
+still_open s new jobs parts found recording (reply.At n) h is = subst (λ (t : ReplayState). IsOpen t jobs parts found recording) (sym is) (record { jobs_are = h.jobs_are; parts_are = h.parts_are; found_is = h.found_is; read = h.read })
+still_open s new jobs parts found recording (reply.Refused e) h is = rw is h
+still_open s new jobs parts found recording (reply.Shown detail) h is = rw is h
+still_open s new jobs parts found recording (reply.Message n) h is = rw is h
+still_open s new jobs parts found recording reply.Help h is = rw is h
+still_open s new jobs parts found recording reply.Quit h is = rw is h
+still_open s new jobs parts found recording reply.Unknown h is = rw is h
+
+-- the message at the place
+pub shows_place : (s : ReplayState) (n : ℕ) (r : Reply) → n ≡ s.place → Replies s (show_at n) r → Replies s show r
+shows_place s n (reply.At k) is h = absurd h
+shows_place s n (reply.Refused e) is h = subst (λ (k : ℕ). Replies s (show_at k) (reply.Refused e)) is h
+shows_place s n (reply.Shown detail) is h = absurd h
+shows_place s n (reply.Message k) is h = subst (λ (k2 : ℕ). Replies s (show_at k2) (reply.Message k)) is h
+shows_place s n reply.Help is h = absurd h
+shows_place s n reply.Quit is h = absurd h
+shows_place s n reply.Unknown is h = absurd h

@@ -1,0 +1,73 @@
+//! Messages as people read them, one at a time.
+ghost use Rattle.std.specs.Prelude.{◌≡◌, []};
+ghost use Rattle.bench_step.specs.Session.{MayTell};
+
+use crate::manners::Manner;
+use crate::replies::Reply;
+use bench_decode::{Line, Place, Shown, write_message};
+use bench_places::number_in_channel;
+use ch11_reader::Index;
+use std::alloc::{AllocError, Global};
+
+/// How many bytes there is room for at first: more than a message takes as people read it.
+const ROOM: usize = 4096;
+
+/// The text of the message that was shown last, with a line feed behind it.
+#[derive(Drop)]
+pub(crate) struct Decoder {
+    line: Line,
+    pub(crate) text: Vec<u8>,
+}
+
+impl Decoder {
+    /// No text yet. All memory is taken here.
+    pub(crate) fn make(alloc: Global) -> Result<Decoder, AllocError> {
+        Ok(Decoder {
+            line: Line::new(alloc, Shown::Plain)?,
+            text: Vec::with_capacity(alloc, ROOM)?,
+        })
+    }
+
+    /// No text.
+    pub(crate) fn clear(&mut self)
+        ensures { self.new.text.items ≡ [] }
+    {
+        self.text.clear();
+    }
+
+    /// The text of the message of a number, counted from 1 over the file; none where there is no such message.
+    pub(crate) fn decode(&mut self, index: &Index<'_>, number: u64) -> Result<(), AllocError> {
+        self.text.clear();
+        let Some((channel, seen)) = index.message(number) else {
+            return Ok(());
+        };
+        let place = Place {
+            number,
+            channel,
+            in_channel: number_in_channel(index, channel, number),
+        };
+        if write_message(&mut self.line, &mut self.text, &place, &seen).is_err() {
+            return Err(AllocError);
+        }
+        if self.line.finish(&mut self.text).is_err() {
+            return Err(AllocError);
+        }
+        Ok(())
+    }
+
+    /// Keeps the text of the message that is shown behind a reply, and none where none is: that which was asked for is
+    /// there already, and behind a move it is the message at its place, where lines are typed.
+    pub(crate) fn tell(&mut self, manner: Manner, index: &Index<'_>, reply: &Reply)
+        ensures { MayTell manner reply.now self.new.text.items }
+    {
+        match (reply, manner) {
+            (Reply::Message(_), _) => {}
+            (Reply::At(place), Manner::Typed) if *place != 0 => {
+                if self.decode(index, *place).is_err() {
+                    self.clear();
+                }
+            }
+            _ => self.clear(),
+        }
+    }
+}

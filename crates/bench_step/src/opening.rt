@@ -1,0 +1,46 @@
+//! Opening a recording under the debugger.
+ghost use Rattle.std.specs.Prelude.{◌≡◌, IfOk, IfErr, OnOk};
+ghost use Rattle.ch11_reader.specs.Indexed.{found_in};
+ghost use Rattle.bench_step.specs.Answering.{IsAccepted, IsRefusal, opened};
+
+use crate::fault::StepFault;
+use bench_report::Report;
+use ch11_reader::{Index, ReadError};
+use job_file::Job;
+use replay::{Replay, ReplayError};
+use std::alloc::{AllocError, Global};
+
+/// A debugger on a recording that can be read, where jobs and report agree with it.
+pub(crate) fn open_replay<'a>(
+    alloc: Global,
+    jobs: &[Job],
+    report: &Report,
+    recording: &'a [u8],
+) -> Result<Replay<'a>, StepFault>
+    ensures ok { IfOk result (λ r. r.state ≡ opened jobs.now report.now.channels recording.now) }
+    ensures accepted { OnOk result (IsAccepted jobs.now report.now.channels recording.now) }
+    ensures refused { IfErr result (IsRefusal jobs.now report.now.channels recording.now) }
+{
+    let index = match Index::build(alloc, recording) {
+        Ok(index) => index,
+        Err(ReadError::Refused(refusal)) => return Err(StepFault::Refused(refusal)),
+        Err(ReadError::Memory) => return Err(StepFault::Memory),
+    };
+    match Replay::open(alloc, jobs, report, index) {
+        Ok(replay) => Ok(replay),
+        Err(ReplayError::Mismatch { channel, number }) => {
+            Err(StepFault::Mismatch { channel, number })
+        }
+        Err(_) => Err(StepFault::Memory),
+    }
+}
+
+/// The packets of a recording that can be read; it fails for want of memory alone.
+pub(crate) fn packets_of(alloc: Global, recording: &[u8]) -> Result<Index<'_>, AllocError>
+    ensures { IfOk result (λ i. i ≡ found_in recording.now) }
+{
+    match Index::build(alloc, recording) {
+        Ok(index) => Ok(index),
+        Err(_) => Err(AllocError),
+    }
+}

@@ -1,0 +1,186 @@
+//! A recording under the debugger, and the answer to a line.
+ghost use Rattle.std.specs.Prelude.{◌≡◌, ◌++◌, IfOk, IfErr, OnOk};
+ghost use Rattle.std.specs.Io.KnownBytes.{Appends};
+ghost use Rattle.bench_step.specs.Answering.{IsAccepted, IsAnswered, IsRefusal, opened};
+ghost use Rattle.bench_step.specs.Commands.{asked, asked_of, show_at};
+ghost use Rattle.bench_step.specs.Session.{Replies, after_reply, reply_text};
+
+use crate::backwards::back_to;
+use crate::commands::{Command, read_command};
+use crate::decoding::Decoder;
+use crate::fault::StepFault;
+use crate::manners::Manner;
+use crate::moves::{find_on, go_back, go_on, go_to, seek};
+use crate::opening::{open_replay, packets_of};
+use crate::replies::Reply;
+use bench_report::Report;
+use ch11_reader::Index;
+use job_file::Job;
+use replay::{Replay, ReplayError};
+use std::alloc::Global;
+use std::io;
+use std::io::Write;
+use std::marker::Model;
+
+/// A recording under the debugger, with what it was opened with. Contracts see the debugger, and how lines are answered.
+#[derive(Drop)]
+pub(crate) struct Session<'a> {
+    replay: Replay<'a>,
+    index: Index<'a>,
+    jobs: &'a [Job],
+    report: &'a Report,
+    recording: &'a [u8],
+    manner: Manner,
+    decoder: Decoder,
+}
+
+impl<'a> Model for Session<'a> {
+    ghost use Rattle.job_file.specs.contracts.scripts.Script as scripts;
+    ghost use Rattle.std.specs.Coded.{codes};
+    ghost use Rattle.bench_step.specs.Answering.{IsOpen, SessionState};
+
+    ghost Value = { SessionState };
+
+    ghost coded = { Prim.hlevel (codes, scripts.the_row.coded) };
+
+    ghost view = { λ s. record { debugger = s.replay.state; manner = s.manner } };
+
+    ghost invariant = { λ s. IsOpen s.replay.state s.jobs.now s.report.now.channels s.index s.recording.now };
+}
+
+/// What became of a line: whether memory was refused for what it asks, and whether it ends the session.
+#[derive(Clone, Copy, Debug, PartialEq, Eq)]
+pub(crate) struct Answered {
+    pub(crate) refused: bool,
+    pub(crate) ends: bool,
+}
+
+/// Prints a reply in the state that the line left, and behind it the text of the message that it shows, and flushes the writer.
+fn print_answer<W: Write>(
+    out: &mut W,
+    reply: &Reply,
+    replay: &Replay<'_>,
+    report: &Report,
+    told: &[u8],
+) -> io::Result<()>
+    requires { report.now.channels ≡ replay.now.state.parts }
+    ensures { OnOk result (Appends (W.contents out.old) (W.contents out.new) (reply_text reply.now replay.now.state ++ told.now)) }
+{
+    reply.print(out, replay, report)?;
+    out.write_all(told)?;
+    out.flush()
+}
+
+impl<'a> Session<'a> {
+    /// A debugger that stands before the first message.
+    pub(crate) fn open(
+        alloc: Global,
+        manner: Manner,
+        jobs: &'a [Job],
+        report: &'a Report,
+        recording: &'a [u8],
+    ) -> Result<Session<'a>, StepFault>
+        ensures ok { IfOk result (λ s. s.debugger ≡ opened jobs.now report.now.channels recording.now) }
+        ensures manner { IfOk result (λ s. s.manner ≡ manner) }
+        ensures accepted { OnOk result (IsAccepted jobs.now report.now.channels recording.now) }
+        ensures refused { IfErr result (IsRefusal jobs.now report.now.channels recording.now) }
+    {
+        let replay = open_replay(alloc, jobs, report, recording)?;
+        match (packets_of(alloc, recording), Decoder::make(alloc)) {
+            (Ok(index), Ok(decoder)) => Ok(Session {
+                replay,
+                index,
+                jobs,
+                report,
+                recording,
+                manner,
+                decoder,
+            }),
+            _ => Err(StepFault::Memory),
+        }
+    }
+
+    /// The message of a number, as people read it.
+    fn show(&mut self, number: u64) -> Reply
+        ensures lawful { Replies self.old.debugger (show_at number) result }
+        ensures after { self.new.debugger ≡ after_reply result self.old.debugger }
+        ensures manner { self.new.manner ≡ self.old.manner }
+    {
+        if self.index.message(number).is_none() {
+            return Reply::Refused(ReplayError::Past);
+        }
+        match self.decoder.decode(&self.index, number) {
+            Ok(()) => Reply::Message(number),
+            Err(_) => Reply::Refused(ReplayError::Memory),
+        }
+    }
+
+    /// Does what a command asks.
+    #[tactic(auto, using(crate::proofs::Moving::still_open, crate::proofs::Moving::shows_place))]
+    fn obey(&mut self, alloc: Global, command: &Command) -> Reply
+        ensures lawful { Replies self.old.debugger (asked_of command.now) result }
+        ensures after { self.new.debugger ≡ after_reply result self.old.debugger }
+        ensures manner { self.new.manner ≡ self.old.manner }
+    {
+        match command {
+            Command::Forward(count) => go_on(&mut self.replay, *count),
+            Command::Back(count) => go_back(&mut self.replay, *count),
+            Command::Go(place) => go_to(&mut self.replay, *place),
+            Command::Seek(sought, number) => {
+                seek(&mut self.replay, &self.index, sought, *number)
+            }
+            Command::Find(condition) => find_on(&mut self.replay, condition),
+            Command::FindBack(condition) => back_to(
+                alloc,
+                &mut self.replay,
+                self.jobs,
+                self.report,
+                self.recording,
+                condition,
+            ),
+            Command::State(detail) => Reply::Shown(*detail),
+            Command::Show => {
+                let place = self.replay.place();
+                self.show(place)
+            }
+            Command::ShowAt(number) => self.show(*number),
+            Command::Help => Reply::Help,
+            Command::Quit => Reply::Quit,
+            Command::NoCondition | Command::Unknown => Reply::Unknown,
+        }
+    }
+
+    /// Does what a line asks.
+    #[tactic(auto, using(crate::proofs::Asking::refused_memory))]
+    fn reply_to(&mut self, alloc: Global, line: &[u8]) -> Reply
+        ensures lawful { Replies self.old.debugger (asked self.old.manner line.now) result }
+        ensures after { self.new.debugger ≡ after_reply result self.old.debugger }
+        ensures manner { self.new.manner ≡ self.old.manner }
+    {
+        match read_command(alloc, self.manner, line) {
+            Ok(command) => self.obey(alloc, &command),
+            Err(_) => Reply::Refused(ReplayError::Memory),
+        }
+    }
+
+    /// Answers a line at once: moves the debugger, prints the answer and flushes the writer. Where memory is refused for what the
+    /// line asks, `memory` is printed, and the debugger stands where it stood. A fault is the writer's.
+    pub(crate) fn answer<W: Write>(
+        &mut self,
+        alloc: Global,
+        line: &[u8],
+        out: &mut W,
+    ) -> io::Result<Answered>
+        ensures answered { IfOk result (λ a. IsAnswered self.old.manner self.old.debugger self.new.debugger line.now
+            (W.contents out.old) (W.contents out.new) a.refused a.ends) }
+        ensures manner { self.new.manner ≡ self.old.manner }
+    {
+        let reply = self.reply_to(alloc, line);
+        self.decoder.tell(self.manner, &self.index, &reply);
+        print_answer(out, &reply, &self.replay, self.report, &self.decoder.text)?;
+        Ok(Answered {
+            refused: reply.is_memory(),
+            ends: reply.is_end(),
+        })
+    }
+}

@@ -1,0 +1,136 @@
+//! What hosts set, and the data words that terminals hold.
+use crate::made::{reads, subject_of};
+use std::alloc::Global;
+use std::process::Abort;
+
+/// Two terminals whose hosts set each of their marks.
+const MARKED: &str = "\
+channel 4
+terminal 5
+terminal 9
+at 1 5 busy on
+at 2 5 service on
+at 2 5 subsystem on
+at 2 9 control on
+at 3 5 busy off
+at 3 5 fault on
+at 3 9 control off
+at 3 9 control on
+script
+repeat 3 { send A mode 5 1 }
+";
+
+const MARKED_REPORT: &str = "\
+channel 4
+made 3
+placed 1 5 busy on
+placed 2 5 service on
+placed 2 5 subsystem on
+placed 2 9 control on
+placed 3 5 busy off
+placed 3 5 fault on
+placed 3 9 control off
+placed 3 9 control on
+packets 1
+";
+
+const MARKED_STATES: &str = "\
+channel 4 number 0
+terminal 5 status 2800 last 0000 vector 0000 bit 0000 sync 0000 off -
+terminal 5 deaf - mute -
+terminal 5 marks -
+terminal 9 status 4800 last 0000 vector 0000 bit 0000 sync 0000 off -
+terminal 9 deaf - mute -
+terminal 9 marks -
+at 1
+channel 4 number 1
+terminal 5 status 2808 last 2FE1 vector 0000 bit 0000 sync 0000 off -
+terminal 5 deaf - mute -
+terminal 5 marks busy
+terminal 9 status 4800 last 0000 vector 0000 bit 0000 sync 0000 off -
+terminal 9 deaf - mute -
+terminal 9 marks -
+at 2
+channel 4 number 2
+terminal 5 status 290C last 2FE1 vector 0000 bit 0000 sync 0000 off -
+terminal 5 deaf - mute -
+terminal 5 marks busy service subsystem
+terminal 9 status 4800 last 0000 vector 0000 bit 0000 sync 0000 off -
+terminal 9 deaf - mute -
+terminal 9 marks control
+at 3
+channel 4 number 3
+terminal 5 status 2905 last 2FE1 vector 0000 bit 0000 sync 0000 off -
+terminal 5 deaf - mute -
+terminal 5 marks service subsystem fault
+terminal 9 status 4800 last 0000 vector 0000 bit 0000 sync 0000 off -
+terminal 9 deaf - mute -
+terminal 9 marks control
+";
+
+/// A terminal that is sent words, alone and with all others, and whose host puts words up.
+const FILLED: &str = "\
+channel 1
+terminal 5
+at 3 5 transmit 4 BEEF CAFE
+script
+send A rx 5 3 [0001 0002]
+send A brx 3 [00AA]
+send A rx 5 30 [0007]
+";
+
+const FILLED_REPORT: &str = "channel 1\nmade 3\nplaced 3 5 transmit 4 BEEF CAFE\npackets 1\n";
+
+const FILLED_DATA: &str = "\
+channel 1 number 0
+terminal 5 subaddress 3 received -
+terminal 5 subaddress 3 received from all -
+terminal 5 subaddress 3 to transmit -
+at 1
+channel 1 number 1
+terminal 5 subaddress 3 received 0001 0002
+terminal 5 subaddress 3 received from all -
+terminal 5 subaddress 3 to transmit -
+at 3
+channel 1 number 3
+terminal 5 subaddress 3 received 0001 0002
+terminal 5 subaddress 3 received from all 00AA
+terminal 5 subaddress 3 to transmit -
+channel 1 number 3
+terminal 5 subaddress 4 received -
+terminal 5 subaddress 4 received from all -
+terminal 5 subaddress 4 to transmit BEEF CAFE
+channel 1 number 3
+terminal 5 subaddress 30 received 0007
+terminal 5 subaddress 30 received from all -
+terminal 5 subaddress 30 to transmit 0007
+channel 1 number 3
+unknown
+unknown
+unknown
+unknown
+unknown
+unknown
+";
+
+/// What a session of a job prints.
+fn prints(rt: &impl Abort, alloc: Global, job: &str, report: &str, lines: &str, printed: &str) {
+    let one = subject_of(rt, alloc, &[job], report);
+    let mut out = Vec::new(alloc);
+    let (ended, _) = one.session(alloc, lines, &mut out);
+    assert_eq!(rt; ended, Ok(()), "{lines}");
+    reads(rt, &out, printed);
+}
+
+#[test]
+fn marks_of_hosts(rt: HostRuntime) {
+    let lines = "state --all\nforward\nstate --all\nforward\nstate --all\nforward\nstate --all\n";
+    prints(&rt, rt.alloc(), MARKED, MARKED_REPORT, lines, MARKED_STATES);
+}
+
+#[test]
+fn words_at_a_subaddress(rt: HostRuntime) {
+    let lines =
+        "data 5 3\nforward\ndata 5 3\ngo 3\ndata 5 3\n data  5 4 \ndata 5 30\ndata 9 1\ndata 5\ndata 5 0\ndata 5 31\ndata 31 1\ndata 5 1 1\ndata\n";
+    prints(&rt, rt.alloc(), FILLED, FILLED_REPORT, lines, FILLED_DATA);
+}

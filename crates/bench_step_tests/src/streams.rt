@@ -1,0 +1,107 @@
+//! Readers and writers of sessions: answers are flushed one by one, and a fault ends a session with what was answered.
+use crate::made::{DROPPED, DROPPED_REPORT, reads, subject_of};
+use bench_step::{Manner, StepFault};
+use std::alloc::Global;
+use std::io;
+use std::io::{BufReader, ErrorKind, Read, Write};
+use std::process::Abort;
+
+/// A writer that keeps what it was given, with a bar where it was flushed.
+#[derive(Drop)]
+struct Barred {
+    text: Vec<u8>,
+}
+
+impl Write for Barred {
+    fn write(&mut self, buf: &[u8]) -> io::Result<usize> {
+        self.text.extend_from_slice(buf)?;
+        Ok(buf.len())
+    }
+
+    fn flush(&mut self) -> io::Result<()> {
+        self.text.push(b'|')?;
+        Ok(())
+    }
+}
+
+/// A writer that takes all, and whose flush fails.
+#[derive(Drop)]
+struct Unflushed {
+    taken: usize,
+}
+
+impl Write for Unflushed {
+    fn write(&mut self, buf: &[u8]) -> io::Result<usize> {
+        self.taken = self.taken.saturating_add(buf.len());
+        Ok(buf.len())
+    }
+
+    fn flush(&mut self) -> io::Result<()> {
+        Err(io::Error::from(ErrorKind::BrokenPipe))
+    }
+}
+
+/// A reader of one line, and of a fault behind it.
+#[derive(Drop)]
+struct Broken {
+    is_read: bool,
+    kind: ErrorKind,
+}
+
+impl Read for Broken {
+    fn read(&mut self, buf: &mut [u8]) -> io::Result<usize> {
+        let line = b"forward\n";
+        if self.is_read || buf.len() < line.len() {
+            return Err(io::Error::from(self.kind));
+        }
+        self.is_read = true;
+        buf[..line.len()].copy_from_slice(line);
+        Ok(line.len())
+    }
+}
+
+#[test]
+fn each_answer_is_flushed(rt: HostRuntime) {
+    let one = subject_of(&rt, rt.alloc(), &[DROPPED], DROPPED_REPORT);
+    let mut out = Barred {
+        text: Vec::new(rt.alloc()),
+    };
+    let (ended, _) = one.session(rt.alloc(), "forward\nback\nback\nwhere\nquit\n", &mut out);
+    assert_eq!(&rt; ended, Ok(()));
+    reads(&rt, &out.text, "at 1\n|at 0\n|Y3\n|unknown\n||");
+}
+
+#[test]
+fn a_flush_that_fails(rt: HostRuntime) {
+    let one = subject_of(&rt, rt.alloc(), &[DROPPED], DROPPED_REPORT);
+    let mut out = Unflushed { taken: 0 };
+    let (ended, left) = one.session(rt.alloc(), "forward\nback\n", &mut out);
+    assert_eq!(&rt; ended, Err(StepFault::Output));
+    assert_eq!(&rt; out.taken, 5);
+    reads(&rt, left, "back\n");
+}
+
+/// How a session ends whose reader fails in this way behind its first line, which is answered.
+fn breaks(rt: &impl Abort, alloc: Global, kind: ErrorKind, fault: StepFault) {
+    let one = subject_of(rt, alloc, &[DROPPED], DROPPED_REPORT);
+    let reader = Broken {
+        is_read: false,
+        kind,
+    };
+    let mut input = BufReader::new(alloc, reader).ok().expect(rt, "memory");
+    let mut out = Vec::new(alloc);
+    let ended = one.session_of(alloc, Manner::Given, &mut input, &mut out);
+    assert_eq!(rt; ended, Err(fault));
+    reads(rt, &out, "at 1\n");
+}
+
+#[test]
+fn readers_that_fail(rt: HostRuntime) {
+    breaks(&rt, rt.alloc(), ErrorKind::BrokenPipe, StepFault::Input);
+    breaks(
+        &rt,
+        rt.alloc(),
+        ErrorKind::OutOfMemory,
+        StepFault::LineMemory,
+    );
+}

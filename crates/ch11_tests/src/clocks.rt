@@ -1,0 +1,161 @@
+//! Times of day of recordings, against times worked out by hand.
+ghost use Rattle.std.specs.Prelude.{◌<◌};
+
+use crate::dumps::dumped;
+use crate::equal::{are_bytes, same};
+use crate::readers::FOREIGN;
+use bench_clock::{Clock, UtcTime, body_of, read_second};
+use bench_dump::dump_with_times;
+use ch11_reader::Index;
+use std::process::Abort;
+
+/// Seconds behind 1970-01-01T00:00:00, and the bodies of their time packets.
+const BODIES: [(u64, [u8; 12]); 5] = [
+    (0, [0x30, 2, 0, 0, 0, 0, 0, 0, 0x01, 0x01, 0x70, 0x19]),
+    // 2000-02-29T00:00:00, 11,016 days behind it
+    (
+        951_782_400,
+        [0x30, 3, 0, 0, 0, 0, 0, 0, 0x29, 0x02, 0x00, 0x20],
+    ),
+    // 2024-12-31T23:59:59, the last second of day 20,088
+    (
+        1_735_689_599,
+        [0x30, 3, 0, 0, 0, 0x59, 0x59, 0x23, 0x31, 0x12, 0x24, 0x20],
+    ),
+    // 2100-02-28T23:59:59, the last second of day 47,540: 2100 is no leap year
+    (
+        4_107_542_399,
+        [0x30, 2, 0, 0, 0, 0x59, 0x59, 0x23, 0x28, 0x02, 0x00, 0x21],
+    ),
+    // 9999-12-31T23:59:59, the last second that there is
+    (
+        253_402_300_799,
+        [0x30, 2, 0, 0, 0, 0x59, 0x59, 0x23, 0x31, 0x12, 0x99, 0x99],
+    ),
+];
+
+/// Bytes that are the body of no second: another format, another bit of the leap year, hundredths, a second 60, a digit above 9, an
+/// hour 24, a day 0, 29 February of another year, a month 13, and a year before 1970.
+const NO_BODIES: [[u8; 12]; 10] = [
+    [0x10, 3, 0, 0, 0, 0x59, 0x59, 0x23, 0x31, 0x12, 0x24, 0x20],
+    [0x30, 2, 0, 0, 0, 0x59, 0x59, 0x23, 0x31, 0x12, 0x24, 0x20],
+    [0x30, 3, 0, 0, 1, 0x59, 0x59, 0x23, 0x31, 0x12, 0x24, 0x20],
+    [0x30, 3, 0, 0, 0, 0x60, 0x59, 0x23, 0x31, 0x12, 0x24, 0x20],
+    [0x30, 3, 0, 0, 0, 0x0A, 0x59, 0x23, 0x31, 0x12, 0x24, 0x20],
+    [0x30, 3, 0, 0, 0, 0x59, 0x59, 0x24, 0x31, 0x12, 0x24, 0x20],
+    [0x30, 3, 0, 0, 0, 0x59, 0x59, 0x23, 0x00, 0x12, 0x24, 0x20],
+    [0x30, 2, 0, 0, 0, 0x59, 0x59, 0x23, 0x29, 0x02, 0x23, 0x20],
+    [0x30, 3, 0, 0, 0, 0x59, 0x59, 0x23, 0x31, 0x13, 0x24, 0x20],
+    [0x30, 2, 0, 0, 0, 0x59, 0x59, 0x23, 0x31, 0x12, 0x69, 0x19],
+];
+
+/// The body of a second is these bytes, which are read again; one byte fewer is no body.
+fn is_body(rt: &impl Abort, second: u64, body: &[u8; 12])
+    requires { second < 253402300800 }
+{
+    same(rt, &body_of(second), body);
+    same(rt, &read_second(body), &Some(second));
+    same(rt, &read_second(&body[..11]), &None);
+}
+
+#[test]
+fn bodies_are_read_as_they_are_written(rt: HostRuntime) {
+    for (second, body) in BODIES {
+        if second < 253_402_300_800 {
+            is_body(&rt, second, &body);
+        }
+    }
+    for body in NO_BODIES {
+        same(&rt, &read_second(&body), &None);
+    }
+}
+
+/// The text of a time.
+fn prints(rt: &impl Abort, time: UtcTime, wanted: &str) {
+    are_bytes(rt, &time.text(), wanted.as_bytes());
+}
+
+#[test]
+fn times_are_printed(rt: HostRuntime) {
+    prints(&rt, UtcTime { ticks: 0 }, "1970-01-01T00:00:00.0000000");
+    let late = UtcTime {
+        ticks: 17_356_895_995_000_001,
+    };
+    prints(&rt, late, "2024-12-31T23:59:59.5000001");
+    let leap = UtcTime {
+        ticks: 9_517_824_000_012_345,
+    };
+    prints(&rt, leap, "2000-02-29T00:00:00.0012345");
+    let last = UtcTime {
+        ticks: 2_534_023_007_999_999_999,
+    };
+    prints(&rt, last, "9999-12-31T23:59:59.9999999");
+}
+
+/// Polls at ticks 15,000,000 on channel 1 and 20,000,000 on channel 2, and in front of each the time packet of its second: at tick
+/// 10,000,000 it is 2024-12-31T23:59:59, at tick 20,000,000 2025-01-01T00:00:00.
+const TIMED: [u8; 168] = [
+    0x25, 0xEB, 0x07, 0x00, 0x24, 0x00, 0x00, 0x00, 0x0C, 0x00, 0x00, 0x00, 0x06, 0x00, 0x00, 0x11,
+    0x80, 0x96, 0x98, 0x00, 0x00, 0x00, 0x7A, 0x93, 0x30, 0x03, 0x00, 0x00, 0x00, 0x59, 0x59, 0x23,
+    0x31, 0x12, 0x24, 0x20, 0x25, 0xEB, 0x01, 0x00, 0x30, 0x00, 0x00, 0x00, 0x16, 0x00, 0x00, 0x00,
+    0x06, 0x00, 0x00, 0x19, 0xC0, 0xE1, 0xE4, 0x00, 0x00, 0x00, 0x16, 0xE7, 0x01, 0x00, 0x00, 0x40,
+    0xC0, 0xE1, 0xE4, 0x00, 0x00, 0x00, 0x00, 0x00, 0x00, 0x00, 0x50, 0x00, 0x04, 0x00, 0xE1, 0x2F,
+    0x00, 0x28, 0x00, 0x00, 0x25, 0xEB, 0x07, 0x00, 0x24, 0x00, 0x00, 0x00, 0x0C, 0x00, 0x00, 0x00,
+    0x06, 0x01, 0x00, 0x11, 0x00, 0x2D, 0x31, 0x01, 0x00, 0x00, 0x93, 0x2B, 0x30, 0x02, 0x00, 0x00,
+    0x00, 0x00, 0x00, 0x00, 0x01, 0x01, 0x25, 0x20, 0x25, 0xEB, 0x02, 0x00, 0x30, 0x00, 0x00, 0x00,
+    0x16, 0x00, 0x00, 0x00, 0x06, 0x00, 0x00, 0x19, 0x00, 0x2D, 0x31, 0x01, 0x00, 0x00, 0xA4, 0x32,
+    0x01, 0x00, 0x00, 0x40, 0x00, 0x2D, 0x31, 0x01, 0x00, 0x00, 0x00, 0x00, 0x00, 0x00, 0x50, 0x00,
+    0x04, 0x00, 0xE1, 0x2F, 0x00, 0x28, 0x00, 0x00,
+];
+
+/// The time at a stamp, in ticks behind 1970-01-01T00:00:00, is this one.
+fn tells(rt: &impl Abort, clock: &Clock, stamp: u64, wanted: Option<u64>) {
+    let found = clock.at(stamp).map(|time| time.ticks);
+    same(rt, &found, &wanted);
+}
+
+/// A stamp has the time of the last time packet at or before it, and what has passed since.
+#[test]
+fn stamps_have_times_of_day(rt: HostRuntime) {
+    let index = Index::build(rt.alloc(), &TIMED)
+        .ok()
+        .expect(&rt, "an index");
+    let clock = Clock::of(rt.alloc(), &TIMED, index.packets()).expect(&rt, "memory");
+    same(&rt, &clock.is_empty(), &false);
+    for (stamp, wanted) in [
+        (0, None),
+        (9_999_999, None),
+        (10_000_000, Some(17_356_895_990_000_000)),
+        (15_000_001, Some(17_356_895_995_000_001)),
+        (20_000_000, Some(17_356_896_000_000_000)),
+        (u64::MAX, None),
+    ] {
+        tells(&rt, &clock, stamp, wanted);
+    }
+}
+
+const PRINTED: &str = "packet 0 channel 7 type 11 skipped
+packet 36 channel 1 type 19 seq 0 flags 00 messages 1
+message 1 channel 1 stamp 15000000 time 2024-12-31T23:59:59.5000000 block 0000 gaps 0050 words 2FE1 2800
+packet 84 channel 7 type 11 skipped
+packet 120 channel 2 type 19 seq 0 flags 00 messages 1
+message 2 channel 2 stamp 20000000 time 2025-01-01T00:00:00.0000000 block 0000 gaps 0050 words 2FE1 2800
+";
+
+/// The time of day stands behind the stamp.
+#[test]
+fn dumps_have_times_of_day(rt: HostRuntime) {
+    let mut out = Vec::new(rt.alloc());
+    let answer = dump_with_times(rt.alloc(), &TIMED, &mut out, false);
+    same(&rt, &answer, &Ok(()));
+    are_bytes(&rt, &out, PRINTED.as_bytes());
+}
+
+/// Without a time packet nothing changes.
+#[test]
+fn other_dumps_stay(rt: HostRuntime) {
+    let mut out = Vec::new(rt.alloc());
+    let answer = dump_with_times(rt.alloc(), &FOREIGN, &mut out, true);
+    same(&rt, &answer, &Ok(()));
+    are_bytes(&rt, &out, &dumped(&rt, rt.alloc(), &FOREIGN, true));
+}

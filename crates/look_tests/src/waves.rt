@@ -1,0 +1,265 @@
+//! What `bench export --vcd` writes of recordings, worked out by hand, and read back by a small parser.
+use crate::equal::reads;
+use crate::made::{FOREIGN, FORMS, RETRY, TRANSFER, recorded};
+use bench_export::export_waves;
+use bench_select::{Bound, Selection};
+use ch11_reader::Index;
+use std::alloc::Global;
+use std::io::Write;
+use std::process::Abort;
+use std::str;
+
+/// The dump of the file of another recorder: a command at tick 0, three data words, and a status word behind 8.0 µs.
+const FOREIGN_DUMP: &str = "\
+$comment kind: 1 command word, 2 data word, 3 status word; z: the line is idle $end\n\
+$timescale 100 ns $end\n\
+$scope module channel_1 $end\n\
+$scope module A $end\n\
+$var reg 16 wA1 word $end\n\
+$var reg 2 kA1 kind $end\n\
+$var reg 5 tA1 terminal $end\n\
+$var integer 64 mA1 message $end\n\
+$upscope $end\n\
+$scope module B $end\n\
+$var reg 16 wB1 word $end\n\
+$var reg 2 kB1 kind $end\n\
+$var reg 5 tB1 terminal $end\n\
+$var integer 64 mB1 message $end\n\
+$upscope $end\n\
+$upscope $end\n\
+$enddefinitions $end\n\
+#0\n\
+$dumpvars\n\
+bz wA1\nbz kA1\nbz tA1\nbz mA1\n\
+bz wB1\nbz kB1\nbz tB1\nbz mB1\n\
+$end\n\
+b10100000100011 wA1\nb1 kA1\nb101 tA1\nb1 mA1\n\
+#200\n\
+b1 wA1\nb10 kA1\nb101 tA1\nb1 mA1\n\
+#400\n\
+b10 wA1\nb10 kA1\nb101 tA1\nb1 mA1\n\
+#600\n\
+b11 wA1\nb10 kA1\nb101 tA1\nb1 mA1\n\
+#800\n\
+bz wA1\nbz kA1\nbz tA1\nbz mA1\n\
+#860\n\
+b10100000000000 wA1\nb11 kA1\nb101 tA1\nb1 mA1\n\
+#1060\n\
+bz wA1\nbz kA1\nbz tA1\nbz mA1\n";
+
+/// The dump of a file without messages.
+const EMPTY_DUMP: &str = "\
+$comment kind: 1 command word, 2 data word, 3 status word; z: the line is idle $end\n\
+$timescale 100 ns $end\n\
+$enddefinitions $end\n\
+#0\n\
+$dumpvars\n\
+$end\n";
+
+/// A transfer and a mode command on channel 1 beside the other forms on channel 9: tick, line with channel, word, kind,
+/// terminal and message, or z for an idle line.
+const MERGED: &str = "\
+0 A1 z\n\
+0 B1 z\n\
+0 A9 z\n\
+0 B9 z\n\
+0 A1 1882 1 3 1\n\
+0 A9 2C42 1 5 3\n\
+200 A1 3C22 1 7 1\n\
+200 A9 z\n\
+260 A9 2800 3 5 3\n\
+400 A1 z\n\
+460 A1 3800 3 7 1\n\
+460 A9 0000 2 5 3\n\
+660 A1 AAAA 2 7 1\n\
+660 A9 0000 2 5 3\n\
+860 A1 5555 2 7 1\n\
+860 A9 z\n\
+880 B9 2BF1 1 5 4\n\
+1060 A1 z\n\
+1080 B9 00AA 2 5 4\n\
+1120 A1 1800 3 3 1\n\
+1280 B9 z\n\
+1320 A1 z\n\
+1340 A1 1FE2 1 3 2\n\
+1340 B9 2800 3 5 4\n\
+1540 A1 z\n\
+1540 B9 z\n\
+1560 A9 2FF0 1 5 5\n\
+1600 A1 1800 3 3 2\n\
+1760 A9 z\n\
+1800 A1 z\n\
+1820 A9 2800 3 5 5\n\
+2020 A9 0000 2 5 5\n\
+2220 A9 z\n\
+2240 A9 F821 1 31 6\n\
+2440 A9 00BB 2 31 6\n\
+2640 A9 z\n\
+2800 A9 F882 1 31 7\n\
+3000 A9 2C22 1 5 7\n\
+3200 A9 z\n\
+3260 A9 2800 3 5 7\n\
+3460 A9 0000 2 5 7\n\
+3660 A9 0000 2 5 7\n\
+3860 A9 z\n\
+3880 A9 FFE1 1 31 8\n\
+4080 A9 z\n\
+";
+
+/// Three errors, each with a retry on the other line.
+const RETRIES: &str = "\
+0 A1 z\n\
+0 B1 z\n\
+0 A1 2823 1 5 1\n\
+200 A1 0001 2 5 1\n\
+400 A1 0002 2 5 1\n\
+600 A1 0003 2 5 1\n\
+800 A1 z\n\
+960 B1 2823 1 5 2\n\
+1160 B1 0001 2 5 2\n\
+1360 B1 0002 2 5 2\n\
+1560 B1 0003 2 5 2\n\
+1760 B1 z\n\
+1820 B1 2800 3 5 2\n\
+2020 B1 z\n\
+2040 A1 2823 1 5 3\n\
+2240 A1 0001 2 5 3\n\
+2440 A1 0002 2 5 3\n\
+2640 A1 0003 2 5 3\n\
+2840 A1 z\n\
+2991 A1 2800 3 5 3\n\
+3191 A1 z\n\
+3351 B1 2823 1 5 4\n\
+3551 B1 0001 2 5 4\n\
+3751 B1 0002 2 5 4\n\
+3951 B1 0003 2 5 4\n\
+4151 B1 z\n\
+4211 B1 2800 3 5 4\n\
+4411 B1 z\n\
+4431 A1 2823 1 5 5\n\
+4631 A1 0001 2 5 5\n\
+4831 A1 0002 2 5 5\n\
+5031 A1 z\n\
+5191 B1 2823 1 5 6\n\
+5391 B1 0001 2 5 6\n\
+5591 B1 0002 2 5 6\n\
+5791 B1 0003 2 5 6\n\
+5991 B1 z\n\
+6051 B1 2800 3 5 6\n\
+6251 B1 z\n\
+";
+
+/// The dump of a file's selected messages.
+fn dump_of(rt: &impl Abort, alloc: Global, file: &[u8], selection: &Selection) -> Vec<u8> {
+    let index = Index::build(alloc, file).ok().expect(rt, "a recording");
+    let mut dump = Vec::new(alloc);
+    let written = export_waves(alloc, &index, selection, &mut dump);
+    written.ok().expect(rt, "a dump");
+    dump
+}
+
+/// What was read of a dump up to a line: the time, and the values told since the last message number.
+#[derive(Clone, Copy)]
+struct Reading {
+    tick: u64,
+    word: Option<u64>,
+    kind: Option<u64>,
+    terminal: Option<u64>,
+}
+
+/// A value in binary digits; none where it is z.
+fn value_of(text: &str) -> Option<u64> {
+    u64::from_str_radix(text, 2).ok()
+}
+
+/// Takes a line of a dump, and puts a row where it ends the values of a line.
+fn take_line(rt: &impl Abort, reading: &mut Reading, line: &str, rows: &mut Vec<u8>) {
+    if let Some(tick) = line.strip_prefix('#') {
+        reading.tick = tick.parse::<u64>().ok().expect(rt, "a time");
+        return;
+    }
+    let Some((value, code)) = line.split_once(' ') else {
+        return;
+    };
+    let Some(digits) = value.strip_prefix('b') else {
+        return;
+    };
+    let value = value_of(digits);
+    if code.starts_with('w') {
+        reading.word = value;
+    } else if code.starts_with('k') {
+        reading.kind = value;
+    } else if code.starts_with('t') {
+        reading.terminal = value;
+    } else if let Some(wire) = code.strip_prefix('m') {
+        put_row(rt, reading, wire, value, rows);
+    }
+}
+
+/// Puts a row: tick, line with channel, and word, kind, terminal and message, or z.
+fn put_row(
+    rt: &impl Abort,
+    reading: &Reading,
+    wire: &str,
+    message: Option<u64>,
+    rows: &mut Vec<u8>,
+) {
+    let tick = reading.tick;
+    let written = match (reading.word, reading.kind, reading.terminal, message) {
+        (Some(word), Some(kind), Some(terminal), Some(message)) => writeln!(
+            rows,
+            "{tick} {wire} {word:04X} {kind} {terminal} {message}"
+        ),
+        (None, None, None, None) => writeln!(rows, "{tick} {wire} z"),
+        _ => writeln!(rows, "{tick} {wire} of both"),
+    };
+    written.ok().expect(rt, "memory");
+}
+
+/// The rows that are read of the dump of a file's selected messages.
+fn rows_of(rt: &impl Abort, alloc: Global, file: &[u8], selection: &Selection) -> Vec<u8> {
+    let dump = dump_of(rt, alloc, file, selection);
+    let text = str::from_utf8(dump.as_slice()).ok().expect(rt, "a text");
+    let mut reading = Reading {
+        tick: 0,
+        word: None,
+        kind: None,
+        terminal: None,
+    };
+    let mut rows = Vec::new(alloc);
+    for line in text.lines() {
+        take_line(rt, &mut reading, line, &mut rows);
+    }
+    rows
+}
+
+/// A whole dump, to the byte.
+#[test]
+fn dumps_are_written(rt: HostRuntime) {
+    let all = Selection::all();
+    reads(&rt, &dump_of(&rt, rt.alloc(), &FOREIGN, &all), FOREIGN_DUMP);
+    reads(&rt, &dump_of(&rt, rt.alloc(), b"", &all), EMPTY_DUMP);
+}
+
+/// The second message of two, alone: the first tick is its stamp.
+const CHOSEN: &str = "\
+1340 A1 z\n\
+1340 B1 z\n\
+1340 A1 1FE2 1 3 2\n\
+1540 A1 z\n\
+1600 A1 1800 3 3 2\n\
+1800 A1 z\n";
+
+/// Every word stands at its tick: both lines, two channels, all forms, late and missing replies; a message alone.
+#[test]
+fn words_stand_at_their_ticks(rt: HostRuntime) {
+    let all = Selection::all();
+    let both = recorded(&rt, rt.alloc(), &[TRANSFER, FORMS]);
+    reads(&rt, &rows_of(&rt, rt.alloc(), &both, &all), MERGED);
+    let retry = recorded(&rt, rt.alloc(), &[RETRY]);
+    reads(&rt, &rows_of(&rt, rt.alloc(), &retry, &all), RETRIES);
+    let mut second = all;
+    second.channel = Some(1);
+    second.from = Some(Bound::Number(2));
+    reads(&rt, &rows_of(&rt, rt.alloc(), &both, &second), CHOSEN);
+}
