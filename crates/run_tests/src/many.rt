@@ -112,25 +112,41 @@ fn all_agree<R: Threads + Wait + Abort + Sync>(rt: &R, alloc: Global, queue: u32
 }
 
 #[test]
-fn queues_of_one_and_two(rt: HostRuntime) {
+fn a_queue_of_one(rt: HostRuntime) {
     all_agree(&rt, rt.alloc(), 1);
+}
+
+#[test]
+fn a_queue_of_two(rt: HostRuntime) {
     all_agree(&rt, rt.alloc(), 2);
 }
 
 #[test]
-fn queues_of_three_and_four(rt: HostRuntime) {
+fn a_queue_of_three(rt: HostRuntime) {
     all_agree(&rt, rt.alloc(), 3);
+}
+
+#[test]
+fn a_queue_of_four(rt: HostRuntime) {
     all_agree(&rt, rt.alloc(), 4);
 }
 
 #[test]
-fn queues_of_five_and_six(rt: HostRuntime) {
+fn a_queue_of_five(rt: HostRuntime) {
     all_agree(&rt, rt.alloc(), 5);
+}
+
+#[test]
+fn a_queue_of_six(rt: HostRuntime) {
     all_agree(&rt, rt.alloc(), 6);
 }
 
 #[test]
-fn queues_of_seven_and_eight(rt: HostRuntime) {
+fn a_queue_of_seven(rt: HostRuntime) {
     all_agree(&rt, rt.alloc(), 7);
+}
+
+#[test]
+fn a_queue_of_eight(rt: HostRuntime) {
     all_agree(&rt, rt.alloc(), 8);
 }
