@@ -70,6 +70,7 @@ pub(crate) fn channel<R: Wait, G: Gate>(
     let _sound = job.program();
     job_runs();
     'messages: loop {
+        gate.before_tick(job.channel(), machine.bus().now());
         gate.before_message(job.channel(), machine.number() + 1);
         posts.place_all(rt, mailbox, &mut machine);
         let Some(record) = next_record(&mut machine) else {

@@ -2,6 +2,10 @@
 
 /// What is called at points of a run, on the thread that is there. It may wait, so that tests fix the order of the threads.
 pub trait Gate: Sync {
+    /// Before the steps of a channel that may make its next message, and before `before_message` of it: that message starts at this
+    /// tick of 0.1 µs at the earliest. A gate that leaves it out waits for nothing there.
+    fn before_tick(&self, _channel: u16, _tick: u64) {}
+
     /// Before the steps that may make the message of a number, 1 and up, of a channel; also where the script ends instead.
     fn before_message(&self, channel: u16, number: u32);
 

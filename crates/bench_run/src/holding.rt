@@ -60,6 +60,10 @@ impl<'a, G> HoldingGate<'a, G> {
 }
 
 impl<G: Gate> Gate for HoldingGate<'_, G> {
+    fn before_tick(&self, channel: u16, tick: u64) {
+        self.gate.before_tick(channel, tick);
+    }
+
     /// Each call is followed by one item: a message, or the end mark.
     fn before_message(&self, channel: u16, number: u32) {
         self.gate.before_message(channel, number);
