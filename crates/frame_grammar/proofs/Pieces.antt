@@ -41,3 +41,10 @@ three one other close rest = append_assoc (one ++ other) close rest ∙ append_a
 -- the first token, and those behind it
 pub begun : {w first : List ℕ} {ts us : Tokens} → w ≡ first → ts ≡ us → w ∷ ts ≡ first ∷ us
 begun {first = first} {ts = ts} e h = ap (λ z. z ∷ ts) e ∙ ap (λ z. first ∷ z) h
+
+-- the same where the first tokens are known
+pub behind : {ts us vs : Tokens} {w : List ℕ} → ts ≡ w ∷ us → us ≡ vs → ts ≡ w ∷ vs
+behind {w = w} e h = e ∙ ap (λ z. w ∷ z) h
+
+pub over : {ts us vs : Tokens} (ws : Tokens) → ts ≡ ws ++ us → us ≡ vs → ts ≡ ws ++ vs
+over ws e h = e ∙ ap (λ z. ws ++ z) h
