@@ -1,14 +1,14 @@
 -- What is read as a condition is what the rules derive.
-use Rattle.std.proofs.Common.{◌≡◌, ℕ, zero, suc, ◌≤◌, List, [], ◌∷◌, ◌++◌, Option, Some, None, Result, Ok, Err, refl, sym, ap, ◌∙◌, subst, append_assoc, arith}
+use Rattle.std.proofs.Common.{◌≡◌, ℕ, zero, suc, ◌≤◌, List, [], ◌∷◌, ◌++◌, Option, Some, None, Result, Ok, Err, refl, sym, ap, ◌∙◌, subst, arith}
 use Rattle.std.specs.Prelude.{codes}
 use Rattle.std.proofs.lemmas.List.{append-nil}
 use Rattle.mil_status.specs.Status.{bit_named}
 use Rattle.mil_status.specs.declared.bit.StatusBit.{StatusBit}
-use Rattle.mil_message.specs.declared.outcome_test.OutcomeTest.TheVariants.{Failed, Silent, Bit}
+use Rattle.mil_message.specs.declared.outcome_test.OutcomeTest.TheVariants.{Bit}
 use Rattle.frame_tree.specs.Tree.{Condition, asked, negated, both, either}
 use Rattle.frame_tree.specs.Bounds.{operators}
 use Rattle.frame_text.specs.Tokens.{tokens}
-use Rattle.frame_text.specs.Reading.{Tokens, Reading, ◌>>=◌, same, past, to_the_end}
+use Rattle.frame_text.specs.Reading.{Tokens, ◌>>=◌, same, past, to_the_end}
 use Rattle.frame_text.specs.Conditions.{Reader, condition_at, condition_from, condition_of, condition_word, below_at, name_at, named, pair_at, condition_of_text}
 use Rattle.frame_text.specs.declared.faults.Cause.{Cause}
 use Rattle.frame_text.specs.declared.faults.Cause.TheVariants as cause
@@ -154,6 +154,7 @@ conditions_derived text c = (forth, back)
         let spelled : SpellCondition (tokens text) x.0.0 = subst (λ u. SpellCondition u x.0.0) all p.2 in
         let few = condition_ok 16 (tokens text) x.0 x.1 in
         subst (HasCondition text) z.0 (spelled, few)
+
     back : HasCondition text c → condition_of_text text ≡ Ok c
     back h =
         ap (λ ts. condition_at 16 ts >>= (λ read. to_the_end read)) (sym (append-nil (tokens text)))

@@ -1,16 +1,15 @@
 -- What is read as frames is what the rules derive.
-use Rattle.std.proofs.Common.{◌≡◌, ℕ, zero, suc, ◌*◌, ◌≤◌, Bool, true, false, cond, List, [], ◌∷◌, ◌++◌, length, Result, Ok, Err, refl, sym, ap, ◌∙◌, subst, append_assoc, arith, ◌⊎◌, inl, inr}
+use Rattle.std.proofs.Common.{◌≡◌, ℕ, zero, suc, Bool, true, false, cond, List, [], ◌∷◌, ◌++◌, length, Ok, Err, refl, sym, ap, ◌∙◌, subst, append_assoc, ◌⊎◌, inl, inr}
 use Rattle.std.specs.Prelude.{codes, nat_le}
-use Rattle.frame_tree.specs.Tree.{Condition, Tree, send, retry, gap, repeat, choose, until, timed, nothing, chained, call, define}
+use Rattle.frame_tree.specs.Tree.{Condition, Tree, send, retry, gap, repeat, choose, until, timed, nothing, chained, call}
 use Rattle.frame_tree.specs.Names.{is_name, Scope, is_known}
 use Rattle.frame_tree.specs.Names as names
 use Rattle.frame_tree.specs.Bounds.{IsCondition}
-use Rattle.frame_text.specs.Reading.{Tokens, Reading, ◌>>=◌, same, misplaced, past}
+use Rattle.frame_text.specs.Reading.{Tokens, ◌>>=◌, same, misplaced, past}
 use Rattle.frame_text.specs.Words.{number_within, period_at}
 use Rattle.frame_text.specs.Messages.{send_at}
 use Rattle.frame_text.specs.Conditions.{condition_at}
 use Rattle.frame_text.specs.Frames.{Reader, frame_at, frame_from, frame_of, frame_word, frames_at, block_at, block_from, inner_at, else_at, label_at, call_at}
-use Rattle.frame_text.specs.declared.faults.Cause.{Cause}
 use Rattle.frame_text.specs.declared.faults.Cause.TheVariants as cause
 use Rattle.frame_text.specs.declared.keywords.FrameWord.{FrameWord}
 use Rattle.frame_text.specs.declared.keywords.FrameWord.TheVariants as word
@@ -129,8 +128,7 @@ until_frame block all w ts x h e =
     let k = within_stands 1 10000 v.0 n.0 n.1 in
     let p = all n.0.1 b.0 b.1 in
     let tail = behind (past_ok (codes "at") c.0.1 u.0 u.1) (behind (past_ok (codes "most") u.0 v.0 v.1) (behind k.1 p.1)) in
-    subst (FrameStands (w ∷ ts)) (ok_is _ x b.2)
-    (
+    subst (FrameStands (w ∷ ts)) (ok_is _ x b.2) (
       codes "until" ∷ q.0 ++ codes "at" ∷ codes "most" ∷ k.0 ∷ codes "{" ∷ p.0 ++ codes "}" ∷ [],
       begun h (over q.0 q.1 tail ∙ until_words q.0 p.0 b.0.1 k.0),
       rule.until q.2 (condition_ok 16 ts c.0 c.1) k.2 p.2,
@@ -157,8 +155,8 @@ pub else_words : (condition one other rest : Tokens)
     → condition ++ (codes "{" ∷ one ++ codes "}" ∷ codes "else" ∷ (codes "{" ∷ other ++ codes "}" ∷ rest)) ≡ condition ++ codes "{" ∷ one ++ codes "}" ∷ codes "else" ∷ codes "{" ∷ other ++ codes "}" ∷ [] ++ rest
 else_words condition one other rest =
     sym (
-      three (condition ++ codes "{" ∷ one) (codes "}" ∷ codes "else" ∷ codes "{" ∷ other) (codes "}" ∷ []) rest
-      ∙ append_assoc condition (codes "{" ∷ one) (codes "}" ∷ codes "else" ∷ codes "{" ∷ (other ++ codes "}" ∷ rest))
+    three (condition ++ codes "{" ∷ one) (codes "}" ∷ codes "else" ∷ codes "{" ∷ other) (codes "}" ∷ []) rest
+    ∙ append_assoc condition (codes "{" ∷ one) (codes "}" ∷ codes "else" ∷ codes "{" ∷ (other ++ codes "}" ∷ rest))
     )
 
 choice_frame : (block : Reader) → ReadsBlocks block → (w : List ℕ) (ts : Tokens) (x : Tree × Tokens) → w ≡ codes "if"
@@ -173,12 +171,11 @@ choice_frame block all w ts x h e =
     by c a b q few p (inl (empty, is)) =
         subst (λ z. FrameStands (w ∷ ts) (choose c.0 a.0 z, b.1)) empty
         (codes "if" ∷ q.0 ++ codes "{" ∷ p.0 ++ codes "}" ∷ [], begun h (over q.0 q.1 (p.1 ∙ ap (λ z. codes "{" ∷ p.0 ++ codes "}" ∷ z) is) ∙ if_words q.0 p.0 b.1), rule.choice q.2 few p.2)
-    by c a b q few p (inr (us, is, o)) =
-        (
-          codes "if" ∷ q.0 ++ codes "{" ∷ p.0 ++ codes "}" ∷ codes "else" ∷ codes "{" ∷ o.0 ++ codes "}" ∷ [],
-          begun h (over q.0 q.1 (p.1 ∙ ap (λ z. codes "{" ∷ p.0 ++ codes "}" ∷ z) (behind is o.1)) ∙ else_words q.0 p.0 o.0 b.1),
-          rule.choice_else q.2 few p.2 o.2,
-        )
+    by c a b q few p (inr (us, is, o)) = (
+      codes "if" ∷ q.0 ++ codes "{" ∷ p.0 ++ codes "}" ∷ codes "else" ∷ codes "{" ∷ o.0 ++ codes "}" ∷ [],
+      begun h (over q.0 q.1 (p.1 ∙ ap (λ z. codes "{" ∷ p.0 ++ codes "}" ∷ z) (behind is o.1)) ∙ else_words q.0 p.0 o.0 b.1),
+      rule.choice_else q.2 few p.2 o.2,
+    )
 
 -- a name in front of the rest
 abbrev pub LabelStands : Tokens → List ℕ × Tokens → Type 0

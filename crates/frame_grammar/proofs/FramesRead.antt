@@ -1,22 +1,18 @@
 -- What the rules derive as frames is read.
-use Rattle.std.proofs.Common.{◌≡◌, ℕ, zero, suc, ◌+◌, ◌*◌, ◌<◌, ◌≤◌, max, Bool, true, false, cond, List, [], ◌∷◌, ◌++◌, length, Result, Ok, Err, refl, sym, ap, ◌∙◌, subst, append_assoc, arith}
-use Rattle.std.specs.Prelude.{codes, nat_le}
+use Rattle.std.proofs.Common.{◌≡◌, ℕ, zero, suc, ◌*◌, ◌≤◌, true, false, List, [], ◌∷◌, ◌++◌, length, Ok, refl, sym, ap, ◌∙◌, subst, append_assoc, arith}
+use Rattle.std.specs.Prelude.{codes}
 use Rattle.std.proofs.lemmas.Bool.{le-leb}
 use Rattle.std.proofs.lemmas.List.{length-append}
-use Rattle.frame_tree.specs.Tree.{Condition, Tree, send, retry, gap, repeat, choose, until, timed, nothing, chained, call}
+use Rattle.frame_tree.specs.Tree.{Condition, Tree, repeat, choose, until, timed, nothing, chained, call}
 use Rattle.frame_tree.specs.Bounds.{depth_in, CallsKnown, IsCondition}
 use Rattle.frame_tree.specs.Names.{is_name, Scope, named, is_known}
-use Rattle.frame_text.specs.Reading.{Tokens, Reading, ◌>>=◌, same, misplaced, past}
-use Rattle.frame_text.specs.Words.{number_within, period_at}
-use Rattle.frame_text.specs.Messages.{send_at}
-use Rattle.frame_text.specs.Conditions.{condition_at}
+use Rattle.frame_text.specs.Reading.{Tokens, ◌>>=◌, same, past}
 use Rattle.frame_text.specs.Frames.{Reader, frame_at, frame_from, frame_of, frame_word, frames_at, block_at, block_from, inner_at, else_at, label_at, call_at, repeat_at, timed_at, until_at, choice_at}
 use Rattle.frame_text.proofs.PrintedForms.{MayFollow}
 use Rattle.frame_text.proofs.Scripts.{frames_on}
 use Rattle.frame_grammar.specs.Words.{SpellsWithin}
 use Rattle.frame_grammar.specs.Conditions.{SpellCondition}
 use Rattle.frame_grammar.specs.Frames.{SpellFrame as rule, SpellFrames}
-use Rattle.frame_grammar.proofs.Pieces.{three}
 use Rattle.frame_grammar.proofs.Words.{within_read, period_read}
 use Rattle.frame_grammar.proofs.Conditions.{condition_read}
 use Rattle.frame_grammar.proofs.Messages.{send_read}
@@ -131,13 +127,13 @@ mutual
   frame_read (rule.repeat {number = number} {body = body} {n = n} {b = b} k p) ds (suc d) w l rest f =
       repeat_read (block_at ds (suc d)) number n body b k (block_read ds d body b (frames_read p ds d w (omega (arith, l)))) rest
   frame_read (rule.choice c o p) ds zero w l rest f = absurd (omega (arith, l))
-  frame_read (rule.choice {condition = condition} {one = one} {c = c} {a = a} q o p) ds (suc d) w l rest f =
+  frame_read (rule.choice {cond = condition} {one = one} {c = c} {a = a} q o p) ds (suc d) w l rest f =
       choice_read (block_at ds (suc d)) condition one c a q o (block_read ds d one a (frames_read p ds d w.0 (omega (arith, l)))) rest f
   frame_read (rule.choice_else c o p q) ds zero w l rest f = absurd (omega (arith, l))
-  frame_read (rule.choice_else {condition = condition} {one = one} {other = other} {c = c} {a = a} {b = b} k o p q) ds (suc d) w l rest f =
+  frame_read (rule.choice_else {cond = condition} {one = one} {other = other} {c = c} {a = a} {b = b} k o p q) ds (suc d) w l rest f =
       choice_else_read (block_at ds (suc d)) condition one other c a b k o (block_read ds d one a (frames_read p ds d w.0 (omega (arith, l)))) (block_read ds d other b (frames_read q ds d w.1 (omega (arith, l)))) rest
   frame_read (rule.until c o k p) ds zero w l rest f = absurd (omega (arith, l))
-  frame_read (rule.until {condition = condition} {body = body} {number = number} {c = c} {n = n} {b = b} q o k p) ds (suc d) w l rest f =
+  frame_read (rule.until {cond = condition} {body = body} {number = number} {c = c} {n = n} {b = b} q o k p) ds (suc d) w l rest f =
       until_read (block_at ds (suc d)) condition body number c n b q o k (block_read ds d body b (frames_read p ds d w (omega (arith, l)))) rest
   frame_read (rule.timed k p) ds zero w l rest f = absurd (omega (arith, l))
   frame_read (rule.timed {number = number} {body = body} {h = h} {b = b} k p) ds (suc d) w l rest f =

@@ -1,6 +1,6 @@
 -- What is read as a message is what the rules derive.
-use Rattle.std.proofs.Common.{◌≡◌, ℕ, ◌<◌, ◌≤◌, Bool, true, false, cond, List, [], ◌∷◌, ◌++◌, length, Option, Some, None, Result, Ok, Err, refl, sym, ap, ◌∙◌, subst, arith}
-use Rattle.std.specs.Prelude.{codes, nat_le, ◌==◌, ◌&&◌, ◌||◌}
+use Rattle.std.proofs.Common.{◌≡◌, ℕ, ◌≤◌, Bool, true, false, cond, List, [], ◌∷◌, ◌++◌, length, Option, Some, None, Result, Ok, Err, refl, sym, ap, ◌∙◌, subst, arith}
+use Rattle.std.specs.Prelude.{codes, nat_le, ◌==◌, ◌||◌}
 use Rattle.std.proofs.lemmas.Bool.{leb-true, eqb-true}
 use Rattle.std.proofs.lemmas.List.{append-nil}
 use Rattle.mil_word.specs.declared.Line.{Line}
@@ -14,14 +14,14 @@ use Rattle.mil_message.specs.Request.{Request, to_terminal, from_terminal, betwe
 use Rattle.mil_message.specs.Rules.{checked, rules, first_fault, is_address, is_subaddress, is_count, is_code_alone, is_code_from, is_code_to}
 use Rattle.mil_message.proofs.Checked.{request_of-checked, lawful-checked, second_met, third_met}
 use Rattle.frame_text.specs.Tokens.{tokens}
-use Rattle.frame_text.specs.Reading.{Tokens, Reading, ◌>>=◌, same, misplaced, to_the_end}
+use Rattle.frame_text.specs.Reading.{Tokens, ◌>>=◌, same, misplaced, to_the_end}
 use Rattle.frame_text.specs.Words.{number_at, bracketed_at, optional_at}
 use Rattle.frame_text.specs.Messages.{line_at, message_at, message_of, message_word, made, judged, send_at, send_of_text, receive_at, transmit_at, transfer_at, mode_at, receive_all_at, transfer_all_at, mode_all_at}
 use Rattle.frame_text.specs.declared.keywords.MessageWord.{MessageWord}
 use Rattle.frame_text.specs.declared.keywords.MessageWord.TheVariants as word
 use Rattle.frame_text.proofs.Soundness.{bind_ok, ok_is}
 use Rattle.frame_text.proofs.PrintedForms.{MayFollow}
-use Rattle.frame_grammar.specs.Words.{SpellsNumber, SpellWords, MaySpellWords}
+use Rattle.frame_grammar.specs.Words.{SpellsNumber, MaySpellWords}
 use Rattle.frame_grammar.specs.Messages.{SpellsLine, SpellMessage as rule, SpellSend, HasSend}
 use Rattle.frame_grammar.specs.Laws.{SendsAreDerived}
 use Rattle.frame_grammar.proofs.Pieces.{both_hold, same_is, of_choice, end_ok, begun, behind, over}
@@ -327,6 +327,7 @@ sends_derived text x = (forth, back)
         let p = send_stands (tokens text) y.0 y.1 in
         let all : p.0 ≡ tokens text = sym (over p.0 p.1 z.1 ∙ append-nil p.0) in
         subst (HasSend text) z.0 (subst (λ u. SpellSend u y.0.0.0 y.0.0.1) all p.2)
+
     back : HasSend text x → send_of_text text ≡ Ok x
     back h =
         ap (λ ts. send_at ts >>= (λ read. to_the_end read)) (sym (append-nil (tokens text)))

@@ -1,27 +1,26 @@
 -- What is read as a script is what the rules derive, within the limits.
-use Rattle.std.proofs.Common.{◌≡◌, ℕ, zero, suc, ◌+◌, ◌-◌, ◌≤◌, max, Bool, true, false, cond, List, [], ◌∷◌, ◌++◌, length, Result, Ok, Err, refl, sym, ap, ◌∙◌, subst, append_assoc, arith}
+use Rattle.std.proofs.Common.{◌≡◌, ℕ, zero, suc, ◌+◌, ◌-◌, ◌≤◌, Bool, true, false, cond, List, [], ◌∷◌, ◌++◌, length, Ok, Err, refl, sym, ap, ◌∙◌, subst, arith}
 use Rattle.std.specs.Prelude.{codes, nat_le, ◌||◌}
 use Rattle.std.proofs.lemmas.Bool.{le-leb, leb-true}
 use Rattle.std.proofs.lemmas.List.{append-nil, length-append}
 use Rattle.frame_tree.specs.Tree.{Tree, send, retry, gap, repeat, choose, until, timed, nothing, chained, call, define}
-use Rattle.frame_tree.specs.Bounds.{depth_in, worst_messages, CallsKnown, IsDefined, IsSound}
+use Rattle.frame_tree.specs.Bounds.{depth_in, worst_messages, CallsKnown, IsDefined}
 use Rattle.frame_tree.specs.Names as names
 use Rattle.frame_tree.specs.Names.{is_name, Scope, is_known}
 use Rattle.frame_text.specs.Tokens.{tokens}
-use Rattle.frame_text.specs.Reading.{Tokens, Reading, ◌>>=◌, same}
-use Rattle.frame_text.specs.Frames.{frame_at, main_at, label_at, fresh, fresh_name_at, definition_at, block_at, script_at, bounded, tree_of_text}
-use Rattle.frame_text.specs.declared.faults.Cause.{Cause}
+use Rattle.frame_text.specs.Reading.{Tokens, ◌>>=◌, same}
+use Rattle.frame_text.specs.Frames.{frame_at, main_at, label_at, fresh_name_at, definition_at, block_at, script_at, tree_of_text}
 use Rattle.frame_text.specs.declared.faults.Cause.TheVariants as cause
 use Rattle.frame_text.proofs.Soundness.{bind_ok, ok_is, script_is_sound}
 use Rattle.frame_text.proofs.PrintedForms.{MayFollow}
 use Rattle.frame_text.proofs.Scripts.{main_on, no_definition, defines}
-use Rattle.frame_grammar.specs.Frames.{SpellFrame, SpellFrames}
+use Rattle.frame_grammar.specs.Frames.{SpellFrames}
 use Rattle.frame_grammar.specs.Scripts.{SpellScript, HasTree}
-use Rattle.frame_grammar.specs.Laws.{ScriptsAreDerived}
-use Rattle.frame_grammar.proofs.Pieces.{same_is, begun, behind, over}
+use Rattle.frame_grammar.specs.Laws.{ScriptsAreDerived, OneTree}
+use Rattle.frame_grammar.proofs.Pieces.{same_is, begun, behind}
 use Rattle.frame_grammar.proofs.Words.{guarded}
 use Rattle.frame_grammar.proofs.Frames.{one_stands, block_stands, label_stands}
-use Rattle.frame_grammar.proofs.FramesRead.{Begins, begins, follows, frame_read, frames_read, block_read}
+use Rattle.frame_grammar.proofs.FramesRead.{begins, follows, frame_read, frames_read, block_read}
 
 -- frames up to the end
 main_stands : (ds : Scope ℕ) (n : ℕ) (ts : Tokens) (t : Tree) → main_at ds n ts ≡ Ok t → SpellFrames ts t
@@ -146,5 +145,9 @@ scripts_derived text t = (forth, back)
         let few = leb-true (worst_messages u.0) 1000000 k.0 in
         let sound = script_is_sound (tokens text) u.0 u.1 few in
         subst (HasTree text) k.1 (record { spelled = script_stands 32 [] (tokens text) u.0 u.1; shallow = sound.shallow; defined = sound.defined; bounded = few })
+
     back : HasTree text t → tree_of_text text ≡ Ok t
     back h = rw (script_read h.spelled 32 [] [] (λ n. refl) (omega arith) h.defined h.shallow, le-leb (worst_messages t) 1000000 h.bounded) refl
+
+pub one_tree : OneTree
+one_tree text t u h k = ok_is t u (sym ((scripts_derived text t).1 h) ∙ (scripts_derived text u).1 k)

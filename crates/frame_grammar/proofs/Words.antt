@@ -1,11 +1,11 @@
 -- What is read as numbers and data words is what the rules derive.
-use Rattle.std.proofs.Common.{◌≡◌, ℕ, zero, suc, ◌*◌, ◌/◌, ◌%◌, ◌<◌, ◌≤◌, Bool, true, false, cond, List, [], ◌∷◌, ◌++◌, length, take, Option, Some, None, Result, Ok, Err, refl, sym, ap, ◌∙◌, subst, append_assoc, arith}
+use Rattle.std.proofs.Common.{◌≡◌, ℕ, zero, suc, ◌*◌, ◌/◌, ◌%◌, ◌<◌, ◌≤◌, Bool, true, false, cond, List, [], ◌∷◌, ◌++◌, length, take, Option, Some, None, Ok, Err, refl, sym, ap, ◌∙◌, subst, append_assoc, arith}
 use Rattle.std.specs.Prelude.{codes, nat_eq, nat_le, ◌&&◌}
 use Rattle.std.proofs.lemmas.Bool.{le-leb, eqb-true}
 use Rattle.std.proofs.lemmas.List.{take_all}
 use Rattle.numerals.specs.Numerals as numerals
-use Rattle.frame_text.specs.Reading.{Tokens, Reading, ◌>>=◌, same, past}
-use Rattle.frame_text.specs.Words.{number_at, number_of, number_within, period_at, hundreds_of, words_at, counted, bracketed_at, optional_at, spelled, unspelled, data_word_of}
+use Rattle.frame_text.specs.Reading.{Tokens, ◌>>=◌, same, past}
+use Rattle.frame_text.specs.Words.{number_at, number_of, number_within, period_at, words_at, counted, bracketed_at, optional_at, spelled, data_word_of}
 use Rattle.frame_text.specs.declared.faults.Cause.{Cause}
 use Rattle.frame_text.specs.declared.faults.Cause.TheVariants as cause
 use Rattle.frame_text.proofs.Soundness.{bind_ok, ok_is, both_true}
@@ -86,6 +86,7 @@ data_words_stand (w ∷ ts) x e = by (same w (codes "]")) refl (λ y i. data_wor
         let p = below r.0 r.1 in
         subst (DataWordsStand (w ∷ ts)) (ok_is (n ∷ r.0.0, r.0.1) x r.2) (w ∷ p.0, ap (λ z. w ∷ z) p.1, SpellDataWords.more h p.2)
     one None h below i = absurd (cc)
+
     by : (b : Bool) → same w (codes "]") ≡ b → ((y : List ℕ × Tokens) → words_at ts ≡ Ok y → DataWordsStand ts y) → cond b (Ok ([], ts)) (spelled w (data_word_of w) >>= (λ n. words_at ts >>= (λ ns. Ok (n ∷ ns.0, ns.1)))) ≡ Ok x → DataWordsStand (w ∷ ts) x
     by true h below i = subst (DataWordsStand (w ∷ ts)) (ok_is ([], ts) x i) ([], ap (λ z. z ∷ ts) (same_is w (codes "]") h), SpellDataWords.none)
     by false h below i = one (data_word_of w) refl below i
@@ -108,8 +109,7 @@ counted_stand w ts x h e few =
     let cut : take 33 r.0.0 ≡ x.0 = ap (λ z. z.0) same in
     let short : length (take 33 r.0.0) ≤ 32 = subst (λ z. length z ≤ 32) (sym cut) few in
     let whole : r.0.0 ≡ x.0 = sym (uncut 33 r.0.0 (omega (arith, short))) ∙ cut in
-    let rest : r.0.1 ≡ x.1 = ap (λ z. z.1) same in
-    (
+    let rest : r.0.1 ≡ x.1 = ap (λ z. z.1) same in (
       codes "[" ∷ p.0 ++ codes "]" ∷ [],
       begun h (p.1 ∙ ap (λ z. p.0 ++ codes "]" ∷ z) rest ∙ sym (append_assoc p.0 (codes "]" ∷ []) x.1)),
       SpellWords.bracketed (subst (SpellDataWords p.0) whole p.2),

@@ -1,4 +1,4 @@
--- The frames of the grammar of scripts, a rule for each of its lines (own choice).
+-- The frames of the grammar of scripts (own choice).
 use Rattle.std.specs.Prelude.{◌≡◌, ℕ, ◌*◌, true, List, [], ◌∷◌, ◌++◌, codes}
 use Rattle.mil_word.specs.declared.Line.{Line}
 use Rattle.mil_message.specs.declared.forms.Form.{Form}
@@ -12,25 +12,43 @@ use Rattle.frame_grammar.specs.Messages.{SpellSend}
 use Rattle.frame_grammar.specs.Conditions.{SpellCondition}
 
 mutual
-  -- frame: a condition has at most 16 operators above a test; a period is written in µs, and kept in hundreds of them
+  -- frame: at most 16 operators stand above a test of its condition; its period is written in µs, and kept in hundreds
   pub data SpellFrame : Tokens → Tree → Type 0 where
-    send : {message : Tokens} {l : Line} {m : Form} → SpellSend message l m → SpellFrame (codes "send" ∷ message) (tree.send l m)
-    retry : {number : List ℕ} {message : Tokens} {n : ℕ} {l : Line} {m : Form} → SpellsWithin 1 8 number n → SpellSend message l m
+    send : {message : Tokens} {l : Line} {m : Form}
+        → SpellSend message l m
+        → SpellFrame (codes "send" ∷ message) (tree.send l m)
+    retry : {number : List ℕ} {message : Tokens} {n : ℕ} {l : Line} {m : Form}
+        → SpellsWithin 1 8 number n → SpellSend message l m
         → SpellFrame (codes "retry" ∷ number ∷ codes "send" ∷ message) (tree.retry n l m)
-    gap : {number : List ℕ} {n : ℕ} → SpellsWithin 40 65535 number n → SpellFrame (codes "gap" ∷ number ∷ []) (tree.gap n)
-    repeat : {number : List ℕ} {body : Tokens} {n : ℕ} {b : Tree} → SpellsWithin 1 10000 number n → SpellFrames body b
+    gap : {number : List ℕ} {n : ℕ}
+        → SpellsWithin 40 65535 number n
+        → SpellFrame (codes "gap" ∷ number ∷ []) (tree.gap n)
+    repeat : {number : List ℕ} {body : Tokens} {n : ℕ} {b : Tree}
+        → SpellsWithin 1 10000 number n → SpellFrames body b
         → SpellFrame (codes "repeat" ∷ number ∷ codes "{" ∷ body ++ codes "}" ∷ []) (tree.repeat n b)
-    choice : {condition one : Tokens} {c : Condition} {a : Tree} → SpellCondition condition c → IsCondition c → SpellFrames one a
-        → SpellFrame (codes "if" ∷ condition ++ codes "{" ∷ one ++ codes "}" ∷ []) (tree.choose c a nothing)
-    choice_else : {condition one other : Tokens} {c : Condition} {a b : Tree} → SpellCondition condition c → IsCondition c → SpellFrames one a → SpellFrames other b
-        → SpellFrame (codes "if" ∷ condition ++ codes "{" ∷ one ++ codes "}" ∷ codes "else" ∷ codes "{" ∷ other ++ codes "}" ∷ []) (tree.choose c a b)
-    until : {condition body : Tokens} {number : List ℕ} {c : Condition} {n : ℕ} {b : Tree} → SpellCondition condition c → IsCondition c → SpellsWithin 1 10000 number n → SpellFrames body b
-        → SpellFrame (codes "until" ∷ condition ++ codes "at" ∷ codes "most" ∷ number ∷ codes "{" ∷ body ++ codes "}" ∷ []) (tree.until c n b)
-    timed : {number : List ℕ} {body : Tokens} {h : ℕ} {b : Tree} → SpellsWithin 100 6553500 number (h * 100) → SpellFrames body b
+    choice : {cond one : Tokens} {c : Condition} {a : Tree}
+        → SpellCondition cond c → IsCondition c → SpellFrames one a
+        → SpellFrame (codes "if" ∷ cond ++ codes "{" ∷ one ++ codes "}" ∷ []) (tree.choose c a nothing)
+    choice_else : {cond one other : Tokens} {c : Condition} {a b : Tree}
+        → SpellCondition cond c → IsCondition c → SpellFrames one a → SpellFrames other b
+        → SpellFrame
+        (codes "if" ∷ cond ++ codes "{" ∷ one ++ codes "}" ∷ codes "else" ∷ codes "{" ∷ other ++ codes "}" ∷ [])
+        (tree.choose c a b)
+    until : {cond body : Tokens} {number : List ℕ} {c : Condition} {n : ℕ} {b : Tree}
+        → SpellCondition cond c → IsCondition c → SpellsWithin 1 10000 number n → SpellFrames body b
+        → SpellFrame
+        (codes "until" ∷ cond ++ codes "at" ∷ codes "most" ∷ number ∷ codes "{" ∷ body ++ codes "}" ∷ [])
+        (tree.until c n b)
+    timed : {number : List ℕ} {body : Tokens} {h : ℕ} {b : Tree}
+        → SpellsWithin 100 6553500 number (h * 100) → SpellFrames body b
         → SpellFrame (codes "frame" ∷ number ∷ codes "{" ∷ body ++ codes "}" ∷ []) (tree.timed h b)
-    call : {label : List ℕ} → is_name label ≡ true → SpellFrame (codes "call" ∷ label ∷ []) (tree.call label)
+    call : {label : List ℕ}
+        → is_name label ≡ true
+        → SpellFrame (codes "call" ∷ label ∷ []) (tree.call label)
 
   -- frame*
   pub data SpellFrames : Tokens → Tree → Type 0 where
     none : SpellFrames [] nothing
-    more : {frame frames : Tokens} {a b : Tree} → SpellFrame frame a → SpellFrames frames b → SpellFrames (frame ++ frames) (chained a b)
+    more : {frame frames : Tokens} {a b : Tree}
+        → SpellFrame frame a → SpellFrames frames b
+        → SpellFrames (frame ++ frames) (chained a b)

@@ -10,7 +10,7 @@ use Rattle.frame_grammar.specs.Messages.{HasSend}
 use Rattle.frame_grammar.specs.Conditions.{HasCondition}
 use Rattle.frame_grammar.specs.Scripts.{HasTree}
 
--- a text is read as a tree where the rules derive it, and nowhere else
+-- a tree is read of a text where the rules derive it, and nowhere else
 abbrev pub ScriptsAreDerived : Type 0
 ScriptsAreDerived = (text : List ℕ) (t : Tree) → (tree_of_text text ≡ Ok t) ↔ HasTree text t
 
@@ -21,3 +21,7 @@ ConditionsAreDerived = (text : List ℕ) (c : Condition) → (condition_of_text 
 -- the same of a line and a message
 abbrev pub SendsAreDerived : Type 0
 SendsAreDerived = (text : List ℕ) (x : Line × Form) → (send_of_text text ≡ Ok x) ↔ HasSend text x
+
+-- the rules derive at most one tree for a text
+abbrev pub OneTree : Type 0
+OneTree = (text : List ℕ) (t u : Tree) → HasTree text t → HasTree text u → t ≡ u

@@ -10,15 +10,17 @@ use Rattle.frame_grammar.specs.Frames.{SpellFrames}
 
 -- script
 pub data SpellScript : Tokens → Tree → Type 0 where
-  define : {label : List ℕ} {body script : Tokens} {b r : Tree} → is_name label ≡ true → SpellFrames body b → SpellScript script r
+  define : {label : List ℕ} {body script : Tokens} {b r : Tree}
+      → is_name label ≡ true → SpellFrames body b → SpellScript script r
       → SpellScript (codes "define" ∷ label ∷ codes "{" ∷ body ++ codes "}" ∷ script) (tree.define label b r)
   main : {frames : Tokens} {t : Tree} → SpellFrames frames t → SpellScript frames t
 
--- The tree of a text: its tokens spell it. At most 16 blocks stand in one another, where a call counts as the blocks of its
--- definition. There are at most 32 definitions, with distinct names, and each call names one that stands above. At worst
--- 1,000,000 messages are sent.
+-- the tree of a whole text
 pub record HasTree (text : List ℕ) (t : Tree) : Type 0 where
   pub spelled : SpellScript (tokens text) t
+  -- at most 16 blocks stand in one another; a call counts as the blocks of its definition, whose own braces are none
   pub shallow : depth t ≤ 16
+  -- there are at most 32 definitions, each with a name of its own, and each call names one that stands above
   pub defined : IsDefined [] t
+  -- at worst so many messages are sent
   pub bounded : worst_messages t ≤ 1000000

@@ -3,7 +3,7 @@ use Rattle.std.specs.Prelude.{◌≡◌, ℕ, ◌≤◌, List, [], ◌∷◌, �
 use Rattle.frame_text.specs.Reading.{Tokens}
 use Rattle.frame_text.specs.Words.{number_of, data_word_of}
 
--- a word of one to seven digits, and its number
+-- number: a word of one to seven digits
 abbrev pub SpellsNumber : List ℕ → ℕ → Type 0
 SpellsNumber word n = number_of word ≡ Some n
 
@@ -13,15 +13,18 @@ pub record SpellsWithin (low high : ℕ) (word : List ℕ) (n : ℕ) : Type 0 wh
   pub not_under : low ≤ n
   pub not_over : n ≤ high
 
--- dataword*: each of four hexadecimal digits
+-- dataword*: each is a word of four hexadecimal digits
 pub data SpellDataWords : Tokens → List ℕ → Type 0 where
   none : SpellDataWords [] []
-  more : {word : List ℕ} {words : Tokens} {n : ℕ} {ns : List ℕ} → data_word_of word ≡ Some n → SpellDataWords words ns
+  more : {word : List ℕ} {words : Tokens} {n : ℕ} {ns : List ℕ}
+      → data_word_of word ≡ Some n → SpellDataWords words ns
       → SpellDataWords (word ∷ words) (n ∷ ns)
 
 -- words
 pub data SpellWords : Tokens → List ℕ → Type 0 where
-  bracketed : {words : Tokens} {ns : List ℕ} → SpellDataWords words ns → SpellWords (codes "[" ∷ words ++ codes "]" ∷ []) ns
+  bracketed : {words : Tokens} {ns : List ℕ}
+      → SpellDataWords words ns
+      → SpellWords (codes "[" ∷ words ++ codes "]" ∷ []) ns
 
 -- [ words ]
 pub data MaySpellWords : Tokens → Option (List ℕ) → Type 0 where

@@ -1,4 +1,4 @@
-//! The grammar of scripts as rules, and the laws that `frame_text` reads what they derive and nothing else (own choice).
+//! The grammar of scripts as rules, and the laws that what is read of a text is what they derive (own choice).
 #![tactic(auto)]
 
 pub mod laws;
