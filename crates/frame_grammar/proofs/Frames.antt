@@ -14,6 +14,7 @@ use Rattle.frame_text.specs.declared.faults.Cause.TheVariants as cause
 use Rattle.frame_text.specs.declared.keywords.FrameWord.{FrameWord}
 use Rattle.frame_text.specs.declared.keywords.FrameWord.TheVariants as word
 use Rattle.frame_text.proofs.Soundness.{bind_ok, ok_is, condition_ok}
+use Rattle.frame_grammar.specs.Words.{braces}
 use Rattle.frame_grammar.specs.Frames.{SpellFrame as rule, SpellFrames}
 use Rattle.frame_grammar.proofs.Pieces.{same_is, of_choice, past_ok, three, begun, behind, over}
 use Rattle.frame_grammar.proofs.Words.{within_stands, period_stands, guarded}
@@ -64,11 +65,11 @@ stands w =
     (of_choice P (same w (codes "call")) _ word.NoFrame (same_is w (codes "call")) tt)))))))
 
 -- what stands behind braces may as well stand behind their inside
-pub braced : (body rest : Tokens) → codes "{" ∷ body ++ codes "}" ∷ [] ++ rest ≡ codes "{" ∷ body ++ codes "}" ∷ rest
+pub braced : (body rest : Tokens) → braces body ++ rest ≡ codes "{" ∷ body ++ codes "}" ∷ rest
 braced body rest = ap (λ z. codes "{" ∷ z) (append_assoc body (codes "}" ∷ []) rest)
 
 -- a block in front of the rest, braces and all
-in_braces : (ts body rest : Tokens) → ts ≡ codes "{" ∷ body ++ codes "}" ∷ rest → ts ≡ codes "{" ∷ body ++ codes "}" ∷ [] ++ rest
+in_braces : (ts body rest : Tokens) → ts ≡ codes "{" ∷ body ++ codes "}" ∷ rest → ts ≡ braces body ++ rest
 in_braces ts body rest e = e ∙ sym (braced body rest)
 
 send_frame : (w : List ℕ) (ts : Tokens) (x : Tree × Tokens) → w ≡ codes "send" → (send_at ts >>= (λ m. Ok (send m.0.0 m.0.1, m.1))) ≡ Ok x → FrameStands (w ∷ ts) x
@@ -100,7 +101,7 @@ repeat_frame block all w ts x h e =
     let k = within_stands 1 10000 ts n.0 n.1 in
     let p = all n.0.1 b.0 b.1 in
     subst (FrameStands (w ∷ ts)) (ok_is _ x b.2)
-    (codes "repeat" ∷ k.0 ∷ codes "{" ∷ p.0 ++ codes "}" ∷ [], begun h (behind k.1 (in_braces n.0.1 p.0 b.0.1 p.1)), rule.repeat k.2 p.2)
+    (codes "repeat" ∷ k.0 ∷ braces p.0, begun h (behind k.1 (in_braces n.0.1 p.0 b.0.1 p.1)), rule.repeat k.2 p.2)
 
 timed_frame : (block : Reader) → ReadsBlocks block → (w : List ℕ) (ts : Tokens) (x : Tree × Tokens) → w ≡ codes "frame" → (period_at ts >>= (λ n. block n.1 >>= (λ b. Ok (timed n.0 b.0, b.1)))) ≡ Ok x → FrameStands (w ∷ ts) x
 timed_frame block all w ts x h e =
@@ -109,12 +110,12 @@ timed_frame block all w ts x h e =
     let k = period_stands ts n.0 n.1 in
     let p = all n.0.1 b.0 b.1 in
     subst (FrameStands (w ∷ ts)) (ok_is _ x b.2)
-    (codes "frame" ∷ k.0 ∷ codes "{" ∷ p.0 ++ codes "}" ∷ [], begun h (behind k.1 (in_braces n.0.1 p.0 b.0.1 p.1)), rule.timed k.2 p.2)
+    (codes "frame" ∷ k.0 ∷ braces p.0, begun h (behind k.1 (in_braces n.0.1 p.0 b.0.1 p.1)), rule.timed k.2 p.2)
 
 -- the words of an until, in front of the rest
 pub until_words : (condition body rest : Tokens) (number : List ℕ)
-    → condition ++ (codes "at" ∷ codes "most" ∷ number ∷ codes "{" ∷ body ++ codes "}" ∷ rest) ≡ condition ++ codes "at" ∷ codes "most" ∷ number ∷ codes "{" ∷ body ++ codes "}" ∷ [] ++ rest
-until_words condition body rest number = sym (three condition (codes "at" ∷ codes "most" ∷ number ∷ codes "{" ∷ body) (codes "}" ∷ []) rest)
+    → condition ++ (codes "at" ∷ codes "most" ∷ number ∷ codes "{" ∷ body ++ codes "}" ∷ rest) ≡ condition ++ codes "at" ∷ codes "most" ∷ number ∷ braces body ++ rest
+until_words condition body rest number = sym (append_assoc condition (codes "at" ∷ codes "most" ∷ number ∷ braces body) rest ∙ ap (λ z. condition ++ codes "at" ∷ codes "most" ∷ number ∷ z) (braced body rest))
 
 until_frame : (block : Reader) → ReadsBlocks block → (w : List ℕ) (ts : Tokens) (x : Tree × Tokens) → w ≡ codes "until"
     → (condition_at 16 ts >>= (λ c. past (codes "at") c.1 >>= (λ us. past (codes "most") us >>= (λ vs. number_within 1 10000 vs >>= (λ n. block n.1 >>= (λ b. Ok (until c.0 n.0 b.0, b.1))))))) ≡ Ok x → FrameStands (w ∷ ts) x
@@ -129,7 +130,7 @@ until_frame block all w ts x h e =
     let p = all n.0.1 b.0 b.1 in
     let tail = behind (past_ok (codes "at") c.0.1 u.0 u.1) (behind (past_ok (codes "most") u.0 v.0 v.1) (behind k.1 p.1)) in
     subst (FrameStands (w ∷ ts)) (ok_is _ x b.2) (
-      codes "until" ∷ q.0 ++ codes "at" ∷ codes "most" ∷ k.0 ∷ codes "{" ∷ p.0 ++ codes "}" ∷ [],
+      codes "until" ∷ q.0 ++ codes "at" ∷ codes "most" ∷ k.0 ∷ braces p.0,
       begun h (over q.0 q.1 tail ∙ until_words q.0 p.0 b.0.1 k.0),
       rule.until q.2 (condition_ok 16 ts c.0 c.1) k.2 p.2,
     )
@@ -148,16 +149,14 @@ else_stands block all (w ∷ ts) x e = by (same w (codes "else")) refl e
     by false h i = let g : (nothing, w ∷ ts) ≡ x = ok_is (nothing, w ∷ ts) x i in inl (ap (λ z. z.0) g, ap (λ z. z.1) g)
 
 -- the words of an if, in front of the rest
-pub if_words : (condition one rest : Tokens) → condition ++ (codes "{" ∷ one ++ codes "}" ∷ rest) ≡ condition ++ codes "{" ∷ one ++ codes "}" ∷ [] ++ rest
-if_words condition one rest = sym (three condition (codes "{" ∷ one) (codes "}" ∷ []) rest)
+pub if_words : (condition one rest : Tokens) → condition ++ (codes "{" ∷ one ++ codes "}" ∷ rest) ≡ condition ++ braces one ++ rest
+if_words condition one rest = sym (append_assoc condition (braces one) rest ∙ ap (λ z. condition ++ z) (braced one rest))
 
 pub else_words : (condition one other rest : Tokens)
-    → condition ++ (codes "{" ∷ one ++ codes "}" ∷ codes "else" ∷ (codes "{" ∷ other ++ codes "}" ∷ rest)) ≡ condition ++ codes "{" ∷ one ++ codes "}" ∷ codes "else" ∷ codes "{" ∷ other ++ codes "}" ∷ [] ++ rest
+    → condition ++ (codes "{" ∷ one ++ codes "}" ∷ codes "else" ∷ (codes "{" ∷ other ++ codes "}" ∷ rest)) ≡ condition ++ braces one ++ codes "else" ∷ braces other ++ rest
 else_words condition one other rest =
-    sym (
-    three (condition ++ codes "{" ∷ one) (codes "}" ∷ codes "else" ∷ codes "{" ∷ other) (codes "}" ∷ []) rest
-    ∙ append_assoc condition (codes "{" ∷ one) (codes "}" ∷ codes "else" ∷ codes "{" ∷ (other ++ codes "}" ∷ rest))
-    )
+    sym (three condition (braces one) (codes "else" ∷ braces other) rest
+    ∙ ap (λ z. condition ++ z) (braced one (codes "else" ∷ (braces other ++ rest)) ∙ ap (λ z. codes "{" ∷ one ++ codes "}" ∷ codes "else" ∷ z) (braced other rest)))
 
 choice_frame : (block : Reader) → ReadsBlocks block → (w : List ℕ) (ts : Tokens) (x : Tree × Tokens) → w ≡ codes "if"
     → (condition_at 16 ts >>= (λ c. block c.1 >>= (λ a. else_at block a.1 >>= (λ b. Ok (choose c.0 a.0 b.0, b.1))))) ≡ Ok x → FrameStands (w ∷ ts) x
@@ -170,9 +169,9 @@ choice_frame block all w ts x h e =
     by : (c : Condition × Tokens) (a b : Tree × Tokens) → Spelled ts c → IsCondition c.0 → BlockStands c.1 a → ElseStands a.1 b → FrameStands (w ∷ ts) (choose c.0 a.0 b.0, b.1)
     by c a b q few p (inl (empty, is)) =
         subst (λ z. FrameStands (w ∷ ts) (choose c.0 a.0 z, b.1)) empty
-        (codes "if" ∷ q.0 ++ codes "{" ∷ p.0 ++ codes "}" ∷ [], begun h (over q.0 q.1 (p.1 ∙ ap (λ z. codes "{" ∷ p.0 ++ codes "}" ∷ z) is) ∙ if_words q.0 p.0 b.1), rule.choice q.2 few p.2)
+        (codes "if" ∷ q.0 ++ braces p.0, begun h (over q.0 q.1 (p.1 ∙ ap (λ z. codes "{" ∷ p.0 ++ codes "}" ∷ z) is) ∙ if_words q.0 p.0 b.1), rule.choice q.2 few p.2)
     by c a b q few p (inr (us, is, o)) = (
-      codes "if" ∷ q.0 ++ codes "{" ∷ p.0 ++ codes "}" ∷ codes "else" ∷ codes "{" ∷ o.0 ++ codes "}" ∷ [],
+      codes "if" ∷ q.0 ++ braces p.0 ++ codes "else" ∷ braces o.0,
       begun h (over q.0 q.1 (p.1 ∙ ap (λ z. codes "{" ∷ p.0 ++ codes "}" ∷ z) (behind is o.1)) ∙ else_words q.0 p.0 o.0 b.1),
       rule.choice_else q.2 few p.2 o.2,
     )

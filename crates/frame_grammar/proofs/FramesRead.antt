@@ -10,7 +10,7 @@ use Rattle.frame_text.specs.Reading.{Tokens, ◌>>=◌, same, past}
 use Rattle.frame_text.specs.Frames.{Reader, frame_at, frame_from, frame_of, frame_word, frames_at, block_at, block_from, inner_at, else_at, label_at, call_at, repeat_at, timed_at, until_at, choice_at}
 use Rattle.frame_text.proofs.PrintedForms.{MayFollow}
 use Rattle.frame_text.proofs.Scripts.{frames_on}
-use Rattle.frame_grammar.specs.Words.{SpellsWithin}
+use Rattle.frame_grammar.specs.Words.{SpellsWithin, braces}
 use Rattle.frame_grammar.specs.Conditions.{SpellCondition}
 use Rattle.frame_grammar.specs.Frames.{SpellFrame as rule, SpellFrames}
 use Rattle.frame_grammar.proofs.Words.{within_read, period_read}
@@ -58,17 +58,17 @@ unfolding block_from inner_at
 block_read ds d ws t h rest = h (length (ws ++ codes "}" ∷ rest)) rest (omega arith)
 
 repeat_read : (block : Reader) (number : List ℕ) (n : ℕ) (body : Tokens) (b : Tree) → SpellsWithin 1 10000 number n → BlockRead block body b
-    → (rest : Tokens) → repeat_at block (number ∷ codes "{" ∷ body ++ codes "}" ∷ [] ++ rest) ≡ Ok (repeat n b, rest)
+    → (rest : Tokens) → repeat_at block (number ∷ braces body ++ rest) ≡ Ok (repeat n b, rest)
 repeat_read block number n body b k p rest =
     ap (λ z. repeat_at block (number ∷ z)) (braced body rest) ∙ rw (within_read k (codes "{" ∷ body ++ codes "}" ∷ rest), p rest) refl
 
 timed_read : (block : Reader) (number : List ℕ) (h : ℕ) (body : Tokens) (b : Tree) → SpellsWithin 100 6553500 number (h * 100) → BlockRead block body b
-    → (rest : Tokens) → timed_at block (number ∷ codes "{" ∷ body ++ codes "}" ∷ [] ++ rest) ≡ Ok (timed h b, rest)
+    → (rest : Tokens) → timed_at block (number ∷ braces body ++ rest) ≡ Ok (timed h b, rest)
 timed_read block number h body b k p rest =
     ap (λ z. timed_at block (number ∷ z)) (braced body rest) ∙ rw (period_read k (codes "{" ∷ body ++ codes "}" ∷ rest), p rest) refl
 
 until_read : (block : Reader) (condition body : Tokens) (number : List ℕ) (c : Condition) (n : ℕ) (b : Tree) → SpellCondition condition c → IsCondition c → SpellsWithin 1 10000 number n → BlockRead block body b
-    → (rest : Tokens) → until_at block (condition ++ codes "at" ∷ codes "most" ∷ number ∷ codes "{" ∷ body ++ codes "}" ∷ [] ++ rest) ≡ Ok (until c n b, rest)
+    → (rest : Tokens) → until_at block (condition ++ codes "at" ∷ codes "most" ∷ number ∷ braces body ++ rest) ≡ Ok (until c n b, rest)
 unfolding past
 until_read block condition body number c n b q few k p rest =
     ap (until_at block) (sym (until_words condition body rest number))
@@ -84,13 +84,13 @@ unfolding else_at
 else_read block body b p rest = p rest
 
 choice_read : (block : Reader) (condition one : Tokens) (c : Condition) (a : Tree) → SpellCondition condition c → IsCondition c → BlockRead block one a
-    → (rest : Tokens) → MayFollow rest → choice_at block (condition ++ codes "{" ∷ one ++ codes "}" ∷ [] ++ rest) ≡ Ok (choose c a nothing, rest)
+    → (rest : Tokens) → MayFollow rest → choice_at block (condition ++ braces one ++ rest) ≡ Ok (choose c a nothing, rest)
 choice_read block condition one c a q few p rest f =
     ap (choice_at block) (sym (if_words condition one rest))
     ∙ rw (condition_read q 16 few (codes "{" ∷ one ++ codes "}" ∷ rest), p rest, else_none block rest f) refl
 
 choice_else_read : (block : Reader) (condition one other : Tokens) (c : Condition) (a b : Tree) → SpellCondition condition c → IsCondition c → BlockRead block one a → BlockRead block other b
-    → (rest : Tokens) → choice_at block (condition ++ codes "{" ∷ one ++ codes "}" ∷ codes "else" ∷ codes "{" ∷ other ++ codes "}" ∷ [] ++ rest) ≡ Ok (choose c a b, rest)
+    → (rest : Tokens) → choice_at block (condition ++ braces one ++ codes "else" ∷ braces other ++ rest) ≡ Ok (choose c a b, rest)
 choice_else_read block condition one other c a b q few p o rest =
     let behind : Tokens = codes "else" ∷ (codes "{" ∷ other ++ codes "}" ∷ rest) in
     ap (choice_at block) (sym (else_words condition one other rest))

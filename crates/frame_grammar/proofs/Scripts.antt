@@ -14,12 +14,13 @@ use Rattle.frame_text.specs.declared.faults.Cause.TheVariants as cause
 use Rattle.frame_text.proofs.Soundness.{bind_ok, ok_is, script_is_sound}
 use Rattle.frame_text.proofs.PrintedForms.{MayFollow}
 use Rattle.frame_text.proofs.Scripts.{main_on, no_definition, defines}
+use Rattle.frame_grammar.specs.Words.{braces}
 use Rattle.frame_grammar.specs.Frames.{SpellFrames}
 use Rattle.frame_grammar.specs.Scripts.{SpellScript, HasTree}
 use Rattle.frame_grammar.specs.Laws.{ScriptsAreDerived, OneTree}
 use Rattle.frame_grammar.proofs.Pieces.{same_is, begun, behind}
 use Rattle.frame_grammar.proofs.Words.{guarded}
-use Rattle.frame_grammar.proofs.Frames.{one_stands, block_stands, label_stands}
+use Rattle.frame_grammar.proofs.Frames.{braced, one_stands, block_stands, label_stands}
 use Rattle.frame_grammar.proofs.FramesRead.{begins, follows, frame_read, frames_read, block_read}
 
 -- frames up to the end
@@ -36,7 +37,7 @@ main_stands ds (suc n) (w ∷ ts) t e =
 
 -- a definition in front of the rest, behind its word
 abbrev DefinitionStands : Tokens → (List ℕ × Tree) × Tokens → Type 0
-DefinitionStands ts x = (ws : Tokens) × (ts ≡ x.0.0 ∷ (codes "{" ∷ ws ++ codes "}" ∷ x.1)) × (is_name x.0.0 ≡ true) × SpellFrames ws x.0.1
+DefinitionStands ts x = (ws : Tokens) × (ts ≡ x.0.0 ∷ (braces ws ++ x.1)) × (is_name x.0.0 ≡ true) × SpellFrames ws x.0.1
 
 definition_stands : (ds : Scope ℕ) (ts : Tokens) (x : (List ℕ × Tree) × Tokens) → definition_at ds ts ≡ Ok x → DefinitionStands ts x
 definition_stands ds ts x e =
@@ -47,7 +48,7 @@ definition_stands ds ts x e =
     let same_name : m.0 ≡ n.0 = by (is_known ds m.0.0) m.0 n.0 m.2 in
     let k = subst (λ (z : List ℕ × Tokens). (ts ≡ z.0 ∷ z.1) × (is_name z.0 ≡ true)) same_name l in
     let p = block_stands ds 17 n.0.1 b.0 b.1 in
-    subst (DefinitionStands ts) (ok_is _ x b.2) (p.0, behind k.0 p.1, k.1, p.2)
+    subst (DefinitionStands ts) (ok_is _ x b.2) (p.0, behind k.0 (p.1 ∙ sym (braced p.0 b.0.1)), k.1, p.2)
   where
     by : (b : Bool) (m n : List ℕ × Tokens) → cond b (Err cause.Name) (Ok m) ≡ Ok n → m ≡ n
     by true m n i = absurd (cc)
@@ -70,7 +71,7 @@ script_stands (suc k) ds (w ∷ ts) t e = by (same w (codes "define")) refl (λ 
         let u = bind_ok (script_at k ((x.0.0.0, depth_in ds x.0.0.1) ∷ ds) x.0.1) _ t x.2 in
         let p = definition_stands ds ts x.0 x.1 in
         let all = begun (same_is w (codes "define") h) p.1 in
-        let spelled : SpellScript (codes "define" ∷ x.0.0.0 ∷ codes "{" ∷ p.0 ++ codes "}" ∷ x.0.1) (define x.0.0.0 x.0.0.1 u.0) = SpellScript.define p.2 p.3 (more ((x.0.0.0, depth_in ds x.0.0.1) ∷ ds) x.0.1 u.0 u.1) in
+        let spelled : SpellScript (codes "define" ∷ x.0.0.0 ∷ braces p.0 ++ x.0.1) (define x.0.0.0 x.0.0.1 u.0) = SpellScript.define p.2 p.3 (more ((x.0.0.0, depth_in ds x.0.0.1) ∷ ds) x.0.1 u.0 u.1) in
         subst (SpellScript (w ∷ ts)) (ok_is _ t u.2) (subst (λ z. SpellScript z (define x.0.0.0 x.0.0.1 u.0)) (sym all) spelled)
     by false h more i = SpellScript.main (main_stands ds (length (w ∷ ts)) (w ∷ ts) t i)
 
@@ -117,15 +118,15 @@ calls_known (SpellFrames.none) es w = w
 calls_known (SpellFrames.more p q) es w = w
 
 definition_read : (ds : Scope ℕ) (n : List ℕ) (body ts : Tokens) (b : Tree) → is_name n ≡ true → is_known ds n ≡ false → SpellFrames body b → CallsKnown ds b → depth_in ds b ≤ 16
-    → definition_at ds (n ∷ (codes "{" ∷ body ++ codes "}" ∷ ts)) ≡ Ok ((n, b), ts)
+    → definition_at ds (n ∷ (braces body ++ ts)) ≡ Ok ((n, b), ts)
 unfolding label_at
-definition_read ds n body ts b r f p w l = rw (r, f, block_read ds 16 body b (frames_read p ds 16 w l) ts) refl
+definition_read ds n body ts b r f p w l = ap (λ z. definition_at ds (n ∷ z)) (braced body ts) ∙ rw (r, f, block_read ds 16 body b (frames_read p ds 16 w l) ts) refl
 
 -- a whole script
 script_read : {ws : Tokens} {t : Tree} → SpellScript ws t → (k : ℕ) (ds es : Scope ℕ) → Alike ds es → length es + k ≡ 32 → IsDefined es t → depth_in ds t ≤ 16 → script_at k ds ws ≡ Ok t
 script_read (SpellScript.define i p q) zero ds es a few w l = absurd (omega (arith, few, w.0))
 script_read (SpellScript.define {label = n} {body = body} {script = rest} {b = b} {r = r} i p q) (suc k) ds es a few w l =
-    let ts : Tokens = n ∷ (codes "{" ∷ body ++ codes "}" ∷ rest) in
+    let ts : Tokens = n ∷ (braces body ++ rest) in
     let less : suc k - 1 ≡ k = omega arith in
     defines (suc k) ds (codes "define") (codes "define" ∷ ts) ts refl refl (λ e. omega (arith, e))
     ∙ ap (λ z. z >>= (λ x. script_at (suc k - 1) ((x.0.0, depth_in ds x.0.1) ∷ ds) x.1 >>= (λ t. Ok (define x.0.0 x.0.1 t)))) (definition_read ds n body rest b i (a n ∙ w.1) p (alike_known ds es a b w.2) (omega (arith, l)))

@@ -7,7 +7,7 @@ use Rattle.frame_tree.specs.Tree as tree
 use Rattle.frame_tree.specs.Names.{is_name}
 use Rattle.frame_tree.specs.Bounds.{IsCondition}
 use Rattle.frame_text.specs.Reading.{Tokens}
-use Rattle.frame_grammar.specs.Words.{SpellsWithin}
+use Rattle.frame_grammar.specs.Words.{SpellsWithin, braces}
 use Rattle.frame_grammar.specs.Messages.{SpellSend}
 use Rattle.frame_grammar.specs.Conditions.{SpellCondition}
 
@@ -25,23 +25,19 @@ mutual
         → SpellFrame (codes "gap" ∷ number ∷ []) (tree.gap n)
     repeat : {number : List ℕ} {body : Tokens} {n : ℕ} {b : Tree}
         → SpellsWithin 1 10000 number n → SpellFrames body b
-        → SpellFrame (codes "repeat" ∷ number ∷ codes "{" ∷ body ++ codes "}" ∷ []) (tree.repeat n b)
+        → SpellFrame (codes "repeat" ∷ number ∷ braces body) (tree.repeat n b)
     choice : {cond one : Tokens} {c : Condition} {a : Tree}
         → SpellCondition cond c → IsCondition c → SpellFrames one a
-        → SpellFrame (codes "if" ∷ cond ++ codes "{" ∷ one ++ codes "}" ∷ []) (tree.choose c a nothing)
+        → SpellFrame (codes "if" ∷ cond ++ braces one) (tree.choose c a nothing)
     choice_else : {cond one other : Tokens} {c : Condition} {a b : Tree}
         → SpellCondition cond c → IsCondition c → SpellFrames one a → SpellFrames other b
-        → SpellFrame
-        (codes "if" ∷ cond ++ codes "{" ∷ one ++ codes "}" ∷ codes "else" ∷ codes "{" ∷ other ++ codes "}" ∷ [])
-        (tree.choose c a b)
+        → SpellFrame (codes "if" ∷ cond ++ braces one ++ codes "else" ∷ braces other) (tree.choose c a b)
     until : {cond body : Tokens} {number : List ℕ} {c : Condition} {n : ℕ} {b : Tree}
         → SpellCondition cond c → IsCondition c → SpellsWithin 1 10000 number n → SpellFrames body b
-        → SpellFrame
-        (codes "until" ∷ cond ++ codes "at" ∷ codes "most" ∷ number ∷ codes "{" ∷ body ++ codes "}" ∷ [])
-        (tree.until c n b)
+        → SpellFrame (codes "until" ∷ cond ++ codes "at" ∷ codes "most" ∷ number ∷ braces body) (tree.until c n b)
     timed : {number : List ℕ} {body : Tokens} {h : ℕ} {b : Tree}
         → SpellsWithin 100 6553500 number (h * 100) → SpellFrames body b
-        → SpellFrame (codes "frame" ∷ number ∷ codes "{" ∷ body ++ codes "}" ∷ []) (tree.timed h b)
+        → SpellFrame (codes "frame" ∷ number ∷ braces body) (tree.timed h b)
     call : {label : List ℕ}
         → is_name label ≡ true
         → SpellFrame (codes "call" ∷ label ∷ []) (tree.call label)

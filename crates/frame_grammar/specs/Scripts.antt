@@ -6,13 +6,14 @@ use Rattle.frame_tree.specs.Names.{is_name}
 use Rattle.frame_tree.specs.Bounds.{depth, worst_messages, IsDefined}
 use Rattle.frame_text.specs.Tokens.{tokens}
 use Rattle.frame_text.specs.Reading.{Tokens}
+use Rattle.frame_grammar.specs.Words.{braces}
 use Rattle.frame_grammar.specs.Frames.{SpellFrames}
 
 -- script
 pub data SpellScript : Tokens → Tree → Type 0 where
   define : {label : List ℕ} {body script : Tokens} {b r : Tree}
       → is_name label ≡ true → SpellFrames body b → SpellScript script r
-      → SpellScript (codes "define" ∷ label ∷ codes "{" ∷ body ++ codes "}" ∷ script) (tree.define label b r)
+      → SpellScript (codes "define" ∷ label ∷ braces body ++ script) (tree.define label b r)
   main : {frames : Tokens} {t : Tree} → SpellFrames frames t → SpellScript frames t
 
 -- the tree of a whole text

@@ -1,7 +1,11 @@
--- The numbers and data words of the grammar of scripts (own choice).
+-- Braces, numbers and data words of the grammar of scripts (own choice).
 use Rattle.std.specs.Prelude.{◌≡◌, ℕ, ◌≤◌, List, [], ◌∷◌, ◌++◌, Option, Some, None, codes}
 use Rattle.frame_text.specs.Reading.{Tokens}
 use Rattle.frame_text.specs.Words.{number_of, data_word_of}
+
+-- tokens in braces
+abbrev pub braces : Tokens → Tokens
+braces inner = codes "{" ∷ inner ++ codes "}" ∷ []
 
 -- number: a word of one to seven digits
 abbrev pub SpellsNumber : List ℕ → ℕ → Type 0
