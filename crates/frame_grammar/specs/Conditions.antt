@@ -1,10 +1,10 @@
 -- The conditions of the grammar of scripts (own choice).
-use Rattle.std.specs.Prelude.{◌≡◌, ℕ, List, [], ◌∷◌, ◌++◌, Some, codes}
+use Rattle.std.specs.Prelude.{◌≡◌, ℕ, ◌≤◌, List, [], ◌∷◌, ◌++◌, Some, codes}
 use Rattle.mil_status.specs.Status.{bit_named}
 use Rattle.mil_status.specs.declared.bit.StatusBit.{StatusBit}
 use Rattle.mil_message.specs.declared.outcome_test.OutcomeTest.TheVariants.{Failed, Silent, Bit}
 use Rattle.frame_tree.specs.Tree.{Condition, asked, negated, both, either}
-use Rattle.frame_tree.specs.Bounds.{IsCondition}
+use Rattle.frame_tree.specs.Bounds.{operators}
 use Rattle.frame_text.specs.Tokens.{tokens}
 use Rattle.frame_text.specs.Reading.{Tokens}
 
@@ -27,4 +27,4 @@ pub data SpellCondition : Tokens → Condition → Type 0 where
 
 -- the condition of a whole text: at most 16 operators stand above a test
 abbrev pub HasCondition : List ℕ → Condition → Type 0
-HasCondition text c = SpellCondition (tokens text) c × IsCondition c
+HasCondition text c = SpellCondition (tokens text) c × (operators c ≤ 16)
