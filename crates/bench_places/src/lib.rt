@@ -1,5 +1,5 @@
-//! Where messages of a recording stand in the file: the N-th that is sought, the latest one before a place, the place before
-//! the first one, and the number of a message in its channel.
+//! Where messages of a recording stand in the file: the N-th that is sought, the latest one before a place, the place
+//! before the first one, and the number of a message in its channel.
 //! Its tests are in `bench_step_tests`.
 #![tactic(auto)]
 

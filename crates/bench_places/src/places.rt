@@ -72,8 +72,8 @@ fn later_of(
     }
 }
 
-/// The place of the latest message before that of a place that meets what is asked of it; `None` where there is none. The
-/// messages are walked from the first one on.
+/// The place of the latest message before that of a place that meets what is asked of it; `None` where there is none.
+/// The messages are walked from the first one on.
 pub fn latest_place(index: &Index<'_>, sought: &Sought, place: u64) -> Option<u64>
     ensures { result ≡ latest_of sought.now place index.now }
 {
@@ -86,8 +86,8 @@ pub fn latest_place(index: &Index<'_>, sought: &Sought, place: u64) -> Option<u6
     latest
 }
 
-/// The place before the first message that meets what is asked of it, so that the next message is that one; the place of
-/// the last message where none does.
+/// The place before the first message that meets what is asked of it, so that the next message is that one; the place
+/// of the last message where none does.
 #[tactic(auto, using(crate::proofs::Packets::first_some, crate::proofs::Packets::first_none))]
 pub fn place_before(index: &Index<'_>, sought: &Sought) -> u64
     ensures { result ≡ place_before sought.now index.now }
