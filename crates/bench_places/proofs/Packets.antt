@@ -1,5 +1,5 @@
 -- The messages of the packets, packet by packet.
-use Rattle.std.proofs.Common.{◌≡◌, ℕ, suc, ◌+◌, ◌<◌, ◌≤◌, List, [], ◌∷◌, ◌++◌, length, drop, map, Some, None, get_or, refl, sym, ap, ◌∙◌, arith}
+use Rattle.std.proofs.Common.{◌≡◌, ℕ, suc, ◌+◌, ◌-◌, ◌<◌, ◌≤◌, List, [], ◌∷◌, ◌++◌, length, drop, map, Some, None, get_or, refl, sym, ap, ◌∙◌, arith}
 use Rattle.std.specs.Prelude.{slice_get}
 use Rattle.std.proofs.lemmas.List.{drop_all, length-append, length-drop, length-map}
 use Rattle.ch11_f1.specs.BodyReading.{Message}
@@ -9,9 +9,9 @@ use Rattle.ch11_reader.specs.Recording.{Found}
 use Rattle.ch11_reader.specs.Contents.{heard_of, heard_in, total_in}
 use Rattle.ch11_reader.specs.Listing.{listing}
 use Rattle.bench_dump.proofs.Packets.{no_packet, at_place, same_count}
-use Rattle.bench_places.specs.Places.{Heard, place_of}
+use Rattle.bench_places.specs.Places.{Heard, place_before, place_of}
 use Rattle.bench_places.specs.declared.sought.Sought.{Sought}
-use Rattle.bench_places.proofs.Walking.{none_left}
+use Rattle.bench_places.proofs.Walking.{none_left, first_place}
 
 -- the messages of the next packet, and those behind it
 pub next_packet : (ps : List Found) (entries : List Packet) (i : ℕ) (ms : List Message) → entries ≡ listing ps → i < length entries
@@ -51,3 +51,14 @@ pub none_past : (sought : Sought) (ps : List Found) (from n : ℕ) → total_in 
 none_past sought ps from n past =
     let none : drop from (heard_in ps) ≡ [] = drop_all from (heard_in ps) (omega (arith, heard_total ps)) in
     rw none (sym (none_left n))
+
+-- the first message that is sought
+pub first_some : (sought : Sought) (ps : List Found) (place : ℕ) → Some place ≡ place_of sought 0 1 ps → place - 1 ≡ place_before sought ps
+first_some sought ps place is = omega (arith, first_place sought 0 (heard_in ps) (Some place) is)
+
+pub first_least : (sought : Sought) (ps : List Found) (place : ℕ) → Some place ≡ place_of sought 0 1 ps → 1 ≤ place
+first_least sought ps place is = omega (arith, first_place sought 0 (heard_in ps) (Some place) is)
+
+-- there is none
+pub first_none : (sought : Sought) (ps : List Found) (total : ℕ) → None ≡ place_of sought 0 1 ps → total ≡ total_in ps → total ≡ place_before sought ps
+first_none sought ps total is all = all ∙ sym (heard_total ps) ∙ first_place sought 0 (heard_in ps) None is

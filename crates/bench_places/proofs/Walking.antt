@@ -1,6 +1,7 @@
 -- One more message on the way through a recording.
 use Rattle.std.proofs.Common.{◌≡◌, ℕ, zero, suc, ◌+◌, ◌-◌, ◌<◌, List, [], ◌∷◌, length, take, drop, Option, Some, None, refl, sym, ap, ◌∙◌, arith}
-use Rattle.std.specs.Prelude.{true, false}
+use Rattle.std.specs.Prelude.{Bool, true, false, if◌then◌else◌}
+use Rattle.std.specs.List.{last_or, position_or_len}
 use Rattle.std.specs.Option.{MatchOption}
 use Rattle.bench_places.specs.Places.{Heard, meets, places_behind, numbered, count_of}
 use Rattle.bench_places.specs.declared.sought.Sought.{Sought}
@@ -87,3 +88,69 @@ is_here sought place left h rest new is one last = rw (is, last) (sym (found_her
 -- none
 pub is_none : (sought : Sought) (place left : ℕ) (rest : List Heard) → rest ≡ [] → None ≡ numbered left (places_behind place sought rest)
 is_none sought place left rest is = rw is (sym (none_left left))
+
+-- the latest of messages of which one is the first
+latest_first : (sought : Sought) (before : ℕ) (o : Option ℕ) (x : Heard) (xs : List Heard)
+    → last_or o (places_behind before sought (x ∷ xs)) ≡ last_or (if meets sought x then Some (before + 1) else o) (places_behind (before + 1) sought xs)
+latest_first sought before o x xs = by (meets sought x) refl
+  where
+    by : (met : Bool) → meets sought x ≡ met → last_or o (places_behind before sought (x ∷ xs)) ≡ last_or (if meets sought x then Some (before + 1) else o) (places_behind (before + 1) sought xs)
+    by true is = rw is refl
+    by false is = rw is refl
+
+-- and of those with one more
+latest_next : (sought : Sought) (before : ℕ) (o : Option ℕ) (xs : List Heard) (i : ℕ) (h : Heard) (hs : List Heard) → drop i xs ≡ h ∷ hs
+    → last_or o (places_behind before sought (take (suc i) xs)) ≡ (if meets sought h then Some (before + (i + 1)) else last_or o (places_behind before sought (take i xs)))
+latest_next sought before o [] zero h hs is = absurd cc
+latest_next sought before o [] (suc i) h hs is = absurd cc
+latest_next sought before o (x ∷ xs) zero h hs is = let same : x ≡ h = cc in latest_first sought before o x [] ∙ (rw same refl)
+latest_next sought before o (x ∷ xs) (suc i) h hs is =
+    let more : before + 1 + (i + 1) ≡ before + (suc i + 1) = omega arith in
+    latest_first sought before o x (take (suc i) xs)
+    ∙ latest_next sought (before + 1) (if meets sought x then Some (before + 1) else o) xs i h hs is
+    ∙ (rw (more, ← latest_first sought before o x (take i xs)) refl)
+
+take_none : (xs : List Heard) (i : ℕ) → drop i xs ≡ [] → take (suc i) xs ≡ take i xs
+take_none [] zero is = refl
+take_none [] (suc i) is = refl
+take_none (x ∷ xs) zero is = absurd cc
+take_none (x ∷ xs) (suc i) is = ap (λ (ys : List Heard). x ∷ ys) (take_none xs i is)
+
+-- the latest one so far, once another message was taken
+pub latest_kept : {A : Type 0} (view : A → Heard) (sought : Sought) (r : Option A) (all rest new : List Heard) (i : ℕ) (latest after : Option ℕ)
+    → rest ≡ drop i all → MatchOption r ((rest ≡ []) × (new ≡ [])) (λ x. rest ≡ view x ∷ new)
+    → latest ≡ last_or None (places_behind 0 sought (take i all))
+    → MatchOption r (after ≡ latest) (λ x. after ≡ (if meets sought (view x) then Some (i + 1) else latest))
+    → after ≡ last_or None (places_behind 0 sought (take (i + 1) all))
+latest_kept view sought None all rest new i latest after is steps so_far one =
+    let next : suc i ≡ i + 1 = omega arith in
+    one ∙ so_far ∙ ap (λ (hs : List Heard). last_or None (places_behind 0 sought hs)) (sym (take_none all i (sym is ∙ steps.0)))
+    ∙ ap (λ (k : ℕ). last_or None (places_behind 0 sought (take k all))) next
+latest_kept view sought (Some x) all rest new i latest after is steps so_far one =
+    let next : suc i ≡ i + 1 = omega arith in
+    let here : i + 1 ≡ 0 + (i + 1) = omega arith in
+    one
+    ∙ ap (λ (k : ℕ). if meets sought (view x) then Some k else latest) here
+    ∙ ap (λ (o : Option ℕ). if meets sought (view x) then Some (0 + (i + 1)) else o) so_far
+    ∙ sym (latest_next sought 0 None all i (view x) new (sym is ∙ steps))
+    ∙ ap (λ (k : ℕ). last_or None (places_behind 0 sought (take k all))) next
+
+-- the first one that is sought is a later one
+first_later : (sought : Sought) (before : ℕ) (h : Heard) (hs : List Heard) (r : Option ℕ) → meets sought h ≡ false
+    → MatchOption r (length hs ≡ position_or_len (meets sought) hs) (λ place. place ≡ before + 1 + 1 + position_or_len (meets sought) hs)
+    → MatchOption r (length (h ∷ hs) ≡ position_or_len (meets sought) (h ∷ hs)) (λ place. place ≡ before + 1 + position_or_len (meets sought) (h ∷ hs))
+first_later sought before h hs None other so = rw other (omega (arith, so))
+first_later sought before h hs (Some place) other so = rw other (omega (arith, so))
+
+-- its place, where there is one
+pub first_place : (sought : Sought) (before : ℕ) (hs : List Heard) (r : Option ℕ) → r ≡ numbered 1 (places_behind before sought hs)
+    → MatchOption r (length hs ≡ position_or_len (meets sought) hs) (λ place. place ≡ before + 1 + position_or_len (meets sought) hs)
+first_place sought before [] None is = refl
+first_place sought before [] (Some place) is = absurd cc
+first_place sought before (h ∷ hs) r is = by (meets sought h) refl (first_place sought (before + 1) hs r)
+  where
+    by : (met : Bool) → meets sought h ≡ met
+        → (r ≡ numbered 1 (places_behind (before + 1) sought hs) → MatchOption r (length hs ≡ position_or_len (meets sought) hs) (λ place. place ≡ before + 1 + 1 + position_or_len (meets sought) hs))
+        → MatchOption r (length (h ∷ hs) ≡ position_or_len (meets sought) (h ∷ hs)) (λ place. place ≡ before + 1 + position_or_len (meets sought) (h ∷ hs))
+    by true here later = let one : r ≡ Some (before + 1) = (rw here at is) in rw (here, one) (omega arith)
+    by false other later = first_later sought before h hs r other (later (rw other at is))

@@ -1,10 +1,12 @@
 -- The places of a recording's messages: they are counted from 1, over all channels, in the file's order (own choice).
-use Rattle.std.specs.Prelude.{ℕ, zero, suc, ◌+◌, ◌==◌, nat_le, Bool, if◌then◌else◌, List, [], ◌∷◌, take, drop, slice_get, Option, None}
+use Rattle.std.specs.Prelude.{ℕ, zero, suc, ◌+◌, ◌-◌, ◌==◌, nat_lt, Bool, if◌then◌else◌, List, [], ◌∷◌, take, drop, slice_get, Option, None}
+use Rattle.std.specs.List.{last_or, position_or_len}
 use Rattle.ch11_f1.specs.BodyReading.{Message}
 use Rattle.ch11_reader.specs.Recording.{Found}
 use Rattle.ch11_reader.specs.Contents.{heard_in}
+use Rattle.bench_select.specs.Selectors.{selects_commands}
 use Rattle.bench_places.specs.declared.sought.Sought.{Sought}
-use Rattle.bench_places.specs.declared.sought.Sought.TheVariants.{Channel, Time}
+use Rattle.bench_places.specs.declared.sought.Sought.TheVariants.{Channel, Later, Commands}
 
 -- a message with its channel
 abbrev pub Heard : Type 0
@@ -12,7 +14,8 @@ Heard = ℕ × Message
 
 abbrev pub meets : Sought → Heard → Bool
 meets (Channel one) h = h.0 == one
-meets (Time ticks) h = nat_le ticks h.1.stamp
+meets (Later ticks) h = nat_lt ticks h.1.stamp
+meets (Commands selector) h = selects_commands selector h.1
 
 -- the places of those that meet it, of messages that stand behind so many others
 abbrev pub places_behind : ℕ → Sought → List Heard → List ℕ
@@ -28,6 +31,14 @@ numbered (suc n) places = slice_get places n
 -- the place of the message of a number among those past a place that meet it
 abbrev pub place_of : Sought → ℕ → ℕ → List Found → Option ℕ
 place_of sought from n found = numbered n (places_behind from sought (drop from (heard_in found)))
+
+-- the latest of them before the message of a place
+abbrev pub latest_of : Sought → ℕ → List Found → Option ℕ
+latest_of sought place found = last_or None (places_behind 0 sought (take (place - 1) (heard_in found)))
+
+-- the place before the first message that meets it, that of the last message where none does
+abbrev pub place_before : Sought → List Found → ℕ
+place_before sought found = position_or_len (meets sought) (heard_in found)
 
 -- how many messages are of a channel
 abbrev pub count_of : ℕ → List Heard → ℕ

@@ -1,4 +1,5 @@
-//! Where messages of a recording stand in the file: the N-th of a channel, and the number of a message in its channel.
+//! Where messages of a recording stand in the file: the N-th that is sought, the latest one before a place, the place
+//! before the first one, and the number of a message in its channel.
 //! Its tests are in `bench_step_tests`.
 #![tactic(auto)]
 
@@ -6,5 +7,5 @@ mod messages;
 mod places;
 mod sought;
 
-pub use places::{nth_place, number_in_channel};
+pub use places::{latest_place, nth_place, number_in_channel, place_before};
 pub use sought::Sought;

@@ -1,7 +1,7 @@
 //! The places of messages.
-ghost use Rattle.std.specs.Prelude.{◌≡◌, ◌≤◌, ◌<◌, ◌+◌, ◌^◌, ◌∷◌, [], drop, length, MatchOption};
+ghost use Rattle.std.specs.Prelude.{◌≡◌, ◌≤◌, ◌<◌, ◌+◌, ◌^◌, ◌∷◌, [], drop, length, MatchOption, Some, if◌then◌else◌};
 ghost use Rattle.ch11_f1.specs.Views.{message_of};
-ghost use Rattle.bench_places.specs.Places.{count_of, count_to, numbered, place_of, places_behind};
+ghost use Rattle.bench_places.specs.Places.{count_of, count_to, latest_of, meets, numbered, place_before, place_of, places_behind};
 
 use crate::messages::Following;
 use crate::sought::Sought;
@@ -54,6 +54,48 @@ pub fn nth_place(index: &Index<'_>, sought: &Sought, from: u64, n: u64) -> Optio
         return None;
     }
     nth_behind(past(Following::all(index), from), sought, from, n)
+}
+
+/// The place of a message where it meets what is asked of it, and else the latest one so far.
+fn later_of(
+    latest: Option<u64>,
+    heard: &Option<(u16, Seen<'_>)>,
+    sought: &Sought,
+    place: u64,
+) -> Option<u64>
+    ensures { MatchOption heard.now (result ≡ latest)
+        (λ h. result ≡ (if meets sought.now (h.0, message_of h.1) then Some place else latest)) }
+{
+    match heard {
+        Some((channel, seen)) if sought.is_met(*channel, seen) => Some(place),
+        _ => latest,
+    }
+}
+
+/// The place of the latest message before that of a place that meets what is asked of it; `None` where there is none.
+/// The messages are walked from the first one on.
+pub fn latest_place(index: &Index<'_>, sought: &Sought, place: u64) -> Option<u64>
+    ensures { result ≡ latest_of sought.now place index.now }
+{
+    let mut rest = Following::all(index);
+    let mut latest = None;
+    for passed in 0..place.saturating_sub(1) {
+        let heard = rest.next();
+        latest = later_of(latest, &heard, sought, passed + 1);
+    }
+    latest
+}
+
+/// The place before the first message that meets what is asked of it, so that the next message is that one; the place
+/// of the last message where none does.
+#[tactic(auto, using(crate::proofs::Packets::first_some, crate::proofs::Packets::first_none))]
+pub fn place_before(index: &Index<'_>, sought: &Sought) -> u64
+    ensures { result ≡ place_before sought.now index.now }
+{
+    match nth_place(index, sought, 0, 1) {
+        Some(place) => place - 1,
+        None => index.total(),
+    }
 }
 
 /// 1 where the message is of the channel, and else 0.

@@ -3,6 +3,7 @@ ghost use Rattle.std.specs.Prelude.{◌≡◌};
 ghost use Rattle.ch11_f1.specs.Views.{message_of};
 ghost use Rattle.bench_places.specs.Places.{meets};
 
+use bench_select::{Selector, selects_commands};
 use ch11_f1::Seen;
 
 /// What is asked of a message.
@@ -10,8 +11,10 @@ use ch11_f1::Seen;
 pub enum Sought {
     /// To be of this channel.
     Channel(u16),
-    /// To have a stamp of so many ticks of 0.1 µs, or a later one.
-    Time(u64),
+    /// To have a later stamp than so many ticks of 0.1 µs.
+    Later(u64),
+    /// To have the commands that a selector asks for.
+    Commands(Selector),
 }
 
 impl Sought {
@@ -21,7 +24,8 @@ impl Sought {
     {
         match self {
             Sought::Channel(one) => channel == *one,
-            Sought::Time(ticks) => *ticks <= seen.stamp,
+            Sought::Later(ticks) => *ticks < seen.stamp,
+            Sought::Commands(selector) => selects_commands(*selector, seen),
         }
     }
 }

@@ -1,16 +1,17 @@
 -- What is replied to lines is determined, but for want of memory.
-use Rattle.std.proofs.Common.{◌≡◌, ℕ, ◌+◌, ◌-◌, ◌<◌, ◌≤◌, ◌⊎◌, [], ◌∷◌, refl, ap, sym, ◌∙◌, inl, inr, Some, None, arith}
+use Rattle.std.proofs.Common.{◌≡◌, ℕ, ◌+◌, ◌-◌, ◌<◌, ◌≤◌, ◌⊎◌, [], ◌∷◌, refl, ap, sym, ◌∙◌, inl, inr, Option, Some, None, arith}
 use Rattle.std.specs.Prelude.{Bool, true, false, ◌||◌}
 use Rattle.std.proofs.lemmas.Bool.{cases_order}
 use Rattle.frame_tree.specs.Tree.{Condition}
 use Rattle.replay.specs.declared.error.ReplayError.TheVariants as error
 use Rattle.replay.specs.Moves.{ReplayState, total_of, IsNextMet, IsNowhere}
 use Rattle.bench_places.specs.declared.sought.Sought.{Sought}
-use Rattle.bench_places.specs.Places.{place_of}
+use Rattle.bench_places.specs.Places.{latest_of, place_before, place_of}
+use Rattle.bench_places.specs.declared.sought.Sought.TheVariants.{Later, Commands}
 use Rattle.bench_state.specs.declared.details.Detail.{Detail}
-use Rattle.bench_step.specs.Commands.{Asked, forward, back, go, seek, find, find_back, state, show, show_at, help, quit, no_condition, unknown, asked}
+use Rattle.bench_step.specs.Commands.{Asked, forward, back, go, go_time, seek, find, find_back, select, select_back, state, show, show_at, help, quit, no_condition, unknown, asked}
 use Rattle.bench_step.specs.Backwards.{IsLatest}
-use Rattle.bench_step.specs.Session.{Replies, IsNoneBefore, IsThere, IsAbsent, after_reply, is_memory, AreReplies, any_memory, RepliesAreDetermined}
+use Rattle.bench_step.specs.Session.{Replies, IsMoveTo, Finds, IsNoneBefore, IsThere, IsAbsent, after_reply, is_memory, AreReplies, any_memory, RepliesAreDetermined}
 use Rattle.bench_step.specs.declared.manners.Manner.{Manner}
 use Rattle.bench_step.specs.declared.replies.Reply.{Reply}
 use Rattle.bench_step.specs.declared.replies.Reply.TheVariants as reply
@@ -61,9 +62,18 @@ to_go s n reply.Help h m = absurd h
 to_go s n reply.Quit h m = absurd h
 to_go s n reply.Unknown h m = absurd h
 
+-- at a place that was looked for, or nowhere
+abbrev AtOrNowhere : Option ℕ → Reply → Type 0
+AtOrNowhere place r = ((n : ℕ) × (place ≡ Some n) × (r ≡ reply.At n)) ⊎ ((place ≡ None) × (r ≡ reply.Refused error.Past))
+
+one_place : (place : Option ℕ) (r q : Reply) → AtOrNowhere place r → AtOrNowhere place q → r ≡ q
+one_place place r q (inl x) (inl y) = let a = x.1 in let b = y.1 in let c = x.2 in let d = y.2 in cc
+one_place place r q (inl x) (inr y) = let a = x.1 in let b = y.0 in cc
+one_place place r q (inr x) (inl y) = let a = x.0 in let b = y.1 in cc
+one_place place r q (inr x) (inr y) = x.1 ∙ sym y.1
+
 -- to the message of a number among those that are sought
-to_sought : (s : ReplayState) (what : Sought) (n : ℕ) (r : Reply) → Replies s (seek what n) r → is_memory r ≡ false
-    → ((p : ℕ) × (place_of what 0 n s.found ≡ Some p) × (r ≡ reply.At p)) ⊎ ((place_of what 0 n s.found ≡ None) × (r ≡ reply.Refused error.Past))
+to_sought : (s : ReplayState) (what : Sought) (n : ℕ) (r : Reply) → Replies s (seek what n) r → is_memory r ≡ false → AtOrNowhere (place_of what 0 n s.found) r
 to_sought s what n (reply.At k) h m = inl (k, h, refl)
 to_sought s what n (reply.Refused (error.Mismatch c k)) h m = absurd h
 to_sought s what n (reply.Refused error.Past) h m = inr (h, refl)
@@ -75,12 +85,31 @@ to_sought s what n reply.Help h m = absurd h
 to_sought s what n reply.Quit h m = absurd h
 to_sought s what n reply.Unknown h m = absurd h
 
-one_sought : (s : ReplayState) (what : Sought) (n : ℕ) (r q : Reply) → ((p : ℕ) × (place_of what 0 n s.found ≡ Some p) × (r ≡ reply.At p)) ⊎ ((place_of what 0 n s.found ≡ None) × (r ≡ reply.Refused error.Past))
-    → ((p : ℕ) × (place_of what 0 n s.found ≡ Some p) × (q ≡ reply.At p)) ⊎ ((place_of what 0 n s.found ≡ None) × (q ≡ reply.Refused error.Past)) → r ≡ q
-one_sought s what n r q (inl x) (inl y) = let a = x.1 in let b = y.1 in let c = x.2 in let d = y.2 in cc
-one_sought s what n r q (inl x) (inr y) = let a = x.1 in let b = y.0 in cc
-one_sought s what n r q (inr x) (inl y) = let a = x.0 in let b = y.1 in cc
-one_sought s what n r q (inr x) (inr y) = x.1 ∙ sym y.1
+-- where a selector leads
+to_found : (place : Option ℕ) (r : Reply) → Finds place r → is_memory r ≡ false → AtOrNowhere place r
+to_found place (reply.At k) h m = inl (k, h, refl)
+to_found place (reply.Refused (error.Mismatch c k)) h m = elim h [ inl x ↦ absurd x | inr x ↦ absurd x ]
+to_found place (reply.Refused error.Past) h m = elim h [ inl none ↦ inr (none, refl) | inr x ↦ absurd x ]
+to_found place (reply.Refused error.Start) h m = elim h [ inl x ↦ absurd x | inr x ↦ absurd x ]
+to_found place (reply.Refused error.Memory) h m = cc
+to_found place (reply.Shown detail) h m = absurd h
+to_found place (reply.Message n) h m = absurd h
+to_found place reply.Help h m = absurd h
+to_found place reply.Quit h m = absurd h
+to_found place reply.Unknown h m = absurd h
+
+-- to a place of the recording
+to_place : (place : ℕ) (r : Reply) → IsMoveTo place r → is_memory r ≡ false → r ≡ reply.At place
+to_place place (reply.At k) h m = ap reply.At h
+to_place place (reply.Refused (error.Mismatch c k)) h m = absurd h
+to_place place (reply.Refused error.Past) h m = absurd h
+to_place place (reply.Refused error.Start) h m = absurd h
+to_place place (reply.Refused error.Memory) h m = cc
+to_place place (reply.Shown detail) h m = absurd h
+to_place place (reply.Message n) h m = absurd h
+to_place place reply.Help h m = absurd h
+to_place place reply.Quit h m = absurd h
+to_place place reply.Unknown h m = absurd h
 
 -- the next message that meets a condition is one
 next_is_one : (s : ReplayState) (test : Condition) (n k : ℕ) → IsNextMet s test n → IsNextMet s test k → n ≡ k
@@ -212,9 +241,15 @@ one_reply : (s : ReplayState) (a : Asked) (r q : Reply) → Replies s a r → Re
 one_reply s (forward p) r q h k m n = agree (s.place + p ≤ total_of s) (total_of s < s.place + p) _ _ r q (λ x y. omega arith) (to_forward s p r h m) (to_forward s p q k n)
 one_reply s (back p) r q h k m n = agree (p ≤ s.place) (s.place < p) _ _ r q (λ x y. omega arith) (to_back s p r h m) (to_back s p q k n)
 one_reply s (go p) r q h k m n = agree (p ≤ total_of s) (total_of s < p) _ _ r q (λ x y. omega arith) (to_go s p r h m) (to_go s p q k n)
-one_reply s (seek what p) r q h k m n = one_sought s what p r q (to_sought s what p r h m) (to_sought s what p q k n)
+one_reply s (go_time ticks) r q h k m n =
+    let place = place_before (Later ticks) s.found in to_place place r h m ∙ sym (to_place place q k n)
+one_reply s (seek what p) r q h k m n = one_place (place_of what 0 p s.found) r q (to_sought s what p r h m) (to_sought s what p q k n)
 one_reply s (find test) r q h k m n = one_found s test r q (to_find s test r h m) (to_find s test q k n)
 one_reply s (find_back test) r q h k m n = one_found_back s test r q (to_find_back s test r h m) (to_find_back s test q k n)
+one_reply s (select selector) r q h k m n =
+    let place = place_of (Commands selector) s.place 1 s.found in one_place place r q (to_found place r h m) (to_found place q k n)
+one_reply s (select_back selector) r q h k m n =
+    let place = latest_of (Commands selector) s.place s.found in one_place place r q (to_found place r h m) (to_found place q k n)
 one_reply s (state d) r q h k m n = to_state s d r h ∙ sym (to_state s d q k)
 one_reply s show r q h k m n = agree (IsThere s s.place) (IsAbsent s s.place) _ _ r q (λ x y. x y) (to_show s r h m) (to_show s q k n)
 one_reply s (show_at p) r q h k m n = agree (IsThere s p) (IsAbsent s p) _ _ r q (λ x y. x y) (to_show_at s p r h m) (to_show_at s p q k n)

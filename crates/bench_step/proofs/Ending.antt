@@ -3,7 +3,7 @@ use Rattle.std.proofs.Common.{◌≡◌, ◌⊎◌, List, [], ◌∷◌, ◌++�
 use Rattle.std.specs.Prelude.{Bool, true, false, ◌||◌}
 use Rattle.mil_host.specs.Words.{Text}
 use Rattle.replay.specs.Moves.{ReplayState}
-use Rattle.bench_step.specs.Commands.{Asked, forward, back, go, seek, find, find_back, state, show, show_at, help, quit, no_condition, unknown, asked}
+use Rattle.bench_step.specs.Commands.{Asked, forward, back, go, go_time, seek, find, find_back, select, select_back, state, show, show_at, help, quit, no_condition, unknown, asked}
 use Rattle.bench_step.specs.Session.{Replies, is_end}
 use Rattle.bench_step.specs.Answering.{is_quit, up_to_quit, any_quit}
 use Rattle.bench_step.specs.declared.manners.Manner.{Manner}
@@ -15,9 +15,12 @@ end_of : (s : ReplayState) (a : Asked) → Replies s a reply.Quit → is_quit a 
 end_of s (forward n) h = absurd h
 end_of s (back n) h = absurd h
 end_of s (go n) h = absurd h
+end_of s (go_time ticks) h = absurd h
 end_of s (seek sought n) h = absurd h
 end_of s (find test) h = absurd h
 end_of s (find_back test) h = absurd h
+end_of s (select selector) h = absurd h
+end_of s (select_back selector) h = absurd h
 end_of s (state detail) h = absurd h
 end_of s show h = absurd h
 end_of s (show_at n) h = absurd h
@@ -31,9 +34,12 @@ other_reply : (s : ReplayState) (a : Asked) (r : Reply) → is_end r ≡ false �
 other_reply s (forward n) r other h = refl
 other_reply s (back n) r other h = refl
 other_reply s (go n) r other h = refl
+other_reply s (go_time ticks) r other h = refl
 other_reply s (seek sought n) r other h = refl
 other_reply s (find test) r other h = refl
 other_reply s (find_back test) r other h = refl
+other_reply s (select selector) r other h = refl
+other_reply s (select_back selector) r other h = refl
 other_reply s (state detail) r other h = refl
 other_reply s show r other h = refl
 other_reply s (show_at n) r other h = refl

@@ -1,15 +1,17 @@
 -- What is replied to a move.
-use Rattle.std.proofs.Common.{◌≡◌, ℕ, ◌+◌, ◌-◌, ◌<◌, ◌≤◌, List, Some, None, ap, sym, subst, ◌∙◌, arith}
+use Rattle.std.proofs.Common.{◌≡◌, ℕ, ◌+◌, ◌-◌, ◌<◌, ◌≤◌, List, Option, Some, None, ap, sym, subst, ◌∙◌, inl, inr, arith}
 use Rattle.replay.specs.declared.error.ReplayError.TheVariants as error
 use Rattle.replay.specs.Moves.{ReplayState, total_of}
 use Rattle.bench_places.specs.declared.sought.Sought.{Sought}
-use Rattle.bench_places.specs.Places.{place_of}
-use Rattle.bench_step.specs.Commands.{forward, back, seek, show, show_at}
+use Rattle.bench_places.specs.Places.{latest_of, place_of}
+use Rattle.bench_places.specs.declared.sought.Sought.TheVariants.{Commands}
+use Rattle.judge_rules.specs.declared.rules.Selector.{Selector}
+use Rattle.bench_step.specs.Commands.{forward, back, seek, select, select_back, show, show_at}
 use Rattle.job_file.specs.Jobs.{JobState}
 use Rattle.ch11_reader.specs.Recording.{Found}
 use Rattle.bench_report.specs.Reports.{ChannelPart}
 use Rattle.bench_step.specs.Answering.{IsOpen}
-use Rattle.bench_step.specs.Session.{Replies, IsMoveTo, after_reply}
+use Rattle.bench_step.specs.Session.{Replies, IsMoveTo, Finds, after_reply}
 use Rattle.bench_step.specs.declared.replies.Reply.{Reply}
 use Rattle.bench_step.specs.declared.replies.Reply.TheVariants as reply
 
@@ -48,6 +50,35 @@ sought s what k place (reply.Message n) there is = absurd is
 sought s what k place reply.Help there is = absurd is
 sought s what k place reply.Quit there is = absurd is
 sought s what k place reply.Unknown there is = absurd is
+
+-- what is replied where a selector leads to a message
+finds_place : (found : Option ℕ) (place : ℕ) (r : Reply) → found ≡ Some place → IsMoveTo place r → Finds found r
+finds_place found place (reply.At n) there is = there ∙ ap Some (sym is)
+finds_place found place (reply.Refused (error.Mismatch c n)) there is = absurd is
+finds_place found place (reply.Refused error.Past) there is = absurd is
+finds_place found place (reply.Refused error.Start) there is = absurd is
+finds_place found place (reply.Refused error.Memory) there is = inr tt
+finds_place found place (reply.Shown detail) there is = absurd is
+finds_place found place (reply.Message n) there is = absurd is
+finds_place found place reply.Help there is = absurd is
+finds_place found place reply.Quit there is = absurd is
+finds_place found place reply.Unknown there is = absurd is
+
+pub selected : (s : ReplayState) (found : List Found) (stands place : ℕ) (selector : Selector) (r : Reply) → found ≡ s.found → stands ≡ s.place
+    → Some place ≡ place_of (Commands selector) stands 1 found → IsMoveTo place r → Replies s (select selector) r
+selected s found stands place selector r same here there is = finds_place _ place r (rw (same, here) at (sym there)) is
+
+pub none_selected : (s : ReplayState) (found : List Found) (stands : ℕ) (selector : Selector) → found ≡ s.found → stands ≡ s.place
+    → None ≡ place_of (Commands selector) stands 1 found → Replies s (select selector) (reply.Refused error.Past)
+none_selected s found stands selector same here none = inl (rw (same, here) at (sym none))
+
+pub selected_back : (s : ReplayState) (found : List Found) (stands place : ℕ) (selector : Selector) (r : Reply) → found ≡ s.found → stands ≡ s.place
+    → Some place ≡ latest_of (Commands selector) stands found → IsMoveTo place r → Replies s (select_back selector) r
+selected_back s found stands place selector r same here there is = finds_place _ place r (rw (same, here) at (sym there)) is
+
+pub none_selected_back : (s : ReplayState) (found : List Found) (stands : ℕ) (selector : Selector) → found ≡ s.found → stands ≡ s.place
+    → None ≡ latest_of (Commands selector) stands found → Replies s (select_back selector) (reply.Refused error.Past)
+none_selected_back s found stands selector same here none = inl (rw (same, here) at (sym none))
 
 -- a reply leaves the debugger on the same recording
 pub still_open : (s new : ReplayState) (jobs : List JobState) (parts : List ChannelPart) (found : List Found) (recording : List ℕ) (r : Reply)

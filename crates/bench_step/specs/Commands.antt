@@ -7,6 +7,12 @@ use Rattle.mil_host.specs.Words.{Text, is_space, words}
 use Rattle.frame_tree.specs.Tree.{Condition, condition_in}
 use Rattle.frame_text.specs.Conditions.{condition_of_text}
 use Rattle.frame_text.specs.declared.faults.Cause.{Cause}
+use Rattle.judge_rules.specs.Faults.{Read}
+use Rattle.judge_rules.specs.Selectors.{selector_of}
+use Rattle.judge_rules.specs.declared.rules.Selector.{Selector}
+use Rattle.bench_select.specs.Bounds.{bound_of}
+use Rattle.bench_select.specs.declared.bounds.Bound.{Bound}
+use Rattle.bench_select.specs.declared.bounds.Bound.TheVariants.{Number, Time}
 use Rattle.bench_state.specs.declared.details.Detail.{Detail}
 use Rattle.bench_state.specs.declared.details.Detail.TheVariants.{Registers, Host, Data}
 use Rattle.bench_places.specs.declared.sought.Sought.{Sought}
@@ -22,11 +28,16 @@ pub data Asked : Type 0 where
   back : ℕ → Asked
   -- to a place: so many messages of the recording are past
   go : ℕ → Asked
+  -- to the place before the first message with a later stamp than so many ticks of 0.1 µs
+  go_time : ℕ → Asked
   -- to the message of a number, counted from 1, among all that meet what is asked of them
   seek : Sought → ℕ → Asked
   -- on to the next message whose outcome makes the condition true, and back to the latest one before the place
   find : Condition → Asked
   find_back : Condition → Asked
+  -- on to the next message that a selector is about, and back to the latest one before the place
+  select : Selector → Asked
+  select_back : Selector → Asked
   -- what the terminals hold, in this detail
   state : Detail → Asked
   -- the message at the place, and the message of a number, as people read it
@@ -36,7 +47,7 @@ pub data Asked : Type 0 where
   help : Asked
   -- the end of the session
   quit : Asked
-  -- `find`, and behind it no condition
+  -- `find`, and behind it neither a condition nor a selector
   no_condition : Asked
   -- nothing that a line may ask
   unknown : Asked
@@ -104,21 +115,49 @@ abbrev pub of_channel : Option (Text × Text) → Asked
 of_channel None = unknown
 of_channel (Some x) = nth_of (number_up_to 65535 x.0) (number_in x.1)
 
--- behind `go`: a place, or a channel and the number of one of its messages
+-- the time that the only word is, in ticks of 0.1 µs
+abbrev pub time_of : Option Bound → Option ℕ
+time_of None = None
+time_of (Some (Number n)) = None
+time_of (Some (Time ticks)) = Some ticks
+
+abbrev pub only_time : List Text → Option ℕ
+only_time [] = None
+only_time (word ∷ []) = time_of (bound_of word)
+only_time (word ∷ more ∷ rest) = None
+
+-- a place, or else a time
+abbrev pub going_to : Option ℕ → Option ℕ → Asked
+going_to None time = with_number go_time time
+going_to (Some place) time = go place
+
+-- behind `go`: a place, a time, or a channel and the number of one of its messages
 abbrev pub going : List Text → Asked
 going [] = unknown
 going (word ∷ rest) =
-    if bytes_eq word (codes "channel") then of_channel (two_words rest) else with_number go (only_number (word ∷ rest))
+    if bytes_eq word (codes "channel") then of_channel (two_words rest)
+    else going_to (only_number (word ∷ rest)) (only_time (word ∷ rest))
+
+-- a selector in the words of a rule
+abbrev pub selecting : (Selector → Asked) → Read Selector → Asked
+selecting asks (Ok selector) = asks selector
+selecting asks (Err fault) = no_condition
+
+-- a condition, or else a selector
+abbrev pub finding : (Condition → Asked) → (Selector → Asked) → Result Condition Cause → Read Selector → Asked
+finding asks selects (Ok test) selector = asks test
+finding asks selects (Err cause) selector = selecting selects selector
 
 -- all that stands behind `find`, and behind `find back`
-abbrev pub finding : (Condition → Asked) → Result Condition Cause → Asked
-finding asks (Ok test) = asks test
-finding asks (Err cause) = no_condition
+abbrev pub finding_on : Text → Asked
+finding_on text = finding find select (condition_of_text text) (selector_of text)
+
+abbrev pub finding_back : Text → Asked
+finding_back text = finding find_back select_back (condition_of_text text) (selector_of text)
 
 abbrev pub finding_in : Text → Asked
 finding_in rest =
-    if bytes_eq (first_word rest) (codes "back") then finding find_back (condition_of_text (behind_word rest))
-    else finding find (condition_of_text rest)
+    if bytes_eq (first_word rest) (codes "back") then finding_back (behind_word rest) else finding_on rest
 
 -- what `state` shows: where lines are typed, what hosts set too
 abbrev pub plain : Manner → Detail
@@ -162,10 +201,12 @@ asked_by manner word rest =
 unfoldable pub asked : Manner → Text → Asked
 asked manner line = asked_by manner (first_word line) (behind_word line)
 
--- memory is taken for what stands behind `find` alone, also where that is no condition
+-- memory is taken for what stands behind `find` alone, also where that is a selector, or neither
 abbrev pub TakesMemory : Asked → Type 0
 TakesMemory (find test) = Unit {0}
 TakesMemory (find_back test) = Unit {0}
+TakesMemory (select selector) = Unit {0}
+TakesMemory (select_back selector) = Unit {0}
 TakesMemory no_condition = Unit {0}
 TakesMemory _ = ⊥
 
@@ -174,9 +215,12 @@ abbrev pub asked_of : Command → Asked
 asked_of (command.Forward n) = forward n
 asked_of (command.Back n) = back n
 asked_of (command.Go place) = go place
+asked_of (command.GoTime ticks) = go_time ticks
 asked_of (command.Seek sought n) = seek sought n
 asked_of (command.Find condition) = find (condition_in condition)
 asked_of (command.FindBack condition) = find_back (condition_in condition)
+asked_of (command.Select selector) = select selector
+asked_of (command.SelectBack selector) = select_back selector
 asked_of (command.State detail) = state detail
 asked_of command.Show = show
 asked_of (command.ShowAt n) = show_at n

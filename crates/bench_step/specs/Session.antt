@@ -1,5 +1,5 @@
 -- A session (own choice): lines, and what is replied to each of them, from the state that those before it left.
-use Rattle.std.specs.Prelude.{◌≡◌, ◌≢◌, ℕ, ◌+◌, ◌-◌, ◌<◌, ◌≤◌, ◌==◌, ◌⊎◌, Bool, true, false, not, List, [], ◌∷◌, ◌++◌, None, Some, codes, decimal}
+use Rattle.std.specs.Prelude.{◌≡◌, ◌≢◌, ℕ, ◌+◌, ◌-◌, ◌<◌, ◌≤◌, ◌==◌, ◌⊎◌, Bool, true, false, not, List, [], ◌∷◌, ◌++◌, Option, None, Some, codes, decimal}
 use Rattle.std.specs.List.{flat_map, zip, list_any}
 use Rattle.mil_host.specs.Words.{Text}
 use Rattle.frame_tree.specs.Tree.{Condition}
@@ -14,8 +14,9 @@ use Rattle.replay.specs.Places.{number_at}
 use Rattle.replay.specs.Moves.{ReplayState, at_place, total_of, IsMet, IsNextMet, IsNowhere, PastWhere, StartWhere}
 use Rattle.bench_state.specs.declared.details.Detail.{Detail}
 use Rattle.bench_state.specs.StateText.{channel_text}
-use Rattle.bench_places.specs.Places.{place_of}
-use Rattle.bench_step.specs.Commands.{Asked, forward, back, go, seek, find, find_back, state, show, show_at, help, quit, no_condition, unknown, asked}
+use Rattle.bench_places.specs.Places.{latest_of, place_before, place_of}
+use Rattle.bench_places.specs.declared.sought.Sought.TheVariants.{Later, Commands}
+use Rattle.bench_step.specs.Commands.{Asked, forward, back, go, go_time, seek, find, find_back, select, select_back, state, show, show_at, help, quit, no_condition, unknown, asked}
 use Rattle.bench_step.specs.HelpText.{help_text}
 use Rattle.bench_step.specs.Backwards.{IsLatest}
 use Rattle.bench_step.specs.declared.manners.Manner.{Manner}
@@ -55,9 +56,21 @@ IsThere s n = message_numbered s.found n ≢ None
 abbrev pub IsAbsent : ReplayState → ℕ → Type 0
 IsAbsent s n = message_numbered s.found n ≡ None
 
+-- what is replied to a move to a place of the recording
+abbrev pub IsMoveTo : ℕ → Reply → Type 0
+IsMoveTo place (reply.At n) = n ≡ place
+IsMoveTo place (reply.Refused e) = IsMemory e
+IsMoveTo place _ = ⊥
+
+-- what is replied where this is the place that was looked for, if there is one
+abbrev pub Finds : Option ℕ → Reply → Type 0
+Finds place (reply.At n) = place ≡ Some n
+Finds place (reply.Refused e) = PastWhere (place ≡ None) e ⊎ IsMemory e
+Finds place _ = ⊥
+
 -- What may be replied in a state to a line that asks this. Memory may be refused for a move that can be made, for a
 -- message that is there, and for what stands behind `find`, before it is known whether that is a condition that some
--- message meets.
+-- message meets, or a selector that is about one.
 abbrev pub Replies : ReplayState → Asked → Reply → Type 0
 Replies s (forward k) (reply.At n) = (s.place + k ≤ total_of s) × (n ≡ s.place + k)
 Replies s (forward k) (reply.Refused e) = PastWhere (total_of s < s.place + k) e
@@ -65,12 +78,15 @@ Replies s (back k) (reply.At n) = (k ≤ s.place) × (n ≡ s.place - k)
 Replies s (back k) (reply.Refused e) = StartWhere (s.place < k) e
 Replies s (go n) (reply.At m) = (n ≤ total_of s) × (m ≡ n)
 Replies s (go n) (reply.Refused e) = PastWhere (total_of s < n) e
+Replies s (go_time ticks) r = IsMoveTo (place_before (Later ticks) s.found) r
 Replies s (seek sought n) (reply.At m) = place_of sought 0 n s.found ≡ Some m
 Replies s (seek sought n) (reply.Refused e) = PastWhere (place_of sought 0 n s.found ≡ None) e
 Replies s (find test) (reply.At n) = IsNextMet s test n
 Replies s (find test) (reply.Refused e) = PastWhere (IsNowhere s test) e ⊎ IsMemory e
 Replies s (find_back test) (reply.At n) = IsLatest s test s.place n
 Replies s (find_back test) (reply.Refused e) = PastWhere (IsNoneBefore s test) e ⊎ IsMemory e
+Replies s (select selector) r = Finds (place_of (Commands selector) s.place 1 s.found) r
+Replies s (select_back selector) r = Finds (latest_of (Commands selector) s.place s.found) r
 Replies s (state detail) (reply.Shown shown) = shown ≡ detail
 Replies s show (reply.Message n) = IsThere s s.place × (n ≡ s.place)
 Replies s show (reply.Refused e) = PastWhere (IsAbsent s s.place) e
@@ -82,12 +98,6 @@ Replies s no_condition reply.Unknown = Unit {0}
 Replies s no_condition (reply.Refused e) = IsMemory e
 Replies s unknown reply.Unknown = Unit {0}
 Replies s _ _ = ⊥
-
--- what is replied to a move to a place of the recording
-abbrev pub IsMoveTo : ℕ → Reply → Type 0
-IsMoveTo place (reply.At n) = n ≡ place
-IsMoveTo place (reply.Refused e) = IsMemory e
-IsMoveTo place _ = ⊥
 
 -- the state behind a line: only a move that was made changes it
 abbrev pub after_reply : Reply → ReplayState → ReplayState

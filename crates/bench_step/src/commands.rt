@@ -1,16 +1,18 @@
 //! What a line of a session asks.
 ghost use Rattle.std.specs.Prelude.{◌≡◌, ◌≤◌, IfOk, IfSome, OnErr};
 ghost use Rattle.mil_host.specs.Words.{words};
-ghost use Rattle.frame_text.specs.Conditions.{condition_of_text};
+ghost use Rattle.judge_rules.specs.Selectors.{selector_of};
 ghost use Rattle.std.specs.Prelude.{option_map};
-ghost use Rattle.bench_step.specs.Commands.{Asked, asked, asked_of, asked_by, alone, find, find_back, finding, finding_in, forward, back, go, show_at, going, holding, number_up_to, of_channel, only_number, plain, showing, steps, telling, two_words, with_number, TakesMemory};
+ghost use Rattle.bench_step.specs.Commands.{Asked, asked, asked_of, asked_by, alone, finding_back, finding_in, finding_on, forward, back, go, show_at, going, holding, number_up_to, of_channel, only_number, only_time, plain, selecting, select, select_back, showing, steps, telling, two_words, with_number, TakesMemory};
 
 use crate::manners::Manner;
 use crate::words::split_word;
 use bench_places::Sought;
+use bench_select::{Bound, Selector, read_bound};
 use bench_state::Detail;
 use frame_text::{ScriptError, read_cond};
 use frame_tree::Cond;
+use judge_rules::selector_of;
 use mil_host::next_word;
 use numerals::spelled;
 use std::alloc::{AllocError, Global};
@@ -24,12 +26,18 @@ pub enum Command {
     Back(u64),
     /// To the place where so many messages of the recording are past.
     Go(u64),
+    /// To the place before the first message with a later stamp than so many ticks of 0.1 µs.
+    GoTime(u64),
     /// To the message of a number, counted from 1, among all that meet what is asked of them.
     Seek(Sought, u64),
     /// On to the next message whose outcome makes the condition true.
     Find(Cond<Global>),
     /// Back to the latest message before the place whose outcome makes it true.
     FindBack(Cond<Global>),
+    /// On to the next message that the selector is about.
+    Select(Selector),
+    /// Back to the latest message before the place that it is about.
+    SelectBack(Selector),
     /// What the terminals hold, in this detail.
     State(Detail),
     /// The message at the place, as people read it.
@@ -40,7 +48,7 @@ pub enum Command {
     Help,
     /// The end of the session.
     Quit,
-    /// A `find` with no condition behind it.
+    /// A `find` with neither a condition nor a selector behind it.
     NoCondition,
     /// Nothing that a line may ask.
     Unknown,
@@ -75,6 +83,20 @@ fn only_number(rest: &[u8]) -> Option<u64>
     match next_word(behind) {
         Some(_) => None,
         None => spelled(10, 1, 10, word),
+    }
+}
+
+/// The time that the only word is, in ticks of 0.1 µs.
+fn only_time(rest: &[u8]) -> Option<u64>
+    ensures { result ≡ only_time (words rest.now) }
+{
+    let (word, behind) = next_word(rest)?;
+    if next_word(behind).is_some() {
+        return None;
+    }
+    match read_bound(word) {
+        Some(Bound::Time(ticks)) => Some(ticks),
+        _ => None,
     }
 }
 
@@ -136,7 +158,7 @@ fn of_channel(rest: &[u8]) -> Command
     }
 }
 
-/// A place: one word of one to ten decimal digits; or a message of a channel.
+/// A place, one word of one to ten decimal digits; a time with its unit; or a message of a channel.
 fn going(rest: &[u8]) -> Command
     ensures { asked_of result ≡ going (words rest.now) }
 {
@@ -146,39 +168,60 @@ fn going(rest: &[u8]) -> Command
     if word == b"channel".as_slice() {
         return of_channel(behind);
     }
-    match only_number(rest) {
-        Some(place) => Command::Go(place),
-        None => Command::Unknown,
+    match (only_number(rest), only_time(rest)) {
+        (Some(place), _) => Command::Go(place),
+        (None, Some(ticks)) => Command::GoTime(ticks),
+        (None, None) => Command::Unknown,
     }
 }
 
-/// A condition, on the messages behind the place.
+/// A selector, of the messages behind the place.
+fn selecting(rest: &[u8]) -> Command
+    ensures { asked_of result ≡ selecting select (selector_of rest.now) }
+{
+    match selector_of(rest) {
+        Ok(selector) => Command::Select(selector),
+        Err(_) => Command::NoCondition,
+    }
+}
+
+/// A selector, of the messages before the place.
+fn selecting_back(rest: &[u8]) -> Command
+    ensures { asked_of result ≡ selecting select_back (selector_of rest.now) }
+{
+    match selector_of(rest) {
+        Ok(selector) => Command::SelectBack(selector),
+        Err(_) => Command::NoCondition,
+    }
+}
+
+/// A condition, or else a selector, on the messages behind the place.
 #[tactic(auto, using(crate::proofs::Asking::finding_takes))]
-fn finding(alloc: Global, rest: &[u8]) -> Result<Command, AllocError>
-    ensures read { IfOk result (λ c. asked_of c ≡ finding find (condition_of_text rest.now)) }
-    ensures memory { OnErr result (TakesMemory (finding find (condition_of_text rest.now))) }
+fn finding_on(alloc: Global, rest: &[u8]) -> Result<Command, AllocError>
+    ensures read { IfOk result (λ c. asked_of c ≡ finding_on rest.now) }
+    ensures memory { OnErr result (TakesMemory (finding_on rest.now)) }
 {
     match read_cond(alloc, rest) {
         Ok(condition) => Ok(Command::Find(condition)),
-        Err(ScriptError::Text { .. }) => Ok(Command::NoCondition),
+        Err(ScriptError::Text { .. }) => Ok(selecting(rest)),
         Err(ScriptError::Memory { .. }) => Err(AllocError),
     }
 }
 
-/// A condition, on the messages before the place.
+/// A condition, or else a selector, on the messages before the place.
 #[tactic(auto, using(crate::proofs::Asking::finding_back_takes))]
 fn finding_back(alloc: Global, rest: &[u8]) -> Result<Command, AllocError>
-    ensures read { IfOk result (λ c. asked_of c ≡ finding find_back (condition_of_text rest.now)) }
-    ensures memory { OnErr result (TakesMemory (finding find_back (condition_of_text rest.now))) }
+    ensures read { IfOk result (λ c. asked_of c ≡ finding_back rest.now) }
+    ensures memory { OnErr result (TakesMemory (finding_back rest.now)) }
 {
     match read_cond(alloc, rest) {
         Ok(condition) => Ok(Command::FindBack(condition)),
-        Err(ScriptError::Text { .. }) => Ok(Command::NoCondition),
+        Err(ScriptError::Text { .. }) => Ok(selecting_back(rest)),
         Err(ScriptError::Memory { .. }) => Err(AllocError),
     }
 }
 
-/// A condition, behind `back` or alone.
+/// A condition or a selector, behind `back` or alone.
 fn finding_in(alloc: Global, rest: &[u8]) -> Result<Command, AllocError>
     ensures read { IfOk result (λ c. asked_of c ≡ finding_in rest.now) }
     ensures memory { OnErr result (TakesMemory (finding_in rest.now)) }
@@ -187,7 +230,7 @@ fn finding_in(alloc: Global, rest: &[u8]) -> Result<Command, AllocError>
     if word == b"back".as_slice() {
         finding_back(alloc, behind)
     } else {
-        finding(alloc, rest)
+        finding_on(alloc, rest)
     }
 }
 
@@ -272,10 +315,11 @@ fn read_by(alloc: Global, manner: Manner, word: &[u8], rest: &[u8]) -> Result<Co
     }
 }
 
-/// What a line asks: `forward`, `back`, `go N`, `go channel C N`, `find COND`, `find back COND`, `state`, `state --all`,
-/// `data ADDRESS SUBADDRESS`, `show`, `show N`, `help` or `quit`; where it is typed also `forward N` and `back N`. Spaces
-/// alone part its words; a number has one to ten digits; the condition is all that stands behind `find` or `back`.
-/// Memory is taken for what stands behind `find` alone.
+/// What a line asks: `forward`, `back`, `go N`, `go TIME`, `go channel C N`, `find COND`, `find back COND`, `find
+/// SELECTOR`, `find back SELECTOR`, `state`, `state --all`, `data ADDRESS SUBADDRESS`, `show`, `show N`, `help` or
+/// `quit`; where it is typed also `forward N` and `back N`. Spaces alone part its words; a number has one to ten
+/// digits, and a time its unit, as `1.2s`; the condition is all that stands behind `find` or `back`, and what is no
+/// condition there may be a selector in the words of a rule. Memory is taken for what stands behind `find` alone.
 #[tactic(auto, unfolding(crate::specs::Commands::asked))]
 pub fn read_command(alloc: Global, manner: Manner, line: &[u8]) -> Result<Command, AllocError>
     ensures read { IfOk result (λ c. asked_of c ≡ asked manner line.now) }

@@ -10,7 +10,7 @@ use crate::commands::{Command, read_command};
 use crate::decoding::Decoder;
 use crate::fault::StepFault;
 use crate::manners::Manner;
-use crate::moves::{find_on, go_back, go_on, go_to, seek};
+use crate::moves::{find_on, go_back, go_on, go_time, go_to, seek, select_back, select_on};
 use crate::opening::{open_replay, packets_of};
 use crate::replies::Reply;
 use bench_report::Report;
@@ -126,6 +126,7 @@ impl<'a> Session<'a> {
             Command::Forward(count) => go_on(&mut self.replay, *count),
             Command::Back(count) => go_back(&mut self.replay, *count),
             Command::Go(place) => go_to(&mut self.replay, *place),
+            Command::GoTime(ticks) => go_time(&mut self.replay, &self.index, *ticks),
             Command::Seek(sought, number) => {
                 seek(&mut self.replay, &self.index, sought, *number)
             }
@@ -138,6 +139,10 @@ impl<'a> Session<'a> {
                 self.recording,
                 condition,
             ),
+            Command::Select(selector) => select_on(&mut self.replay, &self.index, *selector),
+            Command::SelectBack(selector) => {
+                select_back(&mut self.replay, &self.index, *selector)
+            }
             Command::State(detail) => Reply::Shown(*detail),
             Command::Show => {
                 let place = self.replay.place();

@@ -68,11 +68,11 @@ fn answer_all<R: BufRead, W: Write>(
     Err(StepFault::Input)
 }
 
-/// The debugger of a recording, driven by lines: `forward`, `back`, `go N`, `go channel C N`, `find COND`, `find back COND`,
-/// `state`, `state --all`, `data ADDRESS SUBADDRESS`, `show`, `show N`, `help` and `quit`; and, where they are typed,
-/// `forward N` and `back N`. It stands before the first message at first, and answers each line at once; where memory is
-/// refused for what a line asks, it prints `memory`, stands where it stood, and goes on, and answers with that fault at
-/// the end of the lines, which is at `quit` too.
+/// The debugger of a recording, driven by lines: `forward`, `back`, `go N`, `go TIME`, `go channel C N`, `find COND`,
+/// `find back COND`, `find SELECTOR`, `find back SELECTOR`, `state`, `state --all`, `data ADDRESS SUBADDRESS`, `show`,
+/// `show N`, `help` and `quit`; and, where they are typed, `forward N` and `back N`. It stands before the first
+/// message at first, and answers each line at once; where memory is refused for what a line asks, it prints `memory`,
+/// stands where it stood, and goes on, and answers with that fault at the end of the lines, which is at `quit` too.
 ///
 /// Before the first line is read: the fault of a recording that can't be read, and then the first difference between jobs, report
 /// and recording (Y1).

@@ -91,6 +91,9 @@ state --all     what the hosts of the terminals set, too
 forward N, back N   so many messages on, or back (where lines are typed)
 go channel C N  to message N of channel C
 find back COND  back to the latest message before the place whose outcome makes a condition true
+find SELECTOR   on to the next message of these commands, in the words of a rule, as in: find tx 5 3
+find back SELECTOR   back to the latest message of these commands before the place
+go TIME         to the place before the first message with a later stamp, as in: go 1.2s, go 350ms
 show, show N    the message at the place, or message N, as people read it
 data A S        what terminal A holds at subaddress S: received, received from all, to transmit
 help            these lines

@@ -10,8 +10,12 @@ mod made;
 #[cfg(test)]
 mod refusals;
 #[cfg(test)]
+mod selectors;
+#[cfg(test)]
 mod sessions;
 #[cfg(test)]
 mod streams;
+#[cfg(test)]
+mod times;
 #[cfg(test)]
 mod walks;
