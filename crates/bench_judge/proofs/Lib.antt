@@ -3,3 +3,4 @@ mod Moments
 mod Passing
 mod Whole
 mod Tallying
+mod Writing

@@ -1,10 +1,9 @@
 //! One pass over the messages of a recording, for all rules.
-ghost use Rattle.std.specs.Prelude.{◌≡◌, ◌+◌, ◌<◌, ◌^◌, ◌∷◌, ◌++◌, [], List, length, map, reverse, IfOk, OnOk};
-ghost use Rattle.ch11_f1.specs.BodyReading.{Message};
+ghost use Rattle.std.specs.Prelude.{◌≡◌, ◌+◌, ◌<◌, ◌^◌, ◌∷◌, [], List, length, reverse, IfOk, OnOk};
 ghost use Rattle.ch11_f1.specs.Views.{message_of};
 ghost use Rattle.ch11_reader.specs.Contents.{heard_in};
 ghost use Rattle.bench_judge.specs.Verdicts.{Heard, AreVerdicts};
-ghost use Rattle.bench_judge.specs.Tallies.{AreTallies};
+ghost use Rattle.bench_judge.specs.Tallies.{AreTallies, heard_on};
 
 use crate::tallies::Tally;
 use crate::verdicts::{Verdict, verdict_of};
@@ -24,7 +23,6 @@ pub fn judge(alloc: Global, index: &Index<'_>, rules: &[Rule]) -> Result<Vec<Ver
         note_messages(
             rules,
             tallies.as_mut_slice(),
-            packet.before,
             packet.header.channel,
             index.messages_in(place),
         )?;
@@ -47,37 +45,35 @@ fn no_tallies(alloc: Global, rules: &[Rule]) -> Result<Vec<Tally>, AllocError>
 fn note_message(
     rules: &[Rule],
     tallies: &mut [Tally],
-    number: u64,
     channel: u16,
     seen: &Seen<'_>,
 ) -> Result<(), AllocError>
     requires { length tallies.old ≡ length rules.now }
-    ensures { (history : List Heard) → AreTallies rules.now history tallies.old → number ≡ length history + 1 → OnOk result (AreTallies rules.now ((channel, message_of seen.now) ∷ history) tallies.new) }
+    ensures { (history : List Heard) → AreTallies rules.now history tallies.old → length history + 1 < 2 ^ 64
+        → OnOk result (AreTallies rules.now ((channel, message_of seen.now) ∷ history) tallies.new) }
 {
     let mut known = None;
     'rules: for place in 0..rules.len() {
-        tallies[place].note(&rules[place], number, channel, seen, &mut known)?;
+        tallies[place].note(&rules[place], channel, seen, &mut known)?;
     }
     Ok(())
 }
 
-/// The messages of a packet of this channel, behind so many messages of the file.
+/// The messages of a packet of this channel.
 fn note_messages(
     rules: &[Rule],
     tallies: &mut [Tally],
-    before: u64,
     channel: u16,
     messages: Messages<'_>,
 ) -> Result<(), AllocError>
-    requires many { length tallies.old ≡ length rules.now }
-    requires few { before + length messages < 2 ^ 64 }
-    ensures { (history : List Heard) → AreTallies rules.now history tallies.old → before ≡ length history → OnOk result (AreTallies rules.now (reverse (map (λ (m : Message). (channel, m)) messages.entry) ++ history) tallies.new) }
+    requires { length tallies.old ≡ length rules.now }
+    ensures { (history : List Heard) → AreTallies rules.now history tallies.old
+        → length history + length messages.entry < 2 ^ 64
+        → OnOk result (AreTallies rules.now (heard_on channel messages.entry history) tallies.new) }
 {
-    let mut number = before;
     let mut rest = messages;
     'messages: while let Some(seen) = rest.next() {
-        number += 1;
-        note_message(rules, tallies, number, channel, &seen)?;
+        note_message(rules, tallies, channel, &seen)?;
     }
     Ok(())
 }

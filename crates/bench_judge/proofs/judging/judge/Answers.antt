@@ -1,4 +1,4 @@
-use Rattle.std.proofs.Common.{◌≡◌, ◌+◌, List, ap, sym, subst, arith, length, take, reverse}
+use Rattle.std.proofs.Common.{◌≡◌, ◌+◌, ◌<◌, ◌^◌, List, ap, sym, subst, arith, length, take, reverse}
 use Rattle.std.proofs.lemmas.List.{take_all, with_items_is}
 use Rattle.ch11_reader.specs.Recording.{Found}
 use Rattle.ch11_reader.specs.Contents.{heard_in}
@@ -11,23 +11,20 @@ use Rattle.bench_judge.proofs.judging.judge.Goals as goal
 pub messages_in-requires : goal.messages_in-requires
 messages_in-requires c = omega (arith, same_count c.args.index.now c.packets-packets.result.now c.packets-packets.ensures.listed, c.packets-test.true)
 
-pub note_messages-requires-clause-many : goal.note_messages-requires-clause-many
-note_messages-requires-clause-many c = omega (arith, ap length c.as_mut_slice.ensures.value, c.packets.invariant.many)
-
-pub note_messages-requires-clause-few : goal.note_messages-requires-clause-few
-note_messages-requires-clause-few c =
-    let at = at_place c.args.index.now c.packets-packets.result.now c.packets.place no_packet c.packets-packets.ensures.listed c.packets-test.true in
-    omega (arith, at.before, at.few, ap length (c.messages_in.ensures at.packet at.there), c.packets-packets.ensures.few)
+pub note_messages-requires : goal.note_messages-requires
+note_messages-requires c = omega (arith, ap length c.as_mut_slice.ensures.value, c.packets.invariant.many)
 
 pub packets-preserved : goal.packets-preserved
 packets-preserved c =
     let at = at_place c.args.index.now c.packets-packets.result.now c.packets.place no_packet c.packets-packets.ensures.listed c.packets-test.true in
     let history = reverse (heard_in (take c.packets.place c.args.index.now)) in
     let start = subst (λ (ts : List Tally). AreTallies c.args.rules.now history ts) (sym c.as_mut_slice.ensures.value) c.packets.invariant in
-    let noted = rw (c.messages_in.ensures at.packet at.there) at c.in_ok-note_messages.ensures history start (before_packet c.args.index.now c.packets.place _ at) in
+    let before = before_packet c.args.index.now c.packets.place _ at in
+    let few : length history + length (c.messages_in.result.entry) < 2 ^ 64 = omega (arith, before, at.before, at.few, ap length (c.messages_in.ensures at.packet at.there), c.packets-packets.ensures.few) in
+    let noted = rw (c.messages_in.ensures at.packet at.there) at c.in_ok-note_messages.ensures history start few in
     let kept : length c.note_messages.new.tallies ≡ c.packets.tallies.len = omega (arith, c.note_messages.auto.tallies, ap length c.as_mut_slice.ensures.value, c.as_mut_slice.ensures.len) in
     subst (λ (ts : List Tally). AreTallies c.args.rules.now (reverse (heard_in (take (c.packets.place + 1) c.args.index.now))) ts) (sym (with_items_is c.packets.tallies c.note_messages.new.tallies kept))
-    (packets-more c.args.rules.now c.args.index.now c.packets.place _ c.note_messages.new.tallies at noted)
+    (packets-more (λ hs. AreTallies c.args.rules.now hs c.note_messages.new.tallies) c.args.index.now c.packets.place _ at noted)
 
 pub returns : goal.returns
 returns c =
