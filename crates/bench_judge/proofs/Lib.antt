@@ -4,3 +4,4 @@ mod Passing
 mod Whole
 mod Tallying
 mod Writing
+mod Judged
