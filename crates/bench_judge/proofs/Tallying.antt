@@ -1,7 +1,7 @@
 -- A tally when one more message is passed.
-use Rattle.std.proofs.Common.{◌≡◌, ℕ, ◌+◌, ◌^◌, ◌<◌, ◌≤◌, List, [], ◌∷◌, ◌++◌, length, refl, ap, sym, ◌∙◌, arith}
+use Rattle.std.proofs.Common.{◌≡◌, ℕ, ◌+◌, ◌^◌, ◌<◌, List, ◌∷◌, length, refl, ap, sym, ◌∙◌, arith}
 use Rattle.std.specs.Prelude.{Bool, true, false, ◌==◌, nat_eq, Option, Some, None, if◌then◌else◌}
-use Rattle.std.specs.HashMap.{get, Updates}
+use Rattle.std.specs.HashMap.{get}
 use Rattle.ch11_f1.specs.BodyReading.{Message}
 use Rattle.judge_rules.specs.declared.rules.Bounds.{Bounds}
 use Rattle.judge_rules.specs.declared.rules.Rule.{Rule}
@@ -9,7 +9,7 @@ use Rattle.judge_rules.specs.declared.rules.Check.{Check}
 use Rattle.bench_judge.specs.declared.tallies.Tally.{Tally}
 use Rattle.bench_judge.specs.Selection.{selects}
 use Rattle.bench_judge.specs.Checks.{meets, period_of, follows_in}
-use Rattle.bench_judge.specs.Verdicts.{Heard, latest_stamp, selected, missed}
+use Rattle.bench_judge.specs.Verdicts.{Heard, latest_stamp, selected}
 use Rattle.bench_judge.specs.Tallies.{IsTally, IsLatest, misses_next}
 use Rattle.bench_judge.proofs.Moments.{selected-skip, missed-skip, latest-skip, selected-more, missed-met, missed-take, few-selected, few-missed, latest-take, meets-none, meets-period}
 

@@ -1,6 +1,6 @@
 -- Lines of verdicts, one after the other.
-use Rattle.std.proofs.Common.{◌≡◌, ℕ, zero, suc, ◌+◌, ◌<◌, List, [], ◌∷◌, ◌++◌, length, take, refl, ap, sym, ◌∙◌, subst, arith, append_assoc, append-nil, add-one}
-use Rattle.std.specs.Prelude.{Bool, true, false, not, if◌then◌else◌, Option, Some, None, slice_get}
+use Rattle.std.proofs.Common.{◌≡◌, ℕ, suc, ◌+◌, List, [], ◌∷◌, ◌++◌, length, take, refl, ap, sym, ◌∙◌, subst, arith, append_assoc, append-nil, add-one}
+use Rattle.std.specs.Prelude.{Bool, true, false, Option, Some, slice_get}
 use Rattle.std.specs.Io.KnownBytes.{Appends}
 use Rattle.std.specs.List.{flat_map}
 use Rattle.std.proofs.lemmas.Grind.{flat_map-append}
@@ -12,9 +12,9 @@ use Rattle.bench_judge.specs.declared.tallies.Tally.{Tally}
 use Rattle.bench_judge.specs.declared.verdicts.Miss.{Miss}
 use Rattle.bench_judge.specs.declared.verdicts.Verdict.{Verdict}
 use Rattle.bench_judge.specs.Selection.{selects}
-use Rattle.bench_judge.specs.Checks.{meets, counts}
-use Rattle.bench_judge.specs.Verdicts.{Heard, latest_stamp, selected, missed, misses, miss_of, IsVerdict, AreVerdicts, not_held, rules_not_held, holds}
-use Rattle.bench_judge.specs.Lines.{miss_line, rule_line, count_lines, verdict_lines, rules_lines, last_line, verdict_text}
+use Rattle.bench_judge.specs.Checks.{meets}
+use Rattle.bench_judge.specs.Verdicts.{Heard, latest_stamp, missed, misses, miss_of, AreVerdicts, not_held, rules_not_held, holds}
+use Rattle.bench_judge.specs.Lines.{miss_line, verdict_lines, rules_lines, last_line, verdict_text}
 use Rattle.bench_judge.specs.Tallies.{IsTally, IsWriting, misses_next, miss_lines}
 use Rattle.bench_judge.proofs.Moments.{moment, misses-skip, misses-met, misses-more, many-misses}
 use Rattle.bench_judge.proofs.Tallying.{next-skip, next-met, next-missed}

@@ -1,7 +1,5 @@
-use Rattle.std.proofs.Common.{sym, subst, reverse, List}
+use Rattle.std.proofs.Common.{reverse}
 use Rattle.ch11_reader.specs.Contents.{heard_in}
-use Rattle.bench_judge.specs.declared.verdicts.Verdict.{Verdict}
-use Rattle.bench_judge.specs.Verdicts.{AreVerdicts}
 use Rattle.bench_judge.proofs.Judged.{verdicts-append}
 use Rattle.bench_judge.proofs.judging.judge_more.Goals as goal
 

@@ -6,7 +6,7 @@ use Rattle.ch11_reader.specs.Contents.{heard_in}
 use Rattle.bench_dump.proofs.Packets.{no_packet, at_place, same_count}
 use Rattle.bench_judge.specs.Tallies.{IsWriting, miss_lines}
 use Rattle.bench_judge.proofs.Whole.{before_packet, packets-more}
-use Rattle.bench_judge.proofs.Writing.{writing-none, nothing-written}
+use Rattle.bench_judge.proofs.Writing.{writing-none}
 use Rattle.bench_judge.proofs.lines.write_misses.Goals as goal
 
 pub packets-init : goal.packets-init
