@@ -1,13 +1,15 @@
 //! `bench run --judge`: the rules of a run, read before it begins, and the verdicts on what it recorded.
 
-use crate::judging::{index_of, print_verdicts, verdict_on};
+use crate::judging::{fault_of_printing, index_of, print_verdicts, verdict_on};
 use bench_files::leads_to_output;
-use bench_judge::{judge, verdict_text};
+use bench_judge::{PrintFault, Verdict, write_verdicts};
 use bench_requests::{Fault, RunRequest, read_whole, rules_of};
+use ch11_reader::Index;
 use clap::Arg;
 use judge_rules::Rule;
 use std::alloc::Global;
 use std::fs;
+use std::io::{self, BufWriter, Write};
 use std::os::unix::fs::FileTypeExt;
 use std::rt::{Env, Files};
 
@@ -61,6 +63,35 @@ pub(crate) fn rules_of_run<'a, R: Files + AllocGlobal>(
     Ok(Some(RunRules { text, rules }))
 }
 
+/// The error stream, to which text is written; it is no fault where that fails, as everywhere.
+#[derive(Drop)]
+struct ErrorStream<'a, E> {
+    errors: &'a E,
+}
+
+impl<E: Eprint> Write for ErrorStream<'_, E> {
+    fn write(&mut self, bytes: &[u8]) -> io::Result<usize> {
+        let text = str::from_utf8(bytes).unwrap_or("");
+        let _ = eprint!(self.errors; "{text}");
+        Ok(bytes.len())
+    }
+
+    fn flush(&mut self) -> io::Result<()> {
+        Ok(())
+    }
+}
+
+/// Judges by rules and tells the verdicts on the error stream, as plain lines.
+fn tell_verdicts<E: Eprint>(
+    alloc: Global,
+    errors: &E,
+    index: &Index<'_>,
+    rules: &[Rule],
+) -> Result<Vec<Verdict>, PrintFault> {
+    let mut out = BufWriter::new(alloc, ErrorStream { errors })?;
+    write_verdicts(alloc, index, rules, &mut out)
+}
+
 /// Judges what a run recorded, and prints the verdicts where its counts went. Where a rule is not held it ends with a
 /// fault of its own.
 pub(crate) fn judge_run<'a, R: Env + Files + AllocGlobal + Print, E: Eprint>(
@@ -71,12 +102,11 @@ pub(crate) fn judge_run<'a, R: Env + Files + AllocGlobal + Print, E: Eprint>(
 ) -> Result<(), Fault<'a>> {
     let bytes = read_whole(rt, request.out)?;
     let index = index_of(rt.alloc(), bytes.as_slice(), false)?;
-    let verdicts = judge(rt.alloc(), &index, given.rules.as_slice())?;
-    if leads_to_output(rt, request.report) {
-        let text = verdict_text(rt.alloc(), verdicts.as_slice())?;
-        let _ = eprint!(errors; "{text}");
+    let rules = given.rules.as_slice();
+    let verdicts = if leads_to_output(rt, request.report) {
+        tell_verdicts(rt.alloc(), errors, &index, rules).map_err(fault_of_printing)?
     } else {
-        print_verdicts(rt, &index, given.text.as_slice(), verdicts.as_slice())?;
-    }
+        print_verdicts(rt, &index, given.text.as_slice(), rules)?
+    };
     verdict_on(verdicts.as_slice())
 }

@@ -2,13 +2,15 @@
 
 use crate::command_line::{file, force};
 use bench_files::{Hold, Kind};
-use bench_judge::{Verdict, colored_text, judge, junit_text, not_held, verdict_text};
+use bench_judge::{
+    PrintFault, Verdict, judge, junit_text, not_held, write_colored, write_verdicts,
+};
 use bench_requests::{Fault, read_whole, replaceable, rules_of, told_apart, write_new};
 use ch11_reader::{Index, ReadError};
 use clap::{Arg, ArgAction, ArgMatches, Command};
 use judge_rules::Rule;
 use std::alloc::{AllocError, Global};
-use std::io::{self, BufWriter, Write};
+use std::io::{self, BufWriter};
 use std::os::unix::fs::FileTypeExt;
 use std::rt::{Env, Files};
 use std::{env, fs};
@@ -145,30 +147,63 @@ fn judge_by<'a, R: Env + Files + AllocGlobal + Print>(
 where
     R::File: Hold,
 {
-    let alloc = rt.alloc();
-    let verdicts = judge(alloc, index, rules)?;
-    print_verdicts(rt, index, text, verdicts.as_slice())?;
+    let verdicts = print_verdicts(rt, index, text, rules)?;
     if let Some(junit) = request.junit {
-        let report = junit_text(alloc, text, verdicts.as_slice())?;
+        let report = junit_text(rt.alloc(), index, text, rules, verdicts.as_slice())?;
         write_new(rt, junit, Kind::Verdicts, request.force, report.as_slice())?;
     }
     verdict_on(verdicts.as_slice())
 }
 
-/// Prints the verdicts on the rules of this text, for people where they go to a terminal.
+/// Judges by the rules of this text and prints the verdicts, for people where they go to a terminal.
 pub(crate) fn print_verdicts<'a, R: Env + Files + AllocGlobal + Print>(
     rt: &R,
     index: &Index<'_>,
     text: &[u8],
-    verdicts: &[Verdict],
-) -> Result<(), Fault<'a>> {
-    if is_for_people(rt) {
-        let shown = colored_text(rt.alloc(), index, text, verdicts)?;
-        print_text(rt, shown.as_slice())
+    rules: &[Rule],
+) -> Result<Vec<Verdict>, Fault<'a>> {
+    let printed = if is_for_people(rt) {
+        print_for_people(rt, index, text, rules)
     } else {
-        let shown = verdict_text(rt.alloc(), verdicts)?;
-        print_text(rt, shown.as_bytes())
+        print_lines(rt, index, rules)
+    };
+    printed.map_err(fault_of_printing)
+}
+
+/// The fault of verdicts that were not printed to their end.
+pub(crate) fn fault_of_printing<'a>(fault: PrintFault) -> Fault<'a> {
+    match fault {
+        PrintFault::Memory => Fault::Memory,
+        PrintFault::Device(error) => Fault::of_stream("-", &error),
     }
+}
+
+fn print_for_people<R: AllocGlobal + Print>(
+    rt: &R,
+    index: &Index<'_>,
+    text: &[u8],
+    rules: &[Rule],
+) -> Result<Vec<Verdict>, PrintFault> {
+    let verdicts = judge(rt.alloc(), index, rules)?;
+    let mut out = BufWriter::new(rt.alloc(), io::writer(rt))?;
+    write_colored(
+        rt.alloc(),
+        index,
+        text,
+        rules,
+        verdicts.as_slice(),
+        &mut out,
+    )?;
+    Ok(verdicts)
+}
+
+fn print_lines<R: AllocGlobal + Print>(
+    rt: &R,
+    index: &Index<'_>,
+    rules: &[Rule],
+) -> Result<Vec<Verdict>, PrintFault> {
+    let mut out = BufWriter::new(rt.alloc(), io::writer(rt))?;
+    write_verdicts(rt.alloc(), index, rules, &mut out)
 }
 
 /// The fault of a rule that is not held, where there is one.
@@ -189,18 +224,4 @@ pub(crate) fn is_for_people<R: Env + Files + AllocGlobal>(rt: &R) -> bool {
         Ok(metadata) => metadata.file_type().is_char_device(),
         Err(_) => false,
     }
-}
-
-/// Prints a text.
-fn print_text<'a, R: AllocGlobal + Print>(rt: &R, text: &[u8]) -> Result<(), Fault<'a>> {
-    match write_text(rt, text) {
-        Ok(()) => Ok(()),
-        Err(error) => Err(Fault::of_stream("-", &error)),
-    }
-}
-
-fn write_text<R: AllocGlobal + Print>(rt: &R, text: &[u8]) -> io::Result<()> {
-    let mut out = BufWriter::new(rt.alloc(), io::writer(rt))?;
-    out.write_all(text)?;
-    out.flush()
 }

@@ -3,3 +3,5 @@ mod Moments
 mod Passing
 mod Whole
 mod Tallying
+mod Writing
+mod Judged

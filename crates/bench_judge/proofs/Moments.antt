@@ -1,8 +1,8 @@
 -- One more message for a tally.
-use Rattle.std.proofs.Common.{◌≡◌, ℕ, suc, ◌+◌, ◌≤◌, List, [], ◌∷◌, ◌++◌, length, reverse, refl, sym, ap, ◌∙◌, arith}
+use Rattle.std.proofs.Common.{◌≡◌, ℕ, suc, ◌+◌, ◌≤◌, List, [], ◌∷◌, ◌++◌, length, reverse, refl, ap, ◌∙◌, arith}
 use Rattle.std.specs.Prelude.{Bool, true, false, not, ◌&&◌, ◌==◌, if◌then◌else◌, Option, Some, None, map}
 use Rattle.std.specs.List.{filter}
-use Rattle.std.proofs.lemmas.List.{reverse-append}
+use Rattle.std.proofs.lemmas.List.{reverse-append, length-reverse, length-map}
 use Rattle.ch11_f1.specs.BodyReading.{Message}
 use Rattle.judge_rules.specs.declared.rules.Bounds.{Bounds}
 use Rattle.judge_rules.specs.declared.rules.Check.{Check}
@@ -26,8 +26,14 @@ moment h earlier = record { number = length earlier + 1; channel = h.0; message 
 pub selected-skip : (rule : Rule) (h : Heard) (history : List Heard) → selects rule h.0 h.1 ≡ false → selected rule (h ∷ history) ≡ selected rule history
 selected-skip rule h history is = filter_skip (is_selected rule) (moment h history) (moments history) is
 
+pub missed-skip : (rule : Rule) (h : Heard) (history : List Heard) → selects rule h.0 h.1 ≡ false → missed rule (h ∷ history) ≡ missed rule history
+missed-skip rule h history is = ap (filter (is_miss rule)) (selected-skip rule h history is)
+
+abbrev pub told_of : List Moment → List Miss
+told_of xs = reverse (map miss_of xs)
+
 pub misses-skip : (rule : Rule) (h : Heard) (history : List Heard) → selects rule h.0 h.1 ≡ false → misses rule (h ∷ history) ≡ misses rule history
-misses-skip rule h history is = ap (λ (xs : List Moment). reverse (map miss_of (filter (is_miss rule) xs))) (selected-skip rule h history is)
+misses-skip rule h history is = ap told_of (missed-skip rule h history is)
 
 if_not : {X : Type 0} (a b : Bool) (x y : X) → b ≡ false → (if a && b then x else y) ≡ y
 if_not true true x y is = cc
@@ -67,17 +73,32 @@ not_false : (b : Bool) → b ≡ false → not b ≡ true
 not_false false is = refl
 not_false true is = cc
 
+pub missed-met : (rule : Rule) (h : Heard) (history : List Heard) → selects rule h.0 h.1 ≡ true → meets rule.check (latest_stamp rule h.0 history) h.1 ≡ true → missed rule (h ∷ history) ≡ missed rule history
+missed-met rule h history is met =
+    ap (filter (is_miss rule)) (selected-take rule h history is)
+    ∙ filter_skip (is_miss rule) (moment h history) (selected rule history) (not_true (meets rule.check (latest_stamp rule h.0 history) h.1) met)
+
+pub missed-take : (rule : Rule) (h : Heard) (history : List Heard) → selects rule h.0 h.1 ≡ true → meets rule.check (latest_stamp rule h.0 history) h.1 ≡ false
+    → missed rule (h ∷ history) ≡ moment h history ∷ missed rule history
+missed-take rule h history is missing =
+    ap (filter (is_miss rule)) (selected-take rule h history is)
+    ∙ filter_take (is_miss rule) (moment h history) (selected rule history) (not_false (meets rule.check (latest_stamp rule h.0 history) h.1) missing)
+
 pub misses-met : (rule : Rule) (h : Heard) (history : List Heard) → selects rule h.0 h.1 ≡ true → meets rule.check (latest_stamp rule h.0 history) h.1 ≡ true → misses rule (h ∷ history) ≡ misses rule history
-misses-met rule h history is met =
-    ap (λ (xs : List Moment). reverse (map miss_of (filter (is_miss rule) xs))) (selected-take rule h history is)
-    ∙ ap (λ (xs : List Moment). reverse (map miss_of xs)) (filter_skip (is_miss rule) (moment h history) (selected rule history) (not_true (meets rule.check (latest_stamp rule h.0 history) h.1) met))
+misses-met rule h history is met = ap told_of (missed-met rule h history is met)
 
 pub misses-more : (rule : Rule) (h : Heard) (history : List Heard) → selects rule h.0 h.1 ≡ true → meets rule.check (latest_stamp rule h.0 history) h.1 ≡ false
     → misses rule (h ∷ history) ≡ misses rule history ++ miss_of (moment h history) ∷ []
 misses-more rule h history is missing =
-    ap (λ (xs : List Moment). reverse (map miss_of (filter (is_miss rule) xs))) (selected-take rule h history is)
-    ∙ ap (λ (xs : List Moment). reverse (map miss_of xs)) (filter_take (is_miss rule) (moment h history) (selected rule history) (not_false (meets rule.check (latest_stamp rule h.0 history) h.1) missing))
-    ∙ reverse-append (miss_of (moment h history) ∷ []) (map miss_of (missed rule history))
+    ap told_of (missed-take rule h history is missing) ∙ reverse-append (miss_of (moment h history) ∷ []) (map miss_of (missed rule history))
+
+-- how many there are: fewer than messages
+pub few-missed : (rule : Rule) (history : List Heard) → length (missed rule history) ≤ length history
+few-missed rule history = omega (arith, length-filter-le (is_miss rule) (selected rule history), few-selected rule history)
+
+-- as many as the lines that tell of them
+pub many-misses : (rule : Rule) (history : List Heard) → length (misses rule history) ≡ length (missed rule history)
+many-misses rule history = omega (arith, length-reverse (map miss_of (missed rule history)), length-map (missed rule history) miss_of)
 
 if_both : {X : Type 0} (a b : Bool) (x y : X) → b ≡ true → (if a && b then x else y) ≡ (if a then x else y)
 if_both true true x y is = refl

@@ -1,47 +1,57 @@
 -- A tally when one more message is passed.
-use Rattle.std.proofs.Common.{◌≡◌, ℕ, ◌+◌, ◌^◌, ◌<◌, ◌≤◌, List, [], ◌∷◌, ◌++◌, length, refl, ap, sym, ◌∙◌, arith}
+use Rattle.std.proofs.Common.{◌≡◌, ℕ, ◌+◌, ◌^◌, ◌<◌, List, ◌∷◌, length, refl, ap, sym, ◌∙◌, arith}
 use Rattle.std.specs.Prelude.{Bool, true, false, ◌==◌, nat_eq, Option, Some, None, if◌then◌else◌}
-use Rattle.std.specs.HashMap.{get, Updates}
+use Rattle.std.specs.HashMap.{get}
 use Rattle.ch11_f1.specs.BodyReading.{Message}
 use Rattle.judge_rules.specs.declared.rules.Bounds.{Bounds}
 use Rattle.judge_rules.specs.declared.rules.Rule.{Rule}
 use Rattle.judge_rules.specs.declared.rules.Check.{Check}
 use Rattle.bench_judge.specs.declared.tallies.Tally.{Tally}
-use Rattle.bench_judge.specs.declared.verdicts.Miss.{Miss}
 use Rattle.bench_judge.specs.Selection.{selects}
 use Rattle.bench_judge.specs.Checks.{meets, period_of, follows_in}
-use Rattle.bench_judge.specs.Verdicts.{Heard, latest_stamp, selected, misses, miss_of}
-use Rattle.bench_judge.specs.Tallies.{IsTally, IsLatest}
-use Rattle.bench_judge.proofs.Moments.{selected-skip, misses-skip, latest-skip, selected-more, misses-met, misses-more, few-selected, latest-take, meets-none, meets-period, moment}
+use Rattle.bench_judge.specs.Verdicts.{Heard, latest_stamp, selected}
+use Rattle.bench_judge.specs.Tallies.{IsTally, IsLatest, misses_next}
+use Rattle.bench_judge.proofs.Moments.{selected-skip, missed-skip, latest-skip, selected-more, missed-met, missed-take, few-selected, few-missed, latest-take, meets-none, meets-period}
 
 pub tally-skip : (rule : Rule) (h : Heard) (history : List Heard) (tally : Tally) → selects rule h.0 h.1 ≡ false → IsTally rule history tally → IsTally rule (h ∷ history) tally
 tally-skip rule h history tally is t = record {
   selected = t.selected ∙ sym (ap length (selected-skip rule h history is));
-  missed = t.missed ∙ sym (misses-skip rule h history is);
+  missed = t.missed ∙ sym (ap length (missed-skip rule h history is));
   latest = λ b period channel. t.latest b period channel ∙ sym (latest-skip rule channel h history is);
 }
 
 -- one more is selected, of fewer than can be counted
-pub tally-more : (rule : Rule) (h : Heard) (history : List Heard) (tally : Tally) (number count : ℕ) → selects rule h.0 h.1 ≡ true → IsTally rule history tally → number ≡ length history + 1 → number < 2 ^ 64
+pub tally-more : (rule : Rule) (h : Heard) (history : List Heard) (tally : Tally) (count : ℕ) → selects rule h.0 h.1 ≡ true → IsTally rule history tally → length history + 1 < 2 ^ 64
     → (tally.selected + 1 < 2 ^ 64 → count ≡ tally.selected + 1) → count ≡ length (selected rule (h ∷ history))
-tally-more rule h history tally number count is t counted small added =
-    omega (arith, added (omega (arith, t.selected, few-selected rule history, counted, small)), t.selected, selected-more rule h history is)
+tally-more rule h history tally count is t small added =
+    omega (arith, added (omega (arith, t.selected, few-selected rule history, small)), t.selected, selected-more rule h history is)
 
 pub tally-met : (rule : Rule) (h : Heard) (history : List Heard) (tally next : Tally) → selects rule h.0 h.1 ≡ true → IsTally rule history tally → meets rule.check (latest_stamp rule h.0 history) h.1 ≡ true
-    → next.selected ≡ length (selected rule (h ∷ history)) → next.missed.items ≡ tally.missed.items → IsLatest rule (h ∷ history) next → IsTally rule (h ∷ history) next
+    → next.selected ≡ length (selected rule (h ∷ history)) → next.missed ≡ tally.missed → IsLatest rule (h ∷ history) next → IsTally rule (h ∷ history) next
 tally-met rule h history tally next is t met many same latest = record {
   selected = many;
-  missed = same ∙ t.missed ∙ sym (misses-met rule h history is met);
+  missed = same ∙ t.missed ∙ sym (ap length (missed-met rule h history is met));
   latest = latest;
 }
 
-pub tally-missed : (rule : Rule) (h : Heard) (history : List Heard) (tally next : Tally) (miss : Miss) → selects rule h.0 h.1 ≡ true → IsTally rule history tally → meets rule.check (latest_stamp rule h.0 history) h.1 ≡ false
-    → miss ≡ miss_of (moment h history) → next.selected ≡ length (selected rule (h ∷ history)) → next.missed.items ≡ tally.missed.items ++ miss ∷ [] → IsLatest rule (h ∷ history) next → IsTally rule (h ∷ history) next
-tally-missed rule h history tally next miss is t met told many more latest = record {
+-- one more misses the rule, of fewer than can be counted
+pub tally-missed : (rule : Rule) (h : Heard) (history : List Heard) (tally next : Tally) → selects rule h.0 h.1 ≡ true → IsTally rule history tally → meets rule.check (latest_stamp rule h.0 history) h.1 ≡ false → length history + 1 < 2 ^ 64
+    → next.selected ≡ length (selected rule (h ∷ history)) → (tally.missed + 1 < 2 ^ 64 → next.missed ≡ tally.missed + 1) → IsLatest rule (h ∷ history) next → IsTally rule (h ∷ history) next
+tally-missed rule h history tally next is t met small many added latest = record {
   selected = many;
-  missed = more ∙ ap (λ (x : Miss). tally.missed.items ++ x ∷ []) told ∙ ap (λ (xs : List Miss). xs ++ miss_of (moment h history) ∷ []) t.missed ∙ sym (misses-more rule h history is met);
+  missed = omega (arith, added (omega (arith, t.missed, few-missed rule history, small)), t.missed, ap length (missed-take rule h history is met));
   latest = latest;
 }
+
+-- whether the next message misses the rule
+pub next-skip : (rule : Rule) (h : Heard) (history : List Heard) → selects rule h.0 h.1 ≡ false → false ≡ misses_next rule history h
+next-skip rule h history is = rw is refl
+
+pub next-met : (rule : Rule) (h : Heard) (history : List Heard) → selects rule h.0 h.1 ≡ true → meets rule.check (latest_stamp rule h.0 history) h.1 ≡ true → false ≡ misses_next rule history h
+next-met rule h history is met = rw (is, met) refl
+
+pub next-missed : (rule : Rule) (h : Heard) (history : List Heard) → selects rule h.0 h.1 ≡ true → meets rule.check (latest_stamp rule h.0 history) h.1 ≡ false → true ≡ misses_next rule history h
+next-missed rule h history is met = rw (is, met) refl
 
 -- a message that meets a period, or any other check
 pub met-period : (rule : Rule) (check : Check) (history : List Heard) (tally : Tally) (b : Bounds) (channel : ℕ) (m : Message) (before : Option ℕ) (met : Bool) → rule.check ≡ check → IsLatest rule history tally → period_of check ≡ Some b
@@ -62,7 +72,3 @@ some_none b o none some = absurd cc
 
 pub latest-other : (rule : Rule) (check : Check) (h : Heard) (history : List Heard) (next : Tally) → rule.check ≡ check → period_of check ≡ None → IsLatest rule (h ∷ history) next
 latest-other rule check h history next same none = λ b period channel. absurd (some_none b (period_of rule.check) (ap period_of same ∙ none) period)
-
-pub told : (number channel : ℕ) (m : Message) (history : List Heard) → number ≡ length history + 1
-    → (let miss : Miss = record { number = number; channel = channel; stamp = m.stamp } in miss) ≡ miss_of (moment (channel, m) history)
-told number channel m history is = rw is refl

@@ -3,5 +3,5 @@ pub mod Selection
 pub mod Clean
 pub mod Checks
 pub mod Verdicts
-pub mod Tallies
 pub mod Lines
+pub mod Tallies

@@ -1,9 +1,10 @@
 -- What is printed of verdicts (own choice).
-use Rattle.std.specs.Prelude.{ℕ, if◌then◌else◌, List, ◌++◌, length, codes, decimal}
+use Rattle.std.specs.Prelude.{ℕ, if◌then◌else◌, List, [], ◌∷◌, ◌++◌, length, codes, decimal}
 use Rattle.std.specs.List.{flat_map}
+use Rattle.judge_rules.specs.declared.rules.Rule.{Rule}
 use Rattle.bench_judge.specs.declared.verdicts.Miss.{Miss}
-use Rattle.bench_judge.specs.declared.verdicts.Verdict.{Verdict}
-use Rattle.bench_judge.specs.Verdicts.{not_held}
+use Rattle.bench_judge.specs.Checks.{counts}
+use Rattle.bench_judge.specs.Verdicts.{Heard, selected, missed, misses, rules_not_held}
 
 -- a message that misses the rule of a line
 abbrev pub miss_line : ℕ → Miss → List ℕ
@@ -22,13 +23,24 @@ count_lines line selected =
     codes "missed " ++ (decimal line ++ (codes " count " ++ (decimal selected ++ (codes "\nrule " ++ (decimal line
     ++ (codes " selected " ++ (decimal selected ++ codes " missed 1\n")))))))
 
-abbrev pub verdict_lines : Verdict → List ℕ
-verdict_lines v =
-    if v.miscounted then count_lines v.line v.selected
-    else flat_map (miss_line v.line) v.missed.items ++ rule_line v.line v.selected (length v.missed.items)
+-- the lines of a rule on the messages of a history: one for each message that misses it, or one for a count that is not met, and one
+-- with its numbers
+abbrev pub verdict_lines : Rule → List Heard → List ℕ
+verdict_lines rule history =
+    if counts rule.check (length (selected rule history))
+    then flat_map (miss_line rule.line) (misses rule history)
+    ++ rule_line rule.line (length (selected rule history)) (length (missed rule history))
+    else count_lines rule.line (length (selected rule history))
 
--- the lines of all rules; behind them how many rules there are, and how many are not held
-abbrev pub verdict_text : List Verdict → List ℕ
-verdict_text verdicts =
-    flat_map verdict_lines verdicts
-    ++ (codes "rules " ++ (decimal (length verdicts) ++ (codes " missed " ++ (decimal (not_held verdicts) ++ codes "\n"))))
+-- the lines of all rules
+abbrev pub rules_lines : List Rule → List Heard → List ℕ
+rules_lines [] history = []
+rules_lines (rule ∷ rules) history = verdict_lines rule history ++ rules_lines rules history
+
+-- the line behind them: how many rules there are, and how many are not held
+abbrev pub last_line : ℕ → ℕ → List ℕ
+last_line rules missed = codes "rules " ++ (decimal rules ++ (codes " missed " ++ (decimal missed ++ codes "\n")))
+
+-- what is printed of rules on the messages of a history, newest first
+abbrev pub verdict_text : List Rule → List Heard → List ℕ
+verdict_text rules history = rules_lines rules history ++ last_line (length rules) (rules_not_held rules history)

@@ -1,5 +1,5 @@
 -- What becomes of a rule (own choice): which messages of a recording it selects, and which of them miss it.
-use Rattle.std.specs.Prelude.{◌≡◌, ℕ, ◌+◌, ◌<◌, ◌==◌, nat_lt, Bool, true, false, not, ◌&&◌, ◌||◌, if◌then◌else◌, List, [], ◌∷◌, length, map, reverse, Option, Some, None, slice_get}
+use Rattle.std.specs.Prelude.{◌≡◌, ℕ, ◌+◌, ◌==◌, nat_lt, Bool, not, ◌&&◌, ◌||◌, if◌then◌else◌, List, [], ◌∷◌, length, map, reverse, Option, Some, None, slice_get}
 use Rattle.std.specs.List.{filter}
 use Rattle.ch11_f1.specs.BodyReading.{Message}
 use Rattle.judge_rules.specs.declared.rules.Rule.{Rule}
@@ -51,30 +51,36 @@ miss_of x = record { number = x.number; channel = x.channel; stamp = x.message.s
 abbrev pub misses : Rule → List Heard → List Miss
 misses rule history = reverse (map miss_of (missed rule history))
 
-abbrev pub is_none : List Miss → Bool
-is_none [] = true
-is_none (x ∷ xs) = false
+-- no message misses the rule, a count is met, and any other rule selects a message at least; so many are selected, and so many of
+-- them miss the rule
+abbrev pub is_held : Rule → ℕ → ℕ → Bool
+is_held rule selected missed = (missed == 0) && counts rule.check selected && (is_count rule.check || nat_lt 0 selected)
 
--- no message misses the rule, a count is met, and any other rule selects a message at least
-abbrev pub is_held : Rule → ℕ → List Miss → Bool
-is_held rule selected missed = is_none missed && counts rule.check selected && (is_count rule.check || nat_lt 0 selected)
-
--- the verdict of a rule that selects so many messages, of which these miss it
-abbrev pub IsVerdictWith : Rule → ℕ → List Miss → Verdict → Type 0
+-- the verdict of a rule that selects so many messages, of which so many miss it
+abbrev pub IsVerdictWith : Rule → ℕ → ℕ → Verdict → Type 0
 IsVerdictWith rule selected missed verdict =
-    (verdict.line ≡ rule.line) × (verdict.selected ≡ selected) × (verdict.missed.items ≡ missed)
+    (verdict.line ≡ rule.line) × (verdict.selected ≡ selected) × (verdict.missed ≡ missed)
     × (verdict.miscounted ≡ not (counts rule.check selected)) × (verdict.held ≡ is_held rule selected missed)
 
 -- the verdict of a rule on the messages of a history
 abbrev pub IsVerdict : Rule → List Heard → Verdict → Type 0
-IsVerdict rule history verdict = IsVerdictWith rule (length (selected rule history)) (misses rule history) verdict
+IsVerdict rule history verdict = IsVerdictWith rule (length (selected rule history)) (length (missed rule history)) verdict
 
 -- a verdict for each rule, in their order
 pub record AreVerdicts (rules : List Rule) (history : List Heard) (verdicts : List Verdict) : Type 0 where
   pub many : length verdicts ≡ length rules
   pub each : (place : ℕ) (rule : Rule) (verdict : Verdict) → slice_get rules place ≡ Some rule → slice_get verdicts place ≡ Some verdict → IsVerdict rule history verdict
 
--- how many rules are not held
+-- how many of these verdicts are of rules that are not held
 abbrev pub not_held : List Verdict → ℕ
 not_held [] = 0
 not_held (verdict ∷ verdicts) = (if verdict.held then 0 else 1) + not_held verdicts
+
+-- a rule is held on the messages of a history
+abbrev pub holds : Rule → List Heard → Bool
+holds rule history = is_held rule (length (selected rule history)) (length (missed rule history))
+
+-- how many rules are not held on the messages of a history
+abbrev pub rules_not_held : List Rule → List Heard → ℕ
+rules_not_held [] history = 0
+rules_not_held (rule ∷ rules) history = (if holds rule history then 0 else 1) + rules_not_held rules history

@@ -1,10 +1,10 @@
-//! One pass over the messages of a recording, for all rules.
-ghost use Rattle.std.specs.Prelude.{◌≡◌, ◌+◌, ◌<◌, ◌^◌, ◌∷◌, ◌++◌, [], List, length, map, reverse, IfOk, OnOk};
-ghost use Rattle.ch11_f1.specs.BodyReading.{Message};
+//! Passes over the messages of a recording: one for all rules, but for many rules of many channels.
+ghost use Rattle.std.specs.Prelude.{◌≡◌, ◌+◌, ◌<◌, ◌≤◌, ◌^◌, ◌∷◌, ◌++◌, [], List, length, reverse, IfOk, OnOk};
+ghost use Rattle.judge_rules.specs.declared.rules.Rule.{Rule};
 ghost use Rattle.ch11_f1.specs.Views.{message_of};
 ghost use Rattle.ch11_reader.specs.Contents.{heard_in};
 ghost use Rattle.bench_judge.specs.Verdicts.{Heard, AreVerdicts};
-ghost use Rattle.bench_judge.specs.Tallies.{AreTallies};
+ghost use Rattle.bench_judge.specs.Tallies.{AreTallies, heard_on};
 
 use crate::tallies::Tally;
 use crate::verdicts::{Verdict, verdict_of};
@@ -13,8 +13,86 @@ use ch11_reader::Index;
 use judge_rules::Rule;
 use std::alloc::{AllocError, Global};
 
-/// The verdict of each rule on the messages of a recording, in the order of the rules.
+/// How many stamps are kept at once at most, one of each channel for each rule.
+const STAMPS: usize = 65536;
+
+/// The greatest number of channels.
+const CHANNELS: usize = 65536;
+
+/// The verdict of each rule on the messages of a recording, in the order of the rules. All rules share one pass over the
+/// recording, in which it is worked out at most once whether a message is clean; but where there are more rules than 65,536 by
+/// the number of channels, only as many as that share one, so that what is kept does not grow with rules times channels.
 pub fn judge(alloc: Global, index: &Index<'_>, rules: &[Rule]) -> Result<Vec<Verdict>, AllocError>
+    ensures { IfOk result (λ verdicts. AreVerdicts rules.now (reverse (heard_in index.now)) verdicts.items) }
+{
+    let most = rules_of_a_pass(alloc, index)?;
+    let mut verdicts = Vec::with_capacity(alloc, rules.len())?;
+    let mut rest = rules;
+    'passes: while !rest.is_empty() {
+        let many = fewer(most, rest.len());
+        let (some, others) = rest.split_at(many);
+        judge_more(alloc, index, some, &mut verdicts)?;
+        rest = others;
+    }
+    Ok(verdicts)
+}
+
+/// The lesser of two numbers that are at least 1.
+fn fewer(most: usize, many: usize) -> usize
+    requires some { 0 < most }
+    requires more { 0 < many }
+    ensures one { 0 < result }
+    ensures few { result ≤ many }
+{
+    if most < many { most } else { many }
+}
+
+/// How many rules are judged in one pass, one at least.
+fn rules_of_a_pass(alloc: Global, index: &Index<'_>) -> Result<usize, AllocError>
+    ensures { IfOk result (λ many. 0 < many) }
+{
+    let channels = channels_in(alloc, index)?;
+    if channels == 0 || STAMPS < channels {
+        return Ok(1);
+    }
+    Ok(STAMPS / channels)
+}
+
+/// How many channels a recording has packets of.
+fn channels_in(alloc: Global, index: &Index<'_>) -> Result<usize, AllocError> {
+    let mut met = vec![in alloc; false; CHANNELS]?;
+    let mut count = 0usize;
+    for packet in index.packets() {
+        let place = usize::from(packet.header.channel);
+        if place < met.len() && !met[place] {
+            met[place] = true;
+            count = count.saturating_add(1);
+        }
+    }
+    Ok(count)
+}
+
+/// Appends the verdicts of these rules to those of others.
+fn judge_more(
+    alloc: Global,
+    index: &Index<'_>,
+    rules: &[Rule],
+    verdicts: &mut Vec<Verdict>,
+) -> Result<(), AllocError>
+    ensures { (done : List Rule) → AreVerdicts done (reverse (heard_in index.now)) verdicts.old.items
+        → OnOk result (AreVerdicts (done ++ rules.now) (reverse (heard_in index.now)) verdicts.new.items) }
+{
+    let mut more = judge_together(alloc, index, rules)?;
+    verdicts.append(&mut more)?;
+    Ok(())
+}
+
+/// The verdicts of rules that share one pass.
+fn judge_together(
+    alloc: Global,
+    index: &Index<'_>,
+    rules: &[Rule],
+) -> Result<Vec<Verdict>, AllocError>
     ensures { IfOk result (λ verdicts. AreVerdicts rules.now (reverse (heard_in index.now)) verdicts.items) }
 {
     let mut tallies = no_tallies(alloc, rules)?;
@@ -24,7 +102,6 @@ pub fn judge(alloc: Global, index: &Index<'_>, rules: &[Rule]) -> Result<Vec<Ver
         note_messages(
             rules,
             tallies.as_mut_slice(),
-            packet.before,
             packet.header.channel,
             index.messages_in(place),
         )?;
@@ -47,37 +124,35 @@ fn no_tallies(alloc: Global, rules: &[Rule]) -> Result<Vec<Tally>, AllocError>
 fn note_message(
     rules: &[Rule],
     tallies: &mut [Tally],
-    number: u64,
     channel: u16,
     seen: &Seen<'_>,
 ) -> Result<(), AllocError>
     requires { length tallies.old ≡ length rules.now }
-    ensures { (history : List Heard) → AreTallies rules.now history tallies.old → number ≡ length history + 1 → OnOk result (AreTallies rules.now ((channel, message_of seen.now) ∷ history) tallies.new) }
+    ensures { (history : List Heard) → AreTallies rules.now history tallies.old → length history + 1 < 2 ^ 64
+        → OnOk result (AreTallies rules.now ((channel, message_of seen.now) ∷ history) tallies.new) }
 {
     let mut known = None;
     'rules: for place in 0..rules.len() {
-        tallies[place].note(&rules[place], number, channel, seen, &mut known)?;
+        tallies[place].note(&rules[place], channel, seen, &mut known)?;
     }
     Ok(())
 }
 
-/// The messages of a packet of this channel, behind so many messages of the file.
+/// The messages of a packet of this channel.
 fn note_messages(
     rules: &[Rule],
     tallies: &mut [Tally],
-    before: u64,
     channel: u16,
     messages: Messages<'_>,
 ) -> Result<(), AllocError>
-    requires many { length tallies.old ≡ length rules.now }
-    requires few { before + length messages < 2 ^ 64 }
-    ensures { (history : List Heard) → AreTallies rules.now history tallies.old → before ≡ length history → OnOk result (AreTallies rules.now (reverse (map (λ (m : Message). (channel, m)) messages.entry) ++ history) tallies.new) }
+    requires { length tallies.old ≡ length rules.now }
+    ensures { (history : List Heard) → AreTallies rules.now history tallies.old
+        → length history + length messages.entry < 2 ^ 64
+        → OnOk result (AreTallies rules.now (heard_on channel messages.entry history) tallies.new) }
 {
-    let mut number = before;
     let mut rest = messages;
     'messages: while let Some(seen) = rest.next() {
-        number += 1;
-        note_message(rules, tallies, number, channel, &seen)?;
+        note_message(rules, tallies, channel, &seen)?;
     }
     Ok(())
 }

@@ -1,7 +1,10 @@
 //! Verdicts as a JUnit XML file: a test case a rule.
+use crate::first::first_misses;
+use crate::names::Names;
 use crate::numbers::put_number;
-use crate::verdicts::{Verdict, not_held};
-use judge_rules::next_line;
+use crate::verdicts::{Miss, Verdict, not_held};
+use ch11_reader::Index;
+use judge_rules::Rule;
 use std::alloc::{AllocError, Global};
 
 /// How many messages that miss a rule are told of it.
@@ -59,15 +62,31 @@ fn put_reason(text: &mut Vec<u8>, verdict: &Verdict) -> Result<(), AllocError> {
     if verdict.miscounted {
         return put_number(text, b"count ", verdict.selected);
     }
-    if verdict.missed.is_empty() {
+    if verdict.missed == 0 {
         return text.extend_from_slice(b"no message is selected");
     }
     put_number(text, b"selected ", verdict.selected)?;
-    put_number(text, b" missed ", verdict.missed.len() as u64)
+    put_number(text, b" missed ", verdict.missed)
 }
 
-/// Appends the test case of a rule, named by its text.
-fn put_case(text: &mut Vec<u8>, name: &[u8], verdict: &Verdict) -> Result<(), AllocError> {
+/// Appends where the messages are that miss a rule.
+fn put_misses(text: &mut Vec<u8>, misses: &[Miss]) -> Result<(), AllocError> {
+    for miss in misses {
+        put_number(text, b"\nmessage ", miss.number)?;
+        put_number(text, b" channel ", u64::from(miss.channel))?;
+        put_number(text, b" stamp ", miss.stamp)?;
+    }
+    Ok(())
+}
+
+/// Appends the test case of a rule, named by its text, with the first messages that miss it.
+fn put_case(
+    text: &mut Vec<u8>,
+    index: &Index<'_>,
+    name: &[u8],
+    rule: &Rule,
+    verdict: &Verdict,
+) -> Result<(), AllocError> {
     put_number(text, b"  <testcase classname=\"line ", verdict.line)?;
     text.extend_from_slice(b"\" name=\"")?;
     put_escaped(text, name)?;
@@ -77,19 +96,20 @@ fn put_case(text: &mut Vec<u8>, name: &[u8], verdict: &Verdict) -> Result<(), Al
     text.extend_from_slice(b"\">\n    <failure message=\"")?;
     put_reason(text, verdict)?;
     text.extend_from_slice(b"\">")?;
-    for miss in verdict.missed.iter().take(TOLD) {
-        put_number(text, b"\nmessage ", miss.number)?;
-        put_number(text, b" channel ", u64::from(miss.channel))?;
-        put_number(text, b" stamp ", miss.stamp)?;
+    if verdict.missed > 0 {
+        let misses = first_misses(*text.allocator(), index, rule, TOLD)?;
+        put_misses(text, misses.as_slice())?;
     }
     text.extend_from_slice(b"</failure>\n  </testcase>\n")
 }
 
-/// A JUnit file of verdicts on the rules that a text spells: a test case a rule, in their order, named by the line of the rule. Of a
-/// rule that is not held it has up to 100 of the messages that miss it.
+/// A JUnit file of the verdicts on these rules, which a text spells: a test case a rule, in their order, named by the line of the
+/// rule. Of a rule that is not held it has up to 100 of the messages that miss it, which are looked for in the recording.
 pub fn junit_text(
     alloc: Global,
+    index: &Index<'_>,
     rules_text: &[u8],
+    rules: &[Rule],
     verdicts: &[Verdict],
 ) -> Result<Vec<u8>, AllocError> {
     let mut text = Vec::new(alloc);
@@ -101,18 +121,10 @@ pub fn junit_text(
     )?;
     put_number(&mut text, b"\" failures=\"", not_held(verdicts))?;
     text.extend_from_slice(b"\">\n")?;
-    let (mut rest, mut line) = (rules_text, 0u64);
-    for verdict in verdicts {
-        let mut name: &[u8] = b"";
-        for _ in line..verdict.line {
-            let Some((first, behind)) = next_line(rest) else {
-                break;
-            };
-            name = first;
-            rest = behind;
-        }
-        line = verdict.line;
-        put_case(&mut text, name.trim_ascii(), verdict)?;
+    let mut names = Names::of(rules_text);
+    for (rule, verdict) in rules.iter().zip(verdicts) {
+        let name = names.at(verdict.line);
+        put_case(&mut text, index, name, rule, verdict)?;
     }
     text.extend_from_slice(b"</testsuite>\n")?;
     Ok(text)

@@ -5,9 +5,12 @@
 mod checks;
 mod clean;
 mod colored;
+mod fault;
+mod first;
 mod judging;
 mod junit;
 mod lines;
+mod names;
 mod numbers;
 mod replies;
 mod selection;
@@ -16,9 +19,10 @@ mod verdicts;
 mod words;
 
 pub use clean::is_clean;
-pub use colored::colored_text;
+pub use colored::write_colored;
+pub use fault::PrintFault;
 pub use judging::judge;
 pub use junit::junit_text;
-pub use lines::verdict_text;
+pub use lines::write_verdicts;
 pub use selection::selects;
 pub use verdicts::{Miss, Verdict, not_held};

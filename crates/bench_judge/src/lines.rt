@@ -1,89 +1,199 @@
-//! Verdicts as plain lines.
-ghost use Rattle.std.specs.Prelude.{◌≡◌, IfOk, string_bytes};
-ghost use Rattle.bench_judge.specs.Lines.{verdict_text};
+//! Verdicts as plain lines, on their way to a writer.
+ghost use Rattle.std.specs.Prelude.{◌≡◌, ◌+◌, ◌<◌, ◌^◌, ◌∷◌, List, ℕ, Option, length, reverse, IfOk, OnOk};
+ghost use Rattle.std.specs.Io.KnownBytes.{Appends};
+ghost use Rattle.ch11_f1.specs.Views.{message_of};
+ghost use Rattle.ch11_reader.specs.Contents.{heard_in};
+ghost use Rattle.bench_judge.specs.Verdicts as spec;
+ghost use Rattle.bench_judge.specs.Verdicts.{Heard, AreVerdicts, IsVerdict};
+ghost use Rattle.bench_judge.specs.Tallies.{IsWriting, heard_on, miss_lines};
+ghost use Rattle.bench_judge.specs.Lines.{count_lines, last_line, miss_line, rule_line, rules_lines};
+ghost use Rattle.bench_judge.specs.Lines.{verdict_lines, verdict_text};
 
+use crate::fault::PrintFault;
+use crate::judging::judge;
+use crate::tallies::Tally;
 use crate::verdicts::{Miss, Verdict, not_held};
-use std::alloc::{AllocError, Global};
-use std::fmt;
+use ch11_f1::{Messages, Seen};
+use ch11_reader::Index;
+use judge_rules::Rule;
+use std::alloc::Global;
+use std::io;
+use std::io::Write;
 
-/// The messages that miss the rule of a line, each on a line.
-#[derive(Clone, Copy)]
-struct MissLines<'a> {
-    line: u64,
-    missed: &'a [Miss],
-}
-
-impl fmt::Display for MissLines<'_> {
-    ghost use Rattle.std.specs.Prelude.{Some};
-    ghost use Rattle.std.specs.List.{flat_map};
-    ghost use Rattle.bench_judge.specs.Lines.{miss_line};
-
-    ghost output = { λ m. Some (flat_map (miss_line m.line) m.missed.now) };
-
-    fn fmt<W: fmt::Write>(&self, f: &mut fmt::Formatter<W>) -> fmt::Result {
-        let line = self.line;
-        for miss in self.missed {
-            let (number, channel, stamp) = (miss.number, miss.channel, miss.stamp);
-            write!(
-                f,
-                "missed {line} message {number} channel {channel} stamp {stamp}\n"
-            )?;
-        }
-        Ok(())
-    }
-}
-
-/// The lines of a rule.
-impl fmt::Display for Verdict {
-    ghost use Rattle.std.specs.Prelude.{Some};
-    ghost use Rattle.bench_judge.specs.Lines.{verdict_lines};
-
-    ghost output = { λ v. Some (verdict_lines v) };
-
-    fn fmt<W: fmt::Write>(&self, f: &mut fmt::Formatter<W>) -> fmt::Result {
-        let (line, selected) = (self.line, self.selected);
-        if self.miscounted {
-            return write!(
-                f,
-                "missed {line} count {selected}\nrule {line} selected {selected} missed 1\n"
-            );
-        }
-        let missed = self.missed.len();
-        let lines = MissLines {
-            line,
-            missed: self.missed.as_slice(),
-        };
-        write!(
-            f,
-            "{lines}rule {line} selected {selected} missed {missed}\n"
-        )
-    }
-}
-
-/// The lines of all rules, and the one behind them.
-#[derive(Clone, Copy)]
-struct Lines<'a>(&'a [Verdict]);
-
-impl fmt::Display for Lines<'_> {
-    ghost use Rattle.std.specs.Prelude.{Some};
-    ghost use Rattle.bench_judge.specs.Lines.{verdict_text};
-
-    ghost output = { λ l. Some (verdict_text l.0.now) };
-
-    fn fmt<W: fmt::Write>(&self, f: &mut fmt::Formatter<W>) -> fmt::Result {
-        for verdict in self.0 {
-            write!(f, "{verdict}")?;
-        }
-        let (rules, missed) = (self.0.len(), not_held(self.0));
-        write!(f, "rules {rules} missed {missed}\n")
-    }
-}
-
-/// What is printed of verdicts, rule by rule: a line for each message that misses it, or one for a count that is not met, and a line
-/// with its numbers; last how many rules there are and how many of them are not held.
-pub fn verdict_text(alloc: Global, verdicts: &[Verdict]) -> Result<String, AllocError>
-    ensures { IfOk result (λ text. string_bytes text ≡ verdict_text verdicts.now) }
+/// Writes that a message misses the rule of a line.
+fn write_miss<W: Write>(out: &mut W, line: u64, miss: &Miss) -> io::Result<()>
+    ensures { OnOk result (Appends (W.contents out.old) (W.contents out.new) (miss_line line miss.now)) }
 {
-    let text = Lines(verdicts).to_string(alloc)?;
-    Ok(text)
+    let (number, channel, stamp) = (miss.number, miss.channel, miss.stamp);
+    write!(
+        out,
+        "missed {line} message {number} channel {channel} stamp {stamp}\n"
+    )
+}
+
+/// Writes one more message of a channel if it misses the rule.
+fn write_message<W: Write>(
+    tally: &mut Tally,
+    rule: &Rule,
+    number: u64,
+    channel: u16,
+    seen: &Seen<'_>,
+    out: &mut W,
+) -> Result<(), PrintFault>
+    ensures { (history : List Heard) → (got : Option (List ℕ))
+        → IsWriting rule.now got history (W.contents out.old) tally.old → number ≡ length history + 1
+        → OnOk result (IsWriting rule.now got ((channel, message_of seen.now) ∷ history) (W.contents out.new) tally.new) }
+{
+    let mut known = None;
+    if tally.note(rule, channel, seen, &mut known)? {
+        let stamp = seen.stamp;
+        let miss = Miss {
+            number,
+            channel,
+            stamp,
+        };
+        write_miss(out, rule.line, &miss)?;
+    }
+    Ok(())
+}
+
+/// Writes those messages of a packet that miss the rule, behind so many messages of the file.
+fn write_messages<W: Write>(
+    tally: &mut Tally,
+    rule: &Rule,
+    before: u64,
+    channel: u16,
+    messages: Messages<'_>,
+    out: &mut W,
+) -> Result<(), PrintFault>
+    requires { before + length messages < 2 ^ 64 }
+    ensures { (history : List Heard) → (got : Option (List ℕ))
+        → IsWriting rule.now got history (W.contents out.old) tally.old → before ≡ length history
+        → OnOk result (IsWriting rule.now got (heard_on channel messages.entry history) (W.contents out.new) tally.new) }
+{
+    let mut number = before;
+    let mut rest = messages;
+    'messages: while let Some(seen) = rest.next() {
+        number += 1;
+        write_message(tally, rule, number, channel, &seen, out)?;
+    }
+    Ok(())
+}
+
+/// Writes the messages of a recording that miss a rule, each as a line, in one pass over the recording; so many miss it, and
+/// where none does there is no pass.
+fn write_misses<W: Write>(
+    alloc: Global,
+    index: &Index<'_>,
+    rule: &Rule,
+    missed: u64,
+    out: &mut W,
+) -> Result<(), PrintFault>
+    requires { missed ≡ length (spec.missed rule.now (reverse (heard_in index.now))) }
+    ensures { OnOk result (Appends (W.contents out.old) (W.contents out.new)
+        (miss_lines rule.now (reverse (heard_in index.now)))) }
+{
+    if missed == 0 {
+        return Ok(());
+    }
+    let mut tally = Tally::new(alloc);
+    let packets = index.packets();
+    'packets: for place in 0..packets.len() {
+        let packet = &packets[place];
+        write_messages(
+            &mut tally,
+            rule,
+            packet.before,
+            packet.header.channel,
+            index.messages_in(place),
+            out,
+        )?;
+    }
+    Ok(())
+}
+
+/// Writes that a count of the rule of a line is not met.
+fn write_count<W: Write>(out: &mut W, line: u64, selected: u64) -> io::Result<()>
+    ensures { OnOk result (Appends (W.contents out.old) (W.contents out.new) (count_lines line selected)) }
+{
+    write!(
+        out,
+        "missed {line} count {selected}\nrule {line} selected {selected} missed 1\n"
+    )
+}
+
+/// Writes how many messages the rule of a line selects, and how many miss it.
+fn write_numbers<W: Write>(out: &mut W, line: u64, selected: u64, missed: u64) -> io::Result<()>
+    ensures { OnOk result (Appends (W.contents out.old) (W.contents out.new) (rule_line line selected missed)) }
+{
+    write!(out, "rule {line} selected {selected} missed {missed}\n")
+}
+
+/// Writes the lines of a rule, of which this is the verdict.
+fn write_rule<W: Write>(
+    alloc: Global,
+    index: &Index<'_>,
+    rule: &Rule,
+    verdict: &Verdict,
+    out: &mut W,
+) -> Result<(), PrintFault>
+    requires { IsVerdict rule.now (reverse (heard_in index.now)) verdict.now }
+    ensures { OnOk result (Appends (W.contents out.old) (W.contents out.new)
+        (verdict_lines rule.now (reverse (heard_in index.now)))) }
+{
+    if verdict.miscounted {
+        write_count(out, verdict.line, verdict.selected)?;
+        return Ok(());
+    }
+    write_misses(alloc, index, rule, verdict.missed, out)?;
+    write_numbers(out, verdict.line, verdict.selected, verdict.missed)?;
+    Ok(())
+}
+
+/// Writes the lines of all rules, of which these are the verdicts.
+fn write_rules<W: Write>(
+    alloc: Global,
+    index: &Index<'_>,
+    rules: &[Rule],
+    verdicts: &[Verdict],
+    out: &mut W,
+) -> Result<(), PrintFault>
+    requires { AreVerdicts rules.now (reverse (heard_in index.now)) verdicts.now }
+    ensures { OnOk result (Appends (W.contents out.old) (W.contents out.new)
+        (rules_lines rules.now (reverse (heard_in index.now)))) }
+{
+    'rules: for place in 0..rules.len() {
+        write_rule(alloc, index, &rules[place], &verdicts[place], out)?;
+    }
+    Ok(())
+}
+
+/// Writes the line behind those of the rules: how many there are, and how many are not held.
+fn write_last<W: Write>(out: &mut W, verdicts: &[Verdict]) -> io::Result<()>
+    ensures { OnOk result (Appends (W.contents out.old) (W.contents out.new)
+        (last_line (length verdicts.now) (spec.not_held verdicts.now))) }
+{
+    let (rules, missed) = (verdicts.len(), not_held(verdicts));
+    write!(out, "rules {rules} missed {missed}\n")
+}
+
+/// Judges a recording by rules and writes the verdicts as plain lines, rule by rule: a line for each message that misses the
+/// rule, or one for a count that is not met, and a line with its numbers; last how many rules there are and how many of
+/// them are not held. The misses of a rule are looked for once more when it is written, and none is kept; so it takes memory
+/// for the rules and, where one asks for a period, for the channels alone. A fault is want of memory or the writer's.
+pub fn write_verdicts<W: Write>(
+    alloc: Global,
+    index: &Index<'_>,
+    rules: &[Rule],
+    out: &mut W,
+) -> Result<Vec<Verdict>, PrintFault>
+    ensures verdicts { IfOk result (λ verdicts. AreVerdicts rules.now (reverse (heard_in index.now)) verdicts.items) }
+    ensures written { OnOk result (Appends (W.contents out.old) (W.contents out.new)
+        (verdict_text rules.now (reverse (heard_in index.now)))) }
+{
+    let verdicts = judge(alloc, index, rules)?;
+    write_rules(alloc, index, rules, verdicts.as_slice(), out)?;
+    write_last(out, verdicts.as_slice())?;
+    out.flush()?;
+    Ok(verdicts)
 }

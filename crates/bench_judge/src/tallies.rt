@@ -1,26 +1,25 @@
 //! The verdict of a rule while the recording is passed.
-ghost use Rattle.std.specs.Prelude.{◌≡◌, ◌+◌, ◌∷◌, ◌<◌, ◌≤◌, [], true, List, length, OnOk, IfOk};
+ghost use Rattle.std.specs.Prelude.{◌≡◌, ◌+◌, ◌∷◌, ◌<◌, ◌≤◌, ◌^◌, [], true, List, length, OnOk, IfOk};
 ghost use Rattle.ch11_f1.specs.Views.{message_of};
 ghost use Rattle.bench_judge.specs.Checks.{meets as spec_meets};
 ghost use Rattle.bench_judge.specs.Clean.{IsKnown};
 ghost use Rattle.bench_judge.specs.Selection.{selects as selects_message};
 ghost use Rattle.bench_judge.specs.Verdicts.{Heard, latest_stamp};
-ghost use Rattle.bench_judge.specs.Tallies.{IsTally, IsLatest};
+ghost use Rattle.bench_judge.specs.Tallies.{IsTally, IsLatest, misses_next};
 
 use crate::checks::{follows_in, meets, period_of};
 use crate::selection::selects;
-use crate::verdicts::Miss;
 use ch11_f1::Seen;
 use judge_rules::{Check, Rule};
 use std::alloc::{AllocError, Global};
 use std::collections::HashMap;
 
-/// How many messages a rule selects so far, those of them that miss it, and for a rule of a period the stamp of the newest selected
-/// message of each channel.
+/// How many messages a rule selects so far, how many of them miss it, and for a rule of a period the stamp of the newest
+/// selected message of each channel.
 #[derive(Drop)]
 pub(crate) struct Tally {
     pub(crate) selected: u64,
-    pub(crate) missed: Vec<Miss>,
+    pub(crate) missed: u64,
     pub(crate) latest: HashMap<u16, u64>,
 }
 
@@ -31,7 +30,7 @@ impl Tally {
     {
         Tally {
             selected: 0,
-            missed: Vec::new(alloc),
+            missed: 0,
             latest: HashMap::new(alloc),
         }
     }
@@ -60,31 +59,30 @@ impl Tally {
         }
     }
 
-    /// One more message, with its number and its channel, and whether it is clean where that is known.
+    /// One more message of a channel, and whether it is clean where that is known. Answers whether it misses the rule.
     pub(crate) fn note(
         &mut self,
         rule: &Rule,
-        number: u64,
         channel: u16,
         seen: &Seen<'_>,
         known: &mut Option<bool>,
-    ) -> Result<(), AllocError>
+    ) -> Result<bool, AllocError>
         requires { IsKnown known.old (message_of seen.now) }
         ensures known { IsKnown known.new (message_of seen.now) }
-        ensures noted { (history : List Heard) → IsTally rule.now history self.old → number ≡ length history + 1 → OnOk result (IsTally rule.now ((channel, message_of seen.now) ∷ history) self.new) }
+        ensures told { (history : List Heard) → IsTally rule.now history self.old
+            → IfOk result (λ told. told ≡ misses_next rule.now history (channel, message_of seen.now)) }
+        ensures noted { (history : List Heard) → IsTally rule.now history self.old → length history + 1 < 2 ^ 64
+            → OnOk result (IsTally rule.now ((channel, message_of seen.now) ∷ history) self.new) }
     {
         if !selects(rule, channel, seen) {
-            return Ok(());
+            return Ok(false);
         }
         let met = self.meets(&rule.check, channel, seen, known)?;
         self.selected = self.selected.saturating_add(1);
-        if !met {
-            self.missed.push(Miss {
-                number,
-                channel,
-                stamp: seen.stamp,
-            })?;
+        if met {
+            return Ok(false);
         }
-        Ok(())
+        self.missed = self.missed.saturating_add(1);
+        Ok(true)
     }
 }

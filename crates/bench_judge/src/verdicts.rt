@@ -16,27 +16,27 @@ pub struct Miss {
     pub stamp: u64,
 }
 
-/// What became of a rule: the messages that it selects, and those of them that miss it.
-#[derive(Debug, Drop)]
+/// What became of a rule: how many messages it selects, and how many of them miss it.
+#[derive(Clone, Copy, Debug, PartialEq, Eq)]
 pub struct Verdict {
     /// The line of the rule.
     pub line: u64,
     /// How many messages it selects.
     pub selected: u64,
-    /// The messages that miss it, in the file's order.
-    pub missed: Vec<Miss>,
+    /// How many of them miss it.
+    pub missed: u64,
     /// Whether it asks for another count of messages.
     pub miscounted: bool,
     /// Whether it is held: no selected message misses it, a count is met, and any other rule selects a message at least.
     pub held: bool,
 }
 
-/// The verdict of a rule that selects so many messages, of which these miss it.
-pub(crate) fn verdict_of(rule: &Rule, selected: u64, missed: Vec<Miss>) -> Verdict
-    ensures { spec.IsVerdictWith rule.now selected missed.items result }
+/// The verdict of a rule that selects so many messages, of which so many miss it.
+pub(crate) fn verdict_of(rule: &Rule, selected: u64, missed: u64) -> Verdict
+    ensures { spec.IsVerdictWith rule.now selected missed result }
 {
     let counted = counts(&rule.check, selected);
-    let held = missed.is_empty() && counted && (is_count(&rule.check) || selected > 0);
+    let held = missed == 0 && counted && (is_count(&rule.check) || selected > 0);
     Verdict {
         line: rule.line,
         selected,

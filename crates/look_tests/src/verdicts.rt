@@ -1,7 +1,7 @@
 //! What `bench judge` says of recordings, worked out by hand.
 use crate::equal::{reads, same_in};
 use crate::made::{FOREIGN, FORMS, TRANSFER, recorded};
-use bench_judge::{judge, junit_text, verdict_text};
+use bench_judge::{judge, junit_text, write_colored, write_verdicts};
 use ch11_reader::Index;
 use judge_rules::read_rules;
 use std::alloc::Global;
@@ -77,12 +77,45 @@ const UNCLEAN: [(&str, usize, u8); 6] = [
     ("a block status bit of an error", 81, 0x10),
 ];
 
+/// What is printed of each of them.
+const UNCLEAN_TEXT: &str =
+    "missed 1 message 1 channel 1 stamp 0\nrule 1 selected 1 missed 1\nrules 1 missed 1\n";
+
+/// Five mode commands, 48.0 µs apart, and rules of them.
+const POLLS: &str = "channel 1\nterminal 5\nscript\nrepeat 5 { send A mode 5 2 }\n";
+
+const POLL_RULES: &str = "expect any clean\n  expect any fail\n\nexpect any count 9 9\n";
+
+/// What a terminal shows of these.
+const POLL_COLORS: &str =
+    "\x1b[32mheld   \x1b[0mexpect any clean  (5 selected)\n\x1b[31mmissed \x1b[0mexpect any fail  (5 selected, 5 missed)\n      \
+1     0.0000000       1       1 A    mode 5 2 transmit status word     2800 8.0 us\n      \
+2     0.0000480       1       2 A    mode 5 2 transmit status word     2800 8.0 us\n      \
+3     0.0000960       1       3 A    mode 5 2 transmit status word     2800 8.0 us\n      \
+and 2 more\n\x1b[31mmissed \x1b[0mexpect any count 9 9  (5 selected, another count)\n\x1b[31m3 rules, 2 not held\x1b[0m\n";
+
+/// Rules of the recording of `LOST`, and its report.
+const LOST_RULES: &str =
+    "# three rules\n  expect rx 5 1 fail\nexpect tx * * ok\nexpect any clean\n";
+
+const LOST_REPORT: &str =
+    "<?xml version=\"1.0\" encoding=\"UTF-8\"?>\n<testsuite name=\"bench judge\" tests=\"3\" failures=\"2\">\n  \
+<testcase classname=\"line 2\" name=\"expect rx 5 1 fail\"/>\n  \
+<testcase classname=\"line 3\" name=\"expect tx * * ok\">\n    \
+<failure message=\"no message is selected\"></failure>\n  </testcase>\n  \
+<testcase classname=\"line 4\" name=\"expect any clean\">\n    \
+<failure message=\"selected 3 missed 1\">\nmessage 1 channel 1 stamp 0</failure>\n  </testcase>\n</testsuite>\n";
+
 /// What is printed of rules and a recording.
-fn judged(rt: &impl Abort, alloc: Global, file: &[u8], rules: &str) -> String {
+fn judged(rt: &impl Abort, alloc: Global, file: &[u8], rules: &str) -> Vec<u8> {
     let index = Index::build(alloc, file).ok().expect(rt, "a recording");
     let rules = read_rules(alloc, rules.as_bytes()).ok().expect(rt, "rules");
-    let verdicts = judge(alloc, &index, rules.as_slice()).expect(rt, "memory");
-    verdict_text(alloc, verdicts.as_slice()).expect(rt, "memory")
+    let mut text = Vec::new(alloc);
+    let verdicts = write_verdicts(alloc, &index, rules.as_slice(), &mut text)
+        .ok()
+        .expect(rt, "verdicts");
+    assert!(rt; verdicts.len() == rules.len());
+    text
 }
 
 #[test]
@@ -90,7 +123,7 @@ fn rules_select_and_miss(rt: HostRuntime) {
     let file = recorded(&rt, rt.alloc(), &[LOST]);
     for (rules, printed) in ROWS {
         let text = judged(&rt, rt.alloc(), &file, rules);
-        same_in(&rt, rules, &text.as_str(), &printed);
+        same_in(&rt, rules, &text.as_slice(), &printed.as_bytes());
     }
 }
 
@@ -105,7 +138,7 @@ fn a_period_is_that_of_a_channel(rt: HostRuntime) {
     );
     reads(
         &rt,
-        text.as_bytes(),
+        text.as_slice(),
         "rule 2 selected 4 missed 0\nrule 3 selected 2 missed 0\nrules 2 missed 0\n",
     );
 }
@@ -127,7 +160,7 @@ fn each_form_is_clean(rt: HostRuntime) {
     let text = judged(&rt, rt.alloc(), &file, "expect any clean");
     reads(
         &rt,
-        text.as_bytes(),
+        text.as_slice(),
         "rule 1 selected 8 missed 0\nrules 1 missed 0\n",
     );
 }
@@ -137,7 +170,7 @@ fn what_is_not_clean_is_told(rt: HostRuntime) {
     let text = judged(&rt, rt.alloc(), &FOREIGN, "expect any clean");
     reads(
         &rt,
-        text.as_bytes(),
+        text.as_slice(),
         "rule 1 selected 1 missed 0\nrules 1 missed 0\n",
     );
     for (row, place, byte) in UNCLEAN {
@@ -145,27 +178,49 @@ fn what_is_not_clean_is_told(rt: HostRuntime) {
         assert!(&rt; place < file.len());
         file[place] = byte;
         let text = judged(&rt, rt.alloc(), &file, "expect any clean");
-        same_in(
-            &rt,
-            row,
-            &text.as_str(),
-            &"missed 1 message 1 channel 1 stamp 0\nrule 1 selected 1 missed 1\nrules 1 missed 1\n",
-        );
+        same_in(&rt, row, &text.as_slice(), &UNCLEAN_TEXT.as_bytes());
     }
 }
 
 #[test]
 fn a_report_has_a_test_case_a_rule(rt: HostRuntime) {
-    let index = Index::build(rt.alloc(), &FOREIGN)
+    let file = recorded(&rt, rt.alloc(), &[LOST]);
+    let index = Index::build(rt.alloc(), &file)
         .ok()
         .expect(&rt, "a recording");
-    let text = b"# two rules\n  expect any clean\nexpect tx * * ok\n";
+    let text = LOST_RULES.as_bytes();
     let rules = read_rules(rt.alloc(), text).ok().expect(&rt, "rules");
     let verdicts = judge(rt.alloc(), &index, rules.as_slice()).expect(&rt, "memory");
-    let report = junit_text(rt.alloc(), text, verdicts.as_slice()).expect(&rt, "memory");
-    reads(
-        &rt,
-        report.as_slice(),
-        "<?xml version=\"1.0\" encoding=\"UTF-8\"?>\n<testsuite name=\"bench judge\" tests=\"2\" failures=\"1\">\n  <testcase classname=\"line 2\" name=\"expect any clean\"/>\n  <testcase classname=\"line 3\" name=\"expect tx * * ok\">\n    <failure message=\"no message is selected\"></failure>\n  </testcase>\n</testsuite>\n",
-    );
+    let report = junit_text(
+        rt.alloc(),
+        &index,
+        text,
+        rules.as_slice(),
+        verdicts.as_slice(),
+    )
+    .expect(&rt, "memory");
+    reads(&rt, report.as_slice(), LOST_REPORT);
+}
+
+#[test]
+fn a_terminal_shows_the_first_misses(rt: HostRuntime) {
+    let file = recorded(&rt, rt.alloc(), &[POLLS]);
+    let index = Index::build(rt.alloc(), &file)
+        .ok()
+        .expect(&rt, "a recording");
+    let text = POLL_RULES.as_bytes();
+    let rules = read_rules(rt.alloc(), text).ok().expect(&rt, "rules");
+    let verdicts = judge(rt.alloc(), &index, rules.as_slice()).expect(&rt, "memory");
+    let mut shown = Vec::new(rt.alloc());
+    write_colored(
+        rt.alloc(),
+        &index,
+        text,
+        rules.as_slice(),
+        verdicts.as_slice(),
+        &mut shown,
+    )
+    .ok()
+    .expect(&rt, "verdicts");
+    reads(&rt, shown.as_slice(), POLL_COLORS);
 }

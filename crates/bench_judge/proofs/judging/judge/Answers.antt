@@ -1,35 +1,17 @@
-use Rattle.std.proofs.Common.{◌≡◌, ◌+◌, List, ap, sym, subst, arith, length, take, reverse}
-use Rattle.std.proofs.lemmas.List.{take_all, with_items_is}
-use Rattle.ch11_reader.specs.Recording.{Found}
+use Rattle.std.proofs.Common.{arith, reverse}
+use Rattle.std.proofs.lemmas.List.{nil_from_length}
+use Rattle.std.proofs.lemmas.Grind.{common_steps}
 use Rattle.ch11_reader.specs.Contents.{heard_in}
-use Rattle.bench_dump.proofs.Packets.{no_packet, at_place, same_count}
-use Rattle.bench_judge.specs.declared.tallies.Tally.{Tally}
-use Rattle.bench_judge.specs.Tallies.{AreTallies}
-use Rattle.bench_judge.proofs.Whole.{before_packet, packets-more}
+use Rattle.bench_judge.proofs.Judged.{judged-none, judged-more, judged-all}
 use Rattle.bench_judge.proofs.judging.judge.Goals as goal
 
-pub messages_in-requires : goal.messages_in-requires
-messages_in-requires c = omega (arith, same_count c.args.index.now c.packets-packets.result.now c.packets-packets.ensures.listed, c.packets-test.true)
+pub passes-init : goal.passes-init
+passes-init c = rw c.in_ok-verdicts.ensures.items (judged-none _ _)
 
-pub note_messages-requires-clause-many : goal.note_messages-requires-clause-many
-note_messages-requires-clause-many c = omega (arith, ap length c.as_mut_slice.ensures.value, c.packets.invariant.many)
-
-pub note_messages-requires-clause-few : goal.note_messages-requires-clause-few
-note_messages-requires-clause-few c =
-    let at = at_place c.args.index.now c.packets-packets.result.now c.packets.place no_packet c.packets-packets.ensures.listed c.packets-test.true in
-    omega (arith, at.before, at.few, ap length (c.messages_in.ensures at.packet at.there), c.packets-packets.ensures.few)
-
-pub packets-preserved : goal.packets-preserved
-packets-preserved c =
-    let at = at_place c.args.index.now c.packets-packets.result.now c.packets.place no_packet c.packets-packets.ensures.listed c.packets-test.true in
-    let history = reverse (heard_in (take c.packets.place c.args.index.now)) in
-    let start = subst (λ (ts : List Tally). AreTallies c.args.rules.now history ts) (sym c.as_mut_slice.ensures.value) c.packets.invariant in
-    let noted = rw (c.messages_in.ensures at.packet at.there) at c.in_ok-note_messages.ensures history start (before_packet c.args.index.now c.packets.place _ at) in
-    let kept : length c.note_messages.new.tallies ≡ c.packets.tallies.len = omega (arith, c.note_messages.auto.tallies, ap length c.as_mut_slice.ensures.value, c.as_mut_slice.ensures.len) in
-    subst (λ (ts : List Tally). AreTallies c.args.rules.now (reverse (heard_in (take (c.packets.place + 1) c.args.index.now))) ts) (sym (with_items_is c.packets.tallies c.note_messages.new.tallies kept))
-    (packets-more c.args.rules.now c.args.index.now c.packets.place _ c.note_messages.new.tallies at noted)
+pub passes-preserved : goal.passes-preserved
+passes-preserved c =
+    judged-more c.args.rules.now c.passes.rest.now c.split_at.result.0.now c.split_at.result.1.now c.fewer-many.result (reverse (heard_in c.args.index.now)) c.passes.verdicts.items c.judge_more.new.verdicts.items c.passes.invariant
+    c.split_at.ensures.front c.split_at.ensures.back c.in_ok-judge_more.ensures
 
 pub returns : goal.returns
-returns c =
-    let whole : take c.packets.place c.args.index.now ≡ c.args.index.now = take_all c.packets.place c.args.index.now (omega (arith, same_count c.args.index.now c.packets-packets.result.now c.packets-packets.ensures.listed, c.packets-test.false)) in
-    c.verdicts_of.ensures (reverse (heard_in c.args.index.now)) (subst (λ (ps : List Found). AreTallies c.args.rules.now (reverse (heard_in ps)) c.packets.tallies.items) whole c.packets.invariant)
+returns c = judged-all _ _ _ _ c.passes.invariant (nil_from_length c.passes.rest.now (grind (arith, common_steps)))

@@ -1,4 +1,4 @@
-use Rattle.std.proofs.Common.{◌+◌, ◌∷◌, [], ap, arith, length, length-append}
+use Rattle.std.proofs.Common.{◌∷◌, [], ap, arith, length, length-append}
 use Rattle.bench_judge.proofs.Whole.{new-none, new-more, new-all}
 use Rattle.bench_judge.proofs.judging.no_tallies.Goals as goal
 

@@ -1,8 +1,4 @@
-use Rattle.std.proofs.Common.{◌≡◌, ℕ, [], length}
-use Rattle.std.specs.Prelude.{Some, slice_get}
-use Rattle.judge_rules.specs.declared.rules.Rule.{Rule}
-use Rattle.bench_judge.specs.declared.tallies.Tally.{Tally}
-use Rattle.bench_judge.specs.Tallies.{IsTally}
+use Rattle.std.proofs.Common.{◌≡◌, length}
 use Rattle.bench_judge.proofs.Whole.{AreNew}
 use Rattle.bench_judge.proofs.judging.no_tallies.Given as goal
 

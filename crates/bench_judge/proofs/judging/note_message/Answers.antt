@@ -7,7 +7,7 @@ use Rattle.bench_judge.proofs.Passing.{noting-none, noting-more, noting-all}
 use Rattle.bench_judge.proofs.judging.note_message.Goals as goal
 
 pub rules-init : goal.rules-init
-rules-init c = record { known = tt; many = c.requires; noting = λ history are counted. noting-none _ _ history _ are }
+rules-init c = record { known = tt; many = c.requires; noting = λ history are small. noting-none _ _ history _ are }
 
 pub rules-preserved : goal.rules-preserved
 rules-preserved c =
@@ -18,10 +18,10 @@ rules-preserved c =
     record {
       known = c.note.ensures.known;
       many = length-set c.rules.tallies c.rules.place c.note.new.self ∙ c.rules.invariant.many;
-      noting = λ history are counted.
-          noting-more _ _ history _ c.rules.place c.index-rules-place.result c.note.new.self (c.rules.invariant.noting history are counted) asked
-          (c.in_ok-note.ensures.noted history ((c.rules.invariant.noting history are counted).rest c.rules.place c.index-rules-place.result _ (omega arith) asked (slice_get-get_or c.rules.tallies c.rules.place _ inside)) counted);
+      noting = λ history are small.
+          noting-more _ _ history _ c.rules.place c.index-rules-place.result c.note.new.self (c.rules.invariant.noting history are small) asked
+          (c.in_ok-note.ensures.noted history ((c.rules.invariant.noting history are small).rest c.rules.place c.index-rules-place.result _ (omega arith) asked (slice_get-get_or c.rules.tallies c.rules.place _ inside)) small);
     }
 
 pub returns : goal.returns
-returns c = λ history are counted. noting-all _ _ history _ c.rules.place (omega arith) (c.rules.invariant.noting history are counted)
+returns c = λ history are small. noting-all _ _ history _ c.rules.place (omega arith) (c.rules.invariant.noting history are small)

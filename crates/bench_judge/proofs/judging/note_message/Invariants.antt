@@ -1,4 +1,4 @@
-use Rattle.std.proofs.Common.{◌≡◌, ◌+◌, List, length}
+use Rattle.std.proofs.Common.{◌≡◌, ◌+◌, ◌<◌, ◌^◌, List, length}
 use Rattle.ch11_f1.specs.Views.{message_of}
 use Rattle.bench_judge.specs.Clean.{IsKnown}
 use Rattle.bench_judge.specs.Verdicts.{Heard}
@@ -11,5 +11,5 @@ abbrev pub invariant-rules : goal.invariant-rules
 invariant-rules l = record {
   known : IsKnown l.known (message_of l.seen);
   many : length l.tallies ≡ length l.rules;
-  noting : (history : List Heard) → AreTallies l.rules history l.fn.tallies → l.number ≡ length history + 1 → IsNoting l.rules (l.channel, message_of l.seen) history l.tallies l.place;
+  noting : (history : List Heard) → AreTallies l.rules history l.fn.tallies → length history + 1 < 2 ^ 64 → IsNoting l.rules (l.channel, message_of l.seen) history l.tallies l.place;
 }

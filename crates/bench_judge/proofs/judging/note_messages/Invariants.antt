@@ -1,4 +1,4 @@
-use Rattle.std.proofs.Common.{◌≡◌, ◌+◌, List, length}
+use Rattle.std.proofs.Common.{◌≡◌, ◌+◌, ◌<◌, ◌^◌, List, length}
 use Rattle.bench_judge.specs.Verdicts.{Heard}
 use Rattle.bench_judge.specs.Tallies.{AreTallies}
 use Rattle.bench_judge.proofs.Whole.{IsPassing}
@@ -8,8 +8,8 @@ use Rattle.bench_judge.proofs.judging.note_messages.Given as goal
 abbrev pub invariant-messages : goal.invariant-messages
 invariant-messages l = record {
   many : length l.tallies ≡ length l.rules;
-  counted : l.number + length l.rest ≡ l.before + length l.fn.messages;
-  passing : (history : List Heard) → AreTallies l.rules history l.fn.tallies → l.before ≡ length history → IsPassing l.rules l.channel l.before l.number l.fn.messages l.rest history l.tallies;
+  passing : (history : List Heard) → AreTallies l.rules history l.fn.tallies → length history + length l.fn.messages < 2 ^ 64
+      → IsPassing (λ hs. AreTallies l.rules hs l.tallies) l.channel l.fn.messages l.rest history;
 }
 
 abbrev pub decreases-messages : goal.decreases-messages

@@ -1,0 +1,17 @@
+use Rattle.std.proofs.Common.{◌≡◌, ◌+◌, ℕ, List, length}
+use Rattle.std.specs.Prelude.{Option}
+use Rattle.bench_judge.specs.Verdicts.{Heard}
+use Rattle.bench_judge.specs.Tallies.{IsWriting}
+use Rattle.bench_judge.proofs.Whole.{IsPassing}
+use Rattle.bench_judge.proofs.lines.write_messages.Given as goal
+
+-- those of the messages so far that miss the rule are written
+abbrev pub invariant-messages : goal.invariant-messages
+invariant-messages g l = record {
+  counted : l.number + length l.rest ≡ l.before + length l.fn.messages;
+  passing : (history : List Heard) → (got : Option (List ℕ)) → IsWriting l.rule got history (g.W.Write.contents l.fn.out) l.fn.tally → l.before ≡ length history
+      → IsPassing (λ hs. IsWriting l.rule got hs (g.W.Write.contents l.out) l.tally) l.channel l.fn.messages l.rest history;
+}
+
+abbrev pub decreases-messages : goal.decreases-messages
+decreases-messages g l = length l.rest
