@@ -58,9 +58,9 @@ _bench() {
             ;;
         check) options="--summary --decode $options" ;;
         dump) options="--skip --time --decode --by-time --channel --line --only --errors --from --to $options" ;;
-        stat) options="--csv --long --by --load --channel --line --only --errors --from --to $options" ;;
+        stat) options="--csv --long --by --load --time --channel --line --only --errors --from --to $options" ;;
         export)
-            options="--out --force --frames --hex --vcd $options"
+            options="--out --force --frames --hex --time --vcd $options"
             options="--channel --line --only --errors --from --to $options"
             ;;
         complete) options="--out --force --setup --time --time-channel --version --skip $options" ;;

@@ -1,8 +1,9 @@
 //! `bench export`: the messages of a recording for spreadsheets, data frames and waveform viewers.
 
 use crate::command_line::{file, force};
-use crate::looking::index_of;
+use crate::looking::{clock_if, index_of};
 use crate::selecting::{GivenSelection, given_selection, selection_in, with_selection};
+use bench_clock::Clock;
 use bench_export::{Columns, ExportFault, Table, export, export_waves, selects_any};
 use bench_files::{Hold, Kind};
 use bench_requests::{Fault, begin, put_in_place, read_whole, replaceable, told_apart, writer_of};
@@ -16,8 +17,8 @@ use std::rt::Files;
 /// As what messages are exported.
 #[derive(Clone, Copy, Debug, PartialEq, Eq)]
 pub enum Exported {
-    /// Rows of comma-separated values with these columns.
-    Rows(Columns),
+    /// Rows of comma-separated values with these columns, and with times of day where `timed` is set.
+    Rows { columns: Columns, timed: bool },
     /// A value change dump.
     Waves,
 }
@@ -26,9 +27,14 @@ impl Exported {
     /// The kind of the file.
     fn kind(self) -> Kind {
         match self {
-            Exported::Rows(_) => Kind::Rows,
+            Exported::Rows { .. } => Kind::Rows,
             Exported::Waves => Kind::Waves,
         }
+    }
+
+    /// Whether times of day are asked for.
+    fn is_timed(self) -> bool {
+        matches!(self, Exported::Rows { timed: true, .. })
     }
 }
 
@@ -52,6 +58,9 @@ const EXPORT_NOTES: &str = "\
 With --frames each value has a column of its own, for data frames: the time in seconds, T/R, response times, status
 words, each bit of a status word and each error as 0 or 1, and each data word. --hex 0x puts 0x in front of words, so
 that a spreadsheet takes none for a number.
+
+With --time a column `time` behind that of the stamp has the time of day (UTC) as YYYY-MM-DDTHH:MM:SS.fffffff, by the
+last time packet at or before it; it is empty where the recording has none there.
 
 With --vcd the file is a value change dump (IEEE 1364), as GTKWave shows it: for each channel and line the word on the
 line, its kind (1 command, 2 data, 3 status), its terminal and the number of its message.
@@ -90,12 +99,17 @@ fn with_forms<'a>(alloc: Global, command: Command<'a>) -> Result<Command<'a>, Al
         .value_parser(["0x"].as_slice())
         .requires_arg("frames")?
         .help("With --frames: puts 0x in front of words");
+    let time = Arg::new(alloc, "time")
+        .long("time")
+        .action(ArgAction::SetTrue)
+        .conflicts_with("vcd")?
+        .help("Writes the time of day behind each time stamp, by the recording's time packets");
     let vcd = Arg::new(alloc, "vcd")
         .long("vcd")
         .action(ArgAction::SetTrue)
         .conflicts_with("frames")?
         .help("Writes a value change dump, for waveform viewers");
-    command.arg(frames)?.arg(hex)?.arg(vcd)
+    command.arg(frames)?.arg(hex)?.arg(time)?.arg(vcd)
 }
 
 /// What `bench export` is asked for.
@@ -111,13 +125,21 @@ pub(crate) fn export_request<'a>(given: &ArgMatches<'a>) -> ExportRequest<'a> {
 
 fn exported_in(given: &ArgMatches<'_>) -> Exported {
     if given.get_flag("vcd") {
-        Exported::Waves
-    } else if given.get_flag("frames") {
-        Exported::Rows(Columns::Frames {
+        return Exported::Waves;
+    }
+    Exported::Rows {
+        columns: columns_in(given),
+        timed: given.get_flag("time"),
+    }
+}
+
+fn columns_in(given: &ArgMatches<'_>) -> Columns {
+    if given.get_flag("frames") {
+        Columns::Frames {
             prefixed: given.get_str("hex").is_some(),
-        })
+        }
     } else {
-        Exported::Rows(Columns::Messages)
+        Columns::Messages
     }
 }
 
@@ -140,9 +162,15 @@ where
     if !request.selection.is_empty() && !selects_any(&index, &selection) {
         return Err(Fault::NoneSelected);
     }
+    let clock = clock_if(
+        rt.alloc(),
+        bytes.as_slice(),
+        &index,
+        request.exported.is_timed(),
+    )?;
     let mut file = begin(rt, out, kind, request.force)?;
     let answer = match writer_of(rt, out, &mut file) {
-        Ok(writer) => write_exported(rt.alloc(), &index, &selection, request, writer),
+        Ok(writer) => write_exported(rt.alloc(), &index, &clock, &selection, request, writer),
         Err(fault) => Err(fault),
     };
     match answer {
@@ -158,12 +186,20 @@ where
 fn write_exported<'a, W: Write + Drop>(
     alloc: Global,
     index: &Index<'_>,
+    clock: &Clock,
     selection: &Selection,
     request: &ExportRequest<'a>,
     writer: W,
 ) -> Result<(), Fault<'a>> {
     let written = match request.exported {
-        Exported::Rows(columns) => write_rows(alloc, index, selection, columns, writer),
+        Exported::Rows { columns, timed } => {
+            let table = Table {
+                columns,
+                timed,
+                selection: *selection,
+            };
+            write_rows(alloc, index, clock, &table, writer)
+        }
         Exported::Waves => write_dump(alloc, index, selection, writer),
     };
     match written {
@@ -177,15 +213,11 @@ fn write_exported<'a, W: Write + Drop>(
 fn write_rows<W: Write + Drop>(
     alloc: Global,
     index: &Index<'_>,
-    selection: &Selection,
-    columns: Columns,
+    clock: &Clock,
+    table: &Table,
     writer: W,
 ) -> Result<(), ExportFault> {
-    let table = Table {
-        columns,
-        selection: *selection,
-    };
-    match export(alloc, index, &table, writer) {
+    match export(alloc, index, table, clock, writer) {
         Ok(_) => Ok(()),
         Err(fault) => Err(fault),
     }

@@ -1,4 +1,6 @@
 //! `bench draw`: what there is to see in a recording, and whether messages are missing from it.
+ghost use Rattle.std.specs.Prelude.{◌≡◌, IfOk};
+ghost use Rattle.bench_dump.specs.TimedText.{clock_of};
 
 use crate::command_line::DrawRequest;
 use crate::selecting::selection_in;
@@ -7,7 +9,7 @@ use bench_draw::draw;
 use bench_files::{Hold, Kind};
 use bench_requests::{Fault, read_whole, replaceable, tells_of_loss, told_apart, write_new};
 use ch11_reader::{Index, ReadError};
-use std::alloc::Global;
+use std::alloc::{AllocError, Global};
 use std::io::IsTerminal;
 use std::rt::Files;
 
@@ -41,6 +43,19 @@ pub(crate) fn index_of<'a, 'b>(alloc: Global, recording: &'b [u8]) -> Result<Ind
     }
 }
 
+/// The clock of a recording where times of day are asked for, and else one that tells none.
+pub(crate) fn clock_if(
+    alloc: Global,
+    recording: &[u8],
+    index: &Index<'_>,
+    timed: bool,
+) -> Result<Clock, AllocError>
+    ensures { IfOk result (λ clock. clock ≡ clock_of timed recording.now index.now) }
+{
+    let told = if timed { index.packets() } else { &[] };
+    Clock::of(alloc, recording, told)
+}
+
 /// Writes the messages of a recording, or those that were selected, as a picture. The out file takes the place of what
 /// is there once it is whole; it may not be the recording itself. Where a selection has no message, nothing is written, and
 /// that is said.
@@ -56,7 +71,7 @@ where
     replaceable(rt, request.out, Kind::Picture, request.force)?;
     let bytes = read_whole(rt, request.recording)?;
     let index = index_of(rt.alloc(), bytes.as_slice())?;
-    let clock = Clock::of(rt.alloc(), bytes.as_slice(), index.packets())?;
+    let clock = clock_if(rt.alloc(), bytes.as_slice(), &index, true)?;
     let drawing = draw(rt.alloc(), &index, &selection, &clock)?;
     if drawing.messages == 0 && !request.selection.is_empty() {
         return Err(Fault::NoneSelected);

@@ -1,7 +1,8 @@
 //! `bench stat`: the figures of a recording.
 
-use crate::looking::{index_of, tell_of_loss};
+use crate::looking::{clock_if, index_of, tell_of_loss};
 use crate::selecting::{GivenSelection, given_selection, selection_in, with_selection};
+use bench_clock::Clock;
 use bench_requests::{Fault, read_whole};
 use bench_select::Selection;
 use bench_stat::{ChannelFigures, Shown, StatFault, print_page, print_tables, stat};
@@ -30,6 +31,10 @@ const STAT_NOTES: &str = "\
 Each channel with messages is told by the share of its time in which words were on the bus, its errors by their kind,
 its retries, and its terminals with their commands and response times. --channel, --line, --only, --errors, --from and
 --to count in some messages alone, chosen as by bench dump.
+
+With --time a line behind the span tells the times of day (UTC) of the channel's first and last message, as bench dump
+--time has them; a channel for which the recording's time packets tell none has no such line. With --csv each row of a
+terminal or a subaddress ends with the two times of its channel, in columns first_time and last_time.
 
 Example:
   bench stat flight.ch11
@@ -60,6 +65,11 @@ pub(crate) fn stat_command<'a>(alloc: Global) -> Result<Command<'a>, AllocError>
             alloc,
             "load",
             "Shows the bus load over time, in twenty slices",
+        ))?
+        .arg(shows(
+            alloc,
+            "time",
+            "Shows the times of day of each channel's first and last message",
         ))?;
     with_selection(alloc, command)?.arg(recording)
 }
@@ -82,6 +92,7 @@ pub(crate) fn stat_request<'a>(given: &ArgMatches<'a>) -> StatRequest<'a> {
             long: given.get_flag("long"),
             by_subaddress: matches!(given.get_str("by"), Some("subaddress")),
             load: given.get_flag("load"),
+            time: given.get_flag("time"),
         },
     }
 }
@@ -103,7 +114,8 @@ pub fn show_statistics<'a, R: Files + AllocGlobal + Print, E: Eprint + IsTermina
     if selection != Selection::all() && counts_nothing(figures.as_slice()) {
         return Err(Fault::NoneSelected);
     }
-    print_figures(rt, &index, &selection, figures.as_slice(), request)?;
+    let clock = clock_if(rt.alloc(), bytes.as_slice(), &index, request.shown.time)?;
+    print_figures(rt, &index, &clock, &selection, figures.as_slice(), request)?;
     tell_of_loss(rt, errors, bytes.as_slice());
     Ok(())
 }
@@ -116,6 +128,7 @@ fn counts_nothing(figures: &[ChannelFigures]) -> bool {
 fn print_figures<'a, R: AllocGlobal + Print>(
     rt: &R,
     index: &Index<'_>,
+    clock: &Clock,
     selection: &Selection,
     figures: &[ChannelFigures],
     request: &StatRequest<'a>,
@@ -126,9 +139,25 @@ fn print_figures<'a, R: AllocGlobal + Print>(
     };
     let shown = &request.shown;
     let printed = if request.rows {
-        print_tables(rt.alloc(), &mut out, index, selection, figures, shown)
+        print_tables(
+            rt.alloc(),
+            &mut out,
+            index,
+            selection,
+            figures,
+            shown,
+            clock,
+        )
     } else {
-        print_page(rt.alloc(), &mut out, index, selection, figures, shown)
+        print_page(
+            rt.alloc(),
+            &mut out,
+            index,
+            selection,
+            figures,
+            shown,
+            clock,
+        )
     };
     match printed {
         Ok(()) => {}

@@ -1,5 +1,6 @@
--- The columns of an export for data frames (own choice): one value a column, and of each message as many.
-use Rattle.std.specs.Prelude.{ℕ, zero, suc, ◌+◌, ◌-◌, ◌/◌, ◌%◌, ◌^◌, ◌==◌, Bool, true, false, not, ◌&&◌, ◌||◌, nat_lt, if◌then◌else◌, List, [], ◌∷◌, ◌++◌, Option, Some, None, codes, decimal}
+-- The columns of an export for data frames behind those that say when a message was (own choice): one value a column, and of each
+-- message as many.
+use Rattle.std.specs.Prelude.{ℕ, zero, suc, ◌+◌, ◌-◌, ◌/◌, ◌%◌, ◌^◌, ◌==◌, Bool, false, not, ◌&&◌, ◌||◌, nat_lt, if◌then◌else◌, List, [], ◌∷◌, ◌++◌, Option, Some, None, codes, decimal}
 use Rattle.mil_word.specs.Fields.{has_bit, is_transmit}
 use Rattle.ch11_f1.specs.BodyReading.{Message}
 use Rattle.ch11_layout.specs.Layouts.{size_of, word_of, is_between, first_word, first_gap, second_gap, commands_in, data_start, data_end}
@@ -87,10 +88,9 @@ unfoldable pub data_names : ℕ → List (List ℕ)
 data_names zero = []
 data_names (suc place) = data_names place ++ (codes "word" ++ decimal (place + 1)) ∷ []
 
--- when and how it was sent; what was answered
-abbrev pub sent_columns : ℕ → ℕ → Message → List (List ℕ)
-sent_columns n channel m =
-    decimal n ∷ decimal channel ∷ seconds_text m.stamp ∷ line_text m ∷ form_text m ∷ direction_text m ∷ []
+-- how it was sent; what was answered
+abbrev pub sent_columns : Message → List (List ℕ)
+sent_columns m = line_text m ∷ form_text m ∷ direction_text m ∷ []
 
 abbrev pub answered_columns : Bool → Message → List (List ℕ)
 answered_columns prefixed m =
@@ -102,14 +102,14 @@ carried_columns prefixed m =
     status_flags (first_status m) (second_status m)
     ++ (error_flags m.block ++ (decimal (data_end m - data_start m) ∷ data_fields 32 prefixed m))
 
--- the columns of message n
-abbrev pub frame_row : Bool → ℕ → ℕ → Message → List (List ℕ)
-frame_row prefixed n channel m =
-    sent_columns n channel m ++ (called_fields m ++ (answered_columns prefixed m ++ carried_columns prefixed m))
+-- all these columns
+abbrev pub frame_row : Bool → Message → List (List ℕ)
+frame_row prefixed m =
+    sent_columns m ++ (called_fields m ++ (answered_columns prefixed m ++ carried_columns prefixed m))
 
 -- the names of the columns
 abbrev pub sent_names : List (List ℕ)
-sent_names = codes "number" ∷ codes "channel" ∷ codes "time_s" ∷ codes "line" ∷ codes "form" ∷ codes "tr" ∷ []
+sent_names = codes "line" ∷ codes "form" ∷ codes "tr" ∷ []
 
 abbrev pub called_names : List (List ℕ)
 called_names =

@@ -4,5 +4,6 @@ pub mod Choosing
 pub mod Frames
 pub mod Moments
 pub mod Rows
+pub mod Stamped
 pub mod Tables
 pub mod Waves

@@ -1,5 +1,5 @@
--- The columns of a message in an exported recording (own choice), and their names.
-use Rattle.std.specs.Prelude.{ℕ, ◌+◌, ◌-◌, ◌*◌, ◌/◌, ◌%◌, ◌==◌, Bool, not, ◌&&◌, nat_lt, if◌then◌else◌, List, [], ◌∷◌, ◌++◌, take, drop, codes, decimal}
+-- The columns of a message in an exported recording behind those that say when it was (own choice), and their names.
+use Rattle.std.specs.Prelude.{ℕ, ◌-◌, ◌*◌, ◌/◌, ◌%◌, ◌==◌, Bool, not, ◌&&◌, nat_lt, if◌then◌else◌, List, [], ◌∷◌, ◌++◌, take, drop, codes, decimal}
 use Rattle.mil_word.specs.Fields.{has_bit, address_of, sub_of, code_of, count_of, is_mode, is_broadcast, is_transmit}
 use Rattle.ch11_f1.specs.BodyReading.{Message}
 use Rattle.ch11_layout.specs.Layouts.{size_of, word_of, first_word, first_gap, second_gap, commands_in, data_start, data_end}
@@ -7,9 +7,7 @@ use Rattle.bench_dump.specs.DumpText.{bus_words}
 
 -- the names of the columns
 abbrev pub first_names : List (List ℕ)
-first_names =
-    codes "number" ∷ codes "channel" ∷ codes "time_us" ∷ codes "line" ∷ codes "form"
-    ∷ codes "terminal" ∷ codes "subaddress" ∷ codes "count" ∷ []
+first_names = codes "line" ∷ codes "form" ∷ codes "terminal" ∷ codes "subaddress" ∷ codes "count" ∷ []
 
 abbrev pub other_names : List (List ℕ)
 other_names =
@@ -92,9 +90,9 @@ block_text block =
     ++ name_if block 3 (codes "invalid_word_error")))))))
     )
 
--- when and how it was sent; whom it calls; what was answered
-abbrev pub sent_fields : ℕ → ℕ → Message → List (List ℕ)
-sent_fields n channel m = decimal n ∷ decimal channel ∷ micros m.stamp ∷ line_text m ∷ form_text m ∷ []
+-- how it was sent; whom it calls; what was answered
+abbrev pub sent_fields : Message → List (List ℕ)
+sent_fields m = line_text m ∷ form_text m ∷ []
 
 abbrev pub called_fields : Message → List (List ℕ)
 called_fields m = first_fields m ++ second_fields m
@@ -103,6 +101,6 @@ abbrev pub answered_fields : Message → List (List ℕ)
 answered_fields m =
     status_text m ∷ block_text m.block ∷ gap_text (first_gap m) ∷ gap_text (second_gap m) ∷ data_text m ∷ []
 
--- the fields of message n
-abbrev pub row_of : ℕ → ℕ → Message → List (List ℕ)
-row_of n channel m = sent_fields n channel m ++ (called_fields m ++ answered_fields m)
+-- all these fields
+abbrev pub row_of : Message → List (List ℕ)
+row_of m = sent_fields m ++ (called_fields m ++ answered_fields m)

@@ -8,7 +8,7 @@ use crate::fields::{form_name, line_name, push_called};
 use crate::flags::{push_error_flags, push_status_flags};
 use crate::row::Row;
 use crate::texts::{push_gap, push_number};
-use crate::values::{push_seconds, push_word};
+use crate::values::push_word;
 use ch11_f1::Seen;
 use ch11_layout::{Layout, first_gap, is_set, second_gap, word_at};
 use mil_word::Command;
@@ -26,18 +26,16 @@ pub enum Columns {
     Frames { prefixed: bool },
 }
 
-/// The columns of message n. The text is room for a field.
+/// The columns of a message behind its time. The text is room for a field.
 pub(crate) fn push_columns(
     row: &mut Row,
     text: &mut Vec<u8>,
     prefixed: bool,
-    number: u64,
-    channel: u16,
     seen: &Seen<'_>,
 ) -> Result<(), AllocError>
-    ensures { OnOk result (row.new ≡ row.old ++ spec.frame_row prefixed number channel (message_of seen.now)) }
+    ensures { OnOk result (row.new ≡ row.old ++ spec.frame_row prefixed (message_of seen.now)) }
 {
-    push_sent_columns(row, text, number, channel, seen)?;
+    push_sent_columns(row, seen)?;
     push_called(row, seen)?;
     push_answered_columns(row, text, prefixed, seen)?;
     push_carried_columns(row, text, prefixed, seen)?;
@@ -65,19 +63,10 @@ fn push_carried_columns(
     Ok(())
 }
 
-/// When and how message n was sent.
-fn push_sent_columns(
-    row: &mut Row,
-    text: &mut Vec<u8>,
-    number: u64,
-    channel: u16,
-    seen: &Seen<'_>,
-) -> Result<(), AllocError>
-    ensures { OnOk result (row.new ≡ row.old ++ spec.sent_columns number channel (message_of seen.now)) }
+/// How a message was sent.
+fn push_sent_columns(row: &mut Row, seen: &Seen<'_>) -> Result<(), AllocError>
+    ensures { OnOk result (row.new ≡ row.old ++ spec.sent_columns (message_of seen.now)) }
 {
-    push_number(row, number)?;
-    push_number(row, u64::from(channel))?;
-    push_seconds(row, text, seen.stamp)?;
     row.push(line_name(seen))?;
     row.push(form_name(seen))?;
     row.push(direction_name(seen))

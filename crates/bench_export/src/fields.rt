@@ -5,41 +5,30 @@ ghost use Rattle.ch11_layout.specs.Layouts.{layout_of};
 ghost use Rattle.bench_export.specs.Rows as spec;
 
 use crate::row::Row;
-use crate::texts::{push_block, push_gap, push_micros, push_number, push_words};
+use crate::texts::{push_block, push_gap, push_number, push_words};
 use ch11_f1::Seen;
 use ch11_layout::{Layout, first_gap, is_set, second_gap, word_at};
 use mil_word::Command;
 use std::alloc::AllocError;
 
-/// The fields of message n. The text is room for a field.
+/// The fields of a message behind its time. The text is room for a field.
 pub(crate) fn push_fields(
     row: &mut Row,
     text: &mut Vec<u8>,
-    number: u64,
-    channel: u16,
     seen: &Seen<'_>,
 ) -> Result<(), AllocError>
-    ensures { OnOk result (row.new ≡ row.old ++ spec.row_of number channel (message_of seen.now)) }
+    ensures { OnOk result (row.new ≡ row.old ++ spec.row_of (message_of seen.now)) }
 {
-    push_sent(row, text, number, channel, seen)?;
+    push_sent(row, seen)?;
     push_called(row, seen)?;
     push_answered(row, text, seen)?;
     Ok(())
 }
 
-/// When and how message n was sent. The text is room for a field.
-fn push_sent(
-    row: &mut Row,
-    text: &mut Vec<u8>,
-    number: u64,
-    channel: u16,
-    seen: &Seen<'_>,
-) -> Result<(), AllocError>
-    ensures { OnOk result (row.new ≡ row.old ++ spec.sent_fields number channel (message_of seen.now)) }
+/// How a message was sent.
+fn push_sent(row: &mut Row, seen: &Seen<'_>) -> Result<(), AllocError>
+    ensures { OnOk result (row.new ≡ row.old ++ spec.sent_fields (message_of seen.now)) }
 {
-    push_number(row, number)?;
-    push_number(row, u64::from(channel))?;
-    push_micros(row, text, seen.stamp)?;
     row.push(line_name(seen))?;
     row.push(form_name(seen))
 }

@@ -15,6 +15,7 @@ mod names;
 mod present;
 mod row;
 mod signals;
+mod stamped;
 mod texts;
 mod values;
 mod waves;

@@ -2,24 +2,61 @@
 ghost use Rattle.std.specs.Prelude.{◌≡◌, ◌<◌, ◌+◌, ◌++◌, ◌∷◌, [], codes, decimal, IfOk, OnOk};
 ghost use Rattle.bench_export.specs.Frames as frames;
 ghost use Rattle.bench_export.specs.Rows.{first_names, names, other_names};
+ghost use Rattle.bench_export.specs.Stamped.{number_names, stamp_name, stamped_names, time_names};
 ghost use Rattle.bench_export.specs.Tables as spec;
 
 use crate::columns::{Columns, DATA_COLUMNS};
 use crate::row::Row;
+use crate::whole::Table;
 use itoa::Buffer;
 use std::alloc::{AllocError, Global};
 
 /// The names of the columns.
-pub(crate) fn names_of(alloc: Global, columns: Columns) -> Result<Row, AllocError>
-    ensures { IfOk result (λ row. row ≡ spec.names_of columns) }
+pub(crate) fn names_of(alloc: Global, table: &Table) -> Result<Row, AllocError>
+    ensures { IfOk result (λ row. row ≡ spec.names_of table.now) }
 {
     let mut row = Row::new(alloc);
-    push_names(alloc, &mut row, columns)?;
+    push_stamped_names(&mut row, table.columns, table.timed)?;
+    push_names_behind(alloc, &mut row, table.columns)?;
     Ok(row)
 }
 
-fn push_names(alloc: Global, row: &mut Row, columns: Columns) -> Result<(), AllocError>
-    ensures { OnOk result (row.new ≡ row.old ++ spec.names_of columns) }
+/// Which message it is and when it was.
+fn push_stamped_names(row: &mut Row, columns: Columns, timed: bool) -> Result<(), AllocError>
+    ensures { OnOk result (row.new ≡ row.old ++ stamped_names columns timed) }
+{
+    push_number_names(row, columns)?;
+    push_time_name(row, timed)
+}
+
+/// Its number, its channel and its stamp.
+fn push_number_names(row: &mut Row, columns: Columns) -> Result<(), AllocError>
+    ensures { OnOk result (row.new ≡ row.old ++ number_names columns) }
+{
+    row.push(b"number")?;
+    row.push(b"channel")?;
+    row.push(name_of_stamp(columns))
+}
+
+fn name_of_stamp(columns: Columns) -> &'static [u8]
+    ensures { result.now ≡ stamp_name columns }
+{
+    match columns {
+        Columns::Messages => b"time_us",
+        Columns::Frames { .. } => b"time_s",
+    }
+}
+
+/// Its time of day, where it is asked for.
+fn push_time_name(row: &mut Row, timed: bool) -> Result<(), AllocError>
+    ensures { OnOk result (row.new ≡ row.old ++ time_names timed) }
+{
+    if timed { row.push(b"time") } else { Ok(()) }
+}
+
+/// What stands behind its time.
+fn push_names_behind(alloc: Global, row: &mut Row, columns: Columns) -> Result<(), AllocError>
+    ensures { OnOk result (row.new ≡ row.old ++ spec.other_names_of columns) }
 {
     match columns {
         Columns::Messages => push_message_names(row),
@@ -39,9 +76,6 @@ fn push_message_names(row: &mut Row) -> Result<(), AllocError>
 fn push_first_names(row: &mut Row) -> Result<(), AllocError>
     ensures { OnOk result (row.new ≡ row.old ++ first_names) }
 {
-    row.push(b"number")?;
-    row.push(b"channel")?;
-    row.push(b"time_us")?;
     row.push(b"line")?;
     row.push(b"form")?;
     row.push(b"terminal")?;
@@ -75,13 +109,10 @@ fn push_frame_names(alloc: Global, row: &mut Row) -> Result<(), AllocError>
     Ok(())
 }
 
-/// When and how a message was sent.
+/// How a message was sent.
 fn push_sent_names(row: &mut Row) -> Result<(), AllocError>
     ensures { OnOk result (row.new ≡ row.old ++ frames.sent_names) }
 {
-    row.push(b"number")?;
-    row.push(b"channel")?;
-    row.push(b"time_s")?;
     row.push(b"line")?;
     row.push(b"form")?;
     row.push(b"tr")?;

@@ -9,6 +9,7 @@ use crate::columns::Columns;
 use crate::fault::ExportFault;
 use crate::messages::{Room, write_messages, write_row};
 use crate::names::names_of;
+use bench_clock::Clock;
 use bench_select::Selection;
 use ch11_reader::Index;
 use csv::Writer;
@@ -20,23 +21,27 @@ use std::io::Write;
 pub struct Table {
     /// Which columns a row has.
     pub columns: Columns,
+    /// Whether a row has a column `time` behind that of the stamp, with the time of day.
+    pub timed: bool,
     /// Which messages have a row.
     pub selection: Selection,
 }
 
 /// Writes a recording that was read as comma-separated values: a row with the names of the columns, and then one row a
-/// selected message, in the file's order, numbered from 1 over all channels. The writer is handed back, flushed.
+/// selected message, in the file's order, numbered from 1 over all channels. The time of day is that of the recording's
+/// clock (`Clock::of`) at the stamp, empty where it tells none. The writer is handed back, flushed.
 pub fn export<W: Write + Drop>(
     alloc: Global,
     index: &Index<'_>,
     table: &Table,
+    clock: &Clock,
     out: W,
 ) -> Result<W, ExportFault>
-    ensures { IfOk result (λ w. Appends (W.contents out) (W.contents w) (export_text table.now index.now)) }
+    ensures { IfOk result (λ w. Appends (W.contents out) (W.contents w) (export_text table.now clock.now index.now)) }
 {
     let mut writer = Writer::from_writer(out);
-    write_row(&mut writer, &names_of(alloc, table.columns)?)?;
-    write_packets(alloc, &mut writer, table, index)?;
+    write_row(&mut writer, &names_of(alloc, table)?)?;
+    write_packets(alloc, &mut writer, table, clock, index)?;
     match writer.into_inner() {
         Ok(out) => Ok(out),
         Err(_) => Err(ExportFault::Device),
@@ -48,10 +53,11 @@ fn write_packets<W: Write + Drop>(
     alloc: Global,
     writer: &mut Writer<W>,
     table: &Table,
+    clock: &Clock,
     index: &Index<'_>,
 ) -> Result<(), ExportFault>
     requires { IsBetween writer.old }
-    ensures { OnOk result (Appends (writing.text_written W.contents writer.old) (writing.text_written W.contents writer.new) (packets_text table.now 0 index.now)) }
+    ensures { OnOk result (Appends (writing.text_written W.contents writer.old) (writing.text_written W.contents writer.new) (packets_text table.now clock.now 0 index.now)) }
 {
     let mut room = Room::new(alloc);
     let packets = index.packets();
@@ -61,6 +67,7 @@ fn write_packets<W: Write + Drop>(
             writer,
             &mut room,
             table,
+            clock,
             packet.before,
             packet.header.channel,
             index.messages_in(place),

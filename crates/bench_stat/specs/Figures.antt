@@ -40,13 +40,14 @@ abbrev pub greatest : List ℕ → ℕ
 greatest [] = 0
 greatest (n ∷ ns) = max n (greatest ns)
 
--- messages, words and times of a channel: from the least stamp to the greatest end of a message
+-- messages, words and times of a channel: from the least stamp to the greatest one and to the greatest end of a message
 abbrev pub traffic_of : List Message → Traffic
 traffic_of history = record {
   messages = capped (length history);
   words = capped (sum_by size_of history);
   busy = capped (sum_by duration history);
   begin = least (2 ^ 64 - 1) (map (λ (m : Message). m.stamp) history);
+  last = greatest (map (λ (m : Message). m.stamp) history);
   «end» = greatest (map (λ (m : Message). capped (m.stamp + duration m)) history);
 }
 

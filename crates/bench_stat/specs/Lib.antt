@@ -7,3 +7,4 @@ pub mod Entries
 pub mod Replies
 pub mod Slices
 pub mod Details
+pub mod Times

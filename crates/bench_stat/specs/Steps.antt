@@ -35,6 +35,7 @@ with_traffic m t = record {
   words = capped (t.words + size_of m);
   busy = capped (t.busy + duration m);
   begin = min m.stamp t.begin;
+  last = max m.stamp t.last;
   «end» = max (capped (m.stamp + duration m)) t.«end»;
 }
 

@@ -22,6 +22,7 @@ mod statistics;
 mod tables;
 mod tally;
 mod terminals;
+mod times;
 mod traffic;
 mod units;
 
@@ -40,4 +41,5 @@ pub use slices::Slice;
 pub use statistics::stat;
 pub use tally::Tally;
 pub use terminals::TerminalFigures;
+pub use times::Times;
 pub use traffic::Traffic;

@@ -6,12 +6,14 @@ use crate::fault::StatFault;
 use crate::flows::Flow;
 use crate::losses::Losses;
 use crate::printing::{
-    print_errors, print_load_line, print_retries, print_terminals, print_traffic,
+    print_errors, print_load_line, print_retries, print_terminals, print_times, print_traffic,
 };
 use crate::replies::Replies;
 use crate::tables::{print_load, print_subaddresses};
+use crate::times::Times;
 use crate::traffic::Traffic;
 use crate::units::{rate, write_hundredths, write_time};
+use bench_clock::Clock;
 use bench_select::Selection;
 use ch11_reader::Index;
 use std::alloc::Global;
@@ -27,10 +29,24 @@ pub struct Shown {
     pub by_subaddress: bool,
     /// The load over time.
     pub load: bool,
+    /// The times of day of a channel's first and last message.
+    pub time: bool,
+}
+
+impl Shown {
+    /// The times of day of a channel, where they are asked for.
+    pub(crate) fn times_of(&self, clock: &Clock, figures: &ChannelFigures) -> Option<Times> {
+        if self.time {
+            Some(Times::of(clock, &figures.traffic))
+        } else {
+            None
+        }
+    }
 }
 
 /// Writes the figures of each channel as lines aligned for people. They are those of the selected messages of the
-/// recording. It fails for want of memory, and where the writer does.
+/// recording. Times of day are those of the clock; a channel of which it tells none has no line of them. It fails for want
+/// of memory, and where the writer does.
 pub fn print_page<W: Write>(
     alloc: Global,
     out: &mut W,
@@ -38,12 +54,14 @@ pub fn print_page<W: Write>(
     selection: &Selection,
     figures: &[ChannelFigures],
     shown: &Shown,
+    clock: &Clock,
 ) -> Result<(), StatFault> {
     if shown.long {
         print_losses(out, index, figures)?;
     }
     for channel in figures {
-        print_head(out, index, selection, channel, shown.long)?;
+        let times = shown.times_of(clock, channel);
+        print_head(out, index, selection, channel, shown.long, times)?;
         if shown.by_subaddress {
             let flows = flows_by_subaddress(alloc, index, selection, channel.channel)?;
             print_subaddresses(out, flows.as_slice(), channel.traffic.span())?;
@@ -83,16 +101,17 @@ fn print_head<W: Write>(
     selection: &Selection,
     figures: &ChannelFigures,
     long: bool,
+    times: Option<Times>,
 ) -> io::Result<()> {
     let channel = figures.channel;
     writeln!(out, "channel {channel}")?;
     if !long {
-        print_traffic(out, &figures.traffic)?;
+        print_traffic(out, &figures.traffic, times)?;
         print_errors(out, &figures.errors)?;
         return print_retries(out, figures.retries);
     }
     let details = Details::of(index, selection, channel);
-    print_long_traffic(out, &figures.traffic)?;
+    print_long_traffic(out, &figures.traffic, times)?;
     print_gaps(out, &details.flow)?;
     print_errors(out, &figures.errors)?;
     print_retries(out, figures.retries)?;
@@ -101,11 +120,17 @@ fn print_head<W: Write>(
 
 /// Writes how much a channel carried, with messages a second where any time passed. The span is in µs, ms or s by its
 /// size.
-fn print_long_traffic<W: Write>(out: &mut W, traffic: &Traffic) -> io::Result<()> {
+fn print_long_traffic<W: Write>(
+    out: &mut W,
+    traffic: &Traffic,
+    times: Option<Times>,
+) -> io::Result<()> {
     let (messages, words) = (traffic.messages, traffic.words);
     write!(out, "  span      ")?;
     write_time(out, traffic.span())?;
-    write!(out, "\n  messages  {messages}")?;
+    writeln!(out, "")?;
+    print_times(out, times)?;
+    write!(out, "  messages  {messages}")?;
     if let Some(rate) = rate(messages, traffic.span()) {
         write!(out, ", ")?;
         write_hundredths(out, rate)?;

@@ -3,7 +3,9 @@
 use crate::channels::ChannelFigures;
 use crate::errors::Errors;
 use crate::terminals::TerminalFigures;
+use crate::times::Times;
 use crate::traffic::Traffic;
+use crate::units::write_time_of_day;
 use std::io;
 use std::io::Write;
 
@@ -12,8 +14,11 @@ const COLUMNS: &str =
     "  terminal    receive   transmit       mode     errors  responses  least us   mean us  greatest us";
 
 /// The columns of the rows of comma-separated values.
-const NAMES: &str =
+pub(crate) const NAMES: &str =
     "channel,terminal,receive,transmit,mode,errors,responses,least_us,mean_us,greatest_us";
+
+/// The columns behind those of any row, where times of day are asked for.
+pub(crate) const TIMES: &str = ",first_time,last_time";
 
 /// A number with its last digits behind a point: tenths, or hundredths.
 #[derive(Clone, Copy)]
@@ -40,29 +45,61 @@ impl Parts {
     }
 }
 
-/// Writes a row of comma-separated values for each terminal address that was called, behind a row with the names of the
-/// columns. A fault is the writer's.
-pub(crate) fn print_rows<W: Write>(out: &mut W, figures: &[ChannelFigures]) -> io::Result<()> {
-    writeln!(out, "{NAMES}")?;
-    for channel in figures {
-        for (address, terminal) in channel.terminals.iter().enumerate() {
-            if terminal.commands() > 0 {
-                print_row(out, channel.channel, address, terminal)?;
-            }
+/// Writes a row of comma-separated values for each terminal address of a channel that was called. A fault is the writer's.
+pub(crate) fn print_rows<W: Write>(
+    out: &mut W,
+    figures: &ChannelFigures,
+    times: Option<Times>,
+) -> io::Result<()> {
+    for (address, terminal) in figures.terminals.iter().enumerate() {
+        if terminal.commands() > 0 {
+            print_row(out, figures.channel, address, terminal)?;
+            end_row(out, times)?;
         }
     }
     Ok(())
 }
 
+/// Ends a row of comma-separated values, with the channel's times of day where they are asked for.
+pub(crate) fn end_row<W: Write>(out: &mut W, times: Option<Times>) -> io::Result<()> {
+    if let Some(times) = times {
+        write!(out, ",")?;
+        write_time_of_day(out, times.first, "")?;
+        write!(out, ",")?;
+        write_time_of_day(out, times.last, "")?;
+    }
+    writeln!(out, "")
+}
+
 /// Writes how much a channel carried. The span is in µs.
-pub(crate) fn print_traffic<W: Write>(out: &mut W, traffic: &Traffic) -> io::Result<()> {
+pub(crate) fn print_traffic<W: Write>(
+    out: &mut W,
+    traffic: &Traffic,
+    times: Option<Times>,
+) -> io::Result<()> {
     let span = Parts::of_tenths(traffic.span());
     let (whole, part) = (span.whole, span.part);
     writeln!(out, "  span      {whole}.{part} us")?;
+    print_times(out, times)?;
     let (messages, words) = (traffic.messages, traffic.words);
     writeln!(out, "  messages  {messages}")?;
     writeln!(out, "  words     {words}")?;
     print_load_line(out, traffic)
+}
+
+/// Writes the times of day of the first and the last message, '-' for one that has none; nothing where neither has one.
+pub(crate) fn print_times<W: Write>(out: &mut W, times: Option<Times>) -> io::Result<()> {
+    let Some(times) = times else {
+        return Ok(());
+    };
+    if times.first.is_none() && times.last.is_none() {
+        return Ok(());
+    }
+    write!(out, "  time      ")?;
+    write_time_of_day(out, times.first, "-")?;
+    write!(out, " to ")?;
+    write_time_of_day(out, times.last, "-")?;
+    writeln!(out, "")
 }
 
 /// Writes the bus load in per cent, '-' where no time passed.
@@ -142,7 +179,7 @@ fn print_terminal<W: Write>(
     writeln!(out, " {whole:>10}.{part}")
 }
 
-/// Writes the row of a terminal address. Response times are in µs, and empty where there was no response.
+/// Writes the row of a terminal address but its end. Response times are in µs, and empty where there was no response.
 fn print_row<W: Write>(
     out: &mut W,
     channel: u16,
@@ -156,7 +193,7 @@ fn print_row<W: Write>(
         "{channel},{address},{receive},{transmit},{mode},{errors},{responses},"
     )?;
     let Some(mean) = terminal.mean() else {
-        return writeln!(out, ",,");
+        return write!(out, ",,");
     };
     let least = Parts::of_tenths(u64::from(terminal.least));
     let mean = Parts::of_hundredths(mean);
@@ -166,5 +203,5 @@ fn print_row<W: Write>(
     let (whole, part) = (mean.whole, mean.part);
     write!(out, "{whole}.{part:02},")?;
     let (whole, part) = (greatest.whole, greatest.part);
-    writeln!(out, "{whole}.{part}")
+    write!(out, "{whole}.{part}")
 }

@@ -6,9 +6,11 @@ use crate::fault::StatFault;
 use crate::flows::Flow;
 use crate::losses::Losses;
 use crate::page::Shown;
-use crate::printing::print_rows;
+use crate::printing::{NAMES, TIMES, end_row, print_rows};
 use crate::slices::Slice;
-use crate::units::{rate, write_hundredths, write_us};
+use crate::times::Times;
+use crate::units::{rate, write_hundredths, write_time_of_day, write_us};
+use bench_clock::{Clock, UtcTime};
 use bench_select::Selection;
 use ch11_reader::Index;
 use std::alloc::Global;
@@ -27,7 +29,9 @@ const LOAD: &str = "channel,begin_us,end_us,load_percent";
 
 /// Writes the figures as rows of comma-separated values: those of the channels where they are asked for, then those of
 /// terminals or of subaddresses, then the load over time where it is asked for; each table behind a row with the names
-/// of its columns, and an empty line between two of them. It fails for want of memory, and where the writer does.
+/// of its columns, and an empty line between two of them. Times of day are those of the clock, in two rows of a channel's
+/// figures, and in two columns behind the others of terminals and of subaddresses. It fails for want of memory, and where
+/// the writer does.
 pub fn print_tables<W: Write>(
     alloc: Global,
     out: &mut W,
@@ -35,22 +39,25 @@ pub fn print_tables<W: Write>(
     selection: &Selection,
     figures: &[ChannelFigures],
     shown: &Shown,
+    clock: &Clock,
 ) -> Result<(), StatFault> {
     if shown.long {
         writeln!(out, "{FIGURES}")?;
         for channel in figures {
-            write_figures(out, index, selection, channel)?;
+            let times = shown.times_of(clock, channel);
+            write_figures(out, index, selection, channel, times)?;
         }
         writeln!(out, "")?;
     }
-    if shown.by_subaddress {
-        writeln!(out, "{SUBADDRESSES}")?;
-        for channel in figures {
+    write_names(out, shown)?;
+    for channel in figures {
+        let times = shown.times_of(clock, channel);
+        if shown.by_subaddress {
             let flows = flows_by_subaddress(alloc, index, selection, channel.channel)?;
-            write_flows(out, channel, flows.as_slice())?;
+            write_flows(out, channel, flows.as_slice(), times)?;
+        } else {
+            print_rows(out, channel, times)?;
         }
-    } else {
-        print_rows(out, figures)?;
     }
     if shown.load {
         writeln!(out, "\n{LOAD}")?;
@@ -63,18 +70,30 @@ pub fn print_tables<W: Write>(
     Ok(())
 }
 
+/// Writes the names of the columns of subaddresses or of terminals.
+fn write_names<W: Write>(out: &mut W, shown: &Shown) -> io::Result<()> {
+    let names = if shown.by_subaddress {
+        SUBADDRESSES
+    } else {
+        NAMES
+    };
+    let times = if shown.time { TIMES } else { "" };
+    writeln!(out, "{names}{times}")
+}
+
 /// Writes a row for each figure of a channel.
 fn write_figures<W: Write>(
     out: &mut W,
     index: &Index<'_>,
     selection: &Selection,
     figures: &ChannelFigures,
+    times: Option<Times>,
 ) -> io::Result<()> {
     let channel = figures.channel;
     let losses = Losses::of(index, channel);
     write_count(out, channel, "overflow_packets", losses.overflows as u64)?;
     write_count(out, channel, "sequence_jumps", losses.jumps as u64)?;
-    write_traffic(out, figures)?;
+    write_traffic(out, figures, times)?;
     let details = Details::of(index, selection, channel);
     write_gap(
         out,
@@ -104,11 +123,19 @@ fn write_count<W: Write>(out: &mut W, channel: u16, name: &str, count: u64) -> i
 }
 
 /// Writes the rows of how much a channel carried; those of its rate and its load are empty where no time passed.
-fn write_traffic<W: Write>(out: &mut W, figures: &ChannelFigures) -> io::Result<()> {
+fn write_traffic<W: Write>(
+    out: &mut W,
+    figures: &ChannelFigures,
+    times: Option<Times>,
+) -> io::Result<()> {
     let (channel, traffic) = (figures.channel, &figures.traffic);
     write!(out, "{channel},span_us,")?;
     write_us(out, traffic.span())?;
     writeln!(out, "")?;
+    if let Some(times) = times {
+        write_time_row(out, channel, "first_time", times.first)?;
+        write_time_row(out, channel, "last_time", times.last)?;
+    }
     write_count(out, channel, "messages", traffic.messages)?;
     write_count(out, channel, "words", traffic.words)?;
     write_share(
@@ -118,6 +145,18 @@ fn write_traffic<W: Write>(out: &mut W, figures: &ChannelFigures) -> io::Result<
         rate(traffic.messages, traffic.span()),
     )?;
     write_share(out, channel, "bus_load_percent", traffic.load())
+}
+
+/// Writes a row with a time of day, or with nothing.
+fn write_time_row<W: Write>(
+    out: &mut W,
+    channel: u16,
+    name: &str,
+    time: Option<UtcTime>,
+) -> io::Result<()> {
+    write!(out, "{channel},{name},")?;
+    write_time_of_day(out, time, "")?;
+    writeln!(out, "")
 }
 
 /// Writes a row with hundredths, or with nothing.
@@ -168,17 +207,23 @@ fn write_errors<W: Write>(out: &mut W, figures: &ChannelFigures) -> io::Result<(
 }
 
 /// Writes a row for each terminal, direction and subaddress with messages.
-fn write_flows<W: Write>(out: &mut W, figures: &ChannelFigures, flows: &[Flow]) -> io::Result<()> {
+fn write_flows<W: Write>(
+    out: &mut W,
+    figures: &ChannelFigures,
+    flows: &[Flow],
+    times: Option<Times>,
+) -> io::Result<()> {
     let (channel, span) = (figures.channel, figures.traffic.span());
     for (entry, flow) in flows.iter().enumerate() {
         if flow.messages > 0 {
             write_flow(out, channel, entry, flow, span)?;
+            end_row(out, times)?;
         }
     }
     Ok(())
 }
 
-/// Writes the row of an entry, which is a terminal, a direction and a subaddress. Its gaps are empty for a single
+/// Writes the row of an entry, a terminal, a direction and a subaddress, but its end. Its gaps are empty for a single
 /// message, and its rate where no time passed. The span is the channel's, in ticks.
 fn write_flow<W: Write>(
     out: &mut W,
@@ -205,7 +250,7 @@ fn write_flow<W: Write>(
     if let Some(rate) = rate(messages, span) {
         write_hundredths(out, rate)?;
     }
-    writeln!(out, "")
+    Ok(())
 }
 
 /// Writes a row for each slice of a channel's span, none where there is no span.

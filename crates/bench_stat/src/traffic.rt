@@ -19,6 +19,8 @@ pub struct Traffic {
     pub busy: u64,
     /// The least stamp, 2^64 - 1 where there is no message.
     pub begin: u64,
+    /// The greatest stamp, 0 where there is no message.
+    pub last: u64,
     /// The greatest end of a message, 0 where there is none.
     pub end: u64,
 }
@@ -33,6 +35,7 @@ impl Traffic {
             words: 0,
             busy: 0,
             begin: u64::MAX,
+            last: 0,
             end: 0,
         }
     }
@@ -62,6 +65,7 @@ impl Traffic {
         self.words = more(self.words, words);
         self.busy = more(self.busy, time);
         self.begin = seen.stamp.min(self.begin);
+        self.last = seen.stamp.max(self.last);
         self.end = more(seen.stamp, time).max(self.end);
     }
 }

@@ -1,5 +1,6 @@
 //! Times and rates as people read them.
 
+use bench_clock::UtcTime;
 use std::io;
 use std::io::Write;
 
@@ -19,6 +20,18 @@ pub(crate) fn write_time<W: Write>(out: &mut W, ticks: u64) -> io::Result<()> {
     } else {
         let (whole, part) = (ticks / SECOND, ticks % SECOND);
         write!(out, "{whole}.{part:07} s")
+    }
+}
+
+/// Writes a time of day, and in place of none this text.
+pub(crate) fn write_time_of_day<W: Write>(
+    out: &mut W,
+    time: Option<UtcTime>,
+    none: &str,
+) -> io::Result<()> {
+    match time {
+        Some(time) => out.write_all(&time.text()),
+        None => write!(out, "{none}"),
     }
 }
 

@@ -27,6 +27,16 @@ fn additions<'a>(setup: Option<&'a [u8]>, time: &str, time_channel: u16) -> Addi
     }
 }
 
+/// The recordings of jobs of these texts, completed with the time 2024-12-31T23:59:58 at tick 0.
+pub(crate) fn dated(rt: &impl Abort, alloc: Global, texts: &[&str]) -> Vec<u8> {
+    let file = recorded(rt, alloc, texts);
+    let mut out = Vec::new(alloc);
+    let added = additions(None, "2024-12-31T23:59:58", 7);
+    let answer = complete(alloc, &file, &added, &mut out);
+    same_in(rt, "dated", &answer, &Ok(()));
+    out
+}
+
 /// A file is completed to these bytes, or refused so.
 fn is_completed(
     rt: &impl Abort,

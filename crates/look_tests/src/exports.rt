@@ -1,6 +1,7 @@
 //! What `bench export` writes of recordings, worked out by hand.
 use crate::equal::{reads, same};
 use crate::made::{FOREIGN, FORMS, RETRY, TRANSFER, recorded};
+use bench_clock::Clock;
 use bench_export::{Columns, Table, export, selects_any};
 use bench_select::{Bound, Selection};
 use ch11_reader::Index;
@@ -42,9 +43,11 @@ number,channel,time_s,line,form,tr,terminal,subaddress,count,mode_code,sender,se
 ";
 
 /// The rows of selected messages of a file.
-fn has_table(rt: &impl Abort, alloc: Global, file: &[u8], table: &Table, wanted: &str) {
+pub(crate) fn has_table(rt: &impl Abort, alloc: Global, file: &[u8], table: &Table, wanted: &str) {
     let index = Index::build(alloc, file).ok().expect(rt, "a recording");
-    let rows = export(alloc, &index, table, Vec::new(alloc)).ok();
+    let clock = Clock::of(alloc, file, index.packets()).ok();
+    let clock = clock.expect(rt, "memory");
+    let rows = export(alloc, &index, table, &clock, Vec::new(alloc)).ok();
     reads(rt, &rows.expect(rt, "rows"), wanted);
 }
 
@@ -52,6 +55,7 @@ fn has_table(rt: &impl Abort, alloc: Global, file: &[u8], table: &Table, wanted:
 fn has_rows(rt: &impl Abort, alloc: Global, file: &[u8], columns: Columns, wanted: &str) {
     let table = Table {
         columns,
+        timed: false,
         selection: Selection::all(),
     };
     has_table(rt, alloc, file, &table, wanted);
@@ -100,6 +104,7 @@ fn selected_messages_are_rows(rt: HostRuntime) {
     let retry = recorded(&rt, rt.alloc(), &[RETRY]);
     let mut table = Table {
         columns: Columns::Messages,
+        timed: false,
         selection: Selection::all(),
     };
     table.selection.from = Some(Bound::Time(3351));

@@ -5,6 +5,8 @@
 #[cfg(test)]
 mod completions;
 #[cfg(test)]
+mod dated;
+#[cfg(test)]
 mod decodings;
 #[cfg(test)]
 mod equal;

@@ -1,6 +1,7 @@
 //! What `bench stat` says of recordings, worked out by hand.
 use crate::equal::reads;
 use crate::made::{FOREIGN, FORMS, RETRY, TRANSFER, recorded};
+use bench_clock::Clock;
 use bench_select::Selection;
 use bench_stat::{Shown, print_page, print_tables, stat};
 use ch11_reader::Index;
@@ -198,24 +199,28 @@ const PLAIN: Shown = Shown {
     long: false,
     by_subaddress: false,
     load: false,
+    time: false,
 };
 
 const LONG: Shown = Shown {
     long: true,
     by_subaddress: false,
     load: false,
+    time: false,
 };
 
 const LONG_BY_SUBADDRESS: Shown = Shown {
     long: true,
     by_subaddress: true,
     load: false,
+    time: false,
 };
 
 const LOAD: Shown = Shown {
     long: false,
     by_subaddress: true,
     load: true,
+    time: false,
 };
 
 const PAGES: [Row; 9] = [
@@ -344,10 +349,12 @@ fn told(rt: &impl Abort, alloc: Global, bytes: &[u8], row: &Row, rows: bool, out
     let index = Index::build(alloc, bytes).ok().expect(rt, "a recording");
     let selection = selection_of(row);
     let figures = stat(alloc, &index, &selection).ok().expect(rt, "figures");
+    let clock = Clock::of(alloc, bytes, &[]).ok().expect(rt, "memory");
+    let shown = &row.shown;
     let printed = if rows {
-        print_tables(alloc, out, &index, &selection, &figures, &row.shown)
+        print_tables(alloc, out, &index, &selection, &figures, shown, &clock)
     } else {
-        print_page(alloc, out, &index, &selection, &figures, &row.shown)
+        print_page(alloc, out, &index, &selection, &figures, shown, &clock)
     };
     assert!(rt; printed.is_ok());
 }

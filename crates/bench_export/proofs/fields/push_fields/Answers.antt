@@ -6,5 +6,5 @@ use Rattle.bench_export.proofs.fields.push_fields.Goals as goal
 pub returns : goal.returns
 returns c =
     let m = message_of c.args.seen.now in
-    three_put c.args.row.now _ _ _ (sent_fields c.args.number c.args.channel m) (called_fields m) (answered_fields m)
+    three_put c.args.row.now _ _ _ (sent_fields m) (called_fields m) (answered_fields m)
     c.in_ok-push_sent.ensures c.in_ok-push_called.ensures c.in_ok-push_answered.ensures

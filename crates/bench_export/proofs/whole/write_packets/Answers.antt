@@ -15,9 +15,9 @@ pub packets-preserved : goal.packets-preserved
 packets-preserved g c =
     let at = at_place c.args.index.now c.packets-packets.result.now c.packets.place no_packet c.packets-packets.ensures.listed c.packets-test.true in
     record {
-      going = one_packet c.args.table.now _ _ _ c.packets.place c.args.index.now _ at c.packets.invariant.going (rw (c.messages_in.ensures at.packet at.there) at c.in_ok-write_messages.ensures.written);
+      going = one_packet c.args.table.now c.args.clock.now _ _ _ c.packets.place c.args.index.now _ at c.packets.invariant.going (rw (c.messages_in.ensures at.packet at.there) at c.in_ok-write_messages.ensures.written);
       between = c.in_ok-write_messages.ensures.between;
     }
 
 pub returns : goal.returns
-returns g c = all_packets c.args.table.now _ _ c.packets.place c.args.index.now (omega (arith, same_count c.args.index.now c.packets-packets.result.now c.packets-packets.ensures.listed, c.packets-test.false)) c.packets.invariant.going
+returns g c = all_packets c.args.table.now c.args.clock.now _ _ c.packets.place c.args.index.now (omega (arith, same_count c.args.index.now c.packets-packets.result.now c.packets-packets.ensures.listed, c.packets-test.false)) c.packets.invariant.going

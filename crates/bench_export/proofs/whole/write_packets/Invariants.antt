@@ -5,6 +5,6 @@ use Rattle.bench_export.proofs.whole.write_packets.Given as goal
 
 abbrev pub invariant-packets : goal.invariant-packets
 invariant-packets g l = record {
-  going : IsWriting l.table (text_written g.W.Write.contents l.fn.writer) (text_written g.W.Write.contents l.writer) l.place l.fn.index;
+  going : IsWriting l.table l.fn.clock (text_written g.W.Write.contents l.fn.writer) (text_written g.W.Write.contents l.writer) l.place l.fn.index;
   between : IsBetween l.writer;
 }

@@ -1,0 +1,77 @@
+//! The columns that say which message it is and when it was.
+ghost use Rattle.std.specs.Prelude.{◌≡◌, ◌++◌, ◌∷◌, [], OnOk, option_map};
+ghost use Rattle.ch11_f1.specs.Views.{message_of};
+ghost use Rattle.bench_export.specs.Stamped as spec;
+
+use crate::columns::Columns;
+use crate::row::Row;
+use crate::texts::{push_micros, push_number};
+use crate::values::push_seconds;
+use crate::whole::Table;
+use bench_clock::{Clock, UtcTime};
+use ch11_f1::Seen;
+use std::alloc::AllocError;
+
+/// A stamp as a field in µs, or in seconds for data frames. The text is room for it.
+fn push_stamp(
+    row: &mut Row,
+    text: &mut Vec<u8>,
+    columns: Columns,
+    ticks: u64,
+) -> Result<(), AllocError>
+    ensures { OnOk result (row.new ≡ row.old ++ spec.stamp_text columns ticks ∷ []) }
+{
+    match columns {
+        Columns::Messages => push_micros(row, text, ticks),
+        Columns::Frames { .. } => push_seconds(row, text, ticks),
+    }
+}
+
+/// The number, the channel and the stamp of message n. The text is room for a field.
+fn push_number_columns(
+    row: &mut Row,
+    text: &mut Vec<u8>,
+    columns: Columns,
+    number: u64,
+    channel: u16,
+    seen: &Seen<'_>,
+) -> Result<(), AllocError>
+    ensures { OnOk result (row.new ≡ row.old ++ spec.number_columns columns number channel (message_of seen.now)) }
+{
+    push_number(row, number)?;
+    push_number(row, u64::from(channel))?;
+    push_stamp(row, text, columns, seen.stamp)
+}
+
+/// A time of day as a field, empty where there is none.
+fn push_time(row: &mut Row, time: Option<UtcTime>) -> Result<(), AllocError>
+    ensures { OnOk result (row.new ≡ row.old ++ spec.time_field (option_map (λ t. t.ticks) time) ∷ []) }
+{
+    match time {
+        None => row.push(b""),
+        Some(time) => row.push(&time.text()),
+    }
+}
+
+/// The time of day at a message's stamp as a field, where it is asked for.
+fn push_time_columns(row: &mut Row, timed: bool, time: Option<UtcTime>) -> Result<(), AllocError>
+    ensures { OnOk result (row.new ≡ row.old ++ spec.time_columns timed (option_map (λ t. t.ticks) time)) }
+{
+    if timed { push_time(row, time) } else { Ok(()) }
+}
+
+/// The first columns of message n of the file. The text is room for a field.
+pub(crate) fn push_stamped(
+    row: &mut Row,
+    text: &mut Vec<u8>,
+    table: &Table,
+    clock: &Clock,
+    number: u64,
+    channel: u16,
+    seen: &Seen<'_>,
+) -> Result<(), AllocError>
+    ensures { OnOk result (row.new ≡ row.old ++ spec.stamped_columns table.now.columns table.now.timed clock.now number channel (message_of seen.now)) }
+{
+    push_number_columns(row, text, table.columns, number, channel, seen)?;
+    push_time_columns(row, table.timed, clock.at(seen.stamp))
+}
