@@ -1,4 +1,5 @@
 pub mod Filtered
+pub mod Fitted
 pub mod Noted
 pub mod Overruns
 pub mod Played

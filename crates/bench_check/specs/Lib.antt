@@ -3,3 +3,4 @@ pub mod Unmet
 pub mod Rooms
 pub mod Filling
 pub mod Overruns
+pub mod Fitting
