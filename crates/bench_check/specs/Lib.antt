@@ -4,3 +4,4 @@ pub mod Rooms
 pub mod Filling
 pub mod Overruns
 pub mod Fitting
+pub mod Scripts

@@ -12,15 +12,17 @@ mod meeting;
 mod messages;
 mod oddities;
 mod planned;
+mod scripts;
 mod trying;
 
 pub use calls::Calls;
 pub use fault::CheckFault;
 pub use filling::is_filled;
 pub use findings::{Findings, print_findings, print_summary};
-pub use fitting::Tight;
+pub use fitting::{Tight, tight_frames};
 pub use frames::Overrun;
 pub use meeting::meets;
 pub use messages::Bits;
 pub use oddities::Oddities;
+pub use scripts::tight_frames_in;
 pub use trying::try_job;
