@@ -1,4 +1,6 @@
 pub mod Filtered
+pub mod Fitted
+pub mod Heads
 pub mod Noted
 pub mod Overruns
 pub mod Played

@@ -3,3 +3,5 @@ pub mod Unmet
 pub mod Rooms
 pub mod Filling
 pub mod Overruns
+pub mod Fitting
+pub mod Scripts

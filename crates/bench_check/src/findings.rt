@@ -1,6 +1,7 @@
 //! What a job that was tried came to.
 use crate::calls::Calls;
 use crate::fault::CheckFault;
+use crate::fitting::Tight;
 use crate::frames::{Overrun, parts_of, period_of};
 use crate::messages::put_action;
 use crate::oddities::Oddities;
@@ -10,6 +11,9 @@ use mil_line::Fault;
 use std::alloc::{AllocError, Global};
 use std::fmt::Write as _;
 use std::io::Write;
+
+/// How many frames are shown that may take longer than their period.
+const SHOWN: usize = 3;
 
 /// What a job that was tried came to.
 #[derive(Debug, Drop)]
@@ -30,15 +34,17 @@ pub struct Findings {
     pub room: u64,
 }
 
-/// Prints what is probably a mistake, a line for each, and the room that the queue needs for nothing to be refused.
+/// Prints what is probably a mistake, a line for each, and the room that the queue needs for nothing to be refused. The frames
+/// that may not fit into their period are those of the job's script.
 pub fn print_findings<W: Write>(
     alloc: Global,
     job: &Job,
     findings: &Findings,
+    tight: &[Tight],
     out: &mut W,
 ) -> Result<(), CheckFault> {
     let mut text = String::new(alloc);
-    put_mistakes(&mut text, job, findings)?;
+    put_mistakes(&mut text, job, findings, tight)?;
     print_mistakes(text.as_bytes(), findings, out)
 }
 
@@ -49,10 +55,11 @@ pub fn print_summary<W: Write>(
     alloc: Global,
     job: &Job,
     findings: &Findings,
+    tight: &[Tight],
     out: &mut W,
 ) -> Result<(), CheckFault> {
     let mut text = String::new(alloc);
-    put_mistakes(&mut text, job, findings)?;
+    put_mistakes(&mut text, job, findings, tight)?;
     put_unfilled(&mut text, job, &findings.oddities)?;
     put_left(&mut text, &findings.oddities)?;
     let (made, failed) = (findings.made, findings.oddities.failed());
@@ -60,9 +67,15 @@ pub fn print_summary<W: Write>(
     print_mistakes(text.as_bytes(), findings, out)
 }
 
-/// Puts the mistakes that a job that is tried shows.
-fn put_mistakes(text: &mut String, job: &Job, findings: &Findings) -> Result<(), AllocError> {
+/// Puts the mistakes that a job that is tried shows, and the frames that may not fit into their period.
+fn put_mistakes(
+    text: &mut String,
+    job: &Job,
+    findings: &Findings,
+    tight: &[Tight],
+) -> Result<(), AllocError> {
     put_unmet(text, findings)?;
+    put_tight(text, tight)?;
     put_overruns(text, &findings.overruns)?;
     put_unreached(text, job, findings.made)?;
     put_strangers(text, job, &findings.calls)?;
@@ -130,6 +143,26 @@ fn put_unmet(text: &mut String, findings: &Findings) -> Result<(), AllocError> {
                 " meets nothing: message {number} has no such run or word\n"
             )?;
         }
+    }
+    Ok(())
+}
+
+/// The frames that may take longer than their period: the first three of them, and how many more there are.
+fn put_tight(text: &mut String, tight: &[Tight]) -> Result<(), AllocError> {
+    for one in tight.iter().take(SHOWN) {
+        let (place, period) = (one.place, period_of(one.hundreds));
+        let (whole, part) = parts_of(one.ticks);
+        write!(
+            text,
+            "  frame {place} of the script, of {period} us, may take {whole}.{part} us: late replies, each retry and each poll counted\n"
+        )?;
+    }
+    if tight.len() > SHOWN {
+        let more = tight.len() - SHOWN;
+        write!(
+            text,
+            "  more frames that may take longer than their period: {more}\n"
+        )?;
     }
     Ok(())
 }

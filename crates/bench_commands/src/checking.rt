@@ -1,6 +1,6 @@
 //! `bench check`: jobs tried without a recording.
 
-use bench_check::{Bits, CheckFault, print_findings, print_summary, try_job};
+use bench_check::{Bits, CheckFault, print_findings, print_summary, tight_frames_in, try_job};
 use bench_core::{Settings, judge};
 use bench_requests::{Fault, jobs_of, read_texts};
 use clap::{Arg, ArgAction, ArgMatches, Command};
@@ -15,8 +15,9 @@ const CHECK_NOTES: &str = "\
 Each message is shown with its number in its channel, its time, and its line and form in a script's words; below it
 the actions placed at it, the faults planned for it, and what it came to: the status words, and the block status
 word by the names of its bits. Then follows what is probably a mistake: a planned fault that meets nothing, an
-action that no message reaches, a message to a terminal that is not there, a terminal that is never called; and how
-much room the queue of `bench run --drop` needs for nothing to be refused.
+action that no message reaches, a message to a terminal that is not there, a terminal that is never called, a frame
+that took longer than its period, and one that may take longer: each reply 12 us late, each retry used up, each poll
+asked as often as it may; and how much room the queue of `bench run --drop` needs for nothing to be refused.
 
 With --summary the messages are only counted, and what is probably a mistake goes further: a terminal that transmits
 from a subaddress where no words were put up, and messages that are answered with message_error and not sent again.
@@ -98,7 +99,7 @@ pub fn check_jobs<'a, R: Files + AllocGlobal + Print>(
         Ok(out) => out,
         Err(error) => return Err(Fault::of_stream("-", &error)),
     };
-    match check_each(rt.alloc(), request, &jobs, &mut out) {
+    match check_each(rt.alloc(), request, &texts, &jobs, &mut out) {
         Ok(()) => {}
         Err(CheckFault::Memory) => return Err(Fault::Memory),
         Err(CheckFault::Device) => return Err(Fault::Device("-")),
@@ -113,16 +114,17 @@ pub fn check_jobs<'a, R: Files + AllocGlobal + Print>(
 fn check_each<W: Write>(
     alloc: Global,
     request: &CheckRequest<'_>,
+    texts: &[Vec<u8>],
     jobs: &[Job],
     out: &mut W,
 ) -> Result<(), CheckFault> {
     let several = jobs.len() > 1;
     let mut room = 0u64;
-    for (name, job) in request.jobs.iter().zip(jobs) {
+    for ((name, text), job) in request.jobs.iter().zip(texts).zip(jobs) {
         if several {
             writeln!(out, "{name}")?;
         }
-        room = room.saturating_add(check_one(alloc, request, job, out)?);
+        room = room.saturating_add(check_one(alloc, request, text, job, out)?);
     }
     if several {
         writeln!(
@@ -133,19 +135,21 @@ fn check_each<W: Write>(
     Ok(())
 }
 
-/// Tries a job, and answers how much room it needs.
+/// Tries the job of a text, and answers how much room it needs.
 fn check_one<W: Write>(
     alloc: Global,
     request: &CheckRequest<'_>,
+    text: &[u8],
     job: &Job,
     out: &mut W,
 ) -> Result<u64, CheckFault> {
+    let tight = tight_frames_in(alloc, text)?;
     if request.summary {
         let findings = try_job(alloc, job, request.bits, &mut io::sink())?;
-        print_summary(alloc, job, &findings, out)?;
+        print_summary(alloc, job, &findings, &tight, out)?;
         return Ok(findings.room);
     }
     let findings = try_job(alloc, job, request.bits, out)?;
-    print_findings(alloc, job, &findings, out)?;
+    print_findings(alloc, job, &findings, &tight, out)?;
     Ok(findings.room)
 }

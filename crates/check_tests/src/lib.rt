@@ -2,4 +2,6 @@
 #![tactic(auto)]
 
 #[cfg(test)]
+mod fitted;
+#[cfg(test)]
 mod tried;

@@ -1,5 +1,5 @@
 //! What `bench check` says of jobs, worked out by hand.
-use bench_check::{Bits, print_findings, print_summary, try_job};
+use bench_check::{Bits, print_findings, print_summary, tight_frames_in, try_job};
 use job_file::read_job;
 use std::alloc::Global;
 use std::process::Abort;
@@ -121,6 +121,45 @@ nothing looks like a mistake
 queue 3: with room for so many nothing of this job is refused
 ";
 
+/// Frames that fit when they are tried, and that may take longer: four polls of one status word, 264.0 µs, and four tries of one
+/// data word, 344.0 µs, each with 16.0 µs of pause in front of it and a response time of 12.0 µs.
+const MAY_OVERRUN: &str = "channel 1
+terminal 5
+script
+define poll { until bit service_request at most 4 { send A mode 5 2 } }
+frame 200 { call poll }
+frame 100 { send A rx 5 1 [0001] }
+frame 300 { retry 3 send A rx 5 1 [0001] }
+";
+
+const MAY_OVERRUN_SUMMARY: &str = "messages 6, with an error 0
+probably a mistake:
+  frame 1 of the script, of 200 us, may take 264.0 us: late replies, each retry and each poll counted
+  frame 3 of the script, of 300 us, may take 344.0 us: late replies, each retry and each poll counted
+queue 10: with room for so many nothing of this job is refused
+";
+
+/// Five frames, each of which may take 106.0 µs: two data words in three words of 20.0 µs, a late status word of 30.0, and 16.0 of
+/// pause.
+const FIVE_FRAMES: &str = "channel 1
+terminal 5
+script
+frame 100 { send A rx 5 1 [0001 0002] }
+frame 100 { send A rx 5 1 [0001 0002] }
+frame 100 { send A rx 5 1 [0001 0002] }
+frame 100 { send A rx 5 1 [0001 0002] }
+frame 100 { send A rx 5 1 [0001 0002] }
+";
+
+const FIVE_FRAMES_SUMMARY: &str = "messages 5, with an error 0
+probably a mistake:
+  frame 1 of the script, of 100 us, may take 106.0 us: late replies, each retry and each poll counted
+  frame 2 of the script, of 100 us, may take 106.0 us: late replies, each retry and each poll counted
+  frame 3 of the script, of 100 us, may take 106.0 us: late replies, each retry and each poll counted
+  more frames that may take longer than their period: 2
+queue 6: with room for so many nothing of this job is refused
+";
+
 /// How a job is told.
 #[derive(Clone, Copy)]
 struct Row {
@@ -130,7 +169,7 @@ struct Row {
     wanted: &'static str,
 }
 
-const ROWS: [Row; 6] = [
+const ROWS: [Row; 8] = [
     Row {
         job: MISTAKEN,
         summary: false,
@@ -167,6 +206,18 @@ const ROWS: [Row; 6] = [
         bits: Bits::Digits,
         wanted: REPEATED_SUMMARY,
     },
+    Row {
+        job: MAY_OVERRUN,
+        summary: true,
+        bits: Bits::Digits,
+        wanted: MAY_OVERRUN_SUMMARY,
+    },
+    Row {
+        job: FIVE_FRAMES,
+        summary: true,
+        bits: Bits::Digits,
+        wanted: FIVE_FRAMES_SUMMARY,
+    },
 ];
 
 /// What the job of a row comes to.
@@ -176,13 +227,16 @@ fn comes_to(rt: &impl Abort, alloc: Global, row: &Row) {
     let findings = try_job(alloc, &job, row.bits, &mut out)
         .ok()
         .expect(rt, "findings");
+    let tight = tight_frames_in(alloc, row.job.as_bytes())
+        .ok()
+        .expect(rt, "frames");
     if row.summary {
         out.clear();
     }
     let printed = if row.summary {
-        print_summary(alloc, &job, &findings, &mut out)
+        print_summary(alloc, &job, &findings, &tight, &mut out)
     } else {
-        print_findings(alloc, &job, &findings, &mut out)
+        print_findings(alloc, &job, &findings, &tight, &mut out)
     };
     assert!(rt; printed.is_ok());
     assert_eq!(rt; out.as_slice(), row.wanted.as_bytes());

@@ -1,0 +1,83 @@
+//! The script of a job, found in the job's text and read again.
+ghost use Rattle.std.specs.Prelude.{◌≡◌, ◌≤◌, None, Some, MatchOption, IfOk, length};
+ghost use Rattle.std.specs.List.{position_or_len, before_first, after_first};
+ghost use Rattle.job_file.specs.Lines.{said};
+ghost use Rattle.job_file.specs.Spelled.{ChannelJob, spelled, is_line_end, is_script as is_script_line};
+ghost use Rattle.bench_check.specs.Fitting as spec;
+ghost use Rattle.bench_check.specs.Scripts.{script_in};
+
+use crate::fitting::{Tight, tight_frames};
+use bumpalo::Bump;
+use frame_text::{ScriptError, parse};
+use mil_host::next_word;
+use std::alloc::{AllocError, Global};
+
+/// The frames with a period, in the script of a job's text, that may take longer than their period, as `tight_frames` has them; none
+/// where the text has no script. The script's tree stands in an arena meanwhile. It fails for want of memory alone.
+pub fn tight_frames_in(alloc: Global, text: &[u8]) -> Result<Vec<Tight>, AllocError>
+    ensures { IfOk result (λ l. (job : ChannelJob) → spelled text.now ≡ Some job → l.items ≡ spec.tight_frames job.tree) }
+{
+    let Some(script) = script_of(text) else {
+        return Ok(Vec::new(alloc));
+    };
+    let arena = Bump::new(alloc);
+    match parse(&arena, script) {
+        Ok(frame) => tight_frames(alloc, &frame),
+        Err(ScriptError::Text { .. }) => Ok(Vec::new(alloc)),
+        Err(ScriptError::Memory { .. }) => Err(AllocError),
+    }
+}
+
+/// What stands behind the first line `script` of a text.
+fn script_of(text: &[u8]) -> Option<&[u8]>
+    ensures { MatchOption result (script_in text.now ≡ None) (λ s. script_in text.now ≡ Some s.now) }
+{
+    let mut rest = text;
+    while !rest.is_empty() {
+        let (line, behind) = next_line(rest);
+        if is_script(line) {
+            return Some(behind);
+        }
+        rest = behind;
+    }
+    None
+}
+
+/// The first line of a text, without its end, and what comes after it.
+fn next_line(text: &[u8]) -> (&[u8], &[u8])
+    ensures line { result.0.now ≡ before_first is_line_end text.now }
+    ensures rest { result.1.now ≡ after_first is_line_end text.now }
+{
+    let (line, rest) = text.split_at(line_length(text));
+    match rest.split_first() {
+        Some((_, behind)) => (line, behind),
+        None => (line, rest),
+    }
+}
+
+/// How many bytes of a text stand before its first LF.
+fn line_length(text: &[u8]) -> usize
+    ensures value { result ≡ position_or_len is_line_end text.now }
+    ensures within { result ≤ length text.now }
+{
+    for (i, byte) in text.iter().enumerate() {
+        if *byte == b'\n' {
+            return i;
+        }
+    }
+    text.len()
+}
+
+/// Whether a line has the word `script` alone.
+#[tactic(auto, using(crate::proofs::Heads::is_none, crate::proofs::Heads::is_alone))]
+fn is_script(line: &[u8]) -> bool
+    ensures { result ≡ is_script_line (said line.now) }
+{
+    match next_word(line) {
+        None => false,
+        Some((word, rest)) => match next_word(rest) {
+            None => word == b"script".as_slice(),
+            Some(_) => false,
+        },
+    }
+}
