@@ -289,10 +289,17 @@ the recording are past.
 
   forward, back   one message on, or back
   go N            to place N; 0 is the beginning
+  go TIME         to the place before the first message with a later stamp, as in go 1.2s, go 350ms
+  go channel C N  to message N of channel C
   find COND       on to the next message whose outcome makes a condition true: fail (message error), silent
                   (no response), bit NAME (of a status word), not COND, all ( COND COND ), any ( COND COND )
+  find SELECTOR   on to the next message of these commands, in the words of a rule, as in find tx 5 3
+  find back ..    back to the latest such message before the place
   state           for each channel the number of its last message, and the registers of its terminals
-  state --all     the same, and where their hosts have made them deaf or mute
+  state --all     the same, and what their hosts have set
+  show, show N    the message at the place, or message N, as people read it
+  data A S        what terminal A holds at subaddress S
+  help, quit      these lines; the end of the session
 
 A move prints the place, as in `at 7`; Y2 where there is no such message, Y3 at the beginning. Another line
 prints `unknown`.
