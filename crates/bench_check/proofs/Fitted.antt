@@ -111,8 +111,8 @@ pub tight_more : (fs : List Timed) (i : ℕ) (x : Timed) (so_far new all : List 
 tight_more fs i x so_far new all lt is added e =
     let rest = tight_from (i + 1 + 1) (drop (i + 1) fs) in
     let first : tight_from (i + 1) (drop i fs) ≡ tight_at (i + 1) x ++ rest =
-        ap (tight_from (i + 1)) (drop-cons fs i x lt)
-        ∙ ap₂ (λ y j. tight_at (i + 1) y ++ tight_from (i + 1 + 1) (drop j fs)) (sym is) (sym (add-one i)) in
+    ap (tight_from (i + 1)) (drop-cons fs i x lt)
+    ∙ ap₂ (λ y j. tight_at (i + 1) y ++ tight_from (i + 1 + 1) (drop j fs)) (sym is) (sym (add-one i)) in
     ap (λ ts. ts ++ rest) added ∙ append_assoc so_far (tight_at (i + 1) x) rest ∙ ap (λ ts. so_far ++ ts) (sym first) ∙ e
 
 pub tight_done : (fs : List Timed) (i : ℕ) (so_far all : List Tight) → length fs ≤ i → so_far ++ tight_from (i + 1) (drop i fs) ≡ all → so_far ≡ all

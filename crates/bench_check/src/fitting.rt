@@ -129,7 +129,11 @@ fn ticks_in<'a, A: Allocator + Clone>(frame: &'a Frame<A>, gap: u16, scope: &'a 
         }
         Frame::Call(name) => scope.number_of(name).min(MOST),
         Frame::Define { name, body, rest } => {
-            ticks_in(rest, gap, &Scope::With(name, ticks_in(body, gap, scope), scope))
+            ticks_in(
+                rest,
+                gap,
+                &Scope::With(name, ticks_in(body, gap, scope), scope),
+            )
         }
     }
 }

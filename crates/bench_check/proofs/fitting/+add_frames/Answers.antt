@@ -24,21 +24,21 @@ returns-in_ok-push-in-Timed g t c =
     let ds = scope_of c.args.scope.now in
     let b = tree_of c.in-Timed.body.value in
     on_ok_weaker c.add_frames.result (λ e.
-        frames_timed gap ds (tree_of c.args.frame.now) b c.in-Timed.hundreds c.ticks_in-ticks.result c.args.found.now.items c.push.new.self.items c.add_frames.new.found.items
-        (ap tree_of c.in-Timed.is ∙ tree_timed c.in-Timed.hundreds c.in-Timed.body)
-        (c.ticks_in-ticks.ensures ∙ ap (λ f. most (ticks_in gap ds (tree_of f))) c.deref.ensures)
-        c.in_ok-push-in-Timed.ensures.items
-        (e ∙ ap (λ f. c.push.new.self.items ++ frames_in gap ds (tree_of f)) c.deref-in-Timed.ensures)) c.add_frames.ensures
+    frames_timed gap ds (tree_of c.args.frame.now) b c.in-Timed.hundreds c.ticks_in-ticks.result c.args.found.now.items c.push.new.self.items c.add_frames.new.found.items
+    (ap tree_of c.in-Timed.is ∙ tree_timed c.in-Timed.hundreds c.in-Timed.body)
+    (c.ticks_in-ticks.ensures ∙ ap (λ f. most (ticks_in gap ds (tree_of f))) c.deref.ensures)
+    c.in_ok-push-in-Timed.ensures.items
+    (e ∙ ap (λ f. c.push.new.self.items ++ frames_in gap ds (tree_of f)) c.deref-in-Timed.ensures)) c.add_frames.ensures
 
 pub returns-in_ok-add_frames-in-If : goal.returns-in_ok-add_frames-in-If
 returns-in_ok-add_frames-in-If g t c =
     let gap = c.args.gap in
     let ds = scope_of c.args.scope.now in
     on_ok_weaker c.add_frames-in-If-2.result (λ e.
-        frames_joined gap ds (tree_of c.args.frame.now) (frames_in gap ds (tree_of c.in-If.then.value)) (frames_in gap ds (tree_of c.in-If.otherwise.value)) c.args.found.now.items c.add_frames-in-If.new.found.items c.add_frames-in-If-2.new.found.items
-        (ap (λ f. frames_in gap ds (tree_of f)) c.in-If.is ∙ ap (frames_in gap ds) (tree_if c.in-If.condition c.in-If.then c.in-If.otherwise))
-        (c.in_ok-add_frames-in-If.ensures ∙ ap (λ f. c.args.found.now.items ++ frames_in gap ds (tree_of f)) c.deref-in-If.ensures)
-        (e ∙ ap (λ f. c.add_frames-in-If.new.found.items ++ frames_in gap ds (tree_of f)) c.deref-in-If-2.ensures)) c.add_frames-in-If-2.ensures
+    frames_joined gap ds (tree_of c.args.frame.now) (frames_in gap ds (tree_of c.in-If.then.value)) (frames_in gap ds (tree_of c.in-If.otherwise.value)) c.args.found.now.items c.add_frames-in-If.new.found.items c.add_frames-in-If-2.new.found.items
+    (ap (λ f. frames_in gap ds (tree_of f)) c.in-If.is ∙ ap (frames_in gap ds) (tree_if c.in-If.condition c.in-If.then c.in-If.otherwise))
+    (c.in_ok-add_frames-in-If.ensures ∙ ap (λ f. c.args.found.now.items ++ frames_in gap ds (tree_of f)) c.deref-in-If.ensures)
+    (e ∙ ap (λ f. c.add_frames-in-If.new.found.items ++ frames_in gap ds (tree_of f)) c.deref-in-If-2.ensures)) c.add_frames-in-If-2.ensures
 
 pub returns-in_ok-add_frames-in-Define : goal.returns-in_ok-add_frames-in-Define
 returns-in_ok-add_frames-in-Define g t c =
@@ -51,8 +51,8 @@ returns-in_ok-add_frames-in-Define g t c =
     let mid = c.add_frames-in-Define.new.found.items in
     let body : count ≡ most (ticks_in gap ds b) = c.ticks_in-ticks-in-Define.ensures ∙ ap (λ f. most (ticks_in gap ds (tree_of f))) c.deref-in-Define-2.ensures in
     on_ok_weaker c.add_frames-in-Define-2.result (λ e.
-        let last : c.add_frames-in-Define-2.new.found.items ≡ mid ++ frames_in gap ((n, count) ∷ ds) (tree_of c.deref-in-Define-3.result.now) = search (rules, the_lemmas) in
-        frames_joined gap ds (tree_of c.args.frame.now) (frames_in gap ds b) (frames_in gap ((n, ticks_in gap ds b) ∷ ds) r) c.args.found.now.items mid c.add_frames-in-Define-2.new.found.items
-        (ap (λ f. frames_in gap ds (tree_of f)) c.in-Define.is ∙ ap (frames_in gap ds) (tree_define n c.in-Define.body c.in-Define.rest))
-        (c.in_ok-add_frames-in-Define.ensures ∙ ap (λ f. c.args.found.now.items ++ frames_in gap ds (tree_of f)) c.deref-in-Define.ensures)
-        (last ∙ ap (λ f. mid ++ frames_in gap ((n, count) ∷ ds) (tree_of f)) c.deref-in-Define-3.ensures ∙ ap (λ fs. mid ++ fs) (frames_cut gap n count b r ds body))) c.add_frames-in-Define-2.ensures
+    let last : c.add_frames-in-Define-2.new.found.items ≡ mid ++ frames_in gap ((n, count) ∷ ds) (tree_of c.deref-in-Define-3.result.now) = search (rules, the_lemmas) in
+    frames_joined gap ds (tree_of c.args.frame.now) (frames_in gap ds b) (frames_in gap ((n, ticks_in gap ds b) ∷ ds) r) c.args.found.now.items mid c.add_frames-in-Define-2.new.found.items
+    (ap (λ f. frames_in gap ds (tree_of f)) c.in-Define.is ∙ ap (frames_in gap ds) (tree_define n c.in-Define.body c.in-Define.rest))
+    (c.in_ok-add_frames-in-Define.ensures ∙ ap (λ f. c.args.found.now.items ++ frames_in gap ds (tree_of f)) c.deref-in-Define.ensures)
+    (last ∙ ap (λ f. mid ++ frames_in gap ((n, count) ∷ ds) (tree_of f)) c.deref-in-Define-3.ensures ∙ ap (λ fs. mid ++ fs) (frames_cut gap n count b r ds body))) c.add_frames-in-Define-2.ensures
