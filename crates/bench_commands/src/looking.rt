@@ -1,6 +1,4 @@
 //! `bench draw`: what there is to see in a recording, and whether messages are missing from it.
-ghost use Rattle.std.specs.Prelude.{◌≡◌, IfOk};
-ghost use Rattle.bench_dump.specs.TimedText.{clock_of};
 
 use crate::command_line::DrawRequest;
 use crate::selecting::selection_in;
@@ -49,9 +47,7 @@ pub(crate) fn clock_if(
     recording: &[u8],
     index: &Index<'_>,
     timed: bool,
-) -> Result<Clock, AllocError>
-    ensures { IfOk result (λ clock. clock ≡ clock_of timed recording.now index.now) }
-{
+) -> Result<Clock, AllocError> {
     let told = if timed { index.packets() } else { &[] };
     Clock::of(alloc, recording, told)
 }

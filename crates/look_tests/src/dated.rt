@@ -1,4 +1,5 @@
-//! Times of day in what `bench export` and `bench stat` show of recordings, worked out by hand: tick 0 is 2024-12-31T23:59:58.
+//! Times of day in what `bench export` and `bench stat` show of recordings, worked out by hand: tick 0 is
+//! 2024-12-31T23:59:58.
 use crate::completions::{FRONT, LATE, dated};
 use crate::equal::reads;
 use crate::exports::has_table;
@@ -70,8 +71,8 @@ const UNDATED_PAGE: &str = "channel 1
          5          0          0          2          0          2       8.0      8.00          8.0
 ";
 
-/// The first poll is in front of the first time packet, and each packet of the channel has the sequence number 0: 92.0 µs of
-/// 1,500,046.0, and two messages in that time.
+/// The first poll is in front of the first time packet, and each packet of the channel has the sequence number 0: 92.0
+/// µs of 1,500,046.0, and two messages in that time.
 const HALF_DATED_PAGE: &str =
     "messages are missing from channel 1: packets with the overflow flag 0, jumps of the sequence number 1
 channel 1
