@@ -1,5 +1,5 @@
--- The columns of an export for data frames behind those that say when a message was (own choice): one value a column,
--- and of each message as many.
+-- The columns of an export for data frames behind those that say when a message was (own choice): one value a column, and of each
+-- message as many.
 use Rattle.std.specs.Prelude.{ℕ, zero, suc, ◌+◌, ◌-◌, ◌/◌, ◌%◌, ◌^◌, ◌==◌, Bool, false, not, ◌&&◌, ◌||◌, nat_lt, if◌then◌else◌, List, [], ◌∷◌, ◌++◌, Option, Some, None, codes, decimal}
 use Rattle.mil_word.specs.Fields.{has_bit, is_transmit}
 use Rattle.ch11_f1.specs.BodyReading.{Message}

@@ -45,8 +45,7 @@ impl Parts {
     }
 }
 
-/// Writes a row of comma-separated values for each terminal address of a channel that was called. A fault is the
-/// writer's.
+/// Writes a row of comma-separated values for each terminal address of a channel that was called. A fault is the writer's.
 pub(crate) fn print_rows<W: Write>(
     out: &mut W,
     figures: &ChannelFigures,
