@@ -104,7 +104,10 @@ pub(crate) fn judge_run<'a, R: Env + Files + AllocGlobal + Print, E: Eprint>(
     let index = index_of(rt.alloc(), bytes.as_slice(), false)?;
     let rules = given.rules.as_slice();
     let verdicts = if leads_to_output(rt, request.report) {
-        tell_verdicts(rt.alloc(), errors, &index, rules).map_err(fault_of_printing)?
+        match tell_verdicts(rt.alloc(), errors, &index, rules) {
+            Ok(verdicts) => verdicts,
+            Err(fault) => return Err(fault_of_printing(fault)),
+        }
     } else {
         print_verdicts(rt, &index, given.text.as_slice(), rules)?
     };

@@ -167,7 +167,10 @@ pub(crate) fn print_verdicts<'a, R: Env + Files + AllocGlobal + Print>(
     } else {
         print_lines(rt, index, rules)
     };
-    printed.map_err(fault_of_printing)
+    match printed {
+        Ok(verdicts) => Ok(verdicts),
+        Err(fault) => Err(fault_of_printing(fault)),
+    }
 }
 
 /// The fault of verdicts that were not printed to their end.
