@@ -43,7 +43,7 @@ _bench() {
             _bench_files "$word"
             return
             ;;
-        --version | --limit | --queue | --channel | --only | --from | --to | --time | --time-channel)
+        --version | --limit | --queue | --pace | --channel | --only | --from | --to | --time | --time-channel)
             [ -z "$command" ] || return
             ;;
     esac
@@ -53,7 +53,7 @@ _bench() {
         one) options="--channel --version $options" ;;
         assemble) options="--force $options" ;;
         run)
-            options="--version --limit --queue --hold --drop --force --prologue --judge --out --report $options"
+            options="--live --pace --version --limit --queue --hold --drop --force --prologue --judge --out --report $options"
             options="--complete --setup --time --time-channel $options"
             ;;
         check) options="--summary --decode $options" ;;

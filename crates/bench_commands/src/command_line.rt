@@ -7,6 +7,7 @@ use crate::context::{Context, context_in, context_option};
 use crate::decoding::{DecodeRequest, asks_for_messages, decode_request, with_decoding};
 use crate::exporting::{ExportRequest, export_command, export_request};
 use crate::judging::{JudgeRequest, judge_command, judge_request};
+use crate::live_run::{Going, going_in};
 use crate::looking_line::{draw_command, draw_request, explain_command, explain_request};
 use crate::run_line::{run_command, run_request};
 use crate::selecting::GivenSelection;
@@ -42,6 +43,7 @@ pub enum Request<'a> {
     Run {
         request: RunRequest<'a>,
         completing: Option<Completing<'a>>,
+        going: Going<'a>,
     },
     /// The packets and messages of a recording, printed as lines, or with `skip` whatever is sound of it; with `times` the time of
     /// day behind each stamp.
@@ -117,6 +119,7 @@ fn request_in<'a>(alloc: Global, matches: &ArgMatches<'a>) -> Result<Request<'a>
         Some(("run", given)) => Request::Run {
             request: run_request(alloc, given)?,
             completing: completing_in(given),
+            going: going_in(given),
         },
         Some(("check", given)) => Request::Check(check_request(alloc, given)?),
         Some(("dump", given)) if asks_for_messages(given) => {

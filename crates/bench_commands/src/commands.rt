@@ -33,11 +33,23 @@ const USAGE: u8 = 2;
 /// Reads the command line, does what it asks, and says how the process ends. What it says of faults and of its
 /// progress goes to `errors`.
 pub fn run<
-    R: Env + Files + AllocGlobal + Input + Print + Clock + Threads + Wait + Sync,
-    E: Eprint + IsTerminal + Sync,
+    R: Env
+        + Files
+        + AllocGlobal
+        + Input
+        + Print
+        + Clock
+        + Threads
+        + Wait
+        + Clone
+        + Drop
+        + Send
+        + Sync
+        + 'static,
+    E: Eprint + IsTerminal + Clone + Drop + Send + Sync + 'static,
 >(rt: &R, errors: &E) -> ExitCode
 where
-    R::Reader: IsTerminal,
+    R::Reader: IsTerminal + Send + 'static,
     R::File: Hold,
 {
     match words_of(rt) {
@@ -60,11 +72,23 @@ where
 }
 
 fn run_words<
-    R: Env + Files + AllocGlobal + Input + Print + Clock + Threads + Wait + Sync,
-    E: Eprint + IsTerminal + Sync,
+    R: Env
+        + Files
+        + AllocGlobal
+        + Input
+        + Print
+        + Clock
+        + Threads
+        + Wait
+        + Clone
+        + Drop
+        + Send
+        + Sync
+        + 'static,
+    E: Eprint + IsTerminal + Clone + Drop + Send + Sync + 'static,
 >(rt: &R, errors: &E, words: &[String]) -> ExitCode
 where
-    R::Reader: IsTerminal,
+    R::Reader: IsTerminal + Send + 'static,
     R::File: Hold,
 {
     match command_line::read(rt.alloc(), words) {
@@ -112,11 +136,23 @@ fn stop<E: Eprint>(errors: &E, fault: &Fault<'_>) -> ExitCode {
 
 fn obey<
     'a,
-    R: Env + Files + AllocGlobal + Input + Print + Clock + Threads + Wait + Sync,
-    E: Eprint + IsTerminal + Sync,
+    R: Env
+        + Files
+        + AllocGlobal
+        + Input
+        + Print
+        + Clock
+        + Threads
+        + Wait
+        + Clone
+        + Drop
+        + Send
+        + Sync
+        + 'static,
+    E: Eprint + IsTerminal + Clone + Drop + Send + Sync + 'static,
 >(rt: &R, errors: &E, asked: &Asked<'a>) -> Result<(), Fault<'a>>
 where
-    R::Reader: IsTerminal,
+    R::Reader: IsTerminal + Send + 'static,
     R::File: Hold,
 {
     match &asked.request {
@@ -133,7 +169,8 @@ where
         Request::Run {
             request,
             completing,
-        } => run_jobs(rt, errors, request, completing.as_ref()),
+            going,
+        } => run_jobs(rt, errors, request, completing.as_ref(), going),
         Request::Check(request) => check_jobs(rt, request),
         Request::Dump {
             recording,

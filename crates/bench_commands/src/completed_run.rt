@@ -2,7 +2,8 @@
 
 use crate::command_line::file;
 use crate::completing::{fault_of, start_of, with_time, write_out};
-use crate::recording::{finish, record};
+use crate::live_run::{Manner, record};
+use crate::recording::finish;
 use bench_complete::{Additions, CompleteFault, Completion, UtcSecond};
 use bench_core::Settings;
 use bench_files::Hold;
@@ -145,12 +146,24 @@ fn judge_before(
 /// then the report, and how much was recorded. Where there is a fault, what was there stays.
 pub(crate) fn record_completed<
     'a,
-    R: Files + AllocGlobal + Print + Clock + Threads + Wait + Sync,
-    E: Eprint + IsTerminal + Sync,
+    R: Files
+        + AllocGlobal
+        + Input
+        + Print
+        + Clock
+        + Threads
+        + Wait
+        + Clone
+        + Drop
+        + Send
+        + Sync
+        + 'static,
+    E: Eprint + IsTerminal + Clone + Drop + Send + Sync + 'static,
 >(
     rt: &R,
     errors: &E,
     request: &RunRequest<'a>,
+    manner: &Manner,
     jobs: &[Job],
     settings: &Settings,
     additions: &Additions<'_>,
@@ -158,9 +171,12 @@ pub(crate) fn record_completed<
 ) -> Result<(), Fault<'a>>
 where
     R::File: Hold,
+    R::Reader: Send + 'static,
 {
     let mut files = files;
-    match complete_into(rt, errors, request, jobs, settings, additions, &mut files) {
+    match complete_into(
+        rt, errors, request, manner, jobs, settings, additions, &mut files,
+    ) {
         Ok(report) => finish(rt, errors, files, &report),
         Err(fault) => {
             files.end(rt, Ending::Broken)?;
@@ -183,12 +199,13 @@ fn with_text<'b>(additions: &Additions<'_>, text: &'b [u8]) -> Additions<'b> {
 /// is judged before the first message as far as that needs no recording, and again behind the last.
 fn complete_into<
     'a,
-    R: Files + AllocGlobal + Clock + Threads + Wait + Sync,
-    E: Eprint + IsTerminal + Sync,
+    R: Files + AllocGlobal + Input + Clock + Threads + Wait + Clone + Drop + Send + Sync + 'static,
+    E: Eprint + IsTerminal + Clone + Drop + Send + Sync + 'static,
 >(
     rt: &R,
     errors: &E,
     request: &RunRequest<'a>,
+    manner: &Manner,
     jobs: &[Job],
     settings: &Settings,
     additions: &Additions<'_>,
@@ -196,12 +213,13 @@ fn complete_into<
 ) -> Result<Report, Fault<'a>>
 where
     R::File: Hold,
+    R::Reader: Send + 'static,
 {
     if let Err(fault) = judge_before(rt.alloc(), jobs, settings, request.drops, additions) {
         return Err(fault_of(fault, ""));
     }
     let sink = MemorySink::make(rt.alloc());
-    let (report, sink) = match record(rt, errors, request.drops, jobs, settings, sink) {
+    let (report, sink) = match record(rt, errors, manner, jobs, settings, sink) {
         Ok(recorded) => recorded,
         Err(RunError::Sink { .. }) => return Err(Fault::Memory),
         Err(error) => return Err(Fault::of_run(&error)),

@@ -15,6 +15,7 @@ mod exporting;
 mod given_words;
 mod judged_run;
 mod judging;
+mod live_run;
 mod looking;
 mod looking_line;
 mod misplaced;

@@ -1,20 +1,19 @@
 //! `bench run`: jobs recorded into a file, and their report beside it.
-ghost use Rattle.std.specs.Prelude.{◌-◌, ◌<◌, ◌^◌};
 
 use crate::completed_run::{
     Completing, additions_in, record_completed, setup_in, setup_text, start_in,
 };
 use crate::judged_run::{judge_run, rules_of_run};
+use crate::live_run::{Going, Manner, manner_of, record, with_posts};
 use bench_core::{Settings, judge};
 use bench_files::Hold;
-use bench_record::{Counts, print_counts, record_jobs_held, record_jobs_with_progress, refusals};
+use bench_record::{Counts, print_counts, refusals};
 use bench_report::{Report, print_report};
 use bench_requests::{
     Ending, Fault, RunFiles, RunRequest, ending_of_run, ending_of_settings, jobs_of, read_texts,
     read_whole, settings_of, told_apart,
 };
-use bench_run::RunError;
-use ch11_writer::{Sink, StdSink};
+use ch11_writer::StdSink;
 use job_file::Job;
 use std::alloc::{AllocError, Global};
 use std::io;
@@ -31,18 +30,33 @@ use std::thread::Threads;
 /// the recording stands in its place.
 pub fn run_jobs<
     'a,
-    R: Env + Files + AllocGlobal + Print + Clock + Threads + Wait + Sync,
-    E: Eprint + IsTerminal + Sync,
+    R: Env
+        + Files
+        + AllocGlobal
+        + Input
+        + Print
+        + Clock
+        + Threads
+        + Wait
+        + Clone
+        + Drop
+        + Send
+        + Sync
+        + 'static,
+    E: Eprint + IsTerminal + Clone + Drop + Send + Sync + 'static,
 >(
     rt: &R,
     errors: &E,
     request: &RunRequest<'a>,
     completing: Option<&Completing<'a>>,
+    going: &Going<'a>,
 ) -> Result<(), Fault<'a>>
 where
     R::File: Hold,
+    R::Reader: Send + 'static,
 {
     let start = start_in(completing)?;
+    let manner = manner_of(going, request.drops)?;
     told_apart(
         rt,
         &[request.out, request.report],
@@ -58,16 +72,18 @@ where
     let texts = read_texts(rt, &request.jobs)?;
     let additions = additions_in(rt.alloc(), completing, start, &setup, request.version)?;
     let jobs = jobs_of(rt.alloc(), &texts)?;
-    let settings = settings_of(request, prologue);
+    let settings = with_posts(settings_of(request, prologue), &manner);
     let files = RunFiles::begin(rt, request)?;
     if let Err(refused) = judge(&jobs, &settings) {
         files.end(rt, ending_of_settings(&refused))?;
         return Err(Fault::of_settings(refused));
     }
     match additions {
-        None => record_into(rt, errors, request.drops, &jobs, &settings, files)?,
+        None => record_into(rt, errors, &manner, &jobs, &settings, files)?,
         Some(additions) => {
-            record_completed(rt, errors, request, &jobs, &settings, &additions, files)?
+            record_completed(
+                rt, errors, request, &manner, &jobs, &settings, &additions, files,
+            )?
         }
     }
     match rules {
@@ -79,18 +95,30 @@ where
 /// Records jobs and settings that may be run into files that were begun, and prints how much was recorded.
 fn record_into<
     'a,
-    R: Files + AllocGlobal + Print + Clock + Threads + Wait + Sync,
-    E: Eprint + IsTerminal + Sync,
+    R: Files
+        + AllocGlobal
+        + Input
+        + Print
+        + Clock
+        + Threads
+        + Wait
+        + Clone
+        + Drop
+        + Send
+        + Sync
+        + 'static,
+    E: Eprint + IsTerminal + Clone + Drop + Send + Sync + 'static,
 >(
     rt: &R,
     errors: &E,
-    drops: bool,
+    manner: &Manner,
     jobs: &[Job],
     settings: &Settings,
     files: RunFiles<'a, R::File>,
 ) -> Result<(), Fault<'a>>
 where
     R::File: Hold,
+    R::Reader: Send + 'static,
 {
     let mut files = files;
     let file = match files.recording(rt) {
@@ -100,7 +128,7 @@ where
             return Err(fault);
         }
     };
-    match record(rt, errors, drops, jobs, settings, StdSink::make(file)) {
+    match record(rt, errors, manner, jobs, settings, StdSink::make(file)) {
         Ok((report, sink)) => {
             drop(sink);
             finish(rt, errors, files, &report)
@@ -167,28 +195,6 @@ fn files_read<'a>(
         names.push(setup)?;
     }
     Ok(names)
-}
-
-/// The report of a recording that is whole, with buses that are held unless messages may be refused; and its sink.
-pub(crate) fn record<
-    R: AllocGlobal + Clock + Threads + Wait + Sync,
-    E: Eprint + IsTerminal + Sync,
-    S: Sink + Drop,
->(
-    rt: &R,
-    errors: &E,
-    drops: bool,
-    jobs: &[Job],
-    settings: &Settings,
-    sink: S,
-) -> Result<(Report, S), RunError<S>>
-    requires countable { S.failures sink < 2 ^ 64 - 1 }
-{
-    if drops {
-        record_jobs_with_progress(rt, rt.alloc(), errors, jobs, settings, sink)
-    } else {
-        record_jobs_held(rt, rt.alloc(), errors, jobs, settings, sink)
-    }
 }
 
 fn print_counts_to_output<R: AllocGlobal + Print>(rt: &R, counts: &Counts) -> io::Result<()> {

@@ -3,6 +3,7 @@
 use crate::command_line::{file, force, version};
 use crate::completed_run::with_completing;
 use crate::judged_run::judge_option;
+use crate::live_run::with_going;
 use bench_requests::RunRequest;
 use clap::{Arg, ArgAction, ArgMatches, Command, value_parser};
 use std::alloc::{AllocError, Global};
@@ -18,6 +19,11 @@ Recording and report are written under the names FILE.part, and take the place o
 both are whole: a run that is interrupted leaves what was there. After U4 the recording has what the file took.
 No file is written over that is read, that another run is writing, or that is of another kind.
 
+With --live a line `CHANNEL ADDRESS ACTION` of the standard input is an action as behind `at` in a job; it acts at the
+next message of the channel. A line that cannot be posted is told on standard error with its number, and the run goes
+on, as it does behind the end of the input. It ends with its scripts. A channel takes 65536 posts at most. With --pace
+a message waits until real time has come to the end of the one before it; nothing is promised of time.
+
 With --judge the recording is read back behind the counts and judged by rules, as bench judge does: status 5 where
 one is not held. Recording and report are kept either way. The rules are read first: a fault of theirs costs no run.
 
@@ -27,6 +33,7 @@ those of `bench complete`, with the version of --version.
 
 Example:
   bench run --out flight.ch11 --report flight.report avionics.job stores.job
+  bench run --live --out flight.ch11 --report flight.report avionics.job <host.fifo
   bench run --complete --setup flight.tmats --out flight.ch10 --report flight.report avionics.job stores.job";
 
 pub(crate) fn run_command<'a>(alloc: Global) -> Result<Command<'a>, AllocError> {
@@ -37,7 +44,7 @@ pub(crate) fn run_command<'a>(alloc: Global) -> Result<Command<'a>, AllocError> 
         .about("Runs jobs, each on a thread of its own, and records them all into one file")
         .disable_version_flag(true)
         .after_help(RUN_NOTES);
-    let command = with_files(alloc, with_settings(alloc, command)?)?;
+    let command = with_files(alloc, with_going(alloc, with_settings(alloc, command)?)?)?;
     with_completing(alloc, command)?.arg(jobs)
 }
 

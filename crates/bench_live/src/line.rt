@@ -1,0 +1,56 @@
+//! The line that asks for an action while a run goes on.
+ghost use Rattle.std.specs.Prelude.{◌≡◌, ◌≤◌, IfOk};
+ghost use Rattle.mil_host.specs.Reading.{number_of};
+ghost use Rattle.mil_host.specs.Words.{words};
+ghost use Rattle.bench_live.specs.Lines.{post_of};
+
+use mil_host::{Action, BadAction, next_word, read_action};
+use numerals::spelled;
+
+/// What a line asks for.
+#[derive(Debug, Drop)]
+pub struct LivePost {
+    /// The channel of a job, 1 to 65,535.
+    pub channel: u16,
+    /// The address of a terminal, 0 to 30.
+    pub address: u8,
+    pub action: Action,
+}
+
+/// The number of a word, within a range.
+fn number_within(word: &[u8], low: u16, high: u16) -> Result<u16, BadAction>
+    ensures value { result ≡ number_of low high word.now }
+    ensures range { IfOk result (λ n. (low ≤ n) × (n ≤ high)) }
+{
+    let Some(value) = spelled(10, 1, 7, word) else {
+        return Err(BadAction::Number);
+    };
+    if u64::from(low) <= value && value <= u64::from(high) {
+        Ok(value as u16)
+    } else {
+        Err(BadAction::Range)
+    }
+}
+
+/// What a line asks for: `CHANNEL ADDRESS ACTION`, words parted by one or more spaces, with a channel of 1 to 65,535, an address of 0
+/// to 30 and an action as `read_action` reads it (own choice). The first fault from left to right is answered: H1 where the channel
+/// or the address is missing, H2 where it is not a number of one to seven digits, H3 where it is out of range.
+#[tactic(auto, unfolding(crate::specs::Lines::post_of, mil_host::specs::Reading::action_in))]
+pub fn read_post(line: &[u8]) -> Result<LivePost, BadAction>
+    ensures { result ≡ post_of line.now }
+{
+    let Some((channel, behind)) = next_word(line) else {
+        return Err(BadAction::Word);
+    };
+    let channel = number_within(channel, 1, 65_535)?;
+    let Some((address, behind)) = next_word(behind) else {
+        return Err(BadAction::Word);
+    };
+    let address = number_within(address, 0, 30)?;
+    let action = read_action(behind)?;
+    Ok(LivePost {
+        channel,
+        address: address as u8,
+        action,
+    })
+}

@@ -1,0 +1,147 @@
+//! Runs that are paced, and runs while a host posts what lines ask for.
+ghost use Rattle.std.specs.Prelude.{◌-◌, ◌<◌, ◌^◌, IfOk, IfErr, OnOk};
+ghost use Rattle.bench_core.specs.Lawful.{AreLawful};
+ghost use Rattle.bench_run.specs.Runs.{Ran, RefusesNoneWithRoom, Leaves};
+ghost use Rattle.bench_run.specs.Live.{AreInboxesOf, HaveMail, RanLive, LeavesLive};
+ghost use Rattle.bench_live.specs.Posting.{AreHandsOf};
+
+use crate::desk::{Desk, Hand};
+use crate::gates::{LiveGate, PacedGate};
+use crate::pace::Pace;
+use crate::telling::post_all;
+use bench_core::Settings;
+use bench_record::Progress;
+use bench_report::Report;
+use bench_run::{HoldingGate, Inbox, LiveError, RunError, run, run_live};
+use ch11_writer::Sink;
+use job_file::Job;
+use std::alloc::{AllocError, Global};
+use std::io::{BufRead, IsTerminal};
+use std::rt::Clock;
+use std::sync::{Arc, Wait};
+use std::thread;
+use std::thread::Threads;
+
+/// Runs the jobs as `run` does, with bus time at a pace of real time and with buses that are held unless messages may be refused; how
+/// far the recording has come is shown as by `Progress`. It answers and refuses as `run` does.
+pub fn record_paced<
+    R: Threads + Wait + Clock + Sync,
+    E: Eprint + IsTerminal + Sync,
+    S: Sink + Drop,
+>(
+    rt: &R,
+    alloc: Global,
+    errors: &E,
+    jobs: &[Job],
+    settings: &Settings,
+    drops: bool,
+    pace: Pace,
+    sink: S,
+) -> Result<(Report, S), RunError<S>>
+    requires countable { S.failures sink < 2 ^ 64 - 1 }
+    ensures lawful { OnOk result (AreLawful jobs.now settings.now) }
+    ensures ran { IfOk result (λ r. Ran S.taken jobs.now settings.now sink r.0 r.1) }
+    ensures room { IfOk result (λ r. RefusesNoneWithRoom jobs.now settings.now r.0) }
+    ensures refused { IfErr result (Leaves S.taken S.failures jobs.now settings.now sink) }
+{
+    let progress = Progress::begin(rt, errors);
+    if drops {
+        let paced = PacedGate::around(&progress, rt, Some(pace));
+        let answer = run(rt, alloc, jobs, settings, &paced, sink);
+        progress.end();
+        return answer;
+    }
+    let held = HoldingGate::around(&progress, settings.queue);
+    let paced = PacedGate::around(&held, rt, Some(pace));
+    let answer = run(rt, alloc, jobs, settings, &paced, sink);
+    progress.end();
+    answer
+}
+
+/// Starts a thread that posts what the lines of an input ask for, and lets it go: the end of a run does not wait for it, and where
+/// the input stays open the process ends without it. It fails where memory or the thread is refused.
+pub fn start_host<
+    R: Threads + Wait + Clock + Clone + Drop + Send + Sync + 'static,
+    E: Eprint + Clone + Drop + Send + 'static,
+    B: BufRead + Drop + Send + 'static,
+>(
+    rt: &R,
+    alloc: Global,
+    errors: &E,
+    desk: &Arc<Desk, Global>,
+    hands: Vec<Hand>,
+    input: B,
+) -> Result<(), AllocError>
+    requires { AreHandsOf desk.now.value hands.items }
+{
+    let theirs = Arc::try_clone(desk)?;
+    let own = rt.clone()?;
+    let told = errors.clone()?;
+    let host = thread::spawn(
+        rt,
+        move ||
+            requires { AreHandsOf theirs.value hands.items }
+        { post_all(&own, alloc, &told, &theirs, hands, input) },
+    );
+    match host {
+        Ok(_) => Ok(()),
+        Err(_) => Err(AllocError),
+    }
+}
+
+/// Runs the jobs as `run_live` does with the mailboxes of a desk, with bus time at a pace of real time and with buses that are held
+/// unless messages may be refused; the desk is told which scripts have ended. It answers and refuses as `run_live` does.
+pub fn record_live<R: Threads + Wait + Clock + Sync, E: Eprint + IsTerminal + Sync, S: Sink + Drop>(
+    rt: &R,
+    alloc: Global,
+    errors: &E,
+    jobs: &[Job],
+    settings: &Settings,
+    drops: bool,
+    pace: Pace,
+    desk: &Desk,
+    inboxes: Vec<Inbox>,
+    sink: S,
+) -> Result<(Report, Vec<Inbox>, S), LiveError<S>>
+    requires countable { S.failures sink < 2 ^ 64 - 1 }
+    requires ends { AreInboxesOf desk.now.boxes.items inboxes.items }
+    ensures lawful { OnOk result (AreLawful jobs.now settings.now × HaveMail jobs.now desk.now.boxes.items inboxes.items) }
+    ensures ran { IfOk result (λ r. RanLive S.taken settings.now.posts jobs.now settings.now inboxes.items sink r.0 r.1.items r.2) }
+    ensures ends { IfOk result (λ r. AreInboxesOf desk.now.boxes.items r.1.items) }
+    ensures room { IfOk result (λ r. RefusesNoneWithRoom jobs.now settings.now r.0) }
+    ensures refused { IfErr result (λ e. LeavesLive S.taken S.failures settings.now.posts jobs.now settings.now desk.now.boxes.items
+        inboxes.items sink e.fault e.inboxes.items) }
+    ensures back { IfErr result (λ e. AreInboxesOf desk.now.boxes.items e.inboxes.items) }
+{
+    let progress = Progress::begin(rt, errors);
+    let live = LiveGate::around(&progress, desk);
+    if drops {
+        let paced = PacedGate::around(&live, rt, Some(pace));
+        let answer = run_live(
+            rt,
+            alloc,
+            jobs,
+            settings,
+            &desk.boxes,
+            inboxes,
+            &paced,
+            sink,
+        );
+        progress.end();
+        return answer;
+    }
+    let held = HoldingGate::around(&live, settings.queue);
+    let paced = PacedGate::around(&held, rt, Some(pace));
+    let answer = run_live(
+        rt,
+        alloc,
+        jobs,
+        settings,
+        &desk.boxes,
+        inboxes,
+        &paced,
+        sink,
+    );
+    progress.end();
+    answer
+}

@@ -1,0 +1,9 @@
+//! Tests of `bench_live` against worked values: lines that are read and posted, what is told of the others, and gates that wait.
+#![tactic(auto)]
+
+#[cfg(test)]
+mod lines;
+#[cfg(test)]
+mod paces;
+#[cfg(test)]
+mod posts;

@@ -1,0 +1,48 @@
+//! Lines that ask for actions.
+use bench_live::read_post;
+use mil_host::BadAction;
+use std::alloc::Global;
+use std::process::Abort;
+
+/// A line and what it asks for: the channel, the address and the action's text.
+const GOOD: [(&str, u16, u8, &str); 4] = [
+    ("1 5 busy on", 1, 5, "busy on"),
+    ("  65535   30  vector 00aa  ", 65_535, 30, "vector 00AA"),
+    ("7 0 deaf A on", 7, 0, "deaf A on"),
+    ("2 5 transmit 1 0001 FFFF", 2, 5, "transmit 1 0001 FFFF"),
+];
+
+/// A line and its first fault.
+const BAD: [(&str, BadAction); 10] = [
+    ("", BadAction::Word),
+    ("1", BadAction::Word),
+    ("1 5", BadAction::Word),
+    ("1 5 bus on", BadAction::Word),
+    ("one 5 busy on", BadAction::Number),
+    ("1 five busy on", BadAction::Number),
+    ("0 5 busy on", BadAction::Range),
+    ("65536 99 busy", BadAction::Range),
+    ("1 31 busy on", BadAction::Range),
+    ("1 5 vector 1", BadAction::Number),
+];
+
+fn is_read(rt: &impl Abort, alloc: Global, line: &str, channel: u16, address: u8, action: &str) {
+    let post = read_post(line.as_bytes()).ok().expect(rt, "a post");
+    assert_eq!(rt; (post.channel, post.address), (channel, address), "{line}");
+    let text = post.action.to_string(alloc).expect(rt, "memory");
+    assert_eq!(rt; text.as_str(), action);
+}
+
+#[test]
+fn what_lines_ask_for(rt: HostRuntime) {
+    for (line, channel, address, action) in GOOD {
+        is_read(&rt, rt.alloc(), line, channel, address, action);
+    }
+}
+
+#[test]
+fn first_faults(rt: HostRuntime) {
+    for (line, fault) in BAD {
+        assert!(&rt; read_post(line.as_bytes()).err() == Some(fault), "{line}");
+    }
+}
