@@ -1,5 +1,6 @@
 //! A gate under which no message finds the queue full.
 use crate::gate::Gate;
+use mil_monitor::Record;
 use std::sync::atomic::{AtomicU64, Ordering};
 use std::thread;
 
@@ -76,6 +77,10 @@ impl<G: Gate> Gate for HoldingGate<'_, G> {
             self.way.leave();
         }
         self.gate.after_offer(channel, number, kept);
+    }
+
+    fn on_message(&self, channel: u16, number: u32, record: &Record) {
+        self.gate.on_message(channel, number, record);
     }
 
     fn after_take(&self, channel: u16, number: u32) {

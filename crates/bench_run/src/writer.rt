@@ -72,7 +72,10 @@ fn tell<G: Gate>(gate: &G, channels: &[u16], entry: &Entry) {
         return;
     };
     match entry {
-        Entry::Message { number, .. } => gate.after_take(*channel, *number),
+        Entry::Message { number, record, .. } => {
+            gate.on_message(*channel, *number, record);
+            gate.after_take(*channel, *number);
+        }
         Entry::End { .. } => gate.after_take(*channel, 0),
     }
 }
