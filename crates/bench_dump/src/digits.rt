@@ -124,9 +124,10 @@ fn place_high(buffer: &mut [u8], at: usize, number: u64) -> usize
     place_eight(buffer, middle, (number % 100_000_000) as u32)
 }
 
-/// Places a number in one to twenty digits.
+/// Places a number in one to twenty digits in a buffer that has room for twenty, and answers where they end. What stands behind the
+/// end may be overwritten.
 #[inline]
-pub(crate) fn place_decimal(buffer: &mut [u8], at: usize, number: u64) -> usize
+pub fn place_decimal(buffer: &mut [u8], at: usize, number: u64) -> usize
     requires { at + 20 ≤ length buffer.old }
     ensures placed { IsPlaced buffer.old buffer.new at (decimal number) result }
     ensures few { result ≤ at + 20 }

@@ -12,8 +12,10 @@ mod places;
 mod skips;
 mod text;
 
+pub use digits::place_decimal;
 pub use fault::DumpFault;
 pub use input::{read_all, read_sized};
 pub use laws::timeless_is_plain;
 pub use lines::put_words;
 pub use output::{dump, dump_with_times};
+pub use places::{place_bus_words, place_bytes};

@@ -13,9 +13,9 @@ use ch11_f1::Seen;
 /// of 27.
 pub(crate) const MESSAGE_HEAD: usize = 145;
 
-/// Places bytes.
+/// Places bytes in a buffer that has room for them, and answers where they end.
 #[inline(always)]
-pub(crate) fn place_bytes(buffer: &mut [u8], at: usize, bytes: &[u8]) -> usize
+pub fn place_bytes(buffer: &mut [u8], at: usize, bytes: &[u8]) -> usize
     requires { at + length bytes.now ≤ length buffer.old }
     ensures { IsPlaced buffer.old buffer.new at bytes.now result }
 {
@@ -69,9 +69,10 @@ fn place_bus_word(buffer: &mut [u8], at: usize, high: u8, low: u8) -> usize
     place_byte(buffer, middle, low)
 }
 
-/// Places bus words, two bytes each with the low one first.
+/// Places bus words, two bytes each with the low one first, in a buffer that has room for them, and answers where they end: of each a
+/// space and four upper-case hexadecimal digits.
 #[inline]
-pub(crate) fn place_bus_words(buffer: &mut [u8], start: usize, words: &[u8]) -> usize
+pub fn place_bus_words(buffer: &mut [u8], start: usize, words: &[u8]) -> usize
     requires { start + 5 * (length words.now / 2) ≤ length buffer.old }
     ensures placed { IsPlaced buffer.old buffer.new start (bus_words words.now) result }
     ensures end { result ≡ start + 5 * (length words.now / 2) }
