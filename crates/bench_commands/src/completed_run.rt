@@ -2,11 +2,12 @@
 
 use crate::command_line::file;
 use crate::completing::{fault_of, start_of, with_time, write_out};
-use crate::live_run::{Manner, record};
+use crate::live_run::{Way, record};
 use crate::recording::finish;
 use bench_complete::{Additions, CompleteFault, Completion, UtcSecond};
 use bench_core::Settings;
 use bench_files::Hold;
+use bench_live::Show;
 use bench_report::Report;
 use bench_requests::{Ending, Fault, RunFiles, RunRequest, read_whole};
 use bench_run::RunError;
@@ -142,42 +143,32 @@ fn judge_before(
     Ok(())
 }
 
-/// Records jobs and settings that may be run, and writes the complete file of the recording into files that were begun;
-/// then the report, and how much was recorded. Where there is a fault, what was there stays.
+/// Records jobs and settings that may be run, and writes the complete file of the recording into files that were begun,
+/// then the report, which is answered. Where there is a fault, what was there stays.
 pub(crate) fn record_completed<
     'a,
-    R: Files
-        + AllocGlobal
-        + Input
-        + Print
-        + Clock
-        + Threads
-        + Wait
-        + Clone
-        + Drop
-        + Send
-        + Sync
-        + 'static,
+    R: Files + AllocGlobal + Input + Clock + Threads + Wait + Clone + Drop + Send + Sync + 'static,
     E: Eprint + IsTerminal + Clone + Drop + Send + Sync + 'static,
 >(
     rt: &R,
     errors: &E,
     request: &RunRequest<'a>,
-    manner: &Manner,
+    way: Way,
+    show: Option<&Show>,
     jobs: &[Job],
     settings: &Settings,
     additions: &Additions<'_>,
     files: RunFiles<'a, R::File>,
-) -> Result<(), Fault<'a>>
+) -> Result<Report, Fault<'a>>
 where
     R::File: Hold,
     R::Reader: Send + 'static,
 {
     let mut files = files;
     match complete_into(
-        rt, errors, request, manner, jobs, settings, additions, &mut files,
+        rt, errors, request, way, show, jobs, settings, additions, &mut files,
     ) {
-        Ok(report) => finish(rt, errors, files, &report),
+        Ok(report) => finish(rt, files, report),
         Err(fault) => {
             files.end(rt, Ending::Broken)?;
             Err(fault)
@@ -205,7 +196,8 @@ fn complete_into<
     rt: &R,
     errors: &E,
     request: &RunRequest<'a>,
-    manner: &Manner,
+    way: Way,
+    show: Option<&Show>,
     jobs: &[Job],
     settings: &Settings,
     additions: &Additions<'_>,
@@ -219,7 +211,7 @@ where
         return Err(fault_of(fault, ""));
     }
     let sink = MemorySink::make(rt.alloc());
-    let (report, sink) = match record(rt, errors, manner, jobs, settings, sink) {
+    let (report, sink) = match record(rt, errors, way, show, jobs, settings, sink) {
         Ok(recorded) => recorded,
         Err(RunError::Sink { .. }) => return Err(Fault::Memory),
         Err(error) => return Err(Fault::of_run(&error)),

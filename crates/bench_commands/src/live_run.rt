@@ -1,18 +1,22 @@
-//! `bench run --live` and `--pace`: bus time at a pace of real time, and actions posted from lines of the standard input.
+//! `bench run --live`, `--pace` and `--show`: actions posted from lines of the standard input, bus time at a pace of real time, and
+//! messages shown as they are recorded.
 ghost use Rattle.std.specs.Prelude.{◌-◌, ◌<◌, ◌^◌};
 
+use crate::judging::is_for_people;
 use bench_core::Settings;
-use bench_live::{Pace, open_desk, record_live, record_paced, start_host};
+use bench_decode::Shown;
+use bench_files::leads_to_output;
+use bench_live::{Manner, Pace, Show, Showing, open_desk, record_live, record_paced, start_host};
 use bench_record::{record_jobs_held, record_jobs_with_progress};
 use bench_report::Report;
-use bench_requests::Fault;
+use bench_requests::{Fault, RunRequest};
 use bench_run::{LiveError, RunError};
 use ch11_writer::Sink;
 use clap::{Arg, ArgAction, ArgMatches, Command};
 use job_file::Job;
 use std::alloc::{AllocError, Global};
 use std::io::{BufReader, IsTerminal};
-use std::rt::Clock;
+use std::rt::{Clock, Env, Files};
 use std::sync::{Arc, Wait};
 use std::thread::Threads;
 
@@ -21,16 +25,17 @@ use std::thread::Threads;
 pub struct Going<'a> {
     /// Whether actions are posted from lines of the standard input.
     pub live: bool,
+    /// Whether messages are shown as they are recorded.
+    pub show: bool,
     /// How many ticks of bus time go by in so much real time, as a text.
     pub pace: Option<&'a str>,
 }
 
 /// How a run goes on, with its pace read.
 #[derive(Clone, Copy, Debug)]
-pub(crate) struct Manner {
+pub(crate) struct Way {
     live: bool,
-    pace: Option<Pace>,
-    drops: bool,
+    manner: Manner,
 }
 
 /// The options of a run that say how it goes on.
@@ -47,19 +52,33 @@ pub(crate) fn with_going<'a>(
     let pace = Arg::new(alloc, "pace").long("pace").value_name("N").help(
         "Bus time runs at N times real time, 0.1 to 1000; without it as fast as it goes, and with --live at 1",
     );
-    command.arg(live)?.arg(pace)
+    let show = Arg::new(alloc, "show")
+        .long("show")
+        .action(ArgAction::SetTrue)
+        .help("Prints each message as it is recorded, a line as dump --decode has it");
+    command.arg(live)?.arg(pace)?.arg(show)
 }
 
 /// How a run goes on by the words of the command line.
 pub(crate) fn going_in<'a>(given: &ArgMatches<'a>) -> Going<'a> {
     Going {
         live: given.get_flag("live"),
+        show: given.get_flag("show"),
         pace: given.get_str("pace"),
     }
 }
 
-/// The same with the pace read, and whether messages may be refused.
-pub(crate) fn manner_of<'a>(going: &Going<'a>, drops: bool) -> Result<Manner, Fault<'a>> {
+/// The same with the pace read. Messages are shown on the standard output: nothing else of the run may go there before its counts.
+pub(crate) fn way_of<'a, R: Files>(
+    rt: &R,
+    going: &Going<'a>,
+    request: &RunRequest<'a>,
+) -> Result<Way, Fault<'a>> {
+    if going.show && (leads_to_output(rt, request.out) || leads_to_output(rt, request.report)) {
+        return Err(Fault::Usage(
+            "--show prints on the standard output: neither --out nor --report can lead there",
+        ));
+    }
     let pace = match going.pace {
         None if going.live => Some(Pace::REAL),
         None => None,
@@ -72,24 +91,63 @@ pub(crate) fn manner_of<'a>(going: &Going<'a>, drops: bool) -> Result<Manner, Fa
             }
         },
     };
-    Ok(Manner {
+    let drops = request.drops;
+    Ok(Way {
         live: going.live,
-        pace,
-        drops,
+        manner: Manner { drops, pace },
     })
 }
 
 /// The settings of a run that goes on like that: 65,536 posts of each channel are taken where lines are posted.
-pub(crate) fn with_posts(settings: Settings, manner: &Manner) -> Settings {
+pub(crate) fn with_posts(settings: Settings, way: Way) -> Settings {
     let mut settings = settings;
-    if manner.live {
+    if way.live {
         settings.posts = 65_536;
     }
     settings
 }
 
-/// The report of a recording that is whole, and its sink: of buses that are held unless messages may be refused, at the pace that was
-/// asked for, with the posts of lines or without.
+/// Starts what shows messages, where they are to be shown.
+pub(crate) fn begin_showing<
+    R: Env
+        + Files
+        + AllocGlobal
+        + Print
+        + Clock
+        + Threads
+        + Wait
+        + Clone
+        + Drop
+        + Send
+        + Sync
+        + 'static,
+>(rt: &R, going: &Going<'_>) -> Result<Option<Showing>, AllocError> {
+    if !going.show {
+        return Ok(None);
+    }
+    let shown = if is_for_people(rt) {
+        Shown::Colored
+    } else {
+        Shown::Plain
+    };
+    Ok(Some(Showing::begin(rt, rt.alloc(), shown)?))
+}
+
+/// Waits until messages are shown, and says how many were not.
+pub(crate) fn end_showing<R: Threads, E: Eprint>(rt: &R, errors: &E, showing: Option<Showing>) {
+    let Some(showing) = showing else {
+        return;
+    };
+    let Some(lost) = showing.end(rt) else {
+        return;
+    };
+    if lost > 0 {
+        let _ = eprintln!(errors; "bench: {lost} messages were not shown");
+    }
+}
+
+/// The report of a recording that is whole, and its sink: of a run that goes on like that, whose messages are shown where there is
+/// something that shows them.
 pub(crate) fn record<
     R: AllocGlobal + Input + Clock + Threads + Wait + Clone + Drop + Send + Sync + 'static,
     E: Eprint + IsTerminal + Clone + Drop + Send + Sync + 'static,
@@ -97,7 +155,8 @@ pub(crate) fn record<
 >(
     rt: &R,
     errors: &E,
-    manner: &Manner,
+    way: Way,
+    show: Option<&Show>,
     jobs: &[Job],
     settings: &Settings,
     sink: S,
@@ -106,12 +165,17 @@ where
     R::Reader: Send + 'static,
     requires countable { S.failures sink < 2 ^ 64 - 1 }
 {
-    let drops = manner.drops;
-    match manner.pace {
-        Some(pace) if manner.live => record_beside(rt, errors, drops, pace, jobs, settings, sink),
-        Some(pace) => record_paced(rt, rt.alloc(), errors, jobs, settings, drops, pace, sink),
-        None if drops => record_jobs_with_progress(rt, rt.alloc(), errors, jobs, settings, sink),
-        None => record_jobs_held(rt, rt.alloc(), errors, jobs, settings, sink),
+    let manner = way.manner;
+    if way.live {
+        return record_beside(rt, errors, manner, show, jobs, settings, sink);
+    }
+    if manner.pace.is_some() || show.is_some() {
+        return record_paced(rt, rt.alloc(), errors, jobs, settings, manner, show, sink);
+    }
+    if manner.drops {
+        record_jobs_with_progress(rt, rt.alloc(), errors, jobs, settings, sink)
+    } else {
+        record_jobs_held(rt, rt.alloc(), errors, jobs, settings, sink)
     }
 }
 
@@ -123,8 +187,8 @@ fn record_beside<
 >(
     rt: &R,
     errors: &E,
-    drops: bool,
-    pace: Pace,
+    manner: Manner,
+    show: Option<&Show>,
     jobs: &[Job],
     settings: &Settings,
     sink: S,
@@ -147,7 +211,7 @@ where
         return Err(RunError::Memory { sink });
     }
     let answer = record_live(
-        rt, alloc, errors, jobs, settings, drops, pace, &desk, inboxes, sink,
+        rt, alloc, errors, jobs, settings, manner, show, &desk, inboxes, sink,
     );
     match answer {
         Ok((report, _, sink)) => Ok((report, sink)),

@@ -4,9 +4,11 @@ use crate::completed_run::{
     Completing, additions_in, record_completed, setup_in, setup_text, start_in,
 };
 use crate::judged_run::{judge_run, rules_of_run};
-use crate::live_run::{Going, Manner, manner_of, record, with_posts};
+use crate::live_run::{Going, Way, begin_showing, end_showing, record, way_of, with_posts};
+use bench_complete::Additions;
 use bench_core::{Settings, judge};
 use bench_files::Hold;
+use bench_live::Show;
 use bench_record::{Counts, print_counts, refusals};
 use bench_report::{Report, print_report};
 use bench_requests::{
@@ -56,7 +58,7 @@ where
     R::Reader: Send + 'static,
 {
     let start = start_in(completing)?;
-    let manner = manner_of(going, request.drops)?;
+    let way = way_of(rt, going, request)?;
     told_apart(
         rt,
         &[request.out, request.report],
@@ -72,30 +74,27 @@ where
     let texts = read_texts(rt, &request.jobs)?;
     let additions = additions_in(rt.alloc(), completing, start, &setup, request.version)?;
     let jobs = jobs_of(rt.alloc(), &texts)?;
-    let settings = with_posts(settings_of(request, prologue), &manner);
+    let settings = with_posts(settings_of(request, prologue), way);
     let files = RunFiles::begin(rt, request)?;
     if let Err(refused) = judge(&jobs, &settings) {
         files.end(rt, ending_of_settings(&refused))?;
         return Err(Fault::of_settings(refused));
     }
-    match additions {
-        None => record_into(rt, errors, &manner, &jobs, &settings, files)?,
-        Some(additions) => {
-            record_completed(
-                rt, errors, request, &manner, &jobs, &settings, &additions, files,
-            )?
-        }
-    }
+    record_and_tell(
+        rt, errors, request, way, going, &jobs, &settings, additions, files,
+    )?;
     match rules {
         Some(rules) => judge_run(rt, errors, request, &rules),
         None => Ok(()),
     }
 }
 
-/// Records jobs and settings that may be run into files that were begun, and prints how much was recorded.
-fn record_into<
+/// Records jobs and settings that may be run into files that were begun, and prints how much was recorded, behind the messages where
+/// these are shown.
+fn record_and_tell<
     'a,
-    R: Files
+    R: Env
+        + Files
         + AllocGlobal
         + Input
         + Print
@@ -111,11 +110,51 @@ fn record_into<
 >(
     rt: &R,
     errors: &E,
-    manner: &Manner,
+    request: &RunRequest<'a>,
+    way: Way,
+    going: &Going<'a>,
+    jobs: &[Job],
+    settings: &Settings,
+    additions: Option<Additions<'_>>,
+    files: RunFiles<'a, R::File>,
+) -> Result<(), Fault<'a>>
+where
+    R::File: Hold,
+    R::Reader: Send + 'static,
+{
+    let is_output = files.are_output();
+    let Ok(showing) = begin_showing(rt, going) else {
+        files.end(rt, Ending::Broken)?;
+        return Err(Fault::Memory);
+    };
+    let show = match &showing {
+        Some(showing) => Some(showing.show()),
+        None => None,
+    };
+    let recorded = match additions {
+        None => record_into(rt, errors, way, show, jobs, settings, files),
+        Some(additions) => record_completed(
+            rt, errors, request, way, show, jobs, settings, &additions, files,
+        ),
+    };
+    end_showing(rt, errors, showing);
+    tell(rt, errors, is_output, &recorded?)
+}
+
+/// Records jobs and settings that may be run into files that were begun, and gives these their places. The report is answered.
+fn record_into<
+    'a,
+    R: Files + AllocGlobal + Input + Clock + Threads + Wait + Clone + Drop + Send + Sync + 'static,
+    E: Eprint + IsTerminal + Clone + Drop + Send + Sync + 'static,
+>(
+    rt: &R,
+    errors: &E,
+    way: Way,
+    show: Option<&Show>,
     jobs: &[Job],
     settings: &Settings,
     files: RunFiles<'a, R::File>,
-) -> Result<(), Fault<'a>>
+) -> Result<Report, Fault<'a>>
 where
     R::File: Hold,
     R::Reader: Send + 'static,
@@ -128,10 +167,10 @@ where
             return Err(fault);
         }
     };
-    match record(rt, errors, manner, jobs, settings, StdSink::make(file)) {
+    match record(rt, errors, way, show, jobs, settings, StdSink::make(file)) {
         Ok((report, sink)) => {
             drop(sink);
-            finish(rt, errors, files, &report)
+            finish(rt, files, report)
         }
         Err(error) => {
             files.end(rt, ending_of_run(&error))?;
@@ -140,20 +179,18 @@ where
     }
 }
 
-/// Writes the report of a recording that is whole, gives both their places, and prints how much was recorded.
-pub(crate) fn finish<'a, R: Files + AllocGlobal + Print, E: Eprint>(
+/// Writes the report of a recording that is whole, and gives both their places. The report is answered.
+pub(crate) fn finish<'a, R: Files + AllocGlobal>(
     rt: &R,
-    errors: &E,
     files: RunFiles<'a, R::File>,
-    report: &Report,
-) -> Result<(), Fault<'a>>
+    report: Report,
+) -> Result<Report, Fault<'a>>
 where
     R::File: Hold,
 {
-    let is_output = files.are_output();
-    let text = print_report(rt.alloc(), report)?;
+    let text = print_report(rt.alloc(), &report)?;
     files.finish(rt, text.as_bytes())?;
-    tell(rt, errors, is_output, report)
+    Ok(report)
 }
 
 /// Prints how much was recorded, to the standard error where the recording went to the standard output; and how many

@@ -9,7 +9,7 @@ use ch11_layout::is_set;
 fn put_words(line: &mut Line, word: &[u8], numbers: &[u8]) {
     line.put(word);
     for number in numbers {
-        line.put_labelled(b" ", u64::from(*number));
+        line.put_small(*number);
     }
 }
 

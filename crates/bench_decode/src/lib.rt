@@ -19,7 +19,7 @@ pub use chosen::{Chosen, messages_by_time};
 pub use details::put_details;
 pub use forms::Form;
 pub use line::{Line, Shown};
-pub use messages::{Place, write_message};
+pub use messages::{Place, write_columns, write_message};
 pub use numbers::Numbers;
 pub use times::Time;
 pub use whole::{Output, decode};

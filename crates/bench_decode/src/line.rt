@@ -1,8 +1,7 @@
 //! Lines on their way to a writer, in columns.
 
-use crate::times::Time;
-use ch11_f1::Seen;
-use ch11_layout::word_at;
+use crate::times::{SECOND, Time};
+use bench_dump::{place_bus_words, place_decimal};
 use std::alloc::{AllocError, Global};
 use std::io;
 use std::io::Write;
@@ -15,6 +14,9 @@ const ROOM: usize = 2048;
 
 /// The most digits that a number has.
 const DIGITS: usize = 20;
+
+/// How many bytes of words are put at once: 256 words, which take 1,280 bytes.
+const PIECE: usize = 512;
 
 const HEXADECIMAL: [u8; 16] = *b"0123456789ABCDEF";
 
@@ -29,6 +31,17 @@ const PLAIN: &[u8] = b"\x1b[0m";
 pub enum Shown {
     Plain,
     Colored,
+}
+
+/// How many digits a number has, or 8 where it has more.
+fn digits_in(number: u64) -> usize {
+    let mut digits = 1;
+    for least in [10, 100, 1000, 10_000, 100_000, 1_000_000, 10_000_000] {
+        if number >= least {
+            digits += 1;
+        }
+    }
+    digits
 }
 
 /// Lines that wait for the writer, at most 65,536 bytes of them.
@@ -81,11 +94,20 @@ impl Line {
         self.begin = self.len;
     }
 
+    /// So many spaces, at most 64. As many are always written, since that is quicker.
+    #[inline(always)]
+    fn put_spaces(&mut self, count: usize) {
+        let begin = self.len;
+        self.put(&SPACES);
+        if begin < self.len {
+            self.len = begin + count.min(SPACES.len());
+        }
+    }
+
     /// Spaces up to a column.
     pub(crate) fn fill_to(&mut self, column: usize) {
         let used = self.len.saturating_sub(self.begin);
-        let missing = column.saturating_sub(used).min(SPACES.len());
-        self.put(&SPACES[..missing]);
+        self.put_spaces(column.saturating_sub(used));
     }
 
     /// Spaces up to a column, and one at least.
@@ -112,29 +134,30 @@ impl Line {
         }
     }
 
-    /// A number, with spaces before it up to a width of at most 20.
+    /// A number, with spaces before it up to a width of at most 8.
     pub(crate) fn put_right(&mut self, number: u64, width: usize) {
-        let mut digits = [b' '; DIGITS];
-        let mut at = DIGITS;
-        let mut rest = number;
-        'pairs: while at >= 2 && rest >= 10 {
-            at -= 2;
-            let pair = (rest % 100) as u8;
-            digits[at] = b'0' + pair / 10;
-            digits[at + 1] = b'0' + pair % 10;
-            rest /= 100;
-        }
-        if at > 0 && (rest > 0 || number == 0) {
-            at -= 1;
-            digits[at] = b'0' + (rest % 10) as u8;
-        }
-        let from = at.min(DIGITS.saturating_sub(width));
-        self.put(&digits[from..]);
+        self.put_spaces(width.saturating_sub(digits_in(number)));
+        self.put_number(number);
     }
 
     /// A number.
     pub(crate) fn put_number(&mut self, number: u64) {
-        self.put_right(number, 0);
+        let at = self.len;
+        if at <= SIZE && at + DIGITS <= self.bytes.len() {
+            self.len = place_decimal(self.bytes.as_mut_slice(), at, number);
+        }
+    }
+
+    /// A number behind a space, most often one of one or two digits.
+    #[inline(always)]
+    pub(crate) fn put_small(&mut self, number: u8) {
+        if number < 10 {
+            self.put(&[b' ', b'0' + number]);
+        } else if number < 100 {
+            self.put(&[b' ', b'0' + number / 10, b'0' + number % 10]);
+        } else {
+            self.put_labelled(b" ", u64::from(number));
+        }
     }
 
     /// A label and a number.
@@ -151,13 +174,11 @@ impl Line {
 
     /// The point and the seven decimals of a time in seconds.
     pub(crate) fn put_decimals(&mut self, time: Time) {
-        let mut digits = [b'.'; 8];
-        let mut rest = time.ticks;
-        'digits: for place in 0..7usize {
-            digits[7 - place] = b'0' + (rest % 10) as u8;
-            rest /= 10;
+        let point = self.len;
+        self.put_number(SECOND + time.ticks % SECOND);
+        if point < self.bytes.len() {
+            self.bytes[point] = b'.';
         }
-        self.put(&digits);
     }
 
     /// A word as four hexadecimal digits behind a space.
@@ -178,19 +199,24 @@ impl Line {
         ]);
     }
 
-    /// The words of a message from a place up to another, each behind a space.
-    pub(crate) fn put_words<W: Write>(
-        &mut self,
-        out: &mut W,
-        seen: &Seen<'_>,
-        from: usize,
-        to: usize,
-    ) -> io::Result<()> {
-        'words: for place in from..to {
+    /// Bus words as they lie in a body, two bytes each with the low one first: four hexadecimal digits of each behind a space.
+    pub(crate) fn put_words<W: Write>(&mut self, out: &mut W, words: &[u8]) -> io::Result<()> {
+        let mut rest = words;
+        'pieces: while rest.len() > 0 {
             self.hand_on(out)?;
-            self.put_word(word_at(seen.words, place));
+            let (piece, behind) = rest.split_at(rest.len().min(PIECE));
+            self.put_piece(piece);
+            rest = behind;
         }
         Ok(())
+    }
+
+    /// Bus words which there is room for.
+    fn put_piece(&mut self, words: &[u8]) {
+        let at = self.len;
+        if at <= SIZE && words.len() <= PIECE && at + 3 * words.len() <= self.bytes.len() {
+            self.len = place_bus_words(self.bytes.as_mut_slice(), at, words);
+        }
     }
 
     /// Hands what waits on to the writer where there is little room left.

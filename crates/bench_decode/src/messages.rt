@@ -11,16 +11,16 @@ use std::io;
 use std::io::Write;
 
 /// The names of the columns up to the form, and those behind it.
-pub(crate) const FIRST_COLUMNS: &[u8] = b"message       seconds channel  number line form";
+const FIRST_COLUMNS: &[u8] = b"message       seconds channel  number line form";
 
-pub(crate) const OTHER_COLUMNS: &[u8] = b"status words, responses   data words, block status";
+const OTHER_COLUMNS: &[u8] = b"status words, responses   data words, block status";
 
 /// Where the columns begin that the others stand before: line, form, status words and data words.
 const LINE: usize = 38;
 
 const FORM: usize = 43;
 
-pub(crate) const REPLIES: usize = 77;
+const REPLIES: usize = 77;
 
 const WORDS: usize = 103;
 
@@ -33,6 +33,16 @@ pub struct Place {
     pub channel: u16,
     /// Its number in the channel, counted from 1.
     pub in_channel: u64,
+}
+
+/// Writes the line with the names of the columns, which stands in front of the first message.
+pub fn write_columns<W: Write>(line: &mut Line, out: &mut W) -> io::Result<()> {
+    line.hand_on(out)?;
+    line.put(FIRST_COLUMNS);
+    line.pad_to(REPLIES);
+    line.put(OTHER_COLUMNS);
+    line.end_line();
+    Ok(())
 }
 
 /// Writes a message as people read it, on one line: its number, its time in seconds, its channel, its number there, the
@@ -91,6 +101,13 @@ fn put_raw(line: &mut Line, seen: &Seen<'_>) {
     line.put_word(seen.gaps);
 }
 
+/// The bytes of the words from a place up to another, as far as there are any.
+fn between(words: &[u8], from: usize, to: usize) -> &[u8] {
+    let end = to.saturating_mul(2).min(words.len());
+    let begin = from.saturating_mul(2).min(end);
+    &words[begin..end]
+}
+
 /// Puts the words from a place up to another, and comes to the column of data words where these or names follow.
 fn put_data<W: Write>(
     line: &mut Line,
@@ -103,5 +120,5 @@ fn put_data<W: Write>(
         return Ok(());
     }
     line.fill_to(WORDS - 1);
-    line.put_words(out, seen, from, to)
+    line.put_words(out, between(seen.words, from, to))
 }

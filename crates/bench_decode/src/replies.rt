@@ -110,7 +110,6 @@ fn put_bits(line: &mut Line, status: u16) {
 
 /// Puts a gap in microseconds.
 fn put_gap(line: &mut Line, gap: u8) {
-    line.put_labelled(b" ", u64::from(gap / 10));
-    line.put_labelled(b".", u64::from(gap % 10));
-    line.put(b" us");
+    line.put_small(gap / 10);
+    line.put(&[b'.', b'0' + gap % 10, b' ', b'u', b's']);
 }

@@ -3,7 +3,7 @@ ghost use Rattle.std.specs.Prelude.{◌≡◌, ◌<◌};
 ghost use Rattle.bench_decode.specs.Times.{seconds_of, ticks_of};
 
 /// How many ticks of 0.1 µs a second has.
-const SECOND: u64 = 10_000_000;
+pub(crate) const SECOND: u64 = 10_000_000;
 
 /// A time in seconds, and in ticks of 0.1 µs behind the last whole one.
 #[derive(Clone, Copy, Debug, PartialEq, Eq)]

@@ -2,7 +2,7 @@
 
 use crate::chosen::messages_by_time;
 use crate::line::{Line, Shown};
-use crate::messages::{FIRST_COLUMNS, OTHER_COLUMNS, Place, REPLIES, write_message};
+use crate::messages::{Place, write_columns, write_message};
 use crate::numbers::Numbers;
 use bench_dump::DumpFault;
 use bench_select::Selection;
@@ -178,11 +178,7 @@ fn put_message<W: Write>(
         return put_as_dump(&mut printing.line, out, place, seen);
     }
     if printing.count == 0 {
-        printing.line.hand_on(out)?;
-        printing.line.put(FIRST_COLUMNS);
-        printing.line.pad_to(REPLIES);
-        printing.line.put(OTHER_COLUMNS);
-        printing.line.end_line();
+        write_columns(&mut printing.line, out)?;
     }
     printing.count = printing.count.saturating_add(1);
     write_message(&mut printing.line, out, place, seen)
@@ -204,7 +200,7 @@ fn put_as_dump<W: Write>(
     line.put(b" gaps");
     line.put_word(seen.gaps);
     line.put(b" words");
-    line.put_words(out, seen, 0, seen.words.len() / 2)?;
+    line.put_words(out, seen.words)?;
     line.end_line();
     Ok(())
 }

@@ -1,8 +1,11 @@
-//! What a run passes on its way: bus time at a pace of real time, and a word on which scripts have ended.
+//! What a run passes on its way: bus time at a pace of real time, a word on which scripts have ended, and messages that are shown.
 use crate::desk::Desk;
 use crate::pace::Pace;
+use crate::show::Show;
 use bench_run::Gate;
+use mil_monitor::Record;
 use std::rt::Clock;
+use std::sync::Wait;
 use std::time::Duration;
 
 /// A gate that holds a channel before each message until real time has come to the tick at which that message may start, at a pace
@@ -55,6 +58,10 @@ impl<G: Gate, C: Clock + Sync> Gate for PacedGate<'_, G, C> {
         self.gate.after_offer(channel, number, kept);
     }
 
+    fn on_message(&self, channel: u16, number: u32, record: &Record) {
+        self.gate.on_message(channel, number, record);
+    }
+
     fn after_take(&self, channel: u16, number: u32) {
         self.gate.after_take(channel, number);
     }
@@ -89,6 +96,51 @@ impl<G: Gate> Gate for LiveGate<'_, G> {
             self.desk.end(channel);
         }
         self.gate.after_offer(channel, number, kept);
+    }
+
+    fn on_message(&self, channel: u16, number: u32, record: &Record) {
+        self.gate.on_message(channel, number, record);
+    }
+
+    fn after_take(&self, channel: u16, number: u32) {
+        self.gate.after_take(channel, number);
+    }
+}
+
+/// A gate that hands each message that the writer took to what shows it, if anything does. It stands around another gate, and holds
+/// nothing of its own.
+#[derive(Drop)]
+pub struct ShowGate<'a, G, R> {
+    gate: &'a G,
+    rt: &'a R,
+    show: Option<&'a Show>,
+}
+
+impl<'a, G, R> ShowGate<'a, G, R> {
+    /// The gate of a run whose messages are shown there.
+    pub fn around(gate: &'a G, rt: &'a R, show: Option<&'a Show>) -> ShowGate<'a, G, R> {
+        ShowGate { gate, rt, show }
+    }
+}
+
+impl<G: Gate, R: Wait + Sync> Gate for ShowGate<'_, G, R> {
+    fn before_tick(&self, channel: u16, tick: u64) {
+        self.gate.before_tick(channel, tick);
+    }
+
+    fn before_message(&self, channel: u16, number: u32) {
+        self.gate.before_message(channel, number);
+    }
+
+    fn after_offer(&self, channel: u16, number: u32, kept: bool) {
+        self.gate.after_offer(channel, number, kept);
+    }
+
+    fn on_message(&self, channel: u16, number: u32, record: &Record) {
+        if let Some(show) = self.show {
+            show.take(self.rt, channel, number, record);
+        }
+        self.gate.on_message(channel, number, record);
     }
 
     fn after_take(&self, channel: u16, number: u32) {

@@ -1,5 +1,5 @@
-//! A run that a person or a shell drives: lines of actions posted while it goes on, and bus time at a pace of real time.
-//! Its tests are in `run_tests`.
+//! A run that a person or a shell drives: lines of actions posted while it goes on, bus time at a pace of real time, and messages that
+//! are shown as they are recorded. Its tests are in `live_tests`.
 #![tactic(auto)]
 
 mod desk;
@@ -8,11 +8,13 @@ mod line;
 mod live;
 mod pace;
 mod posting;
+mod show;
 mod telling;
 
 pub use desk::{Desk, Hand, open_desk};
-pub use gates::{LiveGate, PacedGate};
+pub use gates::{LiveGate, PacedGate, ShowGate};
 pub use line::{LivePost, read_post};
-pub use live::{record_live, record_paced, start_host};
+pub use live::{Manner, record_live, record_paced, start_host};
 pub use pace::Pace;
 pub use posting::{PostFault, Told, next_fault};
+pub use show::{Show, Showing, show_all};

@@ -6,8 +6,9 @@ ghost use Rattle.bench_run.specs.Live.{AreInboxesOf, HaveMail, RanLive, LeavesLi
 ghost use Rattle.bench_live.specs.Posting.{AreHandsOf};
 
 use crate::desk::{Desk, Hand};
-use crate::gates::{LiveGate, PacedGate};
+use crate::gates::{LiveGate, PacedGate, ShowGate};
 use crate::pace::Pace;
+use crate::show::Show;
 use crate::telling::post_all;
 use bench_core::Settings;
 use bench_record::Progress;
@@ -22,8 +23,17 @@ use std::sync::{Arc, Wait};
 use std::thread;
 use std::thread::Threads;
 
-/// Runs the jobs as `run` does, with bus time at a pace of real time and with buses that are held unless messages may be refused; how
-/// far the recording has come is shown as by `Progress`. It answers and refuses as `run` does.
+/// How a run goes on.
+#[derive(Clone, Copy, Debug)]
+pub struct Manner {
+    /// Whether messages may be refused by a full queue: else buses are held.
+    pub drops: bool,
+    /// How bus time goes with real time; as fast as it can where there is none.
+    pub pace: Option<Pace>,
+}
+
+/// Runs the jobs as `run` does, in a manner; how far the recording has come is shown as by `Progress`, and its messages where there is
+/// something that shows them. It answers and refuses as `run` does.
 pub fn record_paced<
     R: Threads + Wait + Clock + Sync,
     E: Eprint + IsTerminal + Sync,
@@ -34,8 +44,8 @@ pub fn record_paced<
     errors: &E,
     jobs: &[Job],
     settings: &Settings,
-    drops: bool,
-    pace: Pace,
+    manner: Manner,
+    show: Option<&Show>,
     sink: S,
 ) -> Result<(Report, S), RunError<S>>
     requires countable { S.failures sink < 2 ^ 64 - 1 }
@@ -45,14 +55,15 @@ pub fn record_paced<
     ensures refused { IfErr result (Leaves S.taken S.failures jobs.now settings.now sink) }
 {
     let progress = Progress::begin(rt, errors);
-    if drops {
-        let paced = PacedGate::around(&progress, rt, Some(pace));
+    let shown = ShowGate::around(&progress, rt, show);
+    if manner.drops {
+        let paced = PacedGate::around(&shown, rt, manner.pace);
         let answer = run(rt, alloc, jobs, settings, &paced, sink);
         progress.end();
         return answer;
     }
-    let held = HoldingGate::around(&progress, settings.queue);
-    let paced = PacedGate::around(&held, rt, Some(pace));
+    let held = HoldingGate::around(&shown, settings.queue);
+    let paced = PacedGate::around(&held, rt, manner.pace);
     let answer = run(rt, alloc, jobs, settings, &paced, sink);
     progress.end();
     answer
@@ -89,16 +100,16 @@ pub fn start_host<
     }
 }
 
-/// Runs the jobs as `run_live` does with the mailboxes of a desk, with bus time at a pace of real time and with buses that are held
-/// unless messages may be refused; the desk is told which scripts have ended. It answers and refuses as `run_live` does.
+/// Runs the jobs as `run_live` does with the mailboxes of a desk, in a manner; the desk is told which scripts have ended. It answers
+/// and refuses as `run_live` does.
 pub fn record_live<R: Threads + Wait + Clock + Sync, E: Eprint + IsTerminal + Sync, S: Sink + Drop>(
     rt: &R,
     alloc: Global,
     errors: &E,
     jobs: &[Job],
     settings: &Settings,
-    drops: bool,
-    pace: Pace,
+    manner: Manner,
+    show: Option<&Show>,
     desk: &Desk,
     inboxes: Vec<Inbox>,
     sink: S,
@@ -114,9 +125,10 @@ pub fn record_live<R: Threads + Wait + Clock + Sync, E: Eprint + IsTerminal + Sy
     ensures back { IfErr result (λ e. AreInboxesOf desk.now.boxes.items e.inboxes.items) }
 {
     let progress = Progress::begin(rt, errors);
-    let live = LiveGate::around(&progress, desk);
-    if drops {
-        let paced = PacedGate::around(&live, rt, Some(pace));
+    let shown = ShowGate::around(&progress, rt, show);
+    let live = LiveGate::around(&shown, desk);
+    if manner.drops {
+        let paced = PacedGate::around(&live, rt, manner.pace);
         let answer = run_live(
             rt,
             alloc,
@@ -131,7 +143,7 @@ pub fn record_live<R: Threads + Wait + Clock + Sync, E: Eprint + IsTerminal + Sy
         return answer;
     }
     let held = HoldingGate::around(&live, settings.queue);
-    let paced = PacedGate::around(&held, rt, Some(pace));
+    let paced = PacedGate::around(&held, rt, manner.pace);
     let answer = run_live(
         rt,
         alloc,
