@@ -35,13 +35,16 @@ pub enum Shown {
 
 /// How many digits a number has, or 8 where it has more.
 fn digits_in(number: u64) -> usize {
-    let mut digits = 1;
-    for least in [10, 100, 1000, 10_000, 100_000, 1_000_000, 10_000_000] {
-        if number >= least {
-            digits += 1;
-        }
+    match number {
+        0..=9 => 1,
+        10..=99 => 2,
+        100..=999 => 3,
+        1000..=9999 => 4,
+        10_000..=99_999 => 5,
+        100_000..=999_999 => 6,
+        1_000_000..=9_999_999 => 7,
+        _ => 8,
     }
-    digits
 }
 
 /// Lines that wait for the writer, at most 65,536 bytes of them.
@@ -99,9 +102,7 @@ impl Line {
     fn put_spaces(&mut self, count: usize) {
         let begin = self.len;
         self.put(&SPACES);
-        if begin < self.len {
-            self.len = begin + count.min(SPACES.len());
-        }
+        self.len = self.len.min(begin.saturating_add(count));
     }
 
     /// Spaces up to a column.
@@ -201,12 +202,9 @@ impl Line {
 
     /// Bus words as they lie in a body, two bytes each with the low one first: four hexadecimal digits of each behind a space.
     pub(crate) fn put_words<W: Write>(&mut self, out: &mut W, words: &[u8]) -> io::Result<()> {
-        let mut rest = words;
-        'pieces: while rest.len() > 0 {
+        'pieces: for piece in words.chunks(PIECE) {
             self.hand_on(out)?;
-            let (piece, behind) = rest.split_at(rest.len().min(PIECE));
             self.put_piece(piece);
-            rest = behind;
         }
         Ok(())
     }
