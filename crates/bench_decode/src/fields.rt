@@ -5,25 +5,25 @@ use crate::line::Line;
 use crate::modes::mode_name;
 use ch11_layout::is_set;
 
-/// Puts a word and the numbers behind it.
-fn put_words(line: &mut Line, word: &[u8], numbers: &[u8]) {
-    line.put(word);
+/// Puts numbers, each behind a space.
+fn put_numbers<const N: usize>(line: &mut Line, numbers: [u8; N]) {
     for number in numbers {
-        line.put_small(*number);
+        line.put_small(number);
     }
 }
 
-/// Puts a mode command: its word, that of subaddress 0 with a 0 behind it, its numbers, and what it asks.
-fn put_mode(
+/// Puts what stands behind the word of a mode command: a 0 where the subaddress is 0, its numbers, and what it asks.
+fn put_mode<const N: usize>(
     line: &mut Line,
-    word: &[u8],
     subaddress: u8,
-    numbers: &[u8],
+    numbers: [u8; N],
     transmit: bool,
     code: u8,
 ) {
-    line.put(word);
-    put_words(line, if subaddress == 0 { b"0" } else { b"" }, numbers);
+    if subaddress == 0 {
+        line.put(b"0");
+    }
+    put_numbers(line, numbers);
     line.put(b" ");
     line.put(mode_name(transmit, code));
 }
@@ -35,52 +35,79 @@ pub(crate) fn put_form(line: &mut Line, form: Form) {
             address,
             subaddress,
             count,
-        } => put_words(line, b"rx", &[address, subaddress, count]),
+        } => {
+            line.put(b"rx");
+            put_numbers(line, [address, subaddress, count]);
+        }
         Form::Transmit {
             address,
             subaddress,
             count,
-        } => put_words(line, b"tx", &[address, subaddress, count]),
+        } => {
+            line.put(b"tx");
+            put_numbers(line, [address, subaddress, count]);
+        }
+        Form::Mode {
+            address,
+            subaddress,
+            transmit,
+            code,
+        } => {
+            line.put(b"mode");
+            put_mode(line, subaddress, [address, code], transmit, code);
+        }
+        Form::Between { .. } | Form::BetweenAll { .. } => put_transfer(line, form),
+        Form::ReceiveAll { subaddress, count } => {
+            line.put(b"brx");
+            put_numbers(line, [subaddress, count]);
+        }
+        Form::ModeAll {
+            subaddress,
+            transmit,
+            code,
+        } => {
+            line.put(b"bmode");
+            put_mode(line, subaddress, [code], transmit, code);
+        }
+        Form::Unknown => line.put(b"no known form"),
+    }
+}
+
+/// Puts a transfer of terminals.
+fn put_transfer(line: &mut Line, form: Form) {
+    match form {
         Form::Between {
             sender,
             sender_subaddress,
             receiver,
             receiver_subaddress,
             count,
-        } => put_words(
-            line,
-            b"rt",
-            &[
-                sender,
-                sender_subaddress,
-                receiver,
-                receiver_subaddress,
-                count,
-            ],
-        ),
-        Form::Mode {
-            address,
-            subaddress,
-            transmit,
-            code,
-        } => put_mode(line, b"mode", subaddress, &[address, code], transmit, code),
-        Form::ReceiveAll { subaddress, count } => put_words(line, b"brx", &[subaddress, count]),
+        } => {
+            line.put(b"rt");
+            put_numbers(
+                line,
+                [
+                    sender,
+                    sender_subaddress,
+                    receiver,
+                    receiver_subaddress,
+                    count,
+                ],
+            );
+        }
         Form::BetweenAll {
             sender,
             sender_subaddress,
             receiver_subaddress,
             count,
-        } => put_words(
-            line,
-            b"brt",
-            &[sender, sender_subaddress, receiver_subaddress, count],
-        ),
-        Form::ModeAll {
-            subaddress,
-            transmit,
-            code,
-        } => put_mode(line, b"bmode", subaddress, &[code], transmit, code),
-        Form::Unknown => line.put(b"no known form"),
+        } => {
+            line.put(b"brt");
+            put_numbers(
+                line,
+                [sender, sender_subaddress, receiver_subaddress, count],
+            );
+        }
+        _ => {}
     }
 }
 

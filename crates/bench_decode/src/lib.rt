@@ -4,6 +4,7 @@
 
 mod chosen;
 mod details;
+mod digits;
 mod fields;
 mod forms;
 mod line;

@@ -1,6 +1,7 @@
 //! Lines on their way to a writer, in columns.
 
-use crate::times::{SECOND, Time};
+use crate::digits::decimals_of;
+use crate::times::Time;
 use bench_dump::{place_bus_words, place_decimal};
 use std::alloc::{AllocError, Global};
 use std::io;
@@ -31,20 +32,6 @@ const PLAIN: &[u8] = b"\x1b[0m";
 pub enum Shown {
     Plain,
     Colored,
-}
-
-/// How many digits a number has, or 8 where it has more.
-fn digits_in(number: u64) -> usize {
-    match number {
-        0..=9 => 1,
-        10..=99 => 2,
-        100..=999 => 3,
-        1000..=9999 => 4,
-        10_000..=99_999 => 5,
-        100_000..=999_999 => 6,
-        1_000_000..=9_999_999 => 7,
-        _ => 8,
-    }
 }
 
 /// Lines that wait for the writer, at most 65,536 bytes of them.
@@ -113,8 +100,8 @@ impl Line {
 
     /// Spaces up to a column, and one at least.
     pub(crate) fn pad_to(&mut self, column: usize) {
-        self.put(b" ");
-        self.fill_to(column);
+        let used = self.len.saturating_sub(self.begin);
+        self.put_spaces(column.saturating_sub(used).max(1));
     }
 
     /// Text in red from here on, where lines are coloured.
@@ -135,9 +122,13 @@ impl Line {
         }
     }
 
-    /// A number, with spaces before it up to a width of at most 8.
+    /// A number, with spaces before it up to a width of at most 20.
     pub(crate) fn put_right(&mut self, number: u64, width: usize) {
-        self.put_spaces(width.saturating_sub(digits_in(number)));
+        let begin = self.len;
+        self.put_number(number);
+        let used = self.len.saturating_sub(begin);
+        self.len = self.len.min(begin);
+        self.put_spaces(width.saturating_sub(used));
         self.put_number(number);
     }
 
@@ -167,19 +158,9 @@ impl Line {
         self.put_number(number);
     }
 
-    /// A time in seconds with seven decimals, the whole ones at least five columns wide.
-    pub(crate) fn put_seconds(&mut self, time: Time) {
-        self.put_right(time.seconds, 5);
-        self.put_decimals(time);
-    }
-
     /// The point and the seven decimals of a time in seconds.
     pub(crate) fn put_decimals(&mut self, time: Time) {
-        let point = self.len;
-        self.put_number(SECOND + time.ticks % SECOND);
-        if point < self.bytes.len() {
-            self.bytes[point] = b'.';
-        }
+        self.put(&decimals_of(time));
     }
 
     /// A word as four hexadecimal digits behind a space.

@@ -1,5 +1,6 @@
 //! A message as a line.
 
+use crate::digits::{decimals_of, in_columns};
 use crate::fields::{has_names, put_block, put_form};
 use crate::forms::Form;
 use crate::line::Line;
@@ -23,6 +24,12 @@ const FORM: usize = 43;
 const REPLIES: usize = 77;
 
 const WORDS: usize = 103;
+
+/// The least number that has more digits than its column.
+const WIDE: u64 = 10_000_000;
+
+/// The least time in whole seconds that has more digits than its column.
+const LONG: u64 = 100_000;
 
 /// Where a message stands.
 #[derive(Clone, Copy, Debug, PartialEq, Eq)]
@@ -64,7 +71,6 @@ pub fn write_message<W: Write>(
         put_data(line, out, seen, 0, seen.words.len() / 2)?;
     } else {
         let layout = Layout::of(seen);
-        line.pad_to(FORM);
         put_form(line, form);
         line.pad_to(REPLIES);
         put_replies(line, seen, &layout);
@@ -75,22 +81,42 @@ pub fn write_message<W: Write>(
     Ok(())
 }
 
+/// The letter of the line that a message went over.
+fn letter_of(seen: &Seen<'_>) -> u8 {
+    if is_set(seen.block, 13) { b'B' } else { b'A' }
+}
+
 /// Puts the columns in front of the form.
 fn put_place(line: &mut Line, place: &Place, seen: &Seen<'_>) {
+    let time = Time::of(seen.stamp);
+    if place.number >= WIDE || place.in_channel >= WIDE || time.seconds >= LONG {
+        return put_wide_place(line, place, time, letter_of(seen));
+    }
+    line.put(&in_columns(place.number as u32)[1..]);
+    line.put(&in_columns(time.seconds as u32)[2..]);
+    line.put(&decimals_of(time));
+    line.put(&in_columns(u32::from(place.channel)));
+    line.put(&in_columns(place.in_channel as u32));
+    line.put(&[b' ', letter_of(seen), b' ', b' ', b' ', b' ']);
+}
+
+/// Puts the same of numbers that their columns may have no room for.
+fn put_wide_place(line: &mut Line, place: &Place, time: Time, letter: u8) {
     line.put_right(place.number, 7);
     line.put(b" ");
-    line.put_seconds(Time::of(seen.stamp));
+    line.put_right(time.seconds, 5);
+    line.put_decimals(time);
     line.put(b" ");
     line.put_right(u64::from(place.channel), 7);
     line.put(b" ");
     line.put_right(place.in_channel, 7);
     line.pad_to(LINE);
-    line.put(if is_set(seen.block, 13) { b"B" } else { b"A" });
+    line.put(&[letter]);
+    line.pad_to(FORM);
 }
 
 /// Puts that a message has no known form, its block status word and its gap times word.
 fn put_raw(line: &mut Line, seen: &Seen<'_>) {
-    line.pad_to(FORM);
     line.begin_red();
     put_form(line, Form::Unknown);
     line.end_red();

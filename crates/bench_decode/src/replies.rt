@@ -20,28 +20,42 @@ pub(crate) fn put_replies(line: &mut Line, seen: &Seen<'_>, layout: &Layout) {
     let back = back_of(seen, layout, between);
     let first_told = front.is_some() || back.is_some() && !between;
     let second_told = back.is_some() && between;
-    let mut behind: &[u8] = b"";
-    for reply in [front, back] {
-        if let Some(reply) = reply {
-            line.put(behind);
-            put_reply(line, reply);
-            behind = b", ";
-        }
+    let mut any = false;
+    if let Some(reply) = front {
+        put_reply(line, reply);
+        any = true;
     }
-    for (told, gap) in [
-        (first_told, first_gap(seen)),
-        (second_told, second_gap(seen)),
-    ] {
-        if !told && gap != 0 {
-            line.put(behind);
-            line.put(b"no status word");
-            put_gap(line, gap);
-            behind = b", ";
-        }
+    if let Some(reply) = back {
+        part(line, any);
+        put_reply(line, reply);
+        any = true;
     }
-    if behind.is_empty() {
+    let (first, second) = (first_gap(seen), second_gap(seen));
+    if !first_told && first != 0 {
+        put_missing(line, any, first);
+        any = true;
+    }
+    if !second_told && second != 0 {
+        put_missing(line, any, second);
+        any = true;
+    }
+    if !any {
         line.put(b"-");
     }
+}
+
+/// Parts what follows from what stands there, if anything does.
+fn part(line: &mut Line, any: bool) {
+    if any {
+        line.put(b", ");
+    }
+}
+
+/// Puts a gap behind which no status word stands, parted from what stands there.
+fn put_missing(line: &mut Line, any: bool, gap: u8) {
+    part(line, any);
+    line.put(b"no status word");
+    put_gap(line, gap);
 }
 
 /// The status word in front of the data words, of the terminal that sends them.
@@ -110,6 +124,11 @@ fn put_bits(line: &mut Line, status: u16) {
 
 /// Puts a gap in microseconds.
 fn put_gap(line: &mut Line, gap: u8) {
-    line.put_small(gap / 10);
-    line.put(&[b'.', b'0' + gap % 10, b' ', b'u', b's']);
+    let (whole, tenth) = (gap / 10, b'0' + gap % 10);
+    if whole < 10 {
+        line.put(&[b' ', b'0' + whole, b'.', tenth, b' ', b'u', b's']);
+    } else {
+        line.put_small(whole);
+        line.put(&[b'.', tenth, b' ', b'u', b's']);
+    }
 }
