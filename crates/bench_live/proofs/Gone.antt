@@ -121,9 +121,9 @@ refused : (desk : Desk) (line : Text) (hands : List Hand) (box : Mailbox) (h h' 
     → LeavesHand box h h' post f → IsFault desk hands line f
 refused desk line hands box h h' post (fault.Line bad) asks at at' leaves = absurd leaves.1
 refused desk line hands box h h' post (fault.NoChannel channel) asks at at' leaves = absurd leaves.1
-refused desk line hands box h h' post fault.NoTerminal asks at at' leaves = (post, asks, box, h, at, at', leaves.1)
-refused desk line hands box h h' post (fault.Spent channel) asks at at' leaves = (post, asks, box, h, at, at', leaves.1)
-refused desk line hands box h h' post (fault.Ended channel) asks at at' leaves = (post, asks, box, h, at, at', leaves.1)
+refused desk line hands box h h' post fault.NoTerminal asks at at' leaves = (post, asks, (box, h, at, at', leaves.1))
+refused desk line hands box h h' post (fault.Spent channel) asks at at' leaves = (post, asks, (box, h, at, at', leaves.1))
+refused desk line hands box h h' post (fault.Ended channel) asks at at' leaves = (post, asks, (box, h, at, at', leaves.1))
 
 -- what became of a line that asks for a post to a channel that there is
 pub line_done : (desk : Desk) (line : Text) (hands : List Hand) (i : ℕ) (box : Mailbox) (h h' : Hand) (post : LivePost) (r : Result ⊤ PostFault) → post_of line ≡ Ok post
