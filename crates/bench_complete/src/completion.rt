@@ -118,7 +118,7 @@ impl<'a> Completion<'a> {
     }
 
     /// Reads a recording and judges what is to be added to it. The size of a setup text is judged first, then the recording, then the
-    /// usage faults that hang on it. Memory is answered only where the recording can be read.
+    /// usage faults that hang on it. Memory is answered only where that size is right and the recording can be read.
     pub fn plan(
         alloc: Global,
         file: &'a [u8],
@@ -136,7 +136,8 @@ impl<'a> Completion<'a> {
         }
     }
 
-    /// The same for whatever is sound in a recording, with the bytes that were skipped. No recording is refused.
+    /// The same for whatever is sound in a recording, with the bytes that were skipped. No recording is refused for a fault of its own,
+    /// and the faults that hang on it are those of the packets that are sound.
     pub fn plan_skipping(
         alloc: Global,
         file: &'a [u8],
@@ -161,7 +162,8 @@ impl<'a> Completion<'a> {
         }
     }
 
-    /// Writes the complete file: the setup record, and behind it all packets, merged.
+    /// Writes the complete file: the setup record, and behind it all packets, merged. Where it fails, it answers Memory or Device, and
+    /// the writer may have got some of the file.
     pub fn write<W: Write>(&self, alloc: Global, out: &mut W) -> Result<(), CompleteFault>
         ensures written { OnOk result (Completes self.now (W.contents out.old) (W.contents out.new)) }
         ensures stopped { IfErr result StopsWriting }
@@ -178,7 +180,7 @@ impl<'a> Completion<'a> {
     }
 }
 
-/// Completes a recording.
+/// Completes a recording: a fault of `Completion::plan`, and where it plans, one of `Completion::write`.
 pub fn complete<W: Write>(
     alloc: Global,
     file: &[u8],
