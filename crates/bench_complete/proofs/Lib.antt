@@ -12,3 +12,4 @@ pub mod Again
 pub mod Added
 pub mod Readable
 pub mod Written
+pub mod Spelled

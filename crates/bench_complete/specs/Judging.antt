@@ -1,5 +1,5 @@
 -- What is refused (own choice).
-use Rattle.std.specs.Prelude.{◌≡◌, ℕ, ◌+◌, ◌-◌, ◌/◌, ◌<◌, ◌≤◌, ◌^◌, ◌++◌, drop, ◌==◌, ◌&&◌, Bool, true, false, nat_lt, is_some, if◌then◌else◌, List, [], length, Option, None, Some, option_map, Result, Ok, Err}
+use Rattle.std.specs.Prelude.{◌≡◌, ◌⊎◌, ℕ, ◌+◌, ◌-◌, ◌/◌, ◌<◌, ◌≤◌, ◌^◌, ◌++◌, drop, ◌==◌, ◌&&◌, Bool, true, false, nat_lt, is_some, if◌then◌else◌, List, [], length, Option, None, Some, option_map, Result, Ok, Err}
 use Rattle.std.specs.List.{list_any, AllByRecursion}
 use Rattle.ch11_reader.specs.declared.fault.Refusal.{Refusal}
 use Rattle.ch11_reader.specs.declared.packet.Packet.{Packet}
@@ -60,16 +60,29 @@ abbrev pub judged : List ℕ → Result (List Found) Refusal → Additions → R
 judged file read a =
     if is_setup (option_map (λ text. text.now) a.setup) then judged_recording file read a else Err faults.SetupSize
 
--- what judging answers: a plan, or the first fault; want of memory only for a recording that can be read
+-- what each refusal of judging says: it is the first fault; want of memory only where the size of the setup text is right and the
+-- recording can be read
+abbrev pub Refuses : List ℕ → Result (List Found) Refusal → Additions → CompleteFault → Type 0
+Refuses file read a faults.Memory = (is_setup (option_map (λ text. text.now) a.setup) ≡ true) × (read ≡ Ok (found_or_none read))
+Refuses file read a faults.SetupSize = judged file read a ≡ Err faults.SetupSize
+Refuses file read a (faults.Refused r) = judged file read a ≡ Err (faults.Refused r)
+Refuses file read a faults.SetupTwice = judged file read a ≡ Err faults.SetupTwice
+Refuses file read a faults.ChannelTaken = judged file read a ≡ Err faults.ChannelTaken
+Refuses file read a faults.TooLong = judged file read a ≡ Err faults.TooLong
+Refuses file read a faults.Device = ⊥
+
+-- what judging answers: a plan, or a refusal
 abbrev pub Answers : List ℕ → Result (List Found) Refusal → Additions → Result Plan CompleteFault → Type 0
 Answers file read a (Ok c) = (ps : List Found) × (judged file read a ≡ Ok ps) × (c ≡ plan_for file ps a)
-Answers file read a (Err faults.Memory) = read ≡ Ok (found_or_none read)
-Answers file read a (Err faults.SetupSize) = judged file read a ≡ Err faults.SetupSize
-Answers file read a (Err (faults.Refused r)) = judged file read a ≡ Err (faults.Refused r)
-Answers file read a (Err faults.SetupTwice) = judged file read a ≡ Err faults.SetupTwice
-Answers file read a (Err faults.ChannelTaken) = judged file read a ≡ Err faults.ChannelTaken
-Answers file read a (Err faults.TooLong) = judged file read a ≡ Err faults.TooLong
-Answers file read a (Err faults.Device) = ⊥
+Answers file read a (Err f) = Refuses file read a f
+
+-- what stops the writing of a file: want of memory, or the writer
+abbrev pub StopsWriting : CompleteFault → Type 0
+StopsWriting f = (f ≡ faults.Memory) ⊎ (f ≡ faults.Device)
+
+-- what completing a recording fails with: a refusal of judging; or where nothing is refused, what stops the writing
+abbrev pub Fails : List ℕ → Result (List Found) Refusal → Additions → CompleteFault → Type 0
+Fails file read a f = Refuses file read a f ⊎ ((judged file read a ≡ Ok (found_or_none read)) × StopsWriting f)
 
 -- a packet of a file: it reads as this at its offset
 pub record ReadsAt (file : List ℕ) (p : Found) : Type 0 where

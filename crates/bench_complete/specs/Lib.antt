@@ -6,3 +6,4 @@ pub mod Complete
 pub mod Judging
 pub mod Lanes
 pub mod Laws
+pub mod UtcText

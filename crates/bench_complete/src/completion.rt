@@ -1,9 +1,9 @@
 //! A recording that was judged, and the complete file of it.
-ghost use Rattle.std.specs.Prelude.{◌≡◌, ◌≤◌, true, option_map, OnOk, IfOk, MatchResult, None, Some};
+ghost use Rattle.std.specs.Prelude.{◌≡◌, ◌≤◌, true, option_map, Ok, OnOk, IfOk, IfErr, MatchResult, None, Some};
 ghost use Rattle.ch11_reader.specs.Recording.{packets_in};
 ghost use Rattle.ch11_reader.specs.Skipping.{packets_read, skips_in};
 ghost use Rattle.bench_complete.specs.Complete.{Completes, low_by, plan_for, times_between};
-ghost use Rattle.bench_complete.specs.Judging.{AllReadAt, Answers, IsCompleted, is_setup, misuse};
+ghost use Rattle.bench_complete.specs.Judging.{AllReadAt, Answers, Fails, IsCompleted, Refuses, StopsWriting, is_setup, misuse};
 
 use crate::additions::Additions;
 use crate::extent::{Extent, extent_of};
@@ -118,7 +118,7 @@ impl<'a> Completion<'a> {
     }
 
     /// Reads a recording and judges what is to be added to it. The size of a setup text is judged first, then the recording, then the
-    /// usage faults that hang on it. Memory is answered only where the recording can be read.
+    /// usage faults that hang on it. Memory is answered only where that size is right and the recording can be read.
     pub fn plan(
         alloc: Global,
         file: &'a [u8],
@@ -136,7 +136,8 @@ impl<'a> Completion<'a> {
         }
     }
 
-    /// The same for whatever is sound in a recording, with the bytes that were skipped. No recording is refused.
+    /// The same for whatever is sound in a recording, with the bytes that were skipped. No recording is refused for a fault of its own,
+    /// and the faults that hang on it are those of the packets that are sound.
     pub fn plan_skipping(
         alloc: Global,
         file: &'a [u8],
@@ -145,6 +146,7 @@ impl<'a> Completion<'a> {
         ensures planned { IfOk result (λ x. x.0 ≡ plan_for file.now (packets_read file.now) additions.now) }
         ensures skipped { IfOk result (λ x. x.1.items ≡ skips_in file.now) }
         ensures judged { IfOk result (λ x. misuse file.now (packets_read file.now) additions.now ≡ None) }
+        ensures refused { IfErr result (λ f. Refuses file.now (Ok (packets_read file.now)) additions.now f) }
     {
         if !is_setup(additions.setup) {
             return Err(CompleteFault::SetupSize);
@@ -160,9 +162,11 @@ impl<'a> Completion<'a> {
         }
     }
 
-    /// Writes the complete file: the setup record, and behind it all packets, merged.
+    /// Writes the complete file: the setup record, and behind it all packets, merged. Where it fails, it answers Memory or Device, and
+    /// the writer may have got some of the file.
     pub fn write<W: Write>(&self, alloc: Global, out: &mut W) -> Result<(), CompleteFault>
-        ensures { OnOk result (Completes self.now (W.contents out.old) (W.contents out.new)) }
+        ensures written { OnOk result (Completes self.now (W.contents out.old) (W.contents out.new)) }
+        ensures stopped { IfErr result StopsWriting }
     {
         let lanes = Lanes {
             file: self.file,
@@ -176,14 +180,16 @@ impl<'a> Completion<'a> {
     }
 }
 
-/// Completes a recording.
+/// Completes a recording: a fault of `Completion::plan`, and where it plans, one of `Completion::write`.
 pub fn complete<W: Write>(
     alloc: Global,
     file: &[u8],
     additions: &Additions<'_>,
     out: &mut W,
 ) -> Result<(), CompleteFault>
-    ensures { OnOk result (IsCompleted file.now (packets_in file.now) additions.now (W.contents out.old) (W.contents out.new)) }
+    ensures completed { OnOk result (IsCompleted file.now (packets_in file.now) additions.now (W.contents out.old)
+        (W.contents out.new)) }
+    ensures failed { IfErr result (Fails file.now (packets_in file.now) additions.now) }
 {
     let completion = Completion::plan(alloc, file, additions)?;
     completion.write(alloc, out)

@@ -1,4 +1,7 @@
 //! Why a recording was not completed.
+ghost use Rattle.std.specs.Prelude.{◌≡◌};
+ghost use Rattle.bench_complete.specs.declared.fault.CompleteFault.TheVariants.{Device, Memory};
+
 use ch11_reader::Refusal;
 use std::alloc::{AllocError, AllocFailed};
 use std::io;
@@ -29,18 +32,24 @@ pub enum CompleteFault {
 }
 
 impl From<AllocError> for CompleteFault {
+    ghost from_gives = { λ _ e. e ≡ Memory };
+
     fn from(_: AllocError) -> CompleteFault {
         CompleteFault::Memory
     }
 }
 
 impl<T: Drop> From<AllocFailed<T>> for CompleteFault {
+    ghost from_gives = { λ _ e. e ≡ Memory };
+
     fn from(_: AllocFailed<T>) -> CompleteFault {
         CompleteFault::Memory
     }
 }
 
 impl From<io::Error> for CompleteFault {
+    ghost from_gives = { λ _ e. e ≡ Device };
+
     fn from(_: io::Error) -> CompleteFault {
         CompleteFault::Device
     }

@@ -1,5 +1,5 @@
 //! The packets that are merged, channel by channel.
-ghost use Rattle.std.specs.Prelude.{◌≡◌, ◌<◌, ◌≤◌, List, [], ◌∷◌, length, IfOk, OnOk, MatchOption};
+ghost use Rattle.std.specs.Prelude.{◌≡◌, ◌<◌, ◌≤◌, List, [], ◌∷◌, length, IfOk, IfErr, OnOk, MatchOption};
 ghost use Rattle.std.specs.BinaryHeap.{IsHeap, KeepsHeap, heap_items};
 ghost use Rattle.std.specs.Io.KnownBytes.{Appends};
 ghost use Rattle.bench_complete.specs.Pieces.{Piece, kept_entries};
@@ -111,8 +111,9 @@ impl<'a> Lanes<'a> {
         requires small { spec.IsSmall self.now.times }
         requires within { spec.AreInFile self.now.file.now self.now.packets.now }
         requires stands { (rest : List Piece) × spec.Stands self.now.file.now self.now.packets.now self.now.times head.now rest }
-        ensures { OnOk result ((p : Piece) (ps : List Piece) → spec.Stands self.now.file.now self.now.packets.now self.now.times head.now (p ∷ ps)
+        ensures written { OnOk result ((p : Piece) (ps : List Piece) → spec.Stands self.now.file.now self.now.packets.now self.now.times head.now (p ∷ ps)
             → Appends (W.contents out.old) (W.contents out.new) p.bytes) }
+        ensures stopped { IfErr result (λ f. f ≡ CompleteFault.Device) }
     {
         match head.source {
             Source::Recorded(place) => {

@@ -1,7 +1,8 @@
 //! The merge of all channels.
-ghost use Rattle.std.specs.Prelude.{OnOk};
+ghost use Rattle.std.specs.Prelude.{OnOk, IfErr};
 ghost use Rattle.std.specs.BinaryHeap.{IsHeap, heap_items};
 ghost use Rattle.bench_complete.specs.Merging.{of_channel};
+ghost use Rattle.bench_complete.specs.Judging.{StopsWriting};
 ghost use Rattle.bench_complete.specs.Lanes.{AreHeads, AreInFile, AreLinked, IsSmall, Merges, head_cmp, parts_of};
 
 use crate::fault::CompleteFault;
@@ -24,7 +25,8 @@ pub(crate) fn merge<W: Write>(
     requires heads { AreHeads lanes.now.file.now lanes.now.packets.now lanes.now.times (heap_items heads)
         (λ channel. of_channel channel (parts_of lanes.now.file.now lanes.now.packets.now lanes.now.times)) }
     requires heap { IsHeap head_cmp (heap_items heads) }
-    ensures { OnOk result (Merges (parts_of lanes.now.file.now lanes.now.packets.now lanes.now.times) (W.contents out.old) (W.contents out.new)) }
+    ensures written { OnOk result (Merges (parts_of lanes.now.file.now lanes.now.packets.now lanes.now.times) (W.contents out.old) (W.contents out.new)) }
+    ensures stopped { IfErr result StopsWriting }
 {
     'packets: while let Some(head) = heads.pop() {
         lanes.write(&head, out)?;

@@ -1,5 +1,5 @@
 //! The setup record in front of a file (IRIG 106-17 Chapter 11, computer generated data packets, Format 1).
-ghost use Rattle.std.specs.Prelude.{◌≡◌, ◌<◌, ◌≤◌, ◌^◌, length, option_map, true, OnOk};
+ghost use Rattle.std.specs.Prelude.{◌≡◌, ◌<◌, ◌≤◌, ◌^◌, length, option_map, true, OnOk, IfErr};
 ghost use Rattle.std.specs.Io.KnownBytes.{Appends};
 ghost use Rattle.bench_complete.specs.Pieces.{bytes_of};
 ghost use Rattle.bench_complete.specs.Complete.{front_of};
@@ -54,7 +54,8 @@ pub(crate) fn write_setup<W: Write>(
 ) -> Result<(), CompleteFault>
     requires size { length text.now ≤ 524000 }
     requires counter { counter < 2 ^ 48 }
-    ensures { OnOk result (Appends (W.contents out.old) (W.contents out.new) (setup_piece version counter text.now).bytes) }
+    ensures written { OnOk result (Appends (W.contents out.old) (W.contents out.new) (setup_piece version counter text.now).bytes) }
+    ensures stopped { IfErr result (λ f. f ≡ CompleteFault.Device) }
 {
     let filler = filler_for(text.len() + 4);
     out.write_all(&write_header(&header_of(version, counter, text.len())))?;
@@ -73,7 +74,8 @@ pub(crate) fn write_front<W: Write>(
 ) -> Result<(), CompleteFault>
     requires size { is_setup (option_map (λ text. text.now) text) ≡ true }
     requires counter { counter < 2 ^ 48 }
-    ensures { OnOk result (Appends (W.contents out.old) (W.contents out.new) (bytes_of (front_of (option_map (λ text. text.now) text.entry) version counter))) }
+    ensures written { OnOk result (Appends (W.contents out.old) (W.contents out.new) (bytes_of (front_of (option_map (λ text. text.now) text.entry) version counter))) }
+    ensures stopped { IfErr result (λ f. f ≡ CompleteFault.Device) }
 {
     match text {
         None => Ok(()),

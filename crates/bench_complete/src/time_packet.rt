@@ -1,5 +1,5 @@
 //! A time packet (IRIG 106-17 Chapter 11, time data packets, Format 1).
-ghost use Rattle.std.specs.Prelude.{◌≡◌, ◌<◌, ◌≤◌, OnOk};
+ghost use Rattle.std.specs.Prelude.{◌≡◌, ◌<◌, ◌≤◌, OnOk, IfErr};
 ghost use Rattle.std.specs.Io.KnownBytes.{Appends};
 ghost use Rattle.bench_complete.specs.TimePackets.{time_header, time_piece};
 ghost use Rattle.bench_complete.specs.Lanes.{IsSmall};
@@ -40,7 +40,8 @@ pub(crate) fn write_time<W: Write>(
     requires small { IsSmall times.now }
     requires first { times.now.first ≤ second }
     requires within { second < times.now.end }
-    ensures { OnOk result (Appends (W.contents out.old) (W.contents out.new) (time_piece times.now second).bytes) }
+    ensures written { OnOk result (Appends (W.contents out.old) (W.contents out.new) (time_piece times.now second).bytes) }
+    ensures stopped { IfErr result (λ f. f ≡ CompleteFault.Device) }
 {
     let header = write_header(&header_of(times, second));
     let body = body_of(times.start + second);

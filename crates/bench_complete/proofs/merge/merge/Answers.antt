@@ -21,7 +21,7 @@ packets-smaller g c =
 pub packets-preserved : goal.packets-preserved
 packets-preserved g c =
     merges_on c.args.lanes.now.file.now c.args.lanes.now.packets.now c.args.lanes.now.times (heap_items c.packets.heads) (heap_items c.pop.new.self) (heap_items c.push_some.new.heads) c.in-Some.head _ _ _ c.behind.result
-    c.packets.invariant c.in-Some.ensures.permutation c.in-Some.ensures.heap_order c.in_ok-write.ensures c.behind.ensures c.in_ok-push_some.ensures.pushed c.in_ok-push_some.ensures.heap
+    c.packets.invariant c.in-Some.ensures.permutation c.in-Some.ensures.heap_order c.in_ok-write.ensures.written c.behind.ensures c.in_ok-push_some.ensures.pushed c.in_ok-push_some.ensures.heap
 
-pub returns : goal.returns
-returns g c = merged c.args.lanes.now.file.now c.args.lanes.now.packets.now c.args.lanes.now.times (heap_items c.packets.heads) _ _ (omega (arith, c.in_default.ensures.none, c.packets.heads.data.ok.0)) c.packets.invariant
+pub returns-clause-written : goal.returns-clause-written
+returns-clause-written g c = merged c.args.lanes.now.file.now c.args.lanes.now.packets.now c.args.lanes.now.times (heap_items c.packets.heads) _ _ (omega (arith, c.in_default.ensures.none, c.packets.heads.data.ok.0)) c.packets.invariant

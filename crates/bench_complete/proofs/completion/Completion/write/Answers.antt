@@ -19,12 +19,12 @@ pub merge-requires-clause-within : goal.merge-requires-clause-within
 merge-requires-clause-within g c =
     subst (AreInFile c.self.inside.file.now) (sym c.packets.ensures.listed) (in_file c.self.inside.file.now [] c.self.inside.index c.self.invariant.sound)
 
-pub returns : goal.returns
-returns g c =
+pub returns-clause-written : goal.returns-clause-written
+returns-clause-written g c =
     let same : kept_entries c.self.inside.file.now c.packets.result.now ≡ kept c.self.inside.file.now c.self.inside.index =
     ap (kept_entries c.self.inside.file.now) c.packets.ensures.listed ∙ kept_is c.self.inside.file.now [] c.self.inside.index in
     subst (λ (plan : Plan). OnOk c.merge.result (Completes plan (g.W.Write.contents c.args.out.now) (g.W.Write.contents c.merge.new.out))) c.self.view_is
     (completed_if (option_map (λ text. text.now) c.self.inside.setup) c.self.inside.times.version c.self.inside.low (times_in c.self.inside.times ++ kept c.self.inside.file.now c.self.inside.index)
     (times_in c.self.inside.times ++ kept_entries c.self.inside.file.now c.packets.result.now)
     (g.W.Write.contents c.args.out.now) (g.W.Write.contents c.write_front.new.out) (g.W.Write.contents c.merge.new.out) c.merge.result
-    c.self.invariant.lowest (ap (λ (l : List Piece). times_in c.self.inside.times ++ l) same) c.in_ok-write_front.ensures c.merge.ensures)
+    c.self.invariant.lowest (ap (λ (l : List Piece). times_in c.self.inside.times ++ l) same) c.in_ok-write_front.ensures.written c.merge.ensures.written)
