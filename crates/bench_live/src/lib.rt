@@ -12,7 +12,7 @@ mod show;
 mod telling;
 
 pub use desk::{Desk, Hand, open_desk};
-pub use gates::{LiveGate, PacedGate, ShowGate};
+pub use gates::SessionGate;
 pub use line::{LivePost, read_post};
 pub use live::{Manner, record_live, record_paced, start_host};
 pub use pace::Pace;

@@ -6,7 +6,7 @@ ghost use Rattle.bench_run.specs.Live.{AreInboxesOf, HaveMail, RanLive, LeavesLi
 ghost use Rattle.bench_live.specs.Posting.{AreHandsOf};
 
 use crate::desk::{Desk, Hand};
-use crate::gates::{LiveGate, PacedGate, ShowGate};
+use crate::gates::SessionGate;
 use crate::pace::Pace;
 use crate::show::Show;
 use crate::telling::post_all;
@@ -32,20 +32,29 @@ pub struct Manner {
     pub pace: Option<Pace>,
 }
 
+impl Manner {
+    /// How many items may be on their way to the writer: as many as the queue holds, or more than a run has where messages may be
+    /// refused.
+    fn most(self, settings: &Settings) -> u32 {
+        if self.drops { u32::MAX } else { settings.queue }
+    }
+}
+
 /// Runs the jobs as `run` does, in a manner; how far the recording has come is shown as by `Progress`, and its messages where there is
 /// something that shows them. It answers and refuses as `run` does.
 pub fn record_paced<
+    's,
     R: Threads + Wait + Clock + Sync,
     E: Eprint + IsTerminal + Sync,
     S: Sink + Drop,
 >(
-    rt: &R,
+    rt: &'s R,
     alloc: Global,
-    errors: &E,
+    errors: &'s E,
     jobs: &[Job],
     settings: &Settings,
     manner: Manner,
-    show: Option<&Show>,
+    show: Option<&'s Show>,
     sink: S,
 ) -> Result<(Report, S), RunError<S>>
     requires countable { S.failures sink < 2 ^ 64 - 1 }
@@ -55,16 +64,9 @@ pub fn record_paced<
     ensures refused { IfErr result (Leaves S.taken S.failures jobs.now settings.now sink) }
 {
     let progress = Progress::begin(rt, errors);
-    let shown = ShowGate::around(&progress, rt, show);
-    if manner.drops {
-        let paced = PacedGate::around(&shown, rt, manner.pace);
-        let answer = run(rt, alloc, jobs, settings, &paced, sink);
-        progress.end();
-        return answer;
-    }
-    let held = HoldingGate::around(&shown, settings.queue);
-    let paced = PacedGate::around(&held, rt, manner.pace);
-    let answer = run(rt, alloc, jobs, settings, &paced, sink);
+    let session = SessionGate::around(&progress, rt, rt, manner.pace, None, show);
+    let held = HoldingGate::around(&session, manner.most(settings));
+    let answer = run(rt, alloc, jobs, settings, &held, sink);
     progress.end();
     answer
 }
@@ -102,15 +104,20 @@ pub fn start_host<
 
 /// Runs the jobs as `run_live` does with the mailboxes of a desk, in a manner; the desk is told which scripts have ended. It answers
 /// and refuses as `run_live` does.
-pub fn record_live<R: Threads + Wait + Clock + Sync, E: Eprint + IsTerminal + Sync, S: Sink + Drop>(
-    rt: &R,
+pub fn record_live<
+    's,
+    R: Threads + Wait + Clock + Sync,
+    E: Eprint + IsTerminal + Sync,
+    S: Sink + Drop,
+>(
+    rt: &'s R,
     alloc: Global,
-    errors: &E,
+    errors: &'s E,
     jobs: &[Job],
     settings: &Settings,
     manner: Manner,
-    show: Option<&Show>,
-    desk: &Desk,
+    show: Option<&'s Show>,
+    desk: &'s Desk,
     inboxes: Vec<Inbox>,
     sink: S,
 ) -> Result<(Report, Vec<Inbox>, S), LiveError<S>>
@@ -125,35 +132,9 @@ pub fn record_live<R: Threads + Wait + Clock + Sync, E: Eprint + IsTerminal + Sy
     ensures back { IfErr result (λ e. AreInboxesOf desk.now.boxes.items e.inboxes.items) }
 {
     let progress = Progress::begin(rt, errors);
-    let shown = ShowGate::around(&progress, rt, show);
-    let live = LiveGate::around(&shown, desk);
-    if manner.drops {
-        let paced = PacedGate::around(&live, rt, manner.pace);
-        let answer = run_live(
-            rt,
-            alloc,
-            jobs,
-            settings,
-            &desk.boxes,
-            inboxes,
-            &paced,
-            sink,
-        );
-        progress.end();
-        return answer;
-    }
-    let held = HoldingGate::around(&live, settings.queue);
-    let paced = PacedGate::around(&held, rt, manner.pace);
-    let answer = run_live(
-        rt,
-        alloc,
-        jobs,
-        settings,
-        &desk.boxes,
-        inboxes,
-        &paced,
-        sink,
-    );
+    let session = SessionGate::around(&progress, rt, rt, manner.pace, Some(desk), show);
+    let held = HoldingGate::around(&session, manner.most(settings));
+    let answer = run_live(rt, alloc, jobs, settings, &desk.boxes, inboxes, &held, sink);
     progress.end();
     answer
 }

@@ -22,8 +22,11 @@ const PAUSE: u64 = 2;
 /// How many bytes the word takes that tells how many messages a body has.
 const COUNT: usize = 4;
 
-/// How many bytes the body of a packet with one message takes at most, which has forty words.
-const BODY: usize = COUNT + RECORD_HEAD + 2 * 40;
+/// How many words a message has at most.
+const WORDS: usize = 40;
+
+/// How many bytes the body of a packet with one message takes at most.
+const BODY: usize = COUNT + RECORD_HEAD + 2 * WORDS;
 
 /// A message that waits to be shown, as the body of a packet that has no other.
 #[derive(Clone, Copy)]
@@ -39,7 +42,7 @@ impl Waiting {
         let mut body = [0; BODY];
         body[0] = 1;
         let mut len = 0;
-        if record.stamp >> 48 == 0 {
+        if record.stamp >> 48 == 0 && record.words.len() <= WORDS {
             len = COUNT + put_record(record, &mut body[COUNT..]);
         }
         Waiting { place, body, len }

@@ -1,5 +1,5 @@
 //! Paces, and the gate that waits.
-use bench_live::{Pace, PacedGate};
+use bench_live::{Pace, SessionGate};
 use bench_run::{Gate, OpenGate};
 use std::io;
 use std::rt::Clock;
@@ -45,7 +45,8 @@ fn a_gate_waits_for_ticks(rt: HostRuntime) {
         let clock = Slept {
             milliseconds: AtomicU64::new(0),
         };
-        let gate = PacedGate::around(&OpenGate, &clock, Pace::read(text.as_bytes()));
+        let pace = Pace::read(text.as_bytes());
+        let gate = SessionGate::around(&OpenGate, &clock, &rt, pace, None, None);
         gate.before_tick(1, 20_000_000);
         assert_eq!(&rt; clock.milliseconds.load(Ordering::SeqCst), first, "{text}");
         gate.before_tick(2, 10_000_000);
