@@ -53,7 +53,7 @@ _bench() {
         one) options="--channel --version $options" ;;
         assemble) options="--force $options" ;;
         run)
-            options="--live --pace --version --limit --queue --hold --drop --force --prologue --judge --out --report $options"
+            options="--live --pace --show --version --limit --queue --hold --drop --force --prologue --judge --out --report $options"
             options="--complete --setup --time --time-channel $options"
             ;;
         check) options="--summary --decode $options" ;;

@@ -22,7 +22,9 @@ No file is written over that is read, that another run is writing, or that is of
 With --live a line `CHANNEL ADDRESS ACTION` of the standard input is an action as behind `at` in a job; it acts at the
 next message of the channel. A line that cannot be posted is told on standard error with its number, and the run goes
 on, as it does behind the end of the input. It ends with its scripts. A channel takes 65536 posts at most. With --pace
-a message waits until real time has come to the end of the one before it; nothing is promised of time.
+a message waits until real time has come to the end of the one before it; nothing is promised of time. With --show
+each message is printed as it is recorded, as dump --decode has it; where what reads that is slow messages are left
+out there, and how many were is told, but the run waits for nothing.
 
 With --judge the recording is read back behind the counts and judged by rules, as bench judge does: status 5 where
 one is not held. Recording and report are kept either way. The rules are read first: a fault of theirs costs no run.
@@ -33,7 +35,7 @@ those of `bench complete`, with the version of --version.
 
 Example:
   bench run --out flight.ch11 --report flight.report avionics.job stores.job
-  bench run --live --out flight.ch11 --report flight.report avionics.job <host.fifo
+  bench run --live --show --out flight.ch11 --report flight.report avionics.job <host.fifo
   bench run --complete --setup flight.tmats --out flight.ch10 --report flight.report avionics.job stores.job";
 
 pub(crate) fn run_command<'a>(alloc: Global) -> Result<Command<'a>, AllocError> {
