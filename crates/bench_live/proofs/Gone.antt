@@ -1,6 +1,6 @@
 -- Lines that were read and posted, one by one, and the hands of the channels.
-use Rattle.std.proofs.Common.{◌≡◌, ℕ, zero, suc, ◌+◌, ◌<◌, List, [], ◌∷◌, ◌++◌, length, map, set, length-set, Option, None, Some, IfSome, refl, sym, ap, ◌∙◌, subst, inl, inr, arith, append_assoc, append-nil}
-use Rattle.std.specs.Prelude.{◌==◌, Bool, true, false, slice_get, slice_index_or, Result, Ok, Err, OnOk, IfErr, ⊤}
+use Rattle.std.proofs.Common.{◌≡◌, ℕ, zero, suc, ◌<◌, List, [], ◌∷◌, ◌++◌, length, map, set, length-set, Option, None, Some, IfSome, refl, sym, ap, ◌∙◌, subst, inl, inr, arith, append_assoc, append-nil}
+use Rattle.std.specs.Prelude.{◌==◌, true, false, slice_get, slice_index_or, Result, Ok, Err, OnOk, IfErr, ⊤}
 use Rattle.std.specs.List.{filter, position_or_len, before_first}
 use Rattle.std.specs.Io.KnownBytes.{IsAtEnd}
 use Rattle.std.specs.Io.BufRead.{take_through, drop_through, DropsThrough}
@@ -11,17 +11,15 @@ use Rattle.std.proofs.lemmas.List.Elements.{filter-append}
 use Rattle.std.proofs.lemmas.Option.{slice_get_within}
 use Rattle.mil_host.specs.Words.{Text}
 use Rattle.bench_report.specs.Spelling.{is_line_end, text_lines}
-use Rattle.bench_report.proofs.LineLemmas.{text_lines-none}
 use Rattle.bench_run.specs.declared.mailbox.Mailbox.{Mailbox}
 use Rattle.bench_run.specs.Mail.{posted}
 use Rattle.bench_live.specs.Lines.{post_of}
-use Rattle.bench_live.specs.Posting.{IsHandOf, AreHandsOf, as_post, is_channel, is_for, posts_for, HavePosted, LeavesHand, IsFault, IsLineDone, AskFor, AreRead, HaveGone, IsCallDone}
+use Rattle.bench_live.specs.Posting.{IsHandOf, AreHandsOf, as_post, is_channel, is_for, posts_for, HavePosted, LeavesHand, IsFault, IsLineDone, AreRead, HaveGone, IsCallDone}
 use Rattle.bench_live.specs.declared.line.LivePost.{LivePost}
 use Rattle.bench_live.specs.declared.desk.Desk.{Desk}
 use Rattle.bench_live.specs.declared.desk.Hand.{Hand}
 use Rattle.bench_live.specs.declared.posting.PostFault.{PostFault}
 use Rattle.bench_live.specs.declared.posting.PostFault.TheVariants as fault
-use Rattle.bench_live.specs.declared.posting.Told.{Told}
 use Rattle.bench_live.proofs.Lines.{line_read, some_left}
 
 some_same : {X : Type 0} (x y : X) → Some x ≡ Some y → x ≡ y

@@ -1,5 +1,5 @@
 -- What is said of a line that was not posted (own choice).
-use Rattle.std.specs.Prelude.{ℕ, List, ◌++◌, codes, decimal}
+use Rattle.std.specs.Prelude.{ℕ, ◌++◌, codes, decimal}
 use Rattle.mil_host.specs.Words.{Text}
 use Rattle.mil_host.specs.Printing.{code_of}
 use Rattle.bench_live.specs.declared.posting.PostFault.{PostFault}

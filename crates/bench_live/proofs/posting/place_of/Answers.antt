@@ -1,4 +1,4 @@
-use Rattle.std.proofs.Common.{refl, sym, arith, length}
+use Rattle.std.proofs.Common.{sym, arith, length}
 use Rattle.std.proofs.lemmas.List.Sums.{position_or_len_is}
 use Rattle.bench_live.specs.Posting.{is_channel}
 use Rattle.bench_live.proofs.Gone.{same_test}

@@ -1,4 +1,4 @@
-use Rattle.std.proofs.Common.{arith, ap, sym, ◌∙◌, ◌<◌, length}
+use Rattle.std.proofs.Common.{◌≡◌, ℕ, ◌<◌, List, length, arith, ap, sym, subst}
 use Rattle.std.specs.List.{position_or_len}
 use Rattle.bench_live.specs.Posting.{is_channel}
 use Rattle.bench_live.proofs.Gone.{there, hands_set, line_done}
@@ -30,5 +30,5 @@ returns-clause-done g c =
     let box = there desk.boxes.items c.place_of-place.result c.index.result.now c.index.result.now (omega (arith, low, c.requires.hands.channels)) c.index.ensures in
     let hand = there c.args.hands.now.items c.place_of-place.result c.index_mut.result.now c.index_mut.result.now within c.index_mut.ensures.value in
     line_done desk c.args.line.now c.args.hands.now.items c.place_of-place.result c.index.result.now c.index_mut.result.now c.post_to.new.hand c.in-Ok.post c.post_to.result
-    (sym c.in-Ok.ensures) (c.place_of-place.ensures.value ∙ ap (position_or_len (is_channel c.in-Ok.post.channel)) c.deref.ensures.value) box hand within
+    (sym c.in-Ok.ensures) (subst (λ (l : List ℕ). c.place_of-place.result ≡ position_or_len (is_channel c.in-Ok.post.channel) l) c.deref.ensures.value c.place_of-place.ensures.value) box hand within
     c.post_to.ensures.posted c.post_to.ensures.refused
