@@ -43,7 +43,7 @@ pub(crate) static EXPLANATIONS: [Explanation; 7] = [
     Explanation {
         code: "unknown",
         means: "a line that bench step does not understand",
-        remedy: "Its lines are forward, back, go N, find COND, state and state --all.",
+        remedy: "Its lines are forward, back, go, find, find back, state, data, show, help and quit; help says what stands behind each.",
         example: "forwards",
     },
 ];

@@ -49,7 +49,7 @@ impl Reply {
         }
         if first == b"unknown\n".as_slice() {
             return Some(
-                "the lines are forward, back, go N (one to ten digits), find COND, as find any ( fail silent ), state, and state --all",
+                "the lines are forward, back, go, find, find back, state, data, show, help and quit; help says what stands behind each",
             );
         }
         None
