@@ -1,5 +1,5 @@
 //! A run that a person or a shell drives: lines of actions posted while it goes on, and bus time at a pace of real time.
-//! Its tests are in `run_tests`.
+//! Its tests are in `live_tests`.
 #![tactic(auto)]
 
 mod desk;
