@@ -105,14 +105,23 @@ fn has_placed(rt: &impl Abort, alloc: Global, part: &ChannelReport, wanted: &[(u
     }
 }
 
+/// A desk for the jobs.
+fn opened(rt: &impl Abort, alloc: Global, jobs: &[Job]) -> (Desk, Vec<Hand>, Vec<Inbox>)
+    ensures { IsOpened result.0 result.1.items result.2.items }
+{
+    let Ok(opened) = open_desk(alloc, jobs) else {
+        panic!(rt; "memory for a desk");
+    };
+    opened
+}
+
 #[test]
 fn each_line_is_posted_or_told(rt: HostRuntime) {
     let alloc = rt.alloc();
     let jobs = read_jobs(alloc, &[FIRST.as_bytes(), SECOND.as_bytes()])
         .ok()
         .expect(&rt, "jobs");
-    let opened = open_desk(alloc, &jobs);
-    let (desk, mut hands, inboxes) = opened.ok().expect(&rt, "a desk");
+    let (desk, mut hands, inboxes) = opened(&rt, alloc, &jobs);
     are_told(
         &rt,
         alloc,

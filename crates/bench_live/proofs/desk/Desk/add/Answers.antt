@@ -6,7 +6,7 @@ pub returns : goal.returns
 returns c =
     let made = c.in-Ok.ensures in
     opened_more c.args.self.now _ c.args.hands.now.items c.push-4.new.self.items c.args.inboxes.now.items c.push-5.new.self.items c.in-Ok.mailbox
-    (record { poster = c.in-Ok.poster; count = 0 }) c.in-Ok.inbox c.channel.result c.new.result c.requires
+    _ c.in-Ok.inbox c.channel.result c.new.result c.requires
     c.in_ok-push.ensures.items c.in_ok-push-2.ensures.items c.in_ok-push-3.ensures.items c.in_ok-push-4.ensures.items c.in_ok-push-5.ensures.items
     (record {
       poster = made.ends.0;
