@@ -13,14 +13,16 @@ fn eight_digits(number: u32) -> u64 {
     tens | twos.wrapping_sub(tens.wrapping_mul(10)) << 8
 }
 
-/// A number below 100,000,000 in eight columns, with spaces in front.
+/// A number below 100,000,000 in eight columns, with spaces in front, of which the first so many columns are left out; behind it stand
+/// as many bytes of no meaning.
 #[inline(always)]
-pub(crate) fn in_columns(number: u32) -> [u8; 8] {
+pub(crate) fn in_columns(number: u32, left_out: u32) -> [u8; 8] {
     let digits = eight_digits(number);
     let spaces = (digits | 1 << 56).trailing_zeros() / 8 * 8;
     let blank = 1u64.wrapping_shl(spaces).wrapping_sub(1) & 0x1010_1010_1010_1010;
     (digits | 0x3030_3030_3030_3030)
         .wrapping_sub(blank)
+        .wrapping_shr(left_out.wrapping_mul(8))
         .to_le_bytes()
 }
 

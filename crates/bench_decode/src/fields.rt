@@ -6,6 +6,7 @@ use crate::modes::mode_name;
 use ch11_layout::is_set;
 
 /// Puts numbers, each behind a space.
+#[inline]
 fn put_numbers<const N: usize>(line: &mut Line, numbers: [u8; N]) {
     for number in numbers {
         line.put_small(number);
@@ -149,6 +150,7 @@ pub(crate) fn put_block(line: &mut Line, block: u16) {
 }
 
 /// Whether a block status word has a bit with a name, but that of the line.
+#[inline]
 pub(crate) fn has_names(block: u16) -> bool {
     block & BITS != 0
 }

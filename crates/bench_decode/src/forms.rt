@@ -102,6 +102,7 @@ fn mode_of(command: Command) -> Form
 }
 
 /// The form of a message with this command alone.
+#[inline]
 fn of_one(command: Command) -> Form
     ensures { result ≡ spec.form_of_one command }
 {
@@ -137,6 +138,7 @@ fn are_transfer(first: Command, second: Command) -> bool
 }
 
 /// The form of a message with these two commands.
+#[inline]
 fn of_two(first: Command, second: Command) -> Form
     ensures { result ≡ spec.form_of_two first second }
 {

@@ -2,7 +2,7 @@
 
 use crate::digits::decimals_of;
 use crate::times::Time;
-use bench_dump::{place_bus_words, place_decimal};
+use bench_dump::{place_bus_words, place_bytes, place_decimal};
 use std::alloc::{AllocError, Global};
 use std::io;
 use std::io::Write;
@@ -119,6 +119,31 @@ impl Line {
         if self.shown == Shown::Colored {
             self.put(bytes);
             self.begin = self.begin.saturating_add(bytes.len());
+        }
+    }
+
+    /// The columns in front of a form, one over the end of the one before it where that has bytes of no meaning: a number of seven
+    /// columns, seconds in six, their decimals, two numbers of eight columns, and a letter between spaces.
+    #[inline(always)]
+    pub(crate) fn put_front(
+        &mut self,
+        number: &[u8; 8],
+        seconds: &[u8; 8],
+        decimals: &[u8; 8],
+        channel: &[u8; 8],
+        in_channel: &[u8; 8],
+        letter: u8,
+    ) {
+        let at = self.len;
+        if at <= SIZE && at + ROOM <= self.bytes.len() {
+            let buffer = self.bytes.as_mut_slice();
+            place_bytes(buffer, at, number);
+            place_bytes(buffer, at + 7, seconds);
+            place_bytes(buffer, at + 13, decimals);
+            place_bytes(buffer, at + 21, channel);
+            place_bytes(buffer, at + 29, in_channel);
+            place_bytes(buffer, at + 37, &[b' ', letter, b' ', b' ', b' ', b' ']);
+            self.len = at + 43;
         }
     }
 

@@ -76,7 +76,9 @@ pub fn write_message<W: Write>(
         put_replies(line, seen, &layout);
         put_data(line, out, seen, layout.data_start, layout.data_end)?;
     }
-    put_block(line, seen.block);
+    if has_names(seen.block) {
+        put_block(line, seen.block);
+    }
     line.end_line();
     Ok(())
 }
@@ -87,17 +89,20 @@ fn letter_of(seen: &Seen<'_>) -> u8 {
 }
 
 /// Puts the columns in front of the form.
+#[inline(always)]
 fn put_place(line: &mut Line, place: &Place, seen: &Seen<'_>) {
     let time = Time::of(seen.stamp);
     if place.number >= WIDE || place.in_channel >= WIDE || time.seconds >= LONG {
         return put_wide_place(line, place, time, letter_of(seen));
     }
-    line.put(&in_columns(place.number as u32)[1..]);
-    line.put(&in_columns(time.seconds as u32)[2..]);
-    line.put(&decimals_of(time));
-    line.put(&in_columns(u32::from(place.channel)));
-    line.put(&in_columns(place.in_channel as u32));
-    line.put(&[b' ', letter_of(seen), b' ', b' ', b' ', b' ']);
+    line.put_front(
+        &in_columns(place.number as u32, 1),
+        &in_columns(time.seconds as u32, 2),
+        &decimals_of(time),
+        &in_columns(u32::from(place.channel), 0),
+        &in_columns(place.in_channel as u32, 0),
+        letter_of(seen),
+    );
 }
 
 /// Puts the same of numbers that their columns may have no room for.

@@ -14,6 +14,7 @@ struct Reply {
 }
 
 /// Puts the status words of a message, each with the names of its bits and its response time.
+#[inline]
 pub(crate) fn put_replies(line: &mut Line, seen: &Seen<'_>, layout: &Layout) {
     let between = is_set(seen.block, 11);
     let front = front_of(seen, layout);
@@ -59,6 +60,7 @@ fn put_missing(line: &mut Line, any: bool, gap: u8) {
 }
 
 /// The status word in front of the data words, of the terminal that sends them.
+#[inline]
 fn front_of(seen: &Seen<'_>, layout: &Layout) -> Option<Reply> {
     if layout.commands >= layout.data_start {
         return None;
@@ -72,6 +74,7 @@ fn front_of(seen: &Seen<'_>, layout: &Layout) -> Option<Reply> {
 }
 
 /// The status word behind the data words, of the terminal that receives them.
+#[inline]
 fn back_of(seen: &Seen<'_>, layout: &Layout, between: bool) -> Option<Reply> {
     if layout.data_end >= layout.words {
         return None;
@@ -87,6 +90,7 @@ fn back_of(seen: &Seen<'_>, layout: &Layout, between: bool) -> Option<Reply> {
     })
 }
 
+#[inline]
 fn put_reply(line: &mut Line, reply: Reply) {
     line.put_digits(reply.status);
     let address = Status::of(reply.status).address();

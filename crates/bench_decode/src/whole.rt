@@ -149,6 +149,7 @@ fn put_messages<W: Write>(
     channel: u16,
     messages: Messages<'_>,
 ) -> io::Result<()> {
+    let all = output.selection == Selection::all();
     let mut number = before;
     let mut rest = messages;
     'messages: while let Some(seen) = rest.next() {
@@ -158,7 +159,7 @@ fn put_messages<W: Write>(
             channel,
             in_channel: printing.numbers.next(channel),
         };
-        if output.selection.selects(number, channel, &seen) {
+        if all || output.selection.selects(number, channel, &seen) {
             put_message(printing, out, output.decoded, &place, &seen)?;
         }
     }
