@@ -1,4 +1,5 @@
-//! Tests of `bench_live` against worked values: lines that are read and posted, what is told of the others, and gates that wait.
+//! Tests of `bench_live` against worked values: lines that are read and posted, what is told of the others, gates that wait, and
+//! messages that are shown.
 #![tactic(auto)]
 
 #[cfg(test)]
@@ -7,3 +8,5 @@ mod lines;
 mod paces;
 #[cfg(test)]
 mod posts;
+#[cfg(test)]
+mod shows;

@@ -3,7 +3,7 @@ ghost use Rattle.bench_live.specs.Posting.{AreHandsOf, IsOpened};
 ghost use Rattle.bench_run.specs.Live.{AreInboxesOf};
 
 use bench_core::Settings;
-use bench_live::{Desk, Hand, Pace, next_fault, open_desk, record_live};
+use bench_live::{Desk, Hand, Manner, Pace, next_fault, open_desk, record_live};
 use bench_report::{ChannelReport, Report};
 use bench_run::Inbox;
 use ch11_writer::MemorySink;
@@ -86,10 +86,13 @@ fn report_of<R: Threads + Wait + Clock + Abort + Sync, E: Eprint + IsTerminal + 
     requires { AreInboxesOf desk.now.boxes.items inboxes.items }
 {
     let settings = settings(alloc);
-    let pace = Pace::read(b"1000").expect(rt, "a pace");
+    let manner = Manner {
+        drops: false,
+        pace: Pace::read(b"1000"),
+    };
     let sink = MemorySink::make(alloc);
     let answer = record_live(
-        rt, alloc, errors, jobs, &settings, false, pace, desk, inboxes, sink,
+        rt, alloc, errors, jobs, &settings, manner, None, desk, inboxes, sink,
     );
     let (report, _, _) = answer.ok().expect(rt, "a run that ends well");
     report
