@@ -7,13 +7,13 @@ use Rattle.bc_machine.specs.Running.{MachineState, clock_in}
 
 -- one more step was taken, and these are the registers after it
 abbrev pub with_registers : MachineState → Registers → MachineState
-with_registers m r = record { code = m.code; plan = m.plan; placed = m.placed; begun = m.begun; taken = m.taken; at = r; point = m.point }
+with_registers m r = record m { at = r }
 
 abbrev pub gone : MachineState → ℕ → MachineState
-gone m place = record { code = m.code; plan = m.plan; placed = m.placed; begun = m.begun; taken = m.taken + 1; at = at_place m.at place; point = m.point }
+gone m place = record m { taken = m.taken + 1; at = at_place m.at place }
 
 abbrev pub gap_set : MachineState → ℕ → MachineState
-gap_set m ticks = record { code = m.code; plan = m.plan; placed = m.placed; begun = m.begun; taken = m.taken; at = m.at; point = record m.point { gap = ticks } }
+gap_set m ticks = record m { point = record m.point { gap = ticks } }
 
 abbrev pub opened : MachineState → ℕ → MachineState
 opened m count = with_registers m (record m.at { counters = count ∷ m.at.counters })

@@ -1,5 +1,5 @@
 -- A controller's fields as plain data.
-use Rattle.std.specs.Prelude.{◌++◌}
+use Rattle.std.specs.Prelude.{◌+◌, ◌++◌, length}
 use Rattle.bc_machine.specs.Running.{MachineState}
 use Rattle.bc_machine.specs.declared.parts.Parts.TheInside.{Inside}
 
@@ -7,7 +7,8 @@ abbrev pub state_in : Inside → MachineState
 state_in m = record {
   code = m.program;
   plan = m.plan;
-  placed = m.placed ++ m.posted;
+  placed = m.placed.actions ++ m.posted.actions;
+  capacity = length m.placed.actions + m.posted.capacity;
   begun = m.begun.value.0;
   taken = m.taken;
   at = record { place = m.place; counters = m.counters; returns = m.returns; frames = m.frames; flag = m.flag; line = m.line };

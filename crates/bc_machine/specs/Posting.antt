@@ -1,5 +1,5 @@
 -- Actions that are placed while a controller is under way.
-use Rattle.std.specs.Prelude.{◌≡◌, ℕ, ◌+◌, ◌≤◌, List}
+use Rattle.std.specs.Prelude.{◌≡◌, ℕ, ◌+◌, ◌≤◌, max, List, length}
 use Rattle.mil_host.specs.declared.actions.Action.{Action}
 use Rattle.frame_code.specs.Table.{halted}
 use Rattle.bc_machine.specs.declared.placed.Placed.{Placed}
@@ -9,7 +9,11 @@ use Rattle.bc_machine.specs.UnderWay.{IsUnderWay}
 
 -- the controller with other placed actions
 abbrev pub with_placed : MachineState → List Placed → MachineState
-with_placed m placed = record { code = m.code; plan = m.plan; placed = placed; begun = m.begun; taken = m.taken; at = m.at; point = m.point }
+with_placed m placed = record m { placed = placed }
+
+-- the controller with room for so many actions more
+abbrev pub with_room : MachineState → ℕ → MachineState
+with_room m count = record m { capacity = max m.capacity (length m.placed + count) }
 
 -- an action at its next message
 abbrev pub at_next : MachineState → ℕ → Action → Placed

@@ -1,5 +1,5 @@
 -- A controller as plain data, and one step of it: one row of the operation table.
-use Rattle.std.specs.Prelude.{ℕ, zero, suc, ◌+◌, List, [], ◌∷◌, Option, Some, None, slice_get}
+use Rattle.std.specs.Prelude.{ℕ, zero, suc, ◌+◌, List, [], ◌∷◌, length, Option, Some, None, slice_get}
 use Rattle.mil_message.specs.World.{World, Point}
 use Rattle.mil_line.specs.Plans.{Planned}
 use Rattle.mil_bus.specs.declared.talks.Talk.{Talk}
@@ -19,6 +19,8 @@ pub record MachineState : Type 0 where
   pub code : Code
   pub plan : List Planned
   pub placed : List Placed
+  -- for how many actions there is room, those that are placed among them
+  pub capacity : ℕ
   -- the bus that it began with
   pub begun : BusState
   -- how many steps it took; a Halt is none
@@ -32,7 +34,16 @@ abbrev pub beginning : BusState → Point BusState Outcome
 beginning b = record { state = b; number = 0; gap = 40; last = None }
 
 abbrev pub started : Code → BusState → List Planned → List Placed → MachineState
-started code b plan placed = record { code = code; plan = plan; placed = placed; begun = b; taken = 0; at = start code; point = beginning b }
+started code b plan placed = record {
+  code = code;
+  plan = plan;
+  placed = placed;
+  capacity = length placed;
+  begun = b;
+  taken = 0;
+  at = start code;
+  point = beginning b;
+}
 
 abbrev pub world_in : MachineState → World BusState Outcome
 world_in m = world_of m.plan m.placed
@@ -42,7 +53,7 @@ abbrev pub turn_of : MachineState → Turn (Running BusState Outcome)
 turn_of m = step (world_in m) m.code m.at m.point
 
 abbrev pub moved_by : Turn (Running BusState Outcome) → MachineState → MachineState
-moved_by (goes_on x) m = record { code = m.code; plan = m.plan; placed = m.placed; begun = m.begun; taken = m.taken + 1; at = x.at; point = x.point }
+moved_by (goes_on x) m = record m { taken = m.taken + 1; at = x.at; point = x.point }
 moved_by halted m = m
 moved_by stuck m = m
 

@@ -1,5 +1,5 @@
 -- What is kept of a controller, as plain data.
-use Rattle.std.specs.Prelude.{◌++◌}
+use Rattle.std.specs.Prelude.{◌+◌, ◌++◌, length}
 use Rattle.bc_machine.specs.Running.{MachineState}
 use Rattle.bc_machine.specs.declared.saved.SavedParts.TheInside.{Inside}
 
@@ -7,7 +7,8 @@ abbrev pub state_kept : Inside → MachineState
 state_kept s = record {
   code = s.program.value;
   plan = s.plan.value;
-  placed = s.placed.value ++ s.posted.value;
+  placed = s.placed.value.actions ++ s.posted.value.actions;
+  capacity = length s.placed.value.actions + (length s.posted.value.actions + s.room);
   begun = s.begun.value.0;
   taken = s.taken;
   at = record { place = s.place; counters = s.counters; returns = s.returns; frames = s.frames; flag = s.flag; line = s.line };

@@ -14,7 +14,7 @@ use mil_word::Line;
 
 /// The actions that are placed at a number act: those of the beginning, and then those that were placed later.
 pub fn act_both(bus: &mut Bus, placed: &Schedule, posted: &Schedule, number: u32)
-    ensures bus { bus.new ≡ ready (placed.now ++ posted.now) number bus.old }
+    ensures bus { bus.new ≡ ready (placed.now.actions ++ posted.now.actions) number bus.old }
     ensures clock { now_of bus.new ≡ now_of bus.old }
 {
     act_at(bus, placed.around(number), number);
@@ -36,8 +36,10 @@ pub fn exchange(
     seen: &mut Seen,
 ) -> Verdict
     requires { now_of bus.old ≤ 2 ^ 48 }
-    ensures bus { bus.new ≡ ((world_of plan.now (placed.now ++ posted.now)).exchange number line message.now gap bus.old).0 }
-    ensures outcome { result.outcome ≡ ((world_of plan.now (placed.now ++ posted.now)).exchange number line message.now gap bus.old).1 }
+    ensures bus { bus.new
+        ≡ ((world_of plan.now (placed.now.actions ++ posted.now.actions)).exchange number line message.now gap bus.old).0 }
+    ensures outcome { result.outcome
+        ≡ ((world_of plan.now (placed.now.actions ++ posted.now.actions)).exchange number line message.now gap bus.old).1 }
     ensures seen { seen.new ≡ seen_of talk.new.message talk.new.sent.items }
     ensures block { result.block ≡ block_of talk.new.line talk.new.message seen.new }
     ensures talks { bus.new.talks ≡ talk.new ∷ bus.old.talks }

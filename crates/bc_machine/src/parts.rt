@@ -348,6 +348,7 @@ impl Parts {
             plan: Snapshot::of(&self.plan),
             placed: Snapshot::of(&self.placed),
             posted: Snapshot::of(&self.posted),
+            room: self.posted.capacity() - self.posted.len(),
             begun: same(&self.begun),
             taken,
             place: self.place,
@@ -369,7 +370,16 @@ impl Parts {
         ensures restored { OnOk result (self.new ≡ saved.now) }
         ensures same { OnErr result (self.new ≡ self.old) }
     {
-        self.bus.restore(&saved.bus)?;
+        let Some(most) = self.posted.len().checked_add(saved.room) else {
+            return Err(AllocError);
+        };
+        let before = self.posted.capacity();
+        self.posted.grow(most)?;
+        if let Err(failed) = self.bus.restore(&saved.bus) {
+            self.posted.shrink(before);
+            return Err(failed);
+        }
+        self.posted.shrink(most);
         self.taken = saved.taken;
         self.place = saved.place;
         self.counters = saved.counters.copy();

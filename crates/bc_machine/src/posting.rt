@@ -1,6 +1,6 @@
 //! Actions that are placed while the program is under way, each at the next message.
-ghost use Rattle.std.specs.Prelude.{◌≡◌, ◌+◌, ◌<◌, ◌^◌, ◌++◌, ◌∷◌, [], IfErr, OnOk, OnErr};
-ghost use Rattle.bc_machine.specs.Posting.{with_placed, at_next};
+ghost use Rattle.std.specs.Prelude.{◌≡◌, ◌+◌, ◌<◌, ◌≤◌, ◌^◌, ◌++◌, ◌∷◌, [], length, IfErr, OnOk, OnErr};
+ghost use Rattle.bc_machine.specs.Posting.{with_placed, with_room, at_next};
 ghost use Rattle.bc_machine.specs.UnderWay.{IsUnderWay};
 
 use crate::Placed;
@@ -12,7 +12,8 @@ use std::alloc::AllocError;
 impl Parts {
     /// Makes room for so many actions more.
     fn room(&mut self, count: u32) -> Result<(), AllocError>
-        ensures { self.new ≡ self.old }
+        ensures made { OnOk result (self.new ≡ with_room self.old count) }
+        ensures same { OnErr result (self.new ≡ self.old) }
     {
         self.posted.room(count)
     }
@@ -21,6 +22,8 @@ impl Parts {
     fn place(&mut self, address: u8, action: Action) -> Result<(), Action>
         requires { self.old.point.number < 2 ^ 31 }
         ensures placed { OnOk result (self.new ≡ with_placed self.old (self.old.placed ++ at_next self.old address action ∷ [])) }
+        ensures there { OnOk result (length self.old.placed < self.old.capacity) }
+        ensures used_up { OnErr result (self.old.capacity ≤ length self.old.placed) }
         ensures back { IfErr result (λ back. back ≡ action) }
         ensures same { OnErr result (self.new ≡ self.old) }
     {
@@ -37,10 +40,11 @@ impl Parts {
 }
 
 impl Machine {
-    /// Makes room for so many actions more, which `place` then takes without memory. It fails for want of memory alone, and the
-    /// controller stays as it was.
+    /// Makes room for so many actions more than are placed, where there is not that much, and `place` then takes these without
+    /// memory. It fails for want of memory alone, and then the controller stays as it was.
     pub fn room(&mut self, count: u32) -> Result<(), AllocError>
-        ensures value { self.new ≡ self.old }
+        ensures made { OnOk result (self.new ≡ with_room self.old count) }
+        ensures same { OnErr result (self.new ≡ self.old) }
         ensures under_way { IsUnderWay self.new }
     {
         self.parts.room(count)
@@ -50,6 +54,8 @@ impl Machine {
     /// placed there. It comes back where the room that was made is used up. It takes no memory.
     pub fn place(&mut self, address: u8, action: Action) -> Result<(), Action>
         ensures placed { OnOk result (self.new ≡ with_placed self.old (self.old.placed ++ at_next self.old address action ∷ [])) }
+        ensures there { OnOk result (length self.old.placed < self.old.capacity) }
+        ensures used_up { OnErr result (self.old.capacity ≤ length self.old.placed) }
         ensures back { IfErr result (λ back. back ≡ action) }
         ensures same { OnErr result (self.new ≡ self.old) }
         ensures under_way { IsUnderWay self.new }

@@ -17,6 +17,8 @@ pub struct SavedParts {
     pub plan: Snapshot<Plan>,
     pub placed: Snapshot<Schedule>,
     pub posted: Snapshot<Schedule>,
+    /// For how many actions more there was room.
+    pub room: usize,
     pub begun: Snapshot<Begun>,
     pub taken: u32,
     pub place: u16,

@@ -1,5 +1,5 @@
 //! The placed actions of a controller.
-ghost use Rattle.std.specs.Prelude.{◌≡◌, ◌↔◌, ◌+◌, ◌<◌, ◌++◌, ◌∷◌, [], IfOk, IfErr, OnOk, OnErr, IsTrue};
+ghost use Rattle.std.specs.Prelude.{◌≡◌, ◌↔◌, ◌+◌, ◌<◌, ◌≤◌, ◌++◌, ◌∷◌, [], min, max, length, IfOk, IfErr, OnOk, OnErr, IsTrue};
 ghost use Rattle.bc_machine.specs.Controller.{placed_at};
 ghost use Rattle.bc_machine.specs.Rising.{IsRising};
 
@@ -7,25 +7,28 @@ use crate::Placed;
 use std::alloc::{AllocError, Global};
 use std::marker::Model;
 
-/// Placed actions, in their order; contracts see the list. Where their numbers never fall, those of one number are found
+/// Placed actions, in their order, and room for more; contracts see the list and for how many there is room. Where their numbers never fall, those of one number are found
 /// without a look at all others.
 #[derive(Drop)]
 pub struct Schedule {
     placed: Vec<Placed>,
     rising: bool,
+    /// For how many actions there is room, at most as many as the list holds without memory.
+    most: usize,
 }
 
 impl Model for Schedule {
-    ghost use Rattle.std.specs.Prelude.{◌≡◌, true, List};
-    ghost use Rattle.bc_machine.specs.declared.placed.Placed.{Placed};
+    ghost use Rattle.std.specs.Prelude.{◌≡◌, ◌≤◌, true, vec_len, vec_capacity};
+    ghost use Rattle.bc_machine.specs.Schedules.{ScheduleState};
 
-    ghost Value = { List Placed };
+    ghost Value = { ScheduleState };
 
     ghost use Rattle.bc_machine.specs.Rising.{IsRising};
 
-    ghost view = { λ s. s.placed.items };
+    ghost view = { λ s. record { actions = s.placed.items; capacity = s.most } };
 
-    ghost invariant = { λ s. s.rising ≡ true → IsRising s.placed.items };
+    ghost invariant = { λ s. (s.rising ≡ true → IsRising s.placed.items)
+        × (vec_len s.placed ≤ s.most) × (s.most ≤ vec_capacity s.placed) };
 }
 
 // Whether the numbers never fall.
@@ -64,19 +67,27 @@ fn follows(placed: &[Placed], one: &Placed) -> bool
 impl Schedule {
     /// These actions. It takes no memory.
     pub fn of(placed: Vec<Placed>) -> Schedule
-        ensures { result ≡ placed.items }
+        ensures actions { result.actions ≡ placed.items }
+        ensures capacity { result.capacity ≡ length placed.items }
     {
         let rising = is_rising(placed.as_slice());
-        Schedule { placed, rising }
+        let most = placed.len();
+        Schedule {
+            placed,
+            rising,
+            most,
+        }
     }
 
     /// No action. It takes no memory.
     pub fn none(alloc: Global) -> Schedule
-        ensures { result ≡ [] }
+        ensures actions { result.actions ≡ [] }
+        ensures capacity { result.capacity ≡ 0 }
     {
         Schedule {
             placed: Vec::new(alloc),
             rising: true,
+            most: 0,
         }
     }
 
@@ -85,20 +96,65 @@ impl Schedule {
         *self.placed.allocator()
     }
 
-    /// Makes room for so many actions more. It fails for want of memory alone.
-    pub fn room(&mut self, count: u32) -> Result<(), AllocError>
-        ensures { self.new ≡ self.old }
+    /// How many actions there are.
+    pub fn len(&self) -> usize
+        ensures { result ≡ length self.now.actions }
     {
-        self.placed.reserve(count as usize)
+        self.placed.len()
     }
 
-    /// Puts an action behind the others, where room was made for it; else it comes back. It takes no memory.
+    /// For how many actions there is room, those that are there among them.
+    pub fn capacity(&self) -> usize
+        ensures value { result ≡ self.now.capacity }
+        ensures within { length self.now.actions ≤ result }
+    {
+        self.most
+    }
+
+    /// Makes room for so many actions in all, where there is less. It fails for want of memory alone.
+    pub fn grow(&mut self, most: usize) -> Result<(), AllocError>
+        ensures actions { self.new.actions ≡ self.old.actions }
+        ensures capacity { OnOk result (self.new.capacity ≡ max self.old.capacity most) }
+        ensures same { OnErr result (self.new ≡ self.old) }
+    {
+        if most > self.most {
+            self.placed.reserve(most - self.placed.len())?;
+            self.most = most;
+        }
+        Ok(())
+    }
+
+    /// Keeps room for so many actions in all, where there is more. It takes no memory.
+    pub fn shrink(&mut self, most: usize)
+        requires { length self.old.actions ≤ most }
+        ensures actions { self.new.actions ≡ self.old.actions }
+        ensures capacity { self.new.capacity ≡ min self.old.capacity most }
+    {
+        if most < self.most {
+            self.most = most;
+        }
+    }
+
+    /// Makes room for so many actions more than there are, where there is less. It fails for want of memory alone.
+    pub fn room(&mut self, count: u32) -> Result<(), AllocError>
+        ensures actions { self.new.actions ≡ self.old.actions }
+        ensures capacity { OnOk result (self.new.capacity ≡ max self.old.capacity (length self.old.actions + count)) }
+        ensures same { OnErr result (self.new ≡ self.old) }
+    {
+        let most = self.placed.len() + count as usize;
+        self.grow(most)
+    }
+
+    /// Puts an action behind the others, where there is room for it; else it comes back. It takes no memory.
     pub fn add(&mut self, one: Placed) -> Result<(), Placed>
-        ensures added { OnOk result (self.new ≡ self.old ++ one ∷ []) }
+        ensures added { OnOk result (self.new.actions ≡ self.old.actions ++ one ∷ []) }
+        ensures there { OnOk result (length self.old.actions < self.old.capacity) }
+        ensures used_up { OnErr result (self.old.capacity ≤ length self.old.actions) }
+        ensures capacity { self.new.capacity ≡ self.old.capacity }
         ensures back { IfErr result (λ back. back ≡ one) }
         ensures same { OnErr result (self.new ≡ self.old) }
     {
-        if self.placed.len() >= self.placed.capacity() {
+        if self.placed.len() >= self.most {
             return Err(one);
         }
         self.rising = self.rising && follows(self.placed.as_slice(), &one);
@@ -108,7 +164,7 @@ impl Schedule {
 
     /// A part of the actions that has all that are placed at a number.
     pub fn around(&self, number: u32) -> &[Placed]
-        ensures { placed_at number result.now ≡ placed_at number self.now }
+        ensures { placed_at number result.now ≡ placed_at number self.now.actions }
     {
         let placed = self.placed.as_slice();
         if self.rising {
@@ -118,13 +174,16 @@ impl Schedule {
         }
     }
 
-    /// The same actions, in memory of their own.
+    /// The same actions and as much room, in memory of their own.
     pub fn copy(&self) -> Result<Schedule, AllocError>
         ensures { IfOk result (λ s. s ≡ self.now) }
     {
+        let mut placed = Placed::copies_of(*self.placed.allocator(), self.placed.as_slice())?;
+        placed.reserve(self.most - self.placed.len())?;
         Ok(Schedule {
-            placed: Placed::copies_of(*self.placed.allocator(), self.placed.as_slice())?,
+            placed,
             rising: self.rising,
+            most: self.most,
         })
     }
 }

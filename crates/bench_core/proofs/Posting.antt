@@ -1,12 +1,12 @@
 -- An action that a host posts: in the order of a channel's actions, and before its controller.
-use Rattle.std.proofs.Common.{◌≡◌, ℕ, ◌+◌, ◌<◌, Bool, false, cond, eqb, ne_eqb, List, [], ◌∷◌, ◌++◌, length, take, refl, sym, ap, ◌∙◌, subst, arith}
+use Rattle.std.proofs.Common.{◌≡◌, ℕ, ◌+◌, ◌<◌, ◌≤◌, max, Bool, false, cond, eqb, ne_eqb, List, [], ◌∷◌, ◌++◌, length, take, refl, sym, ap, ◌∙◌, subst, arith}
 use Rattle.std.proofs.lemmas.List.{append-nil, length-append}
 use Rattle.std.proofs.lemmas.List.Elements.{filter-append}
 use Rattle.mil_host.specs.declared.actions.Action.{Action}
 use Rattle.bc_machine.specs.declared.placed.Placed.{Placed}
 use Rattle.bc_machine.specs.Controller.{placed_at}
 use Rattle.bc_machine.specs.Running.{MachineState}
-use Rattle.bc_machine.specs.Posting.{with_placed, at_next}
+use Rattle.bc_machine.specs.Posting.{with_placed, with_room, at_next}
 use Rattle.bc_machine.specs.UnderWay.{IsUnderWay}
 use Rattle.job_file.specs.Jobs.{JobState, job_in}
 use Rattle.job_file.specs.Meaning.{records}
@@ -24,21 +24,28 @@ left_out most actions one above = up_to_same most actions (actions ++ one ∷ []
     ∙ ap (λ (b : Bool). placed_at k actions ++ cond b (one ∷ []) []) (ne_eqb one.number k (λ same. omega (arith, same, above, high)))
     ∙ append-nil (placed_at k actions)))
 
--- ---- a controller for which an action was placed at its next message
+-- ---- a controller for which room was made and an action was placed at its next message
 
-pub placed_next : (m x : MachineState) (number address : ℕ) (a b : Action) → x ≡ m → number ≡ x.point.number → a ≡ b
+pub placed_next : (m x : MachineState) (number address : ℕ) (a b : Action) → x ≡ with_room m 1 → number ≡ x.point.number → a ≡ b
     → ◌≡◌ {A = Placed} (record { number = number + 1; address = address; action = a }) (at_next m address b)
 placed_next m x number address a b same is copy =
     let here : number + 1 ≡ m.point.number + 1 = ap (λ (n : ℕ). n + 1) (is ∙ ap (λ (y : MachineState). y.point.number) same) in
     λ i. record { number = here i; address = address; action = copy i }
 
-pub moved_next : (m x n : MachineState) (address : ℕ) (a b : Action) → x ≡ m → a ≡ b → n ≡ with_placed x (x.placed ++ at_next x address a ∷ [])
-    → n ≡ with_placed m (m.placed ++ at_next m address b ∷ [])
+pub moved_next : (m x n : MachineState) (address : ℕ) (a b : Action) → x ≡ with_room m 1 → a ≡ b → n ≡ with_placed x (x.placed ++ at_next x address a ∷ [])
+    → n ≡ with_placed (with_room m 1) (m.placed ++ at_next m address b ∷ [])
 moved_next m x n address a b same copy is =
     is ∙ ap (λ (y : MachineState). with_placed y (y.placed ++ at_next y address a ∷ [])) same
-    ∙ ap (λ (c : Action). with_placed m (m.placed ++ at_next m address c ∷ [])) copy
+    ∙ ap (λ (c : Action). with_placed (with_room m 1) (m.placed ++ at_next m address c ∷ [])) copy
 
-module _ (job : JobState) (m n : MachineState) (address : ℕ) (action : Action) (is : n ≡ with_placed m (m.placed ++ at_next m address action ∷ [])) where
+-- where room was made no action comes back
+pub never_back : (m x : MachineState) → x ≡ with_room m 1 → x.capacity ≤ length x.placed → ⊥
+never_back m x is full =
+    let capacity : x.capacity ≡ max m.capacity (length m.placed + 1) = ap (λ (y : MachineState). y.capacity) is in
+    let long : length x.placed ≡ length m.placed = ap (λ (y : MachineState). length y.placed) is in
+    omega (arith, capacity, long, full)
+
+module _ (job : JobState) (m n : MachineState) (address : ℕ) (action : Action) (is : n ≡ with_placed (with_room m 1) (m.placed ++ at_next m address action ∷ [])) where
   pub posted_of : IsUnderWay n → IsOf (job_in job) m.placed m → IsOf (job_in job) n.placed n
   posted_of under_way of = record {
     code = ap (λ (x : MachineState). x.code) is ∙ of.code;

@@ -146,6 +146,7 @@ impl Lane {
     /// Places an action of a host of a terminal at the channel's next message, behind what is placed there. It fails where memory is
     /// refused, and for an address above 30 and behind 65,536 posts, which the steps that are played never have; then nothing was
     /// done.
+    #[tactic(auto, using(crate::proofs::Posting::never_back))]
     pub(crate) fn post(&mut self, address: u8, action: &Action) -> Result<(), AllocError>
         ensures lane { OnOk result (self.new ≡ with_post self.old address action.now) }
         ensures made { OnOk result (IsMade self.new) }

@@ -4,9 +4,10 @@ use Rattle.std.specs.List.{AllByRecursion}
 use Rattle.std.proofs.lemmas.List.{map-append, length-append, length-map, append_assoc}
 use Rattle.bc_machine.specs.declared.placed.Placed.{Placed}
 use Rattle.bc_machine.specs.Running.{MachineState}
-use Rattle.bc_machine.specs.Posting.{with_placed, at_next}
+use Rattle.bc_machine.specs.Posting.{with_placed, with_room, at_next}
 use Rattle.bc_machine.specs.UnderWay.{IsUnderWay}
 use Rattle.job_file.specs.Jobs.{JobState, job_in}
+use Rattle.job_file.specs.Spelled.{ChannelJob}
 use Rattle.job_file.specs.Machines.{IsOf}
 use Rattle.bench_report.specs.Reports.{NeverFalls}
 use Rattle.bench_core.specs.Placing.{placed_up_to}
@@ -47,6 +48,16 @@ order_more low (p ∷ ps) x le order all = (order.0, order_more p.number ps x al
 pub later : (n m : ℕ) (ps : List Placed) → n ≤ m → AllByRecursion (λ q. q.number ≤ n) ps → AllByRecursion (λ q. q.number ≤ m) ps
 later n m [] le all = tt
 later n m (p ∷ ps) le all = (omega (arith, le, all.0), later n m ps le all.1)
+
+-- room for more makes no other controller
+pub with_more_room : (job : ChannelJob) (placed : List Placed) (m x : MachineState) (count : ℕ) → x ≡ with_room m count → IsUnderWay x → IsOf job placed m → IsOf job placed x
+with_more_room job placed m x count is under_way of = record {
+  code = ap (λ (z : MachineState). z.code) is ∙ of.code;
+  plan = ap (λ (z : MachineState). z.plan) is ∙ of.plan;
+  actions = ap (λ (z : MachineState). z.placed) is ∙ of.actions;
+  begun = ap (λ (z : MachineState). z.begun) is ∙ of.begun;
+  under_way = under_way;
+}
 
 module _ (most : ℕ) (before : List Post) (job : JobState) where
   -- a post was received and placed at the next message

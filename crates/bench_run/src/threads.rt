@@ -79,6 +79,7 @@ pub(crate) fn rooms(
     Ok(rooms)
 }
 
+#[tactic(auto, using(crate::proofs::PlacedPosts::with_more_room))]
 fn room_for(alloc: Global, job: &Job, most: u32, inbox: Inbox) -> Result<Room, AllocError>
     ensures room { IfOk result (λ room. IsRoom job.now room) }
     ensures inbox { IfOk result (λ room. room.posts.inbox ≡ inbox) }

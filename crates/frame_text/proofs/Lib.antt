@@ -5,12 +5,14 @@ pub mod Digits
 pub mod FormsBack
 pub mod FormsRead
 pub mod Lexing
+pub mod Made
 pub mod Naming
 pub mod Positions
 pub mod Printed
 pub mod PrintedForms
 pub mod PrintedLines
 pub mod Reading
+pub mod Refusing
 pub mod Scripts
 pub mod ScriptsBack
 pub mod Soundness
@@ -18,3 +20,4 @@ pub mod Spelling
 pub mod Tables
 pub mod TreesBack
 pub mod TreesRead
+pub mod Weighing

@@ -1,12 +1,10 @@
 -- Reading frames one by one.
-use Rattle.std.proofs.Common.{◌≡◌, ◌≢◌, ℕ, zero, suc, ◌-◌, ◌<◌, ◌≤◌, Bool, true, false, cond, List, [], ◌∷◌, ◌++◌, length, map, Result, Ok, Err, refl, sym, ap, ◌∙◌, arith}
+use Rattle.std.proofs.Common.{◌≡◌, ◌≢◌, ℕ, zero, suc, ◌-◌, ◌<◌, ◌≤◌, Bool, true, false, cond, List, [], ◌∷◌, ◌++◌, length, Result, Ok, Err, refl, sym, ap, ◌∙◌, arith}
 use Rattle.std.specs.Prelude.{codes, Some, None, if◌then◌else◌}
-use Rattle.std.proofs.lemmas.List.{map-append}
-use Rattle.frame_tree.specs.Tree.{Tree, chain, tree_of, nothing, chained, define}
+use Rattle.frame_tree.specs.Tree.{Tree, chain, nothing, chained, define}
 use Rattle.frame_tree.specs.Bounds.{depth_in}
 use Rattle.frame_tree.specs.Names.{is_name, Scope}
-use Rattle.frame_tree.specs.declared.Frame.{Frame}
-use Rattle.frame_text.specs.Reading.{◌>>=◌, Tokens, Reading, same, misplaced, Fails, IsCause}
+use Rattle.frame_text.specs.Reading.{◌>>=◌, Tokens, Reading, same, misplaced, Fails, Breaks, IsCause}
 use Rattle.frame_text.specs.Frames.{Reader, frame_at, frames_at, inner_at, label_at, main_at, definition_at, script_at}
 use Rattle.frame_text.specs.declared.faults.Cause.{Cause}
 use Rattle.frame_text.specs.declared.faults.Cause.TheVariants as cause
@@ -30,15 +28,15 @@ before (u ∷ us) t = chained u (before us t)
 abbrev put_before : List Tree → Reading Tree → Reading Tree
 put_before ts r = r >>= (λ x. Ok (before ts x.0, x.1))
 
-abbrev pub onto : {A : Type 0} → List (Frame A) → Reading Tree → Reading Tree
-onto fs r = put_before (map tree_of fs) r
+abbrev pub onto : List Tree → Reading Tree → Reading Tree
+onto us r = put_before us r
 
 put_none : (r : Reading Tree) → r ≡ put_before [] r
 put_none (Ok x) = refl
 put_none (Err e) = refl
 
-pub onto_none : {A : Type 0} (fs : List (Frame A)) (r : Reading Tree) → fs ≡ [] → r ≡ onto fs r
-onto_none fs r e = put_none r ∙ ap (λ us. onto us r) (sym e)
+pub onto_none : (us : List Tree) (r : Reading Tree) → us ≡ [] → r ≡ onto us r
+onto_none us r e = put_none r ∙ ap (λ vs. onto vs r) (sym e)
 
 pub before_nothing : (ts : List Tree) → before ts nothing ≡ chain ts
 before_nothing [] = refl
@@ -52,23 +50,20 @@ put_more : (ts : List Tree) (t : Tree) (r : Reading Tree) → put_before ts (r >
 put_more ts t (Ok x) = ap (λ z. Ok (z, x.1)) (before_more ts t x.0)
 put_more ts t (Err e) = refl
 
-onto_more : {A : Type 0} (fs : List (Frame A)) (f : Frame A) (r : Reading Tree) → onto fs (r >>= (λ y. Ok (chained (tree_of f) y.0, y.1))) ≡ onto (fs ++ f ∷ []) r
-onto_more fs f r = put_more (map tree_of fs) (tree_of f) r ∙ ap (λ ts. put_before ts r) (sym (map-append tree_of fs (f ∷ [])))
-
-pub frames_end : {A : Type 0} (frame : Reader) (n : ℕ) (ts : Tokens) (fs : List (Frame A)) (whole : Reading Tree) → ts ≡ [] → whole ≡ onto fs (frames_at frame n ts) → whole ≡ Err cause.End
+pub frames_end : (frame : Reader) (n : ℕ) (ts : Tokens) (fs : List Tree) (whole : Reading Tree) → ts ≡ [] → whole ≡ onto fs (frames_at frame n ts) → whole ≡ Err cause.End
 unfolding frames_at
 frames_end frame n ts fs whole h e = e ∙ ap (λ z. onto fs (frames_at frame n z)) h
 
 abbrev goes : Reader → ℕ → List ℕ → Tokens → Bool → Reading Tree
 goes frame n w ts b = cond b (Ok (nothing, ts)) (frame (w ∷ ts) >>= (λ x. frames_at frame n x.1 >>= (λ y. Ok (chained x.0 y.0, y.1))))
 
-pub frames_close : {A : Type 0} (frame : Reader) (n : ℕ) (w : List ℕ) (text ts : Tokens) (fs : List (Frame A)) (whole : Reading Tree) → text ≡ w ∷ ts → length text ≤ n → same w (codes "}") ≡ true → whole ≡ onto fs (frames_at frame n text) → whole ≡ Ok (chain (map tree_of fs), ts)
+pub frames_close : (frame : Reader) (n : ℕ) (w : List ℕ) (text ts : Tokens) (fs : List Tree) (whole : Reading Tree) → text ≡ w ∷ ts → length text ≤ n → same w (codes "}") ≡ true → whole ≡ onto fs (frames_at frame n text) → whole ≡ Ok (chain fs, ts)
 unfolding frames_at
 frames_close frame zero w text ts fs whole is h b e = absurd (omega (arith, h, ap length is))
 frames_close frame (suc n) w text ts fs whole is h b e =
     e ∙ ap (λ z. onto fs (frames_at frame (suc n) z)) is
     ∙ ap (λ t. onto fs (goes frame n w ts t)) b
-    ∙ ap (λ t. Ok (t, ts)) (before_nothing (map tree_of fs))
+    ∙ ap (λ t. Ok (t, ts)) (before_nothing fs)
 
 pub frames_on : (frame : Reader) (n : ℕ) (w : List ℕ) (text ts : Tokens) → text ≡ w ∷ ts → same w (codes "}") ≡ false → frames_at frame (suc n) text ≡ (frame text >>= (λ x. frames_at frame n x.1 >>= (λ y. Ok (chained x.0 y.0, y.1))))
 unfolding frames_at
@@ -76,37 +71,41 @@ frames_on frame n w text ts is b =
     ap (frames_at frame (suc n)) is ∙ ap (λ t. goes frame n w ts t) b
     ∙ ap (λ z. frame z >>= (λ x. frames_at frame n x.1 >>= (λ y. Ok (chained x.0 y.0, y.1)))) (sym is)
 
-pub frames_more : {A : Type 0} (frame : Reader) (n : ℕ) (w : List ℕ) (text ts left : Tokens) (fs : List (Frame A)) (f : Frame A) (whole : Reading Tree) → text ≡ w ∷ ts → length text ≤ n → same w (codes "}") ≡ false
-    → frame text ≡ Ok (tree_of f, left) → length left < length text → whole ≡ onto fs (frames_at frame n text) → (m : ℕ) × (length left ≤ m) × (whole ≡ onto (fs ++ f ∷ []) (frames_at frame m left))
+pub frames_more : (frame : Reader) (n : ℕ) (w : List ℕ) (text ts left : Tokens) (fs : List Tree) (f : Tree) (whole : Reading Tree) → text ≡ w ∷ ts → length text ≤ n → same w (codes "}") ≡ false
+    → frame text ≡ Ok (f, left) → length left < length text → whole ≡ onto fs (frames_at frame n text) → (m : ℕ) × (length left ≤ m) × (whole ≡ onto (fs ++ f ∷ []) (frames_at frame m left))
 frames_more frame zero w text ts left fs f whole is h b r s e = absurd (omega (arith, h, ap length is))
 frames_more frame (suc n) w text ts left fs f whole is h b r s e = (
   n,
   omega (arith, h, s),
   e ∙ ap (onto fs) (frames_on frame n w text ts is b ∙ ap (λ z. z >>= (λ x. frames_at frame n x.1 >>= (λ y. Ok (chained x.0 y.0, y.1)))) r)
-      ∙ onto_more fs f (frames_at frame n left),
+      ∙ put_more fs f (frames_at frame n left),
 )
 
-frames_fail : {A : Type 0} (frame : Reader) (n : ℕ) (w : List ℕ) (text ts : Tokens) (fs : List (Frame A)) (c : Cause) (whole : Reading Tree) → text ≡ w ∷ ts → length text ≤ n → same w (codes "}") ≡ false → frame text ≡ Err c → whole ≡ onto fs (frames_at frame n text) → whole ≡ Err c
+frames_fail : (frame : Reader) (n : ℕ) (w : List ℕ) (text ts : Tokens) (fs : List Tree) (c : Cause) (whole : Reading Tree) → text ≡ w ∷ ts → length text ≤ n → same w (codes "}") ≡ false → frame text ≡ Err c → whole ≡ onto fs (frames_at frame n text) → whole ≡ Err c
 frames_fail frame zero w text ts fs c whole is h b r e = absurd (omega (arith, h, ap length is))
 frames_fail frame (suc n) w text ts fs c whole is h b r e =
     e ∙ ap (onto fs) (frames_on frame n w text ts is b ∙ ap (λ z. z >>= (λ x. frames_at frame n x.1 >>= (λ y. Ok (chained x.0 y.0, y.1)))) r)
 
-pub frames_refused : {A : Type 0} (f : Fault) (frame : Reader) (n : ℕ) (w : List ℕ) (text ts : Tokens) (fs : List (Frame A)) (whole : Reading Tree) → text ≡ w ∷ ts → length text ≤ n → same w (codes "}") ≡ false → Fails f (frame text) → whole ≡ onto fs (frames_at frame n text) → Fails f whole
-frames_refused (fault.Text c left) frame n w text ts fs whole is h b r e = frames_fail frame n w text ts fs c whole is h b r e
-frames_refused (fault.Memory left) frame n w text ts fs whole is h b r e = tt
+pub frames_refused : (R : Type 0) (f : Fault) (frame : Reader) (n : ℕ) (w : List ℕ) (text ts : Tokens) (fs : List Tree) (whole : Reading Tree) → text ≡ w ∷ ts → length text ≤ n → same w (codes "}") ≡ false → Breaks R f (frame text) → whole ≡ onto fs (frames_at frame n text) → Breaks R f whole
+frames_refused R (fault.Text c left) frame n w text ts fs whole is h b r e = frames_fail frame n w text ts fs c whole is h b r e
+frames_refused R (fault.Memory left) frame n w text ts fs whole is h b r e = r
 
 pub fails_with : (f : Fault) (c : Cause) {Y : Type 0} (read : Result Y Cause) → IsCause c f → read ≡ Err c → Fails f read
 fails_with (fault.Text d left) c read h e = e ∙ ap Err (sym h)
 fails_with (fault.Memory left) c read h e = absurd h
 
-abbrev pub onto_script : {A : Type 0} → List (Frame A) → Result Tree Cause → Result Tree Cause
-onto_script fs r = r >>= (λ x. Ok (before (map tree_of fs) x))
+pub breaks_with : (R : Type 0) (f : Fault) (c : Cause) {Y : Type 0} (read : Result Y Cause) → IsCause c f → read ≡ Err c → Breaks R f read
+breaks_with R (fault.Text d left) c read h e = e ∙ ap Err (sym h)
+breaks_with R (fault.Memory left) c read h e = absurd h
+
+abbrev pub onto_script : List Tree → Result Tree Cause → Result Tree Cause
+onto_script fs r = r >>= (λ x. Ok (before fs x))
 
 script_empty : (r : Result Tree Cause) → r ≡ (r >>= (λ x. Ok (before [] x)))
 script_empty (Ok x) = refl
 script_empty (Err e) = refl
 
-pub script_none : {A : Type 0} (fs : List (Frame A)) (r : Result Tree Cause) → fs ≡ [] → r ≡ onto_script fs r
+pub script_none : (fs : List Tree) (r : Result Tree Cause) → fs ≡ [] → r ≡ onto_script fs r
 script_none fs r e = script_empty r ∙ ap (λ us. onto_script us r) (sym e)
 
 put_script_more : (ts : List Tree) (t : Tree) (r : Result Tree Cause) → ((r >>= (λ y. Ok (chained t y))) >>= (λ x. Ok (before ts x))) ≡ (r >>= (λ x. Ok (before (ts ++ t ∷ []) x)))
@@ -117,28 +116,27 @@ pub main_on : (ds : Scope ℕ) (n : ℕ) (w : List ℕ) (text ts : Tokens) → t
 unfolding main_at
 main_on ds n w text ts is = ap (main_at ds (suc n)) is ∙ ap (λ z. frame_at ds 16 z >>= (λ x. main_at ds n x.1 >>= (λ y. Ok (chained x.0 y)))) (sym is)
 
-pub main_end : {A : Type 0} (ds : Scope ℕ) (n : ℕ) (text : Tokens) (fs : List (Frame A)) (whole : Result Tree Cause) → text ≡ [] → whole ≡ onto_script fs (main_at ds n text) → whole ≡ Ok (chain (map tree_of fs))
+pub main_end : (ds : Scope ℕ) (n : ℕ) (text : Tokens) (fs : List Tree) (whole : Result Tree Cause) → text ≡ [] → whole ≡ onto_script fs (main_at ds n text) → whole ≡ Ok (chain fs)
 unfolding main_at
-main_end ds n text fs whole h e = e ∙ ap (λ z. onto_script fs (main_at ds n z)) h ∙ ap Ok (before_nothing (map tree_of fs))
+main_end ds n text fs whole h e = e ∙ ap (λ z. onto_script fs (main_at ds n z)) h ∙ ap Ok (before_nothing fs)
 
-pub main_more : {A : Type 0} (ds : Scope ℕ) (n : ℕ) (w : List ℕ) (text ts left : Tokens) (fs : List (Frame A)) (f : Frame A) (whole : Result Tree Cause) → text ≡ w ∷ ts → length text ≤ n
-    → frame_at ds 16 text ≡ Ok (tree_of f, left) → length left < length text → whole ≡ onto_script fs (main_at ds n text) → (m : ℕ) × (length left ≤ m) × (whole ≡ onto_script (fs ++ f ∷ []) (main_at ds m left))
+pub main_more : (ds : Scope ℕ) (n : ℕ) (w : List ℕ) (text ts left : Tokens) (fs : List Tree) (f : Tree) (whole : Result Tree Cause) → text ≡ w ∷ ts → length text ≤ n
+    → frame_at ds 16 text ≡ Ok (f, left) → length left < length text → whole ≡ onto_script fs (main_at ds n text) → (m : ℕ) × (length left ≤ m) × (whole ≡ onto_script (fs ++ f ∷ []) (main_at ds m left))
 main_more ds zero w text ts left fs f whole is h r s e = absurd (omega (arith, h, ap length is))
 main_more ds (suc n) w text ts left fs f whole is h r s e = (
   n,
   omega (arith, h, s),
   e ∙ ap (onto_script fs) (main_on ds n w text ts is ∙ ap (λ z. z >>= (λ x. main_at ds n x.1 >>= (λ y. Ok (chained x.0 y)))) r)
-      ∙ put_script_more (map tree_of fs) (tree_of f) (main_at ds n left)
-      ∙ ap (λ us. main_at ds n left >>= (λ x. Ok (before us x))) (sym (map-append tree_of fs (f ∷ []))),
+      ∙ put_script_more fs f (main_at ds n left),
 )
 
-main_fail : {A : Type 0} (ds : Scope ℕ) (n : ℕ) (w : List ℕ) (text ts : Tokens) (fs : List (Frame A)) (c : Cause) (whole : Result Tree Cause) → text ≡ w ∷ ts → length text ≤ n → frame_at ds 16 text ≡ Err c → whole ≡ onto_script fs (main_at ds n text) → whole ≡ Err c
+main_fail : (ds : Scope ℕ) (n : ℕ) (w : List ℕ) (text ts : Tokens) (fs : List Tree) (c : Cause) (whole : Result Tree Cause) → text ≡ w ∷ ts → length text ≤ n → frame_at ds 16 text ≡ Err c → whole ≡ onto_script fs (main_at ds n text) → whole ≡ Err c
 main_fail ds zero w text ts fs c whole is h r e = absurd (omega (arith, h, ap length is))
 main_fail ds (suc n) w text ts fs c whole is h r e = e ∙ ap (onto_script fs) (main_on ds n w text ts is ∙ ap (λ z. z >>= (λ x. main_at ds n x.1 >>= (λ y. Ok (chained x.0 y)))) r)
 
-pub main_refused : {A : Type 0} (f : Fault) (ds : Scope ℕ) (n : ℕ) (w : List ℕ) (text ts : Tokens) (fs : List (Frame A)) (whole : Result Tree Cause) → text ≡ w ∷ ts → length text ≤ n → Fails f (frame_at ds 16 text) → whole ≡ onto_script fs (main_at ds n text) → Fails f whole
-main_refused (fault.Text c left) ds n w text ts fs whole is h r e = main_fail ds n w text ts fs c whole is h r e
-main_refused (fault.Memory left) ds n w text ts fs whole is h r e = tt
+pub main_refused : (R : Type 0) (f : Fault) (ds : Scope ℕ) (n : ℕ) (w : List ℕ) (text ts : Tokens) (fs : List Tree) (whole : Result Tree Cause) → text ≡ w ∷ ts → length text ≤ n → Breaks R f (frame_at ds 16 text) → whole ≡ onto_script fs (main_at ds n text) → Breaks R f whole
+main_refused R (fault.Text c left) ds n w text ts fs whole is h r e = main_fail ds n w text ts fs c whole is h r e
+main_refused R (fault.Memory left) ds n w text ts fs whole is h r e = r
 
 -- no definition here
 pub no_definition : (k : ℕ) (ds : Scope ℕ) (text : Tokens) → ((w : List ℕ) (ts : Tokens) → text ≡ w ∷ ts → same w (codes "define") ≡ false) → script_at k ds text ≡ main_at ds (length text) text

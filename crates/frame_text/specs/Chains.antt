@@ -18,8 +18,8 @@ AreWords (w ∷ ws) = (w < 65536) × AreWords ws
 abbrev pub IsReadable : Form → Type 0
 IsReadable m = IsLawful m × AreWords (data_words m)
 
--- Frames in a chain that holds no chain itself, or one frame: the first argument tells which. Each message is one that a script
--- may have, and what is called has a name.
+-- Frames in a chain that holds no chain itself, or one frame: the first argument tells which. Each message is one that
+-- a script may have, and what is called has a name.
 abbrev pub IsRead : Bool → Tree → Type 0
 IsRead true nothing = Unit {0}
 IsRead true (chained a b) = IsRead false a × IsRead true b

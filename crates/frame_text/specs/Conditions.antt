@@ -36,7 +36,9 @@ Reader = Tokens → Reading Condition
 -- two conditions in their brackets
 unfoldable pub pair_at : Reader → Tokens → Reading (Condition × Condition)
 pair_at below ts =
-    past (codes "(") ts >>= (λ us. below us >>= (λ a. below a.1 >>= (λ b. past (codes ")") b.1 >>= (λ rest. Ok ((a.0, b.0), rest)))))
+    past (codes "(") ts
+    >>= (λ us. below us
+    >>= (λ a. below a.1 >>= (λ b. past (codes ")") b.1 >>= (λ rest. Ok ((a.0, b.0), rest)))))
 
 -- a condition by its first word; below reads those in it, or is the fault of one level too many
 unfoldable pub condition_of : Result Reader Cause → ConditionWord → List ℕ → Tokens → Reading Condition
@@ -52,7 +54,8 @@ unfoldable pub condition_from : Result Reader Cause → Reader
 condition_from below [] = Err cause.End
 condition_from below (w ∷ ts) = condition_of below (condition_word w) w ts
 
--- what reads a condition within another, where at most so many operators may stand above a test, the outer one among them
+-- what reads a condition within another, where at most so many operators may stand above a test, the outer one among
+-- them
 unfoldable pub below_at : ℕ → Result Reader Cause
 below_at zero = Err cause.Depth
 below_at (suc d) = Ok (condition_from (below_at d))

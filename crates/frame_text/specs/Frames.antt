@@ -36,18 +36,24 @@ else_at block (w ∷ ts) = if same w (codes "else") then block ts else Ok (nothi
 -- behind the first word of a frame: what is sent once and again, what is repeated, what is chosen, what runs until a
 -- condition holds, what has a period; block reads a block in its braces
 abbrev pub retry_at : Reader
-retry_at ts = number_within 1 8 ts >>= (λ n. past (codes "send") n.1 >>= (λ us. send_at us >>= (λ x. Ok (retry n.0 x.0.0 x.0.1, x.1))))
+retry_at ts =
+    number_within 1 8 ts
+    >>= (λ n. past (codes "send") n.1 >>= (λ us. send_at us >>= (λ x. Ok (retry n.0 x.0.0 x.0.1, x.1))))
 
 abbrev pub repeat_at : Reader → Reader
 repeat_at block ts = number_within 1 10000 ts >>= (λ n. block n.1 >>= (λ b. Ok (repeat n.0 b.0, b.1)))
 
 abbrev pub choice_at : Reader → Reader
-choice_at block ts = condition_at 16 ts >>= (λ c. block c.1 >>= (λ a. else_at block a.1 >>= (λ b. Ok (choose c.0 a.0 b.0, b.1))))
+choice_at block ts =
+    condition_at 16 ts
+    >>= (λ c. block c.1 >>= (λ a. else_at block a.1 >>= (λ b. Ok (choose c.0 a.0 b.0, b.1))))
 
 abbrev pub until_at : Reader → Reader
 until_at block ts =
     condition_at 16 ts
-    >>= (λ c. past (codes "at") c.1 >>= (λ us. past (codes "most") us >>= (λ vs. number_within 1 10000 vs >>= (λ n. block n.1 >>= (λ b. Ok (until c.0 n.0 b.0, b.1))))))
+    >>= (λ c. past (codes "at") c.1
+    >>= (λ us. past (codes "most") us
+    >>= (λ vs. number_within 1 10000 vs >>= (λ n. block n.1 >>= (λ b. Ok (until c.0 n.0 b.0, b.1))))))
 
 abbrev pub timed_at : Reader → Reader
 timed_at block ts = period_at ts >>= (λ n. block n.1 >>= (λ b. Ok (timed n.0 b.0, b.1)))
@@ -57,10 +63,11 @@ unfoldable pub label_at : Tokens → Reading (List ℕ)
 label_at [] = Err cause.End
 label_at (w ∷ ts) = if is_name w then Ok (w, ts) else Err (misplaced w)
 
--- behind the word call: a name in scope, where each name in scope has the depth of its body, and no more than so many blocks in
--- the body
+-- behind the word call: a name in scope, where each name in scope has the depth of its body, and no more than so many
+-- blocks in the body
 abbrev pub called : Scope ℕ → ℕ → List ℕ → Tokens → Reading Tree
-called ds d n ts = if is_known ds n then (if nat_le (named 0 ds n) d then Ok (call n, ts) else Err cause.Depth) else Err cause.Name
+called ds d n ts =
+    if is_known ds n then (if nat_le (named 0 ds n) d then Ok (call n, ts) else Err cause.Depth) else Err cause.Name
 
 abbrev pub call_at : Scope ℕ → ℕ → Reader
 call_at ds d ts = label_at ts >>= (λ n. called ds d n.0 n.1)
@@ -126,10 +133,12 @@ definition_at ds ts = fresh_name_at ds ts >>= (λ n. block_at ds 17 n.1 >>= (λ 
 -- definitions, at most so many, and the frames behind them
 unfoldable pub script_at : ℕ → Scope ℕ → Tokens → Result Tree Cause
 script_at k ds [] = Ok nothing
-script_at zero ds (w ∷ ts) = if same w (codes "define") then Err cause.Definitions else main_at ds (length (w ∷ ts)) (w ∷ ts)
+script_at zero ds (w ∷ ts) =
+    if same w (codes "define") then Err cause.Definitions else main_at ds (length (w ∷ ts)) (w ∷ ts)
 script_at (suc k) ds (w ∷ ts) =
     if same w (codes "define")
-    then (definition_at ds ts >>= (λ x. script_at k ((x.0.0, depth_in ds x.0.1) ∷ ds) x.1 >>= (λ t. Ok (define x.0.0 x.0.1 t))))
+    then (definition_at ds ts
+    >>= (λ x. script_at k ((x.0.0, depth_in ds x.0.1) ∷ ds) x.1 >>= (λ t. Ok (define x.0.0 x.0.1 t))))
     else main_at ds (length (w ∷ ts)) (w ∷ ts)
 
 -- a script sends at most 1,000,000 messages at worst

@@ -1,5 +1,9 @@
 pub mod Tokens
 pub mod Reading
+pub mod Codes
+pub mod Outlines
+pub mod OutlineParts
+pub mod Weights
 pub mod Words
 pub mod Messages
 pub mod Conditions

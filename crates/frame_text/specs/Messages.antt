@@ -6,7 +6,8 @@ use Rattle.mil_message.specs.declared.faults.BadMessage.{BadMessage}
 use Rattle.mil_message.specs.declared.forms.Form.{Form}
 use Rattle.mil_message.specs.declared.drafts.ModeSubaddress.{ModeSubaddress}
 use Rattle.mil_message.specs.declared.drafts.ModeSubaddress.TheVariants.{Zero, ThirtyOne}
-use Rattle.mil_message.specs.Request.{Request, to_terminal, from_terminal, between, to_all, between_all, mode_request, mode_request_to_all}
+use Rattle.mil_message.specs.Request.{Request, to_terminal, from_terminal, between, to_all, between_all}
+use Rattle.mil_message.specs.Request.{mode_request, mode_request_to_all}
 use Rattle.mil_message.specs.Rules.{checked}
 use Rattle.frame_text.specs.Tokens.{tokens}
 use Rattle.frame_text.specs.Reading.{Tokens, Reading, ◌>>=◌, same, misplaced, to_the_end}
@@ -58,7 +59,8 @@ transmit_at ts =
 -- the sender and its subaddress, the receiver and its subaddress
 unfoldable pub transfer_at : Tokens → Reading Form
 transfer_at ts =
-    number_at ts >>= (λ sender. number_at sender.1 >>= (λ from. number_at from.1 >>= (λ receiver. number_at receiver.1 >>= (λ to. number_at to.1 >>= (λ count.
+    number_at ts >>= (λ sender. number_at sender.1 >>= (λ from.
+    number_at from.1 >>= (λ receiver. number_at receiver.1 >>= (λ to. number_at to.1 >>= (λ count.
     made (between sender.0 from.0 receiver.0 to.0 count.0) count.1)))))
 
 unfoldable pub mode_at : ModeSubaddress → Tokens → Reading Form

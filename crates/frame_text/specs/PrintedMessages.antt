@@ -6,7 +6,8 @@ use Rattle.mil_word.specs.declared.Line.TheVariants.{A, B}
 use Rattle.mil_message.specs.declared.drafts.ModeSubaddress.{ModeSubaddress}
 use Rattle.mil_message.specs.declared.drafts.ModeSubaddress.TheVariants.{Zero, ThirtyOne}
 use Rattle.mil_message.specs.declared.forms.Form.{Form}
-use Rattle.mil_message.specs.declared.forms.Form.TheVariants.{ToTerminal, FromTerminal, Between, Mode, ModeFrom, ModeTo, ToAll, BetweenAll, ModeAll, ModeAllTo}
+use Rattle.mil_message.specs.declared.forms.Form.TheVariants.{ToTerminal, FromTerminal, Between, Mode, ModeFrom, ModeTo}
+use Rattle.mil_message.specs.declared.forms.Form.TheVariants.{ToAll, BetweenAll, ModeAll, ModeAllTo}
 
 -- texts with one space between them
 abbrev pub spaced : List (List ℕ) → List ℕ
@@ -50,14 +51,18 @@ is_mode_command _ = true
 
 -- the words of a message; a mode command has brackets where the controller sends its data word
 abbrev pub message_words : Form → List (List ℕ)
-message_words (ToTerminal address sub words) = codes "rx" ∷ decimal address ∷ decimal sub ∷ bracketed_text words.items ∷ []
+message_words (ToTerminal address sub words) =
+    codes "rx" ∷ decimal address ∷ decimal sub ∷ bracketed_text words.items ∷ []
 message_words (FromTerminal address sub count) = codes "tx" ∷ decimal address ∷ decimal sub ∷ decimal count ∷ []
-message_words (Between sender from receiver to count) = codes "rt" ∷ decimal sender ∷ decimal from ∷ decimal receiver ∷ decimal to ∷ decimal count ∷ []
+message_words (Between sender from receiver to count) =
+    codes "rt" ∷ decimal sender ∷ decimal from ∷ decimal receiver ∷ decimal to ∷ decimal count ∷ []
 message_words (Mode address sub code) = mode_text sub ∷ decimal address ∷ decimal code ∷ []
 message_words (ModeFrom address sub code) = mode_text sub ∷ decimal address ∷ decimal code ∷ []
-message_words (ModeTo address sub code word) = mode_text sub ∷ decimal address ∷ decimal code ∷ bracketed_text (word ∷ []) ∷ []
+message_words (ModeTo address sub code word) =
+    mode_text sub ∷ decimal address ∷ decimal code ∷ bracketed_text (word ∷ []) ∷ []
 message_words (ToAll sub words) = codes "brx" ∷ decimal sub ∷ bracketed_text words.items ∷ []
-message_words (BetweenAll sender from to count) = codes "brt" ∷ decimal sender ∷ decimal from ∷ decimal to ∷ decimal count ∷ []
+message_words (BetweenAll sender from to count) =
+    codes "brt" ∷ decimal sender ∷ decimal from ∷ decimal to ∷ decimal count ∷ []
 message_words (ModeAll sub code) = mode_all_text sub ∷ decimal code ∷ []
 message_words (ModeAllTo sub code word) = mode_all_text sub ∷ decimal code ∷ bracketed_text (word ∷ []) ∷ []
 

@@ -23,21 +23,38 @@ abbrev pub else_text : ℕ → Bool → List ℕ → List ℕ
 else_text depth true inner = []
 else_text depth false inner = codes " else " ++ block_text depth inner
 
--- the lines of a tree inside so many blocks; the members of a sequence in a sequence stand in line; a period is printed in µs
+-- the lines of a tree inside so many blocks; the members of a sequence in a sequence stand in line; a period is printed
+-- in µs
 unfoldable pub lines : ℕ → Tree → List ℕ
 lines depth (send line message) = indent depth ++ (send_text line message ++ codes "\n")
-lines depth (retry count line message) = indent depth ++ (codes "retry " ++ (decimal count ++ (codes " " ++ (send_text line message ++ codes "\n"))))
+lines depth (retry count line message) =
+    indent depth ++ (codes "retry " ++ (decimal count ++ (codes " " ++ (send_text line message ++ codes "\n"))))
 lines depth (gap ticks) = indent depth ++ (codes "gap " ++ (decimal ticks ++ codes "\n"))
-lines depth (repeat count body) = indent depth ++ (codes "repeat " ++ (decimal count ++ (codes " " ++ (block_text depth (lines (depth + 1) body) ++ codes "\n"))))
+lines depth (repeat count body) =
+    indent depth
+    ++ (codes "repeat " ++ (decimal count ++ (codes " " ++ (block_text depth (lines (depth + 1) body) ++ codes "\n"))))
 lines depth (choose c a b) =
-    indent depth ++ (codes "if " ++ (condition_text c ++ (codes " " ++ (block_text depth (lines (depth + 1) a) ++ (else_text depth (is_empty b) (lines (depth + 1) b) ++ codes "\n")))))
+    indent depth
+    ++ (codes "if "
+    ++ (condition_text c
+    ++ (codes " "
+    ++ (block_text depth (lines (depth + 1) a)
+    ++ (else_text depth (is_empty b) (lines (depth + 1) b) ++ codes "\n")))))
 lines depth (until c count body) =
-    indent depth ++ (codes "until " ++ (condition_text c ++ (codes " at most " ++ (decimal count ++ (codes " " ++ (block_text depth (lines (depth + 1) body) ++ codes "\n"))))))
+    indent depth
+    ++ (codes "until "
+    ++ (condition_text c
+    ++ (codes " at most "
+    ++ (decimal count ++ (codes " " ++ (block_text depth (lines (depth + 1) body) ++ codes "\n"))))))
 lines depth (timed hundreds body) =
-    indent depth ++ (codes "frame " ++ (decimal (hundreds * 100) ++ (codes " " ++ (block_text depth (lines (depth + 1) body) ++ codes "\n"))))
+    indent depth
+    ++ (codes "frame "
+    ++ (decimal (hundreds * 100) ++ (codes " " ++ (block_text depth (lines (depth + 1) body) ++ codes "\n"))))
 lines depth (call name) = indent depth ++ (codes "call " ++ (name ++ codes "\n"))
 lines depth (define name body rest) =
-    (indent depth ++ (codes "define " ++ (name ++ (codes " " ++ (block_text depth (lines (depth + 1) body) ++ codes "\n"))))) ++ lines depth rest
+    (indent depth
+    ++ (codes "define " ++ (name ++ (codes " " ++ (block_text depth (lines (depth + 1) body) ++ codes "\n")))))
+    ++ lines depth rest
 lines depth nothing = []
 lines depth (chained a b) = lines depth a ++ lines depth b
 

@@ -1,5 +1,6 @@
 -- What reading tokens from left to right comes to: what was read and the tokens after it, or the first fault.
-use Rattle.std.specs.Prelude.{◌≡◌, ℕ, nat_eq, Bool, true, false, ◌&&◌, ◌||◌, if◌then◌else◌, List, [], ◌∷◌, ◌++◌, length, Result, Ok, Err, codes}
+use Rattle.std.specs.Prelude.{◌≡◌, ℕ, nat_eq, Bool, true, false, ◌&&◌, ◌||◌, if◌then◌else◌, List, [], ◌∷◌, ◌++◌}
+use Rattle.std.specs.Prelude.{length, Result, Ok, Err, codes}
 use Rattle.frame_text.specs.Tokens.{in_word, tokens, BeginsToken}
 use Rattle.frame_text.specs.declared.faults.Cause.{Cause}
 use Rattle.frame_text.specs.declared.faults.Cause.TheVariants as cause
@@ -30,10 +31,23 @@ abbrev pub Gives : {X Y : Type 0} → (X → Y) → Result X Fault → Result Y 
 Gives view (Ok x) read = read ≡ Ok (view x)
 Gives view (Err e) read = Fails e read
 
--- the same of the public calls
+-- the same where this is known when memory was refused
+abbrev pub Breaks : {Y : Type 0} → Type 0 → Fault → Result Y Cause → Type 0
+Breaks refused (fault.Text c left) read = read ≡ Err c
+Breaks refused (fault.Memory left) read = refused
+
+abbrev pub Builds : {X Y : Type 0} → Type 0 → (X → Y) → Result X Fault → Result Y Cause → Type 0
+Builds refused view (Ok x) read = read ≡ Ok (view x)
+Builds refused view (Err e) read = Breaks refused e read
+
+-- reading comes to no fault
+abbrev pub HasNoFault : {Y : Type 0} → Result Y Cause → Type 0
+HasNoFault {Y} read = (y : Y) × (read ≡ Ok y)
+
+-- The same of the public calls: want of memory is answered only where reading comes to no fault.
 abbrev pub Refuses : {Y : Type 0} → ScriptError → Result Y Cause → Type 0
 Refuses (error.Text c place) read = read ≡ Err c
-Refuses (error.Memory place) read = Unit {0}
+Refuses (error.Memory place) read = HasNoFault read
 
 abbrev pub Answers : {X Y : Type 0} → (X → Y) → Result X ScriptError → Result Y Cause → Type 0
 Answers view (Ok x) read = read ≡ Ok (view x)
@@ -51,7 +65,9 @@ is_word (b ∷ bs) = in_word b
 
 -- the brackets { } ( ) [ ]
 abbrev pub is_bracket : List ℕ → Bool
-is_bracket w = same w (codes "{") || same w (codes "}") || same w (codes "(") || same w (codes ")") || same w (codes "[") || same w (codes "]")
+is_bracket w =
+    same w (codes "{") || same w (codes "}") || same w (codes "(") || same w (codes ")") || same w (codes "[")
+    || same w (codes "]")
 
 -- the fault of a token that may not stand where it does: a byte that is in no token of the language, or a wrong token
 abbrev pub misplaced : List ℕ → Cause
@@ -74,7 +90,9 @@ IsCause c (fault.Memory left) = ⊥
 
 -- a fault at the first token of a text, or at its end: that many bytes are left from there on
 abbrev pub IsAtToken : List ℕ → Fault → Type 0
-IsAtToken text (fault.Text c left) = (before : List ℕ) × (rest : List ℕ) × (text ≡ before ++ rest) × (tokens rest ≡ tokens text) × BeginsToken rest × (left ≡ length rest)
+IsAtToken text (fault.Text c left) =
+    (before : List ℕ) × (rest : List ℕ) × (text ≡ before ++ rest) × (tokens rest ≡ tokens text) × BeginsToken rest
+    × (left ≡ length rest)
 IsAtToken text (fault.Memory left) = ⊥
 
 -- a fault of the text, and not want of memory

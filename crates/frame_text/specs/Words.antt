@@ -1,5 +1,6 @@
 -- Numbers, periods and data words.
-use Rattle.std.specs.Prelude.{ℕ, ◌/◌, ◌%◌, nat_eq, nat_le, ◌&&◌, if◌then◌else◌, List, [], ◌∷◌, take, Option, Some, None, Result, Ok, Err, codes}
+use Rattle.std.specs.Prelude.{ℕ, ◌/◌, ◌%◌, nat_eq, nat_le, ◌&&◌, if◌then◌else◌, List, [], ◌∷◌, take, Option, Some, None}
+use Rattle.std.specs.Prelude.{Result, Ok, Err, codes}
 use Rattle.numerals.specs.Numerals as numerals
 use Rattle.frame_text.specs.Reading.{Tokens, Reading, ◌>>=◌, same, is_word, misplaced, past}
 use Rattle.frame_text.specs.declared.faults.Cause.{Cause}
@@ -57,4 +58,5 @@ bracketed_at ts = past (codes "[") ts >>= (λ us. counted (words_at us))
 -- data words in their brackets, where a bracket opens here
 unfoldable pub optional_at : Tokens → Reading (Option (List ℕ))
 optional_at [] = Ok (None, [])
-optional_at (w ∷ ts) = if same w (codes "[") then (counted (words_at ts) >>= (λ ns. Ok (Some ns.0, ns.1))) else Ok (None, w ∷ ts)
+optional_at (w ∷ ts) =
+    if same w (codes "[") then (counted (words_at ts) >>= (λ ns. Ok (Some ns.0, ns.1))) else Ok (None, w ∷ ts)

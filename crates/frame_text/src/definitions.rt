@@ -1,23 +1,23 @@
 //! The text of a script: definitions, and the frames behind them.
 
-ghost use Rattle.std.specs.Prelude.{length};
-ghost use Rattle.frame_tree.specs.Tree.{tree_of};
+ghost use Rattle.std.specs.Prelude.{length, IfOk, IfErr};
 ghost use Rattle.frame_tree.specs.Scopes.{scope_of};
 ghost use Rattle.frame_text.specs.Tokens.{tokens};
-ghost use Rattle.frame_text.specs.Reading.{Gives};
+ghost use Rattle.frame_text.specs.Reading.{Gives, Builds, IsOfText};
 ghost use Rattle.frame_text.specs.Frames.{fresh_name_at, main_at, script_at};
 
+use crate::builder::Builder;
 use crate::faults::{Cause, Fault};
-use crate::frames::{block, frame, label, seq};
+use crate::frames::{block, frame, label};
 use crate::keywords::is;
 use crate::memory::or_refused;
 use crate::tokens::{fault, next};
-use frame_tree::{Frame, Name, Scope};
-use std::alloc::Allocator;
+use frame_tree::{Name, Scope};
 
 // A name that is not in scope yet.
 fn fresh_name<'a>(text: &'a [u8], scope: &Scope<'_>) -> Result<(Name, &'a [u8]), Fault>
-    ensures { Gives (λ x. (x.0, tokens x.1.now)) result (fresh_name_at (scope_of scope.now) (tokens text.now)) }
+    ensures tree { Gives (λ x. (x.0, tokens x.1.now)) result (fresh_name_at (scope_of scope.now) (tokens text.now)) }
+    ensures of_text { IfErr result (λ e. IsOfText e) }
 {
     let (name, rest) = label(text)?;
     if scope.has(&name) {
@@ -27,51 +27,55 @@ fn fresh_name<'a>(text: &'a [u8], scope: &Scope<'_>) -> Result<(Name, &'a [u8]),
 }
 
 // Frames up to the end of the text.
-fn main<A: Allocator + Clone>(alloc: &A, text: &[u8], scope: &Scope<'_>) -> Result<Frame<A>, Fault>
-    ensures { Gives tree_of result (main_at (scope_of scope.now) (length (tokens text.now)) (tokens text.now)) }
+fn main<B: Builder>(
+    builder: &B,
+    text: &[u8],
+    scope: &Scope<'_>,
+    costs: &Scope<'_>,
+) -> Result<B::Frame, Fault>
+    ensures tree { Builds B.refused B.tree result
+        (main_at (scope_of scope.now) (length (tokens text.now)) (tokens text.now)) }
+    ensures fits { IfOk result (λ f. B.fits (scope_of scope.now) (scope_of costs.now) f) }
 {
-    let own = or_refused!(alloc.clone(), text);
-    let mut found = Vec::new(own);
+    let mut found = or_refused!(builder.no_frames(), text);
     let mut rest = text;
     while let Some((word, _)) = next(rest) {
         let _ = word;
-        let (one, left) = frame(alloc, rest, scope, 16)?;
-        or_refused!(found.push(one), left);
+        let (one, left) = frame(builder, rest, scope, costs, 16)?;
+        found = or_refused!(builder.more(found, one), left);
         rest = left;
     }
-    Ok(seq(found))
+    Ok(builder.whole(found))
 }
 
-/// Definitions, at most `left` of them, and the frames behind them up to the end of the text.
-pub fn script<'s, A: Allocator + Clone>(
-    alloc: &A,
+/// Definitions, at most `left` of them, and the frames behind them up to the end of the text. Of each name in scope
+/// `scope` has the depth of its body, and `costs` the number that the builder has for it.
+pub fn script<'s, B: Builder>(
+    builder: &B,
     text: &[u8],
     scope: &'s Scope<'s>,
+    costs: &'s Scope<'s>,
     left: u8,
-) -> Result<Frame<A>, Fault>
-    ensures { Gives tree_of result (script_at left (scope_of scope.now) (tokens text.now)) }
+) -> Result<B::Frame, Fault>
+    ensures tree { Builds B.refused B.tree result (script_at left (scope_of scope.now) (tokens text.now)) }
+    ensures fits { IfOk result (λ f. B.fits (scope_of scope.now) (scope_of costs.now) f) }
 {
     let Some((word, rest)) = next(text) else {
-        return main(alloc, text, &*scope);
+        return main(builder, text, &*scope, &*costs);
     };
     if !is(word, b"define") {
-        return main(alloc, text, &*scope);
+        return main(builder, text, &*scope, &*costs);
     }
     if left == 0 {
         return Err(fault(Cause::Definitions, text));
     }
     let (name, rest) = fresh_name(rest, &*scope)?;
-    let (body, rest) = block(alloc, rest, &*scope, 17)?;
-    let depth = body.depth_in(&*scope);
+    let (body, rest) = block(builder, rest, &*scope, &*costs, 17)?;
+    let depth = builder.depth(&body, &*scope);
+    let cost = builder.messages(&body);
     let inner = Scope::With(&name, depth, &*scope);
-    let others = script(alloc, rest, &inner, left - 1)?;
-    let own = or_refused!(alloc.clone(), rest);
-    let body = or_refused!(Box::new(own, body), rest);
-    let own = or_refused!(alloc.clone(), rest);
-    let others = or_refused!(Box::new(own, others), rest);
-    Ok(Frame::Define {
-        name,
-        body,
-        rest: others,
-    })
+    let inner_costs = Scope::With(&name, cost, &*costs);
+    let others = script(builder, rest, &inner, &inner_costs, left - 1)?;
+    let whole = or_refused!(builder.define(name, body, others), rest);
+    Ok(whole)
 }

@@ -16,11 +16,12 @@ pub enum Cause {
     Message(BadMessage),
     /// S5: the text ends inside a frame or a block, at the place directly after its last byte.
     End,
-    /// S6: more than 16 blocks in one another, at the opening brace, or at the `call` whose body would bring them over 16; the
-    /// braces of a definition are no block. Or more than 16 operators above a test of a condition, at the operator.
+    /// S6: more than 16 blocks in one another, at the opening brace, or at the `call` whose body would bring them over
+    /// 16; the braces of a definition are no block. Or more than 16 operators above a test of a condition, at the
+    /// operator.
     Depth,
-    /// S7: a number out of its range: a repeat or an until outside 1 to 10,000, a retry outside 1 to 8, a gap outside 40 to
-    /// 65,535, a period of a frame that is no multiple of 100 µs from 100 to 6,553,500.
+    /// S7: a number out of its range: a repeat or an until outside 1 to 10,000, a retry outside 1 to 8, a gap outside
+    /// 40 to 65,535, a period of a frame that is no multiple of 100 µs from 100 to 6,553,500.
     Range,
     /// S10: a definition of a name that was defined before, or a call of one that was not, at the name.
     Name,
@@ -55,8 +56,13 @@ pub enum Fault {
 }
 
 impl Cause {
+    ghost use Rattle.std.specs.Prelude.{◌≡◌};
+    ghost use Rattle.frame_text.specs.Codes.{code_of};
+
     /// `S1` to `S8`, `S10` and `S11`.
-    fn code(&self) -> &'static str {
+    fn code(&self) -> &'static str
+        ensures { result.now ≡ code_of self.now }
+    {
         match self {
             Cause::Byte => "S1",
             Cause::Token => "S2",
@@ -74,6 +80,11 @@ impl Cause {
 
 /// `S1` to `S8`, `S10`, `S11`, and `S4 M1` to `S4 M5`.
 impl Display for Cause {
+    ghost use Rattle.std.specs.Prelude.{Some};
+    ghost use Rattle.frame_text.specs.Codes.{cause_text};
+
+    ghost output = { λ c. Some (cause_text c) };
+
     fn fmt<W: Write>(&self, f: &mut Formatter<W>) -> fmt::Result {
         match self {
             Cause::Message(bad) => write!(f, "S4 {bad}"),
@@ -84,6 +95,11 @@ impl Display for Cause {
 
 /// `line 1 column 8`.
 impl Display for Place {
+    ghost use Rattle.std.specs.Prelude.{Some};
+    ghost use Rattle.frame_text.specs.Codes.{place_text};
+
+    ghost output = { λ p. Some (place_text p) };
+
     fn fmt<W: Write>(&self, f: &mut Formatter<W>) -> fmt::Result {
         write!(f, "line {} column {}", self.line, self.column)
     }
@@ -91,6 +107,11 @@ impl Display for Place {
 
 /// `S7 line 1 column 8`, `S4 line 1 column 8 M3`, and `memory`.
 impl Display for ScriptError {
+    ghost use Rattle.std.specs.Prelude.{Some};
+    ghost use Rattle.frame_text.specs.Codes.{error_text};
+
+    ghost output = { λ e. Some (error_text e) };
+
     fn fmt<W: Write>(&self, f: &mut Formatter<W>) -> fmt::Result {
         match self {
             ScriptError::Text {

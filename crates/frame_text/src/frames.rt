@@ -1,12 +1,15 @@
 //! The text of frames.
 
-ghost use Rattle.std.specs.Prelude.{◌≡◌, ◌<◌, ◌≤◌, length, map, IfOk, IfErr};
-ghost use Rattle.frame_tree.specs.Tree.{tree_of, chain, nothing};
-ghost use Rattle.frame_text.specs.Tokens.{tokens};
-ghost use Rattle.frame_text.specs.Reading.{Gives};
+ghost use Rattle.std.specs.Prelude.{◌≡◌, ◌<◌, ◌≤◌, ℕ, length, Ok, IfOk, IfErr};
+ghost use Rattle.frame_tree.specs.Tree.{Tree, chain, nothing};
+ghost use Rattle.frame_tree.specs.Names as names;
 ghost use Rattle.frame_tree.specs.Scopes.{scope_of};
-ghost use Rattle.frame_text.specs.Frames.{else_at, retry_at, repeat_at, choice_at, until_at, timed_at, label_at, call_at, frame_at, frames_at, block_at, inner_at};
+ghost use Rattle.frame_text.specs.Tokens.{tokens};
+ghost use Rattle.frame_text.specs.Reading.{Tokens, Gives, Builds, IsOfText};
+ghost use Rattle.frame_text.specs.Frames.{else_at, retry_at, repeat_at, choice_at, until_at, timed_at, label_at};
+ghost use Rattle.frame_text.specs.Frames.{call_at, frame_at, frames_at, block_at, inner_at};
 
+use crate::builder::Builder;
 use crate::conditions::condition;
 use crate::faults::{Cause, Fault};
 use crate::keywords::{FrameWord, frame_word, is, misplaced};
@@ -14,30 +17,26 @@ use crate::memory::or_refused;
 use crate::messages::send;
 use crate::tokens::{after_token, fault, next};
 use crate::words::{number_in_range, period};
-use frame_tree::{Frame, Name, Scope};
-use std::alloc::Allocator;
-
-/// Frames one after the other.
-pub fn seq<A: Allocator + Clone>(frames: Vec<Frame<A>, A>) -> Frame<A>
-    ensures { tree_of result ≡ chain (map tree_of frames.items) }
-{
-    Frame::Seq(frames)
-}
+use frame_tree::{Name, Scope};
 
 // No frames, where the rest of the text goes on.
-fn no_frames<A: Allocator + Clone>(alloc: &A, rest: &[u8]) -> Result<Frame<A>, Fault>
-    ensures tree { IfOk result (λ f. tree_of f ≡ nothing) }
-    ensures memory { IfErr result (λ e. e ≡ Fault.Memory (length rest.now)) }
+fn no_frames<'a, B: Builder>(builder: &B, rest: &'a [u8]) -> Result<(B::Frame, &'a [u8]), Fault>
+    ensures tree { Builds {Y = Tree × Tokens} B.refused (λ x. (B.tree x.0, tokens x.1.now)) result
+        (Ok (nothing, tokens rest.now)) }
+    ensures rest { IfOk result (λ x. x.1.now ≡ rest.now) }
+    ensures fits { IfOk result (λ x. (ds ms : names.Scope ℕ) → B.fits ds ms x.0) }
 {
-    let own = or_refused!(alloc.clone(), rest);
-    Ok(seq(Vec::new(own)))
+    let frames = or_refused!(builder.no_frames(), rest);
+    Ok((builder.whole(frames), rest))
 }
 
 // How many blocks may stand in a block, whose opening brace is the first token of the text.
 #[tactic(auto, using(crate::proofs::Scripts::inner_some, crate::proofs::Scripts::inner_none))]
 fn within(scope: &Scope<'_>, depth: u8, text: &[u8]) -> Result<u8, Fault>
-    ensures tree { Gives (λ d. λ ts. frames_at (frame_at (scope_of scope.now) d) (length ts) ts) result (inner_at (scope_of scope.now) depth) }
+    ensures tree { Gives (λ d. λ ts. frames_at (frame_at (scope_of scope.now) d) (length ts) ts) result
+        (inner_at (scope_of scope.now) depth) }
     ensures fewer { IfOk result (λ d. d < depth) }
+    ensures of_text { IfErr result (λ e. IsOfText e) }
 {
     if depth == 0 {
         return Err(fault(Cause::Depth, text));
@@ -48,14 +47,17 @@ fn within(scope: &Scope<'_>, depth: u8, text: &[u8]) -> Result<u8, Fault>
 /// A block in its braces, with at most `depth` blocks in one another, this one among them.
 #[cycle(frames)]
 #[tactic(auto, unfolding(crate::specs::Frames::block_from))]
-pub fn block<'a, A: Allocator + Clone>(
-    alloc: &A,
+pub fn block<'a, B: Builder>(
+    builder: &B,
     text: &'a [u8],
     scope: &Scope<'_>,
+    costs: &Scope<'_>,
     depth: u8,
-) -> Result<(Frame<A>, &'a [u8]), Fault>
-    ensures tree { Gives (λ x. (tree_of x.0, tokens x.1.now)) result (block_at (scope_of scope.now) depth (tokens text.now)) }
+) -> Result<(B::Frame, &'a [u8]), Fault>
+    ensures tree { Builds B.refused (λ x. (B.tree x.0, tokens x.1.now)) result
+        (block_at (scope_of scope.now) depth (tokens text.now)) }
     ensures fewer { IfOk result (λ x. length (tokens x.1.now) < length (tokens text.now)) }
+    ensures fits { IfOk result (λ x. B.fits (scope_of scope.now) (scope_of costs.now) x.0) }
 {
     let Some((word, rest)) = next(text) else {
         return Err(fault(Cause::End, text));
@@ -64,31 +66,32 @@ pub fn block<'a, A: Allocator + Clone>(
         return Err(fault(misplaced(word), text));
     }
     let depth = within(scope, depth, text)?;
-    let (found, rest) = frames(alloc, rest, scope, depth)?;
-    let whole = seq(found);
-    Ok((whole, rest))
+    let (found, rest) = frames(builder, rest, scope, costs, depth)?;
+    Ok((builder.whole(found), rest))
 }
 
 // Frames up to the closing brace.
 #[cycle(frames)]
-fn frames<'a, A: Allocator + Clone>(
-    alloc: &A,
+fn frames<'a, B: Builder>(
+    builder: &B,
     text: &'a [u8],
     scope: &Scope<'_>,
+    costs: &Scope<'_>,
     depth: u8,
-) -> Result<(Vec<Frame<A>, A>, &'a [u8]), Fault>
-    ensures tree { Gives (λ x. (chain (map tree_of x.0.items), tokens x.1.now)) result (frames_at (frame_at (scope_of scope.now) depth) (length (tokens text.now)) (tokens text.now)) }
+) -> Result<(B::Row, &'a [u8]), Fault>
+    ensures tree { Builds B.refused (λ x. (chain (B.row_trees x.0), tokens x.1.now)) result
+        (frames_at (frame_at (scope_of scope.now) depth) (length (tokens text.now)) (tokens text.now)) }
     ensures fewer { IfOk result (λ x. length (tokens x.1.now) < length (tokens text.now)) }
+    ensures fits { IfOk result (λ x. B.row_fits (scope_of scope.now) (scope_of costs.now) x.0) }
 {
-    let own = or_refused!(alloc.clone(), text);
-    let mut found = Vec::new(own);
+    let mut found = or_refused!(builder.no_frames(), text);
     let mut rest = text;
     while let Some((word, after)) = next(rest) {
         if is(word, b"}") {
             return Ok((found, after));
         }
-        let (one, left) = frame(alloc, rest, scope, depth)?;
-        or_refused!(found.push(one), left);
+        let (one, left) = frame(builder, rest, scope, costs, depth)?;
+        found = or_refused!(builder.more(found, one), left);
         rest = left;
     }
     Err(fault(Cause::End, rest))
@@ -97,43 +100,37 @@ fn frames<'a, A: Allocator + Clone>(
 // What stands behind an else, or nothing.
 #[cycle(frames)]
 #[tactic(auto, unfolding(crate::specs::Frames::else_at))]
-fn else_part<'a, A: Allocator + Clone>(
-    alloc: &A,
+fn else_part<'a, B: Builder>(
+    builder: &B,
     text: &'a [u8],
     scope: &Scope<'_>,
+    costs: &Scope<'_>,
     depth: u8,
-) -> Result<(Frame<A>, &'a [u8]), Fault>
-    ensures tree { Gives (λ x. (tree_of x.0, tokens x.1.now)) result (else_at (block_at (scope_of scope.now) depth) (tokens text.now)) }
+) -> Result<(B::Frame, &'a [u8]), Fault>
+    ensures tree { Builds B.refused (λ x. (B.tree x.0, tokens x.1.now)) result
+        (else_at (block_at (scope_of scope.now) depth) (tokens text.now)) }
     ensures fewer { IfOk result (λ x. length (tokens x.1.now) ≤ length (tokens text.now)) }
+    ensures fits { IfOk result (λ x. B.fits (scope_of scope.now) (scope_of costs.now) x.0) }
 {
     let Some((word, rest)) = next(text) else {
-        let none = no_frames(alloc, text)?;
-        return Ok((none, text));
+        return no_frames(builder, text);
     };
     if !is(word, b"else") {
-        let none = no_frames(alloc, text)?;
-        return Ok((none, text));
+        return no_frames(builder, text);
     }
-    block(alloc, rest, scope, depth)
+    block(builder, rest, scope, costs, depth)
 }
 
 // A message that is sent again, behind its first word.
-fn retry<'a, A: Allocator + Clone>(text: &'a [u8]) -> Result<(Frame<A>, &'a [u8]), Fault>
-    ensures tree { Gives (λ x. (tree_of x.0, tokens x.1.now)) result (retry_at (tokens text.now)) }
+fn retry<'a, B: Builder>(builder: &B, text: &'a [u8]) -> Result<(B::Frame, &'a [u8]), Fault>
+    ensures tree { Builds B.refused (λ x. (B.tree x.0, tokens x.1.now)) result (retry_at (tokens text.now)) }
     ensures fewer { IfOk result (λ x. length (tokens x.1.now) < length (tokens text.now)) }
+    ensures fits { IfOk result (λ x. (ds ms : names.Scope ℕ) → B.fits ds ms x.0) }
 {
     let (count, rest) = number_in_range(text, 1, 8)?;
     let rest = after_token(rest, b"send")?;
     let (line, message, rest) = send(rest)?;
-    let count = count as u8;
-    Ok((
-        Frame::Retry {
-            count,
-            line,
-            message,
-        },
-        rest,
-    ))
+    Ok((builder.retry(count as u8, line, message), rest))
 }
 
 /// The name of a definition.
@@ -141,6 +138,7 @@ fn retry<'a, A: Allocator + Clone>(text: &'a [u8]) -> Result<(Frame<A>, &'a [u8]
 pub fn label(text: &[u8]) -> Result<(Name, &[u8]), Fault>
     ensures tree { Gives (λ x. (x.0, tokens x.1.now)) result (label_at (tokens text.now)) }
     ensures fewer { IfOk result (λ x. length (tokens x.1.now) < length (tokens text.now)) }
+    ensures of_text { IfErr result (λ e. IsOfText e) }
 {
     let Some((word, rest)) = next(text) else {
         return Err(fault(Cause::End, text));
@@ -152,14 +150,18 @@ pub fn label(text: &[u8]) -> Result<(Name, &[u8]), Fault>
 }
 
 // A call, behind its first word; `text` begins with that.
-fn call<'a, A: Allocator + Clone>(
+fn call<'a, B: Builder>(
+    builder: &B,
     text: &[u8],
     behind: &'a [u8],
     scope: &Scope<'_>,
+    costs: &Scope<'_>,
     depth: u8,
-) -> Result<(Frame<A>, &'a [u8]), Fault>
-    ensures tree { Gives (λ x. (tree_of x.0, tokens x.1.now)) result (call_at (scope_of scope.now) depth (tokens behind.now)) }
+) -> Result<(B::Frame, &'a [u8]), Fault>
+    ensures tree { Builds B.refused (λ x. (B.tree x.0, tokens x.1.now)) result
+        (call_at (scope_of scope.now) depth (tokens behind.now)) }
     ensures fewer { IfOk result (λ x. length (tokens x.1.now) < length (tokens behind.now)) }
+    ensures fits { IfOk result (λ x. B.fits (scope_of scope.now) (scope_of costs.now) x.0) }
 {
     let (name, rest) = label(behind)?;
     if !scope.has(&name) {
@@ -168,114 +170,107 @@ fn call<'a, A: Allocator + Clone>(
     if scope.number_of(&name) > u32::from(depth) {
         return Err(fault(Cause::Depth, text));
     }
-    Ok((Frame::Call(name), rest))
+    Ok((builder.call(name, scope, costs), rest))
 }
 
 // A repeated block, behind its first word.
 #[cycle(frames)]
-fn repeat<'a, A: Allocator + Clone>(
-    alloc: &A,
+fn repeat<'a, B: Builder>(
+    builder: &B,
     text: &'a [u8],
     scope: &Scope<'_>,
+    costs: &Scope<'_>,
     depth: u8,
-) -> Result<(Frame<A>, &'a [u8]), Fault>
-    ensures tree { Gives (λ x. (tree_of x.0, tokens x.1.now)) result (repeat_at (block_at (scope_of scope.now) depth) (tokens text.now)) }
+) -> Result<(B::Frame, &'a [u8]), Fault>
+    ensures tree { Builds B.refused (λ x. (B.tree x.0, tokens x.1.now)) result
+        (repeat_at (block_at (scope_of scope.now) depth) (tokens text.now)) }
     ensures fewer { IfOk result (λ x. length (tokens x.1.now) < length (tokens text.now)) }
+    ensures fits { IfOk result (λ x. B.fits (scope_of scope.now) (scope_of costs.now) x.0) }
 {
     let (count, rest) = number_in_range(text, 1, 10_000)?;
-    let (body, rest) = block(alloc, rest, scope, depth)?;
-    let own = or_refused!(alloc.clone(), rest);
-    let body = or_refused!(Box::new(own, body), rest);
-    let count = count as u16;
-    Ok((Frame::Repeat { count, body }, rest))
+    let (body, rest) = block(builder, rest, scope, costs, depth)?;
+    let whole = or_refused!(builder.repeat(count as u16, body), rest);
+    Ok((whole, rest))
 }
 
 // A choice between two blocks, behind its first word.
 #[cycle(frames)]
-fn choice<'a, A: Allocator + Clone>(
-    alloc: &A,
+fn choice<'a, B: Builder>(
+    builder: &B,
     text: &'a [u8],
     scope: &Scope<'_>,
+    costs: &Scope<'_>,
     depth: u8,
-) -> Result<(Frame<A>, &'a [u8]), Fault>
-    ensures tree { Gives (λ x. (tree_of x.0, tokens x.1.now)) result (choice_at (block_at (scope_of scope.now) depth) (tokens text.now)) }
+) -> Result<(B::Frame, &'a [u8]), Fault>
+    ensures tree { Builds B.refused (λ x. (B.tree x.0, tokens x.1.now)) result
+        (choice_at (block_at (scope_of scope.now) depth) (tokens text.now)) }
     ensures fewer { IfOk result (λ x. length (tokens x.1.now) < length (tokens text.now)) }
+    ensures fits { IfOk result (λ x. B.fits (scope_of scope.now) (scope_of costs.now) x.0) }
 {
-    let (condition, rest) = condition(alloc, text, 16)?;
-    let (then, rest) = block(alloc, rest, scope, depth)?;
-    let (otherwise, rest) = else_part(alloc, rest, scope, depth)?;
-    let own = or_refused!(alloc.clone(), rest);
-    let then = or_refused!(Box::new(own, then), rest);
-    let own = or_refused!(alloc.clone(), rest);
-    let otherwise = or_refused!(Box::new(own, otherwise), rest);
-    Ok((
-        Frame::If {
-            condition,
-            then,
-            otherwise,
-        },
-        rest,
-    ))
+    let (asked, rest) = condition(builder, text, 16)?;
+    let (then, rest) = block(builder, rest, scope, costs, depth)?;
+    let (otherwise, rest) = else_part(builder, rest, scope, costs, depth)?;
+    let whole = or_refused!(builder.choose(asked, then, otherwise), rest);
+    Ok((whole, rest))
 }
 
 // A block that runs until a condition holds, at most so many times, behind its first word.
 #[cycle(frames)]
-fn until<'a, A: Allocator + Clone>(
-    alloc: &A,
+fn until<'a, B: Builder>(
+    builder: &B,
     text: &'a [u8],
     scope: &Scope<'_>,
+    costs: &Scope<'_>,
     depth: u8,
-) -> Result<(Frame<A>, &'a [u8]), Fault>
-    ensures tree { Gives (λ x. (tree_of x.0, tokens x.1.now)) result (until_at (block_at (scope_of scope.now) depth) (tokens text.now)) }
+) -> Result<(B::Frame, &'a [u8]), Fault>
+    ensures tree { Builds B.refused (λ x. (B.tree x.0, tokens x.1.now)) result
+        (until_at (block_at (scope_of scope.now) depth) (tokens text.now)) }
     ensures fewer { IfOk result (λ x. length (tokens x.1.now) < length (tokens text.now)) }
+    ensures fits { IfOk result (λ x. B.fits (scope_of scope.now) (scope_of costs.now) x.0) }
 {
-    let (condition, rest) = condition(alloc, text, 16)?;
+    let (asked, rest) = condition(builder, text, 16)?;
     let rest = after_token(rest, b"at")?;
     let rest = after_token(rest, b"most")?;
     let (count, rest) = number_in_range(rest, 1, 10_000)?;
-    let (body, rest) = block(alloc, rest, scope, depth)?;
-    let own = or_refused!(alloc.clone(), rest);
-    let body = or_refused!(Box::new(own, body), rest);
-    let count = count as u16;
-    Ok((
-        Frame::Until {
-            condition,
-            count,
-            body,
-        },
-        rest,
-    ))
+    let (body, rest) = block(builder, rest, scope, costs, depth)?;
+    let whole = or_refused!(builder.until(asked, count as u16, body), rest);
+    Ok((whole, rest))
 }
 
 // A block with a period, behind its first word.
 #[cycle(frames)]
-fn timed<'a, A: Allocator + Clone>(
-    alloc: &A,
+fn timed<'a, B: Builder>(
+    builder: &B,
     text: &'a [u8],
     scope: &Scope<'_>,
+    costs: &Scope<'_>,
     depth: u8,
-) -> Result<(Frame<A>, &'a [u8]), Fault>
-    ensures tree { Gives (λ x. (tree_of x.0, tokens x.1.now)) result (timed_at (block_at (scope_of scope.now) depth) (tokens text.now)) }
+) -> Result<(B::Frame, &'a [u8]), Fault>
+    ensures tree { Builds B.refused (λ x. (B.tree x.0, tokens x.1.now)) result
+        (timed_at (block_at (scope_of scope.now) depth) (tokens text.now)) }
     ensures fewer { IfOk result (λ x. length (tokens x.1.now) < length (tokens text.now)) }
+    ensures fits { IfOk result (λ x. B.fits (scope_of scope.now) (scope_of costs.now) x.0) }
 {
     let (hundreds, rest) = period(text)?;
-    let (body, rest) = block(alloc, rest, scope, depth)?;
-    let own = or_refused!(alloc.clone(), rest);
-    let body = or_refused!(Box::new(own, body), rest);
-    Ok((Frame::Timed { hundreds, body }, rest))
+    let (body, rest) = block(builder, rest, scope, costs, depth)?;
+    let whole = or_refused!(builder.timed(hundreds, body), rest);
+    Ok((whole, rest))
 }
 
 /// A frame with at most `depth` blocks in one another.
 #[cycle(frames)]
 #[tactic(auto, unfolding(crate::specs::Frames::frame_from, crate::specs::Frames::frame_of))]
-pub fn frame<'a, A: Allocator + Clone>(
-    alloc: &A,
+pub fn frame<'a, B: Builder>(
+    builder: &B,
     text: &'a [u8],
     scope: &Scope<'_>,
+    costs: &Scope<'_>,
     depth: u8,
-) -> Result<(Frame<A>, &'a [u8]), Fault>
-    ensures tree { Gives (λ x. (tree_of x.0, tokens x.1.now)) result (frame_at (scope_of scope.now) depth (tokens text.now)) }
+) -> Result<(B::Frame, &'a [u8]), Fault>
+    ensures tree { Builds B.refused (λ x. (B.tree x.0, tokens x.1.now)) result
+        (frame_at (scope_of scope.now) depth (tokens text.now)) }
     ensures fewer { IfOk result (λ x. length (tokens x.1.now) < length (tokens text.now)) }
+    ensures fits { IfOk result (λ x. B.fits (scope_of scope.now) (scope_of costs.now) x.0) }
 {
     let Some((word, rest)) = next(text) else {
         return Err(fault(Cause::End, text));
@@ -283,18 +278,18 @@ pub fn frame<'a, A: Allocator + Clone>(
     match frame_word(word) {
         FrameWord::Send => {
             let (line, message, rest) = send(rest)?;
-            Ok((Frame::Send { line, message }, rest))
+            Ok((builder.send(line, message), rest))
         }
-        FrameWord::Retry => retry(rest),
+        FrameWord::Retry => retry(builder, rest),
         FrameWord::Gap => {
             let (ticks, rest) = number_in_range(rest, 40, 65_535)?;
-            Ok((Frame::Gap(ticks as u16), rest))
+            Ok((builder.gap(ticks as u16), rest))
         }
-        FrameWord::Repeat => repeat(alloc, rest, scope, depth),
-        FrameWord::If => choice(alloc, rest, scope, depth),
-        FrameWord::Until => until(alloc, rest, scope, depth),
-        FrameWord::Timed => timed(alloc, rest, scope, depth),
-        FrameWord::Call => call(text, rest, scope, depth),
+        FrameWord::Repeat => repeat(builder, rest, scope, costs, depth),
+        FrameWord::If => choice(builder, rest, scope, costs, depth),
+        FrameWord::Until => until(builder, rest, scope, costs, depth),
+        FrameWord::Timed => timed(builder, rest, scope, costs, depth),
+        FrameWord::Call => call(builder, text, rest, scope, costs, depth),
         FrameWord::NoFrame => Err(fault(misplaced(word), text)),
     }
 }

@@ -1,7 +1,7 @@
 //! Where memory was refused.
 
-/// The value of a call that takes memory; where memory was refused, the function returns the fault, which keeps how many
-/// bytes are left behind the token that was being read.
+/// The value of a call that takes memory; where memory was refused, the function returns the fault, which keeps how
+/// many bytes are left behind the token that was being read.
 macro_rules! or_refused {
     ($call:expr, $rest:expr) => {
         match $call {

@@ -28,7 +28,8 @@ pub fn put_condition<A: Allocator + Clone>(
     out: &mut String,
     condition: &Cond<A>,
 ) -> Result<(), AllocError>
-    ensures { OnOk result (string_bytes out.new ≡ string_bytes out.old ++ texts.condition_text (condition_in condition.now)) }
+    ensures { OnOk result (string_bytes out.new
+        ≡ string_bytes out.old ++ texts.condition_text (condition_in condition.now)) }
 {
     match condition {
         Cond::Test(test) => put_test(out, *test),

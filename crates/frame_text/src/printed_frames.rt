@@ -73,7 +73,8 @@ fn put_retry(
     message: &Message,
     depth: usize,
 ) -> Result<(), AllocError>
-    ensures { OnOk result (string_bytes out.new ≡ string_bytes out.old ++ texts.lines depth (retry count line message.now)) }
+    ensures { OnOk result (string_bytes out.new
+        ≡ string_bytes out.old ++ texts.lines depth (retry count line message.now)) }
 {
     put_indent(out, depth)?;
     write!(out, "retry {count} ")?;
@@ -123,7 +124,8 @@ fn put_call(out: &mut String, name: &Name, depth: usize) -> Result<(), AllocErro
 
 // What stands in front of the block of a definition.
 fn put_define(out: &mut String, name: &Name) -> Result<(), AllocError>
-    ensures { OnOk result (string_bytes out.new ≡ string_bytes out.old ++ (codes "define " ++ (name.now ++ codes " "))) }
+    ensures { OnOk result (string_bytes out.new
+        ≡ string_bytes out.old ++ (codes "define " ++ (name.now ++ codes " "))) }
 {
     out.push_str("define ")?;
     put_name(out, name)?;
@@ -136,7 +138,9 @@ fn put_if_condition<A: Allocator + Clone>(
     condition: &Cond<A>,
     depth: usize,
 ) -> Result<(), AllocError>
-    ensures { OnOk result (string_bytes out.new ≡ string_bytes out.old ++ (texts.indent depth ++ (codes "if " ++ (condition_text (condition_in condition.now) ++ codes " ")))) }
+    ensures { OnOk result (string_bytes out.new
+        ≡ string_bytes out.old
+        ++ (texts.indent depth ++ (codes "if " ++ (condition_text (condition_in condition.now) ++ codes " ")))) }
 {
     put_indent(out, depth)?;
     out.push_str("if ")?;
@@ -150,7 +154,10 @@ fn put_until_condition<A: Allocator + Clone>(
     condition: &Cond<A>,
     count: u16,
 ) -> Result<(), AllocError>
-    ensures { OnOk result (string_bytes out.new ≡ string_bytes out.old ++ (codes "until " ++ (condition_text (condition_in condition.now) ++ (codes " at most " ++ (decimal count ++ codes " "))))) }
+    ensures { OnOk result (string_bytes out.new
+        ≡ string_bytes out.old
+        ++ (codes "until " ++ (condition_text (condition_in condition.now) ++ (codes " at most "
+        ++ (decimal count ++ codes " "))))) }
 {
     out.push_str("until ")?;
     put_condition(out, condition)?;
@@ -164,7 +171,8 @@ fn put_block<A: Allocator + Clone>(
     body: &Frame<A>,
     depth: usize,
 ) -> Result<(), AllocError>
-    ensures { OnOk result (string_bytes out.new ≡ string_bytes out.old ++ texts.block_text depth (texts.lines (depth + 1) (tree_of body.now))) }
+    ensures { OnOk result (string_bytes out.new
+        ≡ string_bytes out.old ++ texts.block_text depth (texts.lines (depth + 1) (tree_of body.now))) }
 {
     // no memory holds a tree of so many levels
     let inner = depth.checked_add(1).ok_or(AllocError)?;
@@ -183,7 +191,8 @@ fn put_repeat<A: Allocator + Clone>(
     count: u16,
     depth: usize,
 ) -> Result<(), AllocError>
-    ensures { OnOk result (string_bytes out.new ≡ string_bytes out.old ++ texts.lines depth (repeat count (tree_of body.now))) }
+    ensures { OnOk result (string_bytes out.new
+        ≡ string_bytes out.old ++ texts.lines depth (repeat count (tree_of body.now))) }
 {
     put_indent(out, depth)?;
     write!(out, "repeat {count} ")?;
@@ -201,7 +210,8 @@ fn put_until<A: Allocator + Clone>(
     count: u16,
     depth: usize,
 ) -> Result<(), AllocError>
-    ensures { OnOk result (string_bytes out.new ≡ string_bytes out.old ++ texts.lines depth (until (condition_in condition.now) count (tree_of body.now))) }
+    ensures { OnOk result (string_bytes out.new
+        ≡ string_bytes out.old ++ texts.lines depth (until (condition_in condition.now) count (tree_of body.now))) }
 {
     put_indent(out, depth)?;
     put_until_condition(out, condition, count)?;
@@ -218,7 +228,8 @@ fn put_timed<A: Allocator + Clone>(
     hundreds: u16,
     depth: usize,
 ) -> Result<(), AllocError>
-    ensures { OnOk result (string_bytes out.new ≡ string_bytes out.old ++ texts.lines depth (timed hundreds (tree_of body.now))) }
+    ensures { OnOk result (string_bytes out.new
+        ≡ string_bytes out.old ++ texts.lines depth (timed hundreds (tree_of body.now))) }
 {
     let period = u32::from(hundreds) * 100;
     put_indent(out, depth)?;
@@ -286,7 +297,10 @@ fn put_else<A: Allocator + Clone>(
     otherwise: &Frame<A>,
     depth: usize,
 ) -> Result<(), AllocError>
-    ensures { OnOk result (string_bytes out.new ≡ string_bytes out.old ++ (texts.else_text depth (texts.is_empty (tree_of otherwise.now)) (texts.lines (depth + 1) (tree_of otherwise.now)) ++ codes "\n")) }
+    ensures { OnOk result (string_bytes out.new
+        ≡ string_bytes out.old
+        ++ (texts.else_text depth (texts.is_empty (tree_of otherwise.now))
+        (texts.lines (depth + 1) (tree_of otherwise.now)) ++ codes "\n")) }
 {
     if is_empty(otherwise) {
         return out.push_str("\n");

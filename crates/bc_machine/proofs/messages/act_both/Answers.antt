@@ -7,6 +7,6 @@ use Rattle.bc_machine.proofs.messages.act_both.Goals as goal
 pub returns-clause-bus : goal.returns-clause-bus
 returns-clause-bus c =
     c.act_at-2.ensures.bus
-    ∙ ready_same c.args.number c.around-2.result.now c.args.posted.now c.act_at.new.bus c.around-2.ensures
-    ∙ ap (ready c.args.posted.now c.args.number) (c.act_at.ensures.bus ∙ ready_same c.args.number c.around.result.now c.args.placed.now c.args.bus.now c.around.ensures)
-    ∙ ready_both c.args.number c.args.placed.now c.args.posted.now c.args.bus.now
+    ∙ ready_same c.args.number c.around-2.result.now c.args.posted.now.actions c.act_at.new.bus c.around-2.ensures
+    ∙ ap (ready c.args.posted.now.actions c.args.number) (c.act_at.ensures.bus ∙ ready_same c.args.number c.around.result.now c.args.placed.now.actions c.args.bus.now c.around.ensures)
+    ∙ ready_both c.args.number c.args.placed.now.actions c.args.posted.now.actions c.args.bus.now

@@ -31,8 +31,9 @@ decreases-frames g l = 5 * l.depth + 4
 
 abbrev pub invariant-frames-loop-word : goal.invariant-frames-loop-word
 invariant-frames-loop-word g l = record {
-  read : (n : ℕ) × (length (tokens l.rest) ≤ n) × (frames_at (frame_at (scope_of l.scope) l.depth) (length (tokens l.initial.rest)) (tokens l.initial.rest) ≡ onto l.found.items (frames_at (frame_at (scope_of l.scope) l.depth) n (tokens l.rest)));
+  read : (n : ℕ) × (length (tokens l.rest) ≤ n) × (frames_at (frame_at (scope_of l.scope) l.depth) (length (tokens l.initial.rest)) (tokens l.initial.rest) ≡ onto (g.B.Builder.row_trees l.found) (frames_at (frame_at (scope_of l.scope) l.depth) n (tokens l.rest)));
   fewer : length (tokens l.rest) ≤ length (tokens l.initial.rest);
+  fits : g.B.Builder.row_fits (scope_of l.scope) (scope_of l.costs) l.found;
 }
 
 abbrev pub decreases-frames-loop-word : goal.decreases-frames-loop-word
