@@ -12,10 +12,11 @@ use Rattle.bc_machine.specs.Running.{MachineState, stepped}
 pub record IsAbout (m : MachineState) (line : Line) (message : Form) (u : Upcoming) : Type 0 where
   pub bus : u.bus ≡ ready m.placed (m.point.number + 1) m.point.state
   pub gap : u.gap ≡ m.point.gap
-  pub talk : u.talk ≡ talk_of (ready m.placed (m.point.number + 1) m.point.state) line message m.point.gap (faults_of (m.point.number + 1) m.plan)
+  pub talk : u.talk ≡ talk_of (ready m.placed (m.point.number + 1) m.point.state) line message m.point.gap
+      (faults_of (m.point.number + 1) m.plan)
 
--- a message that the next step sends: the bus as it meets it, once the actions placed at it are done; and its talk, which starts at
--- this gap
+-- a message that the next step sends: the bus as it meets it, once the actions placed at it are done; and its talk,
+-- which starts at this gap
 pub record IsComing (m : MachineState) (u : Upcoming) : Type 0 where
   pub bus : u.bus ≡ ready m.placed (m.point.number + 1) m.point.state
   pub clock : now_of u.bus < 2 ^ 60

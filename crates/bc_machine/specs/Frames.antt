@@ -14,7 +14,8 @@ HaveBegun m = AllByRecursion (λ b. b ≤ clock_in m) m.at.frames
 -- by how many ticks the next step moves now at most: a message by 2^24, the end of a frame by its period
 abbrev pub most_ticks : MachineState → ℕ
 most_ticks m =
-    cost_of one_period (slice_get m.code.operations m.at.place) + cost_of one_sent (slice_get m.code.operations m.at.place) * 2 ^ 24
+    cost_of one_period (slice_get m.code.operations m.at.place)
+    + cost_of one_sent (slice_get m.code.operations m.at.place) * 2 ^ 24
 
 -- the frame that an operation closes, where these are open, the latest first
 abbrev pub closed_by : Option Op → List ℕ → Option Closing

@@ -11,6 +11,13 @@ state_in m = record {
   capacity = length m.placed.actions + m.posted.capacity;
   begun = m.begun.value.0;
   taken = m.taken;
-  at = record { place = m.place; counters = m.counters; returns = m.returns; frames = m.frames; flag = m.flag; line = m.line };
+  at = record {
+    place = m.place;
+    counters = m.counters;
+    returns = m.returns;
+    frames = m.frames;
+    flag = m.flag;
+    line = m.line;
+  };
   point = record { state = m.bus; number = m.number; gap = m.gap; last = m.last };
 }

@@ -25,7 +25,8 @@ AreAlikeSoFar m placed = (n : ℕ) → 1 ≤ n → n ≤ m.point.number → plac
 
 -- actions at messages to come leave no trace: with others at these, a controller under way stands where it stood
 abbrev pub ActionsToComeAreFree : Type 0
-ActionsToComeAreFree = (m : MachineState) (placed : List Placed) → IsUnderWay m → AreAlikeSoFar m placed → IsUnderWay (with_placed m placed)
+ActionsToComeAreFree = (m : MachineState) (placed : List Placed) → IsUnderWay m → AreAlikeSoFar m placed
+    → IsUnderWay (with_placed m placed)
 
 -- nor do they keep it from its end
 abbrev pub HaltsAlike : Type 0

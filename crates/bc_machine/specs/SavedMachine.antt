@@ -11,6 +11,13 @@ state_kept s = record {
   capacity = length s.placed.value.actions + (length s.posted.value.actions + s.room);
   begun = s.begun.value.0;
   taken = s.taken;
-  at = record { place = s.place; counters = s.counters; returns = s.returns; frames = s.frames; flag = s.flag; line = s.line };
+  at = record {
+    place = s.place;
+    counters = s.counters;
+    returns = s.returns;
+    frames = s.frames;
+    flag = s.flag;
+    line = s.line;
+  };
   point = record { state = s.bus; number = s.number; gap = s.gap; last = s.last };
 }

@@ -20,12 +20,14 @@ pub record IsUnderWay (m : MachineState) : Type 0 where
   pub loadable : IsLoadable m.code
   pub within : IsWithin m.code
   pub short : HasShortPeriods m.code
-  pub reached : run (world_in m) m.taken m.code (start m.code) (beginning m.begun) ≡ goes_on (record { at = m.at; point = m.point })
+  pub reached : run (world_in m) m.taken m.code (start m.code) (beginning m.begun)
+      ≡ goes_on (record { at = m.at; point = m.point })
   pub steps : m.taken ≤ budget m.code.operations
   pub messages : m.point.number ≤ worst_messages m.code.operations
   -- a message moves now by at most 2^24 ticks, and the end of a frame by at most its period
   pub clock : clock_in m
-      ≤ 2 ^ 47 + paid (world_in m) one_period m.taken m.code (start m.code) (beginning m.begun) + m.point.number * 2 ^ 24
+      ≤ 2 ^ 47 + paid (world_in m) one_period m.taken m.code (start m.code) (beginning m.begun)
+      + m.point.number * 2 ^ 24
   pub begun : HaveBegun m
 
 -- a message was sent, and this is its record: its stamp is below 2^48, and never before the end of the talk before
@@ -40,7 +42,8 @@ pub record IsSent (old new : MachineState) (r : Record) : Type 0 where
   pub follows : clock_in old ≤ r.stamp
   pub ends : r.stamp ≤ clock_in new
 
--- a step that sent nothing: number and outcome stand still, and what was played on the bus; at most its least start rises
+-- a step that sent nothing: number and outcome stand still, and what was played on the bus; at most its least start
+-- rises
 pub record IsQuiet (old new : MachineState) : Type 0 where
   pub state : played new.point.state ≡ played old.point.state
   pub later : clock_in old ≤ clock_in new

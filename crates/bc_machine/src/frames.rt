@@ -31,14 +31,16 @@ impl Parts {
         self.frames.push(self.bus.now());
     }
 
-    /// Closes the frame that was opened last: no message starts before so many hundreds of µs have passed since it began.
+    /// Closes the frame that was opened last: no message starts before so many hundreds of µs have passed since it
+    /// began.
     pub(crate) fn close_frame(&mut self, hundreds: u16) -> Stepped
         requires taken { self.old.taken < 2 ^ 31 }
         requires place { self.old.at.place < 4096 }
         requires open { 0 < length self.old.at.frames }
         requires begun { HaveBegun self.old }
         requires clock { clock_in self.old ≤ 2 ^ 48 }
-        ensures value { self.new ≡ moved_by (keeps_pace (world_in self.old) self.old.at.frames hundreds self.old.at self.old.point) self.old }
+        ensures value { self.new ≡ moved_by
+            (keeps_pace (world_in self.old) self.old.at.frames hundreds self.old.at self.old.point) self.old }
         ensures answer { result ≡ Stepped.Ran }
         ensures soon { clock_in self.new ≤ clock_in self.old + 1000 * hundreds }
     {
@@ -65,7 +67,8 @@ impl Parts {
 }
 
 impl Machine {
-    /// The frame that the next step closes, with the tick at which it began, at most 2^48; None where the next step closes none.
+    /// The frame that the next step closes, with the tick at which it began, at most 2^48; None where the next step
+    /// closes none.
     pub fn closing(&self) -> Option<Closing>
         ensures value { result ≡ closing_of self.now }
         ensures soon { IfSome result (λ c. c.began ≤ 2 ^ 48) }

@@ -25,9 +25,9 @@ impl Setting for BusSetting {
 }
 
 /// Law: a controller that runs a loadable code on any bus, under any plan and any placed actions, is never stuck: it
-/// never meets a bad place, an empty list of counters, of return places or of open frames, or a routine or a message that
-/// is not there. It sends at most as many messages as the code's sum says, and stands at a Halt after one step less than
-/// its budget, which counts the Halt too.
+/// never meets a bad place, an empty list of counters, of return places or of open frames, or a routine or a message
+/// that is not there. It sends at most as many messages as the code's sum says, and stands at a Halt after one step
+/// less than its budget, which counts the Halt too.
 pub fn controller_runs()
     ensures never_stuck { (code : Code) (b : BusState) (plan : List Planned) (placed : List Placed) (n : ℕ) →
         IsLoadable code → turn_of (after_steps n (started code b plan placed)) ≢ stuck }
@@ -39,8 +39,8 @@ pub fn controller_runs()
     loadable_runs::<BusSetting>();
 }
 
-/// Law: the actions that are placed at messages to come leave no trace. With others at these, a controller under way stands where
-/// it stood, and has halted where it had.
+/// Law: the actions that are placed at messages to come leave no trace. With others at these, a controller under way
+/// stands where it stood, and has halted where it had.
 pub fn actions_to_come_are_free()
     ensures free { ActionsToComeAreFree }
     ensures halts { HaltsAlike }

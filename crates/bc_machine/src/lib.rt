@@ -1,4 +1,5 @@
-//! The bus controller (own choice): a loaded program under way on a real bus, step by step. Its tests are in `frame_tests`.
+//! The bus controller (own choice): a loaded program under way on a real bus, step by step. Its tests are in
+//! `frame_tests`.
 #![tactic(auto)]
 
 mod begun;

@@ -15,9 +15,9 @@ use mil_line::Plan;
 use std::alloc::{AllocError, Global};
 use std::marker::Model;
 
-/// A program under way on a bus. Contracts see its code, the plan, the placed actions, the bus that it began with, how many
-/// steps it took, the controller's registers, the bus as it is now, how many messages were sent, the gap, and the last
-/// outcome.
+/// A program under way on a bus. Contracts see its code, the plan, the placed actions, the bus that it began with, how
+/// many steps it took, the controller's registers, the bus as it is now, how many messages were sent, the gap, and the
+/// last outcome.
 #[derive(Drop)]
 pub struct Machine {
     pub(crate) parts: Parts,
@@ -35,8 +35,8 @@ impl Model for Machine {
 }
 
 impl Machine {
-    /// A program at its beginning, on a bus, with the faults planned and the actions placed for its messages. Condition: it is
-    /// at most tick 2^47 on the bus. It takes no memory.
+    /// A program at its beginning, on a bus, with the faults planned and the actions placed for its messages.
+    /// Condition: it is at most tick 2^47 on the bus. It takes no memory.
     pub fn start(program: Program, bus: Bus, plan: Plan, placed: Vec<Placed>) -> Machine
         requires { now_of bus ≤ 2 ^ 47 }
         ensures value { result ≡ started program bus plan placed.items }
@@ -48,8 +48,8 @@ impl Machine {
     }
 
     /// One step: one row of the operation table. A message step raises the number, lets the actions placed at it act in
-    /// their order, makes the exchange with the faults planned for it, keeps the outcome, and answers the record. It takes
-    /// no memory.
+    /// their order, makes the exchange with the faults planned for it, keeps the outcome, and answers the record. It
+    /// takes no memory.
     pub fn step(&mut self) -> Stepped
         ensures value { self.new ≡ stepped self.old }
         ensures answer { result ≡ answered self.old }
@@ -101,8 +101,8 @@ impl Machine {
         })
     }
 
-    /// Goes to what was saved, back or on. It fails for want of memory alone, and then changes nothing. Condition: it was saved
-    /// from a controller that was started with the same program, bus, plan and placed actions.
+    /// Goes to what was saved, back or on. It fails for want of memory alone, and then changes nothing. Condition: it
+    /// was saved from a controller that was started with the same program, bus, plan and placed actions.
     pub fn restore(&mut self, saved: &Saved) -> Result<(), AllocError>
         requires { AreAlike self.old saved.now }
         ensures restored { OnOk result (self.new ≡ saved.now) }

@@ -21,8 +21,8 @@ pub fn act_both(bus: &mut Bus, placed: &Schedule, posted: &Schedule, number: u32
     act_at(bus, posted.around(number), number);
 }
 
-/// The message of a number: the actions placed at it, then its exchange with the faults planned for it; the talk and what is seen of
-/// it take the places of those before, and what it came to is answered.
+/// The message of a number: the actions placed at it, then its exchange with the faults planned for it; the talk and
+/// what is seen of it take the places of those before, and what it came to is answered.
 pub fn exchange(
     bus: &mut Bus,
     plan: &Plan,
@@ -37,9 +37,11 @@ pub fn exchange(
 ) -> Verdict
     requires { now_of bus.old ≤ 2 ^ 48 }
     ensures bus { bus.new
-        ≡ ((world_of plan.now (placed.now.actions ++ posted.now.actions)).exchange number line message.now gap bus.old).0 }
+        ≡ ((world_of plan.now (placed.now.actions ++ posted.now.actions)).exchange number line message.now gap
+        bus.old).0 }
     ensures outcome { result.outcome
-        ≡ ((world_of plan.now (placed.now.actions ++ posted.now.actions)).exchange number line message.now gap bus.old).1 }
+        ≡ ((world_of plan.now (placed.now.actions ++ posted.now.actions)).exchange number line message.now gap
+        bus.old).1 }
     ensures seen { seen.new ≡ seen_of talk.new.message talk.new.sent.items }
     ensures block { result.block ≡ block_of talk.new.line talk.new.message seen.new }
     ensures talks { bus.new.talks ≡ talk.new ∷ bus.old.talks }

@@ -1,5 +1,6 @@
 //! A controller's parts, wherever its program stands.
-ghost use Rattle.std.specs.Prelude.{◌≡◌, ◌<◌, ◌≤◌, ◌+◌, ◌^◌, ◌≢◌, Some, None, if◌then◌else◌, slice_get, length, IfOk, OnOk, OnErr};
+ghost use Rattle.std.specs.Prelude.{◌≡◌, ◌<◌, ◌≤◌, ◌+◌, ◌^◌, ◌≢◌, Some, None, if◌then◌else◌, slice_get, length, IfOk};
+ghost use Rattle.std.specs.Prelude.{OnOk, OnErr};
 ghost use Rattle.mil_word.specs.declared.Line.{Line};
 ghost use Rattle.mil_message.specs.World.{sent};
 ghost use Rattle.frame_code.specs.Table.{sends, turns, leaves, calls, comes_back};
@@ -157,7 +158,8 @@ impl Parts {
         requires taken { self.old.taken < 2 ^ 31 }
         requires place { self.old.at.place < 4096 }
         requires counter { 0 < length self.old.at.counters }
-        ensures value { self.new ≡ moved_by (turns (world_in self.old) self.old.at.counters place self.old.at self.old.point) self.old }
+        ensures value { self.new ≡ moved_by
+            (turns (world_in self.old) self.old.at.counters place self.old.at self.old.point) self.old }
         ensures answer { result ≡ Stepped.Ran }
     {
         match self.counters.pop() {
@@ -173,7 +175,8 @@ impl Parts {
     fn leave(&mut self, place: u16) -> Stepped
         requires taken { self.old.taken < 2 ^ 31 }
         requires counter { 0 < length self.old.at.counters }
-        ensures value { self.new ≡ moved_by (leaves (world_in self.old) self.old.at.counters place self.old.at self.old.point) self.old }
+        ensures value { self.new ≡ moved_by
+            (leaves (world_in self.old) self.old.at.counters place self.old.at self.old.point) self.old }
         ensures answer { result ≡ Stepped.Ran }
     {
         let _ = self.counters.pop();
@@ -186,7 +189,9 @@ impl Parts {
         requires place { self.old.at.place < 4096 }
         requires room { length self.old.at.returns < 32 }
         requires there { routine_at self.old.code.operations routine ≢ None }
-        ensures value { self.new ≡ moved_by (calls (world_in self.old) (routine_at self.old.code.operations routine) self.old.at self.old.point) self.old }
+        ensures value { self.new ≡ moved_by
+            (calls (world_in self.old) (routine_at self.old.code.operations routine) self.old.at self.old.point)
+            self.old }
         ensures answer { result ≡ Stepped.Ran }
     {
         let begin = self.program.routine(routine);
@@ -198,7 +203,8 @@ impl Parts {
     fn come_back(&mut self) -> Stepped
         requires taken { self.old.taken < 2 ^ 31 }
         requires noted { 0 < length self.old.at.returns }
-        ensures value { self.new ≡ moved_by (comes_back (world_in self.old) self.old.at.returns self.old.at self.old.point) self.old }
+        ensures value { self.new ≡ moved_by
+            (comes_back (world_in self.old) self.old.at.returns self.old.at self.old.point) self.old }
         ensures answer { result ≡ Stepped.Ran }
     {
         match self.returns.pop() {
@@ -228,7 +234,9 @@ impl Parts {
         requires message { index < length self.old.code.messages }
         requires number { self.old.point.number < 2 ^ 31 }
         requires clock { clock_in self.old ≤ 2 ^ 48 }
-        ensures value { self.new ≡ moved_by (sends (world_in self.old) (slice_get self.old.code.messages index) (line_of alternates self.old.at.line) self.old.at self.old.point) self.old }
+        ensures value { self.new ≡ moved_by
+            (sends (world_in self.old) (slice_get self.old.code.messages index)
+            (line_of alternates self.old.at.line) self.old.at self.old.point) self.old }
         ensures answer { result ≡ latest self.new.point.state.talks }
         ensures soon { clock_in self.new ≤ clock_in self.old + 2 ^ 24 }
     {

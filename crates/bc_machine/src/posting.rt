@@ -21,7 +21,8 @@ impl Parts {
     /// Places an action at the next message, behind those that are placed there, where room was made for it.
     fn place(&mut self, address: u8, action: Action) -> Result<(), Action>
         requires { self.old.point.number < 2 ^ 31 }
-        ensures placed { OnOk result (self.new ≡ with_placed self.old (self.old.placed ++ at_next self.old address action ∷ [])) }
+        ensures placed { OnOk result
+            (self.new ≡ with_placed self.old (self.old.placed ++ at_next self.old address action ∷ [])) }
         ensures there { OnOk result (length self.old.placed < self.old.capacity) }
         ensures used_up { OnErr result (self.old.capacity ≤ length self.old.placed) }
         ensures back { IfErr result (λ back. back ≡ action) }
@@ -40,8 +41,8 @@ impl Parts {
 }
 
 impl Machine {
-    /// Makes room for so many actions more than are placed, where there is not that much, and `place` then takes these without
-    /// memory. It fails for want of memory alone, and then the controller stays as it was.
+    /// Makes room for so many actions more than are placed, where there is not that much, and `place` then takes these
+    /// without memory. It fails for want of memory alone, and then the controller stays as it was.
     pub fn room(&mut self, count: u32) -> Result<(), AllocError>
         ensures made { OnOk result (self.new ≡ with_room self.old count) }
         ensures same { OnErr result (self.new ≡ self.old) }
@@ -50,10 +51,11 @@ impl Machine {
         self.parts.room(count)
     }
 
-    /// Places an action of the host of a terminal, at an address of 0 to 30, at the next message, behind the actions that are
-    /// placed there. It comes back where the room that was made is used up. It takes no memory.
+    /// Places an action of the host of a terminal, at an address of 0 to 30, at the next message, behind the actions
+    /// that are placed there. It comes back where the room that was made is used up. It takes no memory.
     pub fn place(&mut self, address: u8, action: Action) -> Result<(), Action>
-        ensures placed { OnOk result (self.new ≡ with_placed self.old (self.old.placed ++ at_next self.old address action ∷ [])) }
+        ensures placed { OnOk result
+            (self.new ≡ with_placed self.old (self.old.placed ++ at_next self.old address action ∷ [])) }
         ensures there { OnOk result (length self.old.placed < self.old.capacity) }
         ensures used_up { OnErr result (self.old.capacity ≤ length self.old.placed) }
         ensures back { IfErr result (λ back. back ≡ action) }

@@ -9,8 +9,8 @@ use mil_word::Line;
 use std::marker::Model;
 use std::snapshot::Snapshot;
 
-/// What steps change of a controller. Contracts see the whole controller as plain data; of its program, plan and placed actions
-/// no byte is kept.
+/// What steps change of a controller. Contracts see the whole controller as plain data; of its program, plan and placed
+/// actions no byte is kept.
 #[derive(Drop)]
 pub struct SavedParts {
     pub program: Snapshot<Program>,
@@ -44,8 +44,8 @@ impl Model for SavedParts {
     ghost view = { state_kept };
 }
 
-/// A controller as it was when it was saved: its bus, its registers and all else that steps change. Contracts see the whole
-/// controller; of its program, plan and placed actions no byte is kept.
+/// A controller as it was when it was saved: its bus, its registers and all else that steps change. Contracts see the
+/// whole controller; of its program, plan and placed actions no byte is kept.
 #[derive(Drop)]
 pub struct Saved {
     pub(crate) parts: SavedParts,

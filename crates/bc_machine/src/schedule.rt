@@ -1,5 +1,6 @@
 //! The placed actions of a controller.
-ghost use Rattle.std.specs.Prelude.{◌≡◌, ◌↔◌, ◌+◌, ◌<◌, ◌≤◌, ◌++◌, ◌∷◌, [], min, max, length, IfOk, IfErr, OnOk, OnErr, IsTrue};
+ghost use Rattle.std.specs.Prelude.{◌≡◌, ◌↔◌, ◌+◌, ◌<◌, ◌≤◌, ◌++◌, ◌∷◌, [], min, max, length, IfOk, IfErr, OnOk, OnErr};
+ghost use Rattle.std.specs.Prelude.{IsTrue};
 ghost use Rattle.bc_machine.specs.Controller.{placed_at};
 ghost use Rattle.bc_machine.specs.Rising.{IsRising};
 
@@ -7,8 +8,8 @@ use crate::Placed;
 use std::alloc::{AllocError, Global};
 use std::marker::Model;
 
-/// Placed actions, in their order, and room for more; contracts see the list and for how many there is room. Where their numbers never fall, those of one number are found
-/// without a look at all others.
+/// Placed actions, in their order, and room for more; contracts see the list and for how many there is room. Where
+/// their numbers never fall, those of one number are found without a look at all others.
 #[derive(Drop)]
 pub struct Schedule {
     placed: Vec<Placed>,

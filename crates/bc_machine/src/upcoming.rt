@@ -57,7 +57,8 @@ impl Parts {
         requires message { index < length self.now.code.messages }
         requires number { self.now.point.number < 2 ^ 31 }
         requires clock { clock_in self.now ≤ 2 ^ 48 }
-        ensures { IfOk result (λ u. IfSome (slice_get self.now.code.messages index) (λ x. IsAbout self.now (line_of alternates self.now.at.line x.0) x.1 u)) }
+        ensures { IfOk result (λ u. IfSome (slice_get self.now.code.messages index)
+            (λ x. IsAbout self.now (line_of alternates self.now.at.line x.0) x.1 u)) }
     {
         let (own, message) = &self.program.image().messages()[index as usize];
         let line = if alternates { other(self.line) } else { *own };
@@ -82,8 +83,8 @@ impl Parts {
 }
 
 impl Machine {
-    /// The message that the next step sends, and the bus as that message meets it; None where the next step sends none. It fails
-    /// for want of memory alone.
+    /// The message that the next step sends, and the bus as that message meets it; None where the next step sends none.
+    /// It fails for want of memory alone.
     pub fn upcoming(&self) -> Result<Option<Upcoming>, AllocError>
         ensures { IfOk result (λ o. Comes self.now o) }
     {

@@ -11,7 +11,8 @@ use Rattle.frame_load.specs.declared.LoadError.{LoadError}
 use Rattle.frame_load.specs.declared.LoadError.TheVariants as loader
 use Rattle.bench_assemble.specs.declared.sizes.Sizes.{Sizes}
 use Rattle.bench_assemble.specs.declared.fault.AssembleFault.{AssembleFault}
-use Rattle.bench_assemble.specs.declared.fault.AssembleFault.TheVariants.{Text, Operations, Messages, Budget, Periods, Memory}
+use Rattle.bench_assemble.specs.declared.fault.AssembleFault.TheVariants.{Text, Operations, Messages, Budget, Periods}
+use Rattle.bench_assemble.specs.declared.fault.AssembleFault.TheVariants.{Memory}
 
 pub data Refusal : Type 0 where
   -- a fault of the text
@@ -30,12 +31,17 @@ unfoldable pub judged : Code → Result Code Refusal
 judged code =
     if nat_lt 4096 (length code.operations) then Err too_long
     else if nat_lt 1024 (length code.messages) then Err too_many_messages
-    else if nat_lt 100000000 (budget code.operations) || nat_lt 1000000 (worst_messages code.operations) then Err over_budget
+    else if nat_lt 100000000 (budget code.operations) || nat_lt 1000000 (worst_messages code.operations)
+    then Err over_budget
     else if nat_lt (2 ^ 46) (periods code.operations) then Err too_slow
     else Ok code
 
 abbrev pub sizes_of : Code → Sizes
-sizes_of code = record { operations = length code.operations; messages = length code.messages; budget = budget code.operations }
+sizes_of code = record {
+  operations = length code.operations;
+  messages = length code.messages;
+  budget = budget code.operations;
+}
 
 -- the bytes of an image, and its sizes
 abbrev pub Sized : Type 0

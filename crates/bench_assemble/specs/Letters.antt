@@ -1,7 +1,8 @@
 -- The letters of a refusal (own choice); a fault of the text has its place besides, of which nothing is said here.
 use Rattle.std.specs.Prelude.{ℕ, List, Option, Some, None, codes}
 use Rattle.bench_assemble.specs.declared.fault.AssembleFault.{AssembleFault}
-use Rattle.bench_assemble.specs.declared.fault.AssembleFault.TheVariants.{Text, Operations, Messages, Budget, Periods, Memory}
+use Rattle.bench_assemble.specs.declared.fault.AssembleFault.TheVariants.{Text, Operations, Messages, Budget, Periods}
+use Rattle.bench_assemble.specs.declared.fault.AssembleFault.TheVariants.{Memory}
 
 abbrev pub letters_of : AssembleFault → Option (List ℕ)
 letters_of (Text cause place) = None

@@ -3,4 +3,5 @@ use Rattle.std.specs.Prelude.{ℕ, List, ◌++◌, codes, decimal}
 
 abbrev pub sizes_line : ℕ → ℕ → ℕ → List ℕ
 sizes_line operations messages budget =
-    codes "operations " ++ decimal operations ++ codes " messages " ++ decimal messages ++ codes " budget " ++ decimal budget
+    codes "operations " ++ decimal operations ++ codes " messages " ++ decimal messages ++ codes " budget "
+    ++ decimal budget

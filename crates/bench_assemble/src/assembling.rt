@@ -14,8 +14,8 @@ use frame_text::{ScriptError, parse};
 use frame_tree::Frame;
 use std::alloc::Global;
 
-/// The bytes of the image of a script, and its sizes. A text that has no tree is refused with its first fault (S1 to S8);
-/// then code of more than 4096 operations (A1), more than 1024 messages (A2), a program over its budget (P5), and
+/// The bytes of the image of a script, and its sizes. A text that has no tree is refused with its first fault (S1 to
+/// S8); then code of more than 4096 operations (A1), more than 1024 messages (A2), a program over its budget (P5), and
 /// periods that come to more than 2^46 ticks (P8); then memory.
 pub fn assemble_text(alloc: Global, text: &[u8]) -> Result<(Vec<u8>, Sizes), AssembleFault>
     ensures image { IfOk result (λ x. image_of_text text.now ≡ Ok (x.0.items, x.1)) }

@@ -19,8 +19,8 @@ pub enum AssembleFault {
     Messages,
     /// P5: a run may take more than 100,000,000 steps or send more than 1,000,000 messages.
     Budget,
-    /// P8: the periods of the frames that a run may close come to more than 2^46 ticks. The code of a script breaks no other
-    /// rule of the loader than these two.
+    /// P8: the periods of the frames that a run may close come to more than 2^46 ticks. The code of a script breaks no
+    /// other rule of the loader than these two.
     Periods,
     /// Memory was refused.
     Memory,

@@ -35,7 +35,8 @@ impl fmt::Display for Sizes {
 
 /// Writes the sizes as a line. A fault is the writer's.
 pub fn print_sizes<W: Write>(out: &mut W, sizes: &Sizes) -> io::Result<()>
-    ensures written { OnOk result (Appends (W.contents out.old) (W.contents out.new) (sizes_line sizes.now.operations sizes.now.messages sizes.now.budget ++ 10 ∷ [])) }
+    ensures written { OnOk result (Appends (W.contents out.old) (W.contents out.new)
+        (sizes_line sizes.now.operations sizes.now.messages sizes.now.budget ++ 10 ∷ [])) }
 {
     writeln!(out, "{sizes}")
 }

@@ -22,8 +22,10 @@ format_of version limit = record { version = version; limit = limit }
 
 -- the bytes of the channel's recording
 abbrev pub channel_file : ℕ → ℕ → ℕ → List Record → List ℕ
-channel_file channel version limit records = written_file (format_of version limit) [] (to_the_end channel (numbered_from 1 records))
+channel_file channel version limit records = written_file (format_of version limit) []
+    (to_the_end channel (numbered_from 1 records))
 
 -- the bytes can be read, and the channel's messages in them are these records, in order and once
 abbrev pub IsReadAs : ℕ → List Record → List ℕ → Type 0
-IsReadAs channel records bytes = (ps : List Found) × (packets_in bytes ≡ Ok ps) × (reading ps channel ≡ map as_message records)
+IsReadAs channel records bytes = (ps : List Found) × (packets_in bytes ≡ Ok ps)
+    × (reading ps channel ≡ map as_message records)

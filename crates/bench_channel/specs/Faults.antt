@@ -6,10 +6,11 @@ use Rattle.ch11_recording.specs.Recording.{IsLimit}
 use Rattle.bench_channel.specs.declared.fault.ChannelFault.{ChannelFault}
 use Rattle.bench_channel.specs.declared.fault.ChannelFault.TheVariants.{Limit, Memory, Sink}
 
--- G1 for a packet limit out of its range, and want of memory within it, which put nothing into the sink; a fault of the sink, which
--- took the first bytes of the file, so many of them
+-- G1 for a packet limit out of its range, and want of memory within it, which put nothing into the sink; a fault of the
+-- sink, which took the first bytes of the file, so many of them
 abbrev pub Leaves : {S : Type 0} → (S → Option (List ℕ)) → (S → ℕ) → ℕ → List ℕ → S → ChannelFault S → Type 0
 Leaves taken failures limit file before (Limit sink) = ¬ IsLimit limit × (sink ≡ before)
 Leaves taken failures limit file before (Memory sink) = IsLimit limit × (sink ≡ before)
 Leaves taken failures limit file before (Sink sink count) =
-    IsLimit limit × (failures before < failures sink) × (count ≤ length file) × Appends (taken before) (taken sink) (take count file)
+    IsLimit limit × (failures before < failures sink) × (count ≤ length file)
+    × Appends (taken before) (taken sink) (take count file)

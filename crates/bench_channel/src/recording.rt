@@ -28,8 +28,10 @@ fn record_all<S: Sink>(
     requires high { limit ≤ 524288 }
     requires machine { IsOf (job_in job.now) job.now.actions machine }
     requires first { machine.point.number ≡ 0 }
-    requires begun { IsRecordingOf S.taken (format_of version limit) [] (S.taken recorder.writing.sink) (job.now.channel ∷ []) [] recorder }
-    requires fresh { recorder.writing ≡ record { sink = recorder.writing.sink; taken = 0; failed = false; finished = false } }
+    requires begun { IsRecordingOf S.taken (format_of version limit) [] (S.taken recorder.writing.sink)
+        (job.now.channel ∷ []) [] recorder }
+    requires fresh { recorder.writing
+        ≡ record { sink = recorder.writing.sink; taken = 0; failed = false; finished = false } }
     ensures file { IfOk result (λ s. Appends (S.taken recorder.writing.sink) (S.taken s)
         (channel_file job.now.channel version limit (records (job_in job.now) job.now.actions))) }
     ensures read { IfOk result (λ _. IsReadAs job.now.channel (records (job_in job.now) job.now.actions)
@@ -58,8 +60,9 @@ fn record_all<S: Sink>(
     }
 }
 
-/// The recording of a job's channel under its own actions, in packets of at most `limit` bytes, put into the sink. G1 where the
-/// limit is outside 256 to 524,288, then U3 where memory is refused, then U4 where the sink fails; each hands the sink back.
+/// The recording of a job's channel under its own actions, in packets of at most `limit` bytes, put into the sink. G1
+/// where the limit is outside 256 to 524,288, then U3 where memory is refused, then U4 where the sink fails; each hands
+/// the sink back.
 ///
 /// What the sink took, read back, gives the job's records, in order and once.
 pub fn one_channel<S: Sink>(

@@ -1,5 +1,5 @@
--- Whether a terminal has words to transmit (own choice): its host put some up, by an action that is placed at the message or at one
--- before it.
+-- Whether a terminal has words to transmit (own choice): its host put some up, by an action that is placed at the
+-- message or at one before it.
 use Rattle.std.specs.Prelude.{ℕ, ◌==◌, ◌&&◌, Bool, false, nat_le, List}
 use Rattle.std.specs.List.{list_any}
 use Rattle.mil_host.specs.declared.actions.Action.{Action}

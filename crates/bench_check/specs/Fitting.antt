@@ -1,5 +1,6 @@
--- How long a script's frames may take at worst, and which of those with a period may not fit into it (own choice). Times are
--- ticks of 0.1 µs: a word takes 200 (MIL-STD-1553B 4.3.3.4), and a gap is counted as on the bus, 20 where there is no pause.
+-- How long a script's frames may take at worst, and which of those with a period may not fit into it (own choice).
+-- Times are ticks of 0.1 µs: a word takes 200 (MIL-STD-1553B 4.3.3.4), and a gap is counted as on the bus, 20 where
+-- there is no pause.
 use Rattle.std.specs.Prelude.{◌≡◌, ℕ, ◌+◌, ◌-◌, ◌*◌, min, max, nat_lt, if◌then◌else◌, List, [], ◌∷◌, ◌++◌, length}
 use Rattle.mil_message.specs.declared.forms.Due.{Due}
 use Rattle.mil_message.specs.declared.forms.Form.{Form}
@@ -36,8 +37,8 @@ set_gap (chained a b) = max (set_gap a) (set_gap b)
 set_gap (call n) = 0
 set_gap (define n b r) = max (set_gap b) (set_gap r)
 
--- the longest gap in front of a message of a script: 180, which is left behind a message that failed or ended with a word of the
--- controller, or a longer one that the script sets
+-- the longest gap in front of a message of a script: 180, which is left behind a message that failed or ended with a
+-- word of the controller, or a longer one that the script sets
 abbrev pub longest_gap : Tree → ℕ
 longest_gap t = max 180 (set_gap t)
 
@@ -45,9 +46,9 @@ longest_gap t = max 180 (set_gap t)
 abbrev pub spent : ℕ → Form → ℕ
 spent longest form = (longest - 20) + message_ticks form
 
--- How long a tree takes at worst where no gap is longer than this, and where a call of each name in scope takes so long: every
--- retry is used up, an until runs all its turns, an if takes the branch that is longer, and a frame with a period lasts for its
--- period at least.
+-- How long a tree takes at worst where no gap is longer than this, and where a call of each name in scope takes so
+-- long: every retry is used up, an until runs all its turns, an if takes the branch that is longer, and a frame with a
+-- period lasts for its period at least.
 abbrev pub ticks_in : ℕ → Scope ℕ → Tree → ℕ
 ticks_in g ds (send l m) = spent g m
 ticks_in g ds (retry n l m) = (1 + n) * spent g m
@@ -69,7 +70,8 @@ worst_ticks t = ticks_in (longest_gap t) [] t
 abbrev pub most : ℕ → ℕ
 most n = min 1000000000 n
 
--- the frames with a period in the order of the text, those of a definition once, each with how long its body takes at worst
+-- the frames with a period in the order of the text, those of a definition once, each with how long its body takes at
+-- worst
 abbrev pub frames_in : ℕ → Scope ℕ → Tree → List Timed
 frames_in g ds (send l m) = []
 frames_in g ds (retry n l m) = []

@@ -1,4 +1,5 @@
--- When a planned fault meets something (own choice): its message has the run that it is planned for, and in that run the word.
+-- When a planned fault meets something (own choice): its message has the run that it is planned for, and in that run
+-- the word.
 use Rattle.std.specs.Prelude.{ℕ, ◌==◌, Bool, nat_lt, List, [], length, Some}
 use Rattle.std.specs.List.{filter}
 use Rattle.mil_line.specs.declared.faults.Fault.{Fault}
@@ -34,9 +35,10 @@ is_there words (Mute run) = nat_lt 0 words
 -- the words of the message of a talk that starts when the talk does, on this bus, under these faults
 unfoldable pub sent_under : BusState → Talk → List Fault → List Sent
 sent_under b t faults =
-    (runs 40 t.line faults 0 (Some (controllers t.line t.message t.start b.talks)) (record { sent = []; stations = b.stations })).sent
+    (runs 40 t.line faults 0 (Some (controllers t.line t.message t.start b.talks))
+    (record { sent = []; stations = b.stations })).sent
 
--- A fault meets something where its run has its place, as the run's sender gives it: under the faults of earlier runs alone, since
--- these say whether and how the run comes about.
+-- A fault meets something where its run has its place, as the run's sender gives it: under the faults of earlier runs
+-- alone, since these say whether and how the run comes about.
 abbrev pub meets : BusState → Talk → List Fault → Fault → Bool
 meets b t faults f = is_there (length (words_of (run_of f) (sent_under b t (filter (is_before (run_of f)) faults)))) f

@@ -1,6 +1,7 @@
--- The frames of a job that take longer than their period (own choice): the last word of such a frame ends behind the tick at which
--- the next frame is due.
-use Rattle.std.specs.Prelude.{ℕ, zero, suc, ◌+◌, ◌-◌, ◌*◌, nat_lt, if◌then◌else◌, List, [], ◌∷◌, ◌++◌, Option, Some, None}
+-- The frames of a job that take longer than their period (own choice): the last word of such a frame ends behind the
+-- tick at which the next frame is due.
+use Rattle.std.specs.Prelude.{ℕ, zero, suc, ◌+◌, ◌-◌, ◌*◌, nat_lt, if◌then◌else◌, List, [], ◌∷◌, ◌++◌, Option, Some}
+use Rattle.std.specs.Prelude.{None}
 use Rattle.mil_bus.specs.Exchange.{clock_of}
 use Rattle.frame_asm.specs.Shapes.{code_of}
 use Rattle.frame_load.specs.Budget.{budget}
@@ -20,7 +21,8 @@ abbrev pub late_of : Option Closing → MachineState → List Overrun
 late_of None m = []
 late_of (Some c) m =
     let due = c.began + 1000 * c.hundreds in
-    if nat_lt due (clock_at m) then record { number = m.point.number; hundreds = c.hundreds; ticks = clock_at m - due } ∷ [] else []
+    if nat_lt due (clock_at m) then record
+    { number = m.point.number; hundreds = c.hundreds; ticks = clock_at m - due } ∷ [] else []
 
 -- the same of the frame that the next step closes, if it closes one
 abbrev pub overruns_at : MachineState → List Overrun

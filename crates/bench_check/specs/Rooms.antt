@@ -1,4 +1,5 @@
--- How much room of the queue a job may take (own choice): one item for each message that it may send, and one for its end.
+-- How much room of the queue a job may take (own choice): one item for each message that it may send, and one for its
+-- end.
 use Rattle.std.specs.Prelude.{ℕ, ◌+◌}
 use Rattle.frame_asm.specs.Shapes.{code_of}
 use Rattle.frame_load.specs.Budget.{worst_messages}

@@ -33,7 +33,8 @@ numbered n faults = map (λ f. (n, f)) faults
 
 -- the faults of the message behind the first k that meet nothing
 unfoldable pub unmet_behind : JobState → ℕ → List Planned
-unmet_behind job k = numbered (k + 1) (unmet_of (met_behind job k) (bus_at job (k + 1)).talks (faults_of (k + 1) job.plan))
+unmet_behind job k = numbered (k + 1)
+    (unmet_of (met_behind job k) (bus_at job (k + 1)).talks (faults_of (k + 1) job.plan))
 
 -- those of the first so many messages
 abbrev pub unmet_up_to : JobState → ℕ → List Planned
@@ -43,9 +44,10 @@ unmet_up_to job (suc k) = unmet_up_to job k ++ unmet_behind job k
 -- the faults that are planned for the first so many messages behind the first k
 abbrev pub planned_behind : List Planned → ℕ → ℕ → List Planned
 planned_behind plan k zero = []
-planned_behind plan k (suc count) = planned_behind plan k count ++ numbered (k + count + 1) (faults_of (k + count + 1) plan)
+planned_behind plan k (suc count) = planned_behind plan k count
+    ++ numbered (k + count + 1) (faults_of (k + count + 1) plan)
 
--- All planned faults that meet nothing, by the numbers of their messages: those of messages that are sent and have no such run or
--- word, and those of messages that are never sent. A plan has numbers up to 1,000,000.
+-- All planned faults that meet nothing, by the numbers of their messages: those of messages that are sent and have no
+-- such run or word, and those of messages that are never sent. A plan has numbers up to 1,000,000.
 abbrev pub unmet : JobState → List Planned
 unmet job = unmet_up_to job (made job) ++ planned_behind job.plan (made job) (1000000 - made job)

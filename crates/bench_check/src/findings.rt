@@ -34,8 +34,8 @@ pub struct Findings {
     pub room: u64,
 }
 
-/// Prints what is probably a mistake, a line for each, and the room that the queue needs for nothing to be refused. The frames
-/// that may not fit into their period are those of the job's script.
+/// Prints what is probably a mistake, a line for each, and the room that the queue needs for nothing to be refused. The
+/// frames that may not fit into their period are those of the job's script.
 pub fn print_findings<W: Write>(
     alloc: Global,
     job: &Job,
@@ -110,7 +110,8 @@ fn put_unfilled(text: &mut String, job: &Job, oddities: &Oddities) -> Result<(),
             if first > 0 {
                 write!(
                     text,
-                    "  terminal {address} transmits from subaddress {sub} in message {first}, and no words were put up there\n"
+                    "  terminal {address} transmits from subaddress {sub} in message {first}, and no words were put up \
+                     there\n"
                 )?;
             }
         }
@@ -154,7 +155,8 @@ fn put_tight(text: &mut String, tight: &[Tight]) -> Result<(), AllocError> {
         let (whole, part) = parts_of(one.ticks);
         write!(
             text,
-            "  frame {place} of the script, of {period} us, may take {whole}.{part} us: late replies, each retry and each poll counted\n"
+            "  frame {place} of the script, of {period} us, may take {whole}.{part} us: late replies, each retry and \
+             each poll counted\n"
         )?;
     }
     if tight.len() > SHOWN {
@@ -176,7 +178,8 @@ fn put_overruns(text: &mut String, overruns: &Vec<Overrun>) -> Result<(), AllocE
     let (whole, part) = parts_of(first.ticks);
     write!(
         text,
-        "  the frame of {period} us that ends behind message {number} is {whole}.{part} us too long, the first of {count}\n"
+        "  the frame of {period} us that ends behind message {number} is {whole}.{part} us too long, the first of \
+         {count}\n"
     )
 }
 

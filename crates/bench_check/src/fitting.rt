@@ -101,8 +101,8 @@ fn times(count: u16, ticks: u32) -> u32
     u32::from(count).saturating_mul(ticks).min(MOST)
 }
 
-/// How long a frame takes at worst, in ticks of 0.1 µs, 100 s where it is more, where no gap is longer than this and a call of
-/// each name in scope takes as long as its number says.
+/// How long a frame takes at worst, in ticks of 0.1 µs, 100 s where it is more, where no gap is longer than this and a
+/// call of each name in scope takes as long as its number says.
 fn ticks_in<'a, A: Allocator + Clone>(frame: &'a Frame<A>, gap: u16, scope: &'a Scope<'a>) -> u32
     ensures { result ≡ spec.most (spec.ticks_in gap (scope_of scope.now) (tree_of frame.now)) }
 {
@@ -138,15 +138,16 @@ fn ticks_in<'a, A: Allocator + Clone>(frame: &'a Frame<A>, gap: u16, scope: &'a 
     }
 }
 
-/// Adds the frames with a period of a frame, in the order of the text, where no gap is longer than this and a call of each name
-/// in scope takes as long as its number says.
+/// Adds the frames with a period of a frame, in the order of the text, where no gap is longer than this and a call of
+/// each name in scope takes as long as its number says.
 fn add_frames<'a, A: Allocator + Clone>(
     found: &mut Vec<Timed>,
     frame: &'a Frame<A>,
     gap: u16,
     scope: &'a Scope<'a>,
 ) -> Result<(), AllocError>
-    ensures { OnOk result (found.new.items ≡ found.old.items ++ spec.frames_in gap (scope_of scope.now) (tree_of frame.now)) }
+    ensures { OnOk result (found.new.items
+        ≡ found.old.items ++ spec.frames_in gap (scope_of scope.now) (tree_of frame.now)) }
 {
     match frame {
         Frame::Send { .. } | Frame::Retry { .. } | Frame::Gap(_) | Frame::Call(_) => Ok(()),
@@ -210,10 +211,10 @@ fn tight_of(alloc: Global, frames: &[Timed]) -> Result<Vec<Tight>, AllocError>
     Ok(tight)
 }
 
-/// The frames with a period of a script whose body takes longer than the period at worst: every reply comes with the longest
-/// response time, 12.0 µs, in front of every message stands the longest gap, every retry is used up, an `until` runs all its
-/// turns, an `if` takes the branch that is longer, and a call takes as long as the body of its definition, whose frames
-/// count once. Planned faults are not counted. It fails for want of memory alone.
+/// The frames with a period of a script whose body takes longer than the period at worst: every reply comes with the
+/// longest response time, 12.0 µs, in front of every message stands the longest gap, every retry is used up, an `until`
+/// runs all its turns, an `if` takes the branch that is longer, and a call takes as long as the body of its definition,
+/// whose frames count once. Planned faults are not counted. It fails for want of memory alone.
 pub fn tight_frames<A: Allocator + Clone>(
     alloc: Global,
     frame: &Frame<A>,

@@ -20,7 +20,8 @@ pub struct Overrun {
 /// How many ticks of 0.1 µs 100 µs have.
 const TICKS: u64 = 1000;
 
-/// Puts the line of a frame that the next step closes, if it closes one, and keeps it where it took longer than its period.
+/// Puts the line of a frame that the next step closes, if it closes one, and keeps it where it took longer than its
+/// period.
 pub(crate) fn note_frame(
     text: &mut String,
     overruns: &mut Vec<Overrun>,

@@ -12,8 +12,8 @@ const PLACES: usize = 32;
 /// The subaddress that wraps around: it sends what it received (MIL-STD-1553B Notice 2).
 const WRAP_AROUND: u8 = 30;
 
-/// The mode codes whose status word is that of the command before (4.3.3.5.1.7.3, 4.3.3.5.1.7.11): transmit status word,
-/// transmit last command.
+/// The mode codes whose status word is that of the command before (4.3.3.5.1.7.3, 4.3.3.5.1.7.11): transmit status
+/// word, transmit last command.
 const OF_LAST_COMMAND: [u8; 2] = [2, 18];
 
 /// A message that was answered with the message error bit.
@@ -123,8 +123,8 @@ impl Oddities {
         self.first_left
     }
 
-    /// The number of the first message that transmits from a subaddress of a terminal where no words were put up; 0 where
-    /// there is none.
+    /// The number of the first message that transmits from a subaddress of a terminal where no words were put up; 0
+    /// where there is none.
     pub fn unfilled(&self, address: u8, sub: u8) -> u32 {
         match self.unfilled.get(usize::from(address)) {
             Some(firsts) => firsts.get(usize::from(sub)).copied().unwrap_or(0),

@@ -12,10 +12,12 @@ use frame_text::{ScriptError, parse};
 use mil_host::next_word;
 use std::alloc::{AllocError, Global};
 
-/// The frames with a period, in the script of a job's text, that may take longer than their period, as `tight_frames` has them; none
-/// where the text has no script. The script's tree stands in an arena meanwhile. It fails for want of memory alone.
+/// The frames with a period, in the script of a job's text, that may take longer than their period, as `tight_frames`
+/// has them; none where the text has no script. The script's tree stands in an arena meanwhile. It fails for want of
+/// memory alone.
 pub fn tight_frames_in(alloc: Global, text: &[u8]) -> Result<Vec<Tight>, AllocError>
-    ensures { IfOk result (λ l. (job : ChannelJob) → spelled text.now ≡ Some job → l.items ≡ spec.tight_frames job.tree) }
+    ensures { IfOk result (λ l. (job : ChannelJob) → spelled text.now ≡ Some job
+        → l.items ≡ spec.tight_frames job.tree) }
 {
     let Some(script) = script_of(text) else {
         return Ok(Vec::new(alloc));

@@ -43,7 +43,9 @@ fn note_faults(
     requires clock { now_of coming.now.bus < 2 ^ 60 }
     requires start { coming.now.talk.start ≡ talk_start coming.now.bus coming.now.gap }
     requires in_range { list_all is_in_range faults.now ≡ true }
-    ensures { OnOk result (unmet.new.items ≡ unmet.old.items ++ spec.numbered number (filter (λ f. not (is_met coming.now.bus coming.now.talk faults.now f)) faults.now)) }
+    ensures { OnOk result (unmet.new.items
+        ≡ unmet.old.items ++ spec.numbered number
+        (filter (λ f. not (is_met coming.now.bus coming.now.talk faults.now f)) faults.now)) }
 {
     for fault in faults {
         text.push_str("  ")?;
@@ -97,7 +99,10 @@ fn note<W: Write>(
 ) -> Result<(), CheckFault>
     requires clock { now_of coming.now.bus < 2 ^ 60 }
     requires start { coming.now.talk.start ≡ talk_start coming.now.bus coming.now.gap }
-    ensures { OnOk result (unmet.new.items ≡ unmet.old.items ++ spec.numbered number (filter (λ f. not (is_met coming.now.bus coming.now.talk (faults_of number job.now.plan) f)) (faults_of number job.now.plan))) }
+    ensures { OnOk result (unmet.new.items
+        ≡ unmet.old.items ++ spec.numbered number
+        (filter (λ f. not (is_met coming.now.bus coming.now.talk (faults_of number job.now.plan) f))
+        (faults_of number job.now.plan))) }
 {
     let mut text = String::new(alloc);
     put_message(alloc, &mut text, number, &coming.talk)?;
@@ -127,8 +132,8 @@ fn close<W: Write>(
 }
 
 /// Tries a job: prints each of its messages, with the actions that are placed at it, the faults that are planned for it
-/// and what it comes to, and behind each frame with a period what time was left of it; and answers what was found. It fails
-/// for want of memory, and where the writer does.
+/// and what it comes to, and behind each frame with a period what time was left of it; and answers what was found. It
+/// fails for want of memory, and where the writer does.
 pub fn try_job<W: Write>(
     alloc: Global,
     job: &Job,

@@ -1,5 +1,6 @@
 -- The time of day at a stamp (own choice): that of the last time packet at or before it, and what has passed since.
-use Rattle.std.specs.Prelude.{ℕ, ◌+◌, ◌-◌, ◌*◌, ◌==◌, Bool, true, false, nat_lt, if◌then◌else◌, List, [], ◌∷◌, ◌++◌, take, drop, Option, None, Some}
+use Rattle.std.specs.Prelude.{ℕ, ◌+◌, ◌-◌, ◌*◌, ◌==◌, Bool, true, false, nat_lt, if◌then◌else◌, List, [], ◌∷◌, ◌++◌}
+use Rattle.std.specs.Prelude.{take, drop, Option, None, Some}
 use Rattle.ch11_header.specs.HeaderReading.{body_start}
 use Rattle.ch11_reader.specs.declared.packet.Packet.{Packet}
 use Rattle.bench_clock.specs.declared.clock.Mark.{Mark}
@@ -21,7 +22,8 @@ is_above (Some last) counter = nat_lt last counter
 -- the mark that a packet makes behind a last counter, and the last counter behind it
 abbrev pub mark_of : Option ℕ → ℕ → Option ℕ → List Mark
 mark_of last counter None = []
-mark_of last counter (Some second) = if is_above last counter then record { counter = counter; second = second } ∷ [] else []
+mark_of last counter (Some second) = if is_above last counter then record { counter = counter; second = second } ∷ []
+    else []
 
 abbrev pub last_behind : Option ℕ → ℕ → Option ℕ → Option ℕ
 last_behind last counter None = last
@@ -30,7 +32,8 @@ last_behind last counter (Some second) = if is_above last counter then Some coun
 -- the time packets that count, in the order of the file: each whose counter is above those of all that count before it
 abbrev pub marks_behind : List ℕ → Option ℕ → List Packet → List Mark
 marks_behind file last [] = []
-marks_behind file last (e ∷ es) = mark_of last e.header.counter (told_by file e) ++ marks_behind file (last_behind last e.header.counter (told_by file e)) es
+marks_behind file last (e ∷ es) = mark_of last e.header.counter (told_by file e)
+    ++ marks_behind file (last_behind last e.header.counter (told_by file e)) es
 
 abbrev pub marks_in : List ℕ → List Packet → List Mark
 marks_in file es = marks_behind file None es

@@ -8,8 +8,8 @@ use Rattle.bench_clock.specs.Calendar.{Day, day_numbered}
 abbrev pub two_digits : ℕ → ℕ
 two_digits n = n / 10 * 16 + n % 10
 
--- a day and a second of it: time source 0 (bits 3 to 0), format 3 (bits 7 to 4), bit 8 a leap year, bit 9 day and month; then
--- hundredths, seconds, minutes, hours, day, month, and the year's last two and first two digits
+-- a day and a second of it: time source 0 (bits 3 to 0), format 3 (bits 7 to 4), bit 8 a leap year, bit 9 day and
+-- month; then hundredths, seconds, minutes, hours, day, month, and the year's last two and first two digits
 abbrev pub time_body : Day → ℕ → List ℕ
 time_body d second =
     0x30 ∷ (if is_leap_year (pos d.year) then 3 else 2) ∷ 0 ∷ 0

@@ -15,7 +15,8 @@ text_of d second ticks =
     ∷ 84 ∷ digit (second / 36000) ∷ digit (second / 3600)
     ∷ 58 ∷ digit (second / 60 % 60 / 10) ∷ digit (second / 60 % 60)
     ∷ 58 ∷ digit (second % 60 / 10) ∷ digit (second % 60)
-    ∷ 46 ∷ digit (ticks / 1000000) ∷ digit (ticks / 100000) ∷ digit (ticks / 10000) ∷ digit (ticks / 1000) ∷ digit (ticks / 100) ∷ digit (ticks / 10) ∷ digit ticks
+    ∷ 46 ∷ digit (ticks / 1000000) ∷ digit (ticks / 100000) ∷ digit (ticks / 10000) ∷ digit (ticks / 1000)
+    ∷ digit (ticks / 100) ∷ digit (ticks / 10) ∷ digit ticks
     ∷ []
 
 -- the time so many ticks of 0.1 µs behind 1970-01-01T00:00:00

@@ -1,4 +1,5 @@
-//! The body of a time packet, written (IRIG 106-17 Chapter 11, time data packets, Format 1; its layout is a profile of ours).
+//! The body of a time packet, written (IRIG 106-17 Chapter 11, time data packets, Format 1; its layout is a profile of
+//! ours).
 ghost use Rattle.std.specs.Prelude.{◌≡◌, ◌<◌, ◌≤◌, pos};
 ghost use Rattle.bench_clock.specs.Calendar.{day_numbered};
 ghost use Rattle.bench_clock.specs.TimeBody as spec;
@@ -44,8 +45,9 @@ fn body_at(day: u64, second: u32) -> [u8; 12]
     ]
 }
 
-/// The body of the time packet of a UTC second, which is counted from 1970-01-01T00:00:00: a word for time source and format, then
-/// hundredths, seconds, minutes, hours, day, month and year in binary coded decimals. Condition: the second is of the years 1970 to
+/// The body of the time packet of a UTC second, which is counted from 1970-01-01T00:00:00: a word for time source and
+/// format, then hundredths, seconds, minutes, hours, day, month and year in binary coded decimals. Condition: the
+/// second is of the years 1970 to
 /// 9999.
 pub fn body_of(second: u64) -> [u8; 12]
     requires { second < 253402300800 }

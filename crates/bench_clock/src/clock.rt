@@ -39,8 +39,9 @@ impl Model for Clock {
 const END: u64 = 2_534_023_008_000_000_000;
 
 impl Clock {
-    /// The clock of a recording: its bytes, and its packets as an index has them (`index.packets()`). Time packets are packets of type
-    /// 11 in the layout of `body_of`; one whose counter is not above those of all before it does not count.
+    /// The clock of a recording: its bytes, and its packets as an index has them (`index.packets()`). Time packets are
+    /// packets of type 11 in the layout of `body_of`; one whose counter is not above those of all before it does not
+    /// count.
     pub fn of(alloc: Global, file: &[u8], packets: &[Packet]) -> Result<Clock, AllocError>
         ensures { IfOk result (λ c. c ≡ spec.marks_in file.now packets.now) }
     {
@@ -56,8 +57,8 @@ impl Clock {
         self.marks.is_empty()
     }
 
-    /// The time of day at a stamp in ticks of 0.1 µs: that of the last time packet at or before it, and what has passed since. None in
-    /// front of the first time packet, and behind the year 9999.
+    /// The time of day at a stamp in ticks of 0.1 µs: that of the last time packet at or before it, and what has passed
+    /// since. None in front of the first time packet, and behind the year 9999.
     pub fn at(&self, stamp: u64) -> Option<UtcTime>
         ensures { option_map (λ t. t.ticks) result ≡ spec.time_at self.now stamp }
     {

@@ -9,10 +9,12 @@ use crate::bcd::number_of;
 use crate::body::{DAY, body_of};
 use jiff_core::civil::Date;
 
-/// The number of the day with this date, counted from 1 January 1970; None where the calendar has no such day, or an earlier one.
+/// The number of the day with this date, counted from 1 January 1970; None where the calendar has no such day, or an
+/// earlier one.
 fn day_of(year: u16, month: u8, day: u8) -> Option<u64>
     requires { year ≤ 20000 }
-    ensures found { (n : ℕ) → n ≤ 2932896 → year ≡ (day_numbered n).year → month ≡ (day_numbered n).month → day ≡ (day_numbered n).day → result ≡ Some n }
+    ensures found { (n : ℕ) → n ≤ 2932896 → year ≡ (day_numbered n).year → month ≡ (day_numbered n).month
+        → day ≡ (day_numbered n).day → result ≡ Some n }
     ensures small { IfSome result (λ n. n ≤ 2932896) }
 {
     if month > 12 || day > 31 {
@@ -60,8 +62,8 @@ fn is_body_of(body: &[u8], second: u64) -> bool
     body == body_of(second).as_slice()
 }
 
-/// The UTC second of the body of a time packet, counted from 1970-01-01T00:00:00: the one for which `body_of` writes these bytes.
-/// None for any other bytes, as those of another format.
+/// The UTC second of the body of a time packet, counted from 1970-01-01T00:00:00: the one for which `body_of` writes
+/// these bytes. None for any other bytes, as those of another format.
 pub fn read_second(body: &[u8]) -> Option<u64>
     ensures second { result ≡ spec.second_of body.now }
     ensures small { IfSome result (λ t. t < 253402300800) }

@@ -45,8 +45,8 @@ pub enum Request<'a> {
         completing: Option<Completing<'a>>,
         going: Going<'a>,
     },
-    /// The packets and messages of a recording, printed as lines, or with `skip` whatever is sound of it; with `times` the time of
-    /// day behind each stamp.
+    /// The packets and messages of a recording, printed as lines, or with `skip` whatever is sound of it; with `times`
+    /// the time of day behind each stamp.
     Dump {
         recording: &'a str,
         skip: bool,
@@ -161,7 +161,8 @@ fn bench_command<'a>(alloc: Global) -> Result<Command<'a>, AllocError> {
         .arg(context_option(alloc))?
         .arg_required_else_help(true)
         .after_help(
-            "Exit status: 0 done, 1 the input was refused, 2 usage, 3 a file or a stream failed, 4 no memory, 5 a rule is not held.",
+            "Exit status: 0 done, 1 the input was refused, 2 usage, 3 a file or a stream failed, 4 no memory, 5 a rule \
+             is not held.",
         )
         .subcommand(one_command(alloc)?)?
         .subcommand(assemble_command(alloc)?)?

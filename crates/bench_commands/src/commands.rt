@@ -59,7 +59,8 @@ where
             match word_at_fault(rt) {
                 Ok(Some(word)) => {
                     let _ = eprintln!(errors;
-                        "error: '{word}' is not UTF-8: a file of such a name has to be renamed, or linked by another name"
+                        "error: '{word}' is not UTF-8: a file of such a name has to be renamed, or linked by another \
+                         name"
                     );
                 }
                 _ => {

@@ -107,8 +107,8 @@ pub(crate) fn complete_request<'a>(given: &ArgMatches<'a>) -> CompleteRequest<'a
     }
 }
 
-/// Makes a recording into a complete file. The recording is read, then the text of the setup record; the out file, which is neither of
-/// them, is made once both were accepted.
+/// Makes a recording into a complete file. The recording is read, then the text of the setup record; the out file,
+/// which is neither of them, is made once both were accepted.
 pub fn complete_recording<'a, R: Files + AllocGlobal, E: Eprint>(
     rt: &R,
     errors: &E,

@@ -1,5 +1,5 @@
-//! `bench run --live`, `--pace` and `--show`: actions posted from lines of the standard input, bus time at a pace of real time, and
-//! messages shown as they are recorded.
+//! `bench run --live`, `--pace` and `--show`: actions posted from lines of the standard input, bus time at a pace of
+//! real time, and messages shown as they are recorded.
 ghost use Rattle.std.specs.Prelude.{◌-◌, ◌<◌, ◌^◌};
 
 use crate::judging::is_for_people;
@@ -68,7 +68,8 @@ pub(crate) fn going_in<'a>(given: &ArgMatches<'a>) -> Going<'a> {
     }
 }
 
-/// The same with the pace read. Messages are shown on the standard output: nothing else of the run may go there before its counts.
+/// The same with the pace read. Messages are shown on the standard output: nothing else of the run may go there before
+/// its counts.
 pub(crate) fn way_of<'a, R: Files>(
     rt: &R,
     going: &Going<'a>,
@@ -146,8 +147,8 @@ pub(crate) fn end_showing<R: Threads, E: Eprint>(rt: &R, errors: &E, showing: Op
     }
 }
 
-/// The report of a recording that is whole, and its sink: of a run that goes on like that, whose messages are shown where there is
-/// something that shows them.
+/// The report of a recording that is whole, and its sink: of a run that goes on like that, whose messages are shown
+/// where there is something that shows them.
 pub(crate) fn record<
     R: AllocGlobal + Input + Clock + Threads + Wait + Clone + Drop + Send + Sync + 'static,
     E: Eprint + IsTerminal + Clone + Drop + Send + Sync + 'static,
@@ -179,7 +180,8 @@ where
     }
 }
 
-/// The same while a thread of its own posts what the lines of the standard input ask for. The run does not wait for that thread.
+/// The same while a thread of its own posts what the lines of the standard input ask for. The run does not wait for
+/// that thread.
 fn record_beside<
     R: AllocGlobal + Input + Clock + Threads + Wait + Clone + Drop + Send + Sync + 'static,
     E: Eprint + IsTerminal + Clone + Drop + Send + Sync + 'static,

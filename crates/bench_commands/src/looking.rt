@@ -53,8 +53,8 @@ pub(crate) fn clock_if(
 }
 
 /// Writes the messages of a recording, or those that were selected, as a picture. The out file takes the place of what
-/// is there once it is whole; it may not be the recording itself. Where a selection has no message, nothing is written, and
-/// that is said.
+/// is there once it is whole; it may not be the recording itself. Where a selection has no message, nothing is written,
+/// and that is said.
 pub fn draw_picture<'a, R: Files + AllocGlobal>(
     rt: &R,
     request: &DrawRequest<'a>,

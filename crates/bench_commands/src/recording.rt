@@ -89,8 +89,8 @@ where
     }
 }
 
-/// Records jobs and settings that may be run into files that were begun, and prints how much was recorded, behind the messages where
-/// these are shown.
+/// Records jobs and settings that may be run into files that were begun, and prints how much was recorded, behind the
+/// messages where these are shown.
 fn record_and_tell<
     'a,
     R: Env
@@ -141,7 +141,8 @@ where
     tell(rt, errors, is_output, &recorded?)
 }
 
-/// Records jobs and settings that may be run into files that were begun, and gives these their places. The report is answered.
+/// Records jobs and settings that may be run into files that were begun, and gives these their places. The report is
+/// answered.
 fn record_into<
     'a,
     R: Files + AllocGlobal + Input + Clock + Threads + Wait + Clone + Drop + Send + Sync + 'static,

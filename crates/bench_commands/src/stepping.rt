@@ -12,9 +12,9 @@ use std::io;
 use std::io::{BufReader, BufWriter, Input, IsTerminal};
 use std::rt::Files;
 
-/// Walks through a recording as the lines of the standard input ask, and answers each of them on the standard output. All files are
-/// read before the first of them is judged: the recording, then the report, then the jobs. Where that is asked for, the reason of a
-/// reply that refuses a line goes to `errors`.
+/// Walks through a recording as the lines of the standard input ask, and answers each of them on the standard output.
+/// All files are read before the first of them is judged: the recording, then the report, then the jobs. Where that is
+/// asked for, the reason of a reply that refuses a line goes to `errors`.
 pub fn step_through<'a, R: Files + AllocGlobal + Input + Print, E: Eprint + IsTerminal>(
     rt: &R,
     errors: &E,

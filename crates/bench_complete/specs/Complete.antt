@@ -1,5 +1,6 @@
 -- The complete file of a recording (own choice).
-use Rattle.std.specs.Prelude.{◌≡◌, ℕ, ◌+◌, ◌*◌, ◌/◌, nat_lt, if◌then◌else◌, min, max, List, [], ◌∷◌, ◌++◌, Option, None, Some, option_map}
+use Rattle.std.specs.Prelude.{◌≡◌, ℕ, ◌+◌, ◌*◌, ◌/◌, nat_lt, if◌then◌else◌, min, max, List, [], ◌∷◌, ◌++◌, Option, None}
+use Rattle.std.specs.Prelude.{Some, option_map}
 use Rattle.std.specs.Io.KnownBytes.{Appends}
 use Rattle.ch11_reader.specs.Recording.{Found}
 use Rattle.bench_complete.specs.declared.additions.Additions.{Additions}
@@ -28,10 +29,16 @@ abbrev pub low_of : Option Extent → ℕ
 low_of None = 0
 low_of (Some e) = e.low
 
--- the whole seconds from the last one at or before the lowest counter to the last one at or before the highest; none where no time is
--- asked for, and none for no packet
+-- the whole seconds from the last one at or before the lowest counter to the last one at or before the highest; none
+-- where no time is asked for, and none for no packet
 abbrev pub times_between : Additions → Option UtcSecond → Option Extent → Times
-times_between a (Some start) (Some e) = record { start = start.second; channel = a.time_channel; version = a.version; first = e.low / 10000000; end = e.high / 10000000 + 1 }
+times_between a (Some start) (Some e) = record {
+  start = start.second;
+  channel = a.time_channel;
+  version = a.version;
+  first = e.low / 10000000;
+  end = e.high / 10000000 + 1;
+}
 times_between a start None = record { start = 0; channel = a.time_channel; version = a.version; first = 0; end = 0 }
 times_between a None (Some e) = record { start = 0; channel = a.time_channel; version = a.version; first = 0; end = 0 }
 

@@ -1,5 +1,7 @@
 -- What is refused (own choice).
-use Rattle.std.specs.Prelude.{◌≡◌, ◌⊎◌, ℕ, ◌+◌, ◌-◌, ◌/◌, ◌<◌, ◌≤◌, ◌^◌, ◌++◌, drop, ◌==◌, ◌&&◌, Bool, true, false, nat_lt, is_some, if◌then◌else◌, List, [], length, Option, None, Some, option_map, Result, Ok, Err}
+use Rattle.std.specs.Prelude.{◌≡◌, ◌⊎◌, ℕ, ◌+◌, ◌-◌, ◌/◌, ◌<◌, ◌≤◌, ◌^◌, ◌++◌, drop, ◌==◌, ◌&&◌, Bool, true, false}
+use Rattle.std.specs.Prelude.{nat_lt, is_some, if◌then◌else◌, List, [], length, Option, None, Some, option_map, Result}
+use Rattle.std.specs.Prelude.{Ok, Err}
 use Rattle.std.specs.List.{list_any, AllByRecursion}
 use Rattle.ch11_reader.specs.declared.fault.Refusal.{Refusal}
 use Rattle.ch11_reader.specs.declared.packet.Packet.{Packet}
@@ -33,18 +35,23 @@ abbrev pub is_too_long : Option Extent → Bool
 is_too_long None = false
 is_too_long (Some e) = nat_lt 1000000 (e.high / 10000000 - e.low / 10000000 + 1)
 
--- the first usage fault that hangs on the recording: a second setup record, time packets on a channel that is taken, or too many
+-- the first usage fault that hangs on the recording: a second setup record, time packets on a channel that is taken, or
+-- too many
 abbrev pub misuse_of : Bool → Bool → Bool → Option CompleteFault
 misuse_of twice taken long =
-    if twice then Some faults.SetupTwice else (if taken then Some faults.ChannelTaken else (if long then Some faults.TooLong else None))
+    if twice then Some faults.SetupTwice
+    else (if taken then Some faults.ChannelTaken else (if long then Some faults.TooLong else None))
 
 abbrev pub misuse : List ℕ → List Found → Additions → Option CompleteFault
-misuse file ps a = misuse_of (is_some a.setup && has_kind 1 ps) (is_some a.start && has_channel a.time_channel ps) (is_some a.start && is_too_long (extent_of (kept file ps)))
+misuse file ps a = misuse_of (is_some a.setup && has_kind 1 ps) (is_some a.start && has_channel a.time_channel ps)
+    (is_some a.start && is_too_long (extent_of (kept file ps)))
 
 -- the same by the entries of an index
 abbrev pub misuse_by : List Packet → Additions → Option Extent → Option CompleteFault
 misuse_by es a x =
-    misuse_of (is_some a.setup && list_any (λ (e : Packet). e.header.kind == 1) es) (is_some a.start && list_any (λ (e : Packet). e.header.channel == a.time_channel) es) (is_some a.start && is_too_long x)
+    misuse_of (is_some a.setup && list_any (λ (e : Packet). e.header.kind == 1) es)
+    (is_some a.start && list_any (λ (e : Packet). e.header.channel == a.time_channel) es)
+    (is_some a.start && is_too_long x)
 
 abbrev pub unless_misused : Option CompleteFault → List Found → Result (List Found) CompleteFault
 unless_misused None ps = Ok ps
@@ -54,16 +61,17 @@ abbrev pub judged_recording : List ℕ → Result (List Found) Refusal → Addit
 judged_recording file (Err r) a = Err (faults.Refused r)
 judged_recording file (Ok ps) a = unless_misused (misuse file ps a) ps
 
--- the packets that are completed, or the first fault: the size of the setup text, then the recording's own, then usage faults that hang
--- on the recording
+-- the packets that are completed, or the first fault: the size of the setup text, then the recording's own, then usage
+-- faults that hang on the recording
 abbrev pub judged : List ℕ → Result (List Found) Refusal → Additions → Result (List Found) CompleteFault
 judged file read a =
     if is_setup (option_map (λ text. text.now) a.setup) then judged_recording file read a else Err faults.SetupSize
 
--- what each refusal of judging says: it is the first fault; want of memory only where the size of the setup text is right and the
--- recording can be read
+-- what each refusal of judging says: it is the first fault; want of memory only where the size of the setup text is
+-- right and the recording can be read
 abbrev pub Refuses : List ℕ → Result (List Found) Refusal → Additions → CompleteFault → Type 0
-Refuses file read a faults.Memory = (is_setup (option_map (λ text. text.now) a.setup) ≡ true) × (read ≡ Ok (found_or_none read))
+Refuses file read a faults.Memory = (is_setup (option_map (λ text. text.now) a.setup) ≡ true)
+    × (read ≡ Ok (found_or_none read))
 Refuses file read a faults.SetupSize = judged file read a ≡ Err faults.SetupSize
 Refuses file read a (faults.Refused r) = judged file read a ≡ Err (faults.Refused r)
 Refuses file read a faults.SetupTwice = judged file read a ≡ Err faults.SetupTwice
@@ -105,4 +113,5 @@ pub record IsPlanned (file : List ℕ) (ps : List Found) (t : Times) (low : ℕ)
 
 -- a recording that could be read was completed: a writer got the file of its plan
 abbrev pub IsCompleted : List ℕ → Result (List Found) Refusal → Additions → Option (List ℕ) → Option (List ℕ) → Type 0
-IsCompleted file read a got gets = (ps : List Found) × (judged file read a ≡ Ok ps) × Completes (plan_for file ps a) got gets
+IsCompleted file read a got gets = (ps : List Found) × (judged file read a ≡ Ok ps)
+    × Completes (plan_for file ps a) got gets

@@ -1,5 +1,6 @@
 -- The packets that each channel still has to give, and the heads of the channels.
-use Rattle.std.specs.Prelude.{◌≡◌, ℕ, suc, ◌+◌, ◌-◌, ◌*◌, ◌<◌, ◌≤◌, ◌==◌, ◌&&◌, true, if◌then◌else◌, List, [], ◌∷◌, ◌++◌, length, map, drop, sum_by, slice_get, slice_index, nat_lt, None, Some, Contains}
+use Rattle.std.specs.Prelude.{◌≡◌, ℕ, suc, ◌+◌, ◌-◌, ◌*◌, ◌<◌, ◌≤◌, ◌==◌, ◌&&◌, true, if◌then◌else◌, List, [], ◌∷◌}
+use Rattle.std.specs.Prelude.{◌++◌, length, map, drop, sum_by, slice_get, slice_index, nat_lt, None, Some, Contains}
 use Rattle.std.specs.List.Sorted.{IsPermutation}
 use Rattle.std.specs.Ordering.{nat_cmp, on, flip_args, then_cmp}
 use Rattle.std.specs.declared.cmp.Ordering.{Ordering}
@@ -17,7 +18,8 @@ use Rattle.bench_complete.specs.TimePackets.{time_piece, times_from, times_in}
 -- the entries of a channel that go over
 abbrev pub lane : ℕ → List Packet → List Packet
 lane channel [] = []
-lane channel (e ∷ es) = if goes_over e.header && (e.header.channel == channel) then e ∷ lane channel es else lane channel es
+lane channel (e ∷ es) = if goes_over e.header && (e.header.channel == channel) then e ∷ lane channel es
+    else lane channel es
 
 -- the packet of a file that an entry tells of
 abbrev pub piece_in : List ℕ → Packet → Piece
@@ -40,7 +42,8 @@ pub record AreLinked (es : List Packet) (from : ℕ) (first next : List ℕ) : T
   pub channels : length first ≡ 65536
   pub places : length next ≡ length es
   pub first_is : (channel : ℕ) → channel < 65536 → IsNext es channel from (slice_index first channel)
-  pub next_is : (i : ℕ) (e : Packet) → from ≤ i → slice_get es i ≡ Some e → goes_over e.header ≡ true → IsNext es e.header.channel (suc i) (slice_index next i)
+  pub next_is : (i : ℕ) (e : Packet) → from ≤ i → slice_get es i ≡ Some e → goes_over e.header ≡ true
+      → IsNext es e.header.channel (suc i) (slice_index next i)
   pub beyond : (channel : ℕ) → 65536 ≤ channel → lane channel (drop from es) ≡ []
 
 -- the numbers of a head are those of a packet
@@ -52,9 +55,11 @@ pub record IsAhead (h : Head) (p : Piece) : Type 0 where
 -- a packet and those of its channel behind it, by where it comes from
 abbrev pub IsFrom : List ℕ → List Packet → Times → ℕ → Source → Piece → List Piece → Type 0
 IsFrom file es t channel (Recorded place) p ps =
-    (e : Packet) × (slice_get es place ≡ Some e) × (goes_over e.header ≡ true) × (p ≡ piece_in file e) × (ps ≡ map (piece_in file) (lane channel (drop (suc place) es)))
+    (e : Packet) × (slice_get es place ≡ Some e) × (goes_over e.header ≡ true) × (p ≡ piece_in file e)
+    × (ps ≡ map (piece_in file) (lane channel (drop (suc place) es)))
 IsFrom file es t channel (Time second) p ps =
-    (t.first ≤ second) × (second < t.end) × (p ≡ time_piece t second) × (ps ≡ times_from t (t.end - (second + 1)) (second + 1))
+    (t.first ≤ second) × (second < t.end) × (p ≡ time_piece t second)
+    × (ps ≡ times_from t (t.end - (second + 1)) (second + 1))
 
 -- a head stands for the first of the packets that its channel has left
 pub record Stands (file : List ℕ) (es : List Packet) (t : Times) (h : Head) (rest : List Piece) : Type 0 where
@@ -93,21 +98,25 @@ steps es t h = steps_by es t h.source
 abbrev pub Follows : List ℕ → List Packet → Times → Head → Option Head → Type 0
 Follows file es t h None = (p : Piece) (ps : List Piece) → Stands file es t h (p ∷ ps) → ps ≡ []
 Follows file es t h (Some n) =
-    (n.channel ≡ h.channel) × (steps es t n < steps es t h) × ((p : Piece) (ps : List Piece) → Stands file es t h (p ∷ ps) → Stands file es t n ps)
+    (n.channel ≡ h.channel) × (steps es t n < steps es t h)
+    × ((p : Piece) (ps : List Piece) → Stands file es t h (p ∷ ps) → Stands file es t n ps)
 
 -- 1 for a head of the channel, else 0
 abbrev pub on_channel : ℕ → Head → ℕ
 on_channel channel h = if h.channel == channel then 1 else 0
 
 -- the heads of all channels that have packets left, one each
-pub record AreHeads (file : List ℕ) (es : List Packet) (t : Times) (heads : List Head) (rest : ℕ → List Piece) : Type 0 where
+pub record AreHeads (file : List ℕ) (es : List Packet) (t : Times) (heads : List Head)
+    (rest : ℕ → List Piece) : Type 0 where
   pub sound : (h : Head) → Contains heads h → Stands file es t h (rest h.channel)
-  pub whole : (channel : ℕ) (p : Piece) (ps : List Piece) → rest channel ≡ p ∷ ps → (h : Head) × Contains heads h × (h.channel ≡ channel)
+  pub whole : (channel : ℕ) (p : Piece) (ps : List Piece) → rest channel ≡ p ∷ ps → (h : Head) × Contains heads h
+      × (h.channel ≡ channel)
   pub single : (channel : ℕ) → sum_by (on_channel channel) heads ≤ 1
 
 -- the order of heads in a heap, whose greatest is the one that stands first
 abbrev pub head_cmp : Head → Head → Ordering
-head_cmp = flip_args (then_cmp (on (λ (h : Head). h.counter) nat_cmp) (then_cmp (on (λ (h : Head). h.turn) nat_cmp) (on (λ (h : Head). h.channel) nat_cmp)))
+head_cmp = flip_args (then_cmp (on (λ (h : Head). h.counter) nat_cmp)
+    (then_cmp (on (λ (h : Head). h.turn) nat_cmp) (on (λ (h : Head). h.channel) nat_cmp)))
 
 -- the packets that are merged
 abbrev pub parts_of : List ℕ → List Packet → Times → List Piece
@@ -120,7 +129,8 @@ Pushes (Some h) old new = IsPermutation (h ∷ old) new
 
 -- the time packets of a channel, and for the first channels those of the recording
 abbrev pub begun : List ℕ → List Packet → Times → ℕ → ℕ → List Piece
-begun file es t most channel = of_channel channel (times_in t) ++ (if nat_lt channel most then of_channel channel (kept_entries file es) else [])
+begun file es t most channel = of_channel channel (times_in t)
+    ++ (if nat_lt channel most then of_channel channel (kept_entries file es) else [])
 
 -- a writer got packets, merged
 pub record Merges (parts : List Piece) (got gets : Option (List ℕ)) : Type 0 where

@@ -16,11 +16,13 @@ NeverFalls (p ∷ (q ∷ ps)) = (p.header.counter ≤ q.header.counter) × Never
 
 -- there is no other merge of the same channels: two runs of the same jobs are completed to the same bytes
 abbrev pub MergeIsUnique : Type 0
-MergeIsUnique = (parts other a b : List Piece) → ((channel : ℕ) → of_channel channel parts ≡ of_channel channel other) → IsMerge parts a → IsMerge other b → a ≡ b
+MergeIsUnique = (parts other a b : List Piece) → ((channel : ℕ) → of_channel channel parts ≡ of_channel channel other)
+    → IsMerge parts a → IsMerge other b → a ≡ b
 
 -- where the counters of no channel fall, those of the merge don't
 abbrev pub CountersStayInOrder : Type 0
-CountersStayInOrder = (parts merged : List Piece) → IsMerge parts merged → ((channel : ℕ) → NeverFalls (of_channel channel parts)) → NeverFalls merged
+CountersStayInOrder = (parts merged : List Piece) → IsMerge parts merged
+    → ((channel : ℕ) → NeverFalls (of_channel channel parts)) → NeverFalls merged
 
 -- a merge that is merged again stays as it is
 abbrev pub MergeIsMerged : Type 0

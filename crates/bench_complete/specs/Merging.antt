@@ -1,5 +1,5 @@
--- The merge of packets by time (own choice): each channel's packets stay in their order, and always the head that stands first comes
--- next.
+-- The merge of packets by time (own choice): each channel's packets stay in their order, and always the head that
+-- stands first comes next.
 use Rattle.std.specs.Prelude.{◌≡◌, ℕ, ◌<◌, ◌≤◌, ◌==◌, ◌⊎◌, if◌then◌else◌, List, [], ◌∷◌, filter}
 use Rattle.ch11_header.specs.declared.header.Header.{Header}
 use Rattle.bench_complete.specs.Pieces.{Piece}
@@ -16,7 +16,8 @@ turn kind = if kind == 1 then 0 else (if kind == 0x11 then 1 else 2)
 abbrev pub IsNotBehind : Header → Header → Type 0
 IsNotBehind a b =
     (a.counter < b.counter)
-    ⊎ ((a.counter ≡ b.counter) × ((turn a.kind < turn b.kind) ⊎ ((turn a.kind ≡ turn b.kind) × (a.channel ≤ b.channel))))
+    ⊎ ((a.counter ≡ b.counter) × ((turn a.kind < turn b.kind)
+    ⊎ ((turn a.kind ≡ turn b.kind) × (a.channel ≤ b.channel))))
 
 -- the packet is the first of its channel
 abbrev pub IsHead : List Piece → Piece → Type 0

@@ -30,4 +30,5 @@ kept file (p ∷ ps) = if goes_over p.header then piece_at file p.offset p.heade
 -- the same by the entries of an index
 abbrev pub kept_entries : List ℕ → List Packet → List Piece
 kept_entries file [] = []
-kept_entries file (e ∷ es) = if goes_over e.header then piece_at file e.offset e.header ∷ kept_entries file es else kept_entries file es
+kept_entries file (e ∷ es) = if goes_over e.header then piece_at file e.offset e.header ∷ kept_entries file es
+    else kept_entries file es

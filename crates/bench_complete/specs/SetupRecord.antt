@@ -1,5 +1,5 @@
--- The setup record (IRIG 106-17 Chapter 11, computer generated data packets, Format 1; its first word and its version are a profile of
--- ours).
+-- The setup record (IRIG 106-17 Chapter 11, computer generated data packets, Format 1; its first word and its version
+-- are a profile of ours).
 use Rattle.std.specs.Prelude.{ℕ, ◌+◌, ◌-◌, ◌%◌, List, [], ◌∷◌, ◌++◌, length, replicate}
 use Rattle.ch11_header.specs.declared.header.Header.{Header}
 use Rattle.ch11_header.specs.HeaderBytes.{header_bytes}
@@ -25,5 +25,6 @@ setup_header version counter size = record {
 abbrev pub setup_piece : ℕ → ℕ → List ℕ → Piece
 setup_piece version counter text = record {
   header = setup_header version counter (length text);
-  bytes = header_bytes (setup_header version counter (length text)) ++ ((0x0C ∷ 0 ∷ 0 ∷ 0 ∷ []) ++ (text ++ replicate (filler_for (length text + 4)) 0));
+  bytes = header_bytes (setup_header version counter (length text))
+      ++ ((0x0C ∷ 0 ∷ 0 ∷ 0 ∷ []) ++ (text ++ replicate (filler_for (length text + 4)) 0));
 }

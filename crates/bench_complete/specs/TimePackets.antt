@@ -18,7 +18,8 @@ time_header t second = record {
   counter = second * 10000000;
 }
 
--- the time packet of a second of the relative time counter (10,000,000 ticks of 0.1 µs); tick 0 is the UTC second `start`
+-- the time packet of a second of the relative time counter (10,000,000 ticks of 0.1 µs); tick 0 is the UTC second
+-- `start`
 abbrev pub time_piece : Times → ℕ → Piece
 time_piece t second = record {
   header = time_header t second;

@@ -3,7 +3,8 @@ ghost use Rattle.std.specs.Prelude.{◌≡◌, ◌≤◌, true, option_map, Ok, 
 ghost use Rattle.ch11_reader.specs.Recording.{packets_in};
 ghost use Rattle.ch11_reader.specs.Skipping.{packets_read, skips_in};
 ghost use Rattle.bench_complete.specs.Complete.{Completes, low_by, plan_for, times_between};
-ghost use Rattle.bench_complete.specs.Judging.{AllReadAt, Answers, Fails, IsCompleted, Refuses, StopsWriting, is_setup, misuse};
+ghost use Rattle.bench_complete.specs.Judging.{AllReadAt, Answers, Fails, IsCompleted, Refuses, StopsWriting, is_setup};
+ghost use Rattle.bench_complete.specs.Judging.{misuse};
 
 use crate::additions::Additions;
 use crate::extent::{Extent, extent_of};
@@ -99,7 +100,9 @@ impl<'a> Completion<'a> {
     ) -> Result<Completion<'a>, CompleteFault>
         requires sound { AllReadAt file.now index }
         requires text { is_setup (option_map (λ text. text.now) additions.now.setup) ≡ true }
-        ensures { MatchResult result (λ c. (misuse file.now index.entry additions.now ≡ None) × (c ≡ plan_for file.now index.entry additions.now))
+        ensures { MatchResult result
+            (λ c. (misuse file.now index.entry additions.now ≡ None)
+            × (c ≡ plan_for file.now index.entry additions.now))
             (λ f. misuse file.now index.entry additions.now ≡ Some f) }
     {
         let extent = extent_of(index.packets());
@@ -117,8 +120,9 @@ impl<'a> Completion<'a> {
         })
     }
 
-    /// Reads a recording and judges what is to be added to it. The size of a setup text is judged first, then the recording, then the
-    /// usage faults that hang on it. Memory is answered only where that size is right and the recording can be read.
+    /// Reads a recording and judges what is to be added to it. The size of a setup text is judged first, then the
+    /// recording, then the usage faults that hang on it. Memory is answered only where that size is right and the
+    /// recording can be read.
     pub fn plan(
         alloc: Global,
         file: &'a [u8],
@@ -136,8 +140,8 @@ impl<'a> Completion<'a> {
         }
     }
 
-    /// The same for whatever is sound in a recording, with the bytes that were skipped. No recording is refused for a fault of its own,
-    /// and the faults that hang on it are those of the packets that are sound.
+    /// The same for whatever is sound in a recording, with the bytes that were skipped. No recording is refused for a
+    /// fault of its own, and the faults that hang on it are those of the packets that are sound.
     pub fn plan_skipping(
         alloc: Global,
         file: &'a [u8],
@@ -162,8 +166,8 @@ impl<'a> Completion<'a> {
         }
     }
 
-    /// Writes the complete file: the setup record, and behind it all packets, merged. Where it fails, it answers Memory or Device, and
-    /// the writer may have got some of the file.
+    /// Writes the complete file: the setup record, and behind it all packets, merged. Where it fails, it answers Memory
+    /// or Device, and the writer may have got some of the file.
     pub fn write<W: Write>(&self, alloc: Global, out: &mut W) -> Result<(), CompleteFault>
         ensures written { OnOk result (Completes self.now (W.contents out.old) (W.contents out.new)) }
         ensures stopped { IfErr result StopsWriting }

@@ -17,7 +17,8 @@ pub(crate) struct Extent {
 }
 
 impl Extent {
-    /// How many whole seconds there are, from the last one at or before the lowest counter to the last one at or before the highest.
+    /// How many whole seconds there are, from the last one at or before the lowest counter to the last one at or before
+    /// the highest.
     pub(crate) fn seconds(&self) -> u64
         ensures { result ≡ self.now.high / 10000000 - self.now.low / 10000000 + 1 }
     {

@@ -17,8 +17,8 @@ pub(crate) enum Source {
     Time(u64),
 }
 
-/// The next packet of a channel. In a heap the greatest is the one that stands first: by its counter, then by its turn, then by its
-/// channel.
+/// The next packet of a channel. In a heap the greatest is the one that stands first: by its counter, then by its turn,
+/// then by its channel.
 #[derive(Clone, Copy, Debug)]
 pub(crate) struct Head {
     pub(crate) counter: u64,
@@ -40,7 +40,8 @@ pub(crate) fn turn(kind: u8) -> u8
 }
 
 impl PartialEq for Head {
-    ghost eq = { eq_of_both (on (λ h. h.counter) ◌==◌) (eq_of_both (on (λ h. h.turn) ◌==◌) (on (λ h. h.channel) ◌==◌)) };
+    ghost eq = { eq_of_both (on (λ h. h.counter) ◌==◌)
+        (eq_of_both (on (λ h. h.turn) ◌==◌) (on (λ h. h.channel) ◌==◌)) };
 
     ghost laws = { Prim.search (comparing, rules) depth 9 };
 
@@ -54,7 +55,8 @@ impl Eq for Head {
 }
 
 impl Ord for Head {
-    ghost cmp = { flip_args (then_cmp (on (λ h. h.counter) nat_cmp) (then_cmp (on (λ h. h.turn) nat_cmp) (on (λ h. h.channel) nat_cmp))) };
+    ghost cmp = { flip_args (then_cmp (on (λ h. h.counter) nat_cmp)
+        (then_cmp (on (λ h. h.turn) nat_cmp) (on (λ h. h.channel) nat_cmp))) };
 
     ghost total = { Prim.search (comparing, rules) depth 9 };
 
@@ -73,9 +75,12 @@ impl Ord for Head {
 }
 
 impl PartialOrd for Head {
-    ghost partial_cmp = { as_partial_cmp (flip_args (then_cmp (on (λ h. h.counter) nat_cmp) (then_cmp (on (λ h. h.turn) nat_cmp) (on (λ h. h.channel) nat_cmp)))) };
+    ghost partial_cmp = { as_partial_cmp
+        (flip_args (then_cmp (on (λ h. h.counter) nat_cmp)
+        (then_cmp (on (λ h. h.turn) nat_cmp) (on (λ h. h.channel) nat_cmp)))) };
 
-    ghost laws = { partial_order_from_own_ties (Prim.search (comparing, rules) depth 9) (Prim.search (comparing, rules) depth 9) };
+    ghost laws = { partial_order_from_own_ties (Prim.search (comparing, rules) depth 9)
+        (Prim.search (comparing, rules) depth 9) };
 
     fn partial_cmp(&self, other: &Head) -> Option<Ordering> {
         Some(self.cmp(other))

@@ -76,7 +76,8 @@ pub(crate) fn judge(
     packets: &[Packet],
     extent: Option<Extent>,
 ) -> Result<(), CompleteFault>
-    ensures { MatchResult result (λ _. misuse_by packets.now additions.now extent ≡ None) (λ f. misuse_by packets.now additions.now extent ≡ Some f) }
+    ensures { MatchResult result (λ _. misuse_by packets.now additions.now extent ≡ None)
+        (λ f. misuse_by packets.now additions.now extent ≡ Some f) }
 {
     let timed = additions.start.is_some();
     first_fault(

@@ -38,7 +38,8 @@ pub(crate) fn push_some(heads: &mut BinaryHeap<Head>, head: Option<Head>) -> Res
 impl<'a> Lanes<'a> {
     /// The packet at a place of the recording as a head; None where there is none.
     fn recorded(&self, place: usize) -> Option<Head>
-        ensures { MatchOption result (length self.now.packets.now ≤ place) (spec.IsRecorded self.now.packets.now place) }
+        ensures { MatchOption result (length self.now.packets.now ≤ place)
+            (spec.IsRecorded self.now.packets.now place) }
     {
         let packet = self.packets.get(place)?;
         Some(Head {
@@ -69,7 +70,8 @@ impl<'a> Lanes<'a> {
     pub(crate) fn behind(&self, links: &Links, head: &Head) -> Option<Head>
         requires small { spec.IsSmall self.now.times }
         requires linked { spec.AreLinked self.now.packets.now 0 links.now.first.items links.now.next.items }
-        requires stands { (rest : List Piece) × spec.Stands self.now.file.now self.now.packets.now self.now.times head.now rest }
+        requires stands { (rest : List Piece)
+            × spec.Stands self.now.file.now self.now.packets.now self.now.times head.now rest }
         ensures { spec.Follows self.now.file.now self.now.packets.now self.now.times head.now result }
     {
         match head.source {
@@ -81,7 +83,8 @@ impl<'a> Lanes<'a> {
     /// The head of the time packets, where there are any.
     fn first_head(&self, alloc: Global) -> Result<BinaryHeap<Head>, AllocError>
         requires small { spec.IsSmall self.now.times }
-        ensures heads { IfOk result (λ heads. spec.AreHeads self.now.file.now self.now.packets.now self.now.times (heap_items heads)
+        ensures heads { IfOk result
+            (λ heads. spec.AreHeads self.now.file.now self.now.packets.now self.now.times (heap_items heads)
             (spec.begun self.now.file.now self.now.packets.now self.now.times 0)) }
         ensures heap { IfOk result (λ heads. IsHeap spec.head_cmp (heap_items heads)) }
     {
@@ -94,8 +97,10 @@ impl<'a> Lanes<'a> {
     pub(crate) fn heads(&self, alloc: Global, links: &Links) -> Result<BinaryHeap<Head>, AllocError>
         requires small { spec.IsSmall self.now.times }
         requires linked { spec.AreLinked self.now.packets.now 0 links.now.first.items links.now.next.items }
-        requires free { self.now.times.first < self.now.times.end → of_channel self.now.times.channel (kept_entries self.now.file.now self.now.packets.now) ≡ [] }
-        ensures heads { IfOk result (λ heads. spec.AreHeads self.now.file.now self.now.packets.now self.now.times (heap_items heads)
+        requires free { self.now.times.first < self.now.times.end
+            → of_channel self.now.times.channel (kept_entries self.now.file.now self.now.packets.now) ≡ [] }
+        ensures heads { IfOk result
+            (λ heads. spec.AreHeads self.now.file.now self.now.packets.now self.now.times (heap_items heads)
             (λ channel. of_channel channel (spec.parts_of self.now.file.now self.now.packets.now self.now.times))) }
         ensures heap { IfOk result (λ heads. IsHeap spec.head_cmp (heap_items heads)) }
     {
@@ -110,8 +115,11 @@ impl<'a> Lanes<'a> {
     pub(crate) fn write<W: Write>(&self, head: &Head, out: &mut W) -> Result<(), CompleteFault>
         requires small { spec.IsSmall self.now.times }
         requires within { spec.AreInFile self.now.file.now self.now.packets.now }
-        requires stands { (rest : List Piece) × spec.Stands self.now.file.now self.now.packets.now self.now.times head.now rest }
-        ensures written { OnOk result ((p : Piece) (ps : List Piece) → spec.Stands self.now.file.now self.now.packets.now self.now.times head.now (p ∷ ps)
+        requires stands { (rest : List Piece)
+            × spec.Stands self.now.file.now self.now.packets.now self.now.times head.now rest }
+        ensures written { OnOk result
+            ((p : Piece) (ps : List Piece)
+            → spec.Stands self.now.file.now self.now.packets.now self.now.times head.now (p ∷ ps)
             → Appends (W.contents out.old) (W.contents out.new) p.bytes) }
         ensures stopped { IfErr result (λ f. f ≡ CompleteFault.Device) }
     {

@@ -24,8 +24,13 @@ fn link_packet(packet: &Packet, place: usize, first: &mut Vec<usize>, next: &mut
     requires channels { vec_len first.old ≡ 65536 }
     requires place { place < vec_len next.old }
     ensures channel { packet.now.header.channel < 65536 }
-    ensures first { first.new.items ≡ (if goes_over packet.now.header then slice_set first.old.items packet.now.header.channel place else first.old.items) }
-    ensures next { next.new.items ≡ (if goes_over packet.now.header then slice_set next.old.items place (slice_index first.old.items packet.now.header.channel) else next.old.items) }
+    ensures first { first.new.items
+        ≡ (if goes_over packet.now.header then slice_set first.old.items packet.now.header.channel place
+        else first.old.items) }
+    ensures next { next.new.items ≡
+        (if goes_over packet.now.header
+        then slice_set next.old.items place (slice_index first.old.items packet.now.header.channel)
+        else next.old.items) }
 {
     let channel = packet.header.channel as usize;
     if packet.header.kind != INDEX_KIND {

@@ -25,7 +25,8 @@ pub(crate) fn merge<W: Write>(
     requires heads { AreHeads lanes.now.file.now lanes.now.packets.now lanes.now.times (heap_items heads)
         (λ channel. of_channel channel (parts_of lanes.now.file.now lanes.now.packets.now lanes.now.times)) }
     requires heap { IsHeap head_cmp (heap_items heads) }
-    ensures written { OnOk result (Merges (parts_of lanes.now.file.now lanes.now.packets.now lanes.now.times) (W.contents out.old) (W.contents out.new)) }
+    ensures written { OnOk result (Merges (parts_of lanes.now.file.now lanes.now.packets.now lanes.now.times)
+        (W.contents out.old) (W.contents out.new)) }
     ensures stopped { IfErr result StopsWriting }
 {
     'packets: while let Some(head) = heads.pop() {

@@ -54,7 +54,8 @@ pub(crate) fn write_setup<W: Write>(
 ) -> Result<(), CompleteFault>
     requires size { length text.now ≤ 524000 }
     requires counter { counter < 2 ^ 48 }
-    ensures written { OnOk result (Appends (W.contents out.old) (W.contents out.new) (setup_piece version counter text.now).bytes) }
+    ensures written { OnOk result (Appends (W.contents out.old) (W.contents out.new)
+        (setup_piece version counter text.now).bytes) }
     ensures stopped { IfErr result (λ f. f ≡ CompleteFault.Device) }
 {
     let filler = filler_for(text.len() + 4);
@@ -74,7 +75,8 @@ pub(crate) fn write_front<W: Write>(
 ) -> Result<(), CompleteFault>
     requires size { is_setup (option_map (λ text. text.now) text) ≡ true }
     requires counter { counter < 2 ^ 48 }
-    ensures written { OnOk result (Appends (W.contents out.old) (W.contents out.new) (bytes_of (front_of (option_map (λ text. text.now) text.entry) version counter))) }
+    ensures written { OnOk result (Appends (W.contents out.old) (W.contents out.new)
+        (bytes_of (front_of (option_map (λ text. text.now) text.entry) version counter))) }
     ensures stopped { IfErr result (λ f. f ≡ CompleteFault.Device) }
 {
     match text {

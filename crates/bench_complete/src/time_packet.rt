@@ -40,7 +40,8 @@ pub(crate) fn write_time<W: Write>(
     requires small { IsSmall times.now }
     requires first { times.now.first ≤ second }
     requires within { second < times.now.end }
-    ensures written { OnOk result (Appends (W.contents out.old) (W.contents out.new) (time_piece times.now second).bytes) }
+    ensures written { OnOk result (Appends (W.contents out.old) (W.contents out.new)
+        (time_piece times.now second).bytes) }
     ensures stopped { IfErr result (λ f. f ≡ CompleteFault.Device) }
 {
     let header = write_header(&header_of(times, second));

@@ -3,8 +3,8 @@
 /// How many ticks of 0.1 µs a second has.
 pub(crate) const SECOND: u64 = 10_000_000;
 
-/// The time packets of a file: one for each whole second of the relative time counter from the first up to the end, which is not one
-/// of them.
+/// The time packets of a file: one for each whole second of the relative time counter from the first up to the end,
+/// which is not one of them.
 #[derive(Clone, Copy, Debug)]
 pub(crate) struct Times {
     /// The UTC second at tick 0, counted from 1970-01-01T00:00:00.

@@ -29,10 +29,12 @@ fn count_of(date: Date) -> Option<u64>
     }
 }
 
-/// The number of the day with this date, counted from 1 January 1970; None where the calendar has no such day of the years 1970 to
+/// The number of the day with this date, counted from 1 January 1970; None where the calendar has no such day of the
+/// years 1970 to
 /// 2099.
 fn day_of(year: u64, month: u64, day: u64) -> Option<u64>
-    ensures found { (n : ℕ) → n < 47482 → year ≡ (day_numbered n).year → month ≡ (day_numbered n).month → day ≡ (day_numbered n).day → result ≡ Some n }
+    ensures found { (n : ℕ) → n < 47482 → year ≡ (day_numbered n).year → month ≡ (day_numbered n).month
+        → day ≡ (day_numbered n).day → result ≡ Some n }
     ensures small { IfSome result (λ n. n < 47482) }
 {
     if year > 9999 || month > 12 || day > 31 {
@@ -76,7 +78,8 @@ fn is_text_of(text: &[u8], second: u64) -> bool
 impl UtcSecond {
     /// The second of a text YYYY-MM-DDTHH:MM:SS of the years 1970 to 2099; None for another text.
     pub fn read(text: &str) -> Option<UtcSecond>
-        ensures found { (s : ℕ) → s < 4102444800 → text.now ≡ second_text s → option_map (λ u. u.second) result ≡ Some s }
+        ensures found { (s : ℕ) → s < 4102444800 → text.now ≡ second_text s
+            → option_map (λ u. u.second) result ≡ Some s }
         ensures written { IfSome result (λ u. text.now ≡ second_text u.second) }
     {
         let bytes = text.as_bytes();

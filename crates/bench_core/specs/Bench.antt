@@ -1,8 +1,9 @@
--- The bench, one step at a time (own choice). Each channel makes its messages in order and offers each once to one queue; a
--- number that the full queue does not take is listed as refused. Behind its last message a channel offers its end mark until it is
--- taken. The writer takes what stands in front of the queue. An action that a host posts for a terminal of a channel acts at the
--- channel's next message, behind what is placed there.
-use Rattle.std.specs.Prelude.{ℕ, ◌+◌, nat_lt, Bool, false, true, not, ◌||◌, if◌then◌else◌, List, [], ◌∷◌, ◌++◌, length, slice_get, slice_set, Option, Some, None}
+-- The bench, one step at a time (own choice). Each channel makes its messages in order and offers each once to one
+-- queue; a number that the full queue does not take is listed as refused. Behind its last message a channel offers its
+-- end mark until it is taken. The writer takes what stands in front of the queue. An action that a host posts for a
+-- terminal of a channel acts at the channel's next message, behind what is placed there.
+use Rattle.std.specs.Prelude.{ℕ, ◌+◌, nat_lt, Bool, false, true, not, ◌||◌, if◌then◌else◌, List, [], ◌∷◌, ◌++◌, length}
+use Rattle.std.specs.Prelude.{slice_get, slice_set, Option, Some, None}
 use Rattle.mil_host.specs.declared.actions.Action.{Action}
 use Rattle.mil_monitor.specs.declared.Record.{Record}
 use Rattle.bc_machine.specs.declared.placed.Placed.{Placed}
@@ -13,8 +14,8 @@ use Rattle.ch11_recording.specs.declared.item.Item.TheVariants as item
 use Rattle.bench_core.specs.declared.step.Step.{Step}
 use Rattle.bench_core.specs.declared.step.Step.TheVariants.{Offer, Take, Post}
 
--- a channel: its number, its job, the placed actions, which at first are the job's, how many messages it has made, the numbers of
--- those that were refused, and whether its end mark was taken into the queue
+-- a channel: its number, its job, the placed actions, which at first are the job's, how many messages it has made, the
+-- numbers of those that were refused, and whether its end mark was taken into the queue
 pub record LaneState : Type 0 where
   pub channel : ℕ
   pub job : JobState
@@ -23,7 +24,8 @@ pub record LaneState : Type 0 where
   pub refused : List ℕ
   pub ended : Bool
 
--- the channels, the queue with how many items it holds at most, its front first, and what the writer has taken, in that order
+-- the channels, the queue with how many items it holds at most, its front first, and what the writer has taken, in that
+-- order
 pub record Bench : Type 0 where
   pub lanes : List LaneState
   pub capacity : ℕ
@@ -32,7 +34,14 @@ pub record Bench : Type 0 where
 
 -- nothing was made yet
 abbrev pub begun_lane : JobState → LaneState
-begun_lane job = record { channel = job.channel; job = job; placed = job.actions; made = 0; refused = []; ended = false }
+begun_lane job = record {
+  channel = job.channel;
+  job = job;
+  placed = job.actions;
+  made = 0;
+  refused = [];
+  ended = false;
+}
 
 -- the records of all messages that its job means under the placed actions
 abbrev pub all_records : LaneState → List Record
@@ -56,7 +65,14 @@ with_message l kept = record {
 }
 
 abbrev pub with_end : LaneState → LaneState
-with_end l = record { channel = l.channel; job = l.job; placed = l.placed; made = l.made; refused = l.refused; ended = true }
+with_end l = record {
+  channel = l.channel;
+  job = l.job;
+  placed = l.placed;
+  made = l.made;
+  refused = l.refused;
+  ended = true;
+}
 
 abbrev pub message_of : LaneState → Record → Item
 message_of l r = item.Message l.channel (l.made + 1) r
@@ -74,7 +90,12 @@ message_offered index l r b = record {
 abbrev pub end_offered : ℕ → LaneState → Bench → Bench
 end_offered index l b =
     if l.ended || not (has_room b) then b
-    else record { lanes = slice_set b.lanes index (with_end l); capacity = b.capacity; queue = b.queue ++ item.End l.channel ∷ []; taken = b.taken }
+    else record {
+      lanes = slice_set b.lanes index (with_end l);
+      capacity = b.capacity;
+      queue = b.queue ++ item.End l.channel ∷ [];
+      taken = b.taken;
+    }
 
 abbrev pub next_offered : ℕ → LaneState → Option Record → Bench → Bench
 next_offered index l (Some r) b = message_offered index l r b
@@ -107,7 +128,12 @@ with_post l address action = record {
 abbrev pub lane_posts : ℕ → Option LaneState → ℕ → Action → Bench → Bench
 lane_posts index None address action b = b
 lane_posts index (Some l) address action b =
-    record { lanes = slice_set b.lanes index (with_post l address action); capacity = b.capacity; queue = b.queue; taken = b.taken }
+    record {
+      lanes = slice_set b.lanes index (with_post l address action);
+      capacity = b.capacity;
+      queue = b.queue;
+      taken = b.taken;
+    }
 
 -- a host posts an action for a terminal of the channel at an index
 abbrev pub posted : ℕ → ℕ → Action → Bench → Bench

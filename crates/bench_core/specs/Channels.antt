@@ -1,5 +1,6 @@
 -- One channel of a world, and what it offers next.
-use Rattle.std.specs.Prelude.{◌≡◌, ℕ, ◌+◌, ◌-◌, ◌≤◌, ◌==◌, Bool, not, ◌||◌, if◌then◌else◌, length, slice_get, Option, Some, None}
+use Rattle.std.specs.Prelude.{◌≡◌, ℕ, ◌+◌, ◌-◌, ◌≤◌, ◌==◌, Bool, not, ◌||◌, if◌then◌else◌, length, slice_get, Option}
+use Rattle.std.specs.Prelude.{Some, None}
 use Rattle.std.specs.List.{list_any}
 use Rattle.mil_monitor.specs.declared.Record.{Record}
 use Rattle.frame_tree.specs.Bounds.{IsSound}
@@ -42,7 +43,12 @@ has_terminal l address = list_any (λ a. a == address) l.job.addresses
 
 -- what a report says of it
 abbrev pub report_part : LaneState → ChannelPart
-report_part l = record { channel = l.channel; made = l.made; refused = l.refused; placed = placed_up_to l.made l.placed }
+report_part l = record {
+  channel = l.channel;
+  made = l.made;
+  refused = l.refused;
+  placed = placed_up_to l.made l.placed;
+}
 
 -- ---- what its fields keep
 

@@ -24,7 +24,8 @@ pub record AreInRange (jobs : List JobState) (s : Settings) : Type 0 where
   pub queue_high : s.queue ≤ 4096
   pub posts : s.posts ≤ 65536
 
--- they may be run: no channel is named by two jobs, and the prologue is one of sound packets without one of MIL-STD-1553 messages
+-- they may be run: no channel is named by two jobs, and the prologue is one of sound packets without one of
+-- MIL-STD-1553 messages
 pub record AreLawful (jobs : List JobState) (s : Settings) : Type 0 where
   pub ranges : AreInRange jobs s
   pub distinct : AreDistinct (channels_of jobs)

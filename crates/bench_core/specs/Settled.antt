@@ -1,5 +1,5 @@
--- What is settled after each step: for each channel, what the file gives, what is written to no packet yet, and what stands in the
--- queue are together the messages made so far, in order and once, but for the refused.
+-- What is settled after each step: for each channel, what the file gives, what is written to no packet yet, and what
+-- stands in the queue are together the messages made so far, in order and once, but for the refused.
 use Rattle.std.specs.Prelude.{◌≡◌, ℕ, ◌<◌, ◌==◌, ◌^◌, Bool, not, List, [], ◌++◌, map, take, Ok}
 use Rattle.std.specs.List.{AllByRecursion, filter, list_any}
 use Rattle.mil_monitor.specs.declared.Record.{Record}
@@ -31,12 +31,13 @@ kept_of l = kept l.refused (take l.made (all_records l))
 abbrev pub IsSettled : Bench → LaneState → Type 0
 IsSettled b l = records_in l.channel (b.taken ++ b.queue) ≡ kept_of l
 
--- the recording of the taken items, read back, has the records of the closed packets; with those of the open packet and of the
--- queue they are the messages that the channel has made, but for the refused
+-- the recording of the taken items, read back, has the records of the closed packets; with those of the open packet and
+-- of the queue they are the messages that the channel has made, but for the refused
 abbrev pub ReadsBack : Format → List ℕ → Bench → Type 0
 ReadsBack f prologue b =
     (ps : List Found) × (packets_in (written_file f prologue b.taken) ≡ Ok ps)
-    × AllByRecursion (λ l. reading ps l.channel ++ map as_message (messages_of ((held_in f l.channel b.taken).records ++ records_in l.channel b.queue))
+    × AllByRecursion (λ l. reading ps l.channel
+    ++ map as_message (messages_of ((held_in f l.channel b.taken).records ++ records_in l.channel b.queue))
     ≡ map as_message (messages_of (kept_of l))) b.lanes
 
 -- a channel at the beginning: nothing was made
@@ -52,8 +53,10 @@ HasRecorded l = AllByRecursion (λ r. IsRecorded (numbered 0 r)) (take l.made (a
 -- After each list of steps, of a bench with any capacity.
 abbrev pub SettledAfterEachStep : Type 0
 SettledAfterEachStep =
-    (lanes : List LaneState) (capacity : ℕ) (steps : List Step) → AllByRecursion IsFresh lanes → AreDistinct (map (λ l. l.channel) lanes)
-    → AllByRecursion (IsSettled (after_steps steps (begun capacity lanes))) (after_steps steps (begun capacity lanes)).lanes
+    (lanes : List LaneState) (capacity : ℕ) (steps : List Step) → AllByRecursion IsFresh lanes
+    → AreDistinct (map (λ l. l.channel) lanes)
+    → AllByRecursion (IsSettled (after_steps steps (begun capacity lanes)))
+    (after_steps steps (begun capacity lanes)).lanes
 
 abbrev pub ReadsBackAfterEachStep : Type 0
 ReadsBackAfterEachStep =

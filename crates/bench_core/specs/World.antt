@@ -1,5 +1,6 @@
 -- The bench of jobs under settings, as callers of a world see it.
-use Rattle.std.specs.Prelude.{◌≡◌, ℕ, ◌+◌, ◌<◌, ◌≤◌, ◌==◌, Bool, true, false, if◌then◌else◌, List, [], ◌∷◌, map, take, length, slice_get, codes, Option, Some, None, Result, Ok, Err}
+use Rattle.std.specs.Prelude.{◌≡◌, ℕ, ◌+◌, ◌<◌, ◌≤◌, ◌==◌, Bool, true, false, if◌then◌else◌, List, [], ◌∷◌, map, take}
+use Rattle.std.specs.Prelude.{length, slice_get, codes, Option, Some, None, Result, Ok, Err}
 use Rattle.std.specs.List.{AllByRecursion}
 use Rattle.std.specs.VecDeque.{deque_capacity}
 use Rattle.bench_report.specs.Reports.{RunReport}
@@ -75,7 +76,8 @@ posts_for index (s ∷ ss) = (if is_post_for index s then 1 else 0) + posts_for 
 
 -- with those of the steps no channel has more posts than may be placed
 abbrev pub AreFewPosts : ℕ → List LaneState → List Step → Type 0
-AreFewPosts most lanes steps = (index : ℕ) (l : LaneState) → slice_get lanes index ≡ Some l → posts_of l + posts_for index steps ≤ most
+AreFewPosts most lanes steps = (index : ℕ) (l : LaneState) → slice_get lanes index ≡ Some l
+    → posts_of l + posts_for index steps ≤ most
 
 -- the steps may be taken
 pub record MayPlay (steps : List Step) (w : WorldState) : Type 0 where
@@ -87,9 +89,11 @@ pub record MayPlay (steps : List Step) (w : WorldState) : Type 0 where
 abbrev pub Plays : List Step → WorldState → {U : Type 0} → Result U PlayError → WorldState → Type 0
 Plays steps old (Ok u) new = MayPlay steps old × (new ≡ with_bench old (after_steps steps old.bench))
 Plays steps old (Err fault.Index) new = ¬ AreSteps (channel_count old) steps × (new ≡ old)
-Plays steps old (Err fault.NoTerminal) new = AreSteps (channel_count old) steps × ¬ AreForTerminals old.bench.lanes steps × (new ≡ old)
+Plays steps old (Err fault.NoTerminal) new = AreSteps (channel_count old) steps
+    × ¬ AreForTerminals old.bench.lanes steps × (new ≡ old)
 Plays steps old (Err fault.Posts) new =
-    AreSteps (channel_count old) steps × AreForTerminals old.bench.lanes steps × ¬ AreFewPosts old.most old.bench.lanes steps × (new ≡ old)
+    AreSteps (channel_count old) steps × AreForTerminals old.bench.lanes steps
+    × ¬ AreFewPosts old.most old.bench.lanes steps × (new ≡ old)
 Plays steps old (Err (fault.Memory done)) new =
     MayPlay steps old × (done < length steps) × (new ≡ with_bench old (after_steps (take done steps) old.bench))
 

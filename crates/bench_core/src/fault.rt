@@ -14,7 +14,8 @@ pub enum PlayError {
     },
     /// O3: an action is posted to an address at which its channel has no terminal. Nothing was done.
     NoTerminal,
-    /// O4: with these steps a channel would have more posts than the settings allow since the world was made. Nothing was done.
+    /// O4: with these steps a channel would have more posts than the settings allow since the world was made. Nothing
+    /// was done.
     Posts,
 }
 

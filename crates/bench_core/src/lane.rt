@@ -1,9 +1,11 @@
 //! One channel of a world: its controller, and what became of its messages.
-ghost use Rattle.std.specs.Prelude.{◌≡◌, ◌<◌, ◌||◌, not, if◌then◌else◌, [], ◌∷◌, ◌++◌, vec_len, Some, None, IfOk, OnOk, OnErr};
+ghost use Rattle.std.specs.Prelude.{◌≡◌, ◌<◌, ◌||◌, not, if◌then◌else◌, [], ◌∷◌, ◌++◌, vec_len, Some, None, IfOk, OnOk};
+ghost use Rattle.std.specs.Prelude.{OnErr};
 ghost use Rattle.std.specs.Vec.{vec_capacity};
 ghost use Rattle.ch11_recording.specs.declared.item.Item.TheVariants as item;
 ghost use Rattle.bench_core.specs.Bench.{begun_lane, with_post};
-ghost use Rattle.bench_core.specs.Channels.{posts_of, has_terminal, after_next, queued_next, next_in, report_part, IsMade};
+ghost use Rattle.bench_core.specs.Channels.{posts_of, has_terminal, after_next, queued_next, next_in, report_part};
+ghost use Rattle.bench_core.specs.Channels.{IsMade};
 
 use crate::parts::channel_report;
 use crate::placing::{add_posted, ordered_actions};
@@ -23,8 +25,9 @@ const HIGHEST: u8 = 30;
 /// At most so many actions are posted for a channel.
 const MOST_POSTS: u32 = 65_536;
 
-/// A channel's terminals, its controller, the numbers that a full queue refused, whether the end mark was queued, the placed actions by
-/// rising number, and how many of them were posted. Contracts see the job itself too, of which no byte is kept.
+/// A channel's terminals, its controller, the numbers that a full queue refused, whether the end mark was queued, the
+/// placed actions by rising number, and how many of them were posted. Contracts see the job itself too, of which no
+/// byte is kept.
 #[derive(Drop)]
 pub(crate) struct Lane {
     channel: u16,
@@ -125,8 +128,8 @@ impl Lane {
         self.posts
     }
 
-    /// Makes the channel's next message, or ends the channel behind its last one: gives what goes into the queue, where that has
-    /// room, and lists a number that does not. It fails for want of memory alone, and then nothing was done.
+    /// Makes the channel's next message, or ends the channel behind its last one: gives what goes into the queue, where
+    /// that has room, and lists a number that does not. It fails for want of memory alone, and then nothing was done.
     pub(crate) fn advance(&mut self, room: bool) -> Result<Option<Item>, AllocError>
         ensures lane { OnOk result (self.new ≡ after_next self.old (next_in self.old) room) }
         ensures item { IfOk result (λ queued. queued ≡ queued_next self.old (next_in self.old) room) }
@@ -143,9 +146,9 @@ impl Lane {
         Ok(message(&mut self.refused, self.channel, number, made, room))
     }
 
-    /// Places an action of a host of a terminal at the channel's next message, behind what is placed there. It fails where memory is
-    /// refused, and for an address above 30 and behind 65,536 posts, which the steps that are played never have; then nothing was
-    /// done.
+    /// Places an action of a host of a terminal at the channel's next message, behind what is placed there. It fails
+    /// where memory is refused, and for an address above 30 and behind 65,536 posts, which the steps that are played
+    /// never have; then nothing was done.
     #[tactic(auto, using(crate::proofs::Posting::never_back))]
     pub(crate) fn post(&mut self, address: u8, action: &Action) -> Result<(), AllocError>
         ensures lane { OnOk result (self.new ≡ with_post self.old address action.now) }

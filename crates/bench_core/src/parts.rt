@@ -7,8 +7,8 @@ ghost use Rattle.bench_core.specs.Placing.{placed_up_to, IsOrdered};
 use bc_machine::Placed;
 use bench_report::ChannelReport;
 
-/// The part of a channel, 1 to 65,535, that made up to 1,000,000 messages, of which the refused rise: of its ordered actions it
-/// has those at numbers up to the number made. It takes no memory.
+/// The part of a channel, 1 to 65,535, that made up to 1,000,000 messages, of which the refused rise: of its ordered
+/// actions it has those at numbers up to the number made. It takes no memory.
 pub fn channel_report(
     channel: u16,
     made: u32,
@@ -22,7 +22,8 @@ pub fn channel_report(
     ensures channel { result.channel ≡ channel }
     ensures made { result.made ≡ made }
     ensures refused { result.refused ≡ refused.items }
-    ensures placed { (actions : List Placed) → ordered.items ≡ placed_up_to 1000000 actions → result.placed ≡ placed_up_to made actions }
+    ensures placed { (actions : List Placed) → ordered.items ≡ placed_up_to 1000000 actions
+        → result.placed ≡ placed_up_to made actions }
 {
     let mut placed = ordered;
     let kept = placed.partition_point(|one| one.number <= made);

@@ -26,7 +26,8 @@ pub fn add_action(ordered: &mut Vec<Placed>, one: Placed)
     requires place { IsPlace one }
     requires ordered { IsOrdered ordered.old.items }
     requires room { vec_len ordered.old < vec_capacity ordered.old }
-    ensures ordered { (actions : List Placed) → ordered.old.items ≡ placed_up_to 1000000 actions → ordered.new.items ≡ placed_up_to 1000000 (actions ++ one ∷ []) }
+    ensures ordered { (actions : List Placed) → ordered.old.items ≡ placed_up_to 1000000 actions
+        → ordered.new.items ≡ placed_up_to 1000000 (actions ++ one ∷ []) }
     ensures fit { IsOrdered ordered.new.items }
 {
     let number = one.number;
@@ -37,14 +38,15 @@ pub fn add_action(ordered: &mut Vec<Placed>, one: Placed)
 /// A channel makes at most so many messages.
 const LAST: u32 = 1_000_000;
 
-/// Adds an action of a terminal to ordered ones as `add_action` does, but for one at a number that no channel comes to, which makes
-/// no difference. It takes no memory.
+/// Adds an action of a terminal to ordered ones as `add_action` does, but for one at a number that no channel comes to,
+/// which makes no difference. It takes no memory.
 pub(crate) fn add_posted(ordered: &mut Vec<Placed>, one: Placed)
     requires number { 1 ≤ one.number }
     requires address { one.address ≤ 30 }
     requires ordered { IsOrdered ordered.old.items }
     requires room { vec_len ordered.old < vec_capacity ordered.old }
-    ensures ordered { (actions : List Placed) → ordered.old.items ≡ placed_up_to 1000000 actions → ordered.new.items ≡ placed_up_to 1000000 (actions ++ one ∷ []) }
+    ensures ordered { (actions : List Placed) → ordered.old.items ≡ placed_up_to 1000000 actions
+        → ordered.new.items ≡ placed_up_to 1000000 (actions ++ one ∷ []) }
     ensures fit { IsOrdered ordered.new.items }
 {
     if one.number <= LAST {

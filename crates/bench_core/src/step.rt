@@ -10,7 +10,7 @@ pub enum Step {
     /// The writer takes the front of the queue.
     Take,
 
-    /// A host of the terminal at an address of the channel at an index posts an action: it acts at the channel's next message,
-    /// behind what is placed there.
+    /// A host of the terminal at an address of the channel at an index posts an action: it acts at the channel's next
+    /// message, behind what is placed there.
     Post(u8, u8, Action),
 }

@@ -1,5 +1,6 @@
 //! The bench of jobs, one step at a time.
-ghost use Rattle.std.specs.Prelude.{◌≡◌, ◌≢◌, ◌<◌, ◌≤◌, ◌^◌, ◌++◌, nat_lt, map, length, slice_get, Some, Option, IfOk, IfErr, OnOk, OnErr, MatchOption, option_to_list};
+ghost use Rattle.std.specs.Prelude.{◌≡◌, ◌≢◌, ◌<◌, ◌≤◌, ◌^◌, ◌++◌, nat_lt, map, length, slice_get, Some, Option, IfOk};
+ghost use Rattle.std.specs.Prelude.{IfErr, OnOk, OnErr, MatchOption, option_to_list};
 ghost use Rattle.std.specs.List.{AllByRecursion};
 ghost use Rattle.std.specs.VecDeque.{deque_capacity};
 ghost use Rattle.ch11_builder.specs.Held.{fresh};
@@ -26,8 +27,8 @@ use std::collections::VecDeque;
 use std::marker::Model;
 use std::snapshot::Snapshot;
 
-/// The channels of jobs, their queue and the file of what its writer took. Contracts see the list of the taken items too, of which
-/// no byte is kept.
+/// The channels of jobs, their queue and the file of what its writer took. Contracts see the list of the taken items
+/// too, of which no byte is kept.
 #[derive(Drop)]
 pub struct World {
     lanes: Vec<Lane>,
@@ -71,7 +72,9 @@ fn builders_of(
     version: u8,
     limit: u32,
 ) -> Result<Vec<Builder>, AllocError>
-    ensures builders { IfOk result (λ v. v.items ≡ map (λ j. fresh (channel_in (record { version = version; limit = limit }) j.channel)) jobs.now) }
+    ensures builders { IfOk result
+        (λ v. v.items ≡ map (λ j. fresh (channel_in (record { version = version; limit = limit }) j.channel))
+        jobs.now) }
     ensures channels { OnOk result (AllByRecursion (λ j. j.channel < 2 ^ 16) jobs.now) }
     ensures version { version < 2 ^ 8 }
 {
@@ -100,12 +103,15 @@ fn place_of(lanes: &[Lane], channel: u16) -> Option<usize>
     None
 }
 
-/// What comes next of a channel goes into the queue, where that has room. It fails for want of memory alone, and then nothing was
-/// done.
+/// What comes next of a channel goes into the queue, where that has room. It fails for want of memory alone, and then
+/// nothing was done.
 fn offer_to(lane: &mut Lane, queue: &mut VecDeque<Item>, capacity: usize) -> Result<(), AllocError>
     requires room { capacity ≤ deque_capacity queue.old }
-    ensures lane { OnOk result (lane.new ≡ after_next lane.old (next_in lane.old) (nat_lt (length queue.old.items) capacity)) }
-    ensures queue { OnOk result (queue.new.items ≡ queue.old.items ++ option_to_list (queued_next lane.old (next_in lane.old) (nat_lt (length queue.old.items) capacity))) }
+    ensures lane { OnOk result (lane.new
+        ≡ after_next lane.old (next_in lane.old) (nat_lt (length queue.old.items) capacity)) }
+    ensures queue { OnOk result (queue.new.items
+        ≡ queue.old.items ++ option_to_list
+        (queued_next lane.old (next_in lane.old) (nat_lt (length queue.old.items) capacity))) }
     ensures made { OnOk result (IsMade lane.new) }
     ensures capacity { deque_capacity queue.new ≡ deque_capacity queue.old }
     ensures same_lane { OnErr result (lane.new ≡ lane.old) }
@@ -119,8 +125,8 @@ fn offer_to(lane: &mut Lane, queue: &mut VecDeque<Item>, capacity: usize) -> Res
 }
 
 impl World {
-    /// The channels of jobs before any step, under the settings. U2, then U1, then U5, then U3 where memory is refused; nothing
-    /// is kept of a world that is refused.
+    /// The channels of jobs before any step, under the settings. U2, then U1, then U5, then U3 where memory is refused;
+    /// nothing is kept of a world that is refused.
     pub fn make(alloc: Global, jobs: &[Job], settings: &Settings) -> Result<World, WorldError>
         ensures world { IfOk result (λ w. w ≡ world_of jobs.now settings.now) }
         ensures lawful { OnOk result (AreLawful jobs.now settings.now) }
@@ -171,8 +177,8 @@ impl World {
         &self.queue
     }
 
-    /// The channel at an index offers what comes next; nothing is done where there is no such channel. It fails for want of memory
-    /// alone, and then nothing was done.
+    /// The channel at an index offers what comes next; nothing is done where there is no such channel. It fails for
+    /// want of memory alone, and then nothing was done.
     fn offer(&mut self, index: usize) -> Result<(), AllocError>
         ensures ok { OnOk result (self.new ≡ with_bench self.old (offered index self.old.bench)) }
         ensures err { OnErr result (self.new ≡ self.old) }
@@ -187,8 +193,8 @@ impl World {
         )
     }
 
-    /// The writer takes the front of the queue, where there is one, and writes the packet that it closes. It fails for want of
-    /// memory alone, and then nothing was done.
+    /// The writer takes the front of the queue, where there is one, and writes the packet that it closes. It fails for
+    /// want of memory alone, and then nothing was done.
     fn take(&mut self) -> Result<(), AllocError>
         ensures ok { OnOk result (self.new ≡ with_bench self.old (taken_from self.old.bench.queue self.old.bench)) }
         ensures err { OnErr result (self.new ≡ self.old) }
@@ -213,8 +219,8 @@ impl World {
         Ok(())
     }
 
-    /// A host posts an action for the terminal at an address of the channel at an index; nothing is done where there is no such
-    /// channel. It fails as the channel does, and then nothing was done.
+    /// A host posts an action for the terminal at an address of the channel at an index; nothing is done where there is
+    /// no such channel. It fails as the channel does, and then nothing was done.
     fn post(&mut self, index: usize, address: u8, action: &Action) -> Result<(), AllocError>
         ensures ok { OnOk result (self.new ≡ with_bench self.old (posted index address action.now self.old.bench)) }
         ensures err { OnErr result (self.new ≡ self.old) }
@@ -225,8 +231,8 @@ impl World {
         self.lanes[index].post(address, action)
     }
 
-    /// One step, which does nothing where there is no such channel. It fails for want of memory, and for a post that a channel does not
-    /// take; then nothing was done.
+    /// One step, which does nothing where there is no such channel. It fails for want of memory, and for a post that a
+    /// channel does not take; then nothing was done.
     #[tactic(auto, unfolding(crate::specs::Bench::stepped))]
     pub(crate) fn step(&mut self, step: &Step) -> Result<(), AllocError>
         ensures ok { OnOk result (self.new ≡ with_bench self.old (stepped step.now self.old.bench)) }
@@ -261,8 +267,8 @@ impl World {
         bench_is_settled();
     }
 
-    /// What became of each channel so far, and how many packets stand in the file behind the prologue. It fails for want of memory
-    /// alone.
+    /// What became of each channel so far, and how many packets stand in the file behind the prologue. It fails for
+    /// want of memory alone.
     pub fn report(&self, alloc: Global) -> Result<Report, AllocError>
         ensures { IfOk result (λ r. r ≡ report_of self.now) }
     {

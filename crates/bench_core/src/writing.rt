@@ -31,8 +31,8 @@ fn append(file: &mut Vec<u8>, packet: &[u8]) -> u64
     1
 }
 
-/// Takes an item of the builder's channel in, and puts the packet that it closes behind the file, which has room for it: how many
-/// packets these are, 0 or 1.
+/// Takes an item of the builder's channel in, and puts the packet that it closes behind the file, which has room for
+/// it: how many packets these are, 0 or 1.
 pub(crate) fn write(builder: &mut Builder, file: &mut Vec<u8>, item: &Item) -> u64
     requires next { MayCome builder.old item.now }
     requires room { vec_len file.old + 524288 ≤ vec_capacity file.old }

@@ -30,7 +30,12 @@ pub record Told : Type 0 where
 abbrev pub told : List Heard → List Told
 told [] = []
 told (h ∷ earlier) =
-    record { number = length earlier + 1; channel = h.0; in_channel = count_in h.0 (channels_of earlier) + 1; message = h.1 } ∷ told earlier
+    record {
+      number = length earlier + 1;
+      channel = h.0;
+      in_channel = count_in h.0 (channels_of earlier) + 1;
+      message = h.1;
+    } ∷ told earlier
 
 abbrev pub is_chosen : Selection → Told → Bool
 is_chosen s t = selects s t.number t.channel t.message

@@ -75,7 +75,8 @@ impl<'a> Choosing<'a> {
         channel: u16,
         seen: &Seen<'a>,
     ) -> Result<(), AllocError>
-        ensures { (history : List Heard) → AreChosen selection.now history self.old → number ≡ length history + 1 → OnOk result (AreChosen selection.now ((channel, message_of seen.now) ∷ history) self.new) }
+        ensures { (history : List Heard) → AreChosen selection.now history self.old → number ≡ length history + 1
+            → OnOk result (AreChosen selection.now ((channel, message_of seen.now) ∷ history) self.new) }
     {
         let place = Place {
             number,
@@ -97,7 +98,9 @@ impl<'a> Choosing<'a> {
         messages: Messages<'a>,
     ) -> Result<(), AllocError>
         requires { before + length messages < 2 ^ 64 }
-        ensures { (history : List Heard) → AreChosen selection.now history self.old → before ≡ length history → OnOk result (AreChosen selection.now (reverse (map (λ (m : Message). (channel, m)) messages.entry) ++ history) self.new) }
+        ensures { (history : List Heard) → AreChosen selection.now history self.old → before ≡ length history
+            → OnOk result (AreChosen selection.now
+            (reverse (map (λ (m : Message). (channel, m)) messages.entry) ++ history) self.new) }
     {
         let mut number = before;
         let mut rest = messages;

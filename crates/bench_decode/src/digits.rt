@@ -2,8 +2,8 @@
 
 use crate::times::{SECOND, Time};
 
-/// The digits of a number below 100,000,000. Numbers of four, two and one digit are split in half side by side, with products
-/// for the quotients by 100 and by 10.
+/// The digits of a number below 100,000,000. Numbers of four, two and one digit are split in half side by side, with
+/// products for the quotients by 100 and by 10.
 #[inline(always)]
 fn eight_digits(number: u32) -> u64 {
     let fours = u64::from(number / 10_000 % 10_000) | u64::from(number % 10_000) << 32;
@@ -13,8 +13,8 @@ fn eight_digits(number: u32) -> u64 {
     tens | twos.wrapping_sub(tens.wrapping_mul(10)) << 8
 }
 
-/// A number below 100,000,000 in eight columns, with spaces in front, of which the first so many columns are left out; behind it stand
-/// as many bytes of no meaning.
+/// A number below 100,000,000 in eight columns, with spaces in front, of which the first so many columns are left out;
+/// behind it stand as many bytes of no meaning.
 #[inline(always)]
 pub(crate) fn in_columns(number: u32, left_out: u32) -> [u8; 8] {
     let digits = eight_digits(number);

@@ -122,8 +122,9 @@ impl Line {
         }
     }
 
-    /// The columns in front of a form, one over the end of the one before it where that has bytes of no meaning: a number of seven
-    /// columns, seconds in six, their decimals, two numbers of eight columns, and a letter between spaces.
+    /// The columns in front of a form, one over the end of the one before it where that has bytes of no meaning: a
+    /// number of seven columns, seconds in six, their decimals, two numbers of eight columns, and a letter between
+    /// spaces.
     #[inline(always)]
     pub(crate) fn put_front(
         &mut self,
@@ -206,7 +207,8 @@ impl Line {
         ]);
     }
 
-    /// Bus words as they lie in a body, two bytes each with the low one first: four hexadecimal digits of each behind a space.
+    /// Bus words as they lie in a body, two bytes each with the low one first: four hexadecimal digits of each behind a
+    /// space.
     pub(crate) fn put_words<W: Write>(&mut self, out: &mut W, words: &[u8]) -> io::Result<()> {
         'pieces: for piece in words.chunks(PIECE) {
             self.hand_on(out)?;

@@ -8,12 +8,14 @@ use Rattle.bench_select.specs.declared.selection.Selection.{Selection}
 -- of messages of one channel, behind so many messages of the file
 abbrev pub chosen_in : Selection → ℕ → ℕ → List Message → ℕ
 chosen_in s before channel [] = 0
-chosen_in s before channel (m ∷ ms) = (if selects s (before + 1) channel m then 1 else 0) + chosen_in s (before + 1) channel ms
+chosen_in s before channel (m ∷ ms) = (if selects s (before + 1) channel m then 1 else 0)
+    + chosen_in s (before + 1) channel ms
 
 -- of packets, behind so many messages of the file
 abbrev pub chosen_behind : Selection → ℕ → List Found → ℕ
 chosen_behind s before [] = 0
-chosen_behind s before (p ∷ ps) = chosen_in s before p.header.channel p.messages + chosen_behind s (before + length p.messages) ps
+chosen_behind s before (p ∷ ps) = chosen_in s before p.header.channel p.messages
+    + chosen_behind s (before + length p.messages) ps
 
 -- of a whole recording
 abbrev pub chosen : Selection → List Found → ℕ

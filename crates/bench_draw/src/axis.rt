@@ -77,8 +77,8 @@ pub fn step_of(span: u64) -> u64
     }
 }
 
-/// Draws the axis above the channels, a line at each step down to a place, and what the times are from, with the time of
-/// day if it is known.
+/// Draws the axis above the channels, a line at each step down to a place, and what the times are from, with the time
+/// of day if it is known.
 pub(crate) fn draw_axis(
     alloc: Global,
     picture: &mut Picture,

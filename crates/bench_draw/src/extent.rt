@@ -61,8 +61,8 @@ impl Extent {
         Ok(extent)
     }
 
-    /// What the lanes show: all messages as bars with labels if they are few, and else as bars those that have the room,
-    /// with the load where some have not.
+    /// What the lanes show: all messages as bars with labels if they are few, and else as bars those that have the
+    /// room, with the load where some have not.
     pub(crate) fn rows(&self, scale: &Scale) -> Rows {
         let all = self.messages <= LABELLED;
         Rows {
@@ -86,7 +86,9 @@ fn widen_by(
     messages: Messages<'_>,
 ) -> Result<(), AllocError>
     requires { packet.now.before + length messages < 2 ^ 64 }
-    ensures { OnOk result (extent.new.messages ≡ capped (extent.old.messages + chosen_in selection.now packet.now.before packet.now.header.channel messages.entry)) }
+    ensures { OnOk result (extent.new.messages
+        ≡ capped (extent.old.messages
+        + chosen_in selection.now packet.now.before packet.now.header.channel messages.entry)) }
 {
     let channel = packet.header.channel;
     let mut number = packet.before;

@@ -37,7 +37,8 @@ message_line n channel m =
 unfoldable pub packet_contents : Header → ℕ → List ℕ
 packet_contents h count =
     if holds_messages h
-    then (codes " seq " ++ decimal h.sequence) ++ (codes " flags " ++ (byte_digits h.flags ++ ((codes " messages " ++ decimal count) ++ codes "\n")))
+    then (codes " seq " ++ decimal h.sequence)
+    ++ (codes " flags " ++ (byte_digits h.flags ++ ((codes " messages " ++ decimal count) ++ codes "\n")))
     else codes " skipped\n"
 
 -- the line of a packet at an offset, with so many messages
@@ -56,7 +57,8 @@ message_lines before channel (m ∷ ms) = message_line (before + 1) channel m ++
 abbrev pub packet_lines : ℕ → List Found → List ℕ
 packet_lines before [] = []
 packet_lines before (p ∷ ps) =
-    packet_line p.offset p.header (length p.messages) ++ (message_lines before p.header.channel p.messages ++ packet_lines (before + length p.messages) ps)
+    packet_line p.offset p.header (length p.messages)
+    ++ (message_lines before p.header.channel p.messages ++ packet_lines (before + length p.messages) ps)
 
 -- the dump of a recording
 abbrev pub dump_text : List Found → List ℕ

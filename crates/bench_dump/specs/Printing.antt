@@ -7,7 +7,8 @@ use Rattle.bench_dump.specs.declared.fault.DumpFault.{DumpFault}
 use Rattle.bench_dump.specs.declared.fault.DumpFault.TheVariants as faults
 
 -- what a writer got and the text that waits, taken together, grew by these bytes
-pub record Carries (got : Option (List ℕ)) (waiting : List ℕ) (gets : Option (List ℕ)) (waits more : List ℕ) : Type 0 where
+pub record Carries (got : Option (List ℕ)) (waiting : List ℕ) (gets : Option (List ℕ))
+    (waits more : List ℕ) : Type 0 where
   pub sent : List ℕ
   pub taken : Appends got gets sent
   pub kept : sent ++ waits ≡ waiting ++ more

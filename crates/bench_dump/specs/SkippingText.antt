@@ -1,6 +1,7 @@
--- The text of a dump that skips what is damaged (own choice): the lines of packets and messages as in any dump, and among them a line
--- for each skip, in the order of their offsets.
-use Rattle.std.specs.Prelude.{ℕ, ◌+◌, nat_lt, if◌then◌else◌, Bool, true, false, List, [], ◌∷◌, ◌++◌, length, codes, decimal}
+-- The text of a dump that skips what is damaged (own choice): the lines of packets and messages as in any dump, and
+-- among them a line for each skip, in the order of their offsets.
+use Rattle.std.specs.Prelude.{ℕ, ◌+◌, nat_lt, if◌then◌else◌, Bool, true, false, List, [], ◌∷◌, ◌++◌, length, codes}
+use Rattle.std.specs.Prelude.{decimal}
 use Rattle.ch11_reader.specs.Codes.{code_of}
 use Rattle.ch11_reader.specs.declared.skip.Skip.{Skip}
 use Rattle.ch11_reader.specs.Indexed.{found_in}
@@ -11,7 +12,8 @@ use Rattle.bench_dump.specs.DumpText.{packet_line, message_lines, dump_text}
 -- the line of a skip: where it begins, how many bytes it has, and the fault at its first byte
 unfoldable pub skip_line : Skip → List ℕ
 skip_line s =
-    (codes "skipped " ++ decimal s.offset) ++ ((codes " length " ++ decimal s.length) ++ (codes " " ++ (code_of s.fault ++ codes "\n")))
+    (codes "skipped " ++ decimal s.offset)
+    ++ ((codes " length " ++ decimal s.length) ++ (codes " " ++ (code_of s.fault ++ codes "\n")))
 
 abbrev pub skip_lines : List Skip → List ℕ
 skip_lines [] = []
@@ -32,7 +34,8 @@ lines_in_order before skips [] = skip_lines skips
 lines_in_order before skips (p ∷ ps) =
     skip_lines (skips_before p.offset skips)
     ++ (packet_line p.offset p.header (length p.messages)
-    ++ (message_lines before p.header.channel p.messages ++ lines_in_order (before + length p.messages) (skips_behind p.offset skips) ps))
+    ++ (message_lines before p.header.channel p.messages
+    ++ lines_in_order (before + length p.messages) (skips_behind p.offset skips) ps))
 
 -- the dump of packets and skips
 abbrev pub skipping_text : List Skip → List Found → List ℕ

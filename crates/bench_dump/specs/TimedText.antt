@@ -1,6 +1,7 @@
--- The text of a dump with times of day (own choice): the lines of any dump, and behind the stamp of a message its time of day, where
--- the recording's time packets tell one.
-use Rattle.std.specs.Prelude.{◌≡◌, ℕ, ◌+◌, Bool, true, false, List, [], ◌∷◌, ◌++◌, length, codes, decimal, Option, None, Some}
+-- The text of a dump with times of day (own choice): the lines of any dump, and behind the stamp of a message its time
+-- of day, where the recording's time packets tell one.
+use Rattle.std.specs.Prelude.{◌≡◌, ℕ, ◌+◌, Bool, true, false, List, [], ◌∷◌, ◌++◌, length, codes, decimal, Option, None}
+use Rattle.std.specs.Prelude.{Some}
 use Rattle.ch11_f1.specs.BodyReading.{Message}
 use Rattle.ch11_reader.specs.declared.skip.Skip.{Skip}
 use Rattle.ch11_reader.specs.Recording.{Found}
@@ -31,7 +32,8 @@ timed_line time n channel m =
 -- the lines of messages on a channel, behind so many messages of the file
 abbrev pub timed_lines : List Mark → ℕ → ℕ → List Message → List ℕ
 timed_lines clock before channel [] = []
-timed_lines clock before channel (m ∷ ms) = timed_line (time_at clock m.stamp) (before + 1) channel m ++ timed_lines clock (before + 1) channel ms
+timed_lines clock before channel (m ∷ ms) = timed_line (time_at clock m.stamp) (before + 1) channel m
+    ++ timed_lines clock (before + 1) channel ms
 
 -- the lines of packets, behind so many messages, and in front of each packet those of the skips that lie in front of it
 abbrev pub timed_in_order : List Mark → ℕ → List Skip → List Found → List ℕ
@@ -39,7 +41,8 @@ timed_in_order clock before skips [] = skip_lines skips
 timed_in_order clock before skips (p ∷ ps) =
     skip_lines (skips_before p.offset skips)
     ++ (packet_line p.offset p.header (length p.messages)
-    ++ (timed_lines clock before p.header.channel p.messages ++ timed_in_order clock (before + length p.messages) (skips_behind p.offset skips) ps))
+    ++ (timed_lines clock before p.header.channel p.messages
+    ++ timed_in_order clock (before + length p.messages) (skips_behind p.offset skips) ps))
 
 -- the dump of packets and skips
 abbrev pub timed_text : List Mark → List Skip → List Found → List ℕ

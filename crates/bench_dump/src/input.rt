@@ -43,7 +43,8 @@ fn read_piece<R: Read>(
     bytes: &mut Vec<u8>,
 ) -> Result<bool, DumpFault>
     requires { 0 < length piece.old }
-    ensures read { IfOk result (IsRead (R.remaining input.old) (R.remaining input.new) bytes.old.items bytes.new.items) }
+    ensures read { IfOk result (IsRead (R.remaining input.old)
+        (R.remaining input.new) bytes.old.items bytes.new.items) }
     ensures few { OnOk result (length bytes.new.items ≤ length bytes.old.items + length piece.old) }
     ensures failed { IfErr result IsOther }
 {
@@ -79,8 +80,9 @@ pub fn read_all<R: Read>(alloc: Global, input: &mut R) -> Result<Vec<u8>, DumpFa
     read_to_end(input, Vec::new(alloc))
 }
 
-/// The same for a file that is said to have so many bytes: room for all of them is asked for at once, before the first is read,
-/// so that a file larger than memory is refused and not read into the last of it. The file may have more bytes or fewer.
+/// The same for a file that is said to have so many bytes: room for all of them is asked for at once, before the first
+/// is read, so that a file larger than memory is refused and not read into the last of it. The file may have more bytes
+/// or fewer.
 pub fn read_sized<R: Read>(alloc: Global, input: &mut R, size: u64) -> Result<Vec<u8>, DumpFault>
     ensures whole { IfOk result (λ bytes. IfSome (R.remaining input.old) (λ xs. bytes.items ≡ xs)) }
     ensures end { OnOk result (IsAtEnd (R.remaining input.new)) }

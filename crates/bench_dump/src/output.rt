@@ -42,7 +42,8 @@ fn dump_messages<W: Write>(
     messages: Messages<'_>,
 ) -> Result<(), DumpFault>
     requires { before + length messages < 2 ^ 64 }
-    ensures printed { OnOk result (Carries (W.contents out.old) text.old (W.contents out.new) text.new (timed_lines clock.now before channel messages.entry)) }
+    ensures printed { OnOk result (Carries (W.contents out.old) text.old (W.contents out.new) text.new
+        (timed_lines clock.now before channel messages.entry)) }
     ensures failed { IfErr result IsOther }
 {
     let mut number = before;
@@ -67,8 +68,8 @@ pub fn dump<W: Write>(alloc: Global, bytes: &[u8], out: &mut W, skip: bool) -> R
     dump_by(alloc, bytes, out, skip, false)
 }
 
-/// The same with the time of day behind each stamp, where the recording's time packets tell one. Without a time packet it is the same
-/// text.
+/// The same with the time of day behind each stamp, where the recording's time packets tell one. Without a time packet
+/// it is the same text.
 pub fn dump_with_times<W: Write>(
     alloc: Global,
     bytes: &[u8],
@@ -130,7 +131,8 @@ fn dump_index<W: Write>(
     out: &mut W,
     timed: bool,
 ) -> Result<(), DumpFault>
-    ensures printed { OnOk result (Appends (W.contents out.old) (W.contents out.new) (timed_text (clock_of timed bytes.now index.now) skips.now index.now)) }
+    ensures printed { OnOk result (Appends (W.contents out.old) (W.contents out.new)
+        (timed_text (clock_of timed bytes.now index.now) skips.now index.now)) }
     ensures failed { IfErr result IsOther }
 {
     let told = if timed { index.packets() } else { &[] };
@@ -146,7 +148,8 @@ fn print_index<W: Write>(
     out: &mut W,
     clock: &Clock,
 ) -> Result<(), DumpFault>
-    ensures printed { OnOk result (Appends (W.contents out.old) (W.contents out.new) (timed_text clock.now skips.now index.now)) }
+    ensures printed { OnOk result (Appends (W.contents out.old) (W.contents out.new)
+        (timed_text clock.now skips.now index.now)) }
     ensures failed { IfErr result IsOther }
 {
     let mut text = Text::new(alloc);

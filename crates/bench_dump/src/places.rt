@@ -9,8 +9,8 @@ use crate::digits::{place_byte, place_decimal};
 use bench_clock::UtcTime;
 use ch11_f1::Seen;
 
-/// How many bytes a message's line has at most beside its bus words: 50 of labels, three numbers of up to 20, two words of 4 and a time
-/// of 27.
+/// How many bytes a message's line has at most beside its bus words: 50 of labels, three numbers of up to 20, two words
+/// of 4 and a time of 27.
 pub(crate) const MESSAGE_HEAD: usize = 145;
 
 /// Places bytes in a buffer that has room for them, and answers where they end.
@@ -69,8 +69,8 @@ fn place_bus_word(buffer: &mut [u8], at: usize, high: u8, low: u8) -> usize
     place_byte(buffer, middle, low)
 }
 
-/// Places bus words, two bytes each with the low one first, in a buffer that has room for them, and answers where they end: of each a
-/// space and four upper-case hexadecimal digits.
+/// Places bus words, two bytes each with the low one first, in a buffer that has room for them, and answers where they
+/// end: of each a space and four upper-case hexadecimal digits.
 #[inline]
 pub fn place_bus_words(buffer: &mut [u8], start: usize, words: &[u8]) -> usize
     requires { start + 5 * (length words.now / 2) ≤ length buffer.old }
@@ -115,7 +115,8 @@ pub(crate) fn place_message(
     seen: &Seen<'_>,
 ) -> usize
     requires { start + (MESSAGE_HEAD + 5 * (length seen.now.words.now / 2)) ≤ length buffer.old }
-    ensures { IsPlaced buffer.old buffer.new start (timed_line (option_map (λ t. t.ticks) time) number channel (message_of seen.now)) result }
+    ensures { IsPlaced buffer.old buffer.new start
+        (timed_line (option_map (λ t. t.ticks) time) number channel (message_of seen.now)) result }
 {
     let at = place_number(buffer, start, b"message ", number);
     let at = place_number(buffer, at, b" channel ", channel as u64);

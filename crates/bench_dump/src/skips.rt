@@ -52,7 +52,8 @@ pub(crate) fn dump_skips_before<'s, W: Write>(
     skips: &'s [Skip],
     offset: usize,
 ) -> Result<&'s [Skip], DumpFault>
-    ensures printed { IfOk result (λ behind. Carries (W.contents out.old) text.old (W.contents out.new) text.new (skip_lines (skips_before offset skips.now))) }
+    ensures printed { IfOk result (λ behind. Carries (W.contents out.old) text.old (W.contents out.new) text.new
+        (skip_lines (skips_before offset skips.now))) }
     ensures behind { IfOk result (λ behind. behind.now ≡ skips_behind offset skips.now) }
     ensures failed { IfErr result IsOther }
 {
@@ -74,7 +75,8 @@ pub(crate) fn dump_skips<W: Write>(
     out: &mut W,
     skips: &[Skip],
 ) -> Result<(), DumpFault>
-    ensures printed { OnOk result (Carries (W.contents out.old) text.old (W.contents out.new) text.new (skip_lines skips.now)) }
+    ensures printed { OnOk result (Carries (W.contents out.old) text.old (W.contents out.new) text.new
+        (skip_lines skips.now)) }
     ensures failed { IfErr result IsOther }
 {
     let mut rest = skips;

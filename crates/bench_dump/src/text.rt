@@ -108,7 +108,8 @@ impl Text {
         time: Option<UtcTime>,
         seen: &Seen<'_>,
     ) -> Result<(), AllocError>
-        ensures { OnOk result (self.new ≡ self.old ++ timed_line (option_map (λ t. t.ticks) time) number channel (message_of seen.now)) }
+        ensures { OnOk result (self.new
+            ≡ self.old ++ timed_line (option_map (λ t. t.ticks) time) number channel (message_of seen.now)) }
     {
         let words = (seen.words.len() / 2).saturating_mul(5);
         make_room(

@@ -31,7 +31,8 @@ pub(crate) static EXPLANATIONS: [Explanation; 7] = [
     Explanation {
         code: "device",
         means: "a file or a stream failed; - is standard input or output",
-        remedy: "See that the file is there and may be read, or that its folder is there and may be written; on a terminal the next line has the system's own words.",
+        remedy: "See that the file is there and may be read, or that its folder is there and may be written; on a \
+            terminal the next line has the system's own words.",
         example: "bench: device missing.ch11",
     },
     Explanation {
@@ -43,7 +44,8 @@ pub(crate) static EXPLANATIONS: [Explanation; 7] = [
     Explanation {
         code: "unknown",
         means: "a line that bench step does not understand",
-        remedy: "Its lines are forward, back, go, find, find back, state, data, show, help and quit; help says what stands behind each.",
+        remedy: "Its lines are forward, back, go, find, find back, state, data, show, help and quit; help says what \
+            stands behind each.",
         example: "forwards",
     },
 ];

@@ -20,7 +20,8 @@ pub fn groups() -> [&'static [Explanation]; 6] {
 /// The explanation of a code, in capital or small letters: a letter and digits, or `device`, `memory`, `unknown`.
 /// None of another word.
 pub fn explain(code: &str) -> Option<&'static Explanation>
-    ensures { IfSome result (λ explanation. map to_ascii_lowercase explanation.now.code.now ≡ map to_ascii_lowercase code.now) }
+    ensures { IfSome result (λ explanation. map to_ascii_lowercase explanation.now.code.now
+        ≡ map to_ascii_lowercase code.now) }
 {
     for group in groups() {
         if let Some(explanation) = among(group, code) {
@@ -32,7 +33,8 @@ pub fn explain(code: &str) -> Option<&'static Explanation>
 
 /// The explanation of a code among these.
 fn among(group: &'static [Explanation], code: &str) -> Option<&'static Explanation>
-    ensures { IfSome result (λ explanation. map to_ascii_lowercase explanation.now.code.now ≡ map to_ascii_lowercase code.now) }
+    ensures { IfSome result (λ explanation. map to_ascii_lowercase explanation.now.code.now
+        ≡ map to_ascii_lowercase code.now) }
 {
     for explanation in group {
         if explanation.code.eq_ignore_ascii_case(code) {

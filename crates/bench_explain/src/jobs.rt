@@ -13,7 +13,8 @@ pub(crate) static EXPLANATIONS: [Explanation; 14] = [
     Explanation {
         code: "J2",
         means: "not a number, a number out of its range, or more than 1000000 actions of series lines",
-        remedy: "Channels are 1 to 65535, terminals 0 to 30, message numbers and steps 1 to 1000000 with the first at most the last, \
+        remedy: "Channels are 1 to 65535, terminals 0 to 30, message numbers and steps 1 to 1000000 with the first at \
+            most the last, \
                  subaddresses of series 1 to 29, a start tick at most 140737488355328.",
         example: "terminal 31",
     },
@@ -80,7 +81,8 @@ pub(crate) static EXPLANATIONS: [Explanation; 14] = [
     Explanation {
         code: "L2",
         means: "a place or a value of a planned fault out of its range",
-        remedy: "Runs are 0 to 2 (1 or 2 for late and mute), places 0 to 39, late gaps 121 to 255 ticks, masks not all zero.",
+        remedy: "Runs are 0 to 2 (1 or 2 for late and mute), places 0 to 39, late gaps 121 to 255 ticks, masks not all \
+            zero.",
         example: "fault 1 late 1 500",
     },
     Explanation {

@@ -13,7 +13,8 @@ pub(crate) static EXPLANATIONS: [Explanation; 13] = [
     Explanation {
         code: "K2",
         means: "no sync pattern 25 EB where a packet should begin",
-        remedy: "See that the file is a Chapter 11 recording, and that the packet before the offset has its true length.",
+        remedy: "See that the file is a Chapter 11 recording, and that the packet before the offset has its true \
+            length.",
         example: "bench: K2 offset 32",
     },
     Explanation {

@@ -18,8 +18,10 @@ pub(crate) static EXPLANATIONS: [Explanation; 4] = [
     },
     Explanation {
         code: "I3",
-        means: "a number of a rule out of its range, a least number above the greatest, more than 32 data words, or more than 10,000 rules",
-        remedy: "Take addresses 0 to 30, subaddresses 1 to 30, mode codes 0 to 31 and gaps up to 255 ticks; broadcasts are brx, brt and bmode.",
+        means: "a number of a rule out of its range, a least number above the greatest, more than 32 data words, or \
+            more than 10,000 rules",
+        remedy: "Take addresses 0 to 30, subaddresses 1 to 30, mode codes 0 to 31 and gaps up to 255 ticks; broadcasts \
+            are brx, brt and bmode.",
         example: "expect rx 31 1 ok",
     },
     Explanation {

@@ -31,7 +31,8 @@ pub(crate) static EXPLANATIONS: [Explanation; 23] = [
     Explanation {
         code: "U5",
         means: "the prologue is no list of sound packets, or has one of MIL-STD-1553 messages",
-        remedy: "Name a file of Chapter 11 packets of other types, such as a setup record; bench dump says what is in it.",
+        remedy: "Name a file of Chapter 11 packets of other types, such as a setup record; bench dump says what is in \
+            it.",
         example: "bench run --prologue flight.ch11 ..",
     },
     Explanation {
@@ -61,7 +62,8 @@ pub(crate) static EXPLANATIONS: [Explanation; 23] = [
     Explanation {
         code: "Y1",
         means: "jobs, report and recording do not agree; this is the first difference",
-        remedy: "Name the recording, the report and the jobs of one run, the jobs in the order of that run; number 0 says that their channels differ.",
+        remedy: "Name the recording, the report and the jobs of one run, the jobs in the order of that run; number 0 \
+            says that their channels differ.",
         example: "bench: Y1 channel 1 number 3",
     },
     Explanation {

@@ -7,7 +7,8 @@ pub(crate) static EXPLANATIONS: [Explanation; 33] = [
     Explanation {
         code: "S1",
         means: "a byte that is in no token of the script language",
-        remedy: "Take the byte out: words have letters, digits and _, and beside them there are { } ( ) [ ], spaces and comments behind #.",
+        remedy: "Take the byte out: words have letters, digits and _, and beside them there are { } ( ) [ ], spaces \
+            and comments behind #.",
         example: "send A rx 5 1 [0001];",
     },
     Explanation {
@@ -36,13 +37,15 @@ pub(crate) static EXPLANATIONS: [Explanation; 33] = [
     },
     Explanation {
         code: "S6",
-        means: "more than 16 blocks in one another, those of called frames counted, or more than 16 operators above a test",
+        means: "more than 16 blocks in one another, those of called frames counted, or more than 16 operators above a \
+            test",
         remedy: "Take blocks apart, or put the frames one behind the other.",
         example: "repeat 1 { repeat 1 { .. seventeen of them .. } }",
     },
     Explanation {
         code: "S7",
-        means: "a number out of its range: repeat and until 1 to 10000, retry 1 to 8, gap 40 to 65535, frame 100 to 6553500 in hundreds",
+        means: "a number out of its range: repeat and until 1 to 10000, retry 1 to 8, gap 40 to 65535, frame 100 to \
+            6553500 in hundreds",
         remedy: "Choose a number in the range; loops in one another multiply.",
         example: "repeat 0 { send A mode 5 1 }",
     },
@@ -61,7 +64,8 @@ pub(crate) static EXPLANATIONS: [Explanation; 33] = [
     Explanation {
         code: "S10",
         means: "a definition of a name that was defined before, or a call of a name that was not",
-        remedy: "Give each definition a name of its own, and define a frame above its first call; a frame cannot call itself.",
+        remedy: "Give each definition a name of its own, and define a frame above its first call; a frame cannot call \
+            itself.",
         example: "define poll { call poll }",
     },
     Explanation {
@@ -126,7 +130,8 @@ pub(crate) static EXPLANATIONS: [Explanation; 33] = [
     },
     Explanation {
         code: "P2",
-        means: "loops or frames of an image that do not pair in a routine, or more than 17 loops or 16 frames open at once",
+        means: "loops or frames of an image that do not pair in a routine, or more than 17 loops or 16 frames open at \
+            once",
         remedy: "Assemble the script again.",
         example: "an image that was changed by hand",
     },
@@ -145,7 +150,8 @@ pub(crate) static EXPLANATIONS: [Explanation; 33] = [
     Explanation {
         code: "P5",
         means: "the script may take more than 100000000 steps or 1000000 messages",
-        remedy: "Lower the counts of the loops: loops in one another multiply, a retry counts as often as it may be tried, and both branches of an if count.",
+        remedy: "Lower the counts of the loops: loops in one another multiply, a retry counts as often as it may be \
+            tried, and both branches of an if count.",
         example: "repeat 10000 { repeat 10000 { gap 40 } }",
     },
     Explanation {

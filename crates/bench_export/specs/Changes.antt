@@ -1,5 +1,6 @@
 -- The changes of the lines of a recording over time (own choice): a word begins, or the line is idle.
-use Rattle.std.specs.Prelude.{◌≡◌, ℕ, zero, suc, ◌+◌, ◌-◌, ◌==◌, ◌&&◌, nat_lt, if◌then◌else◌, List, [], ◌∷◌, ◌++◌, length, Option, Some, None}
+use Rattle.std.specs.Prelude.{◌≡◌, ℕ, zero, suc, ◌+◌, ◌-◌, ◌==◌, ◌&&◌, nat_lt, if◌then◌else◌, List, [], ◌∷◌, ◌++◌}
+use Rattle.std.specs.Prelude.{length, Option, Some, None}
 use Rattle.std.specs.List.Sorted.{IsPermutation, IsStableByKey, IsNonDecreasingBy}
 use Rattle.std.specs.Ordering.{nat_cmp}
 use Rattle.mil_word.specs.Fields.{has_bit, address_of}
@@ -66,7 +67,8 @@ changes_among selection before channel (m ∷ ms) =
 abbrev pub changes_behind : Selection → ℕ → List Found → List Change
 changes_behind selection before [] = []
 changes_behind selection before (p ∷ ps) =
-    changes_among selection before p.header.channel p.messages ++ changes_behind selection (before + length p.messages) ps
+    changes_among selection before p.header.channel p.messages
+    ++ changes_behind selection (before + length p.messages) ps
 
 abbrev pub changes_in : Selection → List Found → List Change
 changes_in selection ps = changes_behind selection 0 ps

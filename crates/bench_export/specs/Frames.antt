@@ -1,9 +1,11 @@
--- The columns of an export for data frames behind those that say when a message was (own choice): one value a column, and of each
--- message as many.
-use Rattle.std.specs.Prelude.{ℕ, zero, suc, ◌+◌, ◌-◌, ◌/◌, ◌%◌, ◌^◌, ◌==◌, Bool, false, not, ◌&&◌, ◌||◌, nat_lt, if◌then◌else◌, List, [], ◌∷◌, ◌++◌, Option, Some, None, codes, decimal}
+-- The columns of an export for data frames behind those that say when a message was (own choice): one value a column,
+-- and of each message as many.
+use Rattle.std.specs.Prelude.{ℕ, zero, suc, ◌+◌, ◌-◌, ◌/◌, ◌%◌, ◌^◌, ◌==◌, Bool, false, not, ◌&&◌, ◌||◌, nat_lt}
+use Rattle.std.specs.Prelude.{if◌then◌else◌, List, [], ◌∷◌, ◌++◌, Option, Some, None, codes, decimal}
 use Rattle.mil_word.specs.Fields.{has_bit, is_transmit}
 use Rattle.ch11_f1.specs.BodyReading.{Message}
-use Rattle.ch11_layout.specs.Layouts.{size_of, word_of, is_between, first_word, first_gap, second_gap, commands_in, data_start, data_end}
+use Rattle.ch11_layout.specs.Layouts.{size_of, word_of, is_between, first_word, first_gap, second_gap, commands_in}
+use Rattle.ch11_layout.specs.Layouts.{data_start, data_end}
 use Rattle.bench_dump.specs.DumpText.{word_digits}
 use Rattle.bench_export.specs.Rows.{gap_text, line_text, form_text, called_fields}
 
@@ -63,7 +65,8 @@ status_flag None (Some word) place = flag (has_bit place word)
 abbrev pub status_flags : Option ℕ → Option ℕ → List (List ℕ)
 status_flags first second =
     status_flag first second 10 ∷ status_flag first second 9 ∷ status_flag first second 8 ∷ status_flag first second 4
-    ∷ status_flag first second 3 ∷ status_flag first second 2 ∷ status_flag first second 1 ∷ status_flag first second 0 ∷ []
+    ∷ status_flag first second 3 ∷ status_flag first second 2 ∷ status_flag first second 1
+    ∷ status_flag first second 0 ∷ []
 
 -- the errors of the block status word (IRIG 106-17 Chapter 11)
 abbrev pub error_flags : ℕ → List (List ℕ)
@@ -73,7 +76,8 @@ error_flags block =
 
 -- the data word at a place of the data words
 abbrev pub data_word : Message → ℕ → Option ℕ
-data_word m place = if nat_lt place (data_end m - data_start m) then Some (word_of m.bytes (data_start m + place)) else None
+data_word m place = if nat_lt place (data_end m - data_start m) then Some (word_of m.bytes (data_start m + place))
+    else None
 
 abbrev pub data_field : Bool → Message → ℕ → List ℕ
 data_field prefixed m place = word_if prefixed (data_word m place)
@@ -94,7 +98,8 @@ sent_columns m = line_text m ∷ form_text m ∷ direction_text m ∷ []
 
 abbrev pub answered_columns : Bool → Message → List (List ℕ)
 answered_columns prefixed m =
-    gap_text (first_gap m) ∷ gap_text (second_gap m) ∷ word_if prefixed (first_status m) ∷ word_if prefixed (second_status m) ∷ []
+    gap_text (first_gap m) ∷ gap_text (second_gap m) ∷ word_if prefixed (first_status m)
+    ∷ word_if prefixed (second_status m) ∷ []
 
 -- the bits, and the data words
 abbrev pub carried_columns : Bool → Message → List (List ℕ)
@@ -113,14 +118,16 @@ sent_names = codes "line" ∷ codes "form" ∷ codes "tr" ∷ []
 
 abbrev pub called_names : List (List ℕ)
 called_names =
-    codes "terminal" ∷ codes "subaddress" ∷ codes "count" ∷ codes "mode_code" ∷ codes "sender" ∷ codes "sender_subaddress" ∷ []
+    codes "terminal" ∷ codes "subaddress" ∷ codes "count" ∷ codes "mode_code" ∷ codes "sender"
+    ∷ codes "sender_subaddress" ∷ []
 
 abbrev pub answered_names : List (List ℕ)
 answered_names = codes "gap1_us" ∷ codes "gap2_us" ∷ codes "status1" ∷ codes "status2" ∷ []
 
 abbrev pub status_names : List (List ℕ)
 status_names =
-    codes "status_message_error" ∷ codes "status_instrumentation" ∷ codes "status_service_request" ∷ codes "status_broadcast"
+    codes "status_message_error" ∷ codes "status_instrumentation" ∷ codes "status_service_request"
+    ∷ codes "status_broadcast"
     ∷ codes "status_busy" ∷ codes "status_subsystem" ∷ codes "status_control" ∷ codes "status_terminal" ∷ []
 
 abbrev pub error_names : List (List ℕ)

@@ -1,6 +1,6 @@
--- When the words of a recorded message are on the line, in ticks of 0.1 µs: one behind the other from the stamp on, 20 µs
--- each (MIL-STD-1553B 4.3.3.3), and a pause in front of a status word. A gap is measured from the middle of a parity bit
--- to the middle of a sync, which is 20 ticks where nothing lies between (4.3.3.7, 4.3.3.8).
+-- When the words of a recorded message are on the line, in ticks of 0.1 µs: one behind the other from the stamp on, 20
+-- µs each (MIL-STD-1553B 4.3.3.3), and a pause in front of a status word. A gap is measured from the middle of a parity
+-- bit to the middle of a sync, which is 20 ticks where nothing lies between (4.3.3.7, 4.3.3.8).
 use Rattle.std.specs.Prelude.{ℕ, ◌+◌, ◌-◌, ◌*◌, ◌&&◌, nat_lt, nat_le, if◌then◌else◌}
 use Rattle.ch11_f1.specs.BodyReading.{Message}
 use Rattle.ch11_layout.specs.Layouts.{size_of, first_gap, last_gap, commands_in, data_start, data_end}

@@ -1,8 +1,10 @@
 -- The columns of a message in an exported recording behind those that say when it was (own choice), and their names.
-use Rattle.std.specs.Prelude.{ℕ, ◌-◌, ◌*◌, ◌/◌, ◌%◌, ◌==◌, Bool, not, ◌&&◌, nat_lt, if◌then◌else◌, List, [], ◌∷◌, ◌++◌, take, drop, codes, decimal}
+use Rattle.std.specs.Prelude.{ℕ, ◌-◌, ◌*◌, ◌/◌, ◌%◌, ◌==◌, Bool, not, ◌&&◌, nat_lt, if◌then◌else◌, List, [], ◌∷◌, ◌++◌}
+use Rattle.std.specs.Prelude.{take, drop, codes, decimal}
 use Rattle.mil_word.specs.Fields.{has_bit, address_of, sub_of, code_of, count_of, is_mode, is_broadcast, is_transmit}
 use Rattle.ch11_f1.specs.BodyReading.{Message}
-use Rattle.ch11_layout.specs.Layouts.{size_of, word_of, first_word, first_gap, second_gap, commands_in, data_start, data_end}
+use Rattle.ch11_layout.specs.Layouts.{size_of, word_of, first_word, first_gap, second_gap, commands_in, data_start}
+use Rattle.ch11_layout.specs.Layouts.{data_end}
 use Rattle.bench_dump.specs.DumpText.{bus_words}
 
 -- the names of the columns
@@ -46,7 +48,8 @@ number_if there number = if there then decimal number else []
 abbrev pub fields_of_first : Bool → ℕ → List (List ℕ)
 fields_of_first called command =
     number_if called (address_of command) ∷ number_if called (sub_of command)
-    ∷ number_if (called && not (is_mode command)) (count_of command) ∷ number_if (called && is_mode command) (code_of command) ∷ []
+    ∷ number_if (called && not (is_mode command)) (count_of command)
+    ∷ number_if (called && is_mode command) (code_of command) ∷ []
 
 abbrev pub first_fields : Message → List (List ℕ)
 first_fields m = fields_of_first (nat_lt 0 (commands_in m)) (first_word m)
@@ -70,7 +73,8 @@ abbrev pub data_text : Message → List ℕ
 data_text m = words_text (words_between (data_start m) (data_end m) m.bytes) []
 
 abbrev pub status_text : Message → List ℕ
-status_text m = words_text (words_between (commands_in m) (data_start m) m.bytes) (words_between (data_end m) (size_of m) m.bytes)
+status_text m = words_text (words_between (commands_in m) (data_start m) m.bytes)
+    (words_between (data_end m) (size_of m) m.bytes)
 
 -- a bit's name behind a space, where the bit is set
 abbrev pub name_if : ℕ → ℕ → List ℕ → List ℕ

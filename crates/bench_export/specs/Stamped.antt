@@ -1,5 +1,5 @@
--- The columns that say which message it is and when it was (own choice): its number, its channel, its stamp, and where it is asked
--- for the time of day behind it, by the recording's time packets.
+-- The columns that say which message it is and when it was (own choice): its number, its channel, its stamp, and where
+-- it is asked for the time of day behind it, by the recording's time packets.
 use Rattle.std.specs.Prelude.{ℕ, Bool, true, false, List, [], ◌∷◌, ◌++◌, codes, decimal, Option, None, Some}
 use Rattle.ch11_f1.specs.BodyReading.{Message}
 use Rattle.bench_clock.specs.declared.clock.Mark.{Mark}

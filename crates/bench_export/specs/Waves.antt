@@ -1,5 +1,6 @@
 -- The text of a value change dump (IEEE 1364-2001 section 18) of a recording (own choice of its signals).
-use Rattle.std.specs.Prelude.{◌≡◌, ℕ, zero, suc, ◌+◌, ◌/◌, ◌%◌, ◌==◌, ◌<◌, nat_lt, Bool, true, false, if◌then◌else◌, List, [], ◌∷◌, ◌++◌, length, slice_index_or, Option, Some, None, codes, decimal}
+use Rattle.std.specs.Prelude.{◌≡◌, ℕ, zero, suc, ◌+◌, ◌/◌, ◌%◌, ◌==◌, ◌<◌, nat_lt, Bool, true, false, if◌then◌else◌}
+use Rattle.std.specs.Prelude.{List, [], ◌∷◌, ◌++◌, length, slice_index_or, Option, Some, None, codes, decimal}
 use Rattle.std.specs.List.{list_any}
 use Rattle.std.specs.Io.KnownBytes.{Appends}
 use Rattle.ch11_layout.specs.declared.layouts.Role.{Role}
@@ -36,7 +37,8 @@ value_text (Some value) = binary 64 value
 
 -- a signal takes a value
 unfoldable pub signal_text : List ℕ → Option ℕ → Bool → ℕ → List ℕ
-signal_text letter value on_b channel = codes "b" ++ (value_text value ++ (codes " " ++ (code_of letter on_b channel ++ codes "\n")))
+signal_text letter value on_b channel = codes "b"
+    ++ (value_text value ++ (codes " " ++ (code_of letter on_b channel ++ codes "\n")))
 
 -- the four signals of a line: the word, its kind, its terminal and the number of its message
 abbrev pub signals_text : Option ℕ → Option ℕ → Option ℕ → Option ℕ → Bool → ℕ → List ℕ
@@ -47,7 +49,8 @@ signals_text word kind terminal message on_b channel =
 
 unfoldable pub values_text : Option Driven → Bool → ℕ → List ℕ
 values_text None on_b channel = signals_text None None None None on_b channel
-values_text (Some d) on_b channel = signals_text (Some d.word) (Some (kind_of d.role)) (Some d.terminal) (Some d.number) on_b channel
+values_text (Some d) on_b channel = signals_text (Some d.word) (Some (kind_of d.role)) (Some d.terminal)
+    (Some d.number) on_b channel
 
 -- a time, where it is not that of the change before
 unfoldable pub time_text : ℕ → ℕ → List ℕ
@@ -73,7 +76,8 @@ ArePresent marks changes = (channel : ℕ) → channel < 65536 → marked marks 
 
 -- a signal is declared: its type, how many bits it has, and its name
 unfoldable pub declared_text : List ℕ → List ℕ → List ℕ → Bool → ℕ → List ℕ
-declared_text size letter name on_b channel = codes "$var " ++ (size ++ (codes " " ++ (code_of letter on_b channel ++ (codes " " ++ (name ++ codes " $end\n")))))
+declared_text size letter name on_b channel = codes "$var "
+    ++ (size ++ (codes " " ++ (code_of letter on_b channel ++ (codes " " ++ (name ++ codes " $end\n")))))
 
 unfoldable pub opening_text : Bool → List ℕ
 opening_text on_b = codes "$scope module " ++ (letter_text on_b ++ codes " $end\n")
@@ -92,7 +96,8 @@ channel_text channel = codes "$scope module channel_" ++ (decimal channel ++ cod
 
 -- a channel's signals are declared
 unfoldable pub scope_text : ℕ → List ℕ
-scope_text channel = channel_text channel ++ (line_text false channel ++ (line_text true channel ++ codes "$upscope $end\n"))
+scope_text channel = channel_text channel
+    ++ (line_text false channel ++ (line_text true channel ++ codes "$upscope $end\n"))
 
 -- a channel's lines are idle
 abbrev pub idle_text : ℕ → List ℕ

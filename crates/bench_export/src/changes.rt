@@ -87,7 +87,8 @@ fn change_of(seen: &Seen<'_>, channel: u16, tick: u128, driven: Option<Driven>) 
 fn goes_on(seen: &Seen<'_>, layout: &Layout, place: usize, end: u128) -> bool
     requires layout { layout.now ≡ layout_of (message_of seen.now) }
     requires within { place < layout.now.words }
-    ensures { result ≡ (nat_lt (place + 1) (size_of (message_of seen.now)) && (moments.begin_of (message_of seen.now) (place + 1) == end)) }
+    ensures { result ≡ (nat_lt (place + 1) (size_of (message_of seen.now))
+        && (moments.begin_of (message_of seen.now) (place + 1) == end)) }
 {
     place + 1 < layout.words && begin_of(seen, layout, place + 1) == end
 }
@@ -103,7 +104,8 @@ fn push_word(
 ) -> Result<(), AllocError>
     requires layout { layout.now ≡ layout_of (message_of seen.now) }
     requires within { place < layout.now.words }
-    ensures { OnOk result (changes.new.items ≡ changes.old.items ++ spec.changes_at message.number message.channel (message_of seen.now) place) }
+    ensures { OnOk result (changes.new.items
+        ≡ changes.old.items ++ spec.changes_at message.number message.channel (message_of seen.now) place) }
 {
     let begin = begin_of(seen, layout, place);
     let end = begin + WORD;
@@ -123,7 +125,8 @@ fn push_message(
     channel: u16,
     seen: &Seen<'_>,
 ) -> Result<(), AllocError>
-    ensures { OnOk result (changes.new.items ≡ changes.old.items ++ spec.changes_of number channel (message_of seen.now)) }
+    ensures { OnOk result (changes.new.items
+        ≡ changes.old.items ++ spec.changes_of number channel (message_of seen.now)) }
 {
     let layout = Layout::of(seen);
     let message = Place { number, channel };
@@ -142,7 +145,8 @@ fn push_selected(
     channel: u16,
     seen: &Seen<'_>,
 ) -> Result<(), AllocError>
-    ensures { OnOk result (changes.new.items ≡ changes.old.items ++ spec.changes_if selection.now number channel (message_of seen.now)) }
+    ensures { OnOk result (changes.new.items
+        ≡ changes.old.items ++ spec.changes_if selection.now number channel (message_of seen.now)) }
 {
     if !selection.selects(number, channel, seen) {
         return Ok(());
@@ -159,7 +163,8 @@ fn push_messages(
     messages: Messages<'_>,
 ) -> Result<(), AllocError>
     requires { before + length messages < 2 ^ 64 }
-    ensures { OnOk result (changes.new.items ≡ changes.old.items ++ spec.changes_among selection.now before channel messages.entry) }
+    ensures { OnOk result (changes.new.items
+        ≡ changes.old.items ++ spec.changes_among selection.now before channel messages.entry) }
 {
     let mut number = before;
     let mut rest = messages;

@@ -27,7 +27,8 @@ fn put_declared(
     name: &[u8],
     wire: Wire,
 ) -> Result<(), AllocError>
-    ensures { OnOk result (text.new.items ≡ text.old.items ++ spec.declared_text size.now letter.now name.now wire.on_b wire.channel) }
+    ensures { OnOk result (text.new.items
+        ≡ text.old.items ++ spec.declared_text size.now letter.now name.now wire.on_b wire.channel) }
 {
     text.extend_from_slice(b"$var ")?;
     text.extend_from_slice(size)?;
@@ -119,7 +120,8 @@ fn put_idle(text: &mut Vec<u8>, channel: u16) -> Result<(), AllocError>
 /// Puts the declarations of all channels that are marked.
 fn put_scopes(text: &mut Vec<u8>, present: &[bool]) -> Result<(), AllocError>
     requires { length present.now ≡ CHANNELS }
-    ensures { OnOk result (text.new.items ≡ text.old.items ++ spec.channels_text spec.scope_text (spec.marked present.now) 65536) }
+    ensures { OnOk result (text.new.items
+        ≡ text.old.items ++ spec.channels_text spec.scope_text (spec.marked present.now) 65536) }
 {
     'channels: for channel in 0..CHANNELS {
         if is_present(present, channel) {
@@ -132,7 +134,8 @@ fn put_scopes(text: &mut Vec<u8>, present: &[bool]) -> Result<(), AllocError>
 /// Puts that the lines of all channels that are marked are idle.
 fn put_idles(text: &mut Vec<u8>, present: &[bool]) -> Result<(), AllocError>
     requires { length present.now ≡ CHANNELS }
-    ensures { OnOk result (text.new.items ≡ text.old.items ++ spec.channels_text spec.idle_text (spec.marked present.now) 65536) }
+    ensures { OnOk result (text.new.items
+        ≡ text.old.items ++ spec.channels_text spec.idle_text (spec.marked present.now) 65536) }
 {
     'channels: for channel in 0..CHANNELS {
         if is_present(present, channel) {

@@ -71,7 +71,8 @@ pub(crate) fn write_row<W: Write + Drop>(
 ) -> Result<(), ExportFault>
     requires { IsBetween writer.old }
     ensures between { OnOk result (IsBetween writer.new) }
-    ensures written { OnOk result (Appends (writing.text_written W.contents writer.old) (writing.text_written W.contents writer.new) (writing.row_text writing.default_writer row.now)) }
+    ensures written { OnOk result (Appends (writing.text_written W.contents writer.old)
+        (writing.text_written W.contents writer.new) (writing.row_text writing.default_writer row.now)) }
 {
     match writer.write_byte_record(row.record()) {
         Ok(()) => Ok(()),
@@ -92,7 +93,9 @@ fn write_selected<W: Write + Drop>(
 ) -> Result<(), ExportFault>
     requires { IsBetween writer.old }
     ensures between { OnOk result (IsBetween writer.new) }
-    ensures written { OnOk result (Appends (writing.text_written W.contents writer.old) (writing.text_written W.contents writer.new) (row_if table.now clock.now number channel (message_of seen.now))) }
+    ensures written { OnOk result (Appends (writing.text_written W.contents writer.old)
+        (writing.text_written W.contents writer.new)
+        (row_if table.now clock.now number channel (message_of seen.now))) }
 {
     if !table.selection.selects(number, channel, seen) {
         return Ok(());
@@ -114,7 +117,8 @@ pub(crate) fn write_messages<W: Write + Drop>(
     requires few { before + length messages < 2 ^ 64 }
     requires between { IsBetween writer.old }
     ensures between { OnOk result (IsBetween writer.new) }
-    ensures written { OnOk result (Appends (writing.text_written W.contents writer.old) (writing.text_written W.contents writer.new) (rows_text table.now clock.now before channel messages.entry)) }
+    ensures written { OnOk result (Appends (writing.text_written W.contents writer.old)
+        (writing.text_written W.contents writer.new) (rows_text table.now clock.now before channel messages.entry)) }
 {
     let mut number = before;
     let mut rest = messages;

@@ -74,7 +74,8 @@ fn put_signal(
     value: Option<u64>,
     wire: Wire,
 ) -> Result<(), AllocError>
-    ensures { OnOk result (text.new.items ≡ text.old.items ++ spec.signal_text letter.now value wire.on_b wire.channel) }
+    ensures { OnOk result (text.new.items
+        ≡ text.old.items ++ spec.signal_text letter.now value wire.on_b wire.channel) }
 {
     text.extend_from_slice(b"b")?;
     put_value(text, value)?;
@@ -103,7 +104,8 @@ fn put_signals(
     message: Option<u64>,
     wire: Wire,
 ) -> Result<(), AllocError>
-    ensures { OnOk result (text.new.items ≡ text.old.items ++ spec.signals_text word kind terminal message wire.on_b wire.channel) }
+    ensures { OnOk result (text.new.items
+        ≡ text.old.items ++ spec.signals_text word kind terminal message wire.on_b wire.channel) }
 {
     put_signal(text, b"w", word, wire)?;
     put_signal(text, b"k", kind, wire)?;

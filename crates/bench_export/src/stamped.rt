@@ -70,7 +70,9 @@ pub(crate) fn push_stamped(
     channel: u16,
     seen: &Seen<'_>,
 ) -> Result<(), AllocError>
-    ensures { OnOk result (row.new ≡ row.old ++ spec.stamped_columns table.now.columns table.now.timed clock.now number channel (message_of seen.now)) }
+    ensures { OnOk result (row.new
+        ≡ row.old ++ spec.stamped_columns table.now.columns table.now.timed clock.now number channel
+        (message_of seen.now)) }
 {
     push_number_columns(row, text, table.columns, number, channel, seen)?;
     push_time_columns(row, table.timed, clock.at(seen.stamp))

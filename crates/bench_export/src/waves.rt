@@ -15,8 +15,8 @@ use std::io::Write;
 
 /// Writes the selected messages of a recording that was read as a value change dump, in units of 0.1 µs: for each
 /// channel and line the word on the line, what it is (1 a command, 2 data, 3 a status), its terminal, and the number of
-/// its message, counted from 1 over the file; all four are z where the line is idle. A word takes 200 units. All changes
-/// are kept in memory, some 50 bytes each.
+/// its message, counted from 1 over the file; all four are z where the line is idle. A word takes 200 units. All
+/// changes are kept in memory, some 50 bytes each.
 pub fn export_waves<W: Write>(
     alloc: Global,
     index: &Index<'_>,
@@ -54,7 +54,8 @@ fn write_changes<W: Write>(
     changes: &[Change],
     out: &mut W,
 ) -> Result<(), ExportFault>
-    ensures { OnOk result (Appends (W.contents out.old) (W.contents out.new) (spec.changes_text (spec.first_tick changes.now) changes.now)) }
+    ensures { OnOk result (Appends (W.contents out.old) (W.contents out.new)
+        (spec.changes_text (spec.first_tick changes.now) changes.now)) }
 {
     let mut text = Vec::new(alloc);
     let mut last = first_tick(changes);

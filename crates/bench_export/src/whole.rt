@@ -57,7 +57,8 @@ fn write_packets<W: Write + Drop>(
     index: &Index<'_>,
 ) -> Result<(), ExportFault>
     requires { IsBetween writer.old }
-    ensures { OnOk result (Appends (writing.text_written W.contents writer.old) (writing.text_written W.contents writer.new) (packets_text table.now clock.now 0 index.now)) }
+    ensures { OnOk result (Appends (writing.text_written W.contents writer.old)
+        (writing.text_written W.contents writer.new) (packets_text table.now clock.now 0 index.now)) }
 {
     let mut room = Room::new(alloc);
     let packets = index.packets();

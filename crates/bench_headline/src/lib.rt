@@ -1,4 +1,5 @@
-//! A run and the debugger: what a finished run recorded, of the jobs alone or with the posts of hosts, is what the debugger plays again.
+//! A run and the debugger: what a finished run recorded, of the jobs alone or with the posts of hosts, is what the
+//! debugger plays again.
 #![tactic(auto)]
 
 ghost use Rattle.bench_headline.specs.Headline.{RunIsReplayed, LiveRunIsReplayed};
@@ -8,9 +9,9 @@ use ch11_reader::recordings_join;
 use ch11_recording::recording_goes_on;
 use replay::placed_actions_suffice;
 
-/// Law: the debugger accepts the recording of every finished run, with the jobs and the report of that run. So at message n it
-/// shows the state after n messages. Conditions: the jobs and settings may be run, and the file is that of a finished run, both of
-/// which `bench_run::run` promises where it ends well.
+/// Law: the debugger accepts the recording of every finished run, with the jobs and the report of that run. So at
+/// message n it shows the state after n messages. Conditions: the jobs and settings may be run, and the file is that of
+/// a finished run, both of which `bench_run::run` promises where it ends well.
 pub fn run_is_replayed()
     ensures { RunIsReplayed }
 {
@@ -20,10 +21,10 @@ pub fn run_is_replayed()
     placed_actions_suffice();
 }
 
-/// Law: the debugger accepts the recording of every finished live run, with the jobs as they were given to it and the report of that
-/// run, which has the posts that were placed. So at message n it shows the state after n messages. Conditions: the jobs and settings
-/// may be run, the jobs of the file are these with the posts that were placed, and the file is that of a finished run of them, all of
-/// which `bench_run::run_live` promises where it ends well.
+/// Law: the debugger accepts the recording of every finished live run, with the jobs as they were given to it and the
+/// report of that run, which has the posts that were placed. So at message n it shows the state after n messages.
+/// Conditions: the jobs and settings may be run, the jobs of the file are these with the posts that were placed, and
+/// the file is that of a finished run of them, all of which `bench_run::run_live` promises where it ends well.
 pub fn live_run_is_replayed()
     ensures { LiveRunIsReplayed }
 {

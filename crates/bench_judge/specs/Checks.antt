@@ -1,5 +1,6 @@
 -- What a rule asks of a message that it selects (own choice).
-use Rattle.std.specs.Prelude.{ℕ, ◌+◌, ◌-◌, ◌*◌, ◌==◌, Bool, true, false, not, ◌&&◌, ◌||◌, nat_le, List, [], ◌∷◌, length, Option, Some, None, bit_and}
+use Rattle.std.specs.Prelude.{ℕ, ◌+◌, ◌-◌, ◌*◌, ◌==◌, Bool, true, false, not, ◌&&◌, ◌||◌, nat_le, List, [], ◌∷◌, length}
+use Rattle.std.specs.Prelude.{Option, Some, None, bit_and}
 use Rattle.std.specs.List.{list_all}
 use Rattle.mil_word.specs.Fields.{has_bit}
 use Rattle.ch11_f1.specs.BodyReading.{Message}
@@ -7,7 +8,8 @@ use Rattle.ch11_layout.specs.Layouts.{word_of, layout_of, first_gap, second_gap}
 use Rattle.judge_rules.specs.declared.rules.Bounds.{Bounds}
 use Rattle.judge_rules.specs.declared.rules.Datum.{Datum}
 use Rattle.judge_rules.specs.declared.rules.Check.{Check}
-use Rattle.judge_rules.specs.declared.rules.Check.TheVariants.{Sound, Failed, Clean, Status, Data, Response, Period, Count}
+use Rattle.judge_rules.specs.declared.rules.Check.TheVariants.{Sound, Failed, Clean, Status, Data, Response, Period}
+use Rattle.judge_rules.specs.declared.rules.Check.TheVariants.{Count}
 use Rattle.bench_judge.specs.Words.{statuses, data_count}
 use Rattle.bench_judge.specs.Clean.{clean}
 

@@ -1,8 +1,10 @@
 -- A message as the standard has it (MIL-STD-1553B 4.3.3.6, with Notice 2).
-use Rattle.std.specs.Prelude.{◌≡◌, ℕ, ◌+◌, ◌==◌, Bool, true, false, not, ◌&&◌, ◌||◌, nat_le, nat_lt, if◌then◌else◌, List, [], ◌∷◌, length, Option, Some, None, Result, Ok, Err, unwrap_or}
+use Rattle.std.specs.Prelude.{◌≡◌, ℕ, ◌+◌, ◌==◌, Bool, true, false, not, ◌&&◌, ◌||◌, nat_le, nat_lt, if◌then◌else◌}
+use Rattle.std.specs.Prelude.{List, [], ◌∷◌, length, Option, Some, None, Result, Ok, Err, unwrap_or}
 use Rattle.std.specs.List.{list_all}
 use Rattle.std.specs.Str.{bytes_eq}
-use Rattle.mil_word.specs.Fields.{has_bit, address_of, code_of, is_broadcast, is_transmit, is_mode, has_message_error, has_busy}
+use Rattle.mil_word.specs.Fields.{has_bit, address_of, code_of, is_broadcast, is_transmit, is_mode, has_message_error}
+use Rattle.mil_word.specs.Fields.{has_busy}
 use Rattle.mil_mode.specs.Table.{is_known, is_broadcast_mode, data_word_count}
 use Rattle.mil_message.specs.declared.faults.BadMessage.{BadMessage}
 use Rattle.mil_message.specs.declared.forms.Due.{Due}
@@ -17,14 +19,15 @@ use Rattle.ch11_layout.specs.Layouts.{first_word}
 use Rattle.bench_select.specs.Selectors.{second_word}
 use Rattle.bench_judge.specs.Words.{has_two, statuses, data_words, data_count, gaps}
 
--- block status bits of errors: a message error of any kind, a format error, no response or a late one, another number of words than
--- due, another sync, and an unsound word
+-- block status bits of errors: a message error of any kind, a format error, no response or a late one, another number
+-- of words than due, another sync, and an unsound word
 abbrev pub has_no_error : ℕ → Bool
 has_no_error block =
     not (has_bit 12 block) && not (has_bit 10 block) && not (has_bit 9 block)
     && not (has_bit 5 block) && not (has_bit 4 block) && not (has_bit 3 block)
 
--- a mode command's code is one that the standard assigns, and one that may be sent to all terminals where it is (table I)
+-- a mode command's code is one that the standard assigns, and one that may be sent to all terminals where it is (table
+-- I)
 abbrev pub may_be_sent : ℕ → Bool
 may_be_sent command =
     not (is_mode command)
@@ -76,7 +79,8 @@ abbrev pub asked_for : Parts → Option Request → Option Form
 asked_for p None = None
 asked_for p (Some request) = of_these_parts p (checked request)
 
--- the one of the ten forms whose message has these parts: all numbers in their ranges, in a transfer equal counts and different ends
+-- the one of the ten forms whose message has these parts: all numbers in their ranges, in a transfer equal counts and
+-- different ends
 unfoldable pub form_with : Parts → Option Form
 form_with p = asked_for p (request_at p)
 
@@ -117,7 +121,8 @@ data_fit form count found =
 
 abbrev pub is_sent_as : Option Form → Message → Bool
 is_sent_as None m = false
-is_sent_as (Some form) m = data_fit form (data_count m) (statuses m) && replies_fit (replies_due form) (statuses m) (gaps m)
+is_sent_as (Some form) m = data_fit form (data_count m) (statuses m)
+    && replies_fit (replies_due form) (statuses m) (gaps m)
 
 -- at most 32 data words (4.3.3.5.1.5) of a message of one of the ten forms, without an error
 unfoldable pub clean : Message → Bool

@@ -15,7 +15,8 @@ miss_line line x =
 -- how many messages a rule selects, and how many miss it, or 1 for a count that is not met
 abbrev pub rule_line : ℕ → ℕ → ℕ → List ℕ
 rule_line line selected missed =
-    codes "rule " ++ (decimal line ++ (codes " selected " ++ (decimal selected ++ (codes " missed " ++ (decimal missed ++ codes "\n")))))
+    codes "rule " ++ (decimal line
+    ++ (codes " selected " ++ (decimal selected ++ (codes " missed " ++ (decimal missed ++ codes "\n")))))
 
 -- a count that is not met
 abbrev pub count_lines : ℕ → ℕ → List ℕ
@@ -23,8 +24,8 @@ count_lines line selected =
     codes "missed " ++ (decimal line ++ (codes " count " ++ (decimal selected ++ (codes "\nrule " ++ (decimal line
     ++ (codes " selected " ++ (decimal selected ++ codes " missed 1\n")))))))
 
--- the lines of a rule on the messages of a history: one for each message that misses it, or one for a count that is not met, and one
--- with its numbers
+-- the lines of a rule on the messages of a history: one for each message that misses it, or one for a count that is not
+-- met, and one with its numbers
 abbrev pub verdict_lines : Rule → List Heard → List ℕ
 verdict_lines rule history =
     if counts rule.check (length (selected rule history))

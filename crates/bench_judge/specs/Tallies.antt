@@ -1,5 +1,6 @@
 -- What a tally says of the messages that were passed.
-use Rattle.std.specs.Prelude.{◌≡◌, ℕ, nat_eq, Bool, not, ◌&&◌, List, ◌++◌, length, map, reverse, Option, Some, slice_get}
+use Rattle.std.specs.Prelude.{◌≡◌, ℕ, nat_eq, Bool, not, ◌&&◌, List, ◌++◌, length, map, reverse, Option, Some}
+use Rattle.std.specs.Prelude.{slice_get}
 use Rattle.std.specs.HashMap.{get}
 use Rattle.std.specs.List.{flat_map}
 use Rattle.std.specs.Io.KnownBytes.{Appends}
@@ -15,7 +16,8 @@ use Rattle.bench_judge.specs.Lines.{miss_line}
 -- for a rule of a period, the stamp of the newest selected message of each channel; the history stands newest first
 abbrev pub IsLatest : Rule → List Heard → Tally → Type 0
 IsLatest rule history tally =
-    (b : Bounds) → period_of rule.check ≡ Some b → (channel : ℕ) → get nat_eq tally.latest channel ≡ latest_stamp rule channel history
+    (b : Bounds) → period_of rule.check ≡ Some b → (channel : ℕ)
+    → get nat_eq tally.latest channel ≡ latest_stamp rule channel history
 
 -- how many messages were selected and missed so far
 pub record IsTally (rule : Rule) (history : List Heard) (tally : Tally) : Type 0 where
@@ -30,7 +32,8 @@ heard_on channel messages history = reverse (map (λ (m : Message). (channel, m)
 -- a tally for each rule, in their order
 pub record AreTallies (rules : List Rule) (history : List Heard) (tallies : List Tally) : Type 0 where
   pub many : length tallies ≡ length rules
-  pub each : (place : ℕ) (rule : Rule) (tally : Tally) → slice_get rules place ≡ Some rule → slice_get tallies place ≡ Some tally → IsTally rule history tally
+  pub each : (place : ℕ) (rule : Rule) (tally : Tally) → slice_get rules place ≡ Some rule
+      → slice_get tallies place ≡ Some tally → IsTally rule history tally
 
 -- the next message is selected and misses the rule
 abbrev pub misses_next : Rule → List Heard → Heard → Bool
@@ -41,6 +44,7 @@ abbrev pub miss_lines : Rule → List Heard → List ℕ
 miss_lines rule history = flat_map (miss_line rule.line) (misses rule history)
 
 -- the messages that missed the rule so far were written
-pub record IsWriting (rule : Rule) (got : Option (List ℕ)) (history : List Heard) (gets : Option (List ℕ)) (tally : Tally) : Type 0 where
+pub record IsWriting (rule : Rule) (got : Option (List ℕ)) (history : List Heard) (gets : Option (List ℕ))
+    (tally : Tally) : Type 0 where
   pub tallied : IsTally rule history tally
   pub written : Appends got gets (miss_lines rule history)

@@ -1,5 +1,6 @@
 -- What becomes of a rule (own choice): which messages of a recording it selects, and which of them miss it.
-use Rattle.std.specs.Prelude.{◌≡◌, ℕ, ◌+◌, ◌==◌, nat_lt, Bool, not, ◌&&◌, ◌||◌, if◌then◌else◌, List, [], ◌∷◌, length, map, reverse, Option, Some, None, slice_get}
+use Rattle.std.specs.Prelude.{◌≡◌, ℕ, ◌+◌, ◌==◌, nat_lt, Bool, not, ◌&&◌, ◌||◌, if◌then◌else◌, List, [], ◌∷◌, length}
+use Rattle.std.specs.Prelude.{map, reverse, Option, Some, None, slice_get}
 use Rattle.std.specs.List.{filter}
 use Rattle.ch11_f1.specs.BodyReading.{Message}
 use Rattle.judge_rules.specs.declared.rules.Rule.{Rule}
@@ -51,8 +52,8 @@ miss_of x = record { number = x.number; channel = x.channel; stamp = x.message.s
 abbrev pub misses : Rule → List Heard → List Miss
 misses rule history = reverse (map miss_of (missed rule history))
 
--- no message misses the rule, a count is met, and any other rule selects a message at least; so many are selected, and so many of
--- them miss the rule
+-- no message misses the rule, a count is met, and any other rule selects a message at least; so many are selected, and
+-- so many of them miss the rule
 abbrev pub is_held : Rule → ℕ → ℕ → Bool
 is_held rule selected missed = (missed == 0) && counts rule.check selected && (is_count rule.check || nat_lt 0 selected)
 
@@ -64,12 +65,14 @@ IsVerdictWith rule selected missed verdict =
 
 -- the verdict of a rule on the messages of a history
 abbrev pub IsVerdict : Rule → List Heard → Verdict → Type 0
-IsVerdict rule history verdict = IsVerdictWith rule (length (selected rule history)) (length (missed rule history)) verdict
+IsVerdict rule history verdict = IsVerdictWith rule (length (selected rule history))
+    (length (missed rule history)) verdict
 
 -- a verdict for each rule, in their order
 pub record AreVerdicts (rules : List Rule) (history : List Heard) (verdicts : List Verdict) : Type 0 where
   pub many : length verdicts ≡ length rules
-  pub each : (place : ℕ) (rule : Rule) (verdict : Verdict) → slice_get rules place ≡ Some rule → slice_get verdicts place ≡ Some verdict → IsVerdict rule history verdict
+  pub each : (place : ℕ) (rule : Rule) (verdict : Verdict) → slice_get rules place ≡ Some rule
+      → slice_get verdicts place ≡ Some verdict → IsVerdict rule history verdict
 
 -- how many of these verdicts are of rules that are not held
 abbrev pub not_held : List Verdict → ℕ

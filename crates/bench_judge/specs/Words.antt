@@ -1,5 +1,5 @@
--- Status words and data words of a recorded message (MIL-STD-1553B 4.3.3.6; IRIG 106-17 Chapter 11, MIL-STD-1553 bus data packets,
--- Format 1).
+-- Status words and data words of a recorded message (MIL-STD-1553B 4.3.3.6; IRIG 106-17 Chapter 11, MIL-STD-1553 bus
+-- data packets, Format 1).
 use Rattle.std.specs.Prelude.{ℕ, ◌+◌, ◌-◌, ◌==◌, Bool, nat_lt, if◌then◌else◌, List, [], ◌∷◌, ◌++◌, map}
 use Rattle.std.specs.List.{range_with_len}
 use Rattle.ch11_f1.specs.BodyReading.{Message}

@@ -133,8 +133,8 @@ pub(crate) fn is_count(check: &Check) -> bool
     matches!(check, Check::Count(_))
 }
 
-/// Whether a message meets a check, where the selected message before it in its channel, if there is one, had this stamp. Whether the
-/// message is clean is worked out at most once.
+/// Whether a message meets a check, where the selected message before it in its channel, if there is one, had this
+/// stamp. Whether the message is clean is worked out at most once.
 pub(crate) fn meets(
     check: &Check,
     before: Option<u64>,

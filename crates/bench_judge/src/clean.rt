@@ -83,7 +83,8 @@ fn message_with(number: u8, first: u16, second: u16, words: &[u16]) -> Option<Me
     Message::of_parts(number, first, second, words)
 }
 
-/// The message of one of the ten forms whose words a recorded message may have. Condition: at most 32 of its words are data words.
+/// The message of one of the ten forms whose words a recorded message may have. Condition: at most 32 of its words are
+/// data words.
 fn message_in(seen: &Seen<'_>, layout: &Layout) -> Option<Message>
     requires same { layout.now ≡ layout_of (message_of seen.now) }
     requires few { layout.now.data_end - layout.now.data_start ≤ 32 }
@@ -109,8 +110,8 @@ fn data_fit(message: &Message, count: usize, statuses: &[u16]) -> bool
     count == message.data_words().len() + due || count == 0 && 0 < due && sends_no_data(statuses)
 }
 
-/// Whether a message is as the standard has it: of one of the ten forms, with a mode code that the standard assigns, all replies in
-/// time and no word too many or too few (MIL-STD-1553B 4.3.3.6, with Notice 2).
+/// Whether a message is as the standard has it: of one of the ten forms, with a mode code that the standard assigns,
+/// all replies in time and no word too many or too few (MIL-STD-1553B 4.3.3.6, with Notice 2).
 #[tactic(auto, unfolding(crate::specs::Clean::clean))]
 pub fn is_clean(seen: &Seen<'_>) -> bool
     ensures { result ≡ spec.clean (message_of seen.now) }

@@ -106,9 +106,9 @@ fn write_rule<W: Write>(
     Ok(())
 }
 
-/// Writes the verdicts on these rules, which a text spells, for people: each rule by its own text, green where it is held and red
-/// where it is not, with the first three messages that miss it as `bench dump --decode` shows them; last how many rules
-/// there are and how many are not held. A fault is want of memory or the writer's.
+/// Writes the verdicts on these rules, which a text spells, for people: each rule by its own text, green where it is
+/// held and red where it is not, with the first three messages that miss it as `bench dump --decode` shows them; last
+/// how many rules there are and how many are not held. A fault is want of memory or the writer's.
 pub fn write_colored<W: Write>(
     alloc: Global,
     index: &Index<'_>,

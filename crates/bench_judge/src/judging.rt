@@ -19,9 +19,10 @@ const STAMPS: usize = 65536;
 /// The greatest number of channels.
 const CHANNELS: usize = 65536;
 
-/// The verdict of each rule on the messages of a recording, in the order of the rules. All rules share one pass over the
-/// recording, in which it is worked out at most once whether a message is clean; but where there are more rules than 65,536 by
-/// the number of channels, only as many as that share one, so that what is kept does not grow with rules times channels.
+/// The verdict of each rule on the messages of a recording, in the order of the rules. All rules share one pass over
+/// the recording, in which it is worked out at most once whether a message is clean; but where there are more rules
+/// than 65,536 by the number of channels, only as many as that share one, so that what is kept does not grow with rules
+/// times channels.
 pub fn judge(alloc: Global, index: &Index<'_>, rules: &[Rule]) -> Result<Vec<Verdict>, AllocError>
     ensures { IfOk result (λ verdicts. AreVerdicts rules.now (reverse (heard_in index.now)) verdicts.items) }
 {
@@ -164,7 +165,8 @@ fn verdicts_of(
     tallies: Vec<Tally>,
 ) -> Result<Vec<Verdict>, AllocError>
     requires { length tallies.items ≡ length rules.now }
-    ensures { (history : List Heard) → AreTallies rules.now history tallies.items → IfOk result (λ verdicts. AreVerdicts rules.now history verdicts.items) }
+    ensures { (history : List Heard) → AreTallies rules.now history tallies.items
+        → IfOk result (λ verdicts. AreVerdicts rules.now history verdicts.items) }
 {
     let mut verdicts = Vec::with_capacity(alloc, tallies.len())?;
     let mut rest = tallies.into_iter();

@@ -103,8 +103,9 @@ fn put_case(
     text.extend_from_slice(b"</failure>\n  </testcase>\n")
 }
 
-/// A JUnit file of the verdicts on these rules, which a text spells: a test case a rule, in their order, named by the line of the
-/// rule. Of a rule that is not held it has up to 100 of the messages that miss it, which are looked for in the recording.
+/// A JUnit file of the verdicts on these rules, which a text spells: a test case a rule, in their order, named by the
+/// line of the rule. Of a rule that is not held it has up to 100 of the messages that miss it, which are looked for in
+/// the recording.
 pub fn junit_text(
     alloc: Global,
     index: &Index<'_>,

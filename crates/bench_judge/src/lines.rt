@@ -42,7 +42,8 @@ fn write_message<W: Write>(
 ) -> Result<(), PrintFault>
     ensures { (history : List Heard) → (got : Option (List ℕ))
         → IsWriting rule.now got history (W.contents out.old) tally.old → number ≡ length history + 1
-        → OnOk result (IsWriting rule.now got ((channel, message_of seen.now) ∷ history) (W.contents out.new) tally.new) }
+        → OnOk result (IsWriting rule.now got ((channel, message_of seen.now) ∷ history)
+        (W.contents out.new) tally.new) }
 {
     let mut known = None;
     if tally.note(rule, channel, seen, &mut known)? {
@@ -69,7 +70,8 @@ fn write_messages<W: Write>(
     requires { before + length messages < 2 ^ 64 }
     ensures { (history : List Heard) → (got : Option (List ℕ))
         → IsWriting rule.now got history (W.contents out.old) tally.old → before ≡ length history
-        → OnOk result (IsWriting rule.now got (heard_on channel messages.entry history) (W.contents out.new) tally.new) }
+        → OnOk result (IsWriting rule.now got (heard_on channel messages.entry history)
+        (W.contents out.new) tally.new) }
 {
     let mut number = before;
     let mut rest = messages;
@@ -80,8 +82,8 @@ fn write_messages<W: Write>(
     Ok(())
 }
 
-/// Writes the messages of a recording that miss a rule, each as a line, in one pass over the recording; so many miss it, and
-/// where none does there is no pass.
+/// Writes the messages of a recording that miss a rule, each as a line, in one pass over the recording; so many miss
+/// it, and where none does there is no pass.
 fn write_misses<W: Write>(
     alloc: Global,
     index: &Index<'_>,
@@ -177,10 +179,11 @@ fn write_last<W: Write>(out: &mut W, verdicts: &[Verdict]) -> io::Result<()>
     write!(out, "rules {rules} missed {missed}\n")
 }
 
-/// Judges a recording by rules and writes the verdicts as plain lines, rule by rule: a line for each message that misses the
-/// rule, or one for a count that is not met, and a line with its numbers; last how many rules there are and how many of
-/// them are not held. The misses of a rule are looked for once more when it is written, and none is kept; so it takes memory
-/// for the rules and, where one asks for a period, for the channels alone. A fault is want of memory or the writer's.
+/// Judges a recording by rules and writes the verdicts as plain lines, rule by rule: a line for each message that
+/// misses the rule, or one for a count that is not met, and a line with its numbers; last how many rules there are and
+/// how many of them are not held. The misses of a rule are looked for once more when it is written, and none is kept;
+/// so it takes memory for the rules and, where one asks for a period, for the channels alone. A fault is want of memory
+/// or the writer's.
 pub fn write_verdicts<W: Write>(
     alloc: Global,
     index: &Index<'_>,

@@ -14,8 +14,8 @@ use judge_rules::{Check, Rule};
 use std::alloc::{AllocError, Global};
 use std::collections::HashMap;
 
-/// How many messages a rule selects so far, how many of them miss it, and for a rule of a period the stamp of the newest
-/// selected message of each channel.
+/// How many messages a rule selects so far, how many of them miss it, and for a rule of a period the stamp of the
+/// newest selected message of each channel.
 #[derive(Drop)]
 pub(crate) struct Tally {
     pub(crate) selected: u64,
@@ -35,7 +35,8 @@ impl Tally {
         }
     }
 
-    /// Whether a selected message meets a check. For a check of a period its stamp is the newest of its channel from now on.
+    /// Whether a selected message meets a check. For a check of a period its stamp is the newest of its channel from
+    /// now on.
     fn meets(
         &mut self,
         check: &Check,
@@ -47,8 +48,12 @@ impl Tally {
         ensures known { IsKnown known.new (message_of seen.now) }
         ensures selected { self.new.selected ≡ self.old.selected }
         ensures missed { self.new.missed ≡ self.old.missed }
-        ensures met { (rule : Rule) → (history : List Heard) → rule.check ≡ check.now → IsLatest rule history self.old → IfOk result (λ met. met ≡ spec_meets check.now (latest_stamp rule channel history) (message_of seen.now)) }
-        ensures latest { (rule : Rule) → (history : List Heard) → rule.check ≡ check.now → selects_message rule channel (message_of seen.now) ≡ true → IsLatest rule history self.old → OnOk result (IsLatest rule ((channel, message_of seen.now) ∷ history) self.new) }
+        ensures met { (rule : Rule) → (history : List Heard) → rule.check ≡ check.now → IsLatest rule history self.old
+            → IfOk result (λ met. met
+            ≡ spec_meets check.now (latest_stamp rule channel history) (message_of seen.now)) }
+        ensures latest { (rule : Rule) → (history : List Heard) → rule.check ≡ check.now
+            → selects_message rule channel (message_of seen.now) ≡ true → IsLatest rule history self.old
+            → OnOk result (IsLatest rule ((channel, message_of seen.now) ∷ history) self.new) }
     {
         match period_of(check) {
             Some(bounds) => {

@@ -27,7 +27,8 @@ pub struct Verdict {
     pub missed: u64,
     /// Whether it asks for another count of messages.
     pub miscounted: bool,
-    /// Whether it is held: no selected message misses it, a count is met, and any other rule selects a message at least.
+    /// Whether it is held: no selected message misses it, a count is met, and any other rule selects a message at
+    /// least.
     pub held: bool,
 }
 

@@ -1,5 +1,6 @@
 -- Lines that are posted while a run goes on (own choice): each once, in their order and to its channel, or told.
-use Rattle.std.specs.Prelude.{◌≡◌, ℕ, ◌^◌, ◌≤◌, ◌==◌, Bool, true, false, List, [], ◌∷◌, ◌++◌, length, map, slice_get, Option, None, Some, IfSome, Result, Ok, Err, ⊤}
+use Rattle.std.specs.Prelude.{◌≡◌, ℕ, ◌^◌, ◌≤◌, ◌==◌, Bool, true, false, List, [], ◌∷◌, ◌++◌, length, map, slice_get}
+use Rattle.std.specs.Prelude.{Option, None, Some, IfSome, Result, Ok, Err, ⊤}
 use Rattle.std.specs.List.{filter, position_or_len, AllByRecursion}
 use Rattle.mil_trunk.specs.Tags.{has, bound_of}
 use Rattle.mil_host.specs.Words.{Text}
@@ -30,7 +31,8 @@ pub record AreHandsOf (desk : Desk) (hands : List Hand) : Type 0 where
   pub channels : length desk.channels.items ≡ length desk.boxes.items
   pub ended : length desk.ended.items ≡ length desk.boxes.items
   pub as_many : length hands ≡ length desk.boxes.items
-  pub each : (k : ℕ) (box : Mailbox) (h : Hand) → slice_get desk.boxes.items k ≡ Some box → slice_get hands k ≡ Some h → IsHandOf box h
+  pub each : (k : ℕ) (box : Mailbox) (h : Hand) → slice_get desk.boxes.items k ≡ Some box → slice_get hands k ≡ Some h
+      → IsHandOf box h
 
 -- nothing was posted yet
 abbrev pub AreFresh : List Hand → Type 0
@@ -64,7 +66,8 @@ pub record HavePosted (desk : Desk) (posts : List LivePost) (before after : List
   pub each : (k : ℕ) (h h' : Hand) → slice_get before k ≡ Some h → slice_get after k ≡ Some h'
       → posted h'.poster ≡ posted h.poster ++ posts_for desk.channels.items k posts
 
--- why an action is not posted to a channel: there is no terminal, or so many were posted; nothing is said of when a script ended
+-- why an action is not posted to a channel: there is no terminal, or so many were posted; nothing is said of when a
+-- script ended
 abbrev pub IsRefusal : Mailbox → Hand → LivePost → PostFault → Type 0
 IsRefusal box h post (fault.Line bad) = ⊥
 IsRefusal box h post (fault.NoChannel channel) = ⊥
@@ -80,10 +83,13 @@ LeavesHand box old new post f = (posted new.poster ≡ posted old.poster) × IsR
 abbrev pub IsFaultAt : Desk → List Hand → LivePost → PostFault → Type 0
 IsFaultAt desk hands post (fault.Line bad) = ⊥
 IsFaultAt desk hands post (fault.NoChannel channel) =
-    (channel ≡ post.channel) × (position_or_len (is_channel post.channel) desk.channels.items ≡ length desk.channels.items)
+    (channel ≡ post.channel) × (position_or_len (is_channel post.channel) desk.channels.items
+    ≡ length desk.channels.items)
 IsFaultAt desk hands post f =
-    (box : Mailbox) × (h : Hand) × (slice_get desk.boxes.items (position_or_len (is_channel post.channel) desk.channels.items) ≡ Some box)
-    × (slice_get hands (position_or_len (is_channel post.channel) desk.channels.items) ≡ Some h) × IsRefusal box h post f
+    (box : Mailbox) × (h : Hand) ×
+    (slice_get desk.boxes.items (position_or_len (is_channel post.channel) desk.channels.items) ≡ Some box)
+    × (slice_get hands (position_or_len (is_channel post.channel) desk.channels.items) ≡ Some h)
+    × IsRefusal box h post f
 
 -- the fault of a line
 abbrev pub IsFault : Desk → List Hand → Text → PostFault → Type 0
@@ -92,7 +98,8 @@ IsFault desk hands line f = (post : LivePost) × (post_of line ≡ Ok post) × I
 
 -- a line was posted, or has a fault and was not
 abbrev pub IsLineDone : Desk → Text → List Hand → List Hand → Result ⊤ PostFault → Type 0
-IsLineDone desk line before after (Ok done) = (post : LivePost) × (post_of line ≡ Ok post) × HavePosted desk (post ∷ []) before after
+IsLineDone desk line before after (Ok done) = (post : LivePost) × (post_of line ≡ Ok post)
+    × HavePosted desk (post ∷ []) before after
 IsLineDone desk line before after (Err f) = HavePosted desk [] before after × IsFault desk before line f
 
 -- the lines ask for these posts
@@ -101,7 +108,8 @@ AskFor lines posts = map post_of lines ≡ map (λ (p : LivePost). Ok p) posts
 
 -- where the bytes of the input are known, these lines were read, and the rest is left
 abbrev pub AreRead : Option (List ℕ) → Option (List ℕ) → List Text → Type 0
-AreRead left leaves lines = IfSome left (λ text. (rest : List ℕ) × (leaves ≡ Some rest) × (text_lines text ≡ lines ++ text_lines rest))
+AreRead left leaves lines = IfSome left
+    (λ text. (rest : List ℕ) × (leaves ≡ Some rest) × (text_lines text ≡ lines ++ text_lines rest))
 
 -- lines were read and posted
 pub record HaveGone (desk : Desk) (left leaves : Option (List ℕ)) (before after : List Hand) : Type 0 where
@@ -117,4 +125,5 @@ IsCallDone desk left leaves before after None =
     HaveGone desk left leaves before after × IfSome left (λ text. leaves ≡ Some [])
 IsCallDone desk left leaves before after (Some told) =
     (mid : List Hand) × (then : Option (List ℕ)) × (line : Text)
-    × HaveGone desk left then before mid × AreRead then leaves (line ∷ []) × IsFault desk mid line told.fault × HavePosted desk [] mid after
+    × HaveGone desk left then before mid × AreRead then leaves (line ∷ []) × IsFault desk mid line told.fault
+    × HavePosted desk [] mid after

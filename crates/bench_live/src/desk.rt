@@ -59,8 +59,8 @@ impl Desk {
     }
 }
 
-/// A desk for the jobs, with a mailbox of 4096 posts for each, the hands that post into them, and the inboxes. It fails for want of
-/// memory alone.
+/// A desk for the jobs, with a mailbox of 4096 posts for each, the hands that post into them, and the inboxes. It fails
+/// for want of memory alone.
 pub fn open_desk(alloc: Global, jobs: &[Job]) -> Result<(Desk, Vec<Hand>, Vec<Inbox>), AllocError>
     ensures { IfOk result (λ r. IsOpened r.0 r.1.items r.2.items) }
 {

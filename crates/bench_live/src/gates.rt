@@ -1,4 +1,5 @@
-//! What a run passes on its way: bus time at a pace of real time, a word on which scripts have ended, and messages that are shown.
+//! What a run passes on its way: bus time at a pace of real time, a word on which scripts have ended, and messages that
+//! are shown.
 use crate::desk::Desk;
 use crate::pace::Pace;
 use crate::show::Show;
@@ -8,7 +9,8 @@ use std::rt::Clock;
 use std::sync::Wait;
 use std::time::Duration;
 
-/// A gate of a run that a person watches or drives. It stands around another gate, which is called at each point as well.
+/// A gate of a run that a person watches or drives. It stands around another gate, which is called at each point as
+/// well.
 #[derive(Drop)]
 pub struct SessionGate<'a, G, C, R> {
     gate: &'a G,
@@ -23,9 +25,9 @@ pub struct SessionGate<'a, G, C, R> {
 }
 
 impl<'a, G, C: Clock, R> SessionGate<'a, G, C, R> {
-    /// The gate of a run that begins now. With a pace it holds a channel before each message until real time has come to the tick at
-    /// which that message may start; where the clock can't be read it holds nothing. A desk is told which scripts have ended, and
-    /// each message that the writer took is handed to what shows it.
+    /// The gate of a run that begins now. With a pace it holds a channel before each message until real time has come
+    /// to the tick at which that message may start; where the clock can't be read it holds nothing. A desk is told
+    /// which scripts have ended, and each message that the writer took is handed to what shows it.
     pub fn around(
         gate: &'a G,
         clock: &'a C,

@@ -1,5 +1,5 @@
-//! A run that a person or a shell drives: lines of actions posted while it goes on, bus time at a pace of real time, and messages that
-//! are shown as they are recorded. Its tests are in `live_tests`.
+//! A run that a person or a shell drives: lines of actions posted while it goes on, bus time at a pace of real time,
+//! and messages that are shown as they are recorded. Its tests are in `live_tests`.
 #![tactic(auto)]
 
 mod desk;

@@ -33,15 +33,15 @@ pub struct Manner {
 }
 
 impl Manner {
-    /// How many items may be on their way to the writer: as many as the queue holds, or more than a run has where messages may be
-    /// refused.
+    /// How many items may be on their way to the writer: as many as the queue holds, or more than a run has where
+    /// messages may be refused.
     fn most(self, settings: &Settings) -> u32 {
         if self.drops { u32::MAX } else { settings.queue }
     }
 }
 
-/// Runs the jobs as `run` does, in a manner; how far the recording has come is shown as by `Progress`, and its messages where there is
-/// something that shows them. It answers and refuses as `run` does.
+/// Runs the jobs as `run` does, in a manner; how far the recording has come is shown as by `Progress`, and its messages
+/// where there is something that shows them. It answers and refuses as `run` does.
 pub fn record_paced<
     's,
     R: Threads + Wait + Clock + Sync,
@@ -71,8 +71,8 @@ pub fn record_paced<
     answer
 }
 
-/// Starts a thread that posts what the lines of an input ask for, and lets it go: the end of a run does not wait for it, and where
-/// the input stays open the process ends without it. It fails where memory or the thread is refused.
+/// Starts a thread that posts what the lines of an input ask for, and lets it go: the end of a run does not wait for
+/// it, and where the input stays open the process ends without it. It fails where memory or the thread is refused.
 pub fn start_host<
     R: Threads + Wait + Clock + Clone + Drop + Send + Sync + 'static,
     E: Eprint + Clone + Drop + Send + 'static,
@@ -102,8 +102,8 @@ pub fn start_host<
     }
 }
 
-/// Runs the jobs as `run_live` does with the mailboxes of a desk, in a manner; the desk is told which scripts have ended. It answers
-/// and refuses as `run_live` does.
+/// Runs the jobs as `run_live` does with the mailboxes of a desk, in a manner; the desk is told which scripts have
+/// ended. It answers and refuses as `run_live` does.
 pub fn record_live<
     's,
     R: Threads + Wait + Clock + Sync,
@@ -123,11 +123,14 @@ pub fn record_live<
 ) -> Result<(Report, Vec<Inbox>, S), LiveError<S>>
     requires countable { S.failures sink < 2 ^ 64 - 1 }
     requires ends { AreInboxesOf desk.now.boxes.items inboxes.items }
-    ensures lawful { OnOk result (AreLawful jobs.now settings.now × HaveMail jobs.now desk.now.boxes.items inboxes.items) }
-    ensures ran { IfOk result (λ r. RanLive S.taken settings.now.posts jobs.now settings.now inboxes.items sink r.0 r.1.items r.2) }
+    ensures lawful { OnOk result (AreLawful jobs.now settings.now
+        × HaveMail jobs.now desk.now.boxes.items inboxes.items) }
+    ensures ran { IfOk result (λ r. RanLive S.taken settings.now.posts jobs.now settings.now inboxes.items sink r.0
+        r.1.items r.2) }
     ensures ends { IfOk result (λ r. AreInboxesOf desk.now.boxes.items r.1.items) }
     ensures room { IfOk result (λ r. RefusesNoneWithRoom jobs.now settings.now r.0) }
-    ensures refused { IfErr result (λ e. LeavesLive S.taken S.failures settings.now.posts jobs.now settings.now desk.now.boxes.items
+    ensures refused { IfErr result
+        (λ e. LeavesLive S.taken S.failures settings.now.posts jobs.now settings.now desk.now.boxes.items
         inboxes.items sink e.fault e.inboxes.items) }
     ensures back { IfErr result (λ e. AreInboxesOf desk.now.boxes.items e.inboxes.items) }
 {

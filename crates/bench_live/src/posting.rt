@@ -3,7 +3,8 @@ ghost use Rattle.std.specs.Prelude.{◌≡◌, ◌≤◌, ◌∷◌, ◌++◌, [
 ghost use Rattle.std.specs.List.{before_first, position_or_len};
 ghost use Rattle.bench_report.specs.Spelling.{is_line_end};
 ghost use Rattle.bench_run.specs.Mail.{posted};
-ghost use Rattle.bench_live.specs.Posting.{IsHandOf, AreHandsOf, as_post, is_channel, LeavesHand, IsLineDone, IsCallDone};
+ghost use Rattle.bench_live.specs.Posting.{IsHandOf, AreHandsOf, as_post, is_channel, LeavesHand, IsLineDone};
+ghost use Rattle.bench_live.specs.Posting.{IsCallDone};
 
 use crate::desk::{Desk, Hand};
 use crate::line::{LivePost, read_post};
@@ -148,9 +149,9 @@ fn without_end(line: &[u8]) -> &[u8]
     front
 }
 
-/// Reads lines and posts what they ask for, each once and in their order, up to the end of the input or to the first line that is not
-/// posted, which is answered with its fault. `number` counts the lines. A last line needs no LF. Fault: the reader's, or want of
-/// memory for a line, behind the lines that were posted.
+/// Reads lines and posts what they ask for, each once and in their order, up to the end of the input or to the first
+/// line that is not posted, which is answered with its fault. `number` counts the lines. A last line needs no LF.
+/// Fault: the reader's, or want of memory for a line, behind the lines that were posted.
 pub fn next_fault<R: Wait + Clock, B: BufRead>(
     rt: &R,
     alloc: Global,
@@ -161,7 +162,8 @@ pub fn next_fault<R: Wait + Clock, B: BufRead>(
 ) -> io::Result<Option<Told>>
     requires hands { AreHandsOf desk.now hands.old.items }
     ensures hands { AreHandsOf desk.now hands.new.items }
-    ensures done { IfOk result (IsCallDone desk.now (B.remaining input.old) (B.remaining input.new) hands.old.items hands.new.items) }
+    ensures done { IfOk result (IsCallDone desk.now (B.remaining input.old)
+        (B.remaining input.new) hands.old.items hands.new.items) }
 {
     let mut line = Vec::new(alloc);
     'lines: for _ in rt.forever() {

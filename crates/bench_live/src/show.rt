@@ -49,8 +49,8 @@ impl Waiting {
     }
 }
 
-/// What the writer of a run shares with the thread that shows its messages. Where that thread is slow messages find no room and are
-/// not shown; the writer waits for nothing.
+/// What the writer of a run shares with the thread that shows its messages. Where that thread is slow messages find no
+/// room and are not shown; the writer waits for nothing.
 #[derive(Drop)]
 pub struct Show {
     queue: ArrayQueue<Waiting>,
@@ -110,8 +110,8 @@ fn write_waiting<W: Write>(line: &mut Line, out: &mut W, waiting: &Waiting) -> i
     Ok(())
 }
 
-/// Writes the names of the columns and then each message as it comes, a line each, until no message follows; whenever none waits
-/// what was written is flushed. A fault is the writer's.
+/// Writes the names of the columns and then each message as it comes, a line each, until no message follows; whenever
+/// none waits what was written is flushed. A fault is the writer's.
 pub fn show_all<R: Wait + Clock, W: Write>(
     rt: &R,
     show: &Show,
@@ -169,8 +169,8 @@ impl Showing {
         &self.show
     }
 
-    /// Waits until the messages that wait are shown, and answers how many were not since they had found no room; nothing where the
-    /// standard output took no more.
+    /// Waits until the messages that wait are shown, and answers how many were not since they had found no room;
+    /// nothing where the standard output took no more.
     pub fn end<R: Threads>(self, rt: &R) -> Option<u64> {
         let Showing { show, thread } = self;
         show.end();

@@ -7,8 +7,8 @@ ghost use Rattle.bench_one.specs.Lines.{lines_of, digit_of, behind};
 use std::io;
 use std::io::Write;
 
-/// Writes the bytes as pairs of upper-case hexadecimal digits, sixteen a line with a space between (own choice). A fault is
-/// the writer's.
+/// Writes the bytes as pairs of upper-case hexadecimal digits, sixteen a line with a space between (own choice). A
+/// fault is the writer's.
 pub fn print_bytes<W: Write>(out: &mut W, bytes: &[u8]) -> io::Result<()>
     ensures written { OnOk result (Appends (W.contents out.old) (W.contents out.new) (lines_of bytes.now)) }
 {

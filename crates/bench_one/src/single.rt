@@ -15,8 +15,8 @@ use mil_monitor::{Record, observe};
 use mil_word::Line;
 use std::alloc::{AllocError, Global};
 
-/// The packet of the message that the text spells, as in `A rx 5 1 [0001]`, run on fresh terminals at the addresses that it
-/// names, at tick 0. A text that spells none is refused with its first fault (S1 to S5); then memory.
+/// The packet of the message that the text spells, as in `A rx 5 1 [0001]`, run on fresh terminals at the addresses
+/// that it names, at tick 0. A text that spells none is refused with its first fault (S1 to S5); then memory.
 pub fn one(alloc: Global, channel: u16, version: u8, text: &[u8]) -> Result<Vec<u8>, OneFault>
     ensures packet { IfOk result (λ bytes. packet_of_text channel version text.now ≡ Ok bytes.items) }
     ensures refused { IfErr result (IsRefusal (packet_of_text channel version text.now)) }

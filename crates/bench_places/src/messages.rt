@@ -8,7 +8,8 @@ use ch11_f1::{Messages, Seen};
 use ch11_reader::Index;
 use std::marker::Model;
 
-/// The messages of a recording that are still to come, each with its channel, in the file's order. It ends after the last one.
+/// The messages of a recording that are still to come, each with its channel, in the file's order. It ends after the
+/// last one.
 #[derive(Drop)]
 pub(crate) struct Following<'a, 'i> {
     index: &'i Index<'a>,

@@ -1,7 +1,8 @@
 //! The places of messages.
 ghost use Rattle.std.specs.Prelude.{◌≡◌, ◌≤◌, ◌<◌, ◌+◌, ◌^◌, ◌∷◌, [], drop, length, MatchOption, Some, if◌then◌else◌};
 ghost use Rattle.ch11_f1.specs.Views.{message_of};
-ghost use Rattle.bench_places.specs.Places.{count_of, count_to, latest_of, meets, numbered, place_before, place_of, places_behind};
+ghost use Rattle.bench_places.specs.Places.{count_of, count_to, latest_of, meets, numbered, place_before, place_of};
+ghost use Rattle.bench_places.specs.Places.{places_behind};
 
 use crate::messages::Following;
 use crate::sought::Sought;
@@ -44,8 +45,8 @@ fn nth_behind(messages: Following<'_, '_>, sought: &Sought, before: u64, n: u64)
     None
 }
 
-/// The place of the message of a number, counted from 1, among those past a place that meet what is asked of them; `None`
-/// where there are fewer. The messages are walked from the first one on.
+/// The place of the message of a number, counted from 1, among those past a place that meet what is asked of them;
+/// `None` where there are fewer. The messages are walked from the first one on.
 #[tactic(auto, using(crate::proofs::Packets::few_left, crate::proofs::Packets::none_past))]
 pub fn nth_place(index: &Index<'_>, sought: &Sought, from: u64, n: u64) -> Option<u64>
     ensures { result ≡ place_of sought.now from n index.now }

@@ -161,7 +161,8 @@ impl Kind {
             Kind::Period => "a period is 100 to 6553500 us, in hundreds of them",
             Kind::DataWord => "a data word has exactly four hexadecimal digits, as 00FF",
             Kind::StatusBit => {
-                "the bits are message_error, instrumentation, service_request, broadcast, busy, subsystem, control, terminal"
+                "the bits are message_error, instrumentation, service_request, broadcast, busy, subsystem, control, \
+                 terminal"
             }
             Kind::NewName => "a definition has a name of its own, as in define poll { .. }",
             Kind::Name => "a call names a frame that is defined above it, as in call poll",

@@ -49,7 +49,8 @@ impl Reply {
         }
         if first == b"unknown\n".as_slice() {
             return Some(
-                "the lines are forward, back, go, find, find back, state, data, show, help and quit; help says what stands behind each",
+                "the lines are forward, back, go, find, find back, state, data, show, help and quit; help says what \
+                 stands behind each",
             );
         }
         None

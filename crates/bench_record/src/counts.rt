@@ -12,8 +12,8 @@ use std::{fmt, io};
 pub struct Counts {
     /// How many packets were written behind the prologue.
     pub packets: u64,
-    /// How many messages of all channels together are in them: those that were made, but for those that a full queue refused.
-    /// At most 2^64 - 1; a run makes 32,000,000 at most.
+    /// How many messages of all channels together are in them: those that were made, but for those that a full queue
+    /// refused. At most 2^64 - 1; a run makes 32,000,000 at most.
     pub messages: u64,
 }
 
@@ -55,7 +55,8 @@ impl fmt::Display for Counts {
 
 /// Writes the counts as a line. A fault is the writer's.
 pub fn print_counts<W: Write>(out: &mut W, counts: &Counts) -> io::Result<()>
-    ensures written { OnOk result (Appends (W.contents out.old) (W.contents out.new) (counts_line counts.now.packets counts.now.messages ++ 10 ∷ [])) }
+    ensures written { OnOk result (Appends (W.contents out.old) (W.contents out.new)
+        (counts_line counts.now.packets counts.now.messages ++ 10 ∷ [])) }
 {
     writeln!(out, "{counts}")
 }

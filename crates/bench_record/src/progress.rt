@@ -14,8 +14,8 @@ const PAUSE: u64 = 200;
 /// After so many messages the clock is looked at.
 const STRIDE: u64 = 2048;
 
-/// A gate that holds nothing, and shows how many messages the writer has taken: one line that is written again and again once
-/// the recording has taken two seconds, and only where the errors go to a terminal and there is a clock.
+/// A gate that holds nothing, and shows how many messages the writer has taken: one line that is written again and
+/// again once the recording has taken two seconds, and only where the errors go to a terminal and there is a clock.
 #[derive(Drop)]
 pub struct Progress<'a, C, E> {
     clock: &'a C,

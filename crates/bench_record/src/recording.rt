@@ -15,10 +15,11 @@ use std::rt::Clock;
 use std::sync::Wait;
 use std::thread::Threads;
 
-/// Runs the jobs, each on a thread of its own, while the calling thread writes their messages into one recording; the queue
-/// alone orders the threads. In order: U2 where there are not 1 to 32 jobs or a setting is out of its range, U1 where a channel
-/// stands twice, U5 where the prologue is no list of sound packets or has one of MIL-STD-1553 messages, U3 where memory or a
-/// thread is refused, U4 where the sink fails. Each hands the sink back; U2, U1 and U5 put nothing into it.
+/// Runs the jobs, each on a thread of its own, while the calling thread writes their messages into one recording; the
+/// queue alone orders the threads. In order: U2 where there are not 1 to 32 jobs or a setting is out of its range, U1
+/// where a channel stands twice, U5 where the prologue is no list of sound packets or has one of MIL-STD-1553 messages,
+/// U3 where memory or a thread is refused, U4 where the sink fails. Each hands the sink back; U2, U1 and U5 put nothing
+/// into it.
 pub fn record_jobs<R: Threads + Wait + Sync, S: Sink + Drop>(
     rt: &R,
     alloc: Global,
@@ -35,8 +36,8 @@ pub fn record_jobs<R: Threads + Wait + Sync, S: Sink + Drop>(
     run(rt, alloc, jobs, settings, &OpenGate, sink)
 }
 
-/// The same, and where these errors go to a terminal and the run takes more than two seconds, a line there says how many messages
-/// the writer has taken. It answers and refuses as `record_jobs` does.
+/// The same, and where these errors go to a terminal and the run takes more than two seconds, a line there says how
+/// many messages the writer has taken. It answers and refuses as `record_jobs` does.
 pub fn record_jobs_with_progress<
     R: Threads + Wait + Clock + Sync,
     E: Eprint + IsTerminal + Sync,
@@ -61,8 +62,8 @@ pub fn record_jobs_with_progress<
     answer
 }
 
-/// The same as `record_jobs_with_progress`, with buses that are held: before each message a channel waits until the queue has room
-/// for it, so that no message is refused. It answers and refuses as `record_jobs` does.
+/// The same as `record_jobs_with_progress`, with buses that are held: before each message a channel waits until the
+/// queue has room for it, so that no message is refused. It answers and refuses as `record_jobs` does.
 pub fn record_jobs_held<
     R: Threads + Wait + Clock + Sync,
     E: Eprint + IsTerminal + Sync,

@@ -1,5 +1,6 @@
 -- A report as far as its lines have come, and one more line (inside the crate).
-use Rattle.std.specs.Prelude.{◌≡◌, ℕ, ◌≤◌, Bool, true, false, ◌&&◌, nat_le, nat_lt, if◌then◌else◌, List, [], ◌∷◌, ◌++◌, map, Option, Some, None, IsSome, Result, Ok, Err}
+use Rattle.std.specs.Prelude.{◌≡◌, ℕ, ◌≤◌, Bool, true, false, ◌&&◌, nat_le, nat_lt, if◌then◌else◌, List, [], ◌∷◌, ◌++◌}
+use Rattle.std.specs.Prelude.{map, Option, Some, None, IsSome, Result, Ok, Err}
 use Rattle.bc_machine.specs.declared.placed.Placed.{Placed}
 use Rattle.mil_host.specs.Words.{Text, words}
 use Rattle.bench_report.specs.Reports.{ChannelPart, RunReport}
@@ -43,12 +44,14 @@ numbers placed = map (λ (p : Placed). p.number) placed
 abbrev pub with_refused : ChannelPart → ℕ → Option ChannelPart
 with_refused p n =
     if is_none_yet p.placed && (nat_lt (last_number 0 p.refused) n && nat_le n p.made)
-    then Some (record { channel = p.channel; made = p.made; refused = p.refused ++ n ∷ []; placed = p.placed }) else None
+    then Some (record { channel = p.channel; made = p.made; refused = p.refused ++ n ∷ []; placed = p.placed })
+    else None
 
 abbrev pub with_placed : ChannelPart → Placed → Option ChannelPart
 with_placed p x =
     if nat_le (last_number 0 (numbers p.placed)) x.number
-    then Some (record { channel = p.channel; made = p.made; refused = p.refused; placed = p.placed ++ x ∷ [] }) else None
+    then Some (record { channel = p.channel; made = p.made; refused = p.refused; placed = p.placed ++ x ∷ [] })
+    else None
 
 abbrev pub in_body : List ChannelPart → Option ChannelPart → Option Draft
 in_body done None = None
@@ -67,7 +70,8 @@ at_stage (Some done) stage = Some (record { done = done; stage = stage })
 
 abbrev pub made_line : List ChannelPart → Stage → ℕ → Option Draft
 made_line done Begin n = None
-made_line done (Named channel) n = Some (record { done = done; stage = Body (record { channel = channel; made = n; refused = []; placed = [] }) })
+made_line done (Named channel) n = Some
+    (record { done = done; stage = Body (record { channel = channel; made = n; refused = []; placed = [] }) })
 made_line done (Body p) n = None
 made_line done (End packets) n = None
 
@@ -125,7 +129,8 @@ IsRefusal fault.Number = Unit {0}
 IsRefusal fault.Order = Unit {0}
 IsRefusal fault.Memory = ⊥
 
--- what a call answers that takes something in: the new value; or that it has no place, or that it has one and memory was refused
+-- what a call answers that takes something in: the new value; or that it has no place, or that it has one and memory
+-- was refused
 abbrev pub Takes : {X U : Type 0} → Result U ReportFault → Option X → X → Type 0
 Takes (Ok u) after new = after ≡ Some new
 Takes (Err fault.Word) after new = ⊥

@@ -1,5 +1,7 @@
--- The first fault of a report's text (own choice): its lines in their order, and in a line its words, then its numbers, then its place.
-use Rattle.std.specs.Prelude.{◌≡◌, ℕ, ◌+◌, Bool, true, false, if◌then◌else◌, List, [], ◌∷◌, ◌++◌, map, length, Some, None, Ok, Err, Result, All, codes}
+-- The first fault of a report's text (own choice): its lines in their order, and in a line its words, then its numbers,
+-- then its place.
+use Rattle.std.specs.Prelude.{◌≡◌, ℕ, ◌+◌, Bool, true, false, if◌then◌else◌, List, [], ◌∷◌, ◌++◌, map, length, Some}
+use Rattle.std.specs.Prelude.{None, Ok, Err, Result, All, codes}
 use Rattle.std.specs.Str.{bytes_eq}
 use Rattle.mil_host.specs.Words.{Text, words}
 use Rattle.mil_host.specs.Reading.{in_words}
@@ -66,8 +68,9 @@ pub record HasNoPlace (before : List Line) (text : Text) : Type 0 where
   pub says : said text ≡ Some line
   pub begins_not : Begin (before ++ line ∷ []) → ⊥
 
--- what is at fault where these lines were read, and these are still to come: X1 the words of the next, X2 a number of it, X3 its place,
--- or that no line is left where the last is missing; memory may be refused only at a line without a fault
+-- what is at fault where these lines were read, and these are still to come: X1 the words of the next, X2 a number of
+-- it, X3 its place, or that no line is left where the last is missing; memory may be refused only at a line without a
+-- fault
 abbrev pub IsFaultAt : List Line → List Text → ReportFault → Type 0
 IsFaultAt before [] fault.Word = ⊥
 IsFaultAt before [] fault.Number = ⊥

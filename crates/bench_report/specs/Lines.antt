@@ -1,5 +1,6 @@
 -- What a line of a report says (own choice): its words, parted by spaces alone.
-use Rattle.std.specs.Prelude.{ℕ, ◌≤◌, ◌&&◌, nat_le, if◌then◌else◌, List, [], ◌∷◌, Option, Some, None, Ok, Err, Result, codes, option_map}
+use Rattle.std.specs.Prelude.{ℕ, ◌≤◌, ◌&&◌, nat_le, if◌then◌else◌, List, [], ◌∷◌, Option, Some, None, Ok, Err, Result}
+use Rattle.std.specs.Prelude.{codes, option_map}
 use Rattle.std.specs.Str.{bytes_eq}
 use Rattle.numerals.specs.Numerals.{spelled}
 use Rattle.mil_host.specs.Words.{Text, words}
@@ -27,7 +28,8 @@ only_number most low high (word ∷ more ∷ rest) = None
 
 -- an action at a message and a terminal
 abbrev pub placing : Option ℕ → Option ℕ → Result Action BadAction → Option Line
-placing (Some number) (Some address) (Ok action) = Some (line.Placed (record { number = number; address = address; action = action }))
+placing (Some number) (Some address) (Ok action) = Some
+    (line.Placed (record { number = number; address = address; action = action }))
 placing (Some number) (Some address) (Err bad) = None
 placing (Some number) None action = None
 placing None address action = None
@@ -36,7 +38,8 @@ placing None address action = None
 abbrev pub placed_in : List Text → Option Line
 placed_in [] = None
 placed_in (number ∷ []) = None
-placed_in (number ∷ address ∷ action) = placing (number_of 7 1 1000000 number) (number_of 7 0 30 address) (in_words action)
+placed_in (number ∷ address ∷ action) = placing (number_of 7 1 1000000 number) (number_of 7 0 30 address)
+    (in_words action)
 
 abbrev pub line_in : List Text → Option Line
 line_in [] = None

@@ -10,8 +10,8 @@ use bc_machine::Placed;
 use std::alloc::Global;
 use std::marker::Model;
 
-/// The report of one channel: how many messages it made, the numbers of those that a full queue refused, rising, and the
-/// actions of hosts that were placed, whose numbers never fall. A placed number may be above the number made.
+/// The report of one channel: how many messages it made, the numbers of those that a full queue refused, rising, and
+/// the actions of hosts that were placed, whose numbers never fall. A placed number may be above the number made.
 #[derive(Drop)]
 pub struct ChannelReport {
     channel: u16,
@@ -25,14 +25,20 @@ impl Model for ChannelReport {
 
     ghost Value = { ChannelPart };
 
-    ghost view = { λ c. record { channel = c.channel; made = c.made; refused = c.refused.items; placed = c.placed.items } };
+    ghost view = { λ c. record {
+      channel = c.channel;
+      made = c.made;
+      refused = c.refused.items;
+      placed = c.placed.items;
+    } };
 
-    ghost invariant = { λ c. IsPart (record { channel = c.channel; made = c.made; refused = c.refused.items; placed = c.placed.items }) };
+    ghost invariant = { λ c. IsPart
+        (record { channel = c.channel; made = c.made; refused = c.refused.items; placed = c.placed.items }) };
 }
 
 impl ChannelReport {
-    /// The report of a channel of 1 to 65,535 that made up to 1,000,000 messages. The refused numbers rise within 1 to `made`;
-    /// the placed ones are 1 to 1,000,000 and never fall, at addresses of 0 to 30.
+    /// The report of a channel of 1 to 65,535 that made up to 1,000,000 messages. The refused numbers rise within 1 to
+    /// `made`; the placed ones are 1 to 1,000,000 and never fall, at addresses of 0 to 30.
     pub fn make(channel: u16, made: u32, refused: Vec<u32>, placed: Vec<Placed>) -> ChannelReport
         requires channel { 1 ≤ channel }
         requires made { made ≤ 1000000 }

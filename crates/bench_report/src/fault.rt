@@ -9,8 +9,8 @@ pub enum ReportFault {
     Word,
     /// X2: a number that is none, or is out of its range.
     Number,
-    /// X3: a line out of its place, refused numbers that do not rise or are above the number made, placed numbers that fall,
-    /// or the last line is missing.
+    /// X3: a line out of its place, refused numbers that do not rise or are above the number made, placed numbers that
+    /// fall, or the last line is missing.
     Order,
     /// X4: memory was refused.
     Memory,

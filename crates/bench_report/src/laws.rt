@@ -6,5 +6,6 @@ ghost use Rattle.bench_report.specs.Spelling.{Spells};
 
 /// A text spells at most one report.
 pub fn text_spells_one_report()
-    ensures { (text : Text) (one other : RunReport) → IsReport one → IsReport other → Spells text one → Spells text other → one ≡ other }
+    ensures { (text : Text) (one other : RunReport) → IsReport one → IsReport other → Spells text one
+        → Spells text other → one ≡ other }
 {}

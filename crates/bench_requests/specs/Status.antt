@@ -10,7 +10,9 @@ use Rattle.bench_run.specs.declared.error.RunError.TheVariants as run
 use Rattle.bench_step.specs.declared.fault.StepFault.{StepFault}
 use Rattle.bench_step.specs.declared.fault.StepFault.TheVariants as step
 use Rattle.bench_requests.specs.declared.fault.Fault.{Fault}
-use Rattle.bench_requests.specs.declared.fault.Fault.TheVariants.{Text, Script, Recording, Report, Mismatch, Job, Run, Sink, Device, System, Unknown, Rules, NotHeld, Memory, OneFile, Busy, OtherKind, OtherPart, Usage}
+use Rattle.bench_requests.specs.declared.fault.Fault.TheVariants.{Text, Script, Recording, Report, Mismatch, Job, Run}
+use Rattle.bench_requests.specs.declared.fault.Fault.TheVariants.{Sink, Device, System, Unknown, Rules, NotHeld, Memory}
+use Rattle.bench_requests.specs.declared.fault.Fault.TheVariants.{OneFile, Busy, OtherKind, OtherPart, Usage}
 use Rattle.bench_requests.specs.declared.fault.Fault.TheVariants.{NoneSelected}
 
 abbrev pub status_of : Fault → ℕ

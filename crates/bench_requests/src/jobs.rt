@@ -19,7 +19,8 @@ fn lent(alloc: Global, texts: &[Vec<u8>]) -> Result<Vec<&[u8]>, AllocError>
     Ok(slices)
 }
 
-/// The jobs that texts spell, all of them and in their order, or the fault of the first that spells none or needs too much.
+/// The jobs that texts spell, all of them and in their order, or the fault of the first that spells none or needs too
+/// much.
 pub fn jobs_of<'a>(alloc: Global, texts: &[Vec<u8>]) -> Result<Vec<Job>, Fault<'a>>
     ensures jobs { IfOk result (λ jobs. AreSpelled (map (λ text. text.items) texts.now) (map job_in jobs.items)) }
     ensures refused { IfErr result (IsRefusedJob (map (λ text. text.items) texts.now)) }

@@ -1,4 +1,5 @@
-//! What the commands of `bench` make of a request: its files, its jobs, its settings, and why it is refused with which exit status.
+//! What the commands of `bench` make of a request: its files, its jobs, its settings, and why it is refused with which
+//! exit status.
 #![tactic(auto)]
 
 mod apart;

@@ -26,14 +26,16 @@ pub record IsAll (capacity : ℕ) (jobs : List JobState) (parts : List ChannelPa
   pub others : (t : ℕ) → length jobs ≤ t → with_tag index_of t got ≡ []
 
 -- the same of the jobs with the posts that were placed
-pub record IsAllLive (capacity most : ℕ) (jobs : List JobState) (before after : List Inbox) (parts : List ChannelPart) (got : List Entry) : Type 0 where
+pub record IsAllLive (capacity most : ℕ) (jobs : List JobState) (before after : List Inbox) (parts : List ChannelPart)
+    (got : List Entry) : Type 0 where
   pub lives : List JobState
   pub live : AreLive most jobs before after parts lives
   pub all : IsAll capacity lives parts got
 
--- What a run begins with: a trunk of the queue's capacity with nothing in it, the ticket of all tags and the taker, a thread's room
--- for each job with its inbox, and the jobs' channels.
-pub record IsReady (capacity : ℕ) (jobs : List JobState) (most : ℕ) (inboxes : List Inbox) (shared : Shared) (own : Own) : Type 0 where
+-- What a run begins with: a trunk of the queue's capacity with nothing in it, the ticket of all tags and the taker, a
+-- thread's room for each job with its inbox, and the jobs' channels.
+pub record IsReady (capacity : ℕ) (jobs : List JobState) (most : ℕ) (inboxes : List Inbox) (shared : Shared)
+    (own : Own) : Type 0 where
   pub ticket : IsTicketOf shared.trunk own.ticket
   pub taker : IsTakerOf shared.trunk own.taker
   pub capacity_is : capacity_of shared.trunk ≡ capacity

@@ -1,5 +1,6 @@
--- Runs while which hosts post actions (own choice). Before each message a channel's thread takes posts from its mailbox, and places
--- each at that message, behind what is placed there. A live run is a run of the jobs with these actions besides their own.
+-- Runs while which hosts post actions (own choice). Before each message a channel's thread takes posts from its
+-- mailbox, and places each at that message, behind what is placed there. A live run is a run of the jobs with these
+-- actions besides their own.
 use Rattle.std.specs.Prelude.{◌≡◌, ℕ, ◌+◌, ◌<◌, ◌≤◌, List, [], ◌++◌, length, map, take, slice_get, Option, Some}
 use Rattle.std.specs.List.{AllByRecursion}
 use Rattle.mil_host.specs.declared.actions.Action.{Action}
@@ -37,9 +38,9 @@ asked_by p = (p.address, p.action)
 abbrev pub asked_at : Placed → ℕ × Action
 asked_at p = (p.address, p.action)
 
--- What became of the posts of a channel that made so many messages, where at most `most` are taken: those that were received in the
--- run were placed, in that order and each once, from the first on, at numbers that never fall. One placed above `made` came too
--- late: no message meets it.
+-- What became of the posts of a channel that made so many messages, where at most `most` are taken: those that were
+-- received in the run were placed, in that order and each once, from the first on, at numbers that never fall. One
+-- placed above `made` came too late: no message meets it.
 pub record ArePlaced (most made : ℕ) (before after : List Post) (posts : List Placed) : Type 0 where
   pub got : List Post
   pub received : after ≡ before ++ got
@@ -60,18 +61,21 @@ abbrev pub live_job : LiveChannel → JobState
 live_job c = with_posts c.job c.posts
 
 -- The jobs of a live run, each with the posts that were placed.
-pub record AreLive (most : ℕ) (jobs : List JobState) (before after : List Inbox) (parts : List ChannelPart) (lives : List JobState) : Type 0 where
+pub record AreLive (most : ℕ) (jobs : List JobState) (before after : List Inbox) (parts : List ChannelPart)
+    (lives : List JobState) : Type 0 where
   pub rows : List LiveChannel
   pub jobs_are : map (λ (c : LiveChannel). c.job) rows ≡ jobs
   pub before_are : map (λ (c : LiveChannel). c.before) rows ≡ before
   pub after_are : map (λ (c : LiveChannel). c.after) rows ≡ after
   pub parts_are : map (λ (c : LiveChannel). c.part) rows ≡ parts
   pub lives_are : map live_job rows ≡ lives
-  pub placed : AllByRecursion (λ (c : LiveChannel). ArePlaced most c.part.made (received_by c.before) (received_by c.after) c.posts) rows
+  pub placed : AllByRecursion (λ (c : LiveChannel). ArePlaced most c.part.made (received_by c.before)
+      (received_by c.after) c.posts) rows
 
 -- each inbox is that of the mailbox at its place
 abbrev pub AreInboxesOf : List Mailbox → List Inbox → Type 0
-AreInboxesOf boxes inboxes = (k : ℕ) (box : Mailbox) (inbox : Inbox) → slice_get boxes k ≡ Some box → slice_get inboxes k ≡ Some inbox → IsInboxOf box inbox
+AreInboxesOf boxes inboxes = (k : ℕ) (box : Mailbox) (inbox : Inbox) → slice_get boxes k ≡ Some box
+    → slice_get inboxes k ≡ Some inbox → IsInboxOf box inbox
 
 -- there are a mailbox and an inbox for each job, in the order of the jobs, made for its channel and terminals
 pub record HaveMail (jobs : List JobState) (boxes : List Mailbox) (inboxes : List Inbox) : Type 0 where
@@ -79,29 +83,36 @@ pub record HaveMail (jobs : List JobState) (boxes : List Mailbox) (inboxes : Lis
   pub inboxes_fit : length inboxes ≡ length jobs
 
 -- the sink took the file of a finished run of the jobs with the posts that were placed
-abbrev pub RanLive : {S : Type 0} → (S → Option (List ℕ)) → ℕ → List JobState → Settings → List Inbox → S → RunReport → List Inbox → S → Type 0
+abbrev pub RanLive : {S : Type 0} → (S → Option (List ℕ)) → ℕ → List JobState → Settings → List Inbox → S → RunReport
+    → List Inbox → S → Type 0
 RanLive taken most jobs s inboxes before report back after =
-    (lives : List JobState) × AreLive most jobs inboxes back report.channels lives × Ran taken lives s before report after
+    (lives : List JobState) × AreLive most jobs inboxes back report.channels lives
+    × Ran taken lives s before report after
 
--- What a refusal of what may be run says and leaves: for want of memory no inbox comes back; what was taken from them before the sink
--- failed stays taken.
-abbrev pub LeavesLate : {S : Type 0} → (S → Option (List ℕ)) → (S → ℕ) → ℕ → List JobState → Settings → List Inbox → S → RunError S → List Inbox → Type 0
+-- What a refusal of what may be run says and leaves: for want of memory no inbox comes back; what was taken from them
+-- before the sink failed stays taken.
+abbrev pub LeavesLate : {S : Type 0} → (S → Option (List ℕ)) → (S → ℕ) → ℕ → List JobState → Settings → List Inbox → S
+    → RunError S → List Inbox → Type 0
 LeavesLate taken failures most jobs s inboxes before (fault.Memory sink) back =
     AreLawful jobs s × (back ≡ []) × ((items : List Item) × (count : ℕ) × TookPart taken s items count before sink)
 LeavesLate taken failures most jobs s inboxes before (fault.Sink sink report count) back =
     AreLawful jobs s × (failures before < failures sink)
-    × ((lives : List JobState) × AreLive most jobs inboxes back report.channels lives × IsCut taken lives s before report count sink)
+    × ((lives : List JobState) × AreLive most jobs inboxes back report.channels lives
+    × IsCut taken lives s before report count sink)
 LeavesLate taken failures most jobs s inboxes before other back = ⊥
 
 -- What a refusal says and leaves, as of a run: a missing mailbox or inbox, or one of another job, counts with the
 -- settings, so every other refusal says that the mailboxes and inboxes were those of the jobs.
-abbrev pub LeavesLive : {S : Type 0} → (S → Option (List ℕ)) → (S → ℕ) → ℕ → List JobState → Settings → List Mailbox → List Inbox → S → RunError S → List Inbox → Type 0
+abbrev pub LeavesLive : {S : Type 0} → (S → Option (List ℕ)) → (S → ℕ) → ℕ → List JobState → Settings → List Mailbox
+    → List Inbox → S → RunError S → List Inbox → Type 0
 LeavesLive taken failures most jobs s boxes inboxes before (fault.Settings sink) back =
     (sink ≡ before) × (back ≡ inboxes) × ¬ (AreInRange jobs s × HaveMail jobs boxes inboxes)
 LeavesLive taken failures most jobs s boxes inboxes before (fault.ChannelTwice sink) back =
-    (sink ≡ before) × (back ≡ inboxes) × AreInRange jobs s × HaveMail jobs boxes inboxes × ¬ AreDistinct (channels_of jobs)
+    (sink ≡ before) × (back ≡ inboxes) × AreInRange jobs s × HaveMail jobs boxes inboxes
+    × ¬ AreDistinct (channels_of jobs)
 LeavesLive taken failures most jobs s boxes inboxes before (fault.Prologue sink) back =
-    (sink ≡ before) × (back ≡ inboxes) × AreInRange jobs s × HaveMail jobs boxes inboxes × AreDistinct (channels_of jobs) × ¬ IsPrologue s.prologue.items
+    (sink ≡ before) × (back ≡ inboxes) × AreInRange jobs s × HaveMail jobs boxes inboxes
+    × AreDistinct (channels_of jobs) × ¬ IsPrologue s.prologue.items
 LeavesLive taken failures most jobs s boxes inboxes before (fault.Memory sink) back =
     HaveMail jobs boxes inboxes × LeavesLate taken failures most jobs s inboxes before (fault.Memory sink) back
 LeavesLive taken failures most jobs s boxes inboxes before (fault.Sink sink report count) back =

@@ -50,7 +50,8 @@ IsMadeFor box job = (box.channel ≡ job.channel) × (box.addresses.items ≡ jo
 
 -- what a refusal hands back and leaves: where there is a terminal, the mailbox was full
 abbrev pub Returns : Mailbox → Poster → Poster → ℕ → Action → PostError → Type 0
-Returns box old new address action (fault.NoTerminal back) = (back ≡ action) × (stands_in box address ≡ false) × (posted new ≡ posted old)
+Returns box old new address action (fault.NoTerminal back) = (back ≡ action) × (stands_in box address ≡ false)
+    × (posted new ≡ posted old)
 Returns box old new address action (fault.Full back) =
     (back ≡ action) × (stands_in box address ≡ true) × (posted new ≡ posted old)
     × (room_of box ≤ length (posted old) + bounds_outside (hosts_of old) (limits_of old))

@@ -12,8 +12,9 @@ use Rattle.bench_run.specs.declared.posting.Posts.{Posts}
 use Rattle.bench_run.specs.Mail.{received_by}
 use Rattle.bench_run.specs.Live.{asked_by, asked_at}
 
--- The posts that were received behind `before` were placed, from the first on and each once, at messages up to the next one; as long
--- as more may be taken, all of them were. The controller runs the job with them, and they stand among the ordered actions.
+-- The posts that were received behind `before` were placed, from the first on and each once, at messages up to the next
+-- one; as long as more may be taken, all of them were. The controller runs the job with them, and they stand among the
+-- ordered actions.
 pub record IsPosted (most : ℕ) (before : List Post) (job : JobState) (m : MachineState) (p : Posts) : Type 0 where
   pub posts : List Placed
   pub got : List Post

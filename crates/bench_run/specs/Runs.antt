@@ -1,5 +1,6 @@
 -- What a run of jobs came to (own choice): the items that the writer took, the file of these, and the report.
-use Rattle.std.specs.Prelude.{◌≡◌, ◌≢◌, ℕ, ◌+◌, ◌-◌, ◌<◌, ◌≤◌, ◌==◌, not, List, [], ◌∷◌, length, map, sum, take, Option, Ok}
+use Rattle.std.specs.Prelude.{◌≡◌, ◌≢◌, ℕ, ◌+◌, ◌-◌, ◌<◌, ◌≤◌, ◌==◌, not, List, [], ◌∷◌, length, map, sum, take, Option}
+use Rattle.std.specs.Prelude.{Ok}
 use Rattle.std.specs.List.{AllByRecursion, filter}
 use Rattle.std.specs.Io.KnownBytes.{Appends}
 use Rattle.mil_monitor.specs.declared.Record.{Record}
@@ -44,16 +45,19 @@ others_than channel jobs = filter (λ (j : JobState). not (j.channel == channel)
 abbrev pub kept_below : ℕ → List ℕ → JobState → ℕ
 kept_below number refused job = length (kept refused (take (number - 1) (records_of job)))
 
--- A job and its channel's part of the report: all of its messages were made, and the actions placed at them are the job's; the
--- items taken of the channel are those messages, in order and once, but for the refused, and its end mark. A message is refused
--- only where the queue may be full: its capacity is at most what the channel kept before and what the others may have sent.
-pub record IsPartOf (jobs : List JobState) (s : Settings) (items : List Item) (job : JobState) (part : ChannelPart) : Type 0 where
+-- A job and its channel's part of the report: all of its messages were made, and the actions placed at them are the
+-- job's; the items taken of the channel are those messages, in order and once, but for the refused, and its end mark. A
+-- message is refused only where the queue may be full: its capacity is at most what the channel kept before and what
+-- the others may have sent.
+pub record IsPartOf (jobs : List JobState) (s : Settings) (items : List Item) (job : JobState)
+    (part : ChannelPart) : Type 0 where
   pub channel : part.channel ≡ job.channel
   pub made : part.made ≡ length (records_of job)
   pub placed : part.placed ≡ placed_up_to part.made job.actions
   pub rising : Rises 0 part.made part.refused
   pub taken : part_of job.channel items ≡ to_the_end job.channel (kept part.refused (records_of job))
-  pub full : AllByRecursion (λ n. s.queue ≤ kept_below n part.refused job + most_in_all (others_than job.channel jobs)) part.refused
+  pub full : AllByRecursion (λ n. s.queue
+      ≤ kept_below n part.refused job + most_in_all (others_than job.channel jobs)) part.refused
 
 -- what the file gives for the channel are these records
 abbrev pub IsReadAs : List Found → JobState → ChannelPart → Type 0
@@ -70,9 +74,9 @@ ArePairs P (x ∷ xs) [] = ⊥
 abbrev pub IsOther : List JobState → ℕ → Type 0
 IsOther jobs channel = AllByRecursion (λ c. c ≢ channel) (channels_of jobs)
 
--- A finished run: one list of items was taken, each of them with a channel and a message that fit a packet, none of them of another
--- channel than the jobs', and the bytes are their file, which is readable and gives each channel's messages, and none of another
--- channel.
+-- A finished run: one list of items was taken, each of them with a channel and a message that fit a packet, none of
+-- them of another channel than the jobs', and the bytes are their file, which is readable and gives each channel's
+-- messages, and none of another channel.
 pub record IsRun (jobs : List JobState) (s : Settings) (report : RunReport) (bytes : List ℕ) : Type 0 where
   pub items : List Item
   pub format : IsFormat (format_of s)
@@ -88,19 +92,23 @@ pub record IsRun (jobs : List JobState) (s : Settings) (report : RunReport) (byt
 
 -- a queue with room for all that the jobs may send refuses none
 abbrev pub RefusesNoneWithRoom : List JobState → Settings → RunReport → Type 0
-RefusesNoneWithRoom jobs s report = most_in_all jobs ≤ s.queue → AllByRecursion (λ part. part.refused ≡ []) report.channels
+RefusesNoneWithRoom jobs s report = most_in_all jobs ≤ s.queue
+    → AllByRecursion (λ part. part.refused ≡ []) report.channels
 
 -- the sink took the file of a finished run
 abbrev pub Ran : {S : Type 0} → (S → Option (List ℕ)) → List JobState → Settings → S → RunReport → S → Type 0
-Ran taken jobs s before report after = (bytes : List ℕ) × Appends (taken before) (taken after) bytes × IsRun jobs s report bytes
+Ran taken jobs s before report after = (bytes : List ℕ) × Appends (taken before) (taken after) bytes
+    × IsRun jobs s report bytes
 
 -- the sink took the first bytes of the file of some items
 abbrev pub TookPart : {S : Type 0} → (S → Option (List ℕ)) → Settings → List Item → ℕ → S → S → Type 0
-TookPart taken s items count before after = Appends (taken before) (taken after) (take count (written_file (format_of s) s.prologue.items items))
+TookPart taken s items count before after = Appends (taken before) (taken after)
+    (take count (written_file (format_of s) s.prologue.items items))
 
--- A run whose sink failed: all items were taken and the report tells of them, with the packets that the sink took whole. What it
--- took is no longer than the file.
-pub record IsCut {S : Type 0} (taken : S → Option (List ℕ)) (jobs : List JobState) (s : Settings) (before : S) (report : RunReport) (count : ℕ) (after : S) : Type 0 where
+-- A run whose sink failed: all items were taken and the report tells of them, with the packets that the sink took
+-- whole. What it took is no longer than the file.
+pub record IsCut {S : Type 0} (taken : S → Option (List ℕ)) (jobs : List JobState) (s : Settings) (before : S)
+    (report : RunReport) (count : ℕ) (after : S) : Type 0 where
   pub items : List Item
   pub bytes : TookPart taken s items count before after
   pub within : count ≤ length (written_file (format_of s) s.prologue.items items)
@@ -108,11 +116,12 @@ pub record IsCut {S : Type 0} (taken : S → Option (List ℕ)) (jobs : List Job
   pub others : (channel : ℕ) → IsOther jobs channel → part_of channel items ≡ []
   pub packets : report.packets ≡ whole_packets (count - length s.prologue.items) (closed_packets (format_of s) items)
 
--- What a refusal says and leaves: U2, U1 and U5 put nothing into the sink; U3 and U4 come only where none of these does and leave a
--- part of a recording there, and U4 stands only where the sink failed.
+-- What a refusal says and leaves: U2, U1 and U5 put nothing into the sink; U3 and U4 come only where none of these does
+-- and leave a part of a recording there, and U4 stands only where the sink failed.
 abbrev pub Leaves : {S : Type 0} → (S → Option (List ℕ)) → (S → ℕ) → List JobState → Settings → S → RunError S → Type 0
 Leaves taken failures jobs s before (fault.Settings sink) = (sink ≡ before) × ¬ AreInRange jobs s
-Leaves taken failures jobs s before (fault.ChannelTwice sink) = (sink ≡ before) × AreInRange jobs s × ¬ AreDistinct (channels_of jobs)
+Leaves taken failures jobs s before (fault.ChannelTwice sink) = (sink ≡ before) × AreInRange jobs s
+    × ¬ AreDistinct (channels_of jobs)
 Leaves taken failures jobs s before (fault.Prologue sink) =
     (sink ≡ before) × AreInRange jobs s × AreDistinct (channels_of jobs) × ¬ IsPrologue s.prologue.items
 Leaves taken failures jobs s before (fault.Memory sink) =

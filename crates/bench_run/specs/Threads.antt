@@ -1,5 +1,6 @@
 -- What a channel's thread promises of what it returns, and what is known of all threads of a run.
-use Rattle.std.specs.Prelude.{◌≡◌, ◌≢◌, ℕ, ◌+◌, ◌≤◌, ◌<◌, true, false, List, [], Some, length, map, take, slice_get, vec_capacity}
+use Rattle.std.specs.Prelude.{◌≡◌, ◌≢◌, ℕ, ◌+◌, ◌≤◌, ◌<◌, true, false, List, [], Some, length, map, take, slice_get}
+use Rattle.std.specs.Prelude.{vec_capacity}
 use Rattle.std.specs.List.{AllByRecursion}
 use Rattle.bc_machine.specs.declared.placed.Placed.{Placed}
 use Rattle.bc_machine.specs.Running.{MachineState}
@@ -33,8 +34,9 @@ use Rattle.bench_run.specs.Posted.{IsPosted}
 use Rattle.bench_run.specs.Entries.{index_of, entry_of, entries_to_the_end}
 use Rattle.bench_run.specs.Runs.{records_of, kept_below, most_items, most_in_all, others_than}
 
--- What the thread of a job reports: all of the job's messages were made, and they are a bus monitor's; the placed actions are the
--- job's; a message was refused only where the capacity is at most what the channel kept before and what the others may have sent.
+-- What the thread of a job reports: all of the job's messages were made, and they are a bus monitor's; the placed
+-- actions are the job's; a message was refused only where the capacity is at most what the channel kept before and what
+-- the others may have sent.
 pub record IsCounted (capacity others : ℕ) (job : JobState) (part : ChannelPart) : Type 0 where
   pub channel : part.channel ≡ job.channel
   pub channel_high : job.channel ≤ 65535
@@ -50,24 +52,28 @@ pub record IsCounted (capacity others : ℕ) (job : JobState) (part : ChannelPar
 abbrev pub IsCountedIn : ℕ → List JobState → JobState → ChannelPart → Type 0
 IsCountedIn capacity jobs job part = IsCounted capacity (most_in_all (others_than job.channel jobs)) job part
 
--- Each record of a job was offered once, in order: its ticket sent those that were not refused, and then the end mark. `given` is
--- the ticket as the thread got it.
-pub record AllOffered (trunk : Trunk Entry) (given : Ticket Entry) (index : ℕ) (job : JobState) (t : Ticket Entry) (part : ChannelPart) : Type 0 where
+-- Each record of a job was offered once, in order: its ticket sent those that were not refused, and then the end mark.
+-- `given` is the ticket as the thread got it.
+pub record AllOffered (trunk : Trunk Entry) (given : Ticket Entry) (index : ℕ) (job : JobState) (t : Ticket Entry)
+    (part : ChannelPart) : Type 0 where
   pub ours : IsTicketOf trunk t
   pub tags : tags_of t ≡ tags_of given
   pub bounds : bounds_of t ≡ bounds_of given
   pub all_sent : sent t ≡ entries_to_the_end index (kept part.refused (records_of job))
   pub counted : IsCounted (capacity_of trunk) (bounds_outside (tags_of given) (bounds_of given)) job part
 
--- The thread of a job took posts from its mailbox, at most `most` of them, and offered the records of the job with these.
-pub record Offered (trunk : Trunk Entry) (given : Ticket Entry) (index : ℕ) (job : JobState) (box : Mailbox) (most : ℕ) (before : Inbox) (r : Ended) : Type 0 where
+-- The thread of a job took posts from its mailbox, at most `most` of them, and offered the records of the job with
+-- these.
+pub record Offered (trunk : Trunk Entry) (given : Ticket Entry) (index : ℕ) (job : JobState) (box : Mailbox)
+    (most : ℕ) (before : Inbox) (r : Ended) : Type 0 where
   pub posts : List Placed
   pub inbox : IsInboxOf box r.inbox
   pub placed : ArePlaced most r.part.made (received_by before) (received_by r.inbox) posts
   pub offered : AllOffered trunk given index (with_posts job posts) r.ticket r.part
 
 -- The same of the first `made` records, where these are the tags and bounds of the thread's ticket.
-pub record SoFar (trunk : Trunk Entry) (own : ℕ) (limits : List ℕ) (index : ℕ) (job : JobState) (made : ℕ) (t : Ticket Entry) (refused : List ℕ) : Type 0 where
+pub record SoFar (trunk : Trunk Entry) (own : ℕ) (limits : List ℕ) (index : ℕ) (job : JobState) (made : ℕ)
+    (t : Ticket Entry) (refused : List ℕ) : Type 0 where
   pub ours : IsTicketOf trunk t
   pub tags : tags_of t ≡ own
   pub bounds : bounds_of t ≡ limits
@@ -78,12 +84,13 @@ pub record SoFar (trunk : Trunk Entry) (own : ℕ) (limits : List ℕ) (index : 
   pub recorded : AllByRecursion (λ m. IsRecorded (numbered 0 m)) (take made (records_of job))
 
 -- The same of the job with the posts that were placed so far, where the controller stands behind as many messages.
-pub record IsStage (trunk : Trunk Entry) (own : ℕ) (limits : List ℕ) (index : ℕ) (most : ℕ) (before : List Post) (job : JobState) (m : MachineState) (t : Ticket Entry) (refused : List ℕ) (p : Posts) : Type 0 where
+pub record IsStage (trunk : Trunk Entry) (own : ℕ) (limits : List ℕ) (index : ℕ) (most : ℕ) (before : List Post)
+    (job : JobState) (m : MachineState) (t : Ticket Entry) (refused : List ℕ) (p : Posts) : Type 0 where
   pub posted : IsPosted most before job m p
   pub so_far : SoFar trunk own limits index (with_posts job posted.posts) m.point.number t refused
 
--- what a thread takes along fits its job: the controller at the job's beginning, an empty list with room for all numbers, and the
--- job's actions in their order
+-- what a thread takes along fits its job: the controller at the job's beginning, an empty list with room for all
+-- numbers, and the job's actions in their order
 pub record IsRoom (job : JobState) (room : Room) : Type 0 where
   pub machine : IsOf (job_in job) job.actions room.machine
   pub first : room.machine.point.number ≡ 0
@@ -97,7 +104,8 @@ abbrev pub HasOnly : ℕ → ℕ → Type 0
 HasOnly index tags = (has tags index ≡ true) × ((t : ℕ) → t ≢ index → has tags t ≡ false)
 
 -- it is the promise of the thread of the job at an index
-pub record IsPromised (trunk : Trunk Entry) (bounds : List ℕ) (jobs : List JobState) (most : ℕ) (boxes : List Mailbox) (inboxes : List Inbox) (index : ℕ) (p : Offers) : Type 0 where
+pub record IsPromised (trunk : Trunk Entry) (bounds : List ℕ) (jobs : List JobState) (most : ℕ) (boxes : List Mailbox)
+    (inboxes : List Inbox) (index : ℕ) (p : Offers) : Type 0 where
   pub trunk_is : p.trunk.now ≡ trunk
   pub index_is : p.index ≡ index
   pub job_is : slice_get jobs index ≡ Some p.job.now
@@ -108,12 +116,15 @@ pub record IsPromised (trunk : Trunk Entry) (bounds : List ℕ) (jobs : List Job
   pub inbox_is : slice_get inboxes index ≡ Some p.inbox.value
 
 -- the handles are those of the threads of the first jobs
-abbrev pub ArePromised : Trunk Entry → List ℕ → List JobState → ℕ → List Mailbox → List Inbox → List (PromisedHandle Ended Offers) → Type 0
+abbrev pub ArePromised : Trunk Entry → List ℕ → List JobState → ℕ → List Mailbox → List Inbox
+    → List (PromisedHandle Ended Offers) → Type 0
 ArePromised trunk bounds jobs most boxes inboxes handles =
-    (k : ℕ) (h : PromisedHandle Ended Offers) → slice_get handles k ≡ Some h → IsPromised trunk bounds jobs most boxes inboxes k h.promise
+    (k : ℕ) (h : PromisedHandle Ended Offers) → slice_get handles k ≡ Some h
+    → IsPromised trunk bounds jobs most boxes inboxes k h.promise
 
 -- What is known of a thread that was joined and of the entries of its index, where the others may have sent so many.
-pub record IsEnded (capacity others index : ℕ) (job : JobState) (box : Mailbox) (most : ℕ) (before : Inbox) (j : Joined) (own : List Entry) : Type 0 where
+pub record IsEnded (capacity others index : ℕ) (job : JobState) (box : Mailbox) (most : ℕ) (before : Inbox)
+    (j : Joined) (own : List Entry) : Type 0 where
   pub posts : List Placed
   pub inbox : IsInboxOf box j.inbox
   pub placed : ArePlaced most j.part.made (received_by before) (received_by j.inbox) posts
@@ -124,12 +135,15 @@ pub record IsEnded (capacity others index : ℕ) (job : JobState) (box : Mailbox
 abbrev pub AreEnded : ℕ → List Entry → List JobState → ℕ → List Mailbox → List Inbox → List Joined → Type 0
 AreEnded capacity entries jobs most boxes inboxes joined =
     (k : ℕ) (j : Joined) → slice_get joined k ≡ Some j
-    → (job : JobState) (box : Mailbox) (before : Inbox) → slice_get jobs k ≡ Some job → slice_get boxes k ≡ Some box → slice_get inboxes k ≡ Some before
-    → IsEnded capacity (most_in_all (others_than job.channel jobs)) k job box most before j (with_tag index_of k entries)
+    → (job : JobState) (box : Mailbox) (before : Inbox) → slice_get jobs k ≡ Some job → slice_get boxes k ≡ Some box
+    → slice_get inboxes k ≡ Some before
+    → IsEnded capacity (most_in_all (others_than job.channel jobs)) k job box most before j
+    (with_tag index_of k entries)
 
--- Each job whose thread was joined has the part of it, and the entries of its index are its records but for the refused, and then
--- its end mark.
+-- Each job whose thread was joined has the part of it, and the entries of its index are its records but for the
+-- refused, and then its end mark.
 abbrev pub AreJoined : ℕ → List Entry → List JobState → List ChannelPart → Type 0
 AreJoined capacity entries jobs parts =
     (k : ℕ) (job : JobState) (part : ChannelPart) → slice_get jobs k ≡ Some job → slice_get parts k ≡ Some part
-    → IsCountedIn capacity jobs job part × (with_tag index_of k entries ≡ entries_to_the_end k (kept part.refused (records_of job)))
+    → IsCountedIn capacity jobs job part
+    × (with_tag index_of k entries ≡ entries_to_the_end k (kept part.refused (records_of job)))

@@ -24,8 +24,8 @@ use mil_trunk::{Ticket, Trunk};
 use std::sync::Wait;
 use std::thread;
 
-/// What a channel's thread takes along: its job's controller, an empty list with room for the numbers of all messages, and what it
-/// has for the posts of hosts.
+/// What a channel's thread takes along: its job's controller, an empty list with room for the numbers of all messages,
+/// and what it has for the posts of hosts.
 #[derive(Drop)]
 pub(crate) struct Room {
     pub(crate) machine: Machine,
@@ -41,9 +41,9 @@ pub(crate) struct Ended {
     pub(crate) inbox: Inbox,
 }
 
-/// Runs a job's controller to its end. Before each message posts are taken from the mailbox, and placed at it. Each message is
-/// offered once, and the numbers of those that come back are listed; then the end mark is offered until it is kept. It takes no
-/// memory and no lock.
+/// Runs a job's controller to its end. Before each message posts are taken from the mailbox, and placed at it. Each
+/// message is offered once, and the numbers of those that come back are listed; then the end mark is offered until it
+/// is kept. It takes no memory and no lock.
 pub(crate) fn channel<R: Wait, G: Gate>(
     rt: &R,
     trunk: &Trunk<Entry>,
@@ -99,7 +99,8 @@ pub(crate) fn channel<R: Wait, G: Gate>(
     }
 }
 
-// Offers a message once. Where it comes back, its number joins the list, and the thread gives way, so that the writer may come on.
+// Offers a message once. Where it comes back, its number joins the list, and the thread gives way, so that the writer
+// may come on.
 fn offer_message<R: Wait, G: Gate>(
     rt: &R,
     trunk: &Trunk<Entry>,
@@ -111,14 +112,20 @@ fn offer_message<R: Wait, G: Gate>(
     ticket: &mut Ticket<Entry>,
     refused: &mut Vec<u32>,
 )
-    requires so_far { (live : JobState) × SoFar trunk.now (tags_of ticket.old) (bounds_of ticket.old) index live (number - 1) ticket.old refused.old.items }
+    requires so_far { (live : JobState)
+        × SoFar trunk.now (tags_of ticket.old) (bounds_of ticket.old) index live
+        (number - 1) ticket.old refused.old.items }
     requires tag { has (tags_of ticket.old) index ≡ true }
     requires bound { number < bound_of (bounds_of ticket.old) index }
     requires number { 1 ≤ number }
     requires recorded { IsRecorded (numbered 0 message) }
     requires room { number ≤ vec_capacity refused.old }
-    ensures so_far { (live : JobState) → SoFar trunk.now (tags_of ticket.old) (bounds_of ticket.old) index live (number - 1) ticket.old refused.old.items
-        → slice_get (records_of live) (number - 1) ≡ Some message → SoFar trunk.now (tags_of ticket.old) (bounds_of ticket.old) index live number ticket.new refused.new.items }
+    ensures so_far { (live : JobState)
+        → SoFar trunk.now (tags_of ticket.old) (bounds_of ticket.old) index live
+        (number - 1) ticket.old refused.old.items
+        → slice_get (records_of live) (number - 1) ≡ Some message
+        → SoFar trunk.now (tags_of ticket.old)
+        (bounds_of ticket.old) index live number ticket.new refused.new.items }
     ensures room { vec_capacity refused.new ≡ vec_capacity refused.old }
 {
     let entry = Entry::Message {

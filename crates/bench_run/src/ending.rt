@@ -47,13 +47,19 @@ pub(crate) fn conclude<S: Sink>(
     inboxes: Vec<Inbox>,
 ) -> Result<(Report, Vec<Inbox>, S), LiveError<S>>
     requires lawful { AreLawful jobs.now settings.now }
-    requires all { IsAllLive settings.now.queue before.most jobs.now before.inboxes.value.items inboxes.items parts.items (received taker) }
-    requires logged { IsLogged S.taken S.failures (format_of settings.now) settings.now.prologue.items before.sink.value (channels_of jobs.now) (received taker) log.recorder log.whole }
-    ensures ran { IfOk result (λ r. RanLive S.taken before.most jobs.now settings.now before.inboxes.value.items before.sink.value r.0 r.1.items r.2) }
+    requires all { IsAllLive settings.now.queue before.most jobs.now before.inboxes.value.items inboxes.items
+        parts.items (received taker) }
+    requires logged { IsLogged S.taken S.failures
+        (format_of settings.now) settings.now.prologue.items before.sink.value (channels_of jobs.now)
+        (received taker) log.recorder log.whole }
+    ensures ran { IfOk result (λ r. RanLive S.taken before.most jobs.now settings.now before.inboxes.value.items
+        before.sink.value r.0 r.1.items r.2) }
     ensures inboxes { IfOk result (λ r. r.1.items ≡ inboxes.items) }
     ensures back { IfErr result (λ e. e.inboxes.items ≡ inboxes.items) }
     ensures room { IfOk result (λ r. RefusesNoneWithRoom jobs.now settings.now r.0) }
-    ensures refused { IfErr result (λ e. LeavesLate S.taken S.failures before.most jobs.now settings.now before.inboxes.value.items before.sink.value e.fault e.inboxes.items) }
+    ensures refused { IfErr result
+        (λ e. LeavesLate S.taken S.failures before.most jobs.now settings.now before.inboxes.value.items
+        before.sink.value e.fault e.inboxes.items) }
 {
     recording_is_read_again();
     file_is_packets();
@@ -86,9 +92,12 @@ pub(crate) fn stopped<S: Sink>(
     log: Log<S>,
 ) -> LiveError<S>
     requires lawful { AreLawful jobs.now settings.now }
-    requires logged { (channels : List ℕ) × (got : List Entry) × IsLogged S.taken S.failures (format_of settings.now) settings.now.prologue.items before.sink.value channels got log.recorder log.whole }
+    requires logged { (channels : List ℕ) × (got : List Entry)
+        × IsLogged S.taken S.failures
+        (format_of settings.now) settings.now.prologue.items before.sink.value channels got log.recorder log.whole }
     ensures none { result.inboxes.items ≡ [] }
-    ensures refused { LeavesLate S.taken S.failures before.most jobs.now settings.now before.inboxes.value.items before.sink.value result.fault result.inboxes.items }
+    ensures refused { LeavesLate S.taken S.failures before.most jobs.now settings.now before.inboxes.value.items
+        before.sink.value result.fault result.inboxes.items }
 {
     let _ = (jobs, settings, before);
     let Log { recorder, whole: _ } = log;

@@ -9,17 +9,18 @@ use std::fmt::{self, Display, Formatter, Write};
 /// Why a run gave no recording; each fault hands the sink back.
 #[derive(Drop)]
 pub enum RunError<S> {
-    /// U2: there is no job or more than 32, or a setting is out of its range; in a live run also where there are not a mailbox and an
-    /// inbox for each job, made for it. Nothing was put into the sink.
+    /// U2: there is no job or more than 32, or a setting is out of its range; in a live run also where there are not a
+    /// mailbox and an inbox for each job, made for it. Nothing was put into the sink.
     Settings { sink: S },
     /// U1: two jobs have the same channel. Nothing was put into the sink.
     ChannelTwice { sink: S },
-    /// U5: the prologue is not a list of sound packets, or has one of MIL-STD-1553 messages. Nothing was put into the sink.
+    /// U5: the prologue is not a list of sound packets, or has one of MIL-STD-1553 messages. Nothing was put into the
+    /// sink.
     Prologue { sink: S },
     /// U3: memory or a thread was refused. What the sink took is the beginning of a recording.
     Memory { sink: S },
-    /// U4: the sink failed once it had taken so many bytes. The channels ran to their ends, and the report tells of them; its
-    /// packets are those that the sink took whole.
+    /// U4: the sink failed once it had taken so many bytes. The channels ran to their ends, and the report tells of
+    /// them; its packets are those that the sink took whole.
     Sink { sink: S, report: Report, taken: u64 },
 }
 

@@ -34,12 +34,12 @@ impl Way {
     }
 }
 
-/// A gate that holds a channel before each message, and before the end of its script, until the queue has room for what comes
-/// next: no more items are on their way to the writer than the queue holds. So no message is refused. It stands around another
-/// gate, which is called at each point as well.
+/// A gate that holds a channel before each message, and before the end of its script, until the queue has room for what
+/// comes next: no more items are on their way to the writer than the queue holds. So no message is refused. It stands
+/// around another gate, which is called at each point as well.
 ///
-/// A gate is made for one run. What it waits for comes: the writer takes each item that was kept, also once the sink failed, and
-/// a channel that ended waits for nothing.
+/// A gate is made for one run. What it waits for comes: the writer takes each item that was kept, also once the sink
+/// failed, and a channel that ended waits for nothing.
 #[derive(Drop)]
 pub struct HoldingGate<'a, G> {
     gate: &'a G,

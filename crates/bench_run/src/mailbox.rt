@@ -1,10 +1,12 @@
 //! Mailboxes: while a channel runs, hosts post actions for its terminals.
-ghost use Rattle.std.specs.Prelude.{◌≡◌, ◌<◌, ◌+◌, ◌^◌, ◌↔◌, ◌⊎◌, ◌++◌, ◌∷◌, [], ℕ, true, length, not, ◌&&◌, ◌||◌, Err, IfOk, OnOk, IfErr, IfSome, IfNone, IsTrue};
+ghost use Rattle.std.specs.Prelude.{◌≡◌, ◌<◌, ◌+◌, ◌^◌, ◌↔◌, ◌⊎◌, ◌++◌, ◌∷◌, [], ℕ, true, length, not, ◌&&◌, ◌||◌, Err};
+ghost use Rattle.std.specs.Prelude.{IfOk, OnOk, IfErr, IfSome, IfNone, IsTrue};
 ghost use Rattle.mil_trunk.specs.Tags.{has, bound_of, Includes};
 ghost use Rattle.mil_trunk.specs.Views.{with_tag, inside, outside};
 ghost use Rattle.mil_trunk.specs.Ends.{IsCapacity};
 ghost use Rattle.bench_run.specs.Posts.{host_of};
-ghost use Rattle.bench_run.specs.Mail.{hosts_of, limits_of, posted, received_by, IsPosterOf, IsInboxOf, room_of, stands_in, IsMadeFor, Returns};
+ghost use Rattle.bench_run.specs.Mail.{hosts_of, limits_of, posted, received_by, IsPosterOf, IsInboxOf, room_of};
+ghost use Rattle.bench_run.specs.Mail.{stands_in, IsMadeFor, Returns};
 
 use crate::mail_error::{MailError, PostError};
 use job_file::Job;
@@ -43,13 +45,15 @@ pub struct Mailbox {
     addresses: Vec<u8>,
 }
 
-/// The right to post for some hosts. It has no bytes: its hosts, and the list of what was posted with it, are known to contracts alone.
+/// The right to post for some hosts. It has no bytes: its hosts, and the list of what was posted with it, are known to
+/// contracts alone.
 #[derive(Drop)]
 pub struct Poster {
     ticket: Ticket<Post>,
 }
 
-/// The right to receive what is posted. It has no bytes: the list of what was received with it is known to contracts alone.
+/// The right to receive what is posted. It has no bytes: the list of what was received with it is known to contracts
+/// alone.
 #[derive(Drop)]
 pub struct Inbox {
     taker: Taker<Post>,
@@ -59,11 +63,11 @@ pub struct Inbox {
 const MOST: u64 = 36_028_797_018_963_968;
 
 impl Mailbox {
-    /// An empty mailbox of `capacity` posts for the channel and the terminals of a job, the poster for all hosts 0 to 63, and the
-    /// inbox. All its memory is taken here.
+    /// An empty mailbox of `capacity` posts for the channel and the terminals of a job, the poster for all hosts 0 to
+    /// 63, and the inbox. All its memory is taken here.
     ///
-    /// Each host may post 2^55 actions in all. `E1` comes where the capacity is outside 1 to 4096, before any memory is asked for,
-    /// and `E2` where memory is refused.
+    /// Each host may post 2^55 actions in all. `E1` comes where the capacity is outside 1 to 4096, before any memory is
+    /// asked for, and `E2` where memory is refused.
     pub fn make(
         alloc: Global,
         job: &Job,
@@ -104,7 +108,8 @@ impl Mailbox {
         requires poster { IsPosterOf self.now poster.old }
         requires hosts { Includes (hosts_of poster.old) hosts }
         ensures posters { IsPosterOf self.now poster.new × IsPosterOf self.now result }
-        ensures gone { (host : ℕ) → has (hosts_of poster.new) host ≡ (has (hosts_of poster.old) host && not (has hosts host)) }
+        ensures gone { (host : ℕ) → has (hosts_of poster.new) host
+            ≡ (has (hosts_of poster.old) host && not (has hosts host)) }
         ensures given { hosts_of result ≡ hosts }
         ensures limits { (limits_of poster.new ≡ limits_of poster.old) × (limits_of result ≡ limits_of poster.old) }
         ensures posted { posted poster.new ≡ outside host_of hosts (posted poster.old) }
@@ -119,7 +124,8 @@ impl Mailbox {
     pub fn take_in(&self, poster: &mut Poster, other: Poster)
         requires { IsPosterOf self.now poster.old × IsPosterOf self.now other }
         ensures poster { IsPosterOf self.now poster.new }
-        ensures hosts { (host : ℕ) → has (hosts_of poster.new) host ≡ (has (hosts_of poster.old) host || has (hosts_of other) host) }
+        ensures hosts { (host : ℕ)
+            → has (hosts_of poster.new) host ≡ (has (hosts_of poster.old) host || has (hosts_of other) host) }
         ensures limits { limits_of poster.new ≡ limits_of poster.old }
         ensures posted { posted poster.new ≡ posted poster.old ++ posted other }
     {
@@ -127,8 +133,9 @@ impl Mailbox {
         self.trunk.take_in(&mut poster.ticket, ticket);
     }
 
-    /// Posts an action of a host for the terminal at an address: it joins the mailbox at the back. `E3` comes where the job has no
-    /// terminal there, and nothing is posted; `E4` where the mailbox was full at one moment of the call. Both hand the action back.
+    /// Posts an action of a host for the terminal at an address: it joins the mailbox at the back. `E3` comes where the
+    /// job has no terminal there, and nothing is posted; `E4` where the mailbox was full at one moment of the call.
+    /// Both hand the action back.
     pub fn post<R: Wait>(
         &self,
         rt: &R,
@@ -143,7 +150,8 @@ impl Mailbox {
         ensures poster { IsPosterOf self.now poster.new }
         ensures hosts { hosts_of poster.new ≡ hosts_of poster.old }
         ensures limits { limits_of poster.new ≡ limits_of poster.old }
-        ensures kept { OnOk result (posted poster.new ≡ posted poster.old ++ record { host = host; address = address; action = action } ∷ []) }
+        ensures kept { OnOk result
+            (posted poster.new ≡ posted poster.old ++ record { host = host; address = address; action = action } ∷ []) }
         ensures terminal { OnOk result (stands_in self.now address ≡ true) }
         ensures refused { IfErr result (Returns self.now poster.old poster.new address action) }
     {
@@ -178,7 +186,8 @@ impl Mailbox {
         self.channel == job.channel() && self.addresses.as_slice() == job.addresses()
     }
 
-    /// Receives the post at the front, with the poster that holds all hosts. None says that all that was posted was received.
+    /// Receives the post at the front, with the poster that holds all hosts. None says that all that was posted was
+    /// received.
     pub fn settle<R: Wait>(
         &self,
         rt: &R,
@@ -193,7 +202,9 @@ impl Mailbox {
         ensures posted { posted result.0 ≡ posted poster }
         ensures taken { IfSome result.2 (λ post. received_by result.1 ≡ received_by inbox ++ post ∷ []) }
         ensures none { IfNone result.2 (received_by result.1 ≡ received_by inbox) }
-        ensures settled { IfNone result.2 ((host : ℕ) → host < 64 → with_tag host_of host (posted result.0) ≡ with_tag host_of host (received_by result.1)) }
+        ensures settled { IfNone result.2
+            ((host : ℕ) → host < 64
+            → with_tag host_of host (posted result.0) ≡ with_tag host_of host (received_by result.1)) }
     {
         let Poster { ticket } = poster;
         let Inbox { taker } = inbox;

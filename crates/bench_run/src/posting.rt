@@ -20,8 +20,8 @@ const LAST: u32 = 1_000_000;
 /// The highest address of a terminal.
 const HIGHEST: u8 = 30;
 
-/// The inbox of a channel, how many posts may still be taken from it, and the actions that are placed, by rising number and with
-/// room for those of the posts.
+/// The inbox of a channel, how many posts may still be taken from it, and the actions that are placed, by rising number
+/// and with room for those of the posts.
 #[derive(Drop)]
 pub(crate) struct Posts {
     pub(crate) inbox: Inbox,
@@ -30,15 +30,16 @@ pub(crate) struct Posts {
 }
 
 impl Posts {
-    /// Takes posts until the mailbox is empty or as many were taken as may be, and places each at the controller's next message,
-    /// behind what is placed there. It takes no memory.
+    /// Takes posts until the mailbox is empty or as many were taken as may be, and places each at the controller's next
+    /// message, behind what is placed there. It takes no memory.
     pub(crate) fn place_all<R: Wait>(&mut self, rt: &R, mailbox: &Mailbox, machine: &mut Machine)
         requires inbox { IsInboxOf mailbox.now self.old.inbox }
         requires ordered { IsOrdered self.old.ordered.items }
         ensures inbox { IsInboxOf mailbox.now self.new.inbox }
         ensures ordered { IsOrdered self.new.ordered.items }
         ensures point { machine.new.point ≡ machine.old.point }
-        ensures posted { (most : ℕ) (before : List Post) (job : JobState) → IsPosted most before job machine.old self.old → IsPosted most before job machine.new self.new }
+        ensures posted { (most : ℕ) (before : List Post) (job : JobState)
+            → IsPosted most before job machine.old self.old → IsPosted most before job machine.new self.new }
     {
         if machine.number() >= LAST {
             return;
@@ -55,17 +56,22 @@ impl Posts {
         }
     }
 
-    /// Places a post at the controller's next message. False, and nothing was done, where there is no room for it; there always is.
+    /// Places a post at the controller's next message. False, and nothing was done, where there is no room for it;
+    /// there always is.
     fn place(&mut self, machine: &mut Machine, post: Post) -> bool
         requires number { machine.old.point.number < 1000000 }
         requires ordered { IsOrdered self.old.ordered.items }
         ensures inbox { self.new.inbox ≡ self.old.inbox }
         ensures left { self.new.left ≡ self.old.left }
         ensures ordered { IsOrdered self.new.ordered.items }
-        ensures placed { IsTrue result → (machine.new ≡ with_placed machine.old (machine.old.placed ++ at_next machine.old post.address post.action ∷ [])) × IsUnderWay machine.new }
+        ensures placed { IsTrue result
+            → (machine.new ≡ with_placed machine.old
+            (machine.old.placed ++ at_next machine.old post.address post.action ∷ [])) × IsUnderWay machine.new }
         ensures listed { (actions : List Placed) → IsTrue result → self.old.ordered.items ≡ placed_up_to 1000000 actions
-            → self.new.ordered.items ≡ placed_up_to 1000000 (actions ++ at_next machine.old post.address post.action ∷ []) }
-        ensures same { IsFalse result → (machine.new ≡ machine.old) × (self.new.ordered.items ≡ self.old.ordered.items) }
+            → self.new.ordered.items
+            ≡ placed_up_to 1000000 (actions ++ at_next machine.old post.address post.action ∷ []) }
+        ensures same { IsFalse result → (machine.new ≡ machine.old)
+            × (self.new.ordered.items ≡ self.old.ordered.items) }
     {
         let Post {
             address,

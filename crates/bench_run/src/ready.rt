@@ -26,8 +26,8 @@ pub(crate) struct Own {
     pub(crate) rooms: Vec<Room>,
 }
 
-/// All that a run needs, but for its recorder and the lists of its threads. All memory of the threads is taken here. Of each inbox
-/// `most` posts may be taken.
+/// All that a run needs, but for its recorder and the lists of its threads. All memory of the threads is taken here. Of
+/// each inbox `most` posts may be taken.
 pub(crate) fn ready(
     alloc: Global,
     jobs: &[Job],

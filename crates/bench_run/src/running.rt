@@ -42,7 +42,8 @@ fn run_lawful<R: Threads + Wait + Sync, G: Gate, S: Sink + Drop>(
     ensures ran { IfOk result (λ r. RanLive S.taken most jobs.now settings.now inboxes.items sink r.0 r.1.items r.2) }
     ensures ends { IfOk result (λ r. AreInboxesOf boxes.now r.1.items) }
     ensures room { IfOk result (λ r. RefusesNoneWithRoom jobs.now settings.now r.0) }
-    ensures refused { IfErr result (λ e. LeavesLate S.taken S.failures most jobs.now settings.now inboxes.items sink e.fault e.inboxes.items) }
+    ensures refused { IfErr result
+        (λ e. LeavesLate S.taken S.failures most jobs.now settings.now inboxes.items sink e.fault e.inboxes.items) }
     ensures back { IfErr result (λ e. AreInboxesOf boxes.now e.inboxes.items) }
 {
     let before = Before {
@@ -88,14 +89,15 @@ fn no_posts(alloc: Global, jobs: &[Job]) -> Result<(Vec<Mailbox>, Vec<Inbox>), A
     Ok((boxes, inboxes))
 }
 
-/// Runs the jobs, each on a thread of its own, while the calling thread writes their messages into one recording. In order: U2
-/// where there are not 1 to 32 jobs or a setting is out of its range, U1 where a channel stands twice, U5 where the prologue is no
-/// list of sound packets or has one of MIL-STD-1553 messages, U3 where memory or a thread is refused, U4 where the sink fails. Each
-/// hands the sink back; U2, U1 and U5 put nothing into it. After a fault of the sink, or where a thread cannot be started, the
-/// channels that were started run to their ends.
+/// Runs the jobs, each on a thread of its own, while the calling thread writes their messages into one recording. In
+/// order: U2 where there are not 1 to 32 jobs or a setting is out of its range, U1 where a channel stands twice, U5
+/// where the prologue is no list of sound packets or has one of MIL-STD-1553 messages, U3 where memory or a thread is
+/// refused, U4 where the sink fails. Each hands the sink back; U2, U1 and U5 put nothing into it. After a fault of the
+/// sink, or where a thread cannot be started, the channels that were started run to their ends.
 ///
-/// What the sink took, read back, gives for each channel, in order and once, the messages that its job means, but for those that
-/// the report lists as refused by a full queue; and a queue with room for all that the jobs may send refuses none.
+/// What the sink took, read back, gives for each channel, in order and once, the messages that its job means, but for
+/// those that the report lists as refused by a full queue; and a queue with room for all that the jobs may send refuses
+/// none.
 pub fn run<R: Threads + Wait + Sync, G: Gate, S: Sink + Drop>(
     rt: &R,
     alloc: Global,
@@ -128,7 +130,8 @@ pub fn run<R: Threads + Wait + Sync, G: Gate, S: Sink + Drop>(
 
 /// Whether there are a mailbox and an inbox for each job, each mailbox made for the job at its place.
 fn have_mail(jobs: &[Job], boxes: &[Mailbox], inboxes: &[Inbox]) -> bool
-    ensures { (IsTrue result → HaveMail jobs.now boxes.now inboxes.now) × (HaveMail jobs.now boxes.now inboxes.now → IsTrue result) }
+    ensures { (IsTrue result → HaveMail jobs.now boxes.now inboxes.now)
+        × (HaveMail jobs.now boxes.now inboxes.now → IsTrue result) }
 {
     if boxes.len() != jobs.len() {
         return false;
@@ -142,7 +145,8 @@ fn have_mail(jobs: &[Job], boxes: &[Mailbox], inboxes: &[Inbox]) -> bool
 /// Whether each of as many mailboxes was made for the job at its place.
 fn are_for(jobs: &[Job], boxes: &[Mailbox]) -> bool
     requires { length boxes.now ≡ length jobs.now }
-    ensures { (IsTrue result → ArePairs IsMadeFor boxes.now jobs.now) × (ArePairs IsMadeFor boxes.now jobs.now → IsTrue result) }
+    ensures { (IsTrue result → ArePairs IsMadeFor boxes.now jobs.now)
+        × (ArePairs IsMadeFor boxes.now jobs.now → IsTrue result) }
 {
     for place in 0..jobs.len() {
         if !boxes[place].is_for(&jobs[place]) {
@@ -152,12 +156,12 @@ fn are_for(jobs: &[Job], boxes: &[Mailbox]) -> bool
     true
 }
 
-/// Runs the jobs as `run` does, while hosts post actions for their terminals. Before each message a channel's thread takes posts from
-/// its mailbox until that is empty or `posts` of them were taken in this run; each acts at that message, behind what the job placed
-/// there. One that is taken behind the last message acts nowhere, and the report leaves it out. It refuses as `run` does, and U2 also
-/// stands where there are not a mailbox and an inbox for each job, in the order of the jobs and made for its channel and terminals.
-/// The inboxes come back in their order, but for U3; after U4 what was taken stays taken. Condition: each inbox was made with the
-/// mailbox at its place.
+/// Runs the jobs as `run` does, while hosts post actions for their terminals. Before each message a channel's thread
+/// takes posts from its mailbox until that is empty or `posts` of them were taken in this run; each acts at that
+/// message, behind what the job placed there. One that is taken behind the last message acts nowhere, and the report
+/// leaves it out. It refuses as `run` does, and U2 also stands where there are not a mailbox and an inbox for each job,
+/// in the order of the jobs and made for its channel and terminals. The inboxes come back in their order, but for U3;
+/// after U4 what was taken stays taken. Condition: each inbox was made with the mailbox at its place.
 ///
 /// A live run is a run of the jobs with the posts that were placed besides their own actions.
 pub fn run_live<R: Threads + Wait + Sync, G: Gate, S: Sink + Drop>(
@@ -173,10 +177,13 @@ pub fn run_live<R: Threads + Wait + Sync, G: Gate, S: Sink + Drop>(
     requires countable { S.failures sink < 2 ^ 64 - 1 }
     requires ends { AreInboxesOf boxes.now inboxes.items }
     ensures lawful { OnOk result (AreLawful jobs.now settings.now × HaveMail jobs.now boxes.now inboxes.items) }
-    ensures ran { IfOk result (λ r. RanLive S.taken settings.now.posts jobs.now settings.now inboxes.items sink r.0 r.1.items r.2) }
+    ensures ran { IfOk result (λ r. RanLive S.taken settings.now.posts jobs.now settings.now inboxes.items sink r.0
+        r.1.items r.2) }
     ensures ends { IfOk result (λ r. AreInboxesOf boxes.now r.1.items) }
     ensures room { IfOk result (λ r. RefusesNoneWithRoom jobs.now settings.now r.0) }
-    ensures refused { IfErr result (λ e. LeavesLive S.taken S.failures settings.now.posts jobs.now settings.now boxes.now inboxes.items sink e.fault e.inboxes.items) }
+    ensures refused { IfErr result
+        (λ e. LeavesLive S.taken S.failures settings.now.posts jobs.now settings.now boxes.now inboxes.items sink
+        e.fault e.inboxes.items) }
     ensures back { IfErr result (λ e. AreInboxesOf boxes.now e.inboxes.items) }
 {
     if !have_mail(jobs, boxes, &inboxes) {

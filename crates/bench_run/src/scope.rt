@@ -33,9 +33,13 @@ pub(crate) fn begin<S: Sink>(
     before: &Snapshot<S>,
     recorder: Recorder<S>,
 ) -> Log<S>
-    requires begun { IsRecordingOf S.taken (format_of settings.now) [] (S.taken before.now.value) channels.now [] recorder }
-    requires fresh { recorder.writing ≡ record { sink = before.now.value; taken = 0; failed = false; finished = false } }
-    ensures { IsLogged S.taken S.failures (format_of settings.now) settings.now.prologue.items before.now.value channels.now [] result.recorder result.whole }
+    requires begun { IsRecordingOf S.taken (format_of settings.now) []
+        (S.taken before.now.value) channels.now [] recorder }
+    requires fresh { recorder.writing
+        ≡ record { sink = before.now.value; taken = 0; failed = false; finished = false } }
+    ensures { IsLogged S.taken S.failures
+        (format_of settings.now) settings.now.prologue.items before.now.value channels.now [] result.recorder
+        result.whole }
 {
     let _places = channels.len();
     let _before = before;
@@ -89,11 +93,16 @@ fn on_threads<'s, E, R: Threads + Wait + Sync, G: Gate, S: Sink + Drop>(
     requires boxes { length boxes.now ≡ length jobs.now }
     requires ends { AreInboxesOf boxes.now before.inboxes.value.items }
     requires ready { IsReady settings.now.queue jobs.now before.most before.inboxes.value.items shared.now own }
-    requires logged { IsLogged S.taken S.failures (format_of settings.now) settings.now.prologue.items before.sink.value (channels_of jobs.now) [] log.recorder log.whole }
-    ensures ran { IfOk result (λ r. RanLive S.taken before.most jobs.now settings.now before.inboxes.value.items before.sink.value r.0 r.1.items r.2) }
+    requires logged { IsLogged S.taken S.failures
+        (format_of settings.now) settings.now.prologue.items before.sink.value
+        (channels_of jobs.now) [] log.recorder log.whole }
+    ensures ran { IfOk result (λ r. RanLive S.taken before.most jobs.now settings.now before.inboxes.value.items
+        before.sink.value r.0 r.1.items r.2) }
     ensures ends { IfOk result (λ r. AreInboxesOf boxes.now r.1.items) }
     ensures room { IfOk result (λ r. RefusesNoneWithRoom jobs.now settings.now r.0) }
-    ensures refused { IfErr result (λ e. LeavesLate S.taken S.failures before.most jobs.now settings.now before.inboxes.value.items before.sink.value e.fault e.inboxes.items) }
+    ensures refused { IfErr result
+        (λ e. LeavesLate S.taken S.failures before.most jobs.now settings.now before.inboxes.value.items
+        before.sink.value e.fault e.inboxes.items) }
     ensures back { IfErr result (λ e. AreInboxesOf boxes.now e.inboxes.items) }
 {
     let (mut rest, mut taker, mut log) = (own.ticket, own.taker, log);
@@ -152,20 +161,34 @@ pub(crate) fn run_ready<R: Threads + Wait + Sync, G: Gate, S: Sink + Drop>(
     requires boxes { length boxes.now ≡ length jobs.now }
     requires ends { AreInboxesOf boxes.now before.inboxes.value.items }
     requires ready { IsReady settings.now.queue jobs.now before.most before.inboxes.value.items shared.now own }
-    requires logged { IsLogged S.taken S.failures (format_of settings.now) settings.now.prologue.items before.sink.value (channels_of jobs.now) [] log.recorder log.whole }
-    ensures ran { IfOk result (λ r. RanLive S.taken before.most jobs.now settings.now before.inboxes.value.items before.sink.value r.0 r.1.items r.2) }
+    requires logged { IsLogged S.taken S.failures
+        (format_of settings.now) settings.now.prologue.items before.sink.value
+        (channels_of jobs.now) [] log.recorder log.whole }
+    ensures ran { IfOk result (λ r. RanLive S.taken before.most jobs.now settings.now before.inboxes.value.items
+        before.sink.value r.0 r.1.items r.2) }
     ensures ends { IfOk result (λ r. AreInboxesOf boxes.now r.1.items) }
     ensures room { IfOk result (λ r. RefusesNoneWithRoom jobs.now settings.now r.0) }
-    ensures refused { IfErr result (λ e. LeavesLate S.taken S.failures before.most jobs.now settings.now before.inboxes.value.items before.sink.value e.fault e.inboxes.items) }
+    ensures refused { IfErr result
+        (λ e. LeavesLate S.taken S.failures before.most jobs.now settings.now before.inboxes.value.items
+        before.sink.value e.fault e.inboxes.items) }
     ensures back { IfErr result (λ e. AreInboxesOf boxes.now e.inboxes.items) }
 {
     thread::scope(
         thread::scope_env(),
         rt,
         move |scope| -> Result<(Report, Vec<Inbox>, S), LiveError<S>>
-            requires { AreLawful jobs.now settings.now × (length boxes.now ≡ length jobs.now) × AreInboxesOf boxes.now before.inboxes.value.items × IsReady settings.now.queue jobs.now before.most before.inboxes.value.items shared.now own × IsLogged S.taken S.failures (format_of settings.now) settings.now.prologue.items before.sink.value (channels_of jobs.now) [] log.recorder log.whole }
-            ensures { IfOk result (λ r. RanLive S.taken before.most jobs.entry.now settings.entry.now before.inboxes.value.items before.sink.value r.0 r.1.items r.2) × IfOk result (λ r. AreInboxesOf boxes.entry.now r.1.items) × IfOk result (λ r. RefusesNoneWithRoom jobs.entry.now settings.entry.now r.0)
-                × IfErr result (λ e. LeavesLate S.taken S.failures before.most jobs.entry.now settings.entry.now before.inboxes.value.items before.sink.value e.fault e.inboxes.items) × IfErr result (λ e. AreInboxesOf boxes.entry.now e.inboxes.items) }
+            requires { AreLawful jobs.now settings.now × (length boxes.now ≡ length jobs.now)
+                × AreInboxesOf boxes.now before.inboxes.value.items
+                × IsReady settings.now.queue jobs.now before.most before.inboxes.value.items shared.now own
+                × IsLogged S.taken S.failures (format_of settings.now) settings.now.prologue.items before.sink.value
+                (channels_of jobs.now) [] log.recorder log.whole }
+            ensures { IfOk result (λ r. RanLive S.taken before.most jobs.entry.now settings.entry.now
+                before.inboxes.value.items before.sink.value r.0 r.1.items r.2)
+                × IfOk result (λ r. AreInboxesOf boxes.entry.now r.1.items)
+                × IfOk result (λ r. RefusesNoneWithRoom jobs.entry.now settings.entry.now r.0)
+                × IfErr result (λ e. LeavesLate S.taken S.failures before.most jobs.entry.now settings.entry.now
+                before.inboxes.value.items before.sink.value e.fault e.inboxes.items)
+                × IfErr result (λ e. AreInboxesOf boxes.entry.now e.inboxes.items) }
         {
             on_threads(
                 scope, rt, alloc, shared, gate, jobs, settings, boxes, before, own, log,

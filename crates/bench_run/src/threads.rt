@@ -1,5 +1,6 @@
 //! The threads of a run: each is started with its job, and joined again.
-ghost use Rattle.std.specs.Prelude.{◌≡◌, ◌≢◌, ℕ, List, ◌<◌, ◌≤◌, ◌++◌, ◌||◌, [], true, Some, length, map, vec_len, vec_capacity, IfSome, IfOk};
+ghost use Rattle.std.specs.Prelude.{◌≡◌, ◌≢◌, ℕ, List, ◌<◌, ◌≤◌, ◌++◌, ◌||◌, [], true, Some, length, map, vec_len};
+ghost use Rattle.std.specs.Prelude.{vec_capacity, IfSome, IfOk};
 ghost use Rattle.std.specs.List.{AllByRecursion};
 ghost use Rattle.mil_trunk.specs.Tags.{has, bound_of, bounds_outside};
 ghost use Rattle.mil_trunk.specs.Views.{with_tag};
@@ -58,8 +59,8 @@ pub(crate) fn bounds(alloc: Global, jobs: &[Job]) -> Result<Vec<u64>, AllocError
     Ok(bounds)
 }
 
-/// What each thread takes along, in the order of the jobs, each with its inbox, from which it may take so many posts. All memory that
-/// the threads need is taken here.
+/// What each thread takes along, in the order of the jobs, each with its inbox, from which it may take so many posts.
+/// All memory that the threads need is taken here.
 pub(crate) fn rooms(
     alloc: Global,
     jobs: &[Job],
@@ -131,8 +132,10 @@ fn start<'s, E, R: Wait + Sync, G: Gate>(
     requires bound { bound_of (bounds_of ticket) index ≡ most_items job.now }
     requires room { IsRoom job.now room }
     requires inbox { IsInboxOf mailbox.now room.posts.inbox }
-    ensures { IfSome result (λ h. (h.promise.trunk.now ≡ trunk.now) × (h.promise.ticket.value ≡ ticket) × (h.promise.index ≡ index) × (h.promise.job.now ≡ job.now)
-        × (h.promise.mailbox.now ≡ mailbox.now) × (h.promise.most ≡ room.posts.left) × (h.promise.inbox.value ≡ room.posts.inbox)) }
+    ensures { IfSome result (λ h. (h.promise.trunk.now ≡ trunk.now) × (h.promise.ticket.value ≡ ticket)
+        × (h.promise.index ≡ index) × (h.promise.job.now ≡ job.now)
+        × (h.promise.mailbox.now ≡ mailbox.now) × (h.promise.most ≡ room.posts.left)
+        × (h.promise.inbox.value ≡ room.posts.inbox)) }
 {
     let promise = Offers {
         trunk,
@@ -146,15 +149,18 @@ fn start<'s, E, R: Wait + Sync, G: Gate>(
     let started = scope.spawn_with(
         promise,
         move || -> Ended
-            requires { IsTicketOf trunk.now ticket × (sent ticket ≡ []) × (has (tags_of ticket) index ≡ true) × (bound_of (bounds_of ticket) index ≡ most_items job.now) × IsRoom job.now room × IsInboxOf mailbox.now room.posts.inbox }
-            ensures { Offered trunk.entry.now ticket index job.entry.now mailbox.entry.now room.posts.left room.posts.inbox result }
+            requires { IsTicketOf trunk.now ticket × (sent ticket ≡ []) × (has (tags_of ticket) index ≡ true)
+                × (bound_of (bounds_of ticket) index ≡ most_items job.now) × IsRoom job.now room
+                × IsInboxOf mailbox.now room.posts.inbox }
+            ensures { Offered trunk.entry.now ticket index job.entry.now mailbox.entry.now room.posts.left
+                room.posts.inbox result }
         { channel(rt, trunk, gate, index, job, mailbox, ticket, room) },
     );
     started.ok()
 }
 
-/// Starts the threads of the jobs 0, 1, .. with their rooms, up to the first that cannot be started. The handles stand in the
-/// order of the jobs, in memory that was reserved; the ticket keeps the tags that no thread was given.
+/// Starts the threads of the jobs 0, 1, .. with their rooms, up to the first that cannot be started. The handles stand
+/// in the order of the jobs, in memory that was reserved; the ticket keeps the tags that no thread was given.
 pub(crate) fn start_all<'s, E, R: Wait + Sync, G: Gate>(
     scope: &Scope<'s, E>,
     rt: &'s R,
@@ -181,7 +187,8 @@ pub(crate) fn start_all<'s, E, R: Wait + Sync, G: Gate>(
     ensures ticket { IsTicketOf trunk.now rest.new × (sent rest.new ≡ []) × (bounds_of rest.new ≡ bounds_of rest.old) }
     ensures started { vec_len result ≤ length jobs.now }
     ensures tags { (t : ℕ) → t < 64 → length jobs.now ≤ t → has (tags_of rest.new) t ≡ true }
-    ensures promised { ArePromised trunk.now (bounds_of rest.old) jobs.now most boxes.now inboxes.now.value.items result.items }
+    ensures promised { ArePromised trunk.now
+        (bounds_of rest.old) jobs.now most boxes.now inboxes.now.value.items result.items }
 {
     for room in rooms {
         let index = handles.len();
@@ -221,10 +228,13 @@ fn join_one<R: Threads>(
 ) -> Joined
     requires ticket { IsTicketOf trunk.now rest.old × (handle.promise.trunk.now ≡ trunk.now) }
     ensures ticket { IsTicketOf trunk.now rest.new × (bounds_of rest.new ≡ bounds_of rest.old) }
-    ensures tags { (t : ℕ) → has (tags_of rest.new) t ≡ (has (tags_of rest.old) t || has (tags_of handle.entry.promise.ticket.value) t) }
+    ensures tags { (t : ℕ) → has (tags_of rest.new) t
+        ≡ (has (tags_of rest.old) t || has (tags_of handle.entry.promise.ticket.value) t) }
     ensures ended { (own : List Entry) × (sent rest.new ≡ sent rest.old ++ own) × IsEnded (capacity_of trunk.now)
-        (bounds_outside (tags_of handle.entry.promise.ticket.value) (bounds_of handle.entry.promise.ticket.value)) handle.entry.promise.index
-        handle.entry.promise.job.now handle.entry.promise.mailbox.now handle.entry.promise.most handle.entry.promise.inbox.value result own }
+        (bounds_outside (tags_of handle.entry.promise.ticket.value) (bounds_of handle.entry.promise.ticket.value))
+        handle.entry.promise.index
+        handle.entry.promise.job.now handle.entry.promise.mailbox.now handle.entry.promise.most
+        handle.entry.promise.inbox.value result own }
 {
     let Ended {
         ticket,
@@ -235,8 +245,8 @@ fn join_one<R: Threads>(
     Joined { part, inbox }
 }
 
-/// Waits for the threads of the jobs 0, 1, .., takes their tickets in, and gives what is left of them, in the order of the jobs and in
-/// memory that was reserved.
+/// Waits for the threads of the jobs 0, 1, .., takes their tickets in, and gives what is left of them, in the order of
+/// the jobs and in memory that was reserved.
 pub(crate) fn join_all<R: Threads>(
     rt: &R,
     trunk: &Trunk<Entry>,
@@ -251,13 +261,15 @@ pub(crate) fn join_all<R: Threads>(
     requires ticket { IsTicketOf trunk.now rest.old × (sent rest.old ≡ []) }
     requires bounds { bounds_of rest.old ≡ map most_items jobs.now }
     requires distinct { AreDistinct (channels_of jobs.now) }
-    requires promised { ArePromised trunk.now (bounds_of rest.old) jobs.now most boxes.now inboxes.now.value.items handles.items }
+    requires promised { ArePromised trunk.now
+        (bounds_of rest.old) jobs.now most boxes.now inboxes.now.value.items handles.items }
     requires joined { (joined.items ≡ []) × (vec_len handles ≤ vec_capacity joined) }
     ensures ticket { IsTicketOf trunk.now rest.new × (bounds_of rest.new ≡ bounds_of rest.old) }
     ensures held { (t : ℕ) → has (tags_of rest.old) t ≡ true → has (tags_of rest.new) t ≡ true }
     ensures gained { (t : ℕ) → t < vec_len handles.entry → has (tags_of rest.new) t ≡ true }
     ensures len { vec_len result ≡ vec_len handles.entry }
-    ensures ended { AreEnded (capacity_of trunk.now) (sent rest.new) jobs.now most boxes.now inboxes.now.value.items result.items }
+    ensures ended { AreEnded (capacity_of trunk.now)
+        (sent rest.new) jobs.now most boxes.now inboxes.now.value.items result.items }
     ensures unsent { (t : ℕ) → vec_len handles.entry ≤ t → with_tag index_of t (sent rest.new) ≡ [] }
 {
     for handle in handles {

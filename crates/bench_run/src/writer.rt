@@ -1,5 +1,6 @@
 //! What the calling thread does while the channels run: it takes each item and records it.
-ghost use Rattle.std.specs.Prelude.{◌≡◌, ◌<◌, ◌≤◌, ◌+◌, ◌*◌, ◌^◌, ◌++◌, ◌∷◌, [], ℕ, List, true, false, not, ◌||◌, if◌then◌else◌, length, sum, IsTrue, IsFalse};
+ghost use Rattle.std.specs.Prelude.{◌≡◌, ◌<◌, ◌≤◌, ◌+◌, ◌*◌, ◌^◌, ◌++◌, ◌∷◌, [], ℕ, List, true, false, not, ◌||◌};
+ghost use Rattle.std.specs.Prelude.{if◌then◌else◌, length, sum, IsTrue, IsFalse};
 ghost use Rattle.mil_trunk.specs.Ends.{IsTicketOf, IsTakerOf, bounds_of, bounds_in, tags_of, sent, received};
 ghost use Rattle.mil_trunk.specs.Tags.{has, bound_of};
 ghost use Rattle.mil_trunk.specs.Views.{with_tag};
@@ -44,13 +45,16 @@ impl<S: Sink> Log<S> {
     fn put(&mut self, channels: usize, entry: &Entry) -> bool
         requires unfinished { self.old.recorder.writing.finished ≡ false }
         requires few { self.old.recorder.writing.taken + 524288 < 2 ^ 64 }
-        ensures goes_on { IsTrue result → GoesOn S.taken (index_of entry.now) (item_with entry.now) self.old.recorder self.new.recorder }
+        ensures goes_on { IsTrue result
+            → GoesOn S.taken (index_of entry.now) (item_with entry.now) self.old.recorder self.new.recorder }
         ensures index { IsTrue result → index_of entry.now < channels }
         ensures refused { IsFalse result → self.new.recorder ≡ self.old.recorder }
-        ensures when { (h : Held) → index_of entry.now < channels → IsTakenBy self.old.recorder.lanes entry.now h → result ≡ true }
+        ensures when { (h : Held) → index_of entry.now < channels → IsTakenBy self.old.recorder.lanes entry.now h
+            → result ≡ true }
         ensures unfinished { self.new.recorder.writing.finished ≡ false }
         ensures few { self.new.recorder.writing.taken ≤ self.old.recorder.writing.taken + 524288 }
-        ensures failures { S.failures self.new.recorder.writing.sink ≡ (if self.old.recorder.writing.failed || not self.new.recorder.writing.failed
+        ensures failures { S.failures self.new.recorder.writing.sink
+            ≡ (if self.old.recorder.writing.failed || not self.new.recorder.writing.failed
             then S.failures self.old.recorder.writing.sink else S.failures self.old.recorder.writing.sink + 1) }
     {
         let index = usize::from(entry.tag());
@@ -80,7 +84,8 @@ fn tell<G: Gate>(gate: &G, channels: &[u16], entry: &Entry) {
     }
 }
 
-/// Takes and records until as many end marks have come as threads were started. Where the trunk is empty the thread yields.
+/// Takes and records until as many end marks have come as threads were started. Where the trunk is empty the thread
+/// yields.
 pub(crate) fn write<R: Wait, G: Gate, S: Sink>(
     rt: &R,
     trunk: &Trunk<Entry>,

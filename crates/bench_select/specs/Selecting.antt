@@ -1,5 +1,5 @@
--- Which messages of a recording are chosen (own choice): block status bits 13 and 12 are the line and the summary of errors, and a
--- stamp is a time in ticks of 0.1 µs (IRIG 106-17 Chapter 11, MIL-STD-1553 bus data packets, Format 1).
+-- Which messages of a recording are chosen (own choice): block status bits 13 and 12 are the line and the summary of
+-- errors, and a stamp is a time in ticks of 0.1 µs (IRIG 106-17 Chapter 11, MIL-STD-1553 bus data packets, Format 1).
 use Rattle.std.specs.Prelude.{ℕ, nat_le, Bool, true, false, not, ◌&&◌, ◌||◌, Option, Some, None}
 use Rattle.mil_word.specs.Fields.{has_bit}
 use Rattle.ch11_f1.specs.BodyReading.{Message}

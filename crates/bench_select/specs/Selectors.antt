@@ -1,5 +1,5 @@
--- Which messages a selector is about, by their command words (MIL-STD-1553B 4.3.3.5.1); that it does is our own choice. A message
--- without words has no command.
+-- Which messages a selector is about, by their command words (MIL-STD-1553B 4.3.3.5.1); that it does is our own choice.
+-- A message without words has no command.
 use Rattle.std.specs.Prelude.{ℕ, ◌==◌, Bool, true, false, not, ◌&&◌, if◌then◌else◌, Option, Some, None}
 use Rattle.mil_word.specs.Fields.{has_bit, address_of, sub_of, code_of, is_broadcast, is_transmit, is_mode, is_receive}
 use Rattle.ch11_f1.specs.BodyReading.{Message}
@@ -7,7 +7,8 @@ use Rattle.ch11_layout.specs.Layouts.{word_of, first_word, commands_in}
 use Rattle.judge_rules.specs.declared.rules.Bus.{Bus}
 use Rattle.judge_rules.specs.declared.rules.Bus.TheVariants as bus
 use Rattle.judge_rules.specs.declared.rules.Selector.{Selector}
-use Rattle.judge_rules.specs.declared.rules.Selector.TheVariants.{Any, Receive, Transmit, Between, Mode, ReceiveAll, BetweenAll, ModeAll}
+use Rattle.judge_rules.specs.declared.rules.Selector.TheVariants.{Any, Receive, Transmit, Between, Mode, ReceiveAll}
+use Rattle.judge_rules.specs.declared.rules.Selector.TheVariants.{BetweenAll, ModeAll}
 
 -- the number that was chosen, each where none was
 abbrev pub is_chosen : Option ℕ → ℕ → Bool
@@ -18,7 +19,8 @@ is_chosen (Some chosen) number = number == chosen
 abbrev pub calls : Option ℕ → ℕ → Bool
 calls choice command = not (is_broadcast command) && is_chosen choice (address_of command)
 
--- a command to receive, or to transmit, at the subaddress that was chosen, and a mode command with the code that was chosen
+-- a command to receive, or to transmit, at the subaddress that was chosen, and a mode command with the code that was
+-- chosen
 abbrev pub receives : Option ℕ → ℕ → Bool
 receives choice command = is_receive command && is_chosen choice (sub_of command)
 
@@ -43,9 +45,11 @@ selects_one (BetweenAll sender sender_subaddress receiver_subaddress) command = 
 abbrev pub selects_two : Selector → ℕ → ℕ → Bool
 selects_two Any first second = true
 selects_two (Between sender sender_subaddress receiver receiver_subaddress) first second =
-    calls receiver first && receives receiver_subaddress first && calls sender second && transmits sender_subaddress second
+    calls receiver first && receives receiver_subaddress first && calls sender second
+    && transmits sender_subaddress second
 selects_two (BetweenAll sender sender_subaddress receiver_subaddress) first second =
-    is_broadcast first && receives receiver_subaddress first && calls sender second && transmits sender_subaddress second
+    is_broadcast first && receives receiver_subaddress first && calls sender second
+    && transmits sender_subaddress second
 selects_two _ first second = false
 
 abbrev pub second_word : Message → ℕ

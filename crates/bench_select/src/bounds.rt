@@ -24,8 +24,9 @@ const OF_SECOND: usize = 7;
 /// How many digits stand before the point at most, and how many a number of a message has.
 const DIGITS: usize = 10;
 
-/// The bound that a text spells: the number of a message, one to ten digits and not 0, or a time with its unit, as `1.2s`, `350ms` or
-/// `12us`: one to ten digits, and perhaps a point and more of them, down to 0.1 µs. `None` where it spells neither.
+/// The bound that a text spells: the number of a message, one to ten digits and not 0, or a time with its unit, as
+/// `1.2s`, `350ms` or `12us`: one to ten digits, and perhaps a point and more of them, down to 0.1 µs. `None` where it
+/// spells neither.
 #[tactic(auto, unfolding(crate::specs::Bounds::bound_of))]
 pub fn read_bound(text: &[u8]) -> Option<Bound>
     ensures { result ≡ spec.bound_of text.now }

@@ -1,6 +1,7 @@
 -- The messages of a terminal, a direction and a subaddress (own choice): a command word without its last field has
 -- these three (4.3.3.5.1), as a number of 11 bits.
-use Rattle.std.specs.Prelude.{◌≡◌, ◌<◌, ℕ, ◌/◌, ◌^◌, ◌==◌, Bool, false, ◌||◌, List, [], length, Option, None, Some, slice_index_or, slice_set}
+use Rattle.std.specs.Prelude.{◌≡◌, ◌<◌, ℕ, ◌/◌, ◌^◌, ◌==◌, Bool, false, ◌||◌, List, [], length, Option, None, Some}
+use Rattle.std.specs.Prelude.{slice_index_or, slice_set}
 use Rattle.std.specs.List.{filter}
 use Rattle.ch11_f1.specs.BodyReading.{Message}
 use Rattle.bench_stat.specs.declared.flows.Flow.{Flow}

@@ -1,6 +1,7 @@
 -- What is counted of a channel's messages, which stand newest first (own choice). Counts and sums go as far as 64 bits
 -- count them.
-use Rattle.std.specs.Prelude.{◌≡◌, ◌<◌, slice_index_or, ℕ, ◌+◌, ◌*◌, ◌-◌, ◌^◌, ◌==◌, Bool, true, false, not, ◌&&◌, ◌||◌, if◌then◌else◌, List, [], ◌∷◌, length, map, min, max}
+use Rattle.std.specs.Prelude.{◌≡◌, ◌<◌, slice_index_or, ℕ, ◌+◌, ◌*◌, ◌-◌, ◌^◌, ◌==◌, Bool, true, false, not, ◌&&◌, ◌||◌}
+use Rattle.std.specs.Prelude.{if◌then◌else◌, List, [], ◌∷◌, length, map, min, max}
 use Rattle.std.specs.List.{sum_by, count_by, filter, list_any, range_with_len}
 use Rattle.mil_word.specs.Fields.{has_bit}
 use Rattle.ch11_header.specs.declared.header.Header.{Header}

@@ -1,7 +1,9 @@
 -- The status words of messages, counted by their bits (MIL-STD-1553B 4.3.3.5.3).
 use Rattle.std.specs.Prelude.{ℕ, ◌+◌, Bool, ◌||◌, nat_lt, if◌then◌else◌, List, [], ◌∷◌, ◌++◌, length}
 use Rattle.std.specs.List.{count_by, flat_map}
-use Rattle.mil_word.specs.Fields.{has_bit, has_message_error, has_instrumentation, has_service_request, has_broadcast_received, has_busy, has_subsystem_flag, has_control_acceptance, has_terminal_flag}
+use Rattle.mil_word.specs.Fields.{has_bit, has_message_error, has_instrumentation, has_service_request}
+use Rattle.mil_word.specs.Fields.{has_broadcast_received, has_busy, has_subsystem_flag, has_control_acceptance}
+use Rattle.mil_word.specs.Fields.{has_terminal_flag}
 use Rattle.ch11_f1.specs.BodyReading.{Message}
 use Rattle.ch11_layout.specs.Layouts.{size_of, word_of, commands_in, data_start, data_end}
 use Rattle.bench_stat.specs.declared.replies.Replies.{Replies}

@@ -1,6 +1,7 @@
 -- How a recorded message was sent, and which terminals its commands call (IRIG 106-17 Chapter 11, MIL-STD-1553 bus
 -- data packets, Format 1: block status word, gap times word; MIL-STD-1553B 4.3.3.5.1).
-use Rattle.std.specs.Prelude.{ℕ, ◌==◌, Bool, true, false, not, ◌&&◌, nat_lt, if◌then◌else◌, List, [], ◌∷◌, Option, None, Some}
+use Rattle.std.specs.Prelude.{ℕ, ◌==◌, Bool, true, false, not, ◌&&◌, nat_lt, if◌then◌else◌, List, [], ◌∷◌, Option, None}
+use Rattle.std.specs.Prelude.{Some}
 use Rattle.std.specs.List.{flat_map}
 use Rattle.mil_word.specs.Fields.{has_bit, address_of, is_mode, is_transmit}
 use Rattle.ch11_f1.specs.BodyReading.{Message}

@@ -32,7 +32,8 @@ impl<'a, 'i> Model for Chosen<'a, 'i> {
 
     ghost Value = { List Message };
 
-    ghost view = { λ m. picked m.selection.now m.channel m.before m.current ++ chosen m.selection.now m.channel (total_in (take m.place m.index.now)) (drop m.place m.index.now) };
+    ghost view = { λ m. picked m.selection.now m.channel m.before m.current
+        ++ chosen m.selection.now m.channel (total_in (take m.place m.index.now)) (drop m.place m.index.now) };
 
     ghost invariant = { λ m. m.before + length m.current < 2 ^ 64 };
 }
@@ -61,7 +62,10 @@ fn next_selected<'a>(
     channel: u16,
 ) -> Option<Seen<'a>>
     requires { before.old + length messages.old < 2 ^ 64 }
-    ensures picked { MatchOption result ((picked selection.now channel before.old messages.old ≡ []) × (messages.new ≡ [])) (λ seen. picked selection.now channel before.old messages.old ≡ message_of seen ∷ picked selection.now channel before.new messages.new) }
+    ensures picked { MatchOption result
+        ((picked selection.now channel before.old messages.old ≡ []) × (messages.new ≡ []))
+        (λ seen. picked selection.now channel before.old messages.old
+        ≡ message_of seen ∷ picked selection.now channel before.new messages.new) }
     ensures counted { before.new + length messages.new ≡ before.old + length messages.old }
 {
     'messages: while let Some(seen) = messages.next() {
@@ -80,7 +84,9 @@ fn messages_at<'a>(
     place: usize,
     channel: u16,
 ) -> Option<(usize, (u64, Messages<'a>))>
-    ensures { MatchOption result ((s : SelectionValue) → chosen s channel (total_in (take place index.now)) (drop place index.now) ≡ []) (λ x. IsNext index.now channel place x.0 x.1.0 x.1.1) }
+    ensures { MatchOption result ((s : SelectionValue)
+        → chosen s channel (total_in (take place index.now)) (drop place index.now) ≡ [])
+        (λ x. IsNext index.now channel place x.0 x.1.0 x.1.1) }
 {
     let packets = index.packets();
     if place >= packets.len() {

@@ -51,7 +51,8 @@ impl Details {
 
     /// One more message.
     fn note(&mut self, seen: &Seen<'_>)
-        ensures { (history : List Message) → self.old ≡ details_of history → self.new ≡ details_of (message_of seen.now ∷ history) }
+        ensures { (history : List Message) → self.old ≡ details_of history
+            → self.new ≡ details_of (message_of seen.now ∷ history) }
     {
         self.flow.note(seen);
         self.replies.note(seen);

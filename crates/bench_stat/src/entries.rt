@@ -49,7 +49,8 @@ fn is_same(first: Option<u16>, second: Option<u16>) -> bool
 /// One more message, for the entries of its commands.
 pub(crate) fn note_entries(entries: &mut [Flow], seen: &Seen<'_>)
     requires { length entries.old ≡ ENTRIES }
-    ensures { (history : List Message) → AreEntries history entries.old → AreEntries (message_of seen.now ∷ history) entries.new }
+    ensures { (history : List Message) → AreEntries history entries.old
+        → AreEntries (message_of seen.now ∷ history) entries.new }
 {
     let sending = Sending::of(seen);
     note_choice(entries, sending.first, seen);

@@ -65,7 +65,8 @@ impl Flow {
     /// One more message, behind the others.
     pub fn note(&mut self, seen: &Seen<'_>)
         ensures new { self.new ≡ spec.with_message (message_of seen.now) self.old }
-        ensures flow { (history : List Message) → self.old ≡ spec.flow_of history → self.new ≡ spec.flow_of (message_of seen.now ∷ history) }
+        ensures flow { (history : List Message) → self.old ≡ spec.flow_of history
+            → self.new ≡ spec.flow_of (message_of seen.now ∷ history) }
     {
         self.note_message(seen);
     }

@@ -45,8 +45,8 @@ impl Shown {
 }
 
 /// Writes the figures of each channel as lines aligned for people. They are those of the selected messages of the
-/// recording. Times of day are those of the clock; a channel of which it tells none has no line of them. It fails for want
-/// of memory, and where the writer does.
+/// recording. Times of day are those of the clock; a channel of which it tells none has no line of them. It fails for
+/// want of memory, and where the writer does.
 pub fn print_page<W: Write>(
     alloc: Global,
     out: &mut W,
@@ -87,7 +87,8 @@ fn print_losses<W: Write>(
             let (number, overflows, jumps) = (channel.channel, losses.overflows, losses.jumps);
             writeln!(
                 out,
-                "messages are missing from channel {number}: packets with the overflow flag {overflows}, jumps of the sequence number {jumps}"
+                "messages are missing from channel {number}: packets with the overflow flag {overflows}, jumps of the \
+                 sequence number {jumps}"
             )?;
         }
     }

@@ -45,7 +45,8 @@ impl Parts {
     }
 }
 
-/// Writes a row of comma-separated values for each terminal address of a channel that was called. A fault is the writer's.
+/// Writes a row of comma-separated values for each terminal address of a channel that was called. A fault is the
+/// writer's.
 pub(crate) fn print_rows<W: Write>(
     out: &mut W,
     figures: &ChannelFigures,
@@ -125,7 +126,8 @@ pub(crate) fn print_errors<W: Write>(out: &mut W, errors: &Errors) -> io::Result
     let (sync, unsound, other) = (errors.sync, errors.unsound, errors.other);
     writeln!(
         out,
-        "  errors    {messages} messages: no response or late {response}, word count {words}, sync {sync}, unsound word {unsound}, other {other}"
+        "  errors    {messages} messages: no response or late {response}, word count {words}, sync {sync}, unsound \
+         word {unsound}, other {other}"
     )
 }
 

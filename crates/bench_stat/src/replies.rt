@@ -97,7 +97,8 @@ impl Replies {
 
     /// One more message.
     pub fn note(&mut self, seen: &Seen<'_>)
-        ensures { (history : List Message) → self.old ≡ spec.replies_of history → self.new ≡ spec.replies_of (message_of seen.now ∷ history) }
+        ensures { (history : List Message) → self.old ≡ spec.replies_of history
+            → self.new ≡ spec.replies_of (message_of seen.now ∷ history) }
     {
         let layout = Layout::of(seen);
         self.note_at(seen, layout.commands, layout.data_start);

@@ -29,9 +29,9 @@ const LOAD: &str = "channel,begin_us,end_us,load_percent";
 
 /// Writes the figures as rows of comma-separated values: those of the channels where they are asked for, then those of
 /// terminals or of subaddresses, then the load over time where it is asked for; each table behind a row with the names
-/// of its columns, and an empty line between two of them. Times of day are those of the clock, in two rows of a channel's
-/// figures, and in two columns behind the others of terminals and of subaddresses. It fails for want of memory, and where
-/// the writer does.
+/// of its columns, and an empty line between two of them. Times of day are those of the clock, in two rows of a
+/// channel's figures, and in two columns behind the others of terminals and of subaddresses. It fails for want of
+/// memory, and where the writer does.
 pub fn print_tables<W: Write>(
     alloc: Global,
     out: &mut W,

@@ -66,7 +66,8 @@ pub(crate) fn idle_slices(alloc: Global, begin: u64, end: u64) -> Result<Vec<Sli
 
 /// One more message.
 pub(crate) fn note_slices(slices: &mut [Slice], seen: &Seen<'_>)
-    ensures { (history : List Message) → spec.AreBusy history slices.old → spec.AreBusy (message_of seen.now ∷ history) slices.new }
+    ensures { (history : List Message) → spec.AreBusy history slices.old
+        → spec.AreBusy (message_of seen.now ∷ history) slices.new }
 {
     'slices: for slice in slices.iter_mut() {
         slice.note(seen);

@@ -1,5 +1,6 @@
 //! The figures of a whole recording.
-ghost use Rattle.std.specs.Prelude.{◌≡◌, ◌<◌, ◌&&◌, length, replicate, true, false, slice_set, slice_index_or, IfOk, vec_len};
+ghost use Rattle.std.specs.Prelude.{◌≡◌, ◌<◌, ◌&&◌, length, replicate, true, false, slice_set, slice_index_or, IfOk};
+ghost use Rattle.std.specs.Prelude.{vec_len};
 ghost use Rattle.bench_select.specs.Selectors.{is_chosen};
 ghost use Rattle.bench_stat.specs.Figures.{statistics, headers_listed, ArePresent};
 

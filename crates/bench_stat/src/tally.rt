@@ -46,7 +46,8 @@ impl Tally {
 
     /// One more message.
     pub fn note(&mut self, seen: &Seen<'_>)
-        ensures { (channel : ℕ) (history : List Message) → self.old ≡ tally_of channel history → self.new ≡ tally_of channel (message_of seen.now ∷ history) }
+        ensures { (channel : ℕ) (history : List Message) → self.old ≡ tally_of channel history
+            → self.new ≡ tally_of channel (message_of seen.now ∷ history) }
     {
         let sending = Sending::of(seen);
         self.figures.traffic.note(seen);
@@ -75,7 +76,8 @@ fn is_retry(latest: &Option<Sending>, now: &Sending) -> bool
 /// The calls of one more message.
 fn note_calls(terminals: &mut [TerminalFigures], sending: &Sending, first_gap: u8, second_gap: u8)
     requires { length terminals.old ≡ 32 }
-    ensures { (calls : List CallValue) → terminals.old ≡ terminals_of calls → terminals.new ≡ terminals_of (calls_sent sending.now first_gap second_gap ++ calls) }
+    ensures { (calls : List CallValue) → terminals.old ≡ terminals_of calls
+        → terminals.new ≡ terminals_of (calls_sent sending.now first_gap second_gap ++ calls) }
 {
     let Some(first) = sending.first else {
         return;

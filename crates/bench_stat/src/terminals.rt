@@ -120,7 +120,8 @@ pub(crate) fn no_calls() -> [TerminalFigures; 32]
 pub(crate) fn note_call(terminals: &mut [TerminalFigures], call: &Call)
     requires many { length terminals.old ≡ 32 }
     requires range { call.now.address < 32 }
-    ensures noted { (calls : List CallValue) → terminals.old ≡ terminals_of calls → terminals.new ≡ terminals_of (call.now ∷ calls) }
+    ensures noted { (calls : List CallValue) → terminals.old ≡ terminals_of calls
+        → terminals.new ≡ terminals_of (call.now ∷ calls) }
     ensures many { length terminals.new ≡ 32 }
 {
     let place = usize::from(call.address);

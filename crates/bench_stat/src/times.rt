@@ -7,8 +7,8 @@ ghost use Rattle.bench_stat.specs.Times.{AreTimes};
 use crate::traffic::Traffic;
 use bench_clock::{Clock, UtcTime};
 
-/// The times of day of the first and the last message of a channel, by its stamp; none where the recording's time packets
-/// tell none, or there is no message.
+/// The times of day of the first and the last message of a channel, by its stamp; none where the recording's time
+/// packets tell none, or there is no message.
 #[derive(Clone, Copy, Debug)]
 pub struct Times {
     /// That at the least stamp.

@@ -19,7 +19,8 @@ words_text (w ∷ ws) = all_words (w ∷ ws)
 -- a terminal, a subaddress, and what is told of it
 abbrev pub data_line : ℕ → ℕ → Text → List ℕ → Text
 data_line address subaddress name words =
-    (codes "terminal " ++ (decimal address ++ (codes " subaddress " ++ (decimal subaddress ++ name)))) ++ (words_text words ++ codes "\n")
+    (codes "terminal " ++ (decimal address ++ (codes " subaddress " ++ (decimal subaddress ++ name))))
+    ++ (words_text words ++ codes "\n")
 
 -- the three lines of a terminal and a subaddress
 unfoldable pub data_lines : ℕ → Station → Text

@@ -1,7 +1,8 @@
--- What the host of a terminal has set on or off by a message (own choice): the actions that were placed at it up to there are
--- the history of its host, and the terminal's own definitions say what is on by the end of that. The lines on which it is deaf
--- or mute are shown apart.
-use Rattle.std.specs.Prelude.{ℕ, Bool, not, ◌&&◌, ◌||◌, ◌==◌, nat_le, if◌then◌else◌, List, [], ◌∷◌, ◌++◌, codes, decimal}
+-- What the host of a terminal has set on or off by a message (own choice): the actions that were placed at it up to
+-- there are the history of its host, and the terminal's own definitions say what is on by the end of that. The lines on
+-- which it is deaf or mute are shown apart.
+use Rattle.std.specs.Prelude.{ℕ, Bool, not, ◌&&◌, ◌||◌, ◌==◌, nat_le, if◌then◌else◌, List, [], ◌∷◌, ◌++◌, codes}
+use Rattle.std.specs.Prelude.{decimal}
 use Rattle.mil_host.specs.Words.{Text}
 use Rattle.mil_terminal.specs.declared.events.Event.{Event}
 use Rattle.mil_terminal.specs.declared.events.Event.TheVariants.{Host}
@@ -24,7 +25,13 @@ host_history address number (p ∷ ps) = host_history address number ps ++ met_o
 
 -- what is on by the end of a history
 abbrev pub marks_in : History → Marks
-marks_in h = record { busy = is_busy h; service = requests_service h; subsystem = has_subsystem_fault h; fault = has_fault h; control = accepts_control h }
+marks_in h = record {
+  busy = is_busy h;
+  service = requests_service h;
+  subsystem = has_subsystem_fault h;
+  fault = has_fault h;
+  control = accepts_control h;
+}
 
 abbrev pub name_if : Bool → Text → Text
 name_if on name = if on then name else []
@@ -38,5 +45,6 @@ unfoldable pub marks_line : ℕ → Marks → Text
 marks_line address m =
     codes "terminal " ++ (decimal address
     ++ (codes " marks" ++ (none_if m
-    ++ (name_if m.busy (codes " busy") ++ (name_if m.service (codes " service") ++ (name_if m.subsystem (codes " subsystem")
+    ++ (name_if m.busy (codes " busy")
+    ++ (name_if m.service (codes " service") ++ (name_if m.subsystem (codes " subsystem")
     ++ (name_if m.fault (codes " fault") ++ (name_if m.control (codes " control") ++ codes "\n"))))))))

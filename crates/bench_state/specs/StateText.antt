@@ -41,7 +41,8 @@ terminal_line s =
     ++ (field (codes " vector ") (vector s.history)
     ++ (field (codes " bit ") (bit_word s.own s.history)
     ++ (field (codes " sync ") (sync_word s.own s.history)
-    ++ (codes " off " ++ off_text (is_transmitter_on s.own A s.history) (is_transmitter_on s.own B s.history) ++ codes "\n"))))))
+    ++ (codes " off " ++ off_text (is_transmitter_on s.own A s.history) (is_transmitter_on s.own B s.history)
+    ++ codes "\n"))))))
 
 -- the line of what its host set: the lines on which it is deaf, and those on which it is mute
 unfoldable pub host_line : Station → Text
@@ -76,7 +77,8 @@ terminal_lines detail number placed bus = lines_below detail number placed 31 bu
 
 -- a channel's line: its number, and that of the last message that its bus has met
 unfoldable pub channel_line : ℕ → ℕ → Text
-channel_line channel number = codes "channel " ++ (decimal channel ++ (codes " number " ++ (decimal number ++ codes "\n")))
+channel_line channel number = codes "channel "
+    ++ (decimal channel ++ (codes " number " ++ (decimal number ++ codes "\n")))
 
 -- a channel behind the message of a number, where these actions of hosts were placed
 abbrev pub channel_text : Detail → ℕ → ℕ → List Placed → BusState → Text

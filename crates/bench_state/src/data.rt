@@ -16,7 +16,8 @@ fn print_line<W: Write>(
     name: &str,
     words: &[u16],
 ) -> io::Result<()>
-    ensures { OnOk result (Appends (W.contents out.old) (W.contents out.new) (data_line address subaddress name.now words.now)) }
+    ensures { OnOk result (Appends (W.contents out.old) (W.contents out.new)
+        (data_line address subaddress name.now words.now)) }
 {
     write!(out, "terminal {address} subaddress {subaddress}{name}")?;
     print_words(out, words)?;
@@ -61,7 +62,8 @@ pub(crate) fn print_data<W: Write>(
     subaddress: u8,
     terminal: &Terminal,
 ) -> io::Result<()>
-    ensures { OnOk result (Appends (W.contents out.old) (W.contents out.new) (data_shown address subaddress terminal.now)) }
+    ensures { OnOk result (Appends (W.contents out.old) (W.contents out.new)
+        (data_shown address subaddress terminal.now)) }
 {
     if terminal.address() == address && 1 <= subaddress && subaddress <= 30 {
         return print_lines(out, terminal, subaddress);

@@ -5,9 +5,10 @@
 pub enum Detail {
     /// Its registers.
     Registers,
-    /// Its registers, and in two lines behind them what its host set: the lines on which it is deaf, and mute; and which of
-    /// busy, service request, subsystem flag, terminal fault and acceptance of bus control are on.
+    /// Its registers, and in two lines behind them what its host set: the lines on which it is deaf, and mute; and
+    /// which of busy, service request, subsystem flag, terminal fault and acceptance of bus control are on.
     Host,
-    /// The data words of one terminal alone, of address 0 to 30, at a subaddress of 1 to 30: nothing is shown at another.
+    /// The data words of one terminal alone, of address 0 to 30, at a subaddress of 1 to 30: nothing is shown at
+    /// another.
     Data { address: u8, subaddress: u8 },
 }

@@ -1,7 +1,8 @@
 //! What the terminals of a channel hold, as lines.
 ghost use Rattle.std.specs.Prelude.{◌≡◌, ◌++◌, OnOk, codes};
 ghost use Rattle.std.specs.Io.KnownBytes.{Appends};
-ghost use Rattle.bench_state.specs.StateText.{channel_text, field, host_line, lines_text, off_text, set_lines, terminal_line, terminal_lines, terminal_text};
+ghost use Rattle.bench_state.specs.StateText.{channel_text, field, host_line, lines_text, off_text, set_lines};
+ghost use Rattle.bench_state.specs.StateText.{terminal_line, terminal_lines, terminal_text};
 
 use crate::data::print_data;
 use crate::details::Detail;
@@ -36,7 +37,8 @@ fn print_field<W: Write>(out: &mut W, name: &str, value: u16) -> io::Result<()>
 
 /// Prints which transmitters are off, where these are on, and the end of the line.
 fn print_off<W: Write>(out: &mut W, a: bool, b: bool) -> io::Result<()>
-    ensures { OnOk result (Appends (W.contents out.old) (W.contents out.new) (codes " off " ++ off_text a b ++ codes "\n")) }
+    ensures { OnOk result (Appends (W.contents out.old) (W.contents out.new)
+        (codes " off " ++ off_text a b ++ codes "\n")) }
 {
     let off = lines(!a, !b);
     writeln!(out, " off {off}")
@@ -78,7 +80,8 @@ fn print_set<W: Write>(
     placed: &[Placed],
     terminal: &Terminal,
 ) -> io::Result<()>
-    ensures { OnOk result (Appends (W.contents out.old) (W.contents out.new) (set_lines number placed.now terminal.now)) }
+    ensures { OnOk result (Appends (W.contents out.old) (W.contents out.new)
+        (set_lines number placed.now terminal.now)) }
 {
     print_host(out, terminal)?;
     let address = terminal.address();
@@ -94,7 +97,8 @@ fn print_detail<W: Write>(
     placed: &[Placed],
     terminal: &Terminal,
 ) -> io::Result<()>
-    ensures { OnOk result (Appends (W.contents out.old) (W.contents out.new) (terminal_text detail number placed.now terminal.now)) }
+    ensures { OnOk result (Appends (W.contents out.old) (W.contents out.new)
+        (terminal_text detail number placed.now terminal.now)) }
 {
     match detail {
         Detail::Registers => print_terminal(out, terminal),
@@ -118,7 +122,8 @@ fn print_terminals<W: Write>(
     placed: &[Placed],
     bus: &Bus,
 ) -> io::Result<()>
-    ensures { OnOk result (Appends (W.contents out.old) (W.contents out.new) (terminal_lines detail number placed.now bus.now)) }
+    ensures { OnOk result (Appends (W.contents out.old) (W.contents out.new)
+        (terminal_lines detail number placed.now bus.now)) }
 {
     for address in 0..31u8 {
         if let Some(terminal) = bus.terminal(address) {
@@ -128,8 +133,9 @@ fn print_terminals<W: Write>(
     Ok(())
 }
 
-/// Prints what the terminals of a channel hold: a line for the channel, with the number of the last message that its bus has met,
-/// and behind it what the detail shows of each terminal, where these actions of hosts were placed. It takes no memory.
+/// Prints what the terminals of a channel hold: a line for the channel, with the number of the last message that its
+/// bus has met, and behind it what the detail shows of each terminal, where these actions of hosts were placed. It
+/// takes no memory.
 #[tactic(auto, unfolding(crate::specs::StateText::channel_line))]
 pub fn print_channel<W: Write>(
     out: &mut W,
@@ -139,7 +145,8 @@ pub fn print_channel<W: Write>(
     placed: &[Placed],
     bus: &Bus,
 ) -> io::Result<()>
-    ensures { OnOk result (Appends (W.contents out.old) (W.contents out.new) (channel_text detail channel number placed.now bus.now)) }
+    ensures { OnOk result (Appends (W.contents out.old) (W.contents out.new)
+        (channel_text detail channel number placed.now bus.now)) }
 {
     writeln!(out, "channel {channel} number {number}")?;
     print_terminals(out, detail, number, placed, bus)

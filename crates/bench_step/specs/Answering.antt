@@ -1,5 +1,6 @@
 -- What a session reads and writes.
-use Rattle.std.specs.Prelude.{◌≡◌, ◌≢◌, ℕ, Bool, true, false, List, [], ◌∷◌, ◌++◌, ◌⊎◌, if◌then◌else◌, Option, Some, IfSome, Ok, Err}
+use Rattle.std.specs.Prelude.{◌≡◌, ◌≢◌, ℕ, Bool, true, false, List, [], ◌∷◌, ◌++◌, ◌⊎◌, if◌then◌else◌, Option, Some}
+use Rattle.std.specs.Prelude.{IfSome, Ok, Err}
 use Rattle.std.specs.List.{list_any}
 use Rattle.std.specs.Io.KnownBytes.{Appends}
 use Rattle.std.specs.declared.io.ErrorKind.{ErrorKind}
@@ -14,14 +15,17 @@ use Rattle.replay.specs.Accord.{Agrees}
 use Rattle.replay.specs.Differences.{IsFirstDifference}
 use Rattle.replay.specs.Moves.{ReplayState}
 use Rattle.bench_step.specs.Commands.{Asked, quit, asked}
-use Rattle.bench_step.specs.Session.{Replies, after_reply, reply_text, is_memory, is_end, MayTell, AreReplies, after_replies, AreTold, session_text, any_memory}
+use Rattle.bench_step.specs.Session.{Replies, after_reply, reply_text, is_memory, is_end, MayTell, AreReplies}
+use Rattle.bench_step.specs.Session.{after_replies, AreTold, session_text, any_memory}
 use Rattle.bench_step.specs.declared.manners.Manner.{Manner}
 use Rattle.bench_step.specs.declared.replies.Reply.{Reply}
 use Rattle.bench_step.specs.declared.fault.StepFault.{StepFault}
 use Rattle.bench_step.specs.declared.fault.StepFault.TheVariants as fault
 
--- a line was answered: from one state to the next, with what the writer got, and whether memory was refused, and the session ends
-pub record IsAnswered (manner : Manner) (old new : ReplayState) (line : Text) (got gets : Option (List ℕ)) (refused ends : Bool) : Type 0 where
+-- a line was answered: from one state to the next, with what the writer got, and whether memory was refused, and the
+-- session ends
+pub record IsAnswered (manner : Manner) (old new : ReplayState) (line : Text) (got gets : Option (List ℕ))
+    (refused ends : Bool) : Type 0 where
   pub reply : Reply
   pub told : Text
   pub lawful : Replies old (asked manner line) reply
@@ -31,9 +35,10 @@ pub record IsAnswered (manner : Manner) (old new : ReplayState) (line : Text) (g
   pub memory : refused ≡ is_memory reply
   pub end : ends ≡ is_end reply
 
--- Lines were answered from a state on. Where the reader's bytes are known, they are the first lines of its text, and these bytes
--- are left of it.
-pub record IsSession (manner : Manner) (s new : ReplayState) (left leaves got gets : Option (List ℕ)) (refused : Bool) : Type 0 where
+-- Lines were answered from a state on. Where the reader's bytes are known, they are the first lines of its text, and
+-- these bytes are left of it.
+pub record IsSession (manner : Manner) (s new : ReplayState) (left leaves got gets : Option (List ℕ))
+    (refused : Bool) : Type 0 where
   pub lines : List Text
   pub replies : List Reply
   pub told : List Text
@@ -72,7 +77,8 @@ abbrev pub IsEnded : Option (List ℕ) → Option (List ℕ) → Type 0
 IsEnded left leaves = IfSome left (λ text. leaves ≡ Some [])
 
 -- All lines were answered, up to the first that ends the session. Where none ends it, nothing is left.
-pub record IsAllRead (manner : Manner) (s new : ReplayState) (left leaves got gets : Option (List ℕ)) (refused : Bool) : Type 0 where
+pub record IsAllRead (manner : Manner) (s new : ReplayState) (left leaves got gets : Option (List ℕ))
+    (refused : Bool) : Type 0 where
   pub session : IsSession manner s new left leaves got gets refused
   pub all : IfSome left (λ text. session.lines ≡ up_to_quit manner (text_lines text))
   pub ended : any_quit manner session.lines ≡ false → IsEnded left leaves
@@ -84,8 +90,10 @@ pub record IsThrough (manner : Manner) (jobs : List JobState) (parts : List Chan
   pub last : ReplayState
   pub read : IsAllRead manner (opened jobs parts recording) last left leaves got gets refused
 
--- a debugger on a recording: jobs, report and recording are those that it was opened with, and this is what the file holds
-pub record IsOpen (s : ReplayState) (jobs : List JobState) (parts : List ChannelPart) (found : List Found) (recording : List ℕ) : Type 0 where
+-- a debugger on a recording: jobs, report and recording are those that it was opened with, and this is what the file
+-- holds
+pub record IsOpen (s : ReplayState) (jobs : List JobState) (parts : List ChannelPart) (found : List Found)
+    (recording : List ℕ) : Type 0 where
   pub jobs_are : s.jobs ≡ jobs
   pub parts_are : s.parts ≡ parts
   pub found_is : s.found ≡ found
@@ -99,7 +107,8 @@ pub record SessionState : Type 0 where
 -- they were, and all those lines were answered, for none of which memory was refused
 abbrev pub IsWhole : Manner → List JobState → List ChannelPart → List ℕ
     → Option (List ℕ) → Option (List ℕ) → Option (List ℕ) → Option (List ℕ) → Type 0
-IsWhole manner jobs parts recording left leaves got gets = IsThrough manner jobs parts recording left leaves got gets false
+IsWhole manner jobs parts recording left leaves got gets = IsThrough manner jobs parts recording left leaves got gets
+    false
 
 -- the fault of a reader whose error is of this kind
 abbrev pub IsReaders : ErrorKind → StepFault → Type 0
@@ -126,8 +135,8 @@ IsCutShort manner s left got gets fault.LineMemory = IsFront manner s left got g
 IsCutShort manner s left got gets fault.Input = IsFront manner s left got gets
 IsCutShort manner s left got gets fault.Output = Unit {0}
 
--- Why a debugger was not opened. The recording's fault comes first, and only where it has one; then the first difference between
--- jobs, report and recording; want of memory where the recording can be read.
+-- Why a debugger was not opened. The recording's fault comes first, and only where it has one; then the first
+-- difference between jobs, report and recording; want of memory where the recording can be read.
 abbrev pub IsRefusal : List JobState → List ChannelPart → List ℕ → StepFault → Type 0
 IsRefusal jobs parts recording (fault.Refused r) = packets_in recording ≡ Err r
 IsRefusal jobs parts recording (fault.Mismatch channel number) =
@@ -143,12 +152,15 @@ pub record IsUntouched (left leaves got gets : Option (List ℕ)) : Type 0 where
   pub writer : gets ≡ got
 
 -- they were accepted, and the session was cut short
-abbrev pub IsBegun : Manner → List JobState → List ChannelPart → List ℕ → Option (List ℕ) → Option (List ℕ) → Option (List ℕ) → StepFault → Type 0
-IsBegun manner jobs parts recording left got gets f = IsAccepted jobs parts recording × IsCutShort manner (opened jobs parts recording) left got gets f
+abbrev pub IsBegun : Manner → List JobState → List ChannelPart → List ℕ → Option (List ℕ) → Option (List ℕ)
+    → Option (List ℕ) → StepFault → Type 0
+IsBegun manner jobs parts recording left got gets f = IsAccepted jobs parts recording
+    × IsCutShort manner (opened jobs parts recording) left got gets f
 
--- The debugger was not opened, and no line was read; or its session was cut short; or all lines were answered, up to the first
--- that ends it, and memory was refused for what some of them asks.
-abbrev pub Ends : Manner → List JobState → List ChannelPart → List ℕ → Option (List ℕ) → Option (List ℕ) → Option (List ℕ) → Option (List ℕ) → StepFault → Type 0
+-- The debugger was not opened, and no line was read; or its session was cut short; or all lines were answered, up to
+-- the first that ends it, and memory was refused for what some of them asks.
+abbrev pub Ends : Manner → List JobState → List ChannelPart → List ℕ → Option (List ℕ) → Option (List ℕ)
+    → Option (List ℕ) → Option (List ℕ) → StepFault → Type 0
 Ends manner jobs parts recording left leaves got gets f =
     (IsRefusal jobs parts recording f × IsUntouched left leaves got gets)
     ⊎ (IsBegun manner jobs parts recording left got gets f

@@ -1,5 +1,6 @@
 -- A session (own choice): lines, and what is replied to each of them, from the state that those before it left.
-use Rattle.std.specs.Prelude.{◌≡◌, ◌≢◌, ℕ, ◌+◌, ◌-◌, ◌<◌, ◌≤◌, ◌==◌, ◌⊎◌, Bool, true, false, not, List, [], ◌∷◌, ◌++◌, Option, None, Some, codes, decimal}
+use Rattle.std.specs.Prelude.{◌≡◌, ◌≢◌, ℕ, ◌+◌, ◌-◌, ◌<◌, ◌≤◌, ◌==◌, ◌⊎◌, Bool, true, false, not, List, [], ◌∷◌, ◌++◌}
+use Rattle.std.specs.Prelude.{Option, None, Some, codes, decimal}
 use Rattle.std.specs.List.{flat_map, zip, list_any}
 use Rattle.mil_host.specs.Words.{Text}
 use Rattle.frame_tree.specs.Tree.{Condition}
@@ -16,7 +17,8 @@ use Rattle.bench_state.specs.declared.details.Detail.{Detail}
 use Rattle.bench_state.specs.StateText.{channel_text}
 use Rattle.bench_places.specs.Places.{latest_of, place_before, place_of}
 use Rattle.bench_places.specs.declared.sought.Sought.TheVariants.{Later, Commands}
-use Rattle.bench_step.specs.Commands.{Asked, forward, back, go, go_time, seek, find, find_back, select, select_back, state, show, show_at, help, quit, no_condition, unknown, asked}
+use Rattle.bench_step.specs.Commands.{Asked, forward, back, go, go_time, seek, find, find_back, select, select_back}
+use Rattle.bench_step.specs.Commands.{state, show, show_at, help, quit, no_condition, unknown, asked}
 use Rattle.bench_step.specs.HelpText.{help_text}
 use Rattle.bench_step.specs.Backwards.{IsLatest}
 use Rattle.bench_step.specs.declared.manners.Manner.{Manner}
@@ -114,7 +116,8 @@ reply_text reply.Help s = help_text
 reply_text reply.Quit s = []
 reply_text reply.Unknown s = codes "unknown\n"
 
--- whether the message of a number is shown as people read it: where that is asked, and behind each move where lines are typed
+-- whether the message of a number is shown as people read it: where that is asked, and behind each move where lines are
+-- typed
 abbrev pub tells_message : Manner → Reply → Bool
 tells_message manner (reply.Message n) = true
 tells_message Typed (reply.At n) = not (n == 0)
@@ -141,7 +144,8 @@ abbrev pub AreReplies : Manner → ReplayState → List Text → List Reply → 
 AreReplies manner s [] [] = Unit {0}
 AreReplies manner s [] (r ∷ rs) = ⊥
 AreReplies manner s (line ∷ lines) [] = ⊥
-AreReplies manner s (line ∷ lines) (r ∷ rs) = Replies s (asked manner line) r × AreReplies manner (after_reply r s) lines rs
+AreReplies manner s (line ∷ lines) (r ∷ rs) = Replies s (asked manner line) r
+    × AreReplies manner (after_reply r s) lines rs
 
 -- the state behind all of them
 abbrev pub after_replies : List Reply → ReplayState → ReplayState
@@ -168,5 +172,6 @@ any_memory replies = list_any is_memory replies
 -- where memory is refused for no line, what is replied to the lines is determined
 abbrev pub RepliesAreDetermined : Type 0
 RepliesAreDetermined =
-    (manner : Manner) (s : ReplayState) (lines : List Text) (replies others : List Reply) → AreReplies manner s lines replies → AreReplies manner s lines others
+    (manner : Manner) (s : ReplayState) (lines : List Text) (replies others : List Reply)
+    → AreReplies manner s lines replies → AreReplies manner s lines others
     → any_memory replies ≡ false → any_memory others ≡ false → replies ≡ others

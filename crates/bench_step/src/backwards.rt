@@ -53,7 +53,8 @@ fn latest_of(
     condition: &Cond<Global>,
     place: u64,
 ) -> Result<Option<u64>, AllocError>
-    ensures { IfOk result (λ n. Latest (opened jobs.now report.now.channels recording.now) (condition_in condition.now) place n) }
+    ensures { IfOk result (λ n. Latest (opened jobs.now report.now.channels recording.now)
+        (condition_in condition.now) place n) }
 {
     match open_replay(alloc, jobs, report, recording) {
         Ok(replay) => {
@@ -64,8 +65,8 @@ fn latest_of(
     }
 }
 
-/// Back to the latest message before the place whose outcome makes the condition true: another debugger, which is opened
-/// with the same jobs, report and recording, looks for it.
+/// Back to the latest message before the place whose outcome makes the condition true: another debugger, which is
+/// opened with the same jobs, report and recording, looks for it.
 #[tactic(auto, using(crate::proofs::Looking::back_found, crate::proofs::Looking::back_none))]
 pub(crate) fn back_to(
     alloc: Global,

@@ -3,7 +3,10 @@ ghost use Rattle.std.specs.Prelude.{◌≡◌, ◌≤◌, IfOk, IfSome, OnErr};
 ghost use Rattle.mil_host.specs.Words.{words};
 ghost use Rattle.judge_rules.specs.Selectors.{selector_of};
 ghost use Rattle.std.specs.Prelude.{option_map};
-ghost use Rattle.bench_step.specs.Commands.{Asked, asked, asked_of, asked_by, alone, finding_back, finding_in, finding_on, forward, back, go, show_at, going, holding, number_up_to, of_channel, only_number, only_time, plain, selecting, select, select_back, showing, steps, telling, two_words, with_number, TakesMemory};
+ghost use Rattle.bench_step.specs.Commands.{Asked, asked, asked_of, asked_by, alone, finding_back, finding_in};
+ghost use Rattle.bench_step.specs.Commands.{finding_on, forward, back, go, show_at, going, holding, number_up_to};
+ghost use Rattle.bench_step.specs.Commands.{of_channel, only_number, only_time, plain, selecting, select, select_back};
+ghost use Rattle.bench_step.specs.Commands.{showing, steps, telling, two_words, with_number, TakesMemory};
 
 use crate::manners::Manner;
 use crate::words::split_word;

@@ -4,8 +4,8 @@ use crate::manners::Manner;
 use std::io;
 use std::io::{IsTerminal, Read};
 
-/// A reader of lines that shows a prompt before it reads, where lines and errors are those of a terminal; nothing is shown
-/// otherwise. The reads of a terminal give a line each.
+/// A reader of lines that shows a prompt before it reads, where lines and errors are those of a terminal; nothing is
+/// shown otherwise. The reads of a terminal give a line each.
 #[derive(Drop)]
 pub struct Prompted<'a, R: Read + Drop, E> {
     lines: R,

@@ -63,7 +63,8 @@ impl Reply {
         report: &Report,
     ) -> io::Result<()>
         requires { report.now.channels ≡ replay.now.state.parts }
-        ensures { OnOk result (Appends (W.contents out.old) (W.contents out.new) (reply_text self.now replay.now.state)) }
+        ensures { OnOk result (Appends (W.contents out.old) (W.contents out.new)
+            (reply_text self.now replay.now.state)) }
     {
         match self {
             Reply::At(place) => writeln!(out, "at {place}"),
@@ -89,7 +90,9 @@ fn print_job<W: Write>(
 ) -> io::Result<()>
     requires report { report.now.channels ≡ replay.now.state.parts }
     requires within { index < length replay.now.state.jobs }
-    ensures { OfJob replay.now.state index (λ job part. OnOk result (Appends (W.contents out.old) (W.contents out.new) (job_text detail replay.now.state job part))) }
+    ensures { OfJob replay.now.state index
+        (λ job part. OnOk result (Appends (W.contents out.old) (W.contents out.new)
+        (job_text detail replay.now.state job part))) }
 {
     let parts = report.channels();
     if index >= parts.len() {

@@ -22,7 +22,8 @@ use std::io;
 use std::io::Write;
 use std::marker::Model;
 
-/// A recording under the debugger, with what it was opened with. Contracts see the debugger, and how lines are answered.
+/// A recording under the debugger, with what it was opened with. Contracts see the debugger, and how lines are
+/// answered.
 #[derive(Drop)]
 pub(crate) struct Session<'a> {
     replay: Replay<'a>,
@@ -55,7 +56,8 @@ pub(crate) struct Answered {
     pub(crate) ends: bool,
 }
 
-/// Prints a reply in the state that the line left, and behind it the text of the message that it shows, and flushes the writer.
+/// Prints a reply in the state that the line left, and behind it the text of the message that it shows, and flushes the
+/// writer.
 fn print_answer<W: Write>(
     out: &mut W,
     reply: &Reply,
@@ -64,7 +66,8 @@ fn print_answer<W: Write>(
     told: &[u8],
 ) -> io::Result<()>
     requires { report.now.channels ≡ replay.now.state.parts }
-    ensures { OnOk result (Appends (W.contents out.old) (W.contents out.new) (reply_text reply.now replay.now.state ++ told.now)) }
+    ensures { OnOk result (Appends (W.contents out.old) (W.contents out.new)
+        (reply_text reply.now replay.now.state ++ told.now)) }
 {
     reply.print(out, replay, report)?;
     out.write_all(told)?;
@@ -168,8 +171,8 @@ impl<'a> Session<'a> {
         }
     }
 
-    /// Answers a line at once: moves the debugger, prints the answer and flushes the writer. Where memory is refused for what the
-    /// line asks, `memory` is printed, and the debugger stands where it stood. A fault is the writer's.
+    /// Answers a line at once: moves the debugger, prints the answer and flushes the writer. Where memory is refused
+    /// for what the line asks, `memory` is printed, and the debugger stands where it stood. A fault is the writer's.
     pub(crate) fn answer<W: Write>(
         &mut self,
         alloc: Global,

@@ -33,8 +33,8 @@ fn without_end(line: &[u8]) -> &[u8]
     front
 }
 
-/// Answers each line of the reader, up to its end or to a line that ends the session, and tells whether memory was refused for what
-/// one of them asks.
+/// Answers each line of the reader, up to its end or to a line that ends the session, and tells whether memory was
+/// refused for what one of them asks.
 fn answer_all<R: BufRead, W: Write>(
     alloc: Global,
     session: &mut Session<'_>,
@@ -44,7 +44,8 @@ fn answer_all<R: BufRead, W: Write>(
     ensures all { IfOk result (λ refused. IsAllRead session.old.manner session.old.debugger session.new.debugger
         (R.remaining input.old) (R.remaining input.new) (W.contents out.old) (W.contents out.new) refused) }
     ensures first { IfErr result
-        (IsCutShort session.old.manner session.old.debugger (R.remaining input.old) (W.contents out.old) (W.contents out.new)) }
+        (IsCutShort session.old.manner session.old.debugger (R.remaining input.old) (W.contents out.old)
+        (W.contents out.new)) }
 {
     let mut line = Vec::new(alloc);
     let mut refused = false;
@@ -74,8 +75,8 @@ fn answer_all<R: BufRead, W: Write>(
 /// message at first, and answers each line at once; where memory is refused for what a line asks, it prints `memory`,
 /// stands where it stood, and goes on, and answers with that fault at the end of the lines, which is at `quit` too.
 ///
-/// Before the first line is read: the fault of a recording that can't be read, and then the first difference between jobs, report
-/// and recording (Y1).
+/// Before the first line is read: the fault of a recording that can't be read, and then the first difference between
+/// jobs, report and recording (Y1).
 pub fn step<R: BufRead, W: Write>(
     alloc: Global,
     manner: Manner,
@@ -85,8 +86,10 @@ pub fn step<R: BufRead, W: Write>(
     input: &mut R,
     out: &mut W,
 ) -> Result<(), StepFault>
-    ensures whole { OnOk result (IsWhole manner jobs.now report.now.channels recording.now (R.remaining input.old) (R.remaining input.new) (W.contents out.old) (W.contents out.new)) }
-    ensures ended { IfErr result (Ends manner jobs.now report.now.channels recording.now (R.remaining input.old) (R.remaining input.new) (W.contents out.old) (W.contents out.new)) }
+    ensures whole { OnOk result (IsWhole manner jobs.now report.now.channels recording.now (R.remaining input.old)
+        (R.remaining input.new) (W.contents out.old) (W.contents out.new)) }
+    ensures ended { IfErr result (Ends manner jobs.now report.now.channels recording.now (R.remaining input.old)
+        (R.remaining input.new) (W.contents out.old) (W.contents out.new)) }
 {
     let mut session = Session::open(alloc, manner, jobs, report, recording)?;
     if answer_all(alloc, &mut session, input, out)? {

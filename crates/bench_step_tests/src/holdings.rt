@@ -131,6 +131,7 @@ fn marks_of_hosts(rt: HostRuntime) {
 #[test]
 fn words_at_a_subaddress(rt: HostRuntime) {
     let lines =
-        "data 5 3\nforward\ndata 5 3\ngo 3\ndata 5 3\n data  5 4 \ndata 5 30\ndata 9 1\ndata 5\ndata 5 0\ndata 5 31\ndata 31 1\ndata 5 1 1\ndata\n";
+        "data 5 3\nforward\ndata 5 3\ngo 3\ndata 5 3\n data  5 4 \ndata 5 30\ndata 9 1\ndata 5\ndata 5 0\ndata 5 31\n\
+         data 31 1\ndata 5 1 1\ndata\n";
     prints(&rt, rt.alloc(), FILLED, FILLED_REPORT, lines, FILLED_DATA);
 }

@@ -10,7 +10,8 @@ use std::process::Abort;
 
 /// The job of a message that loses a word on its way, and of two questions for the status.
 pub(crate) const DROPPED: &str =
-    "channel 1\nterminal 5\nfault 1 drop 0 3\nscript\nsend A rx 5 1 [0001 0002 0003]\nsend A mode 5 2\nsend A mode 5 2\n";
+    "channel 1\nterminal 5\nfault 1 drop 0 3\nscript\nsend A rx 5 1 [0001 0002 0003]\nsend A mode 5 2\n\
+     send A mode 5 2\n";
 
 /// Its report.
 pub(crate) const DROPPED_REPORT: &str = "channel 1\nmade 3\npackets 1\n";

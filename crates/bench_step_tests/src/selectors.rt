@@ -35,14 +35,16 @@ const SESSIONS: [(&str, &str); 5] = [
     ),
     // Each form.
     (
-        "find rt * * 5 *\nfind brx 3\nfind back brx *\nfind mode * 2\nfind back mode 5 2\nfind rx * 3\nfind brt * * *\nfind bmode *\n",
+        "find rt * * 5 *\nfind brx 3\nfind back brx *\nfind mode * 2\nfind back mode 5 2\nfind rx * 3\n\
+         find brt * * *\nfind bmode *\n",
         "at 5\nY2\nat 4\nY2\nat 3\nat 6\nY2\nY2\n",
     ),
     // Spaces part words.
     ("  find   tx  05 *  \n find back  rx 5 3 \n", "at 2\nat 1\n"),
     // What is neither a condition nor a selector.
     (
-        "find tx 5\nfind tx 5 0\nfind tx 5 31\nfind tx 31 1\nfind mode 5 32\nfind rx 5 3 4\nfind any any\nfind TX 5 3\nfind tx 5 3\r\nfind back tx\nfind back back any\nfind * 5 3\n",
+        "find tx 5\nfind tx 5 0\nfind tx 5 31\nfind tx 31 1\nfind mode 5 32\nfind rx 5 3 4\nfind any any\n\
+         find TX 5 3\nfind tx 5 3\r\nfind back tx\nfind back back any\nfind * 5 3\n",
         "unknown\nunknown\nunknown\nunknown\nunknown\nunknown\nunknown\nunknown\nunknown\nunknown\nunknown\nunknown\n",
     ),
 ];

@@ -8,17 +8,22 @@ const SESSIONS: [(&str, &str); 5] = [
     // A lost word is found.
     (
         "back\nfind silent\nstate\ngo 3\nforward\ngo 0\nstate\n",
-        "Y3\nat 1\nchannel 1 number 1\nterminal 5 status 2C00 last 2823 vector 0000 bit 0000 sync 0000 off -\nat 3\nY2\nat 0\nchannel 1 number 0\nterminal 5 status 2800 last 0000 vector 0000 bit 0000 sync 0000 off -\n",
+        "Y3\nat 1\nchannel 1 number 1\nterminal 5 status 2C00 last 2823 vector 0000 bit 0000 sync 0000 off -\nat 3\n\
+         Y2\nat 0\nchannel 1 number 0\nterminal 5 status 2800 last 0000 vector 0000 bit 0000 sync 0000 off -\n",
     ),
     // The last message, and none behind it.
     (
         "go 3\nstate\ngo 4\ngo 9999999999\nback\nforward",
-        "at 3\nchannel 1 number 3\nterminal 5 status 2C00 last 2FE2 vector 0000 bit 0000 sync 0000 off -\nY2\nY2\nat 2\nat 3\n",
+        "at 3\nchannel 1 number 3\nterminal 5 status 2C00 last 2FE2 vector 0000 bit 0000 sync 0000 off -\nY2\nY2\n\
+         at 2\nat 3\n",
     ),
     // Lines that ask nothing.
     (
-        "\n \nForward\nforward 2\nback 1\ngo\ngo x\ngo 1 2\ngo +1\ngo 12345678901\nfind\nfind foo\nfind fail fail\nfind any ( fail )\nstate 1\nstate --al\nstate all\nstate --all 1\nstate --all --all\nforward\r\n\tback\nbogus\n",
-        "unknown\nunknown\nunknown\nunknown\nunknown\nunknown\nunknown\nunknown\nunknown\nunknown\nunknown\nunknown\nunknown\nunknown\nunknown\nunknown\nunknown\nunknown\nunknown\nunknown\nunknown\nunknown\n",
+        "\n \nForward\nforward 2\nback 1\ngo\ngo x\ngo 1 2\ngo +1\ngo 12345678901\nfind\nfind foo\nfind fail fail\n\
+         find any ( fail )\nstate 1\nstate --al\nstate all\nstate --all 1\nstate --all --all\nforward\r\n\tback\n\
+         bogus\n",
+        "unknown\nunknown\nunknown\nunknown\nunknown\nunknown\nunknown\nunknown\nunknown\nunknown\nunknown\nunknown\n\
+         unknown\nunknown\nunknown\nunknown\nunknown\nunknown\nunknown\nunknown\nunknown\nunknown\n",
     ),
     // Spaces part words.
     (

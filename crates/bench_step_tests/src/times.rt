@@ -31,7 +31,8 @@ const SESSIONS: [(&str, Manner, &str); 4] = [
     ),
     // What is no time: no unit, none of the units, less than a tick, or more words.
     (
-        "go 1.2\ngo s\ngo 1 s\ngo 1.2s 3\ngo 12.34us\ngo 1S\ngo 1ns\ngo -1s\ngo .5s\ngo 12345678901s\ngo channel 1.2s\n",
+        "go 1.2\ngo s\ngo 1 s\ngo 1.2s 3\ngo 12.34us\ngo 1S\ngo 1ns\ngo -1s\ngo .5s\ngo 12345678901s\n\
+         go channel 1.2s\n",
         Manner::Given,
         "unknown\nunknown\nunknown\nunknown\nunknown\nunknown\nunknown\nunknown\nunknown\nunknown\nunknown\n",
     ),

@@ -63,9 +63,11 @@ at 1
     ),
     // Lines that ask nothing.
     (
-        "forward 2\nback 1\nshow x\nshow 1 2\nhelp me\nquit now\ngo channel\ngo channel 1\ngo channel 1 x\ngo channel 1 2 3\ngo channel 65536 1\nfind back\nfind back foo\nfind back back fail\n",
+        "forward 2\nback 1\nshow x\nshow 1 2\nhelp me\nquit now\ngo channel\ngo channel 1\ngo channel 1 x\n\
+         go channel 1 2 3\ngo channel 65536 1\nfind back\nfind back foo\nfind back back fail\n",
         Manner::Given,
-        "unknown\nunknown\nunknown\nunknown\nunknown\nunknown\nunknown\nunknown\nunknown\nunknown\nunknown\nunknown\nunknown\nunknown\n",
+        "unknown\nunknown\nunknown\nunknown\nunknown\nunknown\nunknown\nunknown\nunknown\nunknown\nunknown\nunknown\n\
+         unknown\nunknown\n",
         "",
     ),
     // Numbers behind moves that are none.
@@ -106,8 +108,8 @@ fn moves_and_messages(rt: HostRuntime) {
 #[test]
 fn back_to_what_failed(rt: HostRuntime) {
     let one = subject_of(&rt, rt.alloc(), &[DROPPED], DROPPED_REPORT);
-    let lines =
-        "find back fail\ngo 3\nfind back fail\nfind back fail\ngo 3\nfind back not fail\nfind back not fail\n  find   back any(fail silent)\n";
+    let lines = "find back fail\ngo 3\nfind back fail\nfind back fail\ngo 3\nfind back not fail\n\
+         find back not fail\n  find   back any(fail silent)\n";
     let printed = "Y2\nat 3\nat 1\nY2\nat 3\nat 2\nY2\nat 1\n";
     prints(&rt, rt.alloc(), &one, Manner::Given, lines, printed, "");
 }
@@ -123,7 +125,8 @@ const BOTH_REPORT: &str = "channel 7\nmade 2\nchannel 2\nmade 2\npackets 2\n";
 fn messages_of_a_channel(rt: HostRuntime) {
     let both = subject_of(&rt, rt.alloc(), &[FIRST, SECOND], BOTH_REPORT);
     let lines =
-        "go channel 2 1\nshow\ngo channel 7 2\ngo channel 2 2\ngo channel 2 3\ngo channel 3 1\ngo channel 2 0\ngo  channel  7  01 \n";
+        "go channel 2 1\nshow\ngo channel 7 2\ngo channel 2 2\ngo channel 2 3\ngo channel 3 1\ngo channel 2 0\n\
+         go  channel  7  01 \n";
     let printed = "\
 at 3
       3     0.0000000       2       1 A    mode 5 1 synchronize              2800 8.0 us

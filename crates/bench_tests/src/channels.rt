@@ -72,8 +72,8 @@ fn a_job_without_messages_is_an_empty_file(rt: HostRuntime) {
     same_in(&rt, "length", &sink.bytes().len(), &0);
 }
 
-/// A job of one message is sent with a limit into a sink that fails behind so many bytes: the fault as it is printed, which is
-/// nothing where there is none, and how many bytes the sink holds then.
+/// A job of one message is sent with a limit into a sink that fails behind so many bytes: the fault as it is printed,
+/// which is nothing where there is none, and how many bytes the sink holds then.
 const SENT: &[(u32, usize, &str, usize)] = &[
     (255, 52, "G1", 0),
     (524_289, 52, "G1", 0),

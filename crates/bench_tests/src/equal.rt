@@ -1,5 +1,5 @@
-//! Comparisons of the tests. Each stands here once, since a comparison in a test's own body is proved anew there, beside all that
-//! the test has to let go.
+//! Comparisons of the tests. Each stands here once, since a comparison in a test's own body is proved anew there,
+//! beside all that the test has to let go.
 use std::alloc::Global;
 use std::fmt::{Debug, Display};
 use std::process::Abort;

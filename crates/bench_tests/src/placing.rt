@@ -9,7 +9,8 @@ use std::process::Abort;
 
 /// Two actions at message 3, two at message 1, and a script of three messages.
 const FOUR_ACTIONS: &str =
-    "channel 1\nterminal 5\nterminal 6\nat 3 5 busy on\nat 1 6 fault on\nat 3 6 service on\nat 1 5 busy off\nscript\nrepeat 3 { send A rx 5 1 [0001] }\n";
+    "channel 1\nterminal 5\nterminal 6\nat 3 5 busy on\nat 1 6 fault on\nat 3 6 service on\nat 1 5 busy off\nscript\n\
+     repeat 3 { send A rx 5 1 [0001] }\n";
 
 /// Those at message 1, and then those at message 3, as they are shown.
 const ALL_SHOWN: &str = "1 6 fault on, 1 5 busy off, 3 5 busy on, 3 6 service on, ";

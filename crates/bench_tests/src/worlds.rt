@@ -17,8 +17,8 @@ pub(crate) struct Script {
     pub(crate) steps: &'static [Then],
 }
 
-/// What a world is made of: jobs, the packets' limit, the queue's size, how many posts are taken, and how many bytes of the
-/// foreign file stand in front.
+/// What a world is made of: jobs, the packets' limit, the queue's size, how many posts are taken, and how many bytes of
+/// the foreign file stand in front.
 #[derive(Clone, Copy, Debug)]
 pub(crate) struct MadeOf {
     pub(crate) jobs: &'static [&'static str],
@@ -255,8 +255,8 @@ fn is_answered(
     same_in(rt, row, &world.play(&steps), &answer);
 }
 
-/// `T` is a take, `0` to `4` an offer of the channel at that index; `5` and `6` are posts of a fault for the terminal at this address
-/// of the first channel, and `-` is one of a second channel.
+/// `T` is a take, `0` to `4` an offer of the channel at that index; `5` and `6` are posts of a fault for the terminal
+/// at this address of the first channel, and `-` is one of a second channel.
 fn steps_of(rt: &impl Abort, alloc: Global, text: &str) -> Vec<Step> {
     let mut steps = Vec::new(alloc);
     for letter in text.as_bytes() {
@@ -345,7 +345,8 @@ fn are_in_two_halves(rt: &impl Abort, row: &str, index: &Index<'_>) {
     }
 }
 
-/// What makes no world, and why: the jobs, the limit, the queue's size, how many posts are taken, and the length of the prologue.
+/// What makes no world, and why: the jobs, the limit, the queue's size, how many posts are taken, and the length of the
+/// prologue.
 const REFUSED: &[(&[&str], u32, u32, u32, usize, WorldError)] = &[
     (&[], 4096, 1, 65_536, 0, WorldError::Settings),
     (&[ONE_MESSAGE; 33], 4096, 1, 65_536, 0, WorldError::Settings),

@@ -1,5 +1,6 @@
 -- How the records of a channel are cut into packets (own choice within IRIG 106-17 Chapter 11).
-use Rattle.std.specs.Prelude.{◌≡◌, ℕ, ◌+◌, ◌≤◌, Bool, true, false, not, ◌||◌, ◌&&◌, nat_lt, nat_le, if◌then◌else◌, List, [], ◌∷◌, ◌++◌, take}
+use Rattle.std.specs.Prelude.{◌≡◌, ℕ, ◌+◌, ◌≤◌, Bool, true, false, not, ◌||◌, ◌&&◌, nat_lt, nat_le, if◌then◌else◌, List}
+use Rattle.std.specs.Prelude.{[], ◌∷◌, ◌++◌, take}
 use Rattle.std.specs.List.{AllByRecursion}
 use Rattle.ch11_builder.specs.Packet.{Numbered, Channel, packet_length, first_stamp, last_number, packet}
 
@@ -12,10 +13,11 @@ abbrev pub last_stamp : ℕ → List Numbered → ℕ
 last_stamp before [] = before
 last_stamp before (n ∷ ns) = last_stamp n.message.stamp ns
 
--- One packet can hold the records: there is one, the packet is at most `limit` bytes long, and the last stamp is less than
--- 1,000,000 ticks (0.1 s) past the first.
+-- One packet can hold the records: there is one, the packet is at most `limit` bytes long, and the last stamp is less
+-- than 1,000,000 ticks (0.1 s) past the first.
 abbrev pub is_piece : ℕ → List Numbered → Bool
-is_piece limit ns = not (is_empty ns) && nat_le (packet_length ns) limit && nat_lt (last_stamp 0 ns) (first_stamp ns + 1000000)
+is_piece limit ns = not (is_empty ns) && nat_le (packet_length ns) limit
+    && nat_lt (last_stamp 0 ns) (first_stamp ns + 1000000)
 
 -- the records of the pieces
 abbrev pub joined : List (List Numbered) → List Numbered

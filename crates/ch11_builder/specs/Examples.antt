@@ -8,7 +8,11 @@ use Rattle.ch11_builder.specs.Cutting.{cut, packets}
 
 -- one message of five words, at tick 0
 abbrev received : Numbered
-received = record { number = 1; message = record { stamp = 0; block = 0; gaps = 0x50; words = record { items = 0x2823 ∷ 1 ∷ 2 ∷ 3 ∷ 0x2800 ∷ [] } } }
+received = record {
+  number = 1;
+  message = record
+      { stamp = 0; block = 0; gaps = 0x50; words = record { items = 0x2823 ∷ 1 ∷ 2 ∷ 3 ∷ 0x2800 ∷ [] } };
+}
 
 abbrev channel_1 : Channel
 channel_1 = record { channel = 1; version = 6; limit = 4096 }
@@ -23,9 +27,13 @@ one_message = refl
 
 -- a message of 36 words
 abbrev long : ℕ → ℕ → Numbered
-long number stamp = record { number = number; message = record { stamp = stamp; block = 0; gaps = 0; words = record { items = repeat 36 (7 ∷ []) } } }
+long number stamp = record {
+  number = number;
+  message = record { stamp = stamp; block = 0; gaps = 0; words = record { items = repeat 36 (7 ∷ []) } };
+}
 
-five_messages : map packet_length (cut 256 (long 1 0 ∷ long 2 10000 ∷ long 3 20000 ∷ long 4 30000 ∷ long 5 40000 ∷ [])) ≡ 200 ∷ 200 ∷ 116 ∷ []
+five_messages : map packet_length (cut 256
+    (long 1 0 ∷ long 2 10000 ∷ long 3 20000 ∷ long 4 30000 ∷ long 5 40000 ∷ [])) ≡ 200 ∷ 200 ∷ 116 ∷ []
 five_messages = refl
 
 near : length (cut 256 (long 1 0 ∷ long 2 999999 ∷ [])) ≡ 1
@@ -35,5 +43,7 @@ far : length (cut 256 (long 1 0 ∷ long 2 1000000 ∷ [])) ≡ 2
 far = refl
 
 -- the third record is missing, in the second packet
-flags : map (λ h. h.flags) (header_of channel_1 0 0 (received ∷ []) ∷ header_of channel_1 1 1 (long 2 0 ∷ long 4 0 ∷ []) ∷ header_of channel_1 2 4 (long 5 0 ∷ []) ∷ []) ≡ 0 ∷ 0x10 ∷ 0 ∷ []
+flags : map (λ h. h.flags) (header_of channel_1 0 0 (received ∷ [])
+    ∷ header_of channel_1 1 1 (long 2 0 ∷ long 4 0 ∷ []) ∷ header_of channel_1 2 4 (long 5 0 ∷ []) ∷ [])
+    ≡ 0 ∷ 0x10 ∷ 0 ∷ []
 flags = refl

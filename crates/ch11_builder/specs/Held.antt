@@ -3,8 +3,8 @@ use Rattle.std.specs.Prelude.{ℕ, ◌+◌, Bool, ◌||◌, if◌then◌else◌,
 use Rattle.ch11_builder.specs.Packet.{Numbered, Channel, last_number, packet}
 use Rattle.ch11_builder.specs.Cutting.{is_empty, is_piece}
 
--- its channel, the records in its open packet, how many packets of the channel come before that one, and the number of the
--- last record in them
+-- its channel, the records in its open packet, how many packets of the channel come before that one, and the number of
+-- the last record in them
 pub record Held : Type 0 where
   pub channel : Channel
   pub place : ℕ

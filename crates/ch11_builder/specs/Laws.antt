@@ -34,7 +34,8 @@ abbrev pub RunGoesOn : Type 0
 RunGoesOn =
     (s : Held) (ns : List Numbered) (n : Numbered)
     → (after s (ns ++ n ∷ []) ≡ pushed (after s ns) n)
-    × (closed_by_pushes s (ns ++ n ∷ []) ≡ closed_by_pushes s ns ++ (if fits (after s ns) n then [] else (packet_of (after s ns) ∷ [])))
+    × (closed_by_pushes s (ns ++ n ∷ [])
+    ≡ closed_by_pushes s ns ++ (if fits (after s ns) n then [] else (packet_of (after s ns) ∷ [])))
 
 -- the record that was pushed last has the latest number
 abbrev pub PushedIsLatest : Type 0
@@ -56,4 +57,5 @@ abbrev pub MessagesAreReadAgain : Type 0
 MessagesAreReadAgain =
     (c : Channel) (place before : ℕ) (ns : List Numbered) (rest : List ℕ) → IsChannel c → AllByRecursion IsRecorded ns
     → is_piece c.limit ns ≡ true
-    → messages_in (take (4 + size_of ns) (drop 24 (packet c place before ns ++ rest))) ≡ Ok (map as_message (messages_of ns))
+    → messages_in (take (4 + size_of ns) (drop 24 (packet c place before ns ++ rest)))
+    ≡ Ok (map as_message (messages_of ns))

@@ -1,6 +1,7 @@
--- The bytes of a packet of MIL-STD-1553 messages (IRIG 106-17 Chapter 11, packet header and MIL-STD-1553 bus data packets,
--- Format 1). It has no secondary header and no data checksum.
-use Rattle.std.specs.Prelude.{ℕ, ◌+◌, ◌*◌, ◌-◌, ◌/◌, ◌%◌, Bool, false, not, ◌||◌, ◌==◌, if◌then◌else◌, List, [], ◌∷◌, ◌++◌, length, take, map}
+-- The bytes of a packet of MIL-STD-1553 messages (IRIG 106-17 Chapter 11, packet header and MIL-STD-1553 bus data
+-- packets, Format 1). It has no secondary header and no data checksum.
+use Rattle.std.specs.Prelude.{ℕ, ◌+◌, ◌*◌, ◌-◌, ◌/◌, ◌%◌, Bool, false, not, ◌||◌, ◌==◌, if◌then◌else◌, List, [], ◌∷◌}
+use Rattle.std.specs.Prelude.{◌++◌, length, take, map}
 use Rattle.mil_monitor.specs.declared.Record.{Record}
 use Rattle.ch11_header.specs.declared.header.Header.{Header}
 use Rattle.ch11_header.specs.HeaderBytes.{header_bytes}
@@ -48,8 +49,8 @@ pub record Channel : Type 0 where
   pub version : ℕ
   pub limit : ℕ
 
--- The header of the packet of the records. `place` packets of the channel stand before it, and `before` is the number of the
--- last record in them, 0 where there is none. Flag bit 4, overflow, says that a record is missing.
+-- The header of the packet of the records. `place` packets of the channel stand before it, and `before` is the number
+-- of the last record in them, 0 where there is none. Flag bit 4, overflow, says that a record is missing.
 abbrev pub header_of : Channel → ℕ → ℕ → List Numbered → Header
 header_of c place before ns = record {
   channel = c.channel;

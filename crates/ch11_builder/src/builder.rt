@@ -1,5 +1,6 @@
 //! The builder of a channel's packets, record by record.
-ghost use Rattle.std.specs.Prelude.{◌≡◌, ◌≤◌, ◌<◌, ◌^◌, ◌↔◌, ◌⊎◌, [], false, if◌then◌else◌, length, IfOk, IfSome, IsErrOf, MatchOption};
+ghost use Rattle.std.specs.Prelude.{◌≡◌, ◌≤◌, ◌<◌, ◌^◌, ◌↔◌, ◌⊎◌, [], false, if◌then◌else◌, length, IfOk, IfSome};
+ghost use Rattle.std.specs.Prelude.{IsErrOf, MatchOption};
 ghost use Rattle.std.specs.Borrow.{sem};
 ghost use Rattle.std.specs.Io.BufRead.{Rests};
 ghost use Rattle.ch11_builder.specs.Cutting.{is_empty};
@@ -39,8 +40,8 @@ impl Builder {
     ghost use Rattle.ch11_builder.specs.contracts.builder.Builder.{the_row};
     ghost use Rattle.ch11_builder.specs.Pushing.{Answers, IsSmall};
 
-    /// A builder for the packets of a channel, each of at most `limit` bytes. G1 where the limit is outside 256 to 524,288,
-    /// then G2 where memory is refused.
+    /// A builder for the packets of a channel, each of at most `limit` bytes. G1 where the limit is outside 256 to
+    /// 524,288, then G2 where memory is refused.
     pub fn make(
         alloc: Global,
         channel: u16,
@@ -57,9 +58,9 @@ impl Builder {
         Ok(Builder { packing })
     }
 
-    /// Takes the next record of the channel in. Where the open packet can't hold it too, that packet is finished and lent
-    /// out, and the record is the first of the next one. Conditions: the number is above that of the record before, and
-    /// the stamp has 48 bits.
+    /// Takes the next record of the channel in. Where the open packet can't hold it too, that packet is finished and
+    /// lent out, and the record is the first of the next one. Conditions: the number is above that of the record
+    /// before, and the stamp has 48 bits.
     pub fn push(&mut self, number: u64, message: &Record) -> Pushed<'_>
         requires number { latest_number self.old < number }
         requires stamp { message.now.stamp < 2 ^ 48 }

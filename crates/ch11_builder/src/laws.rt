@@ -1,5 +1,6 @@
 //! Laws of the definitions of this crate, each the contract of a function that does nothing.
-ghost use Rattle.ch11_builder.specs.Laws.{CutIsACutting, CuttingIsTheCut, RunGivesThePackets, RunGoesOn, PushedIsLatest, PacketHasItsLength, HeaderIsReadAgain, MessagesAreReadAgain};
+ghost use Rattle.ch11_builder.specs.Laws.{CutIsACutting, CuttingIsTheCut, RunGivesThePackets, RunGoesOn};
+ghost use Rattle.ch11_builder.specs.Laws.{PushedIsLatest, PacketHasItsLength, HeaderIsReadAgain, MessagesAreReadAgain};
 
 use ch11_f1::body_is_read_again;
 use ch11_header::written_is_read;

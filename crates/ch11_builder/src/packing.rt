@@ -1,5 +1,6 @@
 //! The open packet of a channel in its buffer.
-ghost use Rattle.std.specs.Prelude.{◌≡◌, [], ◌∷◌, ◌++◌, ◌+◌, ◌≤◌, ◌<◌, ◌^◌, ◌==◌, ◌||◌, true, false, not, if◌then◌else◌, length, vec_len, IfOk, IfErr};
+ghost use Rattle.std.specs.Prelude.{◌≡◌, [], ◌∷◌, ◌++◌, ◌+◌, ◌≤◌, ◌<◌, ◌^◌, ◌==◌, ◌||◌, true, false, not};
+ghost use Rattle.std.specs.Prelude.{if◌then◌else◌, length, vec_len, IfOk, IfErr};
 ghost use Rattle.ch11_builder.specs.Packet.{packet_length};
 ghost use Rattle.ch11_builder.specs.Cutting.{is_empty};
 ghost use Rattle.ch11_builder.specs.Held.{Held, fresh, fits, pushed, closed, with_record, packet_of, latest_number};
@@ -97,7 +98,8 @@ impl Packing {
     ) -> Result<Packing, BuilderError>
         requires low { 256 ≤ limit }
         requires high { limit ≤ 524288 }
-        ensures fresh { IfOk result (λ p. p.held ≡ fresh (record { channel = channel; version = version; limit = limit })) }
+        ensures fresh { IfOk result
+            (λ p. p.held ≡ fresh (record { channel = channel; version = version; limit = limit })) }
         ensures memory { IfErr result (λ e. e ≡ BuilderError.Memory) }
     {
         let filling = buffer_of(alloc, limit)?;
@@ -126,8 +128,10 @@ impl Packing {
         requires stamp { message.now.stamp < 2 ^ 48 }
         ensures answer { result ≡ fits self.now.held (record { number = number; message = message.now }) }
         ensures room { result ≡ true →
-            packet_length (self.now.held.records ++ record { number = number; message = message.now } ∷ []) ≤ self.now.held.channel.limit }
-        ensures alone { packet_length (record { number = number; message = message.now } ∷ []) ≤ self.now.held.channel.limit }
+            packet_length (self.now.held.records ++ record { number = number; message = message.now } ∷ [])
+            ≤ self.now.held.channel.limit }
+        ensures alone { packet_length (record { number = number; message = message.now } ∷ [])
+            ≤ self.now.held.channel.limit }
         ensures some { result ≡ false → 0 < length self.now.held.records }
     {
         let size = RECORD_HEAD + 2 * message.words.as_slice().len();
@@ -138,10 +142,13 @@ impl Packing {
 
     /// Puts a record into the open packet.
     fn keep(&mut self, number: u64, message: &Record)
-        requires room { packet_length (self.old.held.records ++ record { number = number; message = message.now } ∷ []) ≤ self.old.held.channel.limit }
+        requires room { packet_length
+            (self.old.held.records ++ record { number = number; message = message.now } ∷ [])
+            ≤ self.old.held.channel.limit }
         requires number { latest_number self.old.held < number }
         requires stamp { message.now.stamp < 2 ^ 48 }
-        ensures { self.new ≡ record self.old { held = with_record self.old.held (record { number = number; message = message.now }) } }
+        ensures { self.new ≡ record self.old
+            { held = with_record self.old.held (record { number = number; message = message.now }) } }
     {
         self.first_stamp = first_of(self.count, self.first_stamp, message.stamp);
         self.overflow = jumps(self.overflow, self.last, number);

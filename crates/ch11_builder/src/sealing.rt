@@ -34,8 +34,8 @@ pub(crate) fn put_behind(buffer: &mut [u8], used: usize, message: &Record) -> us
     used + put_record(message, &mut buffer[used..])
 }
 
-/// Makes a packet of the bytes that are used, of which the first 28 are room for the header and the channel-specific data
-/// word, and says how long it is with its filler.
+/// Makes a packet of the bytes that are used, of which the first 28 are room for the header and the channel-specific
+/// data word, and says how long it is with its filler.
 pub(crate) fn seal(buffer: &mut [u8], used: usize, header: &Header, count: u32) -> usize
     requires room { padded used ≤ length buffer.old }
     requires head { 28 ≤ used }

@@ -13,7 +13,8 @@ words_of r = r.words.items
 -- bus words in bytes
 unfoldable pub head_bytes : Record → List ℕ
 head_bytes r =
-    little_bytes 8 r.stamp ++ (little_bytes 2 r.block ++ (little_bytes 2 r.gaps ++ little_bytes 2 (2 * length (words_of r))))
+    little_bytes 8 r.stamp ++ (little_bytes 2 r.block
+    ++ (little_bytes 2 r.gaps ++ little_bytes 2 (2 * length (words_of r))))
 
 -- a message in a body: its header and its bus words
 unfoldable pub record_bytes : Record → List ℕ

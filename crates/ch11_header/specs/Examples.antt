@@ -7,7 +7,16 @@ use Rattle.ch11_header.specs.HeaderBytes.{word_sum, header_sum, summed_bytes, he
 use Rattle.ch11_header.specs.HeaderReading.{with_lawful_lengths, fields_of, header_in}
 
 abbrev message_header : Header
-message_header = record { channel = 1; packet_length = 52; data_length = 28; version = 6; sequence = 0; flags = 0; kind = 25; counter = 0 }
+message_header = record {
+  channel = 1;
+  packet_length = 52;
+  data_length = 28;
+  version = 6;
+  sequence = 0;
+  flags = 0;
+  kind = 25;
+  counter = 0;
+}
 
 abbrev message_bytes : List ℕ
 message_bytes =
@@ -15,7 +24,16 @@ message_bytes =
     ∷ 0 ∷ 0 ∷ 0 ∷ 0 ∷ 0 ∷ 0 ∷ 0x7C ∷ 4 ∷ []
 
 abbrev setup_header : Header
-setup_header = record { channel = 0; packet_length = 32; data_length = 6; version = 6; sequence = 0; flags = 0; kind = 1; counter = 0 }
+setup_header = record {
+  channel = 0;
+  packet_length = 32;
+  data_length = 6;
+  version = 6;
+  sequence = 0;
+  flags = 0;
+  kind = 1;
+  counter = 0;
+}
 
 abbrev setup_bytes : List ℕ
 setup_bytes =

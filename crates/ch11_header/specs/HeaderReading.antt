@@ -1,5 +1,6 @@
 -- What bytes are read as a header, and which are refused (IRIG 106-17 Chapter 11, packet header).
-use Rattle.std.specs.Prelude.{ℕ, ◌+◌, ◌%◌, ◌==◌, Bool, not, ◌&&◌, nat_lt, nat_le, if◌then◌else◌, List, length, slice_index, Result, Ok, Err}
+use Rattle.std.specs.Prelude.{ℕ, ◌+◌, ◌%◌, ◌==◌, Bool, not, ◌&&◌, nat_lt, nat_le, if◌then◌else◌, List, length}
+use Rattle.std.specs.Prelude.{slice_index, Result, Ok, Err}
 use Rattle.ch11_header.specs.declared.header.Header.{Header}
 use Rattle.ch11_header.specs.declared.fault.HeaderError.{HeaderError}
 use Rattle.ch11_header.specs.declared.fault.HeaderError.TheVariants.{Short, Sync, Checksum, PacketLength, DataLength}

@@ -6,5 +6,6 @@ ghost use Rattle.ch11_header.specs.declared.header.Header.{Header};
 
 /// A header with lawful lengths that is written is read again, whatever follows it.
 pub fn written_is_read()
-    ensures { (h : Header) (rest : List ℕ) → Fits h → with_lawful_lengths h ≡ Ok h → header_in (header_bytes h ++ rest) ≡ Ok h }
+    ensures { (h : Header) (rest : List ℕ) → Fits h → with_lawful_lengths h ≡ Ok h
+        → header_in (header_bytes h ++ rest) ≡ Ok h }
 {}

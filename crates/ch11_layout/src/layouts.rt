@@ -26,7 +26,8 @@ pub struct Layout {
     pub words: usize,
     /// How many of them are commands, 0 to 2: they come first.
     pub commands: usize,
-    /// Where the data words begin; between the commands and this place stands the status word of their sender, if at all.
+    /// Where the data words begin; between the commands and this place stands the status word of their sender, if at
+    /// all.
     pub data_start: usize,
     /// Where the data words end; a word from this place on is the status word of their receiver.
     pub data_end: usize,
@@ -100,8 +101,8 @@ pub fn is_set(word: u16, place: u32) -> bool
     word >> place & 1 == 1
 }
 
-/// The word at a place, counted from 0, of bus words as they lie in a body: two bytes each, the low one first. 0 where there is
-/// none.
+/// The word at a place, counted from 0, of bus words as they lie in a body: two bytes each, the low one first. 0 where
+/// there is none.
 pub fn word_at(words: &[u8], place: usize) -> u16
     ensures { result ≡ spec.word_of words.now place }
 {

@@ -25,19 +25,38 @@ received = record { stamp = 0; block = 0; gaps = 0x50; bytes = 0x23 ∷ 0x28 ∷
 abbrev setup : Found
 setup = record {
   offset = 0;
-  header = record { channel = 0; packet_length = 32; data_length = 6; version = 6; sequence = 0; flags = 0; kind = 1; counter = 0 };
+  header = record {
+    channel = 0;
+    packet_length = 32;
+    data_length = 6;
+    version = 6;
+    sequence = 0;
+    flags = 0;
+    kind = 1;
+    counter = 0;
+  };
   messages = [];
 }
 
 abbrev heard : Found
 heard = record {
   offset = 32;
-  header = record { channel = 1; packet_length = 64; data_length = 28; version = 6; sequence = 0; flags = 128; kind = 25; counter = 0 };
+  header = record {
+    channel = 1;
+    packet_length = 64;
+    data_length = 28;
+    version = 6;
+    sequence = 0;
+    flags = 128;
+    kind = 25;
+    counter = 0;
+  };
   messages = received ∷ [];
 }
 
 file_is_read : packets_in foreign ≡ Ok (setup ∷ heard ∷ [])
-unfolding packets_from packet_at header_in fields_of with_lawful_lengths header_sum word_sum messages_in messages_at message_at
+unfolding packets_from packet_at header_in fields_of with_lawful_lengths header_sum word_sum messages_in messages_at
+    message_at
 file_is_read = refl
 
 channel_is_read : reading (setup ∷ heard ∷ []) 1 ≡ received ∷ []
@@ -63,5 +82,6 @@ unfolding packets_from packet_at header_in fields_of with_lawful_lengths header_
 cut_in_the_body = refl
 
 second_sync_damaged : packets_in (slice_set foreign 32 0) ≡ Err (record { offset = 32; fault = Header Sync })
-unfolding packets_from packet_at header_in fields_of with_lawful_lengths header_sum word_sum messages_in messages_at message_at
+unfolding packets_from packet_at header_in fields_of with_lawful_lengths header_sum word_sum messages_in messages_at
+    message_at
 second_sync_damaged = refl

@@ -1,5 +1,6 @@
 -- What an index tells of each packet.
-use Rattle.std.specs.Prelude.{ℕ, ◌+◌, ◌%◌, ◌==◌, Bool, false, not, if◌then◌else◌, List, [], ◌∷◌, length, Option, None, Some}
+use Rattle.std.specs.Prelude.{ℕ, ◌+◌, ◌%◌, ◌==◌, Bool, false, not, if◌then◌else◌, List, [], ◌∷◌, length, Option, None}
+use Rattle.std.specs.Prelude.{Some}
 use Rattle.ch11_reader.specs.declared.packet.Packet.{Packet}
 use Rattle.ch11_reader.specs.Recording.{Found}
 use Rattle.ch11_reader.specs.Contents.{total_in}
@@ -7,7 +8,8 @@ use Rattle.ch11_reader.specs.Contents.{total_in}
 -- the sequence number of the channel's latest packet; the packets stand newest first
 abbrev pub latest_sequence : ℕ → List Found → Option ℕ
 latest_sequence channel [] = None
-latest_sequence channel (p ∷ earlier) = if p.header.channel == channel then Some p.header.sequence else latest_sequence channel earlier
+latest_sequence channel (p ∷ earlier) = if p.header.channel == channel then Some p.header.sequence
+    else latest_sequence channel earlier
 
 -- the number isn't one more, modulo 256, than that of the channel's packet before; false for its first
 abbrev pub jumps : Option ℕ → ℕ → Bool

@@ -1,6 +1,7 @@
 -- What a recording is read as: its packets, or its first fault and the packet's offset (IRIG 106-17
 -- Chapter 11). Secondary headers, data of other types and reserved bits are let pass.
-use Rattle.std.specs.Prelude.{◌≡◌, ℕ, zero, suc, ◌+◌, ◌==◌, Bool, false, nat_lt, if◌then◌else◌, List, [], ◌∷◌, length, take, drop, Result, Ok, Err}
+use Rattle.std.specs.Prelude.{◌≡◌, ℕ, zero, suc, ◌+◌, ◌==◌, Bool, false, nat_lt, if◌then◌else◌, List, [], ◌∷◌, length}
+use Rattle.std.specs.Prelude.{take, drop, Result, Ok, Err}
 use Rattle.std.specs.List.{AllByRecursion}
 use Rattle.ch11_header.specs.declared.header.Header.{Header}
 use Rattle.ch11_header.specs.declared.fault.HeaderError.{HeaderError}
@@ -81,7 +82,8 @@ found_or_none (Err e) = []
 
 -- the bytes can be read, and none of the packets is of MIL-STD-1553 messages
 abbrev pub HoldsNoMessages : List ℕ → Type 0
-HoldsNoMessages file = (ps : List Found) × (packets_in file ≡ Ok ps) × AllByRecursion (λ p. holds_messages p.header ≡ false) ps
+HoldsNoMessages file = (ps : List Found) × (packets_in file ≡ Ok ps)
+    × AllByRecursion (λ p. holds_messages p.header ≡ false) ps
 
 -- What a function returned is what reading gives: the packets, or the first fault and its offset. Want of
 -- memory is answered only where there is no fault.

@@ -1,6 +1,6 @@
--- What is read of a damaged recording (own choice): where a packet without a fault begins, it is read, and the reading goes on
--- behind it. Elsewhere all bytes up to the next place at which such a packet begins, or up to the end, are one skip, with the first
--- fault at its first byte.
+-- What is read of a damaged recording (own choice): where a packet without a fault begins, it is read, and the reading
+-- goes on behind it. Elsewhere all bytes up to the next place at which such a packet begins, or up to the end, are one
+-- skip, with the first fault at its first byte.
 use Rattle.std.specs.Prelude.{◌≡◌, ℕ, zero, suc, ◌+◌, List, [], ◌∷◌, length, drop, Result, Ok, Err}
 use Rattle.ch11_header.specs.declared.header.Header.{Header}
 use Rattle.ch11_reader.specs.declared.fault.Fault.{Fault}
@@ -38,13 +38,15 @@ abbrev pub first_size : Result Header Fault → List ℕ → ℕ
 first_size (Ok h) bytes = h.packet_length
 first_size (Err f) bytes = bytes_before bytes
 
--- the stretches of the bytes that stand at an offset, one after the other; the first number only bounds how many there can be
+-- the stretches of the bytes that stand at an offset, one after the other; the first number only bounds how many there
+-- can be
 unfoldable pub stretches_from : ℕ → ℕ → List ℕ → List Stretch
 stretches_from zero offset bytes = []
 stretches_from (suc most) offset [] = []
 stretches_from (suc most) offset (b ∷ bs) =
     first_stretch offset (packet_at (b ∷ bs)) (b ∷ bs)
-    ∷ stretches_from most (offset + first_size (packet_at (b ∷ bs)) (b ∷ bs)) (drop (first_size (packet_at (b ∷ bs)) (b ∷ bs)) (b ∷ bs))
+    ∷ stretches_from most (offset + first_size (packet_at (b ∷ bs)) (b ∷ bs))
+    (drop (first_size (packet_at (b ∷ bs)) (b ∷ bs)) (b ∷ bs))
 
 -- the stretches of a file, which has no more of them than bytes
 abbrev pub stretches_in : List ℕ → List Stretch
@@ -72,4 +74,5 @@ skips_in file = skips_among (stretches_in file)
 
 -- nothing of a recording that can be read is skipped
 abbrev pub ReadableIsWhole : Type 0
-ReadableIsWhole = (file : List ℕ) (ps : List Found) → packets_in file ≡ Ok ps → (packets_read file ≡ ps) × (skips_in file ≡ [])
+ReadableIsWhole = (file : List ℕ) (ps : List Found) → packets_in file ≡ Ok ps → (packets_read file ≡ ps)
+    × (skips_in file ≡ [])

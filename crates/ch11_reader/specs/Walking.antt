@@ -13,8 +13,8 @@ abbrev pub verdict : Result (List Message) BodyError → Result ℕ BodyError
 verdict (Ok ms) = Ok 0
 verdict (Err e) = Err e
 
--- so many messages lead from one place to another: whatever end lies behind that, messages from the first place on are judged as
--- those that are left from the other place on
+-- so many messages lead from one place to another: whatever end lies behind that, messages from the first place on are
+-- judged as those that are left from the other place on
 abbrev pub Leads : List ℕ → ℕ → ℕ → ℕ → Type 0
 Leads file place count goal =
     (end left : ℕ) → goal ≤ end → end ≤ length file

@@ -1,5 +1,6 @@
 //! One pass over the bytes of a recording.
-ghost use Rattle.std.specs.Prelude.{◌≡◌, length, replicate, vec_len, slice_index_or, slice_set, IfOk, IfErr, None, Some, Ok, Err};
+ghost use Rattle.std.specs.Prelude.{◌≡◌, length, replicate, vec_len, slice_index_or, slice_set, IfOk, IfErr, None};
+ghost use Rattle.std.specs.Prelude.{Some, Ok, Err};
 ghost use Rattle.ch11_reader.specs.declared.fault.ReadError.TheVariants.{Refused};
 ghost use Rattle.ch11_reader.specs.declared.fault.Refusal.{Refusal};
 ghost use Rattle.ch11_reader.specs.Recording.{Gives, packets_in};

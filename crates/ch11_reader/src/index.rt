@@ -50,9 +50,10 @@ impl<'a> Index<'a> {
         }
     }
 
-    /// Reads a recording as far as it is sound: where a packet without a fault begins, it is read, and the reading goes on behind it;
-    /// elsewhere all bytes up to the next such packet, or up to the end, are skipped, with the first fault at the first of them. The
-    /// only refusal is want of memory. A recording that `build` reads is read alike, and nothing of it is skipped.
+    /// Reads a recording as far as it is sound: where a packet without a fault begins, it is read, and the reading goes
+    /// on behind it; elsewhere all bytes up to the next such packet, or up to the end, are skipped, with the first
+    /// fault at the first of them. The only refusal is want of memory. A recording that `build` reads is read alike,
+    /// and nothing of it is skipped.
     pub fn build_skipping(alloc: Global, file: &'a [u8]) -> Result<SkippingIndex<'a>, ReadError>
         ensures read { IfOk result (λ found. found.index ≡ packets_read file.now) }
         ensures skipped { IfOk result (λ found. found.skips.items ≡ skips_in file.now) }

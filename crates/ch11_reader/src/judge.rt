@@ -14,8 +14,8 @@ use ch11_header::read_header;
 use std::alloc::{AllocError, Global};
 use std::marker::Model;
 
-/// Who judges the packets of a file. It counts how many messages it walked over in bodies that turned out to have a fault, and
-/// makes tables of jumps once they are too many. Contracts see the file's bytes.
+/// Who judges the packets of a file. It counts how many messages it walked over in bodies that turned out to have a
+/// fault, and makes tables of jumps once they are too many. Contracts see the file's bytes.
 #[derive(Drop)]
 pub(crate) struct Judge<'a> {
     alloc: Global,
@@ -70,8 +70,8 @@ impl<'a> Judge<'a> {
         Ok(())
     }
 
-    /// The fault of the body of the packet at a place, found by jumps. None where another fault comes first, and where there is
-    /// none.
+    /// The fault of the body of the packet at a place, found by jumps. None where another fault comes first, and where
+    /// there is none.
     fn body_fault(&self, place: usize) -> Option<Fault>
         requires { place ≤ length self.now }
         ensures { IfSome result (λ f. packet_at (drop place self.now) ≡ Err f) }
@@ -97,14 +97,17 @@ impl<'a> Judge<'a> {
         }
     }
 
-    /// The packet that begins the rest of the file, or its first fault. Where no header stands, that is all that is looked at.
+    /// The packet that begins the rest of the file, or its first fault. Where no header stands, that is all that is
+    /// looked at.
     #[tactic(auto, unfolding(crate::specs::Recording::packet_at))]
     pub(crate) fn check(&mut self, rest: &[u8]) -> Result<Checked, Fault>
         requires rest { IsRest self.old rest.now }
         ensures read { MatchResult result (λ c. packet_at rest.now ≡ Ok c.header) (λ f. packet_at rest.now ≡ Err f) }
         ensures count { IfOk result (λ c. c.count ≡ length (messages_of c.header rest.now)) }
         ensures few { IfOk result (λ c. c.count ≤ c.header.packet_length) }
-        ensures whole { IfOk result (λ c. (24 ≤ c.header.packet_length) × (c.header.packet_length ≤ length rest.now) × (body_start c.header + c.header.data_length ≤ c.header.packet_length)) }
+        ensures whole { IfOk result
+            (λ c. (24 ≤ c.header.packet_length) × (c.header.packet_length ≤ length rest.now)
+            × (body_start c.header + c.header.data_length ≤ c.header.packet_length)) }
         ensures same { self.new ≡ self.old }
     {
         if let Err(fault) = read_header(rest) {

@@ -1,10 +1,11 @@
 //! Jumps over messages, so that looking for the next packet takes time in proportion to the bytes.
 //!
-//! A file may be made so that a header stands every 24 bytes, and behind each a body whose messages go on for megabytes and end
-//! in a fault. Read one after the other, each of these bodies would be walked to its fault. So once as much was walked in vain as
-//! the file is long, a table is made, in one pass from the end of the file: from each place that may be a message's, how many
-//! messages a jump may pass over and how many bytes. A jump is one message, or one message and the two jumps behind it where they
-//! are equal in messages; so any number of messages is walked in some forty jumps or steps.
+//! A file may be made so that a header stands every 24 bytes, and behind each a body whose messages go on for megabytes
+//! and end in a fault. Read one after the other, each of these bodies would be walked to its fault. So once as much was
+//! walked in vain as the file is long, a table is made, in one pass from the end of the file: from each place that may
+//! be a message's, how many messages a jump may pass over and how many bytes. A jump is one message, or one message and
+//! the two jumps behind it where they are equal in messages; so any number of messages is walked in some forty jumps or
+//! steps.
 ghost use Rattle.std.specs.Prelude.{◌≡◌, ℕ, ◌+◌, ◌*◌, ◌<◌, ◌≤◌, length, IfOk, IfErr, IfSome, Err, slice_index_or};
 ghost use Rattle.ch11_f1.specs.BodyReading.{message_at, messages_at};
 ghost use Rattle.ch11_reader.specs.Walking.{between, no_jump, Leads, IsJump, AreJumps};

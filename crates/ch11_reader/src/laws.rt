@@ -8,7 +8,8 @@ pub fn recordings_join()
     ensures silent { OthersAreSilent }
 {}
 
-/// A recording without a fault is read alike by either reading: the one that stops at the first fault and the one that skips.
+/// A recording without a fault is read alike by either reading: the one that stops at the first fault and the one that
+/// skips.
 pub fn nothing_sound_is_skipped()
     ensures { ReadableIsWhole }
 {}

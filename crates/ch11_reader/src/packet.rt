@@ -45,7 +45,8 @@ pub(crate) fn check_packet(bytes: &[u8]) -> Result<Checked, Fault>
     ensures read { MatchResult result (λ c. packet_at bytes.now ≡ Ok c.header) (λ f. packet_at bytes.now ≡ Err f) }
     ensures count { IfOk result (λ c. c.count ≡ length (messages_of c.header bytes.now)) }
     ensures few { IfOk result (λ c. c.count ≤ c.header.packet_length) }
-    ensures whole { IfOk result (λ c. (24 ≤ c.header.packet_length) × (c.header.packet_length ≤ length bytes.now) × (body_start c.header + c.header.data_length ≤ c.header.packet_length)) }
+    ensures whole { IfOk result (λ c. (24 ≤ c.header.packet_length) × (c.header.packet_length ≤ length bytes.now)
+        × (body_start c.header + c.header.data_length ≤ c.header.packet_length)) }
 {
     let header = match read_header(bytes) {
         Ok(header) => header,
@@ -88,7 +89,8 @@ pub(crate) fn messages_in_packet<'a>(file: &'a [u8], packet: &Packet) -> Message
 /// Message k of a packet of the file, counted from 0, None where it holds no such message.
 pub(crate) fn message_in_packet<'a>(file: &'a [u8], packet: &Packet, k: u64) -> Option<Seen<'a>>
     requires { packet.now.offset + (body_start packet.now.header + packet.now.header.data_length) ≤ length file.now }
-    ensures { option_map message_of result ≡ slice_get (messages_of packet.now.header (drop packet.now.offset file.now)) k }
+    ensures { option_map message_of result
+        ≡ slice_get (messages_of packet.now.header (drop packet.now.offset file.now)) k }
 {
     let mut messages = messages_in_packet(file, packet);
     messages.nth(k as usize)

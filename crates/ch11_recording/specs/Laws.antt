@@ -9,7 +9,8 @@ use Rattle.ch11_reader.specs.Recording.{Found, packets_in, holds_messages}
 use Rattle.ch11_reader.specs.Contents.{reading}
 use Rattle.ch11_recording.specs.declared.item.Item.{Item}
 use Rattle.ch11_recording.specs.Items.{channel_of, record_in, records_in, part_of, to_the_end, last_number}
-use Rattle.ch11_recording.specs.WrittenFile.{Format, held_in, closing, written_file, closed_by, closed_packets, whole_packets, closed_records}
+use Rattle.ch11_recording.specs.WrittenFile.{Format, held_in, closing, written_file, closed_by, closed_packets}
+use Rattle.ch11_recording.specs.WrittenFile.{whole_packets, closed_records}
 
 -- the version has the size of its field, and the limit is lawful
 pub record IsFormat (f : Format) : Type 0 where
@@ -19,7 +20,8 @@ pub record IsFormat (f : Format) : Type 0 where
 
 -- readable bytes, with no packet of MIL-STD-1553 messages
 abbrev pub IsPrologue : List ℕ → Type 0
-IsPrologue bytes = (ps : List Found) × (packets_in bytes ≡ Ok ps) × AllByRecursion (λ p. holds_messages p.header ≡ false) ps
+IsPrologue bytes = (ps : List Found) × (packets_in bytes ≡ Ok ps)
+    × AllByRecursion (λ p. holds_messages p.header ≡ false) ps
 
 -- its channel has the size of its field, and its record is one of a bus monitor
 abbrev pub IsItem : Item → Type 0
@@ -34,7 +36,8 @@ Reads f prologue items =
 -- A recording is read again: for each channel the records of its closed packets, in order and once.
 abbrev pub RecordingIsRead : Type 0
 RecordingIsRead =
-    (f : Format) (prologue : List ℕ) (items : List Item) → IsFormat f → IsPrologue prologue → AllByRecursion IsItem items
+    (f : Format) (prologue : List ℕ) (items : List Item) → IsFormat f → IsPrologue prologue
+    → AllByRecursion IsItem items
     → Reads f prologue items
 
 -- A channel's records are those of its closed packets, and then those of its open one.
@@ -53,7 +56,8 @@ EndedIsClosed =
 abbrev pub FileGoesOn : Type 0
 FileGoesOn =
     (f : Format) (prologue : List ℕ) (items : List Item) (x : Item)
-    → written_file f prologue (items ++ x ∷ []) ≡ written_file f prologue items ++ closing (held_in f (channel_of x) items) x
+    → written_file f prologue (items ++ x ∷ [])
+    ≡ written_file f prologue items ++ closing (held_in f (channel_of x) items) x
 
 -- The latest number that a channel holds is that of the channel's last record.
 abbrev pub LatestIsLast : Type 0
@@ -75,7 +79,8 @@ PacketsHaveBytes = (f : Format) (items : List Item) → AllByRecursion (λ p. 0 
 abbrev pub AllPacketsAreWhole : Type 0
 AllPacketsAreWhole =
     (f : Format) (items : List Item)
-    → whole_packets (length (concat (closed_packets f items))) (closed_packets f items) ≡ length (closed_packets f items)
+    → whole_packets (length (concat (closed_packets f items))) (closed_packets f items)
+    ≡ length (closed_packets f items)
 
 -- One more item adds the packet that it closes.
 abbrev pub PacketsGoOn : Type 0

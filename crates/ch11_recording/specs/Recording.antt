@@ -1,4 +1,5 @@
--- A recording that is being written: what its builders hold, how far its writer came, and how many packets the sink took whole.
+-- A recording that is being written: what its builders hold, how far its writer came, and how many packets the sink
+-- took whole.
 use Rattle.std.specs.Prelude.{◌≡◌, ◌≢◌, ℕ, ◌-◌, ◌≤◌, List, [], ◌∷◌, ◌++◌, length, map, slice_get, Option, Some}
 use Rattle.std.specs.List.{AllByRecursion}
 use Rattle.ch11_writer.specs.Writing.{Writing, IsWritten, progress_of}
@@ -16,10 +17,11 @@ pub record Recording (S : Type 0) : Type 0 where
 abbrev pub IsLimit : ℕ → Type 0
 IsLimit limit = (256 ≤ limit) × (limit ≤ 524288)
 
--- The recording of these items: each channel holds what it does after them, their file was put, and of its packets behind the
--- prologue those are counted that the sink took whole. `before` is what the sink had taken when the recording began, and
--- `taken` shows what a sink has taken.
-pub record IsRecordingOf {S : Type 0} (taken : S → Option (List ℕ)) (f : Format) (prologue : List ℕ) (before : Option (List ℕ)) (channels : List ℕ) (items : List Item) (r : Recording S) : Type 0 where
+-- The recording of these items: each channel holds what it does after them, their file was put, and of its packets
+-- behind the prologue those are counted that the sink took whole. `before` is what the sink had taken when the
+-- recording began, and `taken` shows what a sink has taken.
+pub record IsRecordingOf {S : Type 0} (taken : S → Option (List ℕ)) (f : Format) (prologue : List ℕ)
+    (before : Option (List ℕ)) (channels : List ℕ) (items : List Item) (r : Recording S) : Type 0 where
   pub lanes : r.lanes ≡ map (λ channel. held_in f channel items) channels
   pub written : IsWritten (written_file f prologue items) before (progress_of taken r.writing)
   pub packets : r.packets ≡ whole_packets (r.writing.taken - length prologue) (closed_packets f items)
@@ -34,4 +36,5 @@ abbrev pub GoesOn : {S : Type 0} → (S → Option (List ℕ)) → ℕ → (ℕ 
 GoesOn taken index item old new =
     (f : Format) (prologue : List ℕ) (before : Option (List ℕ)) (channels : List ℕ) (channel : ℕ) (items : List Item)
     → AreDistinct channels → slice_get channels index ≡ Some channel
-    → IsRecordingOf taken f prologue before channels items old → IsRecordingOf taken f prologue before channels (items ++ item channel ∷ []) new
+    → IsRecordingOf taken f prologue before channels items old
+    → IsRecordingOf taken f prologue before channels (items ++ item channel ∷ []) new

@@ -1,5 +1,6 @@
--- The bytes of a recording (IRIG 106-17 Chapter 11): the prologue, then the packets in the order in which they are closed. A
--- packet is closed by the item that opens the next one of its channel, or by the end mark of its channel (own choice).
+-- The bytes of a recording (IRIG 106-17 Chapter 11): the prologue, then the packets in the order in which they are
+-- closed. A packet is closed by the item that opens the next one of its channel, or by the end mark of its channel (own
+-- choice).
 use Rattle.std.specs.Prelude.{ℕ, suc, ◌-◌, ◌==◌, nat_le, Bool, not, ◌&&◌, if◌then◌else◌, List, [], ◌∷◌, ◌++◌, length}
 use Rattle.ch11_builder.specs.Packet.{Numbered, Channel}
 use Rattle.ch11_builder.specs.Cutting.{is_empty}
@@ -50,7 +51,8 @@ closing h x = if closes h x then packet_of h else []
 -- the packets that later items close, behind earlier ones
 abbrev pub packets_behind : Format → List Item → List Item → List ℕ
 packets_behind f earlier [] = []
-packets_behind f earlier (x ∷ later) = closing (held_in f (channel_of x) earlier) x ++ packets_behind f (earlier ++ x ∷ []) later
+packets_behind f earlier (x ∷ later) = closing (held_in f (channel_of x) earlier) x
+    ++ packets_behind f (earlier ++ x ∷ []) later
 
 -- the bytes of a recording
 unfoldable pub written_file : Format → List ℕ → List Item → List ℕ
@@ -63,7 +65,8 @@ closed_by h x = if closes h x then packet_of h ∷ [] else []
 -- the packets that later items close, behind earlier ones, each as its bytes
 abbrev pub closed_packets_behind : Format → List Item → List Item → List (List ℕ)
 closed_packets_behind f earlier [] = []
-closed_packets_behind f earlier (x ∷ later) = closed_by (held_in f (channel_of x) earlier) x ++ closed_packets_behind f (earlier ++ x ∷ []) later
+closed_packets_behind f earlier (x ∷ later) = closed_by (held_in f (channel_of x) earlier) x
+    ++ closed_packets_behind f (earlier ++ x ∷ []) later
 
 -- the packets of a recording behind its prologue, in their order, each as its bytes
 unfoldable pub closed_packets : Format → List Item → List (List ℕ)
@@ -77,7 +80,8 @@ whole_packets bytes (p ∷ ps) = if nat_le (length p) bytes then suc (whole_pack
 -- the records of a channel that its packets have: those in no closed packet are left out
 abbrev pub closed_behind : Held → List Item → List Numbered
 closed_behind h [] = []
-closed_behind h (x ∷ later) = (if concerns h x && closes h x then h.records else []) ++ closed_behind (after_item h x) later
+closed_behind h (x ∷ later) = (if concerns h x && closes h x then h.records else [])
+    ++ closed_behind (after_item h x) later
 
 abbrev pub closed_records : Format → ℕ → List Item → List Numbered
 closed_records f channel items = closed_behind (fresh (channel_in f channel)) items

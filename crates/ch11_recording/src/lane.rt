@@ -1,5 +1,6 @@
 //! One channel of a recording.
-ghost use Rattle.std.specs.Prelude.{◌≡◌, ◌<◌, ◌≤◌, ◌^◌, ◌+◌, ◌||◌, not, true, false, if◌then◌else◌, IfOk, IsTrue, IsFalse};
+ghost use Rattle.std.specs.Prelude.{◌≡◌, ◌<◌, ◌≤◌, ◌^◌, ◌+◌, ◌||◌, not, true, false, if◌then◌else◌, IfOk, IsTrue};
+ghost use Rattle.std.specs.Prelude.{IsFalse};
 ghost use Rattle.ch11_writer.specs.Writing.{Puts, progress_of};
 ghost use Rattle.ch11_builder.specs.Held.{fresh, pushed, latest_number};
 ghost use Rattle.ch11_recording.specs.declared.item.Item.TheVariants as item;
@@ -44,10 +45,12 @@ fn put<S: Sink>(builder: &mut Builder, writer: &mut PacketWriter<S>, number: u64
     ensures held { builder.new ≡ pushed builder.old (numbered number message.now) }
     ensures written { Puts (closing builder.old (item.Message builder.old.channel.channel number message.now))
         (progress_of S.taken writer.old.writing) (progress_of S.taken writer.new.writing) }
-    ensures counted { Counts (closed_by builder.old (item.Message builder.old.channel.channel number message.now)) writer.old writer.new }
+    ensures counted { Counts (closed_by builder.old (item.Message builder.old.channel.channel number message.now))
+        writer.old writer.new }
     ensures unfinished { writer.new.writing.finished ≡ false }
     ensures few { writer.new.writing.taken ≤ writer.old.writing.taken + 524288 }
-    ensures failures { S.failures writer.new.writing.sink ≡ (if writer.old.writing.failed || not writer.new.writing.failed
+    ensures failures { S.failures writer.new.writing.sink
+        ≡ (if writer.old.writing.failed || not writer.new.writing.failed
         then S.failures writer.old.writing.sink else S.failures writer.old.writing.sink + 1) }
 {
     packet_is_read_again();
@@ -72,8 +75,8 @@ impl Lane {
         })
     }
 
-    /// Takes a record into the channel's open packet, and writes the packet that it closes, if it closes one. False, and
-    /// nothing done, where the number isn't above the last or the stamp isn't below 2^48.
+    /// Takes a record into the channel's open packet, and writes the packet that it closes, if it closes one. False,
+    /// and nothing done, where the number isn't above the last or the stamp isn't below 2^48.
     pub(crate) fn keep<S: Sink>(
         &mut self,
         writer: &mut PacketWriter<S>,
@@ -82,16 +85,21 @@ impl Lane {
     ) -> bool
         requires unfinished { writer.old.writing.finished ≡ false }
         requires few { writer.old.writing.taken + 524288 < 2 ^ 64 }
-        ensures held { IsTrue result → self.new ≡ met self.old (item.Message self.old.channel.channel number message.now) }
-        ensures written { IsTrue result → Puts (closing self.old (item.Message self.old.channel.channel number message.now))
+        ensures held { IsTrue result
+            → self.new ≡ met self.old (item.Message self.old.channel.channel number message.now) }
+        ensures written { IsTrue result
+            → Puts (closing self.old (item.Message self.old.channel.channel number message.now))
             (progress_of S.taken writer.old.writing) (progress_of S.taken writer.new.writing) }
-        ensures counted { IsTrue result → Counts (closed_by self.old (item.Message self.old.channel.channel number message.now)) writer.old writer.new }
+        ensures counted { IsTrue result
+            → Counts (closed_by self.old (item.Message self.old.channel.channel number message.now)) writer.old
+            writer.new }
         ensures refused { IsFalse result → self.new ≡ self.old }
         ensures silent { IsFalse result → writer.new ≡ writer.old }
         ensures when { latest_number self.old < number → message.now.stamp < 2 ^ 48 → result ≡ true }
         ensures unfinished { writer.new.writing.finished ≡ false }
         ensures few { writer.new.writing.taken ≤ writer.old.writing.taken + 524288 }
-        ensures failures { S.failures writer.new.writing.sink ≡ (if writer.old.writing.failed || not writer.new.writing.failed
+        ensures failures { S.failures writer.new.writing.sink
+            ≡ (if writer.old.writing.failed || not writer.new.writing.failed
             then S.failures writer.old.writing.sink else S.failures writer.old.writing.sink + 1) }
     {
         if number <= self.last || message.stamp >= STAMPS {
@@ -113,7 +121,8 @@ impl Lane {
         ensures counted { Counts (closed_by self.old (item.End self.old.channel.channel)) writer.old writer.new }
         ensures unfinished { writer.new.writing.finished ≡ false }
         ensures few { writer.new.writing.taken ≤ writer.old.writing.taken + 524288 }
-        ensures failures { S.failures writer.new.writing.sink ≡ (if writer.old.writing.failed || not writer.new.writing.failed
+        ensures failures { S.failures writer.new.writing.sink
+            ≡ (if writer.old.writing.failed || not writer.new.writing.failed
             then S.failures writer.old.writing.sink else S.failures writer.old.writing.sink + 1) }
     {
         packet_is_read_again();

@@ -2,15 +2,16 @@
 ghost use Rattle.std.specs.Prelude.{ℕ, ◌<◌, ◌^◌};
 ghost use Rattle.ch11_builder.specs.Recorded.{IsRecorded};
 ghost use Rattle.ch11_recording.specs.Items.{numbered};
-ghost use Rattle.ch11_recording.specs.Laws.{RecordingIsRead, RecordsAreKept, EndedIsClosed, FileGoesOn, LatestIsLast, FileIsPackets, PacketsHaveBytes, AllPacketsAreWhole, PacketsGoOn};
+ghost use Rattle.ch11_recording.specs.Laws.{RecordingIsRead, RecordsAreKept, EndedIsClosed, FileGoesOn, LatestIsLast};
+ghost use Rattle.ch11_recording.specs.Laws.{FileIsPackets, PacketsHaveBytes, AllPacketsAreWhole, PacketsGoOn};
 
 use ch11_builder::{packet_is_read_again, run_gives_the_packets};
 use ch11_reader::recordings_join;
 use mil_monitor::Record;
 
-/// A recording is read again as the records of its closed packets: for each channel in order and once. Where a channel has
-/// ended, those are all of its records. Conditions: the prologue is a list of sound packets without one of MIL-STD-1553
-/// messages, the limit is 256 to 524,288, and stamps are below 2^48.
+/// A recording is read again as the records of its closed packets: for each channel in order and once. Where a channel
+/// has ended, those are all of its records. Conditions: the prologue is a list of sound packets without one of
+/// MIL-STD-1553 messages, the limit is 256 to 524,288, and stamps are below 2^48.
 pub fn recording_is_read_again()
     ensures read { RecordingIsRead }
     ensures kept { RecordsAreKept }

@@ -1,5 +1,5 @@
-//! A recording as a whole (IRIG 106-17 Chapter 11): which packets stand in it, how it is written, and what it is read as.
-//! Its tests are in `ch11_tests`.
+//! A recording as a whole (IRIG 106-17 Chapter 11): which packets stand in it, how it is written, and what it is read
+//! as. Its tests are in `ch11_tests`.
 #![tactic(auto)]
 
 mod item;

@@ -1,5 +1,6 @@
 //! Packets on their way into a sink.
-ghost use Rattle.std.specs.Prelude.{◌≡◌, ◌<◌, ◌≤◌, ◌^◌, ◌+◌, ◌-◌, ◌↔◌, ◌||◌, not, [], ◌∷◌, true, false, length, is_ok, if◌then◌else◌, IfErr, IsOk, OnOk};
+ghost use Rattle.std.specs.Prelude.{◌≡◌, ◌<◌, ◌≤◌, ◌^◌, ◌+◌, ◌-◌, ◌↔◌, ◌||◌, not, [], ◌∷◌, true, false, length, is_ok};
+ghost use Rattle.std.specs.Prelude.{if◌then◌else◌, IfErr, IsOk, OnOk};
 ghost use Rattle.ch11_writer.specs.Writing.{IsWritten, Puts, PutsNone, progress_of};
 ghost use Rattle.ch11_recording.specs.Counting.{Counts};
 
@@ -29,7 +30,8 @@ impl<S: Sink> PacketWriter<S> {
     /// A writer that has written nothing.
     pub(crate) fn make(sink: S) -> PacketWriter<S>
         requires countable { S.failures sink < 2 ^ 64 - 1 }
-        ensures made { result ≡ record { writing = record { sink = sink; taken = 0; failed = false; finished = false }; packets = 0 } }
+        ensures made { result ≡ record
+            { writing = record { sink = sink; taken = 0; failed = false; finished = false }; packets = 0 } }
         ensures written { IsWritten [] (S.taken sink) (progress_of S.taken result.writing) }
     {
         PacketWriter {
@@ -58,7 +60,8 @@ impl<S: Sink> PacketWriter<S> {
         requires unfinished { self.old.writing.finished ≡ false }
         requires few { self.old.writing.taken + length packet.now < 2 ^ 64 }
         ensures counted { Counts (packet.now ∷ []) self.old self.new }
-        ensures written { Puts packet.now (progress_of S.taken self.old.writing) (progress_of S.taken self.new.writing) }
+        ensures written { Puts packet.now (progress_of S.taken self.old.writing)
+            (progress_of S.taken self.new.writing) }
         ensures unfinished { self.new.writing.finished ≡ false }
         ensures few { self.new.writing.taken ≤ self.old.writing.taken + length packet.now }
         ensures failures { S.failures self.new.writing.sink ≡ (if self.old.writing.failed || not self.new.writing.failed

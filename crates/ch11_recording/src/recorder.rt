@@ -1,5 +1,7 @@
 //! A recording that is being written.
-ghost use Rattle.std.specs.Prelude.{ℕ, List, Option, true, ◌≡◌, ◌<◌, ◌≤◌, ◌^◌, ◌+◌, ◌-◌, ◌↔◌, ◌||◌, not, [], false, length, map, is_ok, slice_get, Some, if◌then◌else◌, IfOk, IfErr, IsOk, OnOk, IsTrue, IsFalse};
+ghost use Rattle.std.specs.Prelude.{ℕ, List, Option, true, ◌≡◌, ◌<◌, ◌≤◌, ◌^◌, ◌+◌, ◌-◌, ◌↔◌, ◌||◌, not, [], false};
+ghost use Rattle.std.specs.Prelude.{length, map, is_ok, slice_get, Some, if◌then◌else◌, IfOk, IfErr, IsOk, OnOk};
+ghost use Rattle.std.specs.Prelude.{IsTrue, IsFalse};
 ghost use Rattle.ch11_builder.specs.Held.{Held, fresh, latest_number};
 ghost use Rattle.ch11_recording.specs.declared.item.Item.TheVariants as item;
 ghost use Rattle.ch11_recording.specs.declared.item.Item.{Item};
@@ -14,8 +16,8 @@ use mil_monitor::Record;
 use std::alloc::Global;
 use std::marker::Model;
 
-/// Writes a recording of several channels into a sink: each packet where it is closed. It has room for two packets a channel,
-/// and takes no memory once it is made.
+/// Writes a recording of several channels into a sink: each packet where it is closed. It has room for two packets a
+/// channel, and takes no memory once it is made.
 #[derive(Drop)]
 pub struct Recorder<S: Sink> {
     lanes: Vec<Lane>,
@@ -37,7 +39,8 @@ fn lanes_of(
     limit: u32,
     channels: &[u16],
 ) -> Result<Vec<Lane>, BuilderError>
-    ensures { IfOk result (λ ls. ls.items ≡ map (λ c. fresh (channel_in (record { version = version; limit = limit }) c)) channels.now) }
+    ensures { IfOk result (λ ls. ls.items
+        ≡ map (λ c. fresh (channel_in (record { version = version; limit = limit }) c)) channels.now) }
 {
     let mut lanes = Vec::new(alloc);
     for channel in channels {
@@ -50,8 +53,8 @@ fn lanes_of(
 }
 
 impl<S: Sink> Recorder<S> {
-    /// A recording of these channels with nothing in it. G1 where the limit is outside 256 to 524,288, then G2 where memory is
-    /// refused; each hands the sink back, which took nothing.
+    /// A recording of these channels with nothing in it. G1 where the limit is outside 256 to 524,288, then G2 where
+    /// memory is refused; each hands the sink back, which took nothing.
     pub fn make(
         alloc: Global,
         version: u8,
@@ -60,8 +63,11 @@ impl<S: Sink> Recorder<S> {
         sink: S,
     ) -> Result<Recorder<S>, (BuilderError, S)>
         requires countable { S.failures sink < 2 ^ 64 - 1 }
-        ensures writing { IfOk result (λ r. r.writing ≡ record { sink = sink; taken = 0; failed = false; finished = false }) }
-        ensures begun { IfOk result (λ r. IsRecordingOf S.taken (record { version = version; limit = limit }) [] (S.taken sink) channels.now [] r) }
+        ensures writing { IfOk result
+            (λ r. r.writing ≡ record { sink = sink; taken = 0; failed = false; finished = false }) }
+        ensures begun { IfOk result
+            (λ r. IsRecordingOf S.taken (record { version = version; limit = limit }) []
+            (S.taken sink) channels.now [] r) }
         ensures in_range { OnOk result (IsLimit limit) }
         ensures limit { IfErr result (λ e. (e.0 ≡ BuilderError.Limit) ↔ (¬ IsLimit limit)) }
         ensures back { IfErr result (λ e. e.1 ≡ sink) }
@@ -78,14 +84,17 @@ impl<S: Sink> Recorder<S> {
         }
     }
 
-    /// Takes the next record of the channel at an index in, and writes the packet that it closes. False, and nothing done, where
-    /// there is no such channel, the number isn't above that of the channel's record before, or the stamp isn't below 2^48.
+    /// Takes the next record of the channel at an index in, and writes the packet that it closes. False, and nothing
+    /// done, where there is no such channel, the number isn't above that of the channel's record before, or the stamp
+    /// isn't below 2^48.
     pub fn keep(&mut self, index: usize, number: u64, message: &Record) -> bool
         requires unfinished { self.old.writing.finished ≡ false }
         requires few { self.old.writing.taken + 524288 < 2 ^ 64 }
-        ensures goes_on { IsTrue result → GoesOn S.taken index (λ channel. item.Message channel number message.now) self.old self.new }
+        ensures goes_on { IsTrue result
+            → GoesOn S.taken index (λ channel. item.Message channel number message.now) self.old self.new }
         ensures refused { IsFalse result → self.new ≡ self.old }
-        ensures when { (h : Held) → slice_get self.old.lanes index ≡ Some h → latest_number h < number → message.now.stamp < 2 ^ 48 → result ≡ true }
+        ensures when { (h : Held) → slice_get self.old.lanes index ≡ Some h → latest_number h < number
+            → message.now.stamp < 2 ^ 48 → result ≡ true }
         ensures unfinished { self.new.writing.finished ≡ false }
         ensures few { self.new.writing.taken ≤ self.old.writing.taken + 524288 }
         ensures failures { S.failures self.new.writing.sink ≡ (if self.old.writing.failed || not self.new.writing.failed
@@ -99,8 +108,8 @@ impl<S: Sink> Recorder<S> {
         lane.keep(&mut self.writer, number, message)
     }
 
-    /// Ends the channel at an index: writes its open packet, where there is a record in it. False, and nothing done, where there is
-    /// no such channel.
+    /// Ends the channel at an index: writes its open packet, where there is a record in it. False, and nothing done,
+    /// where there is no such channel.
     pub fn end(&mut self, index: usize) -> bool
         requires unfinished { self.old.writing.finished ≡ false }
         requires few { self.old.writing.taken + 524288 < 2 ^ 64 }
@@ -125,7 +134,8 @@ impl<S: Sink> Recorder<S> {
     pub fn prologue(&mut self, bytes: &[u8])
         requires unfinished { self.old.writing.finished ≡ false }
         requires few { self.old.writing.taken + length bytes.now < 2 ^ 64 }
-        ensures begun { (f : Format) (before : Option (List ℕ)) (channels : List ℕ) → IsRecordingOf S.taken f [] before channels [] self.old
+        ensures begun { (f : Format) (before : Option (List ℕ)) (channels : List ℕ)
+            → IsRecordingOf S.taken f [] before channels [] self.old
             → IsRecordingOf S.taken f bytes.now before channels [] self.new }
         ensures unfinished { self.new.writing.finished ≡ false }
         ensures few { self.new.writing.taken ≤ self.old.writing.taken + length bytes.now }
@@ -135,14 +145,16 @@ impl<S: Sink> Recorder<S> {
         self.writer.prologue(bytes);
     }
 
-    /// Tells the sink that the recording is whole. V1 where the sink fails now or failed before, with the count of bytes that it
-    /// took. After a success only `into_sink` follows.
+    /// Tells the sink that the recording is whole. V1 where the sink fails now or failed before, with the count of
+    /// bytes that it took. After a success only `into_sink` follows.
     pub fn finish(&mut self) -> Result<(), WriteFault>
         requires unfinished { self.old.writing.finished ≡ false }
         ensures ok { IsOk result ↔ (self.new.writing.failed ≡ false) }
         ensures fault { IfErr result (λ e. e.taken ≡ self.new.writing.taken) }
-        ensures same { (f : Format) (prologue : List ℕ) (before : Option (List ℕ)) (channels : List ℕ) (items : List Item)
-            → IsRecordingOf S.taken f prologue before channels items self.old → IsRecordingOf S.taken f prologue before channels items self.new }
+        ensures same { (f : Format) (prologue : List ℕ) (before : Option (List ℕ)) (channels : List ℕ)
+            (items : List Item)
+            → IsRecordingOf S.taken f prologue before channels items self.old
+            → IsRecordingOf S.taken f prologue before channels items self.new }
         ensures failures { S.failures self.new.writing.sink ≡ (if self.old.writing.failed || is_ok result
             then S.failures self.old.writing.sink else S.failures self.old.writing.sink + 1) }
         ensures told { OnOk result (S.finished self.new.writing.sink ≡ true) }

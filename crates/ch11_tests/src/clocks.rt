@@ -34,8 +34,8 @@ const BODIES: [(u64, [u8; 12]); 5] = [
     ),
 ];
 
-/// Bytes that are the body of no second: another format, another bit of the leap year, hundredths, a second 60, a digit above 9, an
-/// hour 24, a day 0, 29 February of another year, a month 13, and a year before 1970.
+/// Bytes that are the body of no second: another format, another bit of the leap year, hundredths, a second 60, a digit
+/// above 9, an hour 24, a day 0, 29 February of another year, a month 13, and a year before 1970.
 const NO_BODIES: [[u8; 12]; 10] = [
     [0x10, 3, 0, 0, 0, 0x59, 0x59, 0x23, 0x31, 0x12, 0x24, 0x20],
     [0x30, 2, 0, 0, 0, 0x59, 0x59, 0x23, 0x31, 0x12, 0x24, 0x20],
@@ -92,8 +92,8 @@ fn times_are_printed(rt: HostRuntime) {
     prints(&rt, last, "9999-12-31T23:59:59.9999999");
 }
 
-/// Polls at ticks 15,000,000 on channel 1 and 20,000,000 on channel 2, and in front of each the time packet of its second: at tick
-/// 10,000,000 it is 2024-12-31T23:59:59, at tick 20,000,000 2025-01-01T00:00:00.
+/// Polls at ticks 15,000,000 on channel 1 and 20,000,000 on channel 2, and in front of each the time packet of its
+/// second: at tick 10,000,000 it is 2024-12-31T23:59:59, at tick 20,000,000 2025-01-01T00:00:00.
 const TIMED: [u8; 168] = [
     0x25, 0xEB, 0x07, 0x00, 0x24, 0x00, 0x00, 0x00, 0x0C, 0x00, 0x00, 0x00, 0x06, 0x00, 0x00, 0x11,
     0x80, 0x96, 0x98, 0x00, 0x00, 0x00, 0x7A, 0x93, 0x30, 0x03, 0x00, 0x00, 0x00, 0x59, 0x59, 0x23,

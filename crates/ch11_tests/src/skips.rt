@@ -305,7 +305,8 @@ fn untouched_read(found: &SkippingIndex<'_>, start: usize, end: usize) -> usize 
     count
 }
 
-/// Whether a damaged copy of the file is read alike both ways up to its first fault, and gives all packets that were not touched.
+/// Whether a damaged copy of the file is read alike both ways up to its first fault, and gives all packets that were
+/// not touched.
 fn is_salvaged(rt: &impl Abort, alloc: Global, file: &[u8], start: usize, end: usize) -> bool {
     let found = skipping(rt, alloc, file);
     first_of(&found) == refusal_of(alloc, file)
@@ -350,8 +351,8 @@ fn gives_what_a_fifth_two_thousand_did_not_touch(rt: HostRuntime) {
     damages_are_salvaged(&rt, rt.alloc(), 5);
 }
 
-/// Two thousand headers one behind the other, each of which says that its packet holds all the others: what is a header to one is a
-/// message to those before it. A sound packet stands behind them.
+/// Two thousand headers one behind the other, each of which says that its packet holds all the others: what is a header
+/// to one is a message to those before it. A sound packet stands behind them.
 fn headers_alone(alloc: Global) -> Result<Vec<u8>, AllocError> {
     let mut file = Vec::new(alloc);
     for number in 0..2000u32 {

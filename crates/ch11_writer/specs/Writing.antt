@@ -3,8 +3,8 @@ use Rattle.std.specs.Prelude.{◌≡◌, ℕ, ◌≤◌, List, ◌++◌, Bool, f
 use Rattle.std.specs.declared.option.Option.{Option}
 use Rattle.std.specs.Io.KnownBytes.{Appends}
 
--- a writer: its sink, how many bytes the sink took from it, whether the sink failed at one of its calls, and whether the
--- recording was finished
+-- a writer: its sink, how many bytes the sink took from it, whether the sink failed at one of its calls, and whether
+-- the recording was finished
 pub record Writing (S : Type 0) : Type 0 where
   pub sink : S
   pub taken : ℕ
@@ -22,8 +22,8 @@ pub record Progress : Type 0 where
 abbrev pub progress_of : {S : Type 0} → (S → Option (List ℕ)) → Writing S → Progress
 progress_of taken w = record { bytes = taken w.sink; count = w.taken; failed = w.failed }
 
--- Of all bytes that were put, the sink has taken the first `count`, and all of them unless it failed. `before` is what it
--- had taken when the writer was made.
+-- Of all bytes that were put, the sink has taken the first `count`, and all of them unless it failed. `before` is what
+-- it had taken when the writer was made.
 pub record IsWritten (put : List ℕ) (before : Option (List ℕ)) (now : Progress) : Type 0 where
   pub within : now.count ≤ length put
   pub taken : Appends before now.bytes (take now.count put)
@@ -31,7 +31,8 @@ pub record IsWritten (put : List ℕ) (before : Option (List ℕ)) (now : Progre
 
 -- the bytes come behind all that were put before
 abbrev pub Puts : List ℕ → Progress → Progress → Type 0
-Puts bytes old new = (put : List ℕ) (before : Option (List ℕ)) → IsWritten put before old → IsWritten (put ++ bytes) before new
+Puts bytes old new = (put : List ℕ) (before : Option (List ℕ)) → IsWritten put before old
+    → IsWritten (put ++ bytes) before new
 
 -- no byte is put
 abbrev pub PutsNone : Progress → Progress → Type 0

@@ -1,5 +1,6 @@
 //! A sink that takes one byte a call.
-ghost use Rattle.std.specs.Prelude.{◌≡◌, ◌++◌, ◌+◌, ◌-◌, ◌<◌, ◌^◌, [], true, false, length, take, is_ok, if◌then◌else◌, IfOk, IsOk, Some};
+ghost use Rattle.std.specs.Prelude.{◌≡◌, ◌++◌, ◌+◌, ◌-◌, ◌<◌, ◌^◌, [], true, false, length, take, is_ok, if◌then◌else◌};
+ghost use Rattle.std.specs.Prelude.{IfOk, IsOk, Some};
 
 use crate::sink::{Sink, SinkFault};
 use std::alloc::Global;

@@ -1,12 +1,13 @@
 //! A sink that fails once.
-ghost use Rattle.std.specs.Prelude.{◌≡◌, ◌≢◌, ◌++◌, ◌+◌, ◌-◌, ◌<◌, ◌^◌, [], true, false, length, min, is_ok, if◌then◌else◌, IfOk, IsOk, Some};
+ghost use Rattle.std.specs.Prelude.{◌≡◌, ◌≢◌, ◌++◌, ◌+◌, ◌-◌, ◌<◌, ◌^◌, [], true, false, length, min, is_ok};
+ghost use Rattle.std.specs.Prelude.{if◌then◌else◌, IfOk, IsOk, Some};
 
 use crate::sink::{Sink, SinkFault};
 use std::alloc::Global;
 use std::marker::Model;
 
-/// A sink in memory that fails at one of its takes alone, and takes all bytes at the others. Refused memory is a fault. It counts
-/// its takes.
+/// A sink in memory that fails at one of its takes alone, and takes all bytes at the others. Refused memory is a fault.
+/// It counts its takes.
 #[derive(Drop)]
 pub struct FlakySink {
     bytes: Vec<u8>,
@@ -21,7 +22,13 @@ impl Model for FlakySink {
 
     ghost Value = { Flaky };
 
-    ghost view = { λ s. record { bytes = s.bytes.items; fails_at = s.fails_at; takes = s.takes; failures = s.failures; finished = s.finished } };
+    ghost view = { λ s. record {
+      bytes = s.bytes.items;
+      fails_at = s.fails_at;
+      takes = s.takes;
+      failures = s.failures;
+      finished = s.finished;
+    } };
 }
 
 impl FlakySink {

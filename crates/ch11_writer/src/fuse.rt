@@ -1,5 +1,6 @@
 //! A sink in memory that fails once it has taken so many bytes.
-ghost use Rattle.std.specs.Prelude.{◌≡◌, ◌+◌, ◌-◌, ◌<◌, ◌^◌, ◌++◌, ◌↔◌, ◌||◌, ◌==◌, [], true, false, length, take, min, is_ok, if◌then◌else◌, IfOk, IsOk, Some};
+ghost use Rattle.std.specs.Prelude.{◌≡◌, ◌+◌, ◌-◌, ◌<◌, ◌^◌, ◌++◌, ◌↔◌, ◌||◌, ◌==◌, [], true, false, length, take, min};
+ghost use Rattle.std.specs.Prelude.{is_ok, if◌then◌else◌, IfOk, IsOk, Some};
 
 use crate::sink::{Sink, SinkFault};
 use std::alloc::Global;
@@ -21,7 +22,13 @@ impl Model for FuseSink {
 
     ghost Value = { Fused };
 
-    ghost view = { λ s. record { bytes = s.bytes.items; left = s.left; blown = s.blown; failures = s.failures; finished = s.finished } };
+    ghost view = { λ s. record {
+      bytes = s.bytes.items;
+      left = s.left;
+      blown = s.blown;
+      failures = s.failures;
+      finished = s.finished;
+    } };
 }
 
 impl FuseSink {

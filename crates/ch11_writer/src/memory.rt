@@ -1,5 +1,6 @@
 //! A sink in memory.
-ghost use Rattle.std.specs.Prelude.{◌≡◌, ◌++◌, ◌+◌, ◌-◌, ◌<◌, ◌^◌, [], true, false, length, is_ok, if◌then◌else◌, IfOk, IsOk, Some};
+ghost use Rattle.std.specs.Prelude.{◌≡◌, ◌++◌, ◌+◌, ◌-◌, ◌<◌, ◌^◌, [], true, false, length, is_ok, if◌then◌else◌, IfOk};
+ghost use Rattle.std.specs.Prelude.{IsOk, Some};
 
 use crate::sink::{Sink, SinkFault};
 use std::alloc::Global;

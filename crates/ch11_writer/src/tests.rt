@@ -158,7 +158,8 @@ const PACKET: [u8; 52] = [
     0x03, 0x00, 0x00, 0x28,
 ];
 
-/// The packet is put twice into a sink that fails at one of its takes: its answers, its takes, and how many bytes it holds.
+/// The packet is put twice into a sink that fails at one of its takes: its answers, its takes, and how many bytes it
+/// holds.
 fn fails_once(
     rt: &impl Abort,
     alloc: Global,

@@ -1,5 +1,6 @@
 //! The writer of packets into a sink.
-ghost use Rattle.std.specs.Prelude.{◌≡◌, [], ◌+◌, ◌-◌, ◌≤◌, ◌<◌, ◌^◌, ◌↔◌, ◌||◌, true, false, length, take, is_ok, if◌then◌else◌, IfErr, IsOk, OnOk, OnErr};
+ghost use Rattle.std.specs.Prelude.{◌≡◌, [], ◌+◌, ◌-◌, ◌≤◌, ◌<◌, ◌^◌, ◌↔◌, ◌||◌, true, false, length, take, is_ok};
+ghost use Rattle.std.specs.Prelude.{if◌then◌else◌, IfErr, IsOk, OnOk, OnErr};
 ghost use Rattle.std.specs.Io.KnownBytes.{Keeps, Appends};
 ghost use Rattle.ch11_writer.specs.Writing.{IsWritten, Puts, PutsNone, progress_of};
 ghost use Rattle.ch11_writer.specs.Sent.{shown_by, IsSent};
@@ -110,8 +111,8 @@ impl<S: Sink> Writer<S> {
         self.put(bytes)
     }
 
-    /// Writes the bytes. V1 where the sink fails now or has failed before; from its first fault on the sink is called no
-    /// more.
+    /// Writes the bytes. V1 where the sink fails now or has failed before; from its first fault on the sink is called
+    /// no more.
     pub fn put(&mut self, bytes: &[u8]) -> Result<(), WriteFault>
         requires unfinished { self.old.finished ≡ false }
         requires few { self.old.taken + length bytes.now < 2 ^ 64 }

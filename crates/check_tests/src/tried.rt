@@ -4,8 +4,8 @@ use job_file::read_job;
 use std::alloc::Global;
 use std::process::Abort;
 
-/// A job with one of each mistake. Its first message has two words, and loses its answer; 400 ticks of it and 160 of pause behind a
-/// message that failed put the second one at tick 560.
+/// A job with one of each mistake. Its first message has two words, and loses its answer; 400 ticks of it and 160 of
+/// pause behind a message that failed put the second one at tick 560.
 const MISTAKEN: &str = "channel 1
 terminal 5
 terminal 7
@@ -49,8 +49,8 @@ nothing looks like a mistake
 queue 3: with room for so many nothing of this job is refused
 ";
 
-/// Faults of each kind that meet something: masks of the status word and of a data word, a word that is left out, one that is added
-/// behind it, and a late reply.
+/// Faults of each kind that meet something: masks of the status word and of a data word, a word that is left out, one
+/// that is added behind it, and a late reply.
 const FAULTY: &str = "channel 1
 terminal 5
 fault 1 mask 1 0 0000000003
@@ -75,8 +75,8 @@ nothing looks like a mistake
 queue 4: with room for so many nothing of this job is refused
 ";
 
-/// A subaddress that was never filled, one that wraps around and one that is filled in time; and an illegal command, which is
-/// answered with the message error bit and not sent again.
+/// A subaddress that was never filled, one that wraps around and one that is filled in time; and an illegal command,
+/// which is answered with the message error bit and not sent again.
 const ODD: &str = "channel 1
 terminal 5
 at 1 5 illegal receive 2 1
@@ -121,8 +121,8 @@ nothing looks like a mistake
 queue 3: with room for so many nothing of this job is refused
 ";
 
-/// Frames that fit when they are tried, and that may take longer: four polls of one status word, 264.0 µs, and four tries of one
-/// data word, 344.0 µs, each with 16.0 µs of pause in front of it and a response time of 12.0 µs.
+/// Frames that fit when they are tried, and that may take longer: four polls of one status word, 264.0 µs, and four
+/// tries of one data word, 344.0 µs, each with 16.0 µs of pause in front of it and a response time of 12.0 µs.
 const MAY_OVERRUN: &str = "channel 1
 terminal 5
 script
@@ -139,8 +139,8 @@ probably a mistake:
 queue 10: with room for so many nothing of this job is refused
 ";
 
-/// Five frames, each of which may take 106.0 µs: two data words in three words of 20.0 µs, a late status word of 30.0, and 16.0 of
-/// pause.
+/// Five frames, each of which may take 106.0 µs: two data words in three words of 20.0 µs, a late status word of 30.0,
+/// and 16.0 of pause.
 const FIVE_FRAMES: &str = "channel 1
 terminal 5
 script

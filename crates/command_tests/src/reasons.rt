@@ -1,5 +1,5 @@
-//! What is said of mistakes, with the mark under the word at fault; the lines are those that stand behind the fault of a
-//! command.
+//! What is said of mistakes, with the mark under the word at fault; the lines are those that stand behind the fault of
+//! a command.
 use bench_reasons::{
     LineFault, MessageFault, Place, Reason, ScriptFault, Text, explained, job_script_reason,
     line_reason, script_reason,
@@ -53,7 +53,8 @@ fn numbers_of_messages_are_marked(rt: HostRuntime) {
         "send A rx 31 1 [0001]",
         address,
         8,
-        "  a:1\n  | send A rx 31 1 [0001]\n  |           ^^\n  this number is out of its range; terminal addresses are 0 to 30; brx sends to all\n",
+        "  a:1\n  | send A rx 31 1 [0001]\n  |           ^^\n  this number is out of its range; terminal addresses are \
+         0 to 30; brx sends to all\n",
     );
     let subaddress = ScriptFault::Message(MessageFault::Subaddress);
     script(
@@ -62,7 +63,8 @@ fn numbers_of_messages_are_marked(rt: HostRuntime) {
         "send A tx 5 0 1",
         subaddress,
         8,
-        "  a:1\n  | send A tx 5 0 1\n  |             ^\n  this number is out of its range; subaddresses are 1 to 30; 0 and 31 are those of mode commands, mode0 and mode\n",
+        "  a:1\n  | send A tx 5 0 1\n  |             ^\n  this number is out of its range; subaddresses are 1 to 30; 0 \
+         and 31 are those of mode commands, mode0 and mode\n",
     );
     let word = ScriptFault::Message(MessageFault::ModeWord);
     script(
@@ -71,7 +73,8 @@ fn numbers_of_messages_are_marked(rt: HostRuntime) {
         "send A mode 5 17",
         word,
         8,
-        "  a:1\n  | send A mode 5 17\n  |               ^^\n  mode codes 17, 20 and 21 take one data word in brackets; write it behind the code, as in mode 5 17 [0001]\n",
+        "  a:1\n  | send A mode 5 17\n  |               ^^\n  mode codes 17, 20 and 21 take one data word in brackets; \
+         write it behind the code, as in mode 5 17 [0001]\n",
     );
     let count = ScriptFault::Message(MessageFault::CountOrCode);
     script(
@@ -80,7 +83,8 @@ fn numbers_of_messages_are_marked(rt: HostRuntime) {
         "send A rx 5 1 []",
         count,
         8,
-        "  a:1\n  | send A rx 5 1 []\n  |               ^\n  no data word stands in these brackets; a message has 1 to 32 data words\n",
+        "  a:1\n  | send A rx 5 1 []\n  |               ^\n  no data word stands in these brackets; a message has 1 to \
+         32 data words\n",
     );
 }
 
@@ -101,7 +105,8 @@ fn what_may_stand_is_said(rt: HostRuntime) {
         "if bit bussy { gap 40 }",
         ScriptFault::Token,
         8,
-        "  a:1\n  | if bit bussy { gap 40 }\n  |        ^^^^^\n  no status bit has this name; the bits are message_error, instrumentation, service_request, broadcast, busy, subsystem, control, terminal\n",
+        "  a:1\n  | if bit bussy { gap 40 }\n  |        ^^^^^\n  no status bit has this name; the bits are \
+         message_error, instrumentation, service_request, broadcast, busy, subsystem, control, terminal\n",
     );
     script(
         &rt,
@@ -109,7 +114,8 @@ fn what_may_stand_is_said(rt: HostRuntime) {
         "gap 20000000",
         ScriptFault::Number,
         5,
-        "  a:1\n  | gap 20000000\n  |     ^^^^^^^^\n  this is no number of one to seven digits; a gap is 40 to 65535 ticks of 0.1 us\n",
+        "  a:1\n  | gap 20000000\n  |     ^^^^^^^^\n  this is no number of one to seven digits; a gap is 40 to 65535 \
+         ticks of 0.1 us\n",
     );
     script(
         &rt,
@@ -117,7 +123,9 @@ fn what_may_stand_is_said(rt: HostRuntime) {
         "repeat 3 { gap 40",
         ScriptFault::End,
         18,
-        "  a:1\n  | repeat 3 { gap 40\n  |                  ^\n  the text ends too early; a frame (send, retry, gap, repeat, if, until, call, frame) or the closing } stands here\n  a:1\n  | repeat 3 { gap 40\n  |          ^\n  this is not closed\n",
+        "  a:1\n  | repeat 3 { gap 40\n  |                  ^\n  the text ends too early; a frame (send, retry, gap, \
+         repeat, if, until, call, frame) or the closing } stands here\n  a:1\n  | repeat 3 { gap 40\n  |          ^\n  \
+         this is not closed\n",
     );
 }
 
@@ -130,7 +138,8 @@ fn lines_of_jobs_are_marked(rt: HostRuntime) {
         "channel 1\nterminal 5\nfault 1 late 1 500\n",
         3,
         LineFault::FaultRange,
-        "  a:3\n  | fault 1 late 1 500\n  |                ^^^\n  this number is out of its range; a late reply comes 121 to 255 ticks of 0.1 us behind the message\n",
+        "  a:3\n  | fault 1 late 1 500\n  |                ^^^\n  this number is out of its range; a late reply comes \
+         121 to 255 ticks of 0.1 us behind the message\n",
     );
     line(
         &rt,
@@ -138,7 +147,8 @@ fn lines_of_jobs_are_marked(rt: HostRuntime) {
         "channel 1\nterminal 5\r\n",
         2,
         LineFault::Number,
-        "  a:2\n  | terminal 5?\n  |           ^\n  a carriage return (CR) ends this line, and is part of its last word; save the file with lines that end in LF alone, as by tr -d '\\r'\n",
+        "  a:2\n  | terminal 5?\n  |           ^\n  a carriage return (CR) ends this line, and is part of its last \
+         word; save the file with lines that end in LF alone, as by tr -d '\\r'\n",
     );
     line(
         &rt,
@@ -154,7 +164,8 @@ fn lines_of_jobs_are_marked(rt: HostRuntime) {
         "terminal 5\nterminal 7\nterminal 5\n",
         3,
         LineFault::Terminal,
-        "  a:3\n  | terminal 5\n  |          ^\n  this terminal is named twice; name each terminal once\n  a:1\n  | terminal 5\n  | ^^^^^^^^^^\n  it stands here already\n",
+        "  a:3\n  | terminal 5\n  |          ^\n  this terminal is named twice; name each terminal once\n  a:1\n  | \
+         terminal 5\n  | ^^^^^^^^^^\n  it stands here already\n",
     );
 }
 
@@ -169,6 +180,7 @@ fn a_script_of_a_job_has_its_place_in_the_whole_text(rt: HostRuntime) {
         alloc,
         text,
         reason.expect(&rt, "memory"),
-        "  a:3\n  | send A rx 5 31 [0001]\n  |             ^^\n  this number is out of its range; subaddresses are 1 to 30; 0 and 31 are those of mode commands, mode0 and mode\n",
+        "  a:3\n  | send A rx 5 31 [0001]\n  |             ^^\n  this number is out of its range; subaddresses are 1 \
+         to 30; 0 and 31 are those of mode commands, mode0 and mode\n",
     );
 }

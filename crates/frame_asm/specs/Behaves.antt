@@ -6,7 +6,8 @@ use Rattle.frame_tree.specs.Meaning.{meaning}
 use Rattle.frame_code.specs.Table.{Code, Registers, goes_on, halted, start, step, run}
 
 -- from its first operation the code comes to where the tree leads, and halts there
-pub record Behaves {State Outcome : Type 0} (w : World State Outcome) (t : Tree) (code : Code) (p : Point State Outcome) : Type 0 where
+pub record Behaves {State Outcome : Type 0} (w : World State Outcome) (t : Tree) (code : Code)
+    (p : Point State Outcome) : Type 0 where
   pub steps : ℕ
   pub last : Registers
   pub comes : run w steps code (start code) p ≡ goes_on (record { at = last; point = meaning w t p })

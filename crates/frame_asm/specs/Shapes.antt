@@ -1,10 +1,12 @@
--- The operations of a tree (own choice): each kind of frame has its shape, with absolute places, and Halt stands behind all.
+-- The operations of a tree (own choice): each kind of frame has its shape, with absolute places, and Halt stands behind
+-- all.
 use Rattle.std.specs.Prelude.{ℕ, ◌+◌, ◌<◌, List, [], ◌∷◌, ◌++◌, length}
 use Rattle.mil_word.specs.declared.Line.{Line}
 use Rattle.mil_message.specs.declared.messages.Message.{Message}
 use Rattle.mil_message.specs.declared.outcome_test.OutcomeTest.{OutcomeTest}
 use Rattle.mil_message.specs.declared.outcome_test.OutcomeTest.TheVariants.{Failed}
-use Rattle.frame_tree.specs.Tree.{Condition, asked, negated, both, either, Tree, send, retry, gap, repeat, choose, until, timed, nothing, chained, call, define}
+use Rattle.frame_tree.specs.Tree.{Condition, asked, negated, both, either, Tree, send, retry, gap, repeat, choose}
+use Rattle.frame_tree.specs.Tree.{until, timed, nothing, chained, call, define}
 use Rattle.frame_tree.specs.Names.{Scope, named}
 use Rattle.frame_code.specs.declared.Op.{Op}
 use Rattle.frame_code.specs.declared.Op.TheVariants as op
@@ -73,16 +75,19 @@ entries (define n b r) = entries b + entries r
 -- the first attempt, and a loop of the further ones, each on the other_line line, that is left where one did not fail
 abbrev pub retry_shape : ℕ → ℕ → ℕ → List Op
 retry_shape p m n =
-    op.Send m ∷ op.Loop n ∷ op.Test Failed ∷ op.JumpFalse (p + 6) ∷ op.Alt m ∷ op.Jump (p + 7) ∷ op.Leave (p + 8) ∷ op.Again (p + 2) ∷ []
+    op.Send m ∷ op.Loop n ∷ op.Test Failed ∷ op.JumpFalse (p + 6) ∷ op.Alt m ∷ op.Jump (p + 7) ∷ op.Leave (p + 8)
+    ∷ op.Again (p + 2) ∷ []
 
--- what stands in front of the body of an until from place p, whose body has s operations: the loop, the condition and the way out
+-- what stands in front of the body of an until from place p, whose body has s operations: the loop, the condition and
+-- the way out
 abbrev pub until_front : ℕ → Condition → ℕ → ℕ → List Op
 until_front p c n s =
     let l = p + 1 + branch_size c in
     op.Loop n ∷ (branch (p + 1) c l (l + 1) ++ op.Leave (l + s + 2) ∷ [])
 
--- The operations of a frame from place p, whose messages begin at index m, where the names in scope are those of routines with
--- these numbers: a definition is the routine behind those in scope, its body with a Return, and the rest stands behind it.
+-- The operations of a frame from place p, whose messages begin at index m, where the names in scope are those of
+-- routines with these numbers: a definition is the routine behind those in scope, its body with a Return, and the rest
+-- stands behind it.
 abbrev pub shape : Scope ℕ → ℕ → ℕ → Tree → List Op
 shape rs p m (send l x) = op.Send m ∷ []
 shape rs p m (retry n l x) = retry_shape p m n
@@ -94,12 +99,14 @@ shape rs p m (choose c a b) =
     branch p c t f ++ (shape rs t m a ++ (op.Jump (f + size b) ∷ shape rs f (m + entries a) b))
 shape rs p m (until c n b) =
     let l = p + 1 + branch_size c in
-    op.Loop n ∷ (branch (p + 1) c l (l + 1) ++ (op.Leave (l + size b + 2) ∷ (shape rs (l + 1) m b ++ op.Again (p + 1) ∷ [])))
+    op.Loop n ∷ (branch (p + 1) c l (l + 1)
+    ++ (op.Leave (l + size b + 2) ∷ (shape rs (l + 1) m b ++ op.Again (p + 1) ∷ [])))
 shape rs p m (timed h b) = op.Begin ∷ (shape rs (p + 1) m b ++ op.Pace h ∷ [])
 shape rs p m nothing = []
 shape rs p m (chained a b) = shape rs p m a ++ shape rs (p + size a) (m + entries a) b
 shape rs p m (call n) = op.Call (named 0 rs n) ∷ []
-shape rs p m (define n b r) = shape rs p m b ++ (op.Return ∷ shape ((n, length rs) ∷ rs) (p + size b + 1) (m + entries b) r)
+shape rs p m (define n b r) = shape rs p m b
+    ++ (op.Return ∷ shape ((n, length rs) ∷ rs) (p + size b + 1) (m + entries b) r)
 
 -- the code of a tree
 abbrev pub code_of : Tree → Code

@@ -4,7 +4,8 @@ ghost use Rattle.frame_tree.specs.Tree.{condition_in, tree_of, choose, until, ch
 ghost use Rattle.frame_tree.specs.Names.{named};
 ghost use Rattle.frame_tree.specs.Scopes.{scope_of};
 ghost use Rattle.frame_tree.specs.Bounds.{CallsKnown, IsDefined};
-ghost use Rattle.frame_asm.specs.Shapes.{branch_size, probe, branch, size, entries, messages_of, retry_shape, until_front, shape, AreRoutines};
+ghost use Rattle.frame_asm.specs.Shapes.{branch_size, probe, branch, size, entries, messages_of, retry_shape};
+ghost use Rattle.frame_asm.specs.Shapes.{until_front, shape, AreRoutines};
 ghost use Rattle.frame_code.specs.declared.Op.TheVariants as op;
 
 use crate::sizes::{branch_len, operation_count};
@@ -59,7 +60,8 @@ fn emit_branch<A: Allocator + Clone>(
     no: u16,
 ) -> Result<(), AllocError>
     requires { length operations.old.items + branch_size (condition_in condition.now) ≤ 4096 }
-    ensures { OnOk result (operations.new.items ≡ operations.old.items ++ branch (length operations.old.items) (condition_in condition.now) yes no) }
+    ensures { OnOk result (operations.new.items
+        ≡ operations.old.items ++ branch (length operations.old.items) (condition_in condition.now) yes no) }
 {
     match condition {
         Cond::Test(test) => emit_test(operations, *test, yes, no),
@@ -85,7 +87,8 @@ fn emit_send(
     message: &Message,
 ) -> Result<(), AllocError>
     requires { length messages.old.items < 1024 }
-    ensures operations { OnOk result (operations.new.items ≡ operations.old.items ++ op.Send (length messages.old.items) ∷ []) }
+    ensures operations { OnOk result
+        (operations.new.items ≡ operations.old.items ++ op.Send (length messages.old.items) ∷ []) }
     ensures messages { OnOk result (messages.new.items ≡ messages.old.items ++ (line, message.now) ∷ []) }
 {
     let index = enter(messages, line, message.copy())?;
@@ -95,7 +98,8 @@ fn emit_send(
 // The operations of a retry that sends this message.
 fn emit_attempts(operations: &mut Vec<Op>, message: u16, count: u16) -> Result<(), AllocError>
     requires { length operations.old.items + 8 ≤ 4096 }
-    ensures { OnOk result (operations.new.items ≡ operations.old.items ++ retry_shape (length operations.old.items) message count) }
+    ensures { OnOk result (operations.new.items
+        ≡ operations.old.items ++ retry_shape (length operations.old.items) message count) }
 {
     let place = operations.len() as u16;
     put(operations, Op::Send(message))?;
@@ -118,7 +122,9 @@ fn emit_retry(
 ) -> Result<(), AllocError>
     requires room { length operations.old.items + 8 ≤ 4096 }
     requires table { length messages.old.items < 1024 }
-    ensures operations { OnOk result (operations.new.items ≡ operations.old.items ++ retry_shape (length operations.old.items) (length messages.old.items) count) }
+    ensures operations { OnOk result
+        (operations.new.items ≡ operations.old.items
+        ++ retry_shape (length operations.old.items) (length messages.old.items) count) }
     ensures messages { OnOk result (messages.new.items ≡ messages.old.items ++ (line, message.now) ∷ []) }
 {
     let index = enter(messages, line, message.copy())?;
@@ -132,10 +138,16 @@ fn open_if<A: Allocator + Clone>(
     then: &Frame<A>,
     otherwise: &Frame<A>,
 ) -> Result<u16, AllocError>
-    requires { length operations.old.items + size (choose (condition_in condition.now) (tree_of then.now) (tree_of otherwise.now)) ≤ 4095 }
+    requires { length operations.old.items
+        + size (choose (condition_in condition.now) (tree_of then.now) (tree_of otherwise.now)) ≤ 4095 }
     ensures operations { let first = length operations.old.items + branch_size (condition_in condition.now) in
-        OnOk result (operations.new.items ≡ operations.old.items ++ branch (length operations.old.items) (condition_in condition.now) first (first + size (tree_of then.now) + 1)) }
-    ensures end { IfOk result (λ end. end ≡ length operations.old.items + branch_size (condition_in condition.now) + size (tree_of then.now) + 1 + size (tree_of otherwise.now)) }
+        OnOk result (operations.new.items
+        ≡ operations.old.items
+        ++ branch (length operations.old.items) (condition_in condition.now) first
+        (first + size (tree_of then.now) + 1)) }
+    ensures end { IfOk result (λ end. end
+        ≡ length operations.old.items + branch_size (condition_in condition.now) + size (tree_of then.now) + 1
+        + size (tree_of otherwise.now)) }
 {
     let then_at = operations.len() as u16 + branch_len(condition);
     let else_at = then_at + operation_count(then) + 1;
@@ -152,7 +164,9 @@ fn open_until<A: Allocator + Clone>(
     body: &Frame<A>,
 ) -> Result<u16, AllocError>
     requires { length operations.old.items + size (until (condition_in condition.now) count (tree_of body.now)) ≤ 4095 }
-    ensures operations { OnOk result (operations.new.items ≡ operations.old.items ++ until_front (length operations.old.items) (condition_in condition.now) count (size (tree_of body.now))) }
+    ensures operations { OnOk result
+        (operations.new.items ≡ operations.old.items
+        ++ until_front (length operations.old.items) (condition_in condition.now) count (size (tree_of body.now))) }
     ensures turn { IfOk result (λ turn. turn ≡ length operations.old.items + 1) }
 {
     let test_at = operations.len() as u16 + 1;
@@ -177,7 +191,8 @@ pub fn emit<A: Allocator + Clone>(
     requires calls { CallsKnown (scope_of scope.now) (tree_of frame.now) }
     requires routines { AreRoutines (scope_of scope.now) }
     ensures operations { OnOk result (operations.new.items
-        ≡ operations.old.items ++ shape (scope_of scope.now) (length operations.old.items) (length messages.old.items) (tree_of frame.now)) }
+        ≡ operations.old.items ++ shape (scope_of scope.now) (length operations.old.items) (length messages.old.items)
+        (tree_of frame.now)) }
     ensures messages { OnOk result (messages.new.items ≡ messages.old.items ++ messages_of (tree_of frame.now)) }
 {
     match frame {
@@ -237,8 +252,10 @@ fn emit_sequence<A: Allocator + Clone>(
     requires calls { CallsKnown (scope_of scope.now) (chain (map tree_of frames.now.items)) }
     requires routines { AreRoutines (scope_of scope.now) }
     ensures operations { OnOk result (operations.new.items
-        ≡ operations.old.items ++ shape (scope_of scope.now) (length operations.old.items) (length messages.old.items) (chain (map tree_of frames.now.items))) }
-    ensures messages { OnOk result (messages.new.items ≡ messages.old.items ++ messages_of (chain (map tree_of frames.now.items))) }
+        ≡ operations.old.items ++ shape (scope_of scope.now) (length operations.old.items) (length messages.old.items)
+        (chain (map tree_of frames.now.items))) }
+    ensures messages { OnOk result
+        (messages.new.items ≡ messages.old.items ++ messages_of (chain (map tree_of frames.now.items))) }
 {
     for frame in frames {
         emit(operations, messages, scope, frame)?;
@@ -275,7 +292,8 @@ pub fn emit_all<'a, A: Allocator + Clone>(
     requires count { length (scope_of scope.now) ≡ count }
     requires routines { AreRoutines (scope_of scope.now) }
     ensures operations { OnOk result (operations.new.items
-        ≡ operations.old.items ++ shape (scope_of scope.now) (length operations.old.items) (length messages.old.items) (tree_of frame.now)) }
+        ≡ operations.old.items ++ shape (scope_of scope.now) (length operations.old.items) (length messages.old.items)
+        (tree_of frame.now)) }
     ensures messages { OnOk result (messages.new.items ≡ messages.old.items ++ messages_of (tree_of frame.now)) }
 {
     match frame {

@@ -58,7 +58,8 @@ impl From<AllocError> for AsmError {
 
 /// Law: in any world, and from any point, the code of a sound tree does what the tree means, and halts there.
 pub fn code_means<W: Setting>()
-    ensures { (w : World W.State W.Outcome) (t : Tree) (p : Point W.State W.Outcome) → IsSound t → Behaves w t (code_of t) p }
+    ensures { (w : World W.State W.Outcome) (t : Tree) (p : Point W.State W.Outcome) → IsSound t
+        → Behaves w t (code_of t) p }
 {}
 
 // The image of a frame, by the sizes of its tree.
@@ -67,7 +68,8 @@ fn build<A: Allocator + Clone>(alloc: Global, frame: &Frame<A>) -> Result<Image,
     ensures image { IfOk result (λ image. image ≡ code_of (tree_of frame.now)) }
     ensures range { IfOk result (λ image. IsImage image) }
     ensures operations { (result ≡ Err AsmError.Operations) ↔ (4095 < size (tree_of frame.now)) }
-    ensures messages { (result ≡ Err AsmError.Messages) ↔ (size (tree_of frame.now) ≤ 4095) × (1024 < entries (tree_of frame.now)) }
+    ensures messages { (result ≡ Err AsmError.Messages) ↔ (size (tree_of frame.now) ≤ 4095)
+        × (1024 < entries (tree_of frame.now)) }
 {
     if sizes::operation_count(frame) > 4095 {
         return Err(AsmError::Operations);
@@ -82,15 +84,16 @@ fn build<A: Allocator + Clone>(alloc: Global, frame: &Frame<A>) -> Result<Image,
     Ok(Image::new(operations, messages))
 }
 
-/// The image of a frame. Condition: the frame is sound. The image is the code of the frame's tree, whatever the allocators;
-/// the loader may refuse it for its budget or its periods alone.
+/// The image of a frame. Condition: the frame is sound. The image is the code of the frame's tree, whatever the
+/// allocators; the loader may refuse it for its budget or its periods alone.
 pub fn assemble<A: Allocator + Clone>(alloc: Global, frame: &Frame<A>) -> Result<Image, AsmError>
     requires { IsSound (tree_of frame.now) }
     ensures image { IfOk result (λ image. image ≡ code_of (tree_of frame.now)) }
     ensures loadable { IfOk result (λ image. IsLoadable image) }
     ensures operations { (result ≡ Err AsmError.Operations) ↔ (4096 < length (code_of (tree_of frame.now)).operations) }
     ensures messages { (result ≡ Err AsmError.Messages)
-        ↔ (length (code_of (tree_of frame.now)).operations ≤ 4096) × (1024 < length (code_of (tree_of frame.now)).messages) }
+        ↔ (length (code_of (tree_of frame.now)).operations ≤ 4096)
+        × (1024 < length (code_of (tree_of frame.now)).messages) }
 {
     build(alloc, frame)
 }

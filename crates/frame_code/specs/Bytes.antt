@@ -11,7 +11,8 @@ use Rattle.mil_message.specs.declared.outcome_test.OutcomeTest.{OutcomeTest}
 use Rattle.mil_message.specs.declared.outcome_test.OutcomeTest.TheVariants.{Failed, Silent, Bit}
 use Rattle.mil_status.specs.Status.{place_of}
 use Rattle.frame_code.specs.declared.Op.{Op}
-use Rattle.frame_code.specs.declared.Op.TheVariants.{Halt, Send, Alt, SetGap, Loop, Again, Leave, Jump, Test, JumpFalse, Call, Return, Begin, Pace}
+use Rattle.frame_code.specs.declared.Op.TheVariants.{Halt, Send, Alt, SetGap, Loop, Again, Leave, Jump, Test, JumpFalse}
+use Rattle.frame_code.specs.declared.Op.TheVariants.{Call, Return, Begin, Pace}
 use Rattle.frame_code.specs.Table.{Code}
 
 -- a number of two bytes, the low one first
@@ -86,7 +87,8 @@ line_number B = 1
 -- the form, the line, the commands (0000 for no second one), the number of data words, and those
 abbrev pub parts_bytes : Line → Parts → List ℕ
 parts_bytes line p =
-    p.number ∷ line_number line ∷ two_bytes p.first ++ two_bytes p.second ++ two_bytes (length p.words) ++ flat_map two_bytes p.words
+    p.number ∷ line_number line ∷ two_bytes p.first ++ two_bytes p.second ++ two_bytes (length p.words)
+    ++ flat_map two_bytes p.words
 
 abbrev pub message_bytes : Line × Message → List ℕ
 message_bytes m = parts_bytes m.0 (parts_of m.1)

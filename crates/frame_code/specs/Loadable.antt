@@ -1,8 +1,10 @@
 -- The loader's rules (own choice): which codes the controller may run.
-use Rattle.std.specs.Prelude.{◌≡◌, ℕ, zero, suc, ◌+◌, ◌<◌, ◌≤◌, Bool, true, false, not, List, [], ◌∷◌, ◌++◌, length, Option, Some, slice_get}
+use Rattle.std.specs.Prelude.{◌≡◌, ℕ, zero, suc, ◌+◌, ◌<◌, ◌≤◌, Bool, true, false, not, List, [], ◌∷◌, ◌++◌, length}
+use Rattle.std.specs.Prelude.{Option, Some, slice_get}
 use Rattle.std.specs.List.{filter}
 use Rattle.frame_code.specs.declared.Op.{Op}
-use Rattle.frame_code.specs.declared.Op.TheVariants.{Halt, Send, Alt, Loop, Again, Leave, Jump, JumpFalse, Call, Return, Begin, Pace}
+use Rattle.frame_code.specs.declared.Op.TheVariants.{Halt, Send, Alt, Loop, Again, Leave, Jump, JumpFalse, Call, Return}
+use Rattle.frame_code.specs.declared.Op.TheVariants.{Begin, Pace}
 use Rattle.frame_code.specs.Table.{Code}
 use Rattle.frame_code.specs.Routines.{routines, owner_at}
 use Rattle.frame_code.specs.Ranges.{IsImage}

@@ -1,7 +1,8 @@
 -- What an image may hold (own choice): how many operations and messages, and the range of each operand.
 use Rattle.std.specs.Prelude.{ℕ, ◌≤◌, Bool, true, ◌&&◌, nat_lt, nat_le, List, [], ◌∷◌, length, IsTrue}
 use Rattle.frame_code.specs.declared.Op.{Op}
-use Rattle.frame_code.specs.declared.Op.TheVariants.{Halt, Send, Alt, SetGap, Loop, Again, Leave, Jump, Test, JumpFalse, Call, Return, Begin, Pace}
+use Rattle.frame_code.specs.declared.Op.TheVariants.{Halt, Send, Alt, SetGap, Loop, Again, Leave, Jump, Test, JumpFalse}
+use Rattle.frame_code.specs.declared.Op.TheVariants.{Call, Return, Begin, Pace}
 use Rattle.frame_code.specs.declared.Image.TheInside.{Inside}
 use Rattle.frame_code.specs.Table.{Code}
 

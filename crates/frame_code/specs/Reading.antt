@@ -1,6 +1,7 @@
 -- What bytes are read as (own choice): the code that they spell, else the first fault. The bytes are judged field by
 -- field, in their order.
-use Rattle.std.specs.Prelude.{◌≡◌, ℕ, zero, suc, ◌+◌, ◌-◌, ◌*◌, ◌==◌, ◌&&◌, ◌||◌, nat_lt, nat_le, if◌then◌else◌, Bool, List, [], ◌∷◌, Option, Some, None, option_map, Result, Ok, Err}
+use Rattle.std.specs.Prelude.{◌≡◌, ℕ, zero, suc, ◌+◌, ◌-◌, ◌*◌, ◌==◌, ◌&&◌, ◌||◌, nat_lt, nat_le, if◌then◌else◌, Bool}
+use Rattle.std.specs.Prelude.{List, [], ◌∷◌, Option, Some, None, option_map, Result, Ok, Err}
 use Rattle.mil_word.specs.declared.Line.{Line}
 use Rattle.mil_word.specs.declared.Line.TheVariants.{A, B}
 use Rattle.mil_message.specs.declared.messages.Message.{Message}
@@ -13,7 +14,8 @@ use Rattle.mil_message.specs.Rules.{form_of}
 use Rattle.frame_code.specs.declared.ImageError.{ImageError}
 use Rattle.frame_code.specs.declared.ImageError.TheVariants as fault
 use Rattle.frame_code.specs.declared.Op.{Op}
-use Rattle.frame_code.specs.declared.Op.TheVariants.{Halt, Send, Alt, SetGap, Loop, Again, Leave, Jump, Test, JumpFalse, Call, Return, Begin, Pace}
+use Rattle.frame_code.specs.declared.Op.TheVariants.{Halt, Send, Alt, SetGap, Loop, Again, Leave, Jump, Test, JumpFalse}
+use Rattle.frame_code.specs.declared.Op.TheVariants.{Call, Return, Begin, Pace}
 use Rattle.frame_code.specs.Table.{Code}
 use Rattle.frame_code.specs.Ranges.{is_gap, is_count, is_routine, is_period}
 use Rattle.frame_code.specs.Bytes.{version_for}
@@ -46,7 +48,8 @@ two_at bs = do
 
 -- the mark BC01, BC02 or BC03: the version, 1 to 3
 unfoldable pub mark_at : List ℕ → Read ℕ
-mark_at (a ∷ b ∷ c ∷ d ∷ bs) = must (a == 66 && b == 67 && c == 48 && (d == 49 || d == 50 || d == 51)) fault.Mark (d - 48, bs)
+mark_at (a ∷ b ∷ c ∷ d ∷ bs) = must (a == 66 && b == 67 && c == 48 && (d == 49 || d == 50 || d == 51)) fault.Mark
+    (d - 48, bs)
 mark_at _ = Err fault.Mark
 
 -- the test of a number, if there is one: 0, 1, or 16 more than the place of a status bit
@@ -120,7 +123,8 @@ words_at form line first second bs = do
   count ← two_at bs
   _ ← must (count.0 == words_due form first) fault.Messages count
   words ← many two_at count.0 count.1
-  message ← present fault.Messages (message_with (request_at (record { number = form; first = first; second = second; words = words.0 })))
+  message ← present fault.Messages
+      (message_with (request_at (record { number = form; first = first; second = second; words = words.0 })))
   Ok ((line, message), words.1)
 
 -- the form, the line, the commands, and the data words

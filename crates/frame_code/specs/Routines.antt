@@ -1,5 +1,6 @@
 -- The routines of a code (own choice): a routine ends at each Return, and main begins behind the last one.
-use Rattle.std.specs.Prelude.{ℕ, zero, suc, nat_lt, if◌then◌else◌, List, [], ◌∷◌, length, Option, None, Some, get_or, slice_get}
+use Rattle.std.specs.Prelude.{ℕ, zero, suc, nat_lt, if◌then◌else◌, List, [], ◌∷◌, length, Option, None, Some, get_or}
+use Rattle.std.specs.Prelude.{slice_get}
 use Rattle.frame_code.specs.declared.Op.{Op}
 use Rattle.frame_code.specs.declared.Op.TheVariants.{Return}
 

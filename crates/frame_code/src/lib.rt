@@ -25,7 +25,8 @@ pub enum Op {
     Halt,
     /// Number 1: sends the message of this index on its own line.
     Send(u16),
-    /// Number 2: sends the message of this index on the other line than the last one sent (before any, A counts as last).
+    /// Number 2: sends the message of this index on the other line than the last one sent (before any, A counts as
+    /// last).
     Alt(u16),
     /// Number 3: sets the gap before the messages after it, 40 to 65,535 ticks of 0.1 µs.
     SetGap(u16),
@@ -37,15 +38,15 @@ pub enum Op {
     Leave(u16),
     /// Number 7: goes to this place.
     Jump(u16),
-    /// Number 8: sets the flag to a test of the last outcome (false before any): 0 failed, 1 silent, 16 + b the bit b of
-    /// the status words, b one of 0 to 4 and 8 to 10.
+    /// Number 8: sets the flag to a test of the last outcome (false before any): 0 failed, 1 silent, 16 + b the bit b
+    /// of the status words, b one of 0 to 4 and 8 to 10.
     Test(OutcomeTest),
     /// Number 9: goes to this place where the flag is false.
     JumpFalse(u16),
     /// Number 10: notes the place behind it, and goes to the start of the routine of this number, 0 to 31.
     Call(u8),
-    /// Number 11: goes to the place that was noted last, and forgets it; a routine ends here. Main begins behind the last one,
-    /// and the machine starts there.
+    /// Number 11: goes to the place that was noted last, and forgets it; a routine ends here. Main begins behind the
+    /// last one, and the machine starts there.
     Return,
     /// Number 12: opens a frame, and notes now as the tick at which it begins.
     Begin,
@@ -75,8 +76,8 @@ impl Model for Image {
 }
 
 impl Image {
-    /// The image of these operations and messages. Condition: there are at most 4096 and 1024 of them, and each operand is in
-    /// its range.
+    /// The image of these operations and messages. Condition: there are at most 4096 and 1024 of them, and each operand
+    /// is in its range.
     pub fn new(operations: Vec<Op>, messages: Vec<(Line, Message)>) -> Image
         requires { IsImage (record { operations = operations.items; messages = messages.items }) }
         ensures { result ≡ record { operations = operations.items; messages = messages.items } }
@@ -121,8 +122,8 @@ pub enum ImageError {
     Mark,
     /// C2: the bytes end too early, or go on behind the last message.
     Length,
-    /// C3: an operation's number is over 9 (with the mark BC02 over 11, with BC03 over 13), its second byte is not 00, its
-    /// operand is out of its range, or there are more than 4096 operations.
+    /// C3: an operation's number is over 9 (with the mark BC02 over 11, with BC03 over 13), its second byte is not 00,
+    /// its operand is out of its range, or there are more than 4096 operations.
     Operations,
     /// C4: there are more than 1024 messages, or no message of the form has the field.
     Messages,

@@ -1,8 +1,11 @@
 //! The image that bytes spell. The bytes are judged first, which takes no memory, and then the image is made.
-ghost use Rattle.std.specs.Prelude.{nat_le, if◌then◌else◌, Some, None, ◌∷◌, ◌++◌, ◌≡◌, ◌≢◌, ◌≤◌, ◌<◌, ◌↔◌, IsTrue, IfOk, IfSome, MatchResult, Ok, Err, length};
+ghost use Rattle.std.specs.Prelude.{nat_le, if◌then◌else◌, Some, None, ◌∷◌, ◌++◌, ◌≡◌, ◌≢◌, ◌≤◌, ◌<◌, ◌↔◌, IsTrue};
+ghost use Rattle.std.specs.Prelude.{IfOk, IfSome, MatchResult, Ok, Err, length};
 ghost use Rattle.frame_code.specs.Table.{Code};
 ghost use Rattle.frame_code.specs.Ranges.{in_range, is_routine, AreInRange};
-ghost use Rattle.frame_code.specs.Bytes.{version_of, version_for, two_bytes, mark, header_bytes, number_of, number_of_test, operand_of, operation_bytes, line_number, message_bytes, image_bytes};
+ghost use Rattle.frame_code.specs.Bytes.{version_of, version_for, two_bytes, mark, header_bytes, number_of};
+ghost use Rattle.frame_code.specs.Bytes.{number_of_test, operand_of, operation_bytes, line_number, message_bytes};
+ghost use Rattle.frame_code.specs.Bytes.{image_bytes};
 ghost use Rattle.std.specs.List.{flat_map};
 ghost use Rattle.frame_code.specs.Fields as table;
 ghost use Rattle.frame_code.specs.Reading as spelled;
@@ -67,7 +70,8 @@ struct Opening<'a> {
 // The mark and the two counts, and the bytes behind them.
 #[tactic(auto, unfolding(crate::specs::Reading::header_at))]
 fn header(bytes: &[u8]) -> Result<Opening<'_>, ImageError>
-    ensures fields { Reads (λ x. (x.version, x.operations, x.messages, x.rest.now)) result (spelled.header_at bytes.now) }
+    ensures fields { Reads (λ x. (x.version, x.operations, x.messages, x.rest.now)) result
+        (spelled.header_at bytes.now) }
     ensures spelled { IfOk result (λ x. bytes.now ≡ header_bytes x.version x.operations x.messages ++ x.rest.now) }
     ensures operations { IfOk result (λ x. x.operations ≤ 4096) }
     ensures version { IfOk result (λ x. 1 ≤ x.version) }
@@ -222,7 +226,8 @@ fn body(
     requires first { IsTrue (table.first_fits form first) }
     requires second { IsTrue (table.second_fits form first second) }
     ensures message { Reads (λ x. (x.0, x.1.now)) result (spelled.words_at form line first second bytes.now) }
-    ensures spelled { IfOk result (λ x. form ∷ line_number line ∷ two_bytes first ++ two_bytes second ++ bytes.now ≡ message_bytes x.0 ++ x.1.now) }
+    ensures spelled { IfOk result (λ x. form ∷ line_number line ∷ two_bytes first ++ two_bytes second ++ bytes.now
+        ≡ message_bytes x.0 ++ x.1.now) }
 {
     let (count, rest) = two(bytes)?;
     if count != u16::from(words_due(form, Command::of(first))) {
@@ -259,7 +264,8 @@ fn message(bytes: &[u8]) -> Result<((Line, Message), &[u8]), ImageError>
 
 // The version that so many operations need, and the bytes behind them.
 fn past_operations(version: u8, count: u16, bytes: &[u8]) -> Result<(u8, &[u8]), ImageError>
-    ensures { Reads (λ x. (x.0, x.1.now)) result (many_versions (spelled.many (spelled.operation_at version) count bytes.now)) }
+    ensures { Reads (λ x. (x.0, x.1.now)) result
+        (many_versions (spelled.many (spelled.operation_at version) count bytes.now)) }
 {
     let mut rest = bytes;
     let mut needed = 1;
@@ -286,7 +292,8 @@ fn past_messages(count: u16, bytes: &[u8]) -> Result<&[u8], ImageError>
 // Whether the bytes are those of an image, else the first fault.
 #[tactic(auto, unfolding(crate::specs::Reading::image_of))]
 fn judge(bytes: &[u8]) -> Result<(), ImageError>
-    ensures { MatchResult result (λ _. (code : Code) × (image_of bytes.now ≡ Ok code)) (λ e. image_of bytes.now ≡ Err e) }
+    ensures { MatchResult result (λ _. (code : Code) × (image_of bytes.now ≡ Ok code))
+        (λ e. image_of bytes.now ≡ Err e) }
 {
     let header = header(bytes)?;
     let (needed, rest) = past_operations(header.version, header.operations, header.rest)?;
@@ -317,7 +324,8 @@ fn operations(
     count: u16,
     bytes: &[u8],
 ) -> Result<(Vec<Op>, &[u8]), ImageError>
-    ensures operations { Builds (λ x. (x.0.items, x.1.now)) result (spelled.many (spelled.operation_at version) count bytes.now) }
+    ensures operations { Builds (λ x. (x.0.items, x.1.now)) result
+        (spelled.many (spelled.operation_at version) count bytes.now) }
     ensures known { IfOk result (λ x. (1 ≤ version) → version_for x.0.items ≤ version) }
     ensures range { IfOk result (λ x. AreInRange x.0.items) }
     ensures count { IfOk result (λ x. length x.0.items ≡ count) }
@@ -376,8 +384,8 @@ fn build(alloc: Global, bytes: &[u8]) -> Result<Image, ImageError>
     }
 }
 
-/// The image that the bytes spell, else their first fault (C1 to C4, then C6); want of memory (C5) is answered for bytes of an image
-/// alone. Two byte lists are never read as one image.
+/// The image that the bytes spell, else their first fault (C1 to C4, then C6); want of memory (C5) is answered for
+/// bytes of an image alone. Two byte lists are never read as one image.
 pub fn read_image(alloc: Global, bytes: &[u8]) -> Result<Image, ImageError>
     ensures image { IfOk result (λ image. image_of bytes.now ≡ Ok image) }
     ensures spelled { IfOk result (λ image. bytes.now ≡ image_bytes image) }

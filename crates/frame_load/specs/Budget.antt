@@ -1,6 +1,7 @@
 -- How many steps a code takes at most, how many messages it sends, and what its periods come to (own choice): the sum
 -- of what the operations of its main part cost, each as often as it can come, and a Call with what its routine costs.
-use Rattle.std.specs.Prelude.{ℕ, zero, suc, ◌+◌, ◌*◌, List, [], ◌∷◌, ◌++◌, length, get_or, Option, Some, None, slice_get}
+use Rattle.std.specs.Prelude.{ℕ, zero, suc, ◌+◌, ◌*◌, List, [], ◌∷◌, ◌++◌, length, get_or, Option, Some, None}
+use Rattle.std.specs.Prelude.{slice_get}
 use Rattle.frame_code.specs.declared.Op.{Op}
 use Rattle.frame_code.specs.declared.Op.TheVariants.{Send, Alt, Loop, Call, Return, Pace}
 use Rattle.frame_code.specs.Loadable.{open_at}

@@ -1,7 +1,8 @@
 -- The letters of the loader's refusals (own choice).
 use Rattle.std.specs.Prelude.{ℕ, List, codes}
 use Rattle.frame_load.specs.declared.LoadError.{LoadError}
-use Rattle.frame_load.specs.declared.LoadError.TheVariants.{End, Routines, Nesting, Jumps, Messages, Budget, Memory, Periods}
+use Rattle.frame_load.specs.declared.LoadError.TheVariants.{End, Routines, Nesting, Jumps, Messages, Budget, Memory}
+use Rattle.frame_load.specs.declared.LoadError.TheVariants.{Periods}
 
 abbrev pub code_of : LoadError → List ℕ
 code_of Jumps = codes "P1"

@@ -1,11 +1,13 @@
--- What the loader answers: the program of an image that keeps all rules, else the first rule that it breaks (own choice).
+-- What the loader answers: the program of an image that keeps all rules, else the first rule that it breaks (own
+-- choice).
 use Rattle.std.specs.Prelude.{◌≡◌, ℕ, ◌≤◌, ◌^◌, List, get_or, Result, Ok, Err, length}
 use Rattle.frame_code.specs.Table.{Code}
 use Rattle.frame_code.specs.Routines.{routines, begin_of}
 use Rattle.frame_code.specs.Loadable.{EndsInHalt, HasRoutines, IsNested, GoesWell, HasMessage, Each, IsLoadable}
 use Rattle.frame_load.specs.Budget.{budget, worst_messages, periods}
 use Rattle.frame_load.specs.declared.LoadError.{LoadError}
-use Rattle.frame_load.specs.declared.LoadError.TheVariants.{End, Routines, Nesting, Jumps, Messages, Budget, Periods, Memory}
+use Rattle.frame_load.specs.declared.LoadError.TheVariants.{End, Routines, Nesting, Jumps, Messages, Budget, Periods}
+use Rattle.frame_load.specs.declared.LoadError.TheVariants.{Memory}
 
 -- at most 100,000,000 steps and 1,000,000 messages
 abbrev pub IsWithin : Code → Type 0
@@ -30,9 +32,12 @@ abbrev pub Refuses : Code → LoadError → Type 0
 Refuses code End = ¬ EndsInHalt code.operations
 Refuses code Routines = EndsInHalt code.operations × ¬ HasRoutines code.operations
 Refuses code Nesting = EndsInHalt code.operations × HasRoutines code.operations × ¬ IsNested code.operations
-Refuses code Jumps = EndsInHalt code.operations × HasRoutines code.operations × IsNested code.operations × ¬ Each code.operations (GoesWell code.operations)
+Refuses code Jumps = EndsInHalt code.operations × HasRoutines code.operations × IsNested code.operations
+    × ¬ Each code.operations (GoesWell code.operations)
 Refuses code Messages =
-    EndsInHalt code.operations × HasRoutines code.operations × IsNested code.operations × Each code.operations (GoesWell code.operations) × ¬ Each code.operations (λ p. HasMessage (length code.messages))
+    EndsInHalt code.operations × HasRoutines code.operations × IsNested code.operations
+    × Each code.operations (GoesWell code.operations)
+    × ¬ Each code.operations (λ p. HasMessage (length code.messages))
 Refuses code Budget = IsLoadable code × ¬ IsWithin code
 Refuses code Periods = IsLoadable code × IsWithin code × ¬ HasShortPeriods code
 Refuses code Memory = ⊥

@@ -2,7 +2,8 @@
 //! sends. Its tests are in `frame_tests`.
 #![tactic(auto)]
 
-ghost use Rattle.std.specs.Prelude.{◌+◌, ◌-◌, ◌≡◌, ◌≢◌, ◌≤◌, ◌<◌, ◌↔◌, ℕ, length, slice_get, Some, None, Err, IfOk, IfErr};
+ghost use Rattle.std.specs.Prelude.{◌+◌, ◌-◌, ◌≡◌, ◌≢◌, ◌≤◌, ◌<◌, ◌↔◌, ℕ, length, slice_get, Some, None, Err, IfOk};
+ghost use Rattle.std.specs.Prelude.{IfErr};
 ghost use Rattle.mil_message.specs.World.{World, Point};
 ghost use Rattle.frame_code.specs.declared.Op.{Op};
 ghost use Rattle.frame_code.specs.declared.Op.TheVariants as op;

@@ -30,7 +30,8 @@ const PACED: [Played; 3] = [
         ],
     ),
     (
-        "channel 1\nterminal 5\nscript\nframe 10000 { frame 2000 { send A mode 5 1 } frame 2000 { send A mode 5 1 } } send A mode 5 1",
+        "channel 1\nterminal 5\nscript\n\
+         frame 10000 { frame 2000 { send A mode 5 1 } frame 2000 { send A mode 5 1 } } send A mode 5 1",
         &[
             (Some(0), Some((0, 0x50)), ASKED),
             (Some(20_000), Some((0, 0x50)), ASKED),

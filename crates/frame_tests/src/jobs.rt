@@ -49,7 +49,8 @@ const BETWEEN: [Played; 3] = [
         )],
     ),
     (
-        "channel 1\nterminal 3\nterminal 7\nat 1 7 transmit 1 AAAA 5555\nfault 1 late 1 170\nscript\nsend A rt 7 1 3 4 2",
+        "channel 1\nterminal 3\nterminal 7\nat 1 7 transmit 1 AAAA 5555\nfault 1 late 1 170\nscript\n\
+         send A rt 7 1 3 4 2",
         &[(
             Some(0),
             Some((0x1a00, 0x50aa)),
@@ -57,7 +58,8 @@ const BETWEEN: [Played; 3] = [
         )],
     ),
     (
-        "channel 1\nterminal 3\nterminal 7\nat 1 7 transmit 1 AAAA 5555\nfault 1 late 1 171\nscript\nsend A rt 7 1 3 4 2 send A mode 3 2",
+        "channel 1\nterminal 3\nterminal 7\nat 1 7 transmit 1 AAAA 5555\nfault 1 late 1 171\nscript\n\
+         send A rt 7 1 3 4 2 send A mode 3 2",
         &[
             (
                 Some(0),
@@ -72,7 +74,8 @@ const BETWEEN: [Played; 3] = [
 /// Planned faults of the first message.
 const FAULTS: [Played; 4] = [
     (
-        "channel 1\nterminal 5\nfault 1 drop 0 3\nscript\nsend A rx 5 1 [0001 0002 0003] send A mode 5 2 send A mode 5 2",
+        "channel 1\nterminal 5\nfault 1 drop 0 3\nscript\n\
+         send A rx 5 1 [0001 0002 0003] send A mode 5 2 send A mode 5 2",
         &[
             (Some(0), Some((0x1220, 0)), &[0x2823, 1, 2]),
             (Some(760), Some((0, 0x50)), &[0x2fe2, 0x2c00]),
@@ -125,7 +128,8 @@ const MODES: [Played; 3] = [
 /// Hosts act before their message.
 const HOSTS: [Played; 3] = [
     (
-        "channel 1\nterminal 5\nat 1 5 fault on\nscript\nsend A mode 5 6 send A mode 5 1 send A mode 5 8 send A mode 5 1",
+        "channel 1\nterminal 5\nat 1 5 fault on\nscript\n\
+         send A mode 5 6 send A mode 5 1 send A mode 5 8 send A mode 5 1",
         &[
             (None, None, &[0x2fe6, 0x2800]),
             (None, None, &[0x2fe1, 0x2800]),
@@ -163,13 +167,14 @@ const SILENT: [Row; 4] = [
     (Some(1080), Some((0x3200, 0)), &[0x2fe1]),
 ];
 
-/// Repeats, retries and choices. A poll is repeated twice, and then until one fails, at most three times, also by its name. Before
-/// any message no test holds; the condition is looked at before each turn.
+/// Repeats, retries and choices. A poll is repeated twice, and then until one fails, at most three times, also by its
+/// name. Before any message no test holds; the condition is looked at before each turn.
 const TURNS: [Played; 7] = [
     ("channel 1\nscript\nif fail { send A mode 5 1 }", &[]),
     (RETRIES, &NINE),
     (
-        "channel 1\nterminal 5\nscript\nrepeat 2 { retry 1 send A mode 5 1 }\nuntil fail at most 3 { retry 1 send A mode 5 1 }",
+        "channel 1\nterminal 5\nscript\nrepeat 2 { retry 1 send A mode 5 1 }\n\
+         until fail at most 3 { retry 1 send A mode 5 1 }",
         &ANSWERED,
     ),
     (
@@ -177,15 +182,18 @@ const TURNS: [Played; 7] = [
         &SILENT,
     ),
     (
-        "channel 1\nterminal 5\nscript\ndefine poll { retry 1 send A mode 5 1 }\nrepeat 2 { call poll }\nuntil fail at most 3 { call poll }",
+        "channel 1\nterminal 5\nscript\ndefine poll { retry 1 send A mode 5 1 }\nrepeat 2 { call poll }\n\
+         until fail at most 3 { call poll }",
         &ANSWERED,
     ),
     (
-        "channel 1\nscript\ndefine poll { retry 1 send A mode 5 1 }\nrepeat 2 { call poll }\nuntil fail at most 3 { call poll }",
+        "channel 1\nscript\ndefine poll { retry 1 send A mode 5 1 }\nrepeat 2 { call poll }\n\
+         until fail at most 3 { call poll }",
         &SILENT,
     ),
     (
-        "channel 1\nterminal 5\nscript\nuntil not fail at most 3 { send A mode 5 1 }\nsend A mode 9 1\nuntil not fail at most 3 { send A mode 5 1 }",
+        "channel 1\nterminal 5\nscript\nuntil not fail at most 3 { send A mode 5 1 }\nsend A mode 9 1\n\
+         until not fail at most 3 { send A mode 5 1 }",
         &[
             (Some(0), None, &[0x4fe1]),
             (Some(360), None, &[0x2fe1, 0x2800]),
@@ -199,7 +207,8 @@ pub(crate) const RETRIES: &str =
 
 /// A job with a line of each kind.
 const ALL_LINES: &str =
-    "# a note\nchannel 7\nstart 140737488355328\nterminal 5\nterminal 30\n\nat 2 30 busy on\nfault 3 mute 1\nscript\nsend A mode 5 1\n";
+    "# a note\nchannel 7\nstart 140737488355328\nterminal 5\nterminal 30\n\nat 2 30 busy on\nfault 3 mute 1\nscript\n\
+     send A mode 5 1\n";
 
 fn job_of(rt: &impl Abort, alloc: Global, text: &str) -> Job {
     read_job(alloc, text.as_bytes()).expect(rt, text)

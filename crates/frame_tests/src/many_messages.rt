@@ -106,7 +106,8 @@ const REFUSED: [Told; 32] = [
         "J6 line 5 L2",
     ),
     (
-        "faults 3 4 1 mute 1\nfaults 3 4 1 mute 1\nfaults 3 4 1 mute 1\nfaults 3 4 1 mute 1\nfaults 1 5 4 mute 1\nscript",
+        "faults 3 4 1 mute 1\nfaults 3 4 1 mute 1\nfaults 3 4 1 mute 1\nfaults 3 4 1 mute 1\nfaults 1 5 4 mute 1\n\
+         script",
         "J3 line 6",
     ),
     ("terminal 5\nseries 5 1 1 5 3 0000 0001", "J2 line 2"),
@@ -123,8 +124,8 @@ const REFUSED: [Told; 32] = [
     ("series 1 5 1 5 3 0000 0001\nterminal 5", "J4 line 1"),
 ];
 
-/// A million actions come from the series of a job at most: of two lines, of two with one too many, and of one line beside
-/// other actions.
+/// A million actions come from the series of a job at most: of two lines, of two with one too many, and of one line
+/// beside other actions.
 const MANY: [Told; 3] = [
     (
         "terminal 5\nseries 7 7 1 5 3 0000 0001\nseries 1 999999 1 5 3 0000 0001\nseries 7 7 1 6 3 0000 0001",

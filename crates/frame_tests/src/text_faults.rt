@@ -1,4 +1,5 @@
-//! Texts with each fault at the first, a middle and the last place where it may stand; lines and columns are counted by hand.
+//! Texts with each fault at the first, a middle and the last place where it may stand; lines and columns are counted by
+//! hand.
 use crate::equal::{prints, reads};
 use frame_text::{parse, read_send};
 use std::alloc::Global;
@@ -138,8 +139,8 @@ fn faults_and_their_places(rt: HostRuntime) {
 /// A text, then one piece a number of times, then another text; and what is printed of the fault of the whole.
 type Repeated = (&'static str, &'static str, u32, &'static str, &'static str);
 
-/// Sixteen blocks may stand in one another, and sixteen operators above a test. A call counts as deep as what it stands for; the
-/// braces of a definition are no block.
+/// Sixteen blocks may stand in one another, and sixteen operators above a test. A call counts as deep as what it stands
+/// for; the braces of a definition are no block.
 const DEPTHS: [Repeated; 12] = [
     ("", "repeat 1 { ", 17, "", "S6 line 1 column 186"),
     (

@@ -32,7 +32,8 @@ const PRINTED: [(&str, &str); 11] = [
     ),
     (
         "define poll{retry 1 send A mode 5 1}define all{call poll repeat 2{call poll}}call all",
-        "define poll {\n  retry 1 send A mode 5 1\n}\ndefine all {\n  call poll\n  repeat 2 {\n    call poll\n  }\n}\ncall all\n",
+        "define poll {\n  retry 1 send A mode 5 1\n}\ndefine all {\n  call poll\n  repeat 2 {\n    call poll\n  }\n\
+         }\ncall all\n",
     ),
     (
         "if fail{gap 50}else{if silent{}else{gap 60 gap 70}}gap 80",

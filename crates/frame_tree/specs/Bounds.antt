@@ -1,10 +1,11 @@
 -- How large a tree is, and which trees are sound (own choice).
 use Rattle.std.specs.Prelude.{◌≡◌, ℕ, ◌+◌, ◌*◌, ◌≤◌, ◌<◌, max, true, false, [], ◌∷◌, length}
-use Rattle.frame_tree.specs.Tree.{Condition, asked, negated, both, either, Tree, send, retry, gap, repeat, choose, until, timed, nothing, chained, call, define}
+use Rattle.frame_tree.specs.Tree.{Condition, asked, negated, both, either, Tree, send, retry, gap, repeat, choose}
+use Rattle.frame_tree.specs.Tree.{until, timed, nothing, chained, call, define}
 use Rattle.frame_tree.specs.Names.{Scope, named, is_known}
 
--- How many messages a tree sends at most, where a call of each name in scope sends so many: every retry is used up, an until
--- runs all its turns, and an if takes the branch with more.
+-- How many messages a tree sends at most, where a call of each name in scope sends so many: every retry is used up, an
+-- until runs all its turns, and an if takes the branch with more.
 abbrev pub messages_in : Scope ℕ → Tree → ℕ
 messages_in ds (send l m) = 1
 messages_in ds (retry n l m) = 1 + n
@@ -21,8 +22,8 @@ messages_in ds (define n b r) = messages_in ((n, messages_in ds b) ∷ ds) r
 abbrev pub worst_messages : Tree → ℕ
 worst_messages t = messages_in [] t
 
--- How many repeats, ifs, untils and frames with a period stand in one another, where in a call of each name in scope so many do; the body of a
--- definition counts, called or not.
+-- How many repeats, ifs, untils and frames with a period stand in one another, where in a call of each name in scope so
+-- many do; the body of a definition counts, called or not.
 abbrev pub depth_in : Scope ℕ → Tree → ℕ
 depth_in ds (send l m) = 0
 depth_in ds (retry n l m) = 0
@@ -80,7 +81,8 @@ CallsKnown ds (define n b r) = ⊥
 
 -- definitions stand at the outside alone, at most 32 of them, with distinct names, and each call names an earlier one
 abbrev pub IsDefined : Scope ℕ → Tree → Type 0
-IsDefined ds (define n b r) = (length ds < 32) × (is_known ds n ≡ false) × CallsKnown ds b × IsDefined ((n, length ds) ∷ ds) r
+IsDefined ds (define n b r) = (length ds < 32) × (is_known ds n ≡ false) × CallsKnown ds b
+    × IsDefined ((n, length ds) ∷ ds) r
 IsDefined ds t = CallsKnown ds t
 
 -- a tree that may be assembled

@@ -4,7 +4,8 @@ use Rattle.mil_word.specs.declared.Line.{Line}
 use Rattle.mil_message.specs.declared.messages.Message.{Message}
 use Rattle.mil_message.specs.declared.outcome_test.OutcomeTest.TheVariants.{Failed}
 use Rattle.mil_message.specs.World.{World, Point, other_line, sent, asks, now_at, paced_to}
-use Rattle.frame_tree.specs.Tree.{Condition, asked, negated, both, either, Tree, send, retry, gap, repeat, choose, until, timed, nothing, chained, call, define}
+use Rattle.frame_tree.specs.Tree.{Condition, asked, negated, both, either, Tree, send, retry, gap, repeat, choose}
+use Rattle.frame_tree.specs.Tree.{until, timed, nothing, chained, call, define}
 use Rattle.frame_tree.specs.Expansion.{expansion}
 
 -- n times in a row
@@ -27,11 +28,13 @@ module _ {State Outcome : Type 0} (w : World State Outcome) where
       if asks w Failed p then attempts n (other_line line) message (sent w (other_line line) message p) else p
 
   -- at most n turns of a body, while a condition that is looked at before each turn does not hold
-  abbrev pub turns_until : ℕ → Condition → (Point State Outcome → Point State Outcome) → Point State Outcome → Point State Outcome
+  abbrev pub turns_until : ℕ → Condition → (Point State Outcome → Point State Outcome) → Point State Outcome
+      → Point State Outcome
   turns_until zero c body p = p
   turns_until (suc n) c body p = if condition_meaning c p then p else turns_until n c body (body p)
 
-  -- a body with a period of h hundreds of µs: what is behind it starts that much later than the body began, or later still
+  -- a body with a period of h hundreds of µs: what is behind it starts that much later than the body began, or later
+  -- still
   abbrev pub held : ℕ → (Point State Outcome → Point State Outcome) → Point State Outcome → Point State Outcome
   held h body p = paced_to w (now_at w p + 1000 * h) (body p)
 

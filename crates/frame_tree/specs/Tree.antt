@@ -15,8 +15,8 @@ pub data Condition : Type 0 where
   both : Condition → Condition → Condition
   either : Condition → Condition → Condition
 
--- frames one after the other are chained: one and the chain of those after it, ended by nothing; a definition is its name,
--- its body, and the tree in which the name stands for it; a frame with a period has it in hundreds of µs
+-- frames one after the other are chained: one and the chain of those after it, ended by nothing; a definition is its
+-- name, its body, and the tree in which the name stands for it; a frame with a period has it in hundreds of µs
 pub data Tree : Type 0 where
   send : Line → Message → Tree
   retry : ℕ → Line → Message → Tree

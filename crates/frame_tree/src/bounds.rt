@@ -1,18 +1,20 @@
-//! How large a frame is, and whether it may be assembled. What a definition's body comes to is counted once, and its calls
-//! take that number: no expansion is ever built.
+//! How large a frame is, and whether it may be assembled. What a definition's body comes to is counted once, and its
+//! calls take that number: no expansion is ever built.
 
 ghost use Rattle.std.specs.Prelude.{◌≡◌, ℕ, ◌≤◌, ◌*◌, ◌↔◌, IsTrue, min, length, []};
 ghost use Rattle.frame_tree.specs.Tree.{Tree, tree_of};
 ghost use Rattle.frame_tree.specs.Expansion.{expansion};
 ghost use Rattle.frame_tree.specs.Scopes.{scope_of};
-ghost use Rattle.frame_tree.specs.Bounds.{depth, depth_in, worst_messages, messages_in, IsInRange, CallsKnown, IsDefined, IsSound};
+ghost use Rattle.frame_tree.specs.Bounds.{depth, depth_in, worst_messages, messages_in, IsInRange, CallsKnown};
+ghost use Rattle.frame_tree.specs.Bounds.{IsDefined, IsSound};
 
 use crate::{Frame, Scope};
 use std::alloc::Allocator;
 
 impl<A: Allocator + Clone> Frame<A> {
-    /// How many messages it sends at most, 1,000,001 where it is more than 1,000,000: every retry is used up, an `until` runs
-    /// all its turns, an `if` takes the branch with more, and a call sends what the body of its definition does.
+    /// How many messages it sends at most, 1,000,001 where it is more than 1,000,000: every retry is used up, an
+    /// `until` runs all its turns, an `if` takes the branch with more, and a call sends what the body of its definition
+    /// does.
     pub fn worst_messages(&self) -> u32
         ensures { result ≡ min 1000001 (worst_messages (tree_of self.now)) }
     {
@@ -49,8 +51,8 @@ impl<A: Allocator + Clone> Frame<A> {
         }
     }
 
-    /// How many repeats, ifs, untils and frames with a period stand in one another, those in the bodies of its calls with
-    /// them, 17 where it is more than 16; the body of a definition counts, called or not.
+    /// How many repeats, ifs, untils and frames with a period stand in one another, those in the bodies of its calls
+    /// with them, 17 where it is more than 16; the body of a definition counts, called or not.
     pub fn depth(&self) -> u32
         ensures { result ≡ min 17 (depth (tree_of self.now)) }
     {
@@ -86,9 +88,9 @@ impl<A: Allocator + Clone> Frame<A> {
         }
     }
 
-    /// Whether it may be assembled: depth at most 16, at most 16 operators above any test of a condition, every number in
-    /// its range, at most 1,000,000 messages at worst, and definitions at the outside alone, at most 32, with distinct names,
-    /// each call naming an earlier one.
+    /// Whether it may be assembled: depth at most 16, at most 16 operators above any test of a condition, every number
+    /// in its range, at most 1,000,000 messages at worst, and definitions at the outside alone, at most 32, with
+    /// distinct names, each call naming an earlier one.
     pub fn sound(&self) -> bool
         ensures { IsTrue result ↔ IsSound (tree_of self.now) }
     {
@@ -182,8 +184,8 @@ impl<A: Allocator + Clone> Frame<A> {
     }
 }
 
-/// Law: the expansion of a tree has neither a definition nor a call, sends as many messages as the tree at worst, and is no
-/// deeper.
+/// Law: the expansion of a tree has neither a definition nor a call, sends as many messages as the tree at worst, and
+/// is no deeper.
 pub fn expansion_keeps()
     ensures plain { (t : Tree) → CallsKnown {X = ℕ} [] (expansion t) }
     ensures messages { (t : Tree) → worst_messages (expansion t) ≡ worst_messages t }

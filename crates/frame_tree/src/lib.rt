@@ -1,5 +1,5 @@
-//! Frames, the programs of a bus controller, as trees under any allocator (own choice): what a script says, before it is
-//! assembled. Its tests are in `frame_tests`.
+//! Frames, the programs of a bus controller, as trees under any allocator (own choice): what a script says, before it
+//! is assembled. Its tests are in `frame_tests`.
 #![tactic(auto)]
 
 mod bounds;
@@ -34,8 +34,8 @@ pub enum Frame<A: Allocator + Clone> {
         line: Line,
         message: Message,
     },
-    /// Sends a message, and then at most `count` (1 to 8) times more, each time on the other line than before, while the
-    /// last outcome is failed.
+    /// Sends a message, and then at most `count` (1 to 8) times more, each time on the other line than before, while
+    /// the last outcome is failed.
     Retry {
         count: u8,
         line: Line,
@@ -61,8 +61,8 @@ pub enum Frame<A: Allocator + Clone> {
         count: u16,
         body: Box<Frame<A>, A>,
     },
-    /// Runs the body; what is behind it starts `hundreds` (1 to 65,535) times 100 µs after the body began, or as soon as it can
-    /// where the body took longer.
+    /// Runs the body; what is behind it starts `hundreds` (1 to 65,535) times 100 µs after the body began, or as soon
+    /// as it can where the body took longer.
     Timed {
         hundreds: u16,
         body: Box<Frame<A>, A>,
@@ -71,8 +71,8 @@ pub enum Frame<A: Allocator + Clone> {
     Seq(Vec<Frame<A>, A>),
     /// Runs the body of the definition of this name.
     Call(Name),
-    /// Runs the rest, in which the name stands for the body. A frame may be assembled where its definitions stand at the
-    /// outside: at most 32, with distinct names, each calling earlier ones alone.
+    /// Runs the rest, in which the name stands for the body. A frame may be assembled where its definitions stand at
+    /// the outside: at most 32, with distinct names, each calling earlier ones alone.
     Define {
         name: Name,
         body: Box<Frame<A>, A>,

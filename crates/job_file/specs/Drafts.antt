@@ -25,7 +25,8 @@ with_line script h = h
 with_line (channel n) h = record h { channels = h.channels ++ n ∷ [] }
 with_line (start n) h = record h { starts = h.starts ++ n ∷ [] }
 with_line (terminal n) h = record h { addresses = h.addresses ++ n ∷ [] }
-with_line (action number address text) h = record h { actions = h.actions ++ option_to_list (placing number address (in_words text)) }
+with_line (action number address text) h = record h
+    { actions = h.actions ++ option_to_list (placing number address (in_words text)) }
 with_line (fault number f) h = record h { plan = h.plan ++ (number, f) ∷ [] }
 with_line (faults span f) h = record h { plan = h.plan ++ map (λ number. (number, f)) (numbers_of span) }
 with_line (series s) h = record h { actions = h.actions ++ placed_by s; from_series = h.from_series + count_of s.span }

@@ -1,6 +1,7 @@
--- The first fault of a job's text (own choice): its lines in their order, and in a line first its words, then its numbers, then its
--- place behind the lines above it; then the script.
-use Rattle.std.specs.Prelude.{◌≡◌, ℕ, ◌+◌, nat_lt, Bool, true, false, ◌&&◌, if◌then◌else◌, List, [], ◌∷◌, ◌++◌, length, map, Option, Some, None, Result, Ok, Err}
+-- The first fault of a job's text (own choice): its lines in their order, and in a line first its words, then its
+-- numbers, then its place behind the lines above it; then the script.
+use Rattle.std.specs.Prelude.{◌≡◌, ℕ, ◌+◌, nat_lt, Bool, true, false, ◌&&◌, if◌then◌else◌, List, [], ◌∷◌, ◌++◌, length}
+use Rattle.std.specs.Prelude.{map, Option, Some, None, Result, Ok, Err}
 use Rattle.std.specs.Option.{is_some}
 use Rattle.mil_host.specs.Words.{Text, words, has_bytes}
 use Rattle.mil_host.specs.Reading.{in_words}
@@ -15,7 +16,9 @@ use Rattle.frame_text.specs.Frames.{tree_of_text}
 use Rattle.frame_text.specs.declared.faults.Cause.{Cause}
 use Rattle.frame_code.specs.Table.{Code}
 use Rattle.frame_asm.specs.Shapes.{code_of}
-use Rattle.job_file.specs.Lines.{Said, blank, script, channel, start, terminal, action, fault, faults, series, keyword_of, fault_word_of, sync_of, first, ended, one, two, three, four, front, is_comment, said}
+use Rattle.job_file.specs.Lines.{Said, blank, script, channel, start, terminal, action, fault, faults, series}
+use Rattle.job_file.specs.Lines.{keyword_of, fault_word_of, sync_of, first, ended, one, two, three, four, front}
+use Rattle.job_file.specs.Lines.{is_comment, said}
 use Rattle.job_file.specs.Spans.{count_of, numbers_of}
 use Rattle.job_file.specs.HeadLines.{Head, head_of, has, has_room, is_none_yet, are_lawful}
 use Rattle.job_file.specs.Spelled.{lines_of, text_of, is_script, all_said}
@@ -25,7 +28,8 @@ use Rattle.job_file.specs.declared.keywords.Keyword.TheVariants as keyword
 use Rattle.job_file.specs.declared.keywords.FaultWord.{FaultWord}
 use Rattle.job_file.specs.declared.keywords.FaultWord.TheVariants as word
 use Rattle.job_file.specs.declared.error.LineFault.{LineFault}
-use Rattle.job_file.specs.declared.error.LineFault.TheVariants.{Word, Number, Order, Terminal, Action as BadActionOf, Fault as BadFaultOf}
+use Rattle.job_file.specs.declared.error.LineFault.TheVariants.{Word, Number, Order, Terminal, Action as BadActionOf}
+use Rattle.job_file.specs.declared.error.LineFault.TheVariants.{Fault as BadFaultOf}
 use Rattle.job_file.specs.declared.error.Refusal.{Refusal}
 use Rattle.job_file.specs.declared.error.Refusal.TheVariants as refusal
 use Rattle.job_file.specs.declared.error.JobError.{JobError}
@@ -50,8 +54,10 @@ are_words_behind keyword.Channel ws = is_some (one ws)
 are_words_behind keyword.Start ws = is_some (one ws)
 are_words_behind keyword.Terminal ws = is_some (one ws)
 are_words_behind keyword.At ws = there (first ws) (λ n. there (first n.1) (λ a. is_some (first a.1)))
-are_words_behind keyword.Fault ws = there (first ws) (λ n. there (first n.1) (λ k. there (fault_word_of k.0) (λ kind. are_fault_words kind k.1)))
-are_words_behind keyword.Faults ws = there (front ws) (λ n. there (first n.1) (λ k. there (fault_word_of k.0) (λ kind. are_fault_words kind k.1)))
+are_words_behind keyword.Fault ws = there (first ws)
+    (λ n. there (first n.1) (λ k. there (fault_word_of k.0) (λ kind. are_fault_words kind k.1)))
+are_words_behind keyword.Faults ws = there (front ws)
+    (λ n. there (first n.1) (λ k. there (fault_word_of k.0) (λ kind. are_fault_words kind k.1)))
 are_words_behind keyword.Series ws = there (front ws) (λ n. is_some (four n.1))
 are_words_behind keyword.Script ws = is_some (ended ws script)
 
@@ -78,15 +84,16 @@ first_fault (None ∷ rest) = first_fault rest
 first_fault (Some why ∷ rest) = Some why
 
 -- What is wrong with the place of a line behind those above: J2 more actions of series than a job may have; J3, J4; or,
--- where its place is well, J5 the action, J6 the fault. The messages of one line differ, so that none is refused for another
--- of them.
+-- where its place is well, J5 the action, J6 the fault. The messages of one line differ, so that none is refused for
+-- another of them.
 abbrev pub place_fault : Said → Head → Option LineFault
 place_fault blank above = None
 place_fault script above = if is_none_yet above.channels then Some Order else None
 place_fault (channel n) above = if is_none_yet above.channels then None else Some Order
 place_fault (start n) above = if is_none_yet above.starts then None else Some Order
 place_fault (terminal n) above = if has n above.addresses then Some Terminal else None
-place_fault (action number address text) above = if has address above.addresses then bad_action (in_words text) else Some Terminal
+place_fault (action number address text) above = if has address above.addresses then bad_action (in_words text)
+    else Some Terminal
 place_fault (fault number f) above = plan_fault above.plan f number
 place_fault (faults span f) above = first_fault (map (plan_fault above.plan f) (numbers_of span))
 place_fault (series s) above =
@@ -178,8 +185,8 @@ pub record IsImageFault (text : Text) (line : ℕ) (IsRefused : Code → Type 0)
   pub spells : tree_of_text below ≡ Ok tree
   pub fault : IsRefused (code_of tree)
 
--- The first fault of a text. Memory may be refused only where all lines so far are well: J8 hides no fault of a line above the one
--- at which memory was wanted, and none of that line.
+-- The first fault of a text. Memory may be refused only where all lines so far are well: J8 hides no fault of a line
+-- above the one at which memory was wanted, and none of that line.
 abbrev pub IsFirstFault : Text → JobError → Type 0
 IsFirstFault text (error.Line line why) = IsLineFault text line why
 IsFirstFault text (error.Script cause place) = IsScriptFault text cause
@@ -212,9 +219,12 @@ pub record HasImageFault (below : Text) (IsRefused : Code → Type 0) : Type 0 w
 
 abbrev pub IsScriptRefused : Head → ℕ → Text → JobError → Type 0
 IsScriptRefused head line below (error.Line n why) = (is_none_yet head.channels ≡ true) × (n ≡ line) × (why ≡ Order)
-IsScriptRefused head line below (error.Script cause place) = (is_none_yet head.channels ≡ false) × (tree_of_text below ≡ Err cause)
-IsScriptRefused head line below (error.Assembly n why) = (is_none_yet head.channels ≡ false) × (n ≡ line) × HasImageFault below (λ code. IsTooLong code why)
-IsScriptRefused head line below (error.Loading n why) = (is_none_yet head.channels ≡ false) × (n ≡ line) × HasImageFault below (λ code. IsTooMuch code why)
+IsScriptRefused head line below (error.Script cause place) = (is_none_yet head.channels ≡ false)
+    × (tree_of_text below ≡ Err cause)
+IsScriptRefused head line below (error.Assembly n why) = (is_none_yet head.channels ≡ false) × (n ≡ line)
+    × HasImageFault below (λ code. IsTooLong code why)
+IsScriptRefused head line below (error.Loading n why) = (is_none_yet head.channels ≡ false) × (n ≡ line)
+    × HasImageFault below (λ code. IsTooMuch code why)
 IsScriptRefused head line below error.Memory = is_none_yet head.channels ≡ false
 
 -- a fault of the image stands at this line

@@ -1,5 +1,6 @@
 -- What the lines above the script say together, and which lines may stand behind others (own choice).
-use Rattle.std.specs.Prelude.{ℕ, ◌+◌, ◌==◌, nat_le, nat_lt, Bool, true, false, not, ◌&&◌, List, [], ◌∷◌, ◌++◌, length, map, Option, Some, None, Result, Ok, Err}
+use Rattle.std.specs.Prelude.{ℕ, ◌+◌, ◌==◌, nat_le, nat_lt, Bool, true, false, not, ◌&&◌, List, [], ◌∷◌, ◌++◌, length}
+use Rattle.std.specs.Prelude.{map, Option, Some, None, Result, Ok, Err}
 use Rattle.std.specs.List.{list_any, list_all, filter_map, flat_map, sum_by}
 use Rattle.std.specs.Option.{option_to_list}
 use Rattle.std.specs.Result.{is_ok}
@@ -13,8 +14,8 @@ use Rattle.job_file.specs.Lines.{Said, blank, script, channel, start, terminal, 
 use Rattle.job_file.specs.Spans.{count_of, numbers_of, placed_by}
 use Rattle.bc_machine.specs.declared.placed.Placed.{Placed}
 
--- the channels that are named, the start ticks, the addresses of the terminals, the hosts' actions and the planned faults,
--- each in the order of the lines; and how many of the actions are those of series
+-- the channels that are named, the start ticks, the addresses of the terminals, the hosts' actions and the planned
+-- faults, each in the order of the lines; and how many of the actions are those of series
 pub record Head : Type 0 where
   pub channels : List ℕ
   pub starts : List ℕ
@@ -78,8 +79,9 @@ may_plan number f plan = nat_lt (length (faults_of number plan)) 4 && (is_number
 abbrev pub has_room : ℕ → Head → Bool
 has_room count above = nat_le (above.from_series + count) 1000000
 
--- A line may stand behind others that say this: the channel and the start tick are named once, each terminal once, an action
--- is lawful and its terminal stands above it, a fault may be planned at each of its messages, and a series has room.
+-- A line may stand behind others that say this: the channel and the start tick are named once, each terminal once, an
+-- action is lawful and its terminal stands above it, a fault may be planned at each of its messages, and a series has
+-- room.
 abbrev pub may_stand : Said → Head → Bool
 may_stand blank above = true
 may_stand script above = false

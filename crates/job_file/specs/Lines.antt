@@ -87,14 +87,16 @@ front ws = first ws >>= (λ a. first a.1 >>= (λ b. first b.1 >>= (λ c. Some ((
 
 -- `mask RUN INDEX HALF_BITS`, `drop RUN INDEX`, `add RUN INDEX c|d WORD`, `late RUN TICKS` and `mute RUN`
 unfoldable pub mask_in : List Text → Option Fault
-mask_in ws = three ws >>= (λ w. number_of w.0 >>= (λ run. number_of w.1 >>= (λ index. half_bits_of w.2 >>= (λ half_bits. Some (Mask run index half_bits)))))
+mask_in ws = three ws >>= (λ w. number_of w.0 >>=
+    (λ run. number_of w.1 >>= (λ index. half_bits_of w.2 >>= (λ half_bits. Some (Mask run index half_bits)))))
 
 unfoldable pub drop_in : List Text → Option Fault
 drop_in ws = two ws >>= (λ w. number_of w.0 >>= (λ run. number_of w.1 >>= (λ index. Some (Drop run index))))
 
 unfoldable pub add_in : List Text → Option Fault
 add_in ws =
-    four ws >>= (λ w. sync_of w.2 >>= (λ sync. number_of w.0 >>= (λ run. number_of w.1 >>= (λ index. data_word_of w.3 >>= (λ value.
+    four ws >>= (λ w. sync_of w.2 >>=
+    (λ sync. number_of w.0 >>= (λ run. number_of w.1 >>= (λ index. data_word_of w.3 >>= (λ value.
     Some (Add run index (record { sync = sync; value = value })))))))
 
 unfoldable pub late_in : List Text → Option Fault
@@ -124,7 +126,8 @@ terminal_in ws = one ws >>= (λ w. number_within 0 30 w >>= (λ n. Some (termina
 unfoldable pub action_in : List Text → Option Said
 action_in ws =
     first ws >>= (λ n. first n.1 >>= (λ a. first a.1 >>= (λ more.
-    number_within 1 1000000 n.0 >>= (λ number. number_within 0 30 a.0 >>= (λ address. Some (action number address a.1))))))
+    number_within 1 1000000 n.0 >>=
+    (λ number. number_within 0 30 a.0 >>= (λ address. Some (action number address a.1))))))
 
 unfoldable pub fault_in : List Text → Option Said
 fault_in ws =
@@ -134,7 +137,8 @@ fault_in ws =
 -- `FIRST LAST STEP`
 unfoldable pub span_of : Text × Text × Text → Option Span
 span_of w =
-    number_within 1 1000000 w.0 >>= (λ low. number_within low 1000000 w.1 >>= (λ high. number_within 1 1000000 w.2 >>= (λ step.
+    number_within 1 1000000 w.0 >>=
+    (λ low. number_within low 1000000 w.1 >>= (λ high. number_within 1 1000000 w.2 >>= (λ step.
     Some (record { first = low; last = high; step = step }))))
 
 unfoldable pub faults_in : List Text → Option Said
@@ -145,11 +149,13 @@ faults_in ws =
 -- `ADDRESS SUB START ADD` of these messages
 unfoldable pub series_of : Span → Text × Text × Text × Text → Option Series
 series_of span w =
-    number_within 0 30 w.0 >>= (λ address. number_within 1 29 w.1 >>= (λ sub. data_word_of w.2 >>= (λ begin. data_word_of w.3 >>= (λ add.
+    number_within 0 30 w.0 >>= (λ address. number_within 1 29 w.1 >>=
+    (λ sub. data_word_of w.2 >>= (λ begin. data_word_of w.3 >>= (λ add.
     Some (record { span = span; address = address; sub = sub; start = begin; add = add })))))
 
 unfoldable pub series_in : List Text → Option Said
-series_in ws = front ws >>= (λ n. four n.1 >>= (λ w. span_of n.0 >>= (λ span. series_of span w >>= (λ s. Some (series s)))))
+series_in ws = front ws >>= (λ n. four n.1 >>=
+    (λ w. span_of n.0 >>= (λ span. series_of span w >>= (λ s. Some (series s)))))
 
 unfoldable pub of_keyword : Keyword → List Text → Option Said
 of_keyword keyword.Channel ws = channel_in ws

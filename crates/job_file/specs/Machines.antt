@@ -13,7 +13,8 @@ use Rattle.bc_machine.specs.UnderWay.{IsUnderWay}
 use Rattle.job_file.specs.Spelled.{ChannelJob}
 use Rattle.job_file.specs.Meaning.{bus_of, records_in, records, bus_after}
 
--- a controller under way that runs the job's script, from new terminals, under the job's planned faults and these placed actions
+-- a controller under way that runs the job's script, from new terminals, under the job's planned faults and these
+-- placed actions
 pub record IsOf (job : ChannelJob) (placed : List Placed) (m : MachineState) : Type 0 where
   pub code : m.code ≡ code_of job.tree
   pub plan : m.plan ≡ job.plan
@@ -38,12 +39,14 @@ Starts =
 
 -- and stays so with each step
 abbrev pub GoesOn : Type 0
-GoesOn = (job : ChannelJob) (placed : List Placed) (m : MachineState) → IsOf job placed m → IsUnderWay (stepped m) → IsOf job placed (stepped m)
+GoesOn = (job : ChannelJob) (placed : List Placed) (m : MachineState) → IsOf job placed m → IsUnderWay (stepped m)
+    → IsOf job placed (stepped m)
 
 -- as many records as messages were sent
 abbrev pub Counts : Type 0
 Counts =
-    (job : ChannelJob) (placed : List Placed) (m : MachineState) → IsOf job placed m → m.point.number ≡ length (records_in m.point.state)
+    (job : ChannelJob) (placed : List Placed) (m : MachineState) → IsOf job placed m
+    → m.point.number ≡ length (records_in m.point.state)
 
 -- the records so far are the first of the job's, as many as messages were sent
 abbrev pub RecordsSoFar : Type 0
@@ -60,5 +63,6 @@ BusSoFar =
 -- where it halts, the records are all of the job's
 abbrev pub AllRecords : Type 0
 AllRecords =
-    (job : ChannelJob) (placed : List Placed) (m : MachineState) → IsSound job.tree → IsOf job placed m → turn_of m ≡ halted
+    (job : ChannelJob) (placed : List Placed) (m : MachineState) → IsSound job.tree → IsOf job placed m
+    → turn_of m ≡ halted
     → records_in m.point.state ≡ records job placed

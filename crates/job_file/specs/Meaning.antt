@@ -34,8 +34,11 @@ records job placed = records_in (end_of job placed).state
 -- the world in which no message behind the first k leaves a trace
 abbrev pub up_to : {State Outcome : Type 0} → ℕ → World State Outcome → World State Outcome
 up_to k w = record {
-  exchange = λ number line message gap b.
-      (if nat_le number k then (w.exchange number line message gap b).0 else b, (w.exchange number line message gap b).1);
+  exchange = λ number line message gap b. (
+    if nat_le number k then (w.exchange number line message gap b).0
+        else b,
+    (w.exchange number line message gap b).1,
+  );
   holds = w.holds;
   now = w.now;
   paced = w.paced;

@@ -32,7 +32,8 @@ with_said (Some line) head = with_line line head
 -- the line of the script, another line that may stand there, or one that may not; want of memory says nothing
 abbrev pub TakesLine : Option Said → Head → Head → Result Taken Refusal → Type 0
 TakesLine line old new (Ok taken.Script) = (is_script line ≡ true) × (new ≡ old)
-TakesLine line old new (Ok taken.Line) = (is_script line ≡ false) × (stands line old ≡ true) × (new ≡ with_said line old)
+TakesLine line old new (Ok taken.Line) = (is_script line ≡ false) × (stands line old ≡ true)
+    × (new ≡ with_said line old)
 TakesLine line old new (Err refusal.Memory) = Unit {0}
 TakesLine line old new (Err (refusal.Line why)) = (is_script line ≡ false) × (stands line old ≡ false)
 
@@ -53,7 +54,8 @@ IsTooLong code assembler.Operations = 4096 < length code.operations
 IsTooLong code assembler.Messages = (length code.operations ≤ 4096) × (1024 < length code.messages)
 IsTooLong code assembler.Memory = ⊥
 
--- an image that the loader refuses for its budget, or where that is kept for its periods; it refuses none for another cause
+-- an image that the loader refuses for its budget, or where that is kept for its periods; it refuses none for another
+-- cause
 abbrev pub IsTooMuch : Code → LoadError → Type 0
 IsTooMuch code loader.Budget = ¬ IsWithin code
 IsTooMuch code loader.Periods = IsWithin code × ¬ HasShortPeriods code
@@ -72,11 +74,13 @@ IsCodeRefusal code (error.Loading line why) = IsTooMuch code why
 IsCodeRefusal code error.Memory = Unit {0}
 IsCodeRefusal code _ = ⊥
 
--- A refusal for another cause than memory: there is no job, or its script has an image that is too long or that the loader
--- refuses for its budget or its periods.
+-- A refusal for another cause than memory: there is no job, or its script has an image that is too long or that the
+-- loader refuses for its budget or its periods.
 abbrev pub IsRefusal : Option ChannelJob → JobError → Type 0
 IsRefusal spelled (error.Line line why) = spelled ≡ None
 IsRefusal spelled (error.Script cause place) = spelled ≡ None
-IsRefusal spelled (error.Assembly line why) = (job : ChannelJob) × (spelled ≡ Some job) × IsTooLong (code_of job.tree) why
-IsRefusal spelled (error.Loading line why) = (job : ChannelJob) × (spelled ≡ Some job) × IsTooMuch (code_of job.tree) why
+IsRefusal spelled (error.Assembly line why) = (job : ChannelJob) × (spelled ≡ Some job)
+    × IsTooLong (code_of job.tree) why
+IsRefusal spelled (error.Loading line why) = (job : ChannelJob) × (spelled ≡ Some job)
+    × IsTooMuch (code_of job.tree) why
 IsRefusal spelled error.Memory = Unit {0}

@@ -65,7 +65,8 @@ abbrev pub first_or : ℕ → List ℕ → ℕ
 first_or n [] = n
 first_or n (m ∷ ms) = m
 
--- the job of a channel with what the lines above the script say, and the script's tree; one that names no start tick starts at 0
+-- the job of a channel with what the lines above the script say, and the script's tree; one that names no start tick
+-- starts at 0
 abbrev pub job_with : ℕ → Head → Tree → ChannelJob
 job_with channel head tree = record {
   channel = channel;
@@ -79,7 +80,8 @@ job_with channel head tree = record {
 -- the job of the lines above the script, and the script: the channel has to be named
 abbrev pub job_of : Head → Text → Option ChannelJob
 job_of head text =
-    first_of head.channels >>= (λ channel. result_ok (tree_of_text text) >>= (λ tree. Some (job_with channel head tree)))
+    first_of head.channels >>= (λ channel. result_ok (tree_of_text text) >>=
+    (λ tree. Some (job_with channel head tree)))
 
 abbrev pub job_of_lines : List Text → Option ChannelJob
 job_of_lines lines =

@@ -42,7 +42,8 @@ pub struct Draft {
 impl Draft {
     /// Nothing was said.
     pub fn make(alloc: Global) -> Draft
-        ensures { shown result ≡ record { channels = []; starts = []; addresses = []; actions = []; plan = []; from_series = 0 } }
+        ensures { shown result ≡ record
+            { channels = []; starts = []; addresses = []; actions = []; plan = []; from_series = 0 } }
     {
         Draft {
             channel: None,
@@ -148,8 +149,10 @@ impl Draft {
     /// Whether the fault may be planned for each of these messages.
     fn may_plan_all(&self, span: Span, fault: &Fault) -> Result<(), LineFault>
         requires { IsSpan span }
-        ensures fine { IfOk result (λ _. first_fault (map (plan_fault self.now.plan fault.now) (numbers_of span)) ≡ None) }
-        ensures wrong { IfErr result (λ why. first_fault (map (plan_fault self.now.plan fault.now) (numbers_of span)) ≡ Some why) }
+        ensures fine { IfOk result
+            (λ _. first_fault (map (plan_fault self.now.plan fault.now) (numbers_of span)) ≡ None) }
+        ensures wrong { IfErr result
+            (λ why. first_fault (map (plan_fault self.now.plan fault.now) (numbers_of span)) ≡ Some why) }
     {
         for before in 0..span.count() {
             self.may_plan(span.number(before), fault)?;
@@ -157,8 +160,8 @@ impl Draft {
         Ok(())
     }
 
-    /// The messages are judged before any of them is planned for, so that want of memory hides no refusal. They differ, so
-    /// that memory alone can be refused then.
+    /// The messages are judged before any of them is planned for, so that want of memory hides no refusal. They differ,
+    /// so that memory alone can be refused then.
     fn plan_faults(&mut self, span: Span, fault: Fault) -> Result<(), Refusal>
         requires { IsSpan span }
         ensures takes { Takes (says.faults span fault) (shown self.old) (shown self.new) result }

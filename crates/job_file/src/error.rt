@@ -13,8 +13,8 @@ use std::fmt::{self, Display, Formatter, Write};
 pub enum LineFault {
     /// J1: an unknown word, a word missing or left over.
     Word,
-    /// J2: a number that is none, or a channel, a start tick, a terminal, the message or terminal of an action, or a number
-    /// of a line of many messages, out of its range; or a series past the 1,000,000th action of all series.
+    /// J2: a number that is none, or a channel, a start tick, a terminal, the message or terminal of an action, or a
+    /// number of a line of many messages, out of its range; or a series past the 1,000,000th action of all series.
     Number,
     /// J3: `channel` twice or missing, `start` twice, `script` missing.
     Order,
@@ -47,7 +47,8 @@ impl From<LineFault> for Refusal {
 /// Why a text gave no job. Lines and columns are those of the whole text, from 1 on.
 #[derive(Clone, Copy, Debug, PartialEq, Eq)]
 pub enum JobError {
-    /// J1 to J6: the first line at fault. A missing `script` is found behind the last line, a missing `channel` at `script`.
+    /// J1 to J6: the first line at fault. A missing `script` is found behind the last line, a missing `channel` at
+    /// `script`.
     Line { line: u64, fault: LineFault },
     /// J7 with S1 to S8: the first fault of the script.
     Script { cause: Cause, place: Place },

@@ -22,8 +22,8 @@ use mil_line::Plan;
 use std::alloc::{AllocError, Global};
 use std::marker::Model;
 
-/// A job: the number of a channel, when its first message starts, its terminals, what their hosts do, the faults that are
-/// planned, and the program of its script. Contracts see the script's text too, of which no byte is kept.
+/// A job: the number of a channel, when its first message starts, its terminals, what their hosts do, the faults that
+/// are planned, and the program of its script. Contracts see the script's text too, of which no byte is kept.
 #[derive(Drop)]
 pub struct Job {
     channel: u16,
@@ -94,7 +94,8 @@ impl Job {
         self.addresses.as_slice()
     }
 
-    /// What the hosts do, in the order of the text: each action is of one of the terminals, at a message 1 to 1,000,000.
+    /// What the hosts do, in the order of the text: each action is of one of the terminals, at a message 1 to
+    /// 1,000,000.
     pub fn actions(&self) -> &[Placed]
         ensures value { result.now ≡ self.now.actions }
         ensures fit { list_all (may_act self.now.addresses) result.now ≡ true }
@@ -117,11 +118,13 @@ impl Job {
         &self.program
     }
 
-    /// A controller at the beginning of the job's program, on a bus with new terminals, under the job's planned faults and these
-    /// placed actions, which are not the job's own unless the caller hands in those. It fails for want of memory alone.
+    /// A controller at the beginning of the job's program, on a bus with new terminals, under the job's planned faults
+    /// and these placed actions, which are not the job's own unless the caller hands in those. It fails for want of
+    /// memory alone.
     #[tactic(auto, using(crate::proofs::JobRuns::starts_as))]
     pub fn machine(&self, alloc: Global, placed: &[Placed]) -> Result<Machine, AllocError>
-        ensures value { IfOk result (λ m. m ≡ started (code_of (tree_in self.now)) (bus_of (job_in self.now)) self.now.plan placed.now) }
+        ensures value { IfOk result
+            (λ m. m ≡ started (code_of (tree_in self.now)) (bus_of (job_in self.now)) self.now.plan placed.now) }
         ensures of_job { IfOk result (λ m. IsOf (job_in self.now) placed.now m) }
         ensures told { IfOk result (λ m. IsTold m) }
     {

@@ -16,9 +16,9 @@ impl Setting for JobSetting {
     ghost Outcome = { Outcome };
 }
 
-/// The controller of a job of a sound script, under any placed actions: with each step it stays the job's; after so many
-/// messages its records are the first of the job's records, and its bus is the job's after that many; where it halts, they are
-/// all of the job's records.
+/// The controller of a job of a sound script, under any placed actions: with each step it stays the job's; after so
+/// many messages its records are the first of the job's records, and its bus is the job's after that many; where it
+/// halts, they are all of the job's records.
 pub fn job_runs()
     ensures starts { Starts }
     ensures goes_on { GoesOn }

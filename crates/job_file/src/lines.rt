@@ -300,7 +300,8 @@ fn faults(text: &[u8]) -> Result<Entry<'_>, LineFault>
     Ok(Entry::Faults { span, fault })
 }
 
-/// What a series places at these messages: four words, the address, the subaddress, the first data word and what is added.
+/// What a series places at these messages: four words, the address, the subaddress, the first data word and what is
+/// added.
 #[tactic(auto, unfolding(crate::specs::Lines::series_of))]
 fn series_at(
     span: Span,
@@ -377,8 +378,8 @@ fn is_comment(word: &[u8]) -> bool
 }
 
 /// What a line says: `channel N`, `start TICK`, `terminal ADDRESS`, `at NUMBER ADDRESS ACTION`, `fault NUMBER FAULT`,
-/// `faults FIRST LAST STEP FAULT`, `series FIRST LAST STEP ADDRESS SUB START ADD`, `script`, a comment or nothing. J1, then
-/// J2.
+/// `faults FIRST LAST STEP FAULT`, `series FIRST LAST STEP ADDRESS SUB START ADD`, `script`, a comment or nothing. J1,
+/// then J2.
 #[tactic(auto, unfolding(crate::specs::Lines::said_in))]
 pub fn read_line(line: &[u8]) -> Result<Entry<'_>, LineFault>
     ensures said { Reads said_by result (lines.said line.now) }

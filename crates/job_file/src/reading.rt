@@ -34,7 +34,8 @@ struct Head<'a> {
 
 /// The lines of a text up to the line of the script.
 fn read_head(alloc: Global, text: &[u8]) -> Result<Head<'_>, JobError>
-    ensures read { MatchResult result (λ h. spelled text.now ≡ job_of (shown h.draft) h.script.now) (IsRefusal (spelled text.now)) }
+    ensures read { MatchResult result
+        (λ h. spelled text.now ≡ job_of (shown h.draft) h.script.now) (IsRefusal (spelled text.now)) }
     ensures fit { IfOk result (λ h. IsFit (shown h.draft)) }
     ensures head { IfOk result (λ h. IsHead text.now (shown h.draft) h.line h.script.now) }
     ensures first { IfErr result (IsFirstFault text.now) }
@@ -115,8 +116,8 @@ fn give_up(alloc: Global, arena: &mut Bump) {
     }
 }
 
-/// The job of the lines above a script, and of the script, which begins behind a line. The script's tree stands in the arena until
-/// its image is made.
+/// The job of the lines above a script, and of the script, which begins behind a line. The script's tree stands in the
+/// arena until its image is made.
 fn finish(
     alloc: Global,
     arena: &mut Bump,
@@ -162,9 +163,9 @@ pub(crate) fn read_in(alloc: Global, arena: &mut Bump, text: &[u8]) -> Result<Jo
 }
 
 /// The job that a text spells: lines `channel N`, `start TICK`, `terminal ADDRESS`, `at NUMBER ADDRESS ACTION` and
-/// `fault NUMBER FAULT`, and below a line `script` the script. The first fault is answered, line by line: J1 to J6, then J7 of the
-/// script, where A1 counts before A2, and P5 before P8; and J8 where memory is refused. The script's tree stands in an
-/// arena, which is given up once the image is made.
+/// `fault NUMBER FAULT`, and below a line `script` the script. The first fault is answered, line by line: J1 to J6,
+/// then J7 of the script, where A1 counts before A2, and P5 before P8; and J8 where memory is refused. The script's
+/// tree stands in an arena, which is given up once the image is made.
 pub fn read_job(alloc: Global, text: &[u8]) -> Result<Job, JobError>
     ensures job { IfOk result (λ j. spelled text.now ≡ Some (job_in j)) }
     ensures accepted { IfOk result (λ _. IsAccepted text.now) }

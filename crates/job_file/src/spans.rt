@@ -6,7 +6,8 @@ use arrayvec::ArrayVec;
 use bc_machine::Placed;
 use mil_host::{Action, TransmitWords};
 
-/// The messages from `first` to `last`, both 1 to 1,000,000, of which each is `step` (1 to 1,000,000) behind the one before.
+/// The messages from `first` to `last`, both 1 to 1,000,000, of which each is `step` (1 to 1,000,000) behind the one
+/// before.
 #[derive(Clone, Copy, Debug)]
 pub struct Span {
     pub first: u32,

@@ -18,9 +18,11 @@ use mil_monitor::Record;
 /// Of whatever job and placed actions the controller is, it stays so, and the record is the next of the job's.
 pub fn next_record(machine: &mut Machine) -> Option<Record>
     ensures under_way { IsUnderWay machine.new }
-    ensures of_job { (job : ChannelJob) (placed : List Placed) → IsOf job placed machine.old → IsOf job placed machine.new }
+    ensures of_job { (job : ChannelJob) (placed : List Placed) → IsOf job placed machine.old
+        → IsOf job placed machine.new }
     ensures told { IsTold machine.old → IsTold machine.new }
-    ensures record { IfSome result (λ r. (job : ChannelJob) (placed : List Placed) → IsSound job.tree → IsOf job placed machine.old
+    ensures record { IfSome result
+        (λ r. (job : ChannelJob) (placed : List Placed) → IsSound job.tree → IsOf job placed machine.old
         → slice_get (records job placed) machine.old.point.number ≡ Some r) }
     ensures number { IfSome result (λ _. machine.new.point.number ≡ machine.old.point.number + 1) }
     ensures small { IfSome result (λ r. r.stamp < 2 ^ 48) }
@@ -29,7 +31,8 @@ pub fn next_record(machine: &mut Machine) -> Option<Record>
     ensures follows { IfSome result (λ r. clock_in machine.old ≤ r.stamp) }
     ensures ends { IfSome result (λ r. r.stamp ≤ clock_in machine.new) }
 
-    ensures all { IfNone result ((job : ChannelJob) (placed : List Placed) → IsSound job.tree → IsOf job placed machine.old
+    ensures all { IfNone result ((job : ChannelJob) (placed : List Placed) → IsSound job.tree
+        → IsOf job placed machine.old
         → machine.old.point.number ≡ length (records job placed)) }
     ensures same { IfNone result (machine.new.point.number ≡ machine.old.point.number) }
     ensures halted { IfNone result (turn_of machine.new ≡ halted) }

@@ -28,8 +28,9 @@ impl Display for JobsError {
     }
 }
 
-/// The jobs that texts spell, in their order. The texts are judged in their order: the first that is refused is answered, with its
-/// place in the list and with J1 to J8 as `read_job` has them. One arena holds the trees of their scripts, one after the other.
+/// The jobs that texts spell, in their order. The texts are judged in their order: the first that is refused is
+/// answered, with its place in the list and with J1 to J8 as `read_job` has them. One arena holds the trees of their
+/// scripts, one after the other.
 pub fn read_jobs(alloc: Global, texts: &[&[u8]]) -> Result<Vec<Job>, JobsError>
     ensures jobs { IfOk result (λ jobs. AreSpelled (map (λ text. text.now) texts.now) (map job_in jobs.items)) }
     ensures refused { IfErr result (λ e. IsFirstRefused (map (λ text. text.now) texts.now) e.index e.fault) }

@@ -6,7 +6,8 @@ use Rattle.judge_rules.specs.declared.fault.RuleFault.TheVariants.{Word}
 use Rattle.judge_rules.specs.declared.rules.Bounds.{Bounds}
 use Rattle.judge_rules.specs.declared.rules.Datum.{Datum}
 use Rattle.judge_rules.specs.declared.rules.Check.{Check}
-use Rattle.judge_rules.specs.declared.rules.Check.TheVariants.{Sound, Failed, Clean, Status, Data, Response, Period, Count}
+use Rattle.judge_rules.specs.declared.rules.Check.TheVariants.{Sound, Failed, Clean, Status, Data, Response, Period}
+use Rattle.judge_rules.specs.declared.rules.Check.TheVariants.{Count}
 use Rattle.judge_rules.specs.Faults.{Read, both, made, ended}
 use Rattle.judge_rules.specs.Values.{word_in, bounds_in, data_in}
 
@@ -28,7 +29,8 @@ check_named name rest =
     else if bytes_eq name (codes "fail") then ended (Ok Failed) rest
     else if bytes_eq name (codes "clean") then ended (Ok Clean) rest
     else if bytes_eq name (codes "status") then made Status (status_in rest)
-    else if bytes_eq name (codes "data") then made (λ (found : List Datum). Data (record { items = found })) (data_in rest)
+    else if bytes_eq name (codes "data")
+    then made (λ (found : List Datum). Data (record { items = found })) (data_in rest)
     else if bytes_eq name (codes "response") then made Response (only_bounds 255 rest)
     else if bytes_eq name (codes "period") then made Period (only_bounds 9999999 rest)
     else if bytes_eq name (codes "count") then made Count (only_bounds 9999999 rest)

@@ -1,4 +1,5 @@
--- Which fault of a line counts (own choice): a word that doesn't stand there before what is no number, and that before a range.
+-- Which fault of a line counts (own choice): a word that doesn't stand there before what is no number, and that before
+-- a range.
 use Rattle.std.specs.Prelude.{Result, Ok, Err, List, [], ◌∷◌}
 use Rattle.mil_host.specs.Words.{Text}
 use Rattle.judge_rules.specs.declared.fault.RuleFault.{RuleFault}

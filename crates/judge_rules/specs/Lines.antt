@@ -1,5 +1,6 @@
 -- The rule of a line (own choice): `expect`, perhaps a channel, perhaps a line of the bus, a selector and a check.
-use Rattle.std.specs.Prelude.{ℕ, ◌==◌, Bool, true, false, List, [], ◌∷◌, drop, Ok, Err, Option, Some, None, codes, if◌then◌else◌}
+use Rattle.std.specs.Prelude.{ℕ, ◌==◌, Bool, true, false, List, [], ◌∷◌, drop, Ok, Err, Option, Some, None, codes}
+use Rattle.std.specs.Prelude.{if◌then◌else◌}
 use Rattle.std.specs.Str.{bytes_eq}
 use Rattle.mil_host.specs.Words.{Text, words}
 use Rattle.judge_rules.specs.declared.fault.RuleFault.TheVariants.{Word}
@@ -39,13 +40,15 @@ behind_bus rest = if begins_with (codes "line") rest then drop 2 rest else rest
 
 abbrev pub with_parts : ℕ → Read ((Option ℕ × Option Bus) × (Selector × Check)) → Read Rule
 with_parts line read =
-    made (λ (place, asked). record { line = line; channel = place.0; bus = place.1; selector = asked.0; check = asked.1 }) read
+    made (λ (place, asked). record
+    { line = line; channel = place.0; bus = place.1; selector = asked.0; check = asked.1 }) read
 
 -- the rule of the words behind `expect`, in a line of this number
 abbrev pub rule_behind : ℕ → List Text → Read Rule
 rule_behind line rest =
     let behind = behind_bus (behind_channel rest) in
-    with_parts line (both (both (channel_in rest) (bus_in (behind_channel rest))) (both (selector_in behind) (check_in (behind_selector behind))))
+    with_parts line (both (both (channel_in rest) (bus_in (behind_channel rest)))
+    (both (selector_in behind) (check_in (behind_selector behind))))
 
 unfoldable pub rule_in : ℕ → List Text → Read Rule
 rule_in line rest = if begins_with (codes "expect") rest then rule_behind line (drop 1 rest) else Err Word

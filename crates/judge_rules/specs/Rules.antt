@@ -20,7 +20,8 @@ abbrev pub in_front : Rule → AllRules → AllRules
 in_front rule (Ok rules) = Ok (rule ∷ rules)
 in_front rule (Err e) = Err e
 
--- what a line says, which stands behind so many rules; what follows it is read as behind as many rules, or as behind one more
+-- what a line says, which stands behind so many rules; what follows it is read as behind as many rules, or as behind
+-- one more
 abbrev pub taken : ℕ → ℕ → Option (Read Rule) → AllRules → AllRules → AllRules
 taken before line None same more = same
 taken before line (Some (Err fault)) same more = fault_at line fault

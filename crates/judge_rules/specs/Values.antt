@@ -1,5 +1,6 @@
 -- Values in the words of a rule (own choice).
-use Rattle.std.specs.Prelude.{ℕ, Bool, true, false, ◌&&◌, nat_le, ◌==◌, slice_index, List, [], ◌∷◌, drop, take, length, Ok, Err, Option, Some, None, codes, if◌then◌else◌}
+use Rattle.std.specs.Prelude.{ℕ, Bool, true, false, ◌&&◌, nat_le, ◌==◌, slice_index, List, [], ◌∷◌, drop, take, length}
+use Rattle.std.specs.Prelude.{Ok, Err, Option, Some, None, codes, if◌then◌else◌}
 use Rattle.std.proofs.Common.{zero, suc}
 use Rattle.std.specs.Str.{bytes_eq}
 use Rattle.numerals.specs.Numerals.{spelled}
@@ -61,7 +62,8 @@ with_mask read = made (λ (value, mask). record { value = value; mask = mask }) 
 unfoldable pub datum_of : Text → Read Datum
 datum_of word =
     if bytes_eq word (codes "....") then Ok (record { value = 0; mask = 0 })
-    else if length word == 9 && slice_index word 4 == 47 then with_mask (both (word_of (take 4 word)) (word_of (drop 5 word)))
+    else if length word == 9 && slice_index word 4 == 47
+    then with_mask (both (word_of (take 4 word)) (word_of (drop 5 word)))
     else with_mask (both (word_of word) (Ok 0xFFFF))
 
 abbrev pub fault_or : Read Datum → RuleFault → RuleFault

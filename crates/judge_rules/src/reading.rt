@@ -12,10 +12,10 @@ use std::alloc::Global;
 /// How many rules a text may have.
 pub const MOST_RULES: usize = 10_000;
 
-/// The rules that a text spells, in their order (own choice): a rule a line, words parted by spaces; a line without words, or whose
-/// first word begins with `#`, is passed over. Else the first fault: I1 to I3 of the first line that has one, in a line I1 before I2
-/// before I3; more than 10,000 rules are I3 at the line of the next, and a text without a rule is I1 at the line behind its last. I4,
-/// want of memory, is answered only for a text without a fault.
+/// The rules that a text spells, in their order (own choice): a rule a line, words parted by spaces; a line without
+/// words, or whose first word begins with `#`, is passed over. Else the first fault: I1 to I3 of the first line that
+/// has one, in a line I1 before I2 before I3; more than 10,000 rules are I3 at the line of the next, and a text without
+/// a rule is I1 at the line behind its last. I4, want of memory, is answered only for a text without a fault.
 pub fn read_rules(alloc: Global, text: &[u8]) -> Result<Vec<Rule>, RuleError>
     ensures rules { IfOk result (λ rules. rules_in text.now ≡ Ok rules.items) }
     ensures fault { IfErr result (λ e. Fits e (rules_in text.now)) }
@@ -52,7 +52,8 @@ pub fn read_rules(alloc: Global, text: &[u8]) -> Result<Vec<Rule>, RuleError>
     Ok(rules)
 }
 
-/// The first fault of what is left behind a line, of a text that had so many rules before; or want of memory at that line.
+/// The first fault of what is left behind a line, of a text that had so many rules before; or want of memory at that
+/// line.
 fn fault_or_memory(rest: &[u8], rules: usize, line: u64) -> RuleError
     requires some { 1 ≤ rules }
     requires most { rules ≤ MOST_RULES }

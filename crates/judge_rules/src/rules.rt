@@ -10,8 +10,8 @@ pub enum Bus {
     B,
 }
 
-/// Which messages a rule is about, by their command words (MIL-STD-1553B 4.3.3.5.1). Addresses are 0 to 30, subaddresses 1 to 30,
-/// mode codes 0 to 31; `None` stands for each number of its range.
+/// Which messages a rule is about, by their command words (MIL-STD-1553B 4.3.3.5.1). Addresses are 0 to 30,
+/// subaddresses 1 to 30, mode codes 0 to 31; `None` stands for each number of its range.
 #[derive(Clone, Copy, Debug, PartialEq, Eq)]
 pub enum Selector {
     /// Every message.

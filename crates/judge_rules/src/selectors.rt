@@ -154,8 +154,9 @@ pub(crate) fn read_selector(words: &mut Words<'_>) -> Result<Selector, RuleFault
     }
 }
 
-/// The selector that a text spells, in the words of a rule and no others, as `tx 5 3` or `rt * * 7 *`. Else its fault: a word that
-/// does not stand there, is missing or is left over before what is no number, and that before a number out of its range.
+/// The selector that a text spells, in the words of a rule and no others, as `tx 5 3` or `rt * * 7 *`. Else its fault:
+/// a word that does not stand there, is missing or is left over before what is no number, and that before a number out
+/// of its range.
 pub fn selector_of(text: &[u8]) -> Result<Selector, RuleFault>
     ensures { result ≡ spec.selector_of text.now }
 {

@@ -28,7 +28,8 @@ fn behind_end(rest: &[u8]) -> &[u8]
 
 /// The first line of a text, without the LF that ends it, and what stands behind it; nothing at the end of the text.
 pub fn next_line(text: &[u8]) -> Option<(&[u8], &[u8])>
-    ensures lines { MatchOption result (text_lines text.now ≡ []) (λ x. text_lines text.now ≡ x.0.now ∷ text_lines x.1.now) }
+    ensures lines { MatchOption result (text_lines text.now ≡ [])
+        (λ x. text_lines text.now ≡ x.0.now ∷ text_lines x.1.now) }
     ensures shorter { IfSome result (λ x. length x.1.now < length text.now) }
 {
     if text.is_empty() {

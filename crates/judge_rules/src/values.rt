@@ -104,7 +104,8 @@ fn datum(word: &[u8]) -> Result<Datum, RuleFault>
     Ok(Datum { value, mask })
 }
 
-/// The fault of words, this one and those that are left, that are too many to be data words: one of them may spell none.
+/// The fault of words, this one and those that are left, that are too many to be data words: one of them may spell
+/// none.
 fn fault_of_many(first: &[u8], words: &mut Words<'_>) -> RuleFault
     ensures { result ≡ spec.many_fault (first.now ∷ words.old) }
 {
@@ -121,7 +122,8 @@ fn fault_of_many(first: &[u8], words: &mut Words<'_>) -> RuleFault
 
 /// Data words to the end, at most 32.
 pub(crate) fn read_data(words: &mut Words<'_>) -> Result<ArrayVec<Datum, 32>, RuleFault>
-    ensures { MatchResult result (λ found. spec.data_in words.old ≡ Ok found.items) (λ f. spec.data_in words.old ≡ Err f) }
+    ensures { MatchResult result (λ found. spec.data_in words.old ≡ Ok found.items)
+        (λ f. spec.data_in words.old ≡ Err f) }
 {
     let mut found = ArrayVec::new();
     while let Some(word) = words.next() {

@@ -17,7 +17,8 @@ pub struct Host<'a> {
     pub word: u16,
 }
 
-/// Posts the vector word and the service request, and tells the gate. The mailbox has room for both, so that neither comes back.
+/// Posts the vector word and the service request, and tells the gate. The mailbox has room for both, so that neither
+/// comes back.
 fn post_both<R: Wait>(rt: &R, gate: &Posted, host: Host<'_>)
     requires { MayPost host.mailbox.now host.poster }
 {

@@ -1,6 +1,6 @@
-//! Two buses run, each on a thread of its own, while the host of a terminal on each posts a vector word and a service request. What is
-//! printed of the run is the same whatever the order of the threads: which messages met the posts is left out, and message 50 of each
-//! channel waits until its host has posted.
+//! Two buses run, each on a thread of its own, while the host of a terminal on each posts a vector word and a service
+//! request. What is printed of the run is the same whatever the order of the threads: which messages met the posts is
+//! left out, and message 50 of each channel waits until its host has posted.
 #![tactic(auto)]
 
 ghost use Rattle.std.specs.Prelude.{◌≡◌, ◌∷◌, [], IfSome};
@@ -52,7 +52,8 @@ fn mail_for(alloc: Global, job: &Job) -> Option<Mail>
     }
 }
 
-/// Packets of at most 65,536 bytes, a queue with room for all that both channels send, and at most four posts of each channel.
+/// Packets of at most 65,536 bytes, a queue with room for all that both channels send, and at most four posts of each
+/// channel.
 fn settings(alloc: Global) -> Settings {
     Settings {
         version: 6,

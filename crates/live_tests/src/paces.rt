@@ -30,7 +30,8 @@ impl Clock for Slept {
     }
 }
 
-/// A pace, and how many milliseconds have gone by at tick 20,000,000, which is 2 s of bus time, and then at tick 30,000,000.
+/// A pace, and how many milliseconds have gone by at tick 20,000,000, which is 2 s of bus time, and then at tick
+/// 30,000,000.
 const ROWS: [(&str, u64, u64); 5] = [
     ("1", 2000, 3000),
     ("0.5", 4000, 6000),

@@ -15,7 +15,10 @@ const CODES: [&str; 94] = [
 
 /// What is printed of one code.
 const PRINTED: &str =
-    "S7: a number out of its range: repeat and until 1 to 10000, retry 1 to 8, gap 40 to 65535, frame 100 to 6553500 in hundreds.\nChoose a number in the range; loops in one another multiply.\nExample: repeat 0 { send A mode 5 1 }\n";
+    "S7: a number out of its range: repeat and until 1 to 10000, retry 1 to 8, gap 40 to 65535, frame 100 to 6553500 \
+     in hundreds.\n\
+     Choose a number in the range; loops in one another multiply.\n\
+     Example: repeat 0 { send A mode 5 1 }\n";
 
 /// Whether a code has a meaning, a remedy and an example.
 fn is_explained(code: &str) -> bool {

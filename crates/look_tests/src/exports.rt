@@ -9,20 +9,42 @@ use std::alloc::Global;
 use std::process::Abort;
 
 const RETRY_ROWS: &str =
-    "number,channel,time_us,line,form,terminal,subaddress,count,mode_code,sender,sender_subaddress,status_words,block_status,gap1_us,gap2_us,data_words\n1,1,0.0,A,BC to RT,5,1,3,,,,,message_error response_timeout,,,0001 0002 0003\n2,1,96.0,B,BC to RT,5,1,3,,,,2800,line_b,8.0,,0001 0002 0003\n3,1,204.0,A,BC to RT,5,1,3,,,,2800,message_error response_timeout,17.1,,0001 0002 0003\n4,1,335.1,B,BC to RT,5,1,3,,,,2800,line_b,8.0,,0001 0002 0003\n5,1,443.1,A,BC to RT,5,1,3,,,,,message_error response_timeout word_count_error,,,0001 0002\n6,1,519.1,B,BC to RT,5,1,3,,,,2800,line_b,8.0,,0001 0002 0003\n";
+    "number,channel,time_us,line,form,terminal,subaddress,count,mode_code,sender,sender_subaddress,status_words,\
+     block_status,gap1_us,gap2_us,data_words\n\
+     1,1,0.0,A,BC to RT,5,1,3,,,,,message_error response_timeout,,,0001 0002 0003\n\
+     2,1,96.0,B,BC to RT,5,1,3,,,,2800,line_b,8.0,,0001 0002 0003\n\
+     3,1,204.0,A,BC to RT,5,1,3,,,,2800,message_error response_timeout,17.1,,0001 0002 0003\n\
+     4,1,335.1,B,BC to RT,5,1,3,,,,2800,line_b,8.0,,0001 0002 0003\n\
+     5,1,443.1,A,BC to RT,5,1,3,,,,,message_error response_timeout word_count_error,,,0001 0002\n\
+     6,1,519.1,B,BC to RT,5,1,3,,,,2800,line_b,8.0,,0001 0002 0003\n";
 
 const TRANSFER_ROWS: &str =
-    "number,channel,time_us,line,form,terminal,subaddress,count,mode_code,sender,sender_subaddress,status_words,block_status,gap1_us,gap2_us,data_words\n1,1,0.0,A,RT to RT,3,4,2,,7,1,3800 1800,terminal_to_terminal,8.0,8.0,AAAA 5555\n2,1,134.0,A,mode,3,31,,2,,,1800,,8.0,,\n";
+    "number,channel,time_us,line,form,terminal,subaddress,count,mode_code,sender,sender_subaddress,status_words,\
+     block_status,gap1_us,gap2_us,data_words\n\
+     1,1,0.0,A,RT to RT,3,4,2,,7,1,3800 1800,terminal_to_terminal,8.0,8.0,AAAA 5555\n\
+     2,1,134.0,A,mode,3,31,,2,,,1800,,8.0,,\n";
 
 const FORMS_ROWS: &str =
-    "number,channel,time_us,line,form,terminal,subaddress,count,mode_code,sender,sender_subaddress,status_words,block_status,gap1_us,gap2_us,data_words\n1,9,0.0,A,RT to BC,5,2,2,,,,2800,,8.0,,0000 0000\n2,9,88.0,B,mode,5,31,,17,,,2800,line_b,8.0,,00AA\n3,9,156.0,A,mode,5,31,,16,,,2800,,8.0,,0000\n4,9,224.0,A,BC to RTs,31,1,1,,,,,,,,00BB\n5,9,280.0,A,RT to RTs,31,4,2,,5,1,2800,terminal_to_terminal,8.0,,0000 0000\n6,9,388.0,A,mode broadcast,31,31,,1,,,,,,,\n";
+    "number,channel,time_us,line,form,terminal,subaddress,count,mode_code,sender,sender_subaddress,status_words,\
+     block_status,gap1_us,gap2_us,data_words\n\
+     1,9,0.0,A,RT to BC,5,2,2,,,,2800,,8.0,,0000 0000\n\
+     2,9,88.0,B,mode,5,31,,17,,,2800,line_b,8.0,,00AA\n\
+     3,9,156.0,A,mode,5,31,,16,,,2800,,8.0,,0000\n\
+     4,9,224.0,A,BC to RTs,31,1,1,,,,,,,,00BB\n\
+     5,9,280.0,A,RT to RTs,31,4,2,,5,1,2800,terminal_to_terminal,8.0,,0000 0000\n\
+     6,9,388.0,A,mode broadcast,31,31,,1,,,,,,,\n";
 
 const FOREIGN_ROWS: &str =
-    "number,channel,time_us,line,form,terminal,subaddress,count,mode_code,sender,sender_subaddress,status_words,block_status,gap1_us,gap2_us,data_words\n1,1,0.0,A,BC to RT,5,1,3,,,,2800,,8.0,,0001 0002 0003\n";
+    "number,channel,time_us,line,form,terminal,subaddress,count,mode_code,sender,sender_subaddress,status_words,\
+     block_status,gap1_us,gap2_us,data_words\n\
+     1,1,0.0,A,BC to RT,5,1,3,,,,2800,,8.0,,0001 0002 0003\n";
 
 /// The fourth and the fifth of the retries.
 const CHOSEN_ROWS: &str =
-    "number,channel,time_us,line,form,terminal,subaddress,count,mode_code,sender,sender_subaddress,status_words,block_status,gap1_us,gap2_us,data_words\n4,1,335.1,B,BC to RT,5,1,3,,,,2800,line_b,8.0,,0001 0002 0003\n5,1,443.1,A,BC to RT,5,1,3,,,,,message_error response_timeout word_count_error,,,0001 0002\n";
+    "number,channel,time_us,line,form,terminal,subaddress,count,mode_code,sender,sender_subaddress,status_words,\
+     block_status,gap1_us,gap2_us,data_words\n\
+     4,1,335.1,B,BC to RT,5,1,3,,,,2800,line_b,8.0,,0001 0002 0003\n\
+     5,1,443.1,A,BC to RT,5,1,3,,,,,message_error response_timeout word_count_error,,,0001 0002\n";
 
 /// Three errors, each with a retry on the other line: no reply, a late one, and a data word lost.
 const RETRY_FRAMES: &str = "\

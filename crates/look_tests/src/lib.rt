@@ -1,5 +1,5 @@
-//! Tests of the commands for people who look: `bench_stat`, `bench_export`, `bench_draw`, `bench_explain`, `bench_complete` and
-//! `bench_decode`, and with them of `bench_select` and `ch11_layout`.
+//! Tests of the commands for people who look: `bench_stat`, `bench_export`, `bench_draw`, `bench_explain`,
+//! `bench_complete` and `bench_decode`, and with them of `bench_select` and `ch11_layout`.
 #![tactic(auto)]
 
 #[cfg(test)]

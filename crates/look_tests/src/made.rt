@@ -7,7 +7,8 @@ use std::process::Abort;
 
 /// The job of examples/retry.job: three errors, each with a retry on the other line.
 pub(crate) const RETRY: &str =
-    "channel 1\nterminal 5\nfault 1 mute 1\nfault 3 late 1 171\nfault 5 drop 0 3\nscript\nrepeat 3 {\n  retry 2 send A rx 5 1 [0001 0002 0003]\n}\n";
+    "channel 1\nterminal 5\nfault 1 mute 1\nfault 3 late 1 171\nfault 5 drop 0 3\nscript\n\
+     repeat 3 {\n  retry 2 send A rx 5 1 [0001 0002 0003]\n}\n";
 
 /// The job of examples/transfer.job: a transfer from terminal to terminal, and a mode command.
 pub(crate) const TRANSFER: &str =
@@ -15,7 +16,8 @@ pub(crate) const TRANSFER: &str =
 
 /// A job of every other form of message.
 pub(crate) const FORMS: &str =
-    "channel 9\nterminal 5\nscript\nsend A tx 5 2 2\nsend B mode 5 17 [00AA]\nsend A mode 5 16\nsend A brx 1 [00BB]\nsend A brt 5 1 4 2\nsend A bmode 1\n";
+    "channel 9\nterminal 5\nscript\nsend A tx 5 2 2\nsend B mode 5 17 [00AA]\nsend A mode 5 16\nsend A brx 1 [00BB]\n\
+     send A brt 5 1 4 2\nsend A bmode 1\n";
 
 /// A setup record on channel 0, and a message behind a secondary header.
 pub(crate) const FOREIGN: [u8; 96] = [

@@ -27,8 +27,8 @@ fn count_of(picture: &[u8], piece: &[u8]) -> usize {
 /// A piece, in the picture of which messages it is looked for, and how often it stands there.
 type Row = (u64, u64, &'static str, usize);
 
-/// A message of 106.0 µs over 1200 pixels from pixel 90 on: the command for 20.0, data for 60.0, 6.0 of pause, the status
-/// for 20.0; ten steps of 10 µs go into it.
+/// A message of 106.0 µs over 1200 pixels from pixel 90 on: the command for 20.0, data for 60.0, 6.0 of pause, the
+/// status for 20.0; ten steps of 10 µs go into it.
 const FOREIGN_ROWS: [Row; 11] = [
     (1, 1, "x=\"90.0\" y=\"138\" width=\"226.4\"", 1),
     (1, 1, "x=\"316.4\" y=\"138\" width=\"679.2\"", 1),
@@ -54,7 +54,8 @@ const RETRY_ROWS: [Row; 4] = [
     (
         2,
         2,
-        "<g><title>message 2, channel 1, number 2 there, line B\n0.0000960 s\nrx 5 1 3\nstatus words: 2800 8.0 us\ndata words: 0001 0002 0003</title>",
+        "<g><title>message 2, channel 1, number 2 there, line B\n0.0000960 s\nrx 5 1 3\nstatus words: 2800 8.0 us\n\
+         data words: 0001 0002 0003</title>",
         1,
     ),
     (1, 6, "class=\"e\">NR", 3),

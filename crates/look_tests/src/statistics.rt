@@ -8,7 +8,8 @@ use ch11_reader::Index;
 use std::alloc::Global;
 use std::process::Abort;
 
-/// Messages start at 0, 96.0, 204.0, 335.1, 443.1 and 519.1 and take 80.0, 106.0, 115.1, 106.0, 60.0 and 106.0 µs: 573.1 of 625.1.
+/// Messages start at 0, 96.0, 204.0, 335.1, 443.1 and 519.1 and take 80.0, 106.0, 115.1, 106.0, 60.0 and 106.0 µs:
+/// 573.1 of 625.1.
 const RETRY_TEXT: &str = "channel 1
   span      625.1 us
   messages  6
@@ -20,7 +21,8 @@ const RETRY_TEXT: &str = "channel 1
          5          6          0          0          3          4       8.0     10.27         17.1
 ";
 
-/// The transfer takes six words and two responses of 8.0 µs, 132.0 µs; the mode command starts 2.0 behind it and takes 46.0.
+/// The transfer takes six words and two responses of 8.0 µs, 132.0 µs; the mode command starts 2.0 behind it and takes
+/// 46.0.
 const TRANSFER_TEXT: &str = "channel 1
   span      180.0 us
   messages  2
@@ -61,8 +63,8 @@ const FOREIGN_TEXT: &str = "channel 1
          5          1          0          0          0          1       8.0      8.00          8.0
 ";
 
-/// The messages of the retry recording that had an error: they start at 0, 204.0 and 443.1 µs and take 80.0, 115.1 and 60.0
-/// µs, 255.1 of 503.1; one of them was answered, late.
+/// The messages of the retry recording that had an error: they start at 0, 204.0 and 443.1 µs and take 80.0, 115.1 and
+/// 60.0 µs, 255.1 of 503.1; one of them was answered, late.
 const ERRORS_TEXT: &str = "channel 1
   span      503.1 us
   messages  3
@@ -320,8 +322,8 @@ const TABLES: [Row; 4] = [
     },
 ];
 
-/// The bytes of a file. In the lossy one the packet with the message has the overflow flag, which is added to the sum of
-/// its header.
+/// The bytes of a file. In the lossy one the packet with the message has the overflow flag, which is added to the sum
+/// of its header.
 fn bytes_of(rt: &impl Abort, alloc: Global, file: File) -> Vec<u8> {
     let mut lossy = FOREIGN;
     lossy[46] = 0x90;

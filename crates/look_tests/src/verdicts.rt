@@ -9,11 +9,13 @@ use std::process::Abort;
 
 /// A word of the first message is lost, which has no reply then; two mode commands follow, 48.0 µs apart.
 const LOST: &str =
-    "channel 1\nterminal 5\nfault 1 drop 0 3\nscript\nsend A rx 5 1 [0001 0002 0003]\nsend A mode 5 2\nsend A mode 5 2\n";
+    "channel 1\nterminal 5\nfault 1 drop 0 3\nscript\nsend A rx 5 1 [0001 0002 0003]\nsend A mode 5 2\n\
+     send A mode 5 2\n";
 
 /// The same on another channel.
 const LOST_AGAIN: &str =
-    "channel 2\nterminal 5\nfault 1 drop 0 3\nscript\nsend A rx 5 1 [0001 0002 0003]\nsend A mode 5 2\nsend A mode 5 2\n";
+    "channel 2\nterminal 5\nfault 1 drop 0 3\nscript\nsend A rx 5 1 [0001 0002 0003]\nsend A mode 5 2\n\
+     send A mode 5 2\n";
 
 /// A rule by which the recording of `LOST` is judged, and what is printed.
 const ROWS: [(&str, &str); 9] = [
@@ -87,8 +89,8 @@ const POLLS: &str = "channel 1\nterminal 5\nscript\nrepeat 5 { send A mode 5 2 }
 const POLL_RULES: &str = "expect any clean\n  expect any fail\n\nexpect any count 9 9\n";
 
 /// What a terminal shows of these.
-const POLL_COLORS: &str =
-    "\x1b[32mheld   \x1b[0mexpect any clean  (5 selected)\n\x1b[31mmissed \x1b[0mexpect any fail  (5 selected, 5 missed)\n      \
+const POLL_COLORS: &str = "\x1b[32mheld   \x1b[0mexpect any clean  (5 selected)\n\
+     \x1b[31mmissed \x1b[0mexpect any fail  (5 selected, 5 missed)\n      \
 1     0.0000000       1       1 A    mode 5 2 transmit status word     2800 8.0 us\n      \
 2     0.0000480       1       2 A    mode 5 2 transmit status word     2800 8.0 us\n      \
 3     0.0000960       1       3 A    mode 5 2 transmit status word     2800 8.0 us\n      \

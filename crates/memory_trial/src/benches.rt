@@ -66,7 +66,8 @@ pub(crate) fn made(alloc: Global) -> Told {
     }
 }
 
-/// Plays steps; where one is refused memory, those before it stand, so that it and those behind it lead to the same file.
+/// Plays steps; where one is refused memory, those before it stand, so that it and those behind it lead to the same
+/// file.
 fn play(world: &mut World, steps: &[Step]) -> Told {
     match world.play(steps) {
         Ok(()) => Told::well(world.file().len() == WHOLE),

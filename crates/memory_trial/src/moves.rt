@@ -14,7 +14,8 @@ use std::alloc::Global;
 /// The report of the job's run.
 const REPORT: &str = "channel 1\nmade 100\nplaced 3 5 busy on\nplaced 70 5 busy off\npackets 1\n";
 
-/// What is asked of the debugger: to open, or to move from place 68, from where on the terminal is busy up to message 70.
+/// What is asked of the debugger: to open, or to move from place 68, from where on the terminal is busy up to message
+/// 70.
 #[derive(Clone, Copy)]
 enum Asked<'a> {
     Open,

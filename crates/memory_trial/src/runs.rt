@@ -51,7 +51,8 @@ pub(crate) fn mailbox(alloc: Global) -> Told {
     }
 }
 
-/// What a channel came to: a file, a growth of its own that was refused, or one of its sink, which is a fault of the sink.
+/// What a channel came to: a file, a growth of its own that was refused, or one of its sink, which is a fault of the
+/// sink.
 fn channel_told(answer: &Result<MemorySink, ChannelFault<MemorySink>>) -> Told {
     match answer {
         Ok(sink) => Told::well(sink.bytes().len() == 128),

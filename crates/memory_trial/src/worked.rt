@@ -17,7 +17,8 @@ pub(crate) const LOOPS: [u8; 62] = [
 
 /// A job with a planned fault, two actions and a hundred messages; one of one channel more, and one of yet another.
 pub(crate) const HUNDRED: &str =
-    "channel 1\nterminal 5\nterminal 9\nfault 1 drop 0 1\nat 3 5 busy on\nat 70 5 busy off\nscript\nrepeat 50 { send A rx 5 1 [0001] retry 1 send B tx 9 2 4 }\n";
+    "channel 1\nterminal 5\nterminal 9\nfault 1 drop 0 1\nat 3 5 busy on\nat 70 5 busy off\nscript\n\
+     repeat 50 { send A rx 5 1 [0001] retry 1 send B tx 9 2 4 }\n";
 
 pub(crate) const FIVE: &str = "channel 1\nterminal 5\nscript\nrepeat 5 { send A rx 5 1 [0001] }\n";
 
@@ -35,7 +36,8 @@ pub(crate) const FOREIGN: [u8; 96] = [
 
 /// A report with refused messages and placed actions.
 pub(crate) const REPORT: &str =
-    "channel 1\nmade 5\nrefused 3\nrefused 4\nplaced 1 5 busy on\nplaced 2 5 transmit 1 AAAA 5555\nchannel 2\nmade 1\npackets 2\n";
+    "channel 1\nmade 5\nrefused 3\nrefused 4\nplaced 1 5 busy on\nplaced 2 5 transmit 1 AAAA 5555\nchannel 2\n\
+     made 1\npackets 2\n";
 
 /// The job of a text; None where memory is refused.
 pub(crate) fn job_of(alloc: Global, text: &str) -> Option<Job> {

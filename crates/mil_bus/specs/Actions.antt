@@ -23,4 +23,9 @@ acting address action [] = []
 acting address action (s ∷ ss) = if s.own == address then after s (Host action) ∷ ss else s ∷ acting address action ss
 
 abbrev pub acted : BusState → ℕ → Action → BusState
-acted b address action = record { start = b.start; least_start = b.least_start; talks = b.talks; stations = acting address action b.stations }
+acted b address action = record {
+  start = b.start;
+  least_start = b.least_start;
+  talks = b.talks;
+  stations = acting address action b.stations;
+}

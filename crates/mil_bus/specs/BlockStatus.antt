@@ -1,6 +1,7 @@
 -- The block status word of a finished talk, and its outcome (IRIG 106-17 Chapter 11, MIL-STD-1553 bus data packets,
 -- Format 1, block status word; which errors set which bit, and the outcome, are own choices).
-use Rattle.std.specs.Prelude.{ℕ, ◌+◌, ◌==◌, nat_lt, bit_and, bit_or, if◌then◌else◌, Bool, true, false, ◌&&◌, ◌||◌, not, List, [], ◌∷◌, length, Option, Some, None}
+use Rattle.std.specs.Prelude.{ℕ, ◌+◌, ◌==◌, nat_lt, bit_and, bit_or, if◌then◌else◌, Bool, true, false, ◌&&◌, ◌||◌, not}
+use Rattle.std.specs.Prelude.{List, [], ◌∷◌, length, Option, Some, None}
 use Rattle.std.specs.Option.{is_none, is_some}
 use Rattle.mil_word.specs.declared.Line.{Line}
 use Rattle.mil_word.specs.declared.Line.TheVariants.{A, B}
@@ -42,7 +43,8 @@ is_excuse (Some word) = is_command_sync word.sync && (has_message_error word.val
 abbrev pub is_miscounted : Option Due → Option Came → Bool
 is_miscounted None came = false
 is_miscounted (Some due) None = false
-is_miscounted (Some due) (Some came) = not (came.count == due.words + 1) && not (came.count == 1 && is_excuse came.first)
+is_miscounted (Some due) (Some came) = not (came.count == due.words + 1)
+    && not (came.count == 1 && is_excuse came.first)
 
 abbrev pub is_from_other : ℕ → Option Word → Bool
 is_from_other address None = false
@@ -81,14 +83,16 @@ has_word_count_error form seen =
 abbrev pub has_error : Form → Seen → Bool
 has_error form seen =
     has_response_time_out form seen || has_word_count_error form seen || seen.other_sync || seen.unsound
-    || has_other_address (first_due (replies_due form)) seen.one || has_other_address (second_due (replies_due form)) seen.two
+    || has_other_address (first_due (replies_due form)) seen.one
+    || has_other_address (second_due (replies_due form)) seen.two
     || seen.beyond
 
 -- the bits of the errors, of the line and of the kind of message; a format error is never told
 abbrev pub block_of : Line → Form → Seen → ℕ
 block_of line form seen =
     bit_if (is_line_b line) table.line_b + bit_if (has_error form seen) table.message_error
-    + bit_if (is_transfer form) table.terminal_to_terminal + bit_if (has_response_time_out form seen) table.response_timeout
+    + bit_if (is_transfer form) table.terminal_to_terminal
+    + bit_if (has_response_time_out form seen) table.response_timeout
     + bit_if (has_word_count_error form seen) table.word_count_error + bit_if seen.other_sync table.sync_type_error
     + bit_if seen.unsound table.invalid_word_error
 
@@ -112,5 +116,6 @@ unfoldable pub outcome_of : Form → List Sent → Outcome
 outcome_of form sent = record {
   failed = has_error form (seen_of form sent);
   silent = is_silent form (seen_of form sent);
-  bits = bit_or (came_bits (first_due (replies_due form)) (seen_of form sent).one) (came_bits (second_due (replies_due form)) (seen_of form sent).two);
+  bits = bit_or (came_bits (first_due (replies_due form)) (seen_of form sent).one)
+      (came_bits (second_due (replies_due form)) (seen_of form sent).two);
 }

@@ -9,4 +9,5 @@ use Rattle.mil_bus.specs.Exchange.{Offer, runs}
 abbrev pub FortyRunsAreEnough : Type 0
 FortyRunsAreEnough =
     (more : ℕ) (line : Line) (faults : List Fault) (offer : Offer) (stations : List Station)
-    → runs (40 + more) line faults 0 (Some offer) (record { sent = []; stations = stations }) ≡ runs 40 line faults 0 (Some offer) (record { sent = []; stations = stations })
+    → runs (40 + more) line faults 0 (Some offer) (record { sent = []; stations = stations })
+    ≡ runs 40 line faults 0 (Some offer) (record { sent = []; stations = stations })

@@ -1,5 +1,7 @@
--- The exchange of one message (MIL-STD-1553B 4.3.3.6, 4.3.3.7; times, faults and the limit of forty words are own choices).
-use Rattle.std.specs.Prelude.{ℕ, ◌+◌, ◌-◌, ◌==◌, min, max, if◌then◌else◌, Bool, true, false, ◌&&◌, ◌||◌, List, [], ◌∷◌, ◌++◌, length, map, take, Option, Some, None}
+-- The exchange of one message (MIL-STD-1553B 4.3.3.6, 4.3.3.7; times, faults and the limit of forty words are own
+-- choices).
+use Rattle.std.specs.Prelude.{ℕ, ◌+◌, ◌-◌, ◌==◌, min, max, if◌then◌else◌, Bool, true, false, ◌&&◌, ◌||◌, List, [], ◌∷◌}
+use Rattle.std.specs.Prelude.{◌++◌, length, map, take, Option, Some, None}
 use Rattle.std.specs.Option.{option_map, option_or}
 use Rattle.std.proofs.Common.{zero, suc}
 use Rattle.mil_word.specs.declared.Line.{Line}
@@ -34,11 +36,13 @@ pub record Standing : Type 0 where
 -- the words of a run: the first has the run's gap, the others are contiguous
 abbrev pub words_of : ℕ → Source → ℕ → List ℕ → List Sent
 words_of run source gap [] = []
-words_of run source gap (wave ∷ waves) = record { wave = wave; gap = gap; run = run; source = source } ∷ words_of run source 20 waves
+words_of run source gap (wave ∷ waves) = record { wave = wave; gap = gap; run = run; source = source }
+    ∷ words_of run source 20 waves
 
 -- what comes on the line of a run, where there is room for so many words
 unfoldable pub run_sent : ℕ → List Fault → ℕ → Offer → List Sent
-run_sent room faults run offer = words_of run offer.source (gap_of faults run offer.gap) (take room (altered faults run offer.waves))
+run_sent room faults run offer = words_of run offer.source (gap_of faults run offer.gap)
+    (take room (altered faults run offer.waves))
 
 abbrev pub sends : Source → ℕ → Bool
 sends Controller own = false
@@ -74,7 +78,8 @@ reply_waves (status ∷ values) = command_wave status ∷ map data_wave values
 abbrev pub offer_of : ℕ → Reply → Offer
 offer_of own r = record { source = Terminal own; gap = r.gap; waves = reply_waves r.words.items }
 
--- whether nothing that a station replies comes on a line: no quiet of it comes to the station, or its transmitter there fails
+-- whether nothing that a station replies comes on a line: no quiet of it comes to the station, or its transmitter there
+-- fails
 abbrev pub is_unheard : Line → Station → Bool
 is_unheard line s = is_deaf line s.history || is_mute line s.history
 
@@ -97,7 +102,8 @@ next_offer line [] stations = None
 next_offer line (w ∷ ws) stations = first_reply line stations
 
 abbrev pub standing_after : Line → List Sent → Standing → Standing
-standing_after line words s = record { sent = s.sent ++ words; stations = quiet_after line words (all_hearing line words s.stations) }
+standing_after line words s = record
+    { sent = s.sent ++ words; stations = quiet_after line words (all_hearing line words s.stations) }
 
 -- the runs from one on, at most so many: each but the last puts a word on the line
 unfoldable pub runs : ℕ → Line → List Fault → ℕ → Option Offer → Standing → Standing
@@ -105,10 +111,11 @@ runs zero line faults run offer s = s
 runs (suc left) line faults run None s = s
 runs (suc left) line faults run (Some offer) s =
     let words = run_sent (40 - length s.sent) faults run offer in
-    runs left line faults (suc run) (next_offer line words (all_hearing line words s.stations)) (standing_after line words s)
+    runs left line faults (suc run) (next_offer line words (all_hearing line words s.stations))
+    (standing_after line words s)
 
--- a bus: its start tick, its least start (the tick before which no talk starts), its talks, the latest first, and its stations
--- in order of address
+-- a bus: its start tick, its least start (the tick before which no talk starts), its talks, the latest first, and its
+-- stations in order of address
 pub record BusState : Type 0 where
   pub start : ℕ
   pub least_start : ℕ
@@ -132,8 +139,8 @@ now_of b = max (clock_of b.start b.talks) b.least_start
 abbrev pub paced : ℕ → BusState → BusState
 paced tick b = record { start = b.start; least_start = max b.least_start tick; talks = b.talks; stations = b.stations }
 
--- What was played on a bus: its talks, and what its stations have met. The least start is left out: it has an effect on a talk
--- that follows alone.
+-- What was played on a bus: its talks, and what its stations have met. The least start is left out: it has an effect on
+-- a talk that follows alone.
 abbrev pub played : BusState → BusState
 played b = record { start = b.start; least_start = 0; talks = b.talks; stations = b.stations }
 
@@ -167,12 +174,23 @@ controllers line message tick talks =
 -- what the exchange of a message comes to; forty runs do, since each but the last puts a word on the line
 unfoldable pub exchange_of : BusState → Line → Form → ℕ → List Fault → Standing
 exchange_of b line message gap faults =
-    runs 40 line faults 0 (Some (controllers line message (talk_start b gap) b.talks)) (record { sent = []; stations = b.stations })
+    runs 40 line faults 0 (Some (controllers line message (talk_start b gap) b.talks))
+    (record { sent = []; stations = b.stations })
 
 unfoldable pub talk_of : BusState → Line → Form → ℕ → List Fault → Talk
 talk_of b line message gap faults =
-    record { start = talk_start b gap; line = line; message = message; sent = record { items = (exchange_of b line message gap faults).sent } }
+    record {
+      start = talk_start b gap;
+      line = line;
+      message = message;
+      sent = record { items = (exchange_of b line message gap faults).sent };
+    }
 
 unfoldable pub exchanged : BusState → Line → Form → ℕ → List Fault → BusState
 exchanged b line message gap faults =
-    record { start = b.start; least_start = b.least_start; talks = talk_of b line message gap faults ∷ b.talks; stations = (exchange_of b line message gap faults).stations }
+    record {
+      start = b.start;
+      least_start = b.least_start;
+      talks = talk_of b line message gap faults ∷ b.talks;
+      stations = (exchange_of b line message gap faults).stations;
+    }

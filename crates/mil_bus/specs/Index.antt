@@ -1,5 +1,6 @@
 -- What a bus keeps beside its stations, to find those that an event concerns (inside the bus).
-use Rattle.std.specs.Prelude.{◌≡◌, ℕ, ◌<◌, ◌≤◌, ◌==◌, Bool, false, ◌&&◌, ◌||◌, List, length, get_or, slice_index, Option, Some, None}
+use Rattle.std.specs.Prelude.{◌≡◌, ℕ, ◌<◌, ◌≤◌, ◌==◌, Bool, false, ◌&&◌, ◌||◌, List, length, get_or, slice_index}
+use Rattle.std.specs.Prelude.{Option, Some, None}
 use Rattle.std.specs.Int.{bit_at}
 use Rattle.mil_word.specs.declared.Line.{Line}
 use Rattle.mil_word.specs.declared.Word.{Word}
@@ -14,7 +15,8 @@ IsClosed s = (line : Line) → is_listening s.own line s.history ≡ false
 
 -- a bit is clear only where no window is open
 abbrev pub AreClosed : ℕ → List Station → Type 0
-AreClosed opened stations = (k : ℕ) (d : Station) → k < length stations → bit_at opened k ≡ 0 → IsClosed (get_or stations k d)
+AreClosed opened stations = (k : ℕ) (d : Station) → k < length stations → bit_at opened k ≡ 0
+    → IsClosed (get_or stations k d)
 
 -- under each address stands the place of its station
 pub record IsIndex (places : List ℕ) (stations : List Station) : Type 0 where

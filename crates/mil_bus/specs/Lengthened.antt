@@ -1,5 +1,6 @@
 -- What further data words of a run make of the counts of a talk (inside the bus).
-use Rattle.std.specs.Prelude.{ℕ, ◌+◌, ◌<◌, ◌==◌, ◌≡◌, nat_lt, if◌then◌else◌, Bool, true, false, ◌&&◌, ◌||◌, not, List, get_or, Option, Some, None}
+use Rattle.std.specs.Prelude.{ℕ, ◌+◌, ◌<◌, ◌==◌, ◌≡◌, nat_lt, if◌then◌else◌, Bool, true, false, ◌&&◌, ◌||◌, not, List}
+use Rattle.std.specs.Prelude.{get_or, Option, Some, None}
 use Rattle.mil_word.specs.declared.Word.{Word}
 use Rattle.mil_word.specs.Wave.{word_of}
 use Rattle.mil_word.specs.Words.{is_command_sync}
@@ -15,7 +16,8 @@ is_data (Some word) = not (is_command_sync word.sync)
 
 -- the first words, so many of them, are sound data words of a run
 abbrev pub AreLike : ℕ → ℕ → List Sent → Type 0
-AreLike run count words = (k : ℕ) (d : Sent) → k < count → ((get_or words k d).run ≡ run) × (is_data (word_of (get_or words k d).wave) ≡ true)
+AreLike run count words = (k : ℕ) (d : Sent) → k < count → ((get_or words k d).run ≡ run)
+    × (is_data (word_of (get_or words k d).wave) ≡ true)
 
 -- a reply with so many words more
 abbrev pub longer : Option Came → ℕ → Option Came

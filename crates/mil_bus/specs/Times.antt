@@ -1,11 +1,12 @@
--- When a talk ends, and how. Times are ticks of 0.1 µs (MIL-STD-1553B 4.3.3.4, 4.3.3.7; own choice where a talk has no word).
+-- When a talk ends, and how. Times are ticks of 0.1 µs (MIL-STD-1553B 4.3.3.4, 4.3.3.7; own choice where a talk has no
+-- word).
 use Rattle.std.specs.Prelude.{ℕ, ◌+◌, ◌==◌, Bool, true, List, [], ◌∷◌}
 use Rattle.std.proofs.Common.{zero, suc}
 use Rattle.mil_bus.specs.declared.talks.Sent.{Sent}
 use Rattle.mil_bus.specs.declared.talks.Talk.{Talk}
 
--- from the end of the word before to the end of a word: a word lasts 200 ticks, and starts its gap less 20 after the one
--- before; the first of a talk starts with the talk
+-- from the end of the word before to the end of a word: a word lasts 200 ticks, and starts its gap less 20 after the
+-- one before; the first of a talk starts with the talk
 abbrev pub lasting : ℕ → ℕ → ℕ
 lasting zero gap = 200
 lasting (suc place) gap = gap + 180

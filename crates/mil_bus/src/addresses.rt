@@ -48,7 +48,9 @@ fn add(
 ) -> Result<(), AllocError>
     requires own { own ≤ 30 }
     requires index { IsIndexBelow own places.old terminals.old.items }
-    ensures stations { OnOk result (terminals.new.items ≡ terminals.old.items ++ (if wanted then record { own = own; history = [] } ∷ [] else [])) }
+    ensures stations { OnOk result
+        (terminals.new.items ≡ terminals.old.items
+        ++ (if wanted then record { own = own; history = [] } ∷ [] else [])) }
     ensures index { OnOk result (IsIndexBelow (own + 1) places.new terminals.new.items) }
 {
     if !wanted {
@@ -59,7 +61,8 @@ fn add(
     Ok(())
 }
 
-/// New terminals of these addresses, in order of address; under each address the table then has the place of its terminal.
+/// New terminals of these addresses, in order of address; under each address the table then has the place of its
+/// terminal.
 pub fn fresh(
     alloc: Global,
     addresses: &[u8],

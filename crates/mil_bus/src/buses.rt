@@ -7,7 +7,8 @@ ghost use Rattle.mil_bus.specs.Actions.{place_of, station_of, acted};
 ghost use Rattle.mil_bus.specs.Addresses.{is_fit, fresh_bus};
 ghost use Rattle.mil_bus.specs.BlockStatus.{block_of, outcome_of};
 ghost use Rattle.mil_bus.specs.Counts.{seen_of};
-ghost use Rattle.mil_bus.specs.Exchange.{exchanged, talk_of, next_start, talk_start, clock_of, now_of, paced, last_on, gap_since, least_after};
+ghost use Rattle.mil_bus.specs.Exchange.{exchanged, talk_of, next_start, talk_start, clock_of, now_of, paced, last_on};
+ghost use Rattle.mil_bus.specs.Exchange.{gap_since, least_after};
 
 use crate::addresses::is_fit;
 use crate::offers::Offered;
@@ -23,8 +24,8 @@ use mil_word::Line;
 use std::alloc::{AllocError, Global};
 use std::marker::Model;
 
-/// Up to 31 terminals on the two lines of a bus. Contracts see the start tick, the least start, the talks so far, the latest first,
-/// and the terminals' addresses and histories, in order of address; no value holds a list of talks.
+/// Up to 31 terminals on the two lines of a bus. Contracts see the start tick, the least start, the talks so far, the
+/// latest first, and the terminals' addresses and histories, in order of address; no value holds a list of talks.
 #[derive(Drop)]
 pub struct Bus {
     pub(crate) begin: u64,
@@ -43,7 +44,12 @@ impl Model for Bus {
 
     ghost Value = { BusState };
 
-    ghost view = { λ b. record { start = b.begin; least_start = b.least_start; talks = b.past; stations = b.terminals } };
+    ghost view = { λ b. record {
+      start = b.begin;
+      least_start = b.least_start;
+      talks = b.past;
+      stations = b.terminals;
+    } };
 
     ghost invariant = { λ b. KeepsTimes b.begin b.clock b.least b.on_a b.on_b b.past };
 }
@@ -73,8 +79,8 @@ fn gap_from(end: Option<u64>, tick: u64) -> Gap
 }
 
 impl Bus {
-    /// A bus with new terminals of these addresses, whose first talk starts at a tick; its least start is 0. Refusals: an address over 30, or one
-    /// that stands twice (B1); memory (B2).
+    /// A bus with new terminals of these addresses, whose first talk starts at a tick; its least start is 0. Refusals:
+    /// an address over 30, or one that stands twice (B1); memory (B2).
     pub fn make(alloc: Global, start: u64, addresses: &[u8]) -> Result<Bus, BusError>
         ensures ok { IfOk result (λ b. b ≡ fresh_bus start addresses.now) }
         ensures addresses { (result ≡ Err BusError.Addresses) ↔ (is_fit addresses.now ≡ false) }
@@ -162,7 +168,12 @@ impl Bus {
         ensures soon { clock_of self.new.start self.new.talks ≤ talk.now.start + 2 ^ 23 }
         ensures later { talk.now.start ≤ clock_of self.new.start self.new.talks }
         ensures least { self.new.least_start ≡ self.old.least_start }
-        ensures value { self.new ≡ record { start = self.old.start; least_start = self.old.least_start; talks = talk.now ∷ self.old.talks; stations = self.old.stations } }
+        ensures value { self.new ≡ record {
+          start = self.old.start;
+          least_start = self.old.least_start;
+          talks = talk.now ∷ self.old.talks;
+          stations = self.old.stations;
+        } }
     {
         let end = talk.end();
         self.clock = end;
@@ -176,9 +187,9 @@ impl Bus {
         self.past = self.past.put_before(talk);
     }
 
-    /// The exchange of one message on a line, at a gap of ticks from the last word on either line, which is raised to 180
-    /// where the talk before failed or its last word was the controller's, and to 40 otherwise. No talk starts before the least
-    /// start. It takes no memory.
+    /// The exchange of one message on a line, at a gap of ticks from the last word on either line, which is raised to
+    /// 180 where the talk before failed or its last word was the controller's, and to 40 otherwise. No talk starts
+    /// before the least start. It takes no memory.
     ///
     /// The faults are those planned for the message, at most four, in the order of the plan.
     pub fn exchange(&mut self, line: Line, message: &Message, gap: Gap, faults: &[Fault]) -> Talk
@@ -193,8 +204,8 @@ impl Bus {
         self.exchange_seen(line, message, gap, faults, &mut seen)
     }
 
-    /// The same, with what is seen of the talk in the place of what was seen before, so that an outcome and a record of it need
-    /// not look at its words again.
+    /// The same, with what is seen of the talk in the place of what was seen before, so that an outcome and a record of
+    /// it need not look at its words again.
     pub fn exchange_seen(
         &mut self,
         line: Line,

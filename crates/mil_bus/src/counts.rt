@@ -231,8 +231,8 @@ fn count_like(run: u8, words: &[Sent]) -> usize
     words.len()
 }
 
-/// One pass over the words of a talk, where so many commands are sent and so many replies are due. The data words of a run,
-/// once the first is in its place, are counted together.
+/// One pass over the words of a talk, where so many commands are sent and so many replies are due. The data words of a
+/// run, once the first is in its place, are counted together.
 pub fn counted(commands: u8, due: u8, sent: &[Sent]) -> Seen
     requires few { length sent.now ≤ 40 }
     requires two { due ≤ 2 }

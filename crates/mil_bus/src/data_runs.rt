@@ -62,8 +62,8 @@ fn pass_all(terminal: &mut Terminal, line: Line, run: &Run, waves: &[Wave])
     }
 }
 
-/// The words of a run that are no commands come to the terminals from one place up to another, none of which has an open
-/// window.
+/// The words of a run that are no commands come to the terminals from one place up to another, none of which has an
+/// open window.
 #[inline]
 fn pass_all_between(
     terminals: &mut Vec<Terminal>,
@@ -77,7 +77,8 @@ fn pass_all_between(
     requires end { to ≤ length terminals.old.items }
     requires other { AreNoCommands 0 waves.now }
     requires closed { (k : ℕ) (d : Station) → from ≤ k → k < to → IsClosed (get_or terminals.old.items k d) }
-    ensures { (old : List Station) (opened : ℕ) → HasCome (hearing_all line (run_words run.now waves.now)) old terminals.old.items from opened
+    ensures { (old : List Station) (opened : ℕ)
+        → HasCome (hearing_all line (run_words run.now waves.now)) old terminals.old.items from opened
         → HasCome (hearing_all line (run_words run.now waves.now)) old terminals.new.items to opened }
 {
     for i in from..to {

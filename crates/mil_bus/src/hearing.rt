@@ -17,7 +17,8 @@ use mil_word::{Command, Line, Word};
 /// The places that a word may concern: those that are open, and that of the terminal that it commands, or all.
 pub fn concerned(places: &[u8; 32], opened: u32, decoded: Option<Word>) -> u32
     ensures kept { (k : ℕ) → k < 32 → bit_at result k ≡ 0 → bit_at opened k ≡ 0 }
-    ensures commanded { (own : ℕ) → own < 32 → slice_index places.now own < 32 → bit_at result (slice_index places.now own) ≡ 0 → is_command_to own decoded ≡ false }
+    ensures commanded { (own : ℕ) → own < 32 → slice_index places.now own < 32
+        → bit_at result (slice_index places.now own) ≡ 0 → is_command_to own decoded ≡ false }
 {
     match decoded {
         None => opened,
@@ -83,7 +84,8 @@ pub fn pass(terminal: &mut Terminal, line: Line, sent: &Sent)
 fn pass_between(terminals: &mut Vec<Terminal>, from: usize, to: usize, line: Line, sent: &Sent)
     requires order { from ≤ to }
     requires end { to ≤ length terminals.old.items }
-    requires other { (k : ℕ) (d : Station) → from ≤ k → k < to → opens (get_or terminals.old.items k d).own (Heard line sent.now.wave sent.now.gap) ≡ false }
+    requires other { (k : ℕ) (d : Station) → from ≤ k → k < to
+        → opens (get_or terminals.old.items k d).own (Heard line sent.now.wave sent.now.gap) ≡ false }
     requires closed { (k : ℕ) (d : Station) → from ≤ k → k < to → IsClosed (get_or terminals.old.items k d) }
     ensures { (old : List Station) (opened : ℕ) → HasCome (hearing line sent.now) old terminals.old.items from opened
         → HasCome (hearing line sent.now) old terminals.new.items to opened }
@@ -94,8 +96,8 @@ fn pass_between(terminals: &mut Vec<Terminal>, from: usize, to: usize, line: Lin
     }
 }
 
-/// A word comes to all terminals; a mask that is clear only where no window is open afterwards. The word concerns only those
-/// that the mask given has.
+/// A word comes to all terminals; a mask that is clear only where no window is open afterwards. The word concerns only
+/// those that the mask given has.
 pub fn tell_all(
     terminals: &mut Vec<Terminal>,
     mask: u32,

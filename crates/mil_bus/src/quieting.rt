@@ -21,8 +21,8 @@ pub struct Quieted {
     pub answered: bool,
 }
 
-/// A quiet comes to a terminal, unless it is deaf there; its answer counts where there was none before and the terminal is not
-/// mute there. Whether there is one now.
+/// A quiet comes to a terminal, unless it is deaf there; its answer counts where there was none before and the terminal
+/// is not mute there. Whether there is one now.
 fn quiet_one(terminal: &mut Terminal, line: Line, answered: bool, offer: &mut Offered) -> bool
     ensures after { terminal.new ≡ quieted line terminal.old }
     ensures first { given result offer.new ≡ option_or (given answered offer.old) (answer line terminal.old) }
@@ -83,8 +83,8 @@ fn pass_between(terminals: &mut Vec<Terminal>, from: usize, to: usize, line: Lin
     }
 }
 
-/// A quiet comes to all terminals, and the first to answer, in order of address, is taken. Only those that the mask has can
-/// have an open window.
+/// A quiet comes to all terminals, and the first to answer, in order of address, is taken. Only those that the mask has
+/// can have an open window.
 pub fn quiet_all(
     terminals: &mut Vec<Terminal>,
     mask: u32,

@@ -78,8 +78,10 @@ fn say_run(
     offer: &Offered,
 )
     requires in_range { list_all is_in_range faults.now ≡ true }
-    ensures sent { sent.new.items ≡ sent.old.items ++ run_sent (40 - length sent.old.items) faults.now number (offered offer.now) }
-    ensures stations { terminals.new ≡ all_hearing line (run_sent (40 - length sent.old.items) faults.now number (offered offer.now)) terminals.old }
+    ensures sent { sent.new.items ≡ sent.old.items
+        ++ run_sent (40 - length sent.old.items) faults.now number (offered offer.now) }
+    ensures stations { terminals.new
+        ≡ all_hearing line (run_sent (40 - length sent.old.items) faults.now number (offered offer.now)) terminals.old }
 {
     let room = 40 - sent.len();
     let given = offer.waves.as_slice();
@@ -105,8 +107,8 @@ fn say_run(
     }
 }
 
-/// One run: its words come on the line and to all terminals, then a quiet does, and the first to answer is taken; whether one
-/// answers.
+/// One run: its words come on the line and to all terminals, then a quiet does, and the first to answer is taken;
+/// whether one answers.
 fn run_once(
     terminals: &mut Terminals,
     sent: &mut ArrayVec<Sent, 40>,
@@ -116,7 +118,8 @@ fn run_once(
     offer: &mut Offered,
 ) -> bool
     requires in_range { list_all is_in_range faults.now ≡ true }
-    ensures sent { sent.new.items ≡ sent.old.items ++ run_sent (40 - length sent.old.items) faults.now run (offered offer.old) }
+    ensures sent { sent.new.items ≡ sent.old.items
+        ++ run_sent (40 - length sent.old.items) faults.now run (offered offer.old) }
     ensures stations { let words = run_sent (40 - length sent.old.items) faults.now run (offered offer.old) in
         terminals.new ≡ quiet_after line words (all_hearing line words terminals.old) }
     ensures next { let words = run_sent (40 - length sent.old.items) faults.now run (offered offer.old) in
@@ -140,8 +143,10 @@ fn turn(
     offer: &mut Offered,
 ) -> bool
     requires in_range { list_all is_in_range faults.now ≡ true }
-    ensures { (left : ℕ) → runs left line faults.now (run + 1) (given result offer.new) (record { sent = sent.new.items; stations = terminals.new })
-        ≡ runs (left + 1) line faults.now run (Some (offered offer.old)) (record { sent = sent.old.items; stations = terminals.old }) }
+    ensures { (left : ℕ) → runs left line faults.now (run + 1) (given result offer.new)
+        (record { sent = sent.new.items; stations = terminals.new })
+        ≡ runs (left + 1) line faults.now run (Some (offered offer.old))
+        (record { sent = sent.old.items; stations = terminals.old }) }
 {
     run_once(terminals, sent, line, faults, run, offer)
 }
@@ -156,7 +161,8 @@ pub fn all_runs(
 )
     requires in_range { list_all is_in_range faults.now ≡ true }
     ensures { record { sent = sent.new.items; stations = terminals.new }
-        ≡ runs 40 line faults.now 0 (Some (offered offer.old)) (record { sent = sent.old.items; stations = terminals.old }) }
+        ≡ runs 40 line faults.now 0 (Some (offered offer.old))
+        (record { sent = sent.old.items; stations = terminals.old }) }
 {
     for run in 0..40 {
         if !turn(terminals, sent, line, faults, run, offer) {

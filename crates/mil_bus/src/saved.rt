@@ -8,9 +8,9 @@ use history::History;
 use std::alloc::AllocError;
 use std::marker::Model;
 
-/// A bus as it was when it was saved, in less memory than a bus takes: 80 bytes for each terminal, and two for each word that the
-/// terminal holds and for each list of them that is not empty, but for open windows and marks. Contracts see what they see of the
-/// bus.
+/// A bus as it was when it was saved, in less memory than a bus takes: 80 bytes for each terminal, and two for each
+/// word that the terminal holds and for each list of them that is not empty, but for open windows and marks. Contracts
+/// see what they see of the bus.
 #[derive(Drop)]
 pub struct SavedBus {
     begin: u64,
@@ -29,7 +29,12 @@ impl Model for SavedBus {
 
     ghost Value = { BusState };
 
-    ghost view = { λ b. record { start = b.begin; least_start = b.least_start; talks = b.past; stations = b.terminals } };
+    ghost view = { λ b. record {
+      start = b.begin;
+      least_start = b.least_start;
+      talks = b.past;
+      stations = b.terminals;
+    } };
 
     ghost invariant = { λ b. KeepsTimes b.begin b.clock b.least b.on_a b.on_b b.past };
 }
@@ -51,8 +56,8 @@ impl Bus {
         })
     }
 
-    /// Goes to what was saved, of this bus or another. It takes memory only where that bus had another number of terminals; it fails
-    /// for want of memory alone, and then all is as before.
+    /// Goes to what was saved, of this bus or another. It takes memory only where that bus had another number of
+    /// terminals; it fails for want of memory alone, and then all is as before.
     pub fn restore(&mut self, saved: &SavedBus) -> Result<(), AllocError>
         ensures restored { OnOk result (self.new ≡ saved.now) }
         ensures same { OnErr result (self.new ≡ self.old) }

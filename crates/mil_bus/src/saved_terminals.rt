@@ -70,8 +70,8 @@ impl Terminals {
         })
     }
 
-    /// Goes to what was saved: in its own memory where there are as many terminals, and else in new memory. Where that is refused,
-    /// all is as before.
+    /// Goes to what was saved: in its own memory where there are as many terminals, and else in new memory. Where that
+    /// is refused, all is as before.
     pub fn restore(&mut self, saved: &SavedTerminals) -> Result<(), AllocError>
         ensures restored { OnOk result (self.new ≡ saved.now) }
         ensures same { OnErr result (self.new ≡ self.old) }

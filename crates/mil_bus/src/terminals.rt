@@ -86,7 +86,8 @@ impl Terminals {
         }
     }
 
-    /// The words of a run that are no commands come to all terminals. They concern those alone that have an open window.
+    /// The words of a run that are no commands come to all terminals. They concern those alone that have an open
+    /// window.
     fn hear_data(&mut self, line: Line, run: &Run, waves: &[Wave])
         requires { AreNoCommands 0 waves.now }
         ensures { self.new ≡ map (hearing_all line (run_words run.now waves.now)) self.old }
@@ -94,8 +95,8 @@ impl Terminals {
         self.opened = tell_data(&mut self.list, self.opened, line, run, waves);
     }
 
-    /// The words of a run come to all terminals: those up to the last command one after the other, and those behind it as a
-    /// whole.
+    /// The words of a run come to all terminals: those up to the last command one after the other, and those behind it
+    /// as a whole.
     pub fn hear_all(&mut self, line: Line, run: &Run, waves: &[Wave])
         ensures { self.new ≡ all_hearing line (run_words run.now waves.now) self.old }
     {
@@ -106,7 +107,8 @@ impl Terminals {
         }
     }
 
-    /// A quiet comes to all terminals, and the first to answer, in order of address, gives the next words; whether one does.
+    /// A quiet comes to all terminals, and the first to answer, in order of address, gives the next words; whether one
+    /// does.
     pub fn quiet(&mut self, line: Line, offer: &mut Offered) -> bool
         ensures after { self.new ≡ map (quieted line) self.old }
         ensures first { given result offer.new ≡ first_reply line self.old }

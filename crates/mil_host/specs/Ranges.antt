@@ -2,7 +2,8 @@
 use Rattle.std.specs.Prelude.{◌≤◌, ◌<◌, length, All}
 use Rattle.mil_host.specs.Values.{PutUp, Marked}
 use Rattle.mil_host.specs.declared.actions.Action.{Action}
-use Rattle.mil_host.specs.declared.actions.Action.TheVariants.{Transmit, Busy, Service, Subsystem, Fault, Control, Vector, SelfTest, Illegal, Legal, Response, Deaf, Mute}
+use Rattle.mil_host.specs.declared.actions.Action.TheVariants.{Transmit, Busy, Service, Subsystem, Fault, Control}
+use Rattle.mil_host.specs.declared.actions.Action.TheVariants.{Vector, SelfTest, Illegal, Legal, Response, Deaf, Mute}
 
 -- a subaddress of 1 to 29, and 1 to 32 data words of 16 bits
 pub record IsPutUp (put : PutUp) : Type 0 where

@@ -1,5 +1,6 @@
 -- The action that a text spells, or the first fault in it from left to right.
-use Rattle.std.specs.Prelude.{ℕ, Bool, true, false, ◌&&◌, nat_le, List, [], ◌∷◌, drop, Result, Ok, Err, Option, Some, None, codes, if◌then◌else◌}
+use Rattle.std.specs.Prelude.{ℕ, Bool, true, false, ◌&&◌, nat_le, List, [], ◌∷◌, drop, Result, Ok, Err, Option, Some}
+use Rattle.std.specs.Prelude.{None, codes, if◌then◌else◌}
 use Rattle.std.proofs.Common.{zero, suc}
 use Rattle.std.specs.Str.{bytes_eq}
 use Rattle.numerals.specs.Numerals.{spelled}
@@ -10,9 +11,12 @@ use Rattle.mil_host.specs.Words.{Text, words}
 use Rattle.mil_host.specs.declared.reading.BadAction.{BadAction}
 use Rattle.mil_host.specs.declared.reading.BadAction.TheVariants.{Word, Number, Range}
 use Rattle.mil_host.specs.declared.names.Name.{Name}
-use Rattle.mil_host.specs.declared.names.Name.TheVariants.{TransmitName, BusyName, ServiceName, SubsystemName, FaultName, ControlName, VectorName, SelfTestName, IllegalName, LegalName, ResponseName, DeafName, MuteName}
+use Rattle.mil_host.specs.declared.names.Name.TheVariants.{TransmitName, BusyName, ServiceName, SubsystemName}
+use Rattle.mil_host.specs.declared.names.Name.TheVariants.{FaultName, ControlName, VectorName, SelfTestName}
+use Rattle.mil_host.specs.declared.names.Name.TheVariants.{IllegalName, LegalName, ResponseName, DeafName, MuteName}
 use Rattle.mil_host.specs.declared.actions.Action.{Action}
-use Rattle.mil_host.specs.declared.actions.Action.TheVariants.{Transmit, Busy, Service, Subsystem, Fault, Control, Vector, SelfTest, Illegal, Legal, Response, Deaf, Mute}
+use Rattle.mil_host.specs.declared.actions.Action.TheVariants.{Transmit, Busy, Service, Subsystem, Fault, Control}
+use Rattle.mil_host.specs.declared.actions.Action.TheVariants.{Vector, SelfTest, Illegal, Legal, Response, Deaf, Mute}
 
 abbrev pub Read : Type 0 → Type 0
 Read X = Result X BadAction
@@ -76,7 +80,8 @@ and_end (word ∷ rest) x = Err Word
 abbrev pub all_data : ℕ → List Text → Read (List ℕ)
 all_data room [] = Ok []
 all_data zero (word ∷ rest) = Err Word
-all_data (suc room) (word ∷ rest) = and_then (data_of word) (λ value. and_then (all_data room rest) (λ values. Ok (value ∷ values)))
+all_data (suc room) (word ∷ rest) = and_then (data_of word)
+    (λ value. and_then (all_data room rest) (λ values. Ok (value ∷ values)))
 
 abbrev pub some_data : List Text → Read (List ℕ)
 some_data [] = Err Word
@@ -89,7 +94,8 @@ only_switch rest = and_then (switch_in rest) (λ on. and_end (drop 1 rest) on)
 
 -- a line, and `on` or `off`
 abbrev pub only_line_switch : List Text → Read (Line × Bool)
-only_line_switch rest = and_then (line_in rest) (λ line. and_then (switch_in (drop 1 rest)) (λ on. and_end (drop 2 rest) (line, on)))
+only_line_switch rest = and_then (line_in rest)
+    (λ line. and_then (switch_in (drop 1 rest)) (λ on. and_end (drop 2 rest) (line, on)))
 
 abbrev pub only_data : List Text → Read ℕ
 only_data rest = and_then (data_in rest) (λ value. and_end (drop 1 rest) value)

@@ -8,7 +8,8 @@ use crate::values::{Mark, ResponseGap, TransmitWords};
 use mil_word::Line;
 
 /// What the host sets on its remote terminal. At first everything is off, each subaddress and count is legal,
-/// the vector word and the self-test result are 0000, the response time is 80 ticks and no transmit words are put up (own choice).
+/// the vector word and the self-test result are 0000, the response time is 80 ticks and no transmit words are put up
+/// (own choice).
 #[derive(Debug, Drop)]
 pub enum Action {
     /// The words that a transmit command at a subaddress sends.
@@ -33,10 +34,11 @@ pub enum Action {
     Legal(Mark),
     /// The response time (4.3.3.8).
     Response(ResponseGap),
-    /// Whether the terminal's receiver on a line fails: on a bus it meets no word and no quiet of that line (own choice).
+    /// Whether the terminal's receiver on a line fails: on a bus it meets no word and no quiet of that line (own
+    /// choice).
     Deaf { line: Line, on: bool },
-    /// Whether its transmitter on a line fails unnoticed: on a bus it acts there as ever, and nothing of its replies is sent
-    /// (own choice).
+    /// Whether its transmitter on a line fails unnoticed: on a bus it acts there as ever, and nothing of its replies is
+    /// sent (own choice).
     Mute { line: Line, on: bool },
 }
 
@@ -68,8 +70,9 @@ impl Action {
         }
     }
 
-    /// Each action has its values in their ranges, and its printed text, single spaces and upper-case data words, spells it:
-    /// what `Display` writes is read back as the same action. The text stands on one line, with no control character.
+    /// Each action has its values in their ranges, and its printed text, single spaces and upper-case data words,
+    /// spells it: what `Display` writes is read back as the same action. The text stands on one line, with no control
+    /// character.
     pub fn reads_back(&self)
         ensures ranges { IsInRange self.now }
         ensures back { action_in (text_of self.now) ≡ Ok self.now }

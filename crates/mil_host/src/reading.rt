@@ -1,6 +1,8 @@
 //! The action that a text spells.
 ghost use Rattle.std.specs.Prelude.{◌≡◌, ◌≤◌, Ok, Err, true, length, drop, IfOk, MatchResult};
-ghost use Rattle.mil_host.specs.Reading.{action_in, of_name, number_in, data_in, one_of, line_of, line_in, switch_in, direction_in, and_end, some_data, only_switch, only_line_switch, only_data, only_ticks, only_words, only_mark, data_of, number_of};
+ghost use Rattle.mil_host.specs.Reading.{action_in, of_name, number_in, data_in, one_of, line_of, line_in, switch_in};
+ghost use Rattle.mil_host.specs.Reading.{direction_in, and_end, some_data, only_switch, only_line_switch, only_data};
+ghost use Rattle.mil_host.specs.Reading.{only_ticks, only_words, only_mark, data_of, number_of};
 
 use crate::actions::Action;
 use crate::names::{Name, name_in};
@@ -235,9 +237,10 @@ fn read_named(name: Name, words: &mut Words<'_>) -> Result<Action, BadAction>
     }
 }
 
-/// The action that a text spells, of words parted by one or more spaces: `transmit SUB WORD..`, `busy on|off`, `service on|off`,
-/// `subsystem on|off`, `fault on|off`, `control on|off`, `vector WORD`, `selftest WORD`, `illegal receive|transmit SUB COUNT`,
-/// `legal receive|transmit SUB COUNT`, `response TICKS`, `deaf A|B on|off` or `mute A|B on|off` (own choice). The first fault from left to right is answered.
+/// The action that a text spells, of words parted by one or more spaces: `transmit SUB WORD..`, `busy on|off`, `service
+/// on|off`, `subsystem on|off`, `fault on|off`, `control on|off`, `vector WORD`, `selftest WORD`, `illegal
+/// receive|transmit SUB COUNT`, `legal receive|transmit SUB COUNT`, `response TICKS`, `deaf A|B on|off` or `mute A|B
+/// on|off` (own choice). The first fault from left to right is answered.
 #[tactic(auto, unfolding(crate::specs::Reading::action_in))]
 pub fn read_action(text: &[u8]) -> Result<Action, BadAction>
     ensures { result ≡ action_in text.now }

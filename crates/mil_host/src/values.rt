@@ -5,8 +5,8 @@ ghost use Rattle.mil_host.specs.Ranges.{IsPutUp, IsMark};
 use arrayvec::ArrayVec;
 use std::marker::Model;
 
-/// The data words that a host puts up for a transmit command at a subaddress: 1 to 32 words, at a subaddress of 1 to 29.
-/// (Own choice: subaddress 30 wraps around, and takes none.)
+/// The data words that a host puts up for a transmit command at a subaddress: 1 to 32 words, at a subaddress of 1 to
+/// 29. (Own choice: subaddress 30 wraps around, and takes none.)
 #[derive(Debug, Drop)]
 pub struct TransmitWords {
     place: u8,
@@ -21,7 +21,8 @@ impl Model for TransmitWords {
 
     ghost view = { λ w. record { sub = w.place; words = w.words.items } };
 
-    ghost invariant = { λ w. (1 ≤ w.place) × (w.place ≤ 29) × (1 ≤ length w.words.items) × (length w.words.items ≤ 32) };
+    ghost invariant = { λ w. (1 ≤ w.place) × (w.place ≤ 29) × (1 ≤ length w.words.items)
+        × (length w.words.items ≤ 32) };
 }
 
 impl TransmitWords {

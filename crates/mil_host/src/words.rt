@@ -1,5 +1,6 @@
 //! The words of a text, one after the other.
-ghost use Rattle.std.specs.Prelude.{◌≡◌, ◌≤◌, ◌<◌, [], ◌∷◌, List, length, drop, slice_get, slice_index, false, MatchOption};
+ghost use Rattle.std.specs.Prelude.{◌≡◌, ◌≤◌, ◌<◌, [], ◌∷◌, List, length, drop, slice_get, slice_index, false};
+ghost use Rattle.std.specs.Prelude.{MatchOption};
 ghost use Rattle.std.specs.Option.{option_copied};
 ghost use Rattle.std.specs.List.{position_or_len};
 ghost use Rattle.mil_host.specs.Words.{words, is_space};
@@ -44,7 +45,8 @@ impl<'a> Words<'a> {
     }
 }
 
-/// The first word of a text, which spaces alone part from the next, and what stands behind it; nothing where no word is left.
+/// The first word of a text, which spaces alone part from the next, and what stands behind it; nothing where no word is
+/// left.
 pub fn next_word(text: &[u8]) -> Option<(&[u8], &[u8])>
     ensures { MatchOption result (words text.now ≡ []) (λ x. words text.now ≡ x.0.now ∷ words x.1.now) }
 {

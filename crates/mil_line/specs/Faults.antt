@@ -46,7 +46,8 @@ at_place faults run index wave =
 -- what comes on the line for the words from an index on
 abbrev pub altered_from : List Fault → ℕ → ℕ → List ℕ → List ℕ
 altered_from faults run index [] = []
-altered_from faults run index (wave ∷ waves) = at_place faults run index wave ++ altered_from faults run (suc index) waves
+altered_from faults run index (wave ∷ waves) = at_place faults run index wave
+    ++ altered_from faults run (suc index) waves
 
 -- what comes on the line for the words of a run: nothing of a run that is silenced
 abbrev pub altered : List Fault → ℕ → List ℕ → List ℕ

@@ -24,7 +24,8 @@ pub enum Fault {
         run: u32,
         index: u32,
     },
-    /// Sends a word contiguously after the one at the place, also where that was dropped. `run` 0 to 2, `index` 0 to 39.
+    /// Sends a word contiguously after the one at the place, also where that was dropped. `run` 0 to 2, `index` 0 to
+    /// 39.
     Add {
         run: u32,
         index: u32,

@@ -93,7 +93,8 @@ fn put_place(
     put_added(waves, room, faults, run, index);
 }
 
-/// What comes on the line of a run whose sender gives these waves, as far as there is room, which is at most forty words.
+/// What comes on the line of a run whose sender gives these waves, as far as there is room, which is at most forty
+/// words.
 pub fn altered(faults: &[Fault], run: u32, given: &[Wave], room: usize) -> ArrayVec<Wave, 40>
     requires room { room ≤ 40 }
     requires few { length given.now < 2 ^ 32 }

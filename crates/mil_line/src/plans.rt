@@ -1,5 +1,6 @@
 //! The faults that are planned for the messages of a channel.
-ghost use Rattle.std.specs.Prelude.{◌≡◌, ◌∷◌, ◌++◌, [], ◌<◌, ◌≤◌, ◌&&◌, ◌↔◌, true, false, length, Err, OnOk, IfOk, OnErr};
+ghost use Rattle.std.specs.Prelude.{◌≡◌, ◌∷◌, ◌++◌, [], ◌<◌, ◌≤◌, ◌&&◌, ◌↔◌, true, false, length, Err, OnOk, IfOk};
+ghost use Rattle.std.specs.Prelude.{OnErr};
 ghost use Rattle.std.specs.List.{list_all};
 ghost use Rattle.mil_line.specs.Plans.{faults_of};
 ghost use Rattle.mil_line.specs.Ranges.{is_in_range, is_number};
@@ -54,7 +55,8 @@ impl Plan {
     pub fn add(&mut self, number: u32, fault: Fault) -> Result<(), LineError>
         ensures ok { OnOk result (self.new ≡ self.old ++ (number, fault) ∷ []) }
         ensures too_many { (result ≡ Err LineError.TooMany) ↔ (4 ≤ length (faults_of number self.old)) }
-        ensures out_of_range { (result ≡ Err LineError.OutOfRange) ↔ ((length (faults_of number self.old) < 4) × ((is_number number && is_in_range fault) ≡ false)) }
+        ensures out_of_range { (result ≡ Err LineError.OutOfRange) ↔
+            ((length (faults_of number self.old) < 4) × ((is_number number && is_in_range fault) ≡ false)) }
         ensures err { OnErr result (self.new ≡ self.old) }
     {
         let mut faults = self.faults(number);

@@ -1,7 +1,8 @@
 -- The letters of a draft's faults (own choice).
 use Rattle.std.specs.Prelude.{ℕ, List, codes}
 use Rattle.mil_message.specs.declared.faults.BadMessage.{BadMessage}
-use Rattle.mil_message.specs.declared.faults.BadMessage.TheVariants.{Address, Subaddress, CountOrCode, SameEnds, ModeWord}
+use Rattle.mil_message.specs.declared.faults.BadMessage.TheVariants.{Address, Subaddress, CountOrCode, SameEnds}
+use Rattle.mil_message.specs.declared.faults.BadMessage.TheVariants.{ModeWord}
 
 abbrev pub code_of : BadMessage → List ℕ
 code_of Address = codes "M1"

@@ -1,5 +1,6 @@
 -- The ten message forms: what the controller sends, and which replies are due (MIL-STD-1553B 4.3.3.6, with Notice 2).
-use Rattle.std.specs.Prelude.{ℕ, ◌+◌, ◌*◌, ◌%◌, ◌^◌, Bool, true, false, List, [], ◌∷◌, ◌++◌, length, map, Option, Some, None, if◌then◌else◌}
+use Rattle.std.specs.Prelude.{ℕ, ◌+◌, ◌*◌, ◌%◌, ◌^◌, Bool, true, false, List, [], ◌∷◌, ◌++◌, length, map, Option, Some}
+use Rattle.std.specs.Prelude.{None, if◌then◌else◌}
 use Rattle.std.specs.Option.{option_to_list}
 use Rattle.mil_word.specs.Words.{command_wave, data_wave}
 use Rattle.mil_word.specs.declared.Sync.TheVariants.{CommandSync, DataSync}
@@ -8,7 +9,8 @@ use Rattle.mil_message.specs.declared.drafts.ModeSubaddress.{ModeSubaddress}
 use Rattle.mil_message.specs.declared.drafts.ModeSubaddress.TheVariants.{Zero, ThirtyOne}
 use Rattle.mil_message.specs.declared.forms.Due.{Due}
 use Rattle.mil_message.specs.declared.forms.Form.{Form}
-use Rattle.mil_message.specs.declared.forms.Form.TheVariants.{ToTerminal, FromTerminal, Between, Mode, ModeFrom, ModeTo, ToAll, BetweenAll, ModeAll, ModeAllTo}
+use Rattle.mil_message.specs.declared.forms.Form.TheVariants.{ToTerminal, FromTerminal, Between, Mode, ModeFrom, ModeTo}
+use Rattle.mil_message.specs.declared.forms.Form.TheVariants.{ToAll, BetweenAll, ModeAll, ModeAllTo}
 
 -- the command word of an address, a T/R bit, a subaddress and a last field (4.3.3.5.1)
 abbrev pub command_word : ℕ → Bool → ℕ → ℕ → ℕ
@@ -44,21 +46,26 @@ abbrev pub first_command : Form → ℕ
 first_command (ToTerminal address subaddress words) = receive_command address subaddress (length words.items)
 first_command (FromTerminal address subaddress count) = transmit_command address subaddress count
 -- terminal to terminal: the receiver is called first (4.3.3.6.3)
-first_command (Between sender sender_subaddress receiver receiver_subaddress count) = receive_command receiver receiver_subaddress count
--- mode command without a data word, with one that the terminal sends, and with one that it receives (4.3.3.6.4 to 4.3.3.6.6)
+first_command (Between sender sender_subaddress receiver receiver_subaddress count) = receive_command receiver
+    receiver_subaddress count
+-- mode command without a data word, with one that the terminal sends, and with one that it receives (4.3.3.6.4 to
+-- 4.3.3.6.6)
 first_command (Mode address subaddress code) = mode_command address true subaddress code
 first_command (ModeFrom address subaddress code) = mode_command address true subaddress code
 first_command (ModeTo address subaddress code word) = mode_command address false subaddress code
 -- the same to all terminals (4.3.3.6.7)
 first_command (ToAll subaddress words) = receive_command all_terminals subaddress (length words.items)
-first_command (BetweenAll sender sender_subaddress receiver_subaddress count) = receive_command all_terminals receiver_subaddress count
+first_command (BetweenAll sender sender_subaddress receiver_subaddress count) = receive_command all_terminals
+    receiver_subaddress count
 first_command (ModeAll subaddress code) = mode_command all_terminals true subaddress code
 first_command (ModeAllTo subaddress code word) = mode_command all_terminals false subaddress code
 
 -- the second command word, which the two forms between terminals have: it calls the sender
 abbrev pub second_command : Form → Option ℕ
-second_command (Between sender sender_subaddress receiver receiver_subaddress count) = Some (transmit_command sender sender_subaddress count)
-second_command (BetweenAll sender sender_subaddress receiver_subaddress count) = Some (transmit_command sender sender_subaddress count)
+second_command (Between sender sender_subaddress receiver receiver_subaddress count) = Some
+    (transmit_command sender sender_subaddress count)
+second_command (BetweenAll sender sender_subaddress receiver_subaddress count) = Some
+    (transmit_command sender sender_subaddress count)
 second_command _ = None
 
 abbrev pub commands : Form → List ℕ
@@ -93,7 +100,8 @@ due address words = record { address = address; words = words }
 abbrev pub replies_due : Form → List Due
 replies_due (ToTerminal address subaddress words) = due address 0 ∷ []
 replies_due (FromTerminal address subaddress count) = due address count ∷ []
-replies_due (Between sender sender_subaddress receiver receiver_subaddress count) = due sender count ∷ due receiver 0 ∷ []
+replies_due (Between sender sender_subaddress receiver receiver_subaddress count) = due sender count ∷ due receiver 0
+    ∷ []
 replies_due (Mode address subaddress code) = due address 0 ∷ []
 replies_due (ModeFrom address subaddress code) = due address 1 ∷ []
 replies_due (ModeTo address subaddress code word) = due address 0 ∷ []

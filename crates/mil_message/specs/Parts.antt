@@ -6,7 +6,8 @@ use Rattle.mil_message.specs.declared.drafts.ModeSubaddress.{ModeSubaddress}
 use Rattle.mil_message.specs.declared.drafts.ModeSubaddress.TheVariants.{Zero, ThirtyOne}
 use Rattle.mil_message.specs.declared.forms.Form.{Form}
 use Rattle.mil_message.specs.Forms.{form_number, first_command, second_command, data_words}
-use Rattle.mil_message.specs.Request.{Request, to_terminal, from_terminal, between, mode, mode_from, mode_to, to_all, between_all, mode_all, mode_all_to}
+use Rattle.mil_message.specs.Request.{Request, to_terminal, from_terminal, between, mode, mode_from, mode_to, to_all}
+use Rattle.mil_message.specs.Request.{between_all, mode_all, mode_all_to}
 
 pub record Parts : Type 0 where
   pub number : ℕ

@@ -3,7 +3,8 @@ use Rattle.std.specs.Prelude.{ℕ, Bool, List, Option, Some, None, ◌||◌, ◌
 use Rattle.std.specs.Borrow.{Bor}
 use Rattle.mil_message.specs.declared.drafts.ModeSubaddress.{ModeSubaddress}
 use Rattle.mil_message.specs.declared.drafts.Draft.{Draft}
-use Rattle.mil_message.specs.declared.drafts.Draft.TheVariants.{ToTerminal, FromTerminal, Between, Mode, ModeFrom, ModeTo, ToAll, BetweenAll, ModeAll, ModeAllTo}
+use Rattle.mil_message.specs.declared.drafts.Draft.TheVariants.{ToTerminal, FromTerminal, Between, Mode, ModeFrom}
+use Rattle.mil_message.specs.declared.drafts.Draft.TheVariants.{ModeTo, ToAll, BetweenAll, ModeAll, ModeAllTo}
 
 -- the words of a mode form are None where none are asked for
 pub data Request : Type 0 where
@@ -32,12 +33,14 @@ written words = option_map (λ w. w.now) words
 abbrev pub request_of : Draft → Request
 request_of (ToTerminal address subaddress words) = to_terminal address subaddress words.now
 request_of (FromTerminal address subaddress count) = from_terminal address subaddress count
-request_of (Between sender sender_subaddress receiver receiver_subaddress count) = between sender sender_subaddress receiver receiver_subaddress count
+request_of (Between sender sender_subaddress receiver receiver_subaddress count) = between sender sender_subaddress
+    receiver receiver_subaddress count
 request_of (Mode address subaddress code words) = mode address subaddress code (written words)
 request_of (ModeFrom address subaddress code words) = mode_from address subaddress code (written words)
 request_of (ModeTo address subaddress code words) = mode_to address subaddress code (written words)
 request_of (ToAll subaddress words) = to_all subaddress words.now
-request_of (BetweenAll sender sender_subaddress receiver_subaddress count) = between_all sender sender_subaddress receiver_subaddress count
+request_of (BetweenAll sender sender_subaddress receiver_subaddress count) = between_all sender sender_subaddress
+    receiver_subaddress count
 request_of (ModeAll subaddress code words) = mode_all subaddress code (written words)
 request_of (ModeAllTo subaddress code words) = mode_all_to subaddress code (written words)
 

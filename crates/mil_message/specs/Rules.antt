@@ -1,11 +1,15 @@
 -- Which requests are messages: MIL-STD-1553B 4.3.3.5.1 for the ranges, 4.3.3.6 for the forms.
-use Rattle.std.specs.Prelude.{ℕ, ◌≡◌, Bool, true, false, not, ◌&&◌, ◌==◌, nat_le, List, [], ◌∷◌, length, Option, Some, None, Result, Ok, Err, MatchResult}
+use Rattle.std.specs.Prelude.{ℕ, ◌≡◌, Bool, true, false, not, ◌&&◌, ◌==◌, nat_le, List, [], ◌∷◌, length, Option, Some}
+use Rattle.std.specs.Prelude.{None, Result, Ok, Err, MatchResult}
 use Rattle.mil_mode.specs.Table.{data_word_count}
 use Rattle.mil_message.specs.declared.faults.BadMessage.{BadMessage}
-use Rattle.mil_message.specs.declared.faults.BadMessage.TheVariants.{Address, Subaddress, CountOrCode, SameEnds, ModeWord}
+use Rattle.mil_message.specs.declared.faults.BadMessage.TheVariants.{Address, Subaddress, CountOrCode, SameEnds}
+use Rattle.mil_message.specs.declared.faults.BadMessage.TheVariants.{ModeWord}
 use Rattle.mil_message.specs.declared.forms.Form.{Form}
-use Rattle.mil_message.specs.declared.forms.Form.TheVariants.{ToTerminal, FromTerminal, Between, Mode, ModeFrom, ModeTo, ToAll, BetweenAll, ModeAll, ModeAllTo}
-use Rattle.mil_message.specs.Request.{Request, to_terminal, from_terminal, between, mode, mode_from, mode_to, to_all, between_all, mode_all, mode_all_to}
+use Rattle.mil_message.specs.declared.forms.Form.TheVariants.{ToTerminal, FromTerminal, Between, Mode, ModeFrom, ModeTo}
+use Rattle.mil_message.specs.declared.forms.Form.TheVariants.{ToAll, BetweenAll, ModeAll, ModeAllTo}
+use Rattle.mil_message.specs.Request.{Request, to_terminal, from_terminal, between, mode, mode_from, mode_to, to_all}
+use Rattle.mil_message.specs.Request.{between_all, mode_all, mode_all_to}
 
 -- the address of one terminal; 31 is that of all (4.3.3.5.1.2)
 abbrev pub is_address : ℕ → Bool
@@ -84,12 +88,14 @@ mode_word (Some (word ∷ words)) = word
 abbrev pub form_of : Request → Form
 form_of (to_terminal address subaddress words) = ToTerminal address subaddress (record { items = words })
 form_of (from_terminal address subaddress count) = FromTerminal address subaddress count
-form_of (between sender sender_subaddress receiver receiver_subaddress count) = Between sender sender_subaddress receiver receiver_subaddress count
+form_of (between sender sender_subaddress receiver receiver_subaddress count) = Between sender sender_subaddress
+    receiver receiver_subaddress count
 form_of (mode address subaddress code words) = Mode address subaddress code
 form_of (mode_from address subaddress code words) = ModeFrom address subaddress code
 form_of (mode_to address subaddress code words) = ModeTo address subaddress code (mode_word words)
 form_of (to_all subaddress words) = ToAll subaddress (record { items = words })
-form_of (between_all sender sender_subaddress receiver_subaddress count) = BetweenAll sender sender_subaddress receiver_subaddress count
+form_of (between_all sender sender_subaddress receiver_subaddress count) = BetweenAll sender sender_subaddress
+    receiver_subaddress count
 form_of (mode_all subaddress code words) = ModeAll subaddress code
 form_of (mode_all_to subaddress code words) = ModeAllTo subaddress code (mode_word words)
 
@@ -99,7 +105,8 @@ judged (Some fault) form = Err fault
 
 -- the rule is met, and the value is as it is to be; or the rule is not met, and this is the fault
 abbrev pub Meets : {X : Type 0} → Result X BadMessage → Bool → (X → Type 0) → BadMessage → Type 0
-Meets result rule IsRight fault = MatchResult result (λ value. IsRight value × (rule ≡ true)) (λ e. (e ≡ fault) × (rule ≡ false))
+Meets result rule IsRight fault = MatchResult result (λ value. IsRight value × (rule ≡ true))
+    (λ e. (e ≡ fault) × (rule ≡ false))
 
 -- what becomes of a request: its message, or the first fault
 abbrev pub checked : Request → Result Form BadMessage
@@ -109,12 +116,14 @@ checked request = judged (first_fault (rules request)) (form_of request)
 abbrev pub request_for : Form → Request
 request_for (ToTerminal address subaddress words) = to_terminal address subaddress words.items
 request_for (FromTerminal address subaddress count) = from_terminal address subaddress count
-request_for (Between sender sender_subaddress receiver receiver_subaddress count) = between sender sender_subaddress receiver receiver_subaddress count
+request_for (Between sender sender_subaddress receiver receiver_subaddress count) = between sender sender_subaddress
+    receiver receiver_subaddress count
 request_for (Mode address subaddress code) = mode address subaddress code None
 request_for (ModeFrom address subaddress code) = mode_from address subaddress code None
 request_for (ModeTo address subaddress code word) = mode_to address subaddress code (Some (word ∷ []))
 request_for (ToAll subaddress words) = to_all subaddress words.items
-request_for (BetweenAll sender sender_subaddress receiver_subaddress count) = between_all sender sender_subaddress receiver_subaddress count
+request_for (BetweenAll sender sender_subaddress receiver_subaddress count) = between_all sender sender_subaddress
+    receiver_subaddress count
 request_for (ModeAll subaddress code) = mode_all subaddress code None
 request_for (ModeAllTo subaddress code word) = mode_all_to subaddress code (Some (word ∷ []))
 

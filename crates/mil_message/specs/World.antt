@@ -1,5 +1,5 @@
--- What frames run on, whatever it is: something that takes messages, whose last outcome can be tested, and that has a clock.
--- Times are ticks of 0.1 µs.
+-- What frames run on, whatever it is: something that takes messages, whose last outcome can be tested, and that has a
+-- clock. Times are ticks of 0.1 µs.
 use Rattle.std.specs.Prelude.{ℕ, ◌+◌, Bool, false, Option, None, Some}
 use Rattle.mil_word.specs.declared.Line.{Line}
 use Rattle.mil_word.specs.declared.Line.TheVariants.{A, B}

@@ -4,7 +4,8 @@ ghost use Rattle.std.specs.Option.{option_to_list};
 ghost use Rattle.mil_message.specs.declared.forms.Form.{Form as FormValue};
 ghost use Rattle.mil_message.specs.Request.{request_of};
 ghost use Rattle.mil_message.specs.Rules.{checked, request_for, IsLawful};
-ghost use Rattle.mil_message.specs.Forms.{commands, first_command, second_command, data_words, controller_words, controller_waves, command_of, replies_due, form_number};
+ghost use Rattle.mil_message.specs.Forms.{commands, first_command, second_command, data_words, controller_words};
+ghost use Rattle.mil_message.specs.Forms.{controller_waves, command_of, replies_due, form_number};
 
 use crate::command::{
     mode_command, mode_command_to_all, receive_command, receive_command_to_all, transmit_command,
@@ -40,7 +41,8 @@ impl Message {
     /// The message that the draft asks for, or the first fault that it has.
     pub fn check(draft: Draft<'_>) -> Result<Message, BadMessage>
         ensures judged { result ≡ checked (request_of draft.entry) }
-        ensures accepted { (form : FormValue) → (result ≡ Ok form) ↔ (IsLawful form × (request_of draft.entry ≡ request_for form)) }
+        ensures accepted { (form : FormValue)
+            → (result ≡ Ok form) ↔ (IsLawful form × (request_of draft.entry ≡ request_for form)) }
     {
         let form = judge::form(draft)?;
         Ok(Message { form })
@@ -91,9 +93,11 @@ impl Message {
         ensures { result ≡ first_command self.now }
     {
         match &self.form {
-            Form::ToTerminal { address, subaddress, words } => receive_command(*address, *subaddress, words.len() as u8),
+            Form::ToTerminal { address, subaddress, words } =>
+                receive_command(*address, *subaddress, words.len() as u8),
             Form::FromTerminal { address, subaddress, count } => transmit_command(*address, *subaddress, *count),
-            Form::Between { receiver, receiver_subaddress, count, .. } => receive_command(*receiver, *receiver_subaddress, *count),
+            Form::Between { receiver, receiver_subaddress, count, .. } =>
+                receive_command(*receiver, *receiver_subaddress, *count),
             Form::Mode { address, subaddress, code } | Form::ModeFrom { address, subaddress, code } => {
                 mode_command(*address, true, *subaddress, *code)
             }

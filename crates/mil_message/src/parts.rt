@@ -12,7 +12,10 @@ impl Message {
     /// The message with this number of its form, these command words, the second 0 where the form has one alone, and
     /// these data words from the controller, if there is one.
     pub fn of_parts(form_number: u8, first: u16, second: u16, words: &[u16]) -> Option<Message>
-        ensures exact { (form : FormValue) → (result ≡ Some form) ↔ (IsLawful form × (parts_of form ≡ record { number = form_number; first = first; second = second; words = words.now })) }
+        ensures exact { (form : FormValue)
+            → (result ≡ Some form) ↔
+            (IsLawful form × (parts_of form
+            ≡ record { number = form_number; first = first; second = second; words = words.now })) }
     {
         let draft = draft_of(form_number, first, second, words)?;
         match Message::check(draft) {
@@ -55,7 +58,8 @@ fn value_of_second(second: Option<Command>) -> u16
 
 /// Whether the message has these parts.
 fn has_parts(message: &Message, form_number: u8, first: u16, second: u16, words: &[u16]) -> bool
-    ensures { IsTrue result ↔ (parts_of message.now ≡ record { number = form_number; first = first; second = second; words = words.now }) }
+    ensures { IsTrue result ↔ (parts_of message.now
+        ≡ record { number = form_number; first = first; second = second; words = words.now }) }
 {
     let commands = message.commands();
     message.form_number() == form_number
@@ -66,7 +70,8 @@ fn has_parts(message: &Message, form_number: u8, first: u16, second: u16, words:
 
 /// The draft whose message can have these parts.
 fn draft_of(form_number: u8, first: u16, second: u16, words: &[u16]) -> Option<Draft<'_>>
-    ensures { option_map request_of result ≡ request_at (record { number = form_number; first = first; second = second; words = words.now }) }
+    ensures { option_map request_of result
+        ≡ request_at (record { number = form_number; first = first; second = second; words = words.now }) }
 {
     let first = Command::of(first);
     match transfer(form_number, first, Command::of(second), words) {
@@ -77,7 +82,8 @@ fn draft_of(form_number: u8, first: u16, second: u16, words: &[u16]) -> Option<D
 
 /// The draft of a transfer of data.
 fn transfer(form_number: u8, first: Command, second: Command, words: &[u16]) -> Option<Draft<'_>>
-    ensures { option_map request_of result ≡ transfer_at (record { number = form_number; first = first; second = second; words = words.now }) }
+    ensures { option_map request_of result
+        ≡ transfer_at (record { number = form_number; first = first; second = second; words = words.now }) }
 {
     let address = u32::from(first.address());
     let subaddress = u32::from(first.subaddress());

@@ -1,7 +1,8 @@
 //! The ranges of a message's numbers: each function answers the number, or the fault where it is out of range.
 ghost use Rattle.std.specs.Prelude.{⊤, ◌≡◌, ◌==◌, not, length};
 ghost use Rattle.mil_message.specs.Request.{written};
-ghost use Rattle.mil_message.specs.Rules.{is_address, is_subaddress, is_count, is_code_alone, is_code_from, is_code_to, is_no_word, is_one_word, mode_word, Meets};
+ghost use Rattle.mil_message.specs.Rules.{is_address, is_subaddress, is_count, is_code_alone, is_code_from, is_code_to};
+ghost use Rattle.mil_message.specs.Rules.{is_no_word, is_one_word, mode_word, Meets};
 
 use crate::BadMessage;
 use arrayvec::ArrayVec;
@@ -98,7 +99,8 @@ pub fn no_word(words: Option<&[u16]>) -> Result<(), BadMessage>
 
 /// The one data word that is written.
 pub fn one_word(words: Option<&[u16]>) -> Result<u16, BadMessage>
-    ensures { Meets result (is_one_word (written words.entry)) (λ word. word ≡ mode_word (written words.entry)) BadMessage.ModeWord }
+    ensures { Meets result (is_one_word (written words.entry))
+        (λ word. word ≡ mode_word (written words.entry)) BadMessage.ModeWord }
 {
     match words {
         Some([word]) => Ok(*word),

@@ -1,5 +1,6 @@
 -- The mode codes: MIL-STD-1553B 4.3.3.5.1.7 and its table I, with Notice 2.
-use Rattle.std.specs.Prelude.{ℕ, Bool, true, false, ◌&&◌, ◌||◌, not, ◌==◌, nat_le, List, [], ◌∷◌, Option, Some, None, is_some, if◌then◌else◌, find}
+use Rattle.std.specs.Prelude.{ℕ, Bool, true, false, ◌&&◌, ◌||◌, not, ◌==◌, nat_le, List, [], ◌∷◌, Option, Some, None}
+use Rattle.std.specs.Prelude.{is_some, if◌then◌else◌, find}
 use Rattle.mil_mode.specs.declared.ModeRow.{ModeRow}
 use Rattle.mil_mode.specs.declared.ModeRow.TheVariants.{Known, Reserved, Undefined}
 
@@ -70,7 +71,8 @@ is_reserved transmit code = transmit && nat_le 9 code && nat_le code 15 || nat_l
 
 -- what the table has for a T/R bit and a code
 abbrev pub row_of : Bool → ℕ → ModeRow
-row_of transmit code = if is_known transmit code then Known else if is_reserved transmit code then Reserved else Undefined
+row_of transmit code = if is_known transmit code then Known else if is_reserved transmit code then Reserved
+    else Undefined
 
 abbrev allows_broadcast : Option Mode → Bool
 allows_broadcast None = false

@@ -7,7 +7,8 @@
 #![tactic(auto)]
 
 ghost use Rattle.std.specs.Prelude.{◌≡◌, ◌≤◌, ◌↔◌, IsTrue, ◌||◌, not};
-ghost use Rattle.mil_mode.specs.Table.{row_of, is_known, is_reserved, is_broadcast_mode, data_word_count, is_legal_mode as is_legal};
+ghost use Rattle.mil_mode.specs.Table.{row_of, is_known, is_reserved, is_broadcast_mode, data_word_count};
+ghost use Rattle.mil_mode.specs.Table.{is_legal_mode as is_legal};
 
 /// What the mode table has for a T/R bit and a code.
 #[derive(Clone, Copy, Debug, PartialEq, Eq)]
@@ -26,7 +27,8 @@ pub fn mode_of(transmit: bool, code: u8) -> ModeRow
     ensures row { result ≡ row_of transmit code }
     ensures known { (result ≡ ModeRow.Known) ↔ IsTrue (is_known transmit code) }
     ensures reserved { (result ≡ ModeRow.Reserved) ↔ IsTrue (is_reserved transmit code) }
-    ensures undefined { (result ≡ ModeRow.Undefined) ↔ IsTrue (not (is_known transmit code || is_reserved transmit code)) }
+    ensures undefined { (result ≡ ModeRow.Undefined) ↔ IsTrue
+        (not (is_known transmit code || is_reserved transmit code)) }
 {
     if code >= 22 {
         ModeRow::Reserved

@@ -1,8 +1,10 @@
 -- The status word (MIL-STD-1553B 4.3.3.5.3): the bits that have a meaning, their places and their names.
-use Rattle.std.specs.Prelude.{ℕ, ◌+◌, ◌*◌, ◌/◌, ◌%◌, ◌^◌, ◌==◌, List, [], ◌∷◌, Option, Some, None, option_map, codes, if◌then◌else◌, sum, map}
+use Rattle.std.specs.Prelude.{ℕ, ◌+◌, ◌*◌, ◌/◌, ◌%◌, ◌^◌, ◌==◌, List, [], ◌∷◌, Option, Some, None, option_map, codes}
+use Rattle.std.specs.Prelude.{if◌then◌else◌, sum, map}
 use Rattle.std.specs.Str.{bytes_eq}
 use Rattle.mil_status.specs.declared.bit.StatusBit.{StatusBit}
-use Rattle.mil_status.specs.declared.bit.StatusBit.TheVariants.{MessageError, Instrumentation, ServiceRequest, Broadcast, Busy, Subsystem, Control, Terminal}
+use Rattle.mil_status.specs.declared.bit.StatusBit.TheVariants.{MessageError, Instrumentation, ServiceRequest}
+use Rattle.mil_status.specs.declared.bit.StatusBit.TheVariants.{Broadcast, Busy, Subsystem, Control, Terminal}
 
 -- the place of a bit in the word, 0 for the last on the line; the places 7 to 5 between are reserved (4.3.3.5.3.6)
 abbrev pub place_of : StatusBit → ℕ

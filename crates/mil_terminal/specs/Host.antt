@@ -4,7 +4,8 @@ use Rattle.mil_word.specs.declared.Line.{Line}
 use Rattle.mil_word.specs.Words.{same_bool, same_line}
 use Rattle.mil_host.specs.Values.{Marked}
 use Rattle.mil_host.specs.declared.actions.Action.{Action}
-use Rattle.mil_host.specs.declared.actions.Action.TheVariants.{Transmit, Busy, Service, Subsystem, Fault, Control, Vector, SelfTest, Illegal, Legal, Response, Deaf, Mute}
+use Rattle.mil_host.specs.declared.actions.Action.TheVariants.{Transmit, Busy, Service, Subsystem, Fault, Control}
+use Rattle.mil_host.specs.declared.actions.Action.TheVariants.{Vector, SelfTest, Illegal, Legal, Response, Deaf, Mute}
 use Rattle.mil_terminal.specs.History.{History, latest_set}
 
 abbrev pub told_busy : Action → Option Bool

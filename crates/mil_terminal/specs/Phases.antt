@@ -1,11 +1,13 @@
 -- What the small state of an undecided window knows of the items so far (inside the terminal).
-use Rattle.std.specs.Prelude.{◌≡◌, ℕ, ◌-◌, ◌≤◌, Bool, true, false, ◌&&◌, ◌==◌, nat_lt, List, [], ◌∷◌, ◌++◌, length, Option, Some, None, if◌then◌else◌}
+use Rattle.std.specs.Prelude.{◌≡◌, ℕ, ◌-◌, ◌≤◌, Bool, true, false, ◌&&◌, ◌==◌, nat_lt, List, [], ◌∷◌, ◌++◌, length}
+use Rattle.std.specs.Prelude.{Option, Some, None, if◌then◌else◌}
 use Rattle.std.specs.Option.{is_some}
 use Rattle.std.specs.List.{filter_map}
 use Rattle.mil_terminal.specs.declared.events.Event.{Event}
 use Rattle.mil_word.specs.Words.{command_in, data_in}
 use Rattle.mil_terminal.specs.Windows.{Window, sender_called, sender_in, has_quiets}
-use Rattle.mil_terminal.specs.Verdicts.{words_due, are_due_words, is_sent_by, is_answered_by, is_from, is_in_time, has_shape}
+use Rattle.mil_terminal.specs.Verdicts.{words_due, are_due_words, is_sent_by, is_answered_by, is_from, is_in_time}
+use Rattle.mil_terminal.specs.Verdicts.{has_shape}
 use Rattle.mil_terminal.specs.Registers.{value_of}
 use Rattle.mil_terminal.specs.declared.pending.Phase.{Phase}
 use Rattle.mil_terminal.specs.declared.pending.Phase.TheVariants.{Start, Taking, Called, Waiting, LostTransfer, Lost}
@@ -52,8 +54,11 @@ pub record IsPending (own : ℕ) (p : Pending) (items : List Event) : Type 0 whe
   pub few : length p.words.items ≤ words_due p.command
   pub start : p.phase ≡ Start → items ≡ []
   pub before_words : is_before_words p.phase ≡ true → p.words.items ≡ []
-  pub shape : (more : List Event) → has_shape (sender_in own p.command (items ++ more)) (words_due p.command) (items ++ more) ≡ shape_left own p.phase p.command (length p.words.items) more
-  pub quiets : (more : List Event) → has_quiets (if is_some (sender_in own p.command (items ++ more)) then 2 else 1) (items ++ more) ≡ has_quiets (quiets_left own p.phase p.command more) more
+  pub shape : (more : List Event) → has_shape (sender_in own p.command (items ++ more)) (words_due p.command)
+      (items ++ more) ≡ shape_left own p.phase p.command (length p.words.items) more
+  pub quiets : (more : List Event)
+      → has_quiets (if is_some (sender_in own p.command (items ++ more)) then 2 else 1) (items ++ more)
+      ≡ has_quiets (quiets_left own p.phase p.command more) more
   pub words : is_alive p.phase ≡ true → filter_map value_of items ≡ p.words.items
 
 -- the state after a word that may be due

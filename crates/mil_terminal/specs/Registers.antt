@@ -1,5 +1,6 @@
 -- What the registers of a terminal hold, as queries on its history.
-use Rattle.std.specs.Prelude.{ℕ, Bool, true, false, ◌&&◌, ◌||◌, not, ◌==◌, List, [], ◌∷◌, Option, Some, None, unwrap_or, if◌then◌else◌}
+use Rattle.std.specs.Prelude.{ℕ, Bool, true, false, ◌&&◌, ◌||◌, not, ◌==◌, List, [], ◌∷◌, Option, Some, None, unwrap_or}
+use Rattle.std.specs.Prelude.{if◌then◌else◌}
 use Rattle.std.specs.Option.{option_map}
 use Rattle.std.specs.List.{find, filter_map}
 use Rattle.mil_word.specs.declared.Line.{Line}
@@ -29,7 +30,8 @@ words_of e = filter_map value_of e.window.items
 -- a good window of a mode command
 abbrev pub is_good_mode : ℕ → Bool → ℕ → Ended → Bool
 is_good_mode own transmit code e =
-    is_good (verdict own e) && is_mode e.window.command && same_bool (is_transmit e.window.command) transmit && code_of e.window.command == code
+    is_good (verdict own e) && is_mode e.window.command && same_bool (is_transmit e.window.command) transmit
+    && code_of e.window.command == code
 
 -- a good window of a receive command at a subaddress, to all terminals or to this one, that ended while the terminal
 -- was not busy (4.3.3.5.3.8)
@@ -58,7 +60,8 @@ first_or_zero (w ∷ ws) = w
 -- the word of the latest synchronize with data word (17), and 0 after synchronize (1) and reset (8)
 unfoldable pub sync_word : ℕ → History → ℕ
 sync_word own h =
-    latest own (λ e. is_good_mode own false 17 e || is_good_mode own true 1 e || is_good_mode own true 8 e) (λ e. if code_of e.window.command == 17 then first_or_zero (words_of e) else 0) 0 h
+    latest own (λ e. is_good_mode own false 17 e || is_good_mode own true 1 e || is_good_mode own true 8 e)
+    (λ e. if code_of e.window.command == 17 then first_or_zero (words_of e) else 0) 0 h
 
 -- the result of the self test when one was initiated last (3)
 unfoldable pub bit_word : ℕ → History → ℕ
@@ -72,13 +75,15 @@ vector h = latest_set told_vector 0 h
 unfoldable pub is_transmitter_on : ℕ → Line → History → Bool
 is_transmitter_on own line h =
     latest own
-    (λ e. is_good_mode own true 8 e || not (same_line e.window.line line) && (is_good_mode own true 4 e || is_good_mode own true 5 e))
+    (λ e. is_good_mode own true 8 e || not (same_line e.window.line line)
+    && (is_good_mode own true 4 e || is_good_mode own true 5 e))
     (λ e. not (code_of e.window.command == 4)) true h
 
 -- an inhibition of the terminal flag (6) is later than each override (7) and each reset (8)
 unfoldable pub is_flag_inhibited : ℕ → History → Bool
 is_flag_inhibited own h =
-    latest own (λ e. is_good_mode own true 6 e || is_good_mode own true 7 e || is_good_mode own true 8 e) (λ e. code_of e.window.command == 6) false h
+    latest own (λ e. is_good_mode own true 6 e || is_good_mode own true 7 e || is_good_mode own true 8 e)
+    (λ e. code_of e.window.command == 6) false h
 
 -- a question of the controller: transmit status word (2) or transmit last command (18), to this terminal
 abbrev pub is_question : ℕ → ℕ → Bool

@@ -1,5 +1,6 @@
 -- The reply of a terminal (MIL-STD-1553B 4.3.3.6, 4.3.3.8), as a query on its history.
-use Rattle.std.specs.Prelude.{ℕ, ◌-◌, Bool, ◌&&◌, not, ◌==◌, List, [], ◌∷◌, ◌++◌, Option, Some, None, if◌then◌else◌, take, length, replicate}
+use Rattle.std.specs.Prelude.{ℕ, ◌-◌, Bool, ◌&&◌, not, ◌==◌, List, [], ◌∷◌, ◌++◌, Option, Some, None, if◌then◌else◌}
+use Rattle.std.specs.Prelude.{take, length, replicate}
 use Rattle.mil_word.specs.declared.Line.{Line}
 use Rattle.mil_word.specs.Fields.{address_of, is_transmit, sub_of, code_of, count_of, is_mode}
 use Rattle.mil_terminal.specs.declared.events.Event.TheVariants.{Quiet}
@@ -37,7 +38,8 @@ data_sent own c h =
 -- a window is answered where it has good shape and this terminal's own address, and the transmitter of its line was on
 -- before the window acted
 abbrev pub is_answered : ℕ → Ended → Bool
-is_answered own e = not (is_bad (verdict own e)) && address_of e.window.command == own && is_transmitter_on own e.window.line e.before
+is_answered own e = not (is_bad (verdict own e)) && address_of e.window.command == own
+    && is_transmitter_on own e.window.line e.before
 
 -- the status, alone where the command was illegal, at the host's response time
 abbrev pub answer_to : ℕ → Ended → History → Reply

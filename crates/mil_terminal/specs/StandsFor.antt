@@ -4,9 +4,11 @@ use Rattle.mil_word.specs.declared.Line.{Line}
 use Rattle.mil_word.specs.declared.Line.TheVariants.{A, B}
 use Rattle.mil_terminal.specs.declared.events.Event.{Event}
 use Rattle.mil_terminal.specs.History.{History}
-use Rattle.mil_terminal.specs.Host.{is_busy, requests_service, has_subsystem_fault, has_fault, accepts_control, self_test, response_gap, words_put_up, is_marked_illegal, is_deaf, is_mute}
+use Rattle.mil_terminal.specs.Host.{is_busy, requests_service, has_subsystem_fault, has_fault, accepts_control}
+use Rattle.mil_terminal.specs.Host.{self_test, response_gap, words_put_up, is_marked_illegal, is_deaf, is_mute}
 use Rattle.mil_terminal.specs.Windows.{latest_window, undecided}
-use Rattle.mil_terminal.specs.Registers.{last_command, received, received_from_all, sync_word, bit_word, vector, is_transmitter_on, is_flag_inhibited}
+use Rattle.mil_terminal.specs.Registers.{last_command, received, received_from_all, sync_word, bit_word, vector}
+use Rattle.mil_terminal.specs.Registers.{is_transmitter_on, is_flag_inhibited}
 use Rattle.mil_terminal.specs.Status.{conditions}
 use Rattle.mil_terminal.specs.Marking.{is_set}
 use Rattle.mil_terminal.specs.ByLines.{on_line}

@@ -13,7 +13,8 @@ use Rattle.mil_terminal.specs.Registers.{latest, is_good_mode, is_flag_inhibited
 -- at once, by a reset (8) afterwards (own choice)
 abbrev pub is_inhibited_for : ℕ → Ended → Bool
 is_inhibited_for own e =
-    if is_good_mode own true 6 e then true else if is_good_mode own true 7 e then false else is_flag_inhibited own e.before
+    if is_good_mode own true 6 e then true else if is_good_mode own true 7 e then false
+    else is_flag_inhibited own e.before
 
 -- the conditions that a window sets when it ends
 abbrev pub conditions_at : ℕ → Ended → Conditions
@@ -28,7 +29,15 @@ conditions_at own e = record {
 }
 
 abbrev pub no_conditions : Conditions
-no_conditions = record { message_error = false; service_request = false; broadcast = false; busy = false; subsystem = false; control = false; terminal = false }
+no_conditions = record {
+  message_error = false;
+  service_request = false;
+  broadcast = false;
+  busy = false;
+  subsystem = false;
+  control = false;
+  terminal = false;
+}
 
 -- those of the latest ended window that is no question
 unfoldable pub conditions : ℕ → History → Conditions
@@ -40,8 +49,10 @@ bit_if on name = if on then unwrap_or (bit_of_name name) 0 else 0
 
 abbrev pub bits_of : Conditions → ℕ
 bits_of s =
-    bit_if s.message_error (codes "message_error") + bit_if s.service_request (codes "service_request") + bit_if s.broadcast (codes "broadcast")
-    + bit_if s.busy (codes "busy") + bit_if s.subsystem (codes "subsystem") + bit_if s.control (codes "control") + bit_if s.terminal (codes "terminal")
+    bit_if s.message_error (codes "message_error") + bit_if s.service_request (codes "service_request")
+    + bit_if s.broadcast (codes "broadcast")
+    + bit_if s.busy (codes "busy") + bit_if s.subsystem (codes "subsystem") + bit_if s.control (codes "control")
+    + bit_if s.terminal (codes "terminal")
 
 -- the word of an address and conditions
 abbrev pub status_word : ℕ → Conditions → ℕ

@@ -1,5 +1,6 @@
 -- What each window does to the registers (inside the terminal).
-use Rattle.std.specs.Prelude.{ℕ, ◌+◌, ◌==◌, Bool, true, false, ◌&&◌, ◌||◌, not, List, [], ◌∷◌, slice_set, slice_index_or, if◌then◌else◌, Option, Some, None}
+use Rattle.std.specs.Prelude.{ℕ, ◌+◌, ◌==◌, Bool, true, false, ◌&&◌, ◌||◌, not, List, [], ◌∷◌, slice_set}
+use Rattle.std.specs.Prelude.{slice_index_or, if◌then◌else◌, Option, Some, None}
 use Rattle.mil_word.specs.declared.Line.{Line}
 use Rattle.mil_word.specs.declared.Line.TheVariants.{A, B}
 use Rattle.mil_word.specs.Words.{same_line}
@@ -35,7 +36,8 @@ off_after c heard_on_other off =
     else off
 
 abbrev pub inhibited_after : ℕ → Bool → Bool
-inhibited_after c inhibited = if is_code c 6 then true else if is_code c 7 then false else if is_code c 8 then false else inhibited
+inhibited_after c inhibited = if is_code c 6 then true else if is_code c 7 then false else if is_code c 8 then false
+    else inhibited
 
 abbrev pub switched : Switches → Line → ℕ → Switches
 switched s line c = record {

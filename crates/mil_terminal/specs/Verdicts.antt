@@ -1,5 +1,6 @@
 -- What a window that has ended is worth (MIL-STD-1553B 4.4.3.3 to 4.4.3.6).
-use Rattle.std.specs.Prelude.{ℕ, ◌+◌, Bool, true, false, ◌&&◌, ◌||◌, not, ◌==◌, nat_le, List, [], ◌∷◌, Option, Some, None, if◌then◌else◌}
+use Rattle.std.specs.Prelude.{ℕ, ◌+◌, Bool, true, false, ◌&&◌, ◌||◌, not, ◌==◌, nat_le, List, [], ◌∷◌, Option, Some}
+use Rattle.std.specs.Prelude.{None, if◌then◌else◌}
 use Rattle.std.proofs.Common.{zero, suc}
 use Rattle.std.specs.Option.{is_some}
 use Rattle.mil_word.specs.Words.{command_in, data_in}
@@ -36,7 +37,8 @@ is_from sender (Some status) = address_of status == sender
 
 -- what the sender sends: its status, no later than is allowed, and the due words
 abbrev pub is_sent_by : ℕ → ℕ → List Event → Bool
-is_sent_by sender n (Heard line wave gap ∷ items) = is_from sender (command_in wave) && is_in_time gap && are_due_words n items
+is_sent_by sender n (Heard line wave gap ∷ items) = is_from sender (command_in wave) && is_in_time gap
+    && are_due_words n items
 is_sent_by sender n _ = false
 
 -- a quiet, and then what the sender sends
@@ -62,7 +64,8 @@ has_good_shape own w = has_shape (sender_in own w.command w.items) (words_due w.
 abbrev pub is_unknown : ℕ → Bool
 is_unknown c =
     if is_mode c
-    then not (is_legal_mode (is_transmit c) (code_of c)) || is_broadcast c && not (is_broadcast_mode (is_transmit c) (code_of c))
+    then not (is_legal_mode (is_transmit c) (code_of c)) || is_broadcast c
+    && not (is_broadcast_mode (is_transmit c) (code_of c))
     else is_broadcast c && is_transmit c
 
 -- whether no terminal here carries out the command, or its host has marked it (4.4.3.4)

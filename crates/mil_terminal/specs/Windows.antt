@@ -1,5 +1,6 @@
 -- The windows of a terminal: what opens one, what is heard in it, and what ends it (MIL-STD-1553B 4.4.3, 4.6).
-use Rattle.std.specs.Prelude.{ℕ, Bool, true, false, ◌&&◌, ◌||◌, not, ◌==◌, List, [], ◌∷◌, ◌++◌, Option, Some, None, if◌then◌else◌}
+use Rattle.std.specs.Prelude.{ℕ, Bool, true, false, ◌&&◌, ◌||◌, not, ◌==◌, List, [], ◌∷◌, ◌++◌, Option, Some, None}
+use Rattle.std.specs.Prelude.{if◌then◌else◌}
 use Rattle.std.proofs.Common.{zero, suc}
 use Rattle.std.specs.Option.{option_and_then, option_map, option_or, is_some}
 use Rattle.std.specs.List.{filter, cons_option}
@@ -13,7 +14,8 @@ use Rattle.mil_terminal.specs.History.{History}
 -- the command with which an event opens a window: a sound word with command sync and the terminal's own address,
 -- or with that of all terminals
 abbrev pub opening : ℕ → Event → Option (Line × ℕ)
-opening own (Heard line wave gap) = option_map (λ c. (line, c)) (option_and_then (λ c. value_if (address_of c == own || is_broadcast c) c) (command_in wave))
+opening own (Heard line wave gap) = option_map
+    (λ c. (line, c)) (option_and_then (λ c. value_if (address_of c == own || is_broadcast c) c) (command_in wave))
 opening own (Quiet line) = None
 opening own (Host action) = None
 
@@ -45,13 +47,16 @@ since_opening own (e ∷ past) = if opens own e then [] else since_opening own p
 -- the window that was opened last
 unfoldable pub latest_window : ℕ → History → Option Window
 latest_window own h =
-    option_map (λ (o : Line × ℕ). record { line = o.0; command = o.1; items = filter (is_on o.0) (since_opening own h) }) (latest_opening own h)
+    option_map (λ (o : Line × ℕ). record
+    { line = o.0; command = o.1; items = filter (is_on o.0) (since_opening own h) }) (latest_opening own h)
 
 -- the terminal that is told to send, where a word follows a receive command at once and is a transmit command to a
 -- terminal that is neither this one nor all (4.3.3.6.3)
 abbrev pub sender_called : ℕ → ℕ → ℕ → ℕ → Option ℕ
 sender_called own command wave gap =
-    option_and_then (λ c. value_if (is_receive command && gap == 20 && is_transmit c && not (is_mode c) && not (address_of c == own) && not (is_broadcast c)) (address_of c)) (command_in wave)
+    option_and_then (λ c. value_if
+    (is_receive command && gap == 20 && is_transmit c && not (is_mode c) && not (address_of c == own)
+    && not (is_broadcast c)) (address_of c)) (command_in wave)
 
 -- the sender that the first item calls
 abbrev pub sender_in : ℕ → ℕ → List Event → Option ℕ
@@ -95,7 +100,8 @@ unfoldable pub ended_by : ℕ → Event → History → Option Ended
 ended_by own e past =
     option_and_then
     (λ w. if opens own e then Some (record { window = w; by_quiet = false; before = past })
-    else option_map (λ (v : Window). record { window = v; by_quiet = true; before = past }) (decided own (latest_window own (e ∷ past))))
+    else option_map (λ (v : Window). record { window = v; by_quiet = true; before = past })
+    (decided own (latest_window own (e ∷ past))))
     (undecided own (latest_window own past))
 
 -- all windows that have ended, the latest end first

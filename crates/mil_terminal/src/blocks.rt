@@ -4,8 +4,8 @@ ghost use Rattle.std.specs.Prelude.{◌≡◌, ℕ, ◌<◌, ◌≤◌, List, []
 use std::alloc::{AllocError, Global};
 use std::marker::Model;
 
-/// 96 lists of at most 32 words each, in one block of memory: for each of 32 subaddresses those received, those received from
-/// all, and those put up.
+/// 96 lists of at most 32 words each, in one block of memory: for each of 32 subaddresses those received, those
+/// received from all, and those put up.
 #[derive(Drop)]
 pub struct Block {
     pub(crate) words: Vec<u16>,
@@ -20,7 +20,8 @@ impl Model for Block {
 
     ghost view = { λ b. slots b.counts b.words.items };
 
-    ghost invariant = { λ b. (vec_len b.words ≡ 3072) × (length b.counts ≡ 96) × ((i : ℕ) → i < 96 → slice_index b.counts i ≤ 32) };
+    ghost invariant = { λ b. (vec_len b.words ≡ 3072) × (length b.counts ≡ 96)
+        × ((i : ℕ) → i < 96 → slice_index b.counts i ≤ 32) };
 }
 
 impl Block {

@@ -1,5 +1,6 @@
 //! An undecided window, by a small state for each word.
-ghost use Rattle.std.specs.Prelude.{◌≡◌, ℕ, ◌<◌, ◌≤◌, nat_lt, ◌&&◌, List, [], ◌∷◌, ◌++◌, length, map, take, slice_set, Some, None, IfSome, IfNone, unwrap_or, true, false, if◌then◌else◌};
+ghost use Rattle.std.specs.Prelude.{◌≡◌, ℕ, ◌<◌, ◌≤◌, nat_lt, ◌&&◌, List, [], ◌∷◌, ◌++◌, length, map, take, slice_set};
+ghost use Rattle.std.specs.Prelude.{Some, None, IfSome, IfNone, unwrap_or, true, false, if◌then◌else◌};
 ghost use Rattle.std.specs.List.{filter_map};
 ghost use Rattle.std.specs.Option.{is_some};
 ghost use Rattle.mil_word.specs.Words.{same_line as same, command_in, data_in};
@@ -144,11 +145,17 @@ fn put_values(values: &mut [u16; 32], waves: &[Wave]) -> bool
 }
 
 impl Pending {
-    ghost use Rattle.mil_terminal.specs.Phases.{with_due, due_value, after_word, after_run, decides, shape_now, phase_after_quiet, window_of, IsPending};
+    ghost use Rattle.mil_terminal.specs.Phases.{with_due, due_value, after_word, after_run, decides, shape_now};
+    ghost use Rattle.mil_terminal.specs.Phases.{phase_after_quiet, window_of, IsPending};
 
     /// A window that was just opened.
     pub fn open(line: Line, command: Command) -> Pending
-        ensures { result ≡ record { line = line; command = command; phase = Phase.Start; words = record { items = [] } } }
+        ensures { result ≡ record {
+          line = line;
+          command = command;
+          phase = Phase.Start;
+          words = record { items = [] };
+        } }
     {
         Pending {
             line,
@@ -201,7 +208,8 @@ impl Pending {
         self.follow_word(own, sound, gap);
     }
 
-    /// More words on the line, none of which is a command or a status: the first has this gap, and the others follow at once.
+    /// More words on the line, none of which is a command or a status: the first has this gap, and the others follow at
+    /// once.
     #[inline]
     pub fn take_run(&mut self, own: Address, gap: Gap, waves: &[Wave])
         requires { AreNoCommands 0 waves.now }

@@ -1,5 +1,6 @@
 //! The registers of a terminal, which stand for its history.
-ghost use Rattle.std.specs.Prelude.{◌≡◌, ◌+◌, ◌≤◌, ◌<◌, ◌==◌, ◌&&◌, not, [], ◌∷◌, IfOk, length, replicate, ◌++◌, Some, None, if◌then◌else◌};
+ghost use Rattle.std.specs.Prelude.{◌≡◌, ◌+◌, ◌≤◌, ◌<◌, ◌==◌, ◌&&◌, not, [], ◌∷◌, IfOk, length, replicate, ◌++◌, Some};
+ghost use Rattle.std.specs.Prelude.{None, if◌then◌else◌};
 ghost use Rattle.mil_terminal.specs.declared.events.Event.TheVariants.{Heard, Quiet, Host};
 ghost use Rattle.mil_terminal.specs.History.{History};
 ghost use Rattle.mil_terminal.specs.Host.{is_deaf, is_mute};
@@ -44,7 +45,8 @@ pub struct Registers {
 
 impl Registers {
     ghost use Rattle.mil_terminal.specs.StandsFor.{StandsFor};
-    ghost use Rattle.mil_terminal.specs.Updates.{told, opened, settled, stored, off_on, answer_now, mode_data_now, put_up_at, is_barred};
+    ghost use Rattle.mil_terminal.specs.Updates.{told, opened, settled, stored, off_on, answer_now, mode_data_now};
+    ghost use Rattle.mil_terminal.specs.Updates.{put_up_at, is_barred};
 
     /// The registers of a terminal that has met nothing yet. All room is made here.
     pub fn make(alloc: Global, own: Address) -> Result<Registers, AllocError>
@@ -151,9 +153,12 @@ impl Registers {
 
     /// A window that its last quiet ends.
     fn settle(&mut self, pending: Pending, shape: bool) -> Option<Reply>
-        ensures after { self.new ≡ settled self.old pending.line pending.command (shape && not (is_barred self.old pending.command)) pending.words.items }
-        ensures reply { result ≡ (if shape && address_of pending.command == self.old.own && not (off_on self.old.switches pending.line)
-            then Some (answer_now self.new pending.command (shape && not (is_barred self.old pending.command))) else None) }
+        ensures after { self.new ≡ settled self.old pending.line pending.command
+            (shape && not (is_barred self.old pending.command)) pending.words.items }
+        ensures reply { result ≡ (if shape && address_of pending.command == self.old.own
+            && not (off_on self.old.switches pending.line)
+            then Some (answer_now self.new pending.command (shape && not (is_barred self.old pending.command)))
+            else None) }
     {
         let Pending {
             line,

@@ -9,9 +9,9 @@ use history::History;
 use std::alloc::{AllocError, Global};
 use std::marker::Model;
 
-/// A terminal as it was when it was saved, in less memory than a terminal takes: 80 bytes, and two for each word that it holds and
-/// for each list of them that is not empty; 104 more where a window is undecided, and 360 where commands are marked. Contracts see
-/// what they see of the terminal.
+/// A terminal as it was when it was saved, in less memory than a terminal takes: 80 bytes, and two for each word that
+/// it holds and for each list of them that is not empty; 104 more where a window is undecided, and 360 where commands
+/// are marked. Contracts see what they see of the terminal.
 #[derive(Drop)]
 pub struct SavedTerminal {
     registers: SavedRegisters,

@@ -7,8 +7,8 @@ use std::alloc::{AllocError, Global};
 use std::marker::Model;
 use std::snapshot::Snapshot;
 
-/// What is kept of a block: for each slot that is not empty a head, which has its number and how many words it holds, and the
-/// words. Contracts see the lists of the block, of which no other byte is kept.
+/// What is kept of a block: for each slot that is not empty a head, which has its number and how many words it holds,
+/// and the words. Contracts see the lists of the block, of which no other byte is kept.
 #[derive(Drop)]
 pub struct SavedBlock {
     words: Vec<u16>,

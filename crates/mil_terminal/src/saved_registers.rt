@@ -38,8 +38,8 @@ pub struct SavedSettings {
     mute: ByLine,
 }
 
-/// What is kept of the registers: what is rare only where it is there, and the words packed. The widest fields stand first, since
-/// fields lie in this order.
+/// What is kept of the registers: what is rare only where it is there, and the words packed. The widest fields stand
+/// first, since fields lie in this order.
 #[derive(Drop)]
 pub struct SavedRegisters {
     block: SavedBlock,

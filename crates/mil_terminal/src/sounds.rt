@@ -69,7 +69,8 @@ impl Sound {
     /// The command, where it is to this terminal or to all.
     #[inline]
     pub fn command_to(&self, own: Address) -> Option<Command>
-        ensures { result ≡ option_and_then (λ c. value_if (address_of c == own || is_broadcast c) c) (command_in self.now) }
+        ensures { result ≡ option_and_then
+            (λ c. value_if (address_of c == own || is_broadcast c) c) (command_in self.now) }
     {
         match self.command() {
             Some(command) => {

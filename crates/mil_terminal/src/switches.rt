@@ -35,8 +35,8 @@ impl Switches {
         }
     }
 
-    /// A good command that was heard on the line: 4 turns the other line's transmitter off, 5 turns it on, 6 inhibits the
-    /// terminal flag, 7 lifts this, and 8 does both (MIL-STD-1553B 4.3.3.5.1.7.5 to .9).
+    /// A good command that was heard on the line: 4 turns the other line's transmitter off, 5 turns it on, 6 inhibits
+    /// the terminal flag, 7 lifts this, and 8 does both (MIL-STD-1553B 4.3.3.5.1.7.5 to .9).
     pub fn act(&mut self, line: Line, command: Command)
         ensures { self.new ≡ switched self.old line command }
     {

@@ -23,8 +23,8 @@ impl Synced {
         }
     }
 
-    /// A good command and its data words: 17 sets the sync word, 1 and 8 set it to 0, and 3 takes over the result of the
-    /// self test (MIL-STD-1553B 4.3.3.5.1.7.2, .4, .9 and .12).
+    /// A good command and its data words: 17 sets the sync word, 1 and 8 set it to 0, and 3 takes over the result of
+    /// the self test (MIL-STD-1553B 4.3.3.5.1.7.2, .4, .9 and .12).
     pub fn act(&mut self, command: Command, words: &[u16], self_test: u16)
         ensures { self.new ≡ synchronized self.old command words.now self_test }
     {

@@ -94,8 +94,8 @@ impl Terminal {
         self.hear_run(line, gap, slice::from_ref(&wave));
     }
 
-    /// Words one after the other, none of which is a command or a status: the first has this gap, and the others follow at
-    /// once. It asks once whether a window is open on their line, and how many words it is due.
+    /// Words one after the other, none of which is a command or a status: the first has this gap, and the others follow
+    /// at once. It asks once whether a window is open on their line, and how many words it is due.
     #[inline]
     pub fn hear_run(&mut self, line: Line, gap: Gap, waves: &[Wave])
         requires { AreNoCommands 0 waves.now }
@@ -105,14 +105,16 @@ impl Terminal {
         self.past = past_of(&self.past, line, gap, waves);
     }
 
-    /// The same, for a word that is no command to this terminal or to all, on a line where this terminal is not listening:
-    /// it changes nothing but what contracts see, and costs nothing.
+    /// The same, for a word that is no command to this terminal or to all, on a line where this terminal is not
+    /// listening: it changes nothing but what contracts see, and costs nothing.
     #[inline]
     pub fn pass(&mut self, line: Line, wave: Wave, gap: Gap)
         requires other { windows.opens self.old.own (Heard line wave gap) ≡ false }
         requires closed { windows.is_listening self.old.own line self.old.history ≡ false }
         ensures after { self.new ≡ after self.old (Heard line wave gap) }
-        ensures listening { (l : LineValue) → windows.is_listening self.new.own l self.new.history ≡ windows.is_listening self.old.own l self.old.history }
+        ensures listening { (l : LineValue)
+            → windows.is_listening self.new.own l self.new.history
+            ≡ windows.is_listening self.old.own l self.old.history }
     {
         let heard = Event::Heard { line, wave, gap };
         self.past = self.past.put_before(&heard);
@@ -124,7 +126,9 @@ impl Terminal {
         requires { windows.is_listening self.old.own line self.old.history ≡ false }
         ensures after { self.new ≡ after self.old (Quiet line) }
         ensures silent { replies.reply self.old.own line self.old.history ≡ None }
-        ensures listening { (l : LineValue) → windows.is_listening self.new.own l self.new.history ≡ windows.is_listening self.old.own l self.old.history }
+        ensures listening { (l : LineValue)
+            → windows.is_listening self.new.own l self.new.history
+            ≡ windows.is_listening self.old.own l self.old.history }
     {
         let quiet = Event::Quiet(line);
         self.past = self.past.put_before(&quiet);
@@ -225,8 +229,8 @@ impl Terminal {
         self.registers.flag_inhibited()
     }
 
-    /// Whether the host has made the terminal deaf on the line, as it is not at first. A bus brings it no word and no quiet
-    /// of that line then; what it is brought it takes as ever.
+    /// Whether the host has made the terminal deaf on the line, as it is not at first. A bus brings it no word and no
+    /// quiet of that line then; what it is brought it takes as ever.
     #[inline]
     pub fn deaf(&self, line: Line) -> bool
         ensures { result ≡ is_deaf line self.now.history }
@@ -234,8 +238,8 @@ impl Terminal {
         self.registers.deaf(line)
     }
 
-    /// Whether the host has made it mute on the line, as it is not at first. A bus sends none of its replies there then; the
-    /// terminal acts and answers as ever.
+    /// Whether the host has made it mute on the line, as it is not at first. A bus sends none of its replies there
+    /// then; the terminal acts and answers as ever.
     #[inline]
     pub fn mute(&self, line: Line) -> bool
         ensures { result ≡ is_mute line self.now.history }
@@ -261,8 +265,8 @@ impl Terminal {
         self.registers.received_from_all(sub)
     }
 
-    /// The words that a transmit command there sends, before they are cut or filled with zeros to its count: those that the
-    /// host put up, and at subaddress 30 those that were received there (Notice 2); none at first.
+    /// The words that a transmit command there sends, before they are cut or filled with zeros to its count: those that
+    /// the host put up, and at subaddress 30 those that were received there (Notice 2); none at first.
     pub fn transmit_words(&self, sub: u8) -> &[u16]
         requires low { 1 ≤ sub }
         requires high { sub ≤ 30 }

@@ -1,5 +1,5 @@
-//! A bus with its planned faults, driven message by message, and what a monitor keeps of each: the figures of the tests below
-//! it are worked out by hand from the rules.
+//! A bus with its planned faults, driven message by message, and what a monitor keeps of each: the figures of the tests
+//! below it are worked out by hand from the rules.
 use crate::equal::{are_in, same_in};
 use mil_bus::{Bus, Seen, Talk};
 use mil_host::read_action;

@@ -1,5 +1,5 @@
-//! All pairs of a T/R bit and a mode code, as the standard's table has them (MIL-STD-1553B 4.3.3.5.1.7 and its table I, with
-//! Notice 2); that terminals carry out neither 20 nor 21 is an own choice.
+//! All pairs of a T/R bit and a mode code, as the standard's table has them (MIL-STD-1553B 4.3.3.5.1.7 and its table I,
+//! with Notice 2); that terminals carry out neither 20 nor 21 is an own choice.
 ghost use Rattle.std.specs.Prelude.{◌≤◌};
 
 use mil_mode::{ModeRow, broadcast_allowed, data_words, is_legal_mode, mode_of};

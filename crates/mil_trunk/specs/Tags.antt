@@ -1,5 +1,6 @@
 -- Sets of tags, and the bounds of tags.
-use Rattle.std.specs.Prelude.{◌≡◌, ◌==◌, ℕ, suc, ◌+◌, ◌-◌, ◌^◌, Bool, true, cond, List, [], ◌∷◌, slice_index_or, bit_or, bit_xor}
+use Rattle.std.specs.Prelude.{◌≡◌, ◌==◌, ℕ, suc, ◌+◌, ◌-◌, ◌^◌, Bool, true, cond, List, [], ◌∷◌, slice_index_or, bit_or}
+use Rattle.std.specs.Prelude.{bit_xor}
 use Rattle.std.specs.Int.{bit_at}
 
 -- A set of tags is a number: tag t is in the set where bit t is 1.

@@ -14,15 +14,25 @@ module _ {T : Type 0} where
 
   -- a ticket: its tags, and what was sent with it
   abbrev pub ticket : List ℕ → ℕ → List T → View T
-  ticket bounds tags sent = record { unsplit = false; live = true; tags = tags; bounds = bounds; sent = sent; takes = false; received = [] }
+  ticket bounds tags sent = record
+      { unsplit = false; live = true; tags = tags; bounds = bounds; sent = sent; takes = false; received = [] }
 
   -- the taker: what was received
   abbrev pub taker : List ℕ → List T → View T
-  taker bounds received = record { unsplit = false; live = true; tags = 0; bounds = bounds; sent = []; takes = true; received = received }
+  taker bounds received = record {
+    unsplit = false;
+    live = true;
+    tags = 0;
+    bounds = bounds;
+    sent = [];
+    takes = true;
+    received = received;
+  }
 
   -- a ticket that has taken in the taker
   abbrev pub both_ends : List ℕ → ℕ → List T → List T → View T
-  both_ends bounds tags sent received = record { unsplit = false; live = true; tags = tags; bounds = bounds; sent = sent; takes = true; received = received }
+  both_ends bounds tags sent received = record
+      { unsplit = false; live = true; tags = tags; bounds = bounds; sent = sent; takes = true; received = received }
 
   -- the ticket with all tags, and the taker, before anything was sent
   abbrev pub first_ticket : List ℕ → View T

@@ -1,4 +1,5 @@
-//! The rule that the queue keeps, and what each step makes of what its caller knows. The types here have no values: proofs name them.
+//! The rule that the queue keeps, and what each step makes of what its caller knows. The types here have no values:
+//! proofs name them.
 ghost use Rattle.std.specs.Prelude.{ℕ, List, []};
 
 use crate::tags::Tagged;

@@ -4,7 +4,8 @@ ghost use Rattle.mil_trunk.specs.Tags.{has};
 
 use std::marker::Model;
 
-/// An item with a tag. A trunk takes items with tags from 0 to 63: the ticket that it is offered with has to hold the tag.
+/// An item with a tag. A trunk takes items with tags from 0 to 63: the ticket that it is offered with has to hold the
+/// tag.
 pub trait Tagged {
     ghost tag_of: { Self → ℕ };
 

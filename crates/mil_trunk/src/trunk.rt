@@ -1,6 +1,8 @@
 //! The queue, its tickets and its taker.
-ghost use Rattle.std.specs.Prelude.{◌≡◌, ◌<◌, ◌≤◌, ◌+◌, ◌^◌, ◌↔◌, ◌⊎◌, ◌++◌, ◌∷◌, [], ℕ, true, length, sum, not, ◌&&◌, ◌||◌, All, IfOk, OnOk, IfErr, OnErr, IfSome, IfNone};
-ghost use Rattle.mil_trunk.specs.Ends.{IsCapacity, IsTicketOf, IsTakerOf, capacity_of, bounds_of, bounds_in, tags_of, sent, received};
+ghost use Rattle.std.specs.Prelude.{◌≡◌, ◌<◌, ◌≤◌, ◌+◌, ◌^◌, ◌↔◌, ◌⊎◌, ◌++◌, ◌∷◌, [], ℕ, true, length, sum, not, ◌&&◌};
+ghost use Rattle.std.specs.Prelude.{◌||◌, All, IfOk, OnOk, IfErr, OnErr, IfSome, IfNone};
+ghost use Rattle.mil_trunk.specs.Ends.{IsCapacity, IsTicketOf, IsTakerOf, capacity_of, bounds_of, bounds_in, tags_of};
+ghost use Rattle.mil_trunk.specs.Ends.{sent, received};
 ghost use Rattle.mil_trunk.specs.Tags.{has, all_tags, minus, bound_of, bounds_outside, Includes};
 ghost use Rattle.mil_trunk.specs.Views.{with_tag, inside, outside};
 
@@ -22,7 +24,8 @@ pub struct Trunk<T: Tagged> {
     queue: RuledArrayQueue<T, View<T>, SentAndReceived<T>>,
 }
 
-/// The right to send items of some tags. It has no bytes: its tags, and the list of what was sent with it, are known to contracts alone.
+/// The right to send items of some tags. It has no bytes: its tags, and the list of what was sent with it, are known to
+/// contracts alone.
 #[derive(Drop)]
 pub struct Ticket<T: Tagged> {
     pass: Pass<T, View<T>>,
@@ -35,12 +38,14 @@ pub struct Taker<T: Tagged> {
 }
 
 impl<T: Tagged> Trunk<T> {
-    /// An empty trunk of `capacity` items, the ticket with all tags 0 to 63, and the taker. All its memory is taken here.
+    /// An empty trunk of `capacity` items, the ticket with all tags 0 to 63, and the taker. All its memory is taken
+    /// here.
     ///
-    /// At most `bounds[t]` items of tag t may ever be sent, and none where `bounds` ends before t. `Q1` comes where the capacity is
-    /// outside 1 to 4096, before any memory is asked for, and `Q2` where memory is refused.
+    /// At most `bounds[t]` items of tag t may ever be sent, and none where `bounds` ends before t. `Q1` comes where the
+    /// capacity is outside 1 to 4096, before any memory is asked for, and `Q2` where memory is refused.
     ///
-    /// By the bounds of 2^55 (own choice) fewer than 2^62 items are ever sent: past that number the queue below would wait for ever.
+    /// By the bounds of 2^55 (own choice) fewer than 2^62 items are ever sent: past that number the queue below would
+    /// wait for ever.
     pub fn make(
         alloc: Global,
         capacity: u32,
@@ -134,14 +139,17 @@ impl<T: Tagged> Trunk<T> {
     pub fn offer<R: Wait>(&self, rt: &R, ticket: &mut Ticket<T>, item: T) -> Result<(), T>
         requires ticket { IsTicketOf self.now ticket.old }
         requires tag { has (tags_of ticket.old) (T.tag_of item) ≡ true }
-        requires bound { length (with_tag T.tag_of (T.tag_of item) (sent ticket.old)) < bound_of (bounds_of ticket.old) (T.tag_of item) }
+        requires bound { length (with_tag T.tag_of (T.tag_of item) (sent ticket.old))
+            < bound_of (bounds_of ticket.old) (T.tag_of item) }
         ensures ticket { IsTicketOf self.now ticket.new }
         ensures tags { tags_of ticket.new ≡ tags_of ticket.old }
         ensures bounds { bounds_of ticket.new ≡ bounds_of ticket.old }
         ensures kept { OnOk result (sent ticket.new ≡ sent ticket.old ++ item ∷ []) }
         ensures back { IfErr result (λ back. back ≡ item) }
         ensures not_sent { OnErr result (sent ticket.new ≡ sent ticket.old) }
-        ensures full { OnErr result (capacity_of self.now ≤ length (sent ticket.old) + bounds_outside (tags_of ticket.old) (bounds_of ticket.old)) }
+        ensures full { OnErr result
+            (capacity_of self.now ≤ length (sent ticket.old)
+            + bounds_outside (tags_of ticket.old) (bounds_of ticket.old)) }
     {
         self.queue.push_as::<Offer, R>(rt, &mut ticket.pass, item)
     }
@@ -175,8 +183,10 @@ impl<T: Tagged> Trunk<T> {
         ensures none { IfNone result.2 (received result.1 ≡ received taker) }
         ensures bounds_in { bounds_in result.1 ≡ bounds_of ticket }
         ensures few { IfSome result.2 (λ item. length (received result.1) ≤ sum (bounds_of ticket)) }
-        ensures settled { IfNone result.2 ((t : ℕ) → t < 64 → with_tag T.tag_of t (sent result.0) ≡ with_tag T.tag_of t (received result.1)) }
-        ensures barred { IfNone result.2 ((t : ℕ) → bound_of (bounds_of ticket) t ≡ 0 → with_tag T.tag_of t (received result.1) ≡ []) }
+        ensures settled { IfNone result.2
+            ((t : ℕ) → t < 64 → with_tag T.tag_of t (sent result.0) ≡ with_tag T.tag_of t (received result.1)) }
+        ensures barred { IfNone result.2
+            ((t : ℕ) → bound_of (bounds_of ticket) t ≡ 0 → with_tag T.tag_of t (received result.1) ≡ []) }
     {
         let Ticket { mut pass } = ticket;
         let Taker { pass: end } = taker;

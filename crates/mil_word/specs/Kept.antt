@@ -1,5 +1,7 @@
--- How a wave is kept (inside the crate): an unsound one as its half bits, below 2^40, and a sound one as its word above these.
-use Rattle.std.specs.Prelude.{◌≡◌, ℕ, ◌+◌, ◌-◌, ◌/◌, ◌%◌, ◌^◌, ◌==◌, nat_lt, if◌then◌else◌, Bool, true, false, Option, Some, None}
+-- How a wave is kept (inside the crate): an unsound one as its half bits, below 2^40, and a sound one as its word above
+-- these.
+use Rattle.std.specs.Prelude.{◌≡◌, ℕ, ◌+◌, ◌-◌, ◌/◌, ◌%◌, ◌^◌, ◌==◌, nat_lt, if◌then◌else◌, Bool, true, false, Option}
+use Rattle.std.specs.Prelude.{Some, None}
 use Rattle.std.proofs.Common.{ap, ◌∙◌}
 use Rattle.mil_word.specs.declared.Sync.{Sync}
 use Rattle.mil_word.specs.declared.Sync.TheVariants.{CommandSync, DataSync}
@@ -28,7 +30,8 @@ half_bits_in kept = half_bits_if (nat_lt kept (2 ^ 40)) kept
 -- only an unsound wave is kept as its half bits
 abbrev pub IsKeptIf : Bool → ℕ → Type 0
 IsKeptIf true kept = word_of kept ≡ None
-IsKeptIf false kept = (word_of (wave_of (word_at (kept - 2 ^ 40))) ≡ Some (word_at (kept - 2 ^ 40))) × (2 ^ 40 + number_of (word_at (kept - 2 ^ 40)) ≡ kept)
+IsKeptIf false kept = (word_of (wave_of (word_at (kept - 2 ^ 40))) ≡ Some (word_at (kept - 2 ^ 40)))
+    × (2 ^ 40 + number_of (word_at (kept - 2 ^ 40)) ≡ kept)
 
 abbrev pub IsKept : ℕ → Type 0
 IsKept kept = IsKeptIf (nat_lt kept (2 ^ 40)) kept

@@ -16,7 +16,8 @@ const WORDS: u64 = 0x100_0000_0000;
 /// which is below 2^40 (MIL-STD-1553B 4.3.3.4: twenty bit times of 1 µs).
 #[derive(Clone, Copy, Debug)]
 pub struct Wave {
-    /// The half bits of an unsound wave, and the word of a sound one, whose half bits are worked out where they are asked for.
+    /// The half bits of an unsound wave, and the word of a sound one, whose half bits are worked out where they are
+    /// asked for.
     kept: u64,
 }
 

@@ -11,4 +11,5 @@ are_digits base word = list_all (λ b. nat_lt (digit_value b) base) word
 -- the number that a word of `least` to `most` digits spells
 unfoldable pub spelled : ℕ → ℕ → ℕ → List ℕ → Option ℕ
 spelled base least most word =
-    if nat_le least (length word) && nat_le (length word) most && are_digits base word then Some (digits_value base word) else None
+    if nat_le least (length word) && nat_le (length word) most && are_digits base word
+    then Some (digits_value base word) else None

@@ -1,4 +1,5 @@
-//! Numbers in texts: the value of a digit, and the number that the digits of a word spell. Letters are digits of either case.
+//! Numbers in texts: the value of a digit, and the number that the digits of a word spell. Letters are digits of either
+//! case.
 //!
 //! Its tests are in `mil_tests`.
 #![tactic(auto)]

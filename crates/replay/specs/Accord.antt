@@ -30,7 +30,8 @@ is_one channels channel = list_any (λ c. c == channel) channels
 
 -- each packet of MIL-STD-1553 messages, also one with no message, is of one of these channels
 abbrev pub AreOfChannels : List ℕ → List Found → Type 0
-AreOfChannels channels found = AllByRecursion (λ p. holds_messages p.header ≡ true → is_one channels p.header.channel ≡ true) found
+AreOfChannels channels found = AllByRecursion
+    (λ p. holds_messages p.header ≡ true → is_one channels p.header.channel ≡ true) found
 
 -- the report says how many messages the job makes, and the file has those that were not refused, in order and once
 pub record AgreesOn (found : List Found) (job : JobState) (part : ChannelPart) : Type 0 where
@@ -42,4 +43,5 @@ pub record Agrees (jobs : List JobState) (parts : List ChannelPart) (found : Lis
   pub channels : reported parts ≡ channels_of jobs
   pub known : AreOfChannels (channels_of jobs) found
   -- each job with its part of the report
-  pub each : (index : ℕ) (job : JobState) (part : ChannelPart) → slice_get jobs index ≡ Some job → slice_get parts index ≡ Some part → AgreesOn found job part
+  pub each : (index : ℕ) (job : JobState) (part : ChannelPart) → slice_get jobs index ≡ Some job
+      → slice_get parts index ≡ Some part → AgreesOn found job part

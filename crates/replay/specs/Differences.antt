@@ -1,6 +1,7 @@
--- The first difference between jobs, the report of a run and a recording: a channel, and the number of a message of it, 0 where
--- the channels themselves disagree (own choice).
-use Rattle.std.specs.Prelude.{◌≡◌, ◌≢◌, ℕ, ◌+◌, ◌<◌, true, false, min, ◌⊎◌, List, ◌∷◌, ◌++◌, length, take, slice_get, Option, Some, None}
+-- The first difference between jobs, the report of a run and a recording: a channel, and the number of a message of it,
+-- 0 where the channels themselves disagree (own choice).
+use Rattle.std.specs.Prelude.{◌≡◌, ◌≢◌, ℕ, ◌+◌, ◌<◌, true, false, min, ◌⊎◌, List, ◌∷◌, ◌++◌, length, take, slice_get}
+use Rattle.std.specs.Prelude.{Option, Some, None}
 use Rattle.mil_monitor.specs.declared.Record.{Record}
 use Rattle.job_file.specs.Jobs.{JobState}
 use Rattle.ch11_f1.specs.Again.{as_message}
@@ -63,7 +64,8 @@ pub record IsMiscounted (job : JobState) (part : ChannelPart) (number : ℕ) : T
 
 -- something differs at this number
 abbrev pub IsAtFault : List Found → JobState → ChannelPart → ℕ → Type 0
-IsAtFault found job part number = IsUnlike found job part number ⊎ (IsLeftOver found job part number ⊎ IsMiscounted job part number)
+IsAtFault found job part number = IsUnlike found job part number
+    ⊎ (IsLeftOver found job part number ⊎ IsMiscounted job part number)
 
 -- it is the least such number
 pub record IsFirstFault (found : List Found) (job : JobState) (part : ChannelPart) (number : ℕ) : Type 0 where
@@ -73,13 +75,15 @@ pub record IsFirstFault (found : List Found) (job : JobState) (part : ChannelPar
 -- ---- of all jobs
 
 -- the first job at which something differs
-pub record IsFirstJob (jobs : List JobState) (parts : List ChannelPart) (found : List Found) (channel number : ℕ) : Type 0 where
+pub record IsFirstJob (jobs : List JobState) (parts : List ChannelPart) (found : List Found)
+    (channel number : ℕ) : Type 0 where
   pub index : ℕ
   pub job : JobState
   pub part : ChannelPart
   pub job_there : slice_get jobs index ≡ Some job
   pub part_there : slice_get parts index ≡ Some part
-  pub before : (i : ℕ) (j : JobState) (p : ChannelPart) → i < index → slice_get jobs i ≡ Some j → slice_get parts i ≡ Some p → AgreesOn found j p
+  pub before : (i : ℕ) (j : JobState) (p : ChannelPart) → i < index → slice_get jobs i ≡ Some j
+      → slice_get parts i ≡ Some p → AgreesOn found j p
   pub named : job.channel ≡ channel
   pub first : IsFirstFault found job part number
 
@@ -88,7 +92,8 @@ abbrev pub IsFirstDifference : List JobState → List ChannelPart → List Found
 IsFirstDifference jobs parts found channel number =
     ((number ≡ 0) × IsWrongChannel (channels_of jobs) (reported parts) channel)
     ⊎ (((number ≡ 0) × (reported parts ≡ channels_of jobs) × IsStranger (channels_of jobs) found channel)
-    ⊎ ((reported parts ≡ channels_of jobs) × AreOfChannels (channels_of jobs) found × IsFirstJob jobs parts found channel number))
+    ⊎ ((reported parts ≡ channels_of jobs) × AreOfChannels (channels_of jobs) found
+    × IsFirstJob jobs parts found channel number))
 
 -- where there is a first difference, they do not agree
 abbrev pub DifferenceExcludesAccord : Type 0

@@ -16,7 +16,8 @@ pub record IsMetBy (channels : List ℕ) (test : Condition) (p : Pair) (n : ℕ)
   pub before : ℕ
   pub next : n ≡ suc before
   pub channel : slice_get channels before ≡ Some p.job.channel
-  pub true_there : says test p.job p.part (last_number (take (count_to channels n p.job.channel) (kept_in p.job p.part))) ≡ true
+  pub true_there : says test p.job p.part
+      (last_number (take (count_to channels n p.job.channel) (kept_in p.job p.part))) ≡ true
 
 -- message n is of one of the jobs, and its outcome makes the test true
 pub record IsMetIn (channels : List ℕ) (test : Condition) (pairs : List Pair) (n : ℕ) : Type 0 where

@@ -22,8 +22,10 @@ pub record AreSpaced (messages count : ℕ) : Type 0 where
 
 -- at the first so many of these places the states of one job more are kept than at the others
 pub record AreKeptTo (before : List Pair) (p : Pair) (channels : List ℕ) (done : ℕ) (stops : List Stop) : Type 0 where
-  pub kept : (k : ℕ) (stop : Stop) → k < done → slice_get stops k ≡ Some stop → (stop.place ≡ 64 * k) × IsStop (before ++ p ∷ []) channels stop
-  pub left : (k : ℕ) (stop : Stop) → done ≤ k → slice_get stops k ≡ Some stop → (stop.place ≡ 64 * k) × IsStop before channels stop
+  pub kept : (k : ℕ) (stop : Stop) → k < done → slice_get stops k ≡ Some stop → (stop.place ≡ 64 * k)
+      × IsStop (before ++ p ∷ []) channels stop
+  pub left : (k : ℕ) (stop : Stop) → done ≤ k → slice_get stops k ≡ Some stop → (stop.place ≡ 64 * k)
+      × IsStop before channels stop
 
 -- a job's controller that stands behind the last of so many kept messages
 abbrev pub IsBehind : Pair → Standing → Type 0
@@ -42,22 +44,25 @@ pub record IsDue (channels : List ℕ) (channel least count : ℕ) (due : Due) :
 -- from the first so many places on to more of them the states of the job are kept whose controller this is
 abbrev pub KeepsOn : ℕ → List ℕ → Standing → ℕ → List Stop → ℕ → List Stop → Type 0
 KeepsOn channel channels s done old more new =
-    (before : List Pair) (p : Pair) → p.job.channel ≡ channel → IsBehind p s → AreKeptTo before p channels done old → AreKeptTo before p channels more new
+    (before : List Pair) (p : Pair) → p.job.channel ≡ channel → IsBehind p s → AreKeptTo before p channels done old
+    → AreKeptTo before p channels more new
 
 -- the states of one job more are kept at all of them
 abbrev pub AddsStates : Pair → List ℕ → List Stop → List Stop → Type 0
-AddsStates p channels old new = (before : List Pair) → AreCheckpoints before channels old → AreCheckpoints (before ++ p ∷ []) channels new
+AddsStates p channels old new = (before : List Pair) → AreCheckpoints before channels old
+    → AreCheckpoints (before ++ p ∷ []) channels new
 
--- The states of a job that are kept so far: those behind the first 64 k messages of the file for each k below that of the state
--- that is due, which stands behind more messages of the channel than the controller.
+-- The states of a job that are kept so far: those behind the first 64 k messages of the file for each k below that of
+-- the state that is due, which stands behind more messages of the channel than the controller.
 pub record IsKeeping (p : Pair) (channels : List ℕ) (s : Standing) (due : Due) (old new : List Stop) : Type 0 where
   pub due_is : IsDue channels p.job.channel (s.heard + 1) (length new) due
   pub count : length new ≡ length old
   pub kept : (before : List Pair) → AreCheckpoints before channels old → AreKeptTo before p channels due.stop new
 
--- So many messages were played, a mark is left of those that were kept, and the states that came before the one that is due are
--- kept.
-pub record IsPlayed (found : List Found) (job : JobState) (part : ChannelPart) (channels : List ℕ) (n : ℕ) (s : Standing) (rest : List Message) (marks : List Mark) (due : Due) (old new : List Stop) : Type 0 where
+-- So many messages were played, a mark is left of those that were kept, and the states that came before the one that is
+-- due are kept.
+pub record IsPlayed (found : List Found) (job : JobState) (part : ChannelPart) (channels : List ℕ) (n : ℕ)
+    (s : Standing) (rest : List Message) (marks : List Mark) (due : Due) (old new : List Stop) : Type 0 where
   pub playing : IsPlaying found job part n s.machine rest marks
   pub heard : length marks ≡ s.heard + 1
   pub few : s.heard ≤ n

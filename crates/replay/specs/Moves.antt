@@ -40,7 +40,8 @@ total_of s = length (heard_channels s.found)
 
 -- what holds of the job at an index with its part of the report
 abbrev pub OfJob : ReplayState → ℕ → (JobState → ChannelPart → Type 0) → Type 0
-OfJob s index P = (job : JobState) (part : ChannelPart) → slice_get s.jobs index ≡ Some job → slice_get s.parts index ≡ Some part → P job part
+OfJob s index P = (job : JobState) (part : ChannelPart) → slice_get s.jobs index ≡ Some job
+    → slice_get s.parts index ≡ Some part → P job part
 
 -- ---- conditions
 

@@ -13,7 +13,8 @@ use Rattle.replay.specs.Differences.{IsFirstJob}
 -- the first of these jobs agree, each with its part of the report
 abbrev pub AgreeBefore : List Found → List JobState → List ChannelPart → ℕ → Type 0
 AgreeBefore found jobs parts n =
-    (i : ℕ) (job : JobState) (part : ChannelPart) → i < n → slice_get jobs i ≡ Some job → slice_get parts i ≡ Some part → AgreesOn found job part
+    (i : ℕ) (job : JobState) (part : ChannelPart) → i < n → slice_get jobs i ≡ Some job
+    → slice_get parts i ≡ Some part → AgreesOn found job part
 
 -- Y1 only at the first job at fault, or want of memory
 abbrev pub FailsIn : List JobState → List ChannelPart → List Found → ReplayError → Type 0

@@ -20,12 +20,13 @@ heard_channels found = map (λ (h : ℕ × Message). h.0) (heard_in found)
 abbrev pub heard_of : List Found → ℕ → ℕ → ℕ
 heard_of found place channel = count_by (λ c. c == channel) (take place (heard_channels found))
 
--- the number in its channel of the latest of them, 0 where there is none: the file has the kept messages of the job, in order
+-- the number in its channel of the latest of them, 0 where there is none: the file has the kept messages of the job, in
+-- order
 abbrev pub number_at : List Found → ℕ → JobState → ChannelPart → ℕ
 number_at found place job part = last_number (take (heard_of found place job.channel) (kept_in job part))
 
--- A controller that stands where a job is after so many messages, under the placed actions of the report. Messages that were
--- refused have happened, and the bus is as they left it.
+-- A controller that stands where a job is after so many messages, under the placed actions of the report. Messages that
+-- were refused have happened, and the bus is as they left it.
 pub record IsAfter (job : JobState) (part : ChannelPart) (number : ℕ) (m : MachineState) : Type 0 where
   pub of_job : IsOf (job_in job) part.placed m
   pub number_is : m.point.number ≡ number

@@ -1,5 +1,6 @@
 -- A job that is played again beside the messages of its channel in the file.
-use Rattle.std.specs.Prelude.{◌≡◌, ◌≢◌, ℕ, ◌+◌, true, false, ◌⊎◌, List, [], ◌∷◌, ◌++◌, length, map, take, slice_get, Some, ◌==◌, Bool}
+use Rattle.std.specs.Prelude.{◌≡◌, ◌≢◌, ℕ, ◌+◌, true, false, ◌⊎◌, List, [], ◌∷◌, ◌++◌, length, map, take, slice_get}
+use Rattle.std.specs.Prelude.{Some, ◌==◌, Bool}
 use Rattle.std.specs.List.{list_any}
 use Rattle.mil_monitor.specs.declared.Record.{Record}
 use Rattle.bc_machine.specs.Running.{MachineState}
@@ -25,7 +26,8 @@ abbrev pub is_listed : ChannelPart → ℕ → Bool
 is_listed part number = list_any (λ n. n == number) part.refused
 
 -- the next message was made, behind so many, and the file has it next
-pub record IsKept (job : JobState) (part : ChannelPart) (n : ℕ) (m : MachineState) (heard rest : List Message) : Type 0 where
+pub record IsKept (job : JobState) (part : ChannelPart) (n : ℕ) (m : MachineState)
+    (heard rest : List Message) : Type 0 where
   pub message : Record
   pub comes : slice_get (played job part) n ≡ Some message
   pub there : IsThere job part (n + 1) m
@@ -33,7 +35,8 @@ pub record IsKept (job : JobState) (part : ChannelPart) (n : ℕ) (m : MachineSt
   pub heard_is : heard ≡ as_message message ∷ rest
 
 -- it was made, and the report lists it as refused
-pub record IsPassed (job : JobState) (part : ChannelPart) (n : ℕ) (m : MachineState) (heard rest : List Message) : Type 0 where
+pub record IsPassed (job : JobState) (part : ChannelPart) (n : ℕ) (m : MachineState)
+    (heard rest : List Message) : Type 0 where
   pub message : Record
   pub comes : slice_get (played job part) n ≡ Some message
   pub there : IsThere job part (n + 1) m
@@ -64,9 +67,11 @@ GoesOn job part n heard =
     ⊎ ((n ≡ length (played job part)) × ((message : Message) × (rest : List Message) × (heard ≡ message ∷ rest)))
 
 -- So many messages were played: those that were kept stood first in the file, and each of them has left its mark.
-pub record IsPlaying (found : List Found) (job : JobState) (part : ChannelPart) (n : ℕ) (m : MachineState) (heard : List Message) (marks : List Mark) : Type 0 where
+pub record IsPlaying (found : List Found) (job : JobState) (part : ChannelPart) (n : ℕ) (m : MachineState)
+    (heard : List Message) (marks : List Mark) : Type 0 where
   pub there : IsThere job part n m
-  pub read : reading found job.channel ≡ map as_message (messages_of (kept part.refused (take n (played job part)))) ++ heard
+  pub read : reading found job.channel
+      ≡ map as_message (messages_of (kept part.refused (take n (played job part)))) ++ heard
   pub all : AreMarks job part (kept part.refused (take n (played job part))) marks
 
 -- Y1 only at the first number at fault, or want of memory

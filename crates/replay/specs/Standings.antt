@@ -14,8 +14,8 @@ use Rattle.replay.specs.Accord.{kept_in}
 use Rattle.replay.specs.Finding.{count_to}
 use Rattle.replay.specs.Tracks.{Pair, IsThere}
 
--- a controller that stands behind the last of so many kept messages of its job, as many as there are before a place, where these
--- are the channels of all messages
+-- a controller that stands behind the last of so many kept messages of its job, as many as there are before a place,
+-- where these are the channels of all messages
 pub record IsAt (channels : List ℕ) (place : ℕ) (p : Pair) (heard : ℕ) (m : MachineState) : Type 0 where
   pub heard_is : heard ≡ count_to channels place p.job.channel
   pub there : IsThere p.job p.part (last_number (take heard (kept_in p.job p.part))) m
@@ -31,18 +31,22 @@ HaveRoom pairs channels = (i : ℕ) (p : Pair) → slice_get pairs i ≡ Some p 
 -- each job has a controller of its own
 pub record AreOf (pairs : List Pair) (all : List Standing) : Type 0 where
   pub long : length all ≡ length pairs
-  pub each : (i : ℕ) (p : Pair) (s : Standing) → slice_get pairs i ≡ Some p → slice_get all i ≡ Some s → IsOf (job_in p.job) p.part.placed s.machine
+  pub each : (i : ℕ) (p : Pair) (s : Standing) → slice_get pairs i ≡ Some p → slice_get all i ≡ Some s
+      → IsOf (job_in p.job) p.part.placed s.machine
 
 -- each job has its controller at the place
 pub record AreAt (pairs : List Pair) (channels : List ℕ) (place : ℕ) (all : List Standing) : Type 0 where
   pub long : length all ≡ length pairs
-  pub each : (i : ℕ) (p : Pair) (s : Standing) → slice_get pairs i ≡ Some p → slice_get all i ≡ Some s → IsAt channels place p s.heard s.machine
+  pub each : (i : ℕ) (p : Pair) (s : Standing) → slice_get pairs i ≡ Some p → slice_get all i ≡ Some s
+      → IsAt channels place p s.heard s.machine
 
 -- the first so many controllers stand at one place, the others at another
 pub record AreUpTo (pairs : List Pair) (channels : List ℕ) (from to done : ℕ) (all : List Standing) : Type 0 where
   pub long : length all ≡ length pairs
-  pub there : (i : ℕ) (p : Pair) (s : Standing) → i < done → slice_get pairs i ≡ Some p → slice_get all i ≡ Some s → IsAt channels to p s.heard s.machine
-  pub left : (i : ℕ) (p : Pair) (s : Standing) → done ≤ i → slice_get pairs i ≡ Some p → slice_get all i ≡ Some s → IsAt channels from p s.heard s.machine
+  pub there : (i : ℕ) (p : Pair) (s : Standing) → i < done → slice_get pairs i ≡ Some p → slice_get all i ≡ Some s
+      → IsAt channels to p s.heard s.machine
+  pub left : (i : ℕ) (p : Pair) (s : Standing) → done ≤ i → slice_get pairs i ≡ Some p → slice_get all i ≡ Some s
+      → IsAt channels from p s.heard s.machine
 
 -- what is kept of a standing
 abbrev pub saved_of : Standing → Kept
@@ -51,14 +55,16 @@ saved_of s = record { heard = s.heard; saved = s.machine }
 -- each job's controller at the place is kept
 pub record AreKept (pairs : List Pair) (channels : List ℕ) (place : ℕ) (all : List Kept) : Type 0 where
   pub long : length all ≡ length pairs
-  pub each : (i : ℕ) (p : Pair) (k : Kept) → slice_get pairs i ≡ Some p → slice_get all i ≡ Some k → IsAt channels place p k.heard k.saved
+  pub each : (i : ℕ) (p : Pair) (k : Kept) → slice_get pairs i ≡ Some p → slice_get all i ≡ Some k
+      → IsAt channels place p k.heard k.saved
 
 abbrev pub IsStop : List Pair → List ℕ → Stop → Type 0
 IsStop pairs channels stop = AreKept pairs channels stop.place stop.states.items
 
 -- the states at places 0, 64, 128 and so on
 abbrev pub AreCheckpoints : List Pair → List ℕ → List Stop → Type 0
-AreCheckpoints pairs channels stops = (k : ℕ) (stop : Stop) → slice_get stops k ≡ Some stop → (stop.place ≡ 64 * k) × IsStop pairs channels stop
+AreCheckpoints pairs channels stops = (k : ℕ) (stop : Stop) → slice_get stops k ≡ Some stop → (stop.place ≡ 64 * k)
+    × IsStop pairs channels stop
 
 -- checkpoints at places 0, 64, 128 and so on
 abbrev pub AreApart : List Stop → Type 0
@@ -75,7 +81,8 @@ StopsStay old new = (pairs : List Pair) (channels : List ℕ) → AreStops pairs
 -- so do these and what was taken out of them
 abbrev pub StopsTurn : List Stop → Option Stop → List Stop → Option Stop → Type 0
 StopsTurn old out new taken =
-    (pairs : List Pair) (channels : List ℕ) → AreStops pairs channels old → IfSome out (IsStop pairs channels) → AreStops pairs channels new × IfSome taken (IsStop pairs channels)
+    (pairs : List Pair) (channels : List ℕ) → AreStops pairs channels old → IfSome out (IsStop pairs channels)
+    → AreStops pairs channels new × IfSome taken (IsStop pairs channels)
 
 -- controllers at a place, where it is known at which
 abbrev pub StandAt : List Pair → List ℕ → Option ℕ → List Standing → Type 0
@@ -102,7 +109,8 @@ pub record Has (stops : List Stop) (place : ℕ) : Type 0 where
 abbrev pub IsNoted : List Stop → ℕ → Type 0
 IsNoted recent place = (place % 64 ≡ 0) ⊎ Has recent place
 
--- the states of the nearest place at or below this one: at most 63 messages before it, and not before any that were kept of late
+-- the states of the nearest place at or below this one: at most 63 messages before it, and not before any that were
+-- kept of late
 pub record IsNearest (checkpoints recent : List Stop) (place : ℕ) (stop : Stop) : Type 0 where
   pub one : ((k : ℕ) × (slice_get checkpoints k ≡ Some stop)) ⊎ ((k : ℕ) × (slice_get recent k ≡ Some stop))
   pub below : stop.place ≤ place
@@ -112,7 +120,8 @@ pub record IsNearest (checkpoints recent : List Stop) (place : ℕ) (stop : Stop
 -- controllers before any message
 abbrev pub AreFirst : List JobState → List ChannelPart → List Standing → Type 0
 AreFirst jobs parts all =
-    (i : ℕ) (job : JobState) (part : ChannelPart) (s : Standing) → slice_get jobs i ≡ Some job → slice_get parts i ≡ Some part → slice_get all i ≡ Some s
+    (i : ℕ) (job : JobState) (part : ChannelPart) (s : Standing) → slice_get jobs i ≡ Some job
+    → slice_get parts i ≡ Some part → slice_get all i ≡ Some s
     → (s.heard ≡ 0) × IsThere job part 0 s.machine
 
 -- one for each job
@@ -123,7 +132,8 @@ pub record AreBegun (jobs : List JobState) (parts : List ChannelPart) (all : Lis
 -- the first so many controllers were taken to what is kept, and all are still the jobs'
 pub record AreRestored (pairs : List Pair) (kept : List Kept) (done : ℕ) (all : List Standing) : Type 0 where
   pub of : AreOf pairs all
-  pub there : (i : ℕ) (s : Standing) (k : Kept) → i < done → slice_get all i ≡ Some s → slice_get kept i ≡ Some k → saved_of s ≡ k
+  pub there : (i : ℕ) (s : Standing) (k : Kept) → i < done → slice_get all i ≡ Some s → slice_get kept i ≡ Some k
+      → saved_of s ≡ k
 
 -- the states of a place are kept, and so may be played on from
 abbrev pub Keeps : Timeline → ℕ → Type 0

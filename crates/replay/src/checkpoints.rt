@@ -25,8 +25,8 @@ pub(crate) struct Due {
     heard: usize,
 }
 
-/// Checkpoints at places 0, 64, 128 and so on of a file with a message for each of these channels, which have room for the
-/// states of so many jobs, and none yet.
+/// Checkpoints at places 0, 64, 128 and so on of a file with a message for each of these channels, which have room for
+/// the states of so many jobs, and none yet.
 pub(crate) fn empty_stops(
     alloc: Global,
     channels: &[u16],
@@ -83,8 +83,9 @@ impl Due {
         self.stop += 1;
     }
 
-    /// Keeps the state of a job at each checkpoint, from the next one on, that stands behind as many messages of its channel as
-    /// the controller. Conditions: no checkpoint is past the end, and none that is still to come stands behind fewer.
+    /// Keeps the state of a job at each checkpoint, from the next one on, that stands behind as many messages of its
+    /// channel as the controller. Conditions: no checkpoint is past the end, and none that is still to come stands
+    /// behind fewer.
     pub(crate) fn keep(
         &mut self,
         alloc: Global,
@@ -95,8 +96,11 @@ impl Due {
         requires spaced { AreSpaced (length channels.now) (length stops.old.items) }
         requires due { IsDue channels.now self.old.channel standing.now.heard (length stops.old.items) self.old }
         ensures count { OnOk result (length stops.new.items ≡ length stops.old.items) }
-        ensures due { OnOk result (IsDue channels.now self.old.channel (standing.now.heard + 1) (length stops.new.items) self.new) }
-        ensures kept { OnOk result (KeepsOn self.old.channel channels.now standing.now self.old.stop stops.old.items self.new.stop stops.new.items) }
+        ensures due { OnOk result (IsDue channels.now self.old.channel (standing.now.heard + 1)
+            (length stops.new.items) self.new) }
+        ensures kept { OnOk result
+            (KeepsOn self.old.channel channels.now standing.now self.old.stop stops.old.items self.new.stop
+            stops.new.items) }
     {
         'each: while self.stop < stops.len() {
             if self.heard != standing.heard {

@@ -10,8 +10,8 @@ use crate::tracks::{Track, count};
 use frame_tree::Cond;
 use std::alloc::Allocator;
 
-/// The first message past a place that is of the job, and whose outcome makes the condition true. Conditions: the place is not
-/// past the end, and there are no more messages of the job's channel than were kept.
+/// The first message past a place that is of the job, and whose outcome makes the condition true. Conditions: the place
+/// is not past the end, and there are no more messages of the job's channel than were kept.
 fn first_of_job<A: Allocator + Clone>(
     track: &Track,
     channels: &[u16],
@@ -46,7 +46,8 @@ fn earlier(first: Option<usize>, other: Option<usize>) -> Option<usize>
     }
 }
 
-/// The first message past a place that is of one of the jobs, and whose outcome makes the condition true. Conditions: as for one job.
+/// The first message past a place that is of one of the jobs, and whose outcome makes the condition true. Conditions:
+/// as for one job.
 pub(crate) fn first_met<A: Allocator + Clone>(
     tracks: &[Track],
     channels: &[u16],

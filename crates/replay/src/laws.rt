@@ -7,8 +7,8 @@ pub fn difference_excludes_accord()
     ensures { DifferenceExcludesAccord }
 {}
 
-/// Law: a job makes the same messages under its own actions and under those of them that are placed at numbers up to as many
-/// messages as it makes, which is how a report gives them.
+/// Law: a job makes the same messages under its own actions and under those of them that are placed at numbers up to as
+/// many messages as it makes, which is how a report gives them.
 pub fn placed_actions_suffice()
     ensures { PlacedActionsSuffice }
 {}

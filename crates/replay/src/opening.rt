@@ -106,9 +106,9 @@ pub(crate) fn compare_channels(
     Ok(())
 }
 
-/// Plays job after job, each with its part of the report, and keeps their states at the checkpoints, where these are the
-/// channels of all messages. Y1 names the first number at fault of the first job that has one. Conditions: there are as many
-/// parts as jobs, and no state is kept yet.
+/// Plays job after job, each with its part of the report, and keeps their states at the checkpoints, where these are
+/// the channels of all messages. Y1 names the first number at fault of the first job that has one. Conditions: there
+/// are as many parts as jobs, and no state is kept yet.
 pub(crate) fn tracks(
     alloc: Global,
     jobs: &[Job],

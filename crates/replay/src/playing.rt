@@ -61,7 +61,8 @@ fn is_over(
     heard: &mut ChannelMessages<'_, '_>,
 ) -> bool
     requires { IsThere job.now part.now machine.old.point.number machine.old }
-    ensures { MatchBool result (IsOver job.now part.now machine.old.point.number heard.old) (GoesOn job.now part.now machine.old.point.number heard.old) }
+    ensures { MatchBool result (IsOver job.now part.now machine.old.point.number heard.old)
+        (GoesOn job.now part.now machine.old.point.number heard.old) }
 {
     let _sound = job.program();
     match next_record(machine) {
@@ -81,9 +82,9 @@ fn mark(machine: &Machine) -> Mark
     }
 }
 
-/// Plays a job again, under the actions that its part of the report says were placed, and compares part and file with it: a
-/// mark before any message, and behind each that was kept; and at each checkpoint the job's state is kept, where these are the
-/// channels of all messages. Y1 names the first number at fault.
+/// Plays a job again, under the actions that its part of the report says were placed, and compares part and file with
+/// it: a mark before any message, and behind each that was kept; and at each checkpoint the job's state is kept, where
+/// these are the channels of all messages. Y1 names the first number at fault.
 pub(crate) fn play(
     alloc: Global,
     job: &Job,
@@ -99,7 +100,8 @@ pub(crate) fn play(
     ensures agrees { OnOk result (AgreesOn index.now job.now part.now) }
     ensures fault { IfErr result (λ e. FailsAt index.now job.now part.now e) }
     ensures count { OnOk result (length stops.new.items ≡ length stops.old.items) }
-    ensures states { OnOk result (AddsStates (record { job = job.now; part = part.now }) channels.now stops.old.items stops.new.items) }
+    ensures states { OnOk result (AddsStates
+        (record { job = job.now; part = part.now }) channels.now stops.old.items stops.new.items) }
 {
     let channel = job.channel();
     let _sound = job.program();

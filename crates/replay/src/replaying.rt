@@ -65,11 +65,12 @@ impl<'a> Model for Replay<'a> {
 }
 
 impl<'a> Replay<'a> {
-    /// Plays the jobs again, each under the actions that the report says were placed, and compares report and recording with
-    /// them. It stands before the first message.
+    /// Plays the jobs again, each under the actions that the report says were placed, and compares report and recording
+    /// with them. It stands before the first message.
     ///
-    /// Y1 names the first difference, and comes only where they do not agree: the channels of jobs and report are compared
-    /// first, then those of the recording's packets of MIL-STD-1553 messages, then the messages of job after job.
+    /// Y1 names the first difference, and comes only where they do not agree: the channels of jobs and report are
+    /// compared first, then those of the recording's packets of MIL-STD-1553 messages, then the messages of job after
+    /// job.
     pub fn open(
         alloc: Global,
         jobs: &[Job],
@@ -156,8 +157,8 @@ impl<'a> Replay<'a> {
         self.move_to(n)
     }
 
-    /// To the first message past the place whose outcome makes the condition true. Y2 where there is none; a refusal leaves
-    /// all as it was.
+    /// To the first message past the place whose outcome makes the condition true. Y2 where there is none; a refusal
+    /// leaves all as it was.
     pub fn find<A: Allocator + Clone>(&mut self, condition: &Cond<A>) -> Result<(), ReplayError>
         ensures there { OnOk result (IsNextMet self.old.state (condition_in condition.now) self.new.state.place) }
         ensures moved { OnOk result (self.new.state ≡ at_place self.new.state.place self.old.state) }
@@ -217,8 +218,8 @@ impl<'a> Replay<'a> {
         self.timeline.tracks[index].channel()
     }
 
-    /// The controller of the job at an index as it was behind the latest message of its channel among those before the place,
-    /// and before any where there is none. Condition: there is such a job.
+    /// The controller of the job at an index as it was behind the latest message of its channel among those before the
+    /// place, and before any where there is none. Condition: there is such a job.
     pub fn state(&self, index: usize) -> &Machine
         requires { index < length self.now.state.jobs }
         ensures of_job { OfJob self.now.state index (λ job part. IsOf (job_in job) part.placed result.now) }

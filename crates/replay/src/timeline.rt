@@ -1,6 +1,7 @@
 //! The jobs of a recording from place to place: where their controllers stand, and the states that are kept.
 ghost use Rattle.std.specs.Prelude.{◌≡◌, ◌≤◌, ◌<◌, ◌-◌, ◌*◌, ◌%◌, length, IfOk, IfSome, OnOk, OnErr, true};
-ghost use Rattle.replay.specs.Standings.{HaveRoom, AreAt, AreOf, StandAt, AreCheckpoints, IsStop, StopsStay, StopsTurn, AreApart, IsTimeline, IsNearest, IsNoted, Has, Keeps};
+ghost use Rattle.replay.specs.Standings.{HaveRoom, AreAt, AreOf, StandAt, AreCheckpoints, IsStop, StopsStay, StopsTurn};
+ghost use Rattle.replay.specs.Standings.{AreApart, IsTimeline, IsNearest, IsNoted, Has, Keeps};
 
 use crate::checkpoints::{APART, Stop};
 use crate::standings::{Standing, play_all, restore_all, save_all};
@@ -12,9 +13,9 @@ use std::mem::swap;
 /// How many of the latest states are kept beside the checkpoints.
 const RECENT: usize = 32;
 
-/// The jobs of a recording, and the channel of each of its messages; their controllers at the place, and others to be taken
-/// elsewhere, with the place where they stand, if it is known; the states at places 0, 64, 128 and so on; and those at other
-/// places at which the latest moves ended.
+/// The jobs of a recording, and the channel of each of its messages; their controllers at the place, and others to be
+/// taken elsewhere, with the place where they stand, if it is known; the states at places 0, 64, 128 and so on; and
+/// those at other places at which the latest moves ended.
 #[derive(Drop)]
 pub(crate) struct Timeline {
     pub(crate) tracks: Vec<Track>,
@@ -47,8 +48,8 @@ fn nearest<'a>(
     best
 }
 
-/// Takes the first of the latest states out: those of the place are the answer; others become the last, and the answer is what
-/// was found before.
+/// Takes the first of the latest states out: those of the place are the answer; others become the last, and the answer
+/// is what was found before.
 fn turn(recent: &mut HeapCircularBuffer<Stop>, place: usize, found: Option<Stop>) -> Option<Stop>
     requires { recent.old.capacity ≡ 32 }
     ensures stops { StopsTurn recent.old.items found recent.new.items result }
@@ -110,8 +111,8 @@ fn bring(
 }
 
 impl Timeline {
-    /// The jobs at the start. Conditions: both lists of controllers stand before any message, and the states are kept at all
-    /// checkpoints up to the end.
+    /// The jobs at the start. Conditions: both lists of controllers stand before any message, and the states are kept
+    /// at all checkpoints up to the end.
     pub(crate) fn open(
         alloc: Global,
         tracks: Vec<Track>,
@@ -141,8 +142,8 @@ impl Timeline {
         })
     }
 
-    /// Keeps the states where the controllers stand as the latest. They are not saved anew where they are kept already, and not
-    /// at all at a checkpoint.
+    /// Keeps the states where the controllers stand as the latest. They are not saved anew where they are kept already,
+    /// and not at all at a checkpoint.
     fn note(&mut self, place: usize) -> Result<(), AllocError>
         requires { IsTimeline self.old place }
         ensures stands { IsTimeline self.new place }
@@ -161,8 +162,8 @@ impl Timeline {
         Ok(())
     }
 
-    /// Takes the controllers from a place to another, and answers how many messages of the file were played on the way: from the
-    /// nearest place at or below it whose states are there.
+    /// Takes the controllers from a place to another, and answers how many messages of the file were played on the way:
+    /// from the nearest place at or below it whose states are there.
     pub(crate) fn travel(&mut self, from: usize, to: usize) -> Result<usize, AllocError>
         requires stands { IsTimeline self.old from }
         requires end { to ≤ length self.old.channels.items }

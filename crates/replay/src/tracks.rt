@@ -28,8 +28,8 @@ pub(crate) struct Mark {
     pub(crate) last: Option<Outcome>,
 }
 
-/// A job with its part of the report, and a mark before any message and behind each message that was kept. Contracts see the
-/// job and the part, of which no byte is kept.
+/// A job with its part of the report, and a mark before any message and behind each message that was kept. Contracts
+/// see the job and the part, of which no byte is kept.
 #[derive(Drop)]
 pub(crate) struct Track {
     channel: u16,
@@ -61,8 +61,8 @@ pub(crate) fn count(channels: &[u16], channel: u16) -> usize
 }
 
 impl Track {
-    /// Plays a job again with its part of the report, compares the file with it, and keeps the job's states at the checkpoints,
-    /// where these are the channels of all messages. Y1 names the first number at fault.
+    /// Plays a job again with its part of the report, compares the file with it, and keeps the job's states at the
+    /// checkpoints, where these are the channels of all messages. Y1 names the first number at fault.
     pub(crate) fn play(
         alloc: Global,
         job: &Job,
@@ -77,7 +77,8 @@ impl Track {
         ensures agrees { OnOk result (AgreesOn index.now job.now part.now) }
         ensures fault { IfErr result (λ e. FailsAt index.now job.now part.now e) }
         ensures count { OnOk result (length stops.new.items ≡ length stops.old.items) }
-        ensures states { OnOk result (AddsStates (record { job = job.now; part = part.now }) channels.now stops.old.items stops.new.items) }
+        ensures states { OnOk result
+            (AddsStates (record { job = job.now; part = part.now }) channels.now stops.old.items stops.new.items) }
     {
         Ok(Track {
             channel: job.channel(),
@@ -105,14 +106,15 @@ impl Track {
     /// Its outcome, None where there is none. Condition: there are as many.
     pub(crate) fn outcome(&self, heard: usize) -> Option<Outcome>
         requires { heard ≤ length (kept_in self.now.job self.now.part) }
-        ensures { IsLast self.now.job self.now.part (last_number (take heard (kept_in self.now.job self.now.part))) result }
+        ensures { IsLast self.now.job self.now.part
+            (last_number (take heard (kept_in self.now.job self.now.part))) result }
     {
         job_runs();
         self.marks[heard].last
     }
 
-    /// Plays the job's controller on to the message of a number. Conditions: it does not stand behind a later one, and the job
-    /// makes as many.
+    /// Plays the job's controller on to the message of a number. Conditions: it does not stand behind a later one, and
+    /// the job makes as many.
     fn play_to(&self, machine: &mut Machine, number: u32)
         requires there { IsThere self.now.job self.now.part machine.old.point.number machine.old }
         requires behind { machine.old.point.number ≤ number }
@@ -125,8 +127,8 @@ impl Track {
         }
     }
 
-    /// Plays the job's controller on from a place of the file to a later one, where these are the channels of all messages.
-    /// Condition: no more of them are of the job's channel than were kept.
+    /// Plays the job's controller on from a place of the file to a later one, where these are the channels of all
+    /// messages. Condition: no more of them are of the job's channel than were kept.
     pub(crate) fn play_on(&self, standing: &mut Standing, channels: &[u16], from: usize, to: usize)
         requires order { from ≤ to }
         requires end { to ≤ length channels.now }

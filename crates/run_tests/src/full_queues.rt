@@ -5,7 +5,8 @@ use bench_report::ChannelReport;
 use std::alloc::Global;
 use std::process::Abort;
 
-/// How many of the numbers 1 to 10 a channel has in the file, of which each that it has not is listed, and none that it has.
+/// How many of the numbers 1 to 10 a channel has in the file, of which each that it has not is listed, and none that it
+/// has.
 fn kept_of(rt: &impl Abort, alloc: Global, file: &[u8], part: &ChannelReport) -> usize {
     let stamps = stamps_of(rt, alloc, file, part.channel());
     for number in 1..=10u32 {

@@ -43,8 +43,8 @@ impl Waits {
     }
 }
 
-/// Channel 1 waits before message 1 until the end mark of channel 2 was taken, before 2 until 1 was taken, and before 5 until 2
-/// was taken; the writer waits after taking message 1 of channel 1 until 4 was offered.
+/// Channel 1 waits before message 1 until the end mark of channel 2 was taken, before 2 until 1 was taken, and before 5
+/// until 2 was taken; the writer waits after taking message 1 of channel 1 until 4 was offered.
 #[derive(Drop)]
 pub(super) struct HeldWriter {
     pub(super) waits: Waits,
@@ -94,8 +94,8 @@ impl Gate for HeldWriter {
     }
 }
 
-/// Two channels of ten messages take turns: each message waits until all before it, in the order 1 of channel 1, 1 of channel 2,
-/// 2 of channel 1, .., were taken, and the last of channel 2 also until the end mark of channel 1 was.
+/// Two channels of ten messages take turns: each message waits until all before it, in the order 1 of channel 1, 1 of
+/// channel 2, 2 of channel 1, .., were taken, and the last of channel 2 also until the end mark of channel 1 was.
 #[derive(Drop)]
 pub(super) struct InTurn {
     pub(super) waits: Waits,
@@ -137,7 +137,8 @@ impl Gate for InTurn {
     }
 }
 
-/// The first messages of channels 1 and 2 meet: before its own, each channel waits until the other has come to that place.
+/// The first messages of channels 1 and 2 meet: before its own, each channel waits until the other has come to that
+/// place.
 #[derive(Drop)]
 pub(super) struct Meeting {
     pub(super) waits: Waits,
@@ -216,7 +217,8 @@ impl Gate for GoesFirst {
     }
 }
 
-/// The writer waits after its first item until two end marks were kept, so that the queue holds all that two channels send.
+/// The writer waits after its first item until two end marks were kept, so that the queue holds all that two channels
+/// send.
 #[derive(Drop)]
 pub(super) struct Backlog {
     pub(super) waits: Waits,

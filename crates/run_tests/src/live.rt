@@ -95,8 +95,8 @@ fn has_statuses(rt: &impl Abort, alloc: Global, file: &[u8], lows: [u8; 3]) {
     }
 }
 
-/// The file of a run has the three messages, the second and third with this low byte of the status word; the report is printed
-/// as this text, and the debugger accepts both.
+/// The file of a run has the three messages, the second and third with this low byte of the status word; the report is
+/// printed as this text, and the debugger accepts both.
 fn is_recorded(
     rt: &impl Abort,
     alloc: Global,

@@ -96,8 +96,8 @@ fn run_beside<R: Threads + Wait + Abort + Sync>(
     recording
 }
 
-/// How many actions were placed for the terminal at an address, where these are the first vector words 1, 2, .. in their order; None
-/// where they are not.
+/// How many actions were placed for the terminal at an address, where these are the first vector words 1, 2, .. in
+/// their order; None where they are not.
 fn first_words(part: &ChannelReport, address: u8) -> Option<u16> {
     let mut count = 0u16;
     for placed in part.placed() {

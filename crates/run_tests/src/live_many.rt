@@ -1,5 +1,5 @@
-//! A thousand live runs of eight channels, to each of which two hosts post beside the run: the debugger accepts each recording under its
-//! report.
+//! A thousand live runs of eight channels, to each of which two hosts post beside the run: the debugger accepts each
+//! recording under its report.
 ghost use Rattle.std.specs.Prelude.{◌≡◌, ◌++◌, [], ◌∷◌};
 ghost use Rattle.bench_run.specs.Live.{AreInboxesOf};
 ghost use Rattle.run_tests.specs.Hosts.{MayPostToAll, IsMail};
@@ -34,7 +34,8 @@ const MOST: u32 = 4;
 /// Each channel waits before this message until the hosts have posted `WANTED` words.
 const HELD: u32 = 3;
 
-/// One more than a host posts to a channel. Each host begins with channel 1, so that channel has as many posts as one host's by then.
+/// One more than a host posts to a channel. Each host begins with channel 1, so that channel has as many posts as one
+/// host's by then.
 const WANTED: u32 = 4;
 
 /// The job of a channel.
@@ -193,7 +194,8 @@ fn run_beside<R: Threads + Wait + Abort + Sync>(
     recording
 }
 
-/// A live run of the jobs beside which both hosts post, where the hosts had posted when the gate let the channels go on.
+/// A live run of the jobs beside which both hosts post, where the hosts had posted when the gate let the channels go
+/// on.
 fn run_once<R: Threads + Wait + Abort + Sync>(
     rt: &R,
     alloc: Global,
@@ -275,7 +277,8 @@ fn placed_once<R: Threads + Wait + Abort + Sync>(
     }
 }
 
-/// How many of a hundred live runs have a recording that is not what the report says, and how many posts were placed in the others.
+/// How many of a hundred live runs have a recording that is not what the report says, and how many posts were placed in
+/// the others.
 fn counts_of<R: Threads + Wait + Abort + Sync>(
     rt: &R,
     alloc: Global,
@@ -293,7 +296,8 @@ fn counts_of<R: Threads + Wait + Abort + Sync>(
     (wrong, placed)
 }
 
-/// The recording of each of a hundred live runs on a queue of this length is what its report says, and posts were placed in each.
+/// The recording of each of a hundred live runs on a queue of this length is what its report says, and posts were
+/// placed in each.
 fn are_read_back<R: Threads + Wait + Abort + Sync>(rt: &R, alloc: Global, queue: u32) {
     let jobs = eight_jobs(rt, alloc);
     let settings = settings_with(rt, alloc, queue, MOST);

@@ -1,4 +1,5 @@
-//! A thousand runs of eight channels on short queues: what is read back is what was made, but for what the report lists.
+//! A thousand runs of eight channels on short queues: what is read back is what was made, but for what the report
+//! lists.
 use crate::fixtures::{STEP, job_of, settings_of};
 use bench_core::Settings;
 use bench_report::{ChannelReport, Report};
@@ -27,7 +28,8 @@ fn eight_jobs(rt: &impl Abort, alloc: Global) -> Vec<Job> {
     jobs
 }
 
-/// How many messages of a channel were kept, where the file holds in their order those that were made but for the refused.
+/// How many messages of a channel were kept, where the file holds in their order those that were made but for the
+/// refused.
 fn kept_of(index: &Index<'_>, part: &ChannelReport) -> Option<u64> {
     let mut messages = index.channel(part.channel());
     let mut kept = 0u64;

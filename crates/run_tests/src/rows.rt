@@ -21,7 +21,8 @@ const TEN_STAMPS: [u64; 10] = [0, 680, 1360, 2040, 2720, 3400, 4080, 4760, 5440,
 
 /// Two actions at message 3, two at message 1, one at a message that is not made, and a script of three messages.
 const FIVE_ACTIONS: &str =
-    "channel 1\nterminal 5\nterminal 6\nat 3 5 busy on\nat 1 6 fault on\nat 3 6 service on\nat 1 5 busy off\nat 4 5 busy off\nscript\nrepeat 3 { send A rx 5 1 [0001] }\n";
+    "channel 1\nterminal 5\nterminal 6\nat 3 5 busy on\nat 1 6 fault on\nat 3 6 service on\nat 1 5 busy off\n\
+     at 4 5 busy off\nscript\nrepeat 3 { send A rx 5 1 [0001] }\n";
 
 const NO_MESSAGE: &str = "channel 1\nterminal 5\nscript\nif fail { send A mode 5 1 }\n";
 
@@ -106,7 +107,8 @@ fn turns_in_a_queue_of_one(rt: HostRuntime) {
     has_shapes(&rt, rt.alloc(), sink.bytes(), shapes);
 }
 
-/// Two channels come to their first messages at one time: neither waits for the other to end, and no lock is held between them.
+/// Two channels come to their first messages at one time: neither waits for the other to end, and no lock is held
+/// between them.
 #[test]
 fn two_channels_meet(rt: HostRuntime) {
     let gate = Meeting::make();
@@ -148,7 +150,8 @@ fn a_prologue_stands_in_front(rt: HostRuntime) {
 fn placed_actions(rt: HostRuntime) {
     let (report, sink) = recorded(&rt, rt.alloc(), &[FIVE_ACTIONS], 4096, &[], &OpenGate);
     let text =
-        "channel 1\nmade 3\nplaced 1 6 fault on\nplaced 1 5 busy off\nplaced 3 5 busy on\nplaced 3 6 service on\npackets 1\n";
+        "channel 1\nmade 3\nplaced 1 6 fault on\nplaced 1 5 busy off\nplaced 3 5 busy on\nplaced 3 6 service on\n\
+         packets 1\n";
     is_printed(&rt, rt.alloc(), &report, text);
     has_messages(&rt, rt.alloc(), sink.bytes(), 1, 3);
 }

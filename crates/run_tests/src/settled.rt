@@ -18,7 +18,8 @@ use std::thread::{Threads, join};
 /// Three messages to terminal 5.
 const THREE: &str = "channel 1\nterminal 5\nscript\nrepeat 3 { send A mode 5 1 }\n";
 
-/// How many posts a run takes at most, and the vector words that are in the mailbox behind it, where 1, 2 and 3 were posted.
+/// How many posts a run takes at most, and the vector words that are in the mailbox behind it, where 1, 2 and 3 were
+/// posted.
 const ROWS: [(u32, [Option<u16>; 4]); 3] = [
     (0, [Some(1), Some(2), Some(3), None]),
     (2, [Some(3), None, None, None]),

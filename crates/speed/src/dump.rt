@@ -1,6 +1,6 @@
-//! The index of a recording, its dump, and its dump with what is damaged skipped, for `benches/dump`: RECORDING. Its figures: how many
-//! bytes the recording has, the nanoseconds of the index, of the dump and of the dump that skips, how many messages there are, and
-//! how many bytes the dump has.
+//! The index of a recording, its dump, and its dump with what is damaged skipped, for `benches/dump`: RECORDING. Its
+//! figures: how many bytes the recording has, the nanoseconds of the index, of the dump and of the dump that skips, how
+//! many messages there are, and how many bytes the dump has.
 use crate::watch::Watch;
 use crate::words::file;
 use bench_dump::dump;

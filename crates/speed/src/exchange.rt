@@ -1,7 +1,8 @@
-//! Exchanges on a bus of few and of 31 terminals, for `benches/exchange`. `lines ROUNDS EXCHANGES`: a line for each kind of message and each
-//! number of terminals, with the kind, the number, the nanoseconds that the best of so many rounds of so many exchanges took, without and
-//! with the records, and what they came to: the words, a sum over the records, and the clock of the bus. KIND EXCHANGES: so many exchanges of
-//! a kind (0 to 3) on 31 terminals, each with its record, for a count of instructions; what they came to: that sum and that clock.
+//! Exchanges on a bus of few and of 31 terminals, for `benches/exchange`. `lines ROUNDS EXCHANGES`: a line for each
+//! kind of message and each number of terminals, with the kind, the number, the nanoseconds that the best of so many
+//! rounds of so many exchanges took, without and with the records, and what they came to: the words, a sum over the
+//! records, and the clock of the bus. KIND EXCHANGES: so many exchanges of a kind (0 to 3) on 31 terminals, each with
+//! its record, for a count of instructions; what they came to: that sum and that clock.
 use crate::watch::Watch;
 use crate::words::{number, print_figures};
 use mil_bus::{Bus, Seen, Talk};

@@ -6,8 +6,8 @@ use std::thread;
 /// A channel looks at the writer, and the writer tells how far it came, once in so many messages.
 const STRIDE: u32 = 64;
 
-/// No channel 1 to 8 has more than `share` messages on their way to the writer, so that a queue with room for all shares refuses
-/// none; where a channel has, its thread yields.
+/// No channel 1 to 8 has more than `share` messages on their way to the writer, so that a queue with room for all
+/// shares refuses none; where a channel has, its thread yields.
 #[derive(Drop)]
 pub struct PacedGate {
     share: u64,

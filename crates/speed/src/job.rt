@@ -1,5 +1,5 @@
-//! The reading of job texts, for `benches/jobs`: TEXT COUNT, the text of a file, so many times as the jobs of one list. It prints how many
-//! bytes were read, in how many nanoseconds, and what they came to.
+//! The reading of job texts, for `benches/jobs`: TEXT COUNT, the text of a file, so many times as the jobs of one list.
+//! It prints how many bytes were read, in how many nanoseconds, and what they came to.
 use crate::watch::Watch;
 use crate::words::{file, number};
 use job_file::{Job, JobsError, read_jobs};

@@ -2,7 +2,8 @@
 use job_file::{Job, read_job};
 use std::alloc::{AllocError, Global};
 
-/// How many channels there are, and how many messages each sends: to each of the 31 terminals one, `times` times `rounds` times.
+/// How many channels there are, and how many messages each sends: to each of the 31 terminals one, `times` times
+/// `rounds` times.
 #[derive(Clone, Copy)]
 pub struct Load {
     pub channels: u16,
@@ -35,7 +36,8 @@ fn text_of(alloc: Global, channel: u16, load: Load) -> Result<String, AllocError
     Ok(text)
 }
 
-/// The jobs of the channels 1, 2, .. of a load. None where memory is refused, or where a number is too large for a script.
+/// The jobs of the channels 1, 2, .. of a load. None where memory is refused, or where a number is too large for a
+/// script.
 pub fn jobs_of(alloc: Global, load: Load) -> Option<Vec<Job>> {
     let mut jobs = Vec::new(alloc);
     for channel in 0..load.channels {

@@ -1,6 +1,7 @@
-//! Runs of 1 to 8 jobs of 31 terminals, for `benches/run`: CHANNELS TIMES ROUNDS, the last two of which multiply to the rounds of each
-//! channel (a message to each terminal), `open` or `paced`, and `memory` or the name of a file. Its figures: the nanoseconds of the run,
-//! and how many messages were made, how many of these a full queue refused, and how many packets were written.
+//! Runs of 1 to 8 jobs of 31 terminals, for `benches/run`: CHANNELS TIMES ROUNDS, the last two of which multiply to the
+//! rounds of each channel (a message to each terminal), `open` or `paced`, and `memory` or the name of a file. Its
+//! figures: the nanoseconds of the run, and how many messages were made, how many of these a full queue refused, and
+//! how many packets were written.
 ghost use Rattle.std.specs.Prelude.{◌<◌, ◌-◌, ◌^◌};
 
 use crate::gate::PacedGate;
@@ -96,7 +97,8 @@ fn load_of(words: &[&str]) -> Option<Load> {
     })
 }
 
-/// What the words ask for, paced, so that the queue refuses no message, or as fast as its channels go; None where they do not say it.
+/// What the words ask for, paced, so that the queue refuses no message, or as fast as its channels go; None where they
+/// do not say it.
 pub(crate) fn measured<T: Threads + Wait + Sync>(
     threads: &T,
     watch: &Watch<'_>,

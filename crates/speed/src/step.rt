@@ -1,6 +1,7 @@
-//! The debugger, for `benches/step`: CHANCE STEPS RECORDING REPORT JOBS.. It opens the recording with the report and the jobs of its run,
-//! goes to so many places by chance, and then so many messages on from the start and as many back. Its figures: how many messages the
-//! recording has, the nanoseconds of opening, of the moves by chance, of the steps forward and of those back, and a sum over all places.
+//! The debugger, for `benches/step`: CHANCE STEPS RECORDING REPORT JOBS.. It opens the recording with the report and
+//! the jobs of its run, goes to so many places by chance, and then so many messages on from the start and as many back.
+//! Its figures: how many messages the recording has, the nanoseconds of opening, of the moves by chance, of the steps
+//! forward and of those back, and a sum over all places.
 use crate::watch::Watch;
 use crate::words::{file, number};
 use bench_report::{Report, read_report};

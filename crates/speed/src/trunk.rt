@@ -1,5 +1,6 @@
-//! A trunk, for `benches/trunk`: THREADS COUNT CAPACITY, so many threads, at most 64, which send so many items each, with a ticket of its
-//! own, while the main thread takes them all. Its figures: the nanoseconds of the exchange, and a sum over what was taken.
+//! A trunk, for `benches/trunk`: THREADS COUNT CAPACITY, so many threads, at most 64, which send so many items each,
+//! with a ticket of its own, while the main thread takes them all. Its figures: the nanoseconds of the exchange, and a
+//! sum over what was taken.
 ghost use Rattle.std.specs.Prelude.{◌≡◌, ◌<◌, ◌≤◌, ◌+◌, ◌^◌, [], ℕ, true, length, IfSome};
 ghost use Rattle.mil_trunk.specs.Ends.{IsTicketOf, IsTakerOf, bounds_of, tags_of, sent};
 ghost use Rattle.mil_trunk.specs.Tags.{has, bound_of};
@@ -104,7 +105,8 @@ fn start_all<'s, E, R: Wait + Sync>(
         let count = load.count;
         let started = scope.spawn(
             move ||
-                requires { IsTicketOf trunk.now ticket × (sent ticket ≡ []) × (has (tags_of ticket) tag ≡ true) × (count ≤ bound_of (bounds_of ticket) tag) }
+                requires { IsTicketOf trunk.now ticket × (sent ticket ≡ []) × (has (tags_of ticket) tag ≡ true)
+                    × (count ≤ bound_of (bounds_of ticket) tag) }
             { send_all(rt, trunk, ticket, tag, count) },
         );
         if started.is_err() {
@@ -132,7 +134,9 @@ fn exchange<R: Wait + Threads + Sync>(
         thread::scope_env(),
         rt,
         move |scope| -> u64
-            requires { IsTicketOf trunk.now ticket × IsTakerOf trunk.now taker × (sent ticket ≡ []) × ((t : ℕ) → t < 64 → has (tags_of ticket) t ≡ true) × ((t : ℕ) → t < 64 → load.count ≤ bound_of (bounds_of ticket) t) × (load.threads ≤ 64) }
+            requires { IsTicketOf trunk.now ticket × IsTakerOf trunk.now taker × (sent ticket ≡ [])
+                × ((t : ℕ) → t < 64 → has (tags_of ticket) t ≡ true)
+                × ((t : ℕ) → t < 64 → load.count ≤ bound_of (bounds_of ticket) t) × (load.threads ≤ 64) }
         {
             let started = start_all(scope, rt, trunk, ticket, load);
             take_all(rt, trunk, taker, u64::from(started) * u64::from(load.count))

@@ -1,7 +1,8 @@
 //! The clock by which all is timed.
 use std::rt::Clock;
 
-/// The runtime, and whether its clock goes: by one that does not, all takes no time, so that what is printed is the same each time.
+/// The runtime, and whether its clock goes: by one that does not, all takes no time, so that what is printed is the
+/// same each time.
 #[derive(Clone, Copy)]
 pub(crate) struct Watch<'a> {
     pub rt: &'a HostRuntime,

@@ -41,7 +41,8 @@ const SCRIPTS: &[Script] = &[
             Gives(A, Mode(5, 1), All(0, 0x0000, 0x0050), &[0x2fe1, 0x2800]),
             Pace(400),
             Now(460),
-            // 20 ticks after the end of the status: its parity is 5 before the end, the sync's middle 15 after the start
+            // 20 ticks after the end of the status: its parity is 5 before the end, the sync's middle 15 after the
+            // start
             Gives(A, Mode(5, 1), All(480, 0x0000, 0x0050), &[0x2fe1, 0x2800]),
             Pace(945),
             Gives(A, Mode(5, 1), All(960, 0x0000, 0x0050), &[0x2fe1, 0x2800]),

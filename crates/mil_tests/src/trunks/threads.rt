@@ -1,5 +1,6 @@
 //! The trunk as threads share it: what each sends arrives in its order, once, and nothing else does.
-ghost use Rattle.std.specs.Prelude.{◌≡◌, ◌==◌, ◌<◌, ◌≤◌, ◌+◌, ◌^◌, ◌++◌, ◌∷◌, [], ℕ, true, length, All, IsTrue, IfOk, IfSome, IfNone, vec_len, vec_capacity, slice_index_or, filter};
+ghost use Rattle.std.specs.Prelude.{◌≡◌, ◌==◌, ◌<◌, ◌≤◌, ◌+◌, ◌^◌, ◌++◌, ◌∷◌, [], ℕ, true, length, All, IsTrue, IfOk};
+ghost use Rattle.std.specs.Prelude.{IfSome, IfNone, vec_len, vec_capacity, slice_index_or, filter};
 ghost use Rattle.mil_trunk.specs.Ends.{IsTicketOf, IsTakerOf, bounds_of, tags_of, sent, received};
 ghost use Rattle.mil_trunk.specs.Tags.{has, bound_of};
 
@@ -111,10 +112,12 @@ impl<'a> Promise<(Ticket<Item>, bool)> for Sends<'a> {
     ghost use Rattle.std.specs.Prelude.{◌≡◌, IsTrue};
     ghost use Rattle.mil_trunk.specs.Ends.{IsTicketOf, tags_of, sent};
 
-    ghost kept_by = { λ p r. IsTicketOf p.trunk.now r.0 × (tags_of r.0 ≡ tags_of p.ticket.value) × (IsTrue r.1 → sent r.0 ≡ p.items.now) };
+    ghost kept_by = { λ p r. IsTicketOf p.trunk.now r.0 × (tags_of r.0 ≡ tags_of p.ticket.value)
+        × (IsTrue r.1 → sent r.0 ≡ p.items.now) };
 }
 
-/// What the threads leave: the tickets taken in by one, the taker, what was taken, and whether all threads ran and sent all.
+/// What the threads leave: the tickets taken in by one, the taker, what was taken, and whether all threads ran and sent
+/// all.
 struct Ended {
     ticket: Ticket<Item>,
     taker: Taker<Item>,
@@ -135,7 +138,8 @@ fn start<'s, E, R: Wait + Sync>(
     requires tag { has (tags_of ticket) tag ≡ true }
     requires items { All (λ item. item.tag ≡ tag) items.now }
     requires bound { length items.now ≤ bound_of (bounds_of ticket) tag }
-    ensures { IfSome result (λ h. (h.promise.trunk.now ≡ trunk.now) × (h.promise.ticket.value ≡ ticket) × (h.promise.items.now ≡ items.now)) }
+    ensures { IfSome result (λ h. (h.promise.trunk.now ≡ trunk.now) × (h.promise.ticket.value ≡ ticket)
+        × (h.promise.items.now ≡ items.now)) }
 {
     let promise = Sends {
         trunk,
@@ -145,14 +149,17 @@ fn start<'s, E, R: Wait + Sync>(
     let started = scope.spawn_with(
         promise,
         move || -> (Ticket<Item>, bool)
-            requires { IsTicketOf trunk.now ticket × (sent ticket ≡ []) × (has (tags_of ticket) tag ≡ true) × All (λ item. item.tag ≡ tag) items.now × (length items.now ≤ bound_of (bounds_of ticket) tag) }
-            ensures { IsTicketOf trunk.entry.now result.0 × (tags_of result.0 ≡ tags_of ticket) × (IsTrue result.1 → sent result.0 ≡ items.entry.now) }
+            requires { IsTicketOf trunk.now ticket × (sent ticket ≡ []) × (has (tags_of ticket) tag ≡ true)
+                × All (λ item. item.tag ≡ tag) items.now × (length items.now ≤ bound_of (bounds_of ticket) tag) }
+            ensures { IsTicketOf trunk.entry.now result.0 × (tags_of result.0 ≡ tags_of ticket)
+                × (IsTrue result.1 → sent result.0 ≡ items.entry.now) }
         { offer_all(rt, trunk, ticket, tag, items) },
     );
     started.ok()
 }
 
-// Starts a thread for each list from the place `from` on, takes in the calling thread, and then takes the tickets in again.
+// Starts a thread for each list from the place `from` on, takes in the calling thread, and then takes the tickets in
+// again.
 fn run_from<'s, E, R: Wait + Threads + Sync>(
     scope: &Scope<'s, E>,
     rt: &'s R,
@@ -165,8 +172,10 @@ fn run_from<'s, E, R: Wait + Threads + Sync>(
     taken: Vec<Item>,
 ) -> Ended
     requires few { (length lists.now ≤ 64) × (from ≤ length lists.now) }
-    requires lists { (k : ℕ) (d : _) → k < length lists.now → All (λ item. item.tag ≡ k) (slice_index_or lists.now k d).items }
-    requires bounds { (k : ℕ) (d : _) → k < length lists.now → length (slice_index_or lists.now k d).items ≤ bound_of (bounds_of rest) k }
+    requires lists { (k : ℕ) (d : _) → k < length lists.now
+        → All (λ item. item.tag ≡ k) (slice_index_or lists.now k d).items }
+    requires bounds { (k : ℕ) (d : _) → k < length lists.now
+        → length (slice_index_or lists.now k d).items ≤ bound_of (bounds_of rest) k }
     requires ticket { IsTicketOf trunk.now rest × (sent rest ≡ []) }
     requires tags { (t : ℕ) → from ≤ t → t < 64 → has (tags_of rest) t ≡ true }
     requires taker { IsTakerOf trunk.now taker × (received taker ≡ taken.items) }
@@ -174,8 +183,10 @@ fn run_from<'s, E, R: Wait + Threads + Sync>(
     ensures ends { IsTicketOf trunk.now result.ticket × IsTakerOf trunk.now result.taker }
     ensures taken { received result.taker ≡ result.taken.items }
     ensures tags { IsTrue result.whole → (t : ℕ) → from ≤ t → t < 64 → has (tags_of result.ticket) t ≡ true }
-    ensures before { IsTrue result.whole → (t : ℕ) → t < from → filter (λ item. item.tag == t) (sent result.ticket) ≡ [] }
-    ensures sent { IsTrue result.whole → (k : ℕ) (d : _) → from ≤ k → k < length lists.now → filter (λ item. item.tag == k) (sent result.ticket) ≡ (slice_index_or lists.now k d).items }
+    ensures before { IsTrue result.whole → (t : ℕ) → t < from
+        → filter (λ item. item.tag == t) (sent result.ticket) ≡ [] }
+    ensures sent { IsTrue result.whole → (k : ℕ) (d : _) → from ≤ k → k < length lists.now
+        → filter (λ item. item.tag == k) (sent result.ticket) ≡ (slice_index_or lists.now k d).items }
 {
     if from == lists.len() {
         let (taker, taken) = take_all(rt, trunk, taker, wanted, taken);
@@ -225,8 +236,10 @@ fn in_scope<R: Wait + Threads + Sync>(
     taken: Vec<Item>,
 ) -> Ended
     requires few { length lists.now ≤ 64 }
-    requires lists { (k : ℕ) (d : _) → k < length lists.now → All (λ item. item.tag ≡ k) (slice_index_or lists.now k d).items }
-    requires bounds { (k : ℕ) (d : _) → k < length lists.now → length (slice_index_or lists.now k d).items ≤ bound_of (bounds_of ticket) k }
+    requires lists { (k : ℕ) (d : _) → k < length lists.now
+        → All (λ item. item.tag ≡ k) (slice_index_or lists.now k d).items }
+    requires bounds { (k : ℕ) (d : _) → k < length lists.now
+        → length (slice_index_or lists.now k d).items ≤ bound_of (bounds_of ticket) k }
     requires ticket { IsTicketOf trunk.now ticket × (sent ticket ≡ []) }
     requires tags { (t : ℕ) → t < 64 → has (tags_of ticket) t ≡ true }
     requires taker { IsTakerOf trunk.now taker × (received taker ≡ taken.items) }
@@ -234,20 +247,32 @@ fn in_scope<R: Wait + Threads + Sync>(
     ensures ends { IsTicketOf trunk.now result.ticket × IsTakerOf trunk.now result.taker }
     ensures taken { received result.taker ≡ result.taken.items }
     ensures tags { IsTrue result.whole → (t : ℕ) → t < 64 → has (tags_of result.ticket) t ≡ true }
-    ensures sent { IsTrue result.whole → (k : ℕ) (d : _) → k < length lists.now → filter (λ item. item.tag == k) (sent result.ticket) ≡ (slice_index_or lists.now k d).items }
+    ensures sent { IsTrue result.whole → (k : ℕ) (d : _) → k < length lists.now
+        → filter (λ item. item.tag == k) (sent result.ticket) ≡ (slice_index_or lists.now k d).items }
 {
     thread::scope(
         thread::scope_env(),
         rt,
         move |scope| -> Ended
-            requires { (length lists.now ≤ 64) × ((k : ℕ) (d : _) → k < length lists.now → All (λ item. item.tag ≡ k) (slice_index_or lists.now k d).items) × ((k : ℕ) (d : _) → k < length lists.now → length (slice_index_or lists.now k d).items ≤ bound_of (bounds_of ticket) k) × IsTicketOf trunk.now ticket × (sent ticket ≡ []) × ((t : ℕ) → t < 64 → has (tags_of ticket) t ≡ true) × IsTakerOf trunk.now taker × (received taker ≡ taken.items) × (vec_len taken + wanted ≤ vec_capacity taken) }
-            ensures { IsTicketOf trunk.entry.now result.ticket × IsTakerOf trunk.entry.now result.taker × (received result.taker ≡ result.taken.items) × (IsTrue result.whole → (t : ℕ) → t < 64 → has (tags_of result.ticket) t ≡ true) × (IsTrue result.whole → (k : ℕ) (d : _) → k < length lists.entry.now → filter (λ item. item.tag == k) (sent result.ticket) ≡ (slice_index_or lists.entry.now k d).items) }
+            requires { (length lists.now ≤ 64)
+                × ((k : ℕ) (d : _) → k < length lists.now
+                → All (λ item. item.tag ≡ k) (slice_index_or lists.now k d).items)
+                × ((k : ℕ) (d : _) → k < length lists.now
+                → length (slice_index_or lists.now k d).items ≤ bound_of (bounds_of ticket) k)
+                × IsTicketOf trunk.now ticket × (sent ticket ≡ [])
+                × ((t : ℕ) → t < 64 → has (tags_of ticket) t ≡ true) × IsTakerOf trunk.now taker
+                × (received taker ≡ taken.items) × (vec_len taken + wanted ≤ vec_capacity taken) }
+            ensures { IsTicketOf trunk.entry.now result.ticket × IsTakerOf trunk.entry.now result.taker
+                × (received result.taker ≡ result.taken.items)
+                × (IsTrue result.whole → (t : ℕ) → t < 64 → has (tags_of result.ticket) t ≡ true)
+                × (IsTrue result.whole → (k : ℕ) (d : _) → k < length lists.entry.now
+                → filter (λ item. item.tag == k) (sent result.ticket) ≡ (slice_index_or lists.entry.now k d).items) }
         { run_from(scope, rt, trunk, lists, 0, ticket, taker, wanted, taken) },
     )
 }
 
-// Sends each list with a ticket of its own, from threads of their own, while the calling thread takes. It answers what was taken, where
-// every thread ran and no turn limit was reached.
+// Sends each list with a ticket of its own, from threads of their own, while the calling thread takes. It answers what
+// was taken, where every thread ran and no turn limit was reached.
 fn exchange<R: Wait + Threads + Sync>(
     rt: &R,
     alloc: Global,
@@ -256,9 +281,12 @@ fn exchange<R: Wait + Threads + Sync>(
     wanted: usize,
 ) -> Result<Option<Vec<Item>>, Fail>
     requires few { length lists.now ≤ 64 }
-    requires lists { (k : ℕ) (d : _) → k < length lists.now → All (λ item. item.tag ≡ k) (slice_index_or lists.now k d).items }
+    requires lists { (k : ℕ) (d : _) → k < length lists.now
+        → All (λ item. item.tag ≡ k) (slice_index_or lists.now k d).items }
     requires short { (k : ℕ) (d : _) → k < length lists.now → length (slice_index_or lists.now k d).items ≤ 2 ^ 55 }
-    ensures { IfOk result (λ o. IfSome o (λ taken. (k : ℕ) (d : _) → k < length lists.now → filter (λ item. item.tag == k) taken.items ≡ (slice_index_or lists.now k d).items)) }
+    ensures { IfOk result (λ o. IfSome o
+        (λ taken. (k : ℕ) (d : _) → k < length lists.now
+        → filter (λ item. item.tag == k) taken.items ≡ (slice_index_or lists.now k d).items)) }
 {
     let (trunk, ticket, taker) = Trunk::make(alloc, capacity, &[BOUND; 64])?;
     let taken = Vec::with_capacity(alloc, wanted)?;
@@ -297,7 +325,9 @@ fn numbered(alloc: Global, tag: u8) -> Result<Vec<Item>, AllocError>
 // A list for each tag, from 0 on.
 fn lists_of(alloc: Global, tags: u8) -> Result<Vec<Vec<Item>>, AllocError>
     ensures len { IfOk result (λ v. length v.items ≡ tags) }
-    ensures lists { IfOk result (λ v. (k : ℕ) (d : _) → k < tags → All (λ item. item.tag ≡ k) (slice_index_or v.items k d).items × (length (slice_index_or v.items k d).items ≡ COUNT)) }
+    ensures lists { IfOk result (λ v. (k : ℕ) (d : _) → k < tags
+        → All (λ item. item.tag ≡ k) (slice_index_or v.items k d).items
+        × (length (slice_index_or v.items k d).items ≡ COUNT)) }
 {
     let mut lists = Vec::new(alloc);
     for tag in 0..tags {
@@ -306,7 +336,8 @@ fn lists_of(alloc: Global, tags: u8) -> Result<Vec<Vec<Item>>, AllocError>
     Ok(lists)
 }
 
-// Lets a thread for each tag send its items, and says whether each list arrived whole and in its order, and nothing else.
+// Lets a thread for each tag send its items, and says whether each list arrived whole and in its order, and nothing
+// else.
 fn all_arrive<R: Wait + Threads + Sync>(
     rt: &R,
     alloc: Global,

@@ -51,7 +51,8 @@ fn stands_as(replay: &Replay<'_>, other: &mut Replay<'_>) -> bool {
     other.go(replay.place()).is_ok() && seen_at(replay) == seen_at(other)
 }
 
-/// After how many steps back at most 63 messages were played, and the state is that of another recording that goes there.
+/// After how many steps back at most 63 messages were played, and the state is that of another recording that goes
+/// there.
 fn good_steps(replay: &mut Replay<'_>, other: &mut Replay<'_>, steps: u64) -> u64 {
     let mut good = 0u64;
     for _ in 0..steps {

@@ -58,7 +58,8 @@ fn begins(rt: &impl Abort, replay: &Replay<'_>, total: u64) {
     }
 }
 
-/// The moves of some rows, and those of others over the same recording opened anew, lead to the same state at the same time.
+/// The moves of some rows, and those of others over the same recording opened anew, lead to the same state at the same
+/// time.
 fn meets(
     rt: &impl Abort,
     alloc: Global,

@@ -60,8 +60,8 @@ fn plays(rt: &impl Abort, world: &mut World, steps: &[Step]) {
     assert!(rt; is_played, "steps");
 }
 
-/// What a bench records of one job, with a queue of one item, where its messages are offered in parts: so many, and then one is
-/// taken. Only the first of each part is kept.
+/// What a bench records of one job, with a queue of one item, where its messages are offered in parts: so many, and
+/// then one is taken. Only the first of each part is kept.
 pub(crate) fn record_of(rt: &impl Abort, alloc: Global, text: &str, parts: &[u16]) -> Recorded {
     let jobs = jobs_of(rt, alloc, text);
     let mut world = world_of(rt, alloc, &jobs);

@@ -26,7 +26,8 @@ pub(crate) enum Move {
 /// Number, status and last command of terminal 5.
 pub(crate) type Shown = (u32, u16, u16);
 
-/// A move, its answer, the place behind it, and, where they are compared, the state there and how many messages were played.
+/// A move, its answer, the place behind it, and, where they are compared, the state there and how many messages were
+/// played.
 pub(crate) type Row = (
     Move,
     Result<(), ReplayError>,
