@@ -1,6 +1,5 @@
 pub mod Meeting
 pub mod Unmet
-pub mod Rooms
 pub mod Filling
 pub mod Overruns
 pub mod Fitting

@@ -1,4 +1,7 @@
 //! Why a job was not tried, or not to its end.
+ghost use Rattle.std.specs.Prelude.{◌≡◌};
+ghost use Rattle.bench_check.specs.declared.fault.CheckFault.TheVariants.{Device, Memory};
+
 use std::alloc::AllocError;
 use std::io;
 
@@ -13,13 +16,17 @@ pub enum CheckFault {
 }
 
 impl From<AllocError> for CheckFault {
-    fn from(_: AllocError) -> CheckFault {
+    ghost from_gives = { λ _ e. e ≡ Memory };
+
+    fn from(_e: AllocError) -> CheckFault {
         CheckFault::Memory
     }
 }
 
 impl From<io::Error> for CheckFault {
-    fn from(_: io::Error) -> CheckFault {
+    ghost from_gives = { λ _ e. e ≡ Device };
+
+    fn from(_e: io::Error) -> CheckFault {
         CheckFault::Device
     }
 }

@@ -6,7 +6,7 @@ ghost use Rattle.mil_line.specs.Plans.{faults_of};
 ghost use Rattle.mil_bus.specs.Exchange.{now_of, talk_start};
 ghost use Rattle.bench_check.specs.Meeting.{meets as is_met};
 ghost use Rattle.bench_check.specs.Unmet as spec;
-ghost use Rattle.bench_check.specs.Rooms.{room_of};
+ghost use Rattle.job_file.specs.Rooms.{most_items};
 ghost use Rattle.bench_check.specs.Overruns.{overruns, overruns_at};
 
 use crate::calls::Calls;
@@ -142,7 +142,7 @@ pub fn try_job<W: Write>(
 ) -> Result<Findings, CheckFault>
     ensures made { IfOk result (λ f. f.made ≡ spec.made job.now) }
     ensures unmet { IfOk result (λ f. f.unmet.items ≡ spec.unmet job.now) }
-    ensures room { IfOk result (λ f. f.room ≡ room_of job.now) }
+    ensures room { IfOk result (λ f. f.room ≡ most_items job.now) }
     ensures overruns { IfOk result (λ f. f.overruns.items ≡ overruns job.now) }
 {
     job_runs();

@@ -38,6 +38,7 @@ Example:
   bench run --live --show --out flight.ch11 --report flight.report avionics.job <host.fifo
   bench run --complete --setup flight.tmats --out flight.ch10 --report flight.report avionics.job stores.job";
 
+/// `bench run` as its command line has it: its files, settings and ways to go, and its help.
 pub(crate) fn run_command<'a>(alloc: Global) -> Result<Command<'a>, AllocError> {
     let jobs = Arg::new(alloc, "JOB").num_args(0usize..).help(
         "The job of a channel, as a text; 1 to 32 of them, each of another channel",

@@ -1,4 +1,7 @@
 //! Why a recording was not exported, or not to its end.
+ghost use Rattle.std.specs.Prelude.{◌≡◌};
+ghost use Rattle.bench_export.specs.declared.fault.ExportFault.TheVariants.{Device, Memory};
+
 use csv::ErrorKind;
 use std::alloc::AllocError;
 use std::io;
@@ -24,13 +27,17 @@ impl ExportFault {
 }
 
 impl From<AllocError> for ExportFault {
-    fn from(_: AllocError) -> ExportFault {
+    ghost from_gives = { λ _ e. e ≡ Memory };
+
+    fn from(_e: AllocError) -> ExportFault {
         ExportFault::Memory
     }
 }
 
 impl From<io::Error> for ExportFault {
-    fn from(_: io::Error) -> ExportFault {
+    ghost from_gives = { λ _ e. e ≡ Device };
+
+    fn from(_e: io::Error) -> ExportFault {
         ExportFault::Device
     }
 }

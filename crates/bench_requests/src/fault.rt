@@ -1,5 +1,6 @@
 //! Why `bench` stops, and with which exit status.
 ghost use Rattle.std.specs.Prelude.{◌≡◌};
+ghost use Rattle.bench_requests.specs.declared.fault.Fault.TheVariants as faults;
 ghost use Rattle.bench_requests.specs.Status.{status_of, fault_of, fault_of_settings, IsOfOut, IsOfStep};
 
 use bench_assemble::AssembleFault;
@@ -165,7 +166,9 @@ impl<'a> Fault<'a> {
 }
 
 impl<'a> From<AllocError> for Fault<'a> {
-    fn from(_: AllocError) -> Fault<'a> {
+    ghost from_gives = { λ _ e. e ≡ faults.Memory };
+
+    fn from(_e: AllocError) -> Fault<'a> {
         Fault::Memory
     }
 }

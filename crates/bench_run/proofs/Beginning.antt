@@ -7,7 +7,8 @@ use Rattle.job_file.specs.Jobs.{JobState}
 use Rattle.bench_report.specs.Reports.{ChannelPart}
 use Rattle.bench_run.specs.declared.entry.Entry.{Entry}
 use Rattle.bench_run.specs.Entries.{index_of}
-use Rattle.bench_run.specs.Runs.{ArePairs, most_items}
+use Rattle.bench_run.specs.Runs.{ArePairs}
+use Rattle.job_file.specs.Rooms.{most_items}
 use Rattle.bench_run.specs.Threads.{IsCountedIn, AreJoined}
 use Rattle.bench_run.specs.Ending.{IsAll}
 

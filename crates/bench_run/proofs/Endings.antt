@@ -25,7 +25,8 @@ use Rattle.bench_core.specs.Settled.{kept, is_kept}
 use Rattle.bench_run.specs.declared.entry.Entry.{Entry}
 use Rattle.bench_run.specs.declared.entry.Entry.TheVariants as entry
 use Rattle.bench_run.specs.Entries.{index_of, item_of, entry_of, entries_to_the_end}
-use Rattle.bench_run.specs.Runs.{ArePairs, IsPartOf, IsReadAs, records_of, kept_below, most_items, most_in_all, others_than, IsOther}
+use Rattle.bench_run.specs.Runs.{ArePairs, IsPartOf, IsReadAs, records_of, kept_below, most_in_all, others_than, IsOther}
+use Rattle.job_file.specs.Rooms.{most_items}
 use Rattle.bench_run.specs.Threads.{IsCountedIn}
 use Rattle.bench_run.specs.Writer.{IsUnfit, AreOrdered}
 use Rattle.bench_run.specs.Ending.{IsAll}

@@ -17,7 +17,8 @@ use Rattle.bench_run.specs.declared.mailbox.Mailbox.{Mailbox}
 use Rattle.bench_run.specs.declared.mailbox.Inbox.{Inbox}
 use Rattle.bench_run.specs.declared.threads.Joined.{Joined}
 use Rattle.bench_run.specs.Entries.{index_of, entries_to_the_end}
-use Rattle.bench_run.specs.Runs.{ArePairs, records_of, most_items, most_in_all, others_than}
+use Rattle.bench_run.specs.Runs.{ArePairs, records_of, most_in_all, others_than}
+use Rattle.job_file.specs.Rooms.{most_items}
 use Rattle.bench_run.specs.Mail.{received_by, IsInboxOf}
 use Rattle.bench_run.specs.Live.{with_posts, LiveChannel, live_job, ArePlaced, AreLive, AreInboxesOf}
 use Rattle.bench_run.specs.Threads.{IsCounted, IsCountedIn, AreEnded}

@@ -20,7 +20,8 @@ use Rattle.bench_core.proofs.Lists.{NoneAbove, kept_more, kept_same}
 use Rattle.bench_run.specs.declared.entry.Entry.{Entry}
 use Rattle.bench_run.specs.declared.entry.Entry.TheVariants as entry
 use Rattle.bench_run.specs.Entries.{index_of, entry_of}
-use Rattle.bench_run.specs.Runs.{records_of, kept_below, most_items}
+use Rattle.bench_run.specs.Runs.{records_of, kept_below}
+use Rattle.job_file.specs.Rooms.{most_items}
 use Rattle.bench_run.specs.Threads.{SoFar, AllOffered}
 use Rattle.bench_run.proofs.Offering.{take_more, all_more, none_above, rises_on, rises_more, rises_length, length-kept, full_more}
 

@@ -13,7 +13,8 @@ use Rattle.ch11_recording.specs.Recording.{AreDistinct}
 use Rattle.bench_core.specs.Lawful.{channels_of}
 use Rattle.bench_run.specs.declared.entry.Entry.{Entry}
 use Rattle.bench_run.specs.Entries.{index_of, entry_of, entries_to_the_end}
-use Rattle.bench_run.specs.Runs.{most_items, most_in_all, others_than}
+use Rattle.bench_run.specs.Runs.{most_in_all, others_than}
+use Rattle.job_file.specs.Rooms.{most_items}
 use Rattle.bench_run.specs.Threads.{HasOnly}
 
 -- ---- bounds

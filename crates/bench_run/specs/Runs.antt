@@ -4,9 +4,8 @@ use Rattle.std.specs.Prelude.{Ok}
 use Rattle.std.specs.List.{AllByRecursion, filter}
 use Rattle.std.specs.Io.KnownBytes.{Appends}
 use Rattle.mil_monitor.specs.declared.Record.{Record}
-use Rattle.frame_asm.specs.Shapes.{code_of}
-use Rattle.frame_load.specs.Budget.{worst_messages}
-use Rattle.job_file.specs.Jobs.{JobState, tree_in, job_in}
+use Rattle.job_file.specs.Jobs.{JobState, job_in}
+use Rattle.job_file.specs.Rooms.{most_items}
 use Rattle.job_file.specs.Meaning.{records}
 use Rattle.ch11_f1.specs.Again.{as_message}
 use Rattle.ch11_builder.specs.Packet.{messages_of}
@@ -28,10 +27,6 @@ use Rattle.bench_run.specs.declared.error.RunError.TheVariants as fault
 -- the records that a job means under its own actions
 abbrev pub records_of : JobState → List Record
 records_of job = records (job_in job) job.actions
-
--- how many items a channel offers at most: its messages and its end mark
-abbrev pub most_items : JobState → ℕ
-most_items job = worst_messages (code_of (tree_in job)).operations + 1
 
 -- how many items the jobs offer together at most
 abbrev pub most_in_all : List JobState → ℕ

@@ -32,7 +32,8 @@ use Rattle.bench_run.specs.Mail.{received_by, IsInboxOf}
 use Rattle.bench_run.specs.Live.{with_posts, ArePlaced}
 use Rattle.bench_run.specs.Posted.{IsPosted}
 use Rattle.bench_run.specs.Entries.{index_of, entry_of, entries_to_the_end}
-use Rattle.bench_run.specs.Runs.{records_of, kept_below, most_items, most_in_all, others_than}
+use Rattle.bench_run.specs.Runs.{records_of, kept_below, most_in_all, others_than}
+use Rattle.job_file.specs.Rooms.{most_items}
 
 -- What the thread of a job reports: all of the job's messages were made, and they are a bus monitor's; the placed
 -- actions are the job's; a message was refused only where the capacity is at most what the channel kept before and what

@@ -2,7 +2,8 @@
 ghost use Rattle.std.specs.Prelude.{◌≡◌, ◌<◌, ◌≤◌, ◌-◌, ◌++◌, ◌∷◌, [], true, length, vec_capacity, slice_get, Some};
 ghost use Rattle.mil_trunk.specs.Tags.{has, bound_of};
 ghost use Rattle.mil_trunk.specs.Ends.{IsTicketOf, tags_of, bounds_of, sent};
-ghost use Rattle.bench_run.specs.Runs.{records_of, most_items};
+ghost use Rattle.bench_run.specs.Runs.{records_of};
+ghost use Rattle.job_file.specs.Rooms.{most_items};
 ghost use Rattle.ch11_builder.specs.Recorded.{IsRecorded};
 ghost use Rattle.ch11_recording.specs.Items.{numbered};
 ghost use Rattle.job_file.specs.Jobs.{JobState};

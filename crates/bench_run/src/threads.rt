@@ -8,7 +8,8 @@ ghost use Rattle.mil_trunk.specs.Ends.{IsTicketOf, capacity_of, tags_of, bounds_
 ghost use Rattle.ch11_recording.specs.Recording.{AreDistinct};
 ghost use Rattle.bench_core.specs.Lawful.{channels_of};
 ghost use Rattle.bench_run.specs.Entries.{index_of};
-ghost use Rattle.bench_run.specs.Runs.{ArePairs, most_items};
+ghost use Rattle.bench_run.specs.Runs.{ArePairs};
+ghost use Rattle.job_file.specs.Rooms.{most_items};
 ghost use Rattle.bench_run.specs.declared.channel.Room.{Room};
 ghost use Rattle.bench_run.specs.declared.threads.Joined.{Joined};
 ghost use Rattle.bench_run.specs.Mail.{IsInboxOf};

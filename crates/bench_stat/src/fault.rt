@@ -1,4 +1,7 @@
 //! Why figures were not printed.
+ghost use Rattle.std.specs.Prelude.{◌≡◌};
+ghost use Rattle.bench_stat.specs.declared.fault.StatFault.TheVariants.{Device, Memory};
+
 use std::alloc::AllocError;
 use std::io;
 
@@ -13,13 +16,17 @@ pub enum StatFault {
 }
 
 impl From<AllocError> for StatFault {
-    fn from(_: AllocError) -> StatFault {
+    ghost from_gives = { λ _ e. e ≡ Memory };
+
+    fn from(_e: AllocError) -> StatFault {
         StatFault::Memory
     }
 }
 
 impl From<io::Error> for StatFault {
-    fn from(_: io::Error) -> StatFault {
+    ghost from_gives = { λ _ e. e ≡ Device };
+
+    fn from(_e: io::Error) -> StatFault {
         StatFault::Device
     }
 }

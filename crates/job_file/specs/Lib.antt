@@ -12,6 +12,7 @@ pub mod Reading
 pub mod Faults
 pub mod Scripts
 pub mod Jobs
+pub mod Rooms
 pub mod PlainJob
 pub mod Meaning
 pub mod Machines

@@ -8,7 +8,8 @@ use Rattle.job_file.specs.Jobs.{tree_in, job_in}
 use Rattle.bench_report.specs.Reports.{Rises}
 use Rattle.bench_run.specs.Mail.{received_by}
 use Rattle.bench_run.specs.Live.{with_posts}
-use Rattle.bench_run.specs.Runs.{records_of, most_items}
+use Rattle.bench_run.specs.Runs.{records_of}
+use Rattle.job_file.specs.Rooms.{most_items}
 use Rattle.bench_run.specs.Threads.{SoFar}
 use Rattle.bench_run.proofs.Stages.{first_stage, last_stage, few_sent, by_ticket, by_given}
 use Rattle.bench_run.proofs.PlacedPosts.{placed_all}

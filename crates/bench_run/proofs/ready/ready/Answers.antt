@@ -1,6 +1,6 @@
 use Rattle.std.proofs.Common.{◌∙◌, arith, map, subst}
 use Rattle.std.proofs.lemmas.List.{length-map}
-use Rattle.bench_run.specs.Runs.{most_items}
+use Rattle.job_file.specs.Rooms.{most_items}
 use Rattle.bench_run.proofs.Limits.{AreLow, each_low, sum_low}
 use Rattle.bench_run.proofs.ready.ready.Goals as goal
 

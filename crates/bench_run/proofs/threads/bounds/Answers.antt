@@ -3,7 +3,7 @@ use Rattle.std.specs.Prelude.{Some, slice_get}
 use Rattle.std.proofs.lemmas.List.{map-append, take_all}
 use Rattle.std.proofs.lemmas.Option.{slice_get_read}
 use Rattle.frame_load.specs.Budget.{worst_messages}
-use Rattle.bench_run.specs.Runs.{most_items}
+use Rattle.job_file.specs.Rooms.{most_items}
 use Rattle.bench_run.proofs.Offering.{take_more}
 use Rattle.bench_run.proofs.Limits.{low_more}
 use Rattle.bench_run.proofs.threads.bounds.Goals as goal

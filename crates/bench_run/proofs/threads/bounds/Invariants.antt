@@ -1,5 +1,5 @@
 use Rattle.std.proofs.Common.{◌≡◌, ◌≤◌, length, map, take, vec_len, vec_capacity}
-use Rattle.bench_run.specs.Runs.{most_items}
+use Rattle.job_file.specs.Rooms.{most_items}
 use Rattle.bench_run.proofs.Limits.{AreLow}
 use Rattle.bench_run.proofs.threads.bounds.Given as goal
 
