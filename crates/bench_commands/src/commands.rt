@@ -7,6 +7,7 @@ use crate::decoding::show_messages;
 use crate::explaining::show_explanations;
 use crate::exporting::export_recording;
 use crate::given_words::{word_at_fault, words_of};
+use crate::hosts::{Errors, Host};
 use crate::judging::judge_recording;
 use crate::looking::{draw_picture, tell_of_loss};
 use crate::pointing::point;
@@ -23,35 +24,14 @@ use clap::error::ErrorKind;
 use std::io;
 use std::io::{BufWriter, IsTerminal, Write};
 use std::process::ExitCode;
-use std::rt::{Clock, Env, Files};
-use std::sync::Wait;
-use std::thread::Threads;
+use std::rt::Files;
 
 /// The exit status of a usage fault.
 const USAGE: u8 = 2;
 
 /// Reads the command line, does what it asks, and says how the process ends. What it says of faults and of its
 /// progress goes to `errors`.
-pub fn run<
-    R: Env
-        + Files
-        + AllocGlobal
-        + Input
-        + Print
-        + Clock
-        + Threads
-        + Wait
-        + Clone
-        + Drop
-        + Send
-        + Sync
-        + 'static,
-    E: Eprint + IsTerminal + Clone + Drop + Send + Sync + 'static,
->(rt: &R, errors: &E) -> ExitCode
-where
-    R::Reader: IsTerminal + Send + 'static,
-    R::File: Hold,
-{
+pub fn run<R: Host, E: Errors>(rt: &R, errors: &E) -> ExitCode {
     match words_of(rt) {
         Ok(words) => run_words(rt, errors, words.as_slice()),
         Err(error) if error.kind() == io::ErrorKind::OutOfMemory => stop(errors, &Fault::Memory),
@@ -72,26 +52,7 @@ where
     }
 }
 
-fn run_words<
-    R: Env
-        + Files
-        + AllocGlobal
-        + Input
-        + Print
-        + Clock
-        + Threads
-        + Wait
-        + Clone
-        + Drop
-        + Send
-        + Sync
-        + 'static,
-    E: Eprint + IsTerminal + Clone + Drop + Send + Sync + 'static,
->(rt: &R, errors: &E, words: &[String]) -> ExitCode
-where
-    R::Reader: IsTerminal + Send + 'static,
-    R::File: Hold,
-{
+fn run_words<R: Host, E: Errors>(rt: &R, errors: &E, words: &[String]) -> ExitCode {
     match command_line::read(rt.alloc(), words) {
         Ok(asked) => match obey(rt, errors, &asked) {
             Ok(()) => ExitCode::SUCCESS,
@@ -135,27 +96,7 @@ fn stop<E: Eprint>(errors: &E, fault: &Fault<'_>) -> ExitCode {
     ExitCode::from(fault.status())
 }
 
-fn obey<
-    'a,
-    R: Env
-        + Files
-        + AllocGlobal
-        + Input
-        + Print
-        + Clock
-        + Threads
-        + Wait
-        + Clone
-        + Drop
-        + Send
-        + Sync
-        + 'static,
-    E: Eprint + IsTerminal + Clone + Drop + Send + Sync + 'static,
->(rt: &R, errors: &E, asked: &Asked<'a>) -> Result<(), Fault<'a>>
-where
-    R::Reader: IsTerminal + Send + 'static,
-    R::File: Hold,
-{
+fn obey<'a, R: Host, E: Errors>(rt: &R, errors: &E, asked: &Asked<'a>) -> Result<(), Fault<'a>> {
     match &asked.request {
         Request::One {
             channel,

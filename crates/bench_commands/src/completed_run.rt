@@ -2,11 +2,11 @@
 
 use crate::command_line::file;
 use crate::completing::{fault_of, start_of, with_time, write_out};
+use crate::hosts::{Errors, Host};
 use crate::live_run::{Way, record};
 use crate::recording::finish;
 use bench_complete::{Additions, CompleteFault, Completion, UtcSecond};
 use bench_core::Settings;
-use bench_files::Hold;
 use bench_live::Show;
 use bench_report::Report;
 use bench_requests::{Ending, Fault, RunFiles, RunRequest, read_whole};
@@ -15,10 +15,7 @@ use ch11_writer::MemorySink;
 use clap::{Arg, ArgAction, ArgMatches, Command};
 use job_file::{Job, next_record};
 use std::alloc::{AllocError, Global};
-use std::io::IsTerminal;
-use std::rt::{Clock, Files};
-use std::sync::Wait;
-use std::thread::Threads;
+use std::rt::Files;
 
 /// How the recording of a run is completed.
 #[derive(Clone, Copy, Debug)]
@@ -145,11 +142,7 @@ fn judge_before(
 
 /// Records jobs and settings that may be run, and writes the complete file of the recording into files that were begun,
 /// then the report, which is answered. Where there is a fault, what was there stays.
-pub(crate) fn record_completed<
-    'a,
-    R: Files + AllocGlobal + Input + Clock + Threads + Wait + Clone + Drop + Send + Sync + 'static,
-    E: Eprint + IsTerminal + Clone + Drop + Send + Sync + 'static,
->(
+pub(crate) fn record_completed<'a, R: Host, E: Errors>(
     rt: &R,
     errors: &E,
     request: &RunRequest<'a>,
@@ -159,11 +152,7 @@ pub(crate) fn record_completed<
     settings: &Settings,
     additions: &Additions<'_>,
     files: RunFiles<'a, R::File>,
-) -> Result<Report, Fault<'a>>
-where
-    R::File: Hold,
-    R::Reader: Send + 'static,
-{
+) -> Result<Report, Fault<'a>> {
     let mut files = files;
     match complete_into(
         rt, errors, request, way, show, jobs, settings, additions, &mut files,
@@ -188,11 +177,7 @@ fn with_text<'b>(additions: &Additions<'_>, text: &'b [u8]) -> Additions<'b> {
 
 /// Records jobs, and writes the complete file of the recording, which is kept in memory until then. What is to be added
 /// is judged before the first message as far as that needs no recording, and again behind the last.
-fn complete_into<
-    'a,
-    R: Files + AllocGlobal + Input + Clock + Threads + Wait + Clone + Drop + Send + Sync + 'static,
-    E: Eprint + IsTerminal + Clone + Drop + Send + Sync + 'static,
->(
+fn complete_into<'a, R: Host, E: Errors>(
     rt: &R,
     errors: &E,
     request: &RunRequest<'a>,
@@ -202,11 +187,7 @@ fn complete_into<
     settings: &Settings,
     additions: &Additions<'_>,
     files: &mut RunFiles<'a, R::File>,
-) -> Result<Report, Fault<'a>>
-where
-    R::File: Hold,
-    R::Reader: Send + 'static,
-{
+) -> Result<Report, Fault<'a>> {
     if let Err(fault) = judge_before(rt.alloc(), jobs, settings, request.drops, additions) {
         return Err(fault_of(fault, ""));
     }

@@ -13,6 +13,7 @@ mod differing;
 mod explaining;
 mod exporting;
 mod given_words;
+mod hosts;
 mod judged_run;
 mod judging;
 mod live_run;

@@ -2,6 +2,7 @@
 //! real time, and messages shown as they are recorded.
 ghost use Rattle.std.specs.Prelude.{◌-◌, ◌<◌, ◌^◌};
 
+use crate::hosts::{Errors, Host};
 use crate::judging::is_for_people;
 use bench_core::Settings;
 use bench_decode::Shown;
@@ -15,9 +16,9 @@ use ch11_writer::Sink;
 use clap::{Arg, ArgAction, ArgMatches, Command};
 use job_file::Job;
 use std::alloc::{AllocError, Global};
-use std::io::{BufReader, IsTerminal};
-use std::rt::{Clock, Env, Files};
-use std::sync::{Arc, Wait};
+use std::io::BufReader;
+use std::rt::Files;
+use std::sync::Arc;
 use std::thread::Threads;
 
 /// How a run goes on.
@@ -109,20 +110,10 @@ pub(crate) fn with_posts(settings: Settings, way: Way) -> Settings {
 }
 
 /// Starts what shows messages, where they are to be shown.
-pub(crate) fn begin_showing<
-    R: Env
-        + Files
-        + AllocGlobal
-        + Print
-        + Clock
-        + Threads
-        + Wait
-        + Clone
-        + Drop
-        + Send
-        + Sync
-        + 'static,
->(rt: &R, going: &Going<'_>) -> Result<Option<Showing>, AllocError> {
+pub(crate) fn begin_showing<R: Host>(
+    rt: &R,
+    going: &Going<'_>,
+) -> Result<Option<Showing>, AllocError> {
     if !going.show {
         return Ok(None);
     }
@@ -149,11 +140,7 @@ pub(crate) fn end_showing<R: Threads, E: Eprint>(rt: &R, errors: &E, showing: Op
 
 /// The report of a recording that is whole, and its sink: of a run that goes on like that, whose messages are shown
 /// where there is something that shows them.
-pub(crate) fn record<
-    R: AllocGlobal + Input + Clock + Threads + Wait + Clone + Drop + Send + Sync + 'static,
-    E: Eprint + IsTerminal + Clone + Drop + Send + Sync + 'static,
-    S: Sink + Drop,
->(
+pub(crate) fn record<R: Host, E: Errors, S: Sink + Drop>(
     rt: &R,
     errors: &E,
     way: Way,
@@ -162,8 +149,6 @@ pub(crate) fn record<
     settings: &Settings,
     sink: S,
 ) -> Result<(Report, S), RunError<S>>
-where
-    R::Reader: Send + 'static,
     requires countable { S.failures sink < 2 ^ 64 - 1 }
 {
     let manner = way.manner;
@@ -182,11 +167,7 @@ where
 
 /// The same while a thread of its own posts what the lines of the standard input ask for. The run does not wait for
 /// that thread.
-fn record_beside<
-    R: AllocGlobal + Input + Clock + Threads + Wait + Clone + Drop + Send + Sync + 'static,
-    E: Eprint + IsTerminal + Clone + Drop + Send + Sync + 'static,
-    S: Sink + Drop,
->(
+fn record_beside<R: Host, E: Errors, S: Sink + Drop>(
     rt: &R,
     errors: &E,
     manner: Manner,
@@ -195,8 +176,6 @@ fn record_beside<
     settings: &Settings,
     sink: S,
 ) -> Result<(Report, S), RunError<S>>
-where
-    R::Reader: Send + 'static,
     requires countable { S.failures sink < 2 ^ 64 - 1 }
 {
     let alloc = rt.alloc();

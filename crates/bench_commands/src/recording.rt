@@ -3,6 +3,7 @@
 use crate::completed_run::{
     Completing, additions_in, record_completed, setup_in, setup_text, start_in,
 };
+use crate::hosts::{Errors, Host};
 use crate::judged_run::{judge_run, rules_of_run};
 use crate::live_run::{Going, Way, begin_showing, end_showing, record, way_of, with_posts};
 use bench_complete::Additions;
@@ -19,10 +20,8 @@ use ch11_writer::StdSink;
 use job_file::Job;
 use std::alloc::{AllocError, Global};
 use std::io;
-use std::io::{BufWriter, IsTerminal, Write};
-use std::rt::{Clock, Env, Files};
-use std::sync::Wait;
-use std::thread::Threads;
+use std::io::{BufWriter, Write};
+use std::rt::Files;
 
 /// Records the jobs into the out file; once that is whole, writes the report and prints how much was recorded. Before
 /// anything else the files that are written are told apart from one another and from those that are read. Then all
@@ -30,33 +29,13 @@ use std::thread::Threads;
 /// once both are whole; jobs and settings are judged behind whether they can be written. Rules are read and judged
 /// before all that; the recording is judged by them behind its counts. Where that is asked for, the complete file of
 /// the recording stands in its place.
-pub fn run_jobs<
-    'a,
-    R: Env
-        + Files
-        + AllocGlobal
-        + Input
-        + Print
-        + Clock
-        + Threads
-        + Wait
-        + Clone
-        + Drop
-        + Send
-        + Sync
-        + 'static,
-    E: Eprint + IsTerminal + Clone + Drop + Send + Sync + 'static,
->(
+pub fn run_jobs<'a, R: Host, E: Errors>(
     rt: &R,
     errors: &E,
     request: &RunRequest<'a>,
     completing: Option<&Completing<'a>>,
     going: &Going<'a>,
-) -> Result<(), Fault<'a>>
-where
-    R::File: Hold,
-    R::Reader: Send + 'static,
-{
+) -> Result<(), Fault<'a>> {
     let start = start_in(completing)?;
     let way = way_of(rt, going, request)?;
     told_apart(
@@ -91,23 +70,7 @@ where
 
 /// Records jobs and settings that may be run into files that were begun, and prints how much was recorded, behind the
 /// messages where these are shown.
-fn record_and_tell<
-    'a,
-    R: Env
-        + Files
-        + AllocGlobal
-        + Input
-        + Print
-        + Clock
-        + Threads
-        + Wait
-        + Clone
-        + Drop
-        + Send
-        + Sync
-        + 'static,
-    E: Eprint + IsTerminal + Clone + Drop + Send + Sync + 'static,
->(
+fn record_and_tell<'a, R: Host, E: Errors>(
     rt: &R,
     errors: &E,
     request: &RunRequest<'a>,
@@ -117,11 +80,7 @@ fn record_and_tell<
     settings: &Settings,
     additions: Option<Additions<'_>>,
     files: RunFiles<'a, R::File>,
-) -> Result<(), Fault<'a>>
-where
-    R::File: Hold,
-    R::Reader: Send + 'static,
-{
+) -> Result<(), Fault<'a>> {
     let is_output = files.are_output();
     let Ok(showing) = begin_showing(rt, going) else {
         files.end(rt, Ending::Broken)?;
@@ -143,11 +102,7 @@ where
 
 /// Records jobs and settings that may be run into files that were begun, and gives these their places. The report is
 /// answered.
-fn record_into<
-    'a,
-    R: Files + AllocGlobal + Input + Clock + Threads + Wait + Clone + Drop + Send + Sync + 'static,
-    E: Eprint + IsTerminal + Clone + Drop + Send + Sync + 'static,
->(
+fn record_into<'a, R: Host, E: Errors>(
     rt: &R,
     errors: &E,
     way: Way,
@@ -155,11 +110,7 @@ fn record_into<
     jobs: &[Job],
     settings: &Settings,
     files: RunFiles<'a, R::File>,
-) -> Result<Report, Fault<'a>>
-where
-    R::File: Hold,
-    R::Reader: Send + 'static,
-{
+) -> Result<Report, Fault<'a>> {
     let mut files = files;
     let file = match files.recording(rt) {
         Ok(file) => file,
