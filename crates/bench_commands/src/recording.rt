@@ -10,12 +10,12 @@ use bench_complete::Additions;
 use bench_core::{Settings, judge};
 use bench_files::Hold;
 use bench_live::Show;
-use bench_record::{Counts, print_counts, refusals};
 use bench_report::{Report, print_report};
 use bench_requests::{
     Ending, Fault, RunFiles, RunRequest, ending_of_run, ending_of_settings, jobs_of, read_texts,
     read_whole, settings_of, told_apart,
 };
+use bench_run_command::{Counts, print_counts, refusals};
 use ch11_writer::StdSink;
 use job_file::Job;
 use std::alloc::{AllocError, Global};

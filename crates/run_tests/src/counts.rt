@@ -1,6 +1,6 @@
 //! The counts of a report and their line, and how many messages were refused.
-use bench_record::{Counts, print_counts, refusals};
 use bench_report::read_report;
+use bench_run_command::{Counts, print_counts, refusals};
 use std::alloc::Global;
 use std::process::Abort;
 

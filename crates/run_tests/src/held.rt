@@ -3,9 +3,9 @@ ghost use Rattle.std.specs.Prelude.{◌-◌, ◌<◌, ◌^◌};
 
 use crate::fixtures::{has_packets_of, is_printed, job_of, settings_of};
 use crate::sinks::is_fault;
-use bench_record::record_jobs_held;
 use bench_report::Report;
 use bench_run::RunError;
+use bench_run_command::record_jobs_held;
 use ch11_writer::{FuseSink, MemorySink, Sink};
 use job_file::Job;
 use std::alloc::Global;

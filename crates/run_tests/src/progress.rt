@@ -1,6 +1,6 @@
 //! What is shown on a terminal while a recording is made.
-use bench_record::Progress;
 use bench_run::{Gate, HoldingGate};
+use bench_run_command::Progress;
 use std::fmt::Display;
 use std::io::{self, IsTerminal};
 use std::rt::Clock;

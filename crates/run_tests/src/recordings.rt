@@ -1,8 +1,8 @@
 //! Jobs on threads, into a sink in memory.
 use crate::fixtures::{TEN_MESSAGES, TEN_REPORT, is_printed, jobs_of, settings_of};
-use bench_record::{Counts, record_jobs, record_jobs_with_progress};
 use bench_report::Report;
 use bench_run::RunError;
+use bench_run_command::{Counts, record_jobs, record_jobs_with_progress};
 use ch11_reader::Index;
 use ch11_writer::{FuseSink, MemorySink, Sink};
 use std::alloc::Global;

@@ -1,7 +1,7 @@
 use Rattle.std.proofs.Common.{◌≡◌, ◌++◌, take, string_bytes, codes, decimal}
 use Rattle.std.specs.List.{flat_map}
-use Rattle.bench_record.specs.Refused.{refused_of}
-use Rattle.bench_record.proofs.refused.refusals.Given as goal
+use Rattle.bench_run_command.specs.Refused.{refused_of}
+use Rattle.bench_run_command.proofs.refused.refusals.Given as goal
 
 -- the text of the channels so far
 abbrev pub invariant-loop-channel : goal.invariant-loop-channel

@@ -1,7 +1,7 @@
 //! How much a recording holds.
 ghost use Rattle.std.specs.Prelude.{◌≡◌, ◌++◌, ◌∷◌, [], OnOk};
 ghost use Rattle.std.specs.Io.KnownBytes.{Appends};
-ghost use Rattle.bench_record.specs.Counted.{kept_count, messages_of, counts_line};
+ghost use Rattle.bench_run_command.specs.Counted.{kept_count, messages_of, counts_line};
 
 use bench_report::{ChannelReport, Report};
 use std::io::Write;
@@ -44,7 +44,7 @@ fn kept(channel: &ChannelReport) -> u64
 /// `packets 2 messages 20`
 impl fmt::Display for Counts {
     ghost use Rattle.std.specs.Prelude.{Some};
-    ghost use Rattle.bench_record.specs.Counted.{counts_line};
+    ghost use Rattle.bench_run_command.specs.Counted.{counts_line};
 
     ghost output = { λ c. Some (counts_line c.packets c.messages) };
 

@@ -1,6 +1,6 @@
 use Rattle.std.proofs.Common.{◌≡◌, take}
-use Rattle.bench_record.specs.Counted.{messages_of}
-use Rattle.bench_record.proofs.counts.Counts.of_report.Given as goal
+use Rattle.bench_run_command.specs.Counted.{messages_of}
+use Rattle.bench_run_command.proofs.counts.Counts.of_report.Given as goal
 
 -- the messages of the channels so far
 abbrev pub invariant-loop-channel : goal.invariant-loop-channel

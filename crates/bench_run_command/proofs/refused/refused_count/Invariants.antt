@@ -1,6 +1,6 @@
 use Rattle.std.proofs.Common.{◌≡◌, take}
-use Rattle.bench_record.specs.Refused.{refused_count}
-use Rattle.bench_record.proofs.refused.refused_count.Given as goal
+use Rattle.bench_run_command.specs.Refused.{refused_count}
+use Rattle.bench_run_command.proofs.refused.refused_count.Given as goal
 
 -- the refused messages of the channels so far
 abbrev pub invariant-loop-channel : goal.invariant-loop-channel
