@@ -20,30 +20,40 @@ const LATER: &str = "channel 1\nterminal 5\nstart 91000000\nscript\nsend A mode 
 
 /// Polls 1.5 and 9.1 seconds behind tick 0, the last of them in the next year.
 const DATED_ROWS: &str = "\
-number,channel,time_us,time,line,form,terminal,subaddress,count,mode_code,sender,sender_subaddress,status_words,block_status,gap1_us,gap2_us,data_words\n\
+number,channel,time_us,time,line,form,terminal,subaddress,count,mode_code,sender,sender_subaddress,status_words,\
+block_status,gap1_us,gap2_us,data_words\n\
 1,1,1500000.0,2024-12-31T23:59:59.5000000,A,mode,5,31,,1,,,2800,,8.0,,\n\
 2,1,9100000.0,2025-01-01T00:00:07.1000000,A,mode,5,31,,1,,,2800,,8.0,,\n\
 ";
 
 /// The same without time packets.
 const UNDATED_ROWS: &str = "\
-number,channel,time_us,time,line,form,terminal,subaddress,count,mode_code,sender,sender_subaddress,status_words,block_status,gap1_us,gap2_us,data_words\n\
+number,channel,time_us,time,line,form,terminal,subaddress,count,mode_code,sender,sender_subaddress,status_words,\
+block_status,gap1_us,gap2_us,data_words\n\
 1,1,1500000.0,,A,mode,5,31,,1,,,2800,,8.0,,\n\
 2,1,9100000.0,,A,mode,5,31,,1,,,2800,,8.0,,\n\
 ";
 
 /// A poll in front of the first time packet, and the same poll as before.
 const HALF_DATED_ROWS: &str = "\
-number,channel,time_us,time,line,form,terminal,subaddress,count,mode_code,sender,sender_subaddress,status_words,block_status,gap1_us,gap2_us,data_words\n\
+number,channel,time_us,time,line,form,terminal,subaddress,count,mode_code,sender,sender_subaddress,status_words,\
+block_status,gap1_us,gap2_us,data_words\n\
 1,1,0.0,,A,mode,5,31,,1,,,2800,,8.0,,\n\
 2,1,1500000.0,2024-12-31T23:59:59.5000000,A,mode,5,31,,1,,,2800,,8.0,,\n\
 ";
 
 /// The columns of values.
 const DATED_FRAMES: &str = "\
-number,channel,time_s,time,line,form,tr,terminal,subaddress,count,mode_code,sender,sender_subaddress,gap1_us,gap2_us,status1,status2,status_message_error,status_instrumentation,status_service_request,status_broadcast,status_busy,status_subsystem,status_control,status_terminal,message_error,format_error,response_timeout,word_count_error,sync_type_error,invalid_word_error,data_words,word1,word2,word3,word4,word5,word6,word7,word8,word9,word10,word11,word12,word13,word14,word15,word16,word17,word18,word19,word20,word21,word22,word23,word24,word25,word26,word27,word28,word29,word30,word31,word32\n\
-1,1,1.5000000,2024-12-31T23:59:59.5000000,A,mode,T,5,31,,1,,,8.0,,2800,,0,0,0,0,0,0,0,0,0,0,0,0,0,0,0,,,,,,,,,,,,,,,,,,,,,,,,,,,,,,,,\n\
-2,1,9.1000000,2025-01-01T00:00:07.1000000,A,mode,T,5,31,,1,,,8.0,,2800,,0,0,0,0,0,0,0,0,0,0,0,0,0,0,0,,,,,,,,,,,,,,,,,,,,,,,,,,,,,,,,\n\
+number,channel,time_s,time,line,form,tr,terminal,subaddress,count,mode_code,sender,sender_subaddress,gap1_us,gap2_us,\
+status1,status2,status_message_error,status_instrumentation,status_service_request,status_broadcast,status_busy,\
+status_subsystem,status_control,status_terminal,message_error,format_error,response_timeout,word_count_error,\
+sync_type_error,invalid_word_error,data_words,word1,word2,word3,word4,word5,word6,word7,word8,word9,word10,word11,\
+word12,word13,word14,word15,word16,word17,word18,word19,word20,word21,word22,word23,word24,word25,word26,word27,word28,\
+word29,word30,word31,word32\n\
+1,1,1.5000000,2024-12-31T23:59:59.5000000,A,mode,T,5,31,,1,,,8.0,,2800,,0,0,0,0,0,0,0,0,0,0,0,0,0,0,0,,,,,,,,,,,,,,,,,,\
+,,,,,,,,,,,,,,\n\
+2,1,9.1000000,2025-01-01T00:00:07.1000000,A,mode,T,5,31,,1,,,8.0,,2800,,0,0,0,0,0,0,0,0,0,0,0,0,0,0,0,,,,,,,,,,,,,,,,,,\
+,,,,,,,,,,,,,,\n\
 ";
 
 /// A poll takes 46.0 µs, and the second begins 7.6 seconds behind the first: 92.0 µs of 7,600,046.0.

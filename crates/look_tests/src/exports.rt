@@ -48,19 +48,34 @@ const CHOSEN_ROWS: &str =
 
 /// Three errors, each with a retry on the other line: no reply, a late one, and a data word lost.
 const RETRY_FRAMES: &str = "\
-number,channel,time_s,line,form,tr,terminal,subaddress,count,mode_code,sender,sender_subaddress,gap1_us,gap2_us,status1,status2,status_message_error,status_instrumentation,status_service_request,status_broadcast,status_busy,status_subsystem,status_control,status_terminal,message_error,format_error,response_timeout,word_count_error,sync_type_error,invalid_word_error,data_words,word1,word2,word3,word4,word5,word6,word7,word8,word9,word10,word11,word12,word13,word14,word15,word16,word17,word18,word19,word20,word21,word22,word23,word24,word25,word26,word27,word28,word29,word30,word31,word32\n\
+number,channel,time_s,line,form,tr,terminal,subaddress,count,mode_code,sender,sender_subaddress,gap1_us,gap2_us,\
+status1,status2,status_message_error,status_instrumentation,status_service_request,status_broadcast,status_busy,\
+status_subsystem,status_control,status_terminal,message_error,format_error,response_timeout,word_count_error,\
+sync_type_error,invalid_word_error,data_words,word1,word2,word3,word4,word5,word6,word7,word8,word9,word10,word11,\
+word12,word13,word14,word15,word16,word17,word18,word19,word20,word21,word22,word23,word24,word25,word26,word27,word28,\
+word29,word30,word31,word32\n\
 1,1,0.0000000,A,BC to RT,R,5,1,3,,,,,,,,,,,,,,,,1,0,1,0,0,0,3,0001,0002,0003,,,,,,,,,,,,,,,,,,,,,,,,,,,,,\n\
-2,1,0.0000960,B,BC to RT,R,5,1,3,,,,8.0,,2800,,0,0,0,0,0,0,0,0,0,0,0,0,0,0,3,0001,0002,0003,,,,,,,,,,,,,,,,,,,,,,,,,,,,,\n\
-3,1,0.0002040,A,BC to RT,R,5,1,3,,,,17.1,,2800,,0,0,0,0,0,0,0,0,1,0,1,0,0,0,3,0001,0002,0003,,,,,,,,,,,,,,,,,,,,,,,,,,,,,\n\
-4,1,0.0003351,B,BC to RT,R,5,1,3,,,,8.0,,2800,,0,0,0,0,0,0,0,0,0,0,0,0,0,0,3,0001,0002,0003,,,,,,,,,,,,,,,,,,,,,,,,,,,,,\n\
+2,1,0.0000960,B,BC to RT,R,5,1,3,,,,8.0,,2800,,0,0,0,0,0,0,0,0,0,0,0,0,0,0,3,0001,0002,0003,,,,,,,,,,,,,,,,,,,,,,,,,,,,\
+,\n\
+3,1,0.0002040,A,BC to RT,R,5,1,3,,,,17.1,,2800,,0,0,0,0,0,0,0,0,1,0,1,0,0,0,3,0001,0002,0003,,,,,,,,,,,,,,,,,,,,,,,,,,,\
+,,\n\
+4,1,0.0003351,B,BC to RT,R,5,1,3,,,,8.0,,2800,,0,0,0,0,0,0,0,0,0,0,0,0,0,0,3,0001,0002,0003,,,,,,,,,,,,,,,,,,,,,,,,,,,,\
+,\n\
 5,1,0.0004431,A,BC to RT,R,5,1,3,,,,,,,,,,,,,,,,1,0,1,1,0,0,2,0001,0002,,,,,,,,,,,,,,,,,,,,,,,,,,,,,,\n\
-6,1,0.0005191,B,BC to RT,R,5,1,3,,,,8.0,,2800,,0,0,0,0,0,0,0,0,0,0,0,0,0,0,3,0001,0002,0003,,,,,,,,,,,,,,,,,,,,,,,,,,,,,\n\
+6,1,0.0005191,B,BC to RT,R,5,1,3,,,,8.0,,2800,,0,0,0,0,0,0,0,0,0,0,0,0,0,0,3,0001,0002,0003,,,,,,,,,,,,,,,,,,,,,,,,,,,,\
+,\n\
 ";
 
 /// Two status words and two response times; words behind 0x.
 const TRANSFER_FRAMES: &str = "\
-number,channel,time_s,line,form,tr,terminal,subaddress,count,mode_code,sender,sender_subaddress,gap1_us,gap2_us,status1,status2,status_message_error,status_instrumentation,status_service_request,status_broadcast,status_busy,status_subsystem,status_control,status_terminal,message_error,format_error,response_timeout,word_count_error,sync_type_error,invalid_word_error,data_words,word1,word2,word3,word4,word5,word6,word7,word8,word9,word10,word11,word12,word13,word14,word15,word16,word17,word18,word19,word20,word21,word22,word23,word24,word25,word26,word27,word28,word29,word30,word31,word32\n\
-1,1,0.0000000,A,RT to RT,R,3,4,2,,7,1,8.0,8.0,0x3800,0x1800,0,0,0,0,0,0,0,0,0,0,0,0,0,0,2,0xAAAA,0x5555,,,,,,,,,,,,,,,,,,,,,,,,,,,,,,\n\
+number,channel,time_s,line,form,tr,terminal,subaddress,count,mode_code,sender,sender_subaddress,gap1_us,gap2_us,\
+status1,status2,status_message_error,status_instrumentation,status_service_request,status_broadcast,status_busy,\
+status_subsystem,status_control,status_terminal,message_error,format_error,response_timeout,word_count_error,\
+sync_type_error,invalid_word_error,data_words,word1,word2,word3,word4,word5,word6,word7,word8,word9,word10,word11,\
+word12,word13,word14,word15,word16,word17,word18,word19,word20,word21,word22,word23,word24,word25,word26,word27,word28,\
+word29,word30,word31,word32\n\
+1,1,0.0000000,A,RT to RT,R,3,4,2,,7,1,8.0,8.0,0x3800,0x1800,0,0,0,0,0,0,0,0,0,0,0,0,0,0,2,0xAAAA,0x5555,,,,,,,,,,,,,,,,\
+,,,,,,,,,,,,,,\n\
 2,1,0.0001340,A,mode,T,3,31,,2,,,8.0,,0x1800,,0,0,0,0,0,0,0,0,0,0,0,0,0,0,0,,,,,,,,,,,,,,,,,,,,,,,,,,,,,,,,\n\
 ";
 

@@ -94,7 +94,9 @@ const POLL_COLORS: &str = "\x1b[32mheld   \x1b[0mexpect any clean  (5 selected)\
 1     0.0000000       1       1 A    mode 5 2 transmit status word     2800 8.0 us\n      \
 2     0.0000480       1       2 A    mode 5 2 transmit status word     2800 8.0 us\n      \
 3     0.0000960       1       3 A    mode 5 2 transmit status word     2800 8.0 us\n      \
-and 2 more\n\x1b[31mmissed \x1b[0mexpect any count 9 9  (5 selected, another count)\n\x1b[31m3 rules, 2 not held\x1b[0m\n";
+and 2 more\n\
+\x1b[31mmissed \x1b[0mexpect any count 9 9  (5 selected, another count)\n\
+\x1b[31m3 rules, 2 not held\x1b[0m\n";
 
 /// Rules of the recording of `LOST`, and its report.
 const LOST_RULES: &str =
