@@ -14,3 +14,5 @@ pub mod Posting
 pub mod Worlds
 pub mod Fields
 pub mod Beginning
+pub mod OneChannelNumbers
+pub mod OneChannelStages

@@ -6,3 +6,5 @@ pub mod Taken
 pub mod Channels
 pub mod Writing
 pub mod World
+pub mod OneChannel
+pub mod OneChannelFaults

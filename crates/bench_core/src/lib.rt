@@ -1,7 +1,10 @@
-//! The pure bench: every interleaving of buses and writer, one step at a time.
+//! The pure bench: every interleaving of buses and writer, one step at a time, and one channel from its job to a
+//! recording.
 //! Its tests are in `bench_tests`.
 #![tactic(auto)]
 
+mod alone;
+mod channel_fault;
 mod fault;
 mod judging;
 mod lane;
@@ -19,6 +22,8 @@ mod writing;
 pub use bench_report::{
     ChannelReport, Report, ReportError, ReportFault, print_report, read_report,
 };
+pub use alone::one_channel;
+pub use channel_fault::ChannelFault;
 pub use fault::PlayError;
 pub use judging::judge;
 pub use laws::bench_is_settled;

@@ -1,5 +1,5 @@
 //! Jobs, recordings and reports to step through.
-use bench_channel::one_channel;
+use bench_core::one_channel;
 use bench_report::{Report, read_report};
 use bench_step::{Manner, StepFault, step};
 use ch11_writer::{MemorySink, Sink};

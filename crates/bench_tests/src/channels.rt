@@ -1,6 +1,6 @@
 //! Recordings of one channel, byte by byte and read back.
 use crate::equal::{are_bytes, prints, same_in};
-use bench_channel::{ChannelFault, one_channel};
+use bench_core::{ChannelFault, one_channel};
 use ch11_reader::Index;
 use ch11_writer::{FuseSink, MemorySink, Sink};
 use job_file::{Job, read_job};

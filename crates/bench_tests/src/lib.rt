@@ -1,5 +1,5 @@
-//! Tests of the bench that start no thread, against worked values: the steps of `bench_core`, one channel of
-//! `bench_channel`, and the reports of `bench_report`.
+//! Tests of the bench that start no thread, against worked values: the steps of `bench_core`, its recording of
+//! one channel, and the reports of `bench_report`.
 #![tactic(auto)]
 
 #[cfg(test)]

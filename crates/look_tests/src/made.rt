@@ -1,5 +1,5 @@
 //! Recordings of sample jobs, and a file of another recorder.
-use bench_channel::one_channel;
+use bench_core::one_channel;
 use ch11_writer::{MemorySink, Sink};
 use job_file::read_job;
 use std::alloc::Global;

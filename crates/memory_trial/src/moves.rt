@@ -1,7 +1,7 @@
 //! Calls on the debugger.
 use crate::told::Told;
 use crate::worked::{HUNDRED, jobs_of};
-use bench_channel::one_channel;
+use bench_core::one_channel;
 use bench_report::{Report, read_report};
 use ch11_reader::Index;
 use ch11_writer::MemorySink;

@@ -2,8 +2,7 @@
 
 use crate::told::Told;
 use crate::worked::{FIVE, ONE, job_of, jobs_of};
-use bench_channel::{ChannelFault, one_channel};
-use bench_core::Settings;
+use bench_core::{ChannelFault, Settings, one_channel};
 use bench_report::Report;
 use bench_run::{MailError, Mailbox, OpenGate, RunError, run};
 use ch11_writer::MemorySink;

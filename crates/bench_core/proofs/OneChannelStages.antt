@@ -22,8 +22,8 @@ use Rattle.ch11_recording.specs.Items.{numbered, numbered_from, to_the_end}
 use Rattle.ch11_recording.specs.Laws.{IsFormat, RecordingIsRead, EndedIsClosed}
 use Rattle.ch11_recording.specs.WrittenFile.{held_in}
 use Rattle.ch11_recording.specs.Recording.{Recording, IsRecordingOf, GoesOn}
-use Rattle.bench_channel.specs.Channel.{items_of, format_of, channel_file, IsReadAs}
-use Rattle.bench_channel.proofs.Numbering.{items_more, recorded_more, take_next, held_more, held_channel, ended, own_part, all_items, messages_again}
+use Rattle.bench_core.specs.OneChannel.{items_of, format_of, channel_file, IsReadAs}
+use Rattle.bench_core.proofs.OneChannelNumbers.{items_more, recorded_more, take_next, held_more, held_channel, ended, own_part, all_items, messages_again}
 
 nothing_read : packets_in [] ≡ Ok []
 unfolding packets_from

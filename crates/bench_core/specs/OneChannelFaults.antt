@@ -3,8 +3,8 @@ use Rattle.std.specs.Prelude.{◌≡◌, ℕ, ◌<◌, ◌≤◌, List, length, 
 use Rattle.std.specs.declared.option.Option.{Option}
 use Rattle.std.specs.Io.KnownBytes.{Appends}
 use Rattle.ch11_recording.specs.Recording.{IsLimit}
-use Rattle.bench_channel.specs.declared.fault.ChannelFault.{ChannelFault}
-use Rattle.bench_channel.specs.declared.fault.ChannelFault.TheVariants.{Limit, Memory, Sink}
+use Rattle.bench_core.specs.declared.channel_fault.ChannelFault.{ChannelFault}
+use Rattle.bench_core.specs.declared.channel_fault.ChannelFault.TheVariants.{Limit, Memory, Sink}
 
 -- G1 for a packet limit out of its range, and want of memory within it, which put nothing into the sink; a fault of the
 -- sink, which took the first bytes of the file, so many of them

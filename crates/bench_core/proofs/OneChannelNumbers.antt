@@ -13,7 +13,7 @@ use Rattle.ch11_recording.specs.Items.{numbered, numbered_from, part_of, to_the_
 use Rattle.ch11_recording.specs.Laws.{IsItem}
 use Rattle.ch11_recording.specs.WrittenFile.{Format, channel_in, held_in}
 use Rattle.ch11_recording.proofs.Growth.{after_more}
-use Rattle.bench_channel.specs.Channel.{message_of, items_of}
+use Rattle.bench_core.specs.OneChannel.{message_of, items_of}
 
 numbers_more : (k : ℕ) (rs : List Record) (q : Record) → numbered_from k (rs ++ q ∷ []) ≡ numbered_from k rs ++ numbered (k + length rs) q ∷ []
 numbers_more k [] q = ap (λ i. numbered i q ∷ []) (sym (plus_none k))

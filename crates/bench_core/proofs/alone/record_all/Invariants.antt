@@ -1,8 +1,8 @@
 use Rattle.std.proofs.Common.{◌-◌}
 use Rattle.job_file.specs.Jobs.{job_in}
 use Rattle.job_file.specs.Machines.{IsOf}
-use Rattle.bench_channel.proofs.Stages.{Stage}
-use Rattle.bench_channel.proofs.recording.record_all.Given as goal
+use Rattle.bench_core.proofs.OneChannelStages.{Stage}
+use Rattle.bench_core.proofs.alone.record_all.Given as goal
 
 abbrev pub invariant-loop-record : goal.invariant-loop-record
 invariant-loop-record g l = record {

@@ -4,9 +4,9 @@ use Rattle.job_file.specs.Jobs.{job_in}
 use Rattle.job_file.specs.Meaning.{records}
 use Rattle.ch11_builder.specs.Recorded.{IsRecorded}
 use Rattle.ch11_recording.specs.Items.{numbered, numbered_from, to_the_end}
-use Rattle.bench_channel.specs.Channel.{format_of}
-use Rattle.bench_channel.proofs.Stages.{Stage, next_stage, last_stage, lane_now, one_lane, is_next, holding, rises, read_again, took_all, took_part, rose_at_end}
-use Rattle.bench_channel.proofs.recording.record_all.Goals as goal
+use Rattle.bench_core.specs.OneChannel.{format_of}
+use Rattle.bench_core.proofs.OneChannelStages.{Stage, next_stage, last_stage, lane_now, one_lane, is_next, holding, rises, read_again, took_all, took_part, rose_at_end}
+use Rattle.bench_core.proofs.alone.record_all.Goals as goal
 
 pub loop-record-preserved : goal.loop-record-preserved
 loop-record-preserved g c =

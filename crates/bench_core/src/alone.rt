@@ -1,14 +1,14 @@
-//! One channel's recording.
+//! One channel from its job to a recording, on the calling thread.
 ghost use Rattle.std.specs.Prelude.{◌≡◌, ◌-◌, ◌<◌, ◌≤◌, ◌^◌, ◌∷◌, [], false, IfOk, IfErr, OnOk};
 ghost use Rattle.std.specs.Io.KnownBytes.{Appends};
 ghost use Rattle.job_file.specs.Jobs.{job_in};
 ghost use Rattle.job_file.specs.Meaning.{records};
 ghost use Rattle.job_file.specs.Machines.{IsOf};
 ghost use Rattle.ch11_recording.specs.Recording.{IsLimit, IsRecordingOf};
-ghost use Rattle.bench_channel.specs.Channel.{format_of, channel_file, IsReadAs};
-ghost use Rattle.bench_channel.specs.Faults.{Leaves};
+ghost use Rattle.bench_core.specs.OneChannel.{format_of, channel_file, IsReadAs};
+ghost use Rattle.bench_core.specs.OneChannelFaults.{Leaves};
 
-use crate::fault::ChannelFault;
+use crate::channel_fault::ChannelFault;
 use bc_machine::Machine;
 use ch11_builder::{BuilderError, run_gives_the_packets};
 use ch11_recording::{Recorder, record_fits, recording_is_read_again};
