@@ -19,10 +19,10 @@ mod taken;
 mod world;
 mod writing;
 
+pub use alone::one_channel;
 pub use bench_report::{
     ChannelReport, Report, ReportError, ReportFault, print_report, read_report,
 };
-pub use alone::one_channel;
 pub use channel_fault::ChannelFault;
 pub use fault::PlayError;
 pub use judging::judge;
