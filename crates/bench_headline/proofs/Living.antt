@@ -11,7 +11,7 @@ use Rattle.bench_core.specs.declared.settings.Settings.{Settings}
 use Rattle.bench_core.specs.Lawful.{AreLawful}
 use Rattle.bench_core.proofs.Offers.{map_at}
 use Rattle.bench_core.proofs.Fields.{which}
-use Rattle.bench_run.specs.declared.mailbox.Inbox.{Inbox}
+use Rattle.bench_mail.specs.declared.mailbox.Inbox.{Inbox}
 use Rattle.bench_run.specs.Runs.{IsRun}
 use Rattle.bench_run.specs.Live.{LiveChannel, live_job, with_posts, AreLive}
 use Rattle.bench_run.proofs.Lives.{lives_channels, lives_lawful}

@@ -5,7 +5,7 @@ use Rattle.ch11_reader.specs.Recording.{Found, packets_in}
 use Rattle.bench_report.specs.Reports.{RunReport}
 use Rattle.bench_core.specs.declared.settings.Settings.{Settings}
 use Rattle.bench_core.specs.Lawful.{AreLawful}
-use Rattle.bench_run.specs.declared.mailbox.Inbox.{Inbox}
+use Rattle.bench_mail.specs.declared.mailbox.Inbox.{Inbox}
 use Rattle.bench_run.specs.Runs.{IsRun}
 use Rattle.bench_run.specs.Live.{AreLive}
 use Rattle.replay.specs.Accord.{Agrees}

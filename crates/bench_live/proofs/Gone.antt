@@ -11,8 +11,8 @@ use Rattle.std.proofs.lemmas.List.Elements.{filter-append}
 use Rattle.std.proofs.lemmas.Option.{slice_get_within}
 use Rattle.mil_host.specs.Words.{Text}
 use Rattle.bench_report.specs.Spelling.{is_line_end, text_lines}
-use Rattle.bench_run.specs.declared.mailbox.Mailbox.{Mailbox}
-use Rattle.bench_run.specs.Mail.{posted}
+use Rattle.bench_mail.specs.declared.mailbox.Mailbox.{Mailbox}
+use Rattle.bench_mail.specs.Mail.{posted}
 use Rattle.bench_live.specs.Lines.{post_of}
 use Rattle.bench_live.specs.Posting.{IsHandOf, AreHandsOf, as_post, is_channel, is_for, posts_for, HavePosted, LeavesHand, IsFault, IsLineDone, AreRead, HaveGone, IsCallDone}
 use Rattle.bench_live.specs.declared.line.LivePost.{LivePost}

@@ -3,9 +3,9 @@ use Rattle.std.proofs.Common.{◌≡◌, ℕ, zero, suc, List, [], ◌∷◌, �
 use Rattle.std.specs.Prelude.{slice_get}
 use Rattle.std.specs.List.{AllByRecursion}
 use Rattle.std.proofs.lemmas.List.{length-append}
-use Rattle.bench_run.specs.declared.mailbox.Mailbox.{Mailbox}
-use Rattle.bench_run.specs.declared.mailbox.Inbox.{Inbox}
-use Rattle.bench_run.specs.Mail.{IsInboxOf, posted}
+use Rattle.bench_mail.specs.declared.mailbox.Mailbox.{Mailbox}
+use Rattle.bench_mail.specs.declared.mailbox.Inbox.{Inbox}
+use Rattle.bench_mail.specs.Mail.{IsInboxOf, posted}
 use Rattle.bench_live.specs.Posting.{IsHandOf, IsOpened}
 use Rattle.bench_live.specs.declared.desk.Desk.{Desk}
 use Rattle.bench_live.specs.declared.desk.Hand.{Hand}

@@ -5,10 +5,10 @@ use Rattle.std.specs.List.{filter, position_or_len, AllByRecursion}
 use Rattle.mil_trunk.specs.Tags.{has, bound_of}
 use Rattle.mil_host.specs.Words.{Text}
 use Rattle.bench_report.specs.Spelling.{text_lines}
-use Rattle.bench_run.specs.declared.mailbox.Post.{Post}
-use Rattle.bench_run.specs.declared.mailbox.Mailbox.{Mailbox}
-use Rattle.bench_run.specs.declared.mailbox.Inbox.{Inbox}
-use Rattle.bench_run.specs.Mail.{IsPosterOf, hosts_of, limits_of, posted, stands_in}
+use Rattle.bench_mail.specs.declared.mailbox.Post.{Post}
+use Rattle.bench_mail.specs.declared.mailbox.Mailbox.{Mailbox}
+use Rattle.bench_mail.specs.declared.mailbox.Inbox.{Inbox}
+use Rattle.bench_mail.specs.Mail.{IsPosterOf, hosts_of, limits_of, posted, stands_in}
 use Rattle.bench_run.specs.Live.{AreInboxesOf}
 use Rattle.bench_live.specs.Lines.{post_of}
 use Rattle.bench_live.specs.declared.line.LivePost.{LivePost}

@@ -2,7 +2,7 @@
 ghost use Rattle.std.specs.Prelude.{◌≡◌, ◌≤◌, ◌∷◌, ◌++◌, [], length, IfOk, IfErr, OnOk};
 ghost use Rattle.std.specs.List.{before_first, position_or_len};
 ghost use Rattle.bench_report.specs.Spelling.{is_line_end};
-ghost use Rattle.bench_run.specs.Mail.{posted};
+ghost use Rattle.bench_mail.specs.Mail.{posted};
 ghost use Rattle.bench_live.specs.Posting.{IsHandOf, AreHandsOf, as_post, is_channel, LeavesHand, IsLineDone};
 ghost use Rattle.bench_live.specs.Posting.{IsCallDone};
 

@@ -13,13 +13,13 @@ use Rattle.bench_core.specs.declared.settings.Settings.{Settings}
 use Rattle.bench_core.specs.Lawful.{AreLawful, channels_of}
 use Rattle.bench_core.specs.Settled.{kept}
 use Rattle.bench_run.specs.declared.entry.Entry.{Entry}
-use Rattle.bench_run.specs.declared.mailbox.Mailbox.{Mailbox}
-use Rattle.bench_run.specs.declared.mailbox.Inbox.{Inbox}
+use Rattle.bench_mail.specs.declared.mailbox.Mailbox.{Mailbox}
+use Rattle.bench_mail.specs.declared.mailbox.Inbox.{Inbox}
 use Rattle.bench_run.specs.declared.threads.Joined.{Joined}
 use Rattle.bench_run.specs.Entries.{index_of, entries_to_the_end}
 use Rattle.bench_run.specs.Runs.{ArePairs, records_of, most_in_all, others_than}
 use Rattle.job_file.specs.Rooms.{most_items}
-use Rattle.bench_run.specs.Mail.{received_by, IsInboxOf}
+use Rattle.bench_mail.specs.Mail.{received_by, IsInboxOf}
 use Rattle.bench_run.specs.Live.{with_posts, LiveChannel, live_job, ArePlaced, AreLive, AreInboxesOf}
 use Rattle.bench_run.specs.Threads.{IsCounted, IsCountedIn, AreEnded}
 use Rattle.bench_run.specs.Ending.{IsAll, IsAllLive}

@@ -11,9 +11,9 @@ use Rattle.job_file.specs.Spelled.{ChannelJob}
 use Rattle.job_file.specs.Machines.{IsOf}
 use Rattle.bench_report.specs.Reports.{NeverFalls}
 use Rattle.bench_core.specs.Placing.{placed_up_to}
-use Rattle.bench_run.specs.declared.mailbox.Post.{Post}
+use Rattle.bench_mail.specs.declared.mailbox.Post.{Post}
 use Rattle.bench_run.specs.declared.posting.Posts.{Posts}
-use Rattle.bench_run.specs.Mail.{received_by}
+use Rattle.bench_mail.specs.Mail.{received_by}
 use Rattle.bench_run.specs.Live.{asked_by, asked_at, ArePlaced}
 use Rattle.bench_run.specs.Posted.{IsPosted}
 use Rattle.bench_run.proofs.Offering.{all_more}

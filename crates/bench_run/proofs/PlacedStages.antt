@@ -8,10 +8,10 @@ use Rattle.job_file.specs.Jobs.{JobState, job_in}
 use Rattle.job_file.specs.Meaning.{records_in, records}
 use Rattle.job_file.specs.Machines.{IsOf}
 use Rattle.bench_run.specs.declared.entry.Entry.{Entry}
-use Rattle.bench_run.specs.declared.mailbox.Post.{Post}
+use Rattle.bench_mail.specs.declared.mailbox.Post.{Post}
 use Rattle.bench_run.specs.declared.posting.Posts.{Posts}
 use Rattle.bench_core.specs.Placing.{placed_up_to}
-use Rattle.bench_run.specs.Mail.{received_by}
+use Rattle.bench_mail.specs.Mail.{received_by}
 use Rattle.bench_run.specs.Live.{with_posts}
 use Rattle.bench_run.specs.Posted.{IsPosted}
 use Rattle.bench_run.specs.Threads.{SoFar, IsStage}

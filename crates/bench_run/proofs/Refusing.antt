@@ -3,8 +3,8 @@ use Rattle.std.proofs.Common.{ℕ, List, Option, subst}
 use Rattle.job_file.specs.Jobs.{JobState}
 use Rattle.bench_report.specs.Reports.{RunReport}
 use Rattle.bench_core.specs.declared.settings.Settings.{Settings}
-use Rattle.bench_run.specs.declared.mailbox.Mailbox.{Mailbox}
-use Rattle.bench_run.specs.declared.mailbox.Inbox.{Inbox}
+use Rattle.bench_mail.specs.declared.mailbox.Mailbox.{Mailbox}
+use Rattle.bench_mail.specs.declared.mailbox.Inbox.{Inbox}
 use Rattle.bench_run.specs.declared.error.RunError.{RunError}
 use Rattle.bench_run.specs.declared.error.RunError.TheVariants as fault
 use Rattle.bench_run.specs.Runs.{Ran, IsCut, Leaves}

@@ -30,10 +30,10 @@ use Rattle.mil_trunk.specs.contracts.trunk.Trunk as trunk
 use Rattle.mil_trunk.proofs.trunk.Trunk.TheSendSync as crossing
 use Rattle.mil_trunk.specs.contracts.trunk.Ticket as ticket
 use Rattle.mil_trunk.specs.contracts.trunk.Taker as taker
-use Rattle.bench_run.specs.contracts.mailbox.Post as post
-use Rattle.bench_run.specs.contracts.mailbox.PostTagged.TheImpl as post_impl
-use Rattle.bench_run.specs.contracts.mailbox.Mailbox as mailbox
-use Rattle.bench_run.specs.contracts.mailbox.Inbox as inbox
+use Rattle.bench_mail.specs.contracts.mailbox.Post as post
+use Rattle.bench_mail.specs.contracts.mailbox.PostTagged.TheImpl as post_impl
+use Rattle.bench_mail.specs.contracts.mailbox.Mailbox as mailbox
+use Rattle.bench_mail.specs.contracts.mailbox.Inbox as inbox
 use Rattle.bench_run.specs.contracts.posting.Posts as posts
 
 pub entry_send : IsSend entry.the_row

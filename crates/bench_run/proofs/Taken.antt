@@ -15,7 +15,7 @@ use Rattle.mil_trunk.specs.contracts.trunk.Ticket as ticket
 use Rattle.bench_run.specs.contracts.entry.Entry as entry
 use Rattle.bench_run.specs.contracts.entry.EntryTagged.TheImpl.{ghosts}
 use Rattle.bench_run.specs.contracts.channel.Room as room
-use Rattle.bench_run.specs.contracts.mailbox.Mailbox as mailbox
+use Rattle.bench_mail.specs.contracts.mailbox.Mailbox as mailbox
 use Rattle.bench_run.proofs.Sent.{job_sync, mailbox_sync, trunk_sync, ticket_send, room_send}
 
 byte_send : IsSend (UInt w8)

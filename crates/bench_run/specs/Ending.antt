@@ -13,7 +13,7 @@ use Rattle.bench_run.specs.Entries.{index_of, entries_to_the_end}
 use Rattle.bench_run.specs.declared.ready.Shared.{Shared}
 use Rattle.bench_run.specs.declared.ready.Own.{Own}
 use Rattle.bench_run.specs.declared.channel.Room.{Room}
-use Rattle.bench_run.specs.declared.mailbox.Inbox.{Inbox}
+use Rattle.bench_mail.specs.declared.mailbox.Inbox.{Inbox}
 use Rattle.bench_run.specs.Runs.{ArePairs, records_of, most_in_all}
 use Rattle.job_file.specs.Rooms.{most_items}
 use Rattle.bench_run.specs.Threads.{IsRoom, IsCountedIn}

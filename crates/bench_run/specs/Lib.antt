@@ -3,8 +3,5 @@ pub mod Runs
 pub mod Threads
 pub mod Writer
 pub mod Ending
-pub mod Posts
-pub mod MailCodes
-pub mod Mail
 pub mod Live
 pub mod Posted

@@ -12,12 +12,12 @@ use Rattle.ch11_recording.specs.Laws.{IsPrologue}
 use Rattle.bench_report.specs.Reports.{ChannelPart, RunReport, NeverFalls}
 use Rattle.bench_core.specs.declared.settings.Settings.{Settings}
 use Rattle.bench_core.specs.Lawful.{AreInRange, AreLawful, channels_of}
-use Rattle.bench_run.specs.declared.mailbox.Post.{Post}
-use Rattle.bench_run.specs.declared.mailbox.Mailbox.{Mailbox}
-use Rattle.bench_run.specs.declared.mailbox.Inbox.{Inbox}
+use Rattle.bench_mail.specs.declared.mailbox.Post.{Post}
+use Rattle.bench_mail.specs.declared.mailbox.Mailbox.{Mailbox}
+use Rattle.bench_mail.specs.declared.mailbox.Inbox.{Inbox}
 use Rattle.bench_run.specs.declared.error.RunError.{RunError}
 use Rattle.bench_run.specs.declared.error.RunError.TheVariants as fault
-use Rattle.bench_run.specs.Mail.{received_by, IsInboxOf, IsMadeFor}
+use Rattle.bench_mail.specs.Mail.{received_by, IsInboxOf, IsMadeFor}
 use Rattle.bench_run.specs.Runs.{ArePairs, Ran, TookPart, IsCut}
 
 -- a job with actions besides its own; at one number its own come first

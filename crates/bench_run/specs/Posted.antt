@@ -7,9 +7,9 @@ use Rattle.job_file.specs.Jobs.{JobState, job_in}
 use Rattle.job_file.specs.Machines.{IsOf}
 use Rattle.bench_report.specs.Reports.{NeverFalls}
 use Rattle.bench_core.specs.Placing.{placed_up_to}
-use Rattle.bench_run.specs.declared.mailbox.Post.{Post}
+use Rattle.bench_mail.specs.declared.mailbox.Post.{Post}
 use Rattle.bench_run.specs.declared.posting.Posts.{Posts}
-use Rattle.bench_run.specs.Mail.{received_by}
+use Rattle.bench_mail.specs.Mail.{received_by}
 use Rattle.bench_run.specs.Live.{asked_by, asked_at}
 
 -- The posts that were received behind `before` were placed, from the first on and each once, at messages up to the next

@@ -23,12 +23,12 @@ use Rattle.bench_run.specs.declared.entry.Entry.{Entry}
 use Rattle.bench_run.specs.declared.channel.Ended.{Ended}
 use Rattle.bench_run.specs.declared.threads.Offers.{Offers}
 use Rattle.bench_run.specs.declared.channel.Room.{Room}
-use Rattle.bench_run.specs.declared.mailbox.Post.{Post}
-use Rattle.bench_run.specs.declared.mailbox.Mailbox.{Mailbox}
-use Rattle.bench_run.specs.declared.mailbox.Inbox.{Inbox}
+use Rattle.bench_mail.specs.declared.mailbox.Post.{Post}
+use Rattle.bench_mail.specs.declared.mailbox.Mailbox.{Mailbox}
+use Rattle.bench_mail.specs.declared.mailbox.Inbox.{Inbox}
 use Rattle.bench_run.specs.declared.posting.Posts.{Posts}
 use Rattle.bench_run.specs.declared.threads.Joined.{Joined}
-use Rattle.bench_run.specs.Mail.{received_by, IsInboxOf}
+use Rattle.bench_mail.specs.Mail.{received_by, IsInboxOf}
 use Rattle.bench_run.specs.Live.{with_posts, ArePlaced}
 use Rattle.bench_run.specs.Posted.{IsPosted}
 use Rattle.bench_run.specs.Entries.{index_of, entry_of, entries_to_the_end}

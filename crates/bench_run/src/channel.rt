@@ -7,16 +7,16 @@ ghost use Rattle.job_file.specs.Rooms.{most_items};
 ghost use Rattle.ch11_builder.specs.Recorded.{IsRecorded};
 ghost use Rattle.ch11_recording.specs.Items.{numbered};
 ghost use Rattle.job_file.specs.Jobs.{JobState};
-ghost use Rattle.bench_run.specs.Mail.{IsInboxOf};
+ghost use Rattle.bench_mail.specs.Mail.{IsInboxOf};
 ghost use Rattle.bench_run.specs.Threads.{IsRoom, Offered, SoFar};
 ghost use Rattle.bench_run.specs.declared.entry.Entry.TheVariants.{End};
 
 use crate::entry::Entry;
 use crate::gate::Gate;
-use crate::mailbox::{Inbox, Mailbox};
 use crate::posting::Posts;
 use bc_machine::Machine;
 use bench_core::channel_report;
+use bench_mail::{Inbox, Mailbox};
 use bench_report::ChannelReport;
 use ch11_recording::record_fits;
 use job_file::{Job, job_runs, next_record};

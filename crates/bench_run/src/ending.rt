@@ -10,9 +10,9 @@ ghost use Rattle.bench_run.specs.Ending.{IsAllLive};
 
 use crate::entry::Entry;
 use crate::error::{LiveError, RunError};
-use crate::mailbox::Inbox;
 use crate::writer::Log;
 use bench_core::Settings;
+use bench_mail::Inbox;
 use bench_report::{ChannelReport, Report};
 use ch11_recording::{file_is_packets, recording_is_read_again};
 use ch11_writer::Sink;

@@ -1,7 +1,7 @@
 //! Why a run gave no recording.
 ghost use Rattle.std.specs.Prelude.{◌≡◌, []};
 
-use crate::mailbox::Inbox;
+use bench_mail::Inbox;
 use bench_report::Report;
 use std::alloc::Global;
 use std::fmt::{self, Display, Formatter, Write};

@@ -5,13 +5,13 @@ ghost use Rattle.bc_machine.specs.Posting.{with_placed, at_next};
 ghost use Rattle.bc_machine.specs.UnderWay.{IsUnderWay};
 ghost use Rattle.job_file.specs.Jobs.{JobState};
 ghost use Rattle.bench_core.specs.Placing.{placed_up_to, IsOrdered};
-ghost use Rattle.bench_run.specs.declared.mailbox.Post.{Post};
-ghost use Rattle.bench_run.specs.Mail.{IsInboxOf};
+ghost use Rattle.bench_mail.specs.declared.mailbox.Post.{Post};
+ghost use Rattle.bench_mail.specs.Mail.{IsInboxOf};
 ghost use Rattle.bench_run.specs.Posted.{IsPosted};
 
-use crate::mailbox::{Inbox, Mailbox, Post};
 use bc_machine::{Machine, Placed};
 use bench_core::add_action;
+use bench_mail::{Inbox, Mailbox, Post};
 use std::sync::Wait;
 
 /// A channel makes at most so many messages.

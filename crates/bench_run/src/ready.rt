@@ -5,8 +5,8 @@ ghost use Rattle.bench_run.specs.Ending.{IsReady};
 
 use crate::channel::Room;
 use crate::entry::Entry;
-use crate::mailbox::Inbox;
 use crate::threads::{bounds, rooms};
+use bench_mail::Inbox;
 use job_file::Job;
 use mil_trunk::{Taker, Ticket, Trunk};
 use std::alloc::{AllocError, Global};

@@ -1,18 +1,18 @@
 //! Jobs on threads of their own, and one recording of them all; with posts of hosts, or without.
 ghost use Rattle.std.specs.Prelude.{◌≡◌, ◌-◌, ◌<◌, ◌^◌, length, vec_len, IfOk, IfErr, OnOk, IsTrue};
 ghost use Rattle.bench_core.specs.Lawful.{AreLawful};
-ghost use Rattle.bench_run.specs.declared.mailbox.Mailbox.{Mailbox};
+ghost use Rattle.bench_mail.specs.declared.mailbox.Mailbox.{Mailbox};
 ghost use Rattle.bench_run.specs.Runs.{ArePairs, Ran, RefusesNoneWithRoom, Leaves};
-ghost use Rattle.bench_run.specs.Mail.{IsMadeFor};
+ghost use Rattle.bench_mail.specs.Mail.{IsMadeFor};
 ghost use Rattle.bench_run.specs.Live.{AreInboxesOf, HaveMail, RanLive, LeavesLate, LeavesLive};
 
 use crate::ending::Before;
 use crate::error::{LiveError, RunError};
 use crate::gate::Gate;
-use crate::mailbox::{Inbox, Mailbox};
 use crate::ready::ready;
 use crate::scope::{begin, run_ready};
 use bench_core::{Settings, WorldError, judge};
+use bench_mail::{Inbox, Mailbox};
 use bench_report::Report;
 use ch11_recording::Recorder;
 use ch11_writer::Sink;

@@ -12,16 +12,16 @@ ghost use Rattle.bench_run.specs.Runs.{ArePairs};
 ghost use Rattle.job_file.specs.Rooms.{most_items};
 ghost use Rattle.bench_run.specs.declared.channel.Room.{Room};
 ghost use Rattle.bench_run.specs.declared.threads.Joined.{Joined};
-ghost use Rattle.bench_run.specs.Mail.{IsInboxOf};
+ghost use Rattle.bench_mail.specs.Mail.{IsInboxOf};
 ghost use Rattle.bench_run.specs.Live.{AreInboxesOf};
 ghost use Rattle.bench_run.specs.Threads.{Offered, IsRoom, HasOnly, ArePromised, IsEnded, AreEnded};
 
 use crate::channel::{Ended, Room, channel};
 use crate::entry::Entry;
 use crate::gate::Gate;
-use crate::mailbox::{Inbox, Mailbox};
 use crate::posting::Posts;
 use bench_core::ordered_actions;
+use bench_mail::{Inbox, Mailbox};
 use bench_report::ChannelReport;
 use job_file::Job;
 use mil_trunk::{Tags, Ticket, Trunk};

@@ -5,7 +5,7 @@
 
 ghost use Rattle.std.specs.Prelude.{◌≡◌, ◌∷◌, [], IfSome};
 ghost use Rattle.bench_run.specs.Live.{AreInboxesOf};
-ghost use Rattle.bench_run.specs.Mail.{IsInboxOf};
+ghost use Rattle.bench_mail.specs.Mail.{IsInboxOf};
 ghost use Rattle.live_example.specs.Hosts.{MayPost};
 
 mod gate;

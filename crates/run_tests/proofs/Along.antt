@@ -1,9 +1,9 @@
 -- Mailboxes, and at the place of each its posters and its inbox, where the lists grow at their ends.
 use Rattle.std.proofs.Common.{◌≡◌, ℕ, zero, suc, List, [], ◌∷◌, ◌++◌, length, refl, sym, ap, ◌∙◌, subst, arith}
-use Rattle.bench_run.specs.declared.mailbox.Mailbox.{Mailbox}
-use Rattle.bench_run.specs.declared.mailbox.Poster.{Poster}
-use Rattle.bench_run.specs.declared.mailbox.Inbox.{Inbox}
-use Rattle.bench_run.specs.Mail.{IsInboxOf}
+use Rattle.bench_mail.specs.declared.mailbox.Mailbox.{Mailbox}
+use Rattle.bench_mail.specs.declared.mailbox.Poster.{Poster}
+use Rattle.bench_mail.specs.declared.mailbox.Inbox.{Inbox}
+use Rattle.bench_mail.specs.Mail.{IsInboxOf}
 use Rattle.run_tests.specs.Hosts.{AreAlong, MayPost, MayPostToAll, IsMail}
 
 module _ {X Y : Type 0} (P : X → Y → Type 0) where

@@ -1,6 +1,6 @@
 //! What live runs need beside the jobs: mailboxes and the posters of their hosts, and a run with one of them.
 ghost use Rattle.std.specs.Prelude.{◌≡◌, [], ◌∷◌};
-ghost use Rattle.bench_run.specs.Mail.{IsInboxOf};
+ghost use Rattle.bench_mail.specs.Mail.{IsInboxOf};
 ghost use Rattle.bench_run.specs.Live.{AreInboxesOf};
 ghost use Rattle.run_tests.specs.Hosts.{MayPost};
 

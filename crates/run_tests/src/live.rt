@@ -1,6 +1,6 @@
 //! Live runs in which a host posts while message 2 is held: what is recorded, and what the report says.
 ghost use Rattle.std.specs.Prelude.{◌≡◌, [], ◌∷◌};
-ghost use Rattle.bench_run.specs.Mail.{IsInboxOf};
+ghost use Rattle.bench_mail.specs.Mail.{IsInboxOf};
 ghost use Rattle.run_tests.specs.Hosts.{MayPost};
 
 use crate::fixtures::{has_stamps, is_printed, jobs_of};

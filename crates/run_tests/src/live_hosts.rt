@@ -1,6 +1,6 @@
 //! Live runs in which two hosts post 20 vector words each while a hundred messages are made.
 ghost use Rattle.std.specs.Prelude.{◌≡◌, [], ◌∷◌};
-ghost use Rattle.bench_run.specs.Mail.{IsInboxOf};
+ghost use Rattle.bench_mail.specs.Mail.{IsInboxOf};
 ghost use Rattle.run_tests.specs.Hosts.{MayPost};
 
 use crate::fixtures::jobs_of;

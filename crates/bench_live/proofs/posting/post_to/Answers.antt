@@ -1,8 +1,8 @@
 use Rattle.std.proofs.Common.{arith, refl}
 use Rattle.std.specs.Prelude.{◌==◌}
 use Rattle.mil_trunk.proofs.Tagging.{length-filter_le}
-use Rattle.bench_run.specs.declared.mailbox.Post.{Post}
-use Rattle.bench_run.specs.Mail.{posted}
+use Rattle.bench_mail.specs.declared.mailbox.Post.{Post}
+use Rattle.bench_mail.specs.Mail.{posted}
 use Rattle.bench_live.proofs.posting.post_to.Goals as goal
 
 pub returns-then-hand-ge-MOST-clause-refused : goal.returns-then-hand-ge-MOST-clause-refused

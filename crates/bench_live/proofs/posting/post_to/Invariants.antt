@@ -1,5 +1,5 @@
 use Rattle.std.proofs.Common.{◌≡◌}
-use Rattle.bench_run.specs.Mail.{posted}
+use Rattle.bench_mail.specs.Mail.{posted}
 use Rattle.bench_live.specs.Posting.{IsHandOf}
 use Rattle.bench_live.proofs.posting.post_to.Given as goal
 

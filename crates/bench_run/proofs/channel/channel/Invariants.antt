@@ -1,7 +1,7 @@
 use Rattle.std.proofs.Common.{◌≡◌, ◌-◌, vec_capacity}
 use Rattle.mil_trunk.specs.Ends.{tags_of, bounds_of}
 use Rattle.bench_core.specs.Placing.{IsOrdered}
-use Rattle.bench_run.specs.Mail.{received_by, IsInboxOf}
+use Rattle.bench_mail.specs.Mail.{received_by, IsInboxOf}
 use Rattle.bench_run.specs.Threads.{IsStage}
 use Rattle.bench_run.proofs.channel.channel.Given as goal
 

@@ -3,8 +3,8 @@ use Rattle.std.specs.Prelude.{Some, slice_get}
 use Rattle.std.proofs.lemmas.Bool.{cases_lt}
 use Rattle.std.proofs.lemmas.Option.{slice_get_read}
 use Rattle.job_file.specs.Jobs.{JobState}
-use Rattle.bench_run.specs.declared.mailbox.Mailbox.{Mailbox}
-use Rattle.bench_run.specs.Mail.{IsMadeFor}
+use Rattle.bench_mail.specs.declared.mailbox.Mailbox.{Mailbox}
+use Rattle.bench_mail.specs.Mail.{IsMadeFor}
 use Rattle.bench_run.proofs.Rows.{pair_at, pairs_of, same_some, place_below}
 use Rattle.bench_run.proofs.running.are_for.Goals as goal
 

@@ -1,6 +1,6 @@
 use Rattle.std.proofs.Common.{◌≡◌, ◌<◌, ℕ}
 use Rattle.std.specs.Prelude.{Some, slice_get}
-use Rattle.bench_run.specs.Mail.{IsMadeFor}
+use Rattle.bench_mail.specs.Mail.{IsMadeFor}
 use Rattle.bench_run.proofs.running.are_for.Given as goal
 
 abbrev pub invariant-loop-place : goal.invariant-loop-place

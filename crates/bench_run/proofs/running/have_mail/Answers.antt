@@ -1,5 +1,5 @@
 use Rattle.std.proofs.Common.{arith, sym, true≢false}
-use Rattle.bench_run.specs.Mail.{IsMadeFor}
+use Rattle.bench_mail.specs.Mail.{IsMadeFor}
 use Rattle.bench_run.proofs.Pairs.{same_length}
 use Rattle.bench_run.proofs.running.have_mail.Goals as goal
 

@@ -2,7 +2,7 @@ use Rattle.std.proofs.Common.{[], List, sym, ap, subst}
 use Rattle.ch11_recording.specs.WrittenFile.{written_file}
 use Rattle.bench_core.specs.Lawful.{format_of}
 use Rattle.bench_run.specs.declared.error.RunError.{RunError}
-use Rattle.bench_run.specs.declared.mailbox.Inbox.{Inbox}
+use Rattle.bench_mail.specs.declared.mailbox.Inbox.{Inbox}
 use Rattle.bench_run.specs.Live.{AreInboxesOf, LeavesLate}
 use Rattle.bench_run.proofs.Beginning.{nothing_taken}
 use Rattle.bench_run.proofs.running.run_lawful.Goals as goal

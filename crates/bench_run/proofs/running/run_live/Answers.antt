@@ -1,4 +1,4 @@
-use Rattle.bench_run.specs.Mail.{IsMadeFor}
+use Rattle.bench_mail.specs.Mail.{IsMadeFor}
 use Rattle.bench_run.proofs.Pairs.{same_length}
 use Rattle.bench_run.proofs.running.run_live.Goals as goal
 

@@ -4,7 +4,7 @@ use Rattle.std.proofs.lemmas.List.{length-map}
 use Rattle.mil_trunk.specs.Ends.{capacity_of, bounds_of, sent, received}
 use Rattle.bench_report.specs.Reports.{ChannelPart}
 use Rattle.bench_run.specs.declared.channel.Room.{Room}
-use Rattle.bench_run.specs.declared.mailbox.Inbox.{Inbox}
+use Rattle.bench_mail.specs.declared.mailbox.Inbox.{Inbox}
 use Rattle.bench_run.specs.Live.{AreInboxesOf}
 use Rattle.bench_run.specs.Threads.{IsPromised, IsRoom}
 use Rattle.bench_run.specs.Ending.{IsAllLive}

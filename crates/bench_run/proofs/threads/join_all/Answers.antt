@@ -10,9 +10,9 @@ use Rattle.job_file.specs.Jobs.{JobState}
 use Rattle.ch11_builder.specs.Packet.{Numbered}
 use Rattle.bench_core.specs.Settled.{kept}
 use Rattle.bench_run.specs.declared.entry.Entry.{Entry}
-use Rattle.bench_run.specs.declared.mailbox.Mailbox.{Mailbox}
-use Rattle.bench_run.specs.declared.mailbox.Inbox.{Inbox}
-use Rattle.bench_run.specs.Mail.{received_by}
+use Rattle.bench_mail.specs.declared.mailbox.Mailbox.{Mailbox}
+use Rattle.bench_mail.specs.declared.mailbox.Inbox.{Inbox}
+use Rattle.bench_mail.specs.Mail.{received_by}
 use Rattle.bench_run.specs.Live.{with_posts, ArePlaced}
 use Rattle.bench_run.specs.Entries.{index_of, entries_to_the_end}
 use Rattle.bench_run.specs.Runs.{records_of, most_in_all, others_than}

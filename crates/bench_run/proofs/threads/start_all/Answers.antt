@@ -6,8 +6,8 @@ use Rattle.mil_trunk.specs.Ends.{bounds_of, tags_of}
 use Rattle.mil_trunk.specs.declared.trunk.Ticket.{Ticket}
 use Rattle.job_file.specs.Jobs.{JobState}
 use Rattle.bench_run.specs.declared.entry.Entry.{Entry}
-use Rattle.bench_run.specs.declared.mailbox.Mailbox.{Mailbox}
-use Rattle.bench_run.specs.declared.mailbox.Inbox.{Inbox}
+use Rattle.bench_mail.specs.declared.mailbox.Mailbox.{Mailbox}
+use Rattle.bench_mail.specs.declared.mailbox.Inbox.{Inbox}
 use Rattle.bench_run.specs.Threads.{IsRoom, IsPromised, HasOnly}
 use Rattle.bench_run.specs.declared.channel.Room.{Room}
 use Rattle.bench_run.proofs.Rows.{row_push, row_first, row_rest, pair_at, pairs_length, none_at, mapped_at, all_at}

@@ -1,8 +1,8 @@
 use Rattle.std.proofs.Common.{arith}
 use Rattle.std.specs.Prelude.{◌==◌}
 use Rattle.mil_trunk.proofs.Tagging.{length-filter_le}
-use Rattle.bench_run.specs.declared.mailbox.Post.{Post}
-use Rattle.bench_run.specs.Mail.{posted}
+use Rattle.bench_mail.specs.declared.mailbox.Post.{Post}
+use Rattle.bench_mail.specs.Mail.{posted}
 use Rattle.run_tests.proofs.live_hosts.post_words.Goals as goal
 
 pub post-answer-requires-clause-limit : goal.post-answer-requires-clause-limit

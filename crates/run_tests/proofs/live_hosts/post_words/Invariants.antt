@@ -1,6 +1,6 @@
 use Rattle.std.proofs.Common.{◌≡◌, ◌≤◌, ◌^◌, true, length}
 use Rattle.mil_trunk.specs.Tags.{has, bound_of}
-use Rattle.bench_run.specs.Mail.{IsPosterOf, hosts_of, limits_of, posted}
+use Rattle.bench_mail.specs.Mail.{IsPosterOf, hosts_of, limits_of, posted}
 use Rattle.run_tests.proofs.live_hosts.post_words.Given as goal
 
 -- the host posted as many words as it says

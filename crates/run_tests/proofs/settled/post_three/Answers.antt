@@ -2,8 +2,8 @@ use Rattle.std.proofs.Common.{arith, ◌≡◌, ◌^◌}
 use Rattle.std.specs.Prelude.{◌==◌}
 use Rattle.mil_trunk.specs.Tags.{bound_of}
 use Rattle.mil_trunk.proofs.Tagging.{length-filter_le}
-use Rattle.bench_run.specs.declared.mailbox.Post.{Post}
-use Rattle.bench_run.specs.Mail.{limits_of, posted}
+use Rattle.bench_mail.specs.declared.mailbox.Post.{Post}
+use Rattle.bench_mail.specs.Mail.{limits_of, posted}
 use Rattle.run_tests.proofs.settled.post_three.Goals as goal
 
 pub post-answer-requires-clause-limit : goal.post-answer-requires-clause-limit

@@ -1,6 +1,6 @@
 use Rattle.std.proofs.Common.{◌≡◌, ◌<◌, ℕ, true}
 use Rattle.mil_trunk.specs.Tags.{has}
-use Rattle.bench_run.specs.Mail.{IsPosterOf, IsInboxOf, hosts_of}
+use Rattle.bench_mail.specs.Mail.{IsPosterOf, IsInboxOf, hosts_of}
 use Rattle.run_tests.proofs.settled.settled.Given as goal
 
 -- they are the ends of the mailbox, and the poster holds all hosts

@@ -1,6 +1,6 @@
 use Rattle.std.proofs.Common.{arith, refl, ap, ◌∙◌}
 use Rattle.bc_machine.specs.Running.{MachineState}
-use Rattle.bench_run.specs.Mail.{received_by}
+use Rattle.bench_mail.specs.Mail.{received_by}
 use Rattle.bench_run.proofs.PlacedPosts.{one_placed, one_lost}
 use Rattle.bench_run.proofs.posting.Posts.place_all.Goals.{then-place, else-place}
 use Rattle.bench_run.proofs.posting.Posts.place_all.Goals as goal

@@ -5,12 +5,12 @@ use Rattle.mil_host.specs.declared.actions.Action.{Action}
 use Rattle.mil_trunk.specs.Tags.{bounds_outside}
 use Rattle.mil_trunk.specs.Ends.{IsTicketOf, IsTakerOf, capacity_of, tags_of, bounds_of, sent, received}
 use Rattle.job_file.specs.Jobs.{JobState}
-use Rattle.bench_run.specs.declared.mailbox.Post.{Post}
-use Rattle.bench_run.specs.declared.mailbox.Mailbox.{Mailbox}
-use Rattle.bench_run.specs.declared.mailbox.Poster.{Poster}
-use Rattle.bench_run.specs.declared.mailbox.Inbox.{Inbox}
-use Rattle.bench_run.specs.declared.mail_error.PostError.{PostError}
-use Rattle.bench_run.specs.declared.mail_error.PostError.TheVariants as fault
+use Rattle.bench_mail.specs.declared.mailbox.Post.{Post}
+use Rattle.bench_mail.specs.declared.mailbox.Mailbox.{Mailbox}
+use Rattle.bench_mail.specs.declared.mailbox.Poster.{Poster}
+use Rattle.bench_mail.specs.declared.mailbox.Inbox.{Inbox}
+use Rattle.bench_mail.specs.declared.mail_error.PostError.{PostError}
+use Rattle.bench_mail.specs.declared.mail_error.PostError.TheVariants as fault
 
 -- how many posts the mailbox holds at most
 abbrev pub room_of : Mailbox → ℕ

@@ -4,9 +4,9 @@ ghost use Rattle.std.specs.Prelude.{IfOk, OnOk, IfErr, IfSome, IfNone, IsTrue};
 ghost use Rattle.mil_trunk.specs.Tags.{has, bound_of, Includes};
 ghost use Rattle.mil_trunk.specs.Views.{with_tag, inside, outside};
 ghost use Rattle.mil_trunk.specs.Ends.{IsCapacity};
-ghost use Rattle.bench_run.specs.Posts.{host_of};
-ghost use Rattle.bench_run.specs.Mail.{hosts_of, limits_of, posted, received_by, IsPosterOf, IsInboxOf, room_of};
-ghost use Rattle.bench_run.specs.Mail.{stands_in, IsMadeFor, Returns};
+ghost use Rattle.bench_mail.specs.Posts.{host_of};
+ghost use Rattle.bench_mail.specs.Mail.{hosts_of, limits_of, posted, received_by, IsPosterOf, IsInboxOf, room_of};
+ghost use Rattle.bench_mail.specs.Mail.{stands_in, IsMadeFor, Returns};
 
 use crate::mail_error::{MailError, PostError};
 use job_file::Job;
@@ -26,7 +26,7 @@ pub struct Post {
 }
 
 impl Tagged for Post {
-    ghost use Rattle.bench_run.specs.Posts.{host_of};
+    ghost use Rattle.bench_mail.specs.Posts.{host_of};
 
     ghost tag_of = { host_of };
 
@@ -170,7 +170,7 @@ impl Mailbox {
     }
 
     /// Receives the post at the front, if there is one.
-    pub(crate) fn take<R: Wait>(&self, rt: &R, inbox: &mut Inbox) -> Option<Post>
+    pub fn take<R: Wait>(&self, rt: &R, inbox: &mut Inbox) -> Option<Post>
         requires inbox { IsInboxOf self.now inbox.old }
         ensures inbox { IsInboxOf self.now inbox.new }
         ensures taken { IfSome result (λ post. received_by inbox.new ≡ received_by inbox.old ++ post ∷ []) }
@@ -180,7 +180,7 @@ impl Mailbox {
     }
 
     /// Whether it was made for the channel and the terminals of a job.
-    pub(crate) fn is_for(&self, job: &Job) -> bool
+    pub fn is_for(&self, job: &Job) -> bool
         ensures { IsTrue result ↔ IsMadeFor self.now job.now }
     {
         self.channel == job.channel() && self.addresses.as_slice() == job.addresses()
