@@ -1,5 +1,5 @@
 //! The command `bench check`: a job tried without a recording, message by message, and what is probably a mistake in
-//! it. Its tests are in `check_tests`.
+//! it. Its tests are in `command_tests`.
 #![tactic(auto)]
 
 mod calls;

@@ -1,5 +1,5 @@
 //! The command `bench complete`: a recording made into the file that other Chapter 10 and 11 tools expect, with a setup
-//! record in front, a time packet each second, and packets in order of time. Its tests are in `look_tests`.
+//! record in front, a time packet each second, and packets in order of time. Its tests are in `command_tests`.
 #![tactic(auto)]
 
 mod additions;

@@ -1,5 +1,5 @@
 //! The messages of a recording as people read them: what `bench dump --decode` prints, a line a message.
-//! Its tests are in `look_tests`.
+//! Its tests are in `command_tests`.
 #![tactic(auto)]
 
 mod chosen;

@@ -1,5 +1,5 @@
 //! A recording as a picture: the bus over time.
-//! Its tests are in `look_tests`.
+//! Its tests are in `command_tests`.
 #![tactic(auto)]
 
 mod axis;

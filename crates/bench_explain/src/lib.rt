@@ -1,5 +1,5 @@
 //! The command `bench explain`: what a fault code means, and what to do.
-//! Its tests are in `look_tests`.
+//! Its tests are in `command_tests`.
 #![tactic(auto)]
 
 mod buses;

@@ -1,5 +1,5 @@
 //! The command `bench export`: a recording as comma-separated values, a row a message, or as a value change dump.
-//! Its tests are in `look_tests`.
+//! Its tests are in `command_tests`.
 #![tactic(auto)]
 
 mod changes;

@@ -1,5 +1,5 @@
 //! The command `bench judge`: which messages of a recording a rule selects, which of them miss it, and whether it is
-//! held. Its tests are in `look_tests`.
+//! held. Its tests are in `command_tests`.
 #![tactic(auto)]
 
 mod checks;

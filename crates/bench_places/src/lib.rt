@@ -1,6 +1,6 @@
 //! Where messages of a recording stand in the file: the N-th that is sought, the latest one before a place, the place
 //! before the first one, and the number of a message in its channel.
-//! Its tests are in `bench_step_tests`.
+//! Its tests are in `command_tests`.
 #![tactic(auto)]
 
 mod messages;

@@ -1,5 +1,5 @@
 //! One way to choose messages of a recording, for all commands that look at one: by channel, line, form, errors, number
-//! and time. Its tests are in `look_tests`.
+//! and time. Its tests are in `command_tests`.
 #![tactic(auto)]
 
 mod bounds;

@@ -1,5 +1,5 @@
 //! The command `bench stat`: figures of each channel and each terminal of a recording.
-//! Its tests are in `look_tests`.
+//! Its tests are in `command_tests`.
 #![tactic(auto)]
 
 mod calls;

@@ -1,5 +1,5 @@
 //! What the terminals of a bus hold, as lines: their registers, what their hosts set, and their data words.
-//! Its tests are in `bench_step_tests`.
+//! Its tests are in `command_tests`.
 #![tactic(auto)]
 
 mod data;

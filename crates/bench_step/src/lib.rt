@@ -1,5 +1,5 @@
 //! The command `bench step`: a debugger that walks through a recording, driven by lines of text.
-//! Its tests are in `bench_step_tests`.
+//! Its tests are in `command_tests`.
 #![tactic(auto)]
 
 mod backwards;

@@ -1,5 +1,5 @@
 //! Which words of a recorded message are commands, status words and data words.
-//! Its tests are in `look_tests`.
+//! Its tests are in `command_tests`.
 #![tactic(auto)]
 
 mod layouts;

@@ -1,9 +1,11 @@
-//! Tests of `bench_assemble`, `bench_one` and `bench_reasons`, which have none of their own: each is proved once.
+//! Tests of the libraries of the commands, which have none of their own, so that each is proved once.
 #![tactic(auto)]
 
 #[cfg(test)]
-mod images;
+mod checks;
 #[cfg(test)]
-mod pairs;
+mod looks;
 #[cfg(test)]
-mod reasons;
+mod steps;
+#[cfg(test)]
+mod texts;

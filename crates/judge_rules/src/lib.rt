@@ -1,5 +1,5 @@
 //! Rules by which a recording is judged: what they are, and the rules that a text spells.
-//! Its tests are in `look_tests`.
+//! Its tests are in `command_tests`.
 #![tactic(auto)]
 
 mod channels;

@@ -1,6 +1,6 @@
 //! What `bench judge` says of recordings, worked out by hand.
-use crate::equal::{reads, same_in};
-use crate::made::{FOREIGN, FORMS, TRANSFER, recorded};
+use crate::looks::equal::{reads, same_in};
+use crate::looks::made::{FOREIGN, FORMS, TRANSFER, recorded};
 use bench_judge::{judge, junit_text, write_colored, write_verdicts};
 use ch11_reader::Index;
 use judge_rules::read_rules;

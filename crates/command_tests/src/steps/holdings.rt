@@ -1,5 +1,5 @@
 //! What hosts set, and the data words that terminals hold.
-use crate::made::{reads, subject_of};
+use crate::steps::made::{reads, subject_of};
 use std::alloc::Global;
 use std::process::Abort;
 

@@ -1,5 +1,5 @@
 //! Readers and writers of sessions: answers are flushed one by one, and a fault ends a session with what was answered.
-use crate::made::{DROPPED, DROPPED_REPORT, reads, subject_of};
+use crate::steps::made::{DROPPED, DROPPED_REPORT, reads, subject_of};
 use bench_step::{Manner, StepFault};
 use std::alloc::Global;
 use std::io;

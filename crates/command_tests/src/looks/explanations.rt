@@ -1,5 +1,5 @@
 //! What `bench explain` says.
-use crate::equal::{reads, same_in};
+use crate::looks::equal::{reads, same_in};
 use bench_explain::{explain, groups, print_explanation, print_list};
 
 /// Every code that a crate of the house prints, and the words that stand for one.

@@ -1,9 +1,9 @@
 //! Times of day in what `bench export` and `bench stat` show of recordings, worked out by hand: tick 0 is
 //! 2024-12-31T23:59:58.
-use crate::completions::{FRONT, LATE, dated};
-use crate::equal::reads;
-use crate::exports::has_table;
-use crate::made::recorded;
+use crate::looks::completions::{FRONT, LATE, dated};
+use crate::looks::equal::reads;
+use crate::looks::exports::has_table;
+use crate::looks::made::recorded;
 use bench_clock::Clock;
 use bench_export::{Columns, Table};
 use bench_select::Selection;

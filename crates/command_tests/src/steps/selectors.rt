@@ -1,5 +1,5 @@
 //! Moves to the messages that a selector is about.
-use crate::made::{DROPPED, DROPPED_REPORT, Subject, reads, subject_of};
+use crate::steps::made::{DROPPED, DROPPED_REPORT, Subject, reads, subject_of};
 use bench_step::{Manner, StepFault};
 use std::alloc::Global;
 use std::process::Abort;

@@ -1,6 +1,6 @@
 //! What `bench stat` says of recordings, worked out by hand.
-use crate::equal::reads;
-use crate::made::{FOREIGN, FORMS, RETRY, TRANSFER, recorded};
+use crate::looks::equal::reads;
+use crate::looks::made::{FOREIGN, FORMS, RETRY, TRANSFER, recorded};
 use bench_clock::Clock;
 use bench_select::Selection;
 use bench_stat::{Shown, print_page, print_tables, stat};

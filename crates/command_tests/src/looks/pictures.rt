@@ -1,7 +1,7 @@
 //! What `bench draw` draws of recordings, worked out by hand.
-use crate::completions::{FRONT, LATE};
-use crate::equal::same_in;
-use crate::made::{FOREIGN, FORMS, RETRY, recorded};
+use crate::looks::completions::{FRONT, LATE};
+use crate::looks::equal::same_in;
+use crate::looks::made::{FOREIGN, FORMS, RETRY, recorded};
 use bench_clock::Clock;
 use bench_draw::{MOST_BYTES, draw};
 use bench_select::{Bound, Bus, Selection};

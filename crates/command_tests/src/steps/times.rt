@@ -1,5 +1,5 @@
 //! Moves by time.
-use crate::made::{Subject, reads, subject_of};
+use crate::steps::made::{Subject, reads, subject_of};
 use bench_step::{Manner, StepFault};
 use std::alloc::Global;
 use std::process::Abort;

@@ -1,6 +1,6 @@
 //! What `bench export --vcd` writes of recordings, worked out by hand, and read back by a small parser.
-use crate::equal::reads;
-use crate::made::{FOREIGN, FORMS, RETRY, TRANSFER, recorded};
+use crate::looks::equal::reads;
+use crate::looks::made::{FOREIGN, FORMS, RETRY, TRANSFER, recorded};
 use bench_export::export_waves;
 use bench_select::{Bound, Selection};
 use ch11_reader::Index;

@@ -1,6 +1,6 @@
 //! What `bench dump --decode` shows of messages, worked out by hand.
-use crate::equal::{reads, same, same_in};
-use crate::made::{FOREIGN, TRANSFER, recorded};
+use crate::looks::equal::{reads, same, same_in};
+use crate::looks::made::{FOREIGN, TRANSFER, recorded};
 use bench_decode::{
     Bound, Bus, Line, Numbers, Output, Place, Selection, Shown, decode, write_message,
 };

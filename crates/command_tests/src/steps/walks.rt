@@ -1,5 +1,5 @@
 //! Moves by number, by channel and backwards, and messages as people read them.
-use crate::made::{DROPPED, DROPPED_REPORT, Subject, reads, subject_of};
+use crate::steps::made::{DROPPED, DROPPED_REPORT, Subject, reads, subject_of};
 use bench_step::{Manner, StepFault};
 use std::alloc::Global;
 use std::process::Abort;

@@ -1,5 +1,5 @@
 //! What sessions print.
-use crate::made::{DROPPED, DROPPED_REPORT, Subject, reads, subject_of};
+use crate::steps::made::{DROPPED, DROPPED_REPORT, Subject, reads, subject_of};
 use std::alloc::Global;
 use std::process::Abort;
 

@@ -1,6 +1,6 @@
 //! What `bench complete` makes of recordings, worked out by hand.
-use crate::equal::same_in;
-use crate::made::{FOREIGN, recorded};
+use crate::looks::equal::same_in;
+use crate::looks::made::{FOREIGN, recorded};
 use bench_complete::{Additions, CompleteFault, Completion, UtcSecond, complete};
 use std::alloc::Global;
 use std::process::Abort;

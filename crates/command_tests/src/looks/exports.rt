@@ -1,6 +1,6 @@
 //! What `bench export` writes of recordings, worked out by hand.
-use crate::equal::{reads, same};
-use crate::made::{FOREIGN, FORMS, RETRY, TRANSFER, recorded};
+use crate::looks::equal::{reads, same};
+use crate::looks::made::{FOREIGN, FORMS, RETRY, TRANSFER, recorded};
 use bench_clock::Clock;
 use bench_export::{Columns, Table, export, selects_any};
 use bench_select::{Bound, Selection};

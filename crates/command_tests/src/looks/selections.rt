@@ -1,6 +1,6 @@
 //! Which messages are chosen, worked out by hand, and how a bound and a selector are written.
-use crate::equal::{reads, same, same_in};
-use crate::made::{TRANSFER, recorded};
+use crate::looks::equal::{reads, same, same_in};
+use crate::looks::made::{TRANSFER, recorded};
 use bench_decode::{Output, Shown, decode};
 use bench_select::{Bound, Bus, Selection, Selector, read_bound};
 use judge_rules::{RuleFault, selector_of};

@@ -1,0 +1,4 @@
+//! Jobs that are tried: `bench_check`.
+
+mod fitted;
+mod tried;

@@ -1,0 +1,15 @@
+//! The commands for people who look: `bench_stat`, `bench_export`, `bench_draw`, `bench_explain`, `bench_judge`,
+//! `bench_complete` and `bench_decode`, and with them `bench_select`, `judge_rules` and `ch11_layout`.
+
+mod completions;
+mod dated;
+mod decodings;
+mod equal;
+mod explanations;
+mod exports;
+mod made;
+mod pictures;
+mod selections;
+mod statistics;
+mod verdicts;
+mod waves;
