@@ -31,7 +31,10 @@ const USAGE: u8 = 2;
 
 /// Reads the command line, does what it asks, and says how the process ends. What it says of faults and of its
 /// progress goes to `errors`.
-pub fn run<R: Host, E: Errors>(rt: &R, errors: &E) -> ExitCode {
+pub fn run<R: Host, E: Errors>(rt: &R, errors: &E) -> ExitCode
+where
+    R::Reader: 'static,
+{
     match words_of(rt) {
         Ok(words) => run_words(rt, errors, words.as_slice()),
         Err(error) if error.kind() == io::ErrorKind::OutOfMemory => stop(errors, &Fault::Memory),
@@ -52,7 +55,10 @@ pub fn run<R: Host, E: Errors>(rt: &R, errors: &E) -> ExitCode {
     }
 }
 
-fn run_words<R: Host, E: Errors>(rt: &R, errors: &E, words: &[String]) -> ExitCode {
+fn run_words<R: Host, E: Errors>(rt: &R, errors: &E, words: &[String]) -> ExitCode
+where
+    R::Reader: 'static,
+{
     match command_line::read(rt.alloc(), words) {
         Ok(asked) => match obey(rt, errors, &asked) {
             Ok(()) => ExitCode::SUCCESS,
@@ -96,7 +102,10 @@ fn stop<E: Eprint>(errors: &E, fault: &Fault<'_>) -> ExitCode {
     ExitCode::from(fault.status())
 }
 
-fn obey<'a, R: Host, E: Errors>(rt: &R, errors: &E, asked: &Asked<'a>) -> Result<(), Fault<'a>> {
+fn obey<'a, R: Host, E: Errors>(rt: &R, errors: &E, asked: &Asked<'a>) -> Result<(), Fault<'a>>
+where
+    R::Reader: 'static,
+{
     match &asked.request {
         Request::One {
             channel,

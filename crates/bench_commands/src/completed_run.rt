@@ -152,7 +152,10 @@ pub(crate) fn record_completed<'a, R: Host, E: Errors>(
     settings: &Settings,
     additions: &Additions<'_>,
     files: RunFiles<'a, R::File>,
-) -> Result<Report, Fault<'a>> {
+) -> Result<Report, Fault<'a>>
+where
+    R::Reader: 'static,
+{
     let mut files = files;
     match complete_into(
         rt, errors, request, way, show, jobs, settings, additions, &mut files,
@@ -187,7 +190,10 @@ fn complete_into<'a, R: Host, E: Errors>(
     settings: &Settings,
     additions: &Additions<'_>,
     files: &mut RunFiles<'a, R::File>,
-) -> Result<Report, Fault<'a>> {
+) -> Result<Report, Fault<'a>>
+where
+    R::Reader: 'static,
+{
     if let Err(fault) = judge_before(rt.alloc(), jobs, settings, request.drops, additions) {
         return Err(fault_of(fault, ""));
     }

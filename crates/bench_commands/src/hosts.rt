@@ -10,7 +10,7 @@ use std::thread::Threads;
 pub trait Host: Env
     + Files<File: Hold>
     + AllocGlobal
-    + Input<Reader: IsTerminal + Send + 'static>
+    + Input<Reader: IsTerminal + Send>
     + Print
     + Clock
     + Threads
@@ -25,7 +25,7 @@ impl<
     R: Env
         + Files<File: Hold>
         + AllocGlobal
-        + Input<Reader: IsTerminal + Send + 'static>
+        + Input<Reader: IsTerminal + Send>
         + Print
         + Clock
         + Threads

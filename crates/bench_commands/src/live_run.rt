@@ -149,6 +149,8 @@ pub(crate) fn record<R: Host, E: Errors, S: Sink + Drop>(
     settings: &Settings,
     sink: S,
 ) -> Result<(Report, S), RunError<S>>
+where
+    R::Reader: 'static,
     requires countable { S.failures sink < 2 ^ 64 - 1 }
 {
     let manner = way.manner;
@@ -176,6 +178,8 @@ fn record_beside<R: Host, E: Errors, S: Sink + Drop>(
     settings: &Settings,
     sink: S,
 ) -> Result<(Report, S), RunError<S>>
+where
+    R::Reader: 'static,
     requires countable { S.failures sink < 2 ^ 64 - 1 }
 {
     let alloc = rt.alloc();

@@ -35,7 +35,10 @@ pub fn run_jobs<'a, R: Host, E: Errors>(
     request: &RunRequest<'a>,
     completing: Option<&Completing<'a>>,
     going: &Going<'a>,
-) -> Result<(), Fault<'a>> {
+) -> Result<(), Fault<'a>>
+where
+    R::Reader: 'static,
+{
     let start = start_in(completing)?;
     let way = way_of(rt, going, request)?;
     told_apart(
@@ -80,7 +83,10 @@ fn record_and_tell<'a, R: Host, E: Errors>(
     settings: &Settings,
     additions: Option<Additions<'_>>,
     files: RunFiles<'a, R::File>,
-) -> Result<(), Fault<'a>> {
+) -> Result<(), Fault<'a>>
+where
+    R::Reader: 'static,
+{
     let is_output = files.are_output();
     let Ok(showing) = begin_showing(rt, going) else {
         files.end(rt, Ending::Broken)?;
@@ -110,7 +116,10 @@ fn record_into<'a, R: Host, E: Errors>(
     jobs: &[Job],
     settings: &Settings,
     files: RunFiles<'a, R::File>,
-) -> Result<Report, Fault<'a>> {
+) -> Result<Report, Fault<'a>>
+where
+    R::Reader: 'static,
+{
     let mut files = files;
     let file = match files.recording(rt) {
         Ok(file) => file,
