@@ -3,6 +3,7 @@ use Rattle.std.specs.Prelude.{◌≡◌, ◌⊎◌, ℕ, ◌+◌, ◌-◌, ◌/�
 use Rattle.std.specs.Prelude.{nat_lt, is_some, if◌then◌else◌, List, [], length, Option, None, Some, option_map, Result}
 use Rattle.std.specs.Prelude.{Ok, Err}
 use Rattle.std.specs.List.{list_any, AllByRecursion}
+use Rattle.ch11_header.specs.Kinds.{setup_record}
 use Rattle.ch11_reader.specs.declared.fault.Refusal.{Refusal}
 use Rattle.ch11_reader.specs.declared.packet.Packet.{Packet}
 use Rattle.ch11_reader.specs.Recording.{Found, found_or_none, messages_of, packet_at}
@@ -43,13 +44,14 @@ misuse_of twice taken long =
     else (if taken then Some faults.ChannelTaken else (if long then Some faults.TooLong else None))
 
 abbrev pub misuse : List ℕ → List Found → Additions → Option CompleteFault
-misuse file ps a = misuse_of (is_some a.setup && has_kind 1 ps) (is_some a.start && has_channel a.time_channel ps)
+misuse file ps a = misuse_of (is_some a.setup && has_kind setup_record ps)
+    (is_some a.start && has_channel a.time_channel ps)
     (is_some a.start && is_too_long (extent_of (kept file ps)))
 
 -- the same by the entries of an index
 abbrev pub misuse_by : List Packet → Additions → Option Extent → Option CompleteFault
 misuse_by es a x =
-    misuse_of (is_some a.setup && list_any (λ (e : Packet). e.header.kind == 1) es)
+    misuse_of (is_some a.setup && list_any (λ (e : Packet). e.header.kind == setup_record) es)
     (is_some a.start && list_any (λ (e : Packet). e.header.channel == a.time_channel) es)
     (is_some a.start && is_too_long x)
 

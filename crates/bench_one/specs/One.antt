@@ -1,6 +1,7 @@
 -- The packet of one message on fresh terminals (own choice: one message, at tick 0, with no planned fault).
 use Rattle.std.specs.Prelude.{ℕ, ◌≡◌, List, [], ◌∷◌, map, Result, Ok, Err}
 use Rattle.mil_word.specs.declared.Line.{Line}
+use Rattle.mil_word.specs.Timing.{least_gap}
 use Rattle.mil_message.specs.declared.forms.Due.{Due}
 use Rattle.mil_message.specs.declared.forms.Form.{Form}
 use Rattle.mil_message.specs.Forms.{replies_due}
@@ -20,7 +21,7 @@ named form = map (λ (d : Due). d.address) (replies_due form)
 
 -- the exchange of the message on a bus with new terminals at these addresses
 unfoldable pub only_talk : Line → Form → Talk
-only_talk line form = talk_of (fresh_bus 0 (named form)) line form 40 []
+only_talk line form = talk_of (fresh_bus 0 (named form)) line form least_gap []
 
 abbrev pub only_record : Line → Form → Numbered
 only_record line form = record { number = 1; message = observed (only_talk line form) }

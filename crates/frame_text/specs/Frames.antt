@@ -1,5 +1,6 @@
 -- The text of frames: the grammar of a script (own choice), and the tree of a text or its first fault.
 use Rattle.std.specs.Prelude.{ℕ, zero, suc, nat_le, if◌then◌else◌, List, [], ◌∷◌, length, Result, Ok, Err, codes}
+use Rattle.mil_word.specs.Timing.{least_gap}
 use Rattle.frame_tree.specs.Tree.{Tree, send, retry, gap, repeat, choose, until, timed, nothing, chained, call, define}
 use Rattle.frame_tree.specs.Bounds.{worst_messages, depth_in}
 use Rattle.frame_tree.specs.Names.{is_name, Scope, named, is_known}
@@ -76,7 +77,7 @@ call_at ds d ts = label_at ts >>= (λ n. called ds d n.0 n.1)
 unfoldable pub frame_of : Reader → Reader → FrameWord → List ℕ → Tokens → Reading Tree
 frame_of calls block word.Send w ts = send_at ts >>= (λ x. Ok (send x.0.0 x.0.1, x.1))
 frame_of calls block word.Retry w ts = retry_at ts
-frame_of calls block word.Gap w ts = number_within 40 65535 ts >>= (λ n. Ok (gap n.0, n.1))
+frame_of calls block word.Gap w ts = number_within least_gap 65535 ts >>= (λ n. Ok (gap n.0, n.1))
 frame_of calls block word.Repeat w ts = repeat_at block ts
 frame_of calls block word.If w ts = choice_at block ts
 frame_of calls block word.Until w ts = until_at block ts

@@ -1,5 +1,6 @@
 -- How large a tree is, and which trees are sound (own choice).
 use Rattle.std.specs.Prelude.{◌≡◌, ℕ, ◌+◌, ◌*◌, ◌≤◌, ◌<◌, max, true, false, [], ◌∷◌, length}
+use Rattle.mil_word.specs.Timing.{least_gap}
 use Rattle.frame_tree.specs.Tree.{Condition, asked, negated, both, either, Tree, send, retry, gap, repeat, choose}
 use Rattle.frame_tree.specs.Tree.{until, timed, nothing, chained, call, define}
 use Rattle.frame_tree.specs.Names.{Scope, named, is_known}
@@ -55,7 +56,7 @@ IsCondition c = operators c ≤ 16
 abbrev pub IsInRange : Tree → Type 0
 IsInRange (send l m) = Unit {0}
 IsInRange (retry n l m) = (1 ≤ n) × (n ≤ 8)
-IsInRange (gap t) = (40 ≤ t) × (t ≤ 65535)
+IsInRange (gap t) = (least_gap ≤ t) × (t ≤ 65535)
 IsInRange (repeat n b) = (1 ≤ n) × (n ≤ 10000) × IsInRange b
 IsInRange (choose c a b) = IsCondition c × IsInRange a × IsInRange b
 IsInRange (until c n b) = IsCondition c × (1 ≤ n) × (n ≤ 10000) × IsInRange b
