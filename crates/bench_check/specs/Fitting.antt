@@ -8,7 +8,7 @@ use Rattle.mil_message.specs.declared.forms.Form.{Form}
 use Rattle.mil_message.specs.Forms.{controller_words, replies_due}
 use Rattle.mil_bus.specs.Times.{lasting}
 use Rattle.frame_tree.specs.Tree.{Tree, send, retry, gap, repeat, choose, until, timed, nothing, chained, call, define}
-use Rattle.frame_tree.specs.Names.{Scope, named}
+use Rattle.frame_tree.specs.Names.{Scope, meant_by}
 use Rattle.bench_check.specs.declared.fitting.Timed.{Timed}
 use Rattle.bench_check.specs.declared.fitting.Tight.{Tight}
 
@@ -60,7 +60,7 @@ ticks_in g ds (until c n b) = n * ticks_in g ds b
 ticks_in g ds (timed h b) = max (1000 * h) (ticks_in g ds b)
 ticks_in g ds nothing = 0
 ticks_in g ds (chained a b) = ticks_in g ds a + ticks_in g ds b
-ticks_in g ds (call n) = named 0 ds n
+ticks_in g ds (call n) = meant_by 0 ds n
 ticks_in g ds (define n b r) = ticks_in g ((n, ticks_in g ds b) ∷ ds) r
 
 -- how long a script's tree takes at worst, in which nothing stands for a name

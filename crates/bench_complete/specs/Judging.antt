@@ -12,7 +12,7 @@ use Rattle.bench_complete.specs.declared.extent.Extent.{Extent}
 use Rattle.bench_complete.specs.declared.fault.CompleteFault.{CompleteFault}
 use Rattle.bench_complete.specs.declared.fault.CompleteFault.TheVariants as faults
 use Rattle.bench_complete.specs.declared.times.Times.{Times}
-use Rattle.bench_complete.specs.Pieces.{kept}
+use Rattle.bench_complete.specs.Pieces.{kept_packets}
 use Rattle.bench_complete.specs.Merging.{of_channel}
 use Rattle.bench_complete.specs.TimePackets.{times_in}
 use Rattle.bench_complete.specs.Complete.{Plan, Completes, plan_for, extent_of, low_of}
@@ -46,7 +46,7 @@ misuse_of twice taken long =
 abbrev pub misuse : List ℕ → List Found → Additions → Option CompleteFault
 misuse file ps a = misuse_of (is_some a.setup && has_kind setup_record ps)
     (is_some a.start && has_channel a.time_channel ps)
-    (is_some a.start && is_too_long (extent_of (kept file ps)))
+    (is_some a.start && is_too_long (extent_of (kept_packets file ps)))
 
 -- the same by the entries of an index
 abbrev pub misuse_by : List Packet → Additions → Option Extent → Option CompleteFault
@@ -82,9 +82,9 @@ Refuses file read a faults.TooLong = judged file read a ≡ Err faults.TooLong
 Refuses file read a faults.Device = ⊥
 
 -- what judging answers: a plan, or a refusal
-abbrev pub Answers : List ℕ → Result (List Found) Refusal → Additions → Result Plan CompleteFault → Type 0
-Answers file read a (Ok c) = (ps : List Found) × (judged file read a ≡ Ok ps) × (c ≡ plan_for file ps a)
-Answers file read a (Err f) = Refuses file read a f
+abbrev pub IsPlanned : List ℕ → Result (List Found) Refusal → Additions → Result Plan CompleteFault → Type 0
+IsPlanned file read a (Ok c) = (ps : List Found) × (judged file read a ≡ Ok ps) × (c ≡ plan_for file ps a)
+IsPlanned file read a (Err f) = Refuses file read a f
 
 -- what stops the writing of a file: want of memory, or the writer
 abbrev pub StopsWriting : CompleteFault → Type 0
@@ -108,9 +108,9 @@ AllReadAt file ps = AllByRecursion (ReadsAt file) ps
 pub record IsPlanned (file : List ℕ) (ps : List Found) (t : Times) (low : ℕ) (setup : Option (List ℕ)) : Type 0 where
   pub sound : AllReadAt file ps
   pub small : IsSmall t
-  pub lowest : low ≡ low_of (extent_of (times_in t ++ kept file ps))
+  pub lowest : low ≡ low_of (extent_of (times_in t ++ kept_packets file ps))
   pub few : low < 2 ^ 48
-  pub free : t.first < t.end → of_channel t.channel (kept file ps) ≡ []
+  pub free : t.first < t.end → of_channel t.channel (kept_packets file ps) ≡ []
   pub text : is_setup setup ≡ true
 
 -- a recording that could be read was completed: a writer got the file of its plan

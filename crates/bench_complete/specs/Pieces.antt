@@ -24,9 +24,10 @@ abbrev pub goes_over : Header → Bool
 goes_over h = not (h.kind == recording_index)
 
 -- the packets of a recording that go over
-abbrev pub kept : List ℕ → List Found → List Piece
-kept file [] = []
-kept file (p ∷ ps) = if goes_over p.header then piece_at file p.offset p.header ∷ kept file ps else kept file ps
+abbrev pub kept_packets : List ℕ → List Found → List Piece
+kept_packets file [] = []
+kept_packets file (p ∷ ps) = if goes_over p.header then piece_at file p.offset p.header ∷ kept_packets file ps
+    else kept_packets file ps
 
 -- the same by the entries of an index
 abbrev pub kept_entries : List ℕ → List Packet → List Piece

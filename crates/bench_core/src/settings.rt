@@ -33,9 +33,9 @@ pub enum WorldError {
 /// `U2`, `U1`, `U5`, `U3`.
 impl Display for WorldError {
     ghost use Rattle.std.specs.Prelude.{Some};
-    ghost use Rattle.bench_core.specs.Lawful.{code_of};
+    ghost use Rattle.bench_core.specs.Lawful.{fault_code};
 
-    ghost output = { λ e. Some (code_of e) };
+    ghost output = { λ e. Some (fault_code e) };
 
     fn fmt<W: Write>(&self, f: &mut Formatter<W>) -> fmt::Result {
         f.write_str(match self {

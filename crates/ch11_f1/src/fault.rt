@@ -16,9 +16,9 @@ pub enum BodyError {
 
 impl fmt::Display for BodyError {
     ghost use Rattle.std.specs.Prelude.{Some};
-    ghost use Rattle.ch11_f1.specs.Codes.{code_of};
+    ghost use Rattle.ch11_f1.specs.Codes.{fault_code};
 
-    ghost output = { λ e. Some (code_of e) };
+    ghost output = { λ e. Some (fault_code e) };
 
     fn fmt<W: fmt::Write>(&self, f: &mut fmt::Formatter<W>) -> fmt::Result {
         f.write_str(match self {

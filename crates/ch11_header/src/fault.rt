@@ -22,9 +22,9 @@ pub enum HeaderError {
 
 impl fmt::Display for HeaderError {
     ghost use Rattle.std.specs.Prelude.{Some};
-    ghost use Rattle.ch11_header.specs.Codes.{code_of};
+    ghost use Rattle.ch11_header.specs.Codes.{fault_code};
 
-    ghost output = { λ e. Some (code_of e) };
+    ghost output = { λ e. Some (fault_code e) };
 
     fn fmt<W: fmt::Write>(&self, f: &mut fmt::Formatter<W>) -> fmt::Result {
         f.write_str(match self {

@@ -8,13 +8,13 @@ use Rattle.ch11_reader.specs.declared.fault.Refusal.{Refusal}
 use Rattle.ch11_reader.specs.declared.fault.ReadError.{ReadError}
 use Rattle.ch11_reader.specs.declared.fault.ReadError.TheVariants.{Refused, Memory}
 
-abbrev pub code_of : Fault → List ℕ
-code_of (Header fault) = headers.code_of fault
-code_of End = codes "N2"
-code_of (Body fault) = bodies.code_of fault
+abbrev pub fault_code : Fault → List ℕ
+fault_code (Header fault) = headers.fault_code fault
+fault_code End = codes "N2"
+fault_code (Body fault) = bodies.fault_code fault
 
 abbrev pub refusal_text : Refusal → List ℕ
-refusal_text r = code_of r.fault ++ (codes " offset " ++ decimal r.offset)
+refusal_text r = fault_code r.fault ++ (codes " offset " ++ decimal r.offset)
 
 abbrev pub error_text : ReadError → List ℕ
 error_text (Refused r) = refusal_text r

@@ -42,9 +42,9 @@ pub enum ReadError {
 
 impl fmt::Display for Fault {
     ghost use Rattle.std.specs.Prelude.{Some};
-    ghost use Rattle.ch11_reader.specs.Codes.{code_of};
+    ghost use Rattle.ch11_reader.specs.Codes.{fault_code};
 
-    ghost output = { λ e. Some (code_of e) };
+    ghost output = { λ e. Some (fault_code e) };
 
     fn fmt<W: fmt::Write>(&self, f: &mut fmt::Formatter<W>) -> fmt::Result {
         match self {

@@ -55,9 +55,9 @@ pub enum LoadError {
 
 impl fmt::Display for LoadError {
     ghost use Rattle.std.specs.Prelude.{Some};
-    ghost use Rattle.frame_load.specs.Codes.{code_of};
+    ghost use Rattle.frame_load.specs.Codes.{fault_code};
 
-    ghost output = { λ e. Some (code_of e) };
+    ghost output = { λ e. Some (fault_code e) };
 
     fn fmt<W: fmt::Write>(&self, f: &mut fmt::Formatter<W>) -> fmt::Result {
         f.write_str(match self {

@@ -3,7 +3,7 @@ use Rattle.std.specs.Prelude.{◌≡◌, ℕ, ◌+◌, ◌*◌, ◌≤◌, ◌<�
 use Rattle.mil_word.specs.Timing.{least_gap}
 use Rattle.frame_tree.specs.Tree.{Condition, asked, negated, both, either, Tree, send, retry, gap, repeat, choose}
 use Rattle.frame_tree.specs.Tree.{until, timed, nothing, chained, call, define}
-use Rattle.frame_tree.specs.Names.{Scope, named, is_known}
+use Rattle.frame_tree.specs.Names.{Scope, meant_by, is_known}
 
 -- How many messages a tree sends at most, where a call of each name in scope sends so many: every retry is used up, an
 -- until runs all its turns, and an if takes the branch with more.
@@ -17,7 +17,7 @@ messages_in ds (until c n b) = n * messages_in ds b
 messages_in ds (timed h b) = messages_in ds b
 messages_in ds nothing = 0
 messages_in ds (chained a b) = messages_in ds a + messages_in ds b
-messages_in ds (call n) = named 0 ds n
+messages_in ds (call n) = meant_by 0 ds n
 messages_in ds (define n b r) = messages_in ((n, messages_in ds b) ∷ ds) r
 
 abbrev pub worst_messages : Tree → ℕ
@@ -35,7 +35,7 @@ depth_in ds (until c n b) = 1 + depth_in ds b
 depth_in ds (timed h b) = 1 + depth_in ds b
 depth_in ds nothing = 0
 depth_in ds (chained a b) = max (depth_in ds a) (depth_in ds b)
-depth_in ds (call n) = named 0 ds n
+depth_in ds (call n) = meant_by 0 ds n
 depth_in ds (define n b r) = max (depth_in ds b) (depth_in ((n, depth_in ds b) ∷ ds) r)
 
 abbrev pub depth : Tree → ℕ

@@ -3,7 +3,7 @@ use Rattle.std.specs.Prelude.{◌≡◌, ◌<◌, ◌≤◌, true, false, Bool, 
 use Rattle.frame_tree.specs.Tree.{Tree}
 use Rattle.frame_text.specs.declared.faults.Cause.{Cause}
 use Rattle.frame_code.specs.Table.{Code}
-use Rattle.frame_asm.specs.Shapes.{code_of}
+use Rattle.frame_asm.specs.Shapes.{code_of_tree}
 use Rattle.frame_asm.specs.declared.AsmError.{AsmError}
 use Rattle.frame_asm.specs.declared.AsmError.TheVariants as assembler
 use Rattle.frame_load.specs.Judging.{IsWithin, HasShortPeriods}
@@ -80,7 +80,7 @@ abbrev pub IsRefusal : Option ChannelJob → JobError → Type 0
 IsRefusal spelled (error.Line line why) = spelled ≡ None
 IsRefusal spelled (error.Script cause place) = spelled ≡ None
 IsRefusal spelled (error.Assembly line why) = (job : ChannelJob) × (spelled ≡ Some job)
-    × IsTooLong (code_of job.tree) why
+    × IsTooLong (code_of_tree job.tree) why
 IsRefusal spelled (error.Loading line why) = (job : ChannelJob) × (spelled ≡ Some job)
-    × IsTooMuch (code_of job.tree) why
+    × IsTooMuch (code_of_tree job.tree) why
 IsRefusal spelled error.Memory = Unit {0}
