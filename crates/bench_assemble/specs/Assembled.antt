@@ -7,8 +7,8 @@ use Rattle.frame_code.specs.Table.{Code}
 use Rattle.frame_code.specs.Bytes.{image_bytes}
 use Rattle.frame_asm.specs.Shapes.{code_of_tree}
 use Rattle.frame_load.specs.Budget.{budget, worst_messages, periods}
-use Rattle.frame_load.specs.declared.LoadError.{LoadError}
-use Rattle.frame_load.specs.declared.LoadError.TheVariants as loader
+use Rattle.frame_load.specs.declared.error.LoadError.{LoadError}
+use Rattle.frame_load.specs.declared.error.LoadError.TheVariants as loader
 use Rattle.bench_assemble.specs.declared.sizes.Sizes.{Sizes}
 use Rattle.bench_assemble.specs.declared.fault.AssembleFault.{AssembleFault}
 use Rattle.bench_assemble.specs.declared.fault.AssembleFault.TheVariants.{Text, Operations, Messages, Budget, Periods}

@@ -4,12 +4,12 @@ use Rattle.std.specs.List.{list_any}
 use Rattle.std.proofs.lemmas.Bool.{ltb-false}
 use Rattle.std.proofs.lemmas.List.{drop-drop, length-drop, get_or-drop}
 use Rattle.ch11_header.specs.declared.header.Header.{Header}
-use Rattle.ch11_header.specs.declared.fault.HeaderError.{HeaderError}
+use Rattle.ch11_header.specs.declared.error.HeaderError.{HeaderError}
 use Rattle.ch11_header.specs.HeaderBytes.{number_at, header_sum}
 use Rattle.ch11_header.specs.HeaderReading.{header_in, fields_of, with_lawful_lengths, is_packet_length, has_room}
-use Rattle.ch11_f1.specs.declared.fault.BodyError.{BodyError}
+use Rattle.ch11_f1.specs.declared.error.BodyError.{BodyError}
 use Rattle.ch11_f1.specs.BodyReading.{Message, messages_in}
-use Rattle.ch11_reader.specs.declared.fault.Fault.{Fault}
+use Rattle.ch11_reader.specs.declared.error.Fault.{Fault}
 use Rattle.ch11_reader.specs.declared.packet.Packet.{Packet}
 use Rattle.ch11_reader.specs.Listing.{listed_behind, listing_behind}
 use Rattle.ch11_reader.specs.Recording.{Found, holds_messages, body_of, messages_of, with_body, with_rest, with_header, packet_at, packets_from, packets_in}

@@ -4,7 +4,7 @@ use Rattle.std.specs.Prelude.{nat_lt, is_some, if◌then◌else◌, List, [], le
 use Rattle.std.specs.Prelude.{Ok, Err}
 use Rattle.std.specs.List.{list_any, AllByRecursion}
 use Rattle.ch11_header.specs.Kinds.{setup_record}
-use Rattle.ch11_reader.specs.declared.fault.Refusal.{Refusal}
+use Rattle.ch11_reader.specs.declared.error.Refusal.{Refusal}
 use Rattle.ch11_reader.specs.declared.packet.Packet.{Packet}
 use Rattle.ch11_reader.specs.Recording.{Found, found_or_none, messages_of, packet_at}
 use Rattle.bench_complete.specs.declared.additions.Additions.{Additions}

@@ -5,8 +5,8 @@ use Rattle.ch11_recording.specs.WrittenFile.{Format}
 use Rattle.ch11_recording.specs.Recording.{AreDistinct}
 use Rattle.ch11_recording.specs.Laws.{IsPrologue}
 use Rattle.bench_core.specs.declared.settings.Settings.{Settings}
-use Rattle.bench_core.specs.declared.settings.WorldError.{WorldError}
-use Rattle.bench_core.specs.declared.settings.WorldError.TheVariants as fault
+use Rattle.bench_core.specs.declared.error.WorldError.{WorldError}
+use Rattle.bench_core.specs.declared.error.WorldError.TheVariants as fault
 
 abbrev pub format_of : Settings → Format
 format_of s = record { version = s.version; limit = s.limit }

@@ -6,7 +6,7 @@ ghost use Rattle.std.specs.Io.BufRead.{Rests};
 ghost use Rattle.ch11_builder.specs.Cutting.{is_empty};
 ghost use Rattle.ch11_builder.specs.Held.{Held, fresh, pushed, closed, packet_of, latest_number};
 
-use crate::fault::BuilderError;
+use crate::error::BuilderError;
 use crate::packing::Packing;
 use mil_monitor::Record;
 use std::alloc::Global;

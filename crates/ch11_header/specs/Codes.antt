@@ -1,7 +1,7 @@
 -- The letters of a header's faults (own choice).
 use Rattle.std.specs.Prelude.{ℕ, List, codes}
-use Rattle.ch11_header.specs.declared.fault.HeaderError.{HeaderError}
-use Rattle.ch11_header.specs.declared.fault.HeaderError.TheVariants.{Short, Sync, Checksum, PacketLength, DataLength}
+use Rattle.ch11_header.specs.declared.error.HeaderError.{HeaderError}
+use Rattle.ch11_header.specs.declared.error.HeaderError.TheVariants.{Short, Sync, Checksum, PacketLength, DataLength}
 
 abbrev pub fault_code : HeaderError → List ℕ
 fault_code Short = codes "K1"

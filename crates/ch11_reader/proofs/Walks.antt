@@ -6,12 +6,12 @@ use Rattle.std.proofs.lemmas.Bool.{cases_eq, le-ltb, lt-ltb}
 use Rattle.std.proofs.lemmas.List.{drop-drop, drop-take, take-append-drop, length-drop, length-take-le, length-set, length-replicate, get_or-replicate, get_or-set_same, get_or-set_other}
 use Rattle.std.proofs.lemmas.Option.{slice_get_within, slice_get-get_or, get_or_from_slice_get, unwrap_or-slice_get}
 use Rattle.byteorder.specs.Endian.{little_number}
-use Rattle.ch11_f1.specs.declared.fault.BodyError.{BodyError}
-use Rattle.ch11_f1.specs.declared.fault.BodyError.TheVariants.{Odd, End}
+use Rattle.ch11_f1.specs.declared.error.BodyError.{BodyError}
+use Rattle.ch11_f1.specs.declared.error.BodyError.TheVariants.{Odd, End}
 use Rattle.ch11_f1.specs.BodyReading.{◌>>=◌, Message, number_at, message_at, messages_at, messages_in, count_in}
 use Rattle.ch11_header.specs.declared.header.Header.{Header}
 use Rattle.ch11_header.specs.HeaderReading.{header_in, body_start}
-use Rattle.ch11_reader.specs.declared.fault.Fault.TheVariants as faults
+use Rattle.ch11_reader.specs.declared.error.Fault.TheVariants as faults
 use Rattle.ch11_reader.specs.Recording.{holds_messages, body_of, packet_at}
 use Rattle.ch11_reader.specs.declared.jumps.Jump.{Jump}
 use Rattle.ch11_reader.specs.Walking.{between, body_verdict, no_jump, Leads, IsJump, AreJumps, IsRest}

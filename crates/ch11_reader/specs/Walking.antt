@@ -1,6 +1,6 @@
 -- Steps over the messages of a body, wherever in a file they stand: what a reader may know of a way before it goes it.
 use Rattle.std.specs.Prelude.{◌≡◌, ℕ, ◌+◌, ◌-◌, ◌*◌, ◌≤◌, List, length, take, drop, Some, slice_get, Result, Ok, Err}
-use Rattle.ch11_f1.specs.declared.fault.BodyError.{BodyError}
+use Rattle.ch11_f1.specs.declared.error.BodyError.{BodyError}
 use Rattle.ch11_f1.specs.BodyReading.{Message, messages_at}
 use Rattle.ch11_reader.specs.declared.jumps.Jump.{Jump}
 

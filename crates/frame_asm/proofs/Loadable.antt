@@ -10,7 +10,7 @@ use Rattle.frame_code.specs.Loadable.{open_at, loops_among, frames_among, HasMes
 use Rattle.frame_code.specs.Routines.{owner_at, routines, passed}
 use Rattle.frame_code.specs.Ranges.{IsImage}
 use Rattle.frame_code.specs.Table.{Code}
-use Rattle.frame_asm.specs.declared.AsmError.{AsmError}
+use Rattle.frame_asm.specs.declared.error.AsmError.{AsmError}
 use Rattle.frame_asm.proofs.Runs.{HasAt, has_front, has_back, has_all}
 use Rattle.frame_asm.proofs.Lengths.{length_shape, length_messages_of}
 use Rattle.frame_asm.proofs.Levels.{next, level}

@@ -1,7 +1,7 @@
 -- The letters of the assembler's refusals (own choice).
 use Rattle.std.specs.Prelude.{ℕ, List, codes}
-use Rattle.frame_asm.specs.declared.AsmError.{AsmError}
-use Rattle.frame_asm.specs.declared.AsmError.TheVariants.{Operations, Messages, Memory}
+use Rattle.frame_asm.specs.declared.error.AsmError.{AsmError}
+use Rattle.frame_asm.specs.declared.error.AsmError.TheVariants.{Operations, Messages, Memory}
 
 abbrev pub fault_code : AsmError → List ℕ
 fault_code Operations = codes "A1"

@@ -12,49 +12,13 @@ ghost use Rattle.frame_asm.specs.Shapes.{code_of_tree, size, entries};
 ghost use Rattle.frame_asm.specs.Behaves.{Behaves};
 
 mod emission;
+mod error;
 mod sizes;
 
+pub use error::AsmError;
 use frame_code::{Image, Op, Setting};
 use frame_tree::{Frame, Scope};
-use std::alloc::{AllocError, Allocator, Global};
-use std::fmt;
-
-/// Why a frame has no image.
-#[derive(Clone, Copy, PartialEq, Eq, Debug)]
-pub enum AsmError {
-    /// A1: there are more than 4096 operations.
-    Operations,
-    /// A2: there are more than 1024 messages.
-    Messages,
-    /// A3: memory was refused.
-    Memory,
-}
-
-impl fmt::Display for AsmError {
-    ghost use Rattle.std.specs.Prelude.{Some};
-    ghost use Rattle.frame_asm.specs.Codes as letters;
-
-    ghost output = { λ e. Some (letters.fault_code e) };
-
-    fn fmt<W: fmt::Write>(&self, f: &mut fmt::Formatter<W>) -> fmt::Result {
-        f.write_str(match self {
-            AsmError::Operations => "A1",
-            AsmError::Messages => "A2",
-            AsmError::Memory => "A3",
-        })
-    }
-}
-
-impl From<AllocError> for AsmError {
-    ghost use Rattle.std.specs.Prelude.{◌≡◌};
-    ghost use Rattle.frame_asm.specs.declared.AsmError.TheVariants.{Memory};
-
-    ghost from_gives = { λ _ e. e ≡ Memory };
-
-    fn from(_: AllocError) -> AsmError {
-        AsmError::Memory
-    }
-}
+use std::alloc::{Allocator, Global};
 
 /// Law: in any world, and from any point, the code of a sound tree does what the tree means, and halts there.
 pub fn code_means<W: Setting>()

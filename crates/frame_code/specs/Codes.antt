@@ -1,7 +1,7 @@
 -- The letters of the faults of an image (own choice).
 use Rattle.std.specs.Prelude.{ℕ, List, codes}
-use Rattle.frame_code.specs.declared.ImageError.{ImageError}
-use Rattle.frame_code.specs.declared.ImageError.TheVariants.{Mark, Length, Operations, Messages, Version, Memory}
+use Rattle.frame_code.specs.declared.error.ImageError.{ImageError}
+use Rattle.frame_code.specs.declared.error.ImageError.TheVariants.{Mark, Length, Operations, Messages, Version, Memory}
 
 abbrev pub fault_code : ImageError → List ℕ
 fault_code Mark = codes "C1"

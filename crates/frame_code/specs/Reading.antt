@@ -11,8 +11,8 @@ use Rattle.mil_status.specs.Status.{bit_at}
 use Rattle.mil_message.specs.Parts.{request_at}
 use Rattle.mil_message.specs.Request.{Request}
 use Rattle.mil_message.specs.Rules.{form_of}
-use Rattle.frame_code.specs.declared.ImageError.{ImageError}
-use Rattle.frame_code.specs.declared.ImageError.TheVariants as fault
+use Rattle.frame_code.specs.declared.error.ImageError.{ImageError}
+use Rattle.frame_code.specs.declared.error.ImageError.TheVariants as fault
 use Rattle.frame_code.specs.declared.Op.{Op}
 use Rattle.frame_code.specs.declared.Op.TheVariants.{Halt, Send, Alt, SetGap, Loop, Again, Leave, Jump, Test, JumpFalse}
 use Rattle.frame_code.specs.declared.Op.TheVariants.{Call, Return, Begin, Pace}

@@ -10,7 +10,7 @@ ghost use Rattle.std.specs.List.{flat_map};
 ghost use Rattle.frame_code.specs.Fields as table;
 ghost use Rattle.frame_code.specs.Reading as spelled;
 ghost use Rattle.frame_code.specs.Reading.{Gives, Builds, behind, many_versions, image_of};
-ghost use Rattle.frame_code.specs.declared.ImageError.{ImageError};
+ghost use Rattle.frame_code.specs.declared.error.ImageError.{ImageError};
 ghost use Rattle.frame_code.specs.declared.Op.TheVariants as op;
 
 use crate::fields::{first_fits, second_fits, words_due};

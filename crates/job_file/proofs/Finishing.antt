@@ -8,10 +8,10 @@ use Rattle.frame_tree.specs.Bounds.{IsSound}
 use Rattle.frame_text.specs.Frames.{tree_of_text}
 use Rattle.frame_code.specs.Table.{Code}
 use Rattle.frame_asm.specs.Shapes.{code_of_tree}
-use Rattle.frame_asm.specs.declared.AsmError.{AsmError}
-use Rattle.frame_asm.specs.declared.AsmError.TheVariants as assembler
+use Rattle.frame_asm.specs.declared.error.AsmError.{AsmError}
+use Rattle.frame_asm.specs.declared.error.AsmError.TheVariants as assembler
 use Rattle.frame_load.specs.Judging.{IsWithin, HasShortPeriods, Judges}
-use Rattle.frame_load.specs.declared.LoadError.{LoadError}
+use Rattle.frame_load.specs.declared.error.LoadError.{LoadError}
 use Rattle.job_file.specs.Options.{◌>>=◌}
 use Rattle.job_file.specs.HeadLines.{Head, is_none_yet}
 use Rattle.job_file.specs.Drafts.{shown}

@@ -4,11 +4,11 @@ use Rattle.frame_tree.specs.Tree.{Tree}
 use Rattle.frame_text.specs.declared.faults.Cause.{Cause}
 use Rattle.frame_code.specs.Table.{Code}
 use Rattle.frame_asm.specs.Shapes.{code_of_tree}
-use Rattle.frame_asm.specs.declared.AsmError.{AsmError}
-use Rattle.frame_asm.specs.declared.AsmError.TheVariants as assembler
+use Rattle.frame_asm.specs.declared.error.AsmError.{AsmError}
+use Rattle.frame_asm.specs.declared.error.AsmError.TheVariants as assembler
 use Rattle.frame_load.specs.Judging.{IsWithin, HasShortPeriods}
-use Rattle.frame_load.specs.declared.LoadError.{LoadError}
-use Rattle.frame_load.specs.declared.LoadError.TheVariants as loader
+use Rattle.frame_load.specs.declared.error.LoadError.{LoadError}
+use Rattle.frame_load.specs.declared.error.LoadError.TheVariants as loader
 use Rattle.job_file.specs.Lines.{Said}
 use Rattle.job_file.specs.Entries.{IsInRange}
 use Rattle.job_file.specs.HeadLines.{Head, may_stand}

@@ -1,6 +1,6 @@
 //! Why a recording can't be read.
 ghost use Rattle.std.specs.Prelude.{◌≡◌};
-ghost use Rattle.ch11_reader.specs.declared.fault.ReadError.TheVariants.{Memory};
+ghost use Rattle.ch11_reader.specs.declared.error.ReadError.TheVariants.{Memory};
 
 use ch11_f1::BodyError;
 use ch11_header::HeaderError;
