@@ -1,6 +1,6 @@
 -- What is said of a line that was not posted (own choice).
 use Rattle.std.specs.Prelude.{ℕ, ◌++◌, codes, decimal}
-use Rattle.mil_host.specs.Words.{Text}
+use Rattle.text_lines.specs.Words.{Text}
 use Rattle.mil_host.specs.Printing.{fault_code}
 use Rattle.bench_live.specs.declared.posting.PostFault.{PostFault}
 use Rattle.bench_live.specs.declared.posting.PostFault.TheVariants as fault

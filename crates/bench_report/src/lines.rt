@@ -1,6 +1,6 @@
 //! The lines of a report.
 ghost use Rattle.std.specs.Prelude.{IfOk, IfErr};
-ghost use Rattle.mil_host.specs.Words.{words};
+ghost use Rattle.text_lines.specs.Words.{words};
 ghost use Rattle.bench_report.specs.Lines.{placed_in, said, IsLine};
 ghost use Rattle.bench_report.specs.Reports.{IsPlaced};
 ghost use Rattle.bench_report.specs.Faults.{are_line_words, are_placed_words};
@@ -9,7 +9,8 @@ ghost use Rattle.bench_report.specs.Drafts.{Gives, IsBad};
 use crate::fault::ReportFault;
 use crate::numbers::{number, only_number_in};
 use bc_machine::Placed;
-use mil_host::{next_word, read_action};
+use mil_host::read_action;
+use text_lines::next_word;
 
 /// What a line says.
 #[derive(Drop)]

@@ -1,14 +1,14 @@
 //! Numbers in the lines of a report.
 ghost use Rattle.std.specs.Prelude.{◌≡◌, ◌≤◌, IfOk, IfErr};
-ghost use Rattle.mil_host.specs.Words.{words};
+ghost use Rattle.text_lines.specs.Words.{words};
 ghost use Rattle.bench_report.specs.Lines.{number_of, only_number};
 ghost use Rattle.bench_report.specs.Faults.{is_one_word};
 ghost use Rattle.bench_report.specs.Drafts.{Gives, IsBad};
 ghost use Rattle.bench_report.specs.declared.fault.ReportFault.TheVariants.{Number};
 
 use crate::fault::ReportFault;
-use mil_host::next_word;
 use numerals::spelled;
+use text_lines::next_word;
 
 /// The number of a word of one to `most` digits, from `low` to `high`.
 pub fn number(word: &[u8], most: usize, low: u64, high: u64) -> Result<u64, ReportFault>

@@ -3,7 +3,7 @@
 use Rattle.std.specs.Prelude.{◌≡◌, ℕ, ◌+◌, nat_lt, Bool, true, false, ◌&&◌, if◌then◌else◌, List, [], ◌∷◌, ◌++◌, length}
 use Rattle.std.specs.Prelude.{map, Option, Some, None, Result, Ok, Err}
 use Rattle.std.specs.Option.{is_some}
-use Rattle.mil_host.specs.Words.{Text, words, has_bytes}
+use Rattle.text_lines.specs.Words.{Text, words, has_bytes}
 use Rattle.mil_host.specs.Reading.{in_words}
 use Rattle.mil_host.specs.declared.actions.Action.{Action}
 use Rattle.mil_host.specs.declared.reading.BadAction.{BadAction}
@@ -21,7 +21,8 @@ use Rattle.job_file.specs.Lines.{keyword_of, fault_word_of, sync_of, first, ende
 use Rattle.job_file.specs.Lines.{is_comment, said}
 use Rattle.job_file.specs.Spans.{count_of, numbers_of}
 use Rattle.job_file.specs.HeadLines.{Head, head_of, has, has_room, is_none_yet, are_lawful}
-use Rattle.job_file.specs.Spelled.{lines_of, text_of, is_script, all_said}
+use Rattle.job_file.specs.Spelled.{text_of, is_script, all_said}
+use Rattle.text_lines.specs.Lines.{lines_of}
 use Rattle.job_file.specs.Reading.{IsTooLong, IsTooMuch}
 use Rattle.job_file.specs.declared.keywords.Keyword.{Keyword}
 use Rattle.job_file.specs.declared.keywords.Keyword.TheVariants as keyword

@@ -1,7 +1,7 @@
 -- The text of a job's fault (own choice): letters, the line, and the letters of what is behind it. A fault of the
 -- script has its place and its cause, of which nothing is said here.
 use Rattle.std.specs.Prelude.{ℕ, ◌++◌, Option, Some, None, codes, decimal}
-use Rattle.mil_host.specs.Words.{Text}
+use Rattle.text_lines.specs.Words.{Text}
 use Rattle.mil_host.specs.Printing as action
 use Rattle.mil_line.specs.Codes as plan
 use Rattle.frame_asm.specs.Codes as assembler

@@ -1,6 +1,6 @@
 -- What the text of a script comes to.
 use Rattle.std.specs.Prelude.{◌≡◌, Result, Ok, Err}
-use Rattle.mil_host.specs.Words.{Text}
+use Rattle.text_lines.specs.Words.{Text}
 use Rattle.frame_tree.specs.Tree.{Tree, nothing}
 use Rattle.frame_tree.specs.Bounds.{IsSound}
 use Rattle.frame_text.specs.Frames.{tree_of_text}

@@ -1,6 +1,6 @@
 -- The jobs of several texts, in their order (own choice).
 use Rattle.std.specs.Prelude.{◌≡◌, ℕ, ◌<◌, ◌≤◌, List, length, map, slice_get, Some}
-use Rattle.mil_host.specs.Words.{Text}
+use Rattle.text_lines.specs.Words.{Text}
 use Rattle.frame_asm.specs.Shapes.{code_of_tree}
 use Rattle.frame_load.specs.Judging.{IsWithin, HasShortPeriods}
 use Rattle.job_file.specs.Spelled.{ChannelJob, spelled}

@@ -1,6 +1,6 @@
 //! What a line of a job says, by itself: whether it may stand where it does is judged elsewhere.
 ghost use Rattle.std.specs.Prelude.{◌≡◌, ◌≤◌, IfOk, IfErr};
-ghost use Rattle.mil_host.specs.Words.{words};
+ghost use Rattle.text_lines.specs.Words.{words};
 ghost use Rattle.job_file.specs.Options.{Gives};
 ghost use Rattle.job_file.specs.Lines as lines;
 ghost use Rattle.job_file.specs.Entries.{said_by, IsInRange};
@@ -14,9 +14,9 @@ use crate::error::LineFault;
 use crate::keywords::{FaultWord, Keyword, fault_word_in, keyword_in, sync_in};
 use crate::numbers::{data_word, half_bits, number, number_within, start_tick};
 use crate::spans::{Series, Span};
-use mil_host::next_word;
 use mil_line::Fault;
 use mil_word::Word;
+use text_lines::next_word;
 
 /// What a line says.
 #[derive(Drop)]

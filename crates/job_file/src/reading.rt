@@ -16,13 +16,13 @@ use crate::drafts::{Draft, Taken};
 use crate::error::{JobError, LineFault};
 use crate::jobs::Job;
 use crate::scripts::Script;
-use crate::text_lines::next_line;
 use bumpalo::Bump;
 use frame_asm::{AsmError, assemble};
 use frame_load::{LoadError, Program, load};
 use frame_text::{Place, ScriptError, parse};
 use frame_tree::Frame;
 use std::alloc::Global;
+use text_lines::split_line;
 
 /// What the lines above the script say, the line of the script, counted from 1, and the script.
 #[derive(Drop)]
@@ -44,7 +44,7 @@ fn read_head(alloc: Global, text: &[u8]) -> Result<Head<'_>, JobError>
     let mut rest = text;
     let mut line = 1u64;
     while !rest.is_empty() {
-        let (first, behind) = next_line(rest);
+        let (first, behind) = split_line(rest);
         match draft.take_line(first) {
             Ok(Taken::Line) => {}
             Ok(Taken::Script) => {

@@ -9,7 +9,7 @@ use Rattle.mil_word.specs.declared.Line.TheVariants.{A, B}
 use Rattle.mil_word.specs.Timing.{least_response, latest_response}
 use Rattle.mil_word.specs.Fields.{most_words}
 use Rattle.mil_host.specs.Values.{PutUp, Marked}
-use Rattle.mil_host.specs.Words.{Text, words}
+use Rattle.text_lines.specs.Words.{Text, words}
 use Rattle.mil_host.specs.declared.reading.BadAction.{BadAction}
 use Rattle.mil_host.specs.declared.reading.BadAction.TheVariants.{Word, Number, Range}
 use Rattle.mil_host.specs.declared.names.Name.{Name}
