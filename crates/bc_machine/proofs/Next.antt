@@ -14,7 +14,7 @@ use Rattle.bc_machine.specs.declared.Stepped.{Stepped}
 use Rattle.bc_machine.specs.declared.Stepped.TheVariants.{Ran, Sent, Halted}
 use Rattle.bc_machine.specs.Running.{MachineState, world_in, beginning, turn_of, moved_by, stepped, answered, clock_in}
 use Rattle.bc_machine.specs.Frames.{HaveBegun, most_ticks}
-use Rattle.bc_machine.specs.UnderWay.{IsUnderWay, Tells}
+use Rattle.bc_machine.specs.UnderWay.{IsUnderWay, TellsStep}
 use Rattle.bc_machine.specs.MayStep.{IsAble}
 use Rattle.bc_machine.proofs.OpenFrames.{begun_next}
 use Rattle.bc_machine.proofs.Numbers.{act_adds}
@@ -59,7 +59,7 @@ module _ (laws : Laws) (m : MachineState) (u : IsUnderWay m) where
       }
 
   -- now is no earlier
-  later : (n : MachineState) (r : Stepped) → Tells m n r → clock_in m ≤ clock_in n
+  later : (n : MachineState) (r : Stepped) → TellsStep m n r → clock_in m ≤ clock_in n
   later n Ran t = t.later
   later n (Sent r) t = omega (arith, t.follows, t.ends)
   later n Halted t = let same : clock_in n ≡ clock_in m = ap clock_in t.same in omega (arith, same)
@@ -101,7 +101,7 @@ module _ (laws : Laws) (m : MachineState) (u : IsUnderWay m) where
   pub next : clock_in (stepped m) ≤ clock_in m + most_ticks m → IsUnderWay (stepped m)
   next soon = moved_on soon (λ small. begun_next m (later (stepped m) (answered m) (told m going small)) u.begun)
 
-  pub tells : clock_in (stepped m) ≤ clock_in m + most_ticks m → Tells m (stepped m) (answered m)
+  pub tells : clock_in (stepped m) ≤ clock_in m + most_ticks m → TellsStep m (stepped m) (answered m)
   tells soon = told m going (omega (arith, low laws (stepped m) (next soon)))
 
 pub next_is : (laws : Laws) (m n : MachineState) → IsUnderWay m → n ≡ stepped m → clock_in n ≤ clock_in m + most_ticks m → IsUnderWay n
@@ -109,7 +109,7 @@ next_is laws m n u is soon =
     let soon_at : clock_in (stepped m) ≤ clock_in m + most_ticks m = subst (λ z. clock_in z ≤ clock_in m + most_ticks m) is soon in
     subst IsUnderWay (sym is) (next laws m u soon_at)
 
-pub tells_is : (laws : Laws) (m n entry : MachineState) (r : Stepped) → IsUnderWay m → n ≡ stepped m → r ≡ answered m → m ≡ entry → clock_in n ≤ clock_in m + most_ticks m → Tells entry n r
+pub tells_is : (laws : Laws) (m n entry : MachineState) (r : Stepped) → IsUnderWay m → n ≡ stepped m → r ≡ answered m → m ≡ entry → clock_in n ≤ clock_in m + most_ticks m → TellsStep entry n r
 tells_is laws m n entry r u is says same soon =
     let soon_at : clock_in (stepped m) ≤ clock_in m + most_ticks m = subst (λ z. clock_in z ≤ clock_in m + most_ticks m) is soon in
-    subst (λ z. Tells z n r) same (subst (λ a. Tells m n a) (sym says) (subst (λ z. Tells m z (answered m)) (sym is) (tells laws m u soon_at)))
+    subst (λ z. TellsStep z n r) same (subst (λ a. TellsStep m n a) (sym says) (subst (λ z. TellsStep m z (answered m)) (sym is) (tells laws m u soon_at)))

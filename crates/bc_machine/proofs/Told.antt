@@ -13,13 +13,13 @@ use Rattle.frame_code.specs.Routines.{routine_at}
 use Rattle.frame_load.specs.Budget.{cost_of, one_sent}
 use Rattle.bc_machine.specs.Controller.{ready}
 use Rattle.bc_machine.specs.Running.{MachineState, world_in, turn_of, moved_by, stepped, answered, answer_of, latest, clock_in}
-use Rattle.bc_machine.specs.UnderWay.{IsQuiet, Tells}
+use Rattle.bc_machine.specs.UnderWay.{IsQuiet, TellsStep}
 use Rattle.bc_machine.proofs.Acts.{ready_talks, ready_clock, talk_follows, talk_ends}
 
 module _ (m : MachineState) where
   sends_told : (x : Option (Line × Message)) (on : Line → Line) → sends (world_in m) x on m.at m.point ≢ stuck
       → clock_in (moved_by (sends (world_in m) x on m.at m.point) m) < 2 ^ 48
-      → Tells m (moved_by (sends (world_in m) x on m.at m.point) m) (latest (moved_by (sends (world_in m) x on m.at m.point) m).point.state.talks)
+      → TellsStep m (moved_by (sends (world_in m) x on m.at m.point) m) (latest (moved_by (sends (world_in m) x on m.at m.point) m).point.state.talks)
   unfolding exchanged
   sends_told None on going small = absurd (going refl)
   sends_told (Some x) on going small =
@@ -72,7 +72,7 @@ module _ (m : MachineState) where
   -- what each row tells, where one that sends a message leaves now below 2^48
   pub told_by : (o : Option Op) → slice_get m.code.operations m.at.place ≡ o → act (world_in m) o m.code m.at m.point ≢ stuck
       → (0 < cost_of one_sent o → clock_in (moved_by (act (world_in m) o m.code m.at m.point) m) < 2 ^ 48)
-      → Tells m (moved_by (act (world_in m) o m.code m.at m.point) m) (answer_of o (moved_by (act (world_in m) o m.code m.at m.point) m).point.state.talks)
+      → TellsStep m (moved_by (act (world_in m) o m.code m.at m.point) m) (answer_of o (moved_by (act (world_in m) o m.code m.at m.point) m).point.state.talks)
   told_by None e going small = absurd (going refl)
   told_by (Some Halt) e going small = record { halts = ap (λ v. act (world_in m) v m.code m.at m.point) e; same = refl }
   told_by (Some (Send i)) e going small = sends_told (slice_get m.code.messages i) (λ l. l) going (small (omega arith))
@@ -89,6 +89,6 @@ module _ (m : MachineState) where
   told_by (Some Begin) e going small = quiet _ refl refl refl refl
   told_by (Some (Pace h)) e going small = paces_told m.at.frames h going
 
-  pub told : turn_of m ≢ stuck → clock_in (stepped m) < 2 ^ 48 → Tells m (stepped m) (answered m)
+  pub told : turn_of m ≢ stuck → clock_in (stepped m) < 2 ^ 48 → TellsStep m (stepped m) (answered m)
   unfolding stepped answered
   told going small = told_by (slice_get m.code.operations m.at.place) refl going (λ sends. small)

@@ -1,5 +1,6 @@
 -- A controller as plain data, and one step of it: one row of the operation table.
 use Rattle.std.specs.Prelude.{ℕ, zero, suc, ◌+◌, List, [], ◌∷◌, length, Option, Some, None, slice_get}
+use Rattle.mil_word.specs.Timing.{least_gap}
 use Rattle.mil_message.specs.World.{World, Point}
 use Rattle.mil_line.specs.Plans.{Planned}
 use Rattle.mil_bus.specs.declared.talks.Talk.{Talk}
@@ -31,7 +32,7 @@ pub record MachineState : Type 0 where
 
 -- before any message the gap is 40 ticks
 abbrev pub beginning : BusState → Point BusState Outcome
-beginning b = record { state = b; number = 0; gap = 40; last = None }
+beginning b = record { state = b; number = 0; gap = least_gap; last = None }
 
 abbrev pub started : Code → BusState → List Planned → List Placed → MachineState
 started code b plan placed = record {

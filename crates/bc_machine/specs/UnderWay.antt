@@ -56,7 +56,7 @@ pub record IsHalted (old new : MachineState) : Type 0 where
   pub same : new ≡ old
 
 -- what an answer tells of the step
-abbrev pub Tells : MachineState → MachineState → Stepped → Type 0
-Tells old new Ran = IsQuiet old new
-Tells old new (Sent r) = IsSent old new r
-Tells old new Halted = IsHalted old new
+abbrev pub TellsStep : MachineState → MachineState → Stepped → Type 0
+TellsStep old new Ran = IsQuiet old new
+TellsStep old new (Sent r) = IsSent old new r
+TellsStep old new Halted = IsHalted old new

@@ -2,7 +2,7 @@
 ghost use Rattle.std.specs.Prelude.{◌≡◌, ◌≤◌, ◌^◌, IfOk, OnOk, OnErr};
 ghost use Rattle.mil_bus.specs.Exchange.{now_of};
 ghost use Rattle.bc_machine.specs.Running.{started, stepped, answered};
-ghost use Rattle.bc_machine.specs.UnderWay.{IsUnderWay, Tells};
+ghost use Rattle.bc_machine.specs.UnderWay.{IsUnderWay, TellsStep};
 ghost use Rattle.bc_machine.specs.Alike.{AreAlike};
 
 use crate::laws::BusSetting;
@@ -53,7 +53,7 @@ impl Machine {
     pub fn step(&mut self) -> Stepped
         ensures value { self.new ≡ stepped self.old }
         ensures answer { result ≡ answered self.old }
-        ensures tells { Tells self.old self.new result }
+        ensures tells { TellsStep self.old self.new result }
         ensures under_way { IsUnderWay self.new }
     {
         loadable_runs::<BusSetting>();

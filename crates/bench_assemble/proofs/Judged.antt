@@ -6,8 +6,8 @@ use Rattle.std.proofs.lemmas.Bool.Decides.{nat_tests}
 use Rattle.frame_code.specs.Table.{Code}
 use Rattle.frame_code.specs.Ranges.{IsImage}
 use Rattle.frame_code.specs.Loadable.{IsLoadable}
-use Rattle.frame_load.specs.declared.LoadError.{LoadError}
-use Rattle.frame_load.specs.declared.LoadError.TheVariants.{End, Routines, Nesting, Jumps, Messages, Budget, Periods, Memory}
+use Rattle.frame_load.specs.declared.error.LoadError.{LoadError}
+use Rattle.frame_load.specs.declared.error.LoadError.TheVariants.{End, Routines, Nesting, Jumps, Messages, Budget, Periods, Memory}
 use Rattle.frame_load.specs.Budget.{budget, worst_messages, periods}
 use Rattle.frame_load.specs.Judging.{IsWithin, HasShortPeriods, Refuses}
 use Rattle.bench_assemble.specs.Assembled.{judged, too_long, too_many_messages, over_budget, too_slow, IsRefusal, told_as}

@@ -5,10 +5,10 @@ use Rattle.frame_text.specs.declared.faults.Cause.{Cause}
 use Rattle.frame_text.specs.Frames.{tree_of_text}
 use Rattle.frame_code.specs.Table.{Code}
 use Rattle.frame_code.specs.Bytes.{image_bytes}
-use Rattle.frame_asm.specs.Shapes.{code_of}
+use Rattle.frame_asm.specs.Shapes.{code_of_tree}
 use Rattle.frame_load.specs.Budget.{budget, worst_messages, periods}
-use Rattle.frame_load.specs.declared.LoadError.{LoadError}
-use Rattle.frame_load.specs.declared.LoadError.TheVariants as loader
+use Rattle.frame_load.specs.declared.error.LoadError.{LoadError}
+use Rattle.frame_load.specs.declared.error.LoadError.TheVariants as loader
 use Rattle.bench_assemble.specs.declared.sizes.Sizes.{Sizes}
 use Rattle.bench_assemble.specs.declared.fault.AssembleFault.{AssembleFault}
 use Rattle.bench_assemble.specs.declared.fault.AssembleFault.TheVariants.{Text, Operations, Messages, Budget, Periods}
@@ -52,7 +52,7 @@ with_sizes (Ok code) = Ok (image_bytes code, sizes_of code)
 with_sizes (Err refusal) = Err refusal
 
 abbrev pub image_of_tree : Tree → Result Sized Refusal
-image_of_tree tree = with_sizes (judged (code_of tree))
+image_of_tree tree = with_sizes (judged (code_of_tree tree))
 
 abbrev pub image_of_reading : Result Tree Cause → Result Sized Refusal
 image_of_reading (Ok tree) = image_of_tree tree

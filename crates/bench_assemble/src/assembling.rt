@@ -2,7 +2,7 @@
 ghost use Rattle.std.specs.Prelude.{◌≡◌, Ok, IfOk, IfErr};
 ghost use Rattle.frame_tree.specs.Tree.{tree_of};
 ghost use Rattle.frame_tree.specs.Bounds.{IsSound};
-ghost use Rattle.frame_asm.specs.Shapes.{code_of};
+ghost use Rattle.frame_asm.specs.Shapes.{code_of_tree};
 ghost use Rattle.frame_code.specs.Loadable.{IsLoadable};
 ghost use Rattle.bench_assemble.specs.Assembled.{image_of_text, image_of_tree, judged, IsRefusal, told_as};
 
@@ -48,8 +48,8 @@ fn assemble_frame(alloc: Global, frame: &Frame<Global>) -> Result<(Vec<u8>, Size
 /// The program of a frame.
 fn program_of(alloc: Global, frame: &Frame<Global>) -> Result<Program, AssembleFault>
     requires { IsSound (tree_of frame.now) }
-    ensures program { IfOk result (λ p. judged (code_of (tree_of frame.now)) ≡ Ok p) }
-    ensures refused { IfErr result (IsRefusal (judged (code_of (tree_of frame.now)))) }
+    ensures program { IfOk result (λ p. judged (code_of_tree (tree_of frame.now)) ≡ Ok p) }
+    ensures refused { IfErr result (IsRefusal (judged (code_of_tree (tree_of frame.now)))) }
 {
     match assemble(alloc, frame) {
         Ok(image) => loaded(alloc, image),

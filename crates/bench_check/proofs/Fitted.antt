@@ -7,7 +7,7 @@ use Rattle.mil_message.specs.declared.forms.Form.TheVariants.{ToTerminal, FromTe
 use Rattle.mil_message.specs.Forms.{replies_due}
 use Rattle.frame_tree.specs.declared.Frame.{Frame, Timed as timed_frame, the_lemmas}
 use Rattle.frame_tree.specs.Tree.{Tree, tree_of, send, retry, gap, repeat, choose, until, timed, nothing, chained, call, define}
-use Rattle.frame_tree.specs.Names.{Scope, named, same}
+use Rattle.frame_tree.specs.Names.{Scope, meant_by, same_bytes}
 use Rattle.frame_tree.proofs.Capped.{Alike, alike}
 use Rattle.bench_check.specs.Fitting.{set_gap, ticks_in, most, frames_in, tight_at, tight_from}
 use Rattle.bench_check.specs.declared.fitting.Timed.{Timed}
@@ -44,13 +44,13 @@ named_choice : (b : Bool) (x y u v : ℕ) → most x ≡ most y → most u ≡ m
 named_choice true x y u v e f = e
 named_choice false x y u v e f = f
 
-named_alike : (ds es : Scope ℕ) (n : List ℕ) → Alike 1000000000 ds es → most (named 0 ds n) ≡ most (named 0 es n)
+named_alike : (ds es : Scope ℕ) (n : List ℕ) → Alike 1000000000 ds es → most (meant_by 0 ds n) ≡ most (meant_by 0 es n)
 named_alike [] [] n h = refl
 named_alike [] (e ∷ es) n h = absurd h
 named_alike (d ∷ ds) [] n h = absurd h
 named_alike (d ∷ ds) (e ∷ es) n h =
-    named_choice (same d.0 n) d.1 e.1 (named 0 ds n) (named 0 es n) h.1 (named_alike ds es n h.2)
-    ∙ ap (λ m. most (if same m n then e.1 else named 0 es n)) h.0
+    named_choice (same_bytes d.0 n) d.1 e.1 (meant_by 0 ds n) (meant_by 0 es n) h.1 (named_alike ds es n h.2)
+    ∙ ap (λ m. most (if same_bytes m n then e.1 else meant_by 0 es n)) h.0
 
 times_alike : (n a b : ℕ) → most a ≡ most b → most (n * a) ≡ most (n * b)
 times_alike zero a b e = omega (arith, e)

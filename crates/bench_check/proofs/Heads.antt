@@ -5,7 +5,7 @@ use Rattle.std.specs.Result.{result_ok}
 use Rattle.std.specs.Str.{bytes_eq}
 use Rattle.std.specs.List.{before_first, after_first}
 use Rattle.std.proofs.lemmas.Slice.Eq.{bytes_eq-Decides}
-use Rattle.mil_host.specs.Words.{Text, words}
+use Rattle.text_lines.specs.Words.{Text, words}
 use Rattle.frame_tree.specs.Tree.{Tree}
 use Rattle.frame_text.specs.Frames.{tree_of_text}
 use Rattle.frame_text.specs.declared.faults.Cause.{Cause}
@@ -13,7 +13,8 @@ use Rattle.job_file.specs.Options.{◌>>=◌}
 use Rattle.job_file.specs.Numbers.{number_of, number_within, start_of}
 use Rattle.job_file.specs.Lines.{Said, blank, script, channel, start, terminal, action, fault, faults, series, said, said_in, is_comment, keyword_of, of_keyword, fault_word_of, fault_of, first, one, four, front, span_of, series_of, channel_in, start_in, terminal_in, action_in, fault_in, faults_in, series_in}
 use Rattle.job_file.specs.HeadLines.{Head, head_of}
-use Rattle.job_file.specs.Spelled.{ChannelJob, is_line_end, lines_of, text_of, is_script, parted, all_said, lawful, first_of, job_with, job_of, spelled}
+use Rattle.job_file.specs.Spelled.{ChannelJob, text_of, is_script, parted, all_said, lawful, first_of, job_with, job_of, spelled}
+use Rattle.text_lines.specs.Lines.{is_line_end, lines_of}
 use Rattle.job_file.specs.declared.keywords.Keyword.{Keyword}
 use Rattle.job_file.specs.declared.keywords.Keyword.TheVariants as keyword
 use Rattle.job_file.proofs.LineLemmas.{first_line, text_again}

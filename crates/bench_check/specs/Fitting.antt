@@ -2,18 +2,19 @@
 -- Times are ticks of 0.1 µs: a word takes 200 (MIL-STD-1553B 4.3.3.4), and a gap is counted as on the bus, 20 where
 -- there is no pause.
 use Rattle.std.specs.Prelude.{◌≡◌, ℕ, ◌+◌, ◌-◌, ◌*◌, min, max, nat_lt, if◌then◌else◌, List, [], ◌∷◌, ◌++◌, length}
+use Rattle.mil_word.specs.Timing.{word_time, contiguous_gap, longer_gap, latest_response}
 use Rattle.mil_message.specs.declared.forms.Due.{Due}
 use Rattle.mil_message.specs.declared.forms.Form.{Form}
 use Rattle.mil_message.specs.Forms.{controller_words, replies_due}
 use Rattle.mil_bus.specs.Times.{lasting}
 use Rattle.frame_tree.specs.Tree.{Tree, send, retry, gap, repeat, choose, until, timed, nothing, chained, call, define}
-use Rattle.frame_tree.specs.Names.{Scope, named}
+use Rattle.frame_tree.specs.Names.{Scope, meant_by}
 use Rattle.bench_check.specs.declared.fitting.Timed.{Timed}
 use Rattle.bench_check.specs.declared.fitting.Tight.{Tight}
 
 -- a reply that is due: its status word with the longest response time, a gap of 120 (4.3.3.8), and its data words
 abbrev pub reply_ticks : Due → ℕ
-reply_ticks due = lasting 1 120 + 200 * due.words
+reply_ticks due = lasting 1 latest_response + word_time * due.words
 
 abbrev pub replies_ticks : List Due → ℕ
 replies_ticks [] = 0
@@ -21,7 +22,7 @@ replies_ticks (due ∷ dues) = reply_ticks due + replies_ticks dues
 
 -- a message: the controller's words, and the replies that are due
 abbrev pub message_ticks : Form → ℕ
-message_ticks form = 200 * length (controller_words form) + replies_ticks (replies_due form)
+message_ticks form = word_time * length (controller_words form) + replies_ticks (replies_due form)
 
 -- the longest gap that a tree sets; 0 where it sets none
 abbrev pub set_gap : Tree → ℕ
@@ -40,11 +41,11 @@ set_gap (define n b r) = max (set_gap b) (set_gap r)
 -- the longest gap in front of a message of a script: 180, which is left behind a message that failed or ended with a
 -- word of the controller, or a longer one that the script sets
 abbrev pub longest_gap : Tree → ℕ
-longest_gap t = max 180 (set_gap t)
+longest_gap t = max longer_gap (set_gap t)
 
 -- the pause in front of a message, and the message
 abbrev pub spent : ℕ → Form → ℕ
-spent longest form = (longest - 20) + message_ticks form
+spent longest form = (longest - contiguous_gap) + message_ticks form
 
 -- How long a tree takes at worst where no gap is longer than this, and where a call of each name in scope takes so
 -- long: every retry is used up, an until runs all its turns, an if takes the branch that is longer, and a frame with a
@@ -59,7 +60,7 @@ ticks_in g ds (until c n b) = n * ticks_in g ds b
 ticks_in g ds (timed h b) = max (1000 * h) (ticks_in g ds b)
 ticks_in g ds nothing = 0
 ticks_in g ds (chained a b) = ticks_in g ds a + ticks_in g ds b
-ticks_in g ds (call n) = named 0 ds n
+ticks_in g ds (call n) = meant_by 0 ds n
 ticks_in g ds (define n b r) = ticks_in g ((n, ticks_in g ds b) ∷ ds) r
 
 -- how long a script's tree takes at worst, in which nothing stands for a name

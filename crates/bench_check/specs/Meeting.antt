@@ -6,7 +6,7 @@ use Rattle.mil_line.specs.declared.faults.Fault.{Fault}
 use Rattle.mil_line.specs.declared.faults.Fault.TheVariants.{Mask, Drop, Add, Late, Mute}
 use Rattle.mil_bus.specs.declared.talks.Sent.{Sent}
 use Rattle.mil_bus.specs.declared.talks.Talk.{Talk}
-use Rattle.mil_bus.specs.Exchange.{BusState, controllers, runs}
+use Rattle.mil_bus.specs.Exchange.{BusState, controllers, most_runs, runs}
 
 -- the run that a fault is planned for
 abbrev pub run_of : Fault → ℕ
@@ -35,7 +35,7 @@ is_there words (Mute run) = nat_lt 0 words
 -- the words of the message of a talk that starts when the talk does, on this bus, under these faults
 unfoldable pub sent_under : BusState → Talk → List Fault → List Sent
 sent_under b t faults =
-    (runs 40 t.line faults 0 (Some (controllers t.line t.message t.start b.talks))
+    (runs most_runs t.line faults 0 (Some (controllers t.line t.message t.start b.talks))
     (record { sent = []; stations = b.stations })).sent
 
 -- A fault meets something where its run has its place, as the run's sender gives it: under the faults of earlier runs

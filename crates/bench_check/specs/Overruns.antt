@@ -3,7 +3,7 @@
 use Rattle.std.specs.Prelude.{ℕ, zero, suc, ◌+◌, ◌-◌, ◌*◌, nat_lt, if◌then◌else◌, List, [], ◌∷◌, ◌++◌, Option, Some}
 use Rattle.std.specs.Prelude.{None}
 use Rattle.mil_bus.specs.Exchange.{clock_of}
-use Rattle.frame_asm.specs.Shapes.{code_of}
+use Rattle.frame_asm.specs.Shapes.{code_of_tree}
 use Rattle.frame_load.specs.Budget.{budget}
 use Rattle.bc_machine.specs.declared.frames.Closing.{Closing}
 use Rattle.bc_machine.specs.Frames.{closing_of}
@@ -35,8 +35,8 @@ overruns_in (suc n) m = overruns_at m ++ overruns_in n (stepped m)
 
 -- a job's controller at the beginning, under its own actions
 abbrev pub beginning_of : JobState → MachineState
-beginning_of job = started (code_of (tree_in job)) (bus_of (job_in job)) job.plan job.actions
+beginning_of job = started (code_of_tree (tree_in job)) (bus_of (job_in job)) job.plan job.actions
 
 -- those of all steps: behind a Halt the controller stands still
 abbrev pub overruns : JobState → List Overrun
-overruns job = overruns_in (budget (code_of (tree_in job)).operations) (beginning_of job)
+overruns job = overruns_in (budget (code_of_tree (tree_in job)).operations) (beginning_of job)

@@ -1,7 +1,8 @@
 -- The script of a job, as its text has it.
 use Rattle.std.specs.Prelude.{List, Option, Some, None}
-use Rattle.mil_host.specs.Words.{Text}
-use Rattle.job_file.specs.Spelled.{lines_of, text_of, parted}
+use Rattle.text_lines.specs.Words.{Text}
+use Rattle.job_file.specs.Spelled.{text_of, parted}
+use Rattle.text_lines.specs.Lines.{lines_of}
 
 -- the lines behind those above the script, as a text
 abbrev pub behind : Option (List Text × List Text) → Option Text

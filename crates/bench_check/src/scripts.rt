@@ -2,15 +2,16 @@
 ghost use Rattle.std.specs.Prelude.{◌≡◌, ◌≤◌, None, Some, MatchOption, IfOk, length};
 ghost use Rattle.std.specs.List.{position_or_len, before_first, after_first};
 ghost use Rattle.job_file.specs.Lines.{said};
-ghost use Rattle.job_file.specs.Spelled.{ChannelJob, spelled, is_line_end, is_script as is_script_line};
+ghost use Rattle.job_file.specs.Spelled.{ChannelJob, spelled, is_script as is_script_line};
+ghost use Rattle.text_lines.specs.Lines.{is_line_end};
 ghost use Rattle.bench_check.specs.Fitting as spec;
 ghost use Rattle.bench_check.specs.Scripts.{script_in};
 
 use crate::fitting::{Tight, tight_frames};
 use bumpalo::Bump;
 use frame_text::{ScriptError, parse};
-use mil_host::next_word;
 use std::alloc::{AllocError, Global};
+use text_lines::{next_word, split_line};
 
 /// The frames with a period, in the script of a job's text, that may take longer than their period, as `tight_frames`
 /// has them; none where the text has no script. The script's tree stands in an arena meanwhile. It fails for want of
@@ -36,38 +37,13 @@ fn script_of(text: &[u8]) -> Option<&[u8]>
 {
     let mut rest = text;
     while !rest.is_empty() {
-        let (line, behind) = next_line(rest);
+        let (line, behind) = split_line(rest);
         if is_script(line) {
             return Some(behind);
         }
         rest = behind;
     }
     None
-}
-
-/// The first line of a text, without its end, and what comes after it.
-fn next_line(text: &[u8]) -> (&[u8], &[u8])
-    ensures line { result.0.now ≡ before_first is_line_end text.now }
-    ensures rest { result.1.now ≡ after_first is_line_end text.now }
-{
-    let (line, rest) = text.split_at(line_length(text));
-    match rest.split_first() {
-        Some((_, behind)) => (line, behind),
-        None => (line, rest),
-    }
-}
-
-/// How many bytes of a text stand before its first LF.
-fn line_length(text: &[u8]) -> usize
-    ensures value { result ≡ position_or_len is_line_end text.now }
-    ensures within { result ≤ length text.now }
-{
-    for (i, byte) in text.iter().enumerate() {
-        if *byte == b'\n' {
-            return i;
-        }
-    }
-    text.len()
 }
 
 /// Whether a line has the word `script` alone.

@@ -2,6 +2,7 @@
 use Rattle.std.specs.Prelude.{ℕ, ◌+◌, ◌-◌, ◌*◌, ◌==◌, Bool, true, false, nat_lt, if◌then◌else◌, List, [], ◌∷◌, ◌++◌}
 use Rattle.std.specs.Prelude.{take, drop, Option, None, Some}
 use Rattle.ch11_header.specs.HeaderReading.{body_start}
+use Rattle.ch11_header.specs.Kinds.{time_data}
 use Rattle.ch11_reader.specs.declared.packet.Packet.{Packet}
 use Rattle.bench_clock.specs.declared.clock.Mark.{Mark}
 use Rattle.bench_clock.specs.TimeBody.{second_of}
@@ -12,7 +13,7 @@ body_in file e = take e.header.data_length (drop (e.offset + body_start e.header
 
 -- the UTC second that a packet tells: it is a time packet (type 11), and its body that of a second
 abbrev pub told_by : List ℕ → Packet → Option ℕ
-told_by file e = if e.header.kind == 0x11 then second_of (body_in file e) else None
+told_by file e = if e.header.kind == time_data then second_of (body_in file e) else None
 
 -- a counter is above the last one
 abbrev pub is_above : Option ℕ → ℕ → Bool

@@ -6,7 +6,7 @@ use Rattle.ch11_reader.specs.Recording.{Found, holds_messages, messages_of, pack
 use Rattle.ch11_reader.specs.Contents.{reading}
 use Rattle.ch11_reader.specs.Joined.{later}
 use Rattle.ch11_reader.proofs.Joined.{recordings_join}
-use Rattle.bench_complete.specs.Pieces.{Piece, bytes_of, piece_at, goes_over, kept}
+use Rattle.bench_complete.specs.Pieces.{Piece, bytes_of, piece_at, goes_over, kept_packets}
 use Rattle.bench_complete.specs.Merging.{of_channel}
 use Rattle.bench_complete.specs.Judging.{ReadsAt, AllReadAt}
 use Rattle.bench_complete.proofs.Alone.{one_packet, own_size, own_packet, own_messages}
@@ -66,11 +66,11 @@ heard channel offset (p ∷ ps) = heard_by channel offset p ps (eqb p.header.cha
 pub whole_at : (file : List ℕ) (p : Found) → ReadsAt file p → IsWhole (piece_at file p.offset p.header)
 whole_at file p r = record { size = own_size (drop p.offset file) p.header r.packet; read = own_packet (drop p.offset file) p.header r.packet }
 
-whole_by : (file : List ℕ) (p : Found) (ps : List Found) (over : Bool) → goes_over p.header ≡ over → ReadsAt file p → AreWhole (kept file ps) → AreWhole (kept file (p ∷ ps))
+whole_by : (file : List ℕ) (p : Found) (ps : List Found) (over : Bool) → goes_over p.header ≡ over → ReadsAt file p → AreWhole (kept_packets file ps) → AreWhole (kept_packets file (p ∷ ps))
 whole_by file p ps true o r all = rw o (whole_at file p r, all)
 whole_by file p ps false o r all = rw o all
 
-pub kept_whole : (file : List ℕ) (ps : List Found) → AllReadAt file ps → AreWhole (kept file ps)
+pub kept_whole : (file : List ℕ) (ps : List Found) → AllReadAt file ps → AreWhole (kept_packets file ps)
 kept_whole file [] all = tt
 kept_whole file (p ∷ ps) all = whole_by file p ps (goes_over p.header) refl all.0 (kept_whole file ps all.1)
 
@@ -86,14 +86,14 @@ silent_index p file r left =
     is_index false e = cc
 
 kept_by : (file : List ℕ) (channel : ℕ) (p : Found) (ps : List Found) (over own : Bool) → goes_over p.header ≡ over → eqb p.header.channel channel ≡ own → ReadsAt file p
-    → messages_in (of_channel channel (kept file ps)) ≡ reading ps channel → messages_in (of_channel channel (kept file (p ∷ ps))) ≡ reading (p ∷ ps) channel
+    → messages_in (of_channel channel (kept_packets file ps)) ≡ reading ps channel → messages_in (of_channel channel (kept_packets file (p ∷ ps))) ≡ reading (p ∷ ps) channel
 kept_by file channel p ps true true o c r rest =
-    rw (o, c) (ap (λ (l : List Message). l ++ messages_in (of_channel channel (kept file ps))) (own_messages (drop p.offset file) p.header r.packet ∙ sym r.messages) ∙ ap (λ (l : List Message). p.messages ++ l) rest)
+    rw (o, c) (ap (λ (l : List Message). l ++ messages_in (of_channel channel (kept_packets file ps))) (own_messages (drop p.offset file) p.header r.packet ∙ sym r.messages) ∙ ap (λ (l : List Message). p.messages ++ l) rest)
 kept_by file channel p ps true false o c r rest = rw (o, c) rest
 kept_by file channel p ps false true o c r rest = rw (o, c) (rest ∙ sym (ap (λ (l : List Message). l ++ reading ps channel) (silent_index p file r o)))
 kept_by file channel p ps false false o c r rest = rw (o, c) rest
 
 -- the packets that go over are read as the recording
-pub kept_heard : (file : List ℕ) (channel : ℕ) (ps : List Found) → AllReadAt file ps → messages_in (of_channel channel (kept file ps)) ≡ reading ps channel
+pub kept_heard : (file : List ℕ) (channel : ℕ) (ps : List Found) → AllReadAt file ps → messages_in (of_channel channel (kept_packets file ps)) ≡ reading ps channel
 kept_heard file channel [] all = refl
 kept_heard file channel (p ∷ ps) all = kept_by file channel p ps (goes_over p.header) (eqb p.header.channel channel) refl refl all.0 (kept_heard file channel ps all.1)

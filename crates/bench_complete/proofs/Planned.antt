@@ -11,7 +11,7 @@ use Rattle.bench_complete.specs.declared.additions.UtcSecond.{UtcSecond}
 use Rattle.bench_complete.specs.declared.extent.Extent.{Extent}
 use Rattle.bench_complete.specs.declared.fault.CompleteFault.{CompleteFault}
 use Rattle.bench_complete.specs.declared.times.Times.{Times}
-use Rattle.bench_complete.specs.Pieces.{Piece, goes_over, kept}
+use Rattle.bench_complete.specs.Pieces.{Piece, goes_over, kept_packets}
 use Rattle.bench_complete.specs.Merging.{of_channel}
 use Rattle.bench_complete.specs.TimePackets.{times_from, times_in}
 use Rattle.bench_complete.specs.Complete.{Plan, plan_for, extent_of, low_of, low_by, times_between}
@@ -45,19 +45,19 @@ version_is a None (Some e) = refl
 version_is a (Some s) (Some e) = refl
 
 abbrev pub planned_by : List ℕ → List Found → Additions → ℕ → Times → Plan
-planned_by file ps a version t = record { setup = option_map (λ text. text.now) a.setup; version = version; parts = times_in t ++ kept file ps }
+planned_by file ps a version t = record { setup = option_map (λ text. text.now) a.setup; version = version; parts = times_in t ++ kept_packets file ps }
 
 kept_by : (file : List ℕ) (p : Found) (ps : List Found) (over : Bool) → goes_over p.header ≡ over → p.header.counter < 2 ^ 48
-    → AllByRecursion (λ (q : Piece). q.header.counter < 2 ^ 48) (kept file ps) → AllByRecursion (λ (q : Piece). q.header.counter < 2 ^ 48) (kept file (p ∷ ps))
+    → AllByRecursion (λ (q : Piece). q.header.counter < 2 ^ 48) (kept_packets file ps) → AllByRecursion (λ (q : Piece). q.header.counter < 2 ^ 48) (kept_packets file (p ∷ ps))
 kept_by file p ps true o small others = rw o (small, others)
 kept_by file p ps false o small others = rw o others
 
-kept_below : (file : List ℕ) (ps : List Found) → AllReadAt file ps → AllByRecursion (λ (p : Piece). p.header.counter < 2 ^ 48) (kept file ps)
+kept_below : (file : List ℕ) (ps : List Found) → AllReadAt file ps → AllByRecursion (λ (p : Piece). p.header.counter < 2 ^ 48) (kept_packets file ps)
 kept_below file [] all = tt
 kept_below file (p ∷ ps) all = kept_by file p ps (goes_over p.header) refl all.0.counter (kept_below file ps all.1)
 
-pub extent_small : (file : List ℕ) (ps : List Found) (e : Extent) → AllReadAt file ps → extent_of (kept file ps) ≡ Some e → (e.low < 2 ^ 48) × (e.high < 2 ^ 48)
-extent_small file ps e all is = high_below (2 ^ 48) None (kept file ps) e (λ y was. absurd (cc)) (kept_below file ps all) is
+pub extent_small : (file : List ℕ) (ps : List Found) (e : Extent) → AllReadAt file ps → extent_of (kept_packets file ps) ≡ Some e → (e.low < 2 ^ 48) × (e.high < 2 ^ 48)
+extent_small file ps e all is = high_below (2 ^ 48) None (kept_packets file ps) e (λ y was. absurd (cc)) (kept_below file ps all) is
 
 small_by : (a : Additions) (start : Option UtcSecond) (x : Option Extent) → ((e : Extent) → x ≡ Some e → (e.low < 2 ^ 48) × (e.high < 2 ^ 48)) → IsSmall (times_between a start x)
 small_by a None None bound = record { end = omega arith; start = omega arith }
@@ -65,7 +65,7 @@ small_by a (Some s) None bound = record { end = omega arith; start = omega arith
 small_by a None (Some e) bound = record { end = omega arith; start = omega arith }
 small_by a (Some s) (Some e) bound = let b = bound e refl in record { end = omega (arith, b.1); start = s.in_range }
 
-pub small : (file : List ℕ) (ps : List Found) (a : Additions) (x : Option Extent) → AllReadAt file ps → x ≡ extent_of (kept file ps) → IsSmall (times_between a a.start x)
+pub small : (file : List ℕ) (ps : List Found) (a : Additions) (x : Option Extent) → AllReadAt file ps → x ≡ extent_of (kept_packets file ps) → IsSmall (times_between a a.start x)
 small file ps a x all is = small_by a a.start x (λ e was. extent_small file ps e all (sym is ∙ was))
 
 low_small_by : (a : Additions) (start : Option UtcSecond) (x : Option Extent) → ((e : Extent) → x ≡ Some e → (e.low < 2 ^ 48) × (e.high < 2 ^ 48)) → low_by (times_between a start x) x < 2 ^ 48
@@ -79,7 +79,7 @@ low_small_by a (Some s) (Some e) bound =
       | inr none ↦ subst (λ (v : Bool). cond v (e.low / 10000000 * 10000000) e.low < 2 ^ 48) (sym (le-ltb (e.low / 10000000) (e.high / 10000000 + 1) none)) b.0
     ]
 
-pub low_small : (file : List ℕ) (ps : List Found) (a : Additions) (x : Option Extent) → AllReadAt file ps → x ≡ extent_of (kept file ps) → low_by (times_between a a.start x) x < 2 ^ 48
+pub low_small : (file : List ℕ) (ps : List Found) (a : Additions) (x : Option Extent) → AllReadAt file ps → x ≡ extent_of (kept_packets file ps) → low_by (times_between a a.start x) x < 2 ^ 48
 low_small file ps a x all is = low_small_by a a.start x (λ e was. extent_small file ps e all (sym is ∙ was))
 
 first_small_by : (a : Additions) (start : Option UtcSecond) (x : Option Extent) → ((e : Extent) → x ≡ Some e → (e.low < 2 ^ 48) × (e.high < 2 ^ 48)) → (times_between a start x).first ≤ 28147498
@@ -88,16 +88,16 @@ first_small_by a (Some s) None bound = omega arith
 first_small_by a None (Some e) bound = omega arith
 first_small_by a (Some s) (Some e) bound = let b = bound e refl in omega (arith, b.0)
 
-pub first_small : (file : List ℕ) (ps : List Found) (a : Additions) (x : Option Extent) → AllReadAt file ps → x ≡ extent_of (kept file ps) → (times_between a a.start x).first ≤ 28147498
+pub first_small : (file : List ℕ) (ps : List Found) (a : Additions) (x : Option Extent) → AllReadAt file ps → x ≡ extent_of (kept_packets file ps) → (times_between a a.start x).first ≤ 28147498
 first_small file ps a x all is = first_small_by a a.start x (λ e was. extent_small file ps e all (sym is ∙ was))
 
 -- no packet of a channel that none has
 none_by : (file : List ℕ) (channel : ℕ) (p : Found) (ps : List Found) (over : Bool) → eqb p.header.channel channel ≡ false → goes_over p.header ≡ over
-    → of_channel channel (kept file ps) ≡ [] → of_channel channel (kept file (p ∷ ps)) ≡ []
+    → of_channel channel (kept_packets file ps) ≡ [] → of_channel channel (kept_packets file (p ∷ ps)) ≡ []
 none_by file channel p ps true other o none = rw (o, other) none
 none_by file channel p ps false other o none = rw o none
 
-pub no_channel : (file : List ℕ) (channel : ℕ) (ps : List Found) → has_channel channel ps ≡ false → of_channel channel (kept file ps) ≡ []
+pub no_channel : (file : List ℕ) (channel : ℕ) (ps : List Found) → has_channel channel ps ≡ false → of_channel channel (kept_packets file ps) ≡ []
 no_channel file channel [] none = refl
 no_channel file channel (p ∷ ps) none =
     let parts = or_parts (eqb p.header.channel channel) (has_channel channel ps) none in
@@ -117,13 +117,13 @@ free_by a (Some s) None taken free some = absurd (omega (arith, some))
 free_by a (Some s) (Some e) taken free some = (free, refl)
 
 pub free_channel : (file : List ℕ) (ps : List Found) (a : Additions) (x : Option Extent) → misuse file ps a ≡ None → (times_between a a.start x).first < (times_between a a.start x).end
-    → of_channel (times_between a a.start x).channel (kept file ps) ≡ []
+    → of_channel (times_between a a.start x).channel (kept_packets file ps) ≡ []
 free_channel file ps a x none some =
     let free = passed_by _ (is_some a.start && has_channel a.time_channel ps) _ _ _ none in
     let f = free_by a a.start x (has_channel a.time_channel ps) free some in
-    ap (λ (k : ℕ). of_channel k (kept file ps)) f.1 ∙ no_channel file a.time_channel ps f.0
+    ap (λ (k : ℕ). of_channel k (kept_packets file ps)) f.1 ∙ no_channel file a.time_channel ps f.0
 
-pub plan_is : (file : List ℕ) (ps : List Found) (a : Additions) (x : Option Extent) (t : Times) → x ≡ extent_of (kept file ps) → t ≡ times_between a a.start x
+pub plan_is : (file : List ℕ) (ps : List Found) (a : Additions) (x : Option Extent) (t : Times) → x ≡ extent_of (kept_packets file ps) → t ≡ times_between a a.start x
     → planned_by file ps a t.version t ≡ plan_for file ps a
 plan_is file ps a x t is times =
     ap (λ (y : Times). planned_by file ps a y.version y) times
@@ -131,7 +131,7 @@ plan_is file ps a x t is times =
     ∙ ap (λ (y : Option Extent). planned_by file ps a a.version (times_between a a.start y)) is
 
 -- the faults by the entries of an index are those by the packets
-pub misuse_same : (file : List ℕ) (ps : List Found) (es : List Packet) (a : Additions) (x : Option Extent) → es ≡ listing ps → x ≡ extent_of (kept file ps) → misuse_by es a x ≡ misuse file ps a
+pub misuse_same : (file : List ℕ) (ps : List Found) (es : List Packet) (a : Additions) (x : Option Extent) → es ≡ listing ps → x ≡ extent_of (kept_packets file ps) → misuse_by es a x ≡ misuse file ps a
 misuse_same file ps es a x listed is =
     let kinds : list_any (λ (e : Packet). eqb e.header.kind 1) es ≡ has_kind 1 ps =
     ap (list_any (λ (e : Packet). eqb e.header.kind 1)) listed ∙ any_is (λ (h : Header). eqb h.kind 1) [] ps in
@@ -141,13 +141,13 @@ misuse_same file ps es a x listed is =
     ∙ ap (λ (b : Bool). misuse_of (is_some a.setup && has_kind 1 ps) (is_some a.start && b) (is_some a.start && is_too_long x)) channels
     ∙ ap (λ (y : Option Extent). misuse_of (is_some a.setup && has_kind 1 ps) (is_some a.start && has_channel a.time_channel ps) (is_some a.start && is_too_long y)) is
 
-pub planned : (file : List ℕ) (ps : List Found) (a : Additions) (x : Option Extent) (t : Times) (low : ℕ) → AllReadAt file ps → x ≡ extent_of (kept file ps) → misuse file ps a ≡ None
+pub planned : (file : List ℕ) (ps : List Found) (a : Additions) (x : Option Extent) (t : Times) (low : ℕ) → AllReadAt file ps → x ≡ extent_of (kept_packets file ps) → misuse file ps a ≡ None
     → t ≡ times_between a a.start x → low ≡ low_by t x → is_setup (option_map (λ text. text.now) a.setup) ≡ true → IsPlanned file ps t low (option_map (λ text. text.now) a.setup)
 planned file ps a x t low all is none times lowest text = record {
   sound = all;
   small = subst IsSmall (sym times) (small file ps a x all is);
-  lowest = lowest ∙ ap (λ (y : Times). low_by y x) times ∙ low_is a a.start x (kept file ps) is ∙ ap (λ (y : Times). low_of (extent_of (times_in y ++ kept file ps))) (sym times);
+  lowest = lowest ∙ ap (λ (y : Times). low_by y x) times ∙ low_is a a.start x (kept_packets file ps) is ∙ ap (λ (y : Times). low_of (extent_of (times_in y ++ kept_packets file ps))) (sym times);
   few = subst (λ (k : ℕ). k < 2 ^ 48) (sym (lowest ∙ ap (λ (y : Times). low_by y x) times)) (low_small file ps a x all is);
-  free = subst (λ (y : Times). y.first < y.end → of_channel y.channel (kept file ps) ≡ []) (sym times) (free_channel file ps a x none);
+  free = subst (λ (y : Times). y.first < y.end → of_channel y.channel (kept_packets file ps) ≡ []) (sym times) (free_channel file ps a x none);
   text = text;
 }

@@ -10,7 +10,7 @@ use Rattle.bench_complete.specs.declared.additions.UtcSecond.{UtcSecond}
 use Rattle.bench_complete.specs.declared.extent.Extent.{Extent}
 use Rattle.bench_complete.specs.declared.fault.CompleteFault.{CompleteFault}
 use Rattle.bench_complete.specs.declared.times.Times.{Times}
-use Rattle.bench_complete.specs.Pieces.{Piece, kept}
+use Rattle.bench_complete.specs.Pieces.{Piece, kept_packets}
 use Rattle.bench_complete.specs.Merging.{of_channel, IsMerge}
 use Rattle.bench_complete.specs.TimePackets.{time_piece, times_from, times_in}
 use Rattle.bench_complete.specs.SetupRecord.{setup_piece}
@@ -113,13 +113,13 @@ front_whole (Some text) version counter is small low = (setup_whole version coun
 module _ (file bytes : List ℕ) (a : Additions) (ps : List Found) (small_bytes : (k : ℕ) → get_or file k 0 < 256) (options : AreOptions a) (read : packets_in file ≡ Ok ps)
     (sound : judged file (Ok ps) a ≡ Ok ps) (complete : IsComplete (plan_for file ps a) bytes) where
   abbrev extent : Option Extent
-  extent = extent_of (kept file ps)
+  extent = extent_of (kept_packets file ps)
 
   abbrev times : Times
   times = times_between a a.start extent
 
   abbrev parts : List Piece
-  parts = times_in times ++ kept file ps
+  parts = times_in times ++ kept_packets file ps
 
   all : AllReadAt file ps
   all = all_read file ps small_bytes read
@@ -143,7 +143,7 @@ module _ (file bytes : List ℕ) (a : Additions) (ps : List Found) (small_bytes 
 
   parts_whole : AreWhole parts
   parts_whole =
-      whole_append (times_in times) (kept file ps)
+      whole_append (times_in times) (kept_packets file ps)
       (times_whole times (times.end - times.first) times.first times_end
       (subst (λ (k : ℕ). k < 2 ^ 16) (sym (channel_is a a.start extent)) options.channel)
       (subst (λ (k : ℕ). k < 2 ^ 8) (sym (version_of a a.start extent)) options.version)) (kept_whole file ps all)
@@ -158,9 +158,9 @@ module _ (file bytes : List ℕ) (a : Additions) (ps : List Found) (small_bytes 
 
   parts_heard : (channel : ℕ) → messages_in (of_channel channel parts) ≡ reading ps channel
   parts_heard channel =
-      ap messages_in (filter-append _ (times_in times) (kept file ps))
-      ∙ heard_append (of_channel channel (times_in times)) (of_channel channel (kept file ps))
-      ∙ ap (λ (l : List Message). l ++ messages_in (of_channel channel (kept file ps))) (times_silent times channel (times.end - times.first) times.first)
+      ap messages_in (filter-append _ (times_in times) (kept_packets file ps))
+      ∙ heard_append (of_channel channel (times_in times)) (of_channel channel (kept_packets file ps))
+      ∙ ap (λ (l : List Message). l ++ messages_in (of_channel channel (kept_packets file ps))) (times_silent times channel (times.end - times.first) times.first)
       ∙ kept_heard file channel ps all
 
   all_heard : (channel : ℕ) → reading (found_from 0 (front ++ complete.merged)) channel ≡ reading ps channel

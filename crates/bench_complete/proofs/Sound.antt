@@ -4,18 +4,18 @@ use Rattle.std.specs.List.{list_any}
 use Rattle.std.proofs.lemmas.Bool.{ltb-false}
 use Rattle.std.proofs.lemmas.List.{drop-drop, length-drop, get_or-drop}
 use Rattle.ch11_header.specs.declared.header.Header.{Header}
-use Rattle.ch11_header.specs.declared.fault.HeaderError.{HeaderError}
+use Rattle.ch11_header.specs.declared.error.HeaderError.{HeaderError}
 use Rattle.ch11_header.specs.HeaderBytes.{number_at, header_sum}
 use Rattle.ch11_header.specs.HeaderReading.{header_in, fields_of, with_lawful_lengths, is_packet_length, has_room}
-use Rattle.ch11_f1.specs.declared.fault.BodyError.{BodyError}
+use Rattle.ch11_f1.specs.declared.error.BodyError.{BodyError}
 use Rattle.ch11_f1.specs.BodyReading.{Message, messages_in}
-use Rattle.ch11_reader.specs.declared.fault.Fault.{Fault}
+use Rattle.ch11_reader.specs.declared.error.Fault.{Fault}
 use Rattle.ch11_reader.specs.declared.packet.Packet.{Packet}
 use Rattle.ch11_reader.specs.Listing.{listed_behind, listing_behind}
 use Rattle.ch11_reader.specs.Recording.{Found, holds_messages, body_of, messages_of, with_body, with_rest, with_header, packet_at, packets_from, packets_in}
 use Rattle.ch11_reader.specs.Skipping.{stretches_from, packets_among, packets_read, first_stretch, first_size}
 use Rattle.ch11_reader.proofs.Joined.{first_of, nothing_found}
-use Rattle.bench_complete.specs.Pieces.{Piece, piece_at, goes_over, kept, kept_entries}
+use Rattle.bench_complete.specs.Pieces.{Piece, piece_at, goes_over, kept_packets, kept_entries}
 use Rattle.bench_complete.specs.Judging.{ReadsAt, AllReadAt}
 use Rattle.bench_complete.specs.Lanes.{AreInFile}
 
@@ -134,7 +134,7 @@ all_stretches_read file small = read_stretches (length file) 0 file file small r
 
 -- ---- the entries of an index
 
-pub kept_is : (file : List ℕ) (earlier ps : List Found) → kept_entries file (listing_behind earlier ps) ≡ kept file ps
+pub kept_is : (file : List ℕ) (earlier ps : List Found) → kept_entries file (listing_behind earlier ps) ≡ kept_packets file ps
 kept_is file earlier [] = refl
 kept_is file earlier (p ∷ ps) = ap (λ (l : List Piece). cond (goes_over p.header) (piece_at file p.offset p.header ∷ l) l) (kept_is file (p ∷ earlier) ps)
 

@@ -7,7 +7,7 @@ use Rattle.bench_complete.specs.declared.additions.Additions.{Additions}
 use Rattle.bench_complete.specs.declared.additions.UtcSecond.{UtcSecond}
 use Rattle.bench_complete.specs.declared.extent.Extent.{Extent}
 use Rattle.bench_complete.specs.declared.times.Times.{Times}
-use Rattle.bench_complete.specs.Pieces.{Piece, bytes_of, kept}
+use Rattle.bench_complete.specs.Pieces.{Piece, bytes_of, kept_packets}
 use Rattle.bench_complete.specs.Merging.{IsMerge}
 use Rattle.bench_complete.specs.TimePackets.{times_in}
 use Rattle.bench_complete.specs.SetupRecord.{setup_piece}
@@ -58,7 +58,7 @@ abbrev pub plan_for : List ℕ → List Found → Additions → Plan
 plan_for file ps a = record {
   setup = option_map (λ text. text.now) a.setup;
   version = a.version;
-  parts = times_in (times_between a a.start (extent_of (kept file ps))) ++ kept file ps;
+  parts = times_in (times_between a a.start (extent_of (kept_packets file ps))) ++ kept_packets file ps;
 }
 
 -- the setup record of a text, where there is one

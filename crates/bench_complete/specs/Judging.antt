@@ -3,7 +3,8 @@ use Rattle.std.specs.Prelude.{◌≡◌, ◌⊎◌, ℕ, ◌+◌, ◌-◌, ◌/�
 use Rattle.std.specs.Prelude.{nat_lt, is_some, if◌then◌else◌, List, [], length, Option, None, Some, option_map, Result}
 use Rattle.std.specs.Prelude.{Ok, Err}
 use Rattle.std.specs.List.{list_any, AllByRecursion}
-use Rattle.ch11_reader.specs.declared.fault.Refusal.{Refusal}
+use Rattle.ch11_header.specs.Kinds.{setup_record}
+use Rattle.ch11_reader.specs.declared.error.Refusal.{Refusal}
 use Rattle.ch11_reader.specs.declared.packet.Packet.{Packet}
 use Rattle.ch11_reader.specs.Recording.{Found, found_or_none, messages_of, packet_at}
 use Rattle.bench_complete.specs.declared.additions.Additions.{Additions}
@@ -11,7 +12,7 @@ use Rattle.bench_complete.specs.declared.extent.Extent.{Extent}
 use Rattle.bench_complete.specs.declared.fault.CompleteFault.{CompleteFault}
 use Rattle.bench_complete.specs.declared.fault.CompleteFault.TheVariants as faults
 use Rattle.bench_complete.specs.declared.times.Times.{Times}
-use Rattle.bench_complete.specs.Pieces.{kept}
+use Rattle.bench_complete.specs.Pieces.{kept_packets}
 use Rattle.bench_complete.specs.Merging.{of_channel}
 use Rattle.bench_complete.specs.TimePackets.{times_in}
 use Rattle.bench_complete.specs.Complete.{Plan, Completes, plan_for, extent_of, low_of}
@@ -43,13 +44,14 @@ misuse_of twice taken long =
     else (if taken then Some faults.ChannelTaken else (if long then Some faults.TooLong else None))
 
 abbrev pub misuse : List ℕ → List Found → Additions → Option CompleteFault
-misuse file ps a = misuse_of (is_some a.setup && has_kind 1 ps) (is_some a.start && has_channel a.time_channel ps)
-    (is_some a.start && is_too_long (extent_of (kept file ps)))
+misuse file ps a = misuse_of (is_some a.setup && has_kind setup_record ps)
+    (is_some a.start && has_channel a.time_channel ps)
+    (is_some a.start && is_too_long (extent_of (kept_packets file ps)))
 
 -- the same by the entries of an index
 abbrev pub misuse_by : List Packet → Additions → Option Extent → Option CompleteFault
 misuse_by es a x =
-    misuse_of (is_some a.setup && list_any (λ (e : Packet). e.header.kind == 1) es)
+    misuse_of (is_some a.setup && list_any (λ (e : Packet). e.header.kind == setup_record) es)
     (is_some a.start && list_any (λ (e : Packet). e.header.channel == a.time_channel) es)
     (is_some a.start && is_too_long x)
 
@@ -80,9 +82,9 @@ Refuses file read a faults.TooLong = judged file read a ≡ Err faults.TooLong
 Refuses file read a faults.Device = ⊥
 
 -- what judging answers: a plan, or a refusal
-abbrev pub Answers : List ℕ → Result (List Found) Refusal → Additions → Result Plan CompleteFault → Type 0
-Answers file read a (Ok c) = (ps : List Found) × (judged file read a ≡ Ok ps) × (c ≡ plan_for file ps a)
-Answers file read a (Err f) = Refuses file read a f
+abbrev pub IsPlanned : List ℕ → Result (List Found) Refusal → Additions → Result Plan CompleteFault → Type 0
+IsPlanned file read a (Ok c) = (ps : List Found) × (judged file read a ≡ Ok ps) × (c ≡ plan_for file ps a)
+IsPlanned file read a (Err f) = Refuses file read a f
 
 -- what stops the writing of a file: want of memory, or the writer
 abbrev pub StopsWriting : CompleteFault → Type 0
@@ -106,9 +108,9 @@ AllReadAt file ps = AllByRecursion (ReadsAt file) ps
 pub record IsPlanned (file : List ℕ) (ps : List Found) (t : Times) (low : ℕ) (setup : Option (List ℕ)) : Type 0 where
   pub sound : AllReadAt file ps
   pub small : IsSmall t
-  pub lowest : low ≡ low_of (extent_of (times_in t ++ kept file ps))
+  pub lowest : low ≡ low_of (extent_of (times_in t ++ kept_packets file ps))
   pub few : low < 2 ^ 48
-  pub free : t.first < t.end → of_channel t.channel (kept file ps) ≡ []
+  pub free : t.first < t.end → of_channel t.channel (kept_packets file ps) ≡ []
   pub text : is_setup setup ≡ true
 
 -- a recording that could be read was completed: a writer got the file of its plan

@@ -2,6 +2,7 @@
 -- stands first comes next.
 use Rattle.std.specs.Prelude.{◌≡◌, ℕ, ◌<◌, ◌≤◌, ◌==◌, ◌⊎◌, if◌then◌else◌, List, [], ◌∷◌, filter}
 use Rattle.ch11_header.specs.declared.header.Header.{Header}
+use Rattle.ch11_header.specs.Kinds.{setup_record, time_data}
 use Rattle.bench_complete.specs.Pieces.{Piece}
 
 -- the packets of a channel, in their order
@@ -10,7 +11,7 @@ of_channel channel ps = filter (λ (p : Piece). p.header.channel == channel) ps
 
 -- at one counter setup records (type 01) go first, then time (type 11), then all others
 abbrev pub turn : ℕ → ℕ
-turn kind = if kind == 1 then 0 else (if kind == 0x11 then 1 else 2)
+turn kind = if kind == setup_record then 0 else (if kind == time_data then 1 else 2)
 
 -- a packet does not stand behind another: by counter, then by type, then by channel
 abbrev pub IsNotBehind : Header → Header → Type 0

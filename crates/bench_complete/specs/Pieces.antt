@@ -1,6 +1,7 @@
 -- Packets on their way into a file.
 use Rattle.std.specs.Prelude.{ℕ, ◌==◌, Bool, not, if◌then◌else◌, List, [], ◌∷◌, ◌++◌, take, drop}
 use Rattle.ch11_header.specs.declared.header.Header.{Header}
+use Rattle.ch11_header.specs.Kinds.{recording_index}
 use Rattle.ch11_reader.specs.declared.packet.Packet.{Packet}
 use Rattle.ch11_reader.specs.Recording.{Found}
 
@@ -20,12 +21,13 @@ piece_at file offset h = record { header = h; bytes = take h.packet_length (drop
 
 -- a packet goes over unless it is an index of a recording (type 03), whose offsets would be wrong
 abbrev pub goes_over : Header → Bool
-goes_over h = not (h.kind == 3)
+goes_over h = not (h.kind == recording_index)
 
 -- the packets of a recording that go over
-abbrev pub kept : List ℕ → List Found → List Piece
-kept file [] = []
-kept file (p ∷ ps) = if goes_over p.header then piece_at file p.offset p.header ∷ kept file ps else kept file ps
+abbrev pub kept_packets : List ℕ → List Found → List Piece
+kept_packets file [] = []
+kept_packets file (p ∷ ps) = if goes_over p.header then piece_at file p.offset p.header ∷ kept_packets file ps
+    else kept_packets file ps
 
 -- the same by the entries of an index
 abbrev pub kept_entries : List ℕ → List Packet → List Piece

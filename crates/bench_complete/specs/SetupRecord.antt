@@ -3,6 +3,7 @@
 use Rattle.std.specs.Prelude.{ℕ, ◌+◌, ◌-◌, ◌%◌, List, [], ◌∷◌, ◌++◌, length, replicate}
 use Rattle.ch11_header.specs.declared.header.Header.{Header}
 use Rattle.ch11_header.specs.HeaderBytes.{header_bytes}
+use Rattle.ch11_header.specs.Kinds.{setup_record}
 use Rattle.bench_complete.specs.Pieces.{Piece}
 
 -- how many bytes of filler bring a length to a multiple of four
@@ -17,7 +18,7 @@ setup_header version counter size = record {
   version = version;
   sequence = 0;
   flags = 0;
-  kind = 1;
+  kind = setup_record;
   counter = counter;
 }
 

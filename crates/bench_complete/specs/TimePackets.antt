@@ -2,6 +2,7 @@
 use Rattle.std.specs.Prelude.{ℕ, zero, suc, ◌+◌, ◌-◌, ◌*◌, ◌%◌, List, [], ◌∷◌, ◌++◌}
 use Rattle.ch11_header.specs.declared.header.Header.{Header}
 use Rattle.ch11_header.specs.HeaderBytes.{header_bytes}
+use Rattle.ch11_header.specs.Kinds.{time_data}
 use Rattle.bench_complete.specs.declared.times.Times.{Times}
 use Rattle.bench_complete.specs.Pieces.{Piece}
 use Rattle.bench_clock.specs.TimeBody.{body_of}
@@ -14,7 +15,7 @@ time_header t second = record {
   version = t.version;
   sequence = (second - t.first) % 256;
   flags = 0;
-  kind = 0x11;
+  kind = time_data;
   counter = second * 10000000;
 }
 

@@ -3,7 +3,8 @@ ghost use Rattle.std.specs.Prelude.{◌≡◌, ◌≤◌, true, option_map, Ok, 
 ghost use Rattle.ch11_reader.specs.Recording.{packets_in};
 ghost use Rattle.ch11_reader.specs.Skipping.{packets_read, skips_in};
 ghost use Rattle.bench_complete.specs.Complete.{Completes, low_by, plan_for, times_between};
-ghost use Rattle.bench_complete.specs.Judging.{AllReadAt, Answers, Fails, IsCompleted, Refuses, StopsWriting, is_setup};
+ghost use Rattle.bench_complete.specs.Judging.{AllReadAt, IsPlanned, Fails, IsCompleted, Refuses, StopsWriting};
+ghost use Rattle.bench_complete.specs.Judging.{is_setup};
 ghost use Rattle.bench_complete.specs.Judging.{misuse};
 
 use crate::additions::Additions;
@@ -32,7 +33,7 @@ pub struct Completion<'a> {
 
 impl<'a> Model for Completion<'a> {
     ghost use Rattle.std.specs.Prelude.{◌++◌, option_map};
-    ghost use Rattle.bench_complete.specs.Pieces.{kept};
+    ghost use Rattle.bench_complete.specs.Pieces.{kept_packets};
     ghost use Rattle.bench_complete.specs.TimePackets.{times_in};
     ghost use Rattle.bench_complete.specs.Complete.{Plan};
     ghost use Rattle.bench_complete.specs.Judging.{IsPlanned};
@@ -42,7 +43,7 @@ impl<'a> Model for Completion<'a> {
     ghost view = { λ c. record {
       setup = option_map (λ text. text.now) c.setup;
       version = c.times.version;
-      parts = times_in c.times ++ kept c.file.now c.index;
+      parts = times_in c.times ++ kept_packets c.file.now c.index;
     } };
 
     ghost invariant = { λ c. IsPlanned c.file.now c.index c.times c.low (option_map (λ text. text.now) c.setup) };
@@ -128,7 +129,7 @@ impl<'a> Completion<'a> {
         file: &'a [u8],
         additions: &Additions<'a>,
     ) -> Result<Completion<'a>, CompleteFault>
-        ensures { Answers file.now (packets_in file.now) additions.now result }
+        ensures { IsPlanned file.now (packets_in file.now) additions.now result }
     {
         if !is_setup(additions.setup) {
             return Err(CompleteFault::SetupSize);

@@ -14,7 +14,7 @@ use Rattle.ch11_recording.specs.Laws.{IsItem}
 use Rattle.bench_core.specs.declared.step.Step.{Step}
 use Rattle.bench_core.specs.declared.step.Step.TheVariants.{Offer, Take, Post}
 use Rattle.bench_core.specs.Bench.{LaneState, Bench, begun, all_records, has_room, with_message, with_end, message_of, next_offered, lane_offers, taken_from, with_post, lane_posts, stepped, after_steps}
-use Rattle.bench_core.specs.Settled.{kept, kept_of, IsFresh, HasRecorded}
+use Rattle.bench_core.specs.Settled.{kept_records, kept_of, IsFresh, HasRecorded}
 use Rattle.bench_core.proofs.Foreseen.{records_posted}
 use Rattle.bench_core.proofs.Lists.{own_more, other_more, NoneAbove, none_above_more, none_above_next, kept_more, kept_same}
 
@@ -199,7 +199,7 @@ lane_posted : (items : List Item) (l : LaneState) (address : ℕ) (action : Acti
 lane_posted items l address action is = record {
   channel = is.channel;
   low = is.low;
-  settled = is.settled ∙ ap (kept l.refused) (sym (records_posted l address action));
+  settled = is.settled ∙ ap (kept_records l.refused) (sym (records_posted l address action));
 }
 
 recorded_posted : (l : LaneState) (address : ℕ) (action : Action) → HasRecorded (with_post l address action) → HasRecorded l

@@ -5,8 +5,8 @@ use Rattle.ch11_recording.specs.WrittenFile.{Format}
 use Rattle.ch11_recording.specs.Recording.{AreDistinct}
 use Rattle.ch11_recording.specs.Laws.{IsPrologue}
 use Rattle.bench_core.specs.declared.settings.Settings.{Settings}
-use Rattle.bench_core.specs.declared.settings.WorldError.{WorldError}
-use Rattle.bench_core.specs.declared.settings.WorldError.TheVariants as fault
+use Rattle.bench_core.specs.declared.error.WorldError.{WorldError}
+use Rattle.bench_core.specs.declared.error.WorldError.TheVariants as fault
 
 abbrev pub format_of : Settings → Format
 format_of s = record { version = s.version; limit = s.limit }
@@ -38,8 +38,8 @@ Refuses jobs s fault.ChannelTwice = AreInRange jobs s × ¬ AreDistinct (channel
 Refuses jobs s fault.Prologue = AreInRange jobs s × AreDistinct (channels_of jobs) × ¬ IsPrologue s.prologue.items
 Refuses jobs s fault.Memory = AreLawful jobs s
 
-abbrev pub code_of : WorldError → List ℕ
-code_of fault.Settings = codes "U2"
-code_of fault.ChannelTwice = codes "U1"
-code_of fault.Prologue = codes "U5"
-code_of fault.Memory = codes "U3"
+abbrev pub fault_code : WorldError → List ℕ
+fault_code fault.Settings = codes "U2"
+fault_code fault.ChannelTwice = codes "U1"
+fault_code fault.Prologue = codes "U5"
+fault_code fault.Memory = codes "U3"

@@ -20,12 +20,12 @@ abbrev pub is_kept : List ℕ → Numbered → Bool
 is_kept refused n = not (list_any (λ number. number == n.number) refused)
 
 -- records, numbered from 1, but for the refused
-abbrev pub kept : List ℕ → List Record → List Numbered
-kept refused rs = filter (is_kept refused) (numbered_from 1 rs)
+abbrev pub kept_records : List ℕ → List Record → List Numbered
+kept_records refused rs = filter (is_kept refused) (numbered_from 1 rs)
 
 -- the messages that a channel has made, but for the refused
 abbrev pub kept_of : LaneState → List Numbered
-kept_of l = kept l.refused (take l.made (all_records l))
+kept_of l = kept_records l.refused (take l.made (all_records l))
 
 -- nothing is lost that is not listed, and nothing is doubled or out of order
 abbrev pub IsSettled : Bench → LaneState → Type 0

@@ -12,8 +12,8 @@ use Rattle.ch11_recording.specs.WrittenFile.{Format, held_in, written_file, clos
 use Rattle.bench_core.specs.declared.settings.Settings.{Settings}
 use Rattle.bench_core.specs.declared.step.Step.{Step}
 use Rattle.bench_core.specs.declared.step.Step.TheVariants.{Offer, Take, Post}
-use Rattle.bench_core.specs.declared.fault.PlayError.{PlayError}
-use Rattle.bench_core.specs.declared.fault.PlayError.TheVariants as fault
+use Rattle.bench_core.specs.declared.error.PlayError.{PlayError}
+use Rattle.bench_core.specs.declared.error.PlayError.TheVariants as fault
 use Rattle.bench_core.specs.Lawful.{format_of}
 use Rattle.bench_core.specs.Bench.{LaneState, Bench, begun_lane, begun, after_steps}
 use Rattle.bench_core.specs.Settled.{IsSettled, IsFresh, ReadsBack}

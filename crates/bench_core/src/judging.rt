@@ -5,7 +5,8 @@ ghost use Rattle.ch11_recording.specs.Recording.{AreDistinct};
 ghost use Rattle.job_file.specs.Jobs.{JobState};
 ghost use Rattle.bench_core.specs.Lawful.{AreInRange, AreLawful, Refuses, channels_of};
 
-use crate::settings::{Settings, WorldError};
+use crate::error::WorldError;
+use crate::settings::Settings;
 use ch11_reader::holds_no_messages;
 use job_file::Job;
 

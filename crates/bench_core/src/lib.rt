@@ -5,7 +5,7 @@
 
 mod alone;
 mod channel_fault;
-mod fault;
+mod error;
 mod judging;
 mod lane;
 mod laws;
@@ -24,11 +24,11 @@ pub use bench_report::{
     ChannelReport, Report, ReportError, ReportFault, print_report, read_report,
 };
 pub use channel_fault::ChannelFault;
-pub use fault::PlayError;
+pub use error::{PlayError, WorldError};
 pub use judging::judge;
 pub use laws::bench_is_settled;
 pub use parts::channel_report;
 pub use placing::{add_action, ordered_actions};
-pub use settings::{Settings, WorldError};
+pub use settings::Settings;
 pub use step::Step;
 pub use world::World;

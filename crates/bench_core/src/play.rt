@@ -1,7 +1,7 @@
 //! Lists of steps.
 ghost use Rattle.bench_core.specs.World.{Plays, IsWhole};
 
-use crate::fault::PlayError;
+use crate::error::PlayError;
 use crate::step::Step;
 use crate::stepping::{are_few_posts, are_for_terminals, are_steps};
 use crate::world::World;

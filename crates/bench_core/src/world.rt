@@ -10,10 +10,11 @@ ghost use Rattle.bench_core.specs.Bench.{LaneState, begun_lane, offered, posted,
 ghost use Rattle.bench_core.specs.Channels.{after_next, queued_next, next_in, IsMade};
 ghost use Rattle.bench_core.specs.World.{world_of, with_bench, file_of, report_of, IsWhole};
 
+use crate::error::WorldError;
 use crate::judging::judge;
 use crate::lane::Lane;
 use crate::laws::bench_is_settled;
-use crate::settings::{Settings, WorldError};
+use crate::settings::Settings;
 use crate::step::Step;
 use crate::taken::{Taken, also_taken, none_taken};
 use crate::writing::{LONGEST, channel_of, write};

@@ -1,7 +1,7 @@
 -- Text on its way to a writer.
 use Rattle.std.specs.Prelude.{◌≡◌, ℕ, Bool, true, false, List, ◌++◌, Option, Result, Ok, Err}
 use Rattle.std.specs.Io.KnownBytes.{Appends}
-use Rattle.ch11_reader.specs.declared.fault.Refusal.{Refusal}
+use Rattle.ch11_reader.specs.declared.error.Refusal.{Refusal}
 use Rattle.ch11_reader.specs.Recording.{Found, found_or_none}
 use Rattle.bench_dump.specs.declared.fault.DumpFault.{DumpFault}
 use Rattle.bench_dump.specs.declared.fault.DumpFault.TheVariants as faults

@@ -2,7 +2,7 @@
 -- among them a line for each skip, in the order of their offsets.
 use Rattle.std.specs.Prelude.{ℕ, ◌+◌, nat_lt, if◌then◌else◌, Bool, true, false, List, [], ◌∷◌, ◌++◌, length, codes}
 use Rattle.std.specs.Prelude.{decimal}
-use Rattle.ch11_reader.specs.Codes.{code_of}
+use Rattle.ch11_reader.specs.Codes.{fault_code}
 use Rattle.ch11_reader.specs.declared.skip.Skip.{Skip}
 use Rattle.ch11_reader.specs.Indexed.{found_in}
 use Rattle.ch11_reader.specs.Recording.{Found}
@@ -13,7 +13,7 @@ use Rattle.bench_dump.specs.DumpText.{packet_line, message_lines, dump_text}
 unfoldable pub skip_line : Skip → List ℕ
 skip_line s =
     (codes "skipped " ++ decimal s.offset)
-    ++ ((codes " length " ++ decimal s.length) ++ (codes " " ++ (code_of s.fault ++ codes "\n")))
+    ++ ((codes " length " ++ decimal s.length) ++ (codes " " ++ (fault_code s.fault ++ codes "\n")))
 
 abbrev pub skip_lines : List Skip → List ℕ
 skip_lines [] = []

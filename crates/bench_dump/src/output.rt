@@ -1,7 +1,7 @@
 //! The whole dump, through one buffer.
 ghost use Rattle.std.specs.Prelude.{◌≡◌, ◌+◌, ◌<◌, ◌^◌, length, true, false, [], OnOk, IfErr, Err};
 ghost use Rattle.std.specs.Io.KnownBytes.{Appends};
-ghost use Rattle.ch11_reader.specs.declared.fault.Refusal.{Refusal};
+ghost use Rattle.ch11_reader.specs.declared.error.Refusal.{Refusal};
 ghost use Rattle.ch11_reader.specs.Recording.{packets_in};
 ghost use Rattle.bench_dump.specs.SkippingText.{text_of};
 ghost use Rattle.bench_dump.specs.TimedText.{clock_of, text_by, timed_lines, timed_text};

@@ -1,7 +1,7 @@
 //! The lines of skipped bytes.
 ghost use Rattle.std.specs.Prelude.{◌≡◌, ◌++◌, OnOk, IfOk, IfErr};
 ghost use Rattle.std.specs.Io.KnownBytes.{Appends};
-ghost use Rattle.ch11_reader.specs.Codes.{code_of};
+ghost use Rattle.ch11_reader.specs.Codes.{fault_code};
 ghost use Rattle.bench_dump.specs.SkippingText.{skip_line, skip_lines, skips_before, skips_behind};
 ghost use Rattle.bench_dump.specs.Printing.{Carries, IsOther};
 
@@ -17,7 +17,7 @@ use std::io::Write;
 
 /// The letters of a fault.
 fn letters(fault: &Fault) -> &'static [u8]
-    ensures { result.now ≡ code_of fault.now }
+    ensures { result.now ≡ fault_code fault.now }
 {
     match fault {
         Fault::Header(HeaderError::Short) => b"K1",

@@ -4,6 +4,7 @@ use Rattle.std.specs.Prelude.{length, Option, Some, None}
 use Rattle.std.specs.List.Sorted.{IsPermutation, IsStableByKey, IsNonDecreasingBy}
 use Rattle.std.specs.Ordering.{nat_cmp}
 use Rattle.mil_word.specs.Fields.{has_bit, address_of}
+use Rattle.mil_word.specs.Timing.{word_time}
 use Rattle.ch11_f1.specs.BodyReading.{Message}
 use Rattle.ch11_layout.specs.declared.layouts.Role.{Role}
 use Rattle.ch11_layout.specs.declared.layouts.Role.TheVariants as roles
@@ -42,8 +43,8 @@ change_of m channel tick driven = record { tick = tick; channel = channel; on_b 
 unfoldable pub changes_at : ℕ → ℕ → Message → ℕ → List Change
 changes_at n channel m place =
     change_of m channel (begin_of m place) (Some (driven_at n m place))
-    ∷ (if nat_lt (place + 1) (size_of m) && (begin_of m (place + 1) == begin_of m place + 200) then []
-    else change_of m channel (begin_of m place + 200) None ∷ [])
+    ∷ (if nat_lt (place + 1) (size_of m) && (begin_of m (place + 1) == begin_of m place + word_time) then []
+    else change_of m channel (begin_of m place + word_time) None ∷ [])
 
 -- the changes of so many words of message n on a channel
 unfoldable pub changes_up_to : ℕ → ℕ → ℕ → Message → List Change

@@ -27,8 +27,8 @@ abbrev pub letter_text : Bool → List ℕ
 letter_text on_b = if on_b then codes "B" else codes "A"
 
 -- the code of a signal: its letter, its line and its channel
-abbrev pub code_of : List ℕ → Bool → ℕ → List ℕ
-code_of letter on_b channel = letter ++ (letter_text on_b ++ decimal channel)
+abbrev pub signal_code : List ℕ → Bool → ℕ → List ℕ
+signal_code letter on_b channel = letter ++ (letter_text on_b ++ decimal channel)
 
 -- a value, z on an idle line
 abbrev pub value_text : Option ℕ → List ℕ
@@ -38,7 +38,7 @@ value_text (Some value) = binary 64 value
 -- a signal takes a value
 unfoldable pub signal_text : List ℕ → Option ℕ → Bool → ℕ → List ℕ
 signal_text letter value on_b channel = codes "b"
-    ++ (value_text value ++ (codes " " ++ (code_of letter on_b channel ++ codes "\n")))
+    ++ (value_text value ++ (codes " " ++ (signal_code letter on_b channel ++ codes "\n")))
 
 -- the four signals of a line: the word, its kind, its terminal and the number of its message
 abbrev pub signals_text : Option ℕ → Option ℕ → Option ℕ → Option ℕ → Bool → ℕ → List ℕ
@@ -77,7 +77,7 @@ ArePresent marks changes = (channel : ℕ) → channel < 65536 → marked marks 
 -- a signal is declared: its type, how many bits it has, and its name
 unfoldable pub declared_text : List ℕ → List ℕ → List ℕ → Bool → ℕ → List ℕ
 declared_text size letter name on_b channel = codes "$var "
-    ++ (size ++ (codes " " ++ (code_of letter on_b channel ++ (codes " " ++ (name ++ codes " $end\n")))))
+    ++ (size ++ (codes " " ++ (signal_code letter on_b channel ++ (codes " " ++ (name ++ codes " $end\n")))))
 
 unfoldable pub opening_text : Bool → List ℕ
 opening_text on_b = codes "$scope module " ++ (letter_text on_b ++ codes " $end\n")

@@ -49,7 +49,7 @@ pub(crate) fn letter_of(on_b: bool) -> &'static [u8]
 
 /// Puts the code of a signal of a line.
 pub(crate) fn put_code(text: &mut Vec<u8>, letter: &[u8], wire: Wire) -> Result<(), AllocError>
-    ensures { OnOk result (text.new.items ≡ text.old.items ++ spec.code_of letter.now wire.on_b wire.channel) }
+    ensures { OnOk result (text.new.items ≡ text.old.items ++ spec.signal_code letter.now wire.on_b wire.channel) }
 {
     text.extend_from_slice(letter)?;
     text.extend_from_slice(letter_of(wire.on_b))?;

@@ -15,7 +15,7 @@ use Rattle.ch11_recording.specs.Laws.{IsItem, FileGoesOn}
 use Rattle.bench_report.specs.Reports.{ChannelPart, RunReport}
 use Rattle.bench_core.specs.declared.settings.Settings.{Settings}
 use Rattle.bench_core.specs.Lawful.{AreLawful, channels_of, format_of}
-use Rattle.bench_core.specs.Settled.{kept}
+use Rattle.bench_core.specs.Settled.{kept_records}
 use Rattle.bench_run.specs.Runs.{IsRun, IsPartOf, IsReadAs, ArePairs, records_of}
 use Rattle.replay.specs.Accord.{Agrees, AgreesOn, AreOfChannels, reported, played, is_one}
 use Rattle.replay.specs.PlacedActions.{PlacedActionsSuffice}
@@ -50,7 +50,7 @@ agrees_on suffice jobs s items found job part is read =
     ap (records (job_in job)) is.placed ∙ suffice (job_in job) job.actions part.made (omega (arith, is.made)) in
     record {
       made = is.made ∙ ap (λ (rs : List Record). length rs) (sym same);
-      read = read ∙ ap (λ (rs : List Record). map as_message (messages_of (kept part.refused rs))) (sym same);
+      read = read ∙ ap (λ (rs : List Record). map as_message (messages_of (kept_records part.refused rs))) (sym same);
     }
 
 -- ---- all of them

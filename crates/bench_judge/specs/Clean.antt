@@ -5,6 +5,7 @@ use Rattle.std.specs.List.{list_all}
 use Rattle.std.specs.Str.{bytes_eq}
 use Rattle.mil_word.specs.Fields.{has_bit, address_of, code_of, is_broadcast, is_transmit, is_mode, has_message_error}
 use Rattle.mil_word.specs.Fields.{has_busy}
+use Rattle.mil_word.specs.Timing.{least_response, latest_response}
 use Rattle.mil_mode.specs.Table.{is_known, is_broadcast_mode, data_word_count}
 use Rattle.mil_message.specs.declared.faults.BadMessage.{BadMessage}
 use Rattle.mil_message.specs.declared.forms.Due.{Due}
@@ -92,7 +93,7 @@ status_fits address status =
 
 -- a response time of 4 to 12 µs (4.3.3.8)
 abbrev pub is_in_time : ℕ → Bool
-is_in_time gap = nat_le 40 gap && nat_le gap 120
+is_in_time gap = nat_le least_response gap && nat_le gap latest_response
 
 -- each reply that is due came in time, with its status word, and no other came
 abbrev pub replies_fit : List Due → List ℕ → List ℕ → Bool

@@ -1,6 +1,6 @@
 //! The texts of rules, by their lines.
 
-use judge_rules::next_line;
+use text_lines::next_line;
 
 /// The lines of a text that are still to be read, and how many were read.
 #[derive(Clone, Copy)]

@@ -9,8 +9,8 @@ use Rattle.std.proofs.lemmas.Bool.Decides.{nat_tests}
 use Rattle.std.proofs.lemmas.List.{map-append}
 use Rattle.std.proofs.lemmas.List.Elements.{filter-append}
 use Rattle.std.proofs.lemmas.Option.{slice_get_within}
-use Rattle.mil_host.specs.Words.{Text}
-use Rattle.bench_report.specs.Spelling.{is_line_end, text_lines}
+use Rattle.text_lines.specs.Words.{Text}
+use Rattle.text_lines.specs.Lines.{is_line_end, text_lines}
 use Rattle.bench_mail.specs.declared.mailbox.Mailbox.{Mailbox}
 use Rattle.bench_mail.specs.Mail.{posted}
 use Rattle.bench_live.specs.Lines.{post_of}

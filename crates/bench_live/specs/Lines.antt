@@ -1,7 +1,7 @@
 -- The line that asks for an action while a run goes on (own choice): `CHANNEL ADDRESS ACTION`, or the first fault in it
 -- from left to right.
 use Rattle.std.specs.Prelude.{List, drop, Ok}
-use Rattle.mil_host.specs.Words.{Text, words}
+use Rattle.text_lines.specs.Words.{Text, words}
 use Rattle.mil_host.specs.Reading.{Read, and_then, number_in, in_words}
 use Rattle.bench_live.specs.declared.line.LivePost.{LivePost}
 

@@ -3,8 +3,8 @@ use Rattle.std.specs.Prelude.{◌≡◌, ℕ, ◌^◌, ◌≤◌, ◌==◌, Bool
 use Rattle.std.specs.Prelude.{Option, None, Some, IfSome, Result, Ok, Err, ⊤}
 use Rattle.std.specs.List.{filter, position_or_len, AllByRecursion}
 use Rattle.mil_trunk.specs.Tags.{has, bound_of}
-use Rattle.mil_host.specs.Words.{Text}
-use Rattle.bench_report.specs.Spelling.{text_lines}
+use Rattle.text_lines.specs.Words.{Text}
+use Rattle.text_lines.specs.Lines.{text_lines}
 use Rattle.bench_mail.specs.declared.mailbox.Post.{Post}
 use Rattle.bench_mail.specs.declared.mailbox.Mailbox.{Mailbox}
 use Rattle.bench_mail.specs.declared.mailbox.Inbox.{Inbox}

@@ -1,11 +1,12 @@
 //! The line that asks for an action while a run goes on.
 ghost use Rattle.std.specs.Prelude.{◌≡◌, ◌≤◌, IfOk};
 ghost use Rattle.mil_host.specs.Reading.{number_of};
-ghost use Rattle.mil_host.specs.Words.{words};
+ghost use Rattle.text_lines.specs.Words.{words};
 ghost use Rattle.bench_live.specs.Lines.{post_of};
 
-use mil_host::{Action, BadAction, next_word, read_action};
+use mil_host::{Action, BadAction, read_action};
 use numerals::spelled;
+use text_lines::next_word;
 
 /// What a line asks for.
 #[derive(Debug, Drop)]

@@ -1,7 +1,7 @@
 //! Lines posted while a run goes on.
 ghost use Rattle.std.specs.Prelude.{◌≡◌, ◌≤◌, ◌∷◌, ◌++◌, [], length, IfOk, IfErr, OnOk};
 ghost use Rattle.std.specs.List.{before_first, position_or_len};
-ghost use Rattle.bench_report.specs.Spelling.{is_line_end};
+ghost use Rattle.text_lines.specs.Lines.{is_line_end};
 ghost use Rattle.bench_mail.specs.Mail.{posted};
 ghost use Rattle.bench_live.specs.Posting.{IsHandOf, AreHandsOf, as_post, is_channel, LeavesHand, IsLineDone};
 ghost use Rattle.bench_live.specs.Posting.{IsCallDone};
@@ -17,6 +17,7 @@ use std::sync::Wait;
 use std::sync::atomic::{AtomicU32, Ordering};
 use std::time::Duration;
 use std::{io, thread};
+use text_lines::without_end;
 
 /// How many posts a channel takes at most.
 pub(crate) const MOST: u32 = 65_536;
@@ -126,27 +127,6 @@ fn post_line<R: Wait + Clock>(
         &mut hands[place],
         post,
     )
-}
-
-/// How many bytes stand before the first LF.
-fn line_len(text: &[u8]) -> usize
-    ensures value { result ≡ position_or_len is_line_end text.now }
-    ensures within { result ≤ length text.now }
-{
-    for (i, byte) in text.iter().enumerate() {
-        if *byte == b'\n' {
-            return i;
-        }
-    }
-    text.len()
-}
-
-/// A line without the LF that ends it, if one does.
-fn without_end(line: &[u8]) -> &[u8]
-    ensures { result.now ≡ before_first is_line_end line.now }
-{
-    let (front, _) = line.split_at(line_len(line));
-    front
 }
 
 /// Reads lines and posts what they ask for, each once and in their order, up to the end of the input or to the first

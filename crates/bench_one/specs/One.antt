@@ -1,6 +1,7 @@
 -- The packet of one message on fresh terminals (own choice: one message, at tick 0, with no planned fault).
 use Rattle.std.specs.Prelude.{ℕ, ◌≡◌, List, [], ◌∷◌, map, Result, Ok, Err}
 use Rattle.mil_word.specs.declared.Line.{Line}
+use Rattle.mil_word.specs.Timing.{least_gap}
 use Rattle.mil_message.specs.declared.forms.Due.{Due}
 use Rattle.mil_message.specs.declared.forms.Form.{Form}
 use Rattle.mil_message.specs.Forms.{replies_due}
@@ -15,12 +16,12 @@ use Rattle.bench_one.specs.declared.fault.OneFault.{OneFault}
 use Rattle.bench_one.specs.declared.fault.OneFault.TheVariants.{Text, Memory}
 
 -- the addresses that a message names: those whose replies are due
-abbrev pub named : Form → List ℕ
-named form = map (λ (d : Due). d.address) (replies_due form)
+abbrev pub addresses_named : Form → List ℕ
+addresses_named form = map (λ (d : Due). d.address) (replies_due form)
 
 -- the exchange of the message on a bus with new terminals at these addresses
 unfoldable pub only_talk : Line → Form → Talk
-only_talk line form = talk_of (fresh_bus 0 (named form)) line form 40 []
+only_talk line form = talk_of (fresh_bus 0 (addresses_named form)) line form least_gap []
 
 abbrev pub only_record : Line → Form → Numbered
 only_record line form = record { number = 1; message = observed (only_talk line form) }

@@ -2,7 +2,7 @@
 ghost use Rattle.std.specs.Prelude.{◌≡◌, ◌<◌, ◌^◌, true, Ok, IfOk, IfErr};
 ghost use Rattle.mil_bus.specs.Addresses.{is_fit};
 ghost use Rattle.mil_monitor.specs.Observed.{observed};
-ghost use Rattle.bench_one.specs.One.{named, only_talk, packet_of_send, packet_of_text, IsRefusal};
+ghost use Rattle.bench_one.specs.One.{addresses_named, only_talk, packet_of_send, packet_of_text, IsRefusal};
 
 use crate::fault::OneFault;
 use arrayvec::ArrayVec;
@@ -44,7 +44,7 @@ fn packet(
 
 /// The addresses that a message names.
 fn named(message: &Message) -> ArrayVec<u8, 2>
-    ensures all { result.items ≡ named message.now }
+    ensures all { result.items ≡ addresses_named message.now }
     ensures fit { is_fit result.items ≡ true }
 {
     let _lawful = message.form();

@@ -5,10 +5,11 @@ use Rattle.std.specs.List.{flat_map}
 use Rattle.std.proofs.lemmas.Grind.{flat_map-append}
 use Rattle.std.proofs.lemmas.List.{map-append}
 use Rattle.bc_machine.specs.declared.placed.Placed.{Placed}
-use Rattle.mil_host.specs.Words.{Text}
+use Rattle.text_lines.specs.Words.{Text}
 use Rattle.bench_report.specs.Reports.{ChannelPart, RunReport}
 use Rattle.bench_report.specs.Lines.{said}
-use Rattle.bench_report.specs.Spelling.{part_lines, report_lines, text_lines, Spells}
+use Rattle.bench_report.specs.Spelling.{part_lines, report_lines, Spells}
+use Rattle.text_lines.specs.Lines.{text_lines}
 use Rattle.bench_report.specs.Drafts.{Draft, no_lines, with_line, with_said, with_lines, option_bind, finished, report_at, with_refused, with_placed, in_body, last_number, numbers}
 use Rattle.bench_report.specs.declared.lines.Line.{Line}
 use Rattle.bench_report.specs.declared.lines.Line.TheVariants as line

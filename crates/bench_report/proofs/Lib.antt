@@ -1,5 +1,4 @@
 pub mod ListLemmas
-pub mod LineLemmas
 pub mod PrintLemmas
 pub mod Drafted
 pub mod Taken

@@ -7,18 +7,19 @@ use Rattle.std.proofs.lemmas.Fmt.{decimal_is_IsNumeral}
 use Rattle.std.proofs.lemmas.List.Elements.{All-nil, All-cons, All-append, All-tail}
 use Rattle.numerals.proofs.Back.{decimal_back}
 use Rattle.bc_machine.specs.declared.placed.Placed.{Placed}
-use Rattle.mil_host.specs.Words.{Text, words}
+use Rattle.text_lines.specs.Words.{Text, words}
 use Rattle.mil_host.specs.Reading.{in_words, action_in}
 use Rattle.mil_host.specs.Printing.{spaced, spaced_word, text_of}
 use Rattle.mil_host.proofs.Spacing.{IsWord, words-word, words-spaced, one_line-word}
 use Rattle.mil_host.proofs.ReadingBack.{digits_visible, has_bytes_of, named, reads-back, one_line}
 use Rattle.bench_report.specs.Reports.{ChannelPart, RunReport, IsPart, IsPlaced, IsReport, Rises}
 use Rattle.bench_report.specs.Lines.{said, line_in, number_of, IsLine}
-use Rattle.bench_report.specs.Spelling.{is_line_end, part_lines, report_lines, text_lines, Spells}
+use Rattle.bench_report.specs.Spelling.{part_lines, report_lines, Spells}
+use Rattle.text_lines.specs.Lines.{is_line_end, text_lines}
 use Rattle.bench_report.specs.Printing.{line_words, line_text, report_text}
 use Rattle.bench_report.specs.declared.lines.Line.{Line}
 use Rattle.bench_report.specs.declared.lines.Line.TheVariants as line
-use Rattle.bench_report.proofs.LineLemmas.{text_lines-line, text_lines-none}
+use Rattle.text_lines.proofs.LineLemmas.{text_lines-line, text_lines-none}
 
 -- a printed number reads back
 record IsNumber (most low high n : ℕ) : Type 0 where

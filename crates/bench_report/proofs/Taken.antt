@@ -6,11 +6,12 @@ use Rattle.std.proofs.lemmas.Bool.Decides.{nat_tests}
 use Rattle.std.proofs.lemmas.List.{map-append}
 use Rattle.std.proofs.lemmas.List.Elements.{All-tail}
 use Rattle.bc_machine.specs.declared.placed.Placed.{Placed}
-use Rattle.mil_host.specs.Words.{Text}
+use Rattle.text_lines.specs.Words.{Text}
 use Rattle.bench_report.specs.Reports.{ChannelPart, RunReport, IsReport, Rises, NeverFalls}
 use Rattle.bench_report.specs.Faults.{IsInOrder}
 use Rattle.bench_report.specs.Lines.{said}
-use Rattle.bench_report.specs.Spelling.{part_lines, report_lines, text_lines, Spells}
+use Rattle.bench_report.specs.Spelling.{part_lines, report_lines, Spells}
+use Rattle.text_lines.specs.Lines.{text_lines}
 use Rattle.bench_report.specs.Drafts.{Draft, no_lines, with_line, with_lines, option_bind, closed, made_of, last_number, numbers}
 use Rattle.bench_report.specs.declared.lines.Line.{Line}
 use Rattle.bench_report.specs.declared.lines.Line.TheVariants as line

@@ -2,10 +2,10 @@
 use Rattle.std.specs.Prelude.{◌≡◌, ℕ, ◌≤◌, Bool, true, false, ◌&&◌, nat_le, nat_lt, if◌then◌else◌, List, [], ◌∷◌, ◌++◌}
 use Rattle.std.specs.Prelude.{map, Option, Some, None, IsSome, Result, Ok, Err}
 use Rattle.bc_machine.specs.declared.placed.Placed.{Placed}
-use Rattle.mil_host.specs.Words.{Text, words}
+use Rattle.text_lines.specs.Words.{Text, words}
 use Rattle.bench_report.specs.Reports.{ChannelPart, RunReport}
 use Rattle.bench_report.specs.Lines.{said}
-use Rattle.bench_report.specs.Spelling.{text_lines}
+use Rattle.text_lines.specs.Lines.{text_lines}
 use Rattle.bench_report.specs.Faults.{are_line_words}
 use Rattle.bench_report.specs.declared.fault.ReportFault.{ReportFault}
 use Rattle.bench_report.specs.declared.fault.ReportFault.TheVariants as fault
@@ -158,6 +158,6 @@ TakesText (Ok u) text d new = with_said d (said text) ≡ Some new
 TakesText (Err fault) text d new = IsRefusedLine d text fault
 
 -- what a call answers that reads
-abbrev pub Reads : {X Y : Type 0} → (X → Y) → Result X ReportFault → Option Y → Type 0
-Reads view (Ok x) read = read ≡ Some (view x)
-Reads view (Err fault) read = read ≡ None
+abbrev pub Gives : {X Y : Type 0} → (X → Y) → Result X ReportFault → Option Y → Type 0
+Gives view (Ok x) read = read ≡ Some (view x)
+Gives view (Err fault) read = read ≡ None

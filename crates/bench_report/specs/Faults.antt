@@ -3,13 +3,14 @@
 use Rattle.std.specs.Prelude.{◌≡◌, ℕ, ◌+◌, Bool, true, false, if◌then◌else◌, List, [], ◌∷◌, ◌++◌, map, length, Some}
 use Rattle.std.specs.Prelude.{None, Ok, Err, Result, All, codes}
 use Rattle.std.specs.Str.{bytes_eq}
-use Rattle.mil_host.specs.Words.{Text, words}
+use Rattle.text_lines.specs.Words.{Text, words}
 use Rattle.mil_host.specs.Reading.{in_words}
 use Rattle.mil_host.specs.declared.actions.Action.{Action}
 use Rattle.mil_host.specs.declared.reading.BadAction.{BadAction}
 use Rattle.bench_report.specs.Reports.{ChannelPart, RunReport, Rises, NeverFalls}
 use Rattle.bench_report.specs.Lines.{said}
-use Rattle.bench_report.specs.Spelling.{text_lines, report_lines}
+use Rattle.bench_report.specs.Spelling.{report_lines}
+use Rattle.text_lines.specs.Lines.{text_lines}
 use Rattle.bench_report.specs.declared.fault.ReportFault.{ReportFault}
 use Rattle.bench_report.specs.declared.fault.ReportFault.TheVariants as fault
 use Rattle.bench_report.specs.declared.lines.Line.{Line}

@@ -3,7 +3,7 @@ use Rattle.std.specs.Prelude.{ℕ, ◌≤◌, ◌&&◌, nat_le, if◌then◌else
 use Rattle.std.specs.Prelude.{codes, option_map}
 use Rattle.std.specs.Str.{bytes_eq}
 use Rattle.numerals.specs.Numerals.{spelled}
-use Rattle.mil_host.specs.Words.{Text, words}
+use Rattle.text_lines.specs.Words.{Text, words}
 use Rattle.mil_host.specs.Reading.{in_words}
 use Rattle.mil_host.specs.declared.actions.Action.{Action}
 use Rattle.mil_host.specs.declared.reading.BadAction.{BadAction}

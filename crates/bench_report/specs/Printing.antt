@@ -2,7 +2,7 @@
 use Rattle.std.specs.Prelude.{ℕ, List, [], ◌∷◌, ◌++◌, codes, decimal}
 use Rattle.std.specs.List.{flat_map}
 use Rattle.bc_machine.specs.declared.placed.Placed.{Placed}
-use Rattle.mil_host.specs.Words.{Text}
+use Rattle.text_lines.specs.Words.{Text}
 use Rattle.mil_host.specs.Printing.{spaced, text_of}
 use Rattle.bench_report.specs.Reports.{ChannelPart, RunReport}
 use Rattle.bench_report.specs.Spelling.{part_lines, report_lines}
@@ -36,12 +36,12 @@ part_text p = flat_map line_text (part_lines p)
 unfoldable pub report_text : RunReport → Text
 report_text r = flat_map line_text (report_lines r)
 
-abbrev pub code_of : ReportFault → Text
-code_of fault.Word = codes "X1"
-code_of fault.Number = codes "X2"
-code_of fault.Order = codes "X3"
-code_of fault.Memory = codes "X4"
+abbrev pub fault_code : ReportFault → Text
+fault_code fault.Word = codes "X1"
+fault_code fault.Number = codes "X2"
+fault_code fault.Order = codes "X3"
+fault_code fault.Memory = codes "X4"
 
 -- a fault with its line
 abbrev pub error_text : ReportError → Text
-error_text e = code_of e.fault ++ (codes " line " ++ decimal e.line)
+error_text e = fault_code e.fault ++ (codes " line " ++ decimal e.line)

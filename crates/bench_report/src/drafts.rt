@@ -2,7 +2,7 @@
 ghost use Rattle.std.specs.Prelude.{◌≡◌, IfErr};
 ghost use Rattle.bench_report.specs.declared.fault.ReportFault.TheVariants.{Order};
 ghost use Rattle.bench_report.specs.Lines.{IsLine};
-ghost use Rattle.bench_report.specs.Drafts.{Takes, TakesText, Reads, no_lines, closed, with_line, finished};
+ghost use Rattle.bench_report.specs.Drafts.{Takes, TakesText, Gives, no_lines, closed, with_line, finished};
 
 use crate::channels::ChannelReport;
 use crate::fault::ReportFault;
@@ -101,7 +101,7 @@ impl Draft {
 
     /// The report, once its last line has come.
     pub fn finish(self) -> Result<Report, ReportFault>
-        ensures value { Reads (λ r. r) result (finished self) }
+        ensures value { Gives (λ r. r) result (finished self) }
         ensures order { IfErr result (λ f. f ≡ Order) }
     {
         match self.stage {

@@ -1,6 +1,6 @@
 //! What the definition of a report's text says.
 ghost use Rattle.std.specs.Prelude.{◌≡◌};
-ghost use Rattle.mil_host.specs.Words.{Text};
+ghost use Rattle.text_lines.specs.Words.{Text};
 ghost use Rattle.bench_report.specs.Reports.{RunReport, IsReport};
 ghost use Rattle.bench_report.specs.Spelling.{Spells};
 

@@ -12,7 +12,6 @@ mod printing;
 mod reading;
 mod reports;
 mod stages;
-mod text_lines;
 
 pub use channels::ChannelReport;
 pub use fault::{ReportError, ReportFault};

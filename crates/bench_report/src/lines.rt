@@ -1,15 +1,16 @@
 //! The lines of a report.
 ghost use Rattle.std.specs.Prelude.{IfOk, IfErr};
-ghost use Rattle.mil_host.specs.Words.{words};
+ghost use Rattle.text_lines.specs.Words.{words};
 ghost use Rattle.bench_report.specs.Lines.{placed_in, said, IsLine};
 ghost use Rattle.bench_report.specs.Reports.{IsPlaced};
 ghost use Rattle.bench_report.specs.Faults.{are_line_words, are_placed_words};
-ghost use Rattle.bench_report.specs.Drafts.{Reads, IsBad};
+ghost use Rattle.bench_report.specs.Drafts.{Gives, IsBad};
 
 use crate::fault::ReportFault;
 use crate::numbers::{number, only_number_in};
 use bc_machine::Placed;
-use mil_host::{next_word, read_action};
+use mil_host::read_action;
+use text_lines::next_word;
 
 /// What a line says.
 #[derive(Drop)]
@@ -29,7 +30,7 @@ pub enum Line {
 /// The words behind `placed`.
 #[tactic(auto, unfolding(mil_host::specs::Reading::action_in))]
 fn read_placed(rest: &[u8]) -> Result<Placed, ReportFault>
-    ensures value { Reads Line.Placed result (placed_in (words rest.now)) }
+    ensures value { Gives Line.Placed result (placed_in (words rest.now)) }
     ensures range { IfOk result IsPlaced }
     ensures fault { IfErr result (λ f. IsBad (are_placed_words (words rest.now)) f) }
 {
@@ -55,7 +56,7 @@ fn read_placed(rest: &[u8]) -> Result<Placed, ReportFault>
 /// What a line says.
 #[tactic(auto, unfolding(crate::specs::Lines::said))]
 pub fn read_line(text: &[u8]) -> Result<Line, ReportFault>
-    ensures value { Reads (λ l. l) result (said text.now) }
+    ensures value { Gives (λ l. l) result (said text.now) }
     ensures range { IfOk result IsLine }
     ensures fault { IfErr result (λ f. IsBad (are_line_words (words text.now)) f) }
 {

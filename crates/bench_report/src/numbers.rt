@@ -1,19 +1,19 @@
 //! Numbers in the lines of a report.
 ghost use Rattle.std.specs.Prelude.{◌≡◌, ◌≤◌, IfOk, IfErr};
-ghost use Rattle.mil_host.specs.Words.{words};
+ghost use Rattle.text_lines.specs.Words.{words};
 ghost use Rattle.bench_report.specs.Lines.{number_of, only_number};
 ghost use Rattle.bench_report.specs.Faults.{is_one_word};
-ghost use Rattle.bench_report.specs.Drafts.{Reads, IsBad};
+ghost use Rattle.bench_report.specs.Drafts.{Gives, IsBad};
 ghost use Rattle.bench_report.specs.declared.fault.ReportFault.TheVariants.{Number};
 
 use crate::fault::ReportFault;
-use mil_host::next_word;
 use numerals::spelled;
+use text_lines::next_word;
 
 /// The number of a word of one to `most` digits, from `low` to `high`.
 pub fn number(word: &[u8], most: usize, low: u64, high: u64) -> Result<u64, ReportFault>
     requires { most ≤ 10 }
-    ensures value { Reads (λ n. n) result (number_of most low high word.now) }
+    ensures value { Gives (λ n. n) result (number_of most low high word.now) }
     ensures range { IfOk result (λ n. (low ≤ n) × (n ≤ high)) }
     ensures fault { IfErr result (λ f. f ≡ Number) }
 {
@@ -30,7 +30,7 @@ pub fn number(word: &[u8], most: usize, low: u64, high: u64) -> Result<u64, Repo
 /// A number as the only word.
 pub fn only_number_in(rest: &[u8], most: usize, low: u64, high: u64) -> Result<u64, ReportFault>
     requires { most ≤ 10 }
-    ensures value { Reads (λ n. n) result (only_number most low high (words rest.now)) }
+    ensures value { Gives (λ n. n) result (only_number most low high (words rest.now)) }
     ensures range { IfOk result (λ n. (low ≤ n) × (n ≤ high)) }
     ensures fault { IfErr result (λ f. IsBad (is_one_word (words rest.now)) f) }
 {

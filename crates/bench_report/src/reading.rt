@@ -8,8 +8,8 @@ ghost use Rattle.bench_report.specs.Drafts.{IsRefusal};
 use crate::drafts::Draft;
 use crate::fault::ReportError;
 use crate::reports::Report;
-use crate::text_lines::next_line;
 use std::alloc::Global;
+use text_lines::next_line;
 
 /// The report that a text spells: for each channel the lines `channel N`, `made N`, one `refused N` for each refused
 /// number and one `placed NUMBER ADDRESS ACTION` for each placed action, and last `packets N` (own choice). Else the

@@ -1,6 +1,6 @@
 -- What is made of a request: the settings of a run, the jobs of texts, and rules.
 use Rattle.std.specs.Prelude.{◌≡◌, ◌≢◌, ℕ, List, Ok, Err}
-use Rattle.mil_host.specs.Words.{Text}
+use Rattle.text_lines.specs.Words.{Text}
 use Rattle.job_file.specs.Texts.{IsFirstRefused}
 use Rattle.job_file.specs.declared.error.JobError.TheVariants as error
 use Rattle.judge_rules.specs.declared.fault.RuleError.{RuleError}

@@ -21,7 +21,7 @@ use Rattle.ch11_recording.specs.Laws.{IsItem, RecordsAreKept, EndedIsClosed}
 use Rattle.bench_report.specs.Reports.{ChannelPart, Rises}
 use Rattle.bench_core.specs.declared.settings.Settings.{Settings}
 use Rattle.bench_core.specs.Lawful.{channels_of}
-use Rattle.bench_core.specs.Settled.{kept, is_kept}
+use Rattle.bench_core.specs.Settled.{kept_records, is_kept}
 use Rattle.bench_run.specs.declared.entry.Entry.{Entry}
 use Rattle.bench_run.specs.declared.entry.Entry.TheVariants as entry
 use Rattle.bench_run.specs.Entries.{index_of, item_of, entry_of, entries_to_the_end}
@@ -84,7 +84,7 @@ module _ (capacity : ℕ) (jobs : List JobState) (parts : List ChannelPart) (got
           let job = p.0 in let part = p.1 in
           let small : slice_index (channels_of jobs) t < 2 ^ 16 = omega (arith, channel_at_job jobs t job p.2, (p.4).channel_high) in
           subst (AllByRecursion (λ x. IsItem (item_of (channels_of jobs) x))) (sym (all.own t job part p.2 p.3))
-          (all_entries (channels_of jobs) t (kept part.refused (records_of job)) small
+          (all_entries (channels_of jobs) t (kept_records part.refused (records_of job)) small
           (all_kept (is_kept part.refused) (numbered_from 1 (records_of job)) (all_numbered 1 (records_of job) (p.4).recorded))))
           (λ (high : length jobs ≤ t). subst (AllByRecursion (λ x. IsItem (item_of (channels_of jobs) x))) (sym (all.others t high)) tt)
           (cases_lt t (length jobs))
@@ -101,19 +101,19 @@ module _ (capacity : ℕ) (jobs : List JobState) (parts : List ChannelPart) (got
       each t = ⊎_elim
           (λ (low : t < length jobs). let p = pair_at (IsCountedIn capacity jobs) jobs parts t all.counted low in
           subst (AllByRecursion (λ x. index_of x < length (channels_of jobs))) (sym (all.own t p.0 p.1 p.2 p.3))
-          (named t (kept (p.1).refused (records_of p.0)) (omega (arith, low, length-map jobs (λ (j : JobState). j.channel)))))
+          (named t (kept_records (p.1).refused (records_of p.0)) (omega (arith, low, length-map jobs (λ (j : JobState). j.channel)))))
           (λ (high : length jobs ≤ t). subst (AllByRecursion (λ x. index_of x < length (channels_of jobs))) (sym (all.others t high)) tt)
           (cases_lt t (length jobs))
 
   -- each channel's items are its records but for the refused, and its end mark
   part_taken : AreDistinct (channels_of jobs) → (k : ℕ) (job : JobState) (part : ChannelPart) → slice_get jobs k ≡ Some job → slice_get parts k ≡ Some part
-      → part_of job.channel (map (item_of (channels_of jobs)) got) ≡ to_the_end job.channel (kept part.refused (records_of job))
+      → part_of job.channel (map (item_of (channels_of jobs)) got) ≡ to_the_end job.channel (kept_records part.refused (records_of job))
   part_taken distinct k job part at at' =
       let channels : List ℕ = channels_of jobs in
       let low : k < length channels = omega (arith, within jobs k job at, length-map jobs (λ (j : JobState). j.channel)) in
       let is = channel_at_job jobs k job at in
-      subst (λ c. part_of c (map (item_of channels) got) ≡ to_the_end c (kept part.refused (records_of job))) is
-      (part_is channels k got distinct low indexed ∙ ap (map (item_of channels)) (all.own k job part at at') ∙ ended_is channels k (kept part.refused (records_of job)))
+      subst (λ c. part_of c (map (item_of channels) got) ≡ to_the_end c (kept_records part.refused (records_of job))) is
+      (part_is channels k got distinct low indexed ∙ ap (map (item_of channels)) (all.own k job part at at') ∙ ended_is channels k (kept_records part.refused (records_of job)))
 
   pub parts_are : (s : Settings) → capacity ≡ s.queue → AreDistinct (channels_of jobs) → ArePairs (IsPartOf jobs s (map (item_of (channels_of jobs)) got)) jobs parts
   parts_are s same distinct = pairs_with (IsCountedIn capacity jobs) (IsPartOf jobs s (map (item_of (channels_of jobs)) got)) jobs parts all.counted
@@ -133,7 +133,7 @@ module _ (capacity : ℕ) (jobs : List JobState) (parts : List ChannelPart) (got
   read_are closed f found distinct read = pairs_with (IsCountedIn capacity jobs) (IsReadAs found) jobs parts all.counted
       (λ k job part at at' p. read job.channel
       ∙ ap (λ (ns : List Numbered). map as_message (messages_of ns))
-      (closed f job.channel (map (item_of (channels_of jobs)) got) (kept part.refused (records_of job)) (part_taken distinct k job part at at')))
+      (closed f job.channel (map (item_of (channels_of jobs)) got) (kept_records part.refused (records_of job)) (part_taken distinct k job part at at')))
 
   -- nothing is recorded, and nothing read, of a channel that no job has
   pub others_none : (channel : ℕ) → IsOther jobs channel → part_of channel (map (item_of (channels_of jobs)) got) ≡ []
@@ -150,14 +150,14 @@ module _ (capacity : ℕ) (jobs : List JobState) (parts : List ChannelPart) (got
 
   -- all that was received could be recorded
   abbrev sent_of : Option JobState → Option ChannelPart → List Numbered
-  sent_of (Some job) (Some part) = kept part.refused (records_of job)
+  sent_of (Some job) (Some part) = kept_records part.refused (records_of job)
   sent_of (Some job) None = []
   sent_of None part = []
 
   abbrev sent_at : ℕ → List Numbered
   sent_at t = sent_of (slice_get jobs t) (slice_get parts t)
 
-  sent_is : (t : ℕ) (job : JobState) (part : ChannelPart) → slice_get jobs t ≡ Some job → slice_get parts t ≡ Some part → sent_at t ≡ kept part.refused (records_of job)
+  sent_is : (t : ℕ) (job : JobState) (part : ChannelPart) → slice_get jobs t ≡ Some job → slice_get parts t ≡ Some part → sent_at t ≡ kept_records part.refused (records_of job)
   sent_is t job part at at' = λ i. sent_of (at i) (at' i)
 
   all_small : (rs : List Record) → AllByRecursion (λ r. IsRecorded (numbered 0 r)) rs → AllByRecursion (λ (r : Record). r.stamp < 2 ^ 48) rs
@@ -205,7 +205,7 @@ module _ (capacity : ℕ) (jobs : List JobState) (parts : List ChannelPart) (got
       each t = ⊎_elim
           (λ (low : t < length jobs). let p = pair_at (IsCountedIn capacity jobs) jobs parts t all.counted low in
           let own = ap (λ (es : List Entry). length es) (all.own t p.0 p.1 p.2 p.3) in
-          let ends = length-append (map (entry_of t) (kept (p.1).refused (records_of p.0))) (entry.End t ∷ []) in
+          let ends = length-append (map (entry_of t) (kept_records (p.1).refused (records_of p.0))) (entry.End t ∷ []) in
           omega (arith, own, ends, length-kept t (p.1).refused (records_of p.0), (p.4).made, (p.4).made_high, top_at jobs t low))
           (λ (high : length jobs ≤ t). let none = ap (λ (es : List Entry). length es) (all.others t high) in omega (arith, none))
           (cases_lt t (length jobs))

@@ -4,12 +4,12 @@ use Rattle.std.specs.List.{AllByRecursion}
 use Rattle.mil_monitor.specs.declared.Record.{Record}
 use Rattle.job_file.specs.Jobs.{JobState}
 use Rattle.bench_core.specs.Lawful.{channels_of}
-use Rattle.bench_core.specs.Settled.{kept, is_kept}
+use Rattle.bench_core.specs.Settled.{kept_records, is_kept}
 use Rattle.bench_run.specs.Writer.{AreOrdered}
 use Rattle.bench_run.proofs.Ended.{some_ordered}
 
 -- the records of a job that were not refused can all be recorded, one behind the other
-pub kept_ordered : (refused : List ℕ) (rs : List Record) → AllByRecursion (λ r. r.stamp < 2 ^ 48) rs → AreOrdered 0 (kept refused rs)
+pub kept_ordered : (refused : List ℕ) (rs : List Record) → AllByRecursion (λ r. r.stamp < 2 ^ 48) rs → AreOrdered 0 (kept_records refused rs)
 kept_ordered refused rs small = some_ordered (is_kept refused) rs small
 
 -- the channel at the index of a job is the job's

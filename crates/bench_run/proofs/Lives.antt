@@ -11,7 +11,7 @@ use Rattle.bench_report.specs.Reports.{ChannelPart}
 use Rattle.ch11_recording.specs.Recording.{AreDistinct}
 use Rattle.bench_core.specs.declared.settings.Settings.{Settings}
 use Rattle.bench_core.specs.Lawful.{AreLawful, channels_of}
-use Rattle.bench_core.specs.Settled.{kept}
+use Rattle.bench_core.specs.Settled.{kept_records}
 use Rattle.bench_run.specs.declared.entry.Entry.{Entry}
 use Rattle.bench_mail.specs.declared.mailbox.Mailbox.{Mailbox}
 use Rattle.bench_mail.specs.declared.mailbox.Inbox.{Inbox}
@@ -121,7 +121,7 @@ module _ (capacity queue most : ℕ) (jobs : List JobState) (boxes : List Mailbo
   abbrev IsOfRow : ℕ → LiveChannel → Type 0
   IsOfRow k c =
       ArePlaced most c.part.made (received_by c.before) (received_by c.after) c.posts × IsCounted capacity (most_in_all (others_than c.job.channel jobs)) (live_job c) c.part
-      × (with_tag index_of k sent ≡ entries_to_the_end k (kept c.part.refused (records_of (live_job c))))
+      × (with_tag index_of k sent ≡ entries_to_the_end k (kept_records c.part.refused (records_of (live_job c))))
 
   pub all_live : capacity ≡ queue → length jobs ≤ 32 → bounds ≡ map most_items jobs → length boxes ≡ length jobs → length before ≡ length jobs → length joined ≡ length jobs
       → AreEnded capacity sent jobs most boxes before joined
@@ -140,7 +140,7 @@ module _ (capacity queue most : ℕ) (jobs : List JobState) (boxes : List Mailbo
       let long : length lives ≤ 32 = let l = ap length has.jobs_are in omega (arith, few, l, length-map has.rows live_job, length-map has.rows (λ (c : LiveChannel). c.job)) in
       let all = all_got capacity queue lives parts sent got bounds same long (bounds_are ∙ ap (map most_items) (sym has.jobs_are) ∙ sym (bounds_alike has.rows))
       (pairs_rows (IsCountedIn capacity lives) has.rows counted_in)
-      (λ k live part at at'. row_at (λ l p. IsCountedIn capacity lives l p × (with_tag index_of k sent ≡ entries_to_the_end k (kept p.refused (records_of l)))) has.rows k live part at at' (λ c e. (counted_in k c e, (has.each k c e).2)))
+      (λ k live part at at'. row_at (λ l p. IsCountedIn capacity lives l p × (with_tag index_of k sent ≡ entries_to_the_end k (kept_records p.refused (records_of l)))) has.rows k live part at at' (λ c e. (counted_in k c e, (has.each k c e).2)))
       settled barred in
       record {
         lives = lives;

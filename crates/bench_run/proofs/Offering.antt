@@ -9,7 +9,7 @@ use Rattle.mil_monitor.specs.declared.Record.{Record}
 use Rattle.mil_trunk.proofs.Tagging.{length-filter_le}
 use Rattle.ch11_recording.specs.Items.{numbered, numbered_from}
 use Rattle.bench_report.specs.Reports.{Rises}
-use Rattle.bench_core.specs.Settled.{is_kept, kept}
+use Rattle.bench_core.specs.Settled.{is_kept, kept_records}
 use Rattle.bench_core.proofs.Lists.{NoneAbove}
 use Rattle.bench_run.specs.Entries.{entry_of}
 
@@ -67,29 +67,29 @@ length-numbered_from number [] = refl
 length-numbered_from number (r ∷ rs) = ap suc (length-numbered_from (suc number) rs)
 
 -- the kept are no more than all
-pub length-kept : (index : ℕ) (refused : List ℕ) (rs : List Record) → length (map (entry_of index) (kept refused rs)) ≤ length rs
+pub length-kept : (index : ℕ) (refused : List ℕ) (rs : List Record) → length (map (entry_of index) (kept_records refused rs)) ≤ length rs
 length-kept index refused rs =
     let fewer = length-filter_le (is_kept refused) (numbered_from 1 rs) in
-    omega (arith, length-map (kept refused rs) (entry_of index), fewer, length-numbered_from 1 rs)
+    omega (arith, length-map (kept_records refused rs) (entry_of index), fewer, length-numbered_from 1 rs)
 
 -- ---- the list of refused, where `room` is what the capacity has to stay under
 
 abbrev pub IsFull : ℕ → ℕ → List ℕ → List Record → ℕ → Type 0
-IsFull capacity others refused rs n = capacity ≤ length (kept refused (take (n - 1) rs)) + others
+IsFull capacity others refused rs n = capacity ≤ length (kept_records refused (take (n - 1) rs)) + others
 
 full_before : (capacity others : ℕ) (refused : List ℕ) (rs : List Record) (most : ℕ) (ns : List ℕ) → NoneAbove most ns
     → AllByRecursion (IsFull capacity others refused rs) ns → AllByRecursion (IsFull capacity others (refused ++ (most + 1) ∷ []) rs) ns
 full_before capacity others refused rs most [] low all = tt
 full_before capacity others refused rs most (n ∷ ns) low all =
-    let same : kept (refused ++ (most + 1) ∷ []) (take (n - 1) rs) ≡ kept refused (take (n - 1) rs) = kept_before refused (most + 1) 1 (n - 1) rs (omega (arith, low.0)) in
+    let same : kept_records (refused ++ (most + 1) ∷ []) (take (n - 1) rs) ≡ kept_records refused (take (n - 1) rs) = kept_before refused (most + 1) 1 (n - 1) rs (omega (arith, low.0)) in
     (rw same all.0, full_before capacity others refused rs most ns low.1 all.1)
 
 pub full_more : (capacity others : ℕ) (refused : List ℕ) (rs : List Record) (made : ℕ) → NoneAbove made refused
-    → AllByRecursion (IsFull capacity others refused rs) refused → capacity ≤ length (kept refused (take made rs)) + others
+    → AllByRecursion (IsFull capacity others refused rs) refused → capacity ≤ length (kept_records refused (take made rs)) + others
     → AllByRecursion (IsFull capacity others (refused ++ (made + 1) ∷ []) rs) (refused ++ (made + 1) ∷ [])
 full_more capacity others refused rs made low all here =
-    let same : kept (refused ++ (made + 1) ∷ []) (take (made + 1 - 1) rs) ≡ kept refused (take made rs) =
-    ap (λ k. kept (refused ++ (made + 1) ∷ []) (take k rs)) (less made) ∙ kept_before refused (made + 1) 1 made rs (omega arith) in
+    let same : kept_records (refused ++ (made + 1) ∷ []) (take (made + 1 - 1) rs) ≡ kept_records refused (take made rs) =
+    ap (λ k. kept_records (refused ++ (made + 1) ∷ []) (take k rs)) (less made) ∙ kept_before refused (made + 1) 1 made rs (omega arith) in
     all_more (IsFull capacity others (refused ++ (made + 1) ∷ []) rs) refused (made + 1) (full_before capacity others refused rs made refused low all) (rw same here)
   where
     less : (k : ℕ) → k + 1 - 1 ≡ k

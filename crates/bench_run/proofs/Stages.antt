@@ -15,7 +15,7 @@ use Rattle.ch11_builder.specs.Recorded.{IsRecorded}
 use Rattle.ch11_recording.specs.Items.{numbered}
 use Rattle.bench_report.specs.Reports.{ChannelPart, Rises}
 use Rattle.bench_core.specs.Placing.{placed_up_to}
-use Rattle.bench_core.specs.Settled.{kept}
+use Rattle.bench_core.specs.Settled.{kept_records}
 use Rattle.bench_core.proofs.Lists.{NoneAbove, kept_more, kept_same}
 use Rattle.bench_run.specs.declared.entry.Entry.{Entry}
 use Rattle.bench_run.specs.declared.entry.Entry.TheVariants as entry
@@ -63,7 +63,7 @@ module _ (trunk : Trunk Entry) (own : ℕ) (limits : List ℕ) (index : ℕ) (jo
         tags = tags ∙ st.tags;
         bounds = bounds ∙ st.bounds;
         all_sent = more ∙ ap (λ (l : List Entry). l ++ entry.Message index (made + 1) r ∷ []) st.all_sent
-            ∙ sym (map-append (entry_of index) (kept refused (take made rs)) (numbered (made + 1) r ∷ []))
+            ∙ sym (map-append (entry_of index) (kept_records refused (take made rs)) (numbered (made + 1) r ∷ []))
             ∙ ap (map (entry_of index)) (sym (kept_more refused made rs r (none_above 0 made refused st.rising) at));
         count = omega (arith, ap length longer, length-append (take made rs) (r ∷ []), st.count);
         rising = rises_on 0 made refused st.rising;
@@ -81,7 +81,7 @@ module _ (trunk : Trunk Entry) (own : ℕ) (limits : List ℕ) (index : ℕ) (jo
       let rs : List Record = records_of job in
       let longer : take (made + 1) rs ≡ take made rs ++ r ∷ [] = take_more made rs r at in
       let low = none_above 0 made refused st.rising in
-      let long : length (sent t) ≡ length (kept refused (take made rs)) = ap length st.all_sent ∙ length-map (kept refused (take made rs)) (entry_of index) in
+      let long : length (sent t) ≡ length (kept_records refused (take made rs)) = ap length st.all_sent ∙ length-map (kept_records refused (take made rs)) (entry_of index) in
       record {
         ours = ours;
         tags = tags ∙ st.tags;
@@ -108,7 +108,7 @@ last_stage trunk given index job made t s refused part st whole ours tags bounds
       tags = tags ∙ st.tags;
       bounds = bounds ∙ st.bounds;
       all_sent = more ∙ ap (λ (l : List Entry). l ++ entry.End index ∷ [])
-          (st.all_sent ∙ ap (λ (l : List Record). map (entry_of index) (kept refused l)) all ∙ ap (λ (ns : List ℕ). map (entry_of index) (kept ns rs)) (sym refused_is));
+          (st.all_sent ∙ ap (λ (l : List Record). map (entry_of index) (kept_records refused l)) all ∙ ap (λ (ns : List ℕ). map (entry_of index) (kept_records ns rs)) (sym refused_is));
       counted = record {
         channel = channel_is;
         channel_high = channel_high;
@@ -149,7 +149,7 @@ full_alike capacity others made a b refused (n ∷ ns) same low all =
     let fewer : n - 1 ≤ made = omega (arith, low.0) in
     let is : take (n - 1) (records_of a) ≡ take (n - 1) (records_of b) =
     sym (take_take (n - 1) made (records_of a) fewer) ∙ ap (take (n - 1)) same ∙ take_take (n - 1) made (records_of b) fewer in
-    (subst (λ (rs : List Record). capacity ≤ length (kept refused rs) + others) is all.0, full_alike capacity others made a b refused ns same low.1 all.1)
+    (subst (λ (rs : List Record). capacity ≤ length (kept_records refused rs) + others) is all.0, full_alike capacity others made a b refused ns same low.1 all.1)
 
 pub so_far_alike : (trunk : Trunk Entry) (own : ℕ) (limits : List ℕ) (index : ℕ) (a b : JobState) (made : ℕ) (t : Ticket Entry) (refused : List ℕ)
     → take made (records_of a) ≡ take made (records_of b) → SoFar trunk own limits index a made t refused → SoFar trunk own limits index b made t refused
@@ -157,7 +157,7 @@ so_far_alike trunk own limits index a b made t refused same st = record {
   ours = st.ours;
   tags = st.tags;
   bounds = st.bounds;
-  all_sent = st.all_sent ∙ ap (λ (rs : List Record). map (entry_of index) (kept refused rs)) same;
+  all_sent = st.all_sent ∙ ap (λ (rs : List Record). map (entry_of index) (kept_records refused rs)) same;
   count = ap (λ (rs : List Record). length rs) (sym same) ∙ st.count;
   rising = st.rising;
   full = full_alike (capacity_of trunk) (bounds_outside own limits) made a b refused refused same (none_above 0 made refused st.rising) st.full;

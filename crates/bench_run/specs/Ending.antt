@@ -7,7 +7,7 @@ use Rattle.mil_trunk.specs.Tags.{has}
 use Rattle.mil_trunk.specs.Ends.{IsTicketOf, IsTakerOf, capacity_of, tags_of, bounds_of, bounds_in, sent, received}
 use Rattle.bench_report.specs.Reports.{ChannelPart}
 use Rattle.bench_core.specs.Lawful.{channels_of}
-use Rattle.bench_core.specs.Settled.{kept}
+use Rattle.bench_core.specs.Settled.{kept_records}
 use Rattle.bench_run.specs.declared.entry.Entry.{Entry}
 use Rattle.bench_run.specs.Entries.{index_of, entries_to_the_end}
 use Rattle.bench_run.specs.declared.ready.Shared.{Shared}
@@ -23,7 +23,7 @@ use Rattle.bench_run.specs.Live.{AreLive}
 pub record IsAll (capacity : ℕ) (jobs : List JobState) (parts : List ChannelPart) (got : List Entry) : Type 0 where
   pub counted : ArePairs (IsCountedIn capacity jobs) jobs parts
   pub own : (k : ℕ) (job : JobState) (part : ChannelPart) → slice_get jobs k ≡ Some job → slice_get parts k ≡ Some part
-      → with_tag index_of k got ≡ entries_to_the_end k (kept part.refused (records_of job))
+      → with_tag index_of k got ≡ entries_to_the_end k (kept_records part.refused (records_of job))
   pub others : (t : ℕ) → length jobs ≤ t → with_tag index_of t got ≡ []
 
 -- the same of the jobs with the posts that were placed

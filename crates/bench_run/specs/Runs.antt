@@ -20,7 +20,7 @@ use Rattle.bench_report.specs.Reports.{ChannelPart, RunReport, Rises}
 use Rattle.bench_core.specs.declared.settings.Settings.{Settings}
 use Rattle.bench_core.specs.Lawful.{format_of, channels_of, AreInRange, AreLawful}
 use Rattle.bench_core.specs.Placing.{placed_up_to}
-use Rattle.bench_core.specs.Settled.{kept}
+use Rattle.bench_core.specs.Settled.{kept_records}
 use Rattle.bench_run.specs.declared.error.RunError.{RunError}
 use Rattle.bench_run.specs.declared.error.RunError.TheVariants as fault
 
@@ -38,7 +38,7 @@ others_than channel jobs = filter (λ (j : JobState). not (j.channel == channel)
 
 -- the records of a channel, with their numbers, below the record of a number, but for the refused
 abbrev pub kept_below : ℕ → List ℕ → JobState → ℕ
-kept_below number refused job = length (kept refused (take (number - 1) (records_of job)))
+kept_below number refused job = length (kept_records refused (take (number - 1) (records_of job)))
 
 -- A job and its channel's part of the report: all of its messages were made, and the actions placed at them are the
 -- job's; the items taken of the channel are those messages, in order and once, but for the refused, and its end mark. A
@@ -50,13 +50,14 @@ pub record IsPartOf (jobs : List JobState) (s : Settings) (items : List Item) (j
   pub made : part.made ≡ length (records_of job)
   pub placed : part.placed ≡ placed_up_to part.made job.actions
   pub rising : Rises 0 part.made part.refused
-  pub taken : part_of job.channel items ≡ to_the_end job.channel (kept part.refused (records_of job))
+  pub taken : part_of job.channel items ≡ to_the_end job.channel (kept_records part.refused (records_of job))
   pub full : AllByRecursion (λ n. s.queue
       ≤ kept_below n part.refused job + most_in_all (others_than job.channel jobs)) part.refused
 
 -- what the file gives for the channel are these records
 abbrev pub IsReadAs : List Found → JobState → ChannelPart → Type 0
-IsReadAs ps job part = reading ps job.channel ≡ map as_message (messages_of (kept part.refused (records_of job)))
+IsReadAs ps job part = reading ps job.channel
+    ≡ map as_message (messages_of (kept_records part.refused (records_of job)))
 
 -- the lists are as long, and what stands at the same place belongs together
 abbrev pub ArePairs : {X Y : Type 0} → (X → Y → Type 0) → List X → List Y → Type 0

@@ -10,7 +10,7 @@ use Rattle.mil_trunk.specs.declared.trunk.Ticket.{Ticket}
 use Rattle.mil_trunk.specs.Tags.{has, bounds_outside}
 use Rattle.mil_trunk.specs.Views.{with_tag}
 use Rattle.mil_trunk.specs.Ends.{IsTicketOf, capacity_of, tags_of, bounds_of, sent}
-use Rattle.frame_asm.specs.Shapes.{code_of}
+use Rattle.frame_asm.specs.Shapes.{code_of_tree}
 use Rattle.frame_load.specs.Budget.{worst_messages}
 use Rattle.job_file.specs.Jobs.{JobState, tree_in, job_in}
 use Rattle.job_file.specs.Machines.{IsOf}
@@ -18,7 +18,7 @@ use Rattle.ch11_builder.specs.Recorded.{IsRecorded}
 use Rattle.ch11_recording.specs.Items.{numbered}
 use Rattle.bench_report.specs.Reports.{ChannelPart, Rises}
 use Rattle.bench_core.specs.Placing.{placed_up_to, IsOrdered}
-use Rattle.bench_core.specs.Settled.{kept}
+use Rattle.bench_core.specs.Settled.{kept_records}
 use Rattle.bench_run.specs.declared.entry.Entry.{Entry}
 use Rattle.bench_run.specs.declared.channel.Ended.{Ended}
 use Rattle.bench_run.specs.declared.threads.Offers.{Offers}
@@ -60,7 +60,7 @@ pub record AllOffered (trunk : Trunk Entry) (given : Ticket Entry) (index : ℕ)
   pub ours : IsTicketOf trunk t
   pub tags : tags_of t ≡ tags_of given
   pub bounds : bounds_of t ≡ bounds_of given
-  pub all_sent : sent t ≡ entries_to_the_end index (kept part.refused (records_of job))
+  pub all_sent : sent t ≡ entries_to_the_end index (kept_records part.refused (records_of job))
   pub counted : IsCounted (capacity_of trunk) (bounds_outside (tags_of given) (bounds_of given)) job part
 
 -- The thread of a job took posts from its mailbox, at most `most` of them, and offered the records of the job with
@@ -78,7 +78,7 @@ pub record SoFar (trunk : Trunk Entry) (own : ℕ) (limits : List ℕ) (index : 
   pub ours : IsTicketOf trunk t
   pub tags : tags_of t ≡ own
   pub bounds : bounds_of t ≡ limits
-  pub all_sent : sent t ≡ map (entry_of index) (kept refused (take made (records_of job)))
+  pub all_sent : sent t ≡ map (entry_of index) (kept_records refused (take made (records_of job)))
   pub count : length (take made (records_of job)) ≡ made
   pub rising : Rises 0 made refused
   pub full : AllByRecursion (λ n. capacity_of trunk ≤ kept_below n refused job + bounds_outside own limits) refused
@@ -96,7 +96,7 @@ pub record IsRoom (job : JobState) (room : Room) : Type 0 where
   pub machine : IsOf (job_in job) job.actions room.machine
   pub first : room.machine.point.number ≡ 0
   pub empty : room.refused.items ≡ []
-  pub capacity : worst_messages (code_of (tree_in job)).operations ≤ vec_capacity room.refused
+  pub capacity : worst_messages (code_of_tree (tree_in job)).operations ≤ vec_capacity room.refused
   pub ordered : room.posts.ordered.items ≡ placed_up_to 1000000 job.actions
   pub fit : IsOrdered room.posts.ordered.items
 
@@ -129,7 +129,7 @@ pub record IsEnded (capacity others index : ℕ) (job : JobState) (box : Mailbox
   pub posts : List Placed
   pub inbox : IsInboxOf box j.inbox
   pub placed : ArePlaced most j.part.made (received_by before) (received_by j.inbox) posts
-  pub own_are : own ≡ entries_to_the_end index (kept j.part.refused (records_of (with_posts job posts)))
+  pub own_are : own ≡ entries_to_the_end index (kept_records j.part.refused (records_of (with_posts job posts)))
   pub counted : IsCounted capacity others (with_posts job posts) j.part
 
 -- the same of each thread that was joined
@@ -147,4 +147,4 @@ abbrev pub AreJoined : ℕ → List Entry → List JobState → List ChannelPart
 AreJoined capacity entries jobs parts =
     (k : ℕ) (job : JobState) (part : ChannelPart) → slice_get jobs k ≡ Some job → slice_get parts k ≡ Some part
     → IsCountedIn capacity jobs job part
-    × (with_tag index_of k entries ≡ entries_to_the_end k (kept part.refused (records_of job)))
+    × (with_tag index_of k entries ≡ entries_to_the_end k (kept_records part.refused (records_of job)))

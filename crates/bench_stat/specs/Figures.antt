@@ -4,6 +4,7 @@ use Rattle.std.specs.Prelude.{◌≡◌, ◌<◌, slice_index_or, ℕ, ◌+◌, 
 use Rattle.std.specs.Prelude.{if◌then◌else◌, List, [], ◌∷◌, length, map, min, max}
 use Rattle.std.specs.List.{sum_by, count_by, filter, list_any, range_with_len}
 use Rattle.mil_word.specs.Fields.{has_bit}
+use Rattle.mil_word.specs.Timing.{word_time, contiguous_gap}
 use Rattle.ch11_header.specs.declared.header.Header.{Header}
 use Rattle.ch11_f1.specs.BodyReading.{Message}
 use Rattle.ch11_reader.specs.declared.packet.Packet.{Packet}
@@ -29,7 +30,7 @@ one_if b = if b then 1 else 0
 -- how long a message takes, in ticks: 200 a word, and what lies between its words. A gap is measured from the middle
 -- of a parity bit to the middle of a sync, which is 20 ticks where nothing lies between (4.3.3.7, 4.3.3.8).
 abbrev pub duration : Message → ℕ
-duration m = 200 * size_of m + ((first_gap m - 20) + (second_gap m - 20))
+duration m = word_time * size_of m + ((first_gap m - contiguous_gap) + (second_gap m - contiguous_gap))
 
 -- the least number of a list, or a bound
 abbrev pub least : ℕ → List ℕ → ℕ

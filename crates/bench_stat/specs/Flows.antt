@@ -2,6 +2,7 @@
 -- sync, which is 20 ticks where nothing lies between (4.3.3.7).
 use Rattle.std.specs.Prelude.{ℕ, ◌+◌, ◌-◌, ◌^◌, List, [], ◌∷◌, ◌++◌, length, Option, None, Some, min, max}
 use Rattle.std.specs.List.{count_by}
+use Rattle.mil_word.specs.Timing.{contiguous_gap}
 use Rattle.ch11_f1.specs.BodyReading.{Message}
 use Rattle.bench_stat.specs.declared.flows.Flow.{Flow}
 use Rattle.bench_stat.specs.Sendings.{is_failed}
@@ -17,7 +18,7 @@ latest_end (m ∷ earlier) = Some (end_of m)
 
 -- the gap between a message and one before it that ended then, in ticks
 abbrev pub gap_behind : ℕ → Message → ℕ
-gap_behind end m = capped (m.stamp - end + 20)
+gap_behind end m = capped (m.stamp - end + contiguous_gap)
 
 abbrev pub gap_before : Option ℕ → Message → List ℕ
 gap_before None m = []

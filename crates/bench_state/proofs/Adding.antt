@@ -1,6 +1,6 @@
 -- One more word, and one more action, behind those before it.
 use Rattle.std.proofs.Common.{◌≡◌, ℕ, zero, suc, ◌+◌, ◌<◌, List, [], ◌∷◌, ◌++◌, length, take, get_or, ap, sym, ◌∙◌, append_assoc, append-nil, arith, codes}
-use Rattle.mil_host.specs.Words.{Text}
+use Rattle.text_lines.specs.Words.{Text}
 use Rattle.mil_host.specs.Printing.{data_text}
 use Rattle.mil_terminal.specs.History.{History}
 use Rattle.bc_machine.specs.declared.placed.Placed.{Placed}

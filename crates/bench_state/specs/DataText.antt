@@ -2,7 +2,7 @@
 -- received with all other terminals (MIL-STD-1553B Notice 2 keeps them apart), and those that it would transmit.
 use Rattle.std.specs.Prelude.{ℕ, Bool, ◌&&◌, ◌==◌, nat_le, if◌then◌else◌, List, [], ◌∷◌, ◌++◌, codes, decimal}
 use Rattle.std.specs.List.{flat_map}
-use Rattle.mil_host.specs.Words.{Text}
+use Rattle.text_lines.specs.Words.{Text}
 use Rattle.mil_host.specs.Printing.{data_text}
 use Rattle.mil_terminal.specs.Station.{Station}
 use Rattle.mil_terminal.specs.Registers.{received, received_from_all, transmit_words}

@@ -2,7 +2,7 @@
 -- terminal, or three where what its host set is asked for too, or the words of one terminal.
 use Rattle.std.specs.Prelude.{ℕ, Bool, true, false, not, List, [], ◌++◌, Option, Some, None, codes, decimal}
 use Rattle.std.proofs.Common.{zero, suc}
-use Rattle.mil_host.specs.Words.{Text}
+use Rattle.text_lines.specs.Words.{Text}
 use Rattle.mil_host.specs.Printing.{data_text}
 use Rattle.mil_word.specs.declared.Line.TheVariants.{A, B}
 use Rattle.mil_terminal.specs.Station.{Station}

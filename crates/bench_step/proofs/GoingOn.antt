@@ -6,11 +6,11 @@ use Rattle.std.specs.List.{before_first}
 use Rattle.std.specs.Io.KnownBytes.{IsAtEnd}
 use Rattle.std.specs.declared.io.ErrorKind.{ErrorKind}
 use Rattle.std.specs.Io.BufRead.{take_through, drop_through, DropsThrough}
-use Rattle.mil_host.specs.Words.{Text}
+use Rattle.text_lines.specs.Words.{Text}
 use Rattle.job_file.specs.Jobs.{JobState}
 use Rattle.bench_report.specs.Reports.{ChannelPart}
-use Rattle.bench_report.specs.Spelling.{is_line_end, text_lines}
-use Rattle.bench_report.proofs.LineLemmas.{text_lines-none}
+use Rattle.text_lines.specs.Lines.{is_line_end, text_lines}
+use Rattle.text_lines.proofs.LineLemmas.{text_lines-none}
 use Rattle.replay.specs.Moves.{ReplayState}
 use Rattle.bench_step.specs.Commands.{asked}
 use Rattle.bench_step.specs.Session.{Replies, after_reply, reply_text, is_memory, is_end, MayTell, AreReplies, after_replies, AreTold, session_text, any_memory}

@@ -3,9 +3,9 @@ use Rattle.std.proofs.Common.{◌≡◌, ℕ, suc, ◌+◌, ◌<◌, [], ◌∷�
 use Rattle.std.specs.Prelude.{Bool, true, false}
 use Rattle.std.specs.List.{before_first, position_or_len}
 use Rattle.std.specs.Io.BufRead.{take_through, drop_through}
-use Rattle.mil_host.specs.Words.{Text}
-use Rattle.bench_report.specs.Spelling.{is_line_end, text_lines}
-use Rattle.bench_report.proofs.LineLemmas.{text_lines-first}
+use Rattle.text_lines.specs.Words.{Text}
+use Rattle.text_lines.specs.Lines.{is_line_end, text_lines}
+use Rattle.text_lines.proofs.LineLemmas.{text_lines-first}
 
 one_more : (n : ℕ) → 1 + n ≡ suc n
 one_more n = omega arith

@@ -5,10 +5,10 @@ use Rattle.std.specs.List.{list_any}
 use Rattle.std.specs.Io.KnownBytes.{Appends}
 use Rattle.std.specs.declared.io.ErrorKind.{ErrorKind}
 use Rattle.std.specs.declared.io.ErrorKind.TheVariants.{OutOfMemory}
-use Rattle.mil_host.specs.Words.{Text}
+use Rattle.text_lines.specs.Words.{Text}
 use Rattle.job_file.specs.Jobs.{JobState}
 use Rattle.bench_report.specs.Reports.{ChannelPart}
-use Rattle.bench_report.specs.Spelling.{text_lines}
+use Rattle.text_lines.specs.Lines.{text_lines}
 use Rattle.ch11_reader.specs.Recording.{Found, packets_in}
 use Rattle.ch11_reader.specs.Indexed.{found_in}
 use Rattle.replay.specs.Accord.{Agrees}

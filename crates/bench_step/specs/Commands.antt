@@ -3,8 +3,10 @@ use Rattle.std.specs.Prelude.{ℕ, nat_le, Bool, ◌&&◌, if◌then◌else◌, 
 use Rattle.std.specs.Prelude.{codes}
 use Rattle.std.specs.List.{before_first, after_first}
 use Rattle.std.specs.Str.{bytes_eq}
+use Rattle.text_lines.specs.Words.{behind_word}
+use Rattle.text_lines.specs.Words.{first_word}
 use Rattle.numerals.specs.Numerals.{spelled}
-use Rattle.mil_host.specs.Words.{Text, is_space, words}
+use Rattle.text_lines.specs.Words.{Text, is_space, words}
 use Rattle.frame_tree.specs.Tree.{Condition, condition_in}
 use Rattle.frame_text.specs.Conditions.{condition_of_text}
 use Rattle.frame_text.specs.declared.faults.Cause.{Cause}
@@ -52,18 +54,6 @@ pub data Asked : Type 0 where
   no_condition : Asked
   -- nothing that a line may ask
   unknown : Asked
-
--- a text from its first word on
-abbrev pub from_word : Text → Text
-from_word [] = []
-from_word (b ∷ bs) = if is_space b then from_word bs else b ∷ bs
-
--- the first word of a line, and what stands behind the space that ends it
-abbrev pub first_word : Text → Text
-first_word line = before_first is_space (from_word line)
-
-abbrev pub behind_word : Text → Text
-behind_word line = after_first is_space (from_word line)
 
 -- a command that no word follows
 abbrev pub alone : Asked → List Text → Asked

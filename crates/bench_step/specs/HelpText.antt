@@ -1,6 +1,6 @@
 -- The commands of a session as they are shown (own choice).
 use Rattle.std.specs.Prelude.{codes, ◌++◌}
-use Rattle.mil_host.specs.Words.{Text}
+use Rattle.text_lines.specs.Words.{Text}
 
 unfoldable pub help_text : Text
 help_text =

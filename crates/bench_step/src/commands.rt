@@ -1,6 +1,6 @@
 //! What a line of a session asks.
 ghost use Rattle.std.specs.Prelude.{◌≡◌, ◌≤◌, IfOk, IfSome, OnErr};
-ghost use Rattle.mil_host.specs.Words.{words};
+ghost use Rattle.text_lines.specs.Words.{words};
 ghost use Rattle.judge_rules.specs.Selectors.{selector_of};
 ghost use Rattle.std.specs.Prelude.{option_map};
 ghost use Rattle.bench_step.specs.Commands.{Asked, asked, asked_of, asked_by, alone, finding_back, finding_in};
@@ -9,16 +9,15 @@ ghost use Rattle.bench_step.specs.Commands.{of_channel, only_number, only_time, 
 ghost use Rattle.bench_step.specs.Commands.{showing, steps, telling, two_words, with_number, TakesMemory};
 
 use crate::manners::Manner;
-use crate::words::split_word;
 use bench_places::Sought;
 use bench_select::{Bound, Selector, read_bound};
 use bench_state::Detail;
 use frame_text::{ScriptError, read_cond};
 use frame_tree::Cond;
 use judge_rules::selector_of;
-use mil_host::next_word;
 use numerals::spelled;
 use std::alloc::{AllocError, Global};
+use text_lines::{next_word, split_word};
 
 /// What a line of a session asks.
 #[derive(Drop)]

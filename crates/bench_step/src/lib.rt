@@ -15,7 +15,6 @@ mod opening;
 mod replies;
 mod session;
 mod sessions;
-mod words;
 
 pub use commands::{Command, read_command};
 pub use console::Prompted;

@@ -1,7 +1,7 @@
 //! The lines of a session, one after the other.
 ghost use Rattle.std.specs.Prelude.{◌≡◌, ◌≤◌, length, IfOk, IfErr, OnOk};
 ghost use Rattle.std.specs.List.{before_first, position_or_len};
-ghost use Rattle.bench_report.specs.Spelling.{is_line_end};
+ghost use Rattle.text_lines.specs.Lines.{is_line_end};
 ghost use Rattle.bench_step.specs.Answering.{IsAllRead, IsCutShort, IsWhole, Ends};
 
 use crate::fault::StepFault;
@@ -11,27 +11,7 @@ use bench_report::Report;
 use job_file::Job;
 use std::alloc::Global;
 use std::io::{BufRead, Write};
-
-/// How many bytes stand before the first LF.
-fn line_len(text: &[u8]) -> usize
-    ensures value { result ≡ position_or_len is_line_end text.now }
-    ensures within { result ≤ length text.now }
-{
-    for (i, byte) in text.iter().enumerate() {
-        if *byte == b'\n' {
-            return i;
-        }
-    }
-    text.len()
-}
-
-/// A line without the LF that ends it, if one does.
-fn without_end(line: &[u8]) -> &[u8]
-    ensures { result.now ≡ before_first is_line_end line.now }
-{
-    let (front, _) = line.split_at(line_len(line));
-    front
-}
+use text_lines::without_end;
 
 /// Answers each line of the reader, up to its end or to a line that ends the session, and tells whether memory was
 /// refused for what one of them asks.

@@ -5,6 +5,7 @@ use Rattle.std.specs.Prelude.{◌++◌, length, take, map}
 use Rattle.mil_monitor.specs.declared.Record.{Record}
 use Rattle.ch11_header.specs.declared.header.Header.{Header}
 use Rattle.ch11_header.specs.HeaderBytes.{header_bytes}
+use Rattle.ch11_header.specs.Kinds.{bus_messages}
 use Rattle.ch11_f1.specs.BodyBytes.{words_of, body_bytes}
 
 -- a recorded message, and its number in its channel: the first that was sent there has number 1
@@ -59,7 +60,7 @@ header_of c place before ns = record {
   version = c.version;
   sequence = place % 256;
   flags = if has_gap before ns then 0x10 else 0;
-  kind = 0x19;
+  kind = bus_messages;
   counter = first_stamp ns;
 }
 

@@ -6,9 +6,9 @@ use Rattle.ch11_builder.specs.declared.builder.Pushed.{Pushed}
 use Rattle.ch11_builder.specs.declared.builder.Pushed.TheVariants.{Kept, Closed}
 
 -- a packet is closed exactly where it cannot hold the record too, and it is the packet of the records before
-abbrev pub Answers : Held → Numbered → Pushed → Type 0
-Answers s n Kept = fits s n ≡ true
-Answers s n (Closed bytes) = (fits s n ≡ false) × (bytes.now ≡ packet_of s)
+abbrev pub ClosesWhereFull : Held → Numbered → Pushed → Type 0
+ClosesWhereFull s n Kept = fits s n ≡ true
+ClosesWhereFull s n (Closed bytes) = (fits s n ≡ false) × (bytes.now ≡ packet_of s)
 
 -- a packet has at most 524,288 bytes
 abbrev pub IsSmall : Pushed → Type 0

@@ -6,7 +6,7 @@ ghost use Rattle.std.specs.Io.BufRead.{Rests};
 ghost use Rattle.ch11_builder.specs.Cutting.{is_empty};
 ghost use Rattle.ch11_builder.specs.Held.{Held, fresh, pushed, closed, packet_of, latest_number};
 
-use crate::fault::BuilderError;
+use crate::error::BuilderError;
 use crate::packing::Packing;
 use mil_monitor::Record;
 use std::alloc::Global;
@@ -38,7 +38,7 @@ impl Model for Builder {
 
 impl Builder {
     ghost use Rattle.ch11_builder.specs.contracts.builder.Builder.{the_row};
-    ghost use Rattle.ch11_builder.specs.Pushing.{Answers, IsSmall};
+    ghost use Rattle.ch11_builder.specs.Pushing.{ClosesWhereFull, IsSmall};
 
     /// A builder for the packets of a channel, each of at most `limit` bytes. G1 where the limit is outside 256 to
     /// 524,288, then G2 where memory is refused.
@@ -66,7 +66,7 @@ impl Builder {
         requires stamp { message.now.stamp < 2 ^ 48 }
         ensures* after { sem 𝓛 (Rests the_row self.entry
             (λ b. b ≡ pushed self.old (record { number = number; message = message.now }))) }
-        ensures answer { Answers self.old (record { number = number; message = message.now }) result }
+        ensures answer { ClosesWhereFull self.old (record { number = number; message = message.now }) result }
         ensures small { IsSmall result }
     {
         if self.packing.advance(number, message) {

@@ -3,12 +3,12 @@
 #![tactic(auto)]
 
 mod builder;
-mod fault;
+mod error;
 mod laws;
 mod log;
 mod packing;
 mod sealing;
 
 pub use builder::{Builder, Pushed};
-pub use fault::BuilderError;
+pub use error::BuilderError;
 pub use laws::{cutting_is_one, packet_is_read_again, run_gives_the_packets};

@@ -6,7 +6,7 @@ ghost use Rattle.ch11_builder.specs.Cutting.{is_empty};
 ghost use Rattle.ch11_builder.specs.Held.{Held, fresh, fits, pushed, closed, with_record, packet_of, latest_number};
 ghost use Rattle.ch11_builder.specs.Built.{State};
 
-use crate::fault::BuilderError;
+use crate::error::BuilderError;
 use crate::log::{Link, Log, log_of};
 use crate::sealing::{FIRST_MESSAGE, padded, put_behind, seal};
 use ch11_f1::RECORD_HEAD;

@@ -1,11 +1,11 @@
 -- The letters of a header's faults (own choice).
 use Rattle.std.specs.Prelude.{ℕ, List, codes}
-use Rattle.ch11_header.specs.declared.fault.HeaderError.{HeaderError}
-use Rattle.ch11_header.specs.declared.fault.HeaderError.TheVariants.{Short, Sync, Checksum, PacketLength, DataLength}
+use Rattle.ch11_header.specs.declared.error.HeaderError.{HeaderError}
+use Rattle.ch11_header.specs.declared.error.HeaderError.TheVariants.{Short, Sync, Checksum, PacketLength, DataLength}
 
-abbrev pub code_of : HeaderError → List ℕ
-code_of Short = codes "K1"
-code_of Sync = codes "K2"
-code_of Checksum = codes "K3"
-code_of PacketLength = codes "K4"
-code_of DataLength = codes "K5"
+abbrev pub fault_code : HeaderError → List ℕ
+fault_code Short = codes "K1"
+fault_code Sync = codes "K2"
+fault_code Checksum = codes "K3"
+fault_code PacketLength = codes "K4"
+fault_code DataLength = codes "K5"

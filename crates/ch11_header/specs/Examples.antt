@@ -2,7 +2,7 @@
 -- of a setup record.
 use Rattle.std.specs.Prelude.{◌≡◌, ℕ, List, [], ◌∷◌, Ok, Err, take, refl}
 use Rattle.ch11_header.specs.declared.header.Header.{Header}
-use Rattle.ch11_header.specs.declared.fault.HeaderError.TheVariants.{Short}
+use Rattle.ch11_header.specs.declared.error.HeaderError.TheVariants.{Short}
 use Rattle.ch11_header.specs.HeaderBytes.{word_sum, header_sum, summed_bytes, header_bytes}
 use Rattle.ch11_header.specs.HeaderReading.{with_lawful_lengths, fields_of, header_in}
 

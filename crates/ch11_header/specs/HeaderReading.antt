@@ -2,8 +2,8 @@
 use Rattle.std.specs.Prelude.{ℕ, ◌+◌, ◌%◌, ◌==◌, Bool, not, ◌&&◌, nat_lt, nat_le, if◌then◌else◌, List, length}
 use Rattle.std.specs.Prelude.{slice_index, Result, Ok, Err}
 use Rattle.ch11_header.specs.declared.header.Header.{Header}
-use Rattle.ch11_header.specs.declared.fault.HeaderError.{HeaderError}
-use Rattle.ch11_header.specs.declared.fault.HeaderError.TheVariants.{Short, Sync, Checksum, PacketLength, DataLength}
+use Rattle.ch11_header.specs.declared.error.HeaderError.{HeaderError}
+use Rattle.ch11_header.specs.declared.error.HeaderError.TheVariants.{Short, Sync, Checksum, PacketLength, DataLength}
 use Rattle.ch11_header.specs.HeaderBytes.{number_at, header_sum}
 
 -- bit 7 of the flags, the highest: a secondary header of twelve bytes follows the header

@@ -2,3 +2,4 @@ pub mod HeaderBytes
 pub mod HeaderReading
 pub mod Examples
 pub mod Codes
+pub mod Kinds

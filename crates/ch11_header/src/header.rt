@@ -3,7 +3,7 @@ ghost use Rattle.std.specs.Prelude.{◌≡◌, ◌+◌, ◌<◌, ◌≤◌, ◌^
 ghost use Rattle.ch11_header.specs.HeaderBytes.{header_bytes, header_sum};
 ghost use Rattle.ch11_header.specs.HeaderReading.{body_start, header_in, with_lawful_lengths};
 
-use crate::fault::HeaderError;
+use crate::error::HeaderError;
 use byteorder::{ByteOrder, LittleEndian};
 
 /// The sync pattern that begins a packet, the bytes 25 EB as a number.

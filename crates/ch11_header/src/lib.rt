@@ -2,11 +2,11 @@
 //! (IRIG 106-17 Chapter 11, packet header). All numbers are little-endian.
 #![tactic(auto)]
 
-mod fault;
+mod error;
 mod header;
 mod laws;
 
-pub use fault::HeaderError;
+pub use error::HeaderError;
 pub use header::{HEADER_SIZE, Header, SYNC, read_header, write_header};
 pub use laws::written_is_read;
 

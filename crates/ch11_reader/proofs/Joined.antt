@@ -5,13 +5,13 @@ use Rattle.std.proofs.lemmas.Bool.{le-ltb, ltb-false, leb-true}
 use Rattle.std.proofs.lemmas.List.{drop-append-le, take-append-le, get_or_append_left, length-append, length-drop}
 use Rattle.byteorder.specs.Endian.{little_from}
 use Rattle.ch11_header.specs.declared.header.Header.{Header}
-use Rattle.ch11_header.specs.declared.fault.HeaderError.{HeaderError}
+use Rattle.ch11_header.specs.declared.error.HeaderError.{HeaderError}
 use Rattle.ch11_header.specs.HeaderBytes.{number_at, word_sum, header_sum}
 use Rattle.ch11_header.specs.HeaderReading.{header_in, fields_of, with_lawful_lengths, is_packet_length, has_room, body_start}
-use Rattle.ch11_f1.specs.declared.fault.BodyError.{BodyError}
+use Rattle.ch11_f1.specs.declared.error.BodyError.{BodyError}
 use Rattle.ch11_f1.specs.BodyReading.{Message, messages_in}
-use Rattle.ch11_reader.specs.declared.fault.Fault.{Fault}
-use Rattle.ch11_reader.specs.declared.fault.Refusal.{Refusal}
+use Rattle.ch11_reader.specs.declared.error.Fault.{Fault}
+use Rattle.ch11_reader.specs.declared.error.Refusal.{Refusal}
 use Rattle.ch11_reader.specs.Recording.{Found, holds_messages, body_of, messages_of, with_body, with_rest, with_header, packet_at, packets_from, packets_in, located, ◌>>=◌}
 use Rattle.ch11_reader.specs.Joined.{later}
 

@@ -4,8 +4,8 @@ use Rattle.std.proofs.lemmas.Bool.{cases_eq, ne_eqb}
 use Rattle.std.proofs.lemmas.List.{append-nil, length-drop, length-set, length-replicate, drop-drop, get_or-replicate, get_or-set_same, get_or-set_other, map_push}
 use Rattle.ch11_header.specs.HeaderReading.{body_start}
 use Rattle.ch11_header.specs.declared.header.Header.{Header}
-use Rattle.ch11_reader.specs.declared.fault.Fault.{Fault}
-use Rattle.ch11_reader.specs.declared.fault.Refusal.{Refusal}
+use Rattle.ch11_reader.specs.declared.error.Fault.{Fault}
+use Rattle.ch11_reader.specs.declared.error.Refusal.{Refusal}
 use Rattle.ch11_reader.specs.declared.packet.Packet.{Packet}
 use Rattle.ch11_reader.specs.Recording.{◌>>=◌, Found, messages_of, packet_at, packets_from, packets_in}
 use Rattle.ch11_reader.specs.Contents.{total_in}

@@ -1,7 +1,7 @@
 -- Recordings with no packet of MIL-STD-1553 messages, as their packets are read one after the other.
 use Rattle.std.proofs.Common.{◌≡◌, ℕ, ◌-◌, true, false, List, [], ◌∷◌, length, Result, Ok, Err, sym, ◌∙◌, subst}
 use Rattle.std.specs.List.{AllByRecursion}
-use Rattle.ch11_reader.specs.declared.fault.Refusal.{Refusal}
+use Rattle.ch11_reader.specs.declared.error.Refusal.{Refusal}
 use Rattle.ch11_reader.specs.Recording.{Found, HoldsNoMessages, holds_messages, packets_from, packets_in}
 use Rattle.ch11_reader.proofs.Loop.{Going, in_order, behind, ends}
 

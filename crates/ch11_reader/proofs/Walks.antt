@@ -6,15 +6,15 @@ use Rattle.std.proofs.lemmas.Bool.{cases_eq, le-ltb, lt-ltb}
 use Rattle.std.proofs.lemmas.List.{drop-drop, drop-take, take-append-drop, length-drop, length-take-le, length-set, length-replicate, get_or-replicate, get_or-set_same, get_or-set_other}
 use Rattle.std.proofs.lemmas.Option.{slice_get_within, slice_get-get_or, get_or_from_slice_get, unwrap_or-slice_get}
 use Rattle.byteorder.specs.Endian.{little_number}
-use Rattle.ch11_f1.specs.declared.fault.BodyError.{BodyError}
-use Rattle.ch11_f1.specs.declared.fault.BodyError.TheVariants.{Odd, End}
+use Rattle.ch11_f1.specs.declared.error.BodyError.{BodyError}
+use Rattle.ch11_f1.specs.declared.error.BodyError.TheVariants.{Odd, End}
 use Rattle.ch11_f1.specs.BodyReading.{◌>>=◌, Message, number_at, message_at, messages_at, messages_in, count_in}
 use Rattle.ch11_header.specs.declared.header.Header.{Header}
 use Rattle.ch11_header.specs.HeaderReading.{header_in, body_start}
-use Rattle.ch11_reader.specs.declared.fault.Fault.TheVariants as faults
+use Rattle.ch11_reader.specs.declared.error.Fault.TheVariants as faults
 use Rattle.ch11_reader.specs.Recording.{holds_messages, body_of, packet_at}
 use Rattle.ch11_reader.specs.declared.jumps.Jump.{Jump}
-use Rattle.ch11_reader.specs.Walking.{between, verdict, no_jump, Leads, IsJump, AreJumps, IsRest}
+use Rattle.ch11_reader.specs.Walking.{between, body_verdict, no_jump, Leads, IsJump, AreJumps, IsRest}
 use Rattle.ch11_reader.proofs.Joined.{number_front}
 
 -- ---- ways one behind the other
@@ -56,11 +56,11 @@ splits : (size : ℕ) (bytes : List ℕ) → ltb (length bytes) 14 ≡ false →
 unfolding message_at
 splits size bytes long is even fits = rw (long, is, even, fits) refl
 
-verdict_cons : (m : Message) (read : Result (List Message) BodyError) → verdict (read >>= λ others. Ok (m ∷ others)) ≡ verdict read
+verdict_cons : (m : Message) (read : Result (List Message) BodyError) → body_verdict (read >>= λ others. Ok (m ∷ others)) ≡ body_verdict read
 verdict_cons m (Ok ms) = refl
 verdict_cons m (Err e) = refl
 
-one_past : (left : ℕ) (m : Message) (bytes after : List ℕ) → message_at bytes ≡ Ok (m, after) → verdict (messages_at (suc left) bytes) ≡ verdict (messages_at left after)
+one_past : (left : ℕ) (m : Message) (bytes after : List ℕ) → message_at bytes ≡ Ok (m, after) → body_verdict (messages_at (suc left) bytes) ≡ body_verdict (messages_at left after)
 unfolding messages_at
 one_past left m bytes after is = rw is (verdict_cons m (messages_at left after))
 
@@ -73,7 +73,7 @@ leads_one file place size is even end left after within =
     let split = splits size bytes (le-ltb (length bytes) 14 (omega (arith, after, long))) known even (le-ltb (length bytes) (14 + size) (omega (arith, after, long))) in
     let behind : drop size (drop 14 bytes) ≡ between (place + (14 + size)) end file = drop-drop size 14 bytes ∙ behind_between place (14 + size) end file after in
     let count : 1 + left ≡ suc left = omega arith in
-    rw count (one_past left (message_with size bytes) bytes (drop size (drop 14 bytes)) split) ∙ ap (λ (rest : List ℕ). verdict (messages_at left rest)) behind
+    rw count (one_past left (message_with size bytes) bytes (drop size (drop 14 bytes)) split) ∙ ap (λ (rest : List ℕ). body_verdict (messages_at left rest)) behind
 
 -- ---- the faults of a message
 
@@ -104,16 +104,16 @@ cut_in_words file place end size long within is even short =
     rw (test, known, even, cut) refl
 
 -- a fault of the first message is that of all
-pub first_fault : (left : ℕ) (bytes : List ℕ) (e : BodyError) → 0 < left → message_at bytes ≡ Err e → verdict (messages_at left bytes) ≡ Err e
+pub first_fault : (left : ℕ) (bytes : List ℕ) (e : BodyError) → 0 < left → message_at bytes ≡ Err e → body_verdict (messages_at left bytes) ≡ Err e
 unfolding messages_at
 first_fault zero bytes e some is = absurd (omega arith)
 first_fault (suc left) bytes e some is = rw is refl
 
-err_of : (read : Result (List Message) BodyError) (e : BodyError) → verdict read ≡ Err e → read ≡ Err e
+err_of : (read : Result (List Message) BodyError) (e : BodyError) → body_verdict read ≡ Err e → read ≡ Err e
 err_of (Ok ms) e is = absurd cc
 err_of (Err d) e is = cc
 
-pub fault_of_all : (count left : ℕ) (bytes rest : List ℕ) (e : BodyError) → verdict (messages_at left rest) ≡ verdict (messages_at count bytes) → 0 < left → message_at rest ≡ Err e → messages_at count bytes ≡ Err e
+pub fault_of_all : (count left : ℕ) (bytes rest : List ℕ) (e : BodyError) → body_verdict (messages_at left rest) ≡ body_verdict (messages_at count bytes) → 0 < left → message_at rest ≡ Err e → messages_at count bytes ≡ Err e
 fault_of_all count left bytes rest e so_far some is = err_of (messages_at count bytes) e (sym so_far ∙ first_fault left rest e some is)
 
 -- ---- tables of jumps
@@ -162,10 +162,10 @@ one_jump file place next order one = let goal : next ≡ place + (next - place) 
 
 -- a step of a walk to an end
 pub walks_on : (file : List ℕ) (place goal end left count : ℕ) (all : Result ℕ BodyError) → goal ≤ end → end ≤ length file → count ≤ left → Leads file place count goal
-    → verdict (messages_at left (between place end file)) ≡ all → verdict (messages_at (left - count) (between goal end file)) ≡ all
+    → body_verdict (messages_at left (between place end file)) ≡ all → body_verdict (messages_at (left - count) (between goal end file)) ≡ all
 walks_on file place goal end left count all order within few leads so_far =
     let split : count + (left - count) ≡ left = omega (arith, few) in
-    sym (leads end (left - count) order within) ∙ ap (λ (n : ℕ). verdict (messages_at n (between place end file))) split ∙ so_far
+    sym (leads end (left - count) order within) ∙ ap (λ (n : ℕ). body_verdict (messages_at n (between place end file))) split ∙ so_far
 
 -- the jump of a table at a place, even or odd
 pub even_jump : (file : List ℕ) (place : ℕ) (jumps : List Jump) → place % 2 ≡ 0 → AreJumps file 0 jumps → IsJump file place (get_or jumps (place / 2) no_jump)

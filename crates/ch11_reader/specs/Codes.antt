@@ -2,19 +2,19 @@
 use Rattle.std.specs.Prelude.{ℕ, List, ◌++◌, codes, decimal}
 use Rattle.ch11_header.specs.Codes as headers
 use Rattle.ch11_f1.specs.Codes as bodies
-use Rattle.ch11_reader.specs.declared.fault.Fault.{Fault}
-use Rattle.ch11_reader.specs.declared.fault.Fault.TheVariants.{Header, End, Body}
-use Rattle.ch11_reader.specs.declared.fault.Refusal.{Refusal}
-use Rattle.ch11_reader.specs.declared.fault.ReadError.{ReadError}
-use Rattle.ch11_reader.specs.declared.fault.ReadError.TheVariants.{Refused, Memory}
+use Rattle.ch11_reader.specs.declared.error.Fault.{Fault}
+use Rattle.ch11_reader.specs.declared.error.Fault.TheVariants.{Header, End, Body}
+use Rattle.ch11_reader.specs.declared.error.Refusal.{Refusal}
+use Rattle.ch11_reader.specs.declared.error.ReadError.{ReadError}
+use Rattle.ch11_reader.specs.declared.error.ReadError.TheVariants.{Refused, Memory}
 
-abbrev pub code_of : Fault → List ℕ
-code_of (Header fault) = headers.code_of fault
-code_of End = codes "N2"
-code_of (Body fault) = bodies.code_of fault
+abbrev pub fault_code : Fault → List ℕ
+fault_code (Header fault) = headers.fault_code fault
+fault_code End = codes "N2"
+fault_code (Body fault) = bodies.fault_code fault
 
 abbrev pub refusal_text : Refusal → List ℕ
-refusal_text r = code_of r.fault ++ (codes " offset " ++ decimal r.offset)
+refusal_text r = fault_code r.fault ++ (codes " offset " ++ decimal r.offset)
 
 abbrev pub error_text : ReadError → List ℕ
 error_text (Refused r) = refusal_text r

@@ -4,15 +4,16 @@ use Rattle.std.specs.Prelude.{◌≡◌, ℕ, zero, suc, ◌+◌, ◌==◌, Bool
 use Rattle.std.specs.Prelude.{take, drop, Result, Ok, Err}
 use Rattle.std.specs.List.{AllByRecursion}
 use Rattle.ch11_header.specs.declared.header.Header.{Header}
-use Rattle.ch11_header.specs.declared.fault.HeaderError.{HeaderError}
+use Rattle.ch11_header.specs.declared.error.HeaderError.{HeaderError}
 use Rattle.ch11_header.specs.HeaderReading.{header_in, body_start}
-use Rattle.ch11_f1.specs.declared.fault.BodyError.{BodyError}
+use Rattle.ch11_header.specs.Kinds.{bus_messages}
+use Rattle.ch11_f1.specs.declared.error.BodyError.{BodyError}
 use Rattle.ch11_f1.specs.BodyReading.{Message, messages_in, ok_or_none}
-use Rattle.ch11_reader.specs.declared.fault.Fault.{Fault}
-use Rattle.ch11_reader.specs.declared.fault.Fault.TheVariants as faults
-use Rattle.ch11_reader.specs.declared.fault.Refusal.{Refusal}
-use Rattle.ch11_reader.specs.declared.fault.ReadError.{ReadError}
-use Rattle.ch11_reader.specs.declared.fault.ReadError.TheVariants as errors
+use Rattle.ch11_reader.specs.declared.error.Fault.{Fault}
+use Rattle.ch11_reader.specs.declared.error.Fault.TheVariants as faults
+use Rattle.ch11_reader.specs.declared.error.Refusal.{Refusal}
+use Rattle.ch11_reader.specs.declared.error.ReadError.{ReadError}
+use Rattle.ch11_reader.specs.declared.error.ReadError.TheVariants as errors
 
 -- a packet as it stands in a recording: where it begins, what its header says, and its messages
 pub record Found : Type 0 where
@@ -22,7 +23,7 @@ pub record Found : Type 0 where
 
 -- the packet holds MIL-STD-1553 messages, Format 1
 abbrev pub holds_messages : Header → Bool
-holds_messages h = h.kind == 0x19
+holds_messages h = h.kind == bus_messages
 
 -- the body of the packet that begins these bytes, without its filler
 abbrev pub body_of : Header → List ℕ → List ℕ

@@ -1,12 +1,12 @@
 //! One pass over the bytes of a recording.
 ghost use Rattle.std.specs.Prelude.{◌≡◌, length, replicate, vec_len, slice_index_or, slice_set, IfOk, IfErr, None};
 ghost use Rattle.std.specs.Prelude.{Some, Ok, Err};
-ghost use Rattle.ch11_reader.specs.declared.fault.ReadError.TheVariants.{Refused};
-ghost use Rattle.ch11_reader.specs.declared.fault.Refusal.{Refusal};
+ghost use Rattle.ch11_reader.specs.declared.error.ReadError.TheVariants.{Refused};
+ghost use Rattle.ch11_reader.specs.declared.error.Refusal.{Refusal};
 ghost use Rattle.ch11_reader.specs.Recording.{Gives, packets_in};
 ghost use Rattle.ch11_reader.specs.Listing.{jumps};
 
-use crate::fault::{ReadError, Refusal};
+use crate::error::{ReadError, Refusal};
 use crate::index::Index;
 use crate::packet::{Packet, check_packet};
 use std::alloc::{AllocError, Global};

@@ -5,11 +5,11 @@ ghost use Rattle.ch11_reader.specs.Recording.{Found, Gives, packets_in};
 ghost use Rattle.ch11_reader.specs.Contents.{message_numbered, reading, total_in};
 ghost use Rattle.ch11_reader.specs.Listing.{listing};
 ghost use Rattle.ch11_reader.specs.Skipping.{packets_read, skips_in};
-ghost use Rattle.ch11_reader.specs.declared.fault.ReadError.TheVariants.{Memory};
+ghost use Rattle.ch11_reader.specs.declared.error.ReadError.TheVariants.{Memory};
 
 use crate::build::{fault_or_memory, read_packets};
 use crate::channel::ChannelMessages;
-use crate::fault::ReadError;
+use crate::error::ReadError;
 use crate::packet::{Packet, message_in_packet, messages_in_packet};
 use crate::search::packet_with;
 use crate::skipping::{SkippingIndex, read_skipping};

@@ -5,7 +5,7 @@ ghost use Rattle.ch11_reader.specs.Recording.{messages_of, packet_at};
 ghost use Rattle.ch11_reader.specs.Skipping.{bytes_before};
 ghost use Rattle.ch11_reader.specs.Walking.{IsRest};
 
-use crate::fault::Fault;
+use crate::error::Fault;
 use crate::jumps::Jumps;
 use crate::packet::{Checked, MESSAGES_KIND, check_packet};
 use byteorder::{ByteOrder, LittleEndian};

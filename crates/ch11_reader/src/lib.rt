@@ -4,7 +4,7 @@
 
 mod build;
 mod channel;
-mod fault;
+mod error;
 mod index;
 mod judge;
 mod jumps;
@@ -16,7 +16,7 @@ mod skip;
 mod skipping;
 
 pub use channel::ChannelMessages;
-pub use fault::{Fault, ReadError, Refusal};
+pub use error::{Fault, ReadError, Refusal};
 pub use index::Index;
 pub use laws::{nothing_sound_is_skipped, recordings_join};
 pub use others::holds_no_messages;

@@ -4,7 +4,7 @@ ghost use Rattle.ch11_f1.specs.Views.{message_of};
 ghost use Rattle.ch11_header.specs.HeaderReading.{body_start};
 ghost use Rattle.ch11_reader.specs.Recording.{messages_of, packet_at};
 
-use crate::fault::Fault;
+use crate::error::Fault;
 use ch11_f1::body::messages;
 use ch11_f1::{Messages, Seen};
 use ch11_header::{Header, read_header};

@@ -1,6 +1,6 @@
 //! Bytes of a damaged recording that are no packet.
 
-use crate::fault::Fault;
+use crate::error::Fault;
 
 /// Bytes that were skipped: no packet without a fault begins at any of them.
 #[derive(Clone, Copy, Debug, PartialEq, Eq)]

@@ -1,10 +1,10 @@
 //! A recording read as far as it is sound.
 ghost use Rattle.std.specs.Prelude.{◌≡◌, length, IfOk, IfErr};
-ghost use Rattle.ch11_reader.specs.declared.fault.ReadError.TheVariants.{Memory};
+ghost use Rattle.ch11_reader.specs.declared.error.ReadError.TheVariants.{Memory};
 ghost use Rattle.ch11_reader.specs.Skipping.{packets_read, skips_in};
 
 use crate::build::{no_sequences, note_sequence};
-use crate::fault::ReadError;
+use crate::error::ReadError;
 use crate::index::Index;
 use crate::judge::Judge;
 use crate::packet::Packet;

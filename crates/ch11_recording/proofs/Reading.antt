@@ -14,7 +14,7 @@ use Rattle.ch11_reader.specs.Joined.{later, RecordingsJoin, OthersAreSilent}
 use Rattle.ch11_recording.specs.declared.item.Item.{Item}
 use Rattle.ch11_recording.specs.Items.{channel_of}
 use Rattle.ch11_recording.specs.WrittenFile.{Format, channel_in, concerns, closes, held_in, closing, written_file, closed_records}
-use Rattle.ch11_recording.specs.Laws.{IsFormat, IsPrologue, IsItem, Reads}
+use Rattle.ch11_recording.specs.Laws.{IsFormat, IsPrologue, IsItem, ReadsBack}
 use Rattle.ch11_recording.proofs.Growth.{file_more, closed_more}
 use Rattle.ch11_recording.proofs.Kept.{items_channel}
 use Rattle.ch11_recording.proofs.Packets.{IsGood, held_is_good, closing_is_piece, found, closed_is_read}
@@ -94,7 +94,7 @@ module _ (size : PacketHasItsLength) (header : HeaderIsReadAgain) (messages : Me
   abbrev file : List Item → List ℕ
   file items = written_file f prologue items
 
-  reads_none : (items : List Item) (x : Item) → closes (held_in f (channel_of x) items) x ≡ false → Reads f prologue items → Reads f prologue (items ++ x ∷ [])
+  reads_none : (items : List Item) (x : Item) → closes (held_in f (channel_of x) items) x ≡ false → ReadsBack f prologue items → ReadsBack f prologue (items ++ x ∷ [])
   reads_none items x is reads = (
     reads.0,
     ap packets_in (file_more f prologue items x ∙ ap (λ (bytes : List ℕ). file items ++ bytes) (closing_none (held_in f (channel_of x) items) x is) ∙ append-nil (file items)) ∙ reads.1,
@@ -105,7 +105,7 @@ module _ (size : PacketHasItsLength) (header : HeaderIsReadAgain) (messages : Me
   )
 
   reads_one : (items : List Item) (x : Item) → closes (held_in f (channel_of x) items) x ≡ true → AllByRecursion IsItem items → IsItem x
-      → Reads f prologue items → Reads f prologue (items ++ x ∷ [])
+      → ReadsBack f prologue items → ReadsBack f prologue (items ++ x ∷ [])
   reads_one items x is all last reads =
       let h : Held = held_in f (channel_of x) items in
       let fine : IsGood h = held_is_good f (channel_of x) items good last.0 all in
@@ -121,7 +121,7 @@ module _ (size : PacketHasItsLength) (header : HeaderIsReadAgain) (messages : Me
       )
 
   reads_more : (items : List Item) (x : Item) (b : Bool) → closes (held_in f (channel_of x) items) x ≡ b → AllByRecursion IsItem items → IsItem x
-      → Reads f prologue items → Reads f prologue (items ++ x ∷ [])
+      → ReadsBack f prologue items → ReadsBack f prologue (items ++ x ∷ [])
   reads_more items x true is all last reads = reads_one items x is all last reads
   reads_more items x false is all last reads = reads_none items x is reads
 
@@ -129,7 +129,7 @@ module _ (size : PacketHasItsLength) (header : HeaderIsReadAgain) (messages : Me
   all_more [] x all last = (last, tt)
   all_more (y ∷ items) x all last = (all.0, all_more items x all.1 last)
 
-  reads_all : (earlier items : List Item) → AllByRecursion IsItem earlier → AllByRecursion IsItem items → Reads f prologue earlier → Reads f prologue (earlier ++ items)
+  reads_all : (earlier items : List Item) → AllByRecursion IsItem earlier → AllByRecursion IsItem items → ReadsBack f prologue earlier → ReadsBack f prologue (earlier ++ items)
   reads_all earlier [] before all reads = rw (append-nil earlier) reads
   reads_all earlier (x ∷ items) before all reads =
       rw (← append_assoc earlier (x ∷ []) items)
@@ -142,7 +142,7 @@ module _ (size : PacketHasItsLength) (header : HeaderIsReadAgain) (messages : Me
   none_heard (p ∷ ps) channel quiet others =
       rw (quiet.0 others.0, none_heard ps channel quiet.1 others.1) (either_way (eqb p.header.channel channel) [])
 
-  pub recording_is_read : (items : List Item) → IsPrologue prologue → AllByRecursion IsItem items → Reads f prologue items
+  pub recording_is_read : (items : List Item) → IsPrologue prologue → AllByRecursion IsItem items → ReadsBack f prologue items
   recording_is_read items is all =
       reads_all [] items tt all
       (is.0, ap packets_in (file_is_prologue f prologue) ∙ is.1, λ (channel : ℕ). none_heard is.0 channel (silent prologue is.0 is.1) is.2)

@@ -28,8 +28,8 @@ abbrev pub IsItem : Item → Type 0
 IsItem x = (channel_of x < 2 ^ 16) × AllByRecursion IsRecorded (record_in x)
 
 -- the file is readable, and the reading of each channel is the records of its closed packets
-abbrev pub Reads : Format → List ℕ → List Item → Type 0
-Reads f prologue items =
+abbrev pub ReadsBack : Format → List ℕ → List Item → Type 0
+ReadsBack f prologue items =
     (ps : List Found) × (packets_in (written_file f prologue items) ≡ Ok ps)
     × ((channel : ℕ) → reading ps channel ≡ map as_message (messages_of (closed_records f channel items)))
 
@@ -38,7 +38,7 @@ abbrev pub RecordingIsRead : Type 0
 RecordingIsRead =
     (f : Format) (prologue : List ℕ) (items : List Item) → IsFormat f → IsPrologue prologue
     → AllByRecursion IsItem items
-    → Reads f prologue items
+    → ReadsBack f prologue items
 
 -- A channel's records are those of its closed packets, and then those of its open one.
 abbrev pub RecordsAreKept : Type 0

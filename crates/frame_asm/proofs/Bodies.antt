@@ -3,7 +3,7 @@ use Rattle.std.proofs.Common.{◌≡◌, ℕ, suc, ◌+◌, ◌*◌, true, List,
 use Rattle.std.specs.Prelude.{slice_get}
 use Rattle.mil_message.specs.World.{World, Point, now_at, paced_to}
 use Rattle.frame_tree.specs.Tree.{Tree, send, retry, gap, repeat, choose, until, timed, nothing, chained, call, define}
-use Rattle.frame_tree.specs.Names.{Scope, named, is_known}
+use Rattle.frame_tree.specs.Names.{Scope, meant_by, is_known}
 use Rattle.frame_tree.specs.Expansion.{expanded}
 use Rattle.frame_tree.specs.Meaning.{condition_meaning, held, plain_meaning}
 use Rattle.frame_tree.specs.Bounds.{IsInRange, CallsKnown}
@@ -47,7 +47,7 @@ module _ {State Outcome : Type 0} (w : World State Outcome) (code : Code) where
 
   -- each name in scope is that of such a routine
   abbrev pub AreThere : Scope ℕ → Scope Tree → Type 0
-  AreThere rs ds = (n : List ℕ) → is_known rs n ≡ true → Routine (named 0 rs n) (named nothing ds n)
+  AreThere rs ds = (n : List ℕ) → is_known rs n ≡ true → Routine (meant_by 0 rs n) (meant_by nothing ds n)
 
   module _ (rs : Scope ℕ) (ds : Scope Tree) (there : AreThere rs ds) where
     pub tree_runs : (t : Tree) (i m : ℕ) (is fs cs : List ℕ) (p : Point State Outcome) → IsInRange t → CallsKnown rs t → HasAt code.operations i (shape rs i m t) → HasAt code.messages m (messages_of t)
@@ -99,5 +99,5 @@ module _ {State Outcome : Type 0} (w : World State Outcome) (code : Code) where
         (both_do w code is fs i (i + size a) (i + size a + size b) cs cs cs f l0 p _ _
         (tree_runs a i m is fs cs p c.0 q.0 (has_front code.operations i (shape rs i m a) _ h) (has_front code.messages m (messages_of a) (messages_of b) g) f l0)
         (tree_runs b (i + size a) (m + entries a) is fs cs _ c.1 q.1 (has_back code.operations i (i + size a) (shape rs i m a) _ (ap (λ z. i + z) (length_shape a rs i m)) h) (has_back code.messages m (m + entries a) (messages_of a) (messages_of b) (ap (λ z. m + z) (length_messages_of a)) g)))
-    tree_runs (call n) i m is fs cs p c q h g f l0 = call_runs (named 0 rs n) i (named nothing ds n) is fs cs p (there n q) h.0 f l0
+    tree_runs (call n) i m is fs cs p c q h g f l0 = call_runs (meant_by 0 rs n) i (meant_by nothing ds n) is fs cs p (there n q) h.0 f l0
     tree_runs (define n b r) i m is fs cs p c q h g f l0 = absurd q

@@ -2,7 +2,7 @@
 use Rattle.std.proofs.Common.{Bool, true, false, ◌≡◌, ℕ, ◌+◌, ◌≤◌, max, List, [], ◌∷◌, subst, arith}
 use Rattle.std.specs.Prelude.{if◌then◌else◌}
 use Rattle.frame_tree.specs.Tree.{Tree, send, retry, gap, repeat, choose, until, timed, nothing, chained, call, define}
-use Rattle.frame_tree.specs.Names.{Scope, same, named}
+use Rattle.frame_tree.specs.Names.{Scope, same_bytes, meant_by}
 use Rattle.frame_tree.specs.Bounds.{depth_in}
 
 -- a loop counts as l, a frame with a period as f, and a call of each name as so many
@@ -16,7 +16,7 @@ brackets_in l f vs (until c n b) = l + brackets_in l f vs b
 brackets_in l f vs (timed h b) = f + brackets_in l f vs b
 brackets_in l f vs nothing = 0
 brackets_in l f vs (chained a b) = max (brackets_in l f vs a) (brackets_in l f vs b)
-brackets_in l f vs (call n) = named 0 vs n
+brackets_in l f vs (call n) = meant_by 0 vs n
 brackets_in l f vs (define n b r) = 0
 
 abbrev pub loops_in : Scope ℕ → Tree → ℕ
@@ -35,13 +35,13 @@ few_chosen : (b : Bool) (l x y u v : ℕ) → x ≤ y + l → u ≤ v + l → (i
 few_chosen true l x y u v e f = e
 few_chosen false l x y u v e f = f
 
-few_named : (l : ℕ) (vs ds : Scope ℕ) (n : List ℕ) → AreFew l vs ds → named 0 vs n ≤ named 0 ds n + l
+few_named : (l : ℕ) (vs ds : Scope ℕ) (n : List ℕ) → AreFew l vs ds → meant_by 0 vs n ≤ meant_by 0 ds n + l
 few_named l [] [] n h = omega arith
 few_named l [] (d ∷ ds) n h = absurd h
 few_named l (v ∷ vs) [] n h = absurd h
 few_named l (v ∷ vs) (d ∷ ds) n h =
-    subst (λ m. (if same v.0 n then v.1 else named 0 vs n) ≤ (if same m n then d.1 else named 0 ds n) + l) h.0
-    (few_chosen (same v.0 n) l v.1 d.1 (named 0 vs n) (named 0 ds n) h.1 (few_named l vs ds n h.2))
+    subst (λ m. (if same_bytes v.0 n then v.1 else meant_by 0 vs n) ≤ (if same_bytes m n then d.1 else meant_by 0 ds n) + l) h.0
+    (few_chosen (same_bytes v.0 n) l v.1 d.1 (meant_by 0 vs n) (meant_by 0 ds n) h.1 (few_named l vs ds n h.2))
 
 module _ (l f : ℕ) (one : l ≤ 1) (one' : f ≤ 1) where
   pub few_brackets : (vs ds : Scope ℕ) (t : Tree) → AreFew l vs ds → brackets_in l f vs t ≤ depth_in ds t + l

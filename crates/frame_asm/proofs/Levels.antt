@@ -3,7 +3,7 @@ use Rattle.std.proofs.Common.{◌≡◌, ℕ, suc, ◌+◌, List, [], ◌∷◌,
 use Rattle.std.specs.Prelude.{slice_get}
 use Rattle.mil_message.specs.declared.outcome_test.OutcomeTest.TheVariants.{Failed}
 use Rattle.frame_tree.specs.Tree.{Condition, asked, negated, both, either, Tree, send, retry, gap, repeat, choose, until, timed, nothing, chained, call, define}
-use Rattle.frame_tree.specs.Names.{Scope, named}
+use Rattle.frame_tree.specs.Names.{Scope, meant_by}
 use Rattle.frame_code.specs.declared.Op.{Op}
 use Rattle.frame_code.specs.declared.Op.TheVariants as op
 use Rattle.frame_code.specs.Loadable.{tail, after, open_at}
@@ -41,7 +41,7 @@ module _ (os : List Op) where
   pub level : (rs : Scope ℕ) (p m : ℕ) (t : Tree) → HasAt os p (shape rs p m t) → open_at os (p + size t) ≡ open_at os p
   level rs p m (send l x) h = next p (op.Send m) h.0
   level rs p m (gap t) h = next p (op.SetGap t) h.0
-  level rs p m (call n) h = next p (op.Call (named 0 rs n)) h.0
+  level rs p m (call n) h = next p (op.Call (meant_by 0 rs n)) h.0
   level rs p m (define n b r) h =
       let q = p + size b in
       let inner = (n, length rs) ∷ rs in

@@ -2,7 +2,7 @@
 use Rattle.std.proofs.Common.{Bool, true, false, get_or, ◌≡◌, ℕ, zero, suc, ◌+◌, ◌-◌, ◌<◌, ◌≤◌, List, [], ◌∷◌, ◌++◌, length, Some, refl, sym, ap, ◌∙◌, subst, arith, append_assoc}
 use Rattle.std.specs.Prelude.{if◌then◌else◌, ◌||◌, slice_get, Result, Ok, Err, IfOk}
 use Rattle.frame_tree.specs.Tree.{Tree, send, retry, gap, repeat, choose, until, timed, nothing, chained, call, define}
-use Rattle.frame_tree.specs.Names.{Scope, same, named, is_known}
+use Rattle.frame_tree.specs.Names.{Scope, same_bytes, meant_by, is_known}
 use Rattle.frame_tree.specs.Bounds.{depth_in, CallsKnown, IsDefined, IsSound}
 use Rattle.frame_code.specs.declared.Op.{Op}
 use Rattle.frame_code.specs.declared.Op.TheVariants as op
@@ -10,7 +10,7 @@ use Rattle.frame_code.specs.Loadable.{open_at, loops_among, frames_among, HasMes
 use Rattle.frame_code.specs.Routines.{owner_at, routines, passed}
 use Rattle.frame_code.specs.Ranges.{IsImage}
 use Rattle.frame_code.specs.Table.{Code}
-use Rattle.frame_asm.specs.declared.AsmError.{AsmError}
+use Rattle.frame_asm.specs.declared.error.AsmError.{AsmError}
 use Rattle.frame_asm.proofs.Runs.{HasAt, has_front, has_back, has_all}
 use Rattle.frame_asm.proofs.Lengths.{length_shape, length_messages_of}
 use Rattle.frame_asm.proofs.Levels.{next, level}
@@ -19,7 +19,7 @@ use Rattle.frame_asm.proofs.Starts.{inner_shape, starts, starts_of, owned}
 use Rattle.frame_asm.proofs.Counts.{brackets_in, loops_in, frames_in, AreFew, few_brackets}
 use Rattle.frame_asm.proofs.Opened.{loops_at, frames_at}
 use Rattle.frame_asm.proofs.Loads.{IsGood, AreGood, good_at, good_both, AreKept, good_shape}
-use Rattle.frame_asm.specs.Shapes.{size, entries, messages_of, shape, code_of}
+use Rattle.frame_asm.specs.Shapes.{size, entries, messages_of, shape, code_of_tree}
 
 -- how many brackets of a kind stand in one another in each routine, and in main
 abbrev pub rooms : ℕ → ℕ → Scope ℕ → Tree → List ℕ
@@ -145,15 +145,15 @@ module _ (os : List Op) (room space : ℕ → ℕ) (n : ℕ) where
         own = ap (owner_at os) one ∙ ap (λ v. passed v (owner_at os q)) hr.0 ∙ ap suc mine;
         loops = λ j. let y : suc (length rs) + j ≡ length rs + suc j = omega arith in ap room y ∙ begin.loops (suc j);
         frames = λ j. let y : suc (length rs) + j ≡ length rs + suc j = omega arith in ap space y ∙ begin.frames (suc j);
-        kept = λ x e. kept_next room (same s x) (is_known rs x) (length rs) (named 0 rs x) (loops_in vs b) (named 0 vs x) loops e (begin.kept x);
-        kept' = λ x e. kept_next space (same s x) (is_known rs x) (length rs) (named 0 rs x) (frames_in us b) (named 0 us x) frames e (begin.kept' x);
+        kept = λ x e. kept_next room (same_bytes s x) (is_known rs x) (length rs) (meant_by 0 rs x) (loops_in vs b) (meant_by 0 vs x) loops e (begin.kept x);
+        kept' = λ x e. kept_next space (same_bytes s x) (is_known rs x) (length rs) (meant_by 0 rs x) (frames_in us b) (meant_by 0 us x) frames e (begin.kept' x);
       } in
       let rest_good = all_good inner ((s, loops_in vs b) ∷ vs) ((s, frames_in us b) ∷ us) t (q + 1) (m + entries b) k.3 hr.1 rest_begins in
       subst (AreGood os room space n p) (sym flat) (good_both os room space n p q body (op.Return ∷ behind) long body_good (returns, rest_good))
 
-pub code_is_loadable : (t : Tree) → IsSound t → size t ≤ 4095 → entries t ≤ 1024 → IsLoadable (code_of t)
+pub code_is_loadable : (t : Tree) → IsSound t → size t ≤ 4095 → entries t ≤ 1024 → IsLoadable (code_of_tree t)
 code_is_loadable t s h k =
-    let os = (code_of t).operations in
+    let os = (code_of_tree t).operations in
     let room : ℕ → ℕ = λ r. get_or (rooms 1 0 [] t) r 0 in
     let space : ℕ → ℕ = λ r. get_or (rooms 0 1 [] t) r 0 in
     let body = shape [] 0 0 t in
@@ -191,8 +191,8 @@ code_is_loadable t s h k =
     }
 
 -- an image of it keeps the counts, and so the rules
-pub loadable_if : (t : Tree) → IsSound t → (r : Result Code AsmError) → IfOk r (λ image. image ≡ code_of t) → IfOk r (λ image. IsImage image) → IfOk r (λ image. IsLoadable image)
+pub loadable_if : (t : Tree) → IsSound t → (r : Result Code AsmError) → IfOk r (λ image. image ≡ code_of_tree t) → IfOk r (λ image. IsImage image) → IfOk r (λ image. IsLoadable image)
 loadable_if t s (Ok image) e i =
-    let i' : IsImage (code_of t) = subst IsImage e i in
+    let i' : IsImage (code_of_tree t) = subst IsImage e i in
     subst IsLoadable (sym e) (code_is_loadable t s (omega (arith, operations_of t, i'.operations)) (omega (arith, messages_in t, i'.messages)))
 loadable_if t s (Err x) e i = tt

@@ -4,7 +4,7 @@ use Rattle.std.specs.Prelude.{slice_get}
 use Rattle.mil_message.specs.declared.outcome_test.OutcomeTest.{OutcomeTest}
 use Rattle.mil_message.specs.declared.outcome_test.OutcomeTest.TheVariants.{Failed}
 use Rattle.frame_tree.specs.Tree.{Condition, asked, negated, both, either, Tree, send, retry, gap, repeat, choose, until, timed, nothing, chained, call, define}
-use Rattle.frame_tree.specs.Names.{Scope, named, is_known}
+use Rattle.frame_tree.specs.Names.{Scope, meant_by, is_known}
 use Rattle.frame_tree.specs.Bounds.{CallsKnown}
 use Rattle.frame_code.specs.declared.Op.{Op}
 use Rattle.frame_code.specs.declared.Op.TheVariants as op
@@ -46,7 +46,7 @@ good_both os room space n p q (y ∷ a) b e g h = (g.0, good_both os room space 
 
 -- each name in scope is that of a routine before r, which has room for its brackets of a kind
 abbrev pub AreKept : (ℕ → ℕ) → ℕ → Scope ℕ → Scope ℕ → Type 0
-AreKept room r rs vs = (s : List ℕ) → is_known rs s ≡ true → (named 0 rs s < r) × (room (named 0 rs s) ≡ named 0 vs s)
+AreKept room r rs vs = (s : List ℕ) → is_known rs s ≡ true → (meant_by 0 rs s < r) × (room (meant_by 0 rs s) ≡ meant_by 0 vs s)
 
 -- the places from lo to hi, all in routine r
 module _ (os : List Op) (room space : ℕ → ℕ) (n r lo hi : ℕ) (own : (x : ℕ) → lo ≤ x → x ≤ hi → owner_at os x ≡ r) (last : hi < length os) where
@@ -275,5 +275,5 @@ module _ (os : List Op) (room space : ℕ → ℕ) (n r lo hi : ℕ) (own : (x :
         (good_shape b q (m + entries a) c.1 (omega (arith, lp)) hb (fits_same p q _ _ _ _ e fits (omega arith) (omega arith)) (omega (arith, inside)) (omega (arith, table)))
     good_shape (call s) p m c lp h fits inside table =
         let k = kept s c in
-        (calling p (named 0 rs s) _ _ lp (omega (arith, inside)) k.0 k.1 (kept' s c).1 fits, tt)
+        (calling p (meant_by 0 rs s) _ _ lp (omega (arith, inside)) k.0 k.1 (kept' s c).1 fits, tt)
     good_shape (define s b t) p m c lp h fits inside table = absurd c

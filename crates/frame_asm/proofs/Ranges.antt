@@ -4,13 +4,13 @@ use Rattle.std.specs.Prelude.{IsTrue, if◌then◌else◌}
 use Rattle.mil_word.specs.declared.Line.{Line}
 use Rattle.mil_message.specs.declared.messages.Message.{Message}
 use Rattle.frame_tree.specs.Tree.{Condition, asked, negated, both, either, Tree, send, retry, gap, repeat, choose, until, timed, nothing, chained, call, define}
-use Rattle.frame_tree.specs.Names.{Scope, same, named}
+use Rattle.frame_tree.specs.Names.{Scope, same_bytes, meant_by}
 use Rattle.frame_tree.specs.Bounds.{IsInRange, CallsKnown, IsDefined}
 use Rattle.frame_code.specs.declared.Op.{Op}
 use Rattle.frame_code.specs.declared.Op.TheVariants as op
 use Rattle.frame_code.specs.Table.{Code}
 use Rattle.frame_code.specs.Ranges.{is_gap, is_count, is_index, is_routine, is_period, AreInRange, IsImage}
-use Rattle.frame_asm.specs.Shapes.{branch_size, branch, size, entries, messages_of, shape, code_of, AreRoutines}
+use Rattle.frame_asm.specs.Shapes.{branch_size, branch, size, entries, messages_of, shape, code_of_tree, AreRoutines}
 use Rattle.frame_asm.proofs.Lengths.{length_shape, length_messages_of}
 
 abbrev pub code : List Op → List (Line × Message) → Code
@@ -39,15 +39,15 @@ branch_in (both a b) p t f h ht hf = both_in (branch p a (p + branch_size a) f) 
 branch_in (either a b) p t f h ht hf = both_in (branch p a t (p + branch_size a)) _ (branch_in a p t _ (omega arith) ht (omega arith)) (branch_in b _ t f (omega arith) ht hf)
 
 -- each name is that of a routine that there may be
-pub routine_small : (rs : Scope ℕ) (n : List ℕ) → AreRoutines rs → named 0 rs n < 32
+pub routine_small : (rs : Scope ℕ) (n : List ℕ) → AreRoutines rs → meant_by 0 rs n < 32
 routine_small [] n z = omega arith
-routine_small (r ∷ rs) n z = chosen (same r.0 n) r.1 (named 0 rs n) z.0 (routine_small rs n z.1)
+routine_small (r ∷ rs) n z = chosen (same_bytes r.0 n) r.1 (meant_by 0 rs n) z.0 (routine_small rs n z.1)
   where
     chosen : (b : Bool) (k j : ℕ) → k < 32 → j < 32 → (if b then k else j) < 32
     chosen true k j h g = h
     chosen false k j h g = g
 
-routine_in : (rs : Scope ℕ) (n : List ℕ) → AreRoutines rs → IsTrue (is_routine (named 0 rs n))
+routine_in : (rs : Scope ℕ) (n : List ℕ) → AreRoutines rs → IsTrue (is_routine (meant_by 0 rs n))
 routine_in rs n z = let h = routine_small rs n z in search (rules, tests)
 
 shape_in : (rs : Scope ℕ) (t : Tree) (p m : ℕ) → AreRoutines rs → CallsKnown rs t → IsInRange t → p + size t ≤ 65535 → m + entries t ≤ 65535 → AreInRange (shape rs p m t)
@@ -89,7 +89,7 @@ all_in rs (define n b r) p m z c s h k =
     both_in (shape rs p m b) _ (shape_in rs b p m z c.2 s.0 (omega (arith, h)) (omega (arith, k)))
     (refl, all_in ((n, length rs) ∷ rs) r (p + size b + 1) (m + entries b) (c.0, z) c.3 s.1 (omega (arith, h)) (omega (arith, k)))
 
-pub code_is_image : (t : Tree) → IsDefined [] t → IsInRange t → size t ≤ 4095 → entries t ≤ 1024 → IsImage (code_of t)
+pub code_is_image : (t : Tree) → IsDefined [] t → IsInRange t → size t ≤ 4095 → entries t ≤ 1024 → IsImage (code_of_tree t)
 code_is_image t c s h k = record {
   operations = omega (arith, length-append (shape [] 0 0 t) (op.Halt ∷ []), length_shape t [] 0 0);
   messages = omega (arith, length_messages_of t);
@@ -97,15 +97,15 @@ code_is_image t c s h k = record {
 }
 
 pub assembled : (t : Tree) (sc : Scope ℕ) (o0 o1 o2 : List Op) (m0 m1 : List (Line × Message)) → sc ≡ [] → o0 ≡ [] → m0 ≡ [] → o1 ≡ o0 ++ shape sc (length o0) (length m0) t → m1 ≡ m0 ++ messages_of t → o2 ≡ o1 ++ op.Halt ∷ []
-    → code o2 m1 ≡ code_of t
+    → code o2 m1 ≡ code_of_tree t
 assembled t sc o0 o1 o2 m0 m1 es eo em e1 e2 e3 =
     let f1 : o1 ≡ shape [] 0 0 t = e1 ∙ ap₂ (λ x y. x ++ shape sc (length x) (length y) t) eo em ∙ ap (λ z. shape z 0 0 t) es in
     let f2 : m1 ≡ messages_of t = e2 ∙ ap (λ x. x ++ messages_of t) em in
     ap₂ code (e3 ∙ ap (λ x. x ++ op.Halt ∷ []) f1) f2
 
 -- how many operations and messages the code has
-pub operations_of : (t : Tree) → length (code_of t).operations ≡ size t + 1
+pub operations_of : (t : Tree) → length (code_of_tree t).operations ≡ size t + 1
 operations_of t = omega (arith, length-append (shape [] 0 0 t) (op.Halt ∷ []), length_shape t [] 0 0)
 
-pub messages_in : (t : Tree) → length (code_of t).messages ≡ entries t
+pub messages_in : (t : Tree) → length (code_of_tree t).messages ≡ entries t
 messages_in t = length_messages_of t

@@ -5,7 +5,7 @@ use Rattle.std.proofs.lemmas.Bool.Decides.{nat_tests}
 use Rattle.mil_message.specs.declared.outcome_test.OutcomeTest.{OutcomeTest}
 use Rattle.mil_message.specs.declared.outcome_test.OutcomeTest.TheVariants.{Failed}
 use Rattle.frame_tree.specs.Tree.{Condition, asked, negated, both, either, Tree, send, retry, gap, repeat, choose, until, timed, nothing, chained, call, define}
-use Rattle.frame_tree.specs.Names.{Scope, named}
+use Rattle.frame_tree.specs.Names.{Scope, meant_by}
 use Rattle.frame_tree.specs.Bounds.{CallsKnown, IsDefined}
 use Rattle.frame_code.specs.declared.Op.{Op}
 use Rattle.frame_code.specs.declared.Op.TheVariants as op
@@ -83,7 +83,7 @@ inner_shape rs (until c n b) p m k =
 inner_shape rs (timed h b) p m k = (is_begin, inner_both (shape rs (p + 1) m b) _ (inner_shape rs b (p + 1) m k) (is_pace h, tt))
 inner_shape rs nothing p m k = tt
 inner_shape rs (chained a b) p m k = inner_both (shape rs p m a) _ (inner_shape rs a p m k.0) (inner_shape rs b (p + size a) (m + entries a) k.1)
-inner_shape rs (call n) p m k = (is_call (named 0 rs n), tt)
+inner_shape rs (call n) p m k = (is_call (meant_by 0 rs n), tt)
 inner_shape rs (define n b r) p m k = absurd k
 
 -- such operations change nothing

@@ -3,7 +3,7 @@ use Rattle.std.proofs.Common.{◌≡◌, ℕ, suc, ◌+◌, Bool, true, false, [
 use Rattle.std.specs.Prelude.{slice_get, ◌||◌, if◌then◌else◌}
 use Rattle.mil_message.specs.World.{World, Point}
 use Rattle.frame_tree.specs.Tree.{Tree, send, retry, gap, repeat, choose, until, timed, nothing, chained, call, define}
-use Rattle.frame_tree.specs.Names.{Scope, same, named, is_known}
+use Rattle.frame_tree.specs.Names.{Scope, same_bytes, meant_by, is_known}
 use Rattle.frame_tree.specs.Expansion.{expanded}
 use Rattle.frame_tree.specs.Meaning.{plain_meaning}
 use Rattle.frame_tree.specs.Bounds.{IsInRange, CallsKnown, IsDefined}
@@ -15,7 +15,7 @@ use Rattle.frame_asm.proofs.Runs.{HasAt, has_front, has_back, has_all, regs, Doe
 use Rattle.frame_asm.proofs.Bodies.{Routine, AreThere, tree_runs}
 use Rattle.frame_asm.proofs.Starts.{starts, starts_of, Stands, stands_first, stands_next, routine_there, main_there}
 use Rattle.frame_asm.specs.Behaves.{Behaves}
-use Rattle.frame_asm.specs.Shapes.{size, messages_of, entries, shape, code_of}
+use Rattle.frame_asm.specs.Shapes.{size, messages_of, entries, shape, code_of_tree}
 
 module _ {State Outcome : Type 0} (w : World State Outcome) (code : Code) where
   -- main comes to a Halt, where the tree leads
@@ -74,11 +74,11 @@ module _ {State Outcome : Type 0} (w : World State Outcome) (code : Code) where
         does = λ is fs cs v. tree_runs w code rs ds there b i m is fs cs v c.0 k.2 hb gb;
       } in
       all_runs inner ((n, body) ∷ ds) r j (m + entries b) p k.3 c.1 hr.1 gr (stands_next os (length rs) i j n b r one s)
-      (λ x e. picked (same n x) (is_known rs x) (length rs) (named 0 rs x) body (named nothing ds x) e routine (there x))
+      (λ x e. picked (same_bytes n x) (is_known rs x) (length rs) (meant_by 0 rs x) body (meant_by nothing ds x) e routine (there x))
 
-pub behaves : {State Outcome : Type 0} (w : World State Outcome) (t : Tree) (p : Point State Outcome) → IsInRange t → IsDefined [] t → Behaves w t (code_of t) p
+pub behaves : {State Outcome : Type 0} (w : World State Outcome) (t : Tree) (p : Point State Outcome) → IsInRange t → IsDefined [] t → Behaves w t (code_of_tree t) p
 behaves w t p c k =
-    let code = code_of t in
+    let code = code_of_tree t in
     let r = all_runs w code [] [] t 0 0 p k c (has_all (code.operations) []) (has_all (messages_of t) []) (stands_first code.operations t (starts_of [] t 0 0 k)) (none_there w code) in
     let d = r.does false (start code).line in
     let a = d.by 0 in

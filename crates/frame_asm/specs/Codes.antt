@@ -1,9 +1,9 @@
 -- The letters of the assembler's refusals (own choice).
 use Rattle.std.specs.Prelude.{ℕ, List, codes}
-use Rattle.frame_asm.specs.declared.AsmError.{AsmError}
-use Rattle.frame_asm.specs.declared.AsmError.TheVariants.{Operations, Messages, Memory}
+use Rattle.frame_asm.specs.declared.error.AsmError.{AsmError}
+use Rattle.frame_asm.specs.declared.error.AsmError.TheVariants.{Operations, Messages, Memory}
 
-abbrev pub code_of : AsmError → List ℕ
-code_of Operations = codes "A1"
-code_of Messages = codes "A2"
-code_of Memory = codes "A3"
+abbrev pub fault_code : AsmError → List ℕ
+fault_code Operations = codes "A1"
+fault_code Messages = codes "A2"
+fault_code Memory = codes "A3"

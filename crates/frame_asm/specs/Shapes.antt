@@ -7,7 +7,7 @@ use Rattle.mil_message.specs.declared.outcome_test.OutcomeTest.{OutcomeTest}
 use Rattle.mil_message.specs.declared.outcome_test.OutcomeTest.TheVariants.{Failed}
 use Rattle.frame_tree.specs.Tree.{Condition, asked, negated, both, either, Tree, send, retry, gap, repeat, choose}
 use Rattle.frame_tree.specs.Tree.{until, timed, nothing, chained, call, define}
-use Rattle.frame_tree.specs.Names.{Scope, named}
+use Rattle.frame_tree.specs.Names.{Scope, meant_by}
 use Rattle.frame_code.specs.declared.Op.{Op}
 use Rattle.frame_code.specs.declared.Op.TheVariants as op
 use Rattle.frame_code.specs.Table.{Code}
@@ -104,13 +104,13 @@ shape rs p m (until c n b) =
 shape rs p m (timed h b) = op.Begin ∷ (shape rs (p + 1) m b ++ op.Pace h ∷ [])
 shape rs p m nothing = []
 shape rs p m (chained a b) = shape rs p m a ++ shape rs (p + size a) (m + entries a) b
-shape rs p m (call n) = op.Call (named 0 rs n) ∷ []
+shape rs p m (call n) = op.Call (meant_by 0 rs n) ∷ []
 shape rs p m (define n b r) = shape rs p m b
     ++ (op.Return ∷ shape ((n, length rs) ∷ rs) (p + size b + 1) (m + entries b) r)
 
 -- the code of a tree
-abbrev pub code_of : Tree → Code
-code_of t = record { operations = shape [] 0 0 t ++ op.Halt ∷ []; messages = messages_of t }
+abbrev pub code_of_tree : Tree → Code
+code_of_tree t = record { operations = shape [] 0 0 t ++ op.Halt ∷ []; messages = messages_of t }
 
 -- each name in scope is that of a routine, whose number is at most 31
 abbrev pub AreRoutines : Scope ℕ → Type 0

@@ -1,7 +1,7 @@
 //! Writing the operations and messages of a frame behind those that are there.
 ghost use Rattle.std.specs.Prelude.{◌≡◌, ◌+◌, ◌<◌, ◌≤◌, [], ◌∷◌, ◌++◌, length, map, IfOk, OnOk};
 ghost use Rattle.frame_tree.specs.Tree.{condition_in, tree_of, choose, until, chain};
-ghost use Rattle.frame_tree.specs.Names.{named};
+ghost use Rattle.frame_tree.specs.Names.{meant_by};
 ghost use Rattle.frame_tree.specs.Scopes.{scope_of};
 ghost use Rattle.frame_tree.specs.Bounds.{CallsKnown, IsDefined};
 ghost use Rattle.frame_asm.specs.Shapes.{branch_size, probe, branch, size, entries, messages_of, retry_shape};
@@ -266,7 +266,7 @@ fn emit_sequence<A: Allocator + Clone>(
 // The number of the routine of a name.
 fn routine_of(scope: &Scope<'_>, name: &Name) -> u8
     requires { AreRoutines (scope_of scope.now) }
-    ensures { result ≡ named 0 (scope_of scope.now) name.now }
+    ensures { result ≡ meant_by 0 (scope_of scope.now) name.now }
 {
     scope.number_of(name) as u8
 }

@@ -8,64 +8,28 @@ ghost use Rattle.frame_tree.specs.Tree.{Tree, tree_of};
 ghost use Rattle.frame_tree.specs.Bounds.{IsSound};
 ghost use Rattle.frame_code.specs.Loadable.{IsLoadable};
 ghost use Rattle.frame_code.specs.Ranges.{IsImage};
-ghost use Rattle.frame_asm.specs.Shapes.{code_of, size, entries};
+ghost use Rattle.frame_asm.specs.Shapes.{code_of_tree, size, entries};
 ghost use Rattle.frame_asm.specs.Behaves.{Behaves};
 
 mod emission;
+mod error;
 mod sizes;
 
+pub use error::AsmError;
 use frame_code::{Image, Op, Setting};
 use frame_tree::{Frame, Scope};
-use std::alloc::{AllocError, Allocator, Global};
-use std::fmt;
-
-/// Why a frame has no image.
-#[derive(Clone, Copy, PartialEq, Eq, Debug)]
-pub enum AsmError {
-    /// A1: there are more than 4096 operations.
-    Operations,
-    /// A2: there are more than 1024 messages.
-    Messages,
-    /// A3: memory was refused.
-    Memory,
-}
-
-impl fmt::Display for AsmError {
-    ghost use Rattle.std.specs.Prelude.{Some};
-    ghost use Rattle.frame_asm.specs.Codes as letters;
-
-    ghost output = { λ e. Some (letters.code_of e) };
-
-    fn fmt<W: fmt::Write>(&self, f: &mut fmt::Formatter<W>) -> fmt::Result {
-        f.write_str(match self {
-            AsmError::Operations => "A1",
-            AsmError::Messages => "A2",
-            AsmError::Memory => "A3",
-        })
-    }
-}
-
-impl From<AllocError> for AsmError {
-    ghost use Rattle.std.specs.Prelude.{◌≡◌};
-    ghost use Rattle.frame_asm.specs.declared.AsmError.TheVariants.{Memory};
-
-    ghost from_gives = { λ _ e. e ≡ Memory };
-
-    fn from(_: AllocError) -> AsmError {
-        AsmError::Memory
-    }
-}
+use std::alloc::{Allocator, Global};
 
 /// Law: in any world, and from any point, the code of a sound tree does what the tree means, and halts there.
 pub fn code_means<W: Setting>()
     ensures { (w : World W.State W.Outcome) (t : Tree) (p : Point W.State W.Outcome) → IsSound t
-        → Behaves w t (code_of t) p }
+        → Behaves w t (code_of_tree t) p }
 {}
 
 // The image of a frame, by the sizes of its tree.
 fn build<A: Allocator + Clone>(alloc: Global, frame: &Frame<A>) -> Result<Image, AsmError>
     requires { IsSound (tree_of frame.now) }
-    ensures image { IfOk result (λ image. image ≡ code_of (tree_of frame.now)) }
+    ensures image { IfOk result (λ image. image ≡ code_of_tree (tree_of frame.now)) }
     ensures range { IfOk result (λ image. IsImage image) }
     ensures operations { (result ≡ Err AsmError.Operations) ↔ (4095 < size (tree_of frame.now)) }
     ensures messages { (result ≡ Err AsmError.Messages) ↔ (size (tree_of frame.now) ≤ 4095)
@@ -88,12 +52,13 @@ fn build<A: Allocator + Clone>(alloc: Global, frame: &Frame<A>) -> Result<Image,
 /// allocators; the loader may refuse it for its budget or its periods alone.
 pub fn assemble<A: Allocator + Clone>(alloc: Global, frame: &Frame<A>) -> Result<Image, AsmError>
     requires { IsSound (tree_of frame.now) }
-    ensures image { IfOk result (λ image. image ≡ code_of (tree_of frame.now)) }
+    ensures image { IfOk result (λ image. image ≡ code_of_tree (tree_of frame.now)) }
     ensures loadable { IfOk result (λ image. IsLoadable image) }
-    ensures operations { (result ≡ Err AsmError.Operations) ↔ (4096 < length (code_of (tree_of frame.now)).operations) }
+    ensures operations { (result ≡ Err AsmError.Operations) ↔
+        (4096 < length (code_of_tree (tree_of frame.now)).operations) }
     ensures messages { (result ≡ Err AsmError.Messages)
-        ↔ (length (code_of (tree_of frame.now)).operations ≤ 4096)
-        × (1024 < length (code_of (tree_of frame.now)).messages) }
+        ↔ (length (code_of_tree (tree_of frame.now)).operations ≤ 4096)
+        × (1024 < length (code_of_tree (tree_of frame.now)).messages) }
 {
     build(alloc, frame)
 }

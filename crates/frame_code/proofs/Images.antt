@@ -6,9 +6,9 @@ use Rattle.std.proofs.lemmas.Bool.Decides.{nat_tests}
 use Rattle.mil_word.specs.declared.Line.{Line}
 use Rattle.mil_message.specs.declared.messages.Message.{Message}
 use Rattle.mil_message.specs.Parts.{parts_of, request_at}
-use Rattle.frame_code.specs.declared.ImageError.{ImageError}
+use Rattle.frame_code.specs.declared.error.ImageError.{ImageError}
 use Rattle.frame_code.specs.declared.Op.{Op}
-use Rattle.frame_code.specs.declared.ImageError.TheVariants as fault
+use Rattle.frame_code.specs.declared.error.ImageError.TheVariants as fault
 use Rattle.frame_code.specs.Bytes.{version_for, two_bytes, line_number, parts_bytes, message_bytes}
 use Rattle.frame_code.specs.Fields.{words_due}
 use Rattle.frame_code.specs.Reading.{many, two_at, words_at, header_at, operation_at, message_at, message_with, image_of, Faults}

@@ -1,8 +1,8 @@
 -- Reading so many of something, one after the other.
 use Rattle.std.proofs.Common.{◌≡◌, ℕ, suc, ◌+◌, ◌-◌, ◌<◌, ◌≤◌, List, [], ◌∷◌, ◌++◌, Result, Ok, Err, refl, sym, ap, ◌∙◌, arith, append_assoc}
 use Rattle.std.proofs.lemmas.List.{append-nil}
-use Rattle.frame_code.specs.declared.ImageError.{ImageError}
-use Rattle.frame_code.specs.declared.ImageError.TheVariants as fault
+use Rattle.frame_code.specs.declared.error.ImageError.{ImageError}
+use Rattle.frame_code.specs.declared.error.ImageError.TheVariants as fault
 use Rattle.std.specs.Prelude.{IsTrue}
 use Rattle.mil_word.specs.declared.Line.{Line}
 use Rattle.mil_message.specs.declared.messages.Message.{Message}

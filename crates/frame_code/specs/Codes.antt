@@ -1,12 +1,12 @@
 -- The letters of the faults of an image (own choice).
 use Rattle.std.specs.Prelude.{ℕ, List, codes}
-use Rattle.frame_code.specs.declared.ImageError.{ImageError}
-use Rattle.frame_code.specs.declared.ImageError.TheVariants.{Mark, Length, Operations, Messages, Version, Memory}
+use Rattle.frame_code.specs.declared.error.ImageError.{ImageError}
+use Rattle.frame_code.specs.declared.error.ImageError.TheVariants.{Mark, Length, Operations, Messages, Version, Memory}
 
-abbrev pub code_of : ImageError → List ℕ
-code_of Mark = codes "C1"
-code_of Length = codes "C2"
-code_of Operations = codes "C3"
-code_of Messages = codes "C4"
-code_of Version = codes "C6"
-code_of Memory = codes "C5"
+abbrev pub fault_code : ImageError → List ℕ
+fault_code Mark = codes "C1"
+fault_code Length = codes "C2"
+fault_code Operations = codes "C3"
+fault_code Messages = codes "C4"
+fault_code Version = codes "C6"
+fault_code Memory = codes "C5"

@@ -1,5 +1,6 @@
 -- What an image may hold (own choice): how many operations and messages, and the range of each operand.
 use Rattle.std.specs.Prelude.{ℕ, ◌≤◌, Bool, true, ◌&&◌, nat_lt, nat_le, List, [], ◌∷◌, length, IsTrue}
+use Rattle.mil_word.specs.Timing.{least_gap}
 use Rattle.frame_code.specs.declared.Op.{Op}
 use Rattle.frame_code.specs.declared.Op.TheVariants.{Halt, Send, Alt, SetGap, Loop, Again, Leave, Jump, Test, JumpFalse}
 use Rattle.frame_code.specs.declared.Op.TheVariants.{Call, Return, Begin, Pace}
@@ -8,7 +9,7 @@ use Rattle.frame_code.specs.Table.{Code}
 
 -- a gap in ticks, 40 to 65,535
 abbrev pub is_gap : ℕ → Bool
-is_gap t = nat_le 40 t && nat_lt t 65536
+is_gap t = nat_le least_gap t && nat_lt t 65536
 
 -- how often a loop goes round, 1 to 10,000
 abbrev pub is_count : ℕ → Bool

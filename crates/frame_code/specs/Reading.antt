@@ -11,8 +11,8 @@ use Rattle.mil_status.specs.Status.{bit_at}
 use Rattle.mil_message.specs.Parts.{request_at}
 use Rattle.mil_message.specs.Request.{Request}
 use Rattle.mil_message.specs.Rules.{form_of}
-use Rattle.frame_code.specs.declared.ImageError.{ImageError}
-use Rattle.frame_code.specs.declared.ImageError.TheVariants as fault
+use Rattle.frame_code.specs.declared.error.ImageError.{ImageError}
+use Rattle.frame_code.specs.declared.error.ImageError.TheVariants as fault
 use Rattle.frame_code.specs.declared.Op.{Op}
 use Rattle.frame_code.specs.declared.Op.TheVariants.{Halt, Send, Alt, SetGap, Loop, Again, Leave, Jump, Test, JumpFalse}
 use Rattle.frame_code.specs.declared.Op.TheVariants.{Call, Return, Begin, Pace}
@@ -167,9 +167,9 @@ image_of bs = do
   fitting header.0 code
 
 -- a reader in the code answers what its definition reads
-abbrev pub Reads : {X Y : Type 0} → (X → Y) → Result X ImageError → Result Y ImageError → Type 0
-Reads view (Ok x) read = read ≡ Ok (view x)
-Reads view (Err e) read = read ≡ Err e
+abbrev pub Gives : {X Y : Type 0} → (X → Y) → Result X ImageError → Result Y ImageError → Type 0
+Gives view (Ok x) read = read ≡ Ok (view x)
+Gives view (Err e) read = read ≡ Err e
 
 -- the definition reads this fault; of want of memory it says nothing
 abbrev pub Faults : {Y : Type 0} → ImageError → Result Y ImageError → Type 0

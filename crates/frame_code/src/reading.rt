@@ -9,8 +9,8 @@ ghost use Rattle.frame_code.specs.Bytes.{image_bytes};
 ghost use Rattle.std.specs.List.{flat_map};
 ghost use Rattle.frame_code.specs.Fields as table;
 ghost use Rattle.frame_code.specs.Reading as spelled;
-ghost use Rattle.frame_code.specs.Reading.{Reads, Builds, behind, many_versions, image_of};
-ghost use Rattle.frame_code.specs.declared.ImageError.{ImageError};
+ghost use Rattle.frame_code.specs.Reading.{Gives, Builds, behind, many_versions, image_of};
+ghost use Rattle.frame_code.specs.declared.error.ImageError.{ImageError};
 ghost use Rattle.frame_code.specs.declared.Op.TheVariants as op;
 
 use crate::fields::{first_fits, second_fits, words_due};
@@ -24,7 +24,7 @@ use std::alloc::Global;
 
 // A field of one byte.
 fn byte(bytes: &[u8]) -> Result<(u8, &[u8]), ImageError>
-    ensures byte { Reads (λ x. (x.0, x.1.now)) result (spelled.byte_at bytes.now) }
+    ensures byte { Gives (λ x. (x.0, x.1.now)) result (spelled.byte_at bytes.now) }
     ensures spelled { IfOk result (λ x. bytes.now ≡ x.0 ∷ x.1.now) }
     ensures range { IfOk result (λ x. x.0 < 256) }
 {
@@ -37,7 +37,7 @@ fn byte(bytes: &[u8]) -> Result<(u8, &[u8]), ImageError>
 // A field of two bytes, the low one first.
 #[tactic(auto, unfolding(crate::specs::Reading::two_at))]
 fn two(bytes: &[u8]) -> Result<(u16, &[u8]), ImageError>
-    ensures two { Reads (λ x. (x.0, x.1.now)) result (spelled.two_at bytes.now) }
+    ensures two { Gives (λ x. (x.0, x.1.now)) result (spelled.two_at bytes.now) }
     ensures spelled { IfOk result (λ x. bytes.now ≡ two_bytes x.0 ++ x.1.now) }
 {
     let (low, rest) = byte(bytes)?;
@@ -48,7 +48,7 @@ fn two(bytes: &[u8]) -> Result<(u16, &[u8]), ImageError>
 // The version that the mark tells, 1 to 3, and the bytes behind it.
 #[tactic(auto, unfolding(crate::specs::Reading::mark_at))]
 fn mark(bytes: &[u8]) -> Result<(u8, &[u8]), ImageError>
-    ensures mark { Reads (λ x. (x.0, x.1.now)) result (spelled.mark_at bytes.now) }
+    ensures mark { Gives (λ x. (x.0, x.1.now)) result (spelled.mark_at bytes.now) }
     ensures spelled { IfOk result (λ x. bytes.now ≡ mark x.0 ++ x.1.now) }
     ensures range { IfOk result (λ x. 1 ≤ x.0) }
 {
@@ -70,7 +70,7 @@ struct Opening<'a> {
 // The mark and the two counts, and the bytes behind them.
 #[tactic(auto, unfolding(crate::specs::Reading::header_at))]
 fn header(bytes: &[u8]) -> Result<Opening<'_>, ImageError>
-    ensures fields { Reads (λ x. (x.version, x.operations, x.messages, x.rest.now)) result
+    ensures fields { Gives (λ x. (x.version, x.operations, x.messages, x.rest.now)) result
         (spelled.header_at bytes.now) }
     ensures spelled { IfOk result (λ x. bytes.now ≡ header_bytes x.version x.operations x.messages ++ x.rest.now) }
     ensures operations { IfOk result (λ x. x.operations ≤ 4096) }
@@ -162,7 +162,7 @@ fn known(version: u8) -> u8
 // An operation: a number that the version knows, 00, and an operand in its range.
 #[tactic(auto, unfolding(crate::specs::Reading::operation_at))]
 fn operation(version: u8, bytes: &[u8]) -> Result<(Op, &[u8]), ImageError>
-    ensures operation { Reads (λ x. (x.0, x.1.now)) result (spelled.operation_at version bytes.now) }
+    ensures operation { Gives (λ x. (x.0, x.1.now)) result (spelled.operation_at version bytes.now) }
     ensures range { IfOk result (λ x. IsTrue (in_range x.0)) }
     ensures spelled { IfOk result (λ x. bytes.now ≡ operation_bytes x.0 ++ x.1.now) }
     ensures known { IfOk result (λ x. (1 ≤ version) → version_of x.0 ≤ version) }
@@ -185,7 +185,7 @@ fn operation(version: u8, bytes: &[u8]) -> Result<(Op, &[u8]), ImageError>
 // The line of a message, 0 or 1.
 #[tactic(auto, unfolding(crate::specs::Reading::line_at))]
 fn line(bytes: &[u8]) -> Result<(Line, &[u8]), ImageError>
-    ensures line { Reads (λ x. (x.0, x.1.now)) result (spelled.line_at bytes.now) }
+    ensures line { Gives (λ x. (x.0, x.1.now)) result (spelled.line_at bytes.now) }
     ensures spelled { IfOk result (λ x. bytes.now ≡ line_number x.0 ∷ x.1.now) }
 {
     let (line, rest) = byte(bytes)?;
@@ -199,7 +199,7 @@ fn line(bytes: &[u8]) -> Result<(Line, &[u8]), ImageError>
 // So many data words, at most 32.
 fn words(count: u16, bytes: &[u8]) -> Result<(ArrayVec<u16, 32>, &[u8]), ImageError>
     requires { count ≤ 32 }
-    ensures words { Reads (λ x. (x.0.items, x.1.now)) result (spelled.many spelled.two_at count bytes.now) }
+    ensures words { Gives (λ x. (x.0.items, x.1.now)) result (spelled.many spelled.two_at count bytes.now) }
     ensures count { IfOk result (λ x. length x.0.items ≡ count) }
     ensures spelled { IfOk result (λ x. bytes.now ≡ flat_map two_bytes x.0.items ++ x.1.now) }
 {
@@ -225,7 +225,7 @@ fn body(
     requires form { form < 10 }
     requires first { IsTrue (table.first_fits form first) }
     requires second { IsTrue (table.second_fits form first second) }
-    ensures message { Reads (λ x. (x.0, x.1.now)) result (spelled.words_at form line first second bytes.now) }
+    ensures message { Gives (λ x. (x.0, x.1.now)) result (spelled.words_at form line first second bytes.now) }
     ensures spelled { IfOk result (λ x. form ∷ line_number line ∷ two_bytes first ++ two_bytes second ++ bytes.now
         ≡ message_bytes x.0 ++ x.1.now) }
 {
@@ -243,7 +243,7 @@ fn body(
 // A message with its line.
 #[tactic(auto, unfolding(crate::specs::Reading::message_at))]
 fn message(bytes: &[u8]) -> Result<((Line, Message), &[u8]), ImageError>
-    ensures message { Reads (λ x. (x.0, x.1.now)) result (spelled.message_at bytes.now) }
+    ensures message { Gives (λ x. (x.0, x.1.now)) result (spelled.message_at bytes.now) }
     ensures spelled { IfOk result (λ x. bytes.now ≡ message_bytes x.0 ++ x.1.now) }
 {
     let (form, rest) = byte(bytes)?;
@@ -264,7 +264,7 @@ fn message(bytes: &[u8]) -> Result<((Line, Message), &[u8]), ImageError>
 
 // The version that so many operations need, and the bytes behind them.
 fn past_operations(version: u8, count: u16, bytes: &[u8]) -> Result<(u8, &[u8]), ImageError>
-    ensures { Reads (λ x. (x.0, x.1.now)) result
+    ensures { Gives (λ x. (x.0, x.1.now)) result
         (many_versions (spelled.many (spelled.operation_at version) count bytes.now)) }
 {
     let mut rest = bytes;
@@ -279,7 +279,7 @@ fn past_operations(version: u8, count: u16, bytes: &[u8]) -> Result<(u8, &[u8]),
 
 // The bytes behind so many messages.
 fn past_messages(count: u16, bytes: &[u8]) -> Result<&[u8], ImageError>
-    ensures { Reads (λ rest. rest.now) result (behind (spelled.many spelled.message_at count bytes.now)) }
+    ensures { Gives (λ rest. rest.now) result (behind (spelled.many spelled.message_at count bytes.now)) }
 {
     let mut rest = bytes;
     for _ in 0..count {

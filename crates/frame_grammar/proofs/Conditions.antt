@@ -8,8 +8,8 @@ use Rattle.mil_message.specs.declared.outcome_test.OutcomeTest.TheVariants.{Bit}
 use Rattle.frame_tree.specs.Tree.{Condition, asked, negated, both, either}
 use Rattle.frame_tree.specs.Bounds.{operators}
 use Rattle.frame_text.specs.Tokens.{tokens}
-use Rattle.frame_text.specs.Reading.{Tokens, ◌>>=◌, same, past, to_the_end}
-use Rattle.frame_text.specs.Conditions.{Reader, condition_at, condition_from, condition_of, condition_word, below_at, name_at, named, pair_at, condition_of_text}
+use Rattle.frame_text.specs.Reading.{Tokens, ◌>>=◌, same_bytes, past, to_the_end}
+use Rattle.frame_text.specs.Conditions.{Reader, condition_at, condition_from, condition_of, condition_word, below_at, name_at, bit_or_misplaced, pair_at, condition_of_text}
 use Rattle.frame_text.specs.declared.faults.Cause.{Cause}
 use Rattle.frame_text.specs.declared.faults.Cause.TheVariants as cause
 use Rattle.frame_text.specs.declared.keywords.ConditionWord.{ConditionWord}
@@ -34,12 +34,12 @@ stands : (w : List ℕ) → Stands (condition_word w) w
 unfolding condition_word
 stands w =
     let P : ConditionWord → Type 0 = λ k. Stands k w in
-    of_choice P (same w (codes "fail")) _ _ (same_is w (codes "fail"))
-    (of_choice P (same w (codes "silent")) _ _ (same_is w (codes "silent"))
-    (of_choice P (same w (codes "bit")) _ _ (same_is w (codes "bit"))
-    (of_choice P (same w (codes "not")) _ _ (same_is w (codes "not"))
-    (of_choice P (same w (codes "all")) _ _ (same_is w (codes "all"))
-    (of_choice P (same w (codes "any")) _ key.NoCondition (same_is w (codes "any")) tt)))))
+    of_choice P (same_bytes w (codes "fail")) _ _ (same_is w (codes "fail"))
+    (of_choice P (same_bytes w (codes "silent")) _ _ (same_is w (codes "silent"))
+    (of_choice P (same_bytes w (codes "bit")) _ _ (same_is w (codes "bit"))
+    (of_choice P (same_bytes w (codes "not")) _ _ (same_is w (codes "not"))
+    (of_choice P (same_bytes w (codes "all")) _ _ (same_is w (codes "all"))
+    (of_choice P (same_bytes w (codes "any")) _ key.NoCondition (same_is w (codes "any")) tt)))))
 
 -- words that spell the condition stand in front of the rest
 abbrev pub Spelled : Tokens → Condition × Tokens → Type 0
@@ -53,7 +53,7 @@ unfolding name_at
 name_spelled [] x e = absurd (cc)
 name_spelled (w ∷ ts) x e = by (bit_named w) refl e
   where
-    by : (o : Option StatusBit) → bit_named w ≡ o → named w o ts ≡ Ok x → (v : List ℕ) × (w ∷ ts ≡ v ∷ x.1) × (bit_named v ≡ Some x.0)
+    by : (o : Option StatusBit) → bit_named w ≡ o → bit_or_misplaced w o ts ≡ Ok x → (v : List ℕ) × (w ∷ ts ≡ v ∷ x.1) × (bit_named v ≡ Some x.0)
     by (Some b) h i = let g : (b, ts) ≡ x = ok_is _ x i in (w, ap (λ z. w ∷ z.1) g, h ∙ ap (λ z. Some z.0) g)
     by None h i = absurd (cc)
 
@@ -129,7 +129,7 @@ pub condition_read : {ws : Tokens} {c : Condition} → SpellCondition ws c → (
 unfolding condition_from condition_of condition_word below_at name_at
 condition_read (rule.fail) d l rest = refl
 condition_read (rule.silent) d l rest = refl
-condition_read (rule.bit {name = name} {b = b} is) d l rest = ap (λ o. named name o rest >>= (λ x. Ok (asked (Bit x.0), x.1))) is
+condition_read (rule.bit {name = name} {b = b} is) d l rest = ap (λ o. bit_or_misplaced name o rest >>= (λ x. Ok (asked (Bit x.0), x.1))) is
 condition_read (rule.not p) zero l rest = absurd (omega (arith, l))
 condition_read (rule.not p) (suc d) l rest = ap (λ r. r >>= (λ a. Ok (negated a.0, a.1))) (condition_read p d (omega (arith, l)) rest)
 condition_read (rule.all p q) zero l rest = absurd (omega (arith, l))

@@ -5,7 +5,7 @@ use Rattle.frame_tree.specs.Tree.{Condition, Tree, send, retry, gap, repeat, cho
 use Rattle.frame_tree.specs.Names.{is_name, Scope, is_known}
 use Rattle.frame_tree.specs.Names as names
 use Rattle.frame_tree.specs.Bounds.{IsCondition}
-use Rattle.frame_text.specs.Reading.{Tokens, ◌>>=◌, same, misplaced, past}
+use Rattle.frame_text.specs.Reading.{Tokens, ◌>>=◌, same_bytes, misplaced, past}
 use Rattle.frame_text.specs.Words.{number_within, period_at}
 use Rattle.frame_text.specs.Messages.{send_at}
 use Rattle.frame_text.specs.Conditions.{condition_at}
@@ -55,14 +55,14 @@ stands : (w : List ℕ) → Stands (frame_word w) w
 unfolding frame_word
 stands w =
     let P : FrameWord → Type 0 = λ k. Stands k w in
-    of_choice P (same w (codes "send")) _ _ (same_is w (codes "send"))
-    (of_choice P (same w (codes "retry")) _ _ (same_is w (codes "retry"))
-    (of_choice P (same w (codes "gap")) _ _ (same_is w (codes "gap"))
-    (of_choice P (same w (codes "repeat")) _ _ (same_is w (codes "repeat"))
-    (of_choice P (same w (codes "if")) _ _ (same_is w (codes "if"))
-    (of_choice P (same w (codes "until")) _ _ (same_is w (codes "until"))
-    (of_choice P (same w (codes "frame")) _ _ (same_is w (codes "frame"))
-    (of_choice P (same w (codes "call")) _ word.NoFrame (same_is w (codes "call")) tt)))))))
+    of_choice P (same_bytes w (codes "send")) _ _ (same_is w (codes "send"))
+    (of_choice P (same_bytes w (codes "retry")) _ _ (same_is w (codes "retry"))
+    (of_choice P (same_bytes w (codes "gap")) _ _ (same_is w (codes "gap"))
+    (of_choice P (same_bytes w (codes "repeat")) _ _ (same_is w (codes "repeat"))
+    (of_choice P (same_bytes w (codes "if")) _ _ (same_is w (codes "if"))
+    (of_choice P (same_bytes w (codes "until")) _ _ (same_is w (codes "until"))
+    (of_choice P (same_bytes w (codes "frame")) _ _ (same_is w (codes "frame"))
+    (of_choice P (same_bytes w (codes "call")) _ word.NoFrame (same_is w (codes "call")) tt)))))))
 
 -- what stands behind braces may as well stand behind their inside
 pub braced : (body rest : Tokens) → braces body ++ rest ≡ codes "{" ∷ body ++ codes "}" ∷ rest
@@ -142,9 +142,9 @@ ElseStands ts x = ((nothing ≡ x.0) × (ts ≡ x.1)) ⊎ ((us : Tokens) × (ts 
 else_stands : (block : Reader) → ReadsBlocks block → (ts : Tokens) (x : Tree × Tokens) → else_at block ts ≡ Ok x → ElseStands ts x
 unfolding else_at
 else_stands block all [] x e = let g : (nothing, []) ≡ x = ok_is (nothing, []) x e in inl (ap (λ z. z.0) g, ap (λ z. z.1) g)
-else_stands block all (w ∷ ts) x e = by (same w (codes "else")) refl e
+else_stands block all (w ∷ ts) x e = by (same_bytes w (codes "else")) refl e
   where
-    by : (b : Bool) → same w (codes "else") ≡ b → cond b (block ts) (Ok (nothing, w ∷ ts)) ≡ Ok x → ElseStands (w ∷ ts) x
+    by : (b : Bool) → same_bytes w (codes "else") ≡ b → cond b (block ts) (Ok (nothing, w ∷ ts)) ≡ Ok x → ElseStands (w ∷ ts) x
     by true h i = inr (ts, ap (λ z. z ∷ ts) (same_is w (codes "else") h), all ts x i)
     by false h i = let g : (nothing, w ∷ ts) ≡ x = ok_is (nothing, w ∷ ts) x i in inl (ap (λ z. z.0) g, ap (λ z. z.1) g)
 
@@ -193,8 +193,8 @@ call_frame ds d w ts x h e =
     let c = bind_cond n.2 in
     subst (FrameStands (w ∷ ts)) c (codes "call" ∷ n.0.0 ∷ [], begun h l.0, rule.call l.1)
   where
-    bind_cond : {n : List ℕ × Tokens} → cond (is_known ds n.0) (cond (nat_le (names.named 0 ds n.0) d) (Ok (call n.0, n.1)) (Err cause.Depth)) (Err cause.Name) ≡ Ok x → (call n.0, n.1) ≡ x
-    bind_cond {n = n} i = by (is_known ds n.0) (nat_le (names.named 0 ds n.0) d) i
+    bind_cond : {n : List ℕ × Tokens} → cond (is_known ds n.0) (cond (nat_le (names.meant_by 0 ds n.0) d) (Ok (call n.0, n.1)) (Err cause.Depth)) (Err cause.Name) ≡ Ok x → (call n.0, n.1) ≡ x
+    bind_cond {n = n} i = by (is_known ds n.0) (nat_le (names.meant_by 0 ds n.0) d) i
       where
         by : (b k : Bool) → cond b (cond k (Ok (call n.0, n.1)) (Err cause.Depth)) (Err cause.Name) ≡ Ok x → (call n.0, n.1) ≡ x
         by true true j = ok_is (call n.0, n.1) x j
@@ -225,9 +225,9 @@ frames_stand : (frame : Reader) → ReadsFrames frame → (n : ℕ) → ReadsIns
 unfolding frames_at
 frames_stand frame all n [] x e = absurd (cc)
 frames_stand frame all zero (w ∷ ts) x e = absurd (cc)
-frames_stand frame all (suc n) (w ∷ ts) x e = by (same w (codes "}")) refl (frames_stand frame all n) e
+frames_stand frame all (suc n) (w ∷ ts) x e = by (same_bytes w (codes "}")) refl (frames_stand frame all n) e
   where
-    by : (t : Bool) → same w (codes "}") ≡ t → ReadsInside (frames_at frame n) → cond t (Ok (nothing, ts)) (frame (w ∷ ts) >>= (λ y. frames_at frame n y.1 >>= (λ z. Ok (chained y.0 z.0, z.1)))) ≡ Ok x → FramesStand (w ∷ ts) x
+    by : (t : Bool) → same_bytes w (codes "}") ≡ t → ReadsInside (frames_at frame n) → cond t (Ok (nothing, ts)) (frame (w ∷ ts) >>= (λ y. frames_at frame n y.1 >>= (λ z. Ok (chained y.0 z.0, z.1)))) ≡ Ok x → FramesStand (w ∷ ts) x
     by true h more i = subst (FramesStand (w ∷ ts)) (ok_is (nothing, ts) x i) ([], ap (λ z. z ∷ ts) (same_is w (codes "}") h), SpellFrames.none)
     by false h more i =
         let a = bind_ok (frame (w ∷ ts)) _ x i in
@@ -239,14 +239,14 @@ frames_stand frame all (suc n) (w ∷ ts) x e = by (same w (codes "}")) refl (fr
 pub block_stands : (ds : Scope ℕ) (d : ℕ) → ReadsBlocks (block_at ds d)
 unfolding block_from inner_at
 block_stands ds d [] x e = absurd (cc)
-block_stands ds zero (w ∷ ts) x e = by (same w (codes "{")) e
+block_stands ds zero (w ∷ ts) x e = by (same_bytes w (codes "{")) e
   where
     by : (t : Bool) → cond t (Err cause.Depth) (Err (misplaced w)) ≡ Ok x → BlockStands (w ∷ ts) x
     by true i = absurd (cc)
     by false i = absurd (cc)
-block_stands ds (suc d) (w ∷ ts) x e = by (same w (codes "{")) refl (block_stands ds d) e
+block_stands ds (suc d) (w ∷ ts) x e = by (same_bytes w (codes "{")) refl (block_stands ds d) e
   where
-    by : (t : Bool) → same w (codes "{") ≡ t → ReadsBlocks (block_at ds d) → cond t (frames_at (frame_at ds d) (length ts) ts) (Err (misplaced w)) ≡ Ok x → BlockStands (w ∷ ts) x
+    by : (t : Bool) → same_bytes w (codes "{") ≡ t → ReadsBlocks (block_at ds d) → cond t (frames_at (frame_at ds d) (length ts) ts) (Err (misplaced w)) ≡ Ok x → BlockStands (w ∷ ts) x
     by true h more i = let p = frames_stand (frame_at ds d) (frame_stands ds d (block_at ds d) more) (length ts) ts x i in (p.0, begun (same_is w (codes "{") h) p.1, p.2)
     by false h more i = absurd (cc)
 

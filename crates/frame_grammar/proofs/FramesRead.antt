@@ -5,8 +5,8 @@ use Rattle.std.proofs.lemmas.Bool.{le-leb}
 use Rattle.std.proofs.lemmas.List.{length-append}
 use Rattle.frame_tree.specs.Tree.{Condition, Tree, repeat, choose, until, timed, nothing, chained, call}
 use Rattle.frame_tree.specs.Bounds.{depth_in, CallsKnown, IsCondition}
-use Rattle.frame_tree.specs.Names.{is_name, Scope, named, is_known}
-use Rattle.frame_text.specs.Reading.{Tokens, ◌>>=◌, same, past}
+use Rattle.frame_tree.specs.Names.{is_name, Scope, meant_by, is_known}
+use Rattle.frame_text.specs.Reading.{Tokens, ◌>>=◌, same_bytes, past}
 use Rattle.frame_text.specs.Frames.{Reader, frame_at, frame_from, frame_of, frame_word, frames_at, block_at, block_from, inner_at, else_at, label_at, call_at, repeat_at, timed_at, until_at, choice_at}
 use Rattle.frame_text.proofs.PrintedForms.{MayFollow}
 use Rattle.frame_text.proofs.Scripts.{frames_on}
@@ -23,10 +23,10 @@ pub record Begins (ts : Tokens) : Type 0 where
   pub word : List ℕ
   pub more : Tokens
   pub is : ts ≡ word ∷ more
-  pub no_brace : same word (codes "}") ≡ false
-  pub no_bracket : same word (codes "[") ≡ false
-  pub no_else : same word (codes "else") ≡ false
-  pub no_define : same word (codes "define") ≡ false
+  pub no_brace : same_bytes word (codes "}") ≡ false
+  pub no_bracket : same_bytes word (codes "[") ≡ false
+  pub no_else : same_bytes word (codes "else") ≡ false
+  pub no_define : same_bytes word (codes "define") ≡ false
 
 pub begins : {ws : Tokens} {t : Tree} → rule ws t → Begins ws
 begins (rule.send p) = record { word = codes "send"; more = _; is = refl; no_brace = refl; no_bracket = refl; no_else = refl; no_define = refl }
@@ -96,9 +96,9 @@ choice_else_read block condition one other c a b q few p o rest =
     ap (choice_at block) (sym (else_words condition one other rest))
     ∙ rw (condition_read q 16 few (codes "{" ∷ one ++ codes "}" ∷ behind), p behind, else_read block other b o rest) refl
 
-call_read : (ds : Scope ℕ) (d : ℕ) (n : List ℕ) (ts : Tokens) → is_name n ≡ true → is_known ds n ≡ true → named 0 ds n ≤ d → call_at ds d (n ∷ ts) ≡ Ok (call n, ts)
+call_read : (ds : Scope ℕ) (d : ℕ) (n : List ℕ) (ts : Tokens) → is_name n ≡ true → is_known ds n ≡ true → meant_by 0 ds n ≤ d → call_at ds d (n ∷ ts) ≡ Ok (call n, ts)
 unfolding label_at
-call_read ds d n ts r w l = rw (r, w, le-leb (named 0 ds n) d l) refl
+call_read ds d n ts r w l = rw (r, w, le-leb (meant_by 0 ds n) d l) refl
 
 -- the closing brace
 no_frame_read : (frame : Reader) (n : ℕ) (rest : Tokens) → length (codes "}" ∷ rest) ≤ n → frames_at frame n (codes "}" ∷ rest) ≡ Ok (nothing, rest)

@@ -14,7 +14,7 @@ use Rattle.mil_message.specs.Request.{Request, to_terminal, from_terminal, betwe
 use Rattle.mil_message.specs.Rules.{checked, rules, first_fault, is_address, is_subaddress, is_count, is_code_alone, is_code_from, is_code_to}
 use Rattle.mil_message.proofs.Checked.{request_of-checked, lawful-checked, second_met, third_met}
 use Rattle.frame_text.specs.Tokens.{tokens}
-use Rattle.frame_text.specs.Reading.{Tokens, ◌>>=◌, same, misplaced, to_the_end}
+use Rattle.frame_text.specs.Reading.{Tokens, ◌>>=◌, same_bytes, misplaced, to_the_end}
 use Rattle.frame_text.specs.Words.{number_at, bracketed_at, optional_at}
 use Rattle.frame_text.specs.Messages.{line_at, message_at, message_of, message_word, made, judged, send_at, send_of_text, receive_at, transmit_at, transfer_at, mode_at, receive_all_at, transfer_all_at, mode_all_at}
 use Rattle.frame_text.specs.declared.keywords.MessageWord.{MessageWord}
@@ -230,15 +230,15 @@ stands : (w : List ℕ) → Stands (message_word w) w
 unfolding message_word
 stands w =
     let P : MessageWord → Type 0 = λ k. Stands k w in
-    of_choice P (same w (codes "rx")) _ _ (same_is w (codes "rx"))
-    (of_choice P (same w (codes "tx")) _ _ (same_is w (codes "tx"))
-    (of_choice P (same w (codes "rt")) _ _ (same_is w (codes "rt"))
-    (of_choice P (same w (codes "mode")) _ _ (same_is w (codes "mode"))
-    (of_choice P (same w (codes "mode0")) _ _ (same_is w (codes "mode0"))
-    (of_choice P (same w (codes "brx")) _ _ (same_is w (codes "brx"))
-    (of_choice P (same w (codes "brt")) _ _ (same_is w (codes "brt"))
-    (of_choice P (same w (codes "bmode")) _ _ (same_is w (codes "bmode"))
-    (of_choice P (same w (codes "bmode0")) _ word.NoMessage (same_is w (codes "bmode0")) tt))))))))
+    of_choice P (same_bytes w (codes "rx")) _ _ (same_is w (codes "rx"))
+    (of_choice P (same_bytes w (codes "tx")) _ _ (same_is w (codes "tx"))
+    (of_choice P (same_bytes w (codes "rt")) _ _ (same_is w (codes "rt"))
+    (of_choice P (same_bytes w (codes "mode")) _ _ (same_is w (codes "mode"))
+    (of_choice P (same_bytes w (codes "mode0")) _ _ (same_is w (codes "mode0"))
+    (of_choice P (same_bytes w (codes "brx")) _ _ (same_is w (codes "brx"))
+    (of_choice P (same_bytes w (codes "brt")) _ _ (same_is w (codes "brt"))
+    (of_choice P (same_bytes w (codes "bmode")) _ _ (same_is w (codes "bmode"))
+    (of_choice P (same_bytes w (codes "bmode0")) _ word.NoMessage (same_is w (codes "bmode0")) tt))))))))
 
 word_stands : (k : MessageWord) (w : List ℕ) (ts : Tokens) (x : Form × Tokens) → Stands k w → message_of k w ts ≡ Ok x → MessageStands (w ∷ ts) x.0 x.1
 unfolding message_of
@@ -264,9 +264,9 @@ LineStands ts x = (w : List ℕ) × (ts ≡ w ∷ x.1) × SpellsLine w x.0
 line_stands : (ts : Tokens) (x : Line × Tokens) → line_at ts ≡ Ok x → LineStands ts x
 unfolding line_at
 line_stands [] x e = absurd (cc)
-line_stands (w ∷ ts) x e = by (same w (codes "A")) (same w (codes "B")) refl refl e
+line_stands (w ∷ ts) x e = by (same_bytes w (codes "A")) (same_bytes w (codes "B")) refl refl e
   where
-    by : (a b : Bool) → same w (codes "A") ≡ a → same w (codes "B") ≡ b → cond a (Ok (A, ts)) (cond b (Ok (B, ts)) (Err (misplaced w))) ≡ Ok x → LineStands (w ∷ ts) x
+    by : (a b : Bool) → same_bytes w (codes "A") ≡ a → same_bytes w (codes "B") ≡ b → cond a (Ok (A, ts)) (cond b (Ok (B, ts)) (Err (misplaced w))) ≡ Ok x → LineStands (w ∷ ts) x
     by true b h i j = subst (LineStands (w ∷ ts)) (ok_is (A, ts) x j) (codes "A", ap (λ z. z ∷ ts) (same_is w (codes "A") h), SpellsLine.line_a)
     by false true h i j = subst (LineStands (w ∷ ts)) (ok_is (B, ts) x j) (codes "B", ap (λ z. z ∷ ts) (same_is w (codes "B") i), SpellsLine.line_b)
     by false false h i j = absurd (cc)

@@ -2,17 +2,17 @@
 use Rattle.std.proofs.Common.{◌≡◌, ℕ, Bool, true, false, cond, List, [], ◌∷◌, ◌++◌, Ok, Err, refl, ap, ◌∙◌, append_assoc}
 use Rattle.std.specs.Prelude.{nat_eq, ◌&&◌}
 use Rattle.std.proofs.lemmas.Bool.{eqb-true}
-use Rattle.frame_text.specs.Reading.{Tokens, same, past, misplaced, to_the_end}
+use Rattle.frame_text.specs.Reading.{Tokens, same_bytes, past, misplaced, to_the_end}
 
 pub both_hold : (a b : Bool) → (a && b) ≡ true → (a ≡ true) × (b ≡ true)
 both_hold true b e = (refl, e)
 both_hold false b e = absurd (cc)
 
-pub same_is : (a b : List ℕ) → same a b ≡ true → a ≡ b
+pub same_is : (a b : List ℕ) → same_bytes a b ≡ true → a ≡ b
 same_is [] [] e = refl
 same_is [] (y ∷ ys) e = absurd (cc)
 same_is (x ∷ xs) [] e = absurd (cc)
-same_is (x ∷ xs) (y ∷ ys) e = let p = both_hold (nat_eq x y) (same xs ys) e in rw (eqb-true x y p.0, same_is xs ys p.1) refl
+same_is (x ∷ xs) (y ∷ ys) e = let p = both_hold (nat_eq x y) (same_bytes xs ys) e in rw (eqb-true x y p.0, same_is xs ys p.1) refl
 
 -- what holds of each branch holds of the choice
 pub of_choice : {X : Type 0} (P : X → Type 0) (b : Bool) (x y : X) → (b ≡ true → P x) → P y → P (cond b x y)
@@ -23,9 +23,9 @@ of_choice P false x y p q = q
 pub past_ok : (token : List ℕ) (ts us : Tokens) → past token ts ≡ Ok us → ts ≡ token ∷ us
 unfolding past
 past_ok token [] us e = absurd (cc)
-past_ok token (w ∷ ts) us e = by (same w token) refl e
+past_ok token (w ∷ ts) us e = by (same_bytes w token) refl e
   where
-    by : (b : Bool) → same w token ≡ b → cond b (Ok ts) (Err (misplaced w)) ≡ Ok us → w ∷ ts ≡ token ∷ us
+    by : (b : Bool) → same_bytes w token ≡ b → cond b (Ok ts) (Err (misplaced w)) ≡ Ok us → w ∷ ts ≡ token ∷ us
     by true h i = let g : ts ≡ us = cc in rw (same_is w token h, g) refl
     by false h i = absurd (cc)
 

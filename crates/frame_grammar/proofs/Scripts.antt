@@ -8,7 +8,7 @@ use Rattle.frame_tree.specs.Bounds.{depth_in, worst_messages, CallsKnown, IsDefi
 use Rattle.frame_tree.specs.Names as names
 use Rattle.frame_tree.specs.Names.{is_name, Scope, is_known}
 use Rattle.frame_text.specs.Tokens.{tokens}
-use Rattle.frame_text.specs.Reading.{Tokens, ◌>>=◌, same}
+use Rattle.frame_text.specs.Reading.{Tokens, ◌>>=◌, same_bytes}
 use Rattle.frame_text.specs.Frames.{frame_at, main_at, label_at, fresh_name_at, definition_at, block_at, script_at, tree_of_text}
 use Rattle.frame_text.specs.declared.faults.Cause.TheVariants as cause
 use Rattle.frame_text.proofs.Soundness.{bind_ok, ok_is, script_is_sound}
@@ -57,14 +57,14 @@ definition_stands ds ts x e =
 script_stands : (k : ℕ) (ds : Scope ℕ) (ts : Tokens) (t : Tree) → script_at k ds ts ≡ Ok t → SpellScript ts t
 unfolding script_at
 script_stands k ds [] t e = subst (SpellScript []) (ok_is nothing t e) (SpellScript.main SpellFrames.none)
-script_stands zero ds (w ∷ ts) t e = by (same w (codes "define")) e
+script_stands zero ds (w ∷ ts) t e = by (same_bytes w (codes "define")) e
   where
     by : (b : Bool) → cond b (Err cause.Definitions) (main_at ds (length (w ∷ ts)) (w ∷ ts)) ≡ Ok t → SpellScript (w ∷ ts) t
     by true i = absurd (cc)
     by false i = SpellScript.main (main_stands ds (length (w ∷ ts)) (w ∷ ts) t i)
-script_stands (suc k) ds (w ∷ ts) t e = by (same w (codes "define")) refl (λ es us u i. script_stands k es us u i) e
+script_stands (suc k) ds (w ∷ ts) t e = by (same_bytes w (codes "define")) refl (λ es us u i. script_stands k es us u i) e
   where
-    by : (b : Bool) → same w (codes "define") ≡ b → ((es : Scope ℕ) (us : Tokens) (u : Tree) → script_at k es us ≡ Ok u → SpellScript us u)
+    by : (b : Bool) → same_bytes w (codes "define") ≡ b → ((es : Scope ℕ) (us : Tokens) (u : Tree) → script_at k es us ≡ Ok u → SpellScript us u)
         → cond b (definition_at ds ts >>= (λ x. script_at k ((x.0.0, depth_in ds x.0.1) ∷ ds) x.1 >>= (λ t. Ok (define x.0.0 x.0.1 t)))) (main_at ds (length (w ∷ ts)) (w ∷ ts)) ≡ Ok t → SpellScript (w ∷ ts) t
     by true h more i =
         let x = bind_ok (definition_at ds ts) _ t i in
@@ -87,13 +87,13 @@ main_read (SpellFrames.more {frame = frame} {frames = frames} {a = a} {b = b} p 
     ∙ ap (λ z. z >>= (λ t. Ok (chained a t))) (main_read q ds w.1 (omega (arith, l)) n (omega (arith, s, ap (λ z. length (z ++ frames)) g.is, length-append g.more frames)))
 
 -- no frame is a definition
-no_definition_here : {ws : Tokens} {t : Tree} → SpellFrames ws t → (w : List ℕ) (ts : Tokens) → ws ≡ w ∷ ts → same w (codes "define") ≡ false
+no_definition_here : {ws : Tokens} {t : Tree} → SpellFrames ws t → (w : List ℕ) (ts : Tokens) → ws ≡ w ∷ ts → same_bytes w (codes "define") ≡ false
 no_definition_here (SpellFrames.none) w ts e = absurd (cc)
 no_definition_here (SpellFrames.more {frame = frame} {frames = frames} p q) w ts e =
     let g = begins p in
     let both : g.word ∷ (g.more ++ frames) ≡ w ∷ ts = sym (ap (λ z. z ++ frames) g.is) ∙ e in
     let first : g.word ≡ w = cc in
-    ap (λ z. same z (codes "define")) (sym first) ∙ g.no_define
+    ap (λ z. same_bytes z (codes "define")) (sym first) ∙ g.no_define
 
 -- the same names in scope
 abbrev Alike : Scope ℕ → Scope ℕ → Type 0
@@ -131,7 +131,7 @@ script_read (SpellScript.define {label = n} {body = body} {script = rest} {b = b
     defines (suc k) ds (codes "define") (codes "define" ∷ ts) ts refl refl (λ e. omega (arith, e))
     ∙ ap (λ z. z >>= (λ x. script_at (suc k - 1) ((x.0.0, depth_in ds x.0.1) ∷ ds) x.1 >>= (λ t. Ok (define x.0.0 x.0.1 t)))) (definition_read ds n body rest b i (a n ∙ w.1) p (alike_known ds es a b w.2) (omega (arith, l)))
     ∙ ap (λ j. script_at j ((n, depth_in ds b) ∷ ds) rest >>= (λ t. Ok (define n b t))) less
-    ∙ ap (λ z. z >>= (λ t. Ok (define n b t))) (script_read q k ((n, depth_in ds b) ∷ ds) ((n, length es) ∷ es) (λ m. ap (λ v. names.same n m || v) (a m)) (omega (arith, few)) w.3 (omega (arith, l)))
+    ∙ ap (λ z. z >>= (λ t. Ok (define n b t))) (script_read q k ((n, depth_in ds b) ∷ ds) ((n, length es) ∷ es) (λ m. ap (λ v. names.same_bytes n m || v) (a m)) (omega (arith, few)) w.3 (omega (arith, l)))
 script_read (SpellScript.main {frames = frames} {t = t} p) k ds es a few w l =
     no_definition k ds frames (no_definition_here p)
     ∙ main_read p ds (alike_known ds es a t (calls_known p es w)) l (length frames) (omega arith)

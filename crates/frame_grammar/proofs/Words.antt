@@ -4,7 +4,7 @@ use Rattle.std.specs.Prelude.{codes, nat_eq, nat_le, ◌&&◌}
 use Rattle.std.proofs.lemmas.Bool.{le-leb, eqb-true}
 use Rattle.std.proofs.lemmas.List.{take_all}
 use Rattle.numerals.specs.Numerals as numerals
-use Rattle.frame_text.specs.Reading.{Tokens, ◌>>=◌, same, past}
+use Rattle.frame_text.specs.Reading.{Tokens, ◌>>=◌, same_bytes, past}
 use Rattle.frame_text.specs.Words.{number_at, number_of, number_within, period_at, words_at, counted, bracketed_at, optional_at, spelled, data_word_of}
 use Rattle.frame_text.specs.declared.faults.Cause.{Cause}
 use Rattle.frame_text.specs.declared.faults.Cause.TheVariants as cause
@@ -78,7 +78,7 @@ DataWordsStand ts x = (ws : Tokens) × (ts ≡ ws ++ codes "]" ∷ x.1) × Spell
 data_words_stand : (ts : Tokens) (x : List ℕ × Tokens) → words_at ts ≡ Ok x → DataWordsStand ts x
 unfolding words_at
 data_words_stand [] x e = absurd (cc)
-data_words_stand (w ∷ ts) x e = by (same w (codes "]")) refl (λ y i. data_words_stand ts y i) e
+data_words_stand (w ∷ ts) x e = by (same_bytes w (codes "]")) refl (λ y i. data_words_stand ts y i) e
   where
     one : (o : Option ℕ) → data_word_of w ≡ o → ((y : List ℕ × Tokens) → words_at ts ≡ Ok y → DataWordsStand ts y) → (spelled w o >>= (λ n. words_at ts >>= (λ ns. Ok (n ∷ ns.0, ns.1)))) ≡ Ok x → DataWordsStand (w ∷ ts) x
     one (Some n) h below i =
@@ -87,7 +87,7 @@ data_words_stand (w ∷ ts) x e = by (same w (codes "]")) refl (λ y i. data_wor
         subst (DataWordsStand (w ∷ ts)) (ok_is (n ∷ r.0.0, r.0.1) x r.2) (w ∷ p.0, ap (λ z. w ∷ z) p.1, SpellDataWords.more h p.2)
     one None h below i = absurd (cc)
 
-    by : (b : Bool) → same w (codes "]") ≡ b → ((y : List ℕ × Tokens) → words_at ts ≡ Ok y → DataWordsStand ts y) → cond b (Ok ([], ts)) (spelled w (data_word_of w) >>= (λ n. words_at ts >>= (λ ns. Ok (n ∷ ns.0, ns.1)))) ≡ Ok x → DataWordsStand (w ∷ ts) x
+    by : (b : Bool) → same_bytes w (codes "]") ≡ b → ((y : List ℕ × Tokens) → words_at ts ≡ Ok y → DataWordsStand ts y) → cond b (Ok ([], ts)) (spelled w (data_word_of w) >>= (λ n. words_at ts >>= (λ ns. Ok (n ∷ ns.0, ns.1)))) ≡ Ok x → DataWordsStand (w ∷ ts) x
     by true h below i = subst (DataWordsStand (w ∷ ts)) (ok_is ([], ts) x i) ([], ap (λ z. z ∷ ts) (same_is w (codes "]") h), SpellDataWords.none)
     by false h below i = one (data_word_of w) refl below i
 
@@ -105,11 +105,11 @@ counted_stand : (w : List ℕ) (ts : Tokens) (x : List ℕ × Tokens) → w ≡ 
 counted_stand w ts x h e few =
     let r = bind_ok (words_at ts) _ x e in
     let p = data_words_stand ts r.0 r.1 in
-    let same : (take 33 r.0.0, r.0.1) ≡ x = ok_is _ x r.2 in
-    let cut : take 33 r.0.0 ≡ x.0 = ap (λ z. z.0) same in
+    let same_bytes : (take 33 r.0.0, r.0.1) ≡ x = ok_is _ x r.2 in
+    let cut : take 33 r.0.0 ≡ x.0 = ap (λ z. z.0) same_bytes in
     let short : length (take 33 r.0.0) ≤ 32 = subst (λ z. length z ≤ 32) (sym cut) few in
     let whole : r.0.0 ≡ x.0 = sym (uncut 33 r.0.0 (omega (arith, short))) ∙ cut in
-    let rest : r.0.1 ≡ x.1 = ap (λ z. z.1) same in (
+    let rest : r.0.1 ≡ x.1 = ap (λ z. z.1) same_bytes in (
       codes "[" ∷ p.0 ++ codes "]" ∷ [],
       begun h (p.1 ∙ ap (λ z. p.0 ++ codes "]" ∷ z) rest ∙ sym (append_assoc p.0 (codes "]" ∷ []) x.1)),
       SpellWords.bracketed (subst (SpellDataWords p.0) whole p.2),
@@ -132,23 +132,23 @@ WordsMayStand ts x = (ws : Tokens) × (ts ≡ ws ++ x.1) × MaySpellWords ws x.0
 pub words_may_stand : (ts : Tokens) (x : Option (List ℕ) × Tokens) → optional_at ts ≡ Ok x → AreFew x.0 → WordsMayStand ts x
 unfolding optional_at
 words_may_stand [] x e few = subst (WordsMayStand []) (ok_is (None, []) x e) ([], refl, MaySpellWords.none)
-words_may_stand (w ∷ ts) x e few = by (same w (codes "[")) refl e
+words_may_stand (w ∷ ts) x e few = by (same_bytes w (codes "[")) refl e
   where
-    by : (b : Bool) → same w (codes "[") ≡ b → cond b (counted (words_at ts) >>= (λ ns. Ok (Some ns.0, ns.1))) (Ok (None, w ∷ ts)) ≡ Ok x → WordsMayStand (w ∷ ts) x
+    by : (b : Bool) → same_bytes w (codes "[") ≡ b → cond b (counted (words_at ts) >>= (λ ns. Ok (Some ns.0, ns.1))) (Ok (None, w ∷ ts)) ≡ Ok x → WordsMayStand (w ∷ ts) x
     by true h i =
         let r = bind_ok (counted (words_at ts)) _ x i in
-        let same : (Some r.0.0, r.0.1) ≡ x = ok_is _ x r.2 in
-        let short : length r.0.0 ≤ 32 = subst (λ (z : Option (List ℕ) × Tokens). AreFew z.0) (sym same) few in
+        let same_bytes : (Some r.0.0, r.0.1) ≡ x = ok_is _ x r.2 in
+        let short : length r.0.0 ≤ 32 = subst (λ (z : Option (List ℕ) × Tokens). AreFew z.0) (sym same_bytes) few in
         let p = counted_stand w ts r.0 (same_is w (codes "[") h) r.1 short in
-        subst (WordsMayStand (w ∷ ts)) same (p.0, p.1, MaySpellWords.some p.2)
+        subst (WordsMayStand (w ∷ ts)) same_bytes (p.0, p.1, MaySpellWords.some p.2)
     by false h i = subst (WordsMayStand (w ∷ ts)) (ok_is (None, w ∷ ts) x i) ([], refl, MaySpellWords.none)
 
 -- a data word is no bracket
-no_bracket : (w : List ℕ) (n : ℕ) → data_word_of w ≡ Some n → same w (codes "]") ≡ false
+no_bracket : (w : List ℕ) (n : ℕ) → data_word_of w ≡ Some n → same_bytes w (codes "]") ≡ false
 unfolding numerals.spelled
-no_bracket w n e = by (same w (codes "]")) refl
+no_bracket w n e = by (same_bytes w (codes "]")) refl
   where
-    by : (b : Bool) → same w (codes "]") ≡ b → b ≡ false
+    by : (b : Bool) → same_bytes w (codes "]") ≡ b → b ≡ false
     by true h = let i : data_word_of (codes "]") ≡ Some n = subst (λ z. data_word_of z ≡ Some n) (same_is w (codes "]") h) e in absurd (cc)
     by false h = refl
 

@@ -1,6 +1,7 @@
 -- The frames of the grammar of scripts (own choice).
 use Rattle.std.specs.Prelude.{◌≡◌, ℕ, ◌*◌, ◌≤◌, true, List, [], ◌∷◌, ◌++◌, codes}
 use Rattle.mil_word.specs.declared.Line.{Line}
+use Rattle.mil_word.specs.Timing.{least_gap}
 use Rattle.mil_message.specs.declared.forms.Form.{Form}
 use Rattle.frame_tree.specs.Tree.{Condition, Tree, nothing, chained}
 use Rattle.frame_tree.specs.Tree as tree
@@ -21,7 +22,7 @@ mutual
         → SpellsWithin 1 8 number n → SpellSend message l m
         → SpellFrame (codes "retry" ∷ number ∷ codes "send" ∷ message) (tree.retry n l m)
     gap : {number : List ℕ} {n : ℕ}
-        → SpellsWithin 40 65535 number n
+        → SpellsWithin least_gap 65535 number n
         → SpellFrame (codes "gap" ∷ number ∷ []) (tree.gap n)
     repeat : {number : List ℕ} {body : Tokens} {n : ℕ} {b : Tree}
         → SpellsWithin 1 10000 number n → SpellFrames body b

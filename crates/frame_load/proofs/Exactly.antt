@@ -4,8 +4,8 @@ use Rattle.std.specs.Prelude.{◌↔◌}
 use Rattle.frame_code.specs.Table.{Code}
 use Rattle.frame_load.specs.Judging.{Refuses, Judges, IsWithin, HasShortPeriods}
 use Rattle.frame_code.specs.Loadable.{IsLoadable}
-use Rattle.frame_load.specs.declared.LoadError.{LoadError}
-use Rattle.frame_load.specs.declared.LoadError.TheVariants.{End, Routines, Nesting, Jumps, Messages, Budget, Memory, Periods}
+use Rattle.frame_load.specs.declared.error.LoadError.{LoadError}
+use Rattle.frame_load.specs.declared.error.LoadError.TheVariants.{End, Routines, Nesting, Jumps, Messages, Budget, Memory, Periods}
 
 one_refusal : (code : Code) (a b : LoadError) → Refuses code a → Refuses code b → a ≡ b
 one_refusal code End End x y = refl

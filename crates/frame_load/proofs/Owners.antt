@@ -10,7 +10,7 @@ use Rattle.frame_code.specs.declared.Op.{Op}
 use Rattle.frame_code.specs.declared.Op.TheVariants.{Halt, Send, Alt, SetGap, Loop, Again, Leave, Jump, Test, JumpFalse, Call, Return, Begin, Pace}
 use Rattle.frame_code.specs.Routines.{routines, begin_of, passed, owner_at}
 use Rattle.frame_code.specs.Loadable.{CallsEarlier}
-use Rattle.frame_load.specs.Budget.{weight, Sums, called, sums_after, sums_at}
+use Rattle.frame_load.specs.Budget.{weight, Sums, cost_called, sums_after, sums_at}
 use Rattle.frame_load.proofs.Opened.{within, routine_le, behind_at}
 use Rattle.frame_load.proofs.Weights.{sums_long}
 
@@ -129,7 +129,7 @@ module _ (cap : ℕ) (some : 1 ≤ cap) (cost : Op → ℕ) (os : List Op) where
       below r (omega (arith, l, same_owner os i o at h)) ∙ ap (λ ds. min cap (get_or ds r 0)) (sym (ap (λ (z : Sums). z.ended) (sums_next i o at) ∙ kept_sums o (weight os i) (sums_at cost os i) h))
 
   -- what a Call's routine costs, cut at the cap
-  pub called_capped : (i c : ℕ) (o : Op) (ended : List ℕ) → c ≡ called o ended → CallsEarlier (owner_at os i) o → EndedSums i ended → c ≡ min cap (called o (sums_at cost os i).ended)
+  pub called_capped : (i c : ℕ) (o : Op) (ended : List ℕ) → c ≡ cost_called o ended → CallsEarlier (owner_at os i) o → EndedSums i ended → c ≡ min cap (cost_called o (sums_at cost os i).ended)
   called_capped i c (Call r) ended e h below = e ∙ below r h
   called_capped i c Halt ended e h below = omega (arith, e)
   called_capped i c (Send m) ended e h below = omega (arith, e)
@@ -145,14 +145,14 @@ module _ (cap : ℕ) (some : 1 ≤ cap) (cost : Op → ℕ) (os : List Op) where
   called_capped i c Begin ended e h below = omega (arith, e)
   called_capped i c (Pace t) ended e h below = omega (arith, e)
 
-  now_sums : (o : Op) (w : ℕ) (s : Sums) → (o ≡ Return → ⊥) → (sums_after cost (Some o) w s).now ≡ s.now + w * (cost o + called o s.ended)
+  now_sums : (o : Op) (w : ℕ) (s : Sums) → (o ≡ Return → ⊥) → (sums_after cost (Some o) w s).now ≡ s.now + w * (cost o + cost_called o s.ended)
   now_sums Return w s h = absurd (h refl)
   now_sums _ w s h = refl
 
-  pub now_is : (i : ℕ) (o : Op) (now now' w c : ℕ) → slice_get os i ≡ Some o → (o ≡ Return → ⊥) → now ≡ min cap (sums_at cost os i).now → w ≡ min cap (weight os i) → c ≡ min cap (called o (sums_at cost os i).ended)
+  pub now_is : (i : ℕ) (o : Op) (now now' w c : ℕ) → slice_get os i ≡ Some o → (o ≡ Return → ⊥) → now ≡ min cap (sums_at cost os i).now → w ≡ min cap (weight os i) → c ≡ min cap (cost_called o (sums_at cost os i).ended)
       → now' ≡ min (now + w * (cost o + c)) cap → now' ≡ min cap (sums_at cost os (i + 1)).now
   now_is i o now now' w c at h en ew ec is =
-      is ∙ ap (λ z. min (z + w * (cost o + c)) cap) en ∙ capped_sum cap (sums_at cost os i).now (weight os i) (cost o) (called o (sums_at cost os i).ended) w c some ew ec
+      is ∙ ap (λ z. min (z + w * (cost o + c)) cap) en ∙ capped_sum cap (sums_at cost os i).now (weight os i) (cost o) (cost_called o (sums_at cost os i).ended) w c some ew ec
       ∙ ap (min cap) (sym (ap (λ (z : Sums). z.now) (sums_next i o at) ∙ now_sums o (weight os i) (sums_at cost os i) h))
 
   pub end_is : (i now now' w c : ℕ) → slice_get os i ≡ Some Return → now ≡ min cap (sums_at cost os i).now → w ≡ min cap (weight os i) → c ≡ 0 → now' ≡ min (now + w * (cost Return + c)) cap

@@ -11,7 +11,7 @@ use Rattle.frame_code.specs.Table.{Code}
 use Rattle.frame_code.specs.Routines.{passed, owner_at}
 use Rattle.frame_code.specs.Ranges.{AreInRange}
 use Rattle.frame_code.specs.Loadable.{after, open_at, Each, CallsEarlier, IsLoadable}
-use Rattle.frame_load.specs.Budget.{turns_of, weight_in, weight, Sums, called, sums_after, sums_at}
+use Rattle.frame_load.specs.Budget.{turns_of, weight_in, weight, Sums, cost_called, sums_after, sums_at}
 use Rattle.frame_load.proofs.Left.{inner, turn, rest}
 use Rattle.frame_load.proofs.Opened.{there, IsReturn, same_routine, next_up, routine_le}
 use Rattle.frame_load.proofs.Steps.{drop_at}
@@ -186,7 +186,7 @@ all_sums cost os = (sums_at cost os (length os)).ended ++ (sums_at cost os (leng
 
 -- what an operation costs together with what it calls
 abbrev pub price : (Op → ℕ) → List Op → Op → ℕ
-price cost os o = cost o + called o (all_sums cost os)
+price cost os o = cost o + cost_called o (all_sums cost os)
 
 module _ (cost : Op → ℕ) (os : List Op) where
   at_op : (p : ℕ) (o : Op) → slice_get os p ≡ Some o → sums_at cost os (suc p) ≡ sums_after cost (Some o) (weight os p) (sums_at cost os p)
@@ -215,7 +215,7 @@ module _ (cost : Op → ℕ) (os : List Op) where
       ∙ kept_step (slice_get os p) (weight os p) r (sums_at cost os p) (omega (arith, h, sums_long p))
 
   -- what the routine of a Call costs is known at the Call
-  called_is : (p : ℕ) (o : Op) → p ≤ length os → CallsEarlier (owner_at os p) o → called o (all_sums cost os) ≡ called o (sums_at cost os p).ended
+  called_is : (p : ℕ) (o : Op) → p ≤ length os → CallsEarlier (owner_at os p) o → cost_called o (all_sums cost os) ≡ cost_called o (sums_at cost os p).ended
   called_is p (Call r) le h = kept (length os - p) p r (omega (arith, le)) h
   called_is p _ le h = refl
 
@@ -224,7 +224,7 @@ module _ (cost : Op → ℕ) (os : List Op) where
 
   -- an operation that ends no routine
   goes_up : (p : ℕ) (o : Op) → slice_get os p ≡ Some o → (IsReturn o → ⊥) → suc p ≤ length os → CallsEarlier (owner_at os p) o
-      → (sums_after cost (Some o) (weight os p) (sums_at cost os p)).now ≡ (sums_at cost os p).now + weight os p * (cost o + called o (sums_at cost os p).ended) → Sums_up (suc p) → Sums_up p
+      → (sums_after cost (Some o) (weight os p) (sums_at cost os p)).now ≡ (sums_at cost os p).now + weight os p * (cost o + cost_called o (sums_at cost os p).ended) → Sums_up (suc p) → Sums_up p
   goes_up p o e g le h s more =
       let next : open_at os (suc p) ≡ after (Some o) p (open_at os p) = ap (λ v. after v p (open_at os p)) e in
       omega (

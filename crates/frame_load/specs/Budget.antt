@@ -42,9 +42,9 @@ pub record Sums : Type 0 where
   pub ended : List ℕ
 
 -- what the routine of a Call costs
-abbrev pub called : Op → List ℕ → ℕ
-called (Call r) costs = get_or costs r 0
-called _ costs = 0
+abbrev pub cost_called : Op → List ℕ → ℕ
+cost_called (Call r) costs = get_or costs r 0
+cost_called _ costs = 0
 
 module _ (cost : Op → ℕ) where
   abbrev pub cost_of : Option Op → ℕ
@@ -55,7 +55,7 @@ module _ (cost : Op → ℕ) where
   abbrev pub sums_after : Option Op → ℕ → Sums → Sums
   sums_after None w s = s
   sums_after (Some Return) w s = record { now = 0; ended = s.ended ++ (s.now + w * cost Return) ∷ [] }
-  sums_after (Some o) w s = record { now = s.now + w * (cost o + called o s.ended); ended = s.ended }
+  sums_after (Some o) w s = record { now = s.now + w * (cost o + cost_called o s.ended); ended = s.ended }
 
   abbrev pub sums_at : List Op → ℕ → Sums
   sums_at os zero = record { now = 0; ended = [] }

@@ -5,9 +5,9 @@ use Rattle.frame_code.specs.Table.{Code}
 use Rattle.frame_code.specs.Routines.{routines, begin_of}
 use Rattle.frame_code.specs.Loadable.{EndsInHalt, HasRoutines, IsNested, GoesWell, HasMessage, Each, IsLoadable}
 use Rattle.frame_load.specs.Budget.{budget, worst_messages, periods}
-use Rattle.frame_load.specs.declared.LoadError.{LoadError}
-use Rattle.frame_load.specs.declared.LoadError.TheVariants.{End, Routines, Nesting, Jumps, Messages, Budget, Periods}
-use Rattle.frame_load.specs.declared.LoadError.TheVariants.{Memory}
+use Rattle.frame_load.specs.declared.error.LoadError.{LoadError}
+use Rattle.frame_load.specs.declared.error.LoadError.TheVariants.{End, Routines, Nesting, Jumps, Messages, Budget, Periods}
+use Rattle.frame_load.specs.declared.error.LoadError.TheVariants.{Memory}
 
 -- at most 100,000,000 steps and 1,000,000 messages
 abbrev pub IsWithin : Code → Type 0

@@ -66,7 +66,7 @@ fn cost(op: Op, what: Counted) -> u64
 // What the routine of a Call costs, or the cap; 0 for every other operation.
 fn called(op: Op, ended: &[u64; 32]) -> u64
     requires { (r : ℕ) → op ≡ op_of.Call r → r < 32 }
-    ensures { result ≡ sums.called op ended.now }
+    ensures { result ≡ sums.cost_called op ended.now }
 {
     match op {
         Op::Call(routine) => ended[routine as usize],

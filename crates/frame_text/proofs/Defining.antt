@@ -7,7 +7,7 @@ use Rattle.frame_tree.specs.Bounds.{depth_in, worst_messages}
 use Rattle.frame_tree.specs.Names.{Scope}
 use Rattle.frame_tree.specs.Scopes.{scope_of}
 use Rattle.frame_tree.specs.declared.names.Scope.{Empty, the_lemmas}
-use Rattle.frame_text.specs.Reading.{◌>>=◌, Tokens, same, Fails, Breaks, IsOfText}
+use Rattle.frame_text.specs.Reading.{◌>>=◌, Tokens, same_bytes, Fails, Breaks, IsOfText}
 use Rattle.frame_text.specs.Frames.{block_at, fresh_name_at, script_at, bounded}
 use Rattle.frame_text.specs.declared.faults.Cause.{Cause}
 use Rattle.frame_text.specs.declared.faults.Cause.TheVariants as cause
@@ -18,7 +18,7 @@ use Rattle.frame_text.proofs.Scripts.{defines}
 pub no_names : scope_of Empty ≡ []
 no_names = search (rules, the_lemmas)
 
-module _ (k : ℕ) (ds : Scope ℕ) (w : List ℕ) (text ts : Tokens) (is : text ≡ w ∷ ts) (h : same w (codes "define") ≡ true) (some : k ≢ 0) where
+module _ (k : ℕ) (ds : Scope ℕ) (w : List ℕ) (text ts : Tokens) (is : text ≡ w ∷ ts) (h : same_bytes w (codes "define") ≡ true) (some : k ≢ 0) where
   abbrev whole : Result ((List ℕ × Tree) × Tokens) Cause → Result Tree Cause
   whole r = r >>= (λ x. script_at (k - 1) ((x.0.0, depth_in ds x.0.1) ∷ ds) x.1 >>= (λ t. Ok (define x.0.0 x.0.1 t)))
 
@@ -45,7 +45,7 @@ module _ (k : ℕ) (ds : Scope ℕ) (w : List ℕ) (text ts : Tokens) (is : text
 
 -- a depth that was not cut
 pub not_cut : (n : List ℕ) (d x : ℕ) (ds : Scope ℕ) → d ≡ min 17 x → x ≤ 16 → (n, d) ∷ ds ≡ (n, x) ∷ ds
-not_cut n d x ds e h = let same : d ≡ x = omega (arith, e, h) in ap (λ v. (n, v) ∷ ds) same
+not_cut n d x ds e h = let same_bytes : d ≡ x = omega (arith, e, h) in ap (λ v. (n, v) ∷ ds) same_bytes
 
 -- a script with too many messages, and one with few enough
 cut : (t : Tree) (b : Bool) → nat_le (worst_messages t) 1000000 ≡ b → bounded t ≡ cond b (Ok t) (Err cause.Messages)

@@ -13,7 +13,7 @@ use Rattle.mil_message.specs.declared.forms.Form.TheVariants.{ToTerminal, FromTe
 use Rattle.mil_message.specs.Request.{Request, mode_request, mode_request_to_all, mode, mode_from, mode_to, mode_all, mode_all_to}
 use Rattle.mil_message.specs.Rules.{IsLawful, first_fault, request_for, checked, is_address, is_code_alone, is_code_from, is_code_to}
 use Rattle.mil_message.proofs.Checked.{head_met, middle_met, checked-request_for}
-use Rattle.frame_text.specs.Reading.{Tokens, ◌>>=◌, same, past}
+use Rattle.frame_text.specs.Reading.{Tokens, ◌>>=◌, same_bytes, past}
 use Rattle.frame_text.specs.Words.{number_at, words_at, counted, bracketed_at, optional_at, spelled}
 use Rattle.frame_text.specs.Messages.{line_at, message_at, message_of, message_word, made, judged, send_at, receive_at, transmit_at, transfer_at, mode_at, receive_all_at, transfer_all_at, mode_all_at}
 use Rattle.frame_text.specs.PrintedMessages.{data_word_text, line_text}
@@ -44,7 +44,7 @@ unfolding number_at
 number_then n ts h = ap (λ o. spelled (decimal n) o >>= (λ k. Ok (k, ts))) (number_back n h)
 
 -- a data word is no bracket
-no_bracket : (w : ℕ) → same (data_word_text w) (codes "]") ≡ false
+no_bracket : (w : ℕ) → same_bytes (data_word_text w) (codes "]") ≡ false
 no_bracket w = by (nat_eq (digit_glyph true (w / 256 / 16)) 93)
   where
     by : (t : Bool) → (t && false) ≡ false

@@ -12,7 +12,7 @@ use Rattle.mil_message.specs.Rules as rules
 use Rattle.mil_message.specs.Rules.{checked, form_of, mode_word}
 use Rattle.mil_message.proofs.Checked.{lawful-checked}
 use Rattle.numerals.proofs.Back.{spelled_below}
-use Rattle.frame_text.specs.Reading.{Tokens, ◌>>=◌, same, past}
+use Rattle.frame_text.specs.Reading.{Tokens, ◌>>=◌, same_bytes, past}
 use Rattle.frame_text.specs.Words.{data_word_of, spelled, number_at, words_at, counted, bracketed_at, optional_at}
 use Rattle.frame_text.specs.Messages.{line_at, message_at, message_of, message_word, made, judged, send_at, receive_at, transmit_at, transfer_at, mode_at, receive_all_at, transfer_all_at, mode_all_at}
 use Rattle.frame_text.specs.declared.keywords.MessageWord.{MessageWord}
@@ -33,7 +33,7 @@ spelled_small w n e = by (data_word_of w) refl e
 words_ok : (ts : Tokens) (x : List ℕ × Tokens) → words_at ts ≡ Ok x → AreWords x.0
 unfolding words_at
 words_ok [] x e = absurd (cc)
-words_ok (w ∷ ts) x e = by (same w (codes "]")) (λ y i. words_ok ts y i) e
+words_ok (w ∷ ts) x e = by (same_bytes w (codes "]")) (λ y i. words_ok ts y i) e
   where
     by : (t : Bool) → ((y : List ℕ × Tokens) → words_at ts ≡ Ok y → AreWords y.0)
         → cond t (Ok ([], ts)) (spelled w (data_word_of w) >>= (λ n. words_at ts >>= (λ ns. Ok (n ∷ ns.0, ns.1)))) ≡ Ok x → AreWords x.0
@@ -64,7 +64,7 @@ AreWordsIf (Some ws) = AreWords ws
 optional_ok : (ts : Tokens) (x : Option (List ℕ) × Tokens) → optional_at ts ≡ Ok x → AreWordsIf x.0
 unfolding optional_at
 optional_ok [] x e = subst (λ (z : Option (List ℕ) × Tokens). AreWordsIf z.0) (ok_is _ x e) tt
-optional_ok (w ∷ ts) x e = by (same w (codes "[")) e
+optional_ok (w ∷ ts) x e = by (same_bytes w (codes "[")) e
   where
     by : (t : Bool) → cond t (counted (words_at ts) >>= (λ ns. Ok (Some ns.0, ns.1))) (Ok (None, w ∷ ts)) ≡ Ok x → AreWordsIf x.0
     by true i =

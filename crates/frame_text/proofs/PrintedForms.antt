@@ -12,7 +12,7 @@ use Rattle.mil_message.specs.declared.forms.Form.{Form}
 use Rattle.mil_message.specs.declared.forms.Form.TheVariants.{ToTerminal, FromTerminal, Between, Mode, ModeFrom, ModeTo, ToAll, BetweenAll, ModeAll, ModeAllTo}
 use Rattle.mil_message.specs.Rules.{IsLawful, first_fault, is_address, is_subaddress, is_count, is_code_alone, is_code_from, is_code_to}
 use Rattle.mil_message.proofs.Checked.{head_met, second_met, middle_met, third_met, four_met}
-use Rattle.frame_text.specs.Reading.{Tokens, same}
+use Rattle.frame_text.specs.Reading.{Tokens, same_bytes}
 use Rattle.frame_text.specs.Chains.{IsReadable}
 use Rattle.frame_text.specs.PrintedMessages.{line_text, mode_text, mode_all_text, message_text, send_text}
 use Rattle.frame_text.proofs.Spelling.{Spells, brackets_then, brackets_spell, number_spells, word_spells, spaced_spells}
@@ -64,7 +64,7 @@ send_then line m ts = codes "send" ∷ line_text line ∷ message_then m ts
 -- what may stand behind a frame
 abbrev pub MayFollow : Tokens → Type 0
 MayFollow [] = Unit {0}
-MayFollow (w ∷ ts) = (same w (codes "[") ≡ false) × (same w (codes "else") ≡ false)
+MayFollow (w ∷ ts) = (same_bytes w (codes "[") ≡ false) × (same_bytes w (codes "else") ≡ false)
 
 small_spells : (n : ℕ) → Small n → Spells (decimal n) (λ ts. decimal n ∷ ts)
 small_spells n h = number_spells n (omega (arith, h))

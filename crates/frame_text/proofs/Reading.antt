@@ -2,7 +2,7 @@
 use Rattle.std.proofs.Common.{◌≡◌, ℕ, zero, suc, ◌++◌, true, false, cond, List, [], ◌∷◌, take, Some, None, Ok, Err, refl, sym, ap, ◌∙◌, append_assoc}
 use Rattle.std.proofs.lemmas.List.{append-nil}
 use Rattle.std.specs.Prelude.{codes}
-use Rattle.frame_text.specs.Reading.{Tokens, Reading, ◌>>=◌, same, Fails, IsCause}
+use Rattle.frame_text.specs.Reading.{Tokens, Reading, ◌>>=◌, same_bytes, Fails, IsCause}
 use Rattle.frame_text.specs.declared.faults.Fault.{Fault}
 use Rattle.frame_text.specs.declared.faults.Fault.TheVariants as fault
 use Rattle.frame_text.specs.Words.{words_at, counted, data_word_of, spelled, unspelled}
@@ -21,7 +21,7 @@ put_more : (all : List ℕ) (n : ℕ) (r : Reading (List ℕ)) → put_words all
 put_more all n (Ok x) = ap (λ z. Ok (z, x.1)) (sym (append_assoc all (n ∷ []) x.0))
 put_more all n (Err e) = refl
 
-pub words_more : (all : List ℕ) (n : ℕ) (w : List ℕ) (text ts : Tokens) (whole : Reading (List ℕ)) → text ≡ w ∷ ts → same w (codes "]") ≡ false → Some n ≡ data_word_of w → whole ≡ put_words all (words_at text) → whole ≡ put_words (all ++ n ∷ []) (words_at ts)
+pub words_more : (all : List ℕ) (n : ℕ) (w : List ℕ) (text ts : Tokens) (whole : Reading (List ℕ)) → text ≡ w ∷ ts → same_bytes w (codes "]") ≡ false → Some n ≡ data_word_of w → whole ≡ put_words all (words_at text) → whole ≡ put_words (all ++ n ∷ []) (words_at ts)
 unfolding words_at
 words_more all n w text ts whole is ne v e =
     e ∙ ap (λ z. put_words all (words_at z)) is
@@ -29,13 +29,13 @@ words_more all n w text ts whole is ne v e =
     ∙ ap (λ o. put_words all (spelled w o >>= (λ n. words_at ts >>= (λ ns. Ok (n ∷ ns.0, ns.1))))) (sym v)
     ∙ put_more all n (words_at ts)
 
-pub words_close : (all : List ℕ) (w : List ℕ) (text ts : Tokens) (whole : Reading (List ℕ)) → text ≡ w ∷ ts → same w (codes "]") ≡ true → whole ≡ put_words all (words_at text) → whole ≡ Ok (all ++ [], ts)
+pub words_close : (all : List ℕ) (w : List ℕ) (text ts : Tokens) (whole : Reading (List ℕ)) → text ≡ w ∷ ts → same_bytes w (codes "]") ≡ true → whole ≡ put_words all (words_at text) → whole ≡ Ok (all ++ [], ts)
 unfolding words_at
 words_close all w text ts whole is h e =
     e ∙ ap (λ z. put_words all (words_at z)) is
     ∙ ap (λ b. put_words all (cond b (Ok ([], ts)) (spelled w (data_word_of w) >>= (λ n. words_at ts >>= (λ ns. Ok (n ∷ ns.0, ns.1)))))) h
 
-pub words_wrong : (all : List ℕ) (w : List ℕ) (text ts : Tokens) (whole : Reading (List ℕ)) → text ≡ w ∷ ts → same w (codes "]") ≡ false → None ≡ data_word_of w → whole ≡ put_words all (words_at text) → whole ≡ Err (unspelled w)
+pub words_wrong : (all : List ℕ) (w : List ℕ) (text ts : Tokens) (whole : Reading (List ℕ)) → text ≡ w ∷ ts → same_bytes w (codes "]") ≡ false → None ≡ data_word_of w → whole ≡ put_words all (words_at text) → whole ≡ Err (unspelled w)
 unfolding words_at
 words_wrong all w text ts whole is ne v e =
     e ∙ ap (λ z. put_words all (words_at z)) is

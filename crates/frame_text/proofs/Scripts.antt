@@ -4,7 +4,7 @@ use Rattle.std.specs.Prelude.{codes, Some, None, if◌then◌else◌}
 use Rattle.frame_tree.specs.Tree.{Tree, chain, nothing, chained, define}
 use Rattle.frame_tree.specs.Bounds.{depth_in}
 use Rattle.frame_tree.specs.Names.{is_name, Scope}
-use Rattle.frame_text.specs.Reading.{◌>>=◌, Tokens, Reading, same, misplaced, Fails, Breaks, IsCause}
+use Rattle.frame_text.specs.Reading.{◌>>=◌, Tokens, Reading, same_bytes, misplaced, Fails, Breaks, IsCause}
 use Rattle.frame_text.specs.Frames.{Reader, frame_at, frames_at, inner_at, label_at, main_at, definition_at, script_at}
 use Rattle.frame_text.specs.declared.faults.Cause.{Cause}
 use Rattle.frame_text.specs.declared.faults.Cause.TheVariants as cause
@@ -57,7 +57,7 @@ frames_end frame n ts fs whole h e = e ∙ ap (λ z. onto fs (frames_at frame n 
 abbrev goes : Reader → ℕ → List ℕ → Tokens → Bool → Reading Tree
 goes frame n w ts b = cond b (Ok (nothing, ts)) (frame (w ∷ ts) >>= (λ x. frames_at frame n x.1 >>= (λ y. Ok (chained x.0 y.0, y.1))))
 
-pub frames_close : (frame : Reader) (n : ℕ) (w : List ℕ) (text ts : Tokens) (fs : List Tree) (whole : Reading Tree) → text ≡ w ∷ ts → length text ≤ n → same w (codes "}") ≡ true → whole ≡ onto fs (frames_at frame n text) → whole ≡ Ok (chain fs, ts)
+pub frames_close : (frame : Reader) (n : ℕ) (w : List ℕ) (text ts : Tokens) (fs : List Tree) (whole : Reading Tree) → text ≡ w ∷ ts → length text ≤ n → same_bytes w (codes "}") ≡ true → whole ≡ onto fs (frames_at frame n text) → whole ≡ Ok (chain fs, ts)
 unfolding frames_at
 frames_close frame zero w text ts fs whole is h b e = absurd (omega (arith, h, ap length is))
 frames_close frame (suc n) w text ts fs whole is h b e =
@@ -65,13 +65,13 @@ frames_close frame (suc n) w text ts fs whole is h b e =
     ∙ ap (λ t. onto fs (goes frame n w ts t)) b
     ∙ ap (λ t. Ok (t, ts)) (before_nothing fs)
 
-pub frames_on : (frame : Reader) (n : ℕ) (w : List ℕ) (text ts : Tokens) → text ≡ w ∷ ts → same w (codes "}") ≡ false → frames_at frame (suc n) text ≡ (frame text >>= (λ x. frames_at frame n x.1 >>= (λ y. Ok (chained x.0 y.0, y.1))))
+pub frames_on : (frame : Reader) (n : ℕ) (w : List ℕ) (text ts : Tokens) → text ≡ w ∷ ts → same_bytes w (codes "}") ≡ false → frames_at frame (suc n) text ≡ (frame text >>= (λ x. frames_at frame n x.1 >>= (λ y. Ok (chained x.0 y.0, y.1))))
 unfolding frames_at
 frames_on frame n w text ts is b =
     ap (frames_at frame (suc n)) is ∙ ap (λ t. goes frame n w ts t) b
     ∙ ap (λ z. frame z >>= (λ x. frames_at frame n x.1 >>= (λ y. Ok (chained x.0 y.0, y.1)))) (sym is)
 
-pub frames_more : (frame : Reader) (n : ℕ) (w : List ℕ) (text ts left : Tokens) (fs : List Tree) (f : Tree) (whole : Reading Tree) → text ≡ w ∷ ts → length text ≤ n → same w (codes "}") ≡ false
+pub frames_more : (frame : Reader) (n : ℕ) (w : List ℕ) (text ts left : Tokens) (fs : List Tree) (f : Tree) (whole : Reading Tree) → text ≡ w ∷ ts → length text ≤ n → same_bytes w (codes "}") ≡ false
     → frame text ≡ Ok (f, left) → length left < length text → whole ≡ onto fs (frames_at frame n text) → (m : ℕ) × (length left ≤ m) × (whole ≡ onto (fs ++ f ∷ []) (frames_at frame m left))
 frames_more frame zero w text ts left fs f whole is h b r s e = absurd (omega (arith, h, ap length is))
 frames_more frame (suc n) w text ts left fs f whole is h b r s e = (
@@ -81,12 +81,12 @@ frames_more frame (suc n) w text ts left fs f whole is h b r s e = (
       ∙ put_more fs f (frames_at frame n left),
 )
 
-frames_fail : (frame : Reader) (n : ℕ) (w : List ℕ) (text ts : Tokens) (fs : List Tree) (c : Cause) (whole : Reading Tree) → text ≡ w ∷ ts → length text ≤ n → same w (codes "}") ≡ false → frame text ≡ Err c → whole ≡ onto fs (frames_at frame n text) → whole ≡ Err c
+frames_fail : (frame : Reader) (n : ℕ) (w : List ℕ) (text ts : Tokens) (fs : List Tree) (c : Cause) (whole : Reading Tree) → text ≡ w ∷ ts → length text ≤ n → same_bytes w (codes "}") ≡ false → frame text ≡ Err c → whole ≡ onto fs (frames_at frame n text) → whole ≡ Err c
 frames_fail frame zero w text ts fs c whole is h b r e = absurd (omega (arith, h, ap length is))
 frames_fail frame (suc n) w text ts fs c whole is h b r e =
     e ∙ ap (onto fs) (frames_on frame n w text ts is b ∙ ap (λ z. z >>= (λ x. frames_at frame n x.1 >>= (λ y. Ok (chained x.0 y.0, y.1)))) r)
 
-pub frames_refused : (R : Type 0) (f : Fault) (frame : Reader) (n : ℕ) (w : List ℕ) (text ts : Tokens) (fs : List Tree) (whole : Reading Tree) → text ≡ w ∷ ts → length text ≤ n → same w (codes "}") ≡ false → Breaks R f (frame text) → whole ≡ onto fs (frames_at frame n text) → Breaks R f whole
+pub frames_refused : (R : Type 0) (f : Fault) (frame : Reader) (n : ℕ) (w : List ℕ) (text ts : Tokens) (fs : List Tree) (whole : Reading Tree) → text ≡ w ∷ ts → length text ≤ n → same_bytes w (codes "}") ≡ false → Breaks R f (frame text) → whole ≡ onto fs (frames_at frame n text) → Breaks R f whole
 frames_refused R (fault.Text c left) frame n w text ts fs whole is h b r e = frames_fail frame n w text ts fs c whole is h b r e
 frames_refused R (fault.Memory left) frame n w text ts fs whole is h b r e = r
 
@@ -139,7 +139,7 @@ main_refused R (fault.Text c left) ds n w text ts fs whole is h r e = main_fail 
 main_refused R (fault.Memory left) ds n w text ts fs whole is h r e = r
 
 -- no definition here
-pub no_definition : (k : ℕ) (ds : Scope ℕ) (text : Tokens) → ((w : List ℕ) (ts : Tokens) → text ≡ w ∷ ts → same w (codes "define") ≡ false) → script_at k ds text ≡ main_at ds (length text) text
+pub no_definition : (k : ℕ) (ds : Scope ℕ) (text : Tokens) → ((w : List ℕ) (ts : Tokens) → text ≡ w ∷ ts → same_bytes w (codes "define") ≡ false) → script_at k ds text ≡ main_at ds (length text) text
 unfolding script_at main_at
 no_definition k ds [] h = refl
 no_definition zero ds (w ∷ ts) h = ap (λ b. cond b (Err cause.Definitions) (main_at ds (length (w ∷ ts)) (w ∷ ts))) (h w ts refl)
@@ -147,13 +147,13 @@ no_definition (suc k) ds (w ∷ ts) h =
     ap (λ b. cond b (definition_at ds ts >>= (λ x. script_at k ((x.0.0, depth_in ds x.0.1) ∷ ds) x.1 >>= (λ t. Ok (define x.0.0 x.0.1 t)))) (main_at ds (length (w ∷ ts)) (w ∷ ts))) (h w ts refl)
 
 -- one too many
-pub full : (k : ℕ) (ds : Scope ℕ) (w : List ℕ) (text ts : Tokens) → text ≡ w ∷ ts → same w (codes "define") ≡ true → k ≡ 0 → script_at k ds text ≡ Err cause.Definitions
+pub full : (k : ℕ) (ds : Scope ℕ) (w : List ℕ) (text ts : Tokens) → text ≡ w ∷ ts → same_bytes w (codes "define") ≡ true → k ≡ 0 → script_at k ds text ≡ Err cause.Definitions
 unfolding script_at
 full k ds w text ts is h z =
     ap (λ j. script_at j ds text) z ∙ ap (script_at 0 ds) is ∙ ap (λ b. cond b (Err cause.Definitions) (main_at ds (length (w ∷ ts)) (w ∷ ts))) h
 
 -- a definition, and what stands behind it
-pub defines : (k : ℕ) (ds : Scope ℕ) (w : List ℕ) (text ts : Tokens) → text ≡ w ∷ ts → same w (codes "define") ≡ true → k ≢ 0
+pub defines : (k : ℕ) (ds : Scope ℕ) (w : List ℕ) (text ts : Tokens) → text ≡ w ∷ ts → same_bytes w (codes "define") ≡ true → k ≢ 0
     → script_at k ds text ≡ (definition_at ds ts >>= (λ x. script_at (k - 1) ((x.0.0, depth_in ds x.0.1) ∷ ds) x.1 >>= (λ t. Ok (define x.0.0 x.0.1 t))))
 unfolding script_at
 defines zero ds w text ts is h z = absurd (z refl)
@@ -173,8 +173,8 @@ unfolding label_at
 no_label w text ts is h = ap label_at is ∙ ap (λ b. cond b (Ok (w, ts)) (Err (misplaced w))) (none_is (is_name w) w h)
 
 -- no definition where the text is at its end, or another word stands
-pub none_here : (text : Tokens) → text ≡ [] → (w : List ℕ) (ts : Tokens) → text ≡ w ∷ ts → same w (codes "define") ≡ false
+pub none_here : (text : Tokens) → text ≡ [] → (w : List ℕ) (ts : Tokens) → text ≡ w ∷ ts → same_bytes w (codes "define") ≡ false
 none_here text e w ts is = absurd (let no : [] ≡ w ∷ ts = sym e ∙ is in cc)
 
-pub not_here : (text : Tokens) (v : List ℕ) (us : Tokens) → text ≡ v ∷ us → same v (codes "define") ≡ false → (w : List ℕ) (ts : Tokens) → text ≡ w ∷ ts → same w (codes "define") ≡ false
-not_here text v us e h w ts is = let first : v ≡ w = (let both : v ∷ us ≡ w ∷ ts = sym e ∙ is in cc) in ap (λ z. same z (codes "define")) (sym first) ∙ h
+pub not_here : (text : Tokens) (v : List ℕ) (us : Tokens) → text ≡ v ∷ us → same_bytes v (codes "define") ≡ false → (w : List ℕ) (ts : Tokens) → text ≡ w ∷ ts → same_bytes w (codes "define") ≡ false
+not_here text v us e h w ts is = let first : v ≡ w = (let both : v ∷ us ≡ w ∷ ts = sym e ∙ is in cc) in ap (λ z. same_bytes z (codes "define")) (sym first) ∙ h

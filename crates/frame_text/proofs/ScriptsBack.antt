@@ -5,8 +5,8 @@ use Rattle.std.proofs.lemmas.Bool.{le-leb}
 use Rattle.frame_tree.specs.Tree.{Condition, Tree, send, retry, gap, repeat, choose, until, timed, nothing, chained, call, define}
 use Rattle.frame_tree.specs.Bounds.{depth_in, IsInRange, CallsKnown, IsDefined, operators}
 use Rattle.frame_tree.specs.Names as names
-use Rattle.frame_tree.specs.Names.{is_name, Scope, named, is_known}
-use Rattle.frame_text.specs.Reading.{Tokens, ◌>>=◌, same, past}
+use Rattle.frame_tree.specs.Names.{is_name, Scope, meant_by, is_known}
+use Rattle.frame_text.specs.Reading.{Tokens, ◌>>=◌, same_bytes, past}
 use Rattle.frame_text.specs.Words.{number_within, period_at}
 use Rattle.frame_text.specs.Messages.{send_at}
 use Rattle.frame_text.specs.Frames.{Reader, frame_at, frame_from, frame_of, frame_word, frames_at, block_at, block_from, inner_at, else_at, label_at, call_at, main_at, definition_at, script_at}
@@ -65,7 +65,7 @@ unfolding frames_at
 close_back frame zero ts s = absurd (omega (arith, s))
 close_back frame (suc n) ts s = refl
 
-first_back : (frame : Reader) (n : ℕ) (w : List ℕ) (text us rest ts : Tokens) (a b : Tree) → text ≡ w ∷ us → same w (codes "}") ≡ false → length text ≤ n → length rest < length text
+first_back : (frame : Reader) (n : ℕ) (w : List ℕ) (text us rest ts : Tokens) (a b : Tree) → text ≡ w ∷ us → same_bytes w (codes "}") ≡ false → length text ≤ n → length rest < length text
     → frame text ≡ Ok (a, rest) → ((m : ℕ) → length rest ≤ m → frames_at frame m rest ≡ Ok (b, ts)) → frames_at frame n text ≡ Ok (chained a b, ts)
 first_back frame zero w text us rest ts a b is e s k one more = absurd (omega (arith, s, k))
 first_back frame (suc n) w text us rest ts a b is e s k one more =
@@ -121,9 +121,9 @@ timed_back ds d n b ts low high q =
     ∙ ap (λ z. z >>= (λ x. Ok (timed n x.0, x.1))) (block_back ds d b ts q)
 
 -- a call of a name in scope
-call_back : (ds : Scope ℕ) (d : ℕ) (n : List ℕ) (ts : Tokens) → is_name n ≡ true → is_known ds n ≡ true → named 0 ds n ≤ d → call_at ds d (n ∷ ts) ≡ Ok (call n, ts)
+call_back : (ds : Scope ℕ) (d : ℕ) (n : List ℕ) (ts : Tokens) → is_name n ≡ true → is_known ds n ≡ true → meant_by 0 ds n ≤ d → call_at ds d (n ∷ ts) ≡ Ok (call n, ts)
 unfolding label_at
-call_back ds d n ts r w l = rw (r, w, le-leb (named 0 ds n) d l) refl
+call_back ds d n ts r w l = rw (r, w, le-leb (meant_by 0 ds n) d l) refl
 
 -- a frame, and a chain of frames in a block
 back : (ds : Scope ℕ) (k : Bool) (t : Tree) (d : ℕ) → IsRead k t → IsInRange t → CallsKnown ds t → depth_in ds t ≤ d → Back ds k d t
@@ -189,16 +189,16 @@ main_back ds (call k) r h w l n s = absurd r
 main_back ds (define k b q) r h w l n s = absurd r
 
 -- the first token of a chain is no definition
-first_word : (t : Tree) → IsRead true t → (w : List ℕ) (ts : Tokens) → tree_then t [] ≡ w ∷ ts → same w (codes "define") ≡ false
+first_word : (t : Tree) → IsRead true t → (w : List ℕ) (ts : Tokens) → tree_then t [] ≡ w ∷ ts → same_bytes w (codes "define") ≡ false
 first_word nothing r w ts e = absurd (cc)
-first_word (chained (send line m) b) r w ts e = let i : codes "send" ≡ w = cc in ap (λ z. same z (codes "define")) (sym i)
-first_word (chained (retry n line m) b) r w ts e = let i : codes "retry" ≡ w = cc in ap (λ z. same z (codes "define")) (sym i)
-first_word (chained (gap n) b) r w ts e = let i : codes "gap" ≡ w = cc in ap (λ z. same z (codes "define")) (sym i)
-first_word (chained (repeat n a) b) r w ts e = let i : codes "repeat" ≡ w = cc in ap (λ z. same z (codes "define")) (sym i)
-first_word (chained (choose c p q) b) r w ts e = let i : codes "if" ≡ w = cc in ap (λ z. same z (codes "define")) (sym i)
-first_word (chained (until c n a) b) r w ts e = let i : codes "until" ≡ w = cc in ap (λ z. same z (codes "define")) (sym i)
-first_word (chained (timed n a) b) r w ts e = let i : codes "frame" ≡ w = cc in ap (λ z. same z (codes "define")) (sym i)
-first_word (chained (call n) b) r w ts e = let i : codes "call" ≡ w = cc in ap (λ z. same z (codes "define")) (sym i)
+first_word (chained (send line m) b) r w ts e = let i : codes "send" ≡ w = cc in ap (λ z. same_bytes z (codes "define")) (sym i)
+first_word (chained (retry n line m) b) r w ts e = let i : codes "retry" ≡ w = cc in ap (λ z. same_bytes z (codes "define")) (sym i)
+first_word (chained (gap n) b) r w ts e = let i : codes "gap" ≡ w = cc in ap (λ z. same_bytes z (codes "define")) (sym i)
+first_word (chained (repeat n a) b) r w ts e = let i : codes "repeat" ≡ w = cc in ap (λ z. same_bytes z (codes "define")) (sym i)
+first_word (chained (choose c p q) b) r w ts e = let i : codes "if" ≡ w = cc in ap (λ z. same_bytes z (codes "define")) (sym i)
+first_word (chained (until c n a) b) r w ts e = let i : codes "until" ≡ w = cc in ap (λ z. same_bytes z (codes "define")) (sym i)
+first_word (chained (timed n a) b) r w ts e = let i : codes "frame" ≡ w = cc in ap (λ z. same_bytes z (codes "define")) (sym i)
+first_word (chained (call n) b) r w ts e = let i : codes "call" ≡ w = cc in ap (λ z. same_bytes z (codes "define")) (sym i)
 first_word (chained nothing b) r w ts e = absurd r.0
 first_word (chained (chained p q) b) r w ts e = absurd r.0
 first_word (chained (define n p q) b) r w ts e = absurd r.0
@@ -245,7 +245,7 @@ script_back (define n b r) (suc k) ds es a few s h w l =
     defines (suc k) ds (codes "define") (codes "define" ∷ ts) ts refl refl (λ e. omega (arith, e))
     ∙ ap (λ z. z >>= (λ x. script_at (suc k - 1) ((x.0.0, depth_in ds x.0.1) ∷ ds) x.1 >>= (λ t. Ok (define x.0.0 x.0.1 t)))) (definition_back ds n b rest s.0 (a n ∙ w.1) s.1 h.0 (alike_known ds es a b w.2) (omega (arith, l)))
     ∙ ap (λ j. script_at j ((n, depth_in ds b) ∷ ds) rest >>= (λ t. Ok (define n b t))) less
-    ∙ ap (λ z. z >>= (λ t. Ok (define n b t))) (script_back r k ((n, depth_in ds b) ∷ ds) ((n, length es) ∷ es) (λ m. ap (λ v. names.same n m || v) (a m)) (omega (arith, few)) s.2 h.1 w.3 (omega (arith, l)))
+    ∙ ap (λ z. z >>= (λ t. Ok (define n b t))) (script_back r k ((n, depth_in ds b) ∷ ds) ((n, length es) ∷ es) (λ m. ap (λ v. names.same_bytes n m || v) (a m)) (omega (arith, few)) s.2 h.1 w.3 (omega (arith, l)))
 script_back nothing k ds es a few s h w l = no_definition k ds (tree_then nothing []) (first_word nothing s) ∙ main_back ds nothing s h (alike_known ds es a nothing w) l (length (tree_then nothing [])) (omega arith)
 script_back (chained p q) k ds es a few s h w l = no_definition k ds (tree_then (chained p q) []) (first_word (chained p q) s) ∙ main_back ds (chained p q) s h (alike_known ds es a (chained p q) w) l (length (tree_then (chained p q) [])) (omega arith)
 script_back (send line m) k ds es a few s h w l = absurd s

@@ -7,7 +7,7 @@ use Rattle.frame_tree.specs.Bounds.{depth_in, worst_messages, operators, IsInRan
 use Rattle.frame_tree.specs.Names.{Scope, is_known}
 use Rattle.frame_tree.specs.Names as names
 use Rattle.std.proofs.lemmas.Bool.{leb-true}
-use Rattle.frame_text.specs.Reading.{◌>>=◌, Tokens, Reading, same, misplaced, past}
+use Rattle.frame_text.specs.Reading.{◌>>=◌, Tokens, Reading, same_bytes, misplaced, past}
 use Rattle.frame_text.specs.Words.{number_at, number_within, period_at}
 use Rattle.frame_text.specs.Messages.{send_at}
 use Rattle.frame_text.specs.Conditions.{condition_at, condition_from, condition_of, condition_word, below_at, name_at, pair_at}
@@ -126,7 +126,7 @@ ReadsBlocks ds d reader = (ts : Tokens) (x : Tree × Tokens) → reader ts ≡ O
 else_ok : (ds : Scope ℕ) (d : ℕ) (block : Reader) → ReadsBlocks ds d block → 1 ≤ d → ReadsBlocks ds d (else_at block)
 unfolding else_at
 else_ok ds d block sound h [] x e = subst (λ (z : Tree × Tokens). (1 + depth_in ds z.0 ≤ d) × IsInRange z.0 × CallsKnown ds z.0) (ok_is _ x e) (omega (arith, h), tt, tt)
-else_ok ds d block sound h (w ∷ ts) x e = by (same w (codes "else")) e
+else_ok ds d block sound h (w ∷ ts) x e = by (same_bytes w (codes "else")) e
   where
     by : (t : Bool) → cond t (block ts) (Ok (nothing, w ∷ ts)) ≡ Ok x → (1 + depth_in ds x.0 ≤ d) × IsInRange x.0 × CallsKnown ds x.0
     by true i = sound ts x i
@@ -136,10 +136,10 @@ else_ok ds d block sound h (w ∷ ts) x e = by (same w (codes "else")) e
 call_ok : (ds : Scope ℕ) (d : ℕ) → ReadsTrees ds d (call_at ds d)
 call_ok ds d ts x e =
     let n = bind_ok (label_at ts) _ x e in
-    by n.0.0 n.0.1 (is_known ds n.0.0) (nat_le (names.named 0 ds n.0.0) d) refl refl n.2
+    by n.0.0 n.0.1 (is_known ds n.0.0) (nat_le (names.meant_by 0 ds n.0.0) d) refl refl n.2
   where
-    by : (n : List ℕ) (us : Tokens) (b k : Bool) → is_known ds n ≡ b → nat_le (names.named 0 ds n) d ≡ k → cond b (cond k (Ok (call n, us)) (Err cause.Depth)) (Err cause.Name) ≡ Ok x → IsTreeWithin ds d x.0
-    by n us true true p q i = subst (λ (z : Tree × Tokens). IsTreeWithin ds d z.0) (ok_is _ x i) (leb-true (names.named 0 ds n) d q, tt, p)
+    by : (n : List ℕ) (us : Tokens) (b k : Bool) → is_known ds n ≡ b → nat_le (names.meant_by 0 ds n) d ≡ k → cond b (cond k (Ok (call n, us)) (Err cause.Depth)) (Err cause.Name) ≡ Ok x → IsTreeWithin ds d x.0
+    by n us true true p q i = subst (λ (z : Tree × Tokens). IsTreeWithin ds d z.0) (ok_is _ x i) (leb-true (names.meant_by 0 ds n) d q, tt, p)
     by n us true false p q i = absurd (cc)
     by n us false k p q i = absurd (cc)
 
@@ -196,7 +196,7 @@ frames_ok : (ds : Scope ℕ) (d : ℕ) (frame : Reader) → ReadsTrees ds d fram
 unfolding frames_at
 frames_ok ds d frame sound n [] x e = absurd (cc)
 frames_ok ds d frame sound zero (w ∷ ts) x e = absurd (cc)
-frames_ok ds d frame sound (suc n) (w ∷ ts) x e = by (same w (codes "}")) (λ us y i. frames_ok ds d frame sound n us y i) e
+frames_ok ds d frame sound (suc n) (w ∷ ts) x e = by (same_bytes w (codes "}")) (λ us y i. frames_ok ds d frame sound n us y i) e
   where
     by : (t : Bool) → ReadsTrees ds d (frames_at frame n) → cond t (Ok (nothing, ts)) (frame (w ∷ ts) >>= (λ y. frames_at frame n y.1 >>= (λ z. Ok (chained y.0 z.0, z.1)))) ≡ Ok x → IsTreeWithin ds d x.0
     by true more i = subst (λ (z : Tree × Tokens). IsTreeWithin ds d z.0) (ok_is _ x i) (omega arith, tt, tt)
@@ -210,12 +210,12 @@ frames_ok ds d frame sound (suc n) (w ∷ ts) x e = by (same w (codes "}")) (λ 
 pub block_ok : (ds : Scope ℕ) (d : ℕ) → ReadsBlocks ds d (block_at ds d)
 unfolding block_from inner_at
 block_ok ds d [] x e = absurd (cc)
-block_ok ds zero (w ∷ ts) x e = by (same w (codes "{")) e
+block_ok ds zero (w ∷ ts) x e = by (same_bytes w (codes "{")) e
   where
     by : (t : Bool) → cond t (Err cause.Depth) (Err (misplaced w)) ≡ Ok x → (1 + depth_in ds x.0 ≤ 0) × IsInRange x.0 × CallsKnown ds x.0
     by true i = absurd (cc)
     by false i = absurd (cc)
-block_ok ds (suc d) (w ∷ ts) x e = by (same w (codes "{")) (λ us y i. block_ok ds d us y i) e
+block_ok ds (suc d) (w ∷ ts) x e = by (same_bytes w (codes "{")) (λ us y i. block_ok ds d us y i) e
   where
     by : (t : Bool) → ReadsBlocks ds d (block_at ds d) → cond t (frames_at (frame_at ds d) (length ts) ts) (Err (misplaced w)) ≡ Ok x → (1 + depth_in ds x.0 ≤ suc d) × IsInRange x.0 × CallsKnown ds x.0
     by true more i = let s = frames_ok ds d (frame_at ds d) (frame_ok ds d (call_at ds d) (block_at ds d) (call_ok ds d) more) (length ts) ts x i in (omega (arith, s.0), s.1, s.2)
@@ -285,12 +285,12 @@ definition_ok ds ts x e =
 script_ok : (k : ℕ) (ds es : Scope ℕ) → Alike ds es → length es + k ≤ 32 → (ts : Tokens) (t : Tree) → script_at k ds ts ≡ Ok t → IsScriptWithin ds es t
 unfolding script_at
 script_ok k ds es h few [] t e = subst (IsScriptWithin ds es) (ok_is _ t e) (omega arith, tt, tt)
-script_ok zero ds es h few (w ∷ ts) t e = by (same w (codes "define")) e
+script_ok zero ds es h few (w ∷ ts) t e = by (same_bytes w (codes "define")) e
   where
     by : (b : Bool) → cond b (Err cause.Definitions) (main_at ds (length (w ∷ ts)) (w ∷ ts)) ≡ Ok t → IsScriptWithin ds es t
     by true i = absurd (cc)
     by false i = main_within ds es h (length (w ∷ ts)) (w ∷ ts) t i
-script_ok (suc k) ds es h few (w ∷ ts) t e = by (same w (codes "define")) (λ x y f g us u i. script_ok k x y f g us u i) e
+script_ok (suc k) ds es h few (w ∷ ts) t e = by (same_bytes w (codes "define")) (λ x y f g us u i. script_ok k x y f g us u i) e
   where
     by : (b : Bool) → ((xs ys : Scope ℕ) → Alike xs ys → length ys + k ≤ 32 → (us : Tokens) (u : Tree) → script_at k xs us ≡ Ok u → IsScriptWithin xs ys u)
         → cond b (definition_at ds ts >>= (λ x. script_at k ((x.0.0, depth_in ds x.0.1) ∷ ds) x.1 >>= (λ t. Ok (define x.0.0 x.0.1 t)))) (main_at ds (length (w ∷ ts)) (w ∷ ts)) ≡ Ok t → IsScriptWithin ds es t
@@ -300,7 +300,7 @@ script_ok (suc k) ds es h few (w ∷ ts) t e = by (same w (codes "define")) (λ 
         let b = x.0.0.1 in
         let s = definition_ok ds ts x.0 x.1 in
         let u = bind_ok (script_at k ((n, depth_in ds b) ∷ ds) x.0.1) _ t x.2 in
-        let below = more ((n, depth_in ds b) ∷ ds) ((n, length es) ∷ es) (λ m. ap (λ v. names.same n m || v) (h m)) (omega (arith, few)) x.0.1 u.0 u.1 in
+        let below = more ((n, depth_in ds b) ∷ ds) ((n, length es) ∷ es) (λ m. ap (λ v. names.same_bytes n m || v) (h m)) (omega (arith, few)) x.0.1 u.0 u.1 in
         subst (IsScriptWithin ds es) (ok_is _ t u.2) (
           omega (arith, s.1, below.0),
           (s.2, below.1),

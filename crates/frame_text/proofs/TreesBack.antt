@@ -10,7 +10,7 @@ use Rattle.mil_message.specs.declared.forms.Form.{Form}
 use Rattle.mil_message.specs.declared.forms.Form.TheVariants.{ToTerminal, FromTerminal, Between, Mode, ModeFrom, ModeTo, ToAll, BetweenAll, ModeAll, ModeAllTo}
 use Rattle.frame_tree.specs.Tree.{Condition, Tree, send, retry, gap, repeat, choose, until, timed, nothing, chained, call, define}
 use Rattle.frame_tree.specs.Bounds.{IsInRange}
-use Rattle.frame_text.specs.Reading.{Tokens, same}
+use Rattle.frame_text.specs.Reading.{Tokens, same_bytes}
 use Rattle.frame_text.specs.PrintedMessages.{line_text}
 use Rattle.frame_text.specs.Printing.{lines, is_empty, block_text, else_text}
 use Rattle.frame_text.proofs.Spelling.{Spells, SpellsLines, word_spells, number_spells, spaced_lines, line_spells, indent_spells, lines_spell, no_lines, block_spells, words_then}
@@ -63,15 +63,15 @@ two : (a b : Bool) → (a && b) ≡ true → (a ≡ true) × (b ≡ true)
 two true b e = (refl, e)
 two false b e = absurd (cc)
 
-word_run : (n : List ℕ) → names.is_word n ≡ true → IsRun n
+word_run : (n : List ℕ) → names.are_word_bytes n ≡ true → IsRun n
 word_run [] h = tt
-word_run (b ∷ bs) h = let p = two (names.is_letter b || (nat_le 48 b && nat_le b 57) || nat_eq b 95) (names.is_word bs) h in (word_byte b p.0, word_run bs p.1)
+word_run (b ∷ bs) h = let p = two (names.is_letter b || (nat_le 48 b && nat_le b 57) || nat_eq b 95) (names.are_word_bytes bs) h in (word_byte b p.0, word_run bs p.1)
 
 name_spells : (n : List ℕ) → is_name n ≡ true → Spells n (λ ts. n ∷ ts)
 name_spells [] h = absurd (cc)
 name_spells (b ∷ bs) h =
-    let p = two (names.begins (b ∷ bs) && names.is_word (b ∷ bs)) (nat_le (length (b ∷ bs)) 16) h in
-    let q = two (names.begins (b ∷ bs)) (names.is_word (b ∷ bs)) p.0 in
+    let p = two (names.begins (b ∷ bs) && names.are_word_bytes (b ∷ bs)) (nat_le (length (b ∷ bs)) 16) h in
+    let q = two (names.begins (b ∷ bs)) (names.are_word_bytes (b ∷ bs)) p.0 in
     word_spells (b ∷ bs) (omega arith) (word_run (b ∷ bs) q.1)
 
 -- the tokens of the lines of a tree
@@ -179,9 +179,9 @@ pub record Begins (ts : Tokens) : Type 0 where
   pub word : List ℕ
   pub more : Tokens
   pub is : ts ≡ word ∷ more
-  pub goes : same word (codes "}") ≡ false
-  pub no_bracket : same word (codes "[") ≡ false
-  pub no_else : same word (codes "else") ≡ false
+  pub goes : same_bytes word (codes "}") ≡ false
+  pub no_bracket : same_bytes word (codes "[") ≡ false
+  pub no_else : same_bytes word (codes "else") ≡ false
 
 pub begins : (t : Tree) → IsRead false t → (ts : Tokens) → Begins (tree_then t ts)
 begins (send line m) r ts = record { word = codes "send"; more = line_text line ∷ message_then m ts; is = refl; goes = refl; no_bracket = refl; no_else = refl }

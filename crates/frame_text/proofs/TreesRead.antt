@@ -4,9 +4,9 @@ use Rattle.std.specs.Prelude.{codes, nat_le}
 use Rattle.std.proofs.lemmas.Bool.{le-leb}
 use Rattle.frame_tree.specs.Tree.{Tree, nothing, chained, call, define}
 use Rattle.frame_tree.specs.Bounds.{IsSound, worst_messages, depth_in}
-use Rattle.frame_tree.specs.Names.{is_name, Scope, named, is_known}
+use Rattle.frame_tree.specs.Names.{is_name, Scope, meant_by, is_known}
 use Rattle.frame_text.specs.Tokens.{lex, tokens}
-use Rattle.frame_text.specs.Reading.{Tokens, ◌>>=◌, same, misplaced, past}
+use Rattle.frame_text.specs.Reading.{Tokens, ◌>>=◌, same_bytes, misplaced, past}
 use Rattle.frame_text.specs.Words.{number_within, period_at}
 use Rattle.frame_text.specs.Messages.{send_at}
 use Rattle.frame_text.specs.Conditions.{condition_at}
@@ -29,7 +29,7 @@ Reads k reader = (ts : Tokens) (x : Tree × Tokens) → reader ts ≡ Ok x → I
 else_read : (block : Reader) → Reads true block → Reads true (else_at block)
 unfolding else_at
 else_read block reads [] x e = subst (λ (z : Tree × Tokens). IsRead true z.0) (ok_is _ x e) tt
-else_read block reads (w ∷ ts) x e = by (same w (codes "else")) e
+else_read block reads (w ∷ ts) x e = by (same_bytes w (codes "else")) e
   where
     by : (t : Bool) → cond t (block ts) (Ok (nothing, w ∷ ts)) ≡ Ok x → IsRead true x.0
     by true i = reads ts x i
@@ -88,7 +88,7 @@ label_read (w ∷ ts) n e = by (is_name w) refl e
 call_read : (ds : Scope ℕ) (d : ℕ) → Reads false (call_at ds d)
 call_read ds d ts x e =
     let n = bind_ok (label_at ts) _ x e in
-    by n.0 (label_read ts n.0 n.1) (is_known ds n.0.0) (nat_le (named 0 ds n.0.0) d) n.2
+    by n.0 (label_read ts n.0 n.1) (is_known ds n.0.0) (nat_le (meant_by 0 ds n.0.0) d) n.2
   where
     by : (n : List ℕ × Tokens) → is_name n.0 ≡ true → (b k : Bool) → cond b (cond k (Ok (call n.0, n.1)) (Err cause.Depth)) (Err cause.Name) ≡ Ok x → IsRead false x.0
     by n h true true i = subst (λ (z : Tree × Tokens). IsRead false z.0) (ok_is _ x i) h
@@ -99,7 +99,7 @@ frames_read : (frame : Reader) → Reads false frame → (n : ℕ) → Reads tru
 unfolding frames_at
 frames_read frame reads n [] x e = absurd (cc)
 frames_read frame reads zero (w ∷ ts) x e = absurd (cc)
-frames_read frame reads (suc n) (w ∷ ts) x e = by (same w (codes "}")) (λ us y i. frames_read frame reads n us y i) e
+frames_read frame reads (suc n) (w ∷ ts) x e = by (same_bytes w (codes "}")) (λ us y i. frames_read frame reads n us y i) e
   where
     by : (t : Bool) → Reads true (frames_at frame n) → cond t (Ok (nothing, ts)) (frame (w ∷ ts) >>= (λ y. frames_at frame n y.1 >>= (λ z. Ok (chained y.0 z.0, z.1)))) ≡ Ok x → IsRead true x.0
     by true more i = subst (λ (z : Tree × Tokens). IsRead true z.0) (ok_is _ x i) tt
@@ -111,12 +111,12 @@ frames_read frame reads (suc n) (w ∷ ts) x e = by (same w (codes "}")) (λ us 
 block_read : (ds : Scope ℕ) (d : ℕ) → Reads true (block_at ds d)
 unfolding block_from inner_at
 block_read ds d [] x e = absurd (cc)
-block_read ds zero (w ∷ ts) x e = by (same w (codes "{")) e
+block_read ds zero (w ∷ ts) x e = by (same_bytes w (codes "{")) e
   where
     by : (t : Bool) → cond t (Err cause.Depth) (Err (misplaced w)) ≡ Ok x → IsRead true x.0
     by true i = absurd (cc)
     by false i = absurd (cc)
-block_read ds (suc d) (w ∷ ts) x e = by (same w (codes "{")) (λ us y i. block_read ds d us y i) e
+block_read ds (suc d) (w ∷ ts) x e = by (same_bytes w (codes "{")) (λ us y i. block_read ds d us y i) e
   where
     by : (t : Bool) → Reads true (block_at ds d) → cond t (frames_at (frame_at ds d) (length ts) ts) (Err (misplaced w)) ≡ Ok x → IsRead true x.0
     by true more i = frames_read (frame_at ds d) (frame_read (call_at ds d) (block_at ds d) (call_read ds d) more) (length ts) ts x i
@@ -148,12 +148,12 @@ definition_read ds ts x e =
 pub script_read : (k : ℕ) (ds : Scope ℕ) (ts : Tokens) (t : Tree) → script_at k ds ts ≡ Ok t → IsScript t
 unfolding script_at
 script_read k ds [] t e = subst IsScript (ok_is _ t e) tt
-script_read zero ds (w ∷ ts) t e = by (same w (codes "define")) e
+script_read zero ds (w ∷ ts) t e = by (same_bytes w (codes "define")) e
   where
     by : (b : Bool) → cond b (Err cause.Definitions) (main_at ds (length (w ∷ ts)) (w ∷ ts)) ≡ Ok t → IsScript t
     by true i = absurd (cc)
     by false i = script_of t (main_read ds (length (w ∷ ts)) (w ∷ ts) t i)
-script_read (suc k) ds (w ∷ ts) t e = by (same w (codes "define")) (λ xs us u i. script_read k xs us u i) e
+script_read (suc k) ds (w ∷ ts) t e = by (same_bytes w (codes "define")) (λ xs us u i. script_read k xs us u i) e
   where
     by : (b : Bool) → ((xs : Scope ℕ) (us : Tokens) (u : Tree) → script_at k xs us ≡ Ok u → IsScript u)
         → cond b (definition_at ds ts >>= (λ x. script_at k ((x.0.0, depth_in ds x.0.1) ∷ ds) x.1 >>= (λ t. Ok (define x.0.0 x.0.1 t)))) (main_at ds (length (w ∷ ts)) (w ∷ ts)) ≡ Ok t → IsScript t

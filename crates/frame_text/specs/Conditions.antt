@@ -5,7 +5,7 @@ use Rattle.mil_status.specs.declared.bit.StatusBit.{StatusBit}
 use Rattle.mil_message.specs.declared.outcome_test.OutcomeTest.TheVariants.{Failed, Silent, Bit}
 use Rattle.frame_tree.specs.Tree.{Condition, asked, negated, both, either}
 use Rattle.frame_text.specs.Tokens.{tokens}
-use Rattle.frame_text.specs.Reading.{Tokens, Reading, ◌>>=◌, same, misplaced, past, to_the_end}
+use Rattle.frame_text.specs.Reading.{Tokens, Reading, ◌>>=◌, same_bytes, misplaced, past, to_the_end}
 use Rattle.frame_text.specs.declared.faults.Cause.{Cause}
 use Rattle.frame_text.specs.declared.faults.Cause.TheVariants as cause
 use Rattle.frame_text.specs.declared.keywords.ConditionWord.{ConditionWord}
@@ -13,22 +13,22 @@ use Rattle.frame_text.specs.declared.keywords.ConditionWord.TheVariants as word
 
 unfoldable pub condition_word : List ℕ → ConditionWord
 condition_word w =
-    if same w (codes "fail") then word.Fail else
-    if same w (codes "silent") then word.Silent else
-    if same w (codes "bit") then word.Bit else
-    if same w (codes "not") then word.Not else
-    if same w (codes "all") then word.All else
-    if same w (codes "any") then word.Any else
+    if same_bytes w (codes "fail") then word.Fail else
+    if same_bytes w (codes "silent") then word.Silent else
+    if same_bytes w (codes "bit") then word.Bit else
+    if same_bytes w (codes "not") then word.Not else
+    if same_bytes w (codes "all") then word.All else
+    if same_bytes w (codes "any") then word.Any else
     word.NoCondition
 
 -- the status bit of a name
-abbrev pub named : List ℕ → Option StatusBit → Tokens → Reading StatusBit
-named w (Some bit) ts = Ok (bit, ts)
-named w None ts = Err (misplaced w)
+abbrev pub bit_or_misplaced : List ℕ → Option StatusBit → Tokens → Reading StatusBit
+bit_or_misplaced w (Some bit) ts = Ok (bit, ts)
+bit_or_misplaced w None ts = Err (misplaced w)
 
 unfoldable pub name_at : Tokens → Reading StatusBit
 name_at [] = Err cause.End
-name_at (w ∷ ts) = named w (bit_named w) ts
+name_at (w ∷ ts) = bit_or_misplaced w (bit_named w) ts
 
 abbrev pub Reader : Type 0
 Reader = Tokens → Reading Condition

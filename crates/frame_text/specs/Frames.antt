@@ -1,10 +1,11 @@
 -- The text of frames: the grammar of a script (own choice), and the tree of a text or its first fault.
 use Rattle.std.specs.Prelude.{ℕ, zero, suc, nat_le, if◌then◌else◌, List, [], ◌∷◌, length, Result, Ok, Err, codes}
+use Rattle.mil_word.specs.Timing.{least_gap}
 use Rattle.frame_tree.specs.Tree.{Tree, send, retry, gap, repeat, choose, until, timed, nothing, chained, call, define}
 use Rattle.frame_tree.specs.Bounds.{worst_messages, depth_in}
-use Rattle.frame_tree.specs.Names.{is_name, Scope, named, is_known}
+use Rattle.frame_tree.specs.Names.{is_name, Scope, meant_by, is_known}
 use Rattle.frame_text.specs.Tokens.{tokens}
-use Rattle.frame_text.specs.Reading.{Tokens, Reading, ◌>>=◌, same, misplaced, past}
+use Rattle.frame_text.specs.Reading.{Tokens, Reading, ◌>>=◌, same_bytes, misplaced, past}
 use Rattle.frame_text.specs.Words.{number_within, period_at}
 use Rattle.frame_text.specs.Messages.{send_at}
 use Rattle.frame_text.specs.Conditions.{condition_at}
@@ -15,14 +16,14 @@ use Rattle.frame_text.specs.declared.keywords.FrameWord.TheVariants as word
 
 unfoldable pub frame_word : List ℕ → FrameWord
 frame_word w =
-    if same w (codes "send") then word.Send else
-    if same w (codes "retry") then word.Retry else
-    if same w (codes "gap") then word.Gap else
-    if same w (codes "repeat") then word.Repeat else
-    if same w (codes "if") then word.If else
-    if same w (codes "until") then word.Until else
-    if same w (codes "frame") then word.Timed else
-    if same w (codes "call") then word.Call else
+    if same_bytes w (codes "send") then word.Send else
+    if same_bytes w (codes "retry") then word.Retry else
+    if same_bytes w (codes "gap") then word.Gap else
+    if same_bytes w (codes "repeat") then word.Repeat else
+    if same_bytes w (codes "if") then word.If else
+    if same_bytes w (codes "until") then word.Until else
+    if same_bytes w (codes "frame") then word.Timed else
+    if same_bytes w (codes "call") then word.Call else
     word.NoFrame
 
 abbrev pub Reader : Type 0
@@ -31,7 +32,7 @@ Reader = Tokens → Reading Tree
 -- what stands behind an else, or nothing
 unfoldable pub else_at : Reader → Reader
 else_at block [] = Ok (nothing, [])
-else_at block (w ∷ ts) = if same w (codes "else") then block ts else Ok (nothing, w ∷ ts)
+else_at block (w ∷ ts) = if same_bytes w (codes "else") then block ts else Ok (nothing, w ∷ ts)
 
 -- behind the first word of a frame: what is sent once and again, what is repeated, what is chosen, what runs until a
 -- condition holds, what has a period; block reads a block in its braces
@@ -65,18 +66,18 @@ label_at (w ∷ ts) = if is_name w then Ok (w, ts) else Err (misplaced w)
 
 -- behind the word call: a name in scope, where each name in scope has the depth of its body, and no more than so many
 -- blocks in the body
-abbrev pub called : Scope ℕ → ℕ → List ℕ → Tokens → Reading Tree
-called ds d n ts =
-    if is_known ds n then (if nat_le (named 0 ds n) d then Ok (call n, ts) else Err cause.Depth) else Err cause.Name
+abbrev pub call_of : Scope ℕ → ℕ → List ℕ → Tokens → Reading Tree
+call_of ds d n ts =
+    if is_known ds n then (if nat_le (meant_by 0 ds n) d then Ok (call n, ts) else Err cause.Depth) else Err cause.Name
 
 abbrev pub call_at : Scope ℕ → ℕ → Reader
-call_at ds d ts = label_at ts >>= (λ n. called ds d n.0 n.1)
+call_at ds d ts = label_at ts >>= (λ n. call_of ds d n.0 n.1)
 
 -- a frame by its first word
 unfoldable pub frame_of : Reader → Reader → FrameWord → List ℕ → Tokens → Reading Tree
 frame_of calls block word.Send w ts = send_at ts >>= (λ x. Ok (send x.0.0 x.0.1, x.1))
 frame_of calls block word.Retry w ts = retry_at ts
-frame_of calls block word.Gap w ts = number_within 40 65535 ts >>= (λ n. Ok (gap n.0, n.1))
+frame_of calls block word.Gap w ts = number_within least_gap 65535 ts >>= (λ n. Ok (gap n.0, n.1))
 frame_of calls block word.Repeat w ts = repeat_at block ts
 frame_of calls block word.If w ts = choice_at block ts
 frame_of calls block word.Until w ts = until_at block ts
@@ -93,13 +94,13 @@ unfoldable pub frames_at : Reader → ℕ → Reader
 frames_at frame n [] = Err cause.End
 frames_at frame zero (w ∷ ts) = Err cause.End
 frames_at frame (suc n) (w ∷ ts) =
-    if same w (codes "}") then Ok (nothing, ts)
+    if same_bytes w (codes "}") then Ok (nothing, ts)
     else (frame (w ∷ ts) >>= (λ x. frames_at frame n x.1 >>= (λ y. Ok (chained x.0 y.0, y.1))))
 
 -- a block in its braces, inside the opening brace what inner reads
 unfoldable pub block_from : Result Reader Cause → Reader
 block_from inner [] = Err cause.End
-block_from inner (w ∷ ts) = if same w (codes "{") then (inner >>= (λ reader. reader ts)) else Err (misplaced w)
+block_from inner (w ∷ ts) = if same_bytes w (codes "{") then (inner >>= (λ reader. reader ts)) else Err (misplaced w)
 
 -- what reads a block's frames, where at most so many blocks may stand in one another, this one among them
 unfoldable pub inner_at : Scope ℕ → ℕ → Result Reader Cause
@@ -134,9 +135,9 @@ definition_at ds ts = fresh_name_at ds ts >>= (λ n. block_at ds 17 n.1 >>= (λ 
 unfoldable pub script_at : ℕ → Scope ℕ → Tokens → Result Tree Cause
 script_at k ds [] = Ok nothing
 script_at zero ds (w ∷ ts) =
-    if same w (codes "define") then Err cause.Definitions else main_at ds (length (w ∷ ts)) (w ∷ ts)
+    if same_bytes w (codes "define") then Err cause.Definitions else main_at ds (length (w ∷ ts)) (w ∷ ts)
 script_at (suc k) ds (w ∷ ts) =
-    if same w (codes "define")
+    if same_bytes w (codes "define")
     then (definition_at ds ts
     >>= (λ x. script_at k ((x.0.0, depth_in ds x.0.1) ∷ ds) x.1 >>= (λ t. Ok (define x.0.0 x.0.1 t))))
     else main_at ds (length (w ∷ ts)) (w ∷ ts)

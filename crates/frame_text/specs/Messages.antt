@@ -10,7 +10,7 @@ use Rattle.mil_message.specs.Request.{Request, to_terminal, from_terminal, betwe
 use Rattle.mil_message.specs.Request.{mode_request, mode_request_to_all}
 use Rattle.mil_message.specs.Rules.{checked}
 use Rattle.frame_text.specs.Tokens.{tokens}
-use Rattle.frame_text.specs.Reading.{Tokens, Reading, ◌>>=◌, same, misplaced, to_the_end}
+use Rattle.frame_text.specs.Reading.{Tokens, Reading, ◌>>=◌, same_bytes, misplaced, to_the_end}
 use Rattle.frame_text.specs.Words.{number_at, bracketed_at, optional_at}
 use Rattle.frame_text.specs.declared.faults.Cause.{Cause}
 use Rattle.frame_text.specs.declared.faults.Cause.TheVariants as cause
@@ -20,21 +20,21 @@ use Rattle.frame_text.specs.declared.keywords.MessageWord.TheVariants as word
 unfoldable pub line_at : Tokens → Reading Line
 line_at [] = Err cause.End
 line_at (w ∷ ts) =
-    if same w (codes "A") then Ok (A, ts)
-    else if same w (codes "B") then Ok (B, ts)
+    if same_bytes w (codes "A") then Ok (A, ts)
+    else if same_bytes w (codes "B") then Ok (B, ts)
     else Err (misplaced w)
 
 unfoldable pub message_word : List ℕ → MessageWord
 message_word w =
-    if same w (codes "rx") then word.Receive else
-    if same w (codes "tx") then word.Transmit else
-    if same w (codes "rt") then word.Transfer else
-    if same w (codes "mode") then word.Mode else
-    if same w (codes "mode0") then word.ModeZero else
-    if same w (codes "brx") then word.ReceiveAll else
-    if same w (codes "brt") then word.TransferAll else
-    if same w (codes "bmode") then word.ModeAll else
-    if same w (codes "bmode0") then word.ModeZeroAll else
+    if same_bytes w (codes "rx") then word.Receive else
+    if same_bytes w (codes "tx") then word.Transmit else
+    if same_bytes w (codes "rt") then word.Transfer else
+    if same_bytes w (codes "mode") then word.Mode else
+    if same_bytes w (codes "mode0") then word.ModeZero else
+    if same_bytes w (codes "brx") then word.ReceiveAll else
+    if same_bytes w (codes "brt") then word.TransferAll else
+    if same_bytes w (codes "bmode") then word.ModeAll else
+    if same_bytes w (codes "bmode0") then word.ModeZeroAll else
     word.NoMessage
 
 -- the message that a request asks for, judged once it is read

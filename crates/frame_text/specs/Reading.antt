@@ -8,6 +8,7 @@ use Rattle.frame_text.specs.declared.faults.Fault.{Fault}
 use Rattle.frame_text.specs.declared.faults.Fault.TheVariants as fault
 use Rattle.frame_text.specs.declared.faults.ScriptError.{ScriptError}
 use Rattle.frame_text.specs.declared.faults.ScriptError.TheVariants as error
+pub use Rattle.frame_tree.specs.Names.{same_bytes}
 
 abbrev pub Tokens : Type 0
 Tokens = List (List ℕ)
@@ -53,12 +54,6 @@ abbrev pub Answers : {X Y : Type 0} → (X → Y) → Result X ScriptError → R
 Answers view (Ok x) read = read ≡ Ok (view x)
 Answers view (Err e) read = Refuses e read
 
-abbrev pub same : List ℕ → List ℕ → Bool
-same [] [] = true
-same [] (y ∷ ys) = false
-same (x ∷ xs) [] = false
-same (x ∷ xs) (y ∷ ys) = nat_eq x y && same xs ys
-
 abbrev pub is_word : List ℕ → Bool
 is_word [] = false
 is_word (b ∷ bs) = in_word b
@@ -66,8 +61,9 @@ is_word (b ∷ bs) = in_word b
 -- the brackets { } ( ) [ ]
 abbrev pub is_bracket : List ℕ → Bool
 is_bracket w =
-    same w (codes "{") || same w (codes "}") || same w (codes "(") || same w (codes ")") || same w (codes "[")
-    || same w (codes "]")
+    same_bytes w (codes "{") || same_bytes w (codes "}") || same_bytes w (codes "(") || same_bytes w (codes ")")
+    || same_bytes w (codes "[")
+    || same_bytes w (codes "]")
 
 -- the fault of a token that may not stand where it does: a byte that is in no token of the language, or a wrong token
 abbrev pub misplaced : List ℕ → Cause
@@ -76,7 +72,7 @@ misplaced w = if is_word w || is_bracket w then cause.Token else cause.Byte
 -- a token that has to stand here
 unfoldable pub past : List ℕ → Tokens → Result Tokens Cause
 past token [] = Err cause.End
-past token (w ∷ ts) = if same w token then Ok ts else Err (misplaced w)
+past token (w ∷ ts) = if same_bytes w token then Ok ts else Err (misplaced w)
 
 -- a reading of all tokens
 unfoldable pub to_the_end : {X : Type 0} → X × Tokens → Result X Cause

@@ -2,7 +2,7 @@
 use Rattle.std.specs.Prelude.{ℕ, ◌/◌, ◌%◌, nat_eq, nat_le, ◌&&◌, if◌then◌else◌, List, [], ◌∷◌, take, Option, Some, None}
 use Rattle.std.specs.Prelude.{Result, Ok, Err, codes}
 use Rattle.numerals.specs.Numerals as numerals
-use Rattle.frame_text.specs.Reading.{Tokens, Reading, ◌>>=◌, same, is_word, misplaced, past}
+use Rattle.frame_text.specs.Reading.{Tokens, Reading, ◌>>=◌, same_bytes, is_word, misplaced, past}
 use Rattle.frame_text.specs.declared.faults.Cause.{Cause}
 use Rattle.frame_text.specs.declared.faults.Cause.TheVariants as cause
 
@@ -44,7 +44,7 @@ period_at ts = number_within 100 6553500 ts >>= (λ n. hundreds_of n.0 n.1)
 unfoldable pub words_at : Tokens → Reading (List ℕ)
 words_at [] = Err cause.End
 words_at (w ∷ ts) =
-    if same w (codes "]") then Ok ([], ts)
+    if same_bytes w (codes "]") then Ok ([], ts)
     else (spelled w (data_word_of w) >>= (λ n. words_at ts >>= (λ ns. Ok (n ∷ ns.0, ns.1))))
 
 -- the first 33 words: a message with more is refused as one with 33 is
@@ -59,4 +59,4 @@ bracketed_at ts = past (codes "[") ts >>= (λ us. counted (words_at us))
 unfoldable pub optional_at : Tokens → Reading (Option (List ℕ))
 optional_at [] = Ok (None, [])
 optional_at (w ∷ ts) =
-    if same w (codes "[") then (counted (words_at ts) >>= (λ ns. Ok (Some ns.0, ns.1))) else Ok (None, w ∷ ts)
+    if same_bytes w (codes "[") then (counted (words_at ts) >>= (λ ns. Ok (Some ns.0, ns.1))) else Ok (None, w ∷ ts)

@@ -57,11 +57,11 @@ pub enum Fault {
 
 impl Cause {
     ghost use Rattle.std.specs.Prelude.{◌≡◌};
-    ghost use Rattle.frame_text.specs.Codes.{code_of};
+    ghost use Rattle.frame_text.specs.Codes.{fault_code};
 
     /// `S1` to `S8`, `S10` and `S11`.
     fn code(&self) -> &'static str
-        ensures { result.now ≡ code_of self.now }
+        ensures { result.now ≡ fault_code self.now }
     {
         match self {
             Cause::Byte => "S1",

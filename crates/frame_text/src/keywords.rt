@@ -52,7 +52,7 @@ pub enum FrameWord {
 
 /// Whether two tokens are the same.
 pub fn is(word: &[u8], text: &[u8]) -> bool
-    ensures { result ≡ reading.same word.now text.now }
+    ensures { result ≡ reading.same_bytes word.now text.now }
 {
     word == text
 }

@@ -2,7 +2,7 @@
 
 ghost use Rattle.std.specs.Prelude.{◌≡◌, true, ◌+◌, ◌++◌, OnOk, string_bytes, codes, decimal};
 ghost use Rattle.frame_tree.specs.Tree.{condition_in, tree_of, send, retry, gap, repeat, until, timed, call};
-ghost use Rattle.frame_tree.specs.Names.{is_word};
+ghost use Rattle.frame_tree.specs.Names.{are_word_bytes};
 ghost use Rattle.frame_text.specs.PrintedConditions.{condition_text};
 ghost use Rattle.frame_text.specs.PrintedMessages.{send_text};
 ghost use Rattle.frame_text.specs.Printing as texts;
@@ -93,7 +93,7 @@ fn put_gap(out: &mut String, ticks: u16, depth: usize) -> Result<(), AllocError>
 // A run of letters, digits and _.
 #[tactic(auto, using(crate::proofs::Naming::rest_is_word))]
 fn put_word(out: &mut String, word: &[u8]) -> Result<(), AllocError>
-    requires { is_word word.now ≡ true }
+    requires { are_word_bytes word.now ≡ true }
     ensures { OnOk result (string_bytes out.new ≡ string_bytes out.old ++ word.now) }
 {
     match word.split_first() {

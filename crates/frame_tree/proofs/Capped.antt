@@ -1,7 +1,7 @@
 -- A count that is cut at a limit, and what comes of it.
 use Rattle.std.proofs.Common.{◌≡◌, ℕ, zero, suc, ◌*◌, min, Bool, true, false, List, [], ◌∷◌, refl, ap, ◌∙◌, arith, if◌then◌else◌}
 use Rattle.frame_tree.specs.Tree.{Tree, send, retry, gap, repeat, choose, until, timed, nothing, chained, call, define}
-use Rattle.frame_tree.specs.Names.{Scope, named, same}
+use Rattle.frame_tree.specs.Names.{Scope, meant_by, same_bytes}
 use Rattle.frame_tree.specs.Bounds.{messages_in, depth_in}
 
 -- the same names, each with the same number up to the limit
@@ -18,13 +18,13 @@ named_choice : (k : ℕ) (b : Bool) (x y u v : ℕ) → min k x ≡ min k y → 
 named_choice k true x y u v e f = e
 named_choice k false x y u v e f = f
 
-named_alike : (k : ℕ) (ds es : Scope ℕ) (n : List ℕ) → Alike k ds es → min k (named 0 ds n) ≡ min k (named 0 es n)
+named_alike : (k : ℕ) (ds es : Scope ℕ) (n : List ℕ) → Alike k ds es → min k (meant_by 0 ds n) ≡ min k (meant_by 0 es n)
 named_alike k [] [] n h = refl
 named_alike k [] (e ∷ es) n h = absurd h
 named_alike k (d ∷ ds) [] n h = absurd h
 named_alike k (d ∷ ds) (e ∷ es) n h =
-    named_choice k (same d.0 n) d.1 e.1 (named 0 ds n) (named 0 es n) h.1 (named_alike k ds es n h.2)
-    ∙ ap (λ m. min k (if same m n then e.1 else named 0 es n)) h.0
+    named_choice k (same_bytes d.0 n) d.1 e.1 (meant_by 0 ds n) (meant_by 0 es n) h.1 (named_alike k ds es n h.2)
+    ∙ ap (λ m. min k (if same_bytes m n then e.1 else meant_by 0 es n)) h.0
 
 times_alike : (k n a b : ℕ) → min k a ≡ min k b → min k (n * a) ≡ min k (n * b)
 times_alike k zero a b e = omega (arith, e)

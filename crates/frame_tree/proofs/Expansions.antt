@@ -2,7 +2,7 @@
 use Rattle.std.proofs.Common.{◌≡◌, ℕ, ◌≤◌, ◌*◌, ◌+◌, max, Bool, true, false, List, [], ◌∷◌, refl, ap, ap₂, ◌∙◌, subst, arith}
 use Rattle.std.specs.Prelude.{if◌then◌else◌}
 use Rattle.frame_tree.specs.Tree.{Tree, send, retry, gap, repeat, choose, until, timed, nothing, chained, call, define}
-use Rattle.frame_tree.specs.Names.{Scope, named, same}
+use Rattle.frame_tree.specs.Names.{Scope, meant_by, same_bytes}
 use Rattle.frame_tree.specs.Bounds.{messages_in, depth_in, CallsKnown}
 use Rattle.frame_tree.specs.Expansion.{expanded}
 
@@ -16,13 +16,13 @@ send_chosen : (b : Bool) (t u : Tree) (x y : ℕ) (cs : Scope ℕ) → messages_
 send_chosen true t u x y cs e f = e
 send_chosen false t u x y cs e f = f
 
-send_named : (cs : Scope ℕ) (ds : Scope Tree) (vs : Scope ℕ) (n : List ℕ) → Send ds vs → messages_in cs (named nothing ds n) ≡ named 0 vs n
+send_named : (cs : Scope ℕ) (ds : Scope Tree) (vs : Scope ℕ) (n : List ℕ) → Send ds vs → messages_in cs (meant_by nothing ds n) ≡ meant_by 0 vs n
 send_named cs [] [] n h = refl
 send_named cs [] (v ∷ vs) n h = absurd h
 send_named cs (d ∷ ds) [] n h = absurd h
 send_named cs (d ∷ ds) (v ∷ vs) n h =
-    send_chosen (same d.0 n) d.1 (named nothing ds n) v.1 (named 0 vs n) cs (h.1 cs) (send_named cs ds vs n h.2)
-    ∙ ap (λ m. if same m n then v.1 else named 0 vs n) h.0
+    send_chosen (same_bytes d.0 n) d.1 (meant_by nothing ds n) v.1 (meant_by 0 vs n) cs (h.1 cs) (send_named cs ds vs n h.2)
+    ∙ ap (λ m. if same_bytes m n then v.1 else meant_by 0 vs n) h.0
 
 pub messages_kept : (t : Tree) (cs : Scope ℕ) (ds : Scope Tree) (vs : Scope ℕ) → Send ds vs → messages_in cs (expanded ds t) ≡ messages_in vs t
 messages_kept (send l m) cs ds vs h = refl
@@ -47,13 +47,13 @@ deep_chosen : (b : Bool) (t u : Tree) (x y : ℕ) (cs : Scope ℕ) → depth_in 
 deep_chosen true t u x y cs e f = e
 deep_chosen false t u x y cs e f = f
 
-deep_named : (cs : Scope ℕ) (ds : Scope Tree) (vs : Scope ℕ) (n : List ℕ) → Deep ds vs → depth_in cs (named nothing ds n) ≤ named 0 vs n
+deep_named : (cs : Scope ℕ) (ds : Scope Tree) (vs : Scope ℕ) (n : List ℕ) → Deep ds vs → depth_in cs (meant_by nothing ds n) ≤ meant_by 0 vs n
 deep_named cs [] [] n h = omega arith
 deep_named cs [] (v ∷ vs) n h = absurd h
 deep_named cs (d ∷ ds) [] n h = absurd h
 deep_named cs (d ∷ ds) (v ∷ vs) n h =
-    subst (λ m. depth_in cs (if same d.0 n then d.1 else named nothing ds n) ≤ (if same m n then v.1 else named 0 vs n)) h.0
-    (deep_chosen (same d.0 n) d.1 (named nothing ds n) v.1 (named 0 vs n) cs (h.1 cs) (deep_named cs ds vs n h.2))
+    subst (λ m. depth_in cs (if same_bytes d.0 n then d.1 else meant_by nothing ds n) ≤ (if same_bytes m n then v.1 else meant_by 0 vs n)) h.0
+    (deep_chosen (same_bytes d.0 n) d.1 (meant_by nothing ds n) v.1 (meant_by 0 vs n) cs (h.1 cs) (deep_named cs ds vs n h.2))
 
 pub depth_kept : (t : Tree) (cs : Scope ℕ) (ds : Scope Tree) (vs : Scope ℕ) → Deep ds vs → depth_in cs (expanded ds t) ≤ depth_in vs t
 depth_kept (send l m) cs ds vs h = omega arith
@@ -77,9 +77,9 @@ plain_chosen : (b : Bool) (t u : Tree) → CallsKnown {X = ℕ} [] t → CallsKn
 plain_chosen true t u e f = e
 plain_chosen false t u e f = f
 
-plain_named : (ds : Scope Tree) (n : List ℕ) → ArePlain ds → CallsKnown {X = ℕ} [] (named nothing ds n)
+plain_named : (ds : Scope Tree) (n : List ℕ) → ArePlain ds → CallsKnown {X = ℕ} [] (meant_by nothing ds n)
 plain_named [] n h = tt
-plain_named (d ∷ ds) n h = plain_chosen (same d.0 n) d.1 (named nothing ds n) h.0 (plain_named ds n h.1)
+plain_named (d ∷ ds) n h = plain_chosen (same_bytes d.0 n) d.1 (meant_by nothing ds n) h.0 (plain_named ds n h.1)
 
 pub plain_kept : (t : Tree) (ds : Scope Tree) → ArePlain ds → CallsKnown {X = ℕ} [] (expanded ds t)
 plain_kept (send l m) ds h = tt

@@ -1,8 +1,9 @@
 -- How large a tree is, and which trees are sound (own choice).
 use Rattle.std.specs.Prelude.{◌≡◌, ℕ, ◌+◌, ◌*◌, ◌≤◌, ◌<◌, max, true, false, [], ◌∷◌, length}
+use Rattle.mil_word.specs.Timing.{least_gap}
 use Rattle.frame_tree.specs.Tree.{Condition, asked, negated, both, either, Tree, send, retry, gap, repeat, choose}
 use Rattle.frame_tree.specs.Tree.{until, timed, nothing, chained, call, define}
-use Rattle.frame_tree.specs.Names.{Scope, named, is_known}
+use Rattle.frame_tree.specs.Names.{Scope, meant_by, is_known}
 
 -- How many messages a tree sends at most, where a call of each name in scope sends so many: every retry is used up, an
 -- until runs all its turns, and an if takes the branch with more.
@@ -16,7 +17,7 @@ messages_in ds (until c n b) = n * messages_in ds b
 messages_in ds (timed h b) = messages_in ds b
 messages_in ds nothing = 0
 messages_in ds (chained a b) = messages_in ds a + messages_in ds b
-messages_in ds (call n) = named 0 ds n
+messages_in ds (call n) = meant_by 0 ds n
 messages_in ds (define n b r) = messages_in ((n, messages_in ds b) ∷ ds) r
 
 abbrev pub worst_messages : Tree → ℕ
@@ -34,7 +35,7 @@ depth_in ds (until c n b) = 1 + depth_in ds b
 depth_in ds (timed h b) = 1 + depth_in ds b
 depth_in ds nothing = 0
 depth_in ds (chained a b) = max (depth_in ds a) (depth_in ds b)
-depth_in ds (call n) = named 0 ds n
+depth_in ds (call n) = meant_by 0 ds n
 depth_in ds (define n b r) = max (depth_in ds b) (depth_in ((n, depth_in ds b) ∷ ds) r)
 
 abbrev pub depth : Tree → ℕ
@@ -55,7 +56,7 @@ IsCondition c = operators c ≤ 16
 abbrev pub IsInRange : Tree → Type 0
 IsInRange (send l m) = Unit {0}
 IsInRange (retry n l m) = (1 ≤ n) × (n ≤ 8)
-IsInRange (gap t) = (40 ≤ t) × (t ≤ 65535)
+IsInRange (gap t) = (least_gap ≤ t) × (t ≤ 65535)
 IsInRange (repeat n b) = (1 ≤ n) × (n ≤ 10000) × IsInRange b
 IsInRange (choose c a b) = IsCondition c × IsInRange a × IsInRange b
 IsInRange (until c n b) = IsCondition c × (1 ≤ n) × (n ≤ 10000) × IsInRange b

@@ -6,9 +6,9 @@ abbrev pub is_letter : ℕ → Bool
 is_letter b = (nat_le 65 b && nat_le b 90) || (nat_le 97 b && nat_le b 122)
 
 -- letters, digits and _
-abbrev pub is_word : List ℕ → Bool
-is_word [] = true
-is_word (b ∷ bs) = (is_letter b || (nat_le 48 b && nat_le b 57) || nat_eq b 95) && is_word bs
+abbrev pub are_word_bytes : List ℕ → Bool
+are_word_bytes [] = true
+are_word_bytes (b ∷ bs) = (is_letter b || (nat_le 48 b && nat_le b 57) || nat_eq b 95) && are_word_bytes bs
 
 abbrev pub begins : List ℕ → Bool
 begins [] = false
@@ -16,24 +16,24 @@ begins (b ∷ bs) = is_letter b
 
 -- 1 to 16 letters, digits and _, the first a letter
 abbrev pub is_name : List ℕ → Bool
-is_name bs = begins bs && is_word bs && nat_le (length bs) 16
+is_name bs = begins bs && are_word_bytes bs && nat_le (length bs) 16
 
-abbrev pub same : List ℕ → List ℕ → Bool
-same [] [] = true
-same [] (y ∷ ys) = false
-same (x ∷ xs) [] = false
-same (x ∷ xs) (y ∷ ys) = nat_eq x y && same xs ys
+abbrev pub same_bytes : List ℕ → List ℕ → Bool
+same_bytes [] [] = true
+same_bytes [] (y ∷ ys) = false
+same_bytes (x ∷ xs) [] = false
+same_bytes (x ∷ xs) (y ∷ ys) = nat_eq x y && same_bytes xs ys
 
 -- the definitions in scope, the latest first, each with what stands for it
 abbrev pub Scope : Type 0 → Type 0
 Scope X = List (List ℕ × X)
 
 -- what stands for a name; this where it is not in scope
-abbrev pub named : {X : Type 0} → X → Scope X → List ℕ → X
-named x [] n = x
-named x (d ∷ ds) n = if same d.0 n then d.1 else named x ds n
+abbrev pub meant_by : {X : Type 0} → X → Scope X → List ℕ → X
+meant_by x [] n = x
+meant_by x (d ∷ ds) n = if same_bytes d.0 n then d.1 else meant_by x ds n
 
 -- whether a name is in scope
 abbrev pub is_known : {X : Type 0} → Scope X → List ℕ → Bool
 is_known [] n = false
-is_known (d ∷ ds) n = same d.0 n || is_known ds n
+is_known (d ∷ ds) n = same_bytes d.0 n || is_known ds n

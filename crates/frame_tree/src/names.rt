@@ -1,7 +1,7 @@
 //! Names of definitions, and the names in scope.
 
 ghost use Rattle.std.specs.Prelude.{◌≡◌, ◌≤◌, true, if◌then◌else◌, Some, None, length};
-ghost use Rattle.frame_tree.specs.Names.{is_letter, is_word, begins, is_name, same, named, is_known};
+ghost use Rattle.frame_tree.specs.Names.{is_letter, are_word_bytes, begins, is_name, same_bytes, meant_by, is_known};
 ghost use Rattle.frame_tree.specs.Scopes.{scope_of};
 
 use arrayvec::ArrayVec;
@@ -60,7 +60,7 @@ impl Name {
 
     /// Whether it is the same name.
     pub fn is(&self, other: &Name) -> bool
-        ensures { result ≡ same self.now other.now }
+        ensures { result ≡ same_bytes self.now other.now }
     {
         are_same(self.bytes.as_slice(), other.bytes.as_slice())
     }
@@ -76,7 +76,7 @@ fn copied(bytes: &[u8]) -> ArrayVec<u8, 16>
 }
 
 fn are_same(a: &[u8], b: &[u8]) -> bool
-    ensures { result ≡ same a.now b.now }
+    ensures { result ≡ same_bytes a.now b.now }
 {
     a == b
 }
@@ -89,7 +89,7 @@ fn is_letter(byte: u8) -> bool
 
 // Whether all bytes are letters, digits or `_`.
 fn is_word(bytes: &[u8]) -> bool
-    ensures { result ≡ is_word bytes.now }
+    ensures { result ≡ are_word_bytes bytes.now }
 {
     match bytes.split_first() {
         None => true,
@@ -126,7 +126,7 @@ pub enum Scope<'a> {
 impl Scope<'_> {
     /// The number of a name; 0 where it is not in scope.
     pub fn number_of(&self, name: &Name) -> u32
-        ensures { result ≡ named 0 (scope_of self.now) name.now }
+        ensures { result ≡ meant_by 0 (scope_of self.now) name.now }
     {
         match self {
             Scope::Empty => 0,

@@ -2,16 +2,16 @@
 use Rattle.std.proofs.Common.{◌≡◌, ℕ, ◌<◌, ◌≤◌, List, [], ◌∷◌, length, refl, sym, ap, subst, ◌∙◌, ⊎_elim}
 use Rattle.std.specs.Prelude.{◌↔◌, false, Option, Some, Result, Ok, Err, IfOk}
 use Rattle.std.proofs.lemmas.Bool.{cases_lt}
-use Rattle.mil_host.specs.Words.{Text}
+use Rattle.text_lines.specs.Words.{Text}
 use Rattle.frame_tree.specs.Tree.{Tree}
 use Rattle.frame_tree.specs.Bounds.{IsSound}
 use Rattle.frame_text.specs.Frames.{tree_of_text}
 use Rattle.frame_code.specs.Table.{Code}
-use Rattle.frame_asm.specs.Shapes.{code_of}
-use Rattle.frame_asm.specs.declared.AsmError.{AsmError}
-use Rattle.frame_asm.specs.declared.AsmError.TheVariants as assembler
+use Rattle.frame_asm.specs.Shapes.{code_of_tree}
+use Rattle.frame_asm.specs.declared.error.AsmError.{AsmError}
+use Rattle.frame_asm.specs.declared.error.AsmError.TheVariants as assembler
 use Rattle.frame_load.specs.Judging.{IsWithin, HasShortPeriods, Judges}
-use Rattle.frame_load.specs.declared.LoadError.{LoadError}
+use Rattle.frame_load.specs.declared.error.LoadError.{LoadError}
 use Rattle.job_file.specs.Options.{◌>>=◌}
 use Rattle.job_file.specs.HeadLines.{Head, is_none_yet}
 use Rattle.job_file.specs.Drafts.{shown}
@@ -29,7 +29,7 @@ use Rattle.job_file.proofs.FirstFaults.{script_refused}
 job_is : (d : Draft) (channel : ℕ) (text : Text) (tree : Tree) → d.channel ≡ Some channel → tree_of_text text ≡ Ok tree → job_of (shown d) text ≡ Some (job_with channel (shown d) tree)
 job_is d channel text tree named read = rw (named, read) refl
 
-refused : (spelled : Option ChannelJob) (job : ChannelJob) (e : JobError) → spelled ≡ Some job → IsCodeRefusal (code_of job.tree) e → IsRefusal spelled e
+refused : (spelled : Option ChannelJob) (job : ChannelJob) (e : JobError) → spelled ≡ Some job → IsCodeRefusal (code_of_tree job.tree) e → IsRefusal spelled e
 refused spelled job (error.Line line why) is r = absurd r
 refused spelled job (error.Script cause place) is r = absurd r
 refused spelled job (error.Assembly line why) is r = (job, is, r)
@@ -38,7 +38,7 @@ refused spelled job error.Memory is r = tt
 
 -- a script without a program
 pub code_refused : (d : Draft) (channel : ℕ) (text : Text) (tree : Tree) (e : JobError) → d.channel ≡ Some channel → tree_of_text text ≡ Ok tree
-    → IsCodeRefusal (code_of tree) e → IsRefusal (job_of (shown d) text) e
+    → IsCodeRefusal (code_of_tree tree) e → IsRefusal (job_of (shown d) text) e
 code_refused d channel text tree e named read r = refused _ (job_with channel (shown d) tree) e (job_is d channel text tree named read) r
 
 -- an image that was made, and that the loader accepted
@@ -59,10 +59,10 @@ unfolding tree_spelled
 spelled_is text tree read = ap tree_or_nothing read
 
 -- the code of that tree is the program of the text
-pub program_made : (text : Text) (tree : Tree) (program : Code) → tree_of_text text ≡ Ok tree → IsSound tree → program ≡ code_of tree → IsProgramOf text program
+pub program_made : (text : Text) (tree : Tree) (program : Code) → tree_of_text text ≡ Ok tree → IsSound tree → program ≡ code_of_tree tree → IsProgramOf text program
 program_made text tree program read sound is =
     let e : tree ≡ tree_spelled text = sym (spelled_is text tree read) in
-    record { spells = read ∙ ap Ok e; sound = subst IsSound e sound; program_is = is ∙ ap code_of e }
+    record { spells = read ∙ ap Ok e; sound = subst IsSound e sound; program_is = is ∙ ap code_of_tree e }
 
 -- and the job is that of the draft and the text
 pub job_made : (d : Draft) (channel : ℕ) (text : Text) (tree : Tree) → d.channel ≡ Some channel → tree_of_text text ≡ Ok tree
@@ -71,13 +71,13 @@ job_made d channel text tree named read = job_is d channel text tree named read 
 
 -- whose image is that of the script
 pub job_kept : (text : Text) (tree : Tree) (job : ChannelJob) (channel : ℕ) (head : Head) → job ≡ job_with channel head (tree_spelled text) → tree_of_text text ≡ Ok tree
-    → HasProgram (code_of tree) → HasProgram (code_of job.tree)
+    → HasProgram (code_of_tree tree) → HasProgram (code_of_tree job.tree)
 job_kept text tree job channel head is read kept =
     let same : job.tree ≡ tree = ap (λ (j : ChannelJob). j.tree) is ∙ spelled_is text tree read in
-    subst (λ t. HasProgram (code_of t)) (sym same) kept
+    subst (λ t. HasProgram (code_of_tree t)) (sym same) kept
 
 -- a text that gives a job
-pub accepted : (text : Text) (o : Option ChannelJob) (r : Result JobState JobError) → spelled text ≡ o → IfOk r (λ j. o ≡ Some (job_in j)) → IfOk r (λ j. HasProgram (code_of (tree_in j)))
+pub accepted : (text : Text) (o : Option ChannelJob) (r : Result JobState JobError) → spelled text ≡ o → IfOk r (λ j. o ≡ Some (job_in j)) → IfOk r (λ j. HasProgram (code_of_tree (tree_in j)))
     → IfOk r (λ _. IsAccepted text)
 accepted text o (Ok j) read is kept = record {
   job = job_in j;

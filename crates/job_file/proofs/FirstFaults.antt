@@ -3,12 +3,13 @@ use Rattle.std.proofs.Common.{◌≡◌, ℕ, ◌+◌, ◌≤◌, List, [], ◌�
 use Rattle.std.specs.Prelude.{Bool, true, false, ◌&&◌, ◌⊎◌, if◌then◌else◌, Option, Some, None, Result, Ok, Err, IfErr}
 use Rattle.std.specs.List.{position_or_len, before_first, after_first}
 use Rattle.std.proofs.lemmas.List.{append-nil, length-append, length-drop}
-use Rattle.mil_host.specs.Words.{Text, words, has_bytes}
+use Rattle.text_lines.specs.Words.{Text, words, has_bytes}
 use Rattle.job_file.specs.Options.{◌>>=◌}
 use Rattle.job_file.specs.Lines.{Said, blank, script, channel, start, terminal, action, fault, faults, series, said, said_in}
 use Rattle.job_file.specs.HeadLines.{Head, head_of, may_stand, are_lawful, is_none_yet}
 use Rattle.job_file.specs.Drafts.{with_line}
-use Rattle.job_file.specs.Spelled.{is_line_end, lines_of, text_of, is_script, all_said}
+use Rattle.job_file.specs.Spelled.{text_of, is_script, all_said}
+use Rattle.text_lines.specs.Lines.{is_line_end, lines_of}
 use Rattle.job_file.specs.Reading.{TakesLine}
 use Rattle.job_file.specs.Errors.{IsOfLine}
 use Rattle.job_file.specs.Faults.{Reached, IsHead, IsFirstFault, IsLineRefused, IsScriptRefused, are_line_words, line_fault, fault_at, takes_room}

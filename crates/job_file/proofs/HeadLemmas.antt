@@ -7,13 +7,14 @@ use Rattle.std.proofs.lemmas.List.Elements.{filter_map-append}
 use Rattle.std.proofs.lemmas.Grind.{flat_map-append}
 use Rattle.std.proofs.lemmas.List.Sums.{sum_by-append}
 use Rattle.std.proofs.Math.Nat.{add-zero, zero-add}
-use Rattle.mil_host.specs.Words.{Text}
+use Rattle.text_lines.specs.Words.{Text}
 use Rattle.job_file.specs.Options.{◌>>=◌}
 use Rattle.job_file.specs.Lines.{Said, blank, script, channel, start, terminal, action, fault, faults, series, said, said_in}
 use Rattle.job_file.specs.HeadLines.{Head, head_of, may_stand, are_lawful}
 use Rattle.job_file.specs.Drafts.{with_line}
 use Rattle.job_file.specs.Spans.{count_of}
-use Rattle.job_file.specs.Spelled.{ChannelJob, is_line_end, lines_of, text_of, is_script, with_line_above, parted, all_said, lawful, job_of, spelled}
+use Rattle.job_file.specs.Spelled.{ChannelJob, text_of, is_script, with_line_above, parted, all_said, lawful, job_of, spelled}
+use Rattle.text_lines.specs.Lines.{is_line_end, lines_of}
 use Rattle.job_file.specs.Errors.{IsOfLine}
 use Rattle.job_file.specs.JobRanges.{IsFit}
 use Rattle.job_file.specs.Reading.{stands, TakesLine, IsRefusal, AreInRange}

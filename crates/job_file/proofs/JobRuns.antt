@@ -8,7 +8,7 @@ use Rattle.frame_tree.specs.Tree.{Tree}
 use Rattle.frame_tree.specs.Bounds.{IsSound}
 use Rattle.frame_tree.specs.Meaning.{meaning}
 use Rattle.frame_code.specs.Table.{Running, Turn, goes_on, halted, stuck, start, step, run}
-use Rattle.frame_asm.specs.Shapes.{code_of}
+use Rattle.frame_asm.specs.Shapes.{code_of_tree}
 use Rattle.frame_asm.specs.Behaves.{Behaves}
 use Rattle.bc_machine.specs.declared.placed.Placed.{Placed}
 use Rattle.bc_machine.specs.Running.{MachineState, started, beginning, turn_of, moved_by, stepped}
@@ -22,31 +22,31 @@ use Rattle.job_file.proofs.Limits.{run_agrees, stands_still}
 use Rattle.job_file.proofs.Growth.{Grows, grows_same, grows_gap, grows_paced, grows_through, grows_message, records_count, records_first}
 
 abbrev pub CodeMeans : Type 0
-CodeMeans = (w : World BusState Outcome) (t : Tree) (p : Point BusState Outcome) → IsSound t → Behaves w t (code_of t) p
+CodeMeans = (w : World BusState Outcome) (t : Tree) (p : Point BusState Outcome) → IsSound t → Behaves w t (code_of_tree t) p
 
 abbrev here : MachineState → Running BusState Outcome
 here m = record { at = m.at; point = m.point }
 
 -- its run from the beginning
 reached : (job : ChannelJob) (placed : List Placed) (m : MachineState) → IsOf job placed m
-    → run (world_at job placed) m.taken (code_of job.tree) (start (code_of job.tree)) (beginning (bus_of job)) ≡ goes_on (here m)
+    → run (world_at job placed) m.taken (code_of_tree job.tree) (start (code_of_tree job.tree)) (beginning (bus_of job)) ≡ goes_on (here m)
 reached job placed m of = rw (of.code, of.plan, of.actions, of.begun) at of.under_way.reached
 
 halts_here : (job : ChannelJob) (placed : List Placed) (m : MachineState) → IsOf job placed m → turn_of m ≡ halted
-    → step (world_at job placed) (code_of job.tree) m.at m.point ≡ halted
+    → step (world_at job placed) (code_of_tree job.tree) m.at m.point ≡ halted
 halts_here job placed m of e = rw (of.code, of.plan, of.actions) at e
 
 -- as many records as messages
 pub counted : (job : ChannelJob) (placed : List Placed) (m : MachineState) → IsOf job placed m → m.point.number ≡ length (records_in m.point.state)
 counted job placed m of =
     records_count (beginning (bus_of job)) m.point refl refl
-    (run_keeps (world_at job placed) (code_of job.tree) Grows grows_same grows_gap (grows_message job.plan placed) (grows_paced job.plan placed) grows_through m.taken (start (code_of job.tree)) (beginning (bus_of job)) (here m) (reached job placed m of))
+    (run_keeps (world_at job placed) (code_of_tree job.tree) Grows grows_same grows_gap (grows_message job.plan placed) (grows_paced job.plan placed) grows_through m.taken (start (code_of_tree job.tree)) (beginning (bus_of job)) (here m) (reached job placed m of))
 
 module _ (means : CodeMeans) (job : ChannelJob) (placed : List Placed) (m : MachineState) (sound : IsSound job.tree) (of : IsOf job placed m) where
   pub so_far : records_in m.point.state ≡ take m.point.number (records job placed)
   so_far =
       let w = world_at job placed in
-      let code = code_of job.tree in
+      let code = code_of_tree job.tree in
       let first = beginning (bus_of job) in
       let b : Behaves w job.tree code first = means w job.tree first sound in
       let way : run w m.taken code (start code) first ≡ goes_on (here m) = reached job placed m of in
@@ -58,7 +58,7 @@ module _ (means : CodeMeans) (job : ChannelJob) (placed : List Placed) (m : Mach
   bus_so_far =
       let w = world_at job placed in
       let k = m.point.number in
-      let code = code_of job.tree in
+      let code = code_of_tree job.tree in
       let first = beginning (bus_of job) in
       let b : Behaves (up_to k w) job.tree code first = means (up_to k w) job.tree first sound in
       let way : run (up_to k w) m.taken code (start code) first ≡ goes_on (here m) = run_agrees w k code m.taken (start code) first (here m) (reached job placed m of) (omega arith) in
@@ -67,7 +67,7 @@ module _ (means : CodeMeans) (job : ChannelJob) (placed : List Placed) (m : Mach
   pub all_records : turn_of m ≡ halted → records_in m.point.state ≡ records job placed
   all_records e =
       let w = world_at job placed in
-      let code = code_of job.tree in
+      let code = code_of_tree job.tree in
       let first = beginning (bus_of job) in
       let b : Behaves w job.tree code first = means w job.tree first sound in
       let last : Running BusState Outcome = record { at = b.last; point = end_of job placed } in
@@ -93,7 +93,7 @@ stays job placed m of under_way =
     record { code = k.0 ∙ of.code; plan = k.1 ∙ of.plan; actions = k.2 ∙ of.actions; begun = k.3 ∙ of.begun; under_way = under_way }
 
 -- the controller that a job starts
-pub starts_as : (job : ChannelJob) (placed : List Placed) (m : MachineState) → m ≡ started (code_of job.tree) (bus_of job) job.plan placed → IsUnderWay m → IsOf job placed m
+pub starts_as : (job : ChannelJob) (placed : List Placed) (m : MachineState) → m ≡ started (code_of_tree job.tree) (bus_of job) job.plan placed → IsUnderWay m → IsOf job placed m
 starts_as job placed m is under_way = record {
   code = ap (λ (v : MachineState). v.code) is;
   plan = ap (λ (v : MachineState). v.plan) is;

@@ -5,8 +5,9 @@ use Rattle.std.specs.List.{position_or_len, before_first, after_first}
 use Rattle.std.proofs.lemmas.Bool.{cases_lt}
 use Rattle.std.proofs.lemmas.List.{take_all, drop_all}
 use Rattle.std.proofs.lemmas.List.Splits.{slice_split_first, join_with_byte-slice_split}
-use Rattle.mil_host.specs.Words.{Text}
-use Rattle.job_file.specs.Spelled.{is_line_end, lines_of, text_of}
+use Rattle.text_lines.specs.Words.{Text}
+use Rattle.job_file.specs.Spelled.{text_of}
+use Rattle.text_lines.specs.Lines.{is_line_end, lines_of}
 
 one_more : (n : ℕ) → 1 + n ≡ suc n
 one_more n = omega arith

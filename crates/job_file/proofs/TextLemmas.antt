@@ -5,7 +5,7 @@ use Rattle.std.proofs.lemmas.Bool.{cases_lt}
 use Rattle.std.proofs.lemmas.List.{take-map, take_all, map_more, map-append}
 use Rattle.std.proofs.lemmas.Option.{slice_get-map, slice_get-get_or}
 use Rattle.std.proofs.lemmas.Simd.{map-map}
-use Rattle.mil_host.specs.Words.{Text}
+use Rattle.text_lines.specs.Words.{Text}
 use Rattle.job_file.specs.Jobs.{JobState, job_in}
 use Rattle.job_file.specs.Spelled.{spelled}
 use Rattle.job_file.specs.Reading.{IsRefusal}

@@ -1,6 +1,6 @@
 -- What an entry says.
 use Rattle.std.specs.Prelude.{◌≤◌}
-use Rattle.mil_host.specs.Words.{words}
+use Rattle.text_lines.specs.Words.{words}
 use Rattle.job_file.specs.Lines.{Said, blank, script, channel, start, terminal, action, fault, faults, series}
 use Rattle.job_file.specs.Spans.{IsSpan}
 use Rattle.job_file.specs.declared.lines.Entry.{Entry}

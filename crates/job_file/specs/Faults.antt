@@ -3,7 +3,7 @@
 use Rattle.std.specs.Prelude.{◌≡◌, ℕ, ◌+◌, nat_lt, Bool, true, false, ◌&&◌, if◌then◌else◌, List, [], ◌∷◌, ◌++◌, length}
 use Rattle.std.specs.Prelude.{map, Option, Some, None, Result, Ok, Err}
 use Rattle.std.specs.Option.{is_some}
-use Rattle.mil_host.specs.Words.{Text, words, has_bytes}
+use Rattle.text_lines.specs.Words.{Text, words, has_bytes}
 use Rattle.mil_host.specs.Reading.{in_words}
 use Rattle.mil_host.specs.declared.actions.Action.{Action}
 use Rattle.mil_host.specs.declared.reading.BadAction.{BadAction}
@@ -15,13 +15,14 @@ use Rattle.frame_tree.specs.Tree.{Tree}
 use Rattle.frame_text.specs.Frames.{tree_of_text}
 use Rattle.frame_text.specs.declared.faults.Cause.{Cause}
 use Rattle.frame_code.specs.Table.{Code}
-use Rattle.frame_asm.specs.Shapes.{code_of}
+use Rattle.frame_asm.specs.Shapes.{code_of_tree}
 use Rattle.job_file.specs.Lines.{Said, blank, script, channel, start, terminal, action, fault, faults, series}
 use Rattle.job_file.specs.Lines.{keyword_of, fault_word_of, sync_of, first, ended, one, two, three, four, front}
 use Rattle.job_file.specs.Lines.{is_comment, said}
 use Rattle.job_file.specs.Spans.{count_of, numbers_of}
 use Rattle.job_file.specs.HeadLines.{Head, head_of, has, has_room, is_none_yet, are_lawful}
-use Rattle.job_file.specs.Spelled.{lines_of, text_of, is_script, all_said}
+use Rattle.job_file.specs.Spelled.{text_of, is_script, all_said}
+use Rattle.text_lines.specs.Lines.{lines_of}
 use Rattle.job_file.specs.Reading.{IsTooLong, IsTooMuch}
 use Rattle.job_file.specs.declared.keywords.Keyword.{Keyword}
 use Rattle.job_file.specs.declared.keywords.Keyword.TheVariants as keyword
@@ -183,7 +184,7 @@ pub record IsImageFault (text : Text) (line : ℕ) (IsRefused : Code → Type 0)
   pub reached : IsReached text line below
   pub tree : Tree
   pub spells : tree_of_text below ≡ Ok tree
-  pub fault : IsRefused (code_of tree)
+  pub fault : IsRefused (code_of_tree tree)
 
 -- The first fault of a text. Memory may be refused only where all lines so far are well: J8 hides no fault of a line
 -- above the one at which memory was wanted, and none of that line.
@@ -199,9 +200,9 @@ IsFirstFault text error.Memory = IsRoomRefused text
 abbrev pub fault_of_words : Bool → LineFault
 fault_of_words well = if well then Number else Word
 
-abbrev pub Judges : {X : Type 0} → Result X LineFault → Bool → Type 0
-Judges (Ok x) well = well ≡ true
-Judges (Err f) well = f ≡ fault_of_words well
+abbrev pub IsFaultOfWords : {X : Type 0} → Result X LineFault → Bool → Type 0
+IsFaultOfWords (Ok x) well = well ≡ true
+IsFaultOfWords (Err f) well = f ≡ fault_of_words well
 
 abbrev pub IsEntryRefused : Said → Head → Refusal → Type 0
 IsEntryRefused line above (refusal.Line why) = place_fault line above ≡ Some why
@@ -215,7 +216,7 @@ IsLineRefused line above refusal.Memory = (line_fault line above ≡ None) × (t
 pub record HasImageFault (below : Text) (IsRefused : Code → Type 0) : Type 0 where
   pub tree : Tree
   pub spells : tree_of_text below ≡ Ok tree
-  pub fault : IsRefused (code_of tree)
+  pub fault : IsRefused (code_of_tree tree)
 
 abbrev pub IsScriptRefused : Head → ℕ → Text → JobError → Type 0
 IsScriptRefused head line below (error.Line n why) = (is_none_yet head.channels ≡ true) × (n ≡ line) × (why ≡ Order)

@@ -1,7 +1,7 @@
 -- What a line of a job says (own choice): its words, parted by spaces alone.
 use Rattle.std.specs.Prelude.{ℕ, Bool, false, ◌==◌, if◌then◌else◌, List, [], ◌∷◌, Option, Some, None, codes}
 use Rattle.std.specs.Str.{bytes_eq}
-use Rattle.mil_host.specs.Words.{Text, words}
+use Rattle.text_lines.specs.Words.{Text, words}
 use Rattle.mil_word.specs.declared.Sync.{Sync}
 use Rattle.mil_word.specs.declared.Sync.TheVariants.{CommandSync, DataSync}
 use Rattle.mil_line.specs.declared.faults.Fault.{Fault}

@@ -5,7 +5,7 @@ use Rattle.mil_bus.specs.declared.outcomes.Outcome.{Outcome}
 use Rattle.mil_bus.specs.Exchange.{played}
 use Rattle.frame_tree.specs.Bounds.{IsSound}
 use Rattle.frame_code.specs.Table.{halted}
-use Rattle.frame_asm.specs.Shapes.{code_of}
+use Rattle.frame_asm.specs.Shapes.{code_of_tree}
 use Rattle.bc_machine.specs.declared.placed.Placed.{Placed}
 use Rattle.bc_machine.specs.Controller.{outcome_in}
 use Rattle.bc_machine.specs.Running.{MachineState, started, stepped, turn_of}
@@ -16,7 +16,7 @@ use Rattle.job_file.specs.Meaning.{bus_of, records_in, records, bus_after}
 -- a controller under way that runs the job's script, from new terminals, under the job's planned faults and these
 -- placed actions
 pub record IsOf (job : ChannelJob) (placed : List Placed) (m : MachineState) : Type 0 where
-  pub code : m.code ≡ code_of job.tree
+  pub code : m.code ≡ code_of_tree job.tree
   pub plan : m.plan ≡ job.plan
   pub actions : m.placed ≡ placed
   pub begun : m.begun ≡ bus_of job
@@ -34,8 +34,9 @@ IsTold m = m.point.last ≡ latest_outcome m.point.state.talks
 -- its controller at the beginning is the job's
 abbrev pub Starts : Type 0
 Starts =
-    (job : ChannelJob) (placed : List Placed) → IsUnderWay (started (code_of job.tree) (bus_of job) job.plan placed)
-    → IsOf job placed (started (code_of job.tree) (bus_of job) job.plan placed)
+    (job : ChannelJob) (placed : List Placed)
+    → IsUnderWay (started (code_of_tree job.tree) (bus_of job) job.plan placed)
+    → IsOf job placed (started (code_of_tree job.tree) (bus_of job) job.plan placed)
 
 -- and stays so with each step
 abbrev pub GoesOn : Type 0

@@ -1,7 +1,7 @@
 -- Numbers in the lines of a job (own choice).
 use Rattle.std.specs.Prelude.{ℕ, ◌&&◌, nat_le, if◌then◌else◌, Option, Some, None}
 use Rattle.numerals.specs.Numerals.{spelled}
-use Rattle.mil_host.specs.Words.{Text}
+use Rattle.text_lines.specs.Words.{Text}
 use Rattle.job_file.specs.Options.{◌>>=◌}
 
 -- one to seven decimal digits

@@ -3,12 +3,12 @@ use Rattle.std.specs.Prelude.{◌≡◌, ◌<◌, ◌≤◌, true, false, Bool, 
 use Rattle.frame_tree.specs.Tree.{Tree}
 use Rattle.frame_text.specs.declared.faults.Cause.{Cause}
 use Rattle.frame_code.specs.Table.{Code}
-use Rattle.frame_asm.specs.Shapes.{code_of}
-use Rattle.frame_asm.specs.declared.AsmError.{AsmError}
-use Rattle.frame_asm.specs.declared.AsmError.TheVariants as assembler
+use Rattle.frame_asm.specs.Shapes.{code_of_tree}
+use Rattle.frame_asm.specs.declared.error.AsmError.{AsmError}
+use Rattle.frame_asm.specs.declared.error.AsmError.TheVariants as assembler
 use Rattle.frame_load.specs.Judging.{IsWithin, HasShortPeriods}
-use Rattle.frame_load.specs.declared.LoadError.{LoadError}
-use Rattle.frame_load.specs.declared.LoadError.TheVariants as loader
+use Rattle.frame_load.specs.declared.error.LoadError.{LoadError}
+use Rattle.frame_load.specs.declared.error.LoadError.TheVariants as loader
 use Rattle.job_file.specs.Lines.{Said}
 use Rattle.job_file.specs.Entries.{IsInRange}
 use Rattle.job_file.specs.HeadLines.{Head, may_stand}
@@ -80,7 +80,7 @@ abbrev pub IsRefusal : Option ChannelJob → JobError → Type 0
 IsRefusal spelled (error.Line line why) = spelled ≡ None
 IsRefusal spelled (error.Script cause place) = spelled ≡ None
 IsRefusal spelled (error.Assembly line why) = (job : ChannelJob) × (spelled ≡ Some job)
-    × IsTooLong (code_of job.tree) why
+    × IsTooLong (code_of_tree job.tree) why
 IsRefusal spelled (error.Loading line why) = (job : ChannelJob) × (spelled ≡ Some job)
-    × IsTooMuch (code_of job.tree) why
+    × IsTooMuch (code_of_tree job.tree) why
 IsRefusal spelled error.Memory = Unit {0}

@@ -2,7 +2,8 @@
 use Rattle.std.specs.Prelude.{ℕ, ◌==◌, Bool, true, false, if◌then◌else◌, List, [], ◌∷◌, Option, Some, None}
 use Rattle.std.specs.Result.{result_ok}
 use Rattle.std.specs.List.{slice_split, join_with_byte}
-use Rattle.mil_host.specs.Words.{Text}
+use Rattle.text_lines.specs.Lines.{lines_of}
+use Rattle.text_lines.specs.Words.{Text}
 use Rattle.mil_line.specs.Plans.{Planned}
 use Rattle.frame_tree.specs.Tree.{Tree}
 use Rattle.frame_text.specs.Frames.{tree_of_text}
@@ -24,13 +25,6 @@ pub record ChannelJob : Type 0 where
   pub plan : List Planned
   -- what the script spells
   pub tree : Tree
-
-abbrev pub is_line_end : ℕ → Bool
-is_line_end b = b == 10
-
--- what stands between line ends
-abbrev pub lines_of : Text → List Text
-lines_of text = slice_split is_line_end text
 
 -- lines as a text again
 abbrev pub text_of : List Text → Text

@@ -1,7 +1,7 @@
 -- The jobs of several texts, in their order (own choice).
 use Rattle.std.specs.Prelude.{◌≡◌, ℕ, ◌<◌, ◌≤◌, List, length, map, slice_get, Some}
-use Rattle.mil_host.specs.Words.{Text}
-use Rattle.frame_asm.specs.Shapes.{code_of}
+use Rattle.text_lines.specs.Words.{Text}
+use Rattle.frame_asm.specs.Shapes.{code_of_tree}
 use Rattle.frame_load.specs.Judging.{IsWithin, HasShortPeriods}
 use Rattle.job_file.specs.Spelled.{ChannelJob, spelled}
 use Rattle.job_file.specs.Reading.{IsRefusal}
@@ -16,10 +16,10 @@ AreSpelled texts jobs = map spelled texts ≡ map Some jobs
 pub record IsAccepted (text : Text) : Type 0 where
   pub job : ChannelJob
   pub spells : spelled text ≡ Some job
-  pub operations : length (code_of job.tree).operations ≤ 4096
-  pub messages : length (code_of job.tree).messages ≤ 1024
-  pub within : IsWithin (code_of job.tree)
-  pub short : HasShortPeriods (code_of job.tree)
+  pub operations : length (code_of_tree job.tree).operations ≤ 4096
+  pub messages : length (code_of_tree job.tree).messages ≤ 1024
+  pub within : IsWithin (code_of_tree job.tree)
+  pub short : HasShortPeriods (code_of_tree job.tree)
 
 -- the first text that is refused, and why: those before it give a job each
 pub record IsFirstRefused (texts : List Text) (index : ℕ) (fault : JobError) : Type 0 where

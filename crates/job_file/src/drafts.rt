@@ -1,6 +1,6 @@
 //! A job as far as its lines were read.
 ghost use Rattle.std.specs.Prelude.{◌≡◌, ◌<◌, ◌≤◌, true, [], map, Some, None, OnOk, IfOk, IfErr};
-ghost use Rattle.mil_host.specs.Words.{words};
+ghost use Rattle.text_lines.specs.Words.{words};
 ghost use Rattle.job_file.specs.HeadLines.{has};
 ghost use Rattle.job_file.specs.Lines.{channel, start, terminal, action, said};
 ghost use Rattle.job_file.specs.Lines as says;

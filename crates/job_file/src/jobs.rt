@@ -3,7 +3,7 @@ ghost use Rattle.std.specs.Prelude.{◌≡◌, ◌≤◌, true, Some, IfOk};
 ghost use Rattle.std.specs.List.{list_all};
 ghost use Rattle.mil_bus.specs.Addresses.{is_fit};
 ghost use Rattle.frame_tree.specs.Bounds.{IsSound};
-ghost use Rattle.frame_asm.specs.Shapes.{code_of};
+ghost use Rattle.frame_asm.specs.Shapes.{code_of_tree};
 ghost use Rattle.bc_machine.specs.Running.{started};
 ghost use Rattle.job_file.specs.JobRanges.{may_act, IsFit};
 ghost use Rattle.job_file.specs.Drafts.{shown};
@@ -112,7 +112,7 @@ impl Job {
 
     /// The program of the script.
     pub fn program(&self) -> &Program
-        ensures value { result.now ≡ code_of (tree_in self.now) }
+        ensures value { result.now ≡ code_of_tree (tree_in self.now) }
         ensures sound { IsSound (tree_in self.now) }
     {
         &self.program
@@ -124,7 +124,7 @@ impl Job {
     #[tactic(auto, using(crate::proofs::JobRuns::starts_as))]
     pub fn machine(&self, alloc: Global, placed: &[Placed]) -> Result<Machine, AllocError>
         ensures value { IfOk result
-            (λ m. m ≡ started (code_of (tree_in self.now)) (bus_of (job_in self.now)) self.now.plan placed.now) }
+            (λ m. m ≡ started (code_of_tree (tree_in self.now)) (bus_of (job_in self.now)) self.now.plan placed.now) }
         ensures of_job { IfOk result (λ m. IsOf (job_in self.now) placed.now m) }
         ensures told { IfOk result (λ m. IsTold m) }
     {

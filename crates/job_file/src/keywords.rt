@@ -1,6 +1,6 @@
 //! The words that stand in the lines of a job.
 ghost use Rattle.std.specs.Prelude.{◌≡◌, IfErr};
-ghost use Rattle.job_file.specs.Options.{Reads};
+ghost use Rattle.job_file.specs.Options.{Gives};
 ghost use Rattle.job_file.specs.Lines.{keyword_of, fault_word_of, sync_of};
 ghost use Rattle.job_file.specs.declared.error.LineFault.TheVariants.{Word};
 
@@ -32,7 +32,7 @@ pub enum FaultWord {
 
 /// The keyword that a word is.
 pub fn keyword_in(word: &[u8]) -> Result<Keyword, LineFault>
-    ensures value { Reads (λ k. k) result (keyword_of word.now) }
+    ensures value { Gives (λ k. k) result (keyword_of word.now) }
     ensures fault { IfErr result (λ f. f ≡ Word) }
 {
     if word == b"channel".as_slice() {
@@ -58,7 +58,7 @@ pub fn keyword_in(word: &[u8]) -> Result<Keyword, LineFault>
 
 /// The kind of fault that a word names.
 pub fn fault_word_in(word: &[u8]) -> Result<FaultWord, LineFault>
-    ensures value { Reads (λ k. k) result (fault_word_of word.now) }
+    ensures value { Gives (λ k. k) result (fault_word_of word.now) }
     ensures fault { IfErr result (λ f. f ≡ Word) }
 {
     if word == b"mask".as_slice() {
@@ -78,7 +78,7 @@ pub fn fault_word_in(word: &[u8]) -> Result<FaultWord, LineFault>
 
 /// The sync that `c` (command and status words) or `d` (data words) names.
 pub fn sync_in(word: &[u8]) -> Result<Sync, LineFault>
-    ensures value { Reads (λ s. s) result (sync_of word.now) }
+    ensures value { Gives (λ s. s) result (sync_of word.now) }
     ensures fault { IfErr result (λ f. f ≡ Word) }
 {
     if word == b"c".as_slice() {

@@ -12,7 +12,6 @@ mod reading;
 mod scripts;
 mod spans;
 mod stepping;
-mod text_lines;
 mod texts;
 
 pub use error::{JobError, LineFault};

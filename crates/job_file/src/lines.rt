@@ -1,11 +1,11 @@
 //! What a line of a job says, by itself: whether it may stand where it does is judged elsewhere.
 ghost use Rattle.std.specs.Prelude.{◌≡◌, ◌≤◌, IfOk, IfErr};
-ghost use Rattle.mil_host.specs.Words.{words};
-ghost use Rattle.job_file.specs.Options.{Reads};
+ghost use Rattle.text_lines.specs.Words.{words};
+ghost use Rattle.job_file.specs.Options.{Gives};
 ghost use Rattle.job_file.specs.Lines as lines;
 ghost use Rattle.job_file.specs.Entries.{said_by, IsInRange};
 ghost use Rattle.job_file.specs.Spans.{IsSpan};
-ghost use Rattle.job_file.specs.Faults.{Judges, are_fault_words, are_words_behind, are_line_words};
+ghost use Rattle.job_file.specs.Faults.{IsFaultOfWords, are_fault_words, are_words_behind, are_line_words};
 ghost use Rattle.job_file.specs.declared.error.LineFault.TheVariants.{Word as BadWord, Number as BadNumber};
 ghost use Rattle.job_file.specs.declared.keywords.FaultWord.TheVariants as kinds;
 ghost use Rattle.job_file.specs.declared.keywords.Keyword.TheVariants as keywords;
@@ -14,9 +14,9 @@ use crate::error::LineFault;
 use crate::keywords::{FaultWord, Keyword, fault_word_in, keyword_in, sync_in};
 use crate::numbers::{data_word, half_bits, number, number_within, start_tick};
 use crate::spans::{Series, Span};
-use mil_host::next_word;
 use mil_line::Fault;
 use mil_word::Word;
+use text_lines::next_word;
 
 /// What a line says.
 #[derive(Drop)]
@@ -53,7 +53,7 @@ pub enum Entry<'a> {
 
 /// The first word, and what comes after it.
 fn first_word(text: &[u8]) -> Result<(&[u8], &[u8]), LineFault>
-    ensures value { Reads (λ x. (x.0.now, words x.1.now)) result (lines.first (words text.now)) }
+    ensures value { Gives (λ x. (x.0.now, words x.1.now)) result (lines.first (words text.now)) }
     ensures words { IfErr result (λ f. f ≡ BadWord) }
 {
     match next_word(text) {
@@ -64,7 +64,7 @@ fn first_word(text: &[u8]) -> Result<(&[u8], &[u8]), LineFault>
 
 /// No word is left.
 fn end(text: &[u8]) -> Result<(), LineFault>
-    ensures value { Reads (λ x. x) result (lines.ended (words text.now) tt) }
+    ensures value { Gives (λ x. x) result (lines.ended (words text.now) tt) }
     ensures words { IfErr result (λ f. f ≡ BadWord) }
 {
     match next_word(text) {
@@ -76,7 +76,7 @@ fn end(text: &[u8]) -> Result<(), LineFault>
 /// The only word.
 #[tactic(auto, unfolding(crate::specs::Lines::one))]
 fn one_word(text: &[u8]) -> Result<&[u8], LineFault>
-    ensures value { Reads (λ x. x.now) result (lines.one (words text.now)) }
+    ensures value { Gives (λ x. x.now) result (lines.one (words text.now)) }
     ensures words { IfErr result (λ f. f ≡ BadWord) }
 {
     let (word, rest) = first_word(text)?;
@@ -87,7 +87,7 @@ fn one_word(text: &[u8]) -> Result<&[u8], LineFault>
 /// The only two words.
 #[tactic(auto, unfolding(crate::specs::Lines::two))]
 fn two_words(text: &[u8]) -> Result<(&[u8], &[u8]), LineFault>
-    ensures value { Reads (λ x. (x.0.now, x.1.now)) result (lines.two (words text.now)) }
+    ensures value { Gives (λ x. (x.0.now, x.1.now)) result (lines.two (words text.now)) }
     ensures words { IfErr result (λ f. f ≡ BadWord) }
 {
     let (first, rest) = first_word(text)?;
@@ -98,7 +98,7 @@ fn two_words(text: &[u8]) -> Result<(&[u8], &[u8]), LineFault>
 /// The only three words.
 #[tactic(auto, unfolding(crate::specs::Lines::three))]
 fn three_words(text: &[u8]) -> Result<(&[u8], &[u8], &[u8]), LineFault>
-    ensures value { Reads (λ x. (x.0.now, x.1.now, x.2.now)) result (lines.three (words text.now)) }
+    ensures value { Gives (λ x. (x.0.now, x.1.now, x.2.now)) result (lines.three (words text.now)) }
     ensures words { IfErr result (λ f. f ≡ BadWord) }
 {
     let (first, rest) = first_word(text)?;
@@ -109,7 +109,7 @@ fn three_words(text: &[u8]) -> Result<(&[u8], &[u8], &[u8]), LineFault>
 /// The only four words.
 #[tactic(auto, unfolding(crate::specs::Lines::four))]
 fn four_words(text: &[u8]) -> Result<(&[u8], &[u8], &[u8], &[u8]), LineFault>
-    ensures value { Reads (λ x. (x.0.now, x.1.now, x.2.now, x.3.now)) result (lines.four (words text.now)) }
+    ensures value { Gives (λ x. (x.0.now, x.1.now, x.2.now, x.3.now)) result (lines.four (words text.now)) }
     ensures words { IfErr result (λ f. f ≡ BadWord) }
 {
     let (first, rest) = first_word(text)?;
@@ -120,7 +120,7 @@ fn four_words(text: &[u8]) -> Result<(&[u8], &[u8], &[u8], &[u8]), LineFault>
 /// The first three words, and what comes after them.
 #[tactic(auto, unfolding(crate::specs::Lines::front))]
 fn front(text: &[u8]) -> Result<(&[u8], &[u8], &[u8], &[u8]), LineFault>
-    ensures value { Reads (λ x. ((x.0.now, x.1.now, x.2.now), words x.3.now)) result (lines.front (words text.now)) }
+    ensures value { Gives (λ x. ((x.0.now, x.1.now, x.2.now), words x.3.now)) result (lines.front (words text.now)) }
     ensures words { IfErr result (λ f. f ≡ BadWord) }
 {
     let (first, rest) = first_word(text)?;
@@ -131,8 +131,8 @@ fn front(text: &[u8]) -> Result<(&[u8], &[u8], &[u8], &[u8]), LineFault>
 
 #[tactic(auto, unfolding(crate::specs::Lines::mask_in))]
 fn mask(text: &[u8]) -> Result<Fault, LineFault>
-    ensures value { Reads (λ f. f) result (lines.mask_in (words text.now)) }
-    ensures words { Judges result (are_fault_words kinds.Mask (words text.now)) }
+    ensures value { Gives (λ f. f) result (lines.mask_in (words text.now)) }
+    ensures words { IsFaultOfWords result (are_fault_words kinds.Mask (words text.now)) }
 {
     let (run, index, mask) = three_words(text)?;
     let run = number(run)?;
@@ -147,8 +147,8 @@ fn mask(text: &[u8]) -> Result<Fault, LineFault>
 
 #[tactic(auto, unfolding(crate::specs::Lines::drop_in))]
 fn dropped(text: &[u8]) -> Result<Fault, LineFault>
-    ensures value { Reads (λ f. f) result (lines.drop_in (words text.now)) }
-    ensures words { Judges result (are_fault_words kinds.Drop (words text.now)) }
+    ensures value { Gives (λ f. f) result (lines.drop_in (words text.now)) }
+    ensures words { IsFaultOfWords result (are_fault_words kinds.Drop (words text.now)) }
 {
     let (run, index) = two_words(text)?;
     let run = number(run)?;
@@ -158,8 +158,8 @@ fn dropped(text: &[u8]) -> Result<Fault, LineFault>
 
 #[tactic(auto, unfolding(crate::specs::Lines::add_in))]
 fn added(text: &[u8]) -> Result<Fault, LineFault>
-    ensures value { Reads (λ f. f) result (lines.add_in (words text.now)) }
-    ensures words { Judges result (are_fault_words kinds.Add (words text.now)) }
+    ensures value { Gives (λ f. f) result (lines.add_in (words text.now)) }
+    ensures words { IsFaultOfWords result (are_fault_words kinds.Add (words text.now)) }
 {
     let (run, index, name, value) = four_words(text)?;
     let sync = sync_in(name)?;
@@ -175,8 +175,8 @@ fn added(text: &[u8]) -> Result<Fault, LineFault>
 
 #[tactic(auto, unfolding(crate::specs::Lines::late_in))]
 fn late(text: &[u8]) -> Result<Fault, LineFault>
-    ensures value { Reads (λ f. f) result (lines.late_in (words text.now)) }
-    ensures words { Judges result (are_fault_words kinds.Late (words text.now)) }
+    ensures value { Gives (λ f. f) result (lines.late_in (words text.now)) }
+    ensures words { IsFaultOfWords result (are_fault_words kinds.Late (words text.now)) }
 {
     let (run, ticks) = two_words(text)?;
     let run = number(run)?;
@@ -186,8 +186,8 @@ fn late(text: &[u8]) -> Result<Fault, LineFault>
 
 #[tactic(auto, unfolding(crate::specs::Lines::mute_in))]
 fn muted(text: &[u8]) -> Result<Fault, LineFault>
-    ensures value { Reads (λ f. f) result (lines.mute_in (words text.now)) }
-    ensures words { Judges result (are_fault_words kinds.Mute (words text.now)) }
+    ensures value { Gives (λ f. f) result (lines.mute_in (words text.now)) }
+    ensures words { IsFaultOfWords result (are_fault_words kinds.Mute (words text.now)) }
 {
     let run = one_word(text)?;
     let run = number(run)?;
@@ -196,8 +196,8 @@ fn muted(text: &[u8]) -> Result<Fault, LineFault>
 
 #[tactic(auto, unfolding(crate::specs::Lines::fault_of))]
 fn fault_named(kind: FaultWord, text: &[u8]) -> Result<Fault, LineFault>
-    ensures value { Reads (λ f. f) result (lines.fault_of kind (words text.now)) }
-    ensures words { Judges result (are_fault_words kind (words text.now)) }
+    ensures value { Gives (λ f. f) result (lines.fault_of kind (words text.now)) }
+    ensures words { IsFaultOfWords result (are_fault_words kind (words text.now)) }
 {
     match kind {
         FaultWord::Mask => mask(text),
@@ -210,9 +210,9 @@ fn fault_named(kind: FaultWord, text: &[u8]) -> Result<Fault, LineFault>
 
 #[tactic(auto, unfolding(crate::specs::Lines::channel_in))]
 fn channel(text: &[u8]) -> Result<Entry<'_>, LineFault>
-    ensures said { Reads said_by result (lines.channel_in (words text.now)) }
+    ensures said { Gives said_by result (lines.channel_in (words text.now)) }
     ensures range { IfOk result (λ e. IsInRange (said_by e)) }
-    ensures words { Judges result (are_words_behind keywords.Channel (words text.now)) }
+    ensures words { IsFaultOfWords result (are_words_behind keywords.Channel (words text.now)) }
 {
     let word = one_word(text)?;
     let channel = number_within(word, 1, 65_535)?;
@@ -221,9 +221,9 @@ fn channel(text: &[u8]) -> Result<Entry<'_>, LineFault>
 
 #[tactic(auto, unfolding(crate::specs::Lines::start_in))]
 fn start(text: &[u8]) -> Result<Entry<'_>, LineFault>
-    ensures said { Reads said_by result (lines.start_in (words text.now)) }
+    ensures said { Gives said_by result (lines.start_in (words text.now)) }
     ensures range { IfOk result (λ e. IsInRange (said_by e)) }
-    ensures words { Judges result (are_words_behind keywords.Start (words text.now)) }
+    ensures words { IsFaultOfWords result (are_words_behind keywords.Start (words text.now)) }
 {
     let word = one_word(text)?;
     let start = start_tick(word)?;
@@ -232,9 +232,9 @@ fn start(text: &[u8]) -> Result<Entry<'_>, LineFault>
 
 #[tactic(auto, unfolding(crate::specs::Lines::terminal_in))]
 fn terminal(text: &[u8]) -> Result<Entry<'_>, LineFault>
-    ensures said { Reads said_by result (lines.terminal_in (words text.now)) }
+    ensures said { Gives said_by result (lines.terminal_in (words text.now)) }
     ensures range { IfOk result (λ e. IsInRange (said_by e)) }
-    ensures words { Judges result (are_words_behind keywords.Terminal (words text.now)) }
+    ensures words { IsFaultOfWords result (are_words_behind keywords.Terminal (words text.now)) }
 {
     let word = one_word(text)?;
     let address = number_within(word, 0, 30)?;
@@ -243,9 +243,9 @@ fn terminal(text: &[u8]) -> Result<Entry<'_>, LineFault>
 
 #[tactic(auto, unfolding(crate::specs::Lines::action_in))]
 fn action(text: &[u8]) -> Result<Entry<'_>, LineFault>
-    ensures said { Reads said_by result (lines.action_in (words text.now)) }
+    ensures said { Gives said_by result (lines.action_in (words text.now)) }
     ensures range { IfOk result (λ e. IsInRange (said_by e)) }
-    ensures words { Judges result (are_words_behind keywords.At (words text.now)) }
+    ensures words { IsFaultOfWords result (are_words_behind keywords.At (words text.now)) }
 {
     let (number, rest) = first_word(text)?;
     let (address, text) = first_word(rest)?;
@@ -261,9 +261,9 @@ fn action(text: &[u8]) -> Result<Entry<'_>, LineFault>
 
 #[tactic(auto, unfolding(crate::specs::Lines::fault_in))]
 fn fault(text: &[u8]) -> Result<Entry<'_>, LineFault>
-    ensures said { Reads said_by result (lines.fault_in (words text.now)) }
+    ensures said { Gives said_by result (lines.fault_in (words text.now)) }
     ensures range { IfOk result (λ e. IsInRange (said_by e)) }
-    ensures words { Judges result (are_words_behind keywords.Fault (words text.now)) }
+    ensures words { IsFaultOfWords result (are_words_behind keywords.Fault (words text.now)) }
 {
     let (message, rest) = first_word(text)?;
     let (name, rest) = first_word(rest)?;
@@ -276,7 +276,7 @@ fn fault(text: &[u8]) -> Result<Entry<'_>, LineFault>
 /// The messages of three words: the first, the last, and the step.
 #[tactic(auto, unfolding(crate::specs::Lines::span_of))]
 fn span(first: &[u8], last: &[u8], step: &[u8]) -> Result<Span, LineFault>
-    ensures value { Reads (λ s. s) result (lines.span_of (first.now, last.now, step.now)) }
+    ensures value { Gives (λ s. s) result (lines.span_of (first.now, last.now, step.now)) }
     ensures range { IfOk result IsSpan }
     ensures fault { IfErr result (λ f. f ≡ BadNumber) }
 {
@@ -288,9 +288,9 @@ fn span(first: &[u8], last: &[u8], step: &[u8]) -> Result<Span, LineFault>
 
 #[tactic(auto, unfolding(crate::specs::Lines::faults_in))]
 fn faults(text: &[u8]) -> Result<Entry<'_>, LineFault>
-    ensures said { Reads said_by result (lines.faults_in (words text.now)) }
+    ensures said { Gives said_by result (lines.faults_in (words text.now)) }
     ensures range { IfOk result (λ e. IsInRange (said_by e)) }
-    ensures words { Judges result (are_words_behind keywords.Faults (words text.now)) }
+    ensures words { IsFaultOfWords result (are_words_behind keywords.Faults (words text.now)) }
 {
     let (first, last, step, rest) = front(text)?;
     let (name, rest) = first_word(rest)?;
@@ -310,7 +310,7 @@ fn series_at(
     start: &[u8],
     add: &[u8],
 ) -> Result<Series, LineFault>
-    ensures value { Reads (λ s. s) result (lines.series_of span (address.now, sub.now, start.now, add.now)) }
+    ensures value { Gives (λ s. s) result (lines.series_of span (address.now, sub.now, start.now, add.now)) }
     ensures span { IfOk result (λ s. s.span ≡ span) }
     ensures range { IfOk result (λ s. (s.address ≤ 30) × (1 ≤ s.sub) × (s.sub ≤ 29)) }
     ensures fault { IfErr result (λ f. f ≡ BadNumber) }
@@ -330,9 +330,9 @@ fn series_at(
 
 #[tactic(auto, unfolding(crate::specs::Lines::series_in))]
 fn series(text: &[u8]) -> Result<Entry<'_>, LineFault>
-    ensures said { Reads said_by result (lines.series_in (words text.now)) }
+    ensures said { Gives said_by result (lines.series_in (words text.now)) }
     ensures range { IfOk result (λ e. IsInRange (said_by e)) }
-    ensures words { Judges result (are_words_behind keywords.Series (words text.now)) }
+    ensures words { IsFaultOfWords result (are_words_behind keywords.Series (words text.now)) }
 {
     let (first, last, step, rest) = front(text)?;
     let (address, sub, start, add) = four_words(rest)?;
@@ -342,9 +342,9 @@ fn series(text: &[u8]) -> Result<Entry<'_>, LineFault>
 }
 
 fn script(text: &[u8]) -> Result<Entry<'_>, LineFault>
-    ensures said { Reads said_by result (lines.ended (words text.now) lines.script) }
+    ensures said { Gives said_by result (lines.ended (words text.now) lines.script) }
     ensures range { IfOk result (λ e. IsInRange (said_by e)) }
-    ensures words { Judges result (are_words_behind keywords.Script (words text.now)) }
+    ensures words { IsFaultOfWords result (are_words_behind keywords.Script (words text.now)) }
 {
     end(text)?;
     Ok(Entry::Script)
@@ -352,9 +352,9 @@ fn script(text: &[u8]) -> Result<Entry<'_>, LineFault>
 
 #[tactic(auto, unfolding(crate::specs::Lines::of_keyword))]
 fn after_keyword(keyword: Keyword, text: &[u8]) -> Result<Entry<'_>, LineFault>
-    ensures said { Reads said_by result (lines.of_keyword keyword (words text.now)) }
+    ensures said { Gives said_by result (lines.of_keyword keyword (words text.now)) }
     ensures range { IfOk result (λ e. IsInRange (said_by e)) }
-    ensures words { Judges result (are_words_behind keyword (words text.now)) }
+    ensures words { IsFaultOfWords result (are_words_behind keyword (words text.now)) }
 {
     match keyword {
         Keyword::Channel => channel(text),
@@ -382,9 +382,9 @@ fn is_comment(word: &[u8]) -> bool
 /// then J2.
 #[tactic(auto, unfolding(crate::specs::Lines::said_in))]
 pub fn read_line(line: &[u8]) -> Result<Entry<'_>, LineFault>
-    ensures said { Reads said_by result (lines.said line.now) }
+    ensures said { Gives said_by result (lines.said line.now) }
     ensures range { IfOk result (λ e. IsInRange (said_by e)) }
-    ensures words { Judges result (are_line_words (words line.now)) }
+    ensures words { IsFaultOfWords result (are_line_words (words line.now)) }
 {
     let Some((word, rest)) = next_word(line) else {
         return Ok(Entry::Blank);

@@ -3,7 +3,7 @@ ghost use Rattle.std.specs.Prelude.{◌≡◌, Ok, Some, MatchResult, IfOk, IfEr
 ghost use Rattle.frame_tree.specs.Tree.{tree_of};
 ghost use Rattle.frame_tree.specs.Bounds.{IsSound};
 ghost use Rattle.frame_text.specs.Frames.{tree_of_text};
-ghost use Rattle.frame_asm.specs.Shapes.{code_of};
+ghost use Rattle.frame_asm.specs.Shapes.{code_of_tree};
 ghost use Rattle.job_file.specs.Drafts.{shown};
 ghost use Rattle.job_file.specs.JobRanges.{IsFit};
 ghost use Rattle.job_file.specs.Spelled.{spelled, job_of};
@@ -16,13 +16,13 @@ use crate::drafts::{Draft, Taken};
 use crate::error::{JobError, LineFault};
 use crate::jobs::Job;
 use crate::scripts::Script;
-use crate::text_lines::next_line;
 use bumpalo::Bump;
 use frame_asm::{AsmError, assemble};
 use frame_load::{LoadError, Program, load};
 use frame_text::{Place, ScriptError, parse};
 use frame_tree::Frame;
 use std::alloc::Global;
+use text_lines::split_line;
 
 /// What the lines above the script say, the line of the script, counted from 1, and the script.
 #[derive(Drop)]
@@ -44,7 +44,7 @@ fn read_head(alloc: Global, text: &[u8]) -> Result<Head<'_>, JobError>
     let mut rest = text;
     let mut line = 1u64;
     while !rest.is_empty() {
-        let (first, behind) = next_line(rest);
+        let (first, behind) = split_line(rest);
         match draft.take_line(first) {
             Ok(Taken::Line) => {}
             Ok(Taken::Script) => {
@@ -92,10 +92,10 @@ fn read_script<'a>(arena: &'a Bump, line: u64, text: &[u8]) -> Result<Frame<&'a 
 /// The program of a frame; a refusal stands at the line of the script.
 fn program(alloc: Global, line: u64, frame: &Frame<&Bump>) -> Result<Program, JobError>
     requires { IsSound (tree_of frame.now) }
-    ensures program { IfOk result (λ p. p ≡ code_of (tree_of frame.now)) }
-    ensures refused { IfErr result (IsCodeRefusal (code_of (tree_of frame.now))) }
+    ensures program { IfOk result (λ p. p ≡ code_of_tree (tree_of frame.now)) }
+    ensures refused { IfErr result (IsCodeRefusal (code_of_tree (tree_of frame.now))) }
     ensures line { IfErr result (IsLineOf line) }
-    ensures well { IfOk result (λ _. HasProgram (code_of (tree_of frame.now))) }
+    ensures well { IfOk result (λ _. HasProgram (code_of_tree (tree_of frame.now))) }
 {
     let image = match assemble(alloc, frame) {
         Ok(image) => image,
@@ -129,7 +129,7 @@ fn finish(
     ensures job { IfOk result (λ j. job_of (shown draft) script.now ≡ Some (job_in j)) }
     ensures refused { IfErr result (IsRefusal (job_of (shown draft) script.now)) }
     ensures first { IfErr result (IsScriptRefused (shown draft) line script.now) }
-    ensures well { IfOk result (λ j. HasProgram (code_of (tree_in j))) }
+    ensures well { IfOk result (λ j. HasProgram (code_of_tree (tree_in j))) }
 {
     let Some(channel) = draft.channel else {
         return Err(JobError::Line {

@@ -4,6 +4,7 @@ use Rattle.std.specs.List.{list_any, AllByRecursion}
 use Rattle.mil_word.specs.declared.Line.{Line}
 use Rattle.mil_word.specs.Fields.{address_of, has_bit}
 use Rattle.mil_word.specs.Words.{command_wave, data_wave}
+use Rattle.mil_word.specs.Timing.{least_response, latest_response}
 use Rattle.mil_message.specs.declared.forms.Due.{Due}
 use Rattle.mil_message.specs.declared.forms.Form.{Form}
 use Rattle.mil_message.specs.Forms.{commands, first_command, second_command, data_words, replies_due, controller_waves}
@@ -53,8 +54,8 @@ pub record CanReply (line : Line) (command : ℕ) (s : Station) : Type 0 where
   pub hears : is_deaf line s.history ≡ false
   pub speaks : is_mute line s.history ≡ false
   pub sends : is_transmitter_on s.own line s.history ≡ true
-  pub no_sooner : 40 ≤ response_gap s.history
-  pub no_later : response_gap s.history ≤ 120
+  pub no_sooner : least_response ≤ response_gap s.history
+  pub no_later : response_gap s.history ≤ latest_response
 
 -- terminals of a bus: each address is at most 30 and stands once, and none still waits for what an earlier message
 -- announced
@@ -65,8 +66,8 @@ pub record AreReady (stations : List Station) : Type 0 where
 -- a reply as it is due: in time, a status word of the address that is due with no bit that is reserved or marks an
 -- instruction, and as many data words as are due
 pub record IsDueReply (due : Due) (gap status : ℕ) (values : List ℕ) : Type 0 where
-  pub no_sooner : 40 ≤ gap
-  pub no_later : gap ≤ 120
+  pub no_sooner : least_response ≤ gap
+  pub no_later : gap ≤ latest_response
   pub small : status < 2 ^ 16
   pub address : address_of status ≡ due.address
   pub reserved : (has_bit 9 status || has_bit 7 status || has_bit 6 status || has_bit 5 status) ≡ false

@@ -1,7 +1,7 @@
 -- The check of a rule (own choice): a name, and what stands behind it up to the end of the line.
 use Rattle.std.specs.Prelude.{ℕ, List, [], ◌∷◌, drop, Ok, Err, codes, if◌then◌else◌}
 use Rattle.std.specs.Str.{bytes_eq}
-use Rattle.mil_host.specs.Words.{Text}
+use Rattle.text_lines.specs.Words.{Text}
 use Rattle.judge_rules.specs.declared.fault.RuleFault.TheVariants.{Word}
 use Rattle.judge_rules.specs.declared.rules.Bounds.{Bounds}
 use Rattle.judge_rules.specs.declared.rules.Datum.{Datum}

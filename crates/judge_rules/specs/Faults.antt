@@ -1,7 +1,7 @@
 -- Which fault of a line counts (own choice): a word that doesn't stand there before what is no number, and that before
 -- a range.
 use Rattle.std.specs.Prelude.{Result, Ok, Err, List, [], ◌∷◌}
-use Rattle.mil_host.specs.Words.{Text}
+use Rattle.text_lines.specs.Words.{Text}
 use Rattle.judge_rules.specs.declared.fault.RuleFault.{RuleFault}
 use Rattle.judge_rules.specs.declared.fault.RuleFault.TheVariants.{Word, Number, Range, Memory}
 

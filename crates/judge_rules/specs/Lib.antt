@@ -4,5 +4,4 @@ pub mod Values
 pub mod Selectors
 pub mod Checks
 pub mod Lines
-pub mod Texts
 pub mod Rules

@@ -2,7 +2,7 @@
 use Rattle.std.specs.Prelude.{ℕ, ◌==◌, Bool, true, false, List, [], ◌∷◌, drop, Ok, Err, Option, Some, None, codes}
 use Rattle.std.specs.Prelude.{if◌then◌else◌}
 use Rattle.std.specs.Str.{bytes_eq}
-use Rattle.mil_host.specs.Words.{Text, words}
+use Rattle.text_lines.specs.Words.{Text, words}
 use Rattle.judge_rules.specs.declared.fault.RuleFault.TheVariants.{Word}
 use Rattle.judge_rules.specs.declared.rules.Bus.{Bus}
 use Rattle.judge_rules.specs.declared.rules.Bus.TheVariants as bus
@@ -10,7 +10,8 @@ use Rattle.judge_rules.specs.declared.rules.Selector.{Selector}
 use Rattle.judge_rules.specs.declared.rules.Check.{Check}
 use Rattle.judge_rules.specs.declared.rules.Rule.{Rule}
 use Rattle.judge_rules.specs.Faults.{Read, both, made}
-use Rattle.judge_rules.specs.Values.{begins_with, number_in}
+use Rattle.judge_rules.specs.Values.{number_in}
+use Rattle.text_lines.specs.Words.{begins_with}
 use Rattle.judge_rules.specs.Selectors.{selector_in, behind_selector}
 use Rattle.judge_rules.specs.Checks.{check_in}
 

@@ -1,13 +1,13 @@
 -- The rules that a text spells, or its first fault (own choice).
 use Rattle.std.specs.Prelude.{◌≡◌, ℕ, ◌+◌, ◌==◌, if◌then◌else◌, List, [], ◌∷◌, Result, Ok, Err, Option, Some, None}
-use Rattle.mil_host.specs.Words.{Text}
+use Rattle.text_lines.specs.Words.{Text}
 use Rattle.judge_rules.specs.declared.fault.RuleFault.{RuleFault}
 use Rattle.judge_rules.specs.declared.fault.RuleFault.TheVariants.{Word, Range, Memory}
 use Rattle.judge_rules.specs.declared.fault.RuleError.{RuleError}
 use Rattle.judge_rules.specs.declared.rules.Rule.{Rule}
 use Rattle.judge_rules.specs.Faults.{Read}
 use Rattle.judge_rules.specs.Lines.{said}
-use Rattle.judge_rules.specs.Texts.{text_lines}
+use Rattle.text_lines.specs.Lines.{text_lines}
 
 abbrev pub AllRules : Type 0
 AllRules = Result (List Rule) RuleError

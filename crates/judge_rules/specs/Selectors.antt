@@ -1,7 +1,7 @@
 -- The selector of a rule (own choice): a name, and behind it numbers or `*`.
 use Rattle.std.specs.Prelude.{ℕ, List, [], ◌∷◌, drop, Ok, Err, Option, codes, if◌then◌else◌}
 use Rattle.std.specs.Str.{bytes_eq}
-use Rattle.mil_host.specs.Words.{Text, words}
+use Rattle.text_lines.specs.Words.{Text, words}
 use Rattle.judge_rules.specs.declared.fault.RuleFault.TheVariants.{Word}
 use Rattle.judge_rules.specs.declared.rules.Selector.{Selector}
 use Rattle.judge_rules.specs.declared.rules.Selector.TheVariants.{Any, Receive, Transmit, Between, Mode, ReceiveAll}
@@ -51,8 +51,8 @@ mode_all_in rest = made ModeAll (code_in rest)
 unfoldable pub behind_ends : List Text → List Text
 behind_ends rest = drop 2 (drop 2 rest)
 
-abbrev pub named : Text → List Text → Read Selector
-named name rest =
+abbrev pub selector_named : Text → List Text → Read Selector
+selector_named name rest =
     if bytes_eq name (codes "any") then Ok Any
     else if bytes_eq name (codes "rx") then receive_in rest
     else if bytes_eq name (codes "tx") then transmit_in rest
@@ -65,7 +65,7 @@ named name rest =
 
 abbrev pub selector_in : List Text → Read Selector
 selector_in [] = Err Word
-selector_in (name ∷ rest) = named name rest
+selector_in (name ∷ rest) = selector_named name rest
 
 -- what follows the numbers behind a name
 abbrev pub behind_name : Text → List Text → List Text

@@ -4,17 +4,12 @@ use Rattle.std.specs.Prelude.{Ok, Err, Option, Some, None, codes, if◌then◌el
 use Rattle.std.proofs.Common.{zero, suc}
 use Rattle.std.specs.Str.{bytes_eq}
 use Rattle.numerals.specs.Numerals.{spelled}
-use Rattle.mil_host.specs.Words.{Text}
+use Rattle.text_lines.specs.Words.{Text}
 use Rattle.judge_rules.specs.declared.fault.RuleFault.{RuleFault}
 use Rattle.judge_rules.specs.declared.fault.RuleFault.TheVariants.{Word, Number, Range}
 use Rattle.judge_rules.specs.declared.rules.Bounds.{Bounds}
 use Rattle.judge_rules.specs.declared.rules.Datum.{Datum}
 use Rattle.judge_rules.specs.Faults.{Read, both, made}
-
--- the first of the words is this one
-abbrev pub begins_with : Text → List Text → Bool
-begins_with keyword [] = false
-begins_with keyword (word ∷ rest) = bytes_eq word keyword
 
 -- a number from low to high
 abbrev pub within : ℕ → ℕ → Option ℕ → Read ℕ

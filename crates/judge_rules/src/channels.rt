@@ -5,7 +5,7 @@ ghost use Rattle.judge_rules.specs.Lines as spec;
 use crate::fault::RuleFault;
 use crate::rules::Bus;
 use crate::values::read_number;
-use crate::words::Words;
+use text_lines::Words;
 
 /// The channel that a rule names, if it names one.
 pub(crate) fn read_channel(words: &mut Words<'_>) -> Result<Option<u16>, RuleFault>

@@ -5,7 +5,8 @@ ghost use Rattle.judge_rules.specs.Checks as spec;
 use crate::fault::{RuleFault, both};
 use crate::rules::{Bounds, Check, Datum};
 use crate::values::{read_bounds, read_data, read_word};
-use crate::words::{Words, ended};
+use crate::words::ended;
+use text_lines::Words;
 
 /// The longest gap that a recording tells, in ticks.
 const MOST_TICKS: u32 = 255;

@@ -9,7 +9,6 @@ mod line_rules;
 mod reading;
 mod rules;
 mod selectors;
-mod text_lines;
 mod values;
 mod words;
 
@@ -17,4 +16,3 @@ pub use fault::{RuleError, RuleFault};
 pub use reading::{MOST_RULES, read_rules};
 pub use rules::{Bounds, Bus, Check, Datum, Rule, Selector};
 pub use selectors::selector_of;
-pub use text_lines::next_line;

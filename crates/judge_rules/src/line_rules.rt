@@ -7,8 +7,7 @@ use crate::checks::read_check;
 use crate::fault::{RuleFault, both};
 use crate::rules::Rule;
 use crate::selectors::read_selector;
-use crate::words::Words;
-use mil_host::next_word;
+use text_lines::{Words, next_word};
 
 /// Whether a line is passed over: it has no words, or its first begins with `#`.
 fn is_passed_over(text: &[u8]) -> bool

@@ -1,13 +1,13 @@
 //! The rules that a text spells.
 ghost use Rattle.std.specs.Prelude.{◌≡◌, ◌+◌, ◌≤◌, ◌<◌, ◌^◌, Ok, Err, IfOk, IfErr, length};
-ghost use Rattle.judge_rules.specs.Texts.{text_lines};
+ghost use Rattle.text_lines.specs.Lines.{text_lines};
 ghost use Rattle.judge_rules.specs.Rules.{rules_in, rules_from, Fits, FitsAt};
 
 use crate::fault::{RuleError, RuleFault};
 use crate::line_rules::read_line;
 use crate::rules::Rule;
-use crate::text_lines::next_line;
 use std::alloc::Global;
+use text_lines::next_line;
 
 /// How many rules a text may have.
 pub const MOST_RULES: usize = 10_000;

@@ -5,7 +5,8 @@ ghost use Rattle.judge_rules.specs.Selectors as spec;
 use crate::fault::{RuleFault, both};
 use crate::rules::Selector;
 use crate::values::read_choice;
-use crate::words::{Words, ended};
+use crate::words::ended;
+use text_lines::Words;
 
 /// The greatest address of a terminal.
 const LAST_ADDRESS: u8 = 30;

@@ -4,9 +4,9 @@ ghost use Rattle.judge_rules.specs.Values as spec;
 
 use crate::fault::{RuleFault, both};
 use crate::rules::{Bounds, Datum};
-use crate::words::Words;
 use arrayvec::ArrayVec;
 use numerals::spelled;
+use text_lines::Words;
 
 /// The number that a word spells, within a range.
 fn number_within(word: &[u8], low: u32, high: u32) -> Result<u32, RuleFault>

@@ -8,6 +8,7 @@ use Rattle.mil_word.specs.declared.Line.TheVariants.{A, B}
 use Rattle.mil_word.specs.declared.Word.{Word}
 use Rattle.mil_word.specs.Words.{is_command_sync}
 use Rattle.mil_word.specs.Fields.{address_of, has_message_error, has_busy}
+use Rattle.mil_word.specs.Timing.{response_time_out}
 use Rattle.mil_status.specs.Block as table
 use Rattle.mil_status.specs.Status.{all_status_bits}
 use Rattle.mil_message.specs.declared.forms.Due.{Due}
@@ -32,7 +33,7 @@ second_due (due ∷ more) = first_due more
 abbrev pub is_late : Option Due → Option Came → Bool
 is_late None came = false
 is_late (Some due) None = true
-is_late (Some due) (Some came) = nat_lt 140 came.gap
+is_late (Some due) (Some came) = nat_lt response_time_out came.gap
 
 -- a status word whose message error or busy bit is set
 abbrev pub is_excuse : Option Word → Bool

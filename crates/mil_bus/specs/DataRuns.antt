@@ -2,6 +2,7 @@
 use Rattle.std.specs.Prelude.{ℕ, List, [], ◌∷◌}
 use Rattle.std.proofs.Common.{zero, suc}
 use Rattle.mil_word.specs.declared.Line.{Line}
+use Rattle.mil_word.specs.Timing.{contiguous_gap}
 use Rattle.mil_terminal.specs.Station.{Station}
 use Rattle.mil_bus.specs.declared.talks.Sent.{Sent}
 use Rattle.mil_bus.specs.declared.talk_runs.Run.{Run}
@@ -20,7 +21,7 @@ run_words run waves = words_of run.number run.source run.gap waves
 -- the gap of a word of a run, by its place
 abbrev pub gap_at : ℕ → ℕ → ℕ
 gap_at zero gap = gap
-gap_at (suc place) gap = 20
+gap_at (suc place) gap = contiguous_gap
 
 -- a run from a place on
 abbrev pub run_from : ℕ → Run → Run

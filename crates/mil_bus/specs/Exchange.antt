@@ -8,6 +8,7 @@ use Rattle.mil_word.specs.declared.Line.{Line}
 use Rattle.mil_message.specs.declared.forms.Form.{Form}
 use Rattle.mil_message.specs.Forms.{controller_waves}
 use Rattle.mil_word.specs.Words.{same_line, command_wave, data_wave}
+use Rattle.mil_word.specs.Timing.{contiguous_gap, least_gap, longer_gap}
 use Rattle.mil_line.specs.declared.faults.Fault.{Fault}
 use Rattle.mil_line.specs.Faults.{altered, gap_of}
 use Rattle.mil_bus.specs.declared.talks.Source.{Source}
@@ -28,6 +29,14 @@ pub record Offer : Type 0 where
   pub gap : ℕ
   pub waves : List ℕ
 
+-- how many words of a talk come on the line; none past them is sent (own choice)
+abbrev pub most_sent : ℕ
+most_sent = 40
+
+-- as many runs are enough, since each but the last puts a word on the line
+abbrev pub most_runs : ℕ
+most_runs = 40
+
 -- what an exchange has come to: the words sent, and the stations in order of address
 pub record Standing : Type 0 where
   pub sent : List Sent
@@ -37,7 +46,7 @@ pub record Standing : Type 0 where
 abbrev pub words_of : ℕ → Source → ℕ → List ℕ → List Sent
 words_of run source gap [] = []
 words_of run source gap (wave ∷ waves) = record { wave = wave; gap = gap; run = run; source = source }
-    ∷ words_of run source 20 waves
+    ∷ words_of run source contiguous_gap waves
 
 -- what comes on the line of a run, where there is room for so many words
 unfoldable pub run_sent : ℕ → List Fault → ℕ → Offer → List Sent
@@ -110,7 +119,7 @@ unfoldable pub runs : ℕ → Line → List Fault → ℕ → Option Offer → S
 runs zero line faults run offer s = s
 runs (suc left) line faults run None s = s
 runs (suc left) line faults run (Some offer) s =
-    let words = run_sent (40 - length s.sent) faults run offer in
+    let words = run_sent (most_sent - length s.sent) faults run offer in
     runs left line faults (suc run) (next_offer line words (all_hearing line words s.stations))
     (standing_after line words s)
 
@@ -129,7 +138,8 @@ clock_of start (t ∷ ts) = end_of t
 
 -- the least gap after a talk
 abbrev pub least_after : Talk → ℕ
-least_after t = if (outcome_of t.message t.sent.items).failed || is_controllers_last t.sent.items then 180 else 40
+least_after t = if (outcome_of t.message t.sent.items).failed || is_controllers_last t.sent.items then longer_gap
+    else least_gap
 
 -- now: when the last word on either line ended, or the least start where that is later
 abbrev pub now_of : BusState → ℕ
@@ -147,7 +157,7 @@ played b = record { start = b.start; least_start = 0; talks = b.talks; stations 
 -- when the next talk would start by its gap alone, where this gap is asked for
 abbrev pub next_start : ℕ → List Talk → ℕ → ℕ
 next_start start [] gap = start
-next_start start (t ∷ ts) gap = end_of t + (max gap (least_after t) - 20)
+next_start start (t ∷ ts) gap = end_of t + (max gap (least_after t) - contiguous_gap)
 
 -- when it starts: no sooner than at the least start
 abbrev pub talk_start : BusState → ℕ → ℕ
@@ -162,10 +172,14 @@ abbrev pub last_on : Line → List Talk → Option ℕ
 last_on line [] = None
 last_on line (t ∷ ts) = if same_line t.line line && has_word t.sent.items then Some (end_of t) else last_on line ts
 
+-- the longest gap that is told apart; it stands for all longer ones (own choice)
+abbrev pub longest_gap : ℕ
+longest_gap = 65535
+
 -- the gap from a word's end to a word that starts at a tick
 abbrev pub gap_since : Option ℕ → ℕ → ℕ
-gap_since None tick = 65535
-gap_since (Some end) tick = min (tick + 20 - end) 65535
+gap_since None tick = longest_gap
+gap_since (Some end) tick = min (tick + contiguous_gap - end) longest_gap
 
 abbrev pub controllers : Line → Form → ℕ → List Talk → Offer
 controllers line message tick talks =
@@ -174,7 +188,7 @@ controllers line message tick talks =
 -- what the exchange of a message comes to; forty runs do, since each but the last puts a word on the line
 unfoldable pub exchange_of : BusState → Line → Form → ℕ → List Fault → Standing
 exchange_of b line message gap faults =
-    runs 40 line faults 0 (Some (controllers line message (talk_start b gap) b.talks))
+    runs most_runs line faults 0 (Some (controllers line message (talk_start b gap) b.talks))
     (record { sent = []; stations = b.stations })
 
 unfoldable pub talk_of : BusState → Line → Form → ℕ → List Fault → Talk

@@ -5,7 +5,7 @@ use Rattle.std.specs.Int.{bit_at}
 use Rattle.mil_word.specs.declared.Line.{Line}
 use Rattle.mil_word.specs.declared.Word.{Word}
 use Rattle.mil_word.specs.Words.{is_command_sync}
-use Rattle.mil_word.specs.Fields.{address_of, is_broadcast}
+use Rattle.mil_word.specs.Fields.{address_of, all_terminals, is_broadcast}
 use Rattle.mil_terminal.specs.Station.{Station}
 use Rattle.mil_terminal.specs.Windows.{is_listening}
 
@@ -21,7 +21,7 @@ AreClosed opened stations = (k : ℕ) (d : Station) → k < length stations → 
 -- under each address stands the place of its station
 pub record IsIndex (places : List ℕ) (stations : List Station) : Type 0 where
   pub long : length places ≡ 32
-  pub few : length stations ≤ 31
+  pub few : length stations ≤ all_terminals
   pub low : (k : ℕ) (d : Station) → k < length stations → (get_or stations k d).own < 32
   pub stands : (k : ℕ) (d : Station) → k < length stations → slice_index places (get_or stations k d).own ≡ k
 

@@ -2,14 +2,15 @@
 -- word).
 use Rattle.std.specs.Prelude.{ℕ, ◌+◌, ◌==◌, Bool, true, List, [], ◌∷◌}
 use Rattle.std.proofs.Common.{zero, suc}
+use Rattle.mil_word.specs.Timing.{word_time, sync_to_parity}
 use Rattle.mil_bus.specs.declared.talks.Sent.{Sent}
 use Rattle.mil_bus.specs.declared.talks.Talk.{Talk}
 
--- from the end of the word before to the end of a word: a word lasts 200 ticks, and starts its gap less 20 after the
--- one before; the first of a talk starts with the talk
+-- from the end of the word before to the end of a word, whose gap ends in the middle of its sync; the first of a talk
+-- starts with the talk
 abbrev pub lasting : ℕ → ℕ → ℕ
-lasting zero gap = 200
-lasting (suc place) gap = gap + 180
+lasting zero gap = word_time
+lasting (suc place) gap = gap + sync_to_parity
 
 -- when words end, from a place on, where the one before ended at a tick
 abbrev pub end_from : ℕ → ℕ → List Sent → ℕ

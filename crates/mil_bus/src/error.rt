@@ -13,9 +13,9 @@ pub enum BusError {
 /// `B1` and `B2`.
 impl Display for BusError {
     ghost use Rattle.std.specs.Prelude.{Some};
-    ghost use Rattle.mil_bus.specs.Codes.{code_of};
+    ghost use Rattle.mil_bus.specs.Codes.{fault_code};
 
-    ghost output = { λ fault. Some (code_of fault) };
+    ghost output = { λ fault. Some (fault_code fault) };
 
     fn fmt<W: Write>(&self, f: &mut Formatter<W>) -> fmt::Result {
         f.write_str(match self {

@@ -1,4 +1,3 @@
-pub mod WordLemmas
 pub mod Printed
 pub mod Spacing
 pub mod ReadingBack

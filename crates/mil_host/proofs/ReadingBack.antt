@@ -12,7 +12,7 @@ use Rattle.numerals.proofs.Back.{decimal_back, four_back}
 use Rattle.mil_word.specs.declared.Line.{Line}
 use Rattle.mil_word.specs.declared.Line.TheVariants.{A, B}
 use Rattle.mil_host.specs.Values.{PutUp, Marked}
-use Rattle.mil_host.specs.Words.{Text, has_bytes}
+use Rattle.text_lines.specs.Words.{Text, has_bytes}
 use Rattle.mil_host.specs.Reading.{action_in, in_words, of_word, name_of, number_of, data_of, value_or_fault, all_data, only_switch, only_line_switch, only_mark}
 use Rattle.mil_host.specs.Printing.{text_of, words_of, data_text, switch_text, line_text, direction_text, mark_words}
 use Rattle.mil_host.specs.Ranges.{IsInRange, IsPutUp, IsMark}

@@ -5,7 +5,7 @@ use Rattle.std.proofs.lemmas.Bool.Decides.{nat_tests}
 use Rattle.std.specs.List.{filter, slice_split, flat_map}
 use Rattle.std.proofs.lemmas.List.Elements.{All-nil, All-cons, All-append}
 use Rattle.std.proofs.lemmas.List.Splits.{slice_split_none, slice_split_at}
-use Rattle.mil_host.specs.Words.{Text, is_space, has_bytes, words}
+use Rattle.text_lines.specs.Words.{Text, is_space, has_bytes, words}
 use Rattle.mil_host.specs.Printing.{spaced, spaced_word}
 
 -- each byte is behind the space and the control characters of ASCII

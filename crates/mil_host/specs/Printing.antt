@@ -6,7 +6,7 @@ use Rattle.std.specs.List.{flat_map}
 use Rattle.mil_word.specs.declared.Line.{Line}
 use Rattle.mil_word.specs.declared.Line.TheVariants.{A, B}
 use Rattle.mil_host.specs.Values.{Marked}
-use Rattle.mil_host.specs.Words.{Text}
+use Rattle.text_lines.specs.Words.{Text}
 use Rattle.mil_host.specs.declared.reading.BadAction.{BadAction}
 use Rattle.mil_host.specs.declared.reading.BadAction.TheVariants.{Word, Number, Range}
 use Rattle.mil_host.specs.declared.actions.Action.{Action}
@@ -70,7 +70,7 @@ unfoldable pub text_of : Action → Text
 text_of action = spaced (words_of action)
 
 -- the code of a fault
-abbrev pub code_of : BadAction → Text
-code_of Word = codes "H1"
-code_of Number = codes "H2"
-code_of Range = codes "H3"
+abbrev pub fault_code : BadAction → Text
+fault_code Word = codes "H1"
+fault_code Number = codes "H2"
+fault_code Range = codes "H3"

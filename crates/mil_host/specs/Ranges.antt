@@ -1,5 +1,7 @@
 -- The ranges of an action's values.
 use Rattle.std.specs.Prelude.{◌≤◌, ◌<◌, length, All}
+use Rattle.mil_word.specs.Timing.{least_response, latest_response}
+use Rattle.mil_word.specs.Fields.{most_words}
 use Rattle.mil_host.specs.Values.{PutUp, Marked}
 use Rattle.mil_host.specs.declared.actions.Action.{Action}
 use Rattle.mil_host.specs.declared.actions.Action.TheVariants.{Transmit, Busy, Service, Subsystem, Fault, Control}
@@ -10,7 +12,7 @@ pub record IsPutUp (put : PutUp) : Type 0 where
   pub sub_low : 1 ≤ put.sub
   pub sub_high : put.sub ≤ 29
   pub some : 1 ≤ length put.words
-  pub few : length put.words ≤ 32
+  pub few : length put.words ≤ most_words
   pub of_16_bits : All (λ w. w < 65536) put.words
 
 -- a subaddress of 1 to 30, and a count of 1 to 32
@@ -18,7 +20,7 @@ pub record IsMark (mark : Marked) : Type 0 where
   pub sub_low : 1 ≤ mark.sub
   pub sub_high : mark.sub ≤ 30
   pub count_low : 1 ≤ mark.count
-  pub count_high : mark.count ≤ 32
+  pub count_high : mark.count ≤ most_words
 
 -- each value of an action is in its range
 abbrev pub IsInRange : Action → Type 0
@@ -32,6 +34,6 @@ IsInRange (Vector value) = value < 65536
 IsInRange (SelfTest value) = value < 65536
 IsInRange (Illegal mark) = IsMark mark
 IsInRange (Legal mark) = IsMark mark
-IsInRange (Response ticks) = (40 ≤ ticks) × (ticks ≤ 120)
+IsInRange (Response ticks) = (least_response ≤ ticks) × (ticks ≤ latest_response)
 IsInRange (Deaf line on) = Unit {0}
 IsInRange (Mute line on) = Unit {0}

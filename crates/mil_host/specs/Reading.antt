@@ -6,8 +6,10 @@ use Rattle.std.specs.Str.{bytes_eq}
 use Rattle.numerals.specs.Numerals.{spelled}
 use Rattle.mil_word.specs.declared.Line.{Line}
 use Rattle.mil_word.specs.declared.Line.TheVariants.{A, B}
+use Rattle.mil_word.specs.Timing.{least_response, latest_response}
+use Rattle.mil_word.specs.Fields.{most_words}
 use Rattle.mil_host.specs.Values.{PutUp, Marked}
-use Rattle.mil_host.specs.Words.{Text, words}
+use Rattle.text_lines.specs.Words.{Text, words}
 use Rattle.mil_host.specs.declared.reading.BadAction.{BadAction}
 use Rattle.mil_host.specs.declared.reading.BadAction.TheVariants.{Word, Number, Range}
 use Rattle.mil_host.specs.declared.names.Name.{Name}
@@ -85,7 +87,7 @@ all_data (suc room) (word ∷ rest) = and_then (data_of word)
 
 abbrev pub some_data : List Text → Read (List ℕ)
 some_data [] = Err Word
-some_data (word ∷ rest) = all_data 32 (word ∷ rest)
+some_data (word ∷ rest) = all_data most_words (word ∷ rest)
 
 -- what follows the name of an action
 
@@ -101,7 +103,7 @@ abbrev pub only_data : List Text → Read ℕ
 only_data rest = and_then (data_in rest) (λ value. and_end (drop 1 rest) value)
 
 abbrev pub only_ticks : List Text → Read ℕ
-only_ticks rest = and_then (number_in 40 120 rest) (λ ticks. and_end (drop 1 rest) ticks)
+only_ticks rest = and_then (number_in least_response latest_response rest) (λ ticks. and_end (drop 1 rest) ticks)
 
 -- a subaddress of 1 to 29, and 1 to 32 data words
 abbrev pub only_words : List Text → Read PutUp
@@ -115,7 +117,7 @@ abbrev pub only_mark : List Text → Read Marked
 only_mark rest =
     and_then (direction_in rest) (λ transmit.
     and_then (number_in 1 30 (drop 1 rest)) (λ sub.
-    and_then (number_in 1 32 (drop 2 rest)) (λ count.
+    and_then (number_in 1 most_words (drop 2 rest)) (λ count.
     and_end (drop 3 rest) (record { transmit = transmit; sub = sub; count = count }))))
 
 abbrev pub as_action : {X : Type 0} → (X → Action) → Read X → Read Action

@@ -9,9 +9,7 @@ mod names;
 mod printing;
 mod reading;
 mod values;
-mod words;
 
 pub use actions::Action;
 pub use reading::{BadAction, read_action};
 pub use values::{Mark, ResponseGap, TransmitWords};
-pub use words::next_word;

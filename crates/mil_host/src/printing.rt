@@ -37,9 +37,9 @@ fn direction(mark: &Mark) -> &'static str
 /// The code of the fault: `H1`, `H2` or `H3`.
 impl fmt::Display for BadAction {
     ghost use Rattle.std.specs.Prelude.{Some};
-    ghost use Rattle.mil_host.specs.Printing.{code_of};
+    ghost use Rattle.mil_host.specs.Printing.{fault_code};
 
-    ghost output = { λ e. Some (code_of e) };
+    ghost output = { λ e. Some (fault_code e) };
 
     fn fmt<W: fmt::Write>(&self, f: &mut fmt::Formatter<W>) -> fmt::Result {
         f.write_str(match self {

@@ -7,10 +7,10 @@ ghost use Rattle.mil_host.specs.Reading.{only_ticks, only_words, only_mark, data
 use crate::actions::Action;
 use crate::names::{Name, name_in};
 use crate::values::{Mark, ResponseGap, TransmitWords};
-use crate::words::Words;
 use arrayvec::ArrayVec;
 use mil_word::Line;
 use numerals::spelled;
+use text_lines::Words;
 
 /// Why a text spells no action.
 #[derive(Clone, Copy, Debug, PartialEq, Eq)]

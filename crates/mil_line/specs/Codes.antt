@@ -3,7 +3,7 @@ use Rattle.std.specs.Prelude.{ℕ, List, codes}
 use Rattle.mil_line.specs.declared.error.LineError.{LineError}
 use Rattle.mil_line.specs.declared.error.LineError.TheVariants.{TooMany, OutOfRange, Memory}
 
-abbrev pub code_of : LineError → List ℕ
-code_of TooMany = codes "L1"
-code_of OutOfRange = codes "L2"
-code_of Memory = codes "L3"
+abbrev pub fault_code : LineError → List ℕ
+fault_code TooMany = codes "L1"
+fault_code OutOfRange = codes "L2"
+fault_code Memory = codes "L3"

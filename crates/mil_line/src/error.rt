@@ -15,9 +15,9 @@ pub enum LineError {
 /// `L1` to `L3`.
 impl Display for LineError {
     ghost use Rattle.std.specs.Prelude.{Some};
-    ghost use Rattle.mil_line.specs.Codes.{code_of};
+    ghost use Rattle.mil_line.specs.Codes.{fault_code};
 
-    ghost output = { λ fault. Some (code_of fault) };
+    ghost output = { λ fault. Some (fault_code fault) };
 
     fn fmt<W: Write>(&self, f: &mut Formatter<W>) -> fmt::Result {
         f.write_str(match self {

@@ -4,9 +4,9 @@ use Rattle.mil_message.specs.declared.faults.BadMessage.{BadMessage}
 use Rattle.mil_message.specs.declared.faults.BadMessage.TheVariants.{Address, Subaddress, CountOrCode, SameEnds}
 use Rattle.mil_message.specs.declared.faults.BadMessage.TheVariants.{ModeWord}
 
-abbrev pub code_of : BadMessage → List ℕ
-code_of Address = codes "M1"
-code_of Subaddress = codes "M2"
-code_of CountOrCode = codes "M3"
-code_of SameEnds = codes "M4"
-code_of ModeWord = codes "M5"
+abbrev pub fault_code : BadMessage → List ℕ
+fault_code Address = codes "M1"
+fault_code Subaddress = codes "M2"
+fault_code CountOrCode = codes "M3"
+fault_code SameEnds = codes "M4"
+fault_code ModeWord = codes "M5"

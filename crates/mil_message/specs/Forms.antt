@@ -5,6 +5,8 @@ use Rattle.std.specs.Option.{option_to_list}
 use Rattle.mil_word.specs.Words.{command_wave, data_wave}
 use Rattle.mil_word.specs.declared.Sync.TheVariants.{CommandSync, DataSync}
 use Rattle.mil_word.specs.declared.Word.{Word}
+pub use Rattle.mil_word.specs.Fields.{all_terminals}
+use Rattle.mil_word.specs.Fields.{most_words, mode_subaddress_of_zeros, mode_subaddress_of_ones}
 use Rattle.mil_message.specs.declared.drafts.ModeSubaddress.{ModeSubaddress}
 use Rattle.mil_message.specs.declared.drafts.ModeSubaddress.TheVariants.{Zero, ThirtyOne}
 use Rattle.mil_message.specs.declared.forms.Due.{Due}
@@ -17,9 +19,9 @@ abbrev pub command_word : ℕ → Bool → ℕ → ℕ → ℕ
 command_word address transmit subaddress field =
     address * 2 ^ 11 + (if transmit then 2 ^ 10 else 0) + subaddress * 2 ^ 5 + field
 
--- the field of a data word count: 32 is written as zeros (4.3.3.5.1.5)
+-- the field of a data word count: the most is written as zeros (4.3.3.5.1.5)
 abbrev pub count_field : ℕ → ℕ
-count_field count = count % 32
+count_field count = count % most_words
 
 -- a command to receive, and one to transmit, so many data words
 abbrev pub receive_command : ℕ → ℕ → ℕ → ℕ
@@ -29,16 +31,12 @@ abbrev pub transmit_command : ℕ → ℕ → ℕ → ℕ
 transmit_command address subaddress count = command_word address true subaddress (count_field count)
 
 abbrev pub mode_subaddress : ModeSubaddress → ℕ
-mode_subaddress Zero = 0
-mode_subaddress ThirtyOne = 31
+mode_subaddress Zero = mode_subaddress_of_zeros
+mode_subaddress ThirtyOne = mode_subaddress_of_ones
 
 -- a mode command (4.3.3.5.1.7)
 abbrev pub mode_command : ℕ → Bool → ModeSubaddress → ℕ → ℕ
 mode_command address transmit subaddress code = command_word address transmit (mode_subaddress subaddress) code
-
--- the address of all terminals (4.3.3.5.1.2)
-abbrev pub all_terminals : ℕ
-all_terminals = 31
 
 -- the first command word
 abbrev pub first_command : Form → ℕ

@@ -1,6 +1,8 @@
 -- What a draft asks for, as plain data: its numbers, and its data words wherever they lie in memory.
 use Rattle.std.specs.Prelude.{ℕ, Bool, List, Option, Some, None, ◌||◌, ◌==◌, nat_le, if◌then◌else◌, option_map}
 use Rattle.std.specs.Borrow.{Bor}
+use Rattle.mil_mode.specs.Codes.{transmit_vector_word, transmit_last_command, transmit_bit_word}
+use Rattle.mil_mode.specs.Codes.{first_reserved_with_word}
 use Rattle.mil_message.specs.declared.drafts.ModeSubaddress.{ModeSubaddress}
 use Rattle.mil_message.specs.declared.drafts.Draft.{Draft}
 use Rattle.mil_message.specs.declared.drafts.Draft.TheVariants.{ToTerminal, FromTerminal, Between, Mode, ModeFrom}
@@ -46,8 +48,9 @@ request_of (ModeAllTo subaddress code words) = mode_all_to subaddress code (writ
 
 -- codes 16, 18 and 19 have a data word from the terminal, and codes 22 on where no word is written
 abbrev is_from : ℕ → Option (List ℕ) → Bool
-is_from code None = code == 16 || code == 18 || code == 19 || nat_le 22 code
-is_from code (Some words) = code == 16 || code == 18 || code == 19
+is_from code None = code == transmit_vector_word || code == transmit_last_command || code == transmit_bit_word
+    || nat_le first_reserved_with_word code
+is_from code (Some words) = code == transmit_vector_word || code == transmit_last_command || code == transmit_bit_word
 
 -- a mode command to one terminal, whose code and words choose the form (own choice)
 abbrev pub mode_request : ℕ → ModeSubaddress → ℕ → Option (List ℕ) → Request

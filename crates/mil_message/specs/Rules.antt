@@ -1,7 +1,9 @@
 -- Which requests are messages: MIL-STD-1553B 4.3.3.5.1 for the ranges, 4.3.3.6 for the forms.
 use Rattle.std.specs.Prelude.{ℕ, ◌≡◌, Bool, true, false, not, ◌&&◌, ◌==◌, nat_le, List, [], ◌∷◌, length, Option, Some}
 use Rattle.std.specs.Prelude.{None, Result, Ok, Err, MatchResult}
+use Rattle.mil_word.specs.Fields.{most_words}
 use Rattle.mil_mode.specs.Table.{data_word_count}
+use Rattle.mil_mode.specs.Codes.{synchronize, last_code}
 use Rattle.mil_message.specs.declared.faults.BadMessage.{BadMessage}
 use Rattle.mil_message.specs.declared.faults.BadMessage.TheVariants.{Address, Subaddress, CountOrCode, SameEnds}
 use Rattle.mil_message.specs.declared.faults.BadMessage.TheVariants.{ModeWord}
@@ -21,7 +23,7 @@ is_subaddress n = nat_le 1 n && nat_le n 30
 
 -- a count of data words (4.3.3.5.1.5)
 abbrev pub is_count : ℕ → Bool
-is_count n = nat_le 1 n && nat_le n 32
+is_count n = nat_le 1 n && nat_le n most_words
 
 -- a mode code that goes without a data word: 0 to 15 (4.3.3.6.4)
 abbrev pub is_code_alone : ℕ → Bool
@@ -29,11 +31,11 @@ is_code_alone code = nat_le code 15
 
 -- a mode code with a data word that the terminal sends: T/R 1 (4.3.3.6.5)
 abbrev pub is_code_from : ℕ → Bool
-is_code_from code = nat_le code 31 && data_word_count true code == 1
+is_code_from code = nat_le code last_code && data_word_count true code == synchronize
 
 -- a mode code with a data word that the terminal receives: T/R 0 (4.3.3.6.6)
 abbrev pub is_code_to : ℕ → Bool
-is_code_to code = nat_le code 31 && data_word_count false code == 1
+is_code_to code = nat_le code last_code && data_word_count false code == synchronize
 
 abbrev pub is_no_word : Option (List ℕ) → Bool
 is_no_word None = true

@@ -19,9 +19,9 @@ pub enum BadMessage {
 /// `M1` to `M5`.
 impl Display for BadMessage {
     ghost use Rattle.std.specs.Prelude.{Some};
-    ghost use Rattle.mil_message.specs.Codes.{code_of};
+    ghost use Rattle.mil_message.specs.Codes.{fault_code};
 
-    ghost output = { λ fault. Some (code_of fault) };
+    ghost output = { λ fault. Some (fault_code fault) };
 
     fn fmt<W: Write>(&self, f: &mut Formatter<W>) -> fmt::Result {
         f.write_str(match self {

@@ -3,6 +3,12 @@ use Rattle.std.specs.Prelude.{ℕ, Bool, true, false, ◌&&◌, ◌||◌, not, �
 use Rattle.std.specs.Prelude.{is_some, if◌then◌else◌, find}
 use Rattle.mil_mode.specs.declared.ModeRow.{ModeRow}
 use Rattle.mil_mode.specs.declared.ModeRow.TheVariants.{Known, Reserved, Undefined}
+use Rattle.mil_mode.specs.Codes.{dynamic_bus_control, synchronize, transmit_status_word, initiate_self_test}
+use Rattle.mil_mode.specs.Codes.{transmitter_shutdown, override_shutdown, inhibit_terminal_flag, override_inhibit}
+use Rattle.mil_mode.specs.Codes.{reset_remote_terminal, transmit_vector_word, synchronize_with_word}
+use Rattle.mil_mode.specs.Codes.{transmit_last_command, transmit_bit_word, selected_shutdown}
+use Rattle.mil_mode.specs.Codes.{override_selected_shutdown, first_reserved, last_reserved_without_word}
+use Rattle.mil_mode.specs.Codes.{first_reserved_with_word, last_code}
 
 -- the data word that goes with a mode code
 pub data DataWord : Type 0 where
@@ -25,33 +31,21 @@ mode code transmit word broadcast = record { code = code; transmit = transmit; w
 -- the known codes: the code, the T/R bit, the data word, and whether it may be broadcast
 abbrev pub known_modes : List Mode
 known_modes =
-    -- dynamic bus control
-    mode 0 true no_word false
-    -- synchronize
-    ∷ mode 1 true no_word true
-    -- transmit status word
-    ∷ mode 2 true no_word false
-    -- initiate self test
-    ∷ mode 3 true no_word true
-    -- transmitter shutdown, and its override
-    ∷ mode 4 true no_word true
-    ∷ mode 5 true no_word true
-    -- inhibit terminal flag bit, and its override
-    ∷ mode 6 true no_word true
-    ∷ mode 7 true no_word true
-    -- reset remote terminal
-    ∷ mode 8 true no_word true
-    -- transmit vector word
-    ∷ mode 16 true sent_by_terminal false
-    -- synchronize with data word
-    ∷ mode 17 false received_by_terminal true
-    -- transmit last command word
-    ∷ mode 18 true sent_by_terminal false
-    -- transmit built-in-test word
-    ∷ mode 19 true sent_by_terminal false
-    -- selected transmitter shutdown, and its override
-    ∷ mode 20 false received_by_terminal true
-    ∷ mode 21 false received_by_terminal true
+    mode dynamic_bus_control true no_word false
+    ∷ mode synchronize true no_word true
+    ∷ mode transmit_status_word true no_word false
+    ∷ mode initiate_self_test true no_word true
+    ∷ mode transmitter_shutdown true no_word true
+    ∷ mode override_shutdown true no_word true
+    ∷ mode inhibit_terminal_flag true no_word true
+    ∷ mode override_inhibit true no_word true
+    ∷ mode reset_remote_terminal true no_word true
+    ∷ mode transmit_vector_word true sent_by_terminal false
+    ∷ mode synchronize_with_word false received_by_terminal true
+    ∷ mode transmit_last_command true sent_by_terminal false
+    ∷ mode transmit_bit_word true sent_by_terminal false
+    ∷ mode selected_shutdown false received_by_terminal true
+    ∷ mode override_selected_shutdown false received_by_terminal true
     ∷ []
 
 abbrev same_bool : Bool → Bool → Bool
@@ -67,7 +61,8 @@ is_known transmit code = is_some (known_mode transmit code)
 
 -- kept for later by the standard: codes 9 to 15 without a data word, codes 22 to 31 with one, sent or received
 abbrev pub is_reserved : Bool → ℕ → Bool
-is_reserved transmit code = transmit && nat_le 9 code && nat_le code 15 || nat_le 22 code && nat_le code 31
+is_reserved transmit code = transmit && nat_le first_reserved code && nat_le code last_reserved_without_word
+    || nat_le first_reserved_with_word code && nat_le code last_code
 
 -- what the table has for a T/R bit and a code
 abbrev pub row_of : Bool → ℕ → ModeRow
@@ -89,7 +84,7 @@ words_with received_by_terminal = 1
 
 abbrev words_of : Option Mode → ℕ → ℕ
 words_of (Some m) code = words_with m.word
-words_of None code = if nat_le 22 code && nat_le code 31 then 1 else 0
+words_of None code = if nat_le first_reserved_with_word code && nat_le code last_code then 1 else 0
 
 -- how many data words go with the code: a known one's, one with codes 22 to 31, else none
 abbrev pub data_word_count : Bool → ℕ → ℕ
@@ -98,4 +93,5 @@ data_word_count transmit code = words_of (known_mode transmit code) code
 -- whether a terminal here carries the code out: known, and not one of the two that select a transmitter
 -- by a data word, which are for more than two lines (own choice)
 abbrev pub is_legal_mode : Bool → ℕ → Bool
-is_legal_mode transmit code = is_known transmit code && not (code == 20) && not (code == 21)
+is_legal_mode transmit code = is_known transmit code && not (code == selected_shutdown)
+    && not (code == override_selected_shutdown)

@@ -5,6 +5,7 @@ use Rattle.std.specs.Option.{is_some}
 use Rattle.std.specs.List.{filter_map}
 use Rattle.mil_terminal.specs.declared.events.Event.{Event}
 use Rattle.mil_word.specs.Words.{command_in, data_in}
+use Rattle.mil_word.specs.Timing.{contiguous_gap}
 use Rattle.mil_terminal.specs.Windows.{Window, sender_called, sender_in, has_quiets}
 use Rattle.mil_terminal.specs.Verdicts.{words_due, are_due_words, is_sent_by, is_answered_by, is_from, is_in_time}
 use Rattle.mil_terminal.specs.Verdicts.{has_shape}
@@ -67,7 +68,8 @@ with_due None p = record p { phase = Lost }
 with_due (Some value) p = record p { phase = Taking; words = record { items = p.words.items ++ value ∷ [] } }
 
 abbrev pub due_value : Pending → ℕ → ℕ → Option ℕ
-due_value p wave gap = if gap == 20 && nat_lt (length p.words.items) (words_due p.command) then data_in wave else None
+due_value p wave gap = if gap == contiguous_gap && nat_lt (length p.words.items) (words_due p.command)
+    then data_in wave else None
 
 abbrev pub with_first : Option ℕ → Pending → ℕ → ℕ → Pending
 with_first None p wave gap = with_due (due_value p wave gap) p
@@ -88,7 +90,7 @@ after_word own p Lost wave gap = p
 -- the state after words of which the first has this gap, and the others follow at once
 abbrev pub after_run : ℕ → Pending → ℕ → List ℕ → Pending
 after_run own p gap [] = p
-after_run own p gap (wave ∷ waves) = after_run own (after_word own p p.phase wave gap) 20 waves
+after_run own p gap (wave ∷ waves) = after_run own (after_word own p p.phase wave gap) contiguous_gap waves
 
 -- a quiet that decides the window, with its shape; or the state after it
 abbrev pub decides : Phase → Bool

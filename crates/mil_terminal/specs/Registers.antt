@@ -6,6 +6,10 @@ use Rattle.std.specs.List.{find, filter_map}
 use Rattle.mil_word.specs.declared.Line.{Line}
 use Rattle.mil_word.specs.Words.{same_line, same_bool, data_in}
 use Rattle.mil_word.specs.Fields.{address_of, is_broadcast, is_transmit, sub_of, code_of, is_mode, is_receive}
+use Rattle.mil_word.specs.Fields.{wrap_around}
+use Rattle.mil_mode.specs.Codes.{synchronize, transmit_status_word, initiate_self_test, transmitter_shutdown}
+use Rattle.mil_mode.specs.Codes.{override_shutdown, inhibit_terminal_flag, override_inhibit, reset_remote_terminal}
+use Rattle.mil_mode.specs.Codes.{synchronize_with_word, transmit_last_command}
 use Rattle.mil_terminal.specs.declared.events.Event.{Event}
 use Rattle.mil_terminal.specs.declared.events.Event.TheVariants.{Heard, Quiet, Host}
 use Rattle.mil_terminal.specs.History.{History, latest_set}
@@ -51,7 +55,7 @@ received_from_all own sub h = latest own (is_good_receive own true sub) words_of
 -- the words that a transmit command sends: those that the host put up, and at subaddress 30, which wraps around,
 -- those that were received there (Notice 2)
 unfoldable pub transmit_words : ℕ → ℕ → History → List ℕ
-transmit_words own sub h = if sub == 30 then received own 30 h else words_put_up sub h
+transmit_words own sub h = if sub == wrap_around then received own wrap_around h else words_put_up sub h
 
 abbrev pub first_or_zero : List ℕ → ℕ
 first_or_zero [] = 0
@@ -60,12 +64,13 @@ first_or_zero (w ∷ ws) = w
 -- the word of the latest synchronize with data word (17), and 0 after synchronize (1) and reset (8)
 unfoldable pub sync_word : ℕ → History → ℕ
 sync_word own h =
-    latest own (λ e. is_good_mode own false 17 e || is_good_mode own true 1 e || is_good_mode own true 8 e)
-    (λ e. if code_of e.window.command == 17 then first_or_zero (words_of e) else 0) 0 h
+    latest own (λ e. is_good_mode own false synchronize_with_word e || is_good_mode own true synchronize e
+    || is_good_mode own true reset_remote_terminal e)
+    (λ e. if code_of e.window.command == synchronize_with_word then first_or_zero (words_of e) else 0) 0 h
 
 -- the result of the self test when one was initiated last (3)
 unfoldable pub bit_word : ℕ → History → ℕ
-bit_word own h = latest own (is_good_mode own true 3) (λ e. self_test e.before) 0 h
+bit_word own h = latest own (is_good_mode own true initiate_self_test) (λ e. self_test e.before) 0 h
 
 -- the vector word, which is the host's
 unfoldable pub vector : History → ℕ
@@ -75,23 +80,25 @@ vector h = latest_set told_vector 0 h
 unfoldable pub is_transmitter_on : ℕ → Line → History → Bool
 is_transmitter_on own line h =
     latest own
-    (λ e. is_good_mode own true 8 e || not (same_line e.window.line line)
-    && (is_good_mode own true 4 e || is_good_mode own true 5 e))
-    (λ e. not (code_of e.window.command == 4)) true h
+    (λ e. is_good_mode own true reset_remote_terminal e || not (same_line e.window.line line)
+    && (is_good_mode own true transmitter_shutdown e || is_good_mode own true override_shutdown e))
+    (λ e. not (code_of e.window.command == transmitter_shutdown)) true h
 
 -- an inhibition of the terminal flag (6) is later than each override (7) and each reset (8)
 unfoldable pub is_flag_inhibited : ℕ → History → Bool
 is_flag_inhibited own h =
-    latest own (λ e. is_good_mode own true 6 e || is_good_mode own true 7 e || is_good_mode own true 8 e)
-    (λ e. code_of e.window.command == 6) false h
+    latest own (λ e. is_good_mode own true inhibit_terminal_flag e || is_good_mode own true override_inhibit e
+    || is_good_mode own true reset_remote_terminal e)
+    (λ e. code_of e.window.command == inhibit_terminal_flag) false h
 
 -- a question of the controller: transmit status word (2) or transmit last command (18), to this terminal
 abbrev pub is_question : ℕ → ℕ → Bool
-is_question own c = address_of c == own && is_transmit c && is_mode c && (code_of c == 2 || code_of c == 18)
+is_question own c = address_of c == own && is_transmit c && is_mode c
+    && (code_of c == transmit_status_word || code_of c == transmit_last_command)
 
 abbrev pub opened_or : ℕ → Option (Line × ℕ) → ℕ → ℕ
 opened_or own None before = before
-opened_or own (Some o) before = if is_question own o.1 && code_of o.1 == 18 then before else o.1
+opened_or own (Some o) before = if is_question own o.1 && code_of o.1 == transmit_last_command then before else o.1
 
 -- the command of the latest window, questions for the last command excepted
 unfoldable pub last_command : ℕ → History → ℕ

@@ -3,6 +3,7 @@ use Rattle.std.specs.Prelude.{ℕ, ◌-◌, Bool, ◌&&◌, not, ◌==◌, List,
 use Rattle.std.specs.Prelude.{take, length, replicate}
 use Rattle.mil_word.specs.declared.Line.{Line}
 use Rattle.mil_word.specs.Fields.{address_of, is_transmit, sub_of, code_of, count_of, is_mode}
+use Rattle.mil_mode.specs.Codes.{transmit_vector_word, transmit_last_command, transmit_bit_word}
 use Rattle.mil_terminal.specs.declared.events.Event.TheVariants.{Quiet}
 use Rattle.mil_terminal.specs.declared.replies.Reply.{Reply}
 use Rattle.mil_terminal.specs.History.{History}
@@ -19,10 +20,10 @@ exactly n words = take n words ++ replicate (n - length words) 0
 -- the data word that a mode command is answered with, if one; h is the history with the quiet
 abbrev pub mode_data : ℕ → ℕ → History → List ℕ
 mode_data own code h =
-    if code == 18 then last_command own h ∷ []
+    if code == transmit_last_command then last_command own h ∷ []
     else if is_busy h then []
-    else if code == 16 then vector h ∷ []
-    else if code == 19 then bit_word own h ∷ []
+    else if code == transmit_vector_word then vector h ∷ []
+    else if code == transmit_bit_word then bit_word own h ∷ []
     else []
 
 -- the data words that follow the status where the window was good: a busy terminal sends the status alone, but for

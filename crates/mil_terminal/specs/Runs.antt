@@ -2,6 +2,7 @@
 use Rattle.std.specs.Prelude.{◌≡◌, ℕ, ◌<◌, ◌≤◌, List, [], ◌∷◌, length, get_or, None}
 use Rattle.mil_word.specs.declared.Line.{Line}
 use Rattle.mil_word.specs.Words.{command_in}
+use Rattle.mil_word.specs.Timing.{contiguous_gap}
 use Rattle.mil_terminal.specs.declared.events.Event.{Event}
 use Rattle.mil_terminal.specs.declared.events.Event.TheVariants.{Heard}
 use Rattle.mil_terminal.specs.History.{History}
@@ -10,7 +11,7 @@ use Rattle.mil_terminal.specs.Station.{Station}
 -- the words of a run as events: the first has this gap, and the others follow at once
 abbrev pub heard : Line → ℕ → List ℕ → List Event
 heard line gap [] = []
-heard line gap (wave ∷ waves) = Heard line wave gap ∷ heard line 20 waves
+heard line gap (wave ∷ waves) = Heard line wave gap ∷ heard line contiguous_gap waves
 
 -- a history after more events, of which the first came first
 abbrev pub met : List Event → History → History

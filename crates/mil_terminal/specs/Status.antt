@@ -2,6 +2,7 @@
 use Rattle.std.specs.Prelude.{ℕ, ◌+◌, Bool, true, false, ◌&&◌, not, if◌then◌else◌, List, codes, unwrap_or}
 use Rattle.mil_status.specs.Status.{status_of, bit_of_name}
 use Rattle.mil_word.specs.Fields.{is_broadcast}
+use Rattle.mil_mode.specs.Codes.{dynamic_bus_control, inhibit_terminal_flag, override_inhibit}
 use Rattle.mil_terminal.specs.declared.conditions.Conditions.{Conditions}
 use Rattle.mil_terminal.specs.History.{History}
 use Rattle.mil_terminal.specs.Host.{requests_service, is_busy, has_subsystem_fault, accepts_control, has_fault}
@@ -13,7 +14,8 @@ use Rattle.mil_terminal.specs.Registers.{latest, is_good_mode, is_flag_inhibited
 -- at once, by a reset (8) afterwards (own choice)
 abbrev pub is_inhibited_for : ℕ → Ended → Bool
 is_inhibited_for own e =
-    if is_good_mode own true 6 e then true else if is_good_mode own true 7 e then false
+    if is_good_mode own true inhibit_terminal_flag e then true else if is_good_mode own true override_inhibit e
+    then false
     else is_flag_inhibited own e.before
 
 -- the conditions that a window sets when it ends
@@ -24,7 +26,7 @@ conditions_at own e = record {
   broadcast = is_broadcast e.window.command;
   busy = is_busy e.before;
   subsystem = has_subsystem_fault e.before;
-  control = is_good_mode own true 0 e && accepts_control e.before;
+  control = is_good_mode own true dynamic_bus_control e && accepts_control e.before;
   terminal = has_fault e.before && not (is_inhibited_for own e);
 }
 

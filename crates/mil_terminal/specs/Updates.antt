@@ -5,6 +5,10 @@ use Rattle.mil_word.specs.declared.Line.{Line}
 use Rattle.mil_word.specs.declared.Line.TheVariants.{A, B}
 use Rattle.mil_word.specs.Words.{same_line}
 use Rattle.mil_word.specs.Fields.{is_broadcast, is_transmit, sub_of, code_of, count_of, is_mode, is_receive}
+use Rattle.mil_word.specs.Fields.{wrap_around}
+use Rattle.mil_mode.specs.Codes.{dynamic_bus_control, synchronize, initiate_self_test, transmitter_shutdown}
+use Rattle.mil_mode.specs.Codes.{override_shutdown, inhibit_terminal_flag, override_inhibit, reset_remote_terminal}
+use Rattle.mil_mode.specs.Codes.{transmit_vector_word, synchronize_with_word, transmit_last_command, transmit_bit_word}
 use Rattle.mil_terminal.specs.Registers.{first_or_zero, is_question}
 use Rattle.mil_terminal.specs.Verdicts.{is_unknown}
 use Rattle.mil_terminal.specs.Marking.{is_set}
@@ -30,13 +34,14 @@ is_code c code = is_mode c && is_transmit c && code_of c == code
 -- whether a transmitter is off after a good command that was heard on the other line or not
 abbrev pub off_after : ℕ → Bool → Bool → Bool
 off_after c heard_on_other off =
-    if is_code c 8 then false
-    else if heard_on_other && is_code c 4 then true
-    else if heard_on_other && is_code c 5 then false
+    if is_code c reset_remote_terminal then false
+    else if heard_on_other && is_code c transmitter_shutdown then true
+    else if heard_on_other && is_code c override_shutdown then false
     else off
 
 abbrev pub inhibited_after : ℕ → Bool → Bool
-inhibited_after c inhibited = if is_code c 6 then true else if is_code c 7 then false else if is_code c 8 then false
+inhibited_after c inhibited = if is_code c inhibit_terminal_flag then true else if is_code c override_inhibit
+    then false else if is_code c reset_remote_terminal then false
     else inhibited
 
 abbrev pub switched : Switches → Line → ℕ → Switches
@@ -47,16 +52,17 @@ switched s line c = record {
 }
 
 abbrev pub inhibited_for : Switches → ℕ → Bool → Bool
-inhibited_for s c good = if good && is_code c 6 then true else if good && is_code c 7 then false else s.inhibited
+inhibited_for s c good = if good && is_code c inhibit_terminal_flag then true
+    else if good && is_code c override_inhibit then false else s.inhibited
 
 abbrev pub synchronized : Synced → ℕ → List ℕ → ℕ → Synced
 synchronized s c words self_test = record {
   sync_word =
-      if is_mode c && not (is_transmit c) && code_of c == 17 then first_or_zero words
-      else if is_code c 1 then 0
-      else if is_code c 8 then 0
+      if is_mode c && not (is_transmit c) && code_of c == synchronize_with_word then first_or_zero words
+      else if is_code c synchronize then 0
+      else if is_code c reset_remote_terminal then 0
       else s.sync_word;
-  bit_word = if is_code c 3 then self_test else s.bit_word;
+  bit_word = if is_code c initiate_self_test then self_test else s.bit_word;
 }
 
 -- the slot of a receive command's words
@@ -78,7 +84,7 @@ conditions_set r c good = record {
   broadcast = is_broadcast c;
   busy = r.host.busy;
   subsystem = r.host.subsystem;
-  control = good && is_code c 0 && r.host.control;
+  control = good && is_code c dynamic_bus_control && r.host.control;
   terminal = r.host.fault && not (inhibited_for r.switches c good);
 }
 
@@ -105,20 +111,21 @@ cut (Some p) r = told r p.command false
 abbrev pub opened : Registers → Line → ℕ → Registers
 opened r line c = record (cut r.window r) {
   window = Some (record { line = line; command = c; phase = Start; words = record { items = [] } });
-  last_command = if is_question r.own c && code_of c == 18 then r.last_command else c;
+  last_command = if is_question r.own c && code_of c == transmit_last_command then r.last_command else c;
 }
 
 -- ---- the reply
 
 abbrev pub put_up_at : Registers → ℕ → List ℕ
-put_up_at r sub = if sub == 30 then slice_index_or r.block 30 [] else slice_index_or r.block (64 + sub) []
+put_up_at r sub = if sub == wrap_around then slice_index_or r.block wrap_around []
+    else slice_index_or r.block (64 + sub) []
 
 abbrev pub mode_data_now : Registers → ℕ → List ℕ
 mode_data_now r code =
-    if code == 18 then r.last_command ∷ []
+    if code == transmit_last_command then r.last_command ∷ []
     else if r.host.busy then []
-    else if code == 16 then r.host.vector ∷ []
-    else if code == 19 then r.synced.bit_word ∷ []
+    else if code == transmit_vector_word then r.host.vector ∷ []
+    else if code == transmit_bit_word then r.synced.bit_word ∷ []
     else []
 
 abbrev pub data_now : Registers → ℕ → List ℕ

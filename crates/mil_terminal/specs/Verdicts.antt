@@ -5,7 +5,9 @@ use Rattle.std.proofs.Common.{zero, suc}
 use Rattle.std.specs.Option.{is_some}
 use Rattle.mil_word.specs.Words.{command_in, data_in}
 use Rattle.mil_word.specs.Fields.{address_of, is_broadcast, is_transmit, sub_of, code_of, count_of, is_mode, is_receive}
+use Rattle.mil_word.specs.Timing.{contiguous_gap, sync_to_parity, transfer_time_out}
 use Rattle.mil_mode.specs.Table.{is_legal_mode, is_broadcast_mode}
+use Rattle.mil_mode.specs.Codes.{first_with_word}
 use Rattle.mil_terminal.specs.declared.events.Event.{Event}
 use Rattle.mil_terminal.specs.declared.events.Event.TheVariants.{Heard, Quiet}
 use Rattle.mil_terminal.specs.History.{History}
@@ -17,19 +19,21 @@ use Rattle.mil_terminal.specs.Windows.{Window, Ended, sender_in}
 abbrev pub words_due : ℕ → ℕ
 words_due c =
     if is_receive c then count_of c
-    else if is_mode c && not (is_transmit c) && nat_le 16 (code_of c) then 1 else 0
+    else if is_mode c && not (is_transmit c) && nat_le first_with_word (code_of c) then 1 else 0
 
 -- these are so many sound data words, each contiguous to the word before, and then a quiet
 abbrev pub are_due_words : ℕ → List Event → Bool
 are_due_words zero (Quiet line ∷ []) = true
-are_due_words (suc n) (Heard line wave gap ∷ items) = gap == 20 && is_some (data_in wave) && are_due_words n items
+are_due_words (suc n) (Heard line wave gap ∷ items) = gap == contiguous_gap && is_some (data_in wave)
+    && are_due_words n items
 are_due_words _ _ = false
 
--- from the middle of the receive command's parity bit to the middle of the first data word's sync at most 570 ticks
--- pass: the gap of the transmit command, the rest of that word, the gap of the sender's status, the rest of the
--- status, and the gap of the data word (own choice, of the limit and of both points)
+-- how long it takes from the middle of the receive command's parity bit to the middle of the first data word's sync:
+-- the gap of the transmit command, the rest of that word, the gap of the sender's status, the rest of the
+-- status, and the gap of the data word
 abbrev pub is_in_time : ℕ → Bool
-is_in_time gap = nat_le (20 + 180 + gap + 180 + 20) 570
+is_in_time gap =
+    nat_le (contiguous_gap + sync_to_parity + gap + sync_to_parity + contiguous_gap) transfer_time_out
 
 abbrev pub is_from : ℕ → Option ℕ → Bool
 is_from sender None = false

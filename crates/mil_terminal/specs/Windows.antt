@@ -7,6 +7,7 @@ use Rattle.std.specs.List.{filter, cons_option}
 use Rattle.mil_word.specs.declared.Line.{Line}
 use Rattle.mil_word.specs.Words.{same_line, value_if, command_in}
 use Rattle.mil_word.specs.Fields.{address_of, is_broadcast, is_transmit, is_mode, is_receive}
+use Rattle.mil_word.specs.Timing.{contiguous_gap}
 use Rattle.mil_terminal.specs.declared.events.Event.{Event}
 use Rattle.mil_terminal.specs.declared.events.Event.TheVariants.{Heard, Quiet, Host}
 use Rattle.mil_terminal.specs.History.{History}
@@ -50,13 +51,17 @@ latest_window own h =
     option_map (λ (o : Line × ℕ). record
     { line = o.0; command = o.1; items = filter (is_on o.0) (since_opening own h) }) (latest_opening own h)
 
--- the terminal that is told to send, where a word follows a receive command at once and is a transmit command to a
--- terminal that is neither this one nor all (4.3.3.6.3)
+-- a transmit command to a terminal that is neither this one nor all
+abbrev pub calls_another : ℕ → ℕ → Bool
+calls_another own c = is_transmit c && not (is_mode c) && not (address_of c == own) && not (is_broadcast c)
+
+-- the terminal that is told to send, where a word follows a receive command at once and calls another terminal to
+-- transmit (4.3.3.6.3)
 abbrev pub sender_called : ℕ → ℕ → ℕ → ℕ → Option ℕ
 sender_called own command wave gap =
-    option_and_then (λ c. value_if
-    (is_receive command && gap == 20 && is_transmit c && not (is_mode c) && not (address_of c == own)
-    && not (is_broadcast c)) (address_of c)) (command_in wave)
+    option_and_then
+    (λ c. value_if (is_receive command && gap == contiguous_gap && calls_another own c) (address_of c))
+    (command_in wave)
 
 -- the sender that the first item calls
 abbrev pub sender_in : ℕ → ℕ → List Event → Option ℕ

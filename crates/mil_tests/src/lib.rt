@@ -1,6 +1,6 @@
 //! The tests of the crates whose names begin with `mil_`: of words, status words, mode codes, messages, planned faults,
-//! host actions, terminals, the trunk, and the bus as its monitor sees it; and of `numerals`. What is expected is
-//! worked out by hand from the rules, or stands in the standard's own tables.
+//! host actions, terminals, the trunk, and the bus as its monitor sees it; and of `numerals` and `text_lines`. What is
+//! expected is worked out by hand from the rules, or stands in the standard's own tables.
 #![tactic(auto)]
 
 #[cfg(test)]
@@ -23,6 +23,8 @@ mod plans;
 mod statuses;
 #[cfg(test)]
 mod terminals;
+#[cfg(test)]
+mod texts;
 #[cfg(test)]
 mod trunks;
 #[cfg(test)]

@@ -3,6 +3,6 @@ use Rattle.std.specs.Prelude.{ℕ, List, codes}
 use Rattle.mil_trunk.specs.declared.error.TrunkError.{TrunkError}
 use Rattle.mil_trunk.specs.declared.error.TrunkError.TheVariants.{Capacity, Memory}
 
-abbrev pub code_of : TrunkError → List ℕ
-code_of Capacity = codes "Q1"
-code_of Memory = codes "Q2"
+abbrev pub fault_code : TrunkError → List ℕ
+fault_code Capacity = codes "Q1"
+fault_code Memory = codes "Q2"

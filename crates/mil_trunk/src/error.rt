@@ -14,9 +14,9 @@ pub enum TrunkError {
 /// `Q1` and `Q2`.
 impl Display for TrunkError {
     ghost use Rattle.std.specs.Prelude.{Some};
-    ghost use Rattle.mil_trunk.specs.Codes.{code_of};
+    ghost use Rattle.mil_trunk.specs.Codes.{fault_code};
 
-    ghost output = { λ fault. Some (code_of fault) };
+    ghost output = { λ fault. Some (fault_code fault) };
 
     fn fmt<W: Write>(&self, f: &mut Formatter<W>) -> fmt::Result {
         f.write_str(match self {

@@ -9,9 +9,12 @@ has_bit place value = value / 2 ^ place % 2 == 1
 abbrev pub address_of : ℕ → ℕ
 address_of value = value / 2 ^ 11
 
--- address 31 is that of all terminals (4.3.3.5.1.2)
+-- the address of all terminals (4.3.3.5.1.2)
+abbrev pub all_terminals : ℕ
+all_terminals = 31
+
 abbrev pub is_broadcast : ℕ → Bool
-is_broadcast command = address_of command == 31
+is_broadcast command = address_of command == all_terminals
 
 -- the T/R bit: a one is 'transmit' (4.3.3.5.1.3)
 abbrev pub is_transmit : ℕ → Bool
@@ -25,13 +28,27 @@ sub_of command = command / 2 ^ 5 % 2 ^ 5
 abbrev pub code_of : ℕ → ℕ
 code_of command = command % 2 ^ 5
 
--- the data word count: all zeros are 32 (4.3.3.5.1.5)
-abbrev pub count_of : ℕ → ℕ
-count_of command = if code_of command == 0 then 32 else code_of command
+-- how many data words a message has at most (4.3.3.5.1.5)
+abbrev pub most_words : ℕ
+most_words = 32
 
--- subaddresses 0 and 31 say that the last field is a mode code (4.3.3.5.1.7)
+-- the data word count: all zeros are the most (4.3.3.5.1.5)
+abbrev pub count_of : ℕ → ℕ
+count_of command = if code_of command == 0 then most_words else code_of command
+
+-- the two subaddresses that say that the last field is a mode code (4.3.3.5.1.7)
+abbrev pub mode_subaddress_of_zeros : ℕ
+mode_subaddress_of_zeros = 0
+
+abbrev pub mode_subaddress_of_ones : ℕ
+mode_subaddress_of_ones = 31
+
 abbrev pub is_mode : ℕ → Bool
-is_mode command = sub_of command == 0 || sub_of command == 31
+is_mode command = sub_of command == mode_subaddress_of_zeros || sub_of command == mode_subaddress_of_ones
+
+-- the subaddress that wraps around: a transmit command there sends what was received there (Notice 2)
+abbrev pub wrap_around : ℕ
+wrap_around = 30
 
 -- a command to receive data words at a subaddress
 abbrev pub is_receive : ℕ → Bool

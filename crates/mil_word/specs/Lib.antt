@@ -1,4 +1,5 @@
 pub mod Wave
 pub mod Words
 pub mod Fields
+pub mod Timing
 pub mod Kept

@@ -9,7 +9,7 @@ use Rattle.ch11_reader.specs.Recording.{Found, holds_messages}
 use Rattle.ch11_reader.specs.Contents.{reading}
 use Rattle.bench_report.specs.Reports.{ChannelPart}
 use Rattle.bench_core.specs.Lawful.{channels_of}
-use Rattle.bench_core.specs.Settled.{kept}
+use Rattle.bench_core.specs.Settled.{kept_records}
 use Rattle.bench_core.proofs.Offers.{map_at}
 use Rattle.replay.specs.Accord.{reported, played, kept_in, is_one, AreOfChannels, AgreesOn, Agrees}
 use Rattle.replay.specs.Differences.{IsWrongChannel, IsStranger, awaited, IsUnlike, IsLeftOver, IsMiscounted, IsAtFault, IsFirstJob, IsFirstDifference}
@@ -24,7 +24,7 @@ behind channels (q ∷ before) p later all = behind channels before p later all.
 pub awaited_all : (job : JobState) (part : ChannelPart) → part.made ≡ length (played job part) → awaited job part ≡ kept_in job part
 awaited_all job part made =
     let short : length (played job part) ≤ part.made = omega (arith, made) in
-    ap (kept part.refused) (take_all part.made (played job part) short)
+    ap (kept_records part.refused) (take_all part.made (played job part) short)
 
 -- an accord leaves no number at fault
 pub faultless : (found : List Found) (job : JobState) (part : ChannelPart) (number : ℕ) → AgreesOn found job part → ¬ IsAtFault found job part number

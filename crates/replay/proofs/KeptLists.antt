@@ -9,7 +9,7 @@ use Rattle.ch11_f1.specs.Again.{as_message}
 use Rattle.ch11_builder.specs.Packet.{Numbered, messages_of}
 use Rattle.ch11_builder.specs.Packet as packet
 use Rattle.ch11_recording.specs.Items.{numbered, numbered_from, last_number}
-use Rattle.bench_core.specs.Settled.{is_kept, kept}
+use Rattle.bench_core.specs.Settled.{is_kept, kept_records}
 use Rattle.bench_core.proofs.Lists.{numbered_more}
 
 -- as messages of a file
@@ -32,17 +32,17 @@ module _ (refused : List ℕ) (n : ℕ) (rs : List Record) (r : Record) (at : sl
       let place : 1 + n ≡ n + 1 = omega arith in
       numbered_more 1 n rs r at ∙ ap (λ (k : ℕ). numbered_from 1 (take n rs) ++ numbered k r ∷ []) place
 
-  split_last : kept refused (take (n + 1) rs) ≡ kept refused (take n rs) ++ cond (not (list_any (λ (k : ℕ). eqb k (n + 1)) refused)) (numbered (n + 1) r ∷ []) []
+  split_last : kept_records refused (take (n + 1) rs) ≡ kept_records refused (take n rs) ++ cond (not (list_any (λ (k : ℕ). eqb k (n + 1)) refused)) (numbered (n + 1) r ∷ []) []
   split_last = ap (filter (is_kept refused)) more ∙ filter-append (is_kept refused) (numbered_from 1 (take n rs)) (numbered (n + 1) r ∷ [])
 
-  pub kept_next : list_any (λ (k : ℕ). eqb k (n + 1)) refused ≡ false → kept refused (take (n + 1) rs) ≡ kept refused (take n rs) ++ numbered (n + 1) r ∷ []
-  kept_next e = split_last ∙ ap (λ (b : Bool). kept refused (take n rs) ++ cond (not b) (numbered (n + 1) r ∷ []) []) e
+  pub kept_next : list_any (λ (k : ℕ). eqb k (n + 1)) refused ≡ false → kept_records refused (take (n + 1) rs) ≡ kept_records refused (take n rs) ++ numbered (n + 1) r ∷ []
+  kept_next e = split_last ∙ ap (λ (b : Bool). kept_records refused (take n rs) ++ cond (not b) (numbered (n + 1) r ∷ []) []) e
 
-  pub kept_same : list_any (λ (k : ℕ). eqb k (n + 1)) refused ≡ true → kept refused (take (n + 1) rs) ≡ kept refused (take n rs)
+  pub kept_same : list_any (λ (k : ℕ). eqb k (n + 1)) refused ≡ true → kept_records refused (take (n + 1) rs) ≡ kept_records refused (take n rs)
   kept_same e =
       split_last
-      ∙ ap (λ (b : Bool). kept refused (take n rs) ++ cond (not b) (numbered (n + 1) r ∷ []) []) e
-      ∙ append-nil (kept refused (take n rs))
+      ∙ ap (λ (b : Bool). kept_records refused (take n rs) ++ cond (not b) (numbered (n + 1) r ∷ []) []) e
+      ∙ append-nil (kept_records refused (take n rs))
 
 -- ---- those behind
 
@@ -169,11 +169,11 @@ last_below low high (suc k) (n ∷ ns) less all = last_below n.number high k ns 
 
 module _ (refused : List ℕ) (rs : List Record) where
   -- the last of more of them has no smaller number
-  pub later_number : (j k : ℕ) → j ≤ k → last_number (take j (kept refused rs)) ≤ last_number (take k (kept refused rs))
-  later_number j k le = last_rises 0 j k (kept refused rs) (filter_rises refused 0 (numbered_from 1 rs) (rises_less 0 1 (numbered_from 1 rs) (omega arith) (numbers_rise 1 rs))) le
+  pub later_number : (j k : ℕ) → j ≤ k → last_number (take j (kept_records refused rs)) ≤ last_number (take k (kept_records refused rs))
+  later_number j k le = last_rises 0 j k (kept_records refused rs) (filter_rises refused 0 (numbered_from 1 rs) (rises_less 0 1 (numbered_from 1 rs) (omega arith) (numbers_rise 1 rs))) le
 
   -- nor one above as many as there are
-  pub number_within : (k : ℕ) → last_number (take k (kept refused rs)) ≤ length rs
+  pub number_within : (k : ℕ) → last_number (take k (kept_records refused rs)) ≤ length rs
   number_within k =
-      let below : last_number (take k (kept refused rs)) < suc (length rs) = last_below 0 (suc (length rs)) k (kept refused rs) (omega arith) (filter_below refused (suc (length rs)) (numbered_from 1 rs) (numbers_below 1 (suc (length rs)) rs (omega arith))) in
+      let below : last_number (take k (kept_records refused rs)) < suc (length rs) = last_below 0 (suc (length rs)) k (kept_records refused rs) (omega arith) (filter_below refused (suc (length rs)) (numbered_from 1 rs) (numbers_below 1 (suc (length rs)) rs (omega arith))) in
       omega (arith, below)

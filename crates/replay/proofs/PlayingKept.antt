@@ -13,7 +13,7 @@ use Rattle.ch11_recording.specs.Items.{numbered, last_number}
 use Rattle.ch11_reader.specs.Recording.{Found}
 use Rattle.ch11_reader.specs.Contents.{reading}
 use Rattle.bench_report.specs.Reports.{ChannelPart}
-use Rattle.bench_core.specs.Settled.{kept}
+use Rattle.bench_core.specs.Settled.{kept_records}
 use Rattle.replay.specs.declared.tracks.Mark.{Mark}
 use Rattle.replay.specs.declared.standings.Standing.{Standing}
 use Rattle.replay.specs.declared.checkpoints.Stop.{Stop}
@@ -34,7 +34,7 @@ module _ (found : List Found) (job : JobState) (part : ChannelPart) where
   rs = played job part
 
   abbrev so_far : ℕ → List Numbered
-  so_far n = kept part.refused (take n rs)
+  so_far n = kept_records part.refused (take n rs)
 
   abbrev own : Pair
   own = record { job = job; part = part }
@@ -45,7 +45,7 @@ module _ (found : List Found) (job : JobState) (part : ChannelPart) where
   first_kept : (n : ℕ) → n ≤ length rs → take (length (so_far n)) (kept_in job part) ≡ so_far n
   first_kept n le =
       let more : HasMore part.refused 1 n (length rs) rs = has_more part.refused 1 n (length rs) rs le in
-      let whole : kept_in job part ≡ so_far n ++ more.later = ap (kept part.refused) (sym (take_all (length rs) rs (omega arith))) ∙ more.is in
+      let whole : kept_in job part ≡ so_far n ++ more.later = ap (kept_records part.refused) (sym (take_all (length rs) rs (omega arith))) ∙ more.is in
       ap (λ (ns : List Numbered). take (length (so_far n)) ns) whole ∙ take-append-le (length (so_far n)) (so_far n) more.later (omega arith) ∙ take_all (length (so_far n)) (so_far n) (omega arith)
 
   -- behind a message that was kept the controller stands behind the last of as many
@@ -121,7 +121,7 @@ module _ (found : List Found) (job : JobState) (part : ChannelPart) where
     playing = passes_at found job part n s.machine next hs rest marks is.playing told;
     heard = is.heard;
     few = omega (arith, is.few);
-    keeping = record { due_is = is.keeping.due_is; count = is.keeping.count; kept = is.keeping.kept };
+    keeping = record { due_is = is.keeping.due_is; count = is.keeping.count; kept_records = is.keeping.kept };
   }
 
   -- the same, where branches of the code join

@@ -15,7 +15,7 @@ use Rattle.ch11_recording.specs.Items.{numbered, last_number}
 use Rattle.ch11_reader.specs.Recording.{Found}
 use Rattle.ch11_reader.specs.Contents.{reading}
 use Rattle.bench_report.specs.Reports.{ChannelPart}
-use Rattle.bench_core.specs.Settled.{kept}
+use Rattle.bench_core.specs.Settled.{kept_records}
 use Rattle.bench_core.proofs.Offers.{map_at}
 use Rattle.replay.specs.Accord.{played, kept_in, AgreesOn}
 use Rattle.replay.specs.Differences.{awaited, IsUnlike, IsLeftOver, IsMiscounted, IsAtFault, IsFirstFault}
@@ -33,7 +33,7 @@ module _ (found : List Found) (job : JobState) (part : ChannelPart) where
   rs = played job part
 
   abbrev pub so_far : ℕ → List Numbered
-  so_far n = kept part.refused (take n rs)
+  so_far n = kept_records part.refused (take n rs)
 
   -- ---- one message more
 
@@ -62,18 +62,18 @@ module _ (found : List Found) (job : JobState) (part : ChannelPart) where
 
   pub keeps : (n : ℕ) (m next : MachineState) (hs rest : List Message) (states : List Mark) (mark : Mark) → IsPlaying found job part n m hs states → IsKept job part n next hs rest
       → IsMarked job part (n + 1) mark → IsPlaying found job part (n + 1) next rest (states ++ mark ∷ [])
-  keeps n m next hs rest states mark is kept marked = record {
-    there = kept.there;
+  keeps n m next hs rest states mark is kept_records marked = record {
+    there = kept_records.there;
     read =
         is.read
-        ∙ ap (λ (xs : List Message). heard (so_far n) ++ xs) kept.heard_is
-        ∙ sym (append_assoc (heard (so_far n)) (as_message kept.message ∷ []) rest)
-        ∙ ap (λ (xs : List Message). xs ++ rest) (sym (heard_both (so_far n) (numbered (n + 1) kept.message ∷ [])) ∙ ap heard (sym longer));
-    all = subst (λ (ns : List Numbered). AreMarks job part ns (states ++ mark ∷ [])) (sym longer) (more_states (so_far n) (numbered (n + 1) kept.message) states mark is.all marked);
+        ∙ ap (λ (xs : List Message). heard (so_far n) ++ xs) kept_records.heard_is
+        ∙ sym (append_assoc (heard (so_far n)) (as_message kept_records.message ∷ []) rest)
+        ∙ ap (λ (xs : List Message). xs ++ rest) (sym (heard_both (so_far n) (numbered (n + 1) kept_records.message ∷ [])) ∙ ap heard (sym longer));
+    all = subst (λ (ns : List Numbered). AreMarks job part ns (states ++ mark ∷ [])) (sym longer) (more_states (so_far n) (numbered (n + 1) kept_records.message) states mark is.all marked);
   }
     where
-      longer : so_far (n + 1) ≡ so_far n ++ numbered (n + 1) kept.message ∷ []
-      longer = kept_next part.refused n rs kept.message kept.comes kept.listed
+      longer : so_far (n + 1) ≡ so_far n ++ numbered (n + 1) kept_records.message ∷ []
+      longer = kept_next part.refused n rs kept_records.message kept_records.comes kept_records.listed
 
   pub passes : (n : ℕ) (m next : MachineState) (hs rest : List Message) (states : List Mark) → IsPlaying found job part n m hs states → IsPassed job part n next hs rest
       → IsPlaying found job part (n + 1) next rest states
@@ -153,7 +153,7 @@ module _ (found : List Found) (job : JobState) (part : ChannelPart) where
       (inr (inl (record { more = omega (arith, longer); number_is = refl })))
 
   whole : part.made ≡ length rs → so_far part.made ≡ kept_in job part
-  whole all = ap (kept part.refused) (take_all part.made rs (omega (arith, all)))
+  whole all = ap (kept_records part.refused) (take_all part.made rs (omega (arith, all)))
 
   -- all was played, and the file has nothing more
   pub accords : reading found job.channel ≡ heard (so_far part.made) ++ [] → part.made ≡ length rs → AgreesOn found job part
@@ -170,8 +170,8 @@ module _ (found : List Found) (job : JobState) (part : ChannelPart) where
   pub keeps_at : (n : ℕ) (m next : MachineState) (mark : Mark) (hs rest : List Message) (states others : List Mark) → IsPlaying found job part n m hs states
       → IsKept job part m.point.number next hs rest → mark.number ≡ next.point.number → mark.last ≡ next.point.last → others ≡ states ++ mark ∷ []
       → IsPlaying found job part (n + 1) next rest others
-  keeps_at n m next mark hs rest states others is kept number last pushed =
-      let here : IsKept job part n next hs rest = subst (λ (k : ℕ). IsKept job part k next hs rest) is.there.number_is kept in
+  keeps_at n m next mark hs rest states others is kept_records number last pushed =
+      let here : IsKept job part n next hs rest = subst (λ (k : ℕ). IsKept job part k next hs rest) is.there.number_is kept_records in
       subst (λ (ms : List Mark). IsPlaying found job part (n + 1) next rest ms) (sym pushed)
       (keeps n m next hs rest states mark is here (record { machine = next; there = here.there; number_is = number; last_is = last }))
 

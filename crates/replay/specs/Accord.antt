@@ -10,7 +10,7 @@ use Rattle.ch11_reader.specs.Recording.{Found, holds_messages}
 use Rattle.ch11_reader.specs.Contents.{reading}
 use Rattle.bench_report.specs.Reports.{ChannelPart}
 use Rattle.bench_core.specs.Lawful.{channels_of}
-use Rattle.bench_core.specs.Settled.{kept}
+use Rattle.bench_core.specs.Settled.{kept_records}
 
 -- the channels of a report, in its order
 abbrev pub reported : List ChannelPart → List ℕ
@@ -22,7 +22,7 @@ played job part = records (job_in job) part.placed
 
 -- those that the report does not list as refused, each with its number, counted from 1
 abbrev pub kept_in : JobState → ChannelPart → List Numbered
-kept_in job part = kept part.refused (played job part)
+kept_in job part = kept_records part.refused (played job part)
 
 -- one of these channels has the number
 abbrev pub is_one : List ℕ → ℕ → Bool

@@ -11,7 +11,7 @@ use Rattle.ch11_reader.specs.Recording.{Found, holds_messages}
 use Rattle.ch11_reader.specs.Contents.{reading}
 use Rattle.bench_report.specs.Reports.{ChannelPart}
 use Rattle.bench_core.specs.Lawful.{channels_of}
-use Rattle.bench_core.specs.Settled.{kept}
+use Rattle.bench_core.specs.Settled.{kept_records}
 use Rattle.replay.specs.Accord.{reported, played, is_one, AreOfChannels, AgreesOn, Agrees}
 
 -- ---- of the channels
@@ -43,7 +43,7 @@ pub record IsStranger (jobs : List ℕ) (found : List Found) (channel : ℕ) : T
 
 -- the records that should be in the file, as far as the report says that messages were made
 abbrev pub awaited : JobState → ChannelPart → List Numbered
-awaited job part = kept part.refused (take part.made (played job part))
+awaited job part = kept_records part.refused (take part.made (played job part))
 
 -- a kept number whose record in the file is another or is missing
 pub record IsUnlike (found : List Found) (job : JobState) (part : ChannelPart) (number : ℕ) : Type 0 where

@@ -11,7 +11,7 @@ use Rattle.ch11_builder.specs.Packet.{messages_of}
 use Rattle.ch11_reader.specs.Recording.{Found}
 use Rattle.ch11_reader.specs.Contents.{reading}
 use Rattle.bench_report.specs.Reports.{ChannelPart}
-use Rattle.bench_core.specs.Settled.{kept}
+use Rattle.bench_core.specs.Settled.{kept_records}
 use Rattle.replay.specs.declared.error.ReplayError.{ReplayError}
 use Rattle.replay.specs.declared.error.ReplayError.TheVariants as error
 use Rattle.replay.specs.declared.playing.Played.{Played}
@@ -51,10 +51,10 @@ pub record IsOther (job : JobState) (part : ChannelPart) (n : ℕ) (heard : List
   pub other : slice_get heard 0 ≢ Some (as_message message)
 
 -- what is told of the message behind so many
-abbrev pub Tells : JobState → ChannelPart → ℕ → Played → MachineState → List Message → List Message → Type 0
-Tells job part n Kept m heard rest = IsKept job part n m heard rest
-Tells job part n Refused m heard rest = IsPassed job part n m heard rest
-Tells job part n Unlike m heard rest = (n ≡ length (played job part)) ⊎ IsOther job part n heard
+abbrev pub TellsMessage : JobState → ChannelPart → ℕ → Played → MachineState → List Message → List Message → Type 0
+TellsMessage job part n Kept m heard rest = IsKept job part n m heard rest
+TellsMessage job part n Refused m heard rest = IsPassed job part n m heard rest
+TellsMessage job part n Unlike m heard rest = (n ≡ length (played job part)) ⊎ IsOther job part n heard
 
 -- the job makes no more, and the file has no more
 abbrev pub IsOver : JobState → ChannelPart → ℕ → List Message → Type 0
@@ -71,8 +71,8 @@ pub record IsPlaying (found : List Found) (job : JobState) (part : ChannelPart) 
     (heard : List Message) (marks : List Mark) : Type 0 where
   pub there : IsThere job part n m
   pub read : reading found job.channel
-      ≡ map as_message (messages_of (kept part.refused (take n (played job part)))) ++ heard
-  pub all : AreMarks job part (kept part.refused (take n (played job part))) marks
+      ≡ map as_message (messages_of (kept_records part.refused (take n (played job part)))) ++ heard
+  pub all : AreMarks job part (kept_records part.refused (take n (played job part))) marks
 
 -- Y1 only at the first number at fault, or want of memory
 abbrev pub FailsAt : List Found → JobState → ChannelPart → ReplayError → Type 0

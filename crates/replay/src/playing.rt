@@ -5,7 +5,7 @@ ghost use Rattle.job_file.specs.Jobs.{tree_in};
 ghost use Rattle.replay.specs.Accord.{AgreesOn, kept_in};
 ghost use Rattle.replay.specs.Tracks.{IsThere, AreMarks};
 ghost use Rattle.replay.specs.Places.{heard_channels};
-ghost use Rattle.replay.specs.Playing.{Tells, IsOver, GoesOn, FailsAt};
+ghost use Rattle.replay.specs.Playing.{TellsMessage, IsOver, GoesOn, FailsAt};
 ghost use Rattle.replay.specs.Keeping.{AreSpaced, AddsStates};
 
 use crate::checkpoints::{Due, Stop};
@@ -37,7 +37,7 @@ fn play_next(
     heard: &mut ChannelMessages<'_, '_>,
 ) -> Played
     requires { IsThere job.now part.now machine.old.point.number machine.old }
-    ensures { Tells job.now part.now machine.old.point.number result machine.new heard.old heard.new }
+    ensures { TellsMessage job.now part.now machine.old.point.number result machine.new heard.old heard.new }
 {
     // Its contract says that the script is sound.
     let _sound = job.program();

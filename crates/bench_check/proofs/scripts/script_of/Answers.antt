@@ -3,7 +3,8 @@ use Rattle.std.specs.Prelude.{Some, true, false}
 use Rattle.std.specs.List.{before_first}
 use Rattle.std.proofs.lemmas.Bool.Decides.{nat_tests}
 use Rattle.job_file.specs.Lines.{said}
-use Rattle.job_file.specs.Spelled.{is_line_end, is_script}
+use Rattle.job_file.specs.Spelled.{is_script}
+use Rattle.text_lines.specs.Lines.{is_line_end}
 use Rattle.bench_check.specs.Scripts.{script_in}
 use Rattle.bench_check.proofs.Heads.{found, passed, none_left}
 use Rattle.bench_check.proofs.scripts.script_of.Goals as goal

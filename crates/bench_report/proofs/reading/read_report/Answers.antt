@@ -1,6 +1,6 @@
 use Rattle.std.proofs.Common.{◌≡◌, refl, arith}
 use Rattle.std.specs.Prelude.{None, Some}
-use Rattle.bench_report.specs.Spelling.{text_lines}
+use Rattle.text_lines.specs.Lines.{text_lines}
 use Rattle.bench_report.specs.Drafts.{no_lines, with_lines}
 use Rattle.bench_report.proofs.Drafted.{spelled}
 use Rattle.bench_report.proofs.Taken.{spells_none}

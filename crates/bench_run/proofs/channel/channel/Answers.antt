@@ -1,6 +1,6 @@
 use Rattle.std.proofs.Common.{arith, ap, sym, ◌∙◌, ◌≡◌, ◌≤◌, ◌-◌, ◌++◌, [], length, subst, refl}
 use Rattle.std.specs.Prelude.{Some, slice_get}
-use Rattle.frame_asm.specs.Shapes.{code_of}
+use Rattle.frame_asm.specs.Shapes.{code_of_tree}
 use Rattle.frame_load.specs.Budget.{worst_messages}
 use Rattle.mil_trunk.specs.Tags.{has, bound_of}
 use Rattle.mil_trunk.specs.Ends.{tags_of, bounds_of}
@@ -49,7 +49,7 @@ offer_message-requires-clause-bound g c κs within =
     let new = c.next_record.new.machine in
     let posted = c.place_all.ensures.posted room.posts.left (received_by room.posts.inbox) job c.messages.invariant.stage.posted in
     let of = c.next_record.ensures.of_job (job_in job) (job.actions ++ posted.posts) posted.of in
-    let top : new.point.number ≤ worst_messages (code_of (tree_in job)).operations = subst (λ code. new.point.number ≤ worst_messages code.operations) of.code of.under_way.messages in
+    let top : new.point.number ≤ worst_messages (code_of_tree (tree_in job)).operations = subst (λ code. new.point.number ≤ worst_messages code.operations) of.code of.under_way.messages in
     let bound : bound_of (bounds_of c.messages.ticket) c.args.index ≡ most_items job = ap (λ l. bound_of l c.args.index) c.messages.invariant.stage.so_far.bounds ∙ c.requires.bound in
     omega (arith, top, bound, c.number-number.ensures.value)
 
@@ -60,7 +60,7 @@ offer_message-requires-clause-room g c κs within =
     let new = c.next_record.new.machine in
     let posted = c.place_all.ensures.posted room.posts.left (received_by room.posts.inbox) job c.messages.invariant.stage.posted in
     let of = c.next_record.ensures.of_job (job_in job) (job.actions ++ posted.posts) posted.of in
-    let top : new.point.number ≤ worst_messages (code_of (tree_in job)).operations = subst (λ code. new.point.number ≤ worst_messages code.operations) of.code of.under_way.messages in
+    let top : new.point.number ≤ worst_messages (code_of_tree (tree_in job)).operations = subst (λ code. new.point.number ≤ worst_messages code.operations) of.code of.under_way.messages in
     omega (arith, top, c.requires.room.capacity, c.messages.invariant.room, c.number-number.ensures.value)
 
 pub offer_message-requires-clause-recorded : goal.offer_message-requires-clause-recorded
@@ -101,7 +101,7 @@ offer_end-requires-clause-bound g c κs within =
     let stage = c.messages.invariant.stage in
     let of = stage.posted.of in
     let st = stage.so_far in
-    let top : n ≤ worst_messages (code_of (tree_in job)).operations = subst (λ code. n ≤ worst_messages code.operations) of.code of.under_way.messages in
+    let top : n ≤ worst_messages (code_of_tree (tree_in job)).operations = subst (λ code. n ≤ worst_messages code.operations) of.code of.under_way.messages in
     let bound : bound_of (bounds_of c.messages.ticket) c.args.index ≡ most_items job = ap (λ l. bound_of l c.args.index) st.bounds ∙ c.requires.bound in
     let few = few_sent c.args.trunk.now (tags_of c.args.ticket) (bounds_of c.args.ticket) c.args.index (with_posts job stage.posted.posts) n c.messages.ticket c.messages.refused.items st in
     omega (arith, top, bound, few)
@@ -124,7 +124,7 @@ returns g c =
     let of = posted.of in
     let whole : n ≡ length (records_of live) = c.in_default.ensures.all (job_in job) (job.actions ++ posted.posts) c.program-sound.ensures.sound posted.of in
     let made : c.number-2.result ≡ n = c.number-2.ensures.value ∙ c.in_default.ensures.same in
-    let top : n ≤ worst_messages (code_of (tree_in job)).operations = subst (λ code. n ≤ worst_messages code.operations) of.code of.under_way.messages in
+    let top : n ≤ worst_messages (code_of_tree (tree_in job)).operations = subst (λ code. n ≤ worst_messages code.operations) of.code of.under_way.messages in
     let end = c.offer_end.ensures in
     let part = c.channel_report.ensures in
     record {

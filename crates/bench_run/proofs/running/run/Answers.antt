@@ -1,5 +1,5 @@
 use Rattle.std.proofs.Common.{[], subst}
-use Rattle.bench_core.specs.declared.settings.WorldError.TheVariants as fault
+use Rattle.bench_core.specs.declared.error.WorldError.TheVariants as fault
 use Rattle.bench_core.specs.Lawful.{format_of, Refuses}
 use Rattle.ch11_recording.specs.WrittenFile.{written_file}
 use Rattle.bench_run.proofs.Beginning.{nothing_taken}

@@ -8,7 +8,7 @@ use Rattle.mil_trunk.specs.Views.{with_tag}
 use Rattle.mil_trunk.proofs.Tagging.{with_tag-append}
 use Rattle.job_file.specs.Jobs.{JobState}
 use Rattle.ch11_builder.specs.Packet.{Numbered}
-use Rattle.bench_core.specs.Settled.{kept}
+use Rattle.bench_core.specs.Settled.{kept_records}
 use Rattle.bench_run.specs.declared.entry.Entry.{Entry}
 use Rattle.bench_mail.specs.declared.mailbox.Mailbox.{Mailbox}
 use Rattle.bench_mail.specs.declared.mailbox.Inbox.{Inbox}
@@ -66,7 +66,7 @@ loop-handle-preserved g c =
     let first = row_first (λ k h. IsPromised c.args.trunk.now bounds jobs most boxes inboxes (n + k) h.promise) _ _ c.in-Some.handle step.0 was.promised in
     let here : IsPromised c.args.trunk.now bounds jobs most boxes inboxes n p = let n0 : n + 0 ≡ n = omega arith in subst (λ m. IsPromised c.args.trunk.now bounds jobs most boxes inboxes m p) n0 first in
     let e = one.ended.2 in
-    let rs : List Numbered = kept new.part.refused (records_of (with_posts p.job.now e.posts)) in
+    let rs : List Numbered = kept_records new.part.refused (records_of (with_posts p.job.now e.posts)) in
     let mine : List Entry = entries_to_the_end n rs in
     let old : List Entry = sent c.loop-handle.rest in
     let now : List Entry = sent c.join_one.new.rest in

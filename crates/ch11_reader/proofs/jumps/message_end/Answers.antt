@@ -3,7 +3,7 @@ use Rattle.std.proofs.lemmas.Bool.{ne_eqb}
 use Rattle.std.proofs.lemmas.List.{take_rest}
 use Rattle.byteorder.specs.Endian.{little_number}
 use Rattle.ch11_f1.specs.BodyReading.{messages_at}
-use Rattle.ch11_reader.specs.Walking.{between, verdict}
+use Rattle.ch11_reader.specs.Walking.{between, body_verdict}
 use Rattle.ch11_reader.proofs.Walks.{cut_in_head, odd_length, cut_in_words, leads_one}
 use Rattle.ch11_reader.proofs.jumps.message_end.Goals as goal
 
@@ -26,4 +26,4 @@ returns-clause-leads c end left after within =
     let place = c.args.place in
     let size : little_number 2 (drop (c.args.place + 12) c.args.file.now) ≡ c.read_u16-size.result = sym (c.read_u16-size.ensures ∙ ap (little_number 2) (take_rest c.args.file.now (c.args.place + 12))) in
     let next : place + (14 + c.read_u16-size.result) ≡ place + 14 + c.read_u16-size.result = omega arith in
-    leads_one file place c.read_u16-size.result size (ne_eqb (c.read_u16-size.result % 2) 1 c.if-size-eq1.false) end left (omega (arith, after)) within ∙ ap (λ (n : ℕ). verdict (messages_at left (between n end file))) next
+    leads_one file place c.read_u16-size.result size (ne_eqb (c.read_u16-size.result % 2) 1 c.if-size-eq1.false) end left (omega (arith, after)) within ∙ ap (λ (n : ℕ). body_verdict (messages_at left (between n end file))) next

@@ -2,7 +2,7 @@ use Rattle.std.proofs.Common.{◌≡◌, ◌+◌, ◌*◌, ◌^◌, ◌<◌, ◌
 use Rattle.std.proofs.lemmas.List.{length-set}
 use Rattle.std.proofs.lemmas.Option.{slice_get-get_or}
 use Rattle.frame_code.specs.declared.Op.TheVariants.{Halt, Return}
-use Rattle.frame_load.specs.Budget.{Sums, called}
+use Rattle.frame_load.specs.Budget.{Sums, cost_called}
 use Rattle.frame_load.specs.Marks.{counted}
 use Rattle.frame_load.proofs.Marks.{range_at}
 use Rattle.frame_load.proofs.Shallow.{call_low, owner_low}
@@ -69,7 +69,7 @@ loop-i-preserved c =
       | in-Return v ↦
           let here = at ∙ ap Some v.in-Return.is in
           let few : c.loop-i.routine < length c.loop-i.ended = omega (arith, g.long, g.number, up_owner os i here, owner_low os c.requires.routines (i + 1) (omega (arith, c.loop-i-test.true))) in
-          let none : c.called.result ≡ 0 = c.called.ensures ∙ ap (λ z. called z c.loop-i.ended) v.in-Return.is in
+          let none : c.called.result ≡ 0 = c.called.ensures ∙ ap (λ z. cost_called z c.loop-i.ended) v.in-Return.is in
           let whole = end_is cap some cost os i c.loop-i.now c.added-now.result w c.called.result here g.now mark none (sum ∙ ap (λ z. min (c.loop-i.now + w * (cost z + c.called.result)) cap) v.in-Return.is) in
           record {
             now = v.now-is ∙ ap (min cap) (sym (ap (λ (z : Sums). z.now) (sums_next cap some cost os i Return here)));

@@ -5,7 +5,7 @@ use Rattle.std.proofs.lemmas.Result.{IfOk-at_ok, IfErr-at_err}
 use Rattle.job_file.specs.Lines.{said}
 use Rattle.job_file.specs.Reading.{AreInRange}
 use Rattle.job_file.proofs.HeadLemmas.{spelled_left, nothing_left, script_taken, script_fits, line_taken, line_refused, fit_at_first}
-use Rattle.mil_host.specs.Words.{words}
+use Rattle.text_lines.specs.Words.{words}
 use Rattle.job_file.specs.HeadLines.{head_of}
 use Rattle.job_file.specs.Drafts.{shown}
 use Rattle.job_file.specs.Faults.{are_line_words, IsLineRefused}

@@ -2,7 +2,7 @@ use Rattle.std.proofs.Common.{◌≡◌, ◌+◌, refl, arith}
 use Rattle.std.specs.Prelude.{Some, None, Ok, Err}
 use Rattle.std.proofs.lemmas.Bool.{ne_eqb}
 use Rattle.judge_rules.specs.Lines.{said}
-use Rattle.judge_rules.specs.Texts.{text_lines}
+use Rattle.text_lines.specs.Lines.{text_lines}
 use Rattle.judge_rules.specs.Rules.{rules_from}
 use Rattle.judge_rules.proofs.Prefixes.{from-fault, from-many, from-none, from-rule, fits-more}
 use Rattle.judge_rules.proofs.reading.fault_or_memory.Goals as goal

@@ -1,6 +1,6 @@
 use Rattle.std.proofs.Common.{◌+◌, ◌≤◌, length}
 use Rattle.judge_rules.specs.declared.fault.RuleError.{RuleError}
-use Rattle.judge_rules.specs.Texts.{text_lines}
+use Rattle.text_lines.specs.Lines.{text_lines}
 use Rattle.judge_rules.specs.Rules.{rules_from, FitsAt}
 use Rattle.judge_rules.proofs.reading.fault_or_memory.Given as goal
 

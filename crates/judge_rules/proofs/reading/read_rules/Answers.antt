@@ -3,7 +3,7 @@ use Rattle.std.proofs.lemmas.Bool.{ne_eqb}
 use Rattle.std.proofs.lemmas.Bool.Decides.{nat_tests}
 use Rattle.std.specs.Prelude.{Some, None, Ok, Err}
 use Rattle.judge_rules.specs.Lines.{said}
-use Rattle.judge_rules.specs.Texts.{text_lines}
+use Rattle.text_lines.specs.Lines.{text_lines}
 use Rattle.judge_rules.specs.Rules.{rules_from, rules_in}
 use Rattle.judge_rules.proofs.Prefixes.{from-fault, from-many, from-none, from-rule, fits-whole, prefixed}
 use Rattle.judge_rules.proofs.reading.read_rules.Goals as goal

@@ -1,5 +1,5 @@
 use Rattle.std.proofs.Common.{◌≡◌, ◌+◌, ◌≤◌, length}
-use Rattle.judge_rules.specs.Texts.{text_lines}
+use Rattle.text_lines.specs.Lines.{text_lines}
 use Rattle.judge_rules.specs.Rules.{rules_from}
 use Rattle.judge_rules.proofs.Prefixes.{prefixed}
 use Rattle.judge_rules.proofs.reading.read_rules.Given as goal

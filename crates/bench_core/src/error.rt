@@ -1,0 +1,71 @@
+//! Why nothing was run, and why steps were not played to their end.
+use std::error::Error;
+use std::fmt::{self, Display, Formatter, Write};
+
+/// Why steps were not played to their end.
+#[derive(Clone, Copy, Debug, PartialEq, Eq)]
+pub enum PlayError {
+    /// O1: a step is of a channel that there is not. Nothing was done.
+    Index,
+    /// O2: memory was refused at the step behind so many, which are done.
+    Memory {
+        /// How many steps are done.
+        done: usize,
+    },
+    /// O3: an action is posted to an address at which its channel has no terminal. Nothing was done.
+    NoTerminal,
+    /// O4: with these steps a channel would have more posts than the settings allow since the world was made. Nothing
+    /// was done.
+    Posts,
+}
+
+/// `O1`, `O2`, `O3`, `O4`.
+impl Display for PlayError {
+    ghost use Rattle.std.specs.Prelude.{Some};
+    ghost use Rattle.bench_core.specs.World.{play_code};
+
+    ghost output = { λ e. Some (play_code e) };
+
+    fn fmt<W: Write>(&self, f: &mut Formatter<W>) -> fmt::Result {
+        f.write_str(match self {
+            PlayError::Index => "O1",
+            PlayError::Memory { .. } => "O2",
+            PlayError::NoTerminal => "O3",
+            PlayError::Posts => "O4",
+        })
+    }
+}
+
+impl Error for PlayError {}
+
+/// Why nothing was run.
+#[derive(Clone, Copy, Debug, PartialEq, Eq)]
+pub enum WorldError {
+    /// U2: there is no job or more than 32, or a setting is out of its range.
+    Settings,
+    /// U1: two jobs have the same channel.
+    ChannelTwice,
+    /// U5: the prologue is not a list of sound packets, or has one of MIL-STD-1553 messages.
+    Prologue,
+    /// U3: memory was refused.
+    Memory,
+}
+
+/// `U2`, `U1`, `U5`, `U3`.
+impl Display for WorldError {
+    ghost use Rattle.std.specs.Prelude.{Some};
+    ghost use Rattle.bench_core.specs.Lawful.{fault_code};
+
+    ghost output = { λ e. Some (fault_code e) };
+
+    fn fmt<W: Write>(&self, f: &mut Formatter<W>) -> fmt::Result {
+        f.write_str(match self {
+            WorldError::Settings => "U2",
+            WorldError::ChannelTwice => "U1",
+            WorldError::Prologue => "U5",
+            WorldError::Memory => "U3",
+        })
+    }
+}
+
+impl Error for WorldError {}

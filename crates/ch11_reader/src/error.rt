@@ -1,0 +1,97 @@
+//! Why a recording can't be read.
+ghost use Rattle.std.specs.Prelude.{◌≡◌};
+ghost use Rattle.ch11_reader.specs.declared.error.ReadError.TheVariants.{Memory};
+
+use ch11_f1::BodyError;
+use ch11_header::HeaderError;
+use std::alloc::{AllocError, AllocFailed};
+use std::fmt;
+
+/// What is wrong with a packet. The header is judged first, then the packet's end, then its body.
+#[derive(Clone, Copy, Debug, PartialEq, Eq)]
+pub enum Fault {
+    /// K1 to K5: no header stands there.
+    Header(HeaderError),
+
+    /// N2: the file ends before the packet does.
+    End,
+
+    /// F1 to F3: the body of a packet of messages can't be read.
+    Body(BodyError),
+}
+
+/// The first fault of a recording.
+#[derive(Clone, Copy, Debug, PartialEq, Eq)]
+pub struct Refusal {
+    /// Where the packet begins, in bytes from the start of the file.
+    pub offset: usize,
+
+    /// What is wrong with it.
+    pub fault: Fault,
+}
+
+/// Why no index was built.
+#[derive(Clone, Copy, Debug, PartialEq, Eq)]
+pub enum ReadError {
+    /// K1 to K5, N2 and F1 to F3, each with the packet's offset.
+    Refused(Refusal),
+
+    /// N1: the recording can be read, but memory for its index was refused.
+    Memory,
+}
+
+impl fmt::Display for Fault {
+    ghost use Rattle.std.specs.Prelude.{Some};
+    ghost use Rattle.ch11_reader.specs.Codes.{fault_code};
+
+    ghost output = { λ e. Some (fault_code e) };
+
+    fn fmt<W: fmt::Write>(&self, f: &mut fmt::Formatter<W>) -> fmt::Result {
+        match self {
+            Fault::Header(fault) => write!(f, "{fault}"),
+            Fault::End => write!(f, "N2"),
+            Fault::Body(fault) => write!(f, "{fault}"),
+        }
+    }
+}
+
+impl fmt::Display for Refusal {
+    ghost use Rattle.std.specs.Prelude.{Some};
+    ghost use Rattle.ch11_reader.specs.Codes.{refusal_text};
+
+    ghost output = { λ e. Some (refusal_text e) };
+
+    fn fmt<W: fmt::Write>(&self, f: &mut fmt::Formatter<W>) -> fmt::Result {
+        write!(f, "{} offset {}", self.fault, self.offset)
+    }
+}
+
+impl fmt::Display for ReadError {
+    ghost use Rattle.std.specs.Prelude.{Some};
+    ghost use Rattle.ch11_reader.specs.Codes.{error_text};
+
+    ghost output = { λ e. Some (error_text e) };
+
+    fn fmt<W: fmt::Write>(&self, f: &mut fmt::Formatter<W>) -> fmt::Result {
+        match self {
+            ReadError::Refused(refusal) => write!(f, "{refusal}"),
+            ReadError::Memory => write!(f, "memory"),
+        }
+    }
+}
+
+impl From<AllocError> for ReadError {
+    ghost from_gives = { λ _ e. e ≡ Memory };
+
+    fn from(_e: AllocError) -> ReadError {
+        ReadError::Memory
+    }
+}
+
+impl<T: Drop> From<AllocFailed<T>> for ReadError {
+    ghost from_gives = { λ _ e. e ≡ Memory };
+
+    fn from(_e: AllocFailed<T>) -> ReadError {
+        ReadError::Memory
+    }
+}

@@ -1,0 +1,10 @@
+use Rattle.std.proofs.Common.{refl, sym, arith, length}
+use Rattle.std.proofs.lemmas.List.Sums.{position_or_len_is}
+use Rattle.text_lines.specs.Lines.{is_line_end}
+use Rattle.text_lines.proofs.lines.line_len.Goals as goal
+
+pub returns-then-byte-eq10-clause-value : goal.returns-then-byte-eq10-clause-value
+returns-then-byte-eq10-clause-value c = sym (position_or_len_is is_line_end c.args.text.now c.loop-i.i 0 (omega arith) c.loop-i.invariant (λ lt. rw c.if-byte-eq10.true refl))
+
+pub returns-clause-value : goal.returns-clause-value
+returns-clause-value c = sym (position_or_len_is is_line_end c.args.text.now (length c.args.text.now) 0 (omega arith) (λ k lt. c.loop-i.invariant k (omega arith)) (λ lt. absurd (omega arith)))

@@ -1,0 +1,10 @@
+//! The lines of a text and the words of a line, for every text that the bench reads: jobs, reports, rules, actions and
+//! the lines of a session. LF ends a line, and spaces alone part words (own choice).
+//! Its tests are in `mil_tests`.
+#![tactic(auto)]
+
+mod lines;
+mod words;
+
+pub use lines::{next_line, split_line, without_end};
+pub use words::{Words, next_word, split_word};

@@ -1,0 +1,115 @@
+//! The words of a text, one after the other.
+ghost use Rattle.std.specs.Prelude.{◌≡◌, ◌≤◌, ◌<◌, [], ◌∷◌, List, length, drop, slice_get, slice_index, false};
+ghost use Rattle.std.specs.Prelude.{MatchOption, if◌then◌else◌};
+ghost use Rattle.std.specs.Option.{option_copied};
+ghost use Rattle.std.specs.List.{position_or_len};
+ghost use Rattle.text_lines.specs.Words.{begins_with, behind_word, first_word, from_word, is_space, words};
+
+use std::marker::Model;
+
+/// The words that are left of a text. Spaces part them.
+#[derive(Drop)]
+pub struct Words<'a> {
+    rest: &'a [u8],
+}
+
+impl<'a> Model for Words<'a> {
+    ghost use Rattle.std.specs.Prelude.{List, ℕ};
+    ghost use Rattle.text_lines.specs.Words.{words};
+
+    ghost Value = { List (List ℕ) };
+
+    ghost view = { λ w. words w.rest.now };
+}
+
+impl<'a> Words<'a> {
+    /// The words of the text.
+    pub fn of(text: &'a [u8]) -> Words<'a>
+        ensures { result ≡ words text.now }
+    {
+        Words { rest: text }
+    }
+
+    /// The next word, if one is left.
+    pub fn next(&mut self) -> Option<&'a [u8]>
+        ensures word { option_copied result ≡ slice_get self.old 0 }
+        ensures rest { self.new ≡ drop 1 self.old }
+    {
+        match next_word(self.rest) {
+            Some((word, rest)) => {
+                self.rest = rest;
+                Some(word)
+            }
+            None => None,
+        }
+    }
+
+    /// Takes the next word where it is this one.
+    pub fn takes(&mut self, keyword: &[u8]) -> bool
+        ensures answer { result ≡ begins_with keyword.now self.old }
+        ensures rest { self.new ≡ (if result then drop 1 self.old else self.old) }
+    {
+        match next_word(self.rest) {
+            Some((word, rest)) => {
+                if word == keyword {
+                    self.rest = rest;
+                    return true;
+                }
+                false
+            }
+            None => false,
+        }
+    }
+}
+
+/// The first word of a text, which spaces alone part from the next, and what stands behind it; nothing where no word is
+/// left.
+pub fn next_word(text: &[u8]) -> Option<(&[u8], &[u8])>
+    ensures { MatchOption result (words text.now ≡ []) (λ x. words text.now ≡ x.0.now ∷ words x.1.now) }
+{
+    let text = from_word(text);
+    if text.is_empty() {
+        return None;
+    }
+    Some(text.split_at(word_len(text)))
+}
+
+/// The length of the word with which a text begins.
+fn word_len(text: &[u8]) -> usize
+    ensures value { result ≡ position_or_len is_space text.now }
+    ensures within { result ≤ length text.now }
+{
+    for (i, byte) in text.iter().enumerate() {
+        if *byte == b' ' {
+            return i;
+        }
+    }
+    text.len()
+}
+
+/// What is left from the next word on.
+fn from_word(text: &[u8]) -> &[u8]
+    ensures { result.now ≡ from_word text.now }
+{
+    let mut rest = text;
+    while let Some((first, tail)) = rest.split_first() {
+        if *first != b' ' {
+            break;
+        }
+        rest = tail;
+    }
+    rest
+}
+
+/// The first word of a line, empty where there is none, and what stands behind the space that ends it.
+pub fn split_word(line: &[u8]) -> (&[u8], &[u8])
+    ensures word { result.0.now ≡ first_word line.now }
+    ensures rest { result.1.now ≡ behind_word line.now }
+{
+    let text = from_word(line);
+    let (word, rest) = text.split_at(word_len(text));
+    match rest.split_first() {
+        Some((_, behind)) => (word, behind),
+        None => (word, rest),
+    }
+}
