@@ -25,10 +25,6 @@ last_number-is above (n ∷ []) some = refl
 last_number-is above (n ∷ m ∷ ns) some =
     rw (index_back (length ns)) (rw (index_first (length ns)) at (last_number-is n (m ∷ ns) (omega arith)))
 
-pub no_placed : (ps : List Placed) → length ps ≡ 0 → 0 ≡ last_number 0 (numbers ps)
-no_placed [] none = refl
-no_placed (p ∷ ps) none = absurd (omega (arith, none))
-
 pub last_placed-is : (above : ℕ) (ps : List Placed) (d : Placed) → 0 < length ps → last_number above (numbers ps) ≡ (get_or ps (length ps - 1) d).number
 last_placed-is above [] d some = absurd (omega arith)
 last_placed-is above (p ∷ []) d some = refl

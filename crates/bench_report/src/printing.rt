@@ -25,8 +25,11 @@ pub fn print_report(alloc: Global, report: &Report) -> Result<String, AllocError
 /// Writes the text of a report, as `print_report` makes it, and flushes the writer. It takes no memory. A fault is the
 /// writer's.
 pub fn write_report<W: Write>(out: &mut W, report: &Report) -> io::Result<()>
-    ensures { OnOk result (Appends (W.contents out.old) (W.contents out.new) (report_text report.now)) }
+    ensures text { OnOk result (Appends (W.contents out.old) (W.contents out.new) (report_text report.now)) }
+    ensures spelled { Spells (report_text report.now) report.now }
 {
+    // A report keeps its ranges.
+    let _packets = report.packets();
     write!(out, "{report}")?;
     out.flush()
 }

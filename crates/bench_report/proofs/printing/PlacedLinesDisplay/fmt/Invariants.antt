@@ -7,4 +7,4 @@ use Rattle.bench_report.proofs.printing.PlacedLinesDisplay.fmt.Given as goal
 -- the lines so far are written
 abbrev pub invariant-loop-place : goal.invariant-loop-place
 invariant-loop-place g l =
-    IsPlainFormatter l.initial.f → HasWritten g.W.Write.write_str_gives l.initial.f (flat_map placed_text (take l.place l.fn.self.0)) l.f
+    IsPlainFormatter l.initial.f → HasWritten g.W.Write.write_str_gives l.initial.f (flat_map placed_text (take l.place l.fn.self.0.now)) l.f
