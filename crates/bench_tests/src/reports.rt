@@ -175,14 +175,10 @@ fn has_placed(rt: &impl Abort, channel: ChannelReport) {
 fn are_the_two(rt: &impl Abort, placed: &Actions) {
     assert_eq!(rt; placed.len(), 2);
     if placed.len() == 2 {
-        let second = placed.get(1);
-        same_in(
-            rt,
-            "the second",
-            &(second.number, second.address),
-            &(1000000, 0),
-        );
-        assert!(rt; matches!(placed.get(0).action, Action::Fault(true)));
+        let (first, second) = (placed.get(0), placed.get(1));
+        let place = (second.number, second.address);
+        same_in(rt, "the second", &place, &(1000000, 0));
+        assert!(rt; matches!(&first.action, Action::Fault(true)));
     }
 }
 
