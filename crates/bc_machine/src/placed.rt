@@ -1,6 +1,4 @@
 //! Actions of hosts, each placed at a message.
-ghost use Rattle.std.specs.Prelude.{◌≡◌};
-
 use mil_host::Action;
 
 /// An action of a terminal's host, just before a message. It does nothing where the bus has no such terminal, and at a
@@ -12,17 +10,4 @@ pub struct Placed {
     /// The address of the terminal, 0 to 30.
     pub address: u8,
     pub action: Action,
-}
-
-impl Placed {
-    /// The same action, placed alike.
-    pub fn copy(&self) -> Placed
-        ensures { result ≡ self.now }
-    {
-        Placed {
-            number: self.number,
-            address: self.address,
-            action: self.action.copy(),
-        }
-    }
 }

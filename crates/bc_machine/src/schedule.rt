@@ -1,6 +1,6 @@
 //! Placed actions in rows, and room for more.
-ghost use Rattle.std.specs.Prelude.{◌≡◌, ℕ, ◌+◌, ◌<◌, ◌≤◌, ◌++◌, ◌∷◌, [], min, max, length, take, slice_index_or, IsTrue};
-ghost use Rattle.std.specs.Prelude.{All, IfOk, IfErr, OnOk, OnErr};
+ghost use Rattle.std.specs.Prelude.{◌≡◌, ℕ, ◌+◌, ◌<◌, ◌≤◌, ◌++◌, ◌∷◌, [], min, max, length, take, slice_index_or};
+ghost use Rattle.std.specs.Prelude.{IsTrue, All, IfOk, IfErr, OnOk, OnErr};
 ghost use Rattle.std.specs.List.Sorted.{IsPermutation};
 ghost use Rattle.mil_bus.specs.Exchange.{now_of};
 ghost use Rattle.bc_machine.specs.Controller.{placed_at, ready};
@@ -201,8 +201,8 @@ impl Schedule {
         Ok(())
     }
 
-    /// Puts an action behind those of numbers up to its own, where numbers never fall and there is room for it. It takes
-    /// no memory.
+    /// Puts an action behind those of numbers up to its own, where numbers never fall and there is room for it. It
+    /// takes no memory.
     pub fn put_in(&mut self, one: Placed)
         requires rising { IsRising self.old.actions }
         requires room { length self.old.actions < self.old.capacity }

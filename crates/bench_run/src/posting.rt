@@ -67,7 +67,8 @@ impl Posts {
         ensures placed { IsTrue result
             → (machine.new ≡ with_placed machine.old
             (machine.old.placed ++ at_next machine.old post.address post.action ∷ [])) × IsUnderWay machine.new }
-        ensures listed { (actions : List Placed) → IsTrue result → self.old.ordered.actions ≡ placed_up_to 1000000 actions
+        ensures listed { (actions : List Placed) → IsTrue result
+            → self.old.ordered.actions ≡ placed_up_to 1000000 actions
             → self.new.ordered.actions
             ≡ placed_up_to 1000000 (actions ++ at_next machine.old post.address post.action ∷ []) }
         ensures same { IsFalse result → (machine.new ≡ machine.old)
