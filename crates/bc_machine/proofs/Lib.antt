@@ -2,6 +2,7 @@ pub mod Acts
 pub mod Numbers
 pub mod Posted
 pub mod Around
+pub mod Listed
 pub mod Runs
 pub mod Steps
 pub mod Rows

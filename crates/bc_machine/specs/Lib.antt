@@ -1,6 +1,7 @@
 pub mod Controller
 pub mod Outcomes
 pub mod Rising
+pub mod Rows
 pub mod Schedules
 pub mod Running
 pub mod Frames

@@ -2,8 +2,10 @@
 //! `frame_tests`.
 #![tactic(auto)]
 
+mod actions;
 mod begun;
 mod frames;
+mod kept;
 mod laws;
 mod machine;
 mod messages;
@@ -16,6 +18,7 @@ mod schedule;
 mod stack;
 mod upcoming;
 
+pub use actions::Actions;
 pub use frames::Closing;
 pub use laws::{actions_to_come_are_free, controller_runs};
 pub use machine::Machine;
@@ -23,6 +26,7 @@ use mil_monitor::Record;
 pub use outcomes::asks;
 pub use placed::Placed;
 pub use saved::Saved;
+pub use schedule::Schedule;
 pub use upcoming::Upcoming;
 
 /// What a step came to.

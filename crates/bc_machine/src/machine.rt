@@ -8,7 +8,7 @@ ghost use Rattle.bc_machine.specs.Alike.{AreAlike};
 use crate::laws::BusSetting;
 use crate::parts::Parts;
 use crate::saved::Saved;
-use crate::{Placed, Stepped};
+use crate::{Actions, Stepped};
 use frame_load::{Program, loadable_runs};
 use mil_bus::{Bus, Outcome};
 use mil_line::Plan;
@@ -37,9 +37,9 @@ impl Model for Machine {
 impl Machine {
     /// A program at its beginning, on a bus, with the faults planned and the actions placed for its messages.
     /// Condition: it is at most tick 2^47 on the bus. It takes no memory.
-    pub fn start(program: Program, bus: Bus, plan: Plan, placed: Vec<Placed>) -> Machine
+    pub fn start(program: Program, bus: Bus, plan: Plan, placed: Actions) -> Machine
         requires { now_of bus ≤ 2 ^ 47 }
-        ensures value { result ≡ started program bus plan placed.items }
+        ensures value { result ≡ started program bus plan placed }
         ensures under_way { IsUnderWay result }
     {
         Machine {

@@ -5,7 +5,6 @@ ghost use Rattle.mil_bus.specs.Counts.{seen_of};
 ghost use Rattle.mil_bus.specs.Exchange.{now_of};
 ghost use Rattle.bc_machine.specs.Controller.{ready, world_of};
 
-use crate::placed::act_at;
 use crate::schedule::Schedule;
 use mil_bus::{Bus, Seen, Talk, Verdict};
 use mil_line::{Gap, Plan};
@@ -17,8 +16,8 @@ pub fn act_both(bus: &mut Bus, placed: &Schedule, posted: &Schedule, number: u32
     ensures bus { bus.new ≡ ready (placed.now.actions ++ posted.now.actions) number bus.old }
     ensures clock { now_of bus.new ≡ now_of bus.old }
 {
-    act_at(bus, placed.around(number), number);
-    act_at(bus, posted.around(number), number);
+    placed.act_at(bus, number);
+    posted.act_at(bus, number);
 }
 
 /// The message of a number: the actions placed at it, then its exchange with the faults planned for it; the talk and

@@ -21,7 +21,7 @@ use crate::outcomes::{asks, other};
 use crate::saved::SavedParts;
 use crate::schedule::Schedule;
 use crate::stack::Stack;
-use crate::{Placed, Stepped};
+use crate::{Actions, Stepped};
 use frame_code::Op;
 use frame_load::Program;
 use mil_bus::{Bus, Outcome, Seen, Talk};
@@ -68,8 +68,8 @@ impl Model for Parts {
 
 impl Parts {
     /// A program at its beginning.
-    pub fn start(program: Program, bus: Bus, plan: Plan, placed: Vec<Placed>) -> Parts
-        ensures value { result ≡ started program bus plan placed.items }
+    pub fn start(program: Program, bus: Bus, plan: Plan, placed: Actions) -> Parts
+        ensures value { result ≡ started program bus plan placed }
         ensures loadable { IsLoadable program }
         ensures within { IsWithin program }
         ensures short { HasShortPeriods program }

@@ -1,83 +1,92 @@
-//! The placed actions of a controller.
-ghost use Rattle.std.specs.Prelude.{◌≡◌, ◌↔◌, ◌+◌, ◌<◌, ◌≤◌, ◌++◌, ◌∷◌, [], min, max, length, IfOk, IfErr, OnOk, OnErr};
-ghost use Rattle.std.specs.Prelude.{IsTrue};
-ghost use Rattle.bc_machine.specs.Controller.{placed_at};
-ghost use Rattle.bc_machine.specs.Rising.{IsRising};
+//! Placed actions in rows, and room for more.
+ghost use Rattle.std.specs.Prelude.{◌≡◌, ℕ, ◌+◌, ◌<◌, ◌≤◌, ◌++◌, ◌∷◌, [], min, max, length, take, slice_index_or};
+ghost use Rattle.std.specs.Prelude.{IsTrue, All, IfOk, IfErr, OnOk, OnErr};
+ghost use Rattle.std.specs.List.Sorted.{IsPermutation};
+ghost use Rattle.mil_bus.specs.Exchange.{now_of};
+ghost use Rattle.bc_machine.specs.Controller.{placed_at, ready};
+ghost use Rattle.bc_machine.specs.Rising.{IsRising, IsParted, IsPutIn};
+ghost use Rattle.bc_machine.specs.Rows.{rows_at, IsRow};
+ghost use Rattle.bc_machine.specs.Schedules.{AreRising};
 
 use crate::Placed;
+use crate::actions::Actions;
+use crate::kept::{Row, act_at, copies_of, insert_row};
+use mil_bus::Bus;
+use mil_host::TransmitWords;
 use std::alloc::{AllocError, Global};
 use std::marker::Model;
+
+/// At most so many actions have more data words than one.
+const MOST_WORDS: usize = 4_294_967_295;
 
 /// Placed actions, in their order, and room for more; contracts see the list and for how many there is room. Where
 /// their numbers never fall, those of one number are found without a look at all others.
 #[derive(Drop)]
 pub struct Schedule {
-    placed: Vec<Placed>,
+    rows: Vec<Row>,
+    /// The data words that do not stand in a row.
+    words: Vec<TransmitWords>,
+    /// Whether the numbers are known never to fall.
     rising: bool,
-    /// For how many actions there is room, at most as many as the list holds without memory.
+    /// For how many actions there is room, at most as many as the lists hold without memory.
     most: usize,
 }
 
 impl Model for Schedule {
-    ghost use Rattle.std.specs.Prelude.{◌≡◌, ◌≤◌, true, vec_len, vec_capacity};
-    ghost use Rattle.bc_machine.specs.Schedules.{ScheduleState};
+    ghost use Rattle.bc_machine.specs.Schedules.{ScheduleState, schedule_in, IsSchedule};
 
     ghost Value = { ScheduleState };
 
-    ghost use Rattle.bc_machine.specs.Rising.{IsRising};
+    ghost view = { schedule_in };
 
-    ghost view = { λ s. record { actions = s.placed.items; capacity = s.most } };
-
-    ghost invariant = { λ s. (s.rising ≡ true → IsRising s.placed.items)
-        × (vec_len s.placed ≤ s.most) × (s.most ≤ vec_capacity s.placed) };
+    ghost invariant = { IsSchedule };
 }
 
-// Whether the numbers never fall.
-fn is_rising(placed: &[Placed]) -> bool
-    ensures { IsTrue result ↔ IsRising placed.now }
+// The part of rows whose numbers never fall that has all of one number.
+fn part(rows: &[Row], number: u32) -> &[Row]
+    requires { AreRising rows.now }
+    ensures same { rows_at number result.now ≡ rows_at number rows.now }
+    ensures rows { (n : ℕ) → All (IsRow n) rows.now → All (IsRow n) result.now }
 {
-    for i in 1..placed.len() {
-        if placed[i].number < placed[i - 1].number {
-            return false;
-        }
-    }
-    true
-}
-
-// The part of actions whose numbers never fall that has all of one number.
-fn part(placed: &[Placed], number: u32) -> &[Placed]
-    requires { IsRising placed.now }
-    ensures { placed_at number result.now ≡ placed_at number placed.now }
-{
-    let from = placed.partition_point(|one| one.number < number);
-    let rest = &placed[from..];
-    let to = rest.partition_point(|one| one.number <= number);
+    let from = rows.partition_point(|row| row.number < number);
+    let rest = &rows[from..];
+    let to = rest.partition_point(|row| row.number <= number);
     &rest[..to]
 }
 
-// Whether an action has a number that is not below that of the last one.
-fn follows(placed: &[Placed], one: &Placed) -> bool
-    ensures { IsTrue result → IsRising placed.now → IsRising (placed.now ++ one.now ∷ []) }
+// The rows among which those of a number are looked for: all, where their numbers are not known never to fall.
+fn around(rows: &[Row], rising: bool, number: u32) -> &[Row]
+    requires { IsTrue rising → AreRising rows.now }
+    ensures same { rows_at number result.now ≡ rows_at number rows.now }
+    ensures rows { (n : ℕ) → All (IsRow n) rows.now → All (IsRow n) result.now }
 {
-    match placed.last() {
-        Some(last) => last.number <= one.number,
+    if rising { part(rows, number) } else { rows }
+}
+
+// Whether the numbers are known never to fall once a row of this number stands behind the others.
+fn follows(rows: &[Row], rising: bool, number: u32) -> bool
+    requires { IsTrue rising → AreRising rows.now }
+    ensures { (row : Row) → row.number ≡ number → IsTrue result → AreRising (rows.now ++ row ∷ []) }
+{
+    if !rising {
+        return false;
+    }
+    match rows.last() {
+        Some(last) => last.number <= number,
         None => true,
     }
 }
 
 impl Schedule {
     /// These actions. It takes no memory.
-    pub fn of(placed: Vec<Placed>) -> Schedule
-        ensures actions { result.actions ≡ placed.items }
-        ensures capacity { result.capacity ≡ length placed.items }
+    pub fn of(actions: Actions) -> Schedule
+        ensures actions { result.actions ≡ actions }
+        ensures capacity { result.capacity ≡ length actions }
     {
-        let rising = is_rising(placed.as_slice());
-        let most = placed.len();
-        Schedule {
-            placed,
-            rising,
-            most,
-        }
+        let mut schedule = actions.into_schedule();
+        let len = schedule.len();
+        schedule.shrink(len);
+        schedule
     }
 
     /// No action. It takes no memory.
@@ -86,7 +95,8 @@ impl Schedule {
         ensures capacity { result.capacity ≡ 0 }
     {
         Schedule {
-            placed: Vec::new(alloc),
+            rows: Vec::new(alloc),
+            words: Vec::new(alloc),
             rising: true,
             most: 0,
         }
@@ -94,14 +104,14 @@ impl Schedule {
 
     /// The allocator that the actions came from.
     pub fn allocator(&self) -> Global {
-        *self.placed.allocator()
+        *self.rows.allocator()
     }
 
     /// How many actions there are.
     pub fn len(&self) -> usize
         ensures { result ≡ length self.now.actions }
     {
-        self.placed.len()
+        self.rows.len()
     }
 
     /// For how many actions there is room, those that are there among them.
@@ -112,6 +122,22 @@ impl Schedule {
         self.most
     }
 
+    /// The action at a place, counted from 0.
+    pub fn get(&self, place: usize) -> Placed
+        requires { place < length self.now.actions }
+        ensures { result ≡ slice_index_or self.now.actions place result }
+    {
+        self.rows[place].placed(self.words.as_slice())
+    }
+
+    /// The number of the action at a place, counted from 0.
+    pub fn number(&self, place: usize) -> u32
+        requires { place < length self.now.actions }
+        ensures { (one : Placed) → result ≡ (slice_index_or self.now.actions place one).number }
+    {
+        self.rows[place].number
+    }
+
     /// Makes room for so many actions in all, where there is less. It fails for want of memory alone.
     pub fn grow(&mut self, most: usize) -> Result<(), AllocError>
         ensures actions { self.new.actions ≡ self.old.actions }
@@ -119,10 +145,22 @@ impl Schedule {
         ensures same { OnErr result (self.new ≡ self.old) }
     {
         if most > self.most {
-            self.placed.reserve(most - self.placed.len())?;
+            let more = most - self.rows.len();
+            if more > MOST_WORDS - self.words.len() {
+                return Err(AllocError);
+            }
+            self.rows.reserve(more)?;
+            self.words.reserve(more)?;
             self.most = most;
         }
         Ok(())
+    }
+
+    /// Has memory at hand for the rows of so many actions more. It fails for want of memory alone.
+    pub fn reserve_rows(&mut self, count: usize) -> Result<(), AllocError>
+        ensures { self.new ≡ self.old }
+    {
+        self.rows.reserve(count)
     }
 
     /// Keeps room for so many actions in all, where there is more. It takes no memory.
@@ -142,7 +180,7 @@ impl Schedule {
         ensures capacity { OnOk result (self.new.capacity ≡ max self.old.capacity (length self.old.actions + count)) }
         ensures same { OnErr result (self.new ≡ self.old) }
     {
-        let most = self.placed.len() + count as usize;
+        let most = self.rows.len() + count as usize;
         self.grow(most)
     }
 
@@ -155,34 +193,80 @@ impl Schedule {
         ensures back { IfErr result (λ back. back ≡ one) }
         ensures same { OnErr result (self.new ≡ self.old) }
     {
-        if self.placed.len() >= self.most {
+        if self.rows.len() >= self.most {
             return Err(one);
         }
-        self.rising = self.rising && follows(self.placed.as_slice(), &one);
-        self.placed.push_reserved(one);
+        self.rising = follows(self.rows.as_slice(), self.rising, one.number);
+        self.rows.push_reserved(Row::of(one, &mut self.words));
         Ok(())
     }
 
-    /// A part of the actions that has all that are placed at a number.
-    pub fn around(&self, number: u32) -> &[Placed]
-        ensures { placed_at number result.now ≡ placed_at number self.now.actions }
+    /// Puts an action behind those of numbers up to its own, where numbers never fall and there is room for it. It
+    /// takes no memory.
+    pub fn put_in(&mut self, one: Placed)
+        requires rising { IsRising self.old.actions }
+        requires room { length self.old.actions < self.old.capacity }
+        ensures put { IsPutIn one self.old.actions self.new.actions }
+        ensures capacity { self.new.capacity ≡ self.old.capacity }
     {
-        let placed = self.placed.as_slice();
-        if self.rising {
-            part(placed, number)
-        } else {
-            placed
-        }
+        let place = self.behind(one.number);
+        self.rising = false;
+        let row = Row::of(one, &mut self.words);
+        insert_row(&mut self.rows, place, row);
     }
 
-    /// The same actions and as much room, in memory of their own.
+    /// How many actions have numbers up to one, where numbers never fall.
+    pub fn behind(&self, number: u32) -> usize
+        requires { IsRising self.now.actions }
+        ensures parted { IsParted number result self.now.actions }
+        ensures within { result ≤ length self.now.actions }
+    {
+        self.rows.partition_point(|row| row.number <= number)
+    }
+
+    /// Leaves out the actions behind so many. It takes no memory.
+    pub fn truncate(&mut self, count: usize)
+        ensures { self.new.actions ≡ take count self.old.actions }
+    {
+        self.rows.truncate(count);
+        self.most = self.rows.len();
+    }
+
+    /// Sorts the actions by rising number, those at one number in their order. It fails for want of memory alone.
+    pub fn sort(&mut self) -> Result<(), AllocError>
+        ensures permutation { IsPermutation self.old.actions self.new.actions }
+        ensures rising { OnOk result (IsRising self.new.actions) }
+        ensures stable { OnOk result ((n : ℕ) → placed_at n self.new.actions ≡ placed_at n self.old.actions) }
+        ensures same { OnErr result (self.new.actions ≡ self.old.actions) }
+    {
+        if !self.rising {
+            self.rows.sort_by_key(|row| row.number)?;
+            self.rising = true;
+        }
+        Ok(())
+    }
+
+    /// The actions that are placed at a number act, in their order.
+    pub fn act_at(&self, bus: &mut Bus, number: u32)
+        ensures bus { bus.new ≡ ready self.now.actions number bus.old }
+        ensures clock { now_of bus.new ≡ now_of bus.old }
+    {
+        let rows = self.rows.as_slice();
+        let words = self.words.as_slice();
+        act_at(bus, around(rows, self.rising, number), words, number);
+    }
+
+    /// The same actions and as much room, in memory of their own. It fails for want of memory alone.
     pub fn copy(&self) -> Result<Schedule, AllocError>
         ensures { IfOk result (λ s. s ≡ self.now) }
     {
-        let mut placed = Placed::copies_of(*self.placed.allocator(), self.placed.as_slice())?;
-        placed.reserve(self.most - self.placed.len())?;
+        let alloc = self.allocator();
+        let more = self.most - self.rows.len();
+        let mut rows = self.rows.as_slice().to_vec(alloc)?;
+        rows.reserve(more)?;
         Ok(Schedule {
-            placed,
+            rows,
+            words: copies_of(alloc, self.words.as_slice(), more)?,
             rising: self.rising,
             most: self.most,
         })

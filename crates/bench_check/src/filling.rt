@@ -2,7 +2,7 @@
 ghost use Rattle.std.specs.Prelude.{◌≡◌};
 ghost use Rattle.bench_check.specs.Filling as spec;
 
-use bc_machine::Placed;
+use bc_machine::{Actions, Placed};
 use mil_host::Action;
 
 /// Whether the action puts words up at this subaddress.
@@ -24,10 +24,13 @@ fn fills(number: u32, address: u8, sub: u8, placed: &Placed) -> bool
 
 /// Whether the host of a terminal put words up at a subaddress, by one of these actions, before or at the message of a
 /// number, counted from 1.
-pub fn is_filled(number: u32, address: u8, sub: u8, actions: &[Placed]) -> bool
+pub fn is_filled(number: u32, address: u8, sub: u8, actions: &Actions) -> bool
     ensures { result ≡ spec.is_filled number address sub actions.now }
 {
-    actions
-        .iter()
-        .any(|placed| fills(number, address, sub, placed))
+    for place in 0..actions.len() {
+        if fills(number, address, sub, &actions.get(place)) {
+            return true;
+        }
+    }
+    false
 }

@@ -185,11 +185,12 @@ fn put_overruns(text: &mut String, overruns: &Vec<Overrun>) -> Result<(), AllocE
 
 /// The placed actions that no message reaches.
 fn put_unreached(text: &mut String, job: &Job, made: u32) -> Result<(), AllocError> {
-    for one in job.actions() {
-        if one.number > made {
-            let number = one.number;
+    let actions = job.actions();
+    for place in 0..actions.len() {
+        let number = actions.number(place);
+        if number > made {
             text.push_str("  ")?;
-            put_action(text, one)?;
+            put_action(text, &actions.get(place))?;
             write!(text, " is never done: message {number} is never sent\n")?;
         }
     }

@@ -1,5 +1,5 @@
 //! The lines of a message.
-use bc_machine::Placed;
+use bc_machine::{Actions, Placed};
 use bitflags::Flags;
 use frame_text::print;
 use frame_tree::Frame;
@@ -39,12 +39,12 @@ pub(crate) fn put_message(
 pub(crate) fn put_actions(
     text: &mut String,
     number: u32,
-    actions: &[Placed],
+    actions: &Actions,
 ) -> Result<(), AllocError> {
-    for one in actions {
-        if one.number == number {
+    for place in 0..actions.len() {
+        if actions.number(place) == number {
             text.push_str("  ")?;
-            put_action(text, one)?;
+            put_action(text, &actions.get(place))?;
             text.push_str("\n")?;
         }
     }

@@ -1,6 +1,6 @@
 //! What the messages of a job do that is probably a mistake, beside whom they call.
 use crate::filling::is_filled;
-use bc_machine::Placed;
+use bc_machine::Actions;
 use mil_bus::Talk;
 use mil_message::Commands;
 use mil_status::StatusBit;
@@ -47,7 +47,7 @@ impl Oddities {
     }
 
     /// Takes in the message of a number, behind all others.
-    pub(crate) fn note(&mut self, number: u32, actions: &[Placed], talk: &Talk) {
+    pub(crate) fn note(&mut self, number: u32, actions: &Actions, talk: &Talk) {
         self.note_answer(number, talk);
         let commands = talk.message.commands();
         self.note_call(number, actions, commands.first);
@@ -89,7 +89,7 @@ impl Oddities {
     }
 
     /// A command of the message of a number.
-    fn note_call(&mut self, number: u32, actions: &[Placed], command: Command) {
+    fn note_call(&mut self, number: u32, actions: &Actions, command: Command) {
         let (address, sub) = (command.address(), command.subaddress());
         let transmits = command.is_transmit() && !command.is_mode() && !command.is_broadcast();
         if transmits && sub != WRAP_AROUND && !is_filled(number, address, sub, actions) {

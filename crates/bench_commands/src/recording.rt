@@ -10,7 +10,7 @@ use bench_complete::Additions;
 use bench_core::{Settings, judge};
 use bench_files::Hold;
 use bench_live::Show;
-use bench_report::{Report, print_report};
+use bench_report::Report;
 use bench_requests::{
     Ending, Fault, RunFiles, RunRequest, ending_of_run, ending_of_settings, jobs_of, read_texts,
     read_whole, settings_of, told_apart,
@@ -149,8 +149,7 @@ pub(crate) fn finish<'a, R: Files + AllocGlobal>(
 where
     R::File: Hold,
 {
-    let text = print_report(rt.alloc(), &report)?;
-    files.finish(rt, text.as_bytes())?;
+    files.finish(rt, &report)?;
     Ok(report)
 }
 

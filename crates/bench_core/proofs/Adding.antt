@@ -1,28 +1,25 @@
 -- An action put into an ordered list, behind those of its number.
-use Rattle.std.proofs.Common.{◌≡◌, ℕ, zero, suc, ◌<◌, ◌≤◌, Bool, true, false, cond, leb, eqb, List, [], ◌∷◌, ◌++◌, length, refl, sym, ap, ◌∙◌, append-nil, arith}
-use Rattle.std.specs.List.{AllByRecursion, AllWithin, insert}
-use Rattle.std.proofs.lemmas.Bool.{eqb-true, ne_eqb, leb-true, leb-false}
+use Rattle.std.proofs.Common.{◌≡◌, ℕ, zero, suc, ◌<◌, ◌≤◌, Bool, true, false, cond, eqb, List, [], ◌∷◌, ◌++◌, length, refl, sym, ap, ◌∙◌, append-nil, arith}
+use Rattle.std.specs.List.{AllByRecursion, insert}
+use Rattle.std.proofs.lemmas.Bool.{eqb-true, ne_eqb}
 use Rattle.std.proofs.lemmas.List.Elements.{filter-append, All-from_recursion, recursion_from_All}
 use Rattle.bc_machine.specs.declared.placed.Placed.{Placed}
 use Rattle.bc_machine.specs.Controller.{placed_at}
+use Rattle.bc_machine.specs.Rising.{IsParted}
 use Rattle.bench_report.specs.Reports.{IsPlace, NeverFalls}
 use Rattle.bench_core.specs.Placing.{placed_up_to, IsOrdered}
 use Rattle.bench_core.proofs.Ordered.{up_to_same, up_to_itself, at_up_to}
 use Rattle.bench_core.proofs.Sorting.{up_to_last}
 
--- the first of the list, up to a place, are at most at a number, and those behind are above it
-abbrev pub IsParted : ℕ → ℕ → List Placed → Type 0
-IsParted number i ps = AllWithin (λ (p : Placed). leb p.number number ≡ true) ps 0 i × AllWithin (λ (p : Placed). leb p.number number ≡ false) ps i (length ps)
-
 parted_behind : (number i : ℕ) (p : Placed) (ps : List Placed) → IsParted number (suc i) (p ∷ ps) → IsParted number i ps
-parted_behind number i p ps parted = (
-  λ k d low high. parted.0 (suc k) d (omega (arith, low)) (omega (arith, high)),
-  λ k d low high. parted.1 (suc k) d (omega (arith, low)) (omega (arith, high)),
-)
+parted_behind number i p ps parted = record {
+  before = λ k d low high. parted.before (suc k) d (omega (arith, low)) (omega (arith, high));
+  behind = λ k d low high. parted.behind (suc k) d (omega (arith, low)) (omega (arith, high));
+}
 
 -- all behind a place are above
 above : (number : ℕ) (ps : List Placed) → IsParted number 0 ps → AllByRecursion (λ (p : Placed). number < p.number) ps
-above number ps parted = recursion_from_All (λ (p : Placed). number < p.number) ps (λ k d low. leb-false _ _ (parted.1 k d (omega arith) low))
+above number ps parted = recursion_from_All (λ (p : Placed). number < p.number) ps (λ k d low. parted.behind k d (omega arith) low)
 
 none_at : (k : ℕ) (ps : List Placed) → AllByRecursion (λ (p : Placed). k < p.number) ps → placed_at k ps ≡ []
 none_at k [] all = refl
@@ -52,7 +49,7 @@ pub added_order : (least i : ℕ) (x : Placed) (ps : List Placed) → least ≤ 
 added_order least zero x ps low order parted = (low, first_order x.number ps least order (above x.number ps parted))
 added_order least (suc i) x [] low order parted = (low, tt)
 added_order least (suc i) x (p ∷ ps) low order parted =
-    (order.0, added_order p.number i x ps (leb-true p.number x.number (parted.0 0 p (omega arith) (omega arith))) order.1 (parted_behind x.number i p ps parted))
+    (order.0, added_order p.number i x ps (parted.before 0 p (omega arith) (omega arith)) order.1 (parted_behind x.number i p ps parted))
 
 pub added_places : (i : ℕ) (x : Placed) (ps : List Placed) → IsPlace x → AllByRecursion IsPlace ps → AllByRecursion IsPlace (insert ps i x)
 added_places zero x ps is all = (is, all)

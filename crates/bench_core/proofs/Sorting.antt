@@ -1,48 +1,29 @@
 -- Placed actions that were sorted by number, and those of them up to one.
-use Rattle.std.proofs.Common.{◌≡◌, ℕ, zero, suc, ◌≤◌, true, false, not, ◌&&◌, leb, eqb, nat_le, List, [], ◌∷◌, length, take, sym, ap, ◌∙◌, inl, inr, arith}
-use Rattle.std.specs.List.{AllByRecursion, AllWithin, filter, list_all, list_any}
-use Rattle.std.specs.List.Sorted.{ties, IsPermutation, IsStableByKey, IsNonDecreasingBy}
-use Rattle.std.specs.Ordering.{is_lt, nat_cmp}
-use Rattle.std.proofs.lemmas.Bool.{eqb-true, leb-true, leb-false, and_parts, or_cases}
-use Rattle.std.proofs.lemmas.Bool.Decides.{nat_tests}
-use Rattle.std.proofs.lemmas.List.Elements.{filter_agree, All-from_recursion, recursion_from_All}
+use Rattle.std.proofs.Common.{◌≡◌, ℕ, zero, suc, ◌≤◌, true, not, ◌&&◌, eqb, nat_le, List, [], ◌∷◌, length, take, sym, ap, ◌∙◌, inl, inr, arith}
+use Rattle.std.specs.List.{AllByRecursion, AllWithin, list_all, list_any}
+use Rattle.std.specs.List.Sorted.{IsPermutation}
+use Rattle.std.proofs.lemmas.Bool.{eqb-true, leb-true, and_parts, or_cases}
+use Rattle.std.proofs.lemmas.List.Elements.{All-from_recursion, recursion_from_All}
 use Rattle.std.proofs.lemmas.List.Sorted.{All-permutation}
-use Rattle.mil_host.specs.declared.actions.Action.TheVariants as host
 use Rattle.mil_bus.specs.Addresses.{is_fit}
 use Rattle.bc_machine.specs.declared.placed.Placed.{Placed}
 use Rattle.bc_machine.specs.Controller.{placed_at}
+use Rattle.bc_machine.specs.Rising.{IsRising, IsParted}
 use Rattle.bc_machine.proofs.Around.{stop}
 use Rattle.job_file.specs.JobRanges.{may_act}
 use Rattle.bench_report.specs.Reports.{IsPlace, NeverFalls}
 use Rattle.bench_core.specs.Placing.{placed_up_to, IsOrdered}
 use Rattle.bench_core.proofs.Ordered.{AreUpTo, AreFrom, from_least, up_to_same, up_to_itself, at_up_to}
 
--- ---- the same actions at each number
-
-abbrev number_of : Placed → ℕ
-number_of p = p.number
-
-abbrev some_at : ℕ → Placed
-some_at k = record { number = k; address = 0; action = host.Busy true }
-
-alike : (m n : ℕ) → ties (λ x y. is_lt (nat_cmp x y)) m n ≡ eqb n m
-alike m n = grind (arith, nat_tests)
-
-at_alike : (k : ℕ) (ps : List Placed) → filter (ties (λ (x y : Placed). is_lt (nat_cmp x.number y.number)) (some_at k)) ps ≡ placed_at k ps
-at_alike k ps = filter_agree _ (λ (p : Placed). eqb p.number k) (λ p. alike k p.number) ps
-
-at_same : (ps qs : List Placed) (k : ℕ) → IsStableByKey number_of nat_cmp ps qs → placed_at k qs ≡ placed_at k ps
-at_same ps qs k stable = sym (at_alike k qs) ∙ stable (some_at k) ∙ at_alike k ps
-
 -- ---- numbers that never fall
 
-never_falls : (least : ℕ) (ps : List Placed) → AreFrom least ps → IsNonDecreasingBy number_of ps → NeverFalls least ps
+never_falls : (least : ℕ) (ps : List Placed) → AreFrom least ps → IsRising ps → NeverFalls least ps
 never_falls least [] all rising = tt
 never_falls least (p ∷ ps) all rising =
     let behind : AreFrom p.number ps = recursion_from_All (λ (q : Placed). p.number ≤ q.number) ps (λ k d less. rising 0 (suc k) d (omega arith) (omega (arith, less))) in
     (all.0, never_falls p.number ps behind (λ i j d low less. rising (suc i) (suc j) d (omega (arith, low)) (omega (arith, less))))
 
-pub rises : (least : ℕ) (ps : List Placed) → NeverFalls least ps → IsNonDecreasingBy number_of ps
+pub rises : (least : ℕ) (ps : List Placed) → NeverFalls least ps → IsRising ps
 rises least [] order i j d low less = absurd (omega (arith, less))
 rises least (p ∷ ps) order zero zero d low less = omega arith
 rises least (p ∷ ps) order zero (suc j) d low less = All-from_recursion (λ (q : Placed). p.number ≤ q.number) ps (from_least p.number ps order.1) j d (omega (arith, less))
@@ -86,16 +67,16 @@ from_zero : (ps : List Placed) → AreFrom 0 ps
 from_zero [] = tt
 from_zero (p ∷ ps) = (omega arith, from_zero ps)
 
-pub sorted_fits : (addresses : List ℕ) (ps qs : List Placed) → is_fit addresses ≡ true → list_all (may_act addresses) ps ≡ true → IsPermutation ps qs → IsNonDecreasingBy number_of qs → IsOrdered qs
+pub sorted_fits : (addresses : List ℕ) (ps qs : List Placed) → is_fit addresses ≡ true → list_all (may_act addresses) ps ≡ true → IsPermutation ps qs → IsRising qs → IsOrdered qs
 sorted_fits addresses ps qs fit all same rising = record {
   places = All-permutation IsPlace ps qs same (All-from_recursion IsPlace ps (places_of addresses ps fit all));
   order = never_falls 0 qs (from_zero qs) rising;
 }
 
-pub sorted_is : (ps qs : List Placed) → IsStableByKey number_of nat_cmp ps qs → IsOrdered qs → qs ≡ placed_up_to 1000000 ps
+pub sorted_is : (ps qs : List Placed) → ((n : ℕ) → placed_at n qs ≡ placed_at n ps) → IsOrdered qs → qs ≡ placed_up_to 1000000 ps
 sorted_is ps qs stable is =
     sym (up_to_itself 1000000 0 qs is.order (up_to_last qs (recursion_from_All IsPlace qs is.places)))
-    ∙ up_to_same 1000000 qs ps (λ k low high. at_same ps qs k stable)
+    ∙ up_to_same 1000000 qs ps (λ k low high. stable k)
 
 -- ---- the actions up to a number
 
@@ -104,23 +85,22 @@ order_taken least zero ps order = tt
 order_taken least (suc k) [] order = tt
 order_taken least (suc k) (p ∷ ps) order = (order.0, order_taken p.number k ps order.1)
 
-taken_up_to : (made n k : ℕ) (ps : List Placed) → AreUpTo n ps → AllWithin (λ (p : Placed). leb p.number made ≡ true) ps 0 k → AreUpTo made (take k ps)
+taken_up_to : (made n k : ℕ) (ps : List Placed) → AreUpTo n ps → AllWithin (λ (p : Placed). p.number ≤ made) ps 0 k → AreUpTo made (take k ps)
 taken_up_to made n zero ps all point = tt
 taken_up_to made n (suc k) [] all point = tt
 taken_up_to made n (suc k) (p ∷ ps) all point = (
-  (all.0.0, leb-true p.number made (point 0 p (omega arith) (omega arith))),
+  (all.0.0, point 0 p (omega arith) (omega arith)),
   taken_up_to made n k ps all.1 (λ j d low high. point (suc j) d (omega arith) (omega (arith, high))),
 )
 
 -- those behind the first of a higher number are left out
 pub taken_is : (made k : ℕ) (ps actions : List Placed) → made ≤ 1000000 → IsOrdered ps
-    → AllWithin (λ (p : Placed). leb p.number made ≡ true) ps 0 k × AllWithin (λ (p : Placed). leb p.number made ≡ false) ps k (length ps)
-    → ps ≡ placed_up_to 1000000 actions → take k ps ≡ placed_up_to made actions
+    → IsParted made k ps → ps ≡ placed_up_to 1000000 actions → take k ps ≡ placed_up_to made actions
 taken_is made k ps actions few is point same =
     let all : AreUpTo 1000000 ps = up_to_last ps (recursion_from_All IsPlace ps is.places) in
     let at_each : (j : ℕ) → 1 ≤ j → j ≤ made → placed_at j (take k ps) ≡ placed_at j actions =
-    λ j low high. stop ps k j (λ i d from less. omega (arith, leb-false _ _ (point.1 i d from less), high))
+    λ j low high. stop (λ (p : Placed). p.number) ps k j (λ i d from less. omega (arith, point.behind i d from less, high))
     ∙ ap (placed_at j) same
     ∙ at_up_to j 1000000 actions low (omega (arith, high, few)) in
-    sym (up_to_itself made 0 (take k ps) (order_taken 0 k ps is.order) (taken_up_to made 1000000 k ps all point.0))
+    sym (up_to_itself made 0 (take k ps) (order_taken 0 k ps is.order) (taken_up_to made 1000000 k ps all point.before))
     ∙ up_to_same made (take k ps) actions at_each

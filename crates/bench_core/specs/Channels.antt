@@ -68,7 +68,7 @@ pub record IsKeptLane (l : Inside) : Type 0 where
   pub channel : 1 ≤ l.channel
   pub addresses : l.addresses.items ≡ l.job.value.addresses
   pub refused : Rises 0 l.machine.point.number l.refused.items
-  pub placed : l.placed.items ≡ placed_up_to 1000000 l.machine.placed
-  pub ordered : IsOrdered l.placed.items
+  pub placed : l.placed.actions ≡ placed_up_to 1000000 l.machine.placed
+  pub ordered : IsOrdered l.placed.actions
   pub posts : length l.machine.placed ≡ length l.job.value.actions + l.posts
   pub recorded : HasRecorded (lane_in l)

@@ -9,7 +9,7 @@ ghost use Rattle.bench_core.specs.Channels.{IsMade};
 
 use crate::parts::channel_report;
 use crate::placing::{add_posted, ordered_actions};
-use bc_machine::{Machine, Placed};
+use bc_machine::{Actions, Machine, Placed, Schedule};
 use bench_report::ChannelReport;
 use ch11_recording::{Item, record_fits};
 use job_file::{Job, next_record};
@@ -35,7 +35,7 @@ pub(crate) struct Lane {
     machine: Machine,
     refused: Vec<u32>,
     ended: bool,
-    placed: Vec<Placed>,
+    placed: Schedule,
     posts: u32,
     job: Snapshot<Job>,
 }
@@ -93,7 +93,7 @@ impl Lane {
     {
         let addresses = job.addresses().to_vec(alloc)?;
         let machine = job.machine(alloc, job.actions())?;
-        let placed = ordered_actions(alloc, job)?;
+        let placed = Schedule::of(ordered_actions(job)?);
         let _sound = job.program();
         Ok(Lane {
             channel: job.channel(),
@@ -158,7 +158,7 @@ impl Lane {
         if address > HIGHEST || self.posts >= MOST_POSTS {
             return Err(AllocError);
         }
-        self.placed.reserve(1)?;
+        self.placed.room(1)?;
         self.machine.room(1)?;
         let one = Placed {
             number: self.machine.number() + 1,
@@ -176,12 +176,12 @@ impl Lane {
     }
 
     /// What a report says of the channel. It fails for want of memory alone.
-    pub(crate) fn report(&self, alloc: Global) -> Result<ChannelReport, AllocError>
+    pub(crate) fn report(&self) -> Result<ChannelReport, AllocError>
         ensures { IfOk result (λ r. r ≡ report_part self.now) }
     {
         let made = self.machine.number();
         let refused = self.refused.clone()?;
-        let placed = self.placed.iter().map(|one| one.copy()).collect(alloc)?;
+        let placed = Actions::of(self.placed.copy()?);
         Ok(channel_report(self.channel, made, refused, placed))
     }
 }

@@ -1,38 +1,35 @@
 //! Actions in the order in which a channel's messages meet them.
-ghost use Rattle.std.specs.Prelude.{◌≡◌, ◌<◌, ◌≤◌, ◌++◌, ◌∷◌, [], List, vec_len, IfOk};
-ghost use Rattle.std.specs.Vec.{vec_capacity};
+ghost use Rattle.std.specs.Prelude.{◌≡◌, ◌<◌, ◌≤◌, ◌++◌, ◌∷◌, [], List, length, IfOk};
 ghost use Rattle.bc_machine.specs.declared.placed.Placed.{Placed};
 ghost use Rattle.bench_report.specs.Reports.{IsPlace};
 ghost use Rattle.bench_core.specs.Placing.{placed_up_to, IsOrdered};
 
-use bc_machine::Placed;
+use bc_machine::{Actions, Placed, Schedule};
 use job_file::Job;
-use std::alloc::{AllocError, Global};
+use std::alloc::AllocError;
 
 /// A job's actions by rising number, those at one number in their order. It fails for want of memory alone.
-pub fn ordered_actions(alloc: Global, job: &Job) -> Result<Vec<Placed>, AllocError>
-    ensures ordered { IfOk result (λ v. v.items ≡ placed_up_to 1000000 job.now.actions) }
-    ensures fit { IfOk result (λ v. IsOrdered v.items) }
+pub fn ordered_actions(job: &Job) -> Result<Actions, AllocError>
+    ensures ordered { IfOk result (λ v. v ≡ placed_up_to 1000000 job.now.actions) }
+    ensures fit { IfOk result IsOrdered }
 {
     // Its contract says that addresses are 0 to 30.
     let _addresses = job.addresses();
-    let mut actions = Placed::copies_of(alloc, job.actions())?;
-    actions.sort_by_key(|one| one.number)?;
+    let mut actions = job.actions().copy()?;
+    actions.sort()?;
     Ok(actions)
 }
 
 /// Adds an action to ordered ones, behind those of its number, in room that was made for it. It takes no memory.
-pub fn add_action(ordered: &mut Vec<Placed>, one: Placed)
+pub fn add_action(ordered: &mut Schedule, one: Placed)
     requires place { IsPlace one }
-    requires ordered { IsOrdered ordered.old.items }
-    requires room { vec_len ordered.old < vec_capacity ordered.old }
-    ensures ordered { (actions : List Placed) → ordered.old.items ≡ placed_up_to 1000000 actions
-        → ordered.new.items ≡ placed_up_to 1000000 (actions ++ one ∷ []) }
-    ensures fit { IsOrdered ordered.new.items }
+    requires ordered { IsOrdered ordered.old.actions }
+    requires room { length ordered.old.actions < ordered.old.capacity }
+    ensures ordered { (actions : List Placed) → ordered.old.actions ≡ placed_up_to 1000000 actions
+        → ordered.new.actions ≡ placed_up_to 1000000 (actions ++ one ∷ []) }
+    ensures fit { IsOrdered ordered.new.actions }
 {
-    let number = one.number;
-    let behind = ordered.partition_point(|other| other.number <= number);
-    let _ = ordered.insert(behind, one);
+    ordered.put_in(one);
 }
 
 /// A channel makes at most so many messages.
@@ -40,14 +37,14 @@ const LAST: u32 = 1_000_000;
 
 /// Adds an action of a terminal to ordered ones as `add_action` does, but for one at a number that no channel comes to,
 /// which makes no difference. It takes no memory.
-pub(crate) fn add_posted(ordered: &mut Vec<Placed>, one: Placed)
+pub(crate) fn add_posted(ordered: &mut Schedule, one: Placed)
     requires number { 1 ≤ one.number }
     requires address { one.address ≤ 30 }
-    requires ordered { IsOrdered ordered.old.items }
-    requires room { vec_len ordered.old < vec_capacity ordered.old }
-    ensures ordered { (actions : List Placed) → ordered.old.items ≡ placed_up_to 1000000 actions
-        → ordered.new.items ≡ placed_up_to 1000000 (actions ++ one ∷ []) }
-    ensures fit { IsOrdered ordered.new.items }
+    requires ordered { IsOrdered ordered.old.actions }
+    requires room { length ordered.old.actions < ordered.old.capacity }
+    ensures ordered { (actions : List Placed) → ordered.old.actions ≡ placed_up_to 1000000 actions
+        → ordered.new.actions ≡ placed_up_to 1000000 (actions ++ one ∷ []) }
+    ensures fit { IsOrdered ordered.new.actions }
 {
     if one.number <= LAST {
         add_action(ordered, one);

@@ -275,7 +275,7 @@ impl World {
     {
         let mut channels = Vec::with_capacity(alloc, self.lanes.len())?;
         for lane in &self.lanes {
-            channels.push(lane.report(alloc)?)?;
+            channels.push(lane.report()?)?;
         }
         Ok(Report::make(channels, self.packets))
     }

@@ -6,7 +6,7 @@ ghost use Rattle.bench_report.specs.Reports.{IsPart, IsPlaced, IsPlace, Rises, N
 ghost use Rattle.bench_report.specs.Drafts.{Takes, last_number, numbers, with_refused, with_placed};
 
 use crate::fault::ReportFault;
-use bc_machine::Placed;
+use bc_machine::{Actions, Placed};
 use std::alloc::Global;
 use std::marker::Model;
 
@@ -17,7 +17,7 @@ pub struct ChannelReport {
     channel: u16,
     made: u32,
     refused: Vec<u32>,
-    placed: Vec<Placed>,
+    placed: Actions,
 }
 
 impl Model for ChannelReport {
@@ -29,23 +29,23 @@ impl Model for ChannelReport {
       channel = c.channel;
       made = c.made;
       refused = c.refused.items;
-      placed = c.placed.items;
+      placed = c.placed;
     } };
 
     ghost invariant = { λ c. IsPart
-        (record { channel = c.channel; made = c.made; refused = c.refused.items; placed = c.placed.items }) };
+        (record { channel = c.channel; made = c.made; refused = c.refused.items; placed = c.placed }) };
 }
 
 impl ChannelReport {
     /// The report of a channel of 1 to 65,535 that made up to 1,000,000 messages. The refused numbers rise within 1 to
     /// `made`; the placed ones are 1 to 1,000,000 and never fall, at addresses of 0 to 30.
-    pub fn make(channel: u16, made: u32, refused: Vec<u32>, placed: Vec<Placed>) -> ChannelReport
+    pub fn make(channel: u16, made: u32, refused: Vec<u32>, placed: Actions) -> ChannelReport
         requires channel { 1 ≤ channel }
         requires made { made ≤ 1000000 }
         requires refused { Rises 0 made refused.items }
-        requires placed { All IsPlace placed.items }
-        requires order { NeverFalls 0 placed.items }
-        ensures { result ≡ record { channel = channel; made = made; refused = refused.items; placed = placed.items } }
+        requires placed { All IsPlace placed }
+        requires order { NeverFalls 0 placed }
+        ensures { result ≡ record { channel = channel; made = made; refused = refused.items; placed = placed } }
     {
         keep_ranges(&placed);
         ChannelReport {
@@ -62,7 +62,7 @@ impl ChannelReport {
         requires made { made ≤ 1000000 }
         ensures { result ≡ record { channel = channel; made = made; refused = []; placed = [] } }
     {
-        ChannelReport::make(channel, made, Vec::new(alloc), Vec::new(alloc))
+        ChannelReport::make(channel, made, Vec::new(alloc), Actions::new(alloc))
     }
 
     /// The channel, 1 to 65,535.
@@ -90,7 +90,7 @@ impl ChannelReport {
     }
 
     /// The placed actions; their numbers never fall.
-    pub fn placed(&self) -> &[Placed]
+    pub fn placed(&self) -> &Actions
         ensures value { result.now ≡ self.now.placed }
         ensures part { IsPart self.now }
     {
@@ -98,9 +98,9 @@ impl ChannelReport {
     }
 
     /// The refused numbers and the placed actions, in the memory that they have.
-    pub fn into_lists(self) -> (Vec<u32>, Vec<Placed>)
+    pub fn into_lists(self) -> (Vec<u32>, Actions)
         ensures refused { result.0.items ≡ self.refused }
-        ensures placed { result.1.items ≡ self.placed }
+        ensures placed { result.1 ≡ self.placed }
     {
         (self.refused, self.placed)
     }
@@ -140,20 +140,21 @@ fn last_refused(refused: &[u32]) -> u32
 }
 
 /// The number of the last placed action, and 0 where there is none.
-fn last_placed(placed: &[Placed]) -> u32
+fn last_placed(placed: &Actions) -> u32
     ensures { result ≡ last_number 0 (numbers placed.now) }
 {
-    match placed.last() {
-        Some(placed) => placed.number,
-        None => 0,
+    if placed.is_empty() {
+        0
+    } else {
+        placed.number(placed.len() - 1)
     }
 }
 
 /// Each action keeps its ranges.
-fn keep_ranges(placed: &[Placed])
+fn keep_ranges(placed: &Actions)
     ensures { All (λ (p : Placed). IsInRange p.action) placed.now }
 {
-    for one in placed {
-        one.action.reads_back();
+    for place in 0..placed.len() {
+        placed.get(place).action.reads_back();
     }
 }

@@ -16,6 +16,6 @@ mod stages;
 pub use channels::ChannelReport;
 pub use fault::{ReportError, ReportFault};
 pub use laws::text_spells_one_report;
-pub use printing::print_report;
+pub use printing::{print_report, write_report};
 pub use reading::read_report;
 pub use reports::Report;

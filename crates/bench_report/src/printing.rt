@@ -1,13 +1,15 @@
 //! The text of a report.
-ghost use Rattle.std.specs.Prelude.{◌≡◌, IfOk, string_bytes};
+ghost use Rattle.std.specs.Prelude.{◌≡◌, IfOk, OnOk, string_bytes};
+ghost use Rattle.std.specs.Io.KnownBytes.{Appends};
 ghost use Rattle.bench_report.specs.Printing.{report_text};
 ghost use Rattle.bench_report.specs.Spelling.{Spells};
 
 use crate::channels::ChannelReport;
 use crate::reports::Report;
-use bc_machine::Placed;
+use bc_machine::Actions;
 use std::alloc::{AllocError, Global};
-use std::fmt;
+use std::io::Write;
+use std::{fmt, io};
 
 /// The text of a report, which spells it: `read_report` reads it back. Single spaces part words, and LF ends each line.
 pub fn print_report(alloc: Global, report: &Report) -> Result<String, AllocError>
@@ -18,6 +20,18 @@ pub fn print_report(alloc: Global, report: &Report) -> Result<String, AllocError
     let _packets = report.packets();
     let text = report.to_string(alloc)?;
     Ok(text)
+}
+
+/// Writes the text of a report, as `print_report` makes it, and flushes the writer. It takes no memory. A fault is the
+/// writer's.
+pub fn write_report<W: Write>(out: &mut W, report: &Report) -> io::Result<()>
+    ensures text { OnOk result (Appends (W.contents out.old) (W.contents out.new) (report_text report.now)) }
+    ensures spelled { Spells (report_text report.now) report.now }
+{
+    // A report keeps its ranges.
+    let _packets = report.packets();
+    write!(out, "{report}")?;
+    out.flush()
 }
 
 /// The refused numbers, each on a line.
@@ -41,7 +55,7 @@ impl fmt::Display for RefusedLines<'_> {
 
 /// The placed actions, each on a line.
 #[derive(Clone, Copy)]
-struct PlacedLines<'a>(&'a [Placed]);
+struct PlacedLines<'a>(&'a Actions);
 
 impl fmt::Display for PlacedLines<'_> {
     ghost use Rattle.std.specs.Prelude.{Some};
@@ -51,7 +65,8 @@ impl fmt::Display for PlacedLines<'_> {
     ghost output = { λ p. Some (flat_map placed_text p.0.now) };
 
     fn fmt<W: fmt::Write>(&self, f: &mut fmt::Formatter<W>) -> fmt::Result {
-        for one in self.0 {
+        for place in 0..self.0.len() {
+            let one = self.0.get(place);
             let number = one.number;
             let address = one.address;
             let action = &one.action;

@@ -138,7 +138,7 @@ where
 }
 
 /// Writes all these bytes into a file that was begun.
-pub(crate) fn write_bytes<'a, R: Files>(
+fn write_bytes<'a, R: Files>(
     rt: &R,
     name: &'a str,
     file: &mut OutFile<'a, R::File>,

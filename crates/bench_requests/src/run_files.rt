@@ -1,11 +1,12 @@
 //! The files that a run writes: its recording and its report, which take their places together.
 use crate::ending::Ending;
 use crate::fault::Fault;
-use crate::files::{begin, replaceable, write_bytes, writer_of};
+use crate::files::{begin, replaceable, writer_of};
 use crate::settings::RunRequest;
 use bench_files::{Hold, Kind, OutFile, leads_to_output};
+use bench_report::{Report, write_report};
 use std::fs::OpenFile;
-use std::io::Write;
+use std::io::{BufWriter, Write};
 use std::rt::Files;
 
 /// The files that a run writes. What was there stays until both are whole, and no other process can begin to write
@@ -89,7 +90,11 @@ impl<'a, F: OpenFile + Write + Hold + Drop> RunFiles<'a, F> {
     }
 
     /// Writes the report of a recording that is whole, and gives both their places.
-    pub fn finish<R: Files<File = F>>(self, rt: &R, text: &[u8]) -> Result<(), Fault<'a>> {
+    pub fn finish<R: Files<File = F> + AllocGlobal>(
+        self,
+        rt: &R,
+        told: &Report,
+    ) -> Result<(), Fault<'a>> {
         let RunFiles {
             out_name,
             report_name,
@@ -97,7 +102,7 @@ impl<'a, F: OpenFile + Write + Hold + Drop> RunFiles<'a, F> {
             mut report,
             are_output: _,
         } = self;
-        if let Err(fault) = write_both(rt, (out_name, &out), (report_name, &mut report), text) {
+        if let Err(fault) = write_both(rt, (out_name, &out), (report_name, &mut report), told) {
             report.give_up(rt);
             out.leave(rt);
             return Err(fault);
@@ -113,17 +118,37 @@ impl<'a, F: OpenFile + Write + Hold + Drop> RunFiles<'a, F> {
     }
 }
 
-/// Writes the report, and has the system keep all bytes of both.
-fn write_both<'a, R: Files>(
+/// Writes the report's text piece by piece.
+fn write_told<'a, R: Files + AllocGlobal>(
     rt: &R,
-    out: (&'a str, &OutFile<'a, R::File>),
-    report: (&'a str, &mut OutFile<'a, R::File>),
-    text: &[u8],
+    name: &'a str,
+    file: &mut OutFile<'a, R::File>,
+    told: &Report,
 ) -> Result<(), Fault<'a>>
 where
     R::File: Hold,
 {
-    write_bytes(rt, report.0, &mut *report.1, text)?;
+    let writer = writer_of(rt, name, file)?;
+    let Ok(mut out) = BufWriter::new(rt.alloc(), writer) else {
+        return Err(Fault::Memory);
+    };
+    match write_report(&mut out, told) {
+        Ok(()) => Ok(()),
+        Err(error) => Err(Fault::of_stream(name, &error)),
+    }
+}
+
+/// Writes the report, and has the system keep all bytes of both.
+fn write_both<'a, R: Files + AllocGlobal>(
+    rt: &R,
+    out: (&'a str, &OutFile<'a, R::File>),
+    report: (&'a str, &mut OutFile<'a, R::File>),
+    told: &Report,
+) -> Result<(), Fault<'a>>
+where
+    R::File: Hold,
+{
+    write_told(rt, report.0, &mut *report.1, told)?;
     if let Err(error) = out.1.sync() {
         return Err(Fault::of_stream(out.0, &error));
     }

@@ -64,7 +64,7 @@ module _ (most : ℕ) (before : List Post) (job : JobState) where
   pub one_placed : (m m' : MachineState) (p p' : Posts) (x : Post) → IsPosted most before job m p → 0 < p.left → p'.left + 1 ≡ p.left
       → received_by p'.inbox ≡ received_by p.inbox ++ x ∷ []
       → m' ≡ with_placed m (m.placed ++ at_next m x.address x.action ∷ []) → IsUnderWay m'
-      → ((actions : List Placed) → p.ordered.items ≡ placed_up_to 1000000 actions → p'.ordered.items ≡ placed_up_to 1000000 (actions ++ at_next m x.address x.action ∷ []))
+      → ((actions : List Placed) → p.ordered.actions ≡ placed_up_to 1000000 actions → p'.ordered.actions ≡ placed_up_to 1000000 (actions ++ at_next m x.address x.action ∷ []))
       → IsPosted most before job m' p'
   one_placed m m' p p' x is some less received moved under_way listed =
       let y : Placed = at_next m x.address x.action in
@@ -97,7 +97,7 @@ module _ (most : ℕ) (before : List Post) (job : JobState) where
 
   -- a post was received, and no more are taken
   pub one_lost : (m m' : MachineState) (p p' : Posts) (x : Post) → IsPosted most before job m p → 0 < p.left → p'.left ≡ 0
-      → received_by p'.inbox ≡ received_by p.inbox ++ x ∷ [] → m' ≡ m → p'.ordered.items ≡ p.ordered.items → IsPosted most before job m' p'
+      → received_by p'.inbox ≡ received_by p.inbox ++ x ∷ [] → m' ≡ m → p'.ordered.actions ≡ p.ordered.actions → IsPosted most before job m' p'
   one_lost m m' p p' x is some none received same listed = subst (λ (z : MachineState). IsPosted most before job z p') (sym same) (record {
     posts = is.posts;
     got = is.got ++ x ∷ [];
@@ -114,7 +114,7 @@ module _ (most : ℕ) (before : List Post) (job : JobState) where
 
   -- nothing was received
   pub none_received : (m : MachineState) (p p' : Posts) → IsPosted most before job m p → p'.left ≡ p.left → received_by p'.inbox ≡ received_by p.inbox
-      → p'.ordered.items ≡ p.ordered.items → IsPosted most before job m p'
+      → p'.ordered.actions ≡ p.ordered.actions → IsPosted most before job m p'
   none_received m p p' is left received listed = record {
     posts = is.posts;
     got = is.got;
@@ -158,7 +158,7 @@ module _ (most : ℕ) (before : List Post) (job : JobState) where
 
 -- before any message
 unfoldable pub nothing_placed : (most : ℕ) (before : List Post) (job : JobState) (m : MachineState) (p : Posts) → p.left ≡ most → received_by p.inbox ≡ before
-    → IsOf (job_in job) job.actions m → p.ordered.items ≡ placed_up_to 1000000 job.actions → IsPosted most before job m p
+    → IsOf (job_in job) job.actions m → p.ordered.actions ≡ placed_up_to 1000000 job.actions → IsPosted most before job m p
 nothing_placed most before job m p left received of ordered = record {
   posts = [];
   got = [];

@@ -25,7 +25,7 @@ RecordsAre job = (placed : List Placed) (m : MachineState) → IsOf (job_in job)
 module _ (trunk : Trunk Entry) (own : ℕ) (limits : List ℕ) (index most : ℕ) (before : List Post) (job : JobState) where
   -- nothing was taken or offered yet
   pub stage_first : (m : MachineState) (t : Ticket Entry) (refused : List ℕ) (p : Posts) → p.left ≡ most → received_by p.inbox ≡ before
-      → IsOf (job_in job) job.actions m → p.ordered.items ≡ placed_up_to 1000000 job.actions
+      → IsOf (job_in job) job.actions m → p.ordered.actions ≡ placed_up_to 1000000 job.actions
       → SoFar trunk own limits index (with_posts job []) m.point.number t refused → IsStage trunk own limits index most before job m t refused p
   unfolding nothing_placed
   stage_first m t refused p left received of ordered so_far = record { posted = nothing_placed most before job m p left received of ordered; so_far = so_far }

@@ -25,4 +25,4 @@ pub record IsPosted (most : ℕ) (before : List Post) (job : JobState) (m : Mach
   pub order : NeverFalls 1 posts
   pub latest : AllByRecursion (λ q. q.number ≤ m.point.number + 1) posts
   pub of : IsOf (job_in job) (job.actions ++ posts) m
-  pub ordered : p.ordered.items ≡ placed_up_to 1000000 (job.actions ++ posts)
+  pub ordered : p.ordered.actions ≡ placed_up_to 1000000 (job.actions ++ posts)

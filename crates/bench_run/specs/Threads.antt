@@ -97,8 +97,8 @@ pub record IsRoom (job : JobState) (room : Room) : Type 0 where
   pub first : room.machine.point.number ≡ 0
   pub empty : room.refused.items ≡ []
   pub capacity : worst_messages (code_of_tree (tree_in job)).operations ≤ vec_capacity room.refused
-  pub ordered : room.posts.ordered.items ≡ placed_up_to 1000000 job.actions
-  pub fit : IsOrdered room.posts.ordered.items
+  pub ordered : room.posts.ordered.actions ≡ placed_up_to 1000000 job.actions
+  pub fit : IsOrdered room.posts.ordered.actions
 
 -- the set has one tag alone
 abbrev pub HasOnly : ℕ → ℕ → Type 0

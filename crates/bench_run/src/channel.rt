@@ -14,7 +14,7 @@ ghost use Rattle.bench_run.specs.declared.entry.Entry.TheVariants.{End};
 use crate::entry::Entry;
 use crate::gate::Gate;
 use crate::posting::Posts;
-use bc_machine::Machine;
+use bc_machine::{Actions, Machine};
 use bench_core::channel_report;
 use bench_mail::{Inbox, Mailbox};
 use bench_report::ChannelReport;
@@ -93,6 +93,7 @@ pub(crate) fn channel<R: Wait, G: Gate>(
     }
     offer_end(rt, trunk, gate, index, job.channel(), &mut ticket);
     let Posts { inbox, ordered, .. } = posts;
+    let ordered = Actions::of(ordered);
     Ended {
         ticket,
         part: channel_report(job.channel(), machine.number(), refused, ordered),

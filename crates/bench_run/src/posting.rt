@@ -9,7 +9,7 @@ ghost use Rattle.bench_mail.specs.declared.mailbox.Post.{Post};
 ghost use Rattle.bench_mail.specs.Mail.{IsInboxOf};
 ghost use Rattle.bench_run.specs.Posted.{IsPosted};
 
-use bc_machine::{Machine, Placed};
+use bc_machine::{Machine, Placed, Schedule};
 use bench_core::add_action;
 use bench_mail::{Inbox, Mailbox, Post};
 use std::sync::Wait;
@@ -26,7 +26,7 @@ const HIGHEST: u8 = 30;
 pub(crate) struct Posts {
     pub(crate) inbox: Inbox,
     pub(crate) left: u32,
-    pub(crate) ordered: Vec<Placed>,
+    pub(crate) ordered: Schedule,
 }
 
 impl Posts {
@@ -34,9 +34,9 @@ impl Posts {
     /// message, behind what is placed there. It takes no memory.
     pub(crate) fn place_all<R: Wait>(&mut self, rt: &R, mailbox: &Mailbox, machine: &mut Machine)
         requires inbox { IsInboxOf mailbox.now self.old.inbox }
-        requires ordered { IsOrdered self.old.ordered.items }
+        requires ordered { IsOrdered self.old.ordered.actions }
         ensures inbox { IsInboxOf mailbox.now self.new.inbox }
-        ensures ordered { IsOrdered self.new.ordered.items }
+        ensures ordered { IsOrdered self.new.ordered.actions }
         ensures point { machine.new.point ≡ machine.old.point }
         ensures posted { (most : ℕ) (before : List Post) (job : JobState)
             → IsPosted most before job machine.old self.old → IsPosted most before job machine.new self.new }
@@ -60,18 +60,19 @@ impl Posts {
     /// there always is.
     fn place(&mut self, machine: &mut Machine, post: Post) -> bool
         requires number { machine.old.point.number < 1000000 }
-        requires ordered { IsOrdered self.old.ordered.items }
+        requires ordered { IsOrdered self.old.ordered.actions }
         ensures inbox { self.new.inbox ≡ self.old.inbox }
         ensures left { self.new.left ≡ self.old.left }
-        ensures ordered { IsOrdered self.new.ordered.items }
+        ensures ordered { IsOrdered self.new.ordered.actions }
         ensures placed { IsTrue result
             → (machine.new ≡ with_placed machine.old
             (machine.old.placed ++ at_next machine.old post.address post.action ∷ [])) × IsUnderWay machine.new }
-        ensures listed { (actions : List Placed) → IsTrue result → self.old.ordered.items ≡ placed_up_to 1000000 actions
-            → self.new.ordered.items
+        ensures listed { (actions : List Placed) → IsTrue result
+            → self.old.ordered.actions ≡ placed_up_to 1000000 actions
+            → self.new.ordered.actions
             ≡ placed_up_to 1000000 (actions ++ at_next machine.old post.address post.action ∷ []) }
         ensures same { IsFalse result → (machine.new ≡ machine.old)
-            × (self.new.ordered.items ≡ self.old.ordered.items) }
+            × (self.new.ordered.actions ≡ self.old.ordered.actions) }
     {
         let Post {
             address,

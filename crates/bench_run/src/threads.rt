@@ -20,6 +20,7 @@ use crate::channel::{Ended, Room, channel};
 use crate::entry::Entry;
 use crate::gate::Gate;
 use crate::posting::Posts;
+use bc_machine::Schedule;
 use bench_core::ordered_actions;
 use bench_mail::{Inbox, Mailbox};
 use bench_report::ChannelReport;
@@ -90,8 +91,8 @@ fn room_for(alloc: Global, job: &Job, most: u32, inbox: Inbox) -> Result<Room, A
     let mut machine = job.machine(alloc, job.actions())?;
     machine.room(most)?;
     let refused = Vec::with_capacity(alloc, job.program().worst_messages() as usize)?;
-    let mut ordered = ordered_actions(alloc, job)?;
-    ordered.reserve(most as usize)?;
+    let mut ordered = Schedule::of(ordered_actions(job)?);
+    ordered.room(most)?;
     Ok(Room {
         machine,
         refused,

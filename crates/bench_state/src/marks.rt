@@ -5,7 +5,7 @@ ghost use Rattle.mil_terminal.specs.declared.events.Event.TheVariants.{Host};
 ghost use Rattle.mil_terminal.specs.History.{History};
 ghost use Rattle.bench_state.specs.Marks.{host_history, marks_in, marks_line, met_of, name_if, none_if};
 
-use bc_machine::Placed;
+use bc_machine::{Actions, Placed};
 use mil_host::Action;
 use std::io;
 use std::io::Write;
@@ -58,12 +58,12 @@ impl Marks {
     }
 
     /// What is on at the terminal of an address by the message of a number, where these actions were placed.
-    pub(crate) fn by(placed: &[Placed], address: u8, number: u32) -> Marks
+    pub(crate) fn by(placed: &Actions, address: u8, number: u32) -> Marks
         ensures { result ≡ marks_in (host_history address number placed.now) }
     {
         let mut marks = Marks::none();
-        for one in placed {
-            marks.meet(one, address, number);
+        for place in 0..placed.len() {
+            marks.meet(&placed.get(place), address, number);
         }
         marks
     }

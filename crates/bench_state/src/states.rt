@@ -8,7 +8,7 @@ use crate::data::print_data;
 use crate::details::Detail;
 use crate::marks::Marks;
 use crate::printing::Digits;
-use bc_machine::Placed;
+use bc_machine::Actions;
 use mil_bus::Bus;
 use mil_terminal::Terminal;
 use mil_word::Line;
@@ -77,7 +77,7 @@ fn print_host<W: Write>(out: &mut W, terminal: &Terminal) -> io::Result<()>
 fn print_set<W: Write>(
     out: &mut W,
     number: u32,
-    placed: &[Placed],
+    placed: &Actions,
     terminal: &Terminal,
 ) -> io::Result<()>
     ensures { OnOk result (Appends (W.contents out.old) (W.contents out.new)
@@ -94,7 +94,7 @@ fn print_detail<W: Write>(
     out: &mut W,
     detail: Detail,
     number: u32,
-    placed: &[Placed],
+    placed: &Actions,
     terminal: &Terminal,
 ) -> io::Result<()>
     ensures { OnOk result (Appends (W.contents out.old) (W.contents out.new)
@@ -119,7 +119,7 @@ fn print_terminals<W: Write>(
     out: &mut W,
     detail: Detail,
     number: u32,
-    placed: &[Placed],
+    placed: &Actions,
     bus: &Bus,
 ) -> io::Result<()>
     ensures { OnOk result (Appends (W.contents out.old) (W.contents out.new)
@@ -142,7 +142,7 @@ pub fn print_channel<W: Write>(
     detail: Detail,
     channel: u16,
     number: u32,
-    placed: &[Placed],
+    placed: &Actions,
     bus: &Bus,
 ) -> io::Result<()>
     ensures { OnOk result (Appends (W.contents out.old) (W.contents out.new)

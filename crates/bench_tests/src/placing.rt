@@ -1,7 +1,7 @@
 //! A job's actions by rising number, and those that a channel's part of a report has.
 use crate::channels::job_of;
 use crate::equal::{reads, same_in};
-use bc_machine::Placed;
+use bc_machine::{Actions, Placed};
 use bench_core::{channel_report, ordered_actions};
 use bench_report::ChannelReport;
 use std::alloc::Global;
@@ -30,9 +30,9 @@ const PARTS: &[(u16, &str)] = &[
 ];
 
 /// A job's actions in their order.
-fn ordered_of(rt: &impl Abort, alloc: Global, text: &str) -> Vec<Placed> {
+fn ordered_of(rt: &impl Abort, alloc: Global, text: &str) -> Actions {
     let job = job_of(rt, alloc, text);
-    ordered_actions(alloc, &job).expect(rt, "memory")
+    ordered_actions(&job).expect(rt, "memory")
 }
 
 /// Adds a placed action as its number, its address and what it does.
@@ -44,10 +44,10 @@ fn add_shown(rt: &impl Abort, alloc: Global, text: &mut String, one: &Placed) {
 }
 
 /// Placed actions are shown as this text.
-fn are_shown(rt: &impl Abort, alloc: Global, placed: &[Placed], wanted: &str) {
+fn are_shown(rt: &impl Abort, alloc: Global, placed: &Actions, wanted: &str) {
     let mut text = String::new(alloc);
-    for one in placed {
-        add_shown(rt, alloc, &mut text, one);
+    for place in 0..placed.len() {
+        add_shown(rt, alloc, &mut text, &placed.get(place));
     }
     reads(rt, "shown", text.as_str(), wanted);
 }
@@ -67,14 +67,14 @@ fn are_ordered(rt: &impl Abort, alloc: Global, text: &str, shown: &str) {
 /// The part of a report that made so many messages, none of them refused.
 fn part_up_to(rt: &impl Abort, alloc: Global, made: u16) -> ChannelReport {
     let job = job_of(rt, alloc, FOUR_ACTIONS);
-    let ordered = ordered_actions(alloc, &job).expect(rt, "memory");
+    let ordered = ordered_actions(&job).expect(rt, "memory");
     channel_report(1, u32::from(made), Vec::new(alloc), ordered)
 }
 
 /// The part of the last channel's report that made two messages, of which the second was refused.
 fn part_with_refused(rt: &impl Abort, alloc: Global) -> ChannelReport {
     let job = job_of(rt, alloc, FOUR_ACTIONS);
-    let ordered = ordered_actions(alloc, &job).expect(rt, "memory");
+    let ordered = ordered_actions(&job).expect(rt, "memory");
     let mut refused = Vec::new(alloc);
     refused.push(2).expect(rt, "memory");
     channel_report(65535, 2, refused, ordered)

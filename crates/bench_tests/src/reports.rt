@@ -1,6 +1,6 @@
 //! Texts of reports: what is expected stands in the format's own words.
 use crate::equal::{prints, reads, same_in};
-use bc_machine::Placed;
+use bc_machine::{Actions, Placed};
 use bench_report::{ChannelReport, Report, ReportError, ReportFault, print_report, read_report};
 use mil_host::{Action, Mark};
 use std::alloc::Global;
@@ -144,7 +144,7 @@ fn is_the_first(rt: &impl Abort, alloc: Global, report: &Report) {
 
 /// The report with two placed actions.
 fn report_with_placed(rt: &impl Abort, alloc: Global) -> Report {
-    let mut placed = Vec::new(alloc);
+    let mut placed = Actions::new(alloc);
     let first = Placed {
         number: 1,
         address: 30,
@@ -172,11 +172,14 @@ fn has_placed(rt: &impl Abort, channel: ChannelReport) {
     are_the_two(rt, &placed);
 }
 
-fn are_the_two(rt: &impl Abort, placed: &[Placed]) {
+fn are_the_two(rt: &impl Abort, placed: &Actions) {
     assert_eq!(rt; placed.len(), 2);
-    let second = (placed[1].number, placed[1].address);
-    same_in(rt, "the second", &second, &(1000000, 0));
-    assert!(rt; matches!(&placed[0].action, Action::Fault(true)));
+    if placed.len() == 2 {
+        let (first, second) = (placed.get(0), placed.get(1));
+        let place = (second.number, second.address);
+        same_in(rt, "the second", &place, &(1000000, 0));
+        assert!(rt; matches!(&first.action, Action::Fault(true)));
+    }
 }
 
 #[test]

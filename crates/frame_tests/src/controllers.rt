@@ -4,7 +4,7 @@ use crate::equal::same;
 use crate::loading::loaded;
 use crate::records::{Row, are_rows, has_ended, sends, sent};
 use crate::worked::LOOPS;
-use bc_machine::{Machine, Placed};
+use bc_machine::{Actions, Machine, Placed};
 use mil_bus::Bus;
 use mil_host::Action;
 use mil_line::{Fault, Plan};
@@ -67,7 +67,7 @@ fn controller(
     alloc: Global,
     image: &[u8],
     plan: Plan,
-    placed: Vec<Placed>,
+    placed: Actions,
 ) -> Machine {
     let bus = Bus::make(alloc, 0, &[5]).expect(rt, "a bus");
     Machine::start(loaded(rt, alloc, image), bus, plan, placed)
@@ -75,7 +75,7 @@ fn controller(
 
 /// One with no fault and no action.
 fn plain(rt: &impl Abort, alloc: Global, image: &[u8]) -> Machine {
-    controller(rt, alloc, image, Plan::make(alloc), Vec::new(alloc))
+    controller(rt, alloc, image, Plan::make(alloc), Actions::new(alloc))
 }
 
 #[test]
@@ -104,14 +104,14 @@ fn one_drop(rt: &impl Abort, alloc: Global) -> Plan {
 fn faults_of_the_first_message_alone(rt: HostRuntime) {
     let alloc = rt.alloc();
     let plan = one_drop(&rt, alloc);
-    let mut machine = controller(&rt, alloc, &WRITTEN, plan, Vec::new(alloc));
+    let mut machine = controller(&rt, alloc, &WRITTEN, plan, Actions::new(alloc));
     sends(&rt, alloc, "a fault", &mut machine, 4, &DROPPED);
     same(&rt, &machine.bus().clock(), &(1240 + 460));
 }
 
 /// Before the first message, terminal 5 becomes busy.
-fn one_action(rt: &impl Abort, alloc: Global) -> Vec<Placed> {
-    let mut placed = Vec::new(alloc);
+fn one_action(rt: &impl Abort, alloc: Global) -> Actions {
+    let mut placed = Actions::new(alloc);
     let busy = Placed {
         number: 1,
         address: 5,

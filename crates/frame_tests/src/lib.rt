@@ -23,6 +23,8 @@ mod loading;
 #[cfg(test)]
 mod many_messages;
 #[cfg(test)]
+mod placed_lists;
+#[cfg(test)]
 mod records;
 #[cfg(test)]
 mod text_faults;

@@ -14,7 +14,7 @@ shown d = record {
   channels = option_to_list d.channel;
   starts = option_to_list d.start;
   addresses = d.addresses.items;
-  actions = d.actions.items;
+  actions = d.actions;
   plan = d.plan;
   from_series = d.from_series;
 }

@@ -7,7 +7,7 @@ state_in j = record {
   channel = j.channel;
   start = j.start;
   addresses = j.addresses.items;
-  actions = j.actions.items;
+  actions = j.actions;
   plan = j.plan;
   script = j.script;
 }

@@ -13,7 +13,7 @@ ghost use Rattle.job_file.specs.Faults.{IsEntryRefused, IsLineRefused, are_line_
 use crate::error::{LineFault, Refusal};
 use crate::lines::{Entry, read_line};
 use crate::spans::{Series, Span};
-use bc_machine::Placed;
+use bc_machine::{Actions, Placed};
 use mil_host::read_action;
 use mil_line::{Fault, LineError, Plan};
 use std::alloc::Global;
@@ -33,7 +33,7 @@ pub struct Draft {
     pub channel: Option<u16>,
     pub start: Option<u64>,
     pub addresses: Vec<u8>,
-    pub actions: Vec<Placed>,
+    pub actions: Actions,
     pub plan: Plan,
     /// How many of the actions are those of series.
     pub from_series: u32,
@@ -49,7 +49,7 @@ impl Draft {
             channel: None,
             start: None,
             addresses: Vec::new(alloc),
-            actions: Vec::new(alloc),
+            actions: Actions::new(alloc),
             plan: Plan::make(alloc),
             from_series: 0,
         }

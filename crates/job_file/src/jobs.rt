@@ -15,7 +15,7 @@ ghost use Rattle.job_file.specs.Machines.{IsOf, IsTold};
 
 use crate::drafts::Draft;
 use crate::scripts::Script;
-use bc_machine::{Machine, Placed};
+use bc_machine::{Actions, Machine};
 use frame_load::Program;
 use mil_bus::Bus;
 use mil_line::Plan;
@@ -29,7 +29,7 @@ pub struct Job {
     channel: u16,
     start: u64,
     addresses: Vec<u8>,
-    actions: Vec<Placed>,
+    actions: Actions,
     plan: Plan,
     program: Program,
     script: Script,
@@ -96,11 +96,11 @@ impl Job {
 
     /// What the hosts do, in the order of the text: each action is of one of the terminals, at a message 1 to
     /// 1,000,000.
-    pub fn actions(&self) -> &[Placed]
+    pub fn actions(&self) -> &Actions
         ensures value { result.now ≡ self.now.actions }
         ensures fit { list_all (may_act self.now.addresses) result.now ≡ true }
     {
-        self.actions.as_slice()
+        &self.actions
     }
 
     /// The planned faults, in the order of the text.
@@ -122,7 +122,7 @@ impl Job {
     /// and these placed actions, which are not the job's own unless the caller hands in those. It fails for want of
     /// memory alone.
     #[tactic(auto, using(crate::proofs::JobRuns::starts_as))]
-    pub fn machine(&self, alloc: Global, placed: &[Placed]) -> Result<Machine, AllocError>
+    pub fn machine(&self, alloc: Global, placed: &Actions) -> Result<Machine, AllocError>
         ensures value { IfOk result
             (λ m. m ≡ started (code_of_tree (tree_in self.now)) (bus_of (job_in self.now)) self.now.plan placed.now) }
         ensures of_job { IfOk result (λ m. IsOf (job_in self.now) placed.now m) }
@@ -130,7 +130,7 @@ impl Job {
     {
         let program = self.program.copy()?;
         let plan = self.plan.copy()?;
-        let placed = Placed::copies_of(alloc, placed)?;
+        let placed = placed.copy()?;
         match Bus::make(alloc, self.start, self.addresses.as_slice()) {
             Ok(bus) => Ok(Machine::start(program, bus, plan, placed)),
             Err(_) => Err(AllocError),

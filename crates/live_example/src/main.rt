@@ -174,7 +174,9 @@ fn print_channel<R: Print>(rt: &R, part: &ChannelReport) -> io::Result<()> {
         part.channel(),
         part.made()
     )?;
-    for placed in part.placed() {
+    let all = part.placed();
+    for place in 0..all.len() {
+        let placed = all.get(place);
         println!(rt; "  for terminal {}: {}", placed.address, placed.action)?;
     }
     Ok(())

@@ -1,7 +1,6 @@
 //! Calls on jobs.
 use crate::told::Told;
 use crate::worked::{FIVE, HUNDRED, ONE, job_of};
-use bc_machine::Placed;
 use bench_core::ordered_actions;
 use job_file::{JobError, JobsError, read_job, read_jobs};
 use std::alloc::Global;
@@ -40,10 +39,10 @@ pub(crate) fn three(alloc: Global) -> Told {
     }
 }
 
-/// `Placed::copies_of`, of the actions of a job.
+/// `Actions::copy`, of the actions of a job.
 pub(crate) fn actions_copied(alloc: Global) -> Told {
     match job_of(alloc, HUNDRED) {
-        Some(job) => Told::of(Placed::copies_of(alloc, job.actions()).is_ok()),
+        Some(job) => Told::of(job.actions().copy().is_ok()),
         None => Told::Early,
     }
 }
@@ -51,7 +50,7 @@ pub(crate) fn actions_copied(alloc: Global) -> Told {
 /// `ordered_actions`.
 pub(crate) fn actions_ordered(alloc: Global) -> Told {
     match job_of(alloc, HUNDRED) {
-        Some(job) => Told::of(ordered_actions(alloc, &job).is_ok()),
+        Some(job) => Told::of(ordered_actions(&job).is_ok()),
         None => Told::Early,
     }
 }

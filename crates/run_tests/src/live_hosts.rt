@@ -100,7 +100,9 @@ fn run_beside<R: Threads + Wait + Abort + Sync>(
 /// their order; None where they are not.
 fn first_words(part: &ChannelReport, address: u8) -> Option<u16> {
     let mut count = 0u16;
-    for placed in part.placed() {
+    let all = part.placed();
+    for place in 0..all.len() {
+        let placed = all.get(place);
         if placed.address != address {
             continue;
         }

@@ -1,12 +1,10 @@
 use Rattle.std.proofs.Common.{ap, ◌∙◌}
 use Rattle.bc_machine.specs.Controller.{ready}
-use Rattle.bc_machine.proofs.Acts.{ready_same}
 use Rattle.bc_machine.proofs.Posted.{ready_both}
 use Rattle.bc_machine.proofs.messages.act_both.Goals as goal
 
 pub returns-clause-bus : goal.returns-clause-bus
 returns-clause-bus c =
     c.act_at-2.ensures.bus
-    ∙ ready_same c.args.number c.around-2.result.now c.args.posted.now.actions c.act_at.new.bus c.around-2.ensures
-    ∙ ap (ready c.args.posted.now.actions c.args.number) (c.act_at.ensures.bus ∙ ready_same c.args.number c.around.result.now c.args.placed.now.actions c.args.bus.now c.around.ensures)
+    ∙ ap (ready c.args.posted.now.actions c.args.number) c.act_at.ensures.bus
     ∙ ready_both c.args.number c.args.placed.now.actions c.args.posted.now.actions c.args.bus.now

@@ -6,5 +6,5 @@ use Rattle.bench_report.proofs.channels.keep_ranges.Given as goal
 abbrev invariant_at : Placed → Type 0
 invariant_at p = IsInRange p.action
 
-abbrev pub invariant-loop-one : goal.invariant-loop-one
-invariant-loop-one l = (k : ℕ) (d : Placed) → k < l.one-index → invariant_at (slice_index_or l.placed k d)
+abbrev pub invariant-loop-place : goal.invariant-loop-place
+invariant-loop-place l = (k : ℕ) (d : Placed) → k < l.place → invariant_at (slice_index_or l.placed k d)

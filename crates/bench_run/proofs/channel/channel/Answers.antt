@@ -133,6 +133,6 @@ returns g c =
       placed = placed_all room.posts.left (received_by room.posts.inbox) job c.channel_report.result.made m c.place_all.new.self (received_by c.place_all.new.self.inbox) posted (sym made ∙ sym part.made) refl;
       offered = last_stage c.args.trunk.now c.args.ticket c.args.index live c.number-2.result c.messages.ticket c.offer_end.new.ticket c.messages.refused.items c.channel_report.result
           (subst (λ k. SoFar c.args.trunk.now (tags_of c.args.ticket) (bounds_of c.args.ticket) c.args.index live k c.messages.ticket c.messages.refused.items) (sym made) st) (made ∙ whole) end.ticket end.tags end.bounds end.sent
-          (part.channel ∙ c.channel-3.ensures.value) part.made part.refused (part.placed live.actions posted.ordered)
+          (part.channel ∙ c.channel-3.ensures.value) part.made part.refused (part.placed live.actions (c.of-ordered.ensures ∙ posted.ordered))
           (omega (arith, c.channel-3.ensures.value)) (omega (arith, c.number-2.ensures.range)) (omega (arith, made, top));
     }

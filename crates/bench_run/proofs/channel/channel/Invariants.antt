@@ -9,7 +9,7 @@ abbrev pub invariant-messages : goal.invariant-messages
 invariant-messages g l = record {
   stage : IsStage l.trunk (tags_of l.fn.ticket) (bounds_of l.fn.ticket) l.index l.fn.room.posts.left (received_by l.fn.room.posts.inbox) l.job l.machine l.ticket l.refused.items l.posts;
   inbox : IsInboxOf l.mailbox l.posts.inbox;
-  ordered : IsOrdered l.posts.ordered.items;
+  ordered : IsOrdered l.posts.ordered.actions;
   room : vec_capacity l.refused ≡ vec_capacity l.fn.room.refused;
 }
 

@@ -12,15 +12,15 @@ invariant_of-self-in-Ok c =
     let n = c.place.new.self in
     let address = c.args.address in
     let action = c.args.action.now in
-    let is = moved_next m c.room.new.self n address c.copy-2.result action c.in_ok-room.ensures.made c.copy-2.ensures c.in-Ok.ensures.placed in
-    let one = placed_next m c.room.new.self c.number.result address c.copy.result action c.in_ok-room.ensures.made c.number.ensures.value c.copy.ensures in
+    let is = moved_next m c.room-2.new.self n address c.copy-2.result action c.in_ok-room-2.ensures.made c.copy-2.ensures c.in-Ok.ensures.placed in
+    let one = placed_next m c.room-2.new.self c.number.result address c.copy.result action c.in_ok-room-2.ensures.made c.number.ensures.value c.copy.ensures in
     record {
       controller = posted_of l.job.value m n address action is c.in-Ok.ensures.under_way c.self.invariant.controller;
       sound = c.self.invariant.sound;
       channel = c.self.invariant.channel;
       addresses = c.self.invariant.addresses;
       refused = subst (λ (k : ℕ). Rises 0 k l.refused.items) (sym (posted_number l.job.value m n address action is)) c.self.invariant.refused;
-      placed = c.add_posted.ensures.ordered m.placed (c.reserve.ensures.items ∙ c.self.invariant.placed)
+      placed = c.add_posted.ensures.ordered m.placed (c.room.ensures.actions ∙ c.self.invariant.placed)
           ∙ ap (λ (p : Placed). placed_up_to 1000000 (m.placed ++ p ∷ [])) one
           ∙ ap (placed_up_to 1000000) (sym (posted_placed l.job.value m n address action is));
       ordered = c.add_posted.ensures.fit;
@@ -33,8 +33,8 @@ returns-in-Ok-clause-made c =
     let l = c.self.inside in
     let m = l.machine in
     let n = c.place.new.self in
-    let is = moved_next m c.room.new.self n c.args.address c.copy-2.result c.args.action.now c.in_ok-room.ensures.made c.copy-2.ensures c.in-Ok.ensures.placed in
-    let same = ap (λ x. x.point.number) c.in_ok-room.ensures.made in
+    let is = moved_next m c.room-2.new.self n c.args.address c.copy-2.result c.args.action.now c.in_ok-room-2.ensures.made c.copy-2.ensures c.in-Ok.ensures.placed in
+    let same = ap (λ x. x.point.number) c.in_ok-room-2.ensures.made in
     record {
       recorded = posted_recorded l.job.value m n c.args.address c.args.action.now is c.self.invariant.recorded;
       few = omega (arith, posted_number l.job.value m n c.args.address c.args.action.now is, same, c.number.ensures.value, c.number.ensures.range);

@@ -9,7 +9,7 @@ use Rattle.bench_run.proofs.posting.Posts.place_all.Given as goal
 abbrev pub invariant-taking : goal.invariant-taking
 invariant-taking g l = record {
   inbox : IsInboxOf l.mailbox l.self.inbox;
-  ordered : IsOrdered l.self.ordered.items;
+  ordered : IsOrdered l.self.ordered.actions;
   point : l.machine.point ≡ l.fn.machine.point;
   low : l.fn.machine.point.number < 1000000;
   posted : (most : ℕ) (before : List Post) (job : JobState) → IsPosted most before job l.fn.machine l.fn.self → IsPosted most before job l.machine l.self;

@@ -10,10 +10,10 @@ pub loop-before-preserved : goal.loop-before-preserved
 loop-before-preserved c =
     let k = c.loop-before.before in
     let at = placed_at c.args.series.now in
-    let first = c.reserve.new.self.items in
-    let was : c.loop-before.self.actions.items ≡ first ++ map at (range_with_len 0 k) = ap (λ (h : Head). h.actions) c.loop-before.invariant in
-    let more : c.push.new.self.items ≡ first ++ map at (range_with_len 0 (k + 1)) =
-    c.in-Ok.ensures.items
+    let first = c.reserve.new.self in
+    let was : c.loop-before.self.actions ≡ first ++ map at (range_with_len 0 k) = ap (λ (h : Head). h.actions) c.loop-before.invariant in
+    let more : c.push.new.self ≡ first ++ map at (range_with_len 0 (k + 1)) =
+    c.in-Ok.ensures.pushed
     ∙ ap₂ (λ (ps : List Placed) (p : Placed). ps ++ p ∷ []) was c.placed.ensures
     ∙ append_assoc first (map at (range_with_len 0 k)) (at k ∷ [])
     ∙ ap (λ ps. first ++ ps) (sym (map-range_with_len_more at 0 k k (omega arith))) in

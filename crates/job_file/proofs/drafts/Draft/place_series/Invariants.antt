@@ -6,5 +6,5 @@ use Rattle.job_file.proofs.drafts.Draft.place_series.Given as goal
 
 abbrev pub invariant-loop-before : goal.invariant-loop-before
 invariant-loop-before l = shown l.self ≡ record (shown l.initial.self) {
-  actions = l.initial.self.actions.items ++ map (placed_at l.series) (range_with_len 0 l.before);
+  actions = l.initial.self.actions ++ map (placed_at l.series) (range_with_len 0 l.before);
 }

@@ -1,0 +1,155 @@
+-- Rows and the list beside them, as the list of placed actions that they stand for.
+use Rattle.std.proofs.Common.{◌≡◌, ℕ, zero, suc, ◌+◌, ◌<◌, ◌≤◌, true, false, eqb, leb, List, [], ◌∷◌, ◌++◌, length, map, get_or, refl, sym, ap, ap₂, subst, ◌∙◌, arith}
+use Rattle.std.specs.Prelude.{All}
+use Rattle.std.specs.List.{AllByRecursion, AllWithin, filter, insert}
+use Rattle.std.specs.List.Sorted.{ties, IsPermutation, IsStableByKey}
+use Rattle.std.specs.Ordering.{is_lt, nat_cmp}
+use Rattle.std.proofs.lemmas.Bool.{leb-true, leb-false}
+use Rattle.std.proofs.lemmas.Bool.Decides.{nat_tests}
+use Rattle.std.proofs.lemmas.List.{get_or_append_left, get_or-map, map-append, length-append, length-map}
+use Rattle.std.proofs.lemmas.List.Elements.{All-append, All-cons, All-nil, All-from_recursion, recursion_from_All, filter_agree}
+use Rattle.std.proofs.lemmas.List.Sorted.{All-permutation, IsPermutation-insert}
+use Rattle.mil_host.specs.Values.{PutUp}
+use Rattle.mil_host.specs.declared.actions.Action.{Action}
+use Rattle.mil_host.specs.declared.actions.Action.TheVariants as host
+use Rattle.bc_machine.specs.declared.placed.Placed.{Placed}
+use Rattle.bc_machine.specs.declared.kept.Kept.{Kept}
+use Rattle.bc_machine.specs.declared.kept.Kept.TheVariants as kept
+use Rattle.bc_machine.specs.declared.kept.Row.{Row}
+use Rattle.bc_machine.specs.Controller.{placed_at}
+use Rattle.bc_machine.specs.Rising.{IsRising, IsParted, IsPutIn}
+use Rattle.bc_machine.specs.Rows.{action_of, placed_of, all_placed, words_at, rows_at, IsKept, IsRow, IsMore}
+use Rattle.bc_machine.specs.Schedules.{AreRising}
+use Rattle.bc_machine.proofs.Around.{same_placed}
+
+-- ---- more data words in the list change no row
+
+action_more : (words rest : List PutUp) (k : Kept) → IsKept (length words) k → action_of (words ++ rest) k ≡ action_of words k
+action_more words rest (kept.Word sub word) is = refl
+action_more words rest (kept.Words place) is = ap host.Transmit (get_or_append_left words rest _ place is)
+action_more words rest (kept.Busy on) is = refl
+action_more words rest (kept.Service on) is = refl
+action_more words rest (kept.Subsystem on) is = refl
+action_more words rest (kept.Fault on) is = refl
+action_more words rest (kept.Control on) is = refl
+action_more words rest (kept.Vector word) is = refl
+action_more words rest (kept.SelfTest word) is = refl
+action_more words rest (kept.Illegal mark) is = refl
+action_more words rest (kept.Legal mark) is = refl
+action_more words rest (kept.Response gap) is = refl
+action_more words rest (kept.Deaf line on) is = refl
+action_more words rest (kept.Mute line on) is = refl
+
+kept_more : (m n : ℕ) (k : Kept) → m ≤ n → IsKept m k → IsKept n k
+kept_more m n (kept.Word sub word) le is = is
+kept_more m n (kept.Words place) le is = omega (arith, le, is)
+kept_more m n (kept.Busy on) le is = is
+kept_more m n (kept.Service on) le is = is
+kept_more m n (kept.Subsystem on) le is = is
+kept_more m n (kept.Fault on) le is = is
+kept_more m n (kept.Control on) le is = is
+kept_more m n (kept.Vector word) le is = is
+kept_more m n (kept.SelfTest word) le is = is
+kept_more m n (kept.Illegal mark) le is = is
+kept_more m n (kept.Legal mark) le is = is
+kept_more m n (kept.Response gap) le is = is
+kept_more m n (kept.Deaf line on) le is = is
+kept_more m n (kept.Mute line on) le is = is
+
+all_more : (words rest : List PutUp) (rows : List Row) → AllByRecursion (IsRow (length words)) rows → all_placed (words ++ rest) rows ≡ all_placed words rows
+all_more words rest [] all = refl
+all_more words rest (r ∷ rs) all =
+    ap₂ (λ (a : Action) (ps : List Placed). record { number = r.number; address = r.address; action = a } ∷ ps) (action_more words rest r.kept all.0) (all_more words rest rs all.1)
+
+same_more : (old new : List PutUp) (rows : List Row) → IsMore old new → All (IsRow (length old)) rows → all_placed new rows ≡ all_placed old rows
+same_more old new rows more all =
+    ap (λ (ws : List PutUp). all_placed ws rows) more.1
+    ∙ all_more old more.0 rows (recursion_from_All (IsRow (length old)) rows all)
+
+more_words : (old new : List PutUp) → IsMore old new → (length old ≤ length new) × (length new ≤ length old + 1)
+more_words old new more =
+    let long : length new ≡ length (old ++ more.0) = ap length more.1 in
+    (omega (arith, long, length-append old more.0), omega (arith, long, length-append old more.0, more.2))
+
+rows_more : (m n : ℕ) (rows : List Row) → m ≤ n → All (IsRow m) rows → All (IsRow n) rows
+rows_more m n rows le all = λ k d less. kept_more m n (get_or rows k d).kept le (all k d less)
+
+-- ---- a row behind the others, or among them
+
+module _ (old new : List PutUp) (rows : List Row) (row : Row) (more : IsMore old new) (all : All (IsRow (length old)) rows) (is : IsRow (length new) row) where
+  pub added_rows : All (IsRow (length new)) (rows ++ row ∷ [])
+  added_rows =
+      All-append (IsRow (length new)) rows (row ∷ []) (rows_more (length old) (length new) rows (more_words old new more).0 all)
+      (All-cons (IsRow (length new)) row [] is (All-nil (IsRow (length new))))
+
+  pub added_placed : (one : Placed) → placed_of new row ≡ one → all_placed new (rows ++ row ∷ []) ≡ all_placed old rows ++ one ∷ []
+  added_placed one same =
+      map-append (placed_of new) rows (row ∷ [])
+      ∙ ap₂ (λ (ps : List Placed) (p : Placed). ps ++ p ∷ []) (same_more old new rows more all) same
+
+  pub put_rows : (place : ℕ) → All (IsRow (length new)) (insert rows place row)
+  put_rows place =
+      All-permutation (IsRow (length new)) (row ∷ rows) (insert rows place row) (IsPermutation-insert rows place row)
+      (All-cons (IsRow (length new)) row rows is (rows_more (length old) (length new) rows (more_words old new more).0 all))
+
+  pub put_placed : (place : ℕ) (one : Placed) → placed_of new row ≡ one → all_placed new (insert rows place row) ≡ insert (all_placed old rows) place one
+  put_placed place one same =
+      map_insert place rows
+      ∙ ap₂ (λ (ps : List Placed) (p : Placed). insert ps place p) (same_more old new rows more all) same
+    where
+      map_insert : (i : ℕ) (rs : List Row) → all_placed new (insert rs i row) ≡ insert (all_placed new rs) i (placed_of new row)
+      map_insert zero rs = refl
+      map_insert (suc i) [] = refl
+      map_insert (suc i) (r ∷ rs) = ap (λ (ps : List Placed). placed_of new r ∷ ps) (map_insert i rs)
+
+-- at most one list of data words more
+pub at_most_one : (old new : List PutUp) → IsMore old new → length new ≤ length old + 1
+at_most_one old new more = (more_words old new more).1
+
+-- ---- numbers
+
+no_row : Row
+no_row = record { number = 0; address = 0; kept = kept.Busy false }
+
+pub placed_get : (words : List PutUp) (rows : List Row) (k : ℕ) (d : Placed) (e : Row) → k < length rows → get_or (all_placed words rows) k d ≡ placed_of words (get_or rows k e)
+placed_get words rows k d e less = get_or-map (placed_of words) rows k e d less
+
+number_get : (words : List PutUp) (rows : List Row) (k : ℕ) (d : Placed) (e : Row) → k < length rows → (get_or (all_placed words rows) k d).number ≡ (get_or rows k e).number
+number_get words rows k d e less = ap (λ (p : Placed). p.number) (placed_get words rows k d e less)
+
+pub rising_placed : (words : List PutUp) (rows : List Row) → AreRising rows → IsRising (all_placed words rows)
+rising_placed words rows rising i j d le less =
+    let short : j < length rows = omega (arith, less, length-map rows (placed_of words)) in
+    let first = number_get words rows i d no_row (omega (arith, le, short)) in
+    let second = number_get words rows j d no_row short in
+    omega (arith, first, second, rising i j no_row le short)
+
+pub rising_rows : (words : List PutUp) (rows : List Row) → IsRising (all_placed words rows) → AreRising rows
+rising_rows words rows rising i j e le less =
+    let d = placed_of words no_row in
+    let first = number_get words rows i d e (omega (arith, le, less)) in
+    let second = number_get words rows j d e less in
+    omega (arith, first, second, rising i j d le (omega (arith, less, length-map rows (placed_of words))))
+
+pub parted_placed : (words : List PutUp) (rows : List Row) (number place : ℕ) → place ≤ length rows → AllWithin (λ (r : Row). leb r.number number ≡ true) rows 0 place
+    → AllWithin (λ (r : Row). leb r.number number ≡ false) rows place (length rows) → IsParted number place (all_placed words rows)
+parted_placed words rows number place within before behind = record {
+  before = λ k d low high. omega (arith, number_get words rows k d no_row (omega (arith, high, within)), leb-true _ _ (before k no_row low high));
+  behind = λ k d low high.
+      let short : k < length rows = omega (arith, high, length-map rows (placed_of words)) in
+      omega (arith, number_get words rows k d no_row short, leb-false _ _ (behind k no_row low short));
+}
+
+-- ---- rows that were sorted
+
+abbrev row_at : ℕ → Row
+row_at k = record { number = k; address = 0; kept = kept.Busy false }
+
+alike : (m n : ℕ) → ties (λ x y. is_lt (nat_cmp x y)) m n ≡ eqb n m
+alike m n = grind (arith, nat_tests)
+
+at_alike : (k : ℕ) (rows : List Row) → filter (ties (λ (x y : Row). is_lt (nat_cmp x.number y.number)) (row_at k)) rows ≡ rows_at k rows
+at_alike k rows = filter_agree _ (λ (r : Row). eqb r.number k) (λ r. alike k r.number) rows
+
+pub sorted_at : (words : List PutUp) (old new : List Row) → IsStableByKey (λ (r : Row). r.number) nat_cmp old new → (n : ℕ) → placed_at n (all_placed words new) ≡ placed_at n (all_placed words old)
+sorted_at words old new stable n = same_placed n words new old (sym (at_alike n new) ∙ stable (row_at n) ∙ at_alike n old)

@@ -1,0 +1,43 @@
+use Rattle.std.proofs.Common.{◌≡◌, ◌<◌, length, vec_len, sym, ap, subst, ◌∙◌, arith, rules}
+use Rattle.std.specs.Prelude.{All}
+use Rattle.std.specs.List.{insert}
+use Rattle.std.proofs.lemmas.List.{length-map}
+use Rattle.bc_machine.specs.Rows.{placed_of, all_placed, IsRow}
+use Rattle.bc_machine.specs.Rising.{IsPutIn}
+use Rattle.bc_machine.specs.Schedules.{ScheduleState}
+use Rattle.bc_machine.proofs.Listed.{put_rows, put_placed, at_most_one}
+use Rattle.bc_machine.proofs.schedule.Schedule.put_in.Goals as goal
+
+pub invariant_of-self : goal.invariant_of-self
+invariant_of-self c =
+    let is = c.self.invariant in
+    let old = c.self.inside.words in
+    let new = c.of-row.new.words in
+    let rows = c.self.inside.rows in
+    let was : length old.items ≡ vec_len old = search rules in
+    let now : length new.items ≡ vec_len new = search rules in
+    let long : length rows.items ≡ vec_len rows = search rules in
+    let room : length (all_placed old.items rows.items) < c.self.inside.most = subst (λ (s : ScheduleState). length s.actions < s.capacity) (sym c.self.view_is) c.requires.room in
+    let all = length-map rows.items (placed_of old.items) in
+    let more = at_most_one old.items new.items c.of-row.ensures.more in
+    record {
+      rows = subst (All (IsRow (length new.items))) (sym c.insert_row.ensures.rows) (put_rows old.items new.items rows.items c.of-row.result c.of-row.ensures.more is.rows c.of-row.ensures.row c.behind-place.result);
+      rising = λ above. absurd (search rules);
+      within = omega (arith, c.insert_row.ensures.len, room, all, long);
+      room = omega (arith, c.insert_row.ensures.capacity, is.room);
+      words = omega (arith, c.insert_row.ensures.len, c.of-row.ensures.capacity, was, now, more, is.words);
+      few = omega (arith, c.insert_row.ensures.len, was, now, more, is.few);
+    }
+
+pub returns-clause-put : goal.returns-clause-put
+returns-clause-put c =
+    let old = c.self.inside.words.items in
+    let new = c.of-row.new.words.items in
+    let at = c.behind-place.result in
+    record {
+      place = at;
+      parted = c.behind-place.ensures.parted;
+      is = ap (all_placed new) c.insert_row.ensures.rows
+          ∙ put_placed old new c.self.inside.rows.items c.of-row.result c.of-row.ensures.more c.self.invariant.rows c.of-row.ensures.row at c.args.one c.of-row.ensures.placed
+          ∙ ap (λ (s : ScheduleState). insert s.actions at c.args.one) c.self.view_is;
+    }

@@ -1,0 +1,45 @@
+use Rattle.std.proofs.Common.{length, ap, subst, ◌∙◌, arith, rules}
+use Rattle.std.specs.List.Sorted.{IsPermutation}
+use Rattle.std.proofs.lemmas.List.Sorted.{answers_always, IsNonDecreasingBy-from_sort_by_key, IsPermutation-map, All-permutation}
+use Rattle.bc_machine.specs.declared.placed.Placed.{Placed}
+use Rattle.bc_machine.specs.declared.kept.Row.{Row}
+use Rattle.bc_machine.specs.Controller.{placed_at}
+use Rattle.bc_machine.specs.Rising.{IsRising}
+use Rattle.bc_machine.specs.Rows.{placed_of, all_placed, IsRow}
+use Rattle.bc_machine.specs.Schedules.{ScheduleState}
+use Rattle.bc_machine.proofs.Listed.{rising_placed, sorted_at}
+use Rattle.bc_machine.proofs.schedule.Schedule.sort.Goals as goal
+
+pub invariant_of-self-then-not-self : goal.invariant_of-self-then-not-self
+invariant_of-self-then-not-self c =
+    let is = c.self.invariant in
+    record {
+      rows = All-permutation (IsRow (length c.self.inside.words.items)) c.self.inside.rows.items c.sort_by_key.new.self.items c.sort_by_key.ensures.permutation is.rows;
+      rising = λ _. IsNonDecreasingBy-from_sort_by_key (λ (r : Row). r.number) _ c.in_ok-sort_by_key.ensures.sorted (λ a r q k. search rules);
+      within = omega (arith, c.sort_by_key.ensures.len, is.within);
+      room = omega (arith, c.sort_by_key.ensures.capacity, is.room);
+      words = omega (arith, c.sort_by_key.ensures.len, is.words);
+      few = omega (arith, c.sort_by_key.ensures.len, is.few);
+    }
+
+pub returns-in_ok-sort_by_key-clause-permutation : goal.returns-in_ok-sort_by_key-clause-permutation
+returns-in_ok-sort_by_key-clause-permutation c =
+    let words = c.self.inside.words.items in
+    subst (λ (s : ScheduleState). IsPermutation s.actions (all_placed words c.sort_by_key.new.self.items)) c.self.view_is
+    (IsPermutation-map (placed_of words) c.self.inside.rows.items c.sort_by_key.new.self.items c.sort_by_key.ensures.permutation)
+
+pub returns-in_ok-sort_by_key-clause-rising : goal.returns-in_ok-sort_by_key-clause-rising
+returns-in_ok-sort_by_key-clause-rising c =
+    rising_placed c.self.inside.words.items c.sort_by_key.new.self.items
+    (IsNonDecreasingBy-from_sort_by_key (λ (r : Row). r.number) _ c.in_ok-sort_by_key.ensures.sorted (λ a r q k. search rules))
+
+pub returns-in_ok-sort_by_key-clause-stable : goal.returns-in_ok-sort_by_key-clause-stable
+returns-in_ok-sort_by_key-clause-stable c = λ n.
+    sorted_at c.self.inside.words.items c.self.inside.rows.items c.sort_by_key.new.self.items
+    (c.in_ok-sort_by_key.ensures.stable (λ (r : Row). r.number) (answers_always _ _ _ (λ f a r q k. search rules))) n
+    ∙ ap (λ (s : ScheduleState). placed_at n s.actions) c.self.view_is
+
+pub returns-else-not-self-clause-rising : goal.returns-else-not-self-clause-rising
+returns-else-not-self-clause-rising c =
+    subst (λ (s : ScheduleState). IsRising s.actions) c.self.view_is
+    (rising_placed c.self.inside.words.items c.self.inside.rows.items (c.self.invariant.rising (search rules)))

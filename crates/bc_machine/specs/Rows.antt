@@ -1,0 +1,56 @@
+-- Placed actions as rows: what a row stands for, beside the list of data words that do not fit into one.
+use Rattle.std.specs.Prelude.{◌≡◌, ℕ, ◌<◌, ◌≤◌, ◌==◌, List, [], ◌∷◌, ◌++◌, map, length, slice_index_or}
+use Rattle.std.specs.List.{filter}
+use Rattle.mil_host.specs.Values.{PutUp}
+use Rattle.mil_host.specs.declared.actions.Action.{Action}
+use Rattle.mil_host.specs.declared.actions.Action.TheVariants as host
+use Rattle.bc_machine.specs.declared.placed.Placed.{Placed}
+use Rattle.bc_machine.specs.declared.kept.Kept.{Kept}
+use Rattle.bc_machine.specs.declared.kept.Kept.TheVariants as kept
+use Rattle.bc_machine.specs.declared.kept.Row.{Row}
+
+-- the data words at a place of the list beside the rows
+abbrev pub words_at : List PutUp → ℕ → PutUp
+words_at words place = slice_index_or words place (record { sub = 0; words = [] })
+
+-- the action that is kept
+abbrev pub action_of : List PutUp → Kept → Action
+action_of words (kept.Word sub word) = host.Transmit (record { sub = sub; words = word ∷ [] })
+action_of words (kept.Words place) = host.Transmit (words_at words place)
+action_of words (kept.Busy on) = host.Busy on
+action_of words (kept.Service on) = host.Service on
+action_of words (kept.Subsystem on) = host.Subsystem on
+action_of words (kept.Fault on) = host.Fault on
+action_of words (kept.Control on) = host.Control on
+action_of words (kept.Vector word) = host.Vector word
+action_of words (kept.SelfTest word) = host.SelfTest word
+action_of words (kept.Illegal mark) = host.Illegal mark
+action_of words (kept.Legal mark) = host.Legal mark
+action_of words (kept.Response gap) = host.Response gap
+action_of words (kept.Deaf line on) = host.Deaf line on
+action_of words (kept.Mute line on) = host.Mute line on
+
+-- a subaddress of 1 to 29, or a place below this one
+abbrev pub IsKept : ℕ → Kept → Type 0
+IsKept count (kept.Word sub word) = (1 ≤ sub) × (sub ≤ 29)
+IsKept count (kept.Words place) = place < count
+IsKept count _ = Unit {0}
+
+-- the placed action of a row
+abbrev pub placed_of : List PutUp → Row → Placed
+placed_of words r = record { number = r.number; address = r.address; action = action_of words r.kept }
+
+-- the placed actions of rows, in their order
+abbrev pub all_placed : List PutUp → List Row → List Placed
+all_placed words rows = map (placed_of words) rows
+
+abbrev pub IsRow : ℕ → Row → Type 0
+IsRow count r = IsKept count r.kept
+
+-- the rows of a number
+abbrev pub rows_at : ℕ → List Row → List Row
+rows_at number rows = filter (λ (r : Row). r.number == number) rows
+
+-- the list beside the rows with at most one more behind
+abbrev pub IsMore : List PutUp → List PutUp → Type 0
+IsMore old new = (rest : List PutUp) × (new ≡ old ++ rest) × (length rest ≤ 1)
