@@ -49,7 +49,7 @@ fields_front xs r le =
       get_or_append_left xs r 0 15 (omega (arith, le)),
     ) refl
 
-header_front : (xs r : List ℕ) → 24 ≤ length xs → header_in (xs ++ r) ≡ header_in xs
+pub header_front : (xs r : List ℕ) → 24 ≤ length xs → header_in (xs ++ r) ≡ header_in xs
 unfolding header_in
 header_front xs r le =
     rw (
@@ -80,9 +80,9 @@ header_lawful : (bytes : List ℕ) (h : Header) → header_in bytes ≡ Ok h →
 unfolding header_in
 header_lawful bytes h is = past_tests h (ltb (length bytes) 24) (eqb (number_at 0 2 bytes) 0xEB25) (eqb (number_at 22 2 bytes) (header_sum bytes)) _ _ _ _ is
 
-record HasRoom (h : Header) : Type 0 where
-  least : 24 ≤ h.packet_length
-  body : body_start h + h.data_length ≤ h.packet_length
+pub record HasRoom (h : Header) : Type 0 where
+  pub least : 24 ≤ h.packet_length
+  pub body : body_start h + h.data_length ≤ h.packet_length
 
 both : (a b : Bool) → (a && b) ≡ true → a ≡ true
 both true b e = refl
@@ -102,7 +102,7 @@ room_behind g h true true e f l r is =
     let same : g ≡ h = cc in
     has_room_by h (ap (λ (x : Header). is_packet_length x.packet_length) (sym same) ∙ l) (ap has_room (sym same) ∙ r)
 
-header_room : (bytes : List ℕ) (h : Header) → header_in bytes ≡ Ok h → HasRoom h
+pub header_room : (bytes : List ℕ) (h : Header) → header_in bytes ≡ Ok h → HasRoom h
 unfolding with_lawful_lengths
 header_room bytes h is = room_behind (fields_of bytes) h _ _ _ _ refl refl (header_lawful bytes h is)
 
@@ -138,10 +138,10 @@ body_front h bytes r room whole =
     rw (drop-append-le (body_start h) bytes r (omega (arith, room.body, whole)))
     (take-append-le h.data_length (drop (body_start h) bytes) r (omega (arith, room.body, whole, length-drop (body_start h) bytes)))
 
-messages_front : (h : Header) (bytes r : List ℕ) → HasRoom h → h.packet_length ≤ length bytes → messages_of h (bytes ++ r) ≡ messages_of h bytes
+pub messages_front : (h : Header) (bytes r : List ℕ) → HasRoom h → h.packet_length ≤ length bytes → messages_of h (bytes ++ r) ≡ messages_of h bytes
 messages_front h bytes r room whole = rw (body_front h bytes r room whole) refl
 
-rest_front : (h : Header) (bytes r : List ℕ) → HasRoom h → h.packet_length ≤ length bytes → with_rest h (bytes ++ r) ≡ with_rest h bytes
+pub rest_front : (h : Header) (bytes r : List ℕ) → HasRoom h → h.packet_length ≤ length bytes → with_rest h (bytes ++ r) ≡ with_rest h bytes
 rest_front h bytes r room whole =
     rw (le-ltb (length (bytes ++ r)) h.packet_length (omega (arith, whole, length-append bytes r)), le-ltb (length bytes) h.packet_length whole, body_front h bytes r room whole) refl
 
