@@ -65,7 +65,7 @@ long_behind : (bytes : List ℕ) (h : Header) (b : Bool) (e : HeaderError) (othe
 long_behind bytes h true e others eq is = cc
 long_behind bytes h false e others eq is = ltb-false (length bytes) 24 eq
 
-header_long : (bytes : List ℕ) (h : Header) → header_in bytes ≡ Ok h → 24 ≤ length bytes
+pub header_long : (bytes : List ℕ) (h : Header) → header_in bytes ≡ Ok h → 24 ≤ length bytes
 unfolding header_in
 header_long bytes h is = long_behind bytes h (ltb (length bytes) 24) _ _ refl is
 
@@ -108,10 +108,10 @@ header_room bytes h is = room_behind (fields_of bytes) h _ _ _ _ refl refl (head
 
 -- ---- a packet is read off its bytes
 
-record IsFront (h : Header) (bytes : List ℕ) : Type 0 where
-  header : header_in bytes ≡ Ok h
-  rest : with_rest h bytes ≡ Ok h
-  whole : h.packet_length ≤ length bytes
+pub record IsFront (h : Header) (bytes : List ℕ) : Type 0 where
+  pub header : header_in bytes ≡ Ok h
+  pub rest : with_rest h bytes ≡ Ok h
+  pub whole : h.packet_length ≤ length bytes
 
 body_is : (g h : Header) (m : Result (List Message) BodyError) → with_body g m ≡ Ok h → g ≡ h
 body_is g h (Ok ms) is = cc
@@ -129,7 +129,7 @@ front_of bytes h (Ok g) is found =
     let r = rest_is g h bytes (ltb (length bytes) g.packet_length) (holds_messages g) _ refl found in
     record { header = is ∙ ap Ok r.0; rest = ap (λ (x : Header). with_rest x bytes) (sym r.0) ∙ found; whole = omega (arith, r.1, ap (λ (x : Header). x.packet_length) r.0) }
 
-front : (bytes : List ℕ) (h : Header) → packet_at bytes ≡ Ok h → IsFront h bytes
+pub front : (bytes : List ℕ) (h : Header) → packet_at bytes ≡ Ok h → IsFront h bytes
 unfolding packet_at
 front bytes h is = front_of bytes h (header_in bytes) refl is
 
@@ -145,7 +145,7 @@ pub rest_front : (h : Header) (bytes r : List ℕ) → HasRoom h → h.packet_le
 rest_front h bytes r room whole =
     rw (le-ltb (length (bytes ++ r)) h.packet_length (omega (arith, whole, length-append bytes r)), le-ltb (length bytes) h.packet_length whole, body_front h bytes r room whole) refl
 
-packet_front : (bytes r : List ℕ) (h : Header) → packet_at bytes ≡ Ok h → packet_at (bytes ++ r) ≡ Ok h
+pub packet_front : (bytes r : List ℕ) (h : Header) → packet_at bytes ≡ Ok h → packet_at (bytes ++ r) ≡ Ok h
 unfolding packet_at
 packet_front bytes r h is =
     let f = front bytes h is in
@@ -199,7 +199,7 @@ unfolding packets_from
 nothing_is_found zero offset = refl
 nothing_is_found (suc most) offset = refl
 
-least_of : (bytes : List ℕ) (h : Header) → packet_at bytes ≡ Ok h → (24 ≤ h.packet_length) × (h.packet_length ≤ length bytes)
+pub least_of : (bytes : List ℕ) (h : Header) → packet_at bytes ≡ Ok h → (24 ≤ h.packet_length) × (h.packet_length ≤ length bytes)
 least_of bytes h at = let f = front bytes h at in ((header_room bytes h f.header).least, f.whole)
 
 -- the same bytes elsewhere in a file

@@ -1,1 +1,3 @@
+pub mod Feeding
+pub mod Judged
 pub mod Slices

@@ -1,2 +1,6 @@
 pub mod FaultText
 pub mod Feeding
+pub mod Holding
+pub mod Listed
+pub mod Reading
+pub mod Taking

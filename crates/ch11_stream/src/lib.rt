@@ -6,5 +6,10 @@
 mod buffer;
 mod fault;
 mod feed;
+mod found;
+mod listed;
+mod packets;
+mod taking;
 
 pub use fault::StreamFault;
+pub use packets::Packets;
