@@ -4,3 +4,4 @@ pub mod Holding
 pub mod Listed
 pub mod Reading
 pub mod Taking
+pub mod Whole

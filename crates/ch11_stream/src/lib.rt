@@ -7,9 +7,11 @@ mod buffer;
 mod fault;
 mod feed;
 mod found;
+mod laws;
 mod listed;
 mod packets;
 mod taking;
 
 pub use fault::StreamFault;
+pub use laws::steps_read_the_file;
 pub use packets::Packets;
