@@ -1,8 +1,10 @@
 //! Why a recording was not dumped, or not to its end.
 ghost use Rattle.std.specs.Prelude.{◌≡◌};
 ghost use Rattle.bench_dump.specs.declared.fault.DumpFault.TheVariants.{Device, Memory};
+ghost use Rattle.bench_dump.specs.Streaming.{dump_fault};
 
 use ch11_reader::Refusal;
+use ch11_stream::StreamFault;
 use std::alloc::AllocError;
 use std::{fmt, io};
 
@@ -15,7 +17,7 @@ pub enum DumpFault {
     /// Memory was refused.
     Memory,
 
-    /// The writer failed, which may have got some of the text.
+    /// The reader failed, or the writer, which may have got some of the text.
     Device,
 }
 
@@ -47,5 +49,17 @@ impl From<io::Error> for DumpFault {
 
     fn from(_e: io::Error) -> DumpFault {
         DumpFault::Device
+    }
+}
+
+impl From<StreamFault> for DumpFault {
+    ghost from_gives = { λ f e. e ≡ dump_fault f };
+
+    fn from(fault: StreamFault) -> DumpFault {
+        match fault {
+            StreamFault::Refused(refusal) => DumpFault::Refused(refusal),
+            StreamFault::Memory => DumpFault::Memory,
+            StreamFault::Device => DumpFault::Device,
+        }
     }
 }

@@ -79,11 +79,16 @@ pub fn messages_of_packet<'a>(bytes: &'a [u8], header: &Header) -> Messages<'a>
     requires { body_start header.now + header.now.data_length ≤ length bytes.now }
     ensures { result ≡ messages_of header.now bytes.now }
 {
-    if header.kind != MESSAGES_KIND {
+    let Header {
+        kind,
+        data_length,
+        ..
+    } = *header;
+    if kind != MESSAGES_KIND {
         return Messages::none();
     }
     let (_, behind_head) = bytes.split_at(header.body_start());
-    let (body, _) = behind_head.split_at(header.data_length as usize);
+    let (body, _) = behind_head.split_at(data_length as usize);
     match messages(body) {
         Ok(found) => found,
         Err(_) => Messages::none(),

@@ -76,8 +76,7 @@ passes_on count rest left middle leaves before mid after more short p is = recor
       let b = both_of mid middle (drop (count - rest) bytes) so_far.1 in
       let place : count - rest + length mid ≡ count - (rest - length mid) = omega (arith, p.within, short) in
       let behind : b.others ≡ drop (count - (rest - length mid)) bytes =
-      sym (drop-append_seam mid b.others) ∙ ap (drop (length mid)) b.all ∙ drop-drop (length mid) (count - rest) bytes ∙ ap (λ (n : ℕ). drop n bytes) place in
-      (
+      sym (drop-append_seam mid b.others) ∙ ap (drop (length mid)) b.all ∙ drop-drop (length mid) (count - rest) bytes ∙ ap (λ (n : ℕ). drop n bytes) place in (
         omega (arith, so_far.0, p.within, short, ap length b.all, length-append mid b.others, length-drop (count - rest) bytes),
         given_all middle leaves after b.others more is b.known ∙ ap Some behind,
       );
@@ -91,8 +90,7 @@ all_passed count rest left leaves before mid after fits cut p = record {
       let b = both_of mid leaves (drop (count - rest) bytes) so_far.1 in
       let place : count - rest + rest ≡ count = omega (arith, p.within) in
       let behind : after ++ b.others ≡ drop count bytes =
-      ap (λ (l : List ℕ). l ++ b.others) cut ∙ sym (drop-append-le rest mid b.others fits) ∙ ap (drop rest) b.all ∙ drop-drop rest (count - rest) bytes ∙ ap (λ (n : ℕ). drop n bytes) place in
-      (
+      ap (λ (l : List ℕ). l ++ b.others) cut ∙ sym (drop-append-le rest mid b.others fits) ∙ ap (drop rest) b.all ∙ drop-drop rest (count - rest) bytes ∙ ap (λ (n : ℕ). drop n bytes) place in (
         omega (arith, so_far.0, p.within, fits, ap length b.all, length-append mid b.others, length-drop (count - rest) bytes),
         ap (prepend_known after) b.known ∙ ap Some behind,
       );

@@ -95,8 +95,7 @@ pub all_read : (file : List ℕ) (ps : List Packet) (now last : Reading) → Ste
 all_read file ps now last s =
     let start : IsSoFar file [] (at_start (Some file)) = record { amid = amid_start file; listed = record { all = λ qs. refl } } in
     let f : IsSoFar file ps now = so_far file [] ps (at_start (Some file)) now s start in
-    let order : in_order now.earlier [] ≡ reverse now.earlier = refl in
-    (
+    let order : in_order now.earlier [] ≡ reverse now.earlier = refl in (
       λ e. (amid_end file now last e f.amid ∙ ap Ok order, sym (ap listing (sym order) ∙ f.listed.all [] ∙ append-nil ps)),
       λ r stop. amid_stop file now last r stop f.amid,
     )

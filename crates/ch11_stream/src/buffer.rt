@@ -82,11 +82,7 @@ fn judge(read: io::Result<usize>) -> Result<Gave, StreamFault>
 }
 
 /// One read behind the first `end` bytes, which stay.
-fn read_behind<R: Read>(
-    input: &mut R,
-    bytes: &mut [u8],
-    end: usize,
-) -> Result<Gave, StreamFault>
+fn read_behind<R: Read>(input: &mut R, bytes: &mut [u8], end: usize) -> Result<Gave, StreamFault>
     requires { end < length bytes.old }
     ensures front { take end bytes.new ≡ take end bytes.old }
     ensures within { IfOk result (λ gave. end + gave.count ≤ length bytes.new) }

@@ -36,11 +36,11 @@ impl<R: Read> Model for Packets<R> {
     ghost Value = { Reading };
 
     ghost view = { λ p. record {
-        earlier = p.listed;
-        given = given_of p.last p.buffer.ready;
-        offset = p.offset;
-        left = prepend_known (drop (held_of p.last) p.buffer.ready) (R.remaining p.input);
-        fault = p.fault
+      earlier = p.listed;
+      given = given_of p.last p.buffer.ready;
+      offset = p.offset;
+      left = prepend_known (drop (held_of p.last) p.buffer.ready) (R.remaining p.input);
+      fault = p.fault;
     } };
 
     ghost invariant = { λ p. IsHolding p.listed p.offset p.last p.buffer.ready p.fault };

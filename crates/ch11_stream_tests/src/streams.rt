@@ -102,13 +102,7 @@ fn is_read_alike(rt: &impl Abort, alloc: Global, file: &[u8], input: Slow<'_>) {
         Ok(_) => gives(rt, alloc, input, file, Ok(None)),
         Err(ReadError::Refused(refusal)) => {
             let (sound, _) = file.split_at(refusal.offset.min(file.len()));
-            gives(
-                rt,
-                alloc,
-                input,
-                sound,
-                Err(StreamFault::Refused(refusal)),
-            );
+            gives(rt, alloc, input, sound, Err(StreamFault::Refused(refusal)));
         }
         Err(ReadError::Memory) => same(rt, &"memory", &"a file"),
     }
@@ -116,7 +110,11 @@ fn is_read_alike(rt: &impl Abort, alloc: Global, file: &[u8], input: Slow<'_>) {
 
 /// A file is read alike by readers that give one, seven and all bytes at a time, interrupted or not.
 fn is_read_by_all(rt: &impl Abort, alloc: Global, file: &[u8]) {
-    let readers = [reader_of(file, 1), reader_of(file, 7), reader_of(file, usize::MAX)];
+    let readers = [
+        reader_of(file, 1),
+        reader_of(file, 7),
+        reader_of(file, usize::MAX),
+    ];
     for reader in readers {
         is_read_alike(rt, alloc, file, reader);
         let interrupted = Slow {

@@ -6,8 +6,7 @@ use Rattle.ch11_stream.proofs.taking.next_header.Goals as goal
 
 pub returns-in-Ok : goal.returns-in-Ok
 returns-in-Ok g c =
-    let answer : header_in c.fill.new.buffer.ready ≡ Ok c.in-Ok.header = ap header_in (sym c.ready-ready.ensures) ∙ sym c.in-Ok.ensures.answer in
-    (
+    let answer : header_in c.fill.new.buffer.ready ≡ Ok c.in-Ok.header = ap header_in (sym c.ready-ready.ensures) ∙ sym c.in-Ok.ensures.answer in (
       next_is (g.R.Read.remaining c.fill.new.input) c.fill.new.buffer.ready c.in-Ok.header c.in-Ok.ensures.lengths.0 c.in-Ok.ensures.lengths.1 answer,
       c.in_ok-fill.ensures.filled.kept,
     )
