@@ -1,18 +1,21 @@
 -- Packets of a dump as they come from a reader.
-use Rattle.std.proofs.Common.{◌≡◌, ℕ, ◌+◌, List, [], ◌∷◌, ◌++◌, length, Option, None, Some, Ok, refl, sym, ap, subst, ◌∙◌, append_assoc, add_comm, false, arith}
+use Rattle.std.proofs.Common.{◌≡◌, ℕ, ◌+◌, List, [], ◌∷◌, ◌++◌, length, Option, None, Some, Ok, Err, refl, sym, ap, subst, ◌∙◌, append_assoc, add_comm, false, arith}
 use Rattle.std.proofs.lemmas.List.{append-nil}
 use Rattle.std.specs.Io.KnownBytes.{Appends}
 use Rattle.ch11_reader.specs.declared.packet.Packet.{Packet}
-use Rattle.ch11_reader.specs.Recording.{Found, packets_in}
+use Rattle.ch11_reader.specs.Recording.{Found, found_or_none, packets_in}
 use Rattle.ch11_reader.specs.Contents.{total_in}
 use Rattle.ch11_reader.specs.Indexed.{found_in}
 use Rattle.ch11_reader.specs.Listing.{listed_behind}
 use Rattle.ch11_reader.proofs.Loop.{in_order}
-use Rattle.ch11_stream.specs.Reading.{IsEnd, IsStep, Reading, last_found}
-use Rattle.ch11_stream.proofs.Readings.{IsAmid, amid_end}
+use Rattle.ch11_stream.specs.declared.fault.StreamFault.{StreamFault}
+use Rattle.ch11_stream.specs.declared.fault.StreamFault.TheVariants.{Device, Memory, Refused}
+use Rattle.ch11_stream.specs.Reading.{IsEnd, IsStep, IsStop, Reading, last_found}
+use Rattle.ch11_stream.proofs.Readings.{IsAmid, amid_end, amid_stop}
 use Rattle.bench_dump.specs.DumpText.{packet_line}
 use Rattle.bench_dump.specs.Printing.{Carries}
 use Rattle.bench_dump.specs.SkippingText.{text_of}
+use Rattle.bench_dump.specs.Streaming.{Dumps, dump_fault}
 use Rattle.bench_dump.specs.TimedText.{timed_in_order, timed_lines, timed_text}
 use Rattle.bench_dump.proofs.Packets.{carries_both}
 use Rattle.bench_dump.proofs.Steps.{appends_both, carries_nothing}
@@ -53,7 +56,14 @@ pub all_put : (file : List ℕ) (got mid gets : Option (List ℕ)) (waits : List
 all_put file got mid gets waits now last e a g then =
     let read : packets_in file ≡ Ok (in_order now.earlier []) = amid_end file now last e a in
     let whole : g.more ≡ timed_text [] [] (in_order now.earlier []) = sym (append-nil g.more) ∙ g.lines [] in
-    let text : timed_text [] [] (in_order now.earlier []) ≡ text_of false file = rw read at (plain_text false file) in (
-      rw read refl,
+    let found : in_order now.earlier [] ≡ found_in file = sym (ap found_or_none read) in
+    let text : timed_text [] [] (in_order now.earlier []) ≡ text_of false file = ap (λ (ps : List Found). timed_text [] [] ps) found ∙ plain_text false file in (
+      read ∙ ap Ok found,
       subst (Appends got gets) (g.carried.kept ∙ whole ∙ text) (appends_both got mid gets g.carried.sent waits g.carried.taken then),
     )
+
+-- no packet could be read
+pub not_read : (file : List ℕ) (got gets : Option (List ℕ)) (now last : Reading) (f : StreamFault) → IsStop now last f → IsAmid file now → Dumps {A = Unit {0}} (Err (dump_fault f)) file got gets
+not_read file got gets now last (Refused r) s a = amid_stop file now last r s a
+not_read file got gets now last Memory s a = tt
+not_read file got gets now last Device s a = tt

@@ -1,10 +1,8 @@
 //! Why a recording was not dumped, or not to its end.
 ghost use Rattle.std.specs.Prelude.{◌≡◌};
 ghost use Rattle.bench_dump.specs.declared.fault.DumpFault.TheVariants.{Device, Memory};
-ghost use Rattle.bench_dump.specs.Streaming.{dump_fault};
 
 use ch11_reader::Refusal;
-use ch11_stream::StreamFault;
 use std::alloc::AllocError;
 use std::{fmt, io};
 
@@ -49,17 +47,5 @@ impl From<io::Error> for DumpFault {
 
     fn from(_e: io::Error) -> DumpFault {
         DumpFault::Device
-    }
-}
-
-impl From<StreamFault> for DumpFault {
-    ghost from_gives = { λ f e. e ≡ dump_fault f };
-
-    fn from(fault: StreamFault) -> DumpFault {
-        match fault {
-            StreamFault::Refused(refusal) => DumpFault::Refused(refusal),
-            StreamFault::Memory => DumpFault::Memory,
-            StreamFault::Device => DumpFault::Device,
-        }
     }
 }
