@@ -1,12 +1,11 @@
 -- Packets of a dump as they come from a reader.
-use Rattle.std.proofs.Common.{◌≡◌, ℕ, ◌+◌, List, [], ◌∷◌, ◌++◌, length, Option, None, Some, Ok, Err, refl, sym, ap, subst, ◌∙◌, append_assoc, add_comm, false, arith}
+use Rattle.std.proofs.Common.{◌≡◌, ℕ, ◌+◌, List, [], ◌∷◌, ◌++◌, length, Option, Ok, Err, refl, sym, ap, subst, ◌∙◌, append_assoc, false, arith}
 use Rattle.std.proofs.lemmas.List.{append-nil}
 use Rattle.std.specs.Io.KnownBytes.{Appends}
 use Rattle.ch11_reader.specs.declared.packet.Packet.{Packet}
 use Rattle.ch11_reader.specs.Recording.{Found, found_or_none, packets_in}
 use Rattle.ch11_reader.specs.Contents.{total_in}
 use Rattle.ch11_reader.specs.Indexed.{found_in}
-use Rattle.ch11_reader.specs.Listing.{listed_behind}
 use Rattle.ch11_reader.proofs.Loop.{in_order}
 use Rattle.ch11_stream.specs.declared.fault.StreamFault.{StreamFault}
 use Rattle.ch11_stream.specs.declared.fault.StreamFault.TheVariants.{Device, Memory, Refused}

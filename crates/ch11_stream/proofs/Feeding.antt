@@ -1,53 +1,15 @@
--- Bytes of a reader, made ready or passed.
-use Rattle.std.proofs.Common.{◌≡◌, ℕ, ◌+◌, ◌-◌, ◌<◌, ◌≤◌, Bool, true, false, List, [], ◌∷◌, ◌++◌, length, drop, Option, None, Some, refl, sym, ap, ◌∙◌, append_assoc, arith}
-use Rattle.std.proofs.lemmas.List.{append-nil, drop-append-le, drop-drop, drop_all, length-append, length-drop}
+-- Bytes of a reader that are passed.
+use Rattle.std.proofs.Common.{◌≡◌, ℕ, ◌+◌, ◌-◌, ◌<◌, ◌≤◌, Bool, true, List, [], ◌++◌, length, drop, Option, None, Some, refl, sym, ap, ◌∙◌, arith}
+use Rattle.std.proofs.lemmas.List.{drop-append-le, drop-drop, length-append, length-drop}
 use Rattle.std.proofs.Math.Seq.{drop-append_seam}
-use Rattle.std.specs.Io.KnownBytes.{Consumes, IsAtEnd, Keeps, prepend_known}
-use Rattle.ch11_stream.specs.Feeding.{IsFilled, IsMore, IsPassed}
+use Rattle.std.specs.Io.KnownBytes.{IsAtEnd, prepend_known}
+use Rattle.ch11_stream.specs.Feeding.{IsMore, IsPassed}
 
-pub keeps_same : (a : Option (List ℕ)) → Keeps a a
-keeps_same None = tt
-keeps_same (Some xs) = refl
-
-keeps_on : (a b c : Option (List ℕ)) → Keeps a b → Keeps b c → Keeps a c
-keeps_on None b c p q = tt
-keeps_on (Some xs) None c p q = absurd p
-keeps_on (Some xs) (Some ys) None p q = absurd q
-keeps_on (Some xs) (Some ys) (Some zs) p q = q ∙ p
-
--- a read keeps the bytes to come
-more_kept : (left leaves : Option (List ℕ)) (before after : List ℕ) (more : Bool) → IsMore left leaves before after more → Keeps (prepend_known before left) (prepend_known after leaves)
-more_kept None leaves before after more is = tt
-more_kept (Some xs) None before after more is = absurd is.taken
-more_kept (Some xs) (Some ys) before after more is =
-    ap (λ (l : List ℕ). l ++ ys) is.kept ∙ append_assoc before is.given ys ∙ ap (λ (l : List ℕ). before ++ l) (sym is.taken)
-
-pub filled_on : (left middle leaves : Option (List ℕ)) (before mid after : List ℕ) (more : Bool) → Keeps (prepend_known before left) (prepend_known mid middle)
-    → IsMore middle leaves mid after more → Keeps (prepend_known before left) (prepend_known after leaves)
-filled_on left middle leaves before mid after more k is = keeps_on (prepend_known before left) (prepend_known mid middle) (prepend_known after leaves) k (more_kept middle leaves mid after more is)
-
--- the reader is at its end before enough is ready
-pub filled_end : (left middle leaves : Option (List ℕ)) (before mid after : List ℕ) (size : ℕ) (more : Bool) → more ≡ false → length mid < size → Keeps (prepend_known before left) (prepend_known mid middle)
-    → IsMore middle leaves mid after more → IsFilled size left leaves before after false
-filled_end left middle leaves before mid after size more none short k is = record {
-  kept = filled_on left middle leaves before mid after more k is;
-  enough = λ e. absurd cc;
-  few = λ e.
-      let end = is.ended none in
-      (omega (arith, short, ap length is.kept, length-append mid is.given, ap length end.0), end.1);
-}
-
--- ---- bytes that are passed
-
+-- so many bytes were passed of those that are to be, and the rest is left
 pub record Passing (count rest : ℕ) (left leaves : Option (List ℕ)) (before after : List ℕ) : Type 0 where
   pub within : rest ≤ count
   pub passed : (bytes : List ℕ) → prepend_known before left ≡ Some bytes
       → (count - rest ≤ length bytes) × (prepend_known after leaves ≡ Some (drop (count - rest) bytes))
-
-pub nothing_passed : (count : ℕ) (left : Option (List ℕ)) (before : List ℕ) → Passing count count left left before before
-nothing_passed count left before =
-    let none : count - count ≡ 0 = omega arith in
-    record { within = omega arith; passed = λ bytes is. rw none (omega arith, is) }
 
 -- known bytes: those that are ready, and those of the reader
 pub record IsBoth (ready : List ℕ) (left : Option (List ℕ)) (bytes : List ℕ) : Type 0 where
@@ -100,17 +62,3 @@ all_passed count rest left leaves before mid after fits cut p = record {
 pub at_end : (leaves : Option (List ℕ)) (others : List ℕ) → IsAtEnd leaves → leaves ≡ Some others → others ≡ []
 at_end None others end known = absurd cc
 at_end (Some xs) others end known = let same : xs ≡ others = cc in sym same ∙ end
-
-pub too_few : (count rest : ℕ) (left middle leaves : Option (List ℕ)) (before mid after : List ℕ) (more : Bool) → more ≡ false → length mid < rest → Passing count rest left middle before mid
-    → IsMore middle leaves [] after more → IsPassed count left leaves before after false
-too_few count rest left middle leaves before mid after more none short p is = record {
-  enough = λ e. absurd cc;
-  few = λ e bytes known.
-      let on = passes_on count rest left middle leaves before mid after more short p is in
-      let now = on.passed bytes known in
-      let b = both_of after leaves (drop (count - (rest - length mid)) bytes) now.1 in
-      let end = is.ended none in
-      let nothing : after ≡ [] = is.kept ∙ end.0 in
-      let empty = at_end leaves b.others end.1 b.known in
-      omega (arith, short, on.within, now.0, ap length b.all, length-append after b.others, ap length nothing, ap length empty, length-drop (count - (rest - length mid)) bytes);
-}

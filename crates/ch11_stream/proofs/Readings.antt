@@ -1,13 +1,13 @@
 -- Packets read one after the other, and those of the whole file.
-use Rattle.std.proofs.Common.{◌≡◌, ℕ, ◌+◌, ◌-◌, ◌≤◌, ◌<◌, List, [], ◌∷◌, ◌++◌, length, drop, reverse, Option, None, Some, Result, Ok, Err, refl, sym, ap, subst, ◌∙◌, append_assoc, arith}
+use Rattle.std.proofs.Common.{◌≡◌, ℕ, ◌+◌, ◌-◌, ◌<◌, List, [], ◌∷◌, ◌++◌, length, drop, reverse, Option, None, Some, Result, Ok, Err, refl, sym, ap, subst, ◌∙◌, append_assoc, arith}
 use Rattle.std.proofs.lemmas.List.{append-nil, length-drop}
 use Rattle.std.specs.Io.KnownBytes.{IsAtEnd}
 use Rattle.ch11_header.specs.declared.header.Header.{Header}
 use Rattle.ch11_reader.specs.declared.fault.Fault.{Fault}
 use Rattle.ch11_reader.specs.declared.fault.Refusal.{Refusal}
 use Rattle.ch11_reader.specs.declared.packet.Packet.{Packet}
-use Rattle.ch11_reader.specs.Recording.{Found, located, messages_of, packet_at, packets_in}
-use Rattle.ch11_reader.specs.Listing.{listed_behind, listing_behind, listing}
+use Rattle.ch11_reader.specs.Recording.{Found, located, packet_at, packets_in}
+use Rattle.ch11_reader.specs.Listing.{listing_behind, listing}
 use Rattle.ch11_reader.proofs.Joined.{least_of}
 use Rattle.ch11_reader.proofs.Loop.{Going, begins, ends, goes_on, in_order, next_found, stops}
 use Rattle.ch11_stream.specs.declared.fault.StreamFault.TheVariants.{Refused}

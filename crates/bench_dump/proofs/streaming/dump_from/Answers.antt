@@ -1,4 +1,4 @@
-use Rattle.std.proofs.Common.{◌≡◌, [], ap}
+use Rattle.std.proofs.Common.{ap}
 use Rattle.ch11_stream.specs.Reading.{Reading}
 use Rattle.ch11_stream.proofs.Readings.{amid_on, amid_start}
 use Rattle.bench_dump.proofs.Packets.{kept}

@@ -1,7 +1,7 @@
-use Rattle.std.proofs.Common.{◌≡◌, ◌-◌, [], length, sym, ap, subst, ◌∙◌, List, ℕ, arith}
+use Rattle.std.proofs.Common.{◌≡◌, ◌-◌, [], ◌∙◌, arith}
 use Rattle.std.proofs.lemmas.List.{drop_all}
 use Rattle.ch11_stream.specs.Feeding.{IsMore}
-use Rattle.ch11_stream.proofs.Feeding.{Passing, all_passed, passes_on}
+use Rattle.ch11_stream.proofs.Feeding.{all_passed, passes_on}
 use Rattle.ch11_stream.proofs.feed.pass.Goals as goal
 
 pub returns-then-left-ready-clause-passed : goal.returns-then-left-ready-clause-passed

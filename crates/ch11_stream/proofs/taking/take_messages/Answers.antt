@@ -1,4 +1,4 @@
-use Rattle.std.proofs.Common.{◌≡◌, true, false, Ok, Err, length, sym, ap, ◌∙◌, rules}
+use Rattle.std.proofs.Common.{◌≡◌, true, false, Err, sym, ap, ◌∙◌, rules}
 use Rattle.std.specs.Io.KnownBytes.{prepend_known}
 use Rattle.ch11_reader.specs.Recording.{packet_at}
 use Rattle.ch11_stream.proofs.Judged.{body_fault, ends_early, filled_short, messages_taken}
