@@ -2,4 +2,5 @@ pub mod Packets
 pub mod Placing
 pub mod SkipLines
 pub mod Steps
+pub mod Streamed
 pub mod Timeless

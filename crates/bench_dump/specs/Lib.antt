@@ -4,4 +4,5 @@ pub mod Printing
 pub mod Reads
 pub mod FaultText
 pub mod SkippingText
+pub mod Streaming
 pub mod TimedText

@@ -15,7 +15,7 @@ pub enum DumpFault {
     /// Memory was refused.
     Memory,
 
-    /// The writer failed, which may have got some of the text.
+    /// The reader failed, or the writer, which may have got some of the text.
     Device,
 }
 

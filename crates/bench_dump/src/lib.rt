@@ -10,6 +10,7 @@ mod lines;
 mod output;
 mod places;
 mod skips;
+mod streaming;
 mod text;
 
 pub use digits::place_decimal;
@@ -19,3 +20,4 @@ pub use laws::timeless_is_plain;
 pub use lines::put_words;
 pub use output::{dump, dump_with_times};
 pub use places::{place_bus_words, place_bytes};
+pub use streaming::dump_from;

@@ -33,7 +33,7 @@ pub(crate) fn hand_on<W: Write>(text: &mut Text, out: &mut W) -> Result<(), Dump
 }
 
 /// The lines of a packet's messages, behind so many messages of the file, with the times of day that a clock tells.
-fn dump_messages<W: Write>(
+pub(crate) fn dump_messages<W: Write>(
     text: &mut Text,
     out: &mut W,
     before: u64,

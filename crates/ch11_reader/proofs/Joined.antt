@@ -49,7 +49,7 @@ fields_front xs r le =
       get_or_append_left xs r 0 15 (omega (arith, le)),
     ) refl
 
-header_front : (xs r : List ℕ) → 24 ≤ length xs → header_in (xs ++ r) ≡ header_in xs
+pub header_front : (xs r : List ℕ) → 24 ≤ length xs → header_in (xs ++ r) ≡ header_in xs
 unfolding header_in
 header_front xs r le =
     rw (
@@ -65,7 +65,7 @@ long_behind : (bytes : List ℕ) (h : Header) (b : Bool) (e : HeaderError) (othe
 long_behind bytes h true e others eq is = cc
 long_behind bytes h false e others eq is = ltb-false (length bytes) 24 eq
 
-header_long : (bytes : List ℕ) (h : Header) → header_in bytes ≡ Ok h → 24 ≤ length bytes
+pub header_long : (bytes : List ℕ) (h : Header) → header_in bytes ≡ Ok h → 24 ≤ length bytes
 unfolding header_in
 header_long bytes h is = long_behind bytes h (ltb (length bytes) 24) _ _ refl is
 
@@ -80,9 +80,9 @@ header_lawful : (bytes : List ℕ) (h : Header) → header_in bytes ≡ Ok h →
 unfolding header_in
 header_lawful bytes h is = past_tests h (ltb (length bytes) 24) (eqb (number_at 0 2 bytes) 0xEB25) (eqb (number_at 22 2 bytes) (header_sum bytes)) _ _ _ _ is
 
-record HasRoom (h : Header) : Type 0 where
-  least : 24 ≤ h.packet_length
-  body : body_start h + h.data_length ≤ h.packet_length
+pub record HasRoom (h : Header) : Type 0 where
+  pub least : 24 ≤ h.packet_length
+  pub body : body_start h + h.data_length ≤ h.packet_length
 
 both : (a b : Bool) → (a && b) ≡ true → a ≡ true
 both true b e = refl
@@ -102,16 +102,16 @@ room_behind g h true true e f l r is =
     let same : g ≡ h = cc in
     has_room_by h (ap (λ (x : Header). is_packet_length x.packet_length) (sym same) ∙ l) (ap has_room (sym same) ∙ r)
 
-header_room : (bytes : List ℕ) (h : Header) → header_in bytes ≡ Ok h → HasRoom h
+pub header_room : (bytes : List ℕ) (h : Header) → header_in bytes ≡ Ok h → HasRoom h
 unfolding with_lawful_lengths
 header_room bytes h is = room_behind (fields_of bytes) h _ _ _ _ refl refl (header_lawful bytes h is)
 
 -- ---- a packet is read off its bytes
 
-record IsFront (h : Header) (bytes : List ℕ) : Type 0 where
-  header : header_in bytes ≡ Ok h
-  rest : with_rest h bytes ≡ Ok h
-  whole : h.packet_length ≤ length bytes
+pub record IsFront (h : Header) (bytes : List ℕ) : Type 0 where
+  pub header : header_in bytes ≡ Ok h
+  pub rest : with_rest h bytes ≡ Ok h
+  pub whole : h.packet_length ≤ length bytes
 
 body_is : (g h : Header) (m : Result (List Message) BodyError) → with_body g m ≡ Ok h → g ≡ h
 body_is g h (Ok ms) is = cc
@@ -129,7 +129,7 @@ front_of bytes h (Ok g) is found =
     let r = rest_is g h bytes (ltb (length bytes) g.packet_length) (holds_messages g) _ refl found in
     record { header = is ∙ ap Ok r.0; rest = ap (λ (x : Header). with_rest x bytes) (sym r.0) ∙ found; whole = omega (arith, r.1, ap (λ (x : Header). x.packet_length) r.0) }
 
-front : (bytes : List ℕ) (h : Header) → packet_at bytes ≡ Ok h → IsFront h bytes
+pub front : (bytes : List ℕ) (h : Header) → packet_at bytes ≡ Ok h → IsFront h bytes
 unfolding packet_at
 front bytes h is = front_of bytes h (header_in bytes) refl is
 
@@ -138,14 +138,14 @@ body_front h bytes r room whole =
     rw (drop-append-le (body_start h) bytes r (omega (arith, room.body, whole)))
     (take-append-le h.data_length (drop (body_start h) bytes) r (omega (arith, room.body, whole, length-drop (body_start h) bytes)))
 
-messages_front : (h : Header) (bytes r : List ℕ) → HasRoom h → h.packet_length ≤ length bytes → messages_of h (bytes ++ r) ≡ messages_of h bytes
+pub messages_front : (h : Header) (bytes r : List ℕ) → HasRoom h → h.packet_length ≤ length bytes → messages_of h (bytes ++ r) ≡ messages_of h bytes
 messages_front h bytes r room whole = rw (body_front h bytes r room whole) refl
 
-rest_front : (h : Header) (bytes r : List ℕ) → HasRoom h → h.packet_length ≤ length bytes → with_rest h (bytes ++ r) ≡ with_rest h bytes
+pub rest_front : (h : Header) (bytes r : List ℕ) → HasRoom h → h.packet_length ≤ length bytes → with_rest h (bytes ++ r) ≡ with_rest h bytes
 rest_front h bytes r room whole =
     rw (le-ltb (length (bytes ++ r)) h.packet_length (omega (arith, whole, length-append bytes r)), le-ltb (length bytes) h.packet_length whole, body_front h bytes r room whole) refl
 
-packet_front : (bytes r : List ℕ) (h : Header) → packet_at bytes ≡ Ok h → packet_at (bytes ++ r) ≡ Ok h
+pub packet_front : (bytes r : List ℕ) (h : Header) → packet_at bytes ≡ Ok h → packet_at (bytes ++ r) ≡ Ok h
 unfolding packet_at
 packet_front bytes r h is =
     let f = front bytes h is in
@@ -199,7 +199,7 @@ unfolding packets_from
 nothing_is_found zero offset = refl
 nothing_is_found (suc most) offset = refl
 
-least_of : (bytes : List ℕ) (h : Header) → packet_at bytes ≡ Ok h → (24 ≤ h.packet_length) × (h.packet_length ≤ length bytes)
+pub least_of : (bytes : List ℕ) (h : Header) → packet_at bytes ≡ Ok h → (24 ≤ h.packet_length) × (h.packet_length ≤ length bytes)
 least_of bytes h at = let f = front bytes h at in ((header_room bytes h f.header).least, f.whole)
 
 -- the same bytes elsewhere in a file

@@ -142,10 +142,10 @@ starts file latest none = record { earlier = []; going = begins file; entered = 
 pub entry_behind : List Found → List ℕ → List ℕ → Header → Packet
 entry_behind earlier file rest h = listed_behind earlier (next_found file rest h)
 
-abbrev noted : List (Option ℕ) → Header → List (Option ℕ)
+abbrev pub noted : List (Option ℕ) → Header → List (Option ℕ)
 noted latest h = set latest h.channel (Some h.sequence)
 
-sequences_on : (latest : List (Option ℕ)) (earlier : List Found) (p : Found) → length latest ≡ 65536 → p.header.channel < 65536 → ((channel : ℕ) → channel < 65536 → get_or latest channel None ≡ latest_sequence channel earlier)
+pub sequences_on : (latest : List (Option ℕ)) (earlier : List Found) (p : Found) → length latest ≡ 65536 → p.header.channel < 65536 → ((channel : ℕ) → channel < 65536 → get_or latest channel None ≡ latest_sequence channel earlier)
     → (channel : ℕ) → channel < 65536 → get_or (noted latest p.header) channel None ≡ latest_sequence channel (p ∷ earlier)
 sequences_on latest earlier p table low so_far channel within = go (cases_eq channel p.header.channel)
   where

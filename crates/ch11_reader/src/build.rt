@@ -12,10 +12,10 @@ use crate::packet::{Packet, check_packet};
 use std::alloc::{AllocError, Global};
 
 /// How many channels there can be.
-const CHANNELS: usize = 65536;
+pub const CHANNELS: usize = 65536;
 
 /// A channel's latest sequence number, for each channel: none yet.
-pub(crate) fn no_sequences(alloc: Global) -> Result<Vec<Option<u8>>, AllocError>
+pub fn no_sequences(alloc: Global) -> Result<Vec<Option<u8>>, AllocError>
     ensures items { IfOk result (λ v. v.items ≡ replicate CHANNELS None) }
     ensures len { IfOk result (λ v. vec_len v ≡ CHANNELS) }
 {
@@ -23,8 +23,9 @@ pub(crate) fn no_sequences(alloc: Global) -> Result<Vec<Option<u8>>, AllocError>
     Ok(latest)
 }
 
-/// Whether a packet breaks its channel's sequence. Its number becomes the channel's latest.
-pub(crate) fn note_sequence(latest: &mut [Option<u8>], channel: u16, sequence: u8) -> bool
+/// Whether a packet breaks its channel's sequence. Its number becomes the channel's latest. Condition: there is a place
+/// for each channel.
+pub fn note_sequence(latest: &mut [Option<u8>], channel: u16, sequence: u8) -> bool
     requires { length latest.old ≡ CHANNELS }
     ensures answer { result ≡ jumps (slice_index_or latest.old channel None) sequence }
     ensures noted { latest.new ≡ slice_set latest.old channel (Some sequence) }

@@ -15,11 +15,12 @@ mod search;
 mod skip;
 mod skipping;
 
+pub use build::{CHANNELS, no_sequences, note_sequence};
 pub use channel::ChannelMessages;
 pub use error::{Fault, ReadError, Refusal};
 pub use index::Index;
 pub use laws::{nothing_sound_is_skipped, recordings_join};
 pub use others::holds_no_messages;
-pub use packet::{MESSAGES_KIND, Packet};
+pub use packet::{Checked, MESSAGES_KIND, Packet, check_packet, messages_of_packet};
 pub use skip::Skip;
 pub use skipping::SkippingIndex;

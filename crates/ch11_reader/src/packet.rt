@@ -34,14 +34,18 @@ pub struct Packet {
 
 /// A packet that was checked.
 #[derive(Clone, Copy)]
-pub(crate) struct Checked {
-    pub(crate) header: Header,
-    pub(crate) count: u64,
+pub struct Checked {
+    /// Its header.
+    pub header: Header,
+
+    /// How many messages it holds; none where it is of another data type than 19 (hexadecimal).
+    pub count: u64,
 }
 
-/// The packet that begins the bytes, or its first fault.
+/// The packet that begins the bytes, or its first fault: K1 to K5 of its header, N2 where the bytes end before it does,
+/// F1 to F3 of its body.
 #[tactic(auto, unfolding(crate::specs::Recording::packet_at))]
-pub(crate) fn check_packet(bytes: &[u8]) -> Result<Checked, Fault>
+pub fn check_packet(bytes: &[u8]) -> Result<Checked, Fault>
     ensures read { MatchResult result (λ c. packet_at bytes.now ≡ Ok c.header) (λ f. packet_at bytes.now ≡ Err f) }
     ensures count { IfOk result (λ c. c.count ≡ length (messages_of c.header bytes.now)) }
     ensures few { IfOk result (λ c. c.count ≤ c.header.packet_length) }
@@ -69,21 +73,35 @@ pub(crate) fn check_packet(bytes: &[u8]) -> Result<Checked, Fault>
     }
 }
 
+/// The messages of the packet with this header that begins the bytes; it holds none where it is of another data type.
+/// Condition: its body lies in the bytes.
+pub fn messages_of_packet<'a>(bytes: &'a [u8], header: &Header) -> Messages<'a>
+    requires { body_start header.now + header.now.data_length ≤ length bytes.now }
+    ensures { result ≡ messages_of header.now bytes.now }
+{
+    let Header {
+        kind,
+        data_length,
+        ..
+    } = *header;
+    if kind != MESSAGES_KIND {
+        return Messages::none();
+    }
+    let (_, behind_head) = bytes.split_at(header.body_start());
+    let (body, _) = behind_head.split_at(data_length as usize);
+    match messages(body) {
+        Ok(found) => found,
+        Err(_) => Messages::none(),
+    }
+}
+
 /// The messages of a packet of the file; it holds none where it is of another data type.
 pub(crate) fn messages_in_packet<'a>(file: &'a [u8], packet: &Packet) -> Messages<'a>
     requires { packet.now.offset + (body_start packet.now.header + packet.now.header.data_length) ≤ length file.now }
     ensures { result ≡ messages_of packet.now.header (drop packet.now.offset file.now) }
 {
-    if packet.header.kind != MESSAGES_KIND {
-        return Messages::none();
-    }
     let (_, behind) = file.split_at(packet.offset);
-    let (_, behind_head) = behind.split_at(packet.header.body_start());
-    let (body, _) = behind_head.split_at(packet.header.data_length as usize);
-    match messages(body) {
-        Ok(found) => found,
-        Err(_) => Messages::none(),
-    }
+    messages_of_packet(behind, &packet.header)
 }
 
 /// Message k of a packet of the file, counted from 0, None where it holds no such message.

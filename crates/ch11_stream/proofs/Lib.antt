@@ -1,0 +1,4 @@
+pub mod Feeding
+pub mod Judged
+pub mod Readings
+pub mod Slices

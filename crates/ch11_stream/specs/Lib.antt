@@ -1,0 +1,7 @@
+pub mod FaultText
+pub mod Feeding
+pub mod Holding
+pub mod Listed
+pub mod Reading
+pub mod Taking
+pub mod Whole

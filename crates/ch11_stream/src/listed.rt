@@ -1,0 +1,68 @@
+//! What is known of the packets so far: how many messages they have, and the latest sequence number of each channel.
+ghost use Rattle.std.specs.Prelude.{◌≡◌, ◌+◌, ◌<◌, ◌^◌, [], ◌∷◌, length, IfOk};
+ghost use Rattle.ch11_reader.specs.Recording.{messages_of};
+ghost use Rattle.ch11_reader.specs.Contents.{total_in};
+ghost use Rattle.ch11_reader.specs.Listing.{listed_behind};
+ghost use Rattle.ch11_stream.specs.Listed.{found_at};
+
+use crate::buffer::Buffer;
+use crate::found::{FoundPacket, found_in};
+use ch11_reader::{Checked, Packet, no_sequences, note_sequence};
+use history::History;
+use std::alloc::{AllocError, Global};
+use std::marker::Model;
+
+/// What is known of the packets so far. Contracts see the packets, newest first.
+#[derive(Drop)]
+pub(crate) struct Listed {
+    latest: Vec<Option<u8>>,
+    before: u64,
+    past: History<FoundPacket>,
+}
+
+impl Model for Listed {
+    ghost use Rattle.std.specs.Prelude.{List};
+    ghost use Rattle.ch11_reader.specs.Recording.{Found};
+    ghost use Rattle.ch11_stream.specs.Listed.{IsTally};
+
+    ghost Value = { List Found };
+
+    ghost view = { λ l. l.past };
+
+    ghost invariant = { λ l. IsTally l.latest.items l.before l.past };
+}
+
+impl Listed {
+    /// No packets yet; a place for each channel.
+    pub(crate) fn none(alloc: Global) -> Result<Listed, AllocError>
+        ensures { IfOk result (λ l. l ≡ []) }
+    {
+        let latest = no_sequences(alloc)?;
+        Ok(Listed {
+            latest,
+            before: 0,
+            past: History::none(),
+        })
+    }
+
+    /// Enters the packet at an offset that begins the bytes that are ready, and answers what there is to tell of it.
+    pub(crate) fn enter(&mut self, offset: usize, checked: Checked, buffer: &Buffer) -> Packet
+        requires count { checked.count ≡ length (messages_of checked.header buffer.now.ready) }
+        requires few { total_in self.old + checked.count < 2 ^ 64 }
+        ensures listed { result ≡ listed_behind self.old (found_at offset checked.header buffer.now.ready) }
+        ensures entered { self.new ≡ found_at offset checked.header buffer.now.ready ∷ self.old }
+    {
+        let header = checked.header;
+        let sequence_jump = note_sequence(&mut self.latest, header.channel, header.sequence);
+        let packet = Packet {
+            offset,
+            header,
+            before: self.before,
+            count: checked.count,
+            sequence_jump,
+        };
+        self.before += checked.count;
+        self.past = self.past.put_before(&found_in(offset, header, buffer));
+        packet
+    }
+}

@@ -1,0 +1,118 @@
+//! The packet that begins the bytes to come.
+ghost use Rattle.std.specs.Prelude.{◌≡◌, ◌≤◌, length, drop, false, true};
+ghost use Rattle.std.specs.Io.KnownBytes.{prepend_known};
+ghost use Rattle.ch11_reader.specs.Recording.{holds_messages};
+ghost use Rattle.ch11_stream.specs.Taking.{Heads, IsNextHeader, Nexts, Takes};
+
+use crate::buffer::Buffer;
+use crate::fault::StreamFault;
+use crate::feed::{fill, pass};
+use ch11_header::{HEADER_SIZE, Header, read_header};
+use ch11_reader::{Checked, Fault, MESSAGES_KIND, Refusal, check_packet};
+use std::io::Read;
+
+/// A fault of the packet at an offset.
+fn refused(offset: usize, fault: Fault) -> StreamFault
+    ensures { result ≡ StreamFault.Refused (record { offset = offset; fault = fault }) }
+{
+    StreamFault::Refused(Refusal { offset, fault })
+}
+
+/// Looks at the header that begins the bytes to come, which stand at an offset; none at the reader's end.
+pub(crate) fn next_header<R: Read>(
+    buffer: &mut Buffer,
+    input: &mut R,
+    offset: usize,
+) -> Result<Option<Header>, StreamFault>
+    ensures { Heads result offset (prepend_known buffer.old.ready (R.remaining input.old))
+        (prepend_known buffer.new.ready (R.remaining input.new)) }
+{
+    fill(buffer, input, HEADER_SIZE)?;
+    let ready = buffer.ready();
+    if ready.is_empty() {
+        return Ok(None);
+    }
+    match read_header(ready) {
+        Ok(header) => Ok(Some(header)),
+        Err(fault) => Err(refused(offset, Fault::Header(fault))),
+    }
+}
+
+/// Passes the packet with this header, which is of another data type than messages.
+fn take_other<R: Read>(
+    buffer: &mut Buffer,
+    input: &mut R,
+    offset: usize,
+    header: Header,
+) -> Result<Checked, StreamFault>
+    requires kind { holds_messages header ≡ false }
+    requires next { IsNextHeader (prepend_known buffer.old.ready (R.remaining input.old)) header }
+    ensures { Takes result offset (prepend_known buffer.old.ready (R.remaining input.old))
+        (R.remaining input.new) buffer.new.ready }
+{
+    if !pass(buffer, input, header.packet_length as usize)? {
+        return Err(refused(offset, Fault::End));
+    }
+    Ok(Checked { header, count: 0 })
+}
+
+/// Makes the packet with this header ready, which is of messages.
+fn take_messages<R: Read>(
+    buffer: &mut Buffer,
+    input: &mut R,
+    offset: usize,
+    header: Header,
+) -> Result<Checked, StreamFault>
+    requires kind { holds_messages header ≡ true }
+    requires next { IsNextHeader (prepend_known buffer.old.ready (R.remaining input.old)) header }
+    ensures { Takes result offset (prepend_known buffer.old.ready (R.remaining input.old))
+        (R.remaining input.new) buffer.new.ready }
+{
+    if !fill(buffer, input, header.packet_length as usize)? {
+        return Err(refused(offset, Fault::End));
+    }
+    match check_packet(buffer.ready()) {
+        Ok(checked) => Ok(checked),
+        Err(fault) => Err(refused(offset, fault)),
+    }
+}
+
+/// Takes the packet with this header, which begins the bytes to come.
+pub(crate) fn take_packet<R: Read>(
+    buffer: &mut Buffer,
+    input: &mut R,
+    offset: usize,
+    header: Header,
+) -> Result<Checked, StreamFault>
+    requires { IsNextHeader (prepend_known buffer.old.ready (R.remaining input.old)) header }
+    ensures { Takes result offset (prepend_known buffer.old.ready (R.remaining input.old))
+        (R.remaining input.new) buffer.new.ready }
+{
+    if header.kind == MESSAGES_KIND {
+        take_messages(buffer, input, offset, header)
+    } else {
+        take_other(buffer, input, offset, header)
+    }
+}
+
+/// Lets the bytes of the last packet go and takes the next one, which stands at an offset. None at the reader's end.
+pub(crate) fn take_next<R: Read>(
+    buffer: &mut Buffer,
+    input: &mut R,
+    held: usize,
+    offset: usize,
+) -> Result<Option<Checked>, StreamFault>
+    requires { held ≤ length buffer.old.ready }
+    ensures { Nexts result offset (prepend_known (drop held buffer.old.ready) (R.remaining input.old))
+        (R.remaining input.new) buffer.new.ready }
+{
+    buffer.pass(held);
+    let Some(header) = next_header(buffer, input, offset)? else {
+        return Ok(None);
+    };
+    let checked = take_packet(buffer, input, offset, header)?;
+    match offset.checked_add(checked.header.packet_length as usize) {
+        Some(_) => Ok(Some(checked)),
+        None => Err(StreamFault::Device),
+    }
+}
