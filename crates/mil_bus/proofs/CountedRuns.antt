@@ -1,6 +1,6 @@
 -- What runs that are kept as a whole make of the counts of a talk.
-use Rattle.std.proofs.Common.{◌≡◌, ℕ, zero, suc, ◌+◌, ◌<◌, ◌≤◌, ◌^◌, nat_lt, Bool, true, false, cond, ◌||◌, List, ◌++◌, take, drop, length, get_or, refl, sym, ap, ◌∙◌, arith, Some}
-use Rattle.std.specs.Option.{is_none}
+use Rattle.std.proofs.Common.{◌≡◌, ℕ, zero, suc, ◌+◌, ◌<◌, ◌≤◌, ◌^◌, nat_lt, Bool, true, false, cond, ◌||◌, List, ◌++◌, take, drop, length, get_or, refl, sym, ap, ◌∙◌, arith, Option, Some, None, ◌-◌, ◌==◌, ◌&&◌, [], ◌∷◌, subst}
+use Rattle.std.specs.Option.{is_none, is_some}
 use Rattle.std.proofs.lemmas.Bool.Decides.{nat_tests}
 use Rattle.std.proofs.lemmas.List.{get_or-drop, get_or_append_left, drop-drop, drop_at}
 use Rattle.mil_word.specs.declared.Sync.TheVariants.{CommandSync, DataSync}
@@ -10,20 +10,25 @@ use Rattle.mil_word.proofs.Reading.{word_of-wave}
 use Rattle.mil_terminal.specs.Runs.{AreSmall}
 use Rattle.mil_bus.specs.declared.talks.Source.{Source}
 use Rattle.mil_bus.specs.declared.talks.Sent.{Sent}
+use Rattle.mil_bus.specs.declared.counts.Came.{Came}
 use Rattle.mil_bus.specs.declared.counts.Seen.{Seen}
 use Rattle.mil_bus.specs.declared.wholes.Whole.{Whole}
 use Rattle.mil_bus.specs.Counts.{counts_of, differs}
 use Rattle.mil_bus.specs.DataRuns.{gap_at}
-use Rattle.mil_bus.specs.Pass.{noted}
-use Rattle.mil_bus.specs.Lengthened.{is_data, AreLike, lengthened}
+use Rattle.mil_bus.specs.Pass.{noted, one_more, words_in as came_words}
+use Rattle.mil_bus.specs.Lengthened.{is_data, AreLike, goes_on, lengthened}
 use Rattle.mil_bus.specs.Wholes.{whole_words, all_words}
 use Rattle.mil_bus.proofs.Passes.{or_false, counts_of-more}
-use Rattle.mil_bus.proofs.Lengthening.{not_longer}
+use Rattle.mil_bus.proofs.Lengthening.{not_longer, counts_of-like}
 use Rattle.mil_bus.proofs.KeptRuns.{word-at, get-same, whole_words-length, words-step, own-length}
 
 -- the words of a run stand from a place on
 abbrev pub Stands : List Sent → ℕ → Whole → List ℕ → Type 0
 Stands xs from r own = (k : ℕ) (d : Sent) → k < length own → get_or xs (from + k) d ≡ get_or (whole_words r own) k d
+
+or_true : (b : Bool) → (b || true) ≡ true
+or_true true = refl
+or_true false = refl
 
 none_before : (due : ℕ) → nat_lt due 0 ≡ false
 none_before due = grind (arith, nat_tests)
@@ -97,6 +102,53 @@ data-like r own xs from j more behind fit small there = λ k d lt.
     false-not-true : false ≡ true → ⊥
     false-not-true h = cc
 
+-- the words of the first reply, where it is due and has a status word
+reply-begun : (commands due : ℕ) (s : Seen) (wave gap : ℕ) (source : Source) (value : ℕ) → 0 < due → s.one ≡ None → word_of wave ≡ Some (record { sync = CommandSync; value = value })
+    → noted commands due s (record { wave = wave; gap = gap; run = 1; source = source }) ≡ record s { one = Some (record { gap = gap; first = Some (record { sync = CommandSync; value = value }); count = 1 }) }
+reply-begun commands due s wave gap source value some before is =
+    let takes : nat_lt 0 due ≡ true = grind (arith, nat_tests) in
+    let over : nat_lt due 1 ≡ false = grind (arith, nat_tests) in
+    let far : (s.beyond || nat_lt due 1) ≡ s.beyond = ap (λ x. s.beyond || x) over ∙ or_false s.beyond in
+    let none : (s.unsound || is_none (word_of wave)) ≡ s.unsound = ap (λ o. s.unsound || is_none o) is ∙ or_false s.unsound in
+    let place : (nat_lt 0 due && came_words s.one == 0) ≡ true = rw (takes, before) refl in
+    let sync : (s.other_sync || differs (nat_lt 0 due && came_words s.one == 0) (word_of wave)) ≡ s.other_sync =
+    ap (λ t. s.other_sync || differs t (word_of wave)) place ∙ ap (λ o. s.other_sync || differs true o) is ∙ or_false s.other_sync in
+    let one : one_more s.one gap (word_of wave) ≡ Some (record { gap = gap; first = Some (record { sync = CommandSync; value = value }); count = 1 }) =
+    ap (λ o. one_more o gap (word_of wave)) before ∙ ap (λ w. Some (record { gap = gap; first = w; count = 1 })) is in
+    λ i. record { controllers = s.controllers; one = one i; two = s.two; beyond = far i; unsound = none i; other_sync = sync i }
+
+goes_on-begun : (commands due : ℕ) (s : Seen) (c : Came) → 0 < due → c.count ≡ 1 → goes_on commands due (record s { one = Some c }) 1 ≡ true
+goes_on-begun commands due s c some one =
+    let over : nat_lt due 1 ≡ false = grind (arith, nat_tests) in
+    rw (one, over) (or_true s.beyond)
+
+pub counts-reply : (commands due : ℕ) → due ≤ 2 → (xs : List Sent) (from : ℕ) (r : Whole) (own : List ℕ) (v : ℕ) → r.number ≡ 1 → r.commands ≡ 1 → 0 < due
+    → (counts_of commands due (take from xs)).one ≡ None → from + length own ≤ length xs → 0 < length own → AreSmall own → Stands xs from r own → v ≡ get_or own 0 v
+    → counts_of commands due (take (from + length own) xs)
+    ≡ record (counts_of commands due (take from xs)) { one = Some (record { gap = r.gap; first = Some (record { sync = CommandSync; value = v }); count = length own }) }
+counts-reply commands due few xs from r own v number single some before within more small there value =
+    let s = counts_of commands due (take from xs) in
+    let w : Sent = record { wave = command_wave v; gap = r.gap; run = r.number; source = r.source } in
+    let zero_th : from + 0 ≡ from = omega arith in
+    let at : get_or xs from w ≡ w =
+    ap (λ k. get_or xs k w) (sym zero_th) ∙ there 0 w more ∙ word-at r own 0 w v (command_wave v) true more value (λ h. omega (arith, single)) (λ h. absurd (true-not-false h)) refl in
+    let word : word_of (command_wave v) ≡ Some (record { sync = CommandSync; value = v }) = word_of-wave (record { sync = CommandSync; value = v }) (omega (arith, small 0 v more, value)) in
+    let came : Came = record { gap = r.gap; first = Some (record { sync = CommandSync; value = v }); count = 1 } in
+    let first : counts_of commands due (take (from + 1) xs) ≡ record s { one = Some came } =
+    counts_of-more commands due few xs from w (omega (arith, within, more)) ∙ ap (noted commands due s) at
+    ∙ ap (λ k. noted commands due s (record { wave = command_wave v; gap = r.gap; run = k; source = r.source })) number
+    ∙ reply-begun commands due s (command_wave v) r.gap r.source v some before word in
+    let n = length own - 1 in
+    let on : goes_on commands due (counts_of commands due (take (from + 1) xs)) 1 ≡ true = ap (λ t. goes_on commands due t 1) first ∙ goes_on-begun commands due s came some refl in
+    let like : AreLike 1 n (drop (from + 1) xs) = subst (λ k. AreLike k n (drop (from + 1) xs)) number (data-like r own xs from 1 n (omega (arith, single)) (omega (arith, more)) small there) in
+    let all : from + length own ≡ from + 1 + n = omega (arith, more) in
+    let count : 1 + n ≡ length own = omega (arith, more) in
+    ap (λ k. counts_of commands due (take k xs)) all ∙ counts_of-like commands due few xs (from + 1) 1 n (omega (arith, within, more)) on like
+    ∙ ap (λ t. lengthened t 1 n) first ∙ ap (λ k. let t : Seen = record s { one = Some (record { gap = r.gap; first = Some (record { sync = CommandSync; value = v }); count = k }) } in t) count
+  where
+    true-not-false : true ≡ false → ⊥
+    true-not-false h = cc
+
 -- the words of one of the runs stand where they should
 pub run-stands : (rs : List Whole) (vs : List ℕ) (xs : List Sent) (i from : ℕ) (r : Whole) (own : List ℕ) → i < length rs → r ≡ get_or rs i r
     → drop from xs ≡ all_words (drop i rs) (drop from vs) → own ≡ take r.count (drop from vs) → Stands xs from r own
@@ -111,3 +163,7 @@ rest-step rs vs xs i from r lt at le rest =
     let later = all_words (drop (i + 1) rs) (drop (from + r.count) vs) in
     sym (drop-drop r.count from xs) ∙ ap (drop r.count) (rest ∙ words-step rs vs i from r lt at)
     ∙ drop_at (whole_words r own) later r.count (whole_words-length r own ∙ own-length vs from r.count le)
+
+pub none_is : (o : Option Came) → is_some o ≡ false → o ≡ None
+none_is None h = refl
+none_is (Some c) h = cc

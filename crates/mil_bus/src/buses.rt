@@ -255,7 +255,7 @@ impl Bus {
         };
         talk.start = start;
         talk.line = line;
-        talk.message = message.copy();
+        message.copy_into(&mut talk.message);
         talk.sent.clear();
         all_runs(
             &mut self.terminals,

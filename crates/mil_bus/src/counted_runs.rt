@@ -1,12 +1,35 @@
 //! What the runs of a talk that are kept as a whole come to.
-ghost use Rattle.std.specs.Prelude.{◌≡◌, ℕ, ◌+◌, ◌<◌, ◌≤◌, take, length, get_or};
+ghost use Rattle.std.specs.Prelude.{◌≡◌, ℕ, ◌+◌, ◌<◌, ◌≤◌, take, length, get_or, Some};
+ghost use Rattle.mil_word.specs.declared.Sync.TheVariants.{CommandSync};
 ghost use Rattle.mil_bus.specs.declared.talks.Sent.{Sent as SentValue};
 ghost use Rattle.mil_bus.specs.Counts.{counts_of};
 ghost use Rattle.mil_bus.specs.Wholes.{whole_words, all_words, words_in};
 
-use crate::counts::Seen;
+use crate::counts::{Came, Seen};
 use crate::wholes::Whole;
 use mil_terminal::are_small;
+use mil_word::{Sync, Word};
+
+/// A reply that came as it should: its status word, and data words.
+#[inline]
+fn came_of(run: &Whole, own: &[u16]) -> Came
+    requires some { 0 < length own.now }
+    requires few { length own.now ≤ 40 }
+    ensures { (d : ℕ) → result ≡ record {
+      gap = run.now.gap;
+      first = Some (record { sync = CommandSync; value = get_or own.now 0 d });
+      count = length own.now;
+    } }
+{
+    Came {
+        gap: run.gap,
+        first: Some(Word {
+            sync: Sync::CommandSync,
+            value: own[0],
+        }),
+        count: own.len() as u8,
+    }
+}
 
 /// Counts the words of one of the runs, which stand from a place on. The data words, once the first is in its place, are
 /// counted together.
@@ -35,6 +58,10 @@ fn note_run(
     are_small(own);
     if run.number == 0 && run.commands == commands && seen.controllers == 0 {
         seen.lengthen(0, own.len() as u8);
+        return;
+    }
+    if run.commands == 1 && run.number == 1 && 0 < due && seen.one.is_none() && !own.is_empty() {
+        seen.one = Some(came_of(run, own));
         return;
     }
     for i in 0..own.len() {

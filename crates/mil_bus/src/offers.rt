@@ -4,6 +4,7 @@ ghost use Rattle.mil_bus.specs.Exchange.{offer_of};
 ghost use Rattle.mil_bus.specs.Offers.{offered};
 
 use crate::Source;
+use arrayvec::ArrayVec;
 use mil_line::Gap;
 use mil_message::Values;
 use mil_terminal::Reply;
@@ -24,7 +25,7 @@ impl Offered {
         self.source = Source::Terminal(own);
         self.gap = reply.gap;
         self.values.commands = 1;
-        self.values.words.clear();
+        self.values.words = ArrayVec::new();
         let _ = self
             .values
             .words

@@ -203,7 +203,7 @@ impl SentWords {
         ensures { self.new.items ≡ [] }
     {
         self.runs.clear();
-        self.values.clear();
+        self.values = ArrayVec::new();
         self.each.clear();
     }
 

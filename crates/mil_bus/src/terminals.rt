@@ -6,6 +6,7 @@ ghost use Rattle.mil_bus.specs.Addresses.{stations_of};
 ghost use Rattle.mil_bus.specs.Exchange.{hearing, all_hearing, quieted, first_reply};
 ghost use Rattle.mil_word.specs.Words.{command_wave, data_wave};
 ghost use Rattle.mil_bus.specs.DataRuns.{hearing_all, run_words};
+ghost use Rattle.mil_word.specs.Wave.{word_of};
 ghost use Rattle.mil_bus.specs.Wholes.{value_waves};
 ghost use Rattle.mil_bus.specs.Offers.{given};
 
@@ -22,7 +23,7 @@ use mil_host::Action;
 use mil_line::Gap;
 use mil_message::Values;
 use mil_terminal::Terminal;
-use mil_word::{Line, Wave, decode};
+use mil_word::{Line, Wave, Word, decode};
 use std::alloc::{AllocError, Global};
 use std::marker::Model;
 
@@ -67,7 +68,14 @@ impl Terminals {
     pub fn hear(&mut self, line: Line, sent: &Sent)
         ensures { self.new ≡ map (hearing line sent.now) self.old }
     {
-        let decoded = decode(sent.wave);
+        self.hear_decoded(line, sent, decode(sent.wave));
+    }
+
+    /// The same, where it was decoded before.
+    fn hear_decoded(&mut self, line: Line, sent: &Sent, decoded: Option<Word>)
+        requires { decoded ≡ word_of sent.now.wave }
+        ensures { self.new ≡ map (hearing line sent.now) self.old }
+    {
         let mask = concerned(&self.places, self.opened, decoded);
         self.opened = tell_all(&mut self.list, mask, line, sent, decoded);
     }
@@ -96,7 +104,7 @@ impl Terminals {
         let mut gap = run.gap;
         for value in values {
             let word = run.word(gap, true, *value);
-            self.hear(line, &word);
+            self.hear_decoded(line, &word, decode(word.wave));
             gap = Gap::contiguous();
         }
     }

@@ -262,6 +262,15 @@ impl Message {
     }
 }
 
+impl Message {
+    /// The same message once more, in the place of another.
+    pub fn copy_into(&self, other: &mut Message)
+        ensures { other.new ≡ self.now }
+    {
+        self.form.copy_into(&mut other.form);
+    }
+}
+
 /// A command as a word of the bus.
 fn command(command: Command) -> Word
     ensures { result ≡ command_of command }

@@ -1,11 +1,15 @@
-use Rattle.std.proofs.Common.{◌≡◌, ◌+◌, ◌-◌, ◌<◌, ◌≤◌, take, drop, length, get_or, true, arith, sym, ap, ◌∙◌, subst, length-take}
+use Rattle.std.proofs.Common.{◌≡◌, ◌+◌, ◌-◌, ◌<◌, ◌≤◌, take, drop, length, get_or, true, arith, sym, ap, ◌∙◌, subst, length-take, ◌==◌, not, false, Some, None}
 use Rattle.mil_bus.specs.declared.counts.Seen.{Seen}
 use Rattle.mil_bus.specs.Counts.{counts_of}
 use Rattle.mil_bus.specs.Lengthened.{AreLike, goes_on, lengthened}
 use Rattle.mil_bus.specs.Wholes.{all_words}
 use Rattle.mil_bus.proofs.Passes.{controllers-few, one-few, two-few}
 use Rattle.mil_bus.proofs.Lengthening.{counts_of-like, one_noted}
-use Rattle.mil_bus.proofs.CountedRuns.{counts-front, data-like}
+use Rattle.mil_bus.specs.declared.counts.Came.{Came}
+use Rattle.mil_word.specs.declared.Sync.TheVariants.{CommandSync}
+use Rattle.std.proofs.lemmas.Bool.Decides.{nat_tests}
+use Rattle.mil_bus.proofs.KeptRuns.{get-same}
+use Rattle.mil_bus.proofs.CountedRuns.{counts-front, data-like, counts-reply, none_is}
 use Rattle.mil_bus.proofs.counted_runs.note_run.Goals as goal
 
 pub lengthen-requires-clause-one : goal.lengthen-requires-clause-one
@@ -101,3 +105,18 @@ loop-i-preserved c =
     let is : w ≡ get_or xs at w = sym (c.requires.there c.loop-i.i w c.loop-i-test.true ∙ c.word.ensures w) in
     let e = one_noted c.args.commands c.args.due c.requires.two xs at c.loop-i.seen c.note.new.self w lt c.loop-i.invariant c.note.ensures is in
     e ∙ ap (λ k. counts_of c.args.commands c.args.due (take k xs)) (omega arith)
+
+pub returns-then-not-is_empty : goal.returns-then-not-is_empty
+returns-then-not-is_empty c =
+    let xs = all_words c.args.runs.now c.args.values.now in
+    let own = c.args.own.now in
+    let run = c.args.run.now in
+    let v = get_or own 0 0 in
+    let some : (length own == 0) ≡ false = sym c.is_empty.ensures ∙ c.if-not-is_empty.true in
+    let more : 0 < length own = grind (arith, nat_tests) in
+    let none : c.args.seen.now.one ≡ None = none_is c.args.seen.now.one (c.is_none.ensures ∙ ap not c.if-is_none.true) in
+    let before = ap (λ (s : Seen). s.one) (sym c.requires.seen) ∙ none in
+    let came : Came = record { gap = run.gap; first = Some (record { sync = CommandSync; value = v }); count = length own } in
+    ap (λ k. let s : Seen = record c.args.seen.now { one = Some k } in s) (c.came_of.ensures 0)
+    ∙ ap (λ (s : Seen). let t : Seen = record s { one = Some came } in t) c.requires.seen
+    ∙ sym (counts-reply c.args.commands c.args.due c.requires.two xs c.args.from run own v c.if-run-eq1-2.true c.if-run-eq1.true c.if-due-gt0.true before c.requires.within more c.are_small.ensures c.requires.there (get-same own 0 0 v more))

@@ -1,6 +1,6 @@
 use Rattle.mil_bus.specs.Exchange.{hearing}
 use Rattle.mil_bus.proofs.Indexing.{hearing-own, index-map}
-use Rattle.mil_bus.proofs.terminals.Terminals.hear.Goals as goal
+use Rattle.mil_bus.proofs.terminals.Terminals.hear_decoded.Goals as goal
 
 pub invariant_of-self : goal.invariant_of-self
 invariant_of-self c = (
