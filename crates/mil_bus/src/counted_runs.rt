@@ -31,8 +31,8 @@ fn came_of(run: &Whole, own: &[u16]) -> Came
     }
 }
 
-/// Counts the words of one of the runs, which stand from a place on. The data words, once the first is in its place, are
-/// counted together.
+/// Counts the words of one of the runs, which stand from a place on. The controller's, a first reply that came as it
+/// should, and the data words of any run, once the first is in its place, are counted together.
 #[inline]
 fn note_run(
     seen: &mut Seen,

@@ -82,7 +82,8 @@ pub fn tell_data(
 ) -> u32
     requires few { length terminals.old.items ≤ 31 }
     requires closed { AreClosed mask terminals.old.items }
-    ensures heard { terminals.new.items ≡ map (hearing_all line (run_words run.now (map data_wave values.now))) terminals.old.items }
+    ensures heard { terminals.new.items
+        ≡ map (hearing_all line (run_words run.now (map data_wave values.now))) terminals.old.items }
     ensures closed { AreClosed result terminals.new.items }
 {
     let count = terminals.len();

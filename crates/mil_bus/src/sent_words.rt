@@ -20,8 +20,8 @@ use mil_terminal::are_small;
 use mil_word::{Wave, raw_bits};
 use std::marker::Model;
 
-/// The words that came on a line, at most forty, in their order; contracts see them as those of an `ArrayVec`. A run that
-/// no planned fault touches is kept as a whole, by the values of its words.
+/// The words that came on a line, at most forty, in their order; contracts see them as those of an `ArrayVec`. A run
+/// that no planned fault touches is kept as a whole, by the values of its words.
 #[derive(Debug, Drop)]
 pub struct SentWords {
     /// The runs that are kept as a whole.
@@ -216,8 +216,8 @@ impl SentWords {
         words
     }
 
-    /// Puts the words of a run behind the others, where it can be kept as a whole: it has a word, there is room for all,
-    /// and the others are kept so. Whether it was put.
+    /// Puts the words of a run behind the others, where it can be kept as a whole: it has a word, there is room for
+    /// all, and the others are kept so. Whether it was put.
     #[inline]
     pub(crate) fn put_whole(&mut self, run: &Run, values: &Values) -> bool
         ensures put { result ≡ true → self.new.items ≡ self.old.items

@@ -105,8 +105,8 @@ impl Terminal {
         self.past = past_of(&self.past, line, gap, waves);
     }
 
-    /// Data words one after the other, by their values: the first has this gap, and the others follow at once. Where all
-    /// are due they are taken as a whole.
+    /// Data words one after the other, by their values: the first has this gap, and the others follow at once. Where
+    /// all are due they are taken as a whole.
     #[inline]
     pub fn hear_values(&mut self, line: Line, gap: Gap, values: &[u16])
         ensures { self.new ≡ after_all self.old (heard line gap (map data_wave values.now)) }
