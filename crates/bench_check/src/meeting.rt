@@ -78,5 +78,6 @@ pub fn meets(
     let mut bus = coming.bus.copy()?;
     let talk = &coming.talk;
     let played = bus.exchange(talk.line, &talk.message, coming.gap, before.as_slice());
-    Ok(is_there(count_of(played.sent.as_slice(), run), fault))
+    let sent = played.sent.list();
+    Ok(is_there(count_of(sent.as_slice(), run), fault))
 }

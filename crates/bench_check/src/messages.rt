@@ -81,7 +81,8 @@ fn name_at(place: u16) -> &'static str {
 /// Puts the first word of each reply, behind a space each.
 fn put_replies(text: &mut String, talk: &Talk, bits: Bits) -> Result<(), AllocError> {
     let mut run = 0u8;
-    for sent in talk.sent.as_slice() {
+    let words = talk.sent.list();
+    for sent in words.as_slice() {
         if sent.run != run {
             let word = raw_bits(sent.wave);
             write!(text, " {word:04X}")?;

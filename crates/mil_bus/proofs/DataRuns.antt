@@ -1,8 +1,8 @@
 -- Words that one station hears one after the other, and words that all hear.
-use Rattle.std.proofs.Common.{◌≡◌, ℕ, zero, suc, List, [], ◌∷◌, ◌++◌, map, take, drop, refl, sym, ap, ◌∙◌, true, false, None}
-use Rattle.std.proofs.lemmas.List.{take-append-drop}
+use Rattle.std.proofs.Common.{◌≡◌, ℕ, zero, suc, List, [], ◌∷◌, ◌++◌, map, take, drop, length, refl, sym, ap, ◌∙◌, true, false, None, append-nil, arith}
+use Rattle.std.proofs.lemmas.List.{take-append-drop, length-map}
 use Rattle.mil_word.specs.declared.Line.{Line}
-use Rattle.mil_word.specs.Words.{command_in}
+use Rattle.mil_word.specs.Words.{command_in, command_wave, data_wave}
 use Rattle.mil_terminal.specs.declared.events.Event.TheVariants.{Heard}
 use Rattle.mil_terminal.specs.Windows.{opens}
 use Rattle.mil_bus.specs.declared.talks.Sent.{Sent}
@@ -10,6 +10,7 @@ use Rattle.mil_terminal.specs.Station.{Station, after}
 use Rattle.mil_terminal.specs.Runs.{heard, after_all}
 use Rattle.mil_bus.specs.declared.talks.Source.{Source}
 use Rattle.mil_bus.specs.Exchange.{misses, hearing, all_hearing, words_of}
+use Rattle.mil_bus.specs.Wholes.{run_waves}
 use Rattle.mil_bus.specs.DataRuns.{hearing_all, run_words, gap_at, run_from}
 use Rattle.mil_bus.specs.declared.talk_runs.Run.{Run}
 use Rattle.mil_bus.proofs.Indexing.{hearing-own}
@@ -57,21 +58,28 @@ gap_at-same : (place : ℕ) → gap_at place 20 ≡ 20
 gap_at-same zero = refl
 gap_at-same (suc place) = refl
 
-words_of-cut : (number : ℕ) (source : Source) (gap n : ℕ) (waves : List ℕ)
-    → words_of number source gap (take n waves) ++ words_of number source (gap_at n gap) (drop n waves) ≡ words_of number source gap waves
-words_of-cut number source gap zero waves = refl
-words_of-cut number source gap (suc n) [] = refl
-words_of-cut number source gap (suc n) (w ∷ ws) =
-    ap (λ vs. record { wave = w; gap = gap; run = number; source = source } ∷ vs)
-    (ap (λ g. words_of number source 20 (take n ws) ++ words_of number source g (drop n ws)) (sym (gap_at-same n)) ∙ words_of-cut number source 20 n ws)
+words_of-append : (number : ℕ) (source : Source) (gap : ℕ) (vs ws : List ℕ)
+    → words_of number source gap vs ++ words_of number source (gap_at (length vs) gap) ws ≡ words_of number source gap (vs ++ ws)
+words_of-append number source gap [] ws = refl
+words_of-append number source gap (v ∷ vs) ws =
+    ap (λ xs. record { wave = v; gap = gap; run = number; source = source } ∷ xs)
+    (ap (λ g. words_of number source 20 vs ++ words_of number source g ws) (sym (gap_at-same (length vs))) ∙ words_of-append number source 20 vs ws)
 
--- the words of a run up to a place, and then those behind it
-pub run-cut : (line : Line) (run : Run) (n : ℕ) (waves : List ℕ) (xs : List Station)
-    → map (hearing_all line (run_words (run_from n run) (drop n waves))) (all_hearing line (run_words run (take n waves)) xs) ≡ all_hearing line (run_words run waves) xs
-run-cut line run n waves xs =
-    sym (all_hearing-map line (run_words (run_from n run) (drop n waves)) (all_hearing line (run_words run (take n waves)) xs))
-    ∙ sym (all_hearing-append line (run_words run (take n waves)) (run_words (run_from n run) (drop n waves)) xs)
-    ∙ ap (λ vs. all_hearing line vs xs) (words_of-cut run.number run.source run.gap n waves)
+-- the commands of a run, and then its data words
+pub run-parts : (line : Line) (run : Run) (cs vs : List ℕ) (xs : List Station)
+    → map (hearing_all line (run_words (run_from (length cs) run) (map data_wave vs))) (all_hearing line (run_words run (map command_wave cs)) xs) ≡ all_hearing line (run_words run (run_waves cs vs)) xs
+run-parts line run cs vs xs =
+    let first = words_of run.number run.source run.gap (map command_wave cs) in
+    let rest = words_of run.number run.source (gap_at (length cs) run.gap) (map data_wave vs) in
+    sym (all_hearing-map line rest (all_hearing line first xs)) ∙ sym (all_hearing-append line first rest xs)
+    ∙ ap (λ n. all_hearing line (first ++ words_of run.number run.source (gap_at n run.gap) (map data_wave vs)) xs) (sym (length-map cs command_wave))
+    ∙ ap (λ ws. all_hearing line ws xs) (words_of-append run.number run.source run.gap (map command_wave cs) (map data_wave vs))
+
+-- a run of commands alone
+pub run-commands : (line : Line) (run : Run) (cs vs : List ℕ) (xs : List Station) → length vs ≡ 0
+    → all_hearing line (run_words run (map command_wave cs)) xs ≡ all_hearing line (run_words run (run_waves cs vs)) xs
+run-commands line run cs [] xs none = ap (λ ws. all_hearing line (run_words run ws) xs) (sym (append-nil (map command_wave cs)))
+run-commands line run cs (v ∷ vs) xs none = absurd (omega (arith, none))
 
 hearing-missed : (line : Line) (w : Sent) (s : Station) → misses line w.source s ≡ true → hearing line w s ≡ s
 hearing-missed line w s missed = rw missed refl

@@ -115,7 +115,7 @@ longer_none : (o : Option Came) → o ≡ longer o 0
 longer_none None = refl
 longer_none (Some c) = ap (λ n. Some (record { gap = c.gap; first = c.first; count = n })) (omega arith)
 
-not_longer : (s : Seen) (run : ℕ) → s ≡ lengthened s run 0
+pub not_longer : (s : Seen) (run : ℕ) → s ≡ lengthened s run 0
 not_longer s zero = let e : s.controllers ≡ s.controllers + 0 = omega arith in λ i. record { controllers = e i; one = s.one; two = s.two; beyond = s.beyond; unsound = s.unsound; other_sync = s.other_sync }
 not_longer s (suc zero) = λ i. record { controllers = s.controllers; one = longer_none s.one i; two = s.two; beyond = s.beyond; unsound = s.unsound; other_sync = s.other_sync }
 not_longer s (suc (suc zero)) = λ i. record { controllers = s.controllers; one = s.one; two = longer_none s.two i; beyond = s.beyond; unsound = s.unsound; other_sync = s.other_sync }

@@ -22,6 +22,7 @@ use Rattle.mil_terminal.specs.declared.replies.Reply.{Reply}
 use Rattle.mil_terminal.specs.Station.{Station, after}
 use Rattle.mil_terminal.specs.Replies.{reply}
 use Rattle.mil_terminal.specs.Host.{is_deaf, is_mute}
+pub use Rattle.mil_bus.specs.RunWords.{words_of}
 
 -- what a sender gives: a gap, and the waves of its words
 pub record Offer : Type 0 where
@@ -41,12 +42,6 @@ most_runs = 40
 pub record Standing : Type 0 where
   pub sent : List Sent
   pub stations : List Station
-
--- the words of a run: the first has the run's gap, the others are contiguous
-abbrev pub words_of : ℕ → Source → ℕ → List ℕ → List Sent
-words_of run source gap [] = []
-words_of run source gap (wave ∷ waves) = record { wave = wave; gap = gap; run = run; source = source }
-    ∷ words_of run source contiguous_gap waves
 
 -- what comes on the line of a run, where there is room for so many words
 unfoldable pub run_sent : ℕ → List Fault → ℕ → Offer → List Sent

@@ -3,6 +3,7 @@ pub mod Counts
 pub mod Pass
 pub mod Lengthened
 pub mod BlockStatus
+pub mod RunWords
 pub mod Exchange
 pub mod Offers
 pub mod Actions
@@ -11,4 +12,5 @@ pub mod KeepsTimes
 pub mod Index
 pub mod DataRuns
 pub mod Enough
+pub mod Wholes
 pub mod Codes

@@ -2,9 +2,10 @@
 use Rattle.std.specs.Prelude.{Bool, true, false, Option, Some, None}
 use Rattle.mil_bus.specs.declared.offers.Offered.{Offered}
 use Rattle.mil_bus.specs.Exchange.{Offer}
+use Rattle.mil_bus.specs.Wholes.{value_waves}
 
 abbrev pub offered : Offered → Offer
-offered o = record { source = o.source; gap = o.gap; waves = o.waves }
+offered o = record { source = o.source; gap = o.gap; waves = value_waves o.values.commands o.values.words.items }
 
 -- what is given where something is
 abbrev pub given : Bool → Offered → Option Offer

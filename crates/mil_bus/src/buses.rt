@@ -18,7 +18,7 @@ use crate::{BusError, Seen, Source, Talk, Verdict};
 use history::History;
 use mil_host::Action;
 use mil_line::{Fault, Gap};
-use mil_message::{Message, Waves};
+use mil_message::Message;
 use mil_terminal::Terminal;
 use mil_word::Line;
 use std::alloc::{AllocError, Global};
@@ -251,12 +251,11 @@ impl Bus {
         let mut offer = Offered {
             source: Source::Controller,
             gap: self.gap_on(line, start),
-            waves: Waves::none(),
+            values: message.values(),
         };
-        message.put_waves(&mut offer.waves);
         talk.start = start;
         talk.line = line;
-        talk.message = message.copy();
+        message.copy_into(&mut talk.message);
         talk.sent.clear();
         all_runs(
             &mut self.terminals,

@@ -159,7 +159,7 @@ impl Seen {
     }
 
     /// Whether a further data word of a run is in its place.
-    fn goes_on(&self, commands: u8, due: u8, run: u8) -> bool
+    pub(crate) fn goes_on(&self, commands: u8, due: u8, run: u8) -> bool
         ensures { result ≡ goes_on commands due self.now run }
     {
         if run == 0 {
@@ -174,7 +174,7 @@ impl Seen {
     }
 
     /// Counts so many data words more, each in its place.
-    fn lengthen(&mut self, run: u8, more: u8)
+    pub(crate) fn lengthen(&mut self, run: u8, more: u8)
         requires controllers { self.old.controllers + more < 256 }
         requires one { words_in self.old.one + more < 256 }
         requires two { words_in self.old.two + more < 256 }
@@ -190,7 +190,7 @@ impl Seen {
     }
 
     /// Counts one more word.
-    fn note(&mut self, commands: u8, due: u8, sent: &Sent)
+    pub(crate) fn note(&mut self, commands: u8, due: u8, sent: &Sent)
         requires controllers { self.old.controllers < 100 }
         requires one { words_in self.old.one < 100 }
         requires two { words_in self.old.two < 100 }

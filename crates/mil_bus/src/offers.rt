@@ -4,17 +4,17 @@ ghost use Rattle.mil_bus.specs.Exchange.{offer_of};
 ghost use Rattle.mil_bus.specs.Offers.{offered};
 
 use crate::Source;
+use arrayvec::ArrayVec;
 use mil_line::Gap;
-use mil_message::Waves;
+use mil_message::Values;
 use mil_terminal::Reply;
-use mil_word::{Sync, Word};
 
 /// What a sender gives: the controller at first, then the terminal that replies.
 #[derive(Drop)]
 pub struct Offered {
     pub source: Source,
     pub gap: Gap,
-    pub waves: Waves,
+    pub values: Values,
 }
 
 impl Offered {
@@ -24,13 +24,11 @@ impl Offered {
     {
         self.source = Source::Terminal(own);
         self.gap = reply.gap;
-        self.waves.clear();
-        if let Some((status, values)) = reply.words.as_slice().split_first() {
-            self.waves.put(Word {
-                sync: Sync::CommandSync,
-                value: *status,
-            });
-            self.waves.put_data(values);
-        }
+        self.values.commands = 1;
+        self.values.words = ArrayVec::new();
+        let _ = self
+            .values
+            .words
+            .try_extend_from_slice(reply.words.as_slice());
     }
 }

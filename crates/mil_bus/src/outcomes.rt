@@ -7,7 +7,7 @@ ghost use Rattle.mil_bus.specs.Counts.{seen_of};
 ghost use Rattle.mil_message.specs.Forms.{controller_words, replies_due};
 
 use crate::Talk;
-use crate::counts::{Came, Seen, counted, is_command};
+use crate::counts::{Came, Seen, is_command};
 use mil_message::{Due, Form, Message};
 use mil_status::{BlockBits, StatusBits};
 use mil_word::{Line, Status, Word};
@@ -247,7 +247,7 @@ impl Talk {
         ensures { result ≡ seen_of self.now.message self.now.sent.items }
     {
         let commands = if is_transfer(&self.message) { 2 } else { 1 };
-        counted(commands, due_of(&self.message).count, self.sent.as_slice())
+        self.sent.seen(commands, due_of(&self.message).count)
     }
 
     /// What is seen of this talk, in the place of what was seen before, and what it came to.
@@ -258,7 +258,7 @@ impl Talk {
     {
         let due = due_of(&self.message);
         let commands = if is_transfer(&self.message) { 2 } else { 1 };
-        *seen = counted(commands, due.count, self.sent.as_slice());
+        *seen = self.sent.seen(commands, due.count);
         let errors = judged(&self.message, due, seen);
         Verdict {
             block: block_with(self, errors, seen),

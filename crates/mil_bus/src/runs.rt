@@ -1,18 +1,20 @@
 //! The runs of an exchange: words and quiets, told to all terminals.
-ghost use Rattle.std.specs.Prelude.{◌≡◌, ℕ, ◌+◌, ◌-◌, ◌≤◌, true, ◌++◌, length, Some};
+ghost use Rattle.std.specs.Prelude.{◌≡◌, ℕ, ◌+◌, ◌-◌, ◌≤◌, true, [], ◌∷◌, ◌++◌, length, Some};
+ghost use Rattle.mil_word.specs.Words.{command_wave};
 ghost use Rattle.std.specs.List.{list_all};
 ghost use Rattle.mil_line.specs.Ranges.{is_in_range};
 ghost use Rattle.mil_bus.specs.Exchange.{all_hearing, quiet_after, next_offer, words_of, run_sent, runs};
-ghost use Rattle.mil_bus.specs.DataRuns.{run_words};
+ghost use Rattle.mil_bus.specs.Wholes.{value_waves};
 ghost use Rattle.mil_bus.specs.Offers.{offered, given};
 
 use crate::offers::Offered;
 use crate::talk_runs::Run;
 use crate::terminals::Terminals;
-use crate::{Sent, Source};
+use crate::{Sent, SentWords, Source};
 use arrayvec::ArrayVec;
 use mil_line::{Fault, Gap, altered, late_gap};
-use mil_word::{Line, Wave};
+use mil_message::{Values, Waves};
+use mil_word::{Line, Sync, Wave, Word};
 
 /// Puts words behind those sent, each like this one but for its wave.
 #[inline(never)]
@@ -29,7 +31,7 @@ fn send_like(sent: &mut ArrayVec<Sent, 40>, word: &Sent, waves: &[Wave])
 }
 
 /// Puts the words of a run behind those sent.
-fn send(sent: &mut ArrayVec<Sent, 40>, run: u8, source: Source, gap: Gap, waves: &[Wave])
+pub fn send(sent: &mut ArrayVec<Sent, 40>, run: u8, source: Source, gap: Gap, waves: &[Wave])
     requires { length sent.old.items + length waves.now ≤ 40 }
     ensures { sent.new.items ≡ sent.old.items ++ words_of run source gap waves.now }
 {
@@ -52,26 +54,38 @@ fn send(sent: &mut ArrayVec<Sent, 40>, run: u8, source: Source, gap: Gap, waves:
     send_like(sent, &word, others);
 }
 
-/// The words of a run come on the line, and to all terminals.
-fn say(
-    terminals: &mut Terminals,
-    sent: &mut ArrayVec<Sent, 40>,
-    line: Line,
-    run: &Run,
-    waves: &[Wave],
-)
-    requires { length sent.old.items + length waves.now ≤ 40 }
-    ensures sent { sent.new.items ≡ sent.old.items ++ run_words run.now waves.now }
-    ensures stations { terminals.new ≡ all_hearing line (run_words run.now waves.now) terminals.old }
+/// Puts the wave of a command or a status word behind others.
+fn put_command(waves: &mut Waves, value: u16)
+    requires { length waves.old + 1 ≤ 34 }
+    ensures { waves.new ≡ waves.old ++ command_wave value ∷ [] }
 {
-    send(sent, run.number, run.source, run.gap, waves);
-    terminals.hear_all(line, run, waves);
+    waves.put(Word {
+        sync: Sync::CommandSync,
+        value,
+    });
 }
 
-/// What comes on the line of a run, as far as there is room for it among the words sent, comes to all terminals.
-fn say_run(
+/// The waves of the words that a sender gives.
+fn waves_of(values: &Values) -> Waves
+    ensures { result ≡ value_waves values.now.commands values.now.words.items }
+{
+    let count = values.words.len();
+    let _ = count;
+    let mut waves = Waves::none();
+    let (commands, data) = values.parts();
+    for value in commands {
+        put_command(&mut waves, *value);
+    }
+    waves.put_data(data);
+    waves
+}
+
+/// What the planned faults make of a run comes on the line, as far as there is room for it among the words sent, and to
+/// all terminals.
+#[inline(never)]
+fn say_altered(
     terminals: &mut Terminals,
-    sent: &mut ArrayVec<Sent, 40>,
+    sent: &mut SentWords,
     line: Line,
     faults: &[Fault],
     number: u8,
@@ -84,26 +98,41 @@ fn say_run(
         ≡ all_hearing line (run_sent (40 - length sent.old.items) faults.now number (offered offer.now)) terminals.old }
 {
     let room = 40 - sent.len();
-    let given = offer.waves.as_slice();
-    let source = offer.source;
-    if faults.is_empty() {
-        let gap = offer.gap;
-        let run = Run {
-            number,
-            source,
-            gap,
-        };
-        let count = room.min(given.len());
-        say(terminals, sent, line, &run, &given[..count]);
+    let given = waves_of(&offer.values);
+    let run = Run {
+        number,
+        source: offer.source,
+        gap: late_gap(faults, u32::from(number), offer.gap),
+    };
+    let waves = altered(faults, u32::from(number), given.as_slice(), room);
+    sent.put_each(&run, waves.as_slice());
+    terminals.hear_each(line, &run, waves.as_slice());
+}
+
+/// What comes on the line of a run, as far as there is room for it among the words sent, comes to all terminals.
+fn say_run(
+    terminals: &mut Terminals,
+    sent: &mut SentWords,
+    line: Line,
+    faults: &[Fault],
+    number: u8,
+    offer: &Offered,
+)
+    requires in_range { list_all is_in_range faults.now ≡ true }
+    ensures sent { sent.new.items ≡ sent.old.items
+        ++ run_sent (40 - length sent.old.items) faults.now number (offered offer.now) }
+    ensures stations { terminals.new
+        ≡ all_hearing line (run_sent (40 - length sent.old.items) faults.now number (offered offer.now)) terminals.old }
+{
+    let run = Run {
+        number,
+        source: offer.source,
+        gap: offer.gap,
+    };
+    if faults.is_empty() && sent.put_whole(&run, &offer.values) {
+        terminals.hear_whole(line, &run, &offer.values);
     } else {
-        let gap = late_gap(faults, u32::from(number), offer.gap);
-        let run = Run {
-            number,
-            source,
-            gap,
-        };
-        let waves = altered(faults, u32::from(number), given, room);
-        say(terminals, sent, line, &run, waves.as_slice());
+        say_altered(terminals, sent, line, faults, number, offer);
     }
 }
 
@@ -111,7 +140,7 @@ fn say_run(
 /// whether one answers.
 fn run_once(
     terminals: &mut Terminals,
-    sent: &mut ArrayVec<Sent, 40>,
+    sent: &mut SentWords,
     line: Line,
     faults: &[Fault],
     run: u8,
@@ -127,7 +156,7 @@ fn run_once(
 {
     let before = sent.len();
     say_run(terminals, sent, line, faults, run, offer);
-    if sent.as_slice()[before..].is_empty() {
+    if sent.len() == before {
         return false;
     }
     terminals.quiet(line, offer)
@@ -136,7 +165,7 @@ fn run_once(
 /// A run, and what all that follow make of it.
 fn turn(
     terminals: &mut Terminals,
-    sent: &mut ArrayVec<Sent, 40>,
+    sent: &mut SentWords,
     line: Line,
     faults: &[Fault],
     run: u8,
@@ -154,7 +183,7 @@ fn turn(
 /// All runs of an exchange, from what the controller offers.
 pub fn all_runs(
     terminals: &mut Terminals,
-    sent: &mut ArrayVec<Sent, 40>,
+    sent: &mut SentWords,
     line: Line,
     faults: &[Fault],
     offer: &mut Offered,

@@ -4,7 +4,7 @@ ghost use Rattle.mil_bus.specs.declared.talks.Source.TheVariants.{Controller};
 ghost use Rattle.mil_bus.specs.declared.talks.Sent.{Sent};
 ghost use Rattle.mil_bus.specs.Times.{end_of, lasting, is_controllers_last};
 
-use arrayvec::ArrayVec;
+use crate::SentWords;
 use mil_line::Gap;
 use mil_message::Message;
 use mil_word::{Line, Wave};
@@ -67,11 +67,12 @@ pub struct Talk {
     pub line: Line,
     pub message: Message,
     /// The words that came on the line, in their order; none past the fortieth is sent.
-    pub sent: ArrayVec<Sent, 40>,
+    pub sent: SentWords,
 }
 
 /// The ticks from the end of the word before to the end of a word, by its place in the talk.
-fn lasting(place: usize, gap: Gap) -> u64
+#[inline]
+pub(crate) fn lasting(place: usize, gap: Gap) -> u64
     ensures value { result ≡ lasting place gap }
     ensures small { result < 2 ^ 17 }
 {
@@ -91,7 +92,7 @@ impl Talk {
             start: 0,
             line: Line::A,
             message: Message::default(),
-            sent: ArrayVec::new(),
+            sent: SentWords::none(),
         }
     }
 
@@ -102,22 +103,13 @@ impl Talk {
         ensures soon { result ≤ self.now.start + 2 ^ 23 }
         ensures after { self.now.start ≤ result }
     {
-        let sent = self.sent.as_slice();
-        let mut tick = self.start;
-        for i in 0..sent.len() {
-            tick += lasting(i, sent[i].gap);
-        }
-        tick
+        self.sent.end(self.start)
     }
 
     /// Whether the last word was the controller's; a talk of no word counts so.
     pub fn is_controllers_last(&self) -> bool
         ensures { result ≡ is_controllers_last self.now.sent.items }
     {
-        let mut last = true;
-        for sent in self.sent.as_slice() {
-            last = sent.run == 0;
-        }
-        last
+        self.sent.is_controllers_last()
     }
 }

@@ -4,22 +4,26 @@ ghost use Rattle.std.specs.Option.{is_some, option_copied};
 ghost use Rattle.mil_bus.specs.Actions.{place_of, station_of, acting};
 ghost use Rattle.mil_bus.specs.Addresses.{stations_of};
 ghost use Rattle.mil_bus.specs.Exchange.{hearing, all_hearing, quieted, first_reply};
-ghost use Rattle.mil_bus.specs.DataRuns.{hearing_all, run_words, AreNoCommands};
+ghost use Rattle.mil_word.specs.Words.{command_wave, data_wave};
+ghost use Rattle.mil_bus.specs.DataRuns.{hearing_all, run_words};
+ghost use Rattle.mil_word.specs.Wave.{word_of};
+ghost use Rattle.mil_bus.specs.Wholes.{value_waves};
 ghost use Rattle.mil_bus.specs.Offers.{given};
 
 use crate::Sent;
 use crate::addresses::fresh;
 use crate::bits::with_bit;
 use crate::copies::copied;
-use crate::data_runs::{count_to_commands, tell_data};
+use crate::data_runs::tell_data;
 use crate::hearing::{concerned, tell_all};
 use crate::offers::Offered;
 use crate::quieting::quiet_all;
 use crate::talk_runs::Run;
 use mil_host::Action;
 use mil_line::Gap;
+use mil_message::Values;
 use mil_terminal::Terminal;
-use mil_word::{Line, Wave, decode};
+use mil_word::{Line, Wave, Word, decode};
 use std::alloc::{AllocError, Global};
 use std::marker::Model;
 
@@ -64,13 +68,20 @@ impl Terminals {
     pub fn hear(&mut self, line: Line, sent: &Sent)
         ensures { self.new ≡ map (hearing line sent.now) self.old }
     {
-        let decoded = decode(sent.wave);
+        self.hear_decoded(line, sent, decode(sent.wave));
+    }
+
+    /// The same, where it was decoded before.
+    fn hear_decoded(&mut self, line: Line, sent: &Sent, decoded: Option<Word>)
+        requires { decoded ≡ word_of sent.now.wave }
+        ensures { self.new ≡ map (hearing line sent.now) self.old }
+    {
         let mask = concerned(&self.places, self.opened, decoded);
         self.opened = tell_all(&mut self.list, mask, line, sent, decoded);
     }
 
     /// The words of a run come to all terminals, one after the other.
-    fn hear_each(&mut self, line: Line, run: &Run, waves: &[Wave])
+    pub fn hear_each(&mut self, line: Line, run: &Run, waves: &[Wave])
         ensures { self.new ≡ all_hearing line (run_words run.now waves.now) self.old }
     {
         let mut gap = run.gap;
@@ -86,24 +97,35 @@ impl Terminals {
         }
     }
 
-    /// The words of a run that are no commands come to all terminals. They concern those alone that have an open
-    /// window.
-    fn hear_data(&mut self, line: Line, run: &Run, waves: &[Wave])
-        requires { AreNoCommands 0 waves.now }
-        ensures { self.new ≡ map (hearing_all line (run_words run.now waves.now)) self.old }
+    /// The commands of a run, or its status word, come to all terminals, one after the other.
+    fn hear_commands(&mut self, line: Line, run: &Run, values: &[u16])
+        ensures { self.new ≡ all_hearing line (run_words run.now (map command_wave values.now)) self.old }
     {
-        self.opened = tell_data(&mut self.list, self.opened, line, run, waves);
+        let mut gap = run.gap;
+        for value in values {
+            let word = run.word(gap, true, *value);
+            self.hear_decoded(line, &word, decode(word.wave));
+            gap = Gap::contiguous();
+        }
     }
 
-    /// The words of a run come to all terminals: those up to the last command one after the other, and those behind it
-    /// as a whole.
-    pub fn hear_all(&mut self, line: Line, run: &Run, waves: &[Wave])
-        ensures { self.new ≡ all_hearing line (run_words run.now waves.now) self.old }
+    /// The data words of a run come to all terminals. They concern those alone that have an open window.
+    fn hear_data(&mut self, line: Line, run: &Run, values: &[u16])
+        ensures { self.new ≡ map (hearing_all line (run_words run.now (map data_wave values.now))) self.old }
     {
-        let count = count_to_commands(waves);
-        self.hear_each(line, run, &waves[..count]);
-        if count < waves.len() {
-            self.hear_data(line, &run.from(count), &waves[count..]);
+        self.opened = tell_data(&mut self.list, self.opened, line, run, values);
+    }
+
+    /// The words of a run that is sent as it should come to all terminals: its commands or its status word one after
+    /// the other, and its data words as a whole.
+    pub fn hear_whole(&mut self, line: Line, run: &Run, values: &Values)
+        ensures { self.new ≡ all_hearing line
+            (run_words run.now (value_waves values.now.commands values.now.words.items)) self.old }
+    {
+        let (commands, data) = values.parts();
+        self.hear_commands(line, run, commands);
+        if !data.is_empty() {
+            self.hear_data(line, &run.from(commands.len()), data);
         }
     }
 

@@ -109,6 +109,43 @@ impl Form {
     }
 }
 
+/// Puts words in the place of others.
+#[inline]
+fn put_words(others: &mut ArrayVec<u16, 32>, words: &ArrayVec<u16, 32>)
+    ensures { others.new ≡ words.now }
+{
+    others.clear();
+    let _ = others.try_extend_from_slice(words.as_slice());
+}
+
+impl Form {
+    /// The same form once more, in the place of another.
+    #[inline]
+    pub fn copy_into(&self, other: &mut Form)
+        ensures { other.new ≡ self.now }
+    {
+        if let Form::ToTerminal {
+            address,
+            subaddress,
+            words,
+        } = self
+        {
+            if let Form::ToTerminal {
+                address: other_address,
+                subaddress: other_subaddress,
+                words: others,
+            } = other
+            {
+                *other_address = *address;
+                *other_subaddress = *subaddress;
+                put_words(others, words);
+                return;
+            }
+        }
+        *other = self.copy();
+    }
+}
+
 /// A reply that is due.
 #[derive(Clone, Copy, Debug, Default, PartialEq, Eq)]
 pub struct Due {

@@ -13,6 +13,7 @@ pub mod messages;
 pub mod outcome_test;
 mod parts;
 mod ranges;
+pub mod values;
 pub mod waves;
 
 pub use drafts::{Draft, ModeSubaddress};
@@ -20,4 +21,5 @@ pub use faults::BadMessage;
 pub use forms::{Commands, Due, Form};
 pub use messages::Message;
 pub use outcome_test::OutcomeTest;
+pub use values::Values;
 pub use waves::Waves;

@@ -1,5 +1,6 @@
 //! A message in one of the ten forms.
-ghost use Rattle.std.specs.Prelude.{◌≡◌, ◌≤◌, ◌↔◌, ◌∷◌, Ok, length};
+ghost use Rattle.std.specs.Prelude.{◌≡◌, ◌≤◌, ◌↔◌, ◌∷◌, ◌++◌, Ok, length, map, take, drop};
+ghost use Rattle.mil_word.specs.Words.{command_wave, data_wave};
 ghost use Rattle.std.specs.Option.{option_to_list};
 ghost use Rattle.mil_message.specs.declared.forms.Form.{Form as FormValue};
 ghost use Rattle.mil_message.specs.Request.{request_of};
@@ -10,7 +11,7 @@ ghost use Rattle.mil_message.specs.Forms.{controller_waves, command_of, replies_
 use crate::command::{
     mode_command, mode_command_to_all, receive_command, receive_command_to_all, transmit_command,
 };
-use crate::{BadMessage, Commands, Draft, Due, Form, ModeSubaddress, Waves, judge};
+use crate::{BadMessage, Commands, Draft, Due, Form, ModeSubaddress, Values, Waves, judge};
 use arrayvec::ArrayVec;
 use mil_word::{Command, Sync, Word};
 use std::alloc::AllocError;
@@ -231,6 +232,26 @@ impl Message {
         waves.put_data(self.data_words());
     }
 
+    /// The values of the words that the controller sends.
+    pub fn values(&self) -> Values
+        ensures waves { map command_wave (take result.commands result.words.items)
+            ++ map data_wave (drop result.commands result.words.items) ≡ controller_waves self.now }
+        ensures few { result.commands ≤ 2 }
+    {
+        let commands = self.commands();
+        let mut words = ArrayVec::new();
+        words.push(commands.first.value());
+        if let Some(second) = commands.second {
+            words.push(second.value());
+        }
+        let count = words.len() as u8;
+        let _ = words.try_extend_from_slice(self.data_words());
+        Values {
+            words,
+            commands: count,
+        }
+    }
+
     /// The same message once more, which takes no memory.
     pub fn copy(&self) -> Message
         ensures { result ≡ self.now }
@@ -238,6 +259,15 @@ impl Message {
         Message {
             form: self.form.copy(),
         }
+    }
+}
+
+impl Message {
+    /// The same message once more, in the place of another.
+    pub fn copy_into(&self, other: &mut Message)
+        ensures { other.new ≡ self.now }
+    {
+        self.form.copy_into(&mut other.form);
     }
 }
 

@@ -1,15 +1,18 @@
 -- Words that come one after the other, none of which is a command or a status.
-use Rattle.std.proofs.Common.{◌≡◌, ℕ, suc, ◌+◌, ◌-◌, ◌<◌, ◌≤◌, List, [], ◌∷◌, ◌++◌, map, take, drop, length, get_or, slice_set, refl, sym, ap, ◌∙◌, arith, zero-le, length-append, append_assoc, append-nil}
+use Rattle.std.proofs.Common.{◌≡◌, ◌⊎◌, inl, inr, ℕ, zero, suc, ◌+◌, ◌^◌, ◌-◌, ◌<◌, ◌≤◌, List, [], ◌∷◌, ◌++◌, map, take, drop, length, get_or, slice_set, refl, sym, ap, ◌∙◌, arith, zero-le, length-append, append_assoc, append-nil}
 use Rattle.std.specs.Prelude.{Bool, true, false, ◌&&◌, ◌==◌, nat_lt, Option, Some, None, unwrap_or, if◌then◌else◌}
 use Rattle.std.specs.Option.{is_some}
 use Rattle.std.proofs.lemmas.Bool.Decides.{nat_tests}
-use Rattle.std.proofs.lemmas.List.{take_more, take_more_set, map-append}
+use Rattle.std.proofs.lemmas.List.{take_more, take_more_set, map-append, length-map}
 use Rattle.mil_word.specs.declared.Line.{Line}
-use Rattle.mil_word.specs.Words.{same_line, command_in, data_in}
+use Rattle.mil_word.specs.declared.Sync.TheVariants.{DataSync}
+use Rattle.mil_word.specs.Wave.{word_of}
+use Rattle.mil_word.specs.Words.{same_line, command_in, data_in, data_wave}
+use Rattle.mil_word.proofs.Reading.{word_of-wave}
 use Rattle.mil_terminal.specs.declared.events.Event.TheVariants.{Heard}
 use Rattle.mil_terminal.specs.History.{History}
 use Rattle.mil_terminal.specs.Windows.{sender_called}
-use Rattle.mil_terminal.specs.Runs.{heard, met, AreNoCommands}
+use Rattle.mil_terminal.specs.Runs.{heard, met, AreNoCommands, AreSmall}
 use Rattle.mil_terminal.specs.Verdicts.{words_due}
 use Rattle.mil_terminal.specs.declared.pending.Phase.{Phase}
 use Rattle.mil_terminal.specs.declared.pending.Phase.TheVariants.{Start, Taking, Called, Waiting, LostTransfer, Lost}
@@ -206,3 +209,72 @@ run_taken own p (v ∷ vs) (w ∷ ws) items taking same few is =
     let q : Pending = record p { words = record { items = p.words.items ++ v ∷ [] } } in
     let fewer : length ws ≤ words_due p.command - length (p.words.items ++ v ∷ []) = omega (arith, few, length-append p.words.items (v ∷ [])) in
     run_taken own q vs ws items taking rest fewer (is ∙ sym (append_assoc p.words.items (v ∷ []) vs)) ∙ word_taken own p q v w ws taking value refl
+
+-- ---- data words by their values
+
+pub word-small : (v : ℕ) → v < 2 ^ 16 → word_of (data_wave v) ≡ Some (record { sync = DataSync; value = v })
+word-small v small = word_of-wave (record { sync = DataSync; value = v }) small
+
+pub first_small : (v : ℕ) (vs : List ℕ) → AreSmall (v ∷ vs) → v < 2 ^ 16
+first_small v vs small = small 0 v (omega arith)
+
+pub rest_small : (v : ℕ) (vs : List ℕ) → AreSmall (v ∷ vs) → AreSmall vs
+rest_small v vs small = λ k d lt. small (suc k) d (omega (arith, lt))
+
+pub value_none : (v : ℕ) → v < 2 ^ 16 → command_in (data_wave v) ≡ None
+value_none v small = rw (word-small v small) refl
+
+more_none : (w : ℕ) (ws : List ℕ) → command_in w ≡ None → AreNoCommands 0 ws → AreNoCommands 0 (w ∷ ws)
+more_none w ws first rest zero d le lt = first
+more_none w ws first rest (suc k) d le lt = rest k d zero-le (omega (arith, lt))
+
+pub values_none : (values : List ℕ) → AreSmall values → AreNoCommands 0 (map data_wave values)
+values_none [] small = λ k d le lt. absurd (omega (arith, lt))
+values_none (v ∷ vs) small = more_none (data_wave v) (map data_wave vs) (value_none v (first_small v vs small)) (values_none vs (rest_small v vs small))
+
+value_in : (v : ℕ) → v < 2 ^ 16 → Some v ≡ data_in (data_wave v)
+value_in v small = rw (word-small v small) refl
+
+values_in : (values : List ℕ) → AreSmall values → map Some values ≡ map data_in (map data_wave values)
+values_in [] small = refl
+values_in (v ∷ vs) small =
+    let first = value_in v (first_small v vs small) in
+    let rest = values_in vs (rest_small v vs small) in
+    cc
+
+-- whether due words may come next
+abbrev pub may_take : Phase → Bool
+may_take Start = true
+may_take Taking = true
+may_take (Called sender) = false
+may_take (Waiting sender) = false
+may_take LostTransfer = false
+may_take Lost = false
+
+begun : (own : ℕ) (p : Pending) (phase : Phase) (v : ℕ) → may_take phase ≡ true → v < 2 ^ 16 → nat_lt (length p.words.items) (words_due p.command) ≡ true
+    → after_word own p phase (data_wave v) 20 ≡ with_due (Some v) p
+begun own p Start v may small due = rw (value_none v small, due, ← value_in v small) refl
+begun own p Taking v may small due = rw (due, ← value_in v small) refl
+begun own p (Called sender) v may small due = cc
+begun own p (Waiting sender) v may small due = cc
+begun own p LostTransfer v may small due = cc
+begun own p Lost v may small due = cc
+
+-- a window after data words all of which are due
+pub values_taken : (own : ℕ) (p : Pending) (gap : ℕ) (values items : List ℕ) → may_take p.phase ≡ true → AreSmall values → (gap == 20) ≡ true → (length values == 0) ≡ false
+    → length values ≤ words_due p.command - length p.words.items → items ≡ p.words.items ++ values
+    → record p { phase = Taking; words = record { items = items } } ≡ after_run own p gap (map data_wave values)
+values_taken own p gap [] items may small at_once some few is = cc
+values_taken own p gap (v ∷ vs) items may small at_once some few is =
+    let twenty : gap ≡ 20 = grind (arith, nat_tests) in
+    let due : nat_lt (length p.words.items) (words_due p.command) ≡ true = grind (arith, nat_tests) in
+    let first = begun own p p.phase v may (first_small v vs small) due in
+    let q : Pending = with_due (Some v) p in
+    let fewer : length (map data_wave vs) ≤ words_due p.command - length (p.words.items ++ v ∷ []) = omega (arith, few, length-append p.words.items (v ∷ []), length-map vs data_wave) in
+    run_taken own q vs (map data_wave vs) items refl (values_in vs (rest_small v vs small)) fewer (is ∙ sym (append_assoc p.words.items (v ∷ []) vs))
+    ∙ ap (λ x. after_run own x 20 (map data_wave vs)) (sym first)
+    ∙ ap (λ g. after_run own (after_word own p p.phase (data_wave v) g) 20 (map data_wave vs)) (sym twenty)
+
+pub may_either : (phase : Phase) → (phase ≡ Start) ⊎ (phase ≡ Taking) → may_take phase ≡ true
+may_either phase (inl e) = ap may_take e
+may_either phase (inr e) = ap may_take e

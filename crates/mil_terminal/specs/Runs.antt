@@ -1,5 +1,5 @@
 -- Words that come one after the other, none of which is a command or a status.
-use Rattle.std.specs.Prelude.{◌≡◌, ℕ, ◌<◌, ◌≤◌, List, [], ◌∷◌, length, get_or, None}
+use Rattle.std.specs.Prelude.{◌≡◌, ℕ, ◌^◌, ◌<◌, ◌≤◌, List, [], ◌∷◌, length, get_or, None}
 use Rattle.mil_word.specs.declared.Line.{Line}
 use Rattle.mil_word.specs.Words.{command_in}
 use Rattle.mil_word.specs.Timing.{contiguous_gap}
@@ -25,3 +25,7 @@ after_all station events = record { own = station.own; history = met events stat
 -- none of the waves from a place on is a command or a status word
 abbrev pub AreNoCommands : ℕ → List ℕ → Type 0
 AreNoCommands from waves = (k : ℕ) (d : ℕ) → from ≤ k → k < length waves → command_in (get_or waves k d) ≡ None
+
+-- each of the values has 16 bits
+abbrev pub AreSmall : List ℕ → Type 0
+AreSmall values = (k : ℕ) (d : ℕ) → k < length values → get_or values k d < 2 ^ 16

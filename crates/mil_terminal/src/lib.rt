@@ -22,6 +22,7 @@ mod sounds;
 mod switches;
 mod synced;
 mod terminals;
+pub mod values;
 
 pub use conditions::Conditions;
 pub use error::TerminalError;
@@ -29,3 +30,4 @@ pub use events::Event;
 pub use replies::Reply;
 pub use saved::SavedTerminal;
 pub use terminals::Terminal;
+pub use values::are_small;

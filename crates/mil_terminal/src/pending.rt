@@ -3,21 +3,21 @@ ghost use Rattle.std.specs.Prelude.{◌≡◌, ℕ, ◌<◌, ◌≤◌, nat_lt, 
 ghost use Rattle.std.specs.Prelude.{Some, None, IfSome, IfNone, unwrap_or, true, false, if◌then◌else◌};
 ghost use Rattle.std.specs.List.{filter_map};
 ghost use Rattle.std.specs.Option.{is_some};
-ghost use Rattle.mil_word.specs.Words.{same_line as same, command_in, data_in};
+ghost use Rattle.mil_word.specs.Words.{same_line as same, command_in, data_in, data_wave};
 ghost use Rattle.mil_terminal.specs.declared.events.Event.{Event};
 ghost use Rattle.mil_terminal.specs.declared.events.Event.TheVariants.{Heard, Quiet};
 ghost use Rattle.mil_terminal.specs.Windows as windows;
 ghost use Rattle.mil_terminal.specs.Verdicts as verdicts;
 ghost use Rattle.mil_terminal.specs.Registers.{value_of};
 ghost use Rattle.mil_terminal.specs.Phases as phases;
-ghost use Rattle.mil_terminal.specs.Runs.{heard, AreNoCommands};
+ghost use Rattle.mil_terminal.specs.Runs.{heard, AreNoCommands, AreSmall};
 ghost use Rattle.mil_terminal.specs.declared.pending.Phase.TheVariants.{Taking};
 
 use crate::addresses::Address;
 use crate::sounds::Sound;
 use arrayvec::ArrayVec;
 use mil_line::Gap;
-use mil_word::{Command, Line, Wave, decode};
+use mil_word::{Command, Line, Sync, Wave, Word, decode, encode};
 
 /// What was heard in a window so far.
 #[derive(Clone, Copy, Debug)]
@@ -260,6 +260,38 @@ impl Pending {
         }
     }
 
+    /// More data words on the line, by their values: the first has this gap, and the others follow at once.
+    #[inline]
+    pub fn take_values(&mut self, own: Address, gap: Gap, values: &[u16])
+        requires { AreSmall values.now }
+        ensures { self.new ≡ after_run own self.old gap (map data_wave values.now) }
+    {
+        match self.phase {
+            Phase::Start | Phase::Taking => {
+                let room = words_due(self.command).saturating_sub(self.words.len());
+                if gap.is_contiguous() && values.len() <= room && !values.is_empty() {
+                    let _ = self.words.try_extend_from_slice(values);
+                    self.phase = Phase::Taking;
+                    return;
+                }
+            }
+            _ => {}
+        }
+        self.take_each_value(own, gap, values);
+    }
+
+    /// The same, one after the other.
+    #[inline(never)]
+    fn take_each_value(&mut self, own: Address, gap: Gap, values: &[u16])
+        ensures { self.new ≡ after_run own self.old gap (map data_wave values.now) }
+    {
+        let mut gap = gap;
+        for value in values {
+            self.follow_value(own, gap, *value);
+            gap = Gap::contiguous();
+        }
+    }
+
     /// A quiet on the line: the shape of the window, where it decides it.
     pub fn take_quiet(&mut self) -> Option<bool>
         ensures decided { (own : ℕ) (items : List Event) → IsPending own self.old items → IfSome result (λ shape.
@@ -308,6 +340,17 @@ impl Pending {
             Phase::Waiting(_) => self.phase = Phase::Lost,
             Phase::LostTransfer | Phase::Lost => {}
         }
+    }
+
+    /// One more data word, by its value.
+    fn follow_value(&mut self, own: Address, gap: Gap, value: u16)
+        ensures { self.new ≡ after_word own self.old self.old.phase (data_wave value) gap }
+    {
+        let word = Word {
+            sync: Sync::DataSync,
+            value,
+        };
+        self.follow_data(own, &Sound::of(encode(word), Some(word)), gap);
     }
 
     fn follow_word(&mut self, own: Address, sound: &Sound, gap: Gap)

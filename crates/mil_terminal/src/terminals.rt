@@ -1,8 +1,8 @@
 //! The remote terminal.
-ghost use Rattle.std.specs.Prelude.{◌≡◌, ◌<◌, ◌≤◌, ◌↔◌, ◌/◌, ◌%◌, ◌^◌, ◌==◌, Err, None, [], false, IfOk};
+ghost use Rattle.std.specs.Prelude.{◌≡◌, ◌<◌, ◌≤◌, ◌↔◌, ◌/◌, ◌%◌, ◌^◌, ◌==◌, Err, None, [], false, IfOk, map};
 ghost use Rattle.mil_word.specs.declared.Line.{Line as LineValue};
 ghost use Rattle.mil_word.specs.Wave.{word_of};
-ghost use Rattle.mil_word.specs.Words.{command_in};
+ghost use Rattle.mil_word.specs.Words.{command_in, data_wave};
 ghost use Rattle.mil_terminal.specs.declared.events.Event.TheVariants.{Heard, Quiet, Host};
 ghost use Rattle.mil_terminal.specs.Host.{is_deaf, is_mute};
 ghost use Rattle.mil_terminal.specs.Registers as registers;
@@ -20,7 +20,7 @@ use crate::{Event, TerminalError};
 use history::History;
 use mil_host::Action;
 use mil_line::Gap;
-use mil_word::{Line, Wave, Word, decode};
+use mil_word::{Line, Sync, Wave, Word, decode, encode};
 use std::alloc::{AllocError, Global};
 use std::marker::Model;
 use std::slice;
@@ -103,6 +103,16 @@ impl Terminal {
     {
         self.registers.hear_run(line, gap, waves);
         self.past = past_of(&self.past, line, gap, waves);
+    }
+
+    /// Data words one after the other, by their values: the first has this gap, and the others follow at once. Where
+    /// all are due they are taken as a whole.
+    #[inline]
+    pub fn hear_values(&mut self, line: Line, gap: Gap, values: &[u16])
+        ensures { self.new ≡ after_all self.old (heard line gap (map data_wave values.now)) }
+    {
+        self.registers.hear_values(line, gap, values);
+        self.past = past_of_values(&self.past, line, gap, values);
     }
 
     /// The same, for a word that is no command to this terminal or to all, on a line where this terminal is not
@@ -293,6 +303,24 @@ fn past_of(past: &History<Event>, line: Line, gap: Gap, waves: &[Wave]) -> Histo
     let mut gap = gap;
     for wave in waves {
         let wave = *wave;
+        events = events.put_before(&Event::Heard { line, wave, gap });
+        gap = Gap::contiguous();
+    }
+    events
+}
+
+/// A history and data words by their values, which costs nothing.
+#[inline]
+fn past_of_values(past: &History<Event>, line: Line, gap: Gap, values: &[u16]) -> History<Event>
+    ensures { result ≡ met (heard line gap (map data_wave values.now)) past.now }
+{
+    let mut events = past.same();
+    let mut gap = gap;
+    for value in values {
+        let wave = encode(Word {
+            sync: Sync::DataSync,
+            value: *value,
+        });
         events = events.put_before(&Event::Heard { line, wave, gap });
         gap = Gap::contiguous();
     }

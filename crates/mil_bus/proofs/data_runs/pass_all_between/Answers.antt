@@ -1,4 +1,5 @@
-use Rattle.std.proofs.Common.{◌≡◌, length-set, ◌∙◌, arith}
+use Rattle.std.proofs.Common.{map, ◌≡◌, length-set, ◌∙◌, arith}
+use Rattle.mil_word.specs.Words.{data_wave}
 use Rattle.mil_bus.specs.DataRuns.{hearing_all, run_words}
 use Rattle.mil_bus.proofs.Stations.{rest-more}
 use Rattle.mil_bus.proofs.Coming.{one_more}
@@ -9,7 +10,7 @@ loop-i-preserved c = record {
   long = length-set c.loop-i.terminals.items c.loop-i.i c.pass_all.new.terminal ∙ c.loop-i.invariant.long;
   rest = rest-more c.args.terminals.now.items c.loop-i.terminals.items c.loop-i.i c.pass_all.new.terminal c.loop-i.invariant.rest;
   come = λ old opened begun.
-      one_more (hearing_all c.args.line (run_words c.args.run.now c.args.waves.now)) old c.loop-i.terminals.items c.loop-i.i opened opened c.pass_all.new.terminal c.index_mut-terminal.result.now (omega (arith, begun.long))
+      one_more (hearing_all c.args.line (run_words c.args.run.now (map data_wave c.args.values.now))) old c.loop-i.terminals.items c.loop-i.i opened opened c.pass_all.new.terminal c.index_mut-terminal.result.now (omega (arith, begun.long))
       (c.loop-i.invariant.come old opened begun) c.pass_all.ensures.after c.index_mut-terminal.ensures.value (λ clear. c.pass_all.ensures.closed) (λ k lt clear. clear);
 }
 

@@ -1,4 +1,4 @@
-use Rattle.std.proofs.Common.{◌≡◌, ◌-◌, ◌≤◌, map, List, ℕ, take, length, true, Some, arith}
+use Rattle.std.proofs.Common.{◌≡◌, ◌-◌, ◌≤◌, map, List, ℕ, take, length, Some, arith}
 use Rattle.std.proofs.lemmas.List.{length-take}
 use Rattle.mil_word.specs.Words.{data_in}
 use Rattle.mil_terminal.specs.Verdicts.{words_due}
