@@ -8,8 +8,8 @@ use std::test::Fail;
 /// What is shown of message 7 of channel 3: three words to terminal 5, subaddress 1, at 12 s and 0.5 us, answered after
 /// 8 us.
 const SHOWN: &str = "\
-message       seconds channel  number line form                              status words, responses   data words,
-    block status
+message       seconds channel  number line form                              status words, responses   data words, \
+block status
       1    12.0000005       3       7 B    rx 5 1 3                          2800 8.0 us               0001 0002 0003
 ";
 
