@@ -18,21 +18,21 @@ loop-rest-init c = ([], c.make-draft.ensures, spelled_left c.args.text.now, fit_
 pub returns-in-Ok-Script-clause-read : goal.returns-in-Ok-Script-clause-read
 returns-in-Ok-Script-clause-read c =
     let i = c.loop-rest.invariant in
-    script_taken _ c.loop-rest.rest.now _ _ i.0 _ _ i.1 i.2 c.next_line.ensures.line c.next_line.ensures.rest _ (c.in-Ok-Script.is ∙ ap Ok c.in-Ok-Script.field-0-is) c.take_line.ensures.taken
+    script_taken _ c.loop-rest.rest.now _ _ i.0 _ _ i.1 i.2 c.split_line.ensures.line c.split_line.ensures.rest _ (c.in-Ok-Script.is ∙ ap Ok c.in-Ok-Script.field-0-is) c.take_line.ensures.taken
 
 pub returns-in-Err-clause-read : goal.returns-in-Err-clause-read
 returns-in-Err-clause-read c =
     let i = c.loop-rest.invariant in
-    line_refused _ c.loop-rest.rest.now _ _ i.0 _ _ i.1 i.2 c.next_line.ensures.line c.next_line.ensures.rest _ _ _ _ c.in-Err.is c.take_line.ensures.taken c.of_line.ensures
+    line_refused _ c.loop-rest.rest.now _ _ i.0 _ _ i.1 i.2 c.split_line.ensures.line c.split_line.ensures.rest _ _ _ _ c.in-Err.is c.take_line.ensures.taken c.of_line.ensures
 
 pub loop-rest-preserved : goal.loop-rest-preserved
 loop-rest-preserved c =
     let i = c.loop-rest.invariant in
     let some : 1 ≤ length c.loop-rest.rest.now = grind (arith, nat_tests) in
     let is = c.in-Ok-Line.is ∙ ap Ok c.in-Ok-Line.field-0-is in
-    let t = line_taken _ c.loop-rest.rest.now _ _ i.0 _ _ i.1 i.2 c.next_line.ensures.line c.next_line.ensures.rest _ is c.take_line.ensures.taken (IfOk-at_ok (λ _. AreInRange (said c.next_line.result.0.now)) c.in-Ok-Line.is c.take_line.ensures.range) i.3 in
-    let read = read_one c.args.text.now c.loop-rest.rest.now _ _ _ _ c.loop-rest.line i.4 some c.next_line.ensures.line c.next_line.ensures.rest _ is c.take_line.ensures.taken in
-    let shorter : length c.next_line.result.1.now + 1 ≤ length c.loop-rest.rest.now = rw c.next_line.ensures.rest (behind_shorter c.loop-rest.rest.now some) in
+    let t = line_taken _ c.loop-rest.rest.now _ _ i.0 _ _ i.1 i.2 c.split_line.ensures.line c.split_line.ensures.rest _ is c.take_line.ensures.taken (IfOk-at_ok (λ _. AreInRange (said c.split_line.result.0.now)) c.in-Ok-Line.is c.take_line.ensures.range) i.3 in
+    let read = read_one c.args.text.now c.loop-rest.rest.now _ _ _ _ c.loop-rest.line i.4 some c.split_line.ensures.line c.split_line.ensures.rest _ is c.take_line.ensures.taken in
+    let shorter : length c.split_line.result.1.now + 1 ≤ length c.loop-rest.rest.now = rw c.split_line.ensures.rest (behind_shorter c.loop-rest.rest.now some) in
     (t.0, t.1, t.2, t.3, read, omega (arith, shorter, i.5))
 
 pub returns-clause-read : goal.returns-clause-read
@@ -44,7 +44,7 @@ returns-clause-read c =
 pub returns-in-Ok-Script-clause-fit : goal.returns-in-Ok-Script-clause-fit
 returns-in-Ok-Script-clause-fit c =
     let i = c.loop-rest.invariant in
-    script_fits _ c.loop-rest.rest.now _ _ i.0 _ _ i.1 i.2 c.next_line.ensures.line c.next_line.ensures.rest _ (c.in-Ok-Script.is ∙ ap Ok c.in-Ok-Script.field-0-is) c.take_line.ensures.taken i.3
+    script_fits _ c.loop-rest.rest.now _ _ i.0 _ _ i.1 i.2 c.split_line.ensures.line c.split_line.ensures.rest _ (c.in-Ok-Script.is ∙ ap Ok c.in-Ok-Script.field-0-is) c.take_line.ensures.taken i.3
 
 pub returns-clause-first : goal.returns-clause-first
 returns-clause-first c =
@@ -54,11 +54,11 @@ returns-clause-first c =
 pub returns-in-Ok-Script-clause-head : goal.returns-in-Ok-Script-clause-head
 returns-in-Ok-Script-clause-head c =
     let some : 1 ≤ length c.loop-rest.rest.now = grind (arith, nat_tests) in
-    let well = IfOk-at_ok (λ _. are_line_words (words c.next_line.result.0.now) ≡ true) c.in-Ok-Script.is c.take_line.ensures.words in
-    read_script c.args.text.now c.loop-rest.rest.now _ _ _ _ c.loop-rest.line c.loop-rest.invariant.4 some c.next_line.ensures.line c.next_line.ensures.rest _ (c.in-Ok-Script.is ∙ ap Ok c.in-Ok-Script.field-0-is) c.take_line.ensures.taken well
+    let well = IfOk-at_ok (λ _. are_line_words (words c.split_line.result.0.now) ≡ true) c.in-Ok-Script.is c.take_line.ensures.words in
+    read_script c.args.text.now c.loop-rest.rest.now _ _ _ _ c.loop-rest.line c.loop-rest.invariant.4 some c.split_line.ensures.line c.split_line.ensures.rest _ (c.in-Ok-Script.is ∙ ap Ok c.in-Ok-Script.field-0-is) c.take_line.ensures.taken well
 
 pub returns-in-Err-clause-first : goal.returns-in-Err-clause-first
 returns-in-Err-clause-first c =
     let some : 1 ≤ length c.loop-rest.rest.now = grind (arith, nat_tests) in
-    let refused = IfErr-at_err (λ r. IsLineRefused c.next_line.result.0.now (shown c.loop-rest.draft) r) c.in-Err.is c.take_line.ensures.refused in
-    read_refused c.args.text.now c.loop-rest.rest.now _ _ _ (head_of []) c.loop-rest.line c.loop-rest.invariant.4 some c.next_line.ensures.line c.next_line.ensures.rest _ _ refused c.of_line.ensures
+    let refused = IfErr-at_err (λ r. IsLineRefused c.split_line.result.0.now (shown c.loop-rest.draft) r) c.in-Err.is c.take_line.ensures.refused in
+    read_refused c.args.text.now c.loop-rest.rest.now _ _ _ (head_of []) c.loop-rest.line c.loop-rest.invariant.4 some c.split_line.ensures.line c.split_line.ensures.rest _ _ refused c.of_line.ensures
