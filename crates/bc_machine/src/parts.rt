@@ -29,6 +29,7 @@ use mil_line::{Gap, Plan};
 use mil_message::OutcomeTest;
 use mil_monitor::observe_with;
 use mil_word::Line;
+use mil_word::timing::LEAST_GAP;
 use std::alloc::AllocError;
 use std::marker::Model;
 use std::snapshot::Snapshot;
@@ -94,7 +95,7 @@ impl Parts {
             line: Line::A,
             bus,
             number: 0,
-            gap: Gap::of(40),
+            gap: Gap::of(LEAST_GAP),
             last: None,
             talk: Talk::none(),
         }

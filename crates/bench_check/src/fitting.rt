@@ -6,6 +6,7 @@ ghost use Rattle.bench_check.specs.Fitting as spec;
 
 use frame_tree::{Frame, Scope};
 use mil_message::{Due, Message};
+use mil_word::timing::{CONTIGUOUS_GAP, LATEST_RESPONSE, LONGER_GAP, SYNC_TO_PARITY, WORD_TIME};
 use std::alloc::{AllocError, Allocator, Global};
 
 /// A frame with a period whose body may take longer than the period.
@@ -28,6 +29,9 @@ pub(crate) struct Timed {
     pub ticks: u32,
 }
 
+/// From the end of the word before to the end of the status of a reply that comes as late as it may.
+const LATEST_REPLY: u32 = LATEST_RESPONSE as u32 + SYNC_TO_PARITY as u32;
+
 /// How many ticks 100 s have: no number of ticks is told beyond them.
 const MOST: u32 = 1_000_000_000;
 
@@ -36,7 +40,7 @@ fn reply_ticks(due: &Due) -> u32
     ensures value { result ≡ spec.reply_ticks due.now }
     ensures small { result ≤ 100000 }
 {
-    300 + 200 * u32::from(due.words)
+    LATEST_REPLY + u32::from(WORD_TIME) * u32::from(due.words)
 }
 
 /// Replies that are due, each sent as late as it may be, in ticks of 0.1 µs.
@@ -58,7 +62,7 @@ fn message_ticks(message: &Message) -> u32
     ensures small { result ≤ 1000000 }
 {
     let words = message.controller_count() as u32;
-    200 * words + replies_ticks(message.replies_due().as_slice())
+    u32::from(WORD_TIME) * words + replies_ticks(message.replies_due().as_slice())
 }
 
 /// The pause in front of a message that has this gap, and the message, in ticks of 0.1 µs.
@@ -66,7 +70,7 @@ fn spent(gap: u16, message: &Message) -> u32
     ensures value { result ≡ spec.spent gap message.now }
     ensures small { result ≤ 2000000 }
 {
-    u32::from(gap).saturating_sub(20) + message_ticks(message)
+    u32::from(gap).saturating_sub(u32::from(CONTIGUOUS_GAP)) + message_ticks(message)
 }
 
 /// The longest gap that a frame sets, in ticks of 0.1 µs; 0 where it sets none.
@@ -221,7 +225,7 @@ pub fn tight_frames<A: Allocator + Clone>(
 ) -> Result<Vec<Tight>, AllocError>
     ensures { IfOk result (λ l. l.items ≡ spec.tight_frames (tree_of frame.now)) }
 {
-    let gap = 180.max(set_gap(frame));
+    let gap = LONGER_GAP.max(set_gap(frame));
     let mut found = Vec::new(alloc);
     add_frames(&mut found, frame, gap, &Scope::Empty)?;
     tight_of(alloc, found.as_slice())

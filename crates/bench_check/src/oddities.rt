@@ -3,18 +3,17 @@ use crate::filling::is_filled;
 use bc_machine::Actions;
 use mil_bus::Talk;
 use mil_message::Commands;
+use mil_mode::codes::{TRANSMIT_LAST_COMMAND, TRANSMIT_STATUS_WORD};
 use mil_status::StatusBit;
 use mil_word::Command;
+use mil_word::fields::WRAP_AROUND;
 
 /// How many addresses there are, and how many subaddresses.
 const PLACES: usize = 32;
 
-/// The subaddress that wraps around: it sends what it received (MIL-STD-1553B Notice 2).
-const WRAP_AROUND: u8 = 30;
-
 /// The mode codes whose status word is that of the command before (4.3.3.5.1.7.3, 4.3.3.5.1.7.11): transmit status
 /// word, transmit last command.
-const OF_LAST_COMMAND: [u8; 2] = [2, 18];
+const OF_LAST_COMMAND: [u8; 2] = [TRANSMIT_STATUS_WORD, TRANSMIT_LAST_COMMAND];
 
 /// A message that was answered with the message error bit.
 #[derive(Clone, Copy, Debug)]

@@ -5,18 +5,16 @@ ghost use Rattle.bench_clock.specs.Clock as spec;
 
 use crate::clock::Mark;
 use crate::reading::read_second;
+use ch11_header::kinds::TIME_DATA;
 use ch11_reader::Packet;
 use std::alloc::{AllocError, Global};
-
-/// The data type of time data, Format 1.
-const TIME_KIND: u8 = 0x11;
 
 /// The UTC second that a packet of a file tells; None for a packet that is no time packet, or one of another layout.
 fn told_by(file: &[u8], packet: &Packet) -> Option<u64>
     ensures second { result ≡ spec.told_by file.now packet.now }
     ensures small { IfSome result (λ t. t < 253402300800) }
 {
-    if packet.header.kind != TIME_KIND {
+    if packet.header.kind != TIME_DATA {
         return None;
     }
     let start = packet.offset.saturating_add(packet.header.body_start());

@@ -4,10 +4,8 @@ ghost use Rattle.bench_complete.specs.Pieces.{kept_entries};
 ghost use Rattle.bench_complete.specs.Complete.{widened, extent_of};
 
 use crate::times::SECOND;
+use ch11_header::kinds::RECORDING_INDEX;
 use ch11_reader::Packet;
-
-/// The data type of an index of a recording, which is left out: its offsets would be wrong.
-pub(crate) const INDEX_KIND: u8 = 3;
 
 /// The lowest and the highest counter, in ticks of 0.1 µs.
 #[derive(Clone, Copy, Debug)]
@@ -48,7 +46,7 @@ pub(crate) fn extent_of(packets: &[Packet]) -> Option<Extent>
 {
     let mut extent = None;
     'packets: for packet in packets {
-        if packet.header.kind != INDEX_KIND {
+        if packet.header.kind != RECORDING_INDEX {
             extent = widened(extent, packet.header.counter);
         }
     }

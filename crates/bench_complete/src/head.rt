@@ -6,6 +6,7 @@ ghost use Rattle.std.specs.Cmp.Rules.{comparing};
 ghost use Rattle.std.specs.Ordering.{nat_cmp, on, flip_args, then_cmp, eq_of_both, as_partial_cmp};
 ghost use Rattle.bench_complete.specs.Merging.{turn};
 
+use ch11_header::kinds::{SETUP_RECORD, TIME_DATA};
 use std::cmp::Ordering;
 
 /// Where a packet comes from.
@@ -33,8 +34,8 @@ pub(crate) fn turn(kind: u8) -> u8
     ensures { result ≡ turn kind }
 {
     match kind {
-        1 => 0,
-        0x11 => 1,
+        SETUP_RECORD => 0,
+        TIME_DATA => 1,
         _ => 2,
     }
 }

@@ -6,7 +6,7 @@ ghost use Rattle.bench_complete.specs.Judging.{is_setup, is_too_long, misuse_by,
 use crate::additions::{Additions, MOST_SETUP};
 use crate::extent::Extent;
 use crate::fault::CompleteFault;
-use crate::setup::SETUP_KIND;
+use ch11_header::kinds::SETUP_RECORD;
 use ch11_reader::Packet;
 
 /// The most time packets of a file.
@@ -81,7 +81,7 @@ pub(crate) fn judge(
 {
     let timed = additions.start.is_some();
     first_fault(
-        both(additions.setup.is_some(), has_kind(packets, SETUP_KIND)),
+        both(additions.setup.is_some(), has_kind(packets, SETUP_RECORD)),
         both(timed, has_channel(packets, additions.time_channel)),
         both(timed, is_too_long(extent)),
     )

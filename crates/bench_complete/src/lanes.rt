@@ -9,8 +9,9 @@ ghost use Rattle.bench_complete.specs.Lanes as spec;
 use crate::fault::CompleteFault;
 use crate::head::{Head, Source, turn};
 use crate::links::{CHANNELS, Links};
-use crate::time_packet::{TIME_KIND, write_time};
+use crate::time_packet::write_time;
 use crate::times::{SECOND, Times};
+use ch11_header::kinds::TIME_DATA;
 use ch11_reader::Packet;
 use std::alloc::{AllocError, Global};
 use std::collections::BinaryHeap;
@@ -60,7 +61,7 @@ impl<'a> Lanes<'a> {
         }
         Some(Head {
             counter: second * SECOND,
-            turn: turn(TIME_KIND),
+            turn: turn(TIME_DATA),
             channel: self.times.channel,
             source: Source::Time(second),
         })

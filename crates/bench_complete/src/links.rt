@@ -3,7 +3,7 @@ ghost use Rattle.std.specs.Prelude.{◌≡◌, ◌<◌, ◌≤◌, length, vec_l
 ghost use Rattle.bench_complete.specs.Pieces.{goes_over};
 ghost use Rattle.bench_complete.specs.Lanes.{AreLinked};
 
-use crate::extent::INDEX_KIND;
+use ch11_header::kinds::RECORDING_INDEX;
 use ch11_reader::Packet;
 use std::alloc::{AllocError, Global};
 
@@ -33,7 +33,7 @@ fn link_packet(packet: &Packet, place: usize, first: &mut Vec<usize>, next: &mut
         else next.old.items) }
 {
     let channel = packet.header.channel as usize;
-    if packet.header.kind != INDEX_KIND {
+    if packet.header.kind != RECORDING_INDEX {
         next[place] = first[channel];
         first[channel] = place;
     }

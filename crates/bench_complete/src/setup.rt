@@ -7,11 +7,9 @@ ghost use Rattle.bench_complete.specs.Judging.{is_setup};
 ghost use Rattle.bench_complete.specs.SetupRecord.{filler_for, setup_header, setup_piece};
 
 use crate::fault::CompleteFault;
+use ch11_header::kinds::SETUP_RECORD;
 use ch11_header::{Header, write_header};
 use std::io::Write;
-
-/// The data type of a setup record: computer generated data, Format 1.
-pub(crate) const SETUP_KIND: u8 = 1;
 
 /// The word in front of the text, as a setup record of IRIG 106 Chapter 9 (TMATS) has it.
 const SETUP_WORD: [u8; 4] = [0x0C, 0, 0, 0];
@@ -40,7 +38,7 @@ fn header_of(version: u8, counter: u64, size: usize) -> Header
         version,
         sequence: 0,
         flags: 0,
-        kind: SETUP_KIND,
+        kind: SETUP_RECORD,
         counter,
     }
 }

@@ -7,11 +7,9 @@ ghost use Rattle.bench_complete.specs.Lanes.{IsSmall};
 use crate::fault::CompleteFault;
 use crate::times::{SECOND, Times};
 use bench_clock::body_of;
+use ch11_header::kinds::TIME_DATA;
 use ch11_header::{Header, write_header};
 use std::io::Write;
-
-/// The data type of time data, Format 1.
-pub(crate) const TIME_KIND: u8 = 0x11;
 
 /// The header of the time packet of a second.
 fn header_of(times: &Times, second: u64) -> Header
@@ -26,7 +24,7 @@ fn header_of(times: &Times, second: u64) -> Header
         version: times.version,
         sequence: ((second - times.first) % 256) as u8,
         flags: 0,
-        kind: TIME_KIND,
+        kind: TIME_DATA,
         counter: second * SECOND,
     }
 }

@@ -15,12 +15,10 @@ use ch11_recording::{Item, record_fits};
 use job_file::{Job, next_record};
 use mil_host::Action;
 use mil_monitor::Record;
+use mil_word::fields::HIGHEST_ADDRESS;
 use std::alloc::{AllocError, Global};
 use std::marker::Model;
 use std::snapshot::Snapshot;
-
-/// The highest address of a terminal.
-const HIGHEST: u8 = 30;
 
 /// At most so many actions are posted for a channel.
 const MOST_POSTS: u32 = 65_536;
@@ -155,7 +153,7 @@ impl Lane {
         ensures made { OnOk result (IsMade self.new) }
         ensures err { OnErr result (self.new ≡ self.old) }
     {
-        if address > HIGHEST || self.posts >= MOST_POSTS {
+        if address > HIGHEST_ADDRESS || self.posts >= MOST_POSTS {
             return Err(AllocError);
         }
         self.placed.room(1)?;

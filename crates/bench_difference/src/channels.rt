@@ -1,7 +1,8 @@
 //! The channels of jobs, report and recording.
 
 use bench_report::Report;
-use ch11_reader::{Index, MESSAGES_KIND};
+use ch11_header::kinds::BUS_MESSAGES;
+use ch11_reader::Index;
 use job_file::Job;
 use std::alloc::{AllocError, Global};
 use std::fmt::Write;
@@ -16,7 +17,7 @@ fn put_recorded(alloc: Global, out: &mut String, recording: &Index<'_>) -> Resul
     let mut seen: Vec<u16> = Vec::new(alloc);
     for packet in recording.packets() {
         let channel = packet.header.channel;
-        if packet.header.kind == MESSAGES_KIND && !seen.contains(&channel) {
+        if packet.header.kind == BUS_MESSAGES && !seen.contains(&channel) {
             seen.push(channel)?;
             put_channel(out, channel)?;
         }

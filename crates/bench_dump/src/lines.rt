@@ -4,7 +4,8 @@ ghost use Rattle.bench_dump.specs.DumpText.{bus_words, byte_digits, digit_of, pa
 
 use crate::places::place_bus_words;
 use crate::text::Text;
-use ch11_reader::{MESSAGES_KIND, Packet};
+use ch11_header::kinds::BUS_MESSAGES;
+use ch11_reader::Packet;
 use itoa::Buffer;
 use std::alloc::AllocError;
 
@@ -52,7 +53,7 @@ pub fn put_words(text: &mut Vec<u8>, words: &[u8]) -> Result<(), AllocError>
 fn put_contents(text: &mut Text, packet: &Packet) -> Result<(), AllocError>
     ensures { OnOk result (text.new ≡ text.old ++ packet_contents packet.now.header packet.now.count) }
 {
-    if packet.header.kind != MESSAGES_KIND {
+    if packet.header.kind != BUS_MESSAGES {
         return text.put(b" skipped\n");
     }
     put_number(text, b" seq ", packet.header.sequence as u64)?;

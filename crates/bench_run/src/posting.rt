@@ -12,13 +12,11 @@ ghost use Rattle.bench_run.specs.Posted.{IsPosted};
 use bc_machine::{Machine, Placed, Schedule};
 use bench_core::add_action;
 use bench_mail::{Inbox, Mailbox, Post};
+use mil_word::fields::HIGHEST_ADDRESS;
 use std::sync::Wait;
 
 /// A channel makes at most so many messages.
 const LAST: u32 = 1_000_000;
-
-/// The highest address of a terminal.
-const HIGHEST: u8 = 30;
 
 /// The inbox of a channel, how many posts may still be taken from it, and the actions that are placed, by rising number
 /// and with room for those of the posts.
@@ -79,7 +77,7 @@ impl Posts {
             action,
             ..
         } = post;
-        if address > HIGHEST || self.ordered.len() >= self.ordered.capacity() {
+        if address > HIGHEST_ADDRESS || self.ordered.len() >= self.ordered.capacity() {
             return false;
         }
         let one = Placed {

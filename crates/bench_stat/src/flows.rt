@@ -8,10 +8,7 @@ use crate::counts::{counted, more};
 use crate::traffic::time_of;
 use ch11_f1::Seen;
 use ch11_layout::is_set;
-
-/// The gap between messages, in ticks of 0.1 µs, where nothing lies between them: half a parity bit and half a sync
-/// (MIL-STD-1553B 4.3.3.7).
-const NO_PAUSE: u64 = 20;
+use mil_word::timing::CONTIGUOUS_GAP;
 
 /// Messages that follow one another, such as those of a channel, or those with a terminal and a subaddress. Counts and
 /// times go as far as 64 bits count; times are ticks of 0.1 µs.
@@ -47,7 +44,7 @@ impl Flow {
         ensures { self.new ≡ spec.with_gap self.old.ended (message_of seen.now) self.old }
     {
         if let Some(ended) = self.ended {
-            let gap = more(seen.stamp.saturating_sub(ended), NO_PAUSE);
+            let gap = more(seen.stamp.saturating_sub(ended), u64::from(CONTIGUOUS_GAP));
             self.least_gap = gap.min(self.least_gap);
             self.greatest_gap = gap.max(self.greatest_gap);
         }

@@ -6,7 +6,8 @@ ghost use Rattle.bench_stat.specs.Figures.{statistics, headers_listed, ArePresen
 
 use crate::channels::{ChannelFigures, channel_figures};
 use bench_select::Selection;
-use ch11_reader::{Index, MESSAGES_KIND, Packet};
+use ch11_header::kinds::BUS_MESSAGES;
+use ch11_reader::{Index, Packet};
 use std::alloc::{AllocError, Global};
 
 /// How many channels there can be.
@@ -49,7 +50,7 @@ fn present_channels(alloc: Global, packets: &[Packet]) -> Result<Vec<bool>, Allo
 {
     let mut present = no_channels(alloc)?;
     'packets: for packet in packets {
-        if packet.header.kind == MESSAGES_KIND {
+        if packet.header.kind == BUS_MESSAGES {
             mark(&mut present, packet.header.channel);
         }
     }

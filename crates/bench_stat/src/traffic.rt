@@ -7,6 +7,7 @@ ghost use Rattle.bench_stat.specs.Steps.{with_traffic};
 use crate::counts::more;
 use ch11_f1::Seen;
 use ch11_layout::{first_gap, second_gap};
+use mil_word::timing::{CONTIGUOUS_GAP, WORD_TIME};
 
 /// How much a channel carried, and when. Counts and times go as far as 64 bits count; times are ticks of 0.1 µs.
 #[derive(Clone, Copy, Debug, PartialEq, Eq)]
@@ -75,7 +76,8 @@ pub(crate) fn time_of(seen: &Seen<'_>) -> u64
     ensures { result ≡ capped (duration (message_of seen.now)) }
 {
     let (first, second) = (first_gap(seen), second_gap(seen));
-    let pauses = u64::from(first.saturating_sub(20)) + u64::from(second.saturating_sub(20));
+    let pauses = u64::from(u16::from(first).saturating_sub(CONTIGUOUS_GAP))
+        + u64::from(u16::from(second).saturating_sub(CONTIGUOUS_GAP));
     let words = seen.words.len() as u64 / 2;
-    more(words.saturating_mul(200), pauses)
+    more(words.saturating_mul(u64::from(WORD_TIME)), pauses)
 }

@@ -11,6 +11,7 @@ use crate::log::{Link, Log, log_of};
 use crate::sealing::{FIRST_MESSAGE, padded, put_behind, seal};
 use ch11_f1::RECORD_HEAD;
 use ch11_header::Header;
+use ch11_header::kinds::BUS_MESSAGES;
 use mil_monitor::Record;
 use std::alloc::Global;
 use std::marker::Model;
@@ -18,9 +19,6 @@ use std::snapshot::Snapshot;
 
 /// Packets span less than this many ticks of 0.1 µs from their first stamp to their last.
 const LONGEST: u64 = 1_000_000;
-
-/// The data type of MIL-STD-1553 messages, Format 1.
-const KIND: u8 = 0x19;
 
 /// Flag bit 4.
 const OVERFLOW: u8 = 0x10;
@@ -171,7 +169,7 @@ impl Packing {
             version: self.version,
             sequence: (self.place % 256) as u8,
             flags: flags_of(self.overflow),
-            kind: KIND,
+            kind: BUS_MESSAGES,
             counter: self.first_stamp,
         };
         self.finished = seal(&mut self.filling, self.used, &header, self.count);

@@ -4,6 +4,7 @@
 
 mod error;
 mod header;
+pub mod kinds;
 mod laws;
 
 pub use error::HeaderError;

@@ -7,9 +7,10 @@ ghost use Rattle.ch11_reader.specs.Walking.{IsRest};
 
 use crate::error::Fault;
 use crate::jumps::Jumps;
-use crate::packet::{Checked, MESSAGES_KIND, check_packet};
+use crate::packet::{Checked, check_packet};
 use byteorder::{ByteOrder, LittleEndian};
 use ch11_f1::RECORD_HEAD;
+use ch11_header::kinds::BUS_MESSAGES;
 use ch11_header::read_header;
 use std::alloc::{AllocError, Global};
 use std::marker::Model;
@@ -80,7 +81,7 @@ impl<'a> Judge<'a> {
         let Ok(header) = read_header(bytes) else {
             return None;
         };
-        if bytes.len() < header.packet_length as usize || header.kind != MESSAGES_KIND {
+        if bytes.len() < header.packet_length as usize || header.kind != BUS_MESSAGES {
             return None;
         }
         let start = header.body_start();

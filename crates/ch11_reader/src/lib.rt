@@ -21,6 +21,6 @@ pub use error::{Fault, ReadError, Refusal};
 pub use index::Index;
 pub use laws::{nothing_sound_is_skipped, recordings_join};
 pub use others::holds_no_messages;
-pub use packet::{Checked, MESSAGES_KIND, Packet, check_packet, messages_of_packet};
+pub use packet::{Checked, Packet, check_packet, messages_of_packet};
 pub use skip::Skip;
 pub use skipping::SkippingIndex;

@@ -2,7 +2,8 @@
 ghost use Rattle.std.specs.Prelude.{◌↔◌, IsTrue};
 ghost use Rattle.ch11_reader.specs.Recording.{HoldsNoMessages};
 
-use crate::packet::{MESSAGES_KIND, check_packet};
+use crate::packet::check_packet;
+use ch11_header::kinds::BUS_MESSAGES;
 
 /// Whether a recording can be read and none of its packets is of MIL-STD-1553 messages. It takes no memory.
 pub fn holds_no_messages(file: &[u8]) -> bool
@@ -13,7 +14,7 @@ pub fn holds_no_messages(file: &[u8]) -> bool
         let Ok(checked) = check_packet(rest) else {
             return false;
         };
-        if checked.header.kind == MESSAGES_KIND {
+        if checked.header.kind == BUS_MESSAGES {
             return false;
         }
         let (_, after) = rest.split_at(checked.header.packet_length as usize);

@@ -7,10 +7,8 @@ ghost use Rattle.ch11_reader.specs.Recording.{messages_of, packet_at};
 use crate::error::Fault;
 use ch11_f1::body::messages;
 use ch11_f1::{Messages, Seen};
+use ch11_header::kinds::BUS_MESSAGES;
 use ch11_header::{Header, read_header};
-
-/// The data type of MIL-STD-1553 messages, Format 1.
-pub const MESSAGES_KIND: u8 = 0x19;
 
 /// What an index tells of a packet.
 #[derive(Clone, Copy, Debug, PartialEq, Eq)]
@@ -59,7 +57,7 @@ pub fn check_packet(bytes: &[u8]) -> Result<Checked, Fault>
     if bytes.len() < header.packet_length as usize {
         return Err(Fault::End);
     }
-    if header.kind != MESSAGES_KIND {
+    if header.kind != BUS_MESSAGES {
         return Ok(Checked { header, count: 0 });
     }
     let (_, behind_head) = bytes.split_at(header.body_start());
@@ -84,7 +82,7 @@ pub fn messages_of_packet<'a>(bytes: &'a [u8], header: &Header) -> Messages<'a>
         data_length,
         ..
     } = *header;
-    if kind != MESSAGES_KIND {
+    if kind != BUS_MESSAGES {
         return Messages::none();
     }
     let (_, behind_head) = bytes.split_at(header.body_start());

@@ -9,7 +9,8 @@ use crate::listed::Listed;
 use crate::taking::take_next;
 use ch11_f1::Messages;
 use ch11_header::Header;
-use ch11_reader::{MESSAGES_KIND, Packet, messages_of_packet};
+use ch11_header::kinds::BUS_MESSAGES;
+use ch11_reader::{Packet, messages_of_packet};
 use std::alloc::{AllocError, Global};
 use std::io::Read;
 use std::marker::Model;
@@ -60,7 +61,7 @@ fn held_by(last: &Option<Header>) -> usize
 fn kept_of(header: Header) -> Option<Header>
     ensures { result ≡ last_of header }
 {
-    if header.kind == MESSAGES_KIND {
+    if header.kind == BUS_MESSAGES {
         Some(header)
     } else {
         None

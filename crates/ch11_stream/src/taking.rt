@@ -7,8 +7,9 @@ ghost use Rattle.ch11_stream.specs.Taking.{Heads, IsNextHeader, Nexts, Takes};
 use crate::buffer::Buffer;
 use crate::fault::StreamFault;
 use crate::feed::{fill, pass};
+use ch11_header::kinds::BUS_MESSAGES;
 use ch11_header::{HEADER_SIZE, Header, read_header};
-use ch11_reader::{Checked, Fault, MESSAGES_KIND, Refusal, check_packet};
+use ch11_reader::{Checked, Fault, Refusal, check_packet};
 use std::io::Read;
 
 /// A fault of the packet at an offset.
@@ -88,7 +89,7 @@ pub(crate) fn take_packet<R: Read>(
     ensures { Takes result offset (prepend_known buffer.old.ready (R.remaining input.old))
         (R.remaining input.new) buffer.new.ready }
 {
-    if header.kind == MESSAGES_KIND {
+    if header.kind == BUS_MESSAGES {
         take_messages(buffer, input, offset, header)
     } else {
         take_other(buffer, input, offset, header)

@@ -4,6 +4,7 @@ ghost use Rattle.frame_code.specs.Fields as table;
 
 use mil_mode::data_words;
 use mil_word::Command;
+use mil_word::fields::HIGHEST_ADDRESS;
 
 // Whether it is a command to receive data words at a subaddress.
 fn receives(command: Command) -> bool
@@ -23,7 +24,7 @@ fn transmits(command: Command) -> bool
 fn calls_one(command: Command) -> bool
     ensures { result ≡ table.calls_one command }
 {
-    command.address() <= 30
+    command.address() <= HIGHEST_ADDRESS
 }
 
 // Whether it is a mode command whose code goes without a data word.

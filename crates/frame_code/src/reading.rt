@@ -19,6 +19,7 @@ use crate::{Image, ImageError, Op};
 use arrayvec::ArrayVec;
 use mil_message::{Message, OutcomeTest};
 use mil_status::StatusBit;
+use mil_word::timing::LEAST_GAP;
 use mil_word::{Command, Line};
 use std::alloc::Global;
 
@@ -133,7 +134,7 @@ fn operation_of(number: u8, operand: u16) -> Option<Op>
         0 => (operand == 0).then_some(Op::Halt),
         1 => Some(Op::Send(operand)),
         2 => Some(Op::Alt(operand)),
-        3 => (operand >= 40).then_some(Op::SetGap(operand)),
+        3 => (operand >= LEAST_GAP).then_some(Op::SetGap(operand)),
         4 => (1 <= operand && operand <= 10000).then_some(Op::Loop(operand)),
         5 => Some(Op::Again(operand)),
         6 => Some(Op::Leave(operand)),

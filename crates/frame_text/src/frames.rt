@@ -18,6 +18,7 @@ use crate::messages::send;
 use crate::tokens::{after_token, fault, next};
 use crate::words::{number_in_range, period};
 use frame_tree::{Name, Scope};
+use mil_word::timing::LEAST_GAP;
 
 // No frames, where the rest of the text goes on.
 fn no_frames<'a, B: Builder>(builder: &B, rest: &'a [u8]) -> Result<(B::Frame, &'a [u8]), Fault>
@@ -282,7 +283,7 @@ pub fn frame<'a, B: Builder>(
         }
         FrameWord::Retry => retry(builder, rest),
         FrameWord::Gap => {
-            let (ticks, rest) = number_in_range(rest, 40, 65_535)?;
+            let (ticks, rest) = number_in_range(rest, u32::from(LEAST_GAP), 65_535)?;
             Ok((builder.gap(ticks as u16), rest))
         }
         FrameWord::Repeat => repeat(builder, rest, scope, costs, depth),

@@ -9,6 +9,7 @@ ghost use Rattle.frame_tree.specs.Bounds.{depth, depth_in, worst_messages, messa
 ghost use Rattle.frame_tree.specs.Bounds.{IsDefined, IsSound};
 
 use crate::{Frame, Scope};
+use mil_word::timing::LEAST_GAP;
 use std::alloc::Allocator;
 
 impl<A: Allocator + Clone> Frame<A> {
@@ -107,7 +108,7 @@ impl<A: Allocator + Clone> Frame<A> {
         match self {
             Frame::Send { .. } => true,
             Frame::Retry { count, .. } => 1 <= *count && *count <= 8,
-            Frame::Gap(ticks) => 40 <= *ticks,
+            Frame::Gap(ticks) => LEAST_GAP <= *ticks,
             Frame::Repeat { count, body } => 1 <= *count && *count <= 10_000 && body.is_in_range(),
             Frame::If {
                 condition,

@@ -21,6 +21,7 @@ use mil_line::{Fault, Gap};
 use mil_message::Message;
 use mil_terminal::Terminal;
 use mil_word::Line;
+use mil_word::timing::{CONTIGUOUS_GAP, LEAST_GAP, LONGER_GAP};
 use std::alloc::{AllocError, Global};
 use std::marker::Model;
 
@@ -60,9 +61,9 @@ fn least_gap(talk: &Talk, failed: bool) -> u16
     ensures value { result ≡ least_after talk.now }
 {
     if failed || talk.is_controllers_last() {
-        180
+        LONGER_GAP
     } else {
-        40
+        LEAST_GAP
     }
 }
 
@@ -74,7 +75,7 @@ fn gap_from(end: Option<u64>, tick: u64) -> Gap
 {
     match end {
         None => Gap::of(65535),
-        Some(end) => Gap::of((tick + 20 - end).min(65535) as u16),
+        Some(end) => Gap::of((tick + u64::from(CONTIGUOUS_GAP) - end).min(65535) as u16),
     }
 }
 
@@ -133,7 +134,8 @@ impl Bus {
     {
         match self.least {
             None => self.begin,
-            Some(least) => self.clock + u64::from(gap.ticks().max(least)).saturating_sub(20),
+            Some(least) => self.clock
+                + u64::from(gap.ticks().max(least)).saturating_sub(u64::from(CONTIGUOUS_GAP)),
         }
     }
 

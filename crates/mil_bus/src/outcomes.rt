@@ -10,6 +10,7 @@ use crate::Talk;
 use crate::counts::{Came, Seen, is_command};
 use mil_message::{Due, Form, Message};
 use mil_status::{BlockBits, StatusBits};
+use mil_word::timing::RESPONSE_TIME_OUT;
 use mil_word::{Line, Status, Word};
 
 /// What a program learns of a talk.
@@ -63,7 +64,7 @@ fn is_late(due: Option<Due>, came: Option<Came>) -> bool
         None => false,
         Some(_) => match came {
             None => true,
-            Some(came) => came.gap.ticks() > 140,
+            Some(came) => came.gap.ticks() > RESPONSE_TIME_OUT,
         },
     }
 }

@@ -17,6 +17,7 @@ use crate::wholes::Whole;
 use arrayvec::ArrayVec;
 use mil_message::Values;
 use mil_terminal::are_small;
+use mil_word::timing::WORD_TIME;
 use mil_word::{Wave, raw_bits};
 use std::marker::Model;
 
@@ -84,7 +85,7 @@ fn lasting_all(place: usize, run: &Whole) -> u64
     if run.count == 0 {
         0
     } else {
-        lasting(place, run.gap) + 200 * u64::from(run.count - 1)
+        lasting(place, run.gap) + u64::from(WORD_TIME) * u64::from(run.count - 1)
     }
 }
 

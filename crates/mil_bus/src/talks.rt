@@ -7,6 +7,7 @@ ghost use Rattle.mil_bus.specs.Times.{end_of, lasting, is_controllers_last};
 use crate::SentWords;
 use mil_line::Gap;
 use mil_message::Message;
+use mil_word::timing::{SYNC_TO_PARITY, WORD_TIME};
 use mil_word::{Line, Wave};
 
 /// Who sent a word.
@@ -77,9 +78,9 @@ pub(crate) fn lasting(place: usize, gap: Gap) -> u64
     ensures small { result < 2 ^ 17 }
 {
     if place == 0 {
-        200
+        u64::from(WORD_TIME)
     } else {
-        u64::from(gap.ticks()) + 180
+        u64::from(gap.ticks()) + u64::from(SYNC_TO_PARITY)
     }
 }
 

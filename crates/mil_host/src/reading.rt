@@ -9,6 +9,8 @@ use crate::names::{Name, name_in};
 use crate::values::{Mark, ResponseGap, TransmitWords};
 use arrayvec::ArrayVec;
 use mil_word::Line;
+use mil_word::fields::{HIGHEST_SUBADDRESS, MOST_WORDS};
+use mil_word::timing::{LATEST_RESPONSE, LEAST_RESPONSE};
 use numerals::spelled;
 use text_lines::Words;
 
@@ -167,7 +169,7 @@ fn read_only_data(words: &mut Words<'_>) -> Result<u16, BadAction>
 fn read_only_ticks(words: &mut Words<'_>) -> Result<ResponseGap, BadAction>
     ensures { result ≡ only_ticks words.old }
 {
-    let ticks = read_number(words, 40, 120)?;
+    let ticks = read_number(words, LEAST_RESPONSE, LATEST_RESPONSE)?;
     read_end(words, ResponseGap::make(ticks))
 }
 
@@ -178,7 +180,7 @@ fn read_all_data(words: &mut Words<'_>) -> Result<ArrayVec<u16, 32>, BadAction>
 {
     let mut values = ArrayVec::new();
     while let Some(word) = words.next() {
-        if values.len() == 32 {
+        if values.len() == usize::from(MOST_WORDS) {
             return Err(BadAction::Word);
         }
         let value = data_word(word)?;
@@ -205,8 +207,8 @@ fn read_only_mark(words: &mut Words<'_>) -> Result<Mark, BadAction>
     ensures { result ≡ only_mark words.old }
 {
     let transmit = read_direction(words)?;
-    let sub = read_number(words, 1, 30)?;
-    let count = read_number(words, 1, 32)?;
+    let sub = read_number(words, 1, HIGHEST_SUBADDRESS)?;
+    let count = read_number(words, 1, MOST_WORDS)?;
     read_end(words, Mark::make(transmit, sub, count))
 }
 

@@ -2,7 +2,9 @@
 ghost use Rattle.std.specs.Prelude.{◌≡◌, ◌≤◌, ◌==◌};
 ghost use Rattle.std.specs.Cmp.Rules.{comparing};
 ghost use Rattle.std.proofs.Common.{rules};
+ghost use Rattle.mil_word.specs.Timing.{contiguous_gap};
 
+use mil_word::timing::CONTIGUOUS_GAP;
 use std::marker::Model;
 
 /// The gap before a word, 20 to 65,535 ticks of 0.1 µs; contracts see the number. It runs from the middle of the
@@ -10,20 +12,21 @@ use std::marker::Model;
 /// words have a gap of 20, and 65,535 stands for all longer ones.
 #[derive(Clone, Copy, Debug)]
 pub struct Gap {
-    /// The ticks over 20, so that rooms for words that have the gap of contiguous ones are all zeros.
+    /// The ticks over those of contiguous words, so that rooms for words that have the gap of contiguous ones are all zeros.
     over: u16,
 }
 
 impl Model for Gap {
     ghost use Rattle.std.specs.Prelude.{◌≡◌, ℕ, ◌+◌, ◌-◌, ◌<◌, ◌^◌};
+    ghost use Rattle.mil_word.specs.Timing.{contiguous_gap};
 
     ghost Value = { ℕ };
 
-    ghost view = { λ g. g.over + 20 };
+    ghost view = { λ g. g.over + contiguous_gap };
 
-    ghost invariant = { λ g. (g.over + 20 < 2 ^ 16) × (g.over + 20 - 20 ≡ g.over) };
+    ghost invariant = { λ g. (g.over + contiguous_gap < 2 ^ 16) × (g.over + contiguous_gap - contiguous_gap ≡ g.over) };
 
-    ghost inverse = { λ n. record { over = n - 20 } };
+    ghost inverse = { λ n. record { over = n - contiguous_gap } };
 
     ghost inverse_ok = { λ g h i. record { over = h.1 i } };
 }
@@ -32,16 +35,18 @@ impl Gap {
     /// The gap of so many ticks.
     #[inline]
     pub fn of(ticks: u16) -> Gap
-        requires { 20 ≤ ticks }
+        requires { contiguous_gap ≤ ticks }
         ensures { result ≡ ticks }
     {
-        Gap { over: ticks - 20 }
+        Gap {
+            over: ticks - CONTIGUOUS_GAP,
+        }
     }
 
     /// The gap of a word that follows the one before at once.
     #[inline]
     pub fn contiguous() -> Gap
-        ensures { result ≡ 20 }
+        ensures { result ≡ contiguous_gap }
     {
         Gap { over: 0 }
     }
@@ -50,15 +55,15 @@ impl Gap {
     #[inline]
     pub fn ticks(self) -> u16
         ensures value { result ≡ self }
-        ensures at_least { 20 ≤ result }
+        ensures at_least { contiguous_gap ≤ result }
     {
-        self.over + 20
+        self.over + CONTIGUOUS_GAP
     }
 
     /// Whether a word with this gap follows the one before at once.
     #[inline]
     pub fn is_contiguous(self) -> bool
-        ensures { result ≡ (self == 20) }
+        ensures { result ≡ (self == contiguous_gap) }
     {
         self.over == 0
     }
@@ -81,10 +86,10 @@ impl Eq for Gap {
 
 /// The gap of a word that follows the one before at once.
 impl Default for Gap {
-    ghost is_default = { λ g. g ≡ 20 };
+    ghost is_default = { λ g. g ≡ contiguous_gap };
 
     fn default() -> Gap
-        ensures { result ≡ 20 }
+        ensures { result ≡ contiguous_gap }
     {
         Gap { over: 0 }
     }

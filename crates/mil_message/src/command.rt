@@ -4,9 +4,9 @@ ghost use Rattle.mil_message.specs.Forms as words;
 
 use crate::ModeSubaddress;
 use mil_word::Command;
-
-/// The address of all terminals.
-const ALL_TERMINALS: u8 = 31;
+use mil_word::fields::{
+    ALL_TERMINALS, MODE_SUBADDRESS_OF_ONES, MODE_SUBADDRESS_OF_ZEROS, MOST_WORDS,
+};
 
 /// A command word from its fields, each at most 31.
 #[inline]
@@ -28,7 +28,7 @@ pub fn receive_command(address: u8, subaddress: u8, count: u8) -> Command
     requires subaddress { subaddress ≤ 31 }
     ensures { result ≡ words.receive_command address subaddress count }
 {
-    command_word(address, false, subaddress, count % 32)
+    command_word(address, false, subaddress, count % MOST_WORDS)
 }
 
 /// A command to transmit so many data words.
@@ -37,7 +37,7 @@ pub fn transmit_command(address: u8, subaddress: u8, count: u8) -> Command
     requires subaddress { subaddress ≤ 31 }
     ensures { result ≡ words.transmit_command address subaddress count }
 {
-    command_word(address, true, subaddress, count % 32)
+    command_word(address, true, subaddress, count % MOST_WORDS)
 }
 
 /// A mode command.
@@ -47,8 +47,8 @@ pub fn mode_command(address: u8, transmit: bool, subaddress: ModeSubaddress, cod
     ensures { result ≡ words.mode_command address transmit subaddress code }
 {
     let subaddress = match subaddress {
-        ModeSubaddress::Zero => 0,
-        ModeSubaddress::ThirtyOne => 31,
+        ModeSubaddress::Zero => MODE_SUBADDRESS_OF_ZEROS,
+        ModeSubaddress::ThirtyOne => MODE_SUBADDRESS_OF_ONES,
     };
     command_word(address, transmit, subaddress, code)
 }

@@ -6,13 +6,15 @@ ghost use Rattle.mil_message.specs.Rules.{is_no_word, is_one_word, mode_word, Me
 
 use crate::BadMessage;
 use arrayvec::ArrayVec;
+use mil_mode::codes::{LAST_CODE, LAST_RESERVED_WITHOUT_WORD};
 use mil_mode::data_words as mode_data_words;
+use mil_word::fields::{HIGHEST_ADDRESS, HIGHEST_SUBADDRESS, MOST_WORDS};
 
 /// The address of one terminal: 0 to 30.
 pub fn address(number: u32) -> Result<u8, BadMessage>
     ensures { Meets result (is_address number) (λ n. n ≡ number) BadMessage.Address }
 {
-    if number <= 30 {
+    if number <= u32::from(HIGHEST_ADDRESS) {
         Ok(number as u8)
     } else {
         Err(BadMessage::Address)
@@ -23,7 +25,7 @@ pub fn address(number: u32) -> Result<u8, BadMessage>
 pub fn subaddress(number: u32) -> Result<u8, BadMessage>
     ensures { Meets result (is_subaddress number) (λ n. n ≡ number) BadMessage.Subaddress }
 {
-    if 1 <= number && number <= 30 {
+    if 1 <= number && number <= u32::from(HIGHEST_SUBADDRESS) {
         Ok(number as u8)
     } else {
         Err(BadMessage::Subaddress)
@@ -34,7 +36,7 @@ pub fn subaddress(number: u32) -> Result<u8, BadMessage>
 pub fn word_count(number: u32) -> Result<u8, BadMessage>
     ensures { Meets result (is_count number) (λ n. n ≡ number) BadMessage.CountOrCode }
 {
-    if 1 <= number && number <= 32 {
+    if 1 <= number && number <= u32::from(MOST_WORDS) {
         Ok(number as u8)
     } else {
         Err(BadMessage::CountOrCode)
@@ -58,7 +60,7 @@ pub fn data_words(words: &[u16]) -> Result<ArrayVec<u16, 32>, BadMessage>
 pub fn code_alone(code: u32) -> Result<u8, BadMessage>
     ensures { Meets result (is_code_alone code) (λ n. n ≡ code) BadMessage.CountOrCode }
 {
-    if code <= 15 {
+    if code <= u32::from(LAST_RESERVED_WITHOUT_WORD) {
         Ok(code as u8)
     } else {
         Err(BadMessage::CountOrCode)
@@ -69,7 +71,7 @@ pub fn code_alone(code: u32) -> Result<u8, BadMessage>
 pub fn code_from(code: u32) -> Result<u8, BadMessage>
     ensures { Meets result (is_code_from code) (λ n. n ≡ code) BadMessage.CountOrCode }
 {
-    if code <= 31 && mode_data_words(true, code as u8) == 1 {
+    if code <= u32::from(LAST_CODE) && mode_data_words(true, code as u8) == 1 {
         Ok(code as u8)
     } else {
         Err(BadMessage::CountOrCode)
@@ -80,7 +82,7 @@ pub fn code_from(code: u32) -> Result<u8, BadMessage>
 pub fn code_to(code: u32) -> Result<u8, BadMessage>
     ensures { Meets result (is_code_to code) (λ n. n ≡ code) BadMessage.CountOrCode }
 {
-    if code <= 31 && mode_data_words(false, code as u8) == 1 {
+    if code <= u32::from(LAST_CODE) && mode_data_words(false, code as u8) == 1 {
         Ok(code as u8)
     } else {
         Err(BadMessage::CountOrCode)

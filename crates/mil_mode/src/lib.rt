@@ -6,9 +6,20 @@
 //! Its tests are in `mil_tests`.
 #![tactic(auto)]
 
+pub mod codes;
+
 ghost use Rattle.std.specs.Prelude.{◌≡◌, ◌≤◌, ◌↔◌, IsTrue, ◌||◌, not};
 ghost use Rattle.mil_mode.specs.Table.{row_of, is_known, is_reserved, is_broadcast_mode, data_word_count};
 ghost use Rattle.mil_mode.specs.Table.{is_legal_mode as is_legal};
+ghost use Rattle.std.specs.Prelude.{◌==◌};
+ghost use Rattle.mil_mode.specs.Codes.{override_selected_shutdown, selected_shutdown, synchronize_with_word};
+ghost use Rattle.mil_mode.specs.Codes.{transmit_bit_word, transmit_last_command, transmit_vector_word};
+
+use codes::{
+    FIRST_RESERVED, FIRST_RESERVED_WITH_WORD, INITIATE_SELF_TEST, LAST_RESERVED_WITHOUT_WORD,
+    OVERRIDE_SELECTED_SHUTDOWN, RESET_REMOTE_TERMINAL, SELECTED_SHUTDOWN, SYNCHRONIZE,
+    SYNCHRONIZE_WITH_WORD, TRANSMIT_BIT_WORD, TRANSMIT_LAST_COMMAND, TRANSMIT_VECTOR_WORD,
+};
 
 /// What the mode table has for a T/R bit and a code.
 #[derive(Clone, Copy, Debug, PartialEq, Eq)]
@@ -30,11 +41,11 @@ pub fn mode_of(transmit: bool, code: u8) -> ModeRow
     ensures undefined { (result ≡ ModeRow.Undefined) ↔ IsTrue
         (not (is_known transmit code || is_reserved transmit code)) }
 {
-    if code >= 22 {
+    if code >= FIRST_RESERVED_WITH_WORD {
         ModeRow::Reserved
     } else if is_assigned(transmit, code) {
         ModeRow::Known
-    } else if transmit && 9 <= code && code <= 15 {
+    } else if transmit && FIRST_RESERVED <= code && code <= LAST_RESERVED_WITHOUT_WORD {
         ModeRow::Reserved
     } else {
         ModeRow::Undefined
@@ -47,10 +58,25 @@ fn is_assigned(transmit: bool, code: u8) -> bool
     ensures { result ≡ is_known transmit code }
 {
     if transmit {
-        code <= 8 || code == 16 || code == 18 || code == 19
+        code <= RESET_REMOTE_TERMINAL || has_word_from_terminal(code)
     } else {
-        code == 17 || code == 20 || code == 21
+        is_synchronize_or_selected(code)
     }
+}
+
+/// Whether a known code has a data word from the terminal.
+fn has_word_from_terminal(code: u8) -> bool
+    ensures { result ≡ (code == transmit_vector_word || code == transmit_last_command || code == transmit_bit_word) }
+{
+    code == TRANSMIT_VECTOR_WORD || code == TRANSMIT_LAST_COMMAND || code == TRANSMIT_BIT_WORD
+}
+
+/// Whether a known code has a data word to the terminal.
+fn is_synchronize_or_selected(code: u8) -> bool
+    ensures { result
+        ≡ (code == synchronize_with_word || code == selected_shutdown || code == override_selected_shutdown) }
+{
+    code == SYNCHRONIZE_WITH_WORD || code == SELECTED_SHUTDOWN || code == OVERRIDE_SELECTED_SHUTDOWN
 }
 
 /// Whether the pair may be sent to all terminals at once, with address 31: true for known pairs alone.
@@ -59,9 +85,9 @@ pub fn broadcast_allowed(transmit: bool, code: u8) -> bool
     ensures { result ≡ is_broadcast_mode transmit code }
 {
     if transmit {
-        code == 1 || 3 <= code && code <= 8
+        code == SYNCHRONIZE || INITIATE_SELF_TEST <= code && code <= RESET_REMOTE_TERMINAL
     } else {
-        code == 17 || code == 20 || code == 21
+        is_synchronize_or_selected(code)
     }
 }
 
@@ -72,21 +98,17 @@ pub fn data_words(transmit: bool, code: u8) -> u8
     ensures { result ≡ data_word_count transmit code }
 {
     if transmit {
-        if code == 16 || code == 18 || code == 19 || code >= 22 {
-            1
-        } else {
-            0
-        }
+        u8::from(has_word_from_terminal(code) || code >= FIRST_RESERVED_WITH_WORD)
     } else {
-        if code == 17 || code >= 20 { 1 } else { 0 }
+        u8::from(code == SYNCHRONIZE_WITH_WORD || code >= SELECTED_SHUTDOWN)
     }
 }
 
-/// Whether the terminals of this bench carry the pair out: known, and neither 20 nor 21, which select one of
+/// Whether the terminals of this bench carry the pair out: known, and neither that shuts down nor that starts one of
 /// several further lines (own choice).
 pub fn is_legal_mode(transmit: bool, code: u8) -> bool
     requires { code ≤ 31 }
     ensures { result ≡ is_legal transmit code }
 {
-    is_assigned(transmit, code) && code != 20 && code != 21
+    is_assigned(transmit, code) && code != SELECTED_SHUTDOWN && code != OVERRIDE_SELECTED_SHUTDOWN
 }

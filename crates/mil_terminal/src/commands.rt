@@ -5,6 +5,7 @@ ghost use Rattle.mil_terminal.specs.Updates.{is_code};
 ghost use Rattle.mil_terminal.specs.Verdicts.{is_unknown as unknown};
 
 use crate::addresses::Address;
+use mil_mode::codes::{TRANSMIT_LAST_COMMAND, TRANSMIT_STATUS_WORD};
 use mil_mode::{broadcast_allowed, is_legal_mode};
 use mil_word::Command;
 
@@ -15,7 +16,7 @@ pub fn is_question(own: Address, command: Command) -> bool
     command.address() == own.value()
         && command.is_transmit()
         && command.is_mode()
-        && (command.code() == 2 || command.code() == 18)
+        && (command.code() == TRANSMIT_STATUS_WORD || command.code() == TRANSMIT_LAST_COMMAND)
 }
 
 /// Whether no terminal here carries the command out.

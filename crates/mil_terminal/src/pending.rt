@@ -17,7 +17,12 @@ use crate::addresses::Address;
 use crate::sounds::Sound;
 use arrayvec::ArrayVec;
 use mil_line::Gap;
+use mil_mode::codes::FIRST_WITH_WORD;
+use mil_word::timing::{CONTIGUOUS_GAP, SYNC_TO_PARITY, TRANSFER_TIME_OUT};
 use mil_word::{Command, Line, Sync, Wave, Word, decode, encode};
+
+/// The latest gap of the status of the sender of a transfer, so that the first data word comes to the receiver in time.
+const LATEST_ANSWER: u16 = TRANSFER_TIME_OUT - 2 * (SYNC_TO_PARITY + CONTIGUOUS_GAP);
 
 /// What was heard in a window so far.
 #[derive(Clone, Copy, Debug)]
@@ -64,7 +69,7 @@ pub fn words_due(command: Command) -> usize
 {
     if command.is_receive() {
         command.count() as usize
-    } else if command.is_mode() && !command.is_transmit() && 16 <= command.code() {
+    } else if command.is_mode() && !command.is_transmit() && FIRST_WITH_WORD <= command.code() {
         1
     } else {
         0
@@ -98,7 +103,7 @@ fn is_answer(sender: u8, sound: &Sound, gap: Gap) -> bool
     ensures { result ≡ phases.is_answer sender sound.now gap }
 {
     match sound.command() {
-        Some(status) => status.address() == sender && gap.ticks() <= 170,
+        Some(status) => status.address() == sender && gap.ticks() <= LATEST_ANSWER,
         None => false,
     }
 }

@@ -27,6 +27,8 @@ use crate::synced::Synced;
 use arrayvec::ArrayVec;
 use mil_host::Action;
 use mil_line::Gap;
+use mil_mode::codes::{TRANSMIT_BIT_WORD, TRANSMIT_LAST_COMMAND, TRANSMIT_VECTOR_WORD};
+use mil_word::fields::WRAP_AROUND;
 use mil_word::{Command, Line, Wave};
 use std::alloc::{AllocError, Global};
 
@@ -121,7 +123,7 @@ impl Registers {
             self.tell(pending.command, false);
         }
         self.window = Some(Pending::open(line, command));
-        if !(is_question(self.own, command) && command.code() == 18) {
+        if !(is_question(self.own, command) && command.code() == TRANSMIT_LAST_COMMAND) {
             self.last_command = command.value();
         }
     }
@@ -242,9 +244,9 @@ impl Registers {
         ensures { option_to_list result ≡ mode_data_now self.now code }
     {
         match code {
-            18 => Some(self.last_command),
-            16 if !self.host.busy => Some(self.host.vector),
-            19 if !self.host.busy => Some(self.synced.bit_word),
+            TRANSMIT_LAST_COMMAND => Some(self.last_command),
+            TRANSMIT_VECTOR_WORD if !self.host.busy => Some(self.host.vector),
+            TRANSMIT_BIT_WORD if !self.host.busy => Some(self.synced.bit_word),
             _ => None,
         }
     }
@@ -255,8 +257,8 @@ impl Registers {
         ensures value { result.now ≡ put_up_at self.now sub }
         ensures few { length result.now ≤ 32 }
     {
-        if sub == 30 {
-            self.block.at(30)
+        if sub == WRAP_AROUND {
+            self.block.at(usize::from(WRAP_AROUND))
         } else {
             self.block.at(64 + sub as usize)
         }

@@ -20,6 +20,7 @@ use crate::{Event, TerminalError};
 use history::History;
 use mil_host::Action;
 use mil_line::Gap;
+use mil_word::fields::HIGHEST_ADDRESS;
 use mil_word::{Line, Sync, Wave, Word, decode, encode};
 use std::alloc::{AllocError, Global};
 use std::marker::Model;
@@ -50,7 +51,7 @@ impl Terminal {
         ensures made { IfOk result (λ t. t ≡ record { own = address; history = [] }) }
         ensures address { (result ≡ Err TerminalError.Address) ↔ (30 < address) }
     {
-        if address > 30 {
+        if address > HIGHEST_ADDRESS {
             return Err(TerminalError::Address);
         }
         let registers = Registers::make(alloc, Address::of(address))?;

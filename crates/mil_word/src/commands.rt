@@ -3,6 +3,7 @@ ghost use Rattle.std.specs.Prelude.{◌≡◌, ◌≤◌, ◌<◌, ◌^◌};
 ghost use Rattle.mil_word.specs.Fields.{address_of, is_transmit, sub_of, code_of, count_of, is_mode, is_receive};
 ghost use Rattle.mil_word.specs.Fields.{is_broadcast};
 
+use crate::fields::{ALL_TERMINALS, MODE_SUBADDRESS_OF_ONES, MODE_SUBADDRESS_OF_ZEROS, MOST_WORDS};
 use std::marker::Model;
 
 /// A command word; contracts see its 16 bits as a number.
@@ -54,7 +55,7 @@ impl Command {
     pub fn is_broadcast(self) -> bool
         ensures { result ≡ is_broadcast self }
     {
-        self.address() == 31
+        self.address() == ALL_TERMINALS
     }
 
     /// Whether the T/R bit is one, so that the terminal is to transmit (4.3.3.5.1.3).
@@ -80,7 +81,7 @@ impl Command {
         ensures { result ≡ is_mode self }
     {
         let subaddress = self.subaddress();
-        subaddress == 0 || subaddress == 31
+        subaddress == MODE_SUBADDRESS_OF_ZEROS || subaddress == MODE_SUBADDRESS_OF_ONES
     }
 
     /// The last field as it stands, 0 to 31: the mode code of a mode command (4.3.3.5.1.7).
@@ -100,7 +101,7 @@ impl Command {
         ensures at_most_32 { result ≤ 32 }
     {
         let code = self.code();
-        if code == 0 { 32 } else { code }
+        if code == 0 { MOST_WORDS } else { code }
     }
 
     /// Whether this is a receive command that is no mode command.

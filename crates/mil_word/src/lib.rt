@@ -6,8 +6,10 @@
 
 pub mod code;
 pub mod commands;
+pub mod fields;
 pub mod statuses;
 mod tables;
+pub mod timing;
 pub mod waves;
 
 pub use code::{decode, encode, raw_bits};

@@ -14,7 +14,8 @@ use crate::checkpoints::Stop;
 use crate::error::ReplayError;
 use crate::tracks::Track;
 use bench_report::ChannelReport;
-use ch11_reader::{Index, MESSAGES_KIND};
+use ch11_header::kinds::BUS_MESSAGES;
+use ch11_reader::Index;
 use job_file::Job;
 use std::alloc::{AllocError, Global};
 
@@ -54,7 +55,7 @@ fn stranger(jobs: &[u16], index: &Index<'_>) -> Option<u16>
     ensures { MatchOption result (AreOfChannels jobs.now index.now) (λ c. IsStranger jobs.now index.now c) }
 {
     for packet in index.packets() {
-        if packet.header.kind == MESSAGES_KIND && !jobs.contains(&packet.header.channel) {
+        if packet.header.kind == BUS_MESSAGES && !jobs.contains(&packet.header.channel) {
             return Some(packet.header.channel);
         }
     }

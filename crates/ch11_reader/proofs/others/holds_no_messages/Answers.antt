@@ -15,7 +15,7 @@ loop-rest-preserved c =
     let earlier = c.loop-rest.invariant.0 in (
       next_found file rest h ∷ earlier,
       rw c.split_at.ensures.back (goes_on file rest earlier h c.in-Ok.ensures.read c.in-Ok.ensures.whole.0 c.in-Ok.ensures.whole.1 c.loop-rest.invariant.1),
-      (ne_eqb h.kind _ c.if-checked-eq-MESSAGES_KIND.false, c.loop-rest.invariant.2),
+      (ne_eqb h.kind _ c.if-checked-eq-BUS_MESSAGES.false, c.loop-rest.invariant.2),
     )
 
 pub returns-in_default : goal.returns-in_default
@@ -27,15 +27,15 @@ returns-in_default c =
       λ is. absurd (unreadable file _ (stops file rest c.loop-rest.invariant.0 c.in_default.field-0 some c.in_default.ensures.read c.loop-rest.invariant.1) is),
     )
 
-pub returns-then-checked-eq-MESSAGES_KIND : goal.returns-then-checked-eq-MESSAGES_KIND
-returns-then-checked-eq-MESSAGES_KIND c =
+pub returns-then-checked-eq-BUS_MESSAGES : goal.returns-then-checked-eq-BUS_MESSAGES
+returns-then-checked-eq-BUS_MESSAGES c =
     let file = c.args.file.now in
     let rest = c.loop-rest.rest.now in
     let h = c.in-Ok.checked.header in
     let earlier = c.loop-rest.invariant.0 in
     let going = goes_on file rest earlier h c.in-Ok.ensures.read c.in-Ok.ensures.whole.0 c.in-Ok.ensures.whole.1 c.loop-rest.invariant.1 in (
       λ wrong. search rules,
-      λ is. absurd (one_of_messages file _ earlier (next_found file rest h) (eq-eqb h.kind _ c.if-checked-eq-MESSAGES_KIND.true) going is),
+      λ is. absurd (one_of_messages file _ earlier (next_found file rest h) (eq-eqb h.kind _ c.if-checked-eq-BUS_MESSAGES.true) going is),
     )
 
 pub returns : goal.returns
