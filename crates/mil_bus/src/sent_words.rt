@@ -21,6 +21,9 @@ use mil_word::timing::WORD_TIME;
 use mil_word::{Wave, raw_bits};
 use std::marker::Model;
 
+/// How long a word lasts, in ticks.
+const WORD: u64 = WORD_TIME as u64;
+
 /// The words that came on a line, at most forty, in their order; contracts see them as those of an `ArrayVec`. A run
 /// that no planned fault touches is kept as a whole, by the values of its words.
 #[derive(Debug, Drop)]
@@ -85,7 +88,7 @@ fn lasting_all(place: usize, run: &Whole) -> u64
     if run.count == 0 {
         0
     } else {
-        lasting(place, run.gap) + u64::from(WORD_TIME) * u64::from(run.count - 1)
+        lasting(place, run.gap) + WORD * u64::from(run.count - 1)
     }
 }
 
