@@ -3,7 +3,7 @@ use Rattle.std.proofs.Common.{◌≡◌, ℕ, ◌+◌, ◌<◌, ◌≤◌, Bool,
 use Rattle.std.proofs.lemmas.Bool.{le-ltb, lt-ltb}
 use Rattle.std.proofs.lemmas.List.{append-nil, drop-append-le, length-append}
 use Rattle.std.specs.Io.KnownBytes.{Keeps, prepend_known}
-use Rattle.ch11_header.specs.declared.fault.HeaderError.{HeaderError}
+use Rattle.ch11_header.specs.declared.error.HeaderError.{HeaderError}
 use Rattle.ch11_header.specs.declared.header.Header.{Header}
 use Rattle.ch11_header.specs.HeaderReading.{body_start, header_in}
 use Rattle.ch11_reader.specs.declared.error.Fault.{Fault}
