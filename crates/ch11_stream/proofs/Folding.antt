@@ -16,7 +16,7 @@ pub one_behind : (q : Found) (earlier : List Found) → reverse (q ∷ earlier) 
 one_behind q earlier = reverse-append (q ∷ []) earlier
 
 total_both : (ps qs : List Found) → total_in (ps ++ qs) ≡ total_in ps + total_in qs
-total_both [] qs = refl
+total_both [] qs = omega arith
 total_both (p ∷ ps) qs = omega (arith, total_both ps qs)
 
 -- the order does not matter to how many messages there are
