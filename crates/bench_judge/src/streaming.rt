@@ -26,16 +26,19 @@ pub fn judge_from<R: Read + Drop>(
     let mut packets = Packets::over(alloc, input)?;
     let mut tallies = no_tallies(alloc, rules)?;
     'packets: for _made in 0..u64::MAX {
-        let Some(packet) = packets.next()? else {
-            let verdicts = verdicts_of(alloc, rules, tallies)?;
-            return Ok(verdicts);
-        };
-        note_messages(
-            rules,
-            tallies.as_mut_slice(),
-            packet.header.channel,
-            packets.messages(),
-        )?;
+        match packets.next() {
+            Ok(Some(packet)) => note_messages(
+                rules,
+                tallies.as_mut_slice(),
+                packet.header.channel,
+                packets.messages(),
+            )?,
+            Ok(None) => {
+                let verdicts = verdicts_of(alloc, rules, tallies)?;
+                return Ok(verdicts);
+            }
+            Err(fault) => return Err(fault),
+        }
     }
     Err(StreamFault::Device)
 }

@@ -1,6 +1,10 @@
 //! A dump of a recording that is not kept in memory.
-ghost use Rattle.std.specs.Prelude.{◌≡◌, ℕ, List, Some};
-ghost use Rattle.bench_passes.specs.Passes.{IsReadFirst};
+ghost use Rattle.std.specs.Prelude.{◌≡◌, ℕ, List, Some, Ok, Err};
+ghost use Rattle.ch11_reader.specs.declared.error.Refusal.{Refusal};
+ghost use Rattle.ch11_reader.specs.Indexed.{found_in};
+ghost use Rattle.ch11_reader.specs.Recording.{packets_in};
+ghost use Rattle.bench_dump.specs.Streaming.{Dumps};
+ghost use Rattle.bench_passes.specs.Passes.{IsRefusedBy};
 
 use bench_dump::{DumpFault, dump_from};
 use ch11_check::check_from;
@@ -17,9 +21,13 @@ pub fn dump_in_two_passes<R: Read + Drop, S: Read + Drop, W: Write>(
     second: S,
     out: &mut W,
 ) -> Result<(), DumpFault>
-    ensures { (file : List ℕ) → R.remaining first ≡ Some file
-        → IsReadFirst result file (S.remaining second) out.old out.new (W.contents out.old) (W.contents out.new) }
+    ensures refused { (file : List ℕ) (r : Refusal) → R.remaining first ≡ Some file → packets_in file ≡ Err r
+        → (out.new ≡ out.old) × IsRefusedBy r result }
+    ensures dumped { (file other : List ℕ) → R.remaining first ≡ Some file → S.remaining second ≡ Some other
+        → packets_in file ≡ Ok (found_in file) → Dumps result other (W.contents out.old) (W.contents out.new) }
 {
-    check_from(alloc, first)?;
-    dump_from(alloc, second, out)
+    match check_from(alloc, first) {
+        Ok(()) => dump_from(alloc, second, out),
+        Err(fault) => Err(DumpFault::from(fault)),
+    }
 }

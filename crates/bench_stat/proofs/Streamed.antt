@@ -5,9 +5,12 @@ use Rattle.std.specs.HashMap.{get}
 use Rattle.std.proofs.lemmas.Bool.{cases_eq, eq-eqb, ne_eqb}
 use Rattle.std.proofs.lemmas.List.{append-nil, map-append, map_push, reverse-append}
 use Rattle.ch11_header.specs.declared.header.Header.{Header}
-use Rattle.ch11_f1.specs.BodyReading.{Message}
-use Rattle.ch11_reader.specs.Recording.{Found, holds_messages}
+use Rattle.ch11_f1.specs.BodyReading.{Message, messages_in, ok_or_none}
+use Rattle.ch11_reader.specs.declared.packet.Packet.{Packet}
+use Rattle.ch11_reader.specs.Recording.{Found, body_of, holds_messages}
 use Rattle.ch11_reader.specs.Contents.{total_in}
+use Rattle.ch11_stream.specs.Reading.{IsStep, Reading, last_found}
+use Rattle.ch11_stream.proofs.Folding.{one_behind, total_reverse}
 use Rattle.bench_select.specs.declared.selection.Selection.{Selection}
 use Rattle.bench_select.specs.Selectors.{is_chosen}
 use Rattle.bench_stat.specs.declared.channels.ChannelFigures.{ChannelFigures}
@@ -16,7 +19,7 @@ use Rattle.bench_stat.specs.declared.tally.Tally.{Tally}
 use Rattle.bench_stat.specs.Chosen.{picked, chosen, history_of}
 use Rattle.bench_stat.specs.Figures.{channels_below, figures_among, figures_of_channel, has_channel, headers, is_listed}
 use Rattle.bench_stat.specs.Steps.{tally_of}
-use Rattle.bench_stat.specs.Streaming.{AreSoFar, tally_in, tally_or_none}
+use Rattle.bench_stat.specs.Streaming.{AreSoFar, IsNext, tally_in, tally_or_none}
 use Rattle.bench_stat.proofs.Present.{at_channel, channel_absent, channel_present, of_other_channel, of_other_kind}
 
 -- ---- one packet more
@@ -154,6 +157,21 @@ counted s ps q t next tally are empty kind is one put = record {
     own_channel =
         put q.header.channel ∙ ap (λ (b : Bool). if b then Some tally else get nat_eq t.channels q.header.channel) (eq-eqb q.header.channel q.header.channel refl)
         ∙ ap Some (one ∙ ap (tally_of q.header.channel) (sym (history_here s ps q))) ∙ sym (tally_listed s q.header.channel (ps ++ q ∷ []) is there)
+
+-- ---- packets as they are read
+
+-- the packet that was read of a file that is known
+pub next_one : (before now : Reading) (p : Packet) (messages : List Message) (rest : List ℕ) → IsStep before now p → before.left ≡ Some rest → messages ≡ now.given → IsNext (reverse before.earlier) (last_found now p) p messages
+next_one before now p messages rest s left are = record {
+  header = refl;
+  before = ap (λ (x : Packet). x.before) s.listed ∙ sym (total_reverse before.earlier);
+  given = sym are;
+  other = λ no. (s.read rest left).messages ∙ ap (λ (b : Bool). if b then ok_or_none (messages_in (body_of p.header rest)) else []) no;
+}
+
+-- the packets so far in their order, with one more
+pub counted_on : (s : Selection) (before now : Reading) (p : Packet) (t : SoFar) → IsStep before now p → AreSoFar s (reverse before.earlier ++ last_found now p ∷ []) t → AreSoFar s (reverse now.earlier) t
+counted_on s before now p t step are = subst (λ (ps : List Found). AreSoFar s ps t) (sym (ap reverse step.entered ∙ one_behind (last_found now p) before.earlier)) are
 
 -- ---- the channels that are listed
 

@@ -1,5 +1,5 @@
 //! The figures of a recording whose packets come from a reader.
-ghost use Rattle.std.specs.Prelude.{◌≡◌, ◌+◌, ◌<◌, ◌^◌, ◌++◌, ◌∷◌, [], ℕ, List, length, nat_eq, reverse, Some, IfOk, OnOk};
+ghost use Rattle.std.specs.Prelude.{◌≡◌, ◌+◌, ◌<◌, ◌^◌, ◌++◌, ◌∷◌, [], ℕ, List, length, nat_eq, reverse, None, Some, IfOk, OnOk};
 ghost use Rattle.std.specs.HashMap.{get};
 ghost use Rattle.ch11_f1.specs.BodyReading.{Message};
 ghost use Rattle.ch11_reader.specs.Recording.{Found};
@@ -28,6 +28,17 @@ pub(crate) struct SoFar {
     pub(crate) channels: HashMap<u16, Tally>,
 }
 
+impl SoFar {
+    /// No figures.
+    fn none(alloc: Global) -> SoFar
+        ensures { (channel : ℕ) → get nat_eq result.channels channel ≡ None }
+    {
+        SoFar {
+            channels: HashMap::new(alloc),
+        }
+    }
+}
+
 /// The figures that `stat` gives for all bytes that a reader has left, as their packets come, in memory for the largest
 /// packet of messages and the figures of each channel. A recording that can't be read is refused with its first fault, K1
 /// to K5, N2 or F1 to F3; want of memory and the reader's failure are the others.
@@ -40,15 +51,16 @@ pub fn stat_from<R: Read + Drop>(
         → Finds (λ ps figures. figures.items ≡ statistics selection.now ps) result file }
 {
     let mut packets = Packets::over(alloc, input)?;
-    let mut so_far = SoFar {
-        channels: HashMap::new(alloc),
-    };
+    let mut so_far = SoFar::none(alloc);
     'packets: for _made in 0..u64::MAX {
-        let Some(packet) = packets.next()? else {
-            let figures = figures_of(alloc, &so_far)?;
-            return Ok(figures);
-        };
-        note_packet(&mut so_far, selection, &packet, packets.messages())?;
+        match packets.next() {
+            Ok(Some(packet)) => note_packet(&mut so_far, selection, &packet, packets.messages())?,
+            Ok(None) => {
+                let figures = figures_of(alloc, &so_far)?;
+                return Ok(figures);
+            }
+            Err(fault) => return Err(fault),
+        }
     }
     Err(StreamFault::Device)
 }

@@ -13,9 +13,11 @@ pub fn check_from<R: Read + Drop>(alloc: Global, input: R) -> Result<(), StreamF
 {
     let mut packets = Packets::over(alloc, input)?;
     'packets: for _made in 0..u64::MAX {
-        let Some(_packet) = packets.next()? else {
-            return Ok(());
-        };
+        match packets.next() {
+            Ok(Some(_)) => {}
+            Ok(None) => return Ok(()),
+            Err(fault) => return Err(fault),
+        }
     }
     Err(StreamFault::Device)
 }
