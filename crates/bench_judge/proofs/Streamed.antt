@@ -15,10 +15,10 @@ heard_so_far earlier = reverse (heard_in (reverse earlier))
 
 pub heard_more : (q : Found) (earlier : List Found) → heard_on q.header.channel q.messages (heard_so_far earlier) ≡ heard_so_far (q ∷ earlier)
 heard_more q earlier = sym (
-  ap (λ (ps : List Found). reverse (heard_in ps)) (one_behind q earlier)
-  ∙ ap reverse (flat_map-append heard_of (reverse earlier) (q ∷ []) ∙ ap (λ (hs : List Heard). heard_in (reverse earlier) ++ hs) (append-nil (heard_of q)))
-  ∙ reverse-append (heard_in (reverse earlier)) (heard_of q)
-)
+    ap (λ (ps : List Found). reverse (heard_in ps)) (one_behind q earlier)
+    ∙ ap reverse (flat_map-append heard_of (reverse earlier) (q ∷ []) ∙ ap (λ (hs : List Heard). heard_in (reverse earlier) ++ hs) (append-nil (heard_of q)))
+    ∙ reverse-append (heard_in (reverse earlier)) (heard_of q)
+    )
 
 pub heard_count : (earlier : List Found) → length (heard_so_far earlier) ≡ total_in earlier
 heard_count earlier = omega (arith, length-reverse (heard_in (reverse earlier)), length-heard (reverse earlier), total_reverse earlier)

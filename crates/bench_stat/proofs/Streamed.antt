@@ -19,7 +19,7 @@ use Rattle.bench_stat.specs.declared.tally.Tally.{Tally}
 use Rattle.bench_stat.specs.Chosen.{picked, chosen, history_of}
 use Rattle.bench_stat.specs.Figures.{channels_below, figures_among, figures_of_channel, has_channel, headers, is_listed}
 use Rattle.bench_stat.specs.Steps.{tally_of}
-use Rattle.bench_stat.specs.Streaming.{AreSoFar, IsNext, tally_in, tally_or_none}
+use Rattle.bench_stat.specs.Streaming.{AreSoFar, IsBehind, tally_in, tally_or_none}
 use Rattle.bench_stat.proofs.Present.{at_channel, channel_absent, channel_present, of_other_channel, of_other_kind}
 
 -- ---- one packet more
@@ -98,9 +98,9 @@ none_more : (s : Selection) (ps : List Found) (q : Found) (t : SoFar) → AreSoF
     → history_of s (ps ++ q ∷ []) channel ≡ []
 none_more s ps q t are empty channel absent = elim (cases_eq q.header.channel channel) [
   | inl here ↦ elim (cases_eq q.header.kind 25) [
-      | inl kind ↦ let there = at_channel channel (headers ps) q.header kind here in absurd (both (has_channel channel (headers (ps ++ q ∷ []))) absent (ap (has_channel channel) (headers_more ps q) ∙ there))
-      | inr other ↦ history_same s channel ps q (empty (ne_eqb q.header.kind 25 other)) ∙ are.none channel (sym (has_same channel ps q (of_other_kind channel (headers ps) q.header other)) ∙ absent)
-    ]
+    | inl kind ↦ let there = at_channel channel (headers ps) q.header kind here in absurd (both (has_channel channel (headers (ps ++ q ∷ []))) absent (ap (has_channel channel) (headers_more ps q) ∙ there))
+    | inr other ↦ history_same s channel ps q (empty (ne_eqb q.header.kind 25 other)) ∙ are.none channel (sym (has_same channel ps q (of_other_kind channel (headers ps) q.header other)) ∙ absent)
+  ]
   | inr other ↦ history_other s channel ps q other ∙ are.none channel (sym (has_same channel ps q (of_other_channel channel (headers ps) q.header other)) ∙ absent)
 ]
   where
@@ -161,7 +161,7 @@ counted s ps q t next tally are empty kind is one put = record {
 -- ---- packets as they are read
 
 -- the packet that was read of a file that is known
-pub next_one : (before now : Reading) (p : Packet) (messages : List Message) (rest : List ℕ) → IsStep before now p → before.left ≡ Some rest → messages ≡ now.given → IsNext (reverse before.earlier) (last_found now p) p messages
+pub next_one : (before now : Reading) (p : Packet) (messages : List Message) (rest : List ℕ) → IsStep before now p → before.left ≡ Some rest → messages ≡ now.given → IsBehind (reverse before.earlier) (last_found now p) p messages
 next_one before now p messages rest s left are = record {
   header = refl;
   before = ap (λ (x : Packet). x.before) s.listed ∙ sym (total_reverse before.earlier);

@@ -1,5 +1,5 @@
 -- The figures of the channels of a recording whose packets were read so far.
-use Rattle.std.specs.Prelude.{◌≡◌, ℕ, ◌<◌, Bool, false, nat_eq, if◌then◌else◌, List, [], Option, None, Some}
+use Rattle.std.specs.Prelude.{◌≡◌, ℕ, false, nat_eq, if◌then◌else◌, List, [], Option, None, Some}
 use Rattle.std.specs.HashMap.{get}
 use Rattle.ch11_f1.specs.BodyReading.{Message}
 use Rattle.ch11_reader.specs.declared.packet.Packet.{Packet}
@@ -28,7 +28,7 @@ pub record AreSoFar (s : Selection) (ps : List Found) (so_far : SoFar) : Type 0 
   pub none : (channel : ℕ) → has_channel channel (headers ps) ≡ false → history_of s ps channel ≡ []
 
 -- the packet behind others is listed so, and has these messages
-pub record IsNext (ps : List Found) (q : Found) (p : Packet) (messages : List Message) : Type 0 where
+pub record IsBehind (ps : List Found) (q : Found) (p : Packet) (messages : List Message) : Type 0 where
   pub header : q.header ≡ p.header
   pub before : p.before ≡ total_in ps
   pub given : q.messages ≡ messages

@@ -8,7 +8,7 @@ ghost use Rattle.bench_select.specs.declared.selection.Selection.{Selection as S
 ghost use Rattle.bench_stat.specs.Chosen.{picked};
 ghost use Rattle.bench_stat.specs.Figures.{statistics};
 ghost use Rattle.bench_stat.specs.Steps.{tally_of};
-ghost use Rattle.bench_stat.specs.Streaming.{AreSoFar, IsNext, tally_or_none};
+ghost use Rattle.bench_stat.specs.Streaming.{AreSoFar, IsBehind, tally_or_none};
 
 use crate::channels::ChannelFigures;
 use crate::chosen::next_selected;
@@ -74,7 +74,7 @@ fn note_packet(
 ) -> Result<(), AllocError>
     requires { packet.now.before + length messages < 2 ^ 64 }
     ensures { (ps : List Found) (q : Found) → AreSoFar selection.now ps so_far.old
-        → IsNext ps q packet.now messages.entry → OnOk result (AreSoFar selection.now (ps ++ q ∷ []) so_far.new) }
+        → IsBehind ps q packet.now messages.entry → OnOk result (AreSoFar selection.now (ps ++ q ∷ []) so_far.new) }
 {
     let channel = packet.header.channel;
     if packet.header.kind != MESSAGES_KIND || !is_of(selection.channel, channel) {

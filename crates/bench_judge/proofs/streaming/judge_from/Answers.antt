@@ -42,7 +42,7 @@ returns-in-Ok-None g c file is =
     let all = all_found file c.packets.packets c.next.new.self e (c.packets.invariant.known file is) in (
       all.0,
       subst (λ (ps : List Found). AreVerdicts c.args.rules.now (reverse (heard_in ps)) c.in_ok-verdicts.verdicts.items) all.1
-      (c.in_ok-verdicts.ensures (heard_so_far c.packets.packets.earlier) c.packets.invariant.counted),
+          (c.in_ok-verdicts.ensures (heard_so_far c.packets.packets.earlier) c.packets.invariant.counted),
     )
 
 pub returns-in-Err : goal.returns-in-Err
