@@ -39,7 +39,8 @@ chosen_both s channel before (p ∷ ps) qs =
 
 history_more : (s : Selection) (channel : ℕ) (ps : List Found) (q : Found) → history_of s (ps ++ q ∷ []) channel ≡ reverse (own s channel ps q) ++ history_of s ps channel
 history_more s channel ps q =
-    ap reverse (chosen_both s channel 0 ps (q ∷ []) ∙ ap (λ (l : List Message). chosen s channel 0 ps ++ l) (append-nil (own s channel ps q)))
+    let place : 0 + total_in ps ≡ total_in ps = omega arith in
+    ap reverse (chosen_both s channel 0 ps (q ∷ []) ∙ ap (λ (n : ℕ). chosen s channel 0 ps ++ chosen s channel n (q ∷ [])) place ∙ ap (λ (l : List Message). chosen s channel 0 ps ++ l) (append-nil (own s channel ps q)))
     ∙ reverse-append (chosen s channel 0 ps) (own s channel ps q)
 
 history_here : (s : Selection) (ps : List Found) (q : Found) → history_of s (ps ++ q ∷ []) q.header.channel ≡ reverse (picked s q.header.channel (total_in ps) q.messages) ++ history_of s ps q.header.channel

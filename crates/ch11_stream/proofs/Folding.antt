@@ -1,5 +1,5 @@
 -- One pass over the packets of a file.
-use Rattle.std.proofs.Common.{◌≡◌, ℕ, ◌+◌, List, [], ◌∷◌, ◌++◌, length, reverse, Ok, Err, refl, sym, ap, ◌∙◌, arith}
+use Rattle.std.proofs.Common.{◌≡◌, ℕ, ◌+◌, List, [], ◌∷◌, ◌++◌, reverse, Ok, refl, sym, ap, ◌∙◌, arith}
 use Rattle.std.proofs.lemmas.List.{reverse-append}
 use Rattle.ch11_reader.specs.Recording.{Found, found_or_none, packets_in}
 use Rattle.ch11_reader.specs.Contents.{total_in}
@@ -16,7 +16,7 @@ pub one_behind : (q : Found) (earlier : List Found) → reverse (q ∷ earlier) 
 one_behind q earlier = reverse-append (q ∷ []) earlier
 
 total_both : (ps qs : List Found) → total_in (ps ++ qs) ≡ total_in ps + total_in qs
-total_both [] qs = refl
+total_both [] qs = omega arith
 total_both (p ∷ ps) qs = omega (arith, total_both ps qs)
 
 -- the order does not matter to how many messages there are
