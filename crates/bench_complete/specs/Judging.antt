@@ -81,10 +81,10 @@ Refuses file read a faults.ChannelTaken = judged file read a ≡ Err faults.Chan
 Refuses file read a faults.TooLong = judged file read a ≡ Err faults.TooLong
 Refuses file read a faults.Device = ⊥
 
--- what judging answers: a plan, or a refusal
-abbrev pub IsPlanned : List ℕ → Result (List Found) Refusal → Additions → Result Plan CompleteFault → Type 0
-IsPlanned file read a (Ok c) = (ps : List Found) × (judged file read a ≡ Ok ps) × (c ≡ plan_for file ps a)
-IsPlanned file read a (Err f) = Refuses file read a f
+-- what judging comes to: a plan, or a refusal
+abbrev pub Plans : List ℕ → Result (List Found) Refusal → Additions → Result Plan CompleteFault → Type 0
+Plans file read a (Ok c) = (ps : List Found) × (judged file read a ≡ Ok ps) × (c ≡ plan_for file ps a)
+Plans file read a (Err f) = Refuses file read a f
 
 -- what stops the writing of a file: want of memory, or the writer
 abbrev pub StopsWriting : CompleteFault → Type 0

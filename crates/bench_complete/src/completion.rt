@@ -3,7 +3,7 @@ ghost use Rattle.std.specs.Prelude.{◌≡◌, ◌≤◌, true, option_map, Ok, 
 ghost use Rattle.ch11_reader.specs.Recording.{packets_in};
 ghost use Rattle.ch11_reader.specs.Skipping.{packets_read, skips_in};
 ghost use Rattle.bench_complete.specs.Complete.{Completes, low_by, plan_for, times_between};
-ghost use Rattle.bench_complete.specs.Judging.{AllReadAt, IsPlanned, Fails, IsCompleted, Refuses, StopsWriting};
+ghost use Rattle.bench_complete.specs.Judging.{AllReadAt, Fails, IsCompleted, Plans, Refuses, StopsWriting};
 ghost use Rattle.bench_complete.specs.Judging.{is_setup};
 ghost use Rattle.bench_complete.specs.Judging.{misuse};
 
@@ -129,7 +129,7 @@ impl<'a> Completion<'a> {
         file: &'a [u8],
         additions: &Additions<'a>,
     ) -> Result<Completion<'a>, CompleteFault>
-        ensures { IsPlanned file.now (packets_in file.now) additions.now result }
+        ensures { Plans file.now (packets_in file.now) additions.now result }
     {
         if !is_setup(additions.setup) {
             return Err(CompleteFault::SetupSize);

@@ -1,8 +1,10 @@
 //! Why a recording was not dumped, or not to its end.
 ghost use Rattle.std.specs.Prelude.{◌≡◌};
 ghost use Rattle.bench_dump.specs.declared.fault.DumpFault.TheVariants.{Device, Memory};
+ghost use Rattle.bench_dump.specs.Streaming.{dump_fault};
 
 use ch11_reader::Refusal;
+use ch11_stream::StreamFault;
 use std::alloc::AllocError;
 use std::{fmt, io};
 
@@ -47,5 +49,17 @@ impl From<io::Error> for DumpFault {
 
     fn from(_e: io::Error) -> DumpFault {
         DumpFault::Device
+    }
+}
+
+impl From<StreamFault> for DumpFault {
+    ghost from_gives = { λ cause e. e ≡ dump_fault cause };
+
+    fn from(cause: StreamFault) -> DumpFault {
+        match cause {
+            StreamFault::Refused(refusal) => DumpFault::Refused(refusal),
+            StreamFault::Memory => DumpFault::Memory,
+            StreamFault::Device => DumpFault::Device,
+        }
     }
 }

@@ -2,7 +2,7 @@
 ghost use Rattle.std.specs.Prelude.{◌≡◌, ℕ, ◌+◌, ◌<◌, ◌^◌, List, [], ◌++◌, length, Some, OnOk, IfErr};
 ghost use Rattle.bench_dump.specs.DumpText.{packet_line};
 ghost use Rattle.bench_dump.specs.Printing.{Carries, IsOther};
-ghost use Rattle.bench_dump.specs.Streaming.{Dumps, dump_fault};
+ghost use Rattle.bench_dump.specs.Streaming.{Dumps};
 ghost use Rattle.bench_dump.specs.TimedText.{timed_lines};
 
 use crate::fault::DumpFault;
@@ -11,20 +11,9 @@ use crate::output::dump_messages;
 use crate::text::Text;
 use bench_clock::Clock;
 use ch11_reader::Packet;
-use ch11_stream::{Packets, StreamFault};
+use ch11_stream::Packets;
 use std::alloc::Global;
 use std::io::{Read, Write};
-
-/// The fault of a dump where no packet could be read.
-fn fault_of(fault: StreamFault) -> DumpFault
-    ensures { result ≡ dump_fault fault }
-{
-    match fault {
-        StreamFault::Refused(refusal) => DumpFault::Refused(refusal),
-        StreamFault::Memory => DumpFault::Memory,
-        StreamFault::Device => DumpFault::Device,
-    }
-}
 
 /// The lines of the packet that was read last.
 fn dump_packet<R: Read, W: Write>(
@@ -73,7 +62,7 @@ pub fn dump_from<R: Read + Drop, W: Write>(
                 out.flush()?;
                 return Ok(());
             }
-            Err(fault) => return Err(fault_of(fault)),
+            Err(fault) => return Err(DumpFault::from(fault)),
         }
     }
     Err(DumpFault::Device)

@@ -5,3 +5,4 @@ mod Whole
 mod Tallying
 mod Writing
 mod Judged
+mod Streamed

@@ -111,7 +111,7 @@ fn judge_together(
 }
 
 /// A tally for each rule, of no messages.
-fn no_tallies(alloc: Global, rules: &[Rule]) -> Result<Vec<Tally>, AllocError>
+pub(crate) fn no_tallies(alloc: Global, rules: &[Rule]) -> Result<Vec<Tally>, AllocError>
     ensures { IfOk result (λ tallies. AreTallies rules.now [] tallies.items) }
 {
     let mut tallies = Vec::with_capacity(alloc, rules.len())?;
@@ -140,7 +140,7 @@ fn note_message(
 }
 
 /// The messages of a packet of this channel.
-fn note_messages(
+pub(crate) fn note_messages(
     rules: &[Rule],
     tallies: &mut [Tally],
     channel: u16,
@@ -159,7 +159,7 @@ fn note_messages(
 }
 
 /// The verdicts of tallies, one for each rule.
-fn verdicts_of(
+pub(crate) fn verdicts_of(
     alloc: Global,
     rules: &[Rule],
     tallies: Vec<Tally>,

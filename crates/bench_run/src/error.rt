@@ -26,6 +26,11 @@ pub enum RunError<S> {
 
 /// `U2`, `U1`, `U5`, `U3`, `U4 taken 100`.
 impl<S> Display for RunError<S> {
+    ghost use Rattle.std.specs.Prelude.{Some};
+    ghost use Rattle.bench_run.specs.Codes.{run_code};
+
+    ghost output = { λ e. Some (run_code e) };
+
     fn fmt<W: Write>(&self, f: &mut Formatter<W>) -> fmt::Result {
         match self {
             RunError::Settings { .. } => f.write_str("U2"),
@@ -59,6 +64,11 @@ impl<S> LiveError<S> {
 
 /// What the fault prints.
 impl<S> Display for LiveError<S> {
+    ghost use Rattle.std.specs.Prelude.{Some};
+    ghost use Rattle.bench_run.specs.Codes.{run_code};
+
+    ghost output = { λ e. Some (run_code e.fault) };
+
     fn fmt<W: Write>(&self, f: &mut Formatter<W>) -> fmt::Result {
         self.fault.fmt(f)
     }

@@ -1,6 +1,7 @@
 //! Points of a run at which its threads may be held.
 
 use mil_monitor::Record;
+use std::thread;
 
 /// What is called at points of a run, on the thread that is there. It may wait, so that tests fix the order of the
 /// threads.
@@ -23,6 +24,12 @@ pub trait Gate: Sync {
     /// After each item that the writer took, before it takes the next: of a message with its number, of an end mark
     /// with 0.
     fn after_take(&self, channel: u16, number: u32);
+
+    /// What the writer's thread does where the queue is empty while so many channels, 1 and up, still run: it may wait
+    /// or give way, and then looks at the queue again. A gate that leaves it out gives way once.
+    fn on_empty(&self, _running: usize) {
+        thread::yield_now();
+    }
 }
 
 /// A gate that holds nothing: the queue alone orders the threads.

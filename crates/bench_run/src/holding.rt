@@ -4,6 +4,9 @@ use mil_monitor::Record;
 use std::sync::atomic::{AtomicU64, Ordering};
 use std::thread;
 
+/// How often the writer's thread gives way at most before it looks at an empty queue again.
+const PATIENCE: u64 = 64;
+
 /// The items that are on their way to the writer: no more than the queue holds.
 #[derive(Drop)]
 struct Way {
@@ -36,7 +39,7 @@ impl Way {
 
 /// A gate that holds a channel before each message, and before the end of its script, until the queue has room for what
 /// comes next: no more items are on their way to the writer than the queue holds. So no message is refused. It stands
-/// around another gate, which is called at each point as well.
+/// around another gate, which is called at each point as well, but where the queue is empty.
 ///
 /// A gate is made for one run. What it waits for comes: the writer takes each item that was kept, also once the sink
 /// failed, and a channel that ended waits for nothing.
@@ -86,5 +89,15 @@ impl<G: Gate> Gate for HoldingGate<'_, G> {
     fn after_take(&self, channel: u16, number: u32) {
         self.way.leave();
         self.gate.after_take(channel, number);
+    }
+
+    /// Gives way so often that several items may have come: the less often the more channels run, and no more often
+    /// than the queue holds items, since channels wait once it is full. The other gate is not called: that it gave way
+    /// or waited as well would only hold the writer longer.
+    fn on_empty(&self, running: usize) {
+        let items = PATIENCE.min(self.way.queue);
+        for _ in 0..(items / running.max(1) as u64).max(1) {
+            thread::yield_now();
+        }
     }
 }

@@ -16,7 +16,6 @@ use ch11_recording::{Recorder, latest_is_last};
 use ch11_writer::Sink;
 use mil_trunk::{Tagged, Taker, Ticket, Trunk};
 use std::sync::Wait;
-use std::thread;
 
 /// A recorder, and whether it kept each entry that it was given. After one that it did not keep it is given none.
 #[derive(Drop)]
@@ -84,8 +83,8 @@ fn tell<G: Gate>(gate: &G, channels: &[u16], entry: &Entry) {
     }
 }
 
-/// Takes and records until as many end marks have come as threads were started. Where the trunk is empty the thread
-/// yields.
+/// Takes and records until as many end marks have come as threads were started. Where the trunk is empty the gate says
+/// what the thread does.
 pub(crate) fn write<R: Wait, G: Gate, S: Sink>(
     rt: &R,
     trunk: &Trunk<Entry>,
@@ -119,7 +118,7 @@ pub(crate) fn write<R: Wait, G: Gate, S: Sink>(
                 log.add(channels, &entry);
                 tell(gate, channels, &entry);
             }
-            None => thread::yield_now(),
+            None => gate.on_empty(running),
         }
     }
 }

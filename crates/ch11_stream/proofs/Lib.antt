@@ -1,4 +1,5 @@
 pub mod Feeding
+pub mod Folding
 pub mod Judged
 pub mod Readings
 pub mod Slices

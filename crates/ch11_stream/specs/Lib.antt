@@ -1,5 +1,6 @@
 pub mod FaultText
 pub mod Feeding
+pub mod Folding
 pub mod Holding
 pub mod Listed
 pub mod Reading

@@ -11,7 +11,7 @@ use std::io::{ErrorKind, Read};
 use std::process::Abort;
 
 /// A setup record on channel 0, and a packet of channel 1 with a message behind a secondary header.
-const FOREIGN: [u8; 96] = [
+pub(crate) const FOREIGN: [u8; 96] = [
     0x25, 0xEB, 0x00, 0x00, 0x20, 0x00, 0x00, 0x00, 0x06, 0x00, 0x00, 0x00, 0x06, 0x00, 0x00, 0x01,
     0x00, 0x00, 0x00, 0x00, 0x00, 0x00, 0x51, 0xEC, 0x00, 0x00, 0x00, 0x00, 0x41, 0x42, 0x00, 0x00,
     0x25, 0xEB, 0x01, 0x00, 0x40, 0x00, 0x00, 0x00, 0x1C, 0x00, 0x00, 0x00, 0x06, 0x00, 0x80, 0x19,
@@ -23,12 +23,12 @@ const FOREIGN: [u8; 96] = [
 /// A reader that gives so many bytes at a time at most. It may be interrupted in front of each read that gives some, and
 /// may fail where it has no more.
 #[derive(Clone, Copy)]
-struct Slow<'a> {
-    rest: &'a [u8],
-    most: usize,
-    interrupts: bool,
-    interrupted: bool,
-    fails: bool,
+pub(crate) struct Slow<'a> {
+    pub(crate) rest: &'a [u8],
+    pub(crate) most: usize,
+    pub(crate) interrupts: bool,
+    pub(crate) interrupted: bool,
+    pub(crate) fails: bool,
 }
 
 impl Read for Slow<'_> {
@@ -50,7 +50,7 @@ impl Read for Slow<'_> {
 }
 
 /// A reader that gives so many bytes at a time.
-fn reader_of(file: &[u8], most: usize) -> Slow<'_> {
+pub(crate) fn reader_of(file: &[u8], most: usize) -> Slow<'_> {
     Slow {
         rest: file,
         most,

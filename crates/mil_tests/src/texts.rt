@@ -58,14 +58,14 @@ fn a_word_is_split_off(rt: HostRuntime) {
     same_in(
         &rt,
         "the first",
-        &(first == b"one", rest == b" two"),
+        &(first == b"one".as_slice(), rest == b" two".as_slice()),
         &(true, true),
     );
     let (second, rest) = split_word(rest);
     same_in(
         &rt,
         "the second",
-        &(second == b"two", rest.is_empty()),
+        &(second == b"two".as_slice(), rest.is_empty()),
         &(true, true),
     );
     let (none, rest) = split_word(rest);

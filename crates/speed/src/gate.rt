@@ -60,4 +60,12 @@ impl Gate for PacedGate {
             self.taken[usize::from(channel % 8)].store(u64::from(number), Ordering::SeqCst);
         }
     }
+
+    /// Gives way as the gate does under which no message is refused: several items may have come then.
+    fn on_empty(&self, running: usize) {
+        let items = u64::from(STRIDE).min(self.share);
+        for _ in 0..(items / running.max(1) as u64).max(1) {
+            thread::yield_now();
+        }
+    }
 }

@@ -29,4 +29,4 @@ returns-in-Ok-None g c file is =
 
 pub returns-in-Err : goal.returns-in-Err
 returns-in-Err g c file is =
-    rw c.fault_of.ensures (not_read file (g.W.Write.contents c.args.out.now) (g.W.Write.contents c.packets.out) c.packets.packets c.next.new.self c.in-Err.fault c.in-Err.ensures (c.packets.invariant.known file is))
+    rw c.from.ensures (not_read file (g.W.Write.contents c.args.out.now) (g.W.Write.contents c.packets.out) c.packets.packets c.next.new.self c.in-Err.fault c.in-Err.ensures (c.packets.invariant.known file is))

@@ -1,0 +1,130 @@
+//! The figures of a recording whose packets come from a reader.
+ghost use Rattle.std.specs.Prelude.{◌≡◌, ◌+◌, ◌<◌, ◌^◌, ◌++◌, ◌∷◌, [], ℕ, List, length, nat_eq, reverse, None, Some, IfOk, OnOk};
+ghost use Rattle.std.specs.HashMap.{get};
+ghost use Rattle.ch11_f1.specs.BodyReading.{Message};
+ghost use Rattle.ch11_reader.specs.Recording.{Found};
+ghost use Rattle.ch11_stream.specs.Folding.{Finds};
+ghost use Rattle.bench_select.specs.declared.selection.Selection.{Selection as SelectionValue};
+ghost use Rattle.bench_stat.specs.Chosen.{picked};
+ghost use Rattle.bench_stat.specs.Figures.{statistics};
+ghost use Rattle.bench_stat.specs.Steps.{tally_of};
+ghost use Rattle.bench_stat.specs.Streaming.{AreSoFar, IsBehind, tally_or_none};
+
+use crate::channels::ChannelFigures;
+use crate::chosen::next_selected;
+use crate::statistics::CHANNELS;
+use crate::tally::Tally;
+use bench_select::{Selection, is_of};
+use ch11_f1::Messages;
+use ch11_reader::{MESSAGES_KIND, Packet};
+use ch11_stream::{Packets, StreamFault};
+use std::alloc::{AllocError, Global};
+use std::collections::HashMap;
+use std::io::Read;
+
+/// The figures so far of each channel that has any, by its number.
+#[derive(Drop)]
+pub(crate) struct SoFar {
+    pub(crate) channels: HashMap<u16, Tally>,
+}
+
+impl SoFar {
+    /// No figures.
+    fn none(alloc: Global) -> SoFar
+        ensures { (channel : ℕ) → get nat_eq result.channels channel ≡ None }
+    {
+        SoFar {
+            channels: HashMap::new(alloc),
+        }
+    }
+}
+
+/// The figures that `stat` gives for all bytes that a reader has left, as their packets come, in memory for the largest
+/// packet of messages and the figures of each channel. A recording that can't be read is refused with its first fault, K1
+/// to K5, N2 or F1 to F3; want of memory and the reader's failure are the others.
+pub fn stat_from<R: Read + Drop>(
+    alloc: Global,
+    input: R,
+    selection: &Selection,
+) -> Result<Vec<ChannelFigures>, StreamFault>
+    ensures { (file : List ℕ) → R.remaining input ≡ Some file
+        → Finds (λ ps figures. figures.items ≡ statistics selection.now ps) result file }
+{
+    let mut packets = Packets::over(alloc, input)?;
+    let mut so_far = SoFar::none(alloc);
+    'packets: for _made in 0..u64::MAX {
+        match packets.next() {
+            Ok(Some(packet)) => note_packet(&mut so_far, selection, &packet, packets.messages())?,
+            Ok(None) => {
+                let figures = figures_of(alloc, &so_far)?;
+                return Ok(figures);
+            }
+            Err(fault) => return Err(fault),
+        }
+    }
+    Err(StreamFault::Device)
+}
+
+/// One more packet.
+fn note_packet(
+    so_far: &mut SoFar,
+    selection: &Selection,
+    packet: &Packet,
+    messages: Messages<'_>,
+) -> Result<(), AllocError>
+    requires { packet.now.before + length messages < 2 ^ 64 }
+    ensures { (ps : List Found) (q : Found) → AreSoFar selection.now ps so_far.old
+        → IsBehind ps q packet.now messages.entry → OnOk result (AreSoFar selection.now (ps ++ q ∷ []) so_far.new) }
+{
+    let channel = packet.header.channel;
+    if packet.header.kind != MESSAGES_KIND || !is_of(selection.channel, channel) {
+        return Ok(());
+    }
+    let mut tally = tally_at(so_far, channel);
+    note_selected(&mut tally, selection, channel, packet.before, messages);
+    so_far.channels.insert(channel, tally)?;
+    Ok(())
+}
+
+/// The figures so far of a channel, which may have none yet.
+fn tally_at(so_far: &SoFar, channel: u16) -> Tally
+    ensures { result ≡ tally_or_none channel (get nat_eq so_far.now.channels channel) }
+{
+    match so_far.channels.get(&channel) {
+        Some(tally) => *tally,
+        None => Tally::begin(channel),
+    }
+}
+
+/// The selected ones of a packet's messages, which stand behind so many of the file.
+fn note_selected(
+    tally: &mut Tally,
+    selection: &Selection,
+    channel: u16,
+    before: u64,
+    messages: Messages<'_>,
+)
+    requires { before + length messages < 2 ^ 64 }
+    ensures { (history : List Message) → tally.old ≡ tally_of channel history → tally.new
+        ≡ tally_of channel (reverse (picked selection.now channel before messages.entry) ++ history) }
+{
+    let mut number = before;
+    let mut rest = messages;
+    'messages: while let Some(seen) = next_selected(&mut rest, &mut number, selection, channel) {
+        tally.note(&seen);
+    }
+}
+
+/// The figures of the channels that have any, in rising order of their numbers.
+fn figures_of(alloc: Global, so_far: &SoFar) -> Result<Vec<ChannelFigures>, AllocError>
+    ensures { (s : SelectionValue) (ps : List Found) → AreSoFar s ps so_far.now
+        → IfOk result (λ figures. figures.items ≡ statistics s ps) }
+{
+    let mut figures = Vec::new(alloc);
+    'channels: for channel in 0..CHANNELS {
+        if let Some(tally) = so_far.channels.get(&(channel as u16)) {
+            figures.push(tally.figures)?;
+        }
+    }
+    Ok(figures)
+}

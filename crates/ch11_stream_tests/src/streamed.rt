@@ -1,0 +1,239 @@
+//! What is made of packets as they come from a reader, one byte a time, worked out by hand.
+
+use crate::equal::{are_bytes, same};
+use crate::streams::{FOREIGN, Slow, reader_of};
+use bench_dump::DumpFault;
+use bench_judge::{Verdict, judge_from};
+use bench_passes::dump_in_two_passes;
+use bench_select::Selection;
+use bench_stat::{ChannelFigures, Errors, TerminalFigures, Traffic, stat_from};
+use ch11_check::check_from;
+use ch11_header::HeaderError;
+use ch11_reader::{Fault, Refusal};
+use ch11_stream::StreamFault;
+use judge_rules::read_rules;
+use std::alloc::Global;
+use std::process::Abort;
+
+/// The text of the foreign file twice, where the second message is that of `pair`.
+const PAIR_TEXT: &str = "packet 0 channel 0 type 01 skipped
+packet 32 channel 1 type 19 seq 0 flags 80 messages 1
+message 1 channel 1 stamp 0 block 1000 gaps 0050 words 2823 0001 0002 0003 2800
+packet 96 channel 0 type 01 skipped
+packet 128 channel 1 type 19 seq 0 flags 80 messages 1
+message 2 channel 1 stamp 10000 block 2000 gaps 0050 words 2823 0001 0002 0003 2800
+";
+
+/// The foreign file twice. The first message had an error; the second has the same command, 1 ms later on line B.
+fn pair() -> [u8; 192] {
+    let mut file = [0u8; 192];
+    file[..96].copy_from_slice(&FOREIGN);
+    file[96..].copy_from_slice(&FOREIGN);
+    file[81] = 0x10;
+    file[168] = 0x10;
+    file[169] = 0x27;
+    file[177] = 0x20;
+    file
+}
+
+/// The same without the sync pattern of its last packet.
+fn damaged() -> [u8; 192] {
+    let mut file = pair();
+    file[128] = 0;
+    file
+}
+
+/// The fault of the damaged file.
+fn refusal() -> Refusal {
+    Refusal {
+        offset: 128,
+        fault: Fault::Header(HeaderError::Sync),
+    }
+}
+
+/// A reader that fails behind so many bytes.
+fn failing(file: &[u8], end: usize) -> Slow<'_> {
+    let (front, _) = file.split_at(end.min(file.len()));
+    Slow {
+        fails: true,
+        ..reader_of(front, 1)
+    }
+}
+
+/// Two messages of five words, with 8.0 µs in front of each response: 106.0 µs each. The second repeats the first, which
+/// had an error of no named kind, on the other line.
+fn pair_figures() -> ChannelFigures {
+    let mut terminals = [TerminalFigures::none(); 32];
+    terminals[5] = TerminalFigures {
+        receive: 2,
+        transmit: 0,
+        mode: 0,
+        errors: 1,
+        responses: 2,
+        total: 160,
+        least: 80,
+        greatest: 80,
+    };
+    ChannelFigures {
+        channel: 1,
+        traffic: Traffic {
+            messages: 2,
+            words: 10,
+            busy: 2120,
+            begin: 0,
+            last: 10_000,
+            end: 11_060,
+        },
+        errors: Errors {
+            messages: 1,
+            response: 0,
+            word_count: 0,
+            sync: 0,
+            unsound: 0,
+            other: 1,
+        },
+        retries: 1,
+        terminals,
+    }
+}
+
+/// The figures of a reader's file, or its fault.
+fn counted(
+    rt: &impl Abort,
+    alloc: Global,
+    input: Slow<'_>,
+    wanted: &Result<&[ChannelFigures], StreamFault>,
+) {
+    let found = stat_from(alloc, input, &Selection::all());
+    match found {
+        Ok(figures) => same(rt, &Ok(figures.as_slice()), wanted),
+        Err(fault) => same(rt, &Err(fault), wanted),
+    }
+}
+
+#[test]
+fn figures_come_from_packets(rt: HostRuntime) {
+    let alloc = rt.alloc();
+    let figures = [pair_figures()];
+    counted(&rt, alloc, reader_of(&pair(), 1), &Ok(&figures));
+    counted(&rt, alloc, reader_of(&[], 1), &Ok(&[]));
+    counted(&rt, alloc, reader_of(&FOREIGN[..32], 1), &Ok(&[]));
+    let refused = Err(StreamFault::Refused(refusal()));
+    counted(&rt, alloc, reader_of(&damaged(), 1), &refused);
+    counted(&rt, alloc, failing(&pair(), 150), &Err(StreamFault::Device));
+}
+
+/// How many figures a selection of a channel has.
+fn listed_of(rt: &impl Abort, alloc: Global, channel: u16) -> usize {
+    let mut selection = Selection::all();
+    selection.channel = Some(channel);
+    let found = stat_from(alloc, reader_of(&pair(), 7), &selection);
+    found.ok().expect(rt, "figures").len()
+}
+
+#[test]
+fn figures_are_of_the_selection(rt: HostRuntime) {
+    same(&rt, &listed_of(&rt, rt.alloc(), 1), &1);
+    same(&rt, &listed_of(&rt, rt.alloc(), 0), &0);
+}
+
+/// One of two messages had an error; the second stands 1 ms behind the first.
+fn pair_verdicts() -> [Verdict; 2] {
+    [
+        Verdict {
+            line: 1,
+            selected: 2,
+            missed: 1,
+            miscounted: false,
+            held: false,
+        },
+        Verdict {
+            line: 2,
+            selected: 2,
+            missed: 0,
+            miscounted: false,
+            held: true,
+        },
+    ]
+}
+
+/// The verdicts of a reader's file, or its fault.
+fn judged(
+    rt: &impl Abort,
+    alloc: Global,
+    input: Slow<'_>,
+    wanted: &Result<&[Verdict], StreamFault>,
+) {
+    let text = "expect any ok\nexpect any period 1000 1000\n";
+    let rules = read_rules(alloc, text.as_bytes()).ok().expect(rt, "rules");
+    match judge_from(alloc, input, rules.as_slice()) {
+        Ok(verdicts) => same(rt, &Ok(verdicts.as_slice()), wanted),
+        Err(fault) => same(rt, &Err(fault), wanted),
+    }
+}
+
+#[test]
+fn verdicts_come_from_packets(rt: HostRuntime) {
+    let alloc = rt.alloc();
+    let verdicts = pair_verdicts();
+    judged(&rt, alloc, reader_of(&pair(), 1), &Ok(&verdicts));
+    let refused = Err(StreamFault::Refused(refusal()));
+    judged(&rt, alloc, reader_of(&damaged(), 1), &refused);
+    judged(&rt, alloc, failing(&pair(), 32), &Err(StreamFault::Device));
+}
+
+#[test]
+fn a_file_is_checked_to_its_end(rt: HostRuntime) {
+    let alloc = rt.alloc();
+    same(&rt, &check_from(alloc, reader_of(&pair(), 1)), &Ok(()));
+    same(&rt, &check_from(alloc, reader_of(&[], 1)), &Ok(()));
+    let refused = Err(StreamFault::Refused(refusal()));
+    same(&rt, &check_from(alloc, reader_of(&damaged(), 1)), &refused);
+    let failed = Err(StreamFault::Device);
+    same(&rt, &check_from(alloc, failing(&pair(), 192)), &failed);
+}
+
+/// Two readers' files are printed so.
+fn is_dumped(
+    rt: &impl Abort,
+    alloc: Global,
+    first: Slow<'_>,
+    second: Slow<'_>,
+    answer: Result<(), DumpFault>,
+    text: &str,
+) {
+    let mut out = Vec::new(alloc);
+    let found = dump_in_two_passes(alloc, first, second, &mut out);
+    same(rt, &found, &answer);
+    are_bytes(rt, &out, text.as_bytes());
+}
+
+#[test]
+fn a_file_is_printed_in_its_second_pass(rt: HostRuntime) {
+    let alloc = rt.alloc();
+    let file = pair();
+    let (first, second) = (reader_of(&file, 1), reader_of(&file, 7));
+    is_dumped(&rt, alloc, first, second, Ok(()), PAIR_TEXT);
+    let none = reader_of(&[], 1);
+    is_dumped(&rt, alloc, none, none, Ok(()), "");
+}
+
+#[test]
+fn nothing_is_printed_where_the_first_pass_fails(rt: HostRuntime) {
+    let alloc = rt.alloc();
+    let (file, broken) = (pair(), damaged());
+    let refused = Err(DumpFault::Refused(refusal()));
+    let second = reader_of(&file, 7);
+    is_dumped(&rt, alloc, reader_of(&broken, 1), second, refused, "");
+    let failed = Err(DumpFault::Device);
+    is_dumped(&rt, alloc, failing(&file, 100), second, failed, "");
+}
+
+/// The file was damaged between the passes; its lines are too few to be handed on before the fault.
+#[test]
+fn the_second_pass_has_its_own_fault(rt: HostRuntime) {
+    let (file, broken) = (pair(), damaged());
+    let refused = Err(DumpFault::Refused(refusal()));
+    let (first, second) = (reader_of(&file, 7), reader_of(&broken, 7));
+    is_dumped(&rt, rt.alloc(), first, second, refused, "");
+}
