@@ -1,3 +1,4 @@
+pub mod Codes
 pub mod Lawful
 pub mod Placing
 pub mod Bench

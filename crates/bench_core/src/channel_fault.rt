@@ -14,6 +14,11 @@ pub enum ChannelFault<S> {
 
 /// `G1`, `U3`, `U4 taken 100`.
 impl<S> Display for ChannelFault<S> {
+    ghost use Rattle.std.specs.Prelude.{Some};
+    ghost use Rattle.bench_core.specs.Codes.{channel_code};
+
+    ghost output = { λ e. Some (channel_code e) };
+
     fn fmt<W: Write>(&self, f: &mut Formatter<W>) -> fmt::Result {
         match self {
             ChannelFault::Limit { .. } => f.write_str("G1"),

@@ -22,6 +22,11 @@ pub enum Kind {
 
 /// `recording`, `report`, `image`, `table of messages`, `picture`, `JUnit report`, `value change dump`.
 impl Display for Kind {
+    ghost use Rattle.std.specs.Prelude.{Some};
+    ghost use Rattle.bench_files.specs.Codes.{kind_text};
+
+    ghost output = { λ kind. Some (kind_text kind) };
+
     fn fmt<W: Write>(&self, f: &mut Formatter<W>) -> fmt::Result {
         f.write_str(match self {
             Kind::Recording => "recording",

@@ -17,6 +17,11 @@ pub enum OneFault {
 
 /// `S1 line 1 column 3`, `S4 line 1 column 3 M3`, `memory`.
 impl fmt::Display for OneFault {
+    ghost use Rattle.std.specs.Prelude.{Some};
+    ghost use Rattle.bench_one.specs.Codes.{fault_text};
+
+    ghost output = { λ e. Some (fault_text e) };
+
     fn fmt<W: fmt::Write>(&self, f: &mut fmt::Formatter<W>) -> fmt::Result {
         match self {
             OneFault::Text { cause, place } => {

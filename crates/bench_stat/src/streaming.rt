@@ -16,7 +16,8 @@ use crate::statistics::CHANNELS;
 use crate::tally::Tally;
 use bench_select::{Selection, is_of};
 use ch11_f1::Messages;
-use ch11_reader::{MESSAGES_KIND, Packet};
+use ch11_header::kinds::BUS_MESSAGES;
+use ch11_reader::Packet;
 use ch11_stream::{Packets, StreamFault};
 use std::alloc::{AllocError, Global};
 use std::collections::HashMap;
@@ -77,7 +78,7 @@ fn note_packet(
         → IsBehind ps q packet.now messages.entry → OnOk result (AreSoFar selection.now (ps ++ q ∷ []) so_far.new) }
 {
     let channel = packet.header.channel;
-    if packet.header.kind != MESSAGES_KIND || !is_of(selection.channel, channel) {
+    if packet.header.kind != BUS_MESSAGES || !is_of(selection.channel, channel) {
         return Ok(());
     }
     let mut tally = tally_at(so_far, channel);

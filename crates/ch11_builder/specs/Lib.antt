@@ -1,3 +1,4 @@
+pub mod Codes
 pub mod Packet
 pub mod Cutting
 pub mod Held

@@ -12,6 +12,11 @@ pub enum BuilderError {
 }
 
 impl fmt::Display for BuilderError {
+    ghost use Rattle.std.specs.Prelude.{Some};
+    ghost use Rattle.ch11_builder.specs.Codes.{fault_code};
+
+    ghost output = { λ e. Some (fault_code e) };
+
     fn fmt<W: fmt::Write>(&self, f: &mut fmt::Formatter<W>) -> fmt::Result {
         f.write_str(match self {
             BuilderError::Limit => "G1",

@@ -1,3 +1,4 @@
+pub mod Codes
 pub mod Sinks
 pub mod Writing
 pub mod Sent

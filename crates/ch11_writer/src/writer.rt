@@ -17,6 +17,11 @@ pub struct WriteFault {
 }
 
 impl Display for WriteFault {
+    ghost use Rattle.std.specs.Prelude.{Some};
+    ghost use Rattle.ch11_writer.specs.Codes.{fault_text};
+
+    ghost output = { λ e. Some (fault_text e) };
+
     fn fmt<W: fmt::Write>(&self, f: &mut fmt::Formatter<W>) -> fmt::Result {
         write!(f, "V1 taken {}", self.taken)
     }
