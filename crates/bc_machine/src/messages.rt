@@ -6,7 +6,7 @@ ghost use Rattle.mil_bus.specs.Exchange.{now_of};
 ghost use Rattle.bc_machine.specs.Controller.{ready, world_of};
 
 use crate::schedule::Schedule;
-use mil_bus::{Bus, Seen, Talk, Verdict};
+use mil_bus::{Bus, Finished, Talk, TalkCounts};
 use mil_line::{Gap, Plan};
 use mil_message::Message;
 use mil_word::Line;
@@ -32,8 +32,8 @@ pub fn exchange(
     message: &Message,
     gap: Gap,
     talk: &mut Talk,
-    seen: &mut Seen,
-) -> Verdict
+    seen: &mut TalkCounts,
+) -> Finished
     requires { now_of bus.old ≤ 2 ^ 48 }
     ensures bus { bus.new
         ≡ ((world_of plan.now (placed.now.actions ++ posted.now.actions)).exchange number line message.now gap

@@ -24,7 +24,7 @@ use crate::stack::Stack;
 use crate::{Actions, Stepped};
 use frame_code::Op;
 use frame_load::Program;
-use mil_bus::{Bus, Outcome, Seen, Talk};
+use mil_bus::{Bus, Outcome, Talk, TalkCounts};
 use mil_line::{Gap, Plan};
 use mil_message::OutcomeTest;
 use mil_monitor::observe_with;
@@ -244,7 +244,7 @@ impl Parts {
         let (own, message) = &self.program.image().messages()[index as usize];
         let line = if alternates { other(self.line) } else { *own };
         self.number += 1;
-        let mut seen = Seen::none();
+        let mut seen = TalkCounts::none();
         let verdict = exchange(
             &mut self.bus,
             &self.plan,

@@ -11,7 +11,7 @@ use Rattle.mil_terminal.specs.Runs.{AreSmall}
 use Rattle.mil_bus.specs.declared.talks.Source.{Source}
 use Rattle.mil_bus.specs.declared.talks.Sent.{Sent}
 use Rattle.mil_bus.specs.declared.counts.Came.{Came}
-use Rattle.mil_bus.specs.declared.counts.Seen.{Seen}
+use Rattle.mil_bus.specs.declared.counts.TalkCounts.{TalkCounts}
 use Rattle.mil_bus.specs.declared.wholes.Whole.{Whole}
 use Rattle.mil_bus.specs.Counts.{counts_of, differs}
 use Rattle.mil_bus.specs.DataRuns.{gap_at}
@@ -42,7 +42,7 @@ sound true v small = word_of-wave (record { sync = CommandSync; value = v }) sma
 sound false v small = word_of-wave (record { sync = DataSync; value = v }) small
 
 -- a word of the controller that has the sync of its place
-note_in_place : (b : Bool) (commands due n : ℕ) (s : Seen) (wave gap : ℕ) (source : Source) (value : ℕ) → nat_lt n commands ≡ b → s.controllers ≡ 0
+note_in_place : (b : Bool) (commands due n : ℕ) (s : TalkCounts) (wave gap : ℕ) (source : Source) (value : ℕ) → nat_lt n commands ≡ b → s.controllers ≡ 0
     → word_of wave ≡ Some (record { sync = cond b CommandSync DataSync; value = value })
     → noted commands due (lengthened s 0 n) (record { wave = wave; gap = gap; run = 0; source = source }) ≡ lengthened s 0 (n + 1)
 note_in_place b commands due n s wave gap source value at front is =
@@ -103,7 +103,7 @@ data-like r own xs from j more behind fit small there = λ k d lt.
     false-not-true h = cc
 
 -- the words of the first reply, where it is due and has a status word
-reply-begun : (commands due : ℕ) (s : Seen) (wave gap : ℕ) (source : Source) (value : ℕ) → 0 < due → s.one ≡ None → word_of wave ≡ Some (record { sync = CommandSync; value = value })
+reply-begun : (commands due : ℕ) (s : TalkCounts) (wave gap : ℕ) (source : Source) (value : ℕ) → 0 < due → s.one ≡ None → word_of wave ≡ Some (record { sync = CommandSync; value = value })
     → noted commands due s (record { wave = wave; gap = gap; run = 1; source = source }) ≡ record s { one = Some (record { gap = gap; first = Some (record { sync = CommandSync; value = value }); count = 1 }) }
 reply-begun commands due s wave gap source value some before is =
     let takes : nat_lt 0 due ≡ true = grind (arith, nat_tests) in
@@ -117,7 +117,7 @@ reply-begun commands due s wave gap source value some before is =
     ap (λ o. one_more o gap (word_of wave)) before ∙ ap (λ w. Some (record { gap = gap; first = w; count = 1 })) is in
     λ i. record { controllers = s.controllers; one = one i; two = s.two; beyond = far i; unsound = none i; other_sync = sync i }
 
-goes_on-begun : (commands due : ℕ) (s : Seen) (c : Came) → 0 < due → c.count ≡ 1 → goes_on commands due (record s { one = Some c }) 1 ≡ true
+goes_on-begun : (commands due : ℕ) (s : TalkCounts) (c : Came) → 0 < due → c.count ≡ 1 → goes_on commands due (record s { one = Some c }) 1 ≡ true
 goes_on-begun commands due s c some one =
     let over : nat_lt due 1 ≡ false = grind (arith, nat_tests) in
     rw (one, over) (or_true s.beyond)
@@ -144,7 +144,7 @@ counts-reply commands due few xs from r own v number single some before within m
     let all : from + length own ≡ from + 1 + n = omega (arith, more) in
     let count : 1 + n ≡ length own = omega (arith, more) in
     ap (λ k. counts_of commands due (take k xs)) all ∙ counts_of-like commands due few xs (from + 1) 1 n (omega (arith, within, more)) on like
-    ∙ ap (λ t. lengthened t 1 n) first ∙ ap (λ k. let t : Seen = record s { one = Some (record { gap = r.gap; first = Some (record { sync = CommandSync; value = v }); count = k }) } in t) count
+    ∙ ap (λ t. lengthened t 1 n) first ∙ ap (λ k. let t : TalkCounts = record s { one = Some (record { gap = r.gap; first = Some (record { sync = CommandSync; value = v }); count = k }) } in t) count
   where
     true-not-false : true ≡ false → ⊥
     true-not-false h = cc

@@ -13,7 +13,7 @@ use Rattle.mil_word.specs.Words.{is_command_sync, same_bool}
 use Rattle.mil_bus.specs.declared.talks.Source.TheVariants.{Controller}
 use Rattle.mil_bus.specs.declared.talks.Sent.{Sent}
 use Rattle.mil_bus.specs.declared.counts.Came.{Came}
-use Rattle.mil_bus.specs.declared.counts.Seen.{Seen}
+use Rattle.mil_bus.specs.declared.counts.TalkCounts.{TalkCounts}
 use Rattle.mil_bus.specs.Counts.{counts_of, differs}
 use Rattle.mil_bus.specs.Pass.{noted, one_more, words_in}
 use Rattle.mil_bus.specs.Lengthened.{is_data, AreLike, longer, goes_on, lengthened}
@@ -58,7 +58,7 @@ sync_stays b takes o e h = ap (λ t. b || differs t o) e ∙ ap (λ x. b || x) (
 none_before : (due : ℕ) → nat_lt due 0 ≡ false
 none_before due = grind (arith, nat_tests)
 
-note_zero : (commands due more : ℕ) (s : Seen) (w : Sent) → w.run ≡ 0 → is_data (word_of w.wave) ≡ true → goes_on commands due s 0 ≡ true
+note_zero : (commands due more : ℕ) (s : TalkCounts) (w : Sent) → w.run ≡ 0 → is_data (word_of w.wave) ≡ true → goes_on commands due s 0 ≡ true
     → noted commands due (lengthened s 0 more) w ≡ lengthened s 0 (more + 1)
 note_zero commands due more s w is kind on =
     let here : nat_lt (s.controllers + more) commands ≡ false = grind (arith, nat_tests) in
@@ -68,7 +68,7 @@ note_zero commands due more s w is kind on =
     let sync = sync_stays s.other_sync (nat_lt (s.controllers + more) commands) (word_of w.wave) here kind in
     rw is (λ i. record { controllers = count i; one = s.one; two = s.two; beyond = beyond i; unsound = unsound i; other_sync = sync i })
 
-note_one : (commands due more : ℕ) (s : Seen) (w : Sent) → w.run ≡ 1 → is_data (word_of w.wave) ≡ true → goes_on commands due s 1 ≡ true
+note_one : (commands due more : ℕ) (s : TalkCounts) (w : Sent) → w.run ≡ 1 → is_data (word_of w.wave) ≡ true → goes_on commands due s 1 ≡ true
     → noted commands due (lengthened s 1 more) w ≡ lengthened s 1 (more + 1)
 note_one commands due more s w is kind on =
     let parts = and_parts (nat_lt 0 (words_in s.one)) (s.beyond || not (nat_lt due 1)) on in
@@ -79,7 +79,7 @@ note_one commands due more s w is kind on =
     let sync = sync_stays s.other_sync (nat_lt 0 due && (words_in (longer s.one more) == 0)) (word_of w.wave) takes kind in
     rw is (λ i. record { controllers = s.controllers; one = reply i; two = s.two; beyond = beyond i; unsound = unsound i; other_sync = sync i })
 
-note_two : (commands due more : ℕ) (s : Seen) (w : Sent) → w.run ≡ 2 → is_data (word_of w.wave) ≡ true → goes_on commands due s 2 ≡ true
+note_two : (commands due more : ℕ) (s : TalkCounts) (w : Sent) → w.run ≡ 2 → is_data (word_of w.wave) ≡ true → goes_on commands due s 2 ≡ true
     → noted commands due (lengthened s 2 more) w ≡ lengthened s 2 (more + 1)
 note_two commands due more s w is kind on =
     let parts = and_parts (nat_lt 0 (words_in s.two)) (s.beyond || not (nat_lt due 2)) on in
@@ -99,7 +99,7 @@ not_one k = grind (arith, nat_tests)
 not_two : (k : ℕ) → (suc (suc (suc k)) == 2) ≡ false
 not_two k = grind (arith, nat_tests)
 
-note_like : (commands due run more : ℕ) (s : Seen) (w : Sent) → w.run ≡ run → is_data (word_of w.wave) ≡ true → goes_on commands due s run ≡ true
+note_like : (commands due run more : ℕ) (s : TalkCounts) (w : Sent) → w.run ≡ run → is_data (word_of w.wave) ≡ true → goes_on commands due s run ≡ true
     → noted commands due (lengthened s run more) w ≡ lengthened s run (more + 1)
 note_like commands due zero more s w is kind on = note_zero commands due more s w is kind on
 note_like commands due (suc zero) more s w is kind on = note_one commands due more s w is kind on
@@ -115,7 +115,7 @@ longer_none : (o : Option Came) → o ≡ longer o 0
 longer_none None = refl
 longer_none (Some c) = ap (λ n. Some (record { gap = c.gap; first = c.first; count = n })) (omega arith)
 
-pub not_longer : (s : Seen) (run : ℕ) → s ≡ lengthened s run 0
+pub not_longer : (s : TalkCounts) (run : ℕ) → s ≡ lengthened s run 0
 not_longer s zero = let e : s.controllers ≡ s.controllers + 0 = omega arith in λ i. record { controllers = e i; one = s.one; two = s.two; beyond = s.beyond; unsound = s.unsound; other_sync = s.other_sync }
 not_longer s (suc zero) = λ i. record { controllers = s.controllers; one = longer_none s.one i; two = s.two; beyond = s.beyond; unsound = s.unsound; other_sync = s.other_sync }
 not_longer s (suc (suc zero)) = λ i. record { controllers = s.controllers; one = s.one; two = longer_none s.two i; beyond = s.beyond; unsound = s.unsound; other_sync = s.other_sync }
@@ -142,7 +142,7 @@ counts_of-like commands due few xs i run (suc n) le on like =
     ∙ ap (lengthened s run) up
 
 -- the counts after one word more
-pub one_noted : (commands due : ℕ) → due ≤ 2 → (xs : List Sent) (i : ℕ) (before s : Seen) (w : Sent) → i < length xs → before ≡ counts_of commands due (take i xs) → s ≡ noted commands due before w
+pub one_noted : (commands due : ℕ) → due ≤ 2 → (xs : List Sent) (i : ℕ) (before s : TalkCounts) (w : Sent) → i < length xs → before ≡ counts_of commands due (take i xs) → s ≡ noted commands due before w
     → w ≡ get_or xs i w → s ≡ counts_of commands due (take (i + 1) xs)
 one_noted commands due few xs i before s w lt was is at =
     is ∙ ap (λ t. noted commands due t w) was ∙ ap (noted commands due (counts_of commands due (take i xs))) at ∙ sym (counts_of-more commands due few xs i w lt)

@@ -16,7 +16,7 @@ use Rattle.mil_message.specs.declared.forms.Form.{Form}
 use Rattle.mil_message.specs.Forms.{second_command, replies_due, controller_words}
 use Rattle.mil_bus.specs.declared.talks.Sent.{Sent}
 use Rattle.mil_bus.specs.declared.counts.Came.{Came}
-use Rattle.mil_bus.specs.declared.counts.Seen.{Seen}
+use Rattle.mil_bus.specs.declared.counts.TalkCounts.{TalkCounts}
 use Rattle.mil_bus.specs.declared.outcomes.Outcome.{Outcome}
 use Rattle.mil_bus.specs.Counts.{seen_of}
 
@@ -70,18 +70,18 @@ abbrev pub is_transfer : Form → Bool
 is_transfer form = is_some (second_command form)
 
 -- fewer replies than due, or a late one
-abbrev pub has_response_time_out : Form → Seen → Bool
+abbrev pub has_response_time_out : Form → TalkCounts → Bool
 has_response_time_out form seen =
     is_late (first_due (replies_due form)) seen.one || is_late (second_due (replies_due form)) seen.two
 
 -- the controller or a due reply has another number of words
-abbrev pub has_word_count_error : Form → Seen → Bool
+abbrev pub has_word_count_error : Form → TalkCounts → Bool
 has_word_count_error form seen =
     not (seen.controllers == length (controller_words form))
     || is_miscounted (first_due (replies_due form)) seen.one || is_miscounted (second_due (replies_due form)) seen.two
 
 -- any error
-abbrev pub has_error : Form → Seen → Bool
+abbrev pub has_error : Form → TalkCounts → Bool
 has_error form seen =
     has_response_time_out form seen || has_word_count_error form seen || seen.other_sync || seen.unsound
     || has_other_address (first_due (replies_due form)) seen.one
@@ -89,7 +89,7 @@ has_error form seen =
     || seen.beyond
 
 -- the bits of the errors, of the line and of the kind of message; a format error is never told
-abbrev pub block_of : Line → Form → Seen → ℕ
+abbrev pub block_of : Line → Form → TalkCounts → ℕ
 block_of line form seen =
     bit_if (is_line_b line) table.line_b + bit_if (has_error form seen) table.message_error
     + bit_if (is_transfer form) table.terminal_to_terminal
@@ -109,7 +109,7 @@ came_bits (Some due) None = 0
 came_bits None came = 0
 
 -- whether a reply is due and none came
-abbrev pub is_silent : Form → Seen → Bool
+abbrev pub is_silent : Form → TalkCounts → Bool
 is_silent form seen = is_some (first_due (replies_due form)) && is_none seen.one
 
 -- the outcome of a talk: failed where there is any error, and the status bits of all due replies together

@@ -11,7 +11,7 @@ use Rattle.mil_message.specs.declared.forms.Form.{Form}
 use Rattle.mil_message.specs.Forms.{commands, replies_due}
 use Rattle.mil_bus.specs.declared.talks.Sent.{Sent}
 use Rattle.mil_bus.specs.declared.counts.Came.{Came}
-use Rattle.mil_bus.specs.declared.counts.Seen.{Seen}
+use Rattle.mil_bus.specs.declared.counts.TalkCounts.{TalkCounts}
 
 -- the words of a run
 abbrev pub run_of : ℕ → List Sent → List Sent
@@ -41,7 +41,7 @@ is_any_other_sync commands due before (w ∷ ws) =
     || is_any_other_sync commands due (before ++ w ∷ []) ws
 
 -- what is seen where so many commands are sent and so many replies are due
-unfoldable pub counts_of : ℕ → ℕ → List Sent → Seen
+unfoldable pub counts_of : ℕ → ℕ → List Sent → TalkCounts
 counts_of commands due sent = record {
   controllers = length (run_of 0 sent);
   one = came_of (run_of 1 sent);
@@ -52,5 +52,5 @@ counts_of commands due sent = record {
 }
 
 -- what is seen of the talk of a message
-abbrev pub seen_of : Form → List Sent → Seen
+abbrev pub seen_of : Form → List Sent → TalkCounts
 seen_of form sent = counts_of (length (commands form)) (length (replies_due form)) sent

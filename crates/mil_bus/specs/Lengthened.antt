@@ -6,7 +6,7 @@ use Rattle.mil_word.specs.Wave.{word_of}
 use Rattle.mil_word.specs.Words.{is_command_sync}
 use Rattle.mil_bus.specs.declared.talks.Sent.{Sent}
 use Rattle.mil_bus.specs.declared.counts.Came.{Came}
-use Rattle.mil_bus.specs.declared.counts.Seen.{Seen}
+use Rattle.mil_bus.specs.declared.counts.TalkCounts.{TalkCounts}
 use Rattle.mil_bus.specs.Pass.{words_in}
 
 -- a sound data word
@@ -25,7 +25,7 @@ longer None more = None
 longer (Some c) more = Some (record { gap = c.gap; first = c.first; count = c.count + more })
 
 -- whether a further data word of the run is in its place, and its run not a new one
-abbrev pub goes_on : ℕ → ℕ → Seen → ℕ → Bool
+abbrev pub goes_on : ℕ → ℕ → TalkCounts → ℕ → Bool
 goes_on commands due s run =
     if run == 0 then not (nat_lt s.controllers commands)
     else if run == 1 then nat_lt 0 (words_in s.one) && (s.beyond || not (nat_lt due 1))
@@ -33,7 +33,7 @@ goes_on commands due s run =
     else false
 
 -- so many data words more
-abbrev pub lengthened : Seen → ℕ → ℕ → Seen
+abbrev pub lengthened : TalkCounts → ℕ → ℕ → TalkCounts
 lengthened s run more = record {
   controllers = if run == 0 then s.controllers + more else s.controllers;
   one = if run == 1 then longer s.one more else s.one;

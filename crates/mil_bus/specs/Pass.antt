@@ -5,7 +5,7 @@ use Rattle.mil_word.specs.declared.Word.{Word}
 use Rattle.mil_word.specs.Wave.{word_of}
 use Rattle.mil_bus.specs.declared.talks.Sent.{Sent}
 use Rattle.mil_bus.specs.declared.counts.Came.{Came}
-use Rattle.mil_bus.specs.declared.counts.Seen.{Seen}
+use Rattle.mil_bus.specs.declared.counts.TalkCounts.{TalkCounts}
 use Rattle.mil_bus.specs.Counts.{takes_command, differs}
 
 abbrev pub one_more : Option Came → ℕ → Option Word → Option Came
@@ -17,10 +17,10 @@ words_in None = 0
 words_in (Some c) = c.count
 
 -- where the next word of a run stands in it, as far as that matters
-abbrev pub place_in : Seen → ℕ → ℕ
+abbrev pub place_in : TalkCounts → ℕ → ℕ
 place_in s run = if run == 0 then s.controllers else (if run == 1 then words_in s.one else words_in s.two)
 
-abbrev pub noted : ℕ → ℕ → Seen → Sent → Seen
+abbrev pub noted : ℕ → ℕ → TalkCounts → Sent → TalkCounts
 noted commands due s w = record {
   controllers = if w.run == 0 then s.controllers + 1 else s.controllers;
   one = if w.run == 1 then one_more s.one w.gap (word_of w.wave) else s.one;

@@ -14,7 +14,7 @@ use crate::addresses::is_fit;
 use crate::offers::Offered;
 use crate::runs::all_runs;
 use crate::terminals::Terminals;
-use crate::{BusError, Seen, Source, Talk, Verdict};
+use crate::{BusError, Finished, Source, Talk, TalkCounts};
 use history::History;
 use mil_host::Action;
 use mil_line::{Fault, Gap};
@@ -202,7 +202,7 @@ impl Bus {
         ensures soon { now_of self.new ≤ now_of self.old + 2 ^ 24 }
         ensures later { now_of self.old ≤ now_of self.new }
     {
-        let mut seen = Seen::none();
+        let mut seen = TalkCounts::none();
         self.exchange_seen(line, message, gap, faults, &mut seen)
     }
 
@@ -214,7 +214,7 @@ impl Bus {
         message: &Message,
         gap: Gap,
         faults: &[Fault],
-        seen: &mut Seen,
+        seen: &mut TalkCounts,
     ) -> Talk
         requires clock { now_of self.old < 2 ^ 60 }
         requires in_range { list_all is_in_range faults.now ≡ true }
@@ -237,8 +237,8 @@ impl Bus {
         gap: Gap,
         faults: &[Fault],
         talk: &mut Talk,
-        seen: &mut Seen,
-    ) -> Verdict
+        seen: &mut TalkCounts,
+    ) -> Finished
         requires clock { now_of self.old < 2 ^ 60 }
         requires in_range { list_all is_in_range faults.now ≡ true }
         ensures bus { self.new ≡ exchanged self.old line message.now gap faults.now }

@@ -5,7 +5,7 @@ ghost use Rattle.mil_bus.specs.declared.talks.Sent.{Sent as SentValue};
 ghost use Rattle.mil_bus.specs.Counts.{counts_of};
 ghost use Rattle.mil_bus.specs.Wholes.{whole_words, all_words, words_in};
 
-use crate::counts::{Came, Seen};
+use crate::counts::{Came, TalkCounts};
 use crate::wholes::Whole;
 use mil_terminal::are_small;
 use mil_word::{Sync, Word};
@@ -35,7 +35,7 @@ fn came_of(run: &Whole, own: &[u16]) -> Came
 /// should, and the data words of any run, once the first is in its place, are counted together.
 #[inline]
 fn note_run(
-    seen: &mut Seen,
+    seen: &mut TalkCounts,
     commands: u8,
     due: u8,
     run: &Whole,
@@ -75,13 +75,13 @@ fn note_run(
 }
 
 /// What is seen of runs that are kept as a whole, where so many commands are sent and so many replies are due.
-pub fn counted_runs(commands: u8, due: u8, runs: &[Whole], values: &[u16]) -> Seen
+pub fn counted_runs(commands: u8, due: u8, runs: &[Whole], values: &[u16]) -> TalkCounts
     requires counted { words_in runs.now ≡ length values.now }
     requires few { length values.now ≤ 40 }
     requires two { due ≤ 2 }
     ensures { result ≡ counts_of commands due (all_words runs.now values.now) }
 {
-    let mut seen = Seen::none();
+    let mut seen = TalkCounts::none();
     let mut from = 0;
     for i in 0..runs.len() {
         let run = &runs[i];

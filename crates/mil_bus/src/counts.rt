@@ -22,7 +22,7 @@ pub struct Came {
 
 /// What is seen of a talk.
 #[derive(Clone, Copy, Debug, PartialEq, Eq)]
-pub struct Seen {
+pub struct TalkCounts {
     /// How many words the controller sent.
     pub controllers: u8,
     /// The first reply.
@@ -129,13 +129,13 @@ fn words_in(came: Option<Came>) -> u8
     }
 }
 
-impl Seen {
+impl TalkCounts {
     /// What is seen where no word was sent.
     #[tactic(auto, unfolding(crate::specs::Counts::counts_of))]
-    pub fn none() -> Seen
+    pub fn none() -> TalkCounts
         ensures { (commands due : ℕ) → result ≡ counts_of commands due [] }
     {
-        Seen {
+        TalkCounts {
             controllers: 0,
             one: None,
             two: None,
@@ -233,12 +233,12 @@ fn count_like(run: u8, words: &[Sent]) -> usize
 
 /// One pass over the words of a talk, where so many commands are sent and so many replies are due. The data words of a
 /// run, once the first is in its place, are counted together.
-pub fn counted(commands: u8, due: u8, sent: &[Sent]) -> Seen
+pub fn counted(commands: u8, due: u8, sent: &[Sent]) -> TalkCounts
     requires few { length sent.now ≤ 40 }
     requires two { due ≤ 2 }
     ensures { result ≡ counts_of commands due sent.now }
 {
-    let mut seen = Seen::none();
+    let mut seen = TalkCounts::none();
     let mut from = 0;
     for _step in 0..40_usize {
         if from == sent.len() {

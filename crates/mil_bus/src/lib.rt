@@ -26,9 +26,9 @@ mod terminals;
 mod wholes;
 
 pub use buses::Bus;
-pub use counts::{Came, Seen};
+pub use counts::{Came, TalkCounts};
 pub use error::BusError;
-pub use outcomes::{Outcome, Verdict};
+pub use outcomes::{Finished, Outcome};
 pub use saved::SavedBus;
 pub use sent_words::SentWords;
 pub use talks::{Sent, Source, Talk};

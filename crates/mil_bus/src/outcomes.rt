@@ -7,7 +7,7 @@ ghost use Rattle.mil_bus.specs.Counts.{seen_of};
 ghost use Rattle.mil_message.specs.Forms.{controller_words, replies_due};
 
 use crate::Talk;
-use crate::counts::{Came, Seen, is_command};
+use crate::counts::{Came, TalkCounts, is_command};
 use mil_message::{Due, Form, Message};
 use mil_status::{BlockBits, StatusBits};
 use mil_word::timing::RESPONSE_TIME_OUT;
@@ -26,7 +26,7 @@ pub struct Outcome {
 
 /// What a finished talk came to.
 #[derive(Clone, Copy, Debug, PartialEq, Eq)]
-pub struct Verdict {
+pub struct Finished {
     /// The block status word of its record (IRIG 106-17 Chapter 11, MIL-STD-1553 data packets).
     pub block: u16,
     /// What a program learns of it.
@@ -184,7 +184,7 @@ struct Errors {
 }
 
 /// The errors of the talk of a message that is due these replies.
-fn judged(message: &Message, due: DueReplies, seen: &Seen) -> Errors
+fn judged(message: &Message, due: DueReplies, seen: &TalkCounts) -> Errors
     requires first { due.first ≡ first_due (replies_due message.now) }
     requires second { due.second ≡ second_due (replies_due message.now) }
     ensures late { result.late ≡ has_response_time_out message.now seen.now }
@@ -210,7 +210,7 @@ fn judged(message: &Message, due: DueReplies, seen: &Seen) -> Errors
 }
 
 /// The block status word of a talk with these errors.
-fn block_with(talk: &Talk, errors: Errors, seen: &Seen) -> u16
+fn block_with(talk: &Talk, errors: Errors, seen: &TalkCounts) -> u16
     requires late { errors.late ≡ has_response_time_out talk.now.message seen.now }
     requires miscounted { errors.miscounted ≡ has_word_count_error talk.now.message seen.now }
     requires any { errors.any ≡ has_error talk.now.message seen.now }
@@ -227,7 +227,7 @@ fn block_with(talk: &Talk, errors: Errors, seen: &Seen) -> u16
 
 /// What a program learns of a talk with these errors that is due these replies.
 #[tactic(auto, unfolding(crate::specs::BlockStatus::outcome_of))]
-fn outcome_with(talk: &Talk, due: DueReplies, errors: Errors, seen: &Seen) -> Outcome
+fn outcome_with(talk: &Talk, due: DueReplies, errors: Errors, seen: &TalkCounts) -> Outcome
     requires first { due.first ≡ first_due (replies_due talk.now.message) }
     requires second { due.second ≡ second_due (replies_due talk.now.message) }
     requires any { errors.any ≡ has_error talk.now.message seen.now }
@@ -244,7 +244,7 @@ fn outcome_with(talk: &Talk, due: DueReplies, errors: Errors, seen: &Seen) -> Ou
 
 impl Talk {
     /// What is seen of this talk, in one pass.
-    pub fn seen(&self) -> Seen
+    pub fn seen(&self) -> TalkCounts
         ensures { result ≡ seen_of self.now.message self.now.sent.items }
     {
         let commands = if is_transfer(&self.message) { 2 } else { 1 };
@@ -252,7 +252,7 @@ impl Talk {
     }
 
     /// What is seen of this talk, in the place of what was seen before, and what it came to.
-    pub(crate) fn look(&self, seen: &mut Seen) -> Verdict
+    pub(crate) fn look(&self, seen: &mut TalkCounts) -> Finished
         ensures seen { seen.new ≡ seen_of self.now.message self.now.sent.items }
         ensures block { result.block ≡ block_of self.now.line self.now.message seen.new }
         ensures outcome { result.outcome ≡ outcome_of self.now.message self.now.sent.items }
@@ -261,14 +261,14 @@ impl Talk {
         let commands = if is_transfer(&self.message) { 2 } else { 1 };
         *seen = self.sent.seen(commands, due.count);
         let errors = judged(&self.message, due, seen);
-        Verdict {
+        Finished {
             block: block_with(self, errors, seen),
             outcome: outcome_with(self, due, errors, seen),
         }
     }
 
     /// The block status word, from what is seen of this talk.
-    pub fn block(&self, seen: &Seen) -> u16
+    pub fn block(&self, seen: &TalkCounts) -> u16
         ensures { result ≡ block_of self.now.line self.now.message seen.now }
     {
         block_with(
@@ -286,7 +286,7 @@ impl Talk {
     }
 
     /// The same, from what is seen of this talk.
-    pub fn outcome_by(&self, seen: &Seen) -> Outcome
+    pub fn outcome_by(&self, seen: &TalkCounts) -> Outcome
         requires seen { seen.now ≡ seen_of self.now.message self.now.sent.items }
         ensures { result ≡ outcome_of self.now.message self.now.sent.items }
     {

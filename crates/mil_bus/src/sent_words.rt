@@ -9,7 +9,7 @@ ghost use Rattle.mil_bus.specs.Wholes.{value_waves, whole_words, all_words, word
 
 use crate::Sent;
 use crate::counted_runs::counted_runs;
-use crate::counts::{Seen, counted};
+use crate::counts::{TalkCounts, counted};
 use crate::runs::send;
 use crate::talk_runs::Run;
 use crate::talks::lasting;
@@ -274,7 +274,7 @@ impl SentWords {
     }
 
     /// What is seen of them, where so many commands are sent and so many replies are due.
-    pub(crate) fn seen(&self, commands: u8, due: u8) -> Seen
+    pub(crate) fn seen(&self, commands: u8, due: u8) -> TalkCounts
         requires { due ≤ 2 }
         ensures { result ≡ counts_of commands due self.now.items }
     {
@@ -287,7 +287,7 @@ impl SentWords {
 
     /// The same, word by word.
     #[inline(never)]
-    fn seen_each(&self, commands: u8, due: u8) -> Seen
+    fn seen_each(&self, commands: u8, due: u8) -> TalkCounts
         requires { due ≤ 2 }
         ensures { result ≡ counts_of commands due self.now.items }
     {

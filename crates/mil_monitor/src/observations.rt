@@ -5,7 +5,7 @@ ghost use Rattle.mil_bus.specs.Counts.{seen_of};
 ghost use Rattle.mil_monitor.specs.Observed.{observed, gap_half};
 
 use crate::Record;
-use mil_bus::{Came, Seen, Talk};
+use mil_bus::{Came, Talk, TalkCounts};
 
 /// The gap of a reply as a record has it, in ticks: 0 where it did not come, 255 where it is more.
 fn gap_half(came: Option<Came>) -> u16
@@ -26,7 +26,7 @@ pub fn observe(talk: &Talk) -> Record
 }
 
 /// The same, from what is seen of the talk.
-pub fn observe_by(talk: &Talk, seen: &Seen) -> Record
+pub fn observe_by(talk: &Talk, seen: &TalkCounts) -> Record
     requires seen { seen.now ≡ seen_of talk.now.message talk.now.sent.items }
     ensures { result ≡ observed talk.now }
 {
@@ -34,7 +34,7 @@ pub fn observe_by(talk: &Talk, seen: &Seen) -> Record
 }
 
 /// The same, from what is seen of the talk and its block status word.
-pub fn observe_with(talk: &Talk, seen: &Seen, block: u16) -> Record
+pub fn observe_with(talk: &Talk, seen: &TalkCounts, block: u16) -> Record
     requires seen { seen.now ≡ seen_of talk.now.message talk.now.sent.items }
     requires block { block ≡ block_of talk.now.line talk.now.message seen.now }
     ensures { result ≡ observed talk.now }

@@ -1,7 +1,7 @@
 //! A bus with its planned faults, driven message by message, and what a monitor keeps of each: the figures of the tests
 //! below it are worked out by hand from the rules.
 use crate::equal::{are_in, same_in};
-use mil_bus::{Bus, Seen, Talk};
+use mil_bus::{Bus, Talk, TalkCounts};
 use mil_host::read_action;
 use mil_line::{Fault, Gap, LineError, Plan};
 use mil_message::{Draft, Message, ModeSubaddress};
@@ -250,7 +250,7 @@ impl Setting {
         assert!(rt; self.bus.now() < 1 << 60);
         self.number = self.number.wrapping_add(1);
         let faults = self.plan.faults(self.number);
-        let mut seen = Seen::none();
+        let mut seen = TalkCounts::none();
         let verdict = self.bus.exchange_into(
             line,
             &message,

@@ -5,7 +5,7 @@
 //! its record, for a count of instructions; what they came to: that sum and that clock.
 use crate::watch::Watch;
 use crate::words::{number, print_figures};
-use mil_bus::{Bus, Seen, Talk};
+use mil_bus::{Bus, Talk, TalkCounts};
 use mil_line::Gap;
 use mil_message::{Draft, Message};
 use mil_monitor::observe_with;
@@ -84,7 +84,7 @@ fn observed_round(bus: &mut Bus, message: &Message, exchanges: u32) -> u64 {
     let mut talk = Talk::none();
     for _ in 0..exchanges {
         if bus.now() < 1 << 60 {
-            let mut seen = Seen::none();
+            let mut seen = TalkCounts::none();
             let verdict = bus.exchange_into(
                 Line::A,
                 message,

@@ -1,5 +1,5 @@
 use Rattle.std.proofs.Common.{◌≡◌, ◌+◌, ◌-◌, ◌<◌, ◌≤◌, take, drop, length, get_or, true, arith, sym, ap, ◌∙◌, subst, length-take, ◌==◌, not, false, Some, None}
-use Rattle.mil_bus.specs.declared.counts.Seen.{Seen}
+use Rattle.mil_bus.specs.declared.counts.TalkCounts.{TalkCounts}
 use Rattle.mil_bus.specs.Counts.{counts_of}
 use Rattle.mil_bus.specs.Lengthened.{AreLike, goes_on, lengthened}
 use Rattle.mil_bus.specs.Wholes.{all_words}
@@ -26,7 +26,7 @@ pub returns-then-seen-eq0 : goal.returns-then-seen-eq0
 returns-then-seen-eq0 c =
     let xs = all_words c.args.runs.now c.args.values.now in
     let n = length c.args.own.now in
-    let front = ap (λ (s : Seen). s.controllers) (sym c.requires.seen) ∙ c.if-seen-eq0.true in
+    let front = ap (λ (s : TalkCounts). s.controllers) (sym c.requires.seen) ∙ c.if-seen-eq0.true in
     c.lengthen.ensures ∙ ap (λ s. lengthened s 0 n) c.requires.seen
     ∙ sym (counts-front c.args.commands c.args.due c.requires.two xs c.args.from n c.args.run.now c.args.own.now c.if-run-eq0.true c.if-run-commands.true front c.requires.within (omega arith) c.are_small.ensures c.requires.there)
 
@@ -115,8 +115,8 @@ returns-then-not-is_empty c =
     let some : (length own == 0) ≡ false = sym c.is_empty.ensures ∙ c.if-not-is_empty.true in
     let more : 0 < length own = grind (arith, nat_tests) in
     let none : c.args.seen.now.one ≡ None = none_is c.args.seen.now.one (c.is_none.ensures ∙ ap not c.if-is_none.true) in
-    let before = ap (λ (s : Seen). s.one) (sym c.requires.seen) ∙ none in
+    let before = ap (λ (s : TalkCounts). s.one) (sym c.requires.seen) ∙ none in
     let came : Came = record { gap = run.gap; first = Some (record { sync = CommandSync; value = v }); count = length own } in
-    ap (λ k. let s : Seen = record c.args.seen.now { one = Some k } in s) (c.came_of.ensures 0)
-    ∙ ap (λ (s : Seen). let t : Seen = record s { one = Some came } in t) c.requires.seen
+    ap (λ k. let s : TalkCounts = record c.args.seen.now { one = Some k } in s) (c.came_of.ensures 0)
+    ∙ ap (λ (s : TalkCounts). let t : TalkCounts = record s { one = Some came } in t) c.requires.seen
     ∙ sym (counts-reply c.args.commands c.args.due c.requires.two xs c.args.from run own v c.if-run-eq1-2.true c.if-run-eq1.true c.if-due-gt0.true before c.requires.within more c.are_small.ensures c.requires.there (get-same own 0 0 v more))
