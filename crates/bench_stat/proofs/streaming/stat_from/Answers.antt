@@ -33,7 +33,7 @@ returns-in-Ok-None g c file is =
     let e = rw c.in-Ok-None.field-0-is at c.in-Ok-None.ensures in
     let all = all_found file c.packets.packets c.next.new.self e (c.packets.invariant.known file is) in (
       all.0,
-      c.in_ok-figures.ensures c.args.selection.now (reverse c.packets.packets.earlier) (c.packets.invariant.counted file is) ∙ ap (λ (ps : List Found). statistics c.args.selection.now ps) all.1,
+      c.in_ok-figures-in-Ok-None.ensures c.args.selection.now (reverse c.packets.packets.earlier) (c.packets.invariant.counted file is) ∙ ap (λ (ps : List Found). statistics c.args.selection.now ps) all.1,
     )
 
 pub returns-in-Err : goal.returns-in-Err
