@@ -140,7 +140,9 @@ fn room_for_two(rt: HostRuntime) {
     let third = schedule.add(placed(&rt, 2, 5, "busy off"));
     same(&rt, &third.is_ok(), &false);
     same(&rt, &schedule.len(), &8);
-    same(&rt, &schedule.number(7), &2);
+    if schedule.len() == 8 {
+        same(&rt, &schedule.number(7), &2);
+    }
     let copy = schedule.copy().expect(&rt, "memory");
     same(&rt, &copy.capacity(), &8);
     let actions = Actions::of(copy);
