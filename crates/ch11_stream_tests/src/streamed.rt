@@ -58,49 +58,50 @@ fn failing(file: &[u8], end: usize) -> Slow<'_> {
     }
 }
 
-/// One of two messages had an error; the second stands 1 ms behind the first.
-fn pair_verdicts() -> [Verdict; 2] {
-    [
-        Verdict {
-            line: 1,
-            selected: 2,
-            missed: 1,
-            miscounted: false,
-            held: false,
-        },
-        Verdict {
-            line: 2,
-            selected: 2,
-            missed: 0,
-            miscounted: false,
-            held: true,
-        },
-    ]
+/// One of two messages had an error.
+fn of_errors() -> Verdict {
+    Verdict {
+        line: 1,
+        selected: 2,
+        missed: 1,
+        miscounted: false,
+        held: false,
+    }
 }
 
-/// The verdicts of a reader's file, or its fault.
-fn judged(
-    rt: &impl Abort,
-    alloc: Global,
-    input: Slow<'_>,
-    wanted: &Result<&[Verdict], StreamFault>,
-) {
+/// The second of two messages stands 1 ms behind the first.
+fn of_periods() -> Verdict {
+    Verdict {
+        line: 2,
+        selected: 2,
+        missed: 0,
+        miscounted: false,
+        held: true,
+    }
+}
+
+/// The verdicts of a reader's file by two rules.
+fn judged(rt: &impl Abort, alloc: Global, input: Slow<'_>) -> Result<Vec<Verdict>, StreamFault> {
     let text = "expect any ok\nexpect any period 1000 1000\n";
     let rules = read_rules(alloc, text.as_bytes()).ok().expect(rt, "rules");
-    match judge_from(alloc, input, rules.as_slice()) {
-        Ok(verdicts) => same(rt, &Ok(verdicts.as_slice()), wanted),
-        Err(fault) => same(rt, &Err(fault), wanted),
-    }
+    judge_from(alloc, input, rules.as_slice())
 }
 
 #[test]
 fn verdicts_come_from_packets(rt: HostRuntime) {
-    let alloc = rt.alloc();
-    let verdicts = pair_verdicts();
-    judged(&rt, alloc, reader_of(&pair(), 1), &Ok(&verdicts));
-    let refused = Err(StreamFault::Refused(refusal()));
-    judged(&rt, alloc, reader_of(&damaged(), 1), &refused);
-    judged(&rt, alloc, failing(&pair(), 32), &Err(StreamFault::Device));
+    let found = judged(&rt, rt.alloc(), reader_of(&pair(), 1));
+    let verdicts = found.ok().expect(&rt, "verdicts");
+    same(&rt, &verdicts.len(), &2);
+    same(&rt, &verdicts[0], &of_errors());
+    same(&rt, &verdicts[1], &of_periods());
+}
+
+#[test]
+fn a_damaged_file_has_no_verdicts(rt: HostRuntime) {
+    let found = judged(&rt, rt.alloc(), reader_of(&damaged(), 1));
+    same(&rt, &found.err(), &Some(StreamFault::Refused(refusal())));
+    let found = judged(&rt, rt.alloc(), failing(&pair(), 32));
+    same(&rt, &found.err(), &Some(StreamFault::Device));
 }
 
 #[test]
