@@ -90,4 +90,8 @@ impl<G: Gate, C: Clock + Sync, R: Wait + Sync> Gate for SessionGate<'_, G, C, R>
     fn after_take(&self, channel: u16, number: u32) {
         self.gate.after_take(channel, number);
     }
+
+    fn on_empty(&self, running: usize) {
+        self.gate.on_empty(running);
+    }
 }

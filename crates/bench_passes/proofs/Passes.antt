@@ -13,13 +13,13 @@ pub not_both : (file : List ℕ) (ps : List Found) (r : Refusal) → packets_in 
 not_both file ps r read refused = absurd cc
 
 -- the fault of the first pass is the recording's first
-pub first_fault : {A : Type 0} (file : List ℕ) (r : Refusal) (f : StreamFault) → IsFaultOf file f → packets_in file ≡ Err r → IsRefusedBy {A = A} r (Err (dump_fault f))
+pub first_fault : (file : List ℕ) (r : Refusal) (f : StreamFault) → IsFaultOf file f → packets_in file ≡ Err r → IsRefusedBy {A = Unit {0}} r (Err (dump_fault f))
 first_fault file r (Refused other) is refused = cc
 first_fault file r Memory is refused = tt
 first_fault file r Device is refused = tt
 
 -- a recording that can be read has no fault of its own in the first pass
-pub other_fault : {A : Type 0} (file second : List ℕ) (got : Option (List ℕ)) (f : StreamFault) → IsFaultOf file f → packets_in file ≡ Ok (found_in file) → Dumps {A = A} (Err (dump_fault f)) second got got
+pub other_fault : (file second : List ℕ) (got : Option (List ℕ)) (f : StreamFault) → IsFaultOf file f → packets_in file ≡ Ok (found_in file) → Dumps {A = Unit {0}} (Err (dump_fault f)) second got got
 other_fault file second got (Refused r) is read = absurd (not_both file (found_in file) r read is)
 other_fault file second got Memory is read = tt
 other_fault file second got Device is read = tt

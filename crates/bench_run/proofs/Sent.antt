@@ -13,7 +13,8 @@ use Rattle.mil_terminal.specs.contracts.blocks.Block as block
 use Rattle.mil_terminal.specs.contracts.terminals.Terminal as terminal
 use Rattle.mil_bus.specs.contracts.terminals.Terminals as terminals
 use Rattle.mil_bus.specs.contracts.buses.Bus as bus
-use Rattle.bc_machine.specs.contracts.placed.Placed as placed
+use Rattle.bc_machine.specs.contracts.actions.Actions as actions
+use Rattle.bc_machine.specs.contracts.kept.Row as row
 use Rattle.bc_machine.specs.contracts.schedule.Schedule as schedule
 use Rattle.bc_machine.specs.contracts.stack.Stack as stack
 use Rattle.bc_machine.specs.contracts.stack.Stack.TheInside as inside
@@ -42,9 +43,6 @@ entry_send = search (sendable, crosses) depth 40 fits 10000
 program_send : IsSend program.the_row
 program_send = search (sendable, crosses) depth 40 fits 10000
 
-placed_send : IsSend placed.the_row
-placed_send = search (sendable, crosses) depth 40 fits 10000
-
 plan_send : IsSend plan.the_row
 plan_send = search (maps.crosses, sendable, crosses) depth 40 fits 10000
 
@@ -61,7 +59,7 @@ bus_send : IsSend bus.the_row
 bus_send = search (terminals_send, sendable, crosses) depth 40 fits 10000
 
 schedule_send : IsSend schedule.the_row
-schedule_send = search (placed_send, sendable, crosses) depth 40 fits 10000
+schedule_send = search (sendable, crosses) depth 40 fits 10000
 
 -- a stack, where what is in it may go
 stack_send : (T N : RattleType) (given : Ghosts T.Denot) → IsSend T → IsSend (stack.the_row T N given)
@@ -81,14 +79,17 @@ machine_send = search (parts_send, sendable, crosses) depth 40 fits 10000
 program_sync : IsSync program.the_row
 program_sync = search (sendable, crosses) depth 40 fits 10000
 
-placed_sync : IsSync placed.the_row
-placed_sync = search (sendable, crosses) depth 40 fits 10000
+row_sync : IsSync row.the_row
+row_sync = search (sendable, crosses) depth 40 fits 10000
+
+actions_sync : IsSync actions.the_row
+actions_sync = search (row_sync, sendable, crosses) depth 40 fits 10000
 
 plan_sync : IsSync plan.the_row
 plan_sync = search (maps.crosses, sendable, crosses) depth 40 fits 10000
 
 pub job_sync : IsSync job.the_row
-job_sync = search (program_sync, placed_sync, plan_sync, sendable, crosses) depth 40 fits 10000
+job_sync = search (program_sync, actions_sync, plan_sync, sendable, crosses) depth 40 fits 10000
 
 post_send : IsSend post.the_row
 post_send = search (sendable, crosses) depth 40 fits 10000
@@ -100,7 +101,7 @@ inbox_send : IsSend inbox.the_row
 inbox_send = declared_send inbox.the_type (taker_send, tt)
 
 posts_send : IsSend posts.the_row
-posts_send = declared_send posts.the_type (inbox_send, (search (sendable, crosses) depth 40 fits 10000, (search (placed_send, sendable, crosses) depth 40 fits 10000, tt)))
+posts_send = declared_send posts.the_type (inbox_send, (search (sendable, crosses) depth 40 fits 10000, (search (sendable, crosses) depth 40 fits 10000, tt)))
 
 pub room_send : IsSend room.the_row
 room_send = declared_send room.the_type (machine_send, (search (sendable, crosses) depth 40 fits 10000, (posts_send, tt)))

@@ -1,7 +1,9 @@
 //! Texts of reports: what is expected stands in the format's own words.
 use crate::equal::{prints, reads, same_in};
 use bc_machine::{Actions, Placed};
-use bench_report::{ChannelReport, Report, ReportError, ReportFault, print_report, read_report};
+use bench_report::{
+    ChannelReport, Report, ReportError, ReportFault, print_report, read_report, write_report,
+};
 use mil_host::{Action, Mark};
 use std::alloc::Global;
 use std::process::Abort;
@@ -13,6 +15,11 @@ const TWO_CHANNELS: &str =
 /// Two placed actions of a channel at the ends of their ranges, and the largest number of packets.
 const TWO_PLACED: &str =
     "channel 65535\nmade 0\nplaced 1 30 fault on\nplaced 1000000 0 illegal receive 3 4\npackets 9999999999\n";
+
+/// Placed actions with no data word, with one and with several, and with one of two at one number behind the other.
+const ROWS: &str =
+    "channel 4\nmade 9\nrefused 9\nplaced 1 6 transmit 3 00AA\nplaced 3 6 transmit 29 0001 0002 FFFF\n\
+     placed 3 6 transmit 29 00F1 00F2\nplaced 3 5 illegal receive 3 32\nplaced 9 0 vector ABCD\npackets 5\n";
 
 /// Texts that spell a report, whatever later readers say.
 const ACCEPTED: &[&str] = &[
@@ -120,6 +127,13 @@ fn is_printed(rt: &impl Abort, alloc: Global, report: &Report, wanted: &str) {
     reads(rt, wanted, printed.as_str(), wanted);
 }
 
+/// A report is written as this text.
+fn is_written(rt: &impl Abort, alloc: Global, report: &Report, wanted: &str) {
+    let mut written: Vec<u8> = Vec::new(alloc);
+    write_report(&mut written, report).expect(rt, wanted);
+    assert_eq!(rt; written.as_slice(), wanted.as_bytes());
+}
+
 /// The part of a report of a channel without placed actions.
 fn is_part(rt: &impl Abort, part: &ChannelReport, channel: u16, made: u32, refused: &[u32]) {
     let found = (part.channel(), part.made(), part.placed().len());
@@ -140,6 +154,14 @@ fn is_the_first(rt: &impl Abort, alloc: Global, report: &Report) {
     is_part(rt, &channels[0], 1, 5, &[3, 4]);
     is_part(rt, &channels[1], 2, 1, &[]);
     is_printed(rt, alloc, report, TWO_CHANNELS);
+    is_written(rt, alloc, report, TWO_CHANNELS);
+}
+
+#[test]
+fn reads_and_prints_actions_in_rows(rt: HostRuntime) {
+    let report = report_of(&rt, rt.alloc(), ROWS);
+    is_printed(&rt, rt.alloc(), &report, ROWS);
+    is_written(&rt, rt.alloc(), &report, ROWS);
 }
 
 /// The report with two placed actions.

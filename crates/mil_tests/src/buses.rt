@@ -15,6 +15,7 @@ mod failing;
 mod faults;
 mod messages;
 mod paces;
+mod wholes;
 
 /// A bus with its plan, and the number of the last message.
 #[derive(Drop)]
@@ -69,6 +70,10 @@ enum Flaw {
     Add(u32, u16),
     /// Half bits of a word from the controller are inverted.
     Mask(u32, u64),
+    /// A word of the first reply is left out.
+    DropReply(u32),
+    /// A data word is added behind a word of the first reply.
+    AddReply(u32, u16),
     /// The first reply comes after so many ticks.
     Late(u32),
     /// The first reply is not sent.
@@ -98,12 +103,14 @@ enum Asked {
     ModeWith(u32, &'static [u16]),
     /// A mode command to all, without written words.
     ModeToAll(u32),
+    /// A mode command to all, with written words.
+    ModeToAllWith(u32, &'static [u16]),
     /// Words to a subaddress of all.
     ToAll(u32, &'static [u16]),
-    /// Two words from subaddress 1 of terminal 7 to subaddress 4 of terminal 3.
-    Between,
-    /// Two words from subaddress 1 of terminal 7 to subaddress 4 of all others.
-    BetweenAll,
+    /// So many words from subaddress 1 of terminal 7 to subaddress 4 of terminal 3.
+    Between(u32),
+    /// So many words from subaddress 1 of terminal 7 to subaddress 4 of all others.
+    BetweenAll(u32),
 }
 
 /// The draft of what is asked for.
@@ -121,22 +128,21 @@ fn draft_of(asked: Asked) -> Draft<'static> {
         },
         Asked::Mode(address, code) => mode(address, code, None),
         Asked::ModeWith(code, words) => mode(5, code, Some(words)),
-        Asked::ModeToAll(code) => {
-            Draft::mode_command_to_all(ModeSubaddress::ThirtyOne, code, None)
-        }
+        Asked::ModeToAll(code) => mode_to_all(code, None),
+        Asked::ModeToAllWith(code, words) => mode_to_all(code, Some(words)),
         Asked::ToAll(subaddress, words) => Draft::ToAll { subaddress, words },
-        Asked::Between => Draft::Between {
+        Asked::Between(count) => Draft::Between {
             sender: 7,
             sender_subaddress: 1,
             receiver: 3,
             receiver_subaddress: 4,
-            count: 2,
+            count,
         },
-        Asked::BetweenAll => Draft::BetweenAll {
+        Asked::BetweenAll(count) => Draft::BetweenAll {
             sender: 7,
             sender_subaddress: 1,
             receiver_subaddress: 4,
-            count: 2,
+            count,
         },
     }
 }
@@ -146,6 +152,19 @@ fn mode(address: u32, code: u32, words: Option<&'static [u16]>) -> Draft<'static
     Draft::mode_command(address, ModeSubaddress::ThirtyOne, code, words)
 }
 
+/// A mode command to all.
+fn mode_to_all(code: u32, words: Option<&'static [u16]>) -> Draft<'static> {
+    Draft::mode_command_to_all(ModeSubaddress::ThirtyOne, code, words)
+}
+
+/// A data word of this value.
+fn data_word(value: u16) -> Word {
+    Word {
+        sync: Sync::DataSync,
+        value,
+    }
+}
+
 /// The fault that is meant.
 fn fault_of(flaw: Flaw) -> Fault {
     match flaw {
@@ -153,10 +172,13 @@ fn fault_of(flaw: Flaw) -> Fault {
         Flaw::Add(index, value) => Fault::Add {
             run: 0,
             index,
-            word: Word {
-                sync: Sync::DataSync,
-                value,
-            },
+            word: data_word(value),
+        },
+        Flaw::DropReply(index) => Fault::Drop { run: 1, index },
+        Flaw::AddReply(index, value) => Fault::Add {
+            run: 1,
+            index,
+            word: data_word(value),
         },
         Flaw::Mask(index, half_bits) => Fault::Mask {
             run: 0,

@@ -219,6 +219,7 @@ fn is_message(rt: &impl Abort, message: &Message, commands: &[u16], words: &[u16
     awaits(rt, message, due);
     is_its_draft(rt, message);
     is_its_parts(rt, message, words);
+    has_values(rt, message, commands, words);
 }
 
 /// The controller's words are these commands and then these data words.
@@ -250,10 +251,23 @@ fn awaits(rt: &impl Abort, message: &Message, due: &[Due]) {
     assert_eq!(rt; message.replies_due().as_slice(), due);
 }
 
-/// The message is what its draft is read as.
+/// The message is what its draft is read as, and the same in the place of another.
 fn is_its_draft(rt: &impl Abort, message: &Message) {
-    let back = Message::check(message.draft()).expect(rt, "a draft in range");
+    let mut back = Message::check(message.draft()).expect(rt, "a draft in range");
     assert!(rt; back == message.copy());
+    message.copy_into(&mut back);
+    assert!(rt; back == *message);
+    let mut other = Message::default();
+    message.copy_into(&mut other);
+    assert!(rt; other == *message);
+}
+
+/// The values of the controller's words are those of these commands and of these data words.
+fn has_values(rt: &impl Abort, message: &Message, commands: &[u16], words: &[u16]) {
+    let values = message.values();
+    let (first, rest) = values.parts();
+    are_in(rt, "values of commands", first, commands);
+    are_in(rt, "values of data words", rest, words);
 }
 
 /// The message is made again of its parts.

@@ -1,5 +1,6 @@
 //! Runs of a terminal, driven by calls: what is expected is worked out by hand from the rules.
 mod saves;
+mod wholes;
 
 use crate::equal::{are_in, same_in};
 use arrayvec::ArrayVec;
@@ -29,8 +30,12 @@ enum Step {
     IsSilent(Line, u16, &'static [u16]),
     /// A command on a line, to which nothing is answered before a quiet.
     Command(Line, u16),
+    /// A command or a status on a line, behind a gap of so many ticks.
+    Behind(Line, u16, u16),
     /// A data word on a line, contiguous to what was before.
     Data(Line, u16),
+    /// Data words on a line by their values, the first behind a gap of so many ticks.
+    Values(Line, u16, &'static [u16]),
     /// A quiet on a line brings no answer.
     Quiet(Line),
     /// A quiet on a line is answered with these words.
@@ -64,8 +69,8 @@ enum Deed {
 }
 
 use Step::{
-    Act, Answers, Command, Data, FlagInhibited, IsSilent, LastCommand, PutUp, Quiet, Received,
-    ReceivedFromAll, Replies, Status, Transmitter,
+    Act, Answers, Behind, Command, Data, FlagInhibited, IsSilent, LastCommand, PutUp, Quiet,
+    Received, ReceivedFromAll, Replies, Status, Transmitter, Values,
 };
 
 const SCRIPTS: &[Script] = &[
@@ -189,7 +194,9 @@ fn plays(rt: &impl Abort, row: &str, terminal: &mut Terminal, step: Step) {
         }
         IsSilent(line, value, sent) => is_silent(rt, row, &say(terminal, line, value, sent)),
         Command(line, value) => terminal.hear(line, command(value), Gap::of(65535)),
+        Behind(line, gap, value) => terminal.hear(line, command(value), gap_of(rt, row, gap)),
         Data(line, value) => terminal.hear(line, data(value), Gap::contiguous()),
+        Values(line, gap, values) => terminal.hear_values(line, gap_of(rt, row, gap), values),
         Quiet(line) => is_silent(rt, row, &terminal.quiet(line)),
         Replies(line, wanted) => answers(rt, row, &terminal.quiet(line), wanted),
         Act(deed) => terminal.act(&action_of(deed)),
@@ -203,6 +210,12 @@ fn plays(rt: &impl Abort, row: &str, terminal: &mut Terminal, step: Step) {
         Transmitter(line, on) => same_in(rt, row, &terminal.transmitter_on(line), &on),
         FlagInhibited => same_in(rt, row, &terminal.flag_inhibited(), &true),
     }
+}
+
+/// A gap of so many ticks.
+fn gap_of(rt: &impl Abort, row: &str, ticks: u16) -> Gap {
+    assert!(rt; 20 <= ticks, "{row}");
+    Gap::of(ticks)
 }
 
 /// A reply has these words.

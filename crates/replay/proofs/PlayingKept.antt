@@ -121,7 +121,7 @@ module _ (found : List Found) (job : JobState) (part : ChannelPart) where
     playing = passes_at found job part n s.machine next hs rest marks is.playing told;
     heard = is.heard;
     few = omega (arith, is.few);
-    keeping = record { due_is = is.keeping.due_is; count = is.keeping.count; kept_records = is.keeping.kept };
+    keeping = record { due_is = is.keeping.due_is; count = is.keeping.count; kept = is.keeping.kept };
   }
 
   -- the same, where branches of the code join

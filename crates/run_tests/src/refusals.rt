@@ -1,7 +1,8 @@
 //! What is not run, and what each fault prints: the sink comes back as it was.
-use crate::fixtures::{FOREIGN, TEN_MESSAGES, ran, settings_of};
+use crate::fixtures::{FOREIGN, TEN_MESSAGES, TEN_REPORT, ran, settings_of};
 use bench_core::Settings;
-use bench_run::{OpenGate, RunError};
+use bench_report::read_report;
+use bench_run::{LiveError, OpenGate, RunError};
 use ch11_writer::MemorySink;
 use std::alloc::Global;
 use std::process::Abort;
@@ -149,4 +150,37 @@ fn want_of_memory_prints_its_number(rt: HostRuntime) {
     };
     let text = fault.to_string(rt.alloc()).expect(&rt, "memory");
     assert_eq!(rt; text.as_str(), "U3");
+}
+
+/// A live run's fault, without an inbox, prints this text.
+fn prints(rt: &impl Abort, alloc: Global, fault: RunError<MemorySink>, wanted: &str) {
+    let inboxes = Vec::new(alloc);
+    let live = LiveError { fault, inboxes };
+    let text = live.to_string(alloc).expect(rt, "memory");
+    assert_eq!(rt; text.as_str(), wanted);
+}
+
+/// A sink that failed once it had taken as many bytes as can be counted.
+fn full(rt: &impl Abort, alloc: Global) -> RunError<MemorySink> {
+    let report = read_report(alloc, TEN_REPORT.as_bytes());
+    RunError::Sink {
+        sink: MemorySink::make(alloc),
+        report: report.ok().expect(rt, "a report"),
+        taken: u64::MAX,
+    }
+}
+
+#[test]
+fn a_live_run_prints_its_fault(rt: HostRuntime) {
+    let alloc = rt.alloc();
+    let sink = MemorySink::make(alloc);
+    prints(&rt, alloc, RunError::Settings { sink }, "U2");
+    let sink = MemorySink::make(alloc);
+    prints(&rt, alloc, RunError::ChannelTwice { sink }, "U1");
+    let sink = MemorySink::make(alloc);
+    prints(&rt, alloc, RunError::Prologue { sink }, "U5");
+    let sink = MemorySink::make(alloc);
+    prints(&rt, alloc, RunError::Memory { sink }, "U3");
+    let wanted = "U4 taken 18446744073709551615";
+    prints(&rt, alloc, full(&rt, alloc), wanted);
 }

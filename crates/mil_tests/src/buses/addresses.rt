@@ -95,7 +95,7 @@ const TO_OTHERS: &[Step] = &[
     Act(7, "transmit 1 AAAA 5555"),
     Gives(
         A,
-        BetweenAll,
+        BetweenAll(2),
         All(0, 0x0800, 0x0050),
         &[0xf882, 0x3c22, 0x3800, 0xaaaa, 0x5555],
     ),

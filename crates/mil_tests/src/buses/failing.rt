@@ -69,12 +69,12 @@ const SCRIPTS: &[Script] = &[
         steps: &[
             Act(7, "transmit 1 1111 2222"),
             Act(7, "mute A on"),
-            Gives(A, Between, Block(0x1a00, 0x0000), &[0x1882, 0x3c22]),
+            Gives(A, Between(2), Block(0x1a00, 0x0000), &[0x1882, 0x3c22]),
             Received(3, 4, &[]),
             Act(7, "mute A off"),
             Gives(
                 A,
-                Between,
+                Between(2),
                 Block(0x0800, 0x5050),
                 &[0x1882, 0x3c22, 0x3800, 0x1111, 0x2222, 0x1800],
             ),

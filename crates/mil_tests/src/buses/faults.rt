@@ -22,7 +22,7 @@ const TRANSFERS: &[Script] = &[
         addresses: &[3, 7],
         steps: &[
             PUT_UP,
-            Gives(A, Between, All(0, 0x0800, 0x5050), SIX),
+            Gives(A, Between(2), All(0, 0x0800, 0x5050), SIX),
             Received(3, 4, &[0xaaaa, 0x5555]),
         ],
     },
@@ -32,7 +32,7 @@ const TRANSFERS: &[Script] = &[
         steps: &[
             PUT_UP,
             Plan(1, Late(170)),
-            Gives(A, Between, All(0, 0x1a00, 0x50aa), SIX),
+            Gives(A, Between(2), All(0, 0x1a00, 0x50aa), SIX),
         ],
     },
     Script {
@@ -41,7 +41,7 @@ const TRANSFERS: &[Script] = &[
         steps: &[
             PUT_UP,
             Plan(1, Late(171)),
-            Gives(A, Between, All(0, 0x1a00, 0x00ab), FIVE),
+            Gives(A, Between(2), All(0, 0x1a00, 0x00ab), FIVE),
             Received(3, 4, &[]),
             Gives(A, Mode(3, 2), Nothing, &[0x1fe2, 0x1c00]),
         ],

@@ -41,8 +41,8 @@ returns-in-Ok-None g c file is =
     let e = rw c.in-Ok-None.field-0-is at c.in-Ok-None.ensures in
     let all = all_found file c.packets.packets c.next.new.self e (c.packets.invariant.known file is) in (
       all.0,
-      subst (λ (ps : List Found). AreVerdicts c.args.rules.now (reverse (heard_in ps)) c.in_ok-verdicts.verdicts.items) all.1
-          (c.in_ok-verdicts.ensures (heard_so_far c.packets.packets.earlier) c.packets.invariant.counted),
+      subst (λ (ps : List Found). AreVerdicts c.args.rules.now (reverse (heard_in ps)) c.in_ok-verdicts-in-Ok-None.verdicts.items) all.1
+          (c.in_ok-verdicts-in-Ok-None.ensures (heard_so_far c.packets.packets.earlier) c.packets.invariant.counted),
     )
 
 pub returns-in-Err : goal.returns-in-Err
