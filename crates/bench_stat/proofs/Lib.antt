@@ -4,3 +4,4 @@ pub mod Present
 pub mod Histories
 pub mod Following
 pub mod Packets
+pub mod Streamed

@@ -36,10 +36,10 @@ pub no_channels : (s : Selection) (hs : List Header) → channels_below s 0 hs �
 unfolding channels_below
 no_channels s hs = refl
 
-channel_absent : (s : Selection) (n : ℕ) (hs : List Header) → is_listed s hs n ≡ false → channels_below s (n + 1) hs ≡ channels_below s n hs
+pub channel_absent : (s : Selection) (n : ℕ) (hs : List Header) → is_listed s hs n ≡ false → channels_below s (n + 1) hs ≡ channels_below s n hs
 channel_absent s n hs absent = channels_more s n hs ∙ ap (λ (b : Bool). channels_below s n hs ++ cond b (n ∷ []) []) absent ∙ append-nil (channels_below s n hs)
 
-channel_present : (s : Selection) (n : ℕ) (hs : List Header) → is_listed s hs n ≡ true → channels_below s (n + 1) hs ≡ channels_below s n hs ++ n ∷ []
+pub channel_present : (s : Selection) (n : ℕ) (hs : List Header) → is_listed s hs n ≡ true → channels_below s (n + 1) hs ≡ channels_below s n hs ++ n ∷ []
 channel_present s n hs present = channels_more s n hs ∙ ap (λ (b : Bool). channels_below s n hs ++ cond b (n ∷ []) []) present
 
 -- whether a channel is listed is told by the marks
@@ -78,17 +78,17 @@ or_neither true false = refl
 or_neither false true = refl
 or_neither false false = refl
 
-has_one_more : (c : ℕ) (hs : List Header) (h : Header) → has_channel c (hs ++ h ∷ []) ≡ (has_channel c hs || (holds_messages h && (h.channel == c)))
+pub has_one_more : (c : ℕ) (hs : List Header) (h : Header) → has_channel c (hs ++ h ∷ []) ≡ (has_channel c hs || (holds_messages h && (h.channel == c)))
 has_one_more c hs h =
     list_any-append (λ (x : Header). holds_messages x && (x.channel == c)) hs (h ∷ []) ∙ ap (λ (b : Bool). has_channel c hs || b) (or_false (holds_messages h && (h.channel == c)))
 
-at_channel : (c : ℕ) (hs : List Header) (h : Header) → h.kind ≡ 25 → h.channel ≡ c → has_channel c (hs ++ h ∷ []) ≡ true
+pub at_channel : (c : ℕ) (hs : List Header) (h : Header) → h.kind ≡ 25 → h.channel ≡ c → has_channel c (hs ++ h ∷ []) ≡ true
 at_channel c hs h kind here = has_one_more c hs h ∙ rw (eq-eqb h.kind 25 kind, eq-eqb h.channel c here) (or_true (has_channel c hs))
 
-of_other_channel : (c : ℕ) (hs : List Header) (h : Header) → (h.channel ≡ c → ⊥) → has_channel c (hs ++ h ∷ []) ≡ has_channel c hs
+pub of_other_channel : (c : ℕ) (hs : List Header) (h : Header) → (h.channel ≡ c → ⊥) → has_channel c (hs ++ h ∷ []) ≡ has_channel c hs
 of_other_channel c hs h other = has_one_more c hs h ∙ rw (ne_eqb h.channel c other) (or_neither (has_channel c hs) (holds_messages h))
 
-of_other_kind : (c : ℕ) (hs : List Header) (h : Header) → (h.kind ≡ 25 → ⊥) → has_channel c (hs ++ h ∷ []) ≡ has_channel c hs
+pub of_other_kind : (c : ℕ) (hs : List Header) (h : Header) → (h.kind ≡ 25 → ⊥) → has_channel c (hs ++ h ∷ []) ≡ has_channel c hs
 of_other_kind c hs h other = has_one_more c hs h ∙ rw (ne_eqb h.kind 25 other) (or_false (has_channel c hs))
 
 -- what a place past the end is read as

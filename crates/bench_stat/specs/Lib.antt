@@ -6,5 +6,6 @@ pub mod Flows
 pub mod Entries
 pub mod Replies
 pub mod Slices
+pub mod Streaming
 pub mod Details
 pub mod Times

@@ -55,7 +55,7 @@ impl<'a, 'i> Chosen<'a, 'i> {
 }
 
 /// The next selected message of a packet of the channel, whose messages stand behind so many of the file.
-fn next_selected<'a>(
+pub(crate) fn next_selected<'a>(
     messages: &mut Messages<'a>,
     before: &mut u64,
     selection: &Selection,

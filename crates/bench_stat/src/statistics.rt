@@ -11,7 +11,7 @@ use ch11_reader::{Index, Packet};
 use std::alloc::{AllocError, Global};
 
 /// How many channels there can be.
-const CHANNELS: usize = 65536;
+pub(crate) const CHANNELS: usize = 65536;
 
 /// The figures over the selected messages of each channel with packets of MIL-STD-1553 messages that the selection is
 /// of, in rising order of the channels' numbers. The only refusal is want of memory.

@@ -1,14 +1,16 @@
 //! The figures of a recording whose packets come from a reader.
-ghost use Rattle.std.specs.Prelude.{◌≡◌, ◌+◌, ◌<◌, ◌^◌, ◌++◌, ◌∷◌, [], ℕ, List, length, nat_eq, reverse, None, Some, IfOk, OnOk};
+ghost use Rattle.std.specs.Prelude.{◌≡◌, ◌+◌, ◌<◌, ◌^◌, ◌++◌, ◌∷◌, [], ℕ, List, length, nat_eq, reverse, true};
+ghost use Rattle.std.specs.Prelude.{None, Some, IfOk, OnOk};
 ghost use Rattle.std.specs.HashMap.{get};
 ghost use Rattle.ch11_f1.specs.BodyReading.{Message};
 ghost use Rattle.ch11_reader.specs.Recording.{Found};
 ghost use Rattle.ch11_stream.specs.Folding.{Finds};
 ghost use Rattle.bench_select.specs.declared.selection.Selection.{Selection as SelectionValue};
+ghost use Rattle.bench_select.specs.Selectors.{is_chosen};
 ghost use Rattle.bench_stat.specs.Chosen.{picked};
 ghost use Rattle.bench_stat.specs.Figures.{statistics};
 ghost use Rattle.bench_stat.specs.Steps.{tally_of};
-ghost use Rattle.bench_stat.specs.Streaming.{AreSoFar, IsBehind, tally_or_none};
+ghost use Rattle.bench_stat.specs.Streaming.{AreSoFar, IsBehind, tally_or_none, with_figures};
 
 use crate::channels::ChannelFigures;
 use crate::chosen::next_selected;
@@ -41,8 +43,8 @@ impl SoFar {
 }
 
 /// The figures that `stat` gives for all bytes that a reader has left, as their packets come, in memory for the largest
-/// packet of messages and the figures of each channel. A recording that can't be read is refused with its first fault, K1
-/// to K5, N2 or F1 to F3; want of memory and the reader's failure are the others.
+/// packet of messages and the figures of each channel. A recording that can't be read is refused with its first fault,
+/// K1 to K5, N2 or F1 to F3; want of memory and the reader's failure are the others.
 pub fn stat_from<R: Read + Drop>(
     alloc: Global,
     input: R,
@@ -77,10 +79,30 @@ fn note_packet(
     ensures { (ps : List Found) (q : Found) → AreSoFar selection.now ps so_far.old
         → IsBehind ps q packet.now messages.entry → OnOk result (AreSoFar selection.now (ps ++ q ∷ []) so_far.new) }
 {
-    let channel = packet.header.channel;
-    if packet.header.kind != BUS_MESSAGES || !is_of(selection.channel, channel) {
+    if packet.header.kind != BUS_MESSAGES {
         return Ok(());
     }
+    if is_of(selection.channel, packet.header.channel) {
+        note_channel(so_far, selection, packet, messages)
+    } else {
+        Ok(())
+    }
+}
+
+/// One more packet of messages, of a channel that the selection is of.
+fn note_channel(
+    so_far: &mut SoFar,
+    selection: &Selection,
+    packet: &Packet,
+    messages: Messages<'_>,
+) -> Result<(), AllocError>
+    requires { packet.now.before + length messages < 2 ^ 64 }
+    ensures { (ps : List Found) (q : Found) → AreSoFar selection.now ps so_far.old
+        → IsBehind ps q packet.now messages.entry → packet.now.header.kind ≡ BUS_MESSAGES
+        → is_chosen selection.now.channel packet.now.header.channel ≡ true
+        → OnOk result (AreSoFar selection.now (ps ++ q ∷ []) so_far.new) }
+{
+    let channel = packet.header.channel;
     let mut tally = tally_at(so_far, channel);
     note_selected(&mut tally, selection, channel, packet.before, messages);
     so_far.channels.insert(channel, tally)?;
@@ -123,9 +145,22 @@ fn figures_of(alloc: Global, so_far: &SoFar) -> Result<Vec<ChannelFigures>, Allo
 {
     let mut figures = Vec::new(alloc);
     'channels: for channel in 0..CHANNELS {
-        if let Some(tally) = so_far.channels.get(&(channel as u16)) {
-            figures.push(tally.figures)?;
-        }
+        push_figures(so_far, channel as u16, &mut figures)?;
     }
     Ok(figures)
+}
+
+/// Appends the figures of a channel, where it has any.
+fn push_figures(
+    so_far: &SoFar,
+    channel: u16,
+    figures: &mut Vec<ChannelFigures>,
+) -> Result<(), AllocError>
+    ensures { OnOk result (figures.new.items
+        ≡ with_figures (get nat_eq so_far.now.channels channel) figures.old.items) }
+{
+    if let Some(tally) = so_far.channels.get(&channel) {
+        figures.push(tally.figures)?;
+    }
+    Ok(())
 }
