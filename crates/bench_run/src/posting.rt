@@ -30,6 +30,7 @@ pub(crate) struct Posts {
 impl Posts {
     /// Takes posts until the mailbox is empty or as many were taken as may be, and places each at the controller's next
     /// message, behind what is placed there. It takes no memory.
+    #[inline]
     pub(crate) fn place_all<R: Wait>(&mut self, rt: &R, mailbox: &Mailbox, machine: &mut Machine)
         requires inbox { IsInboxOf mailbox.now self.old.inbox }
         requires ordered { IsOrdered self.old.ordered.actions }
