@@ -160,13 +160,13 @@ fn a_schedule_grows_and_shrinks(rt: HostRuntime) {
     same(&rt, &schedule.capacity(), &5);
     schedule.shrink(1);
     same(&rt, &schedule.capacity(), &1);
-    let one = schedule.add(placed(&rt, 7, 9, "transmit 30 0A0B 0C0D"));
+    let one = schedule.add(placed(&rt, 7, 9, "transmit 29 0A0B 0C0D"));
     same(&rt, &one.is_ok(), &true);
     let other = schedule.add(placed(&rt, 7, 9, "busy on"));
     same(&rt, &other.is_ok(), &false);
     schedule.sort().expect(&rt, "memory");
     let actions = Actions::of(schedule);
-    is_shown(&rt, rt.alloc(), &actions, "7 9 transmit 30 0A0B 0C0D, ");
+    is_shown(&rt, rt.alloc(), &actions, "7 9 transmit 29 0A0B 0C0D, ");
 }
 
 /// One more action in a sorted list goes behind those of its number.
