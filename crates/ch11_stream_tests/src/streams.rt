@@ -20,8 +20,8 @@ pub(crate) const FOREIGN: [u8; 96] = [
     0x00, 0x00, 0x50, 0x00, 0x0A, 0x00, 0x23, 0x28, 0x01, 0x00, 0x02, 0x00, 0x03, 0x00, 0x00, 0x28,
 ];
 
-/// A reader that gives so many bytes at a time at most. It may be interrupted in front of each read that gives some, and
-/// may fail where it has no more.
+/// A reader that gives so many bytes at a time at most. It may be interrupted in front of each read that gives some,
+/// and may fail where it has no more.
 #[derive(Clone, Copy)]
 pub(crate) struct Slow<'a> {
     pub(crate) rest: &'a [u8],

@@ -33,25 +33,25 @@ const GROWN_SHOWN: &str =
     "3 5 busy on, 1 6 transmit 3 00AA, 3 6 transmit 29 0001 0002 FFFF, 1 5 transmit 1 1111 2222, \
      2 30 illegal receive 3 32, 1 6 deaf B on, 4 5 vector 00AA, 2 5 transmit 2 0003 0004, ";
 
-/// An action that is put into the sorted ones, and the first five of them then.
+/// An action that is put into the sorted ones, and all of them then.
 const PUT_IN: &[(u32, &str, &str)] = &[
     (
         1,
         "transmit 4 0005 0006",
         "1 6 transmit 3 00AA, 1 5 transmit 1 1111 2222, 1 6 deaf B on, 1 5 transmit 4 0005 0006, \
-         2 30 illegal receive 3 32, ",
+         2 30 illegal receive 3 32, 3 5 busy on, 3 6 transmit 29 0001 0002 FFFF, ",
     ),
     (
         2,
         "control on",
         "1 6 transmit 3 00AA, 1 5 transmit 1 1111 2222, 1 6 deaf B on, 2 30 illegal receive 3 32, \
-         2 5 control on, ",
+         2 5 control on, 3 5 busy on, 3 6 transmit 29 0001 0002 FFFF, ",
     ),
     (
         9,
         "control on",
         "1 6 transmit 3 00AA, 1 5 transmit 1 1111 2222, 1 6 deaf B on, 2 30 illegal receive 3 32, \
-         3 5 busy on, ",
+         3 5 busy on, 3 6 transmit 29 0001 0002 FFFF, 9 5 control on, ",
     ),
 ];
 
@@ -165,7 +165,10 @@ fn a_schedule_grows_and_shrinks(rt: HostRuntime) {
     let other = schedule.add(placed(&rt, 7, 9, "busy on"));
     same(&rt, &other.is_ok(), &false);
     schedule.sort().expect(&rt, "memory");
-    let actions = Actions::of(schedule);
+    let copy = schedule.copy().expect(&rt, "memory");
+    schedule.truncate(0);
+    same(&rt, &schedule.len(), &0);
+    let actions = Actions::of(copy);
     is_shown(&rt, rt.alloc(), &actions, "7 9 transmit 29 0A0B 0C0D, ");
 }
 
@@ -174,7 +177,6 @@ fn put_in(rt: &impl Abort, alloc: Global, number: u32, text: &str) -> Actions {
     let mut schedule = Schedule::of(sorted(rt, alloc));
     schedule.room(1).expect(rt, "memory");
     schedule.put_in(placed(rt, number, 5, text));
-    schedule.truncate(5);
     Actions::of(schedule)
 }
 
