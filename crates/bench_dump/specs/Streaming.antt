@@ -15,8 +15,8 @@ dump_fault (stream.Refused r) = faults.Refused r
 dump_fault stream.Memory = faults.Memory
 dump_fault stream.Device = faults.Device
 
--- A dump ends where the recording can be read, and its text is the recording's; it is refused with the recording's first
--- fault. Want of memory and a device's failure may come with any recording.
+-- A dump ends where the recording can be read, and its text is the recording's; it is refused with the recording's
+-- first fault. Want of memory and a device's failure may come with any recording.
 abbrev pub Dumps : {A : Type 0} → Result A DumpFault → List ℕ → Option (List ℕ) → Option (List ℕ) → Type 0
 Dumps (Ok x) file got gets = (packets_in file ≡ Ok (found_in file)) × Appends got gets (text_of false file)
 Dumps (Err (faults.Refused r)) file got gets = packets_in file ≡ Err r

@@ -22,7 +22,8 @@ given_of None ready = []
 given_of (Some h) ready = messages_of h ready
 
 -- the last packet's bytes are ready, and there are no more messages than bytes in front of the next packet
-pub record IsHolding (earlier : List Found) (offset : ℕ) (last : Option Header) (ready : List ℕ) (fault : Option StreamFault) : Type 0 where
+pub record IsHolding (earlier : List Found) (offset : ℕ) (last : Option Header) (ready : List ℕ)
+    (fault : Option StreamFault) : Type 0 where
   pub few : total_in earlier ≤ offset
   pub whole : held_of last ≤ length ready
   pub room : (h : Header) → last ≡ Some h → body_start h + h.data_length ≤ h.packet_length

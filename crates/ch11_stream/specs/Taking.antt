@@ -1,5 +1,6 @@
 -- The packet that begins the bytes to come.
-use Rattle.std.specs.Prelude.{◌≡◌, ℕ, ◌+◌, ◌<◌, ◌≤◌, ◌^◌, List, length, drop, if◌then◌else◌, Option, None, Some, Result, Ok, Err}
+use Rattle.std.specs.Prelude.{◌≡◌, ℕ, ◌+◌, ◌<◌, ◌≤◌, ◌^◌, List, length, drop, if◌then◌else◌, Option, None, Some}
+use Rattle.std.specs.Prelude.{Result, Ok, Err}
 use Rattle.std.specs.Io.KnownBytes.{IsAtEnd, Keeps, prepend_known}
 use Rattle.ch11_header.specs.declared.header.Header.{Header}
 use Rattle.ch11_header.specs.HeaderReading.{body_start, header_in}
@@ -8,8 +9,8 @@ use Rattle.ch11_reader.specs.Recording.{holds_messages, located, messages_of, pa
 use Rattle.ch11_stream.specs.declared.fault.StreamFault.{StreamFault}
 use Rattle.ch11_stream.specs.declared.fault.StreamFault.TheVariants as faults
 
--- the fault is that of the packet that begins the bytes to come, which stand at an offset, where they are known; want of
--- memory and a reader that failed may come with any bytes
+-- the fault is that of the packet that begins the bytes to come, which stand at an offset, where they are known; want
+-- of memory and a reader that failed may come with any bytes
 abbrev pub IsFaultAt : ℕ → Option (List ℕ) → StreamFault → Type 0
 IsFaultAt offset coming (faults.Refused r) = (bytes : List ℕ) → coming ≡ Some bytes
     → (0 < length bytes) × (located offset (packet_at bytes) ≡ Err r)

@@ -12,8 +12,8 @@ abbrev pub Steps : Reading → List Packet → Reading → Type 0
 Steps before [] now = before ≡ now
 Steps before (p ∷ ps) now = (next : Reading) × IsStep before next p × Steps next ps now
 
--- Packets were read from the start of a file. Where no more come, they are the file's, as an index lists them. Where the
--- next one is refused, the file is refused, with that fault.
+-- Packets were read from the start of a file. Where no more come, they are the file's, as an index lists them. Where
+-- the next one is refused, the file is refused, with that fault.
 abbrev pub StepsReadTheFile : Type 0
 StepsReadTheFile =
     (file : List ℕ) (ps : List Packet) (now last : Reading) → Steps (at_start (Some file)) ps now

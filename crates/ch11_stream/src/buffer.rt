@@ -27,7 +27,8 @@ impl Model for Buffer {
 
     ghost Value = { Buffered };
 
-    ghost view = { λ b. record { ready = slice_range b.bytes.items b.start b.end; room = length b.bytes.items - b.end } };
+    ghost view = { λ b.
+        record { ready = slice_range b.bytes.items b.start b.end; room = length b.bytes.items - b.end } };
 
     ghost invariant = { λ b. (b.start ≤ b.end) × (b.end ≤ length b.bytes.items) };
 }
@@ -147,8 +148,8 @@ impl Buffer {
         }
     }
 
-    /// Makes room behind the bytes that are ready, as a part of so many in all. There is room for twice as many bytes as
-    /// were ready before at most, so that no more is asked for than the reader has shown to have.
+    /// Makes room behind the bytes that are ready, as a part of so many in all. There is room for twice as many bytes
+    /// as were ready before at most, so that no more is asked for than the reader has shown to have.
     pub(crate) fn make_room(&mut self, size: usize) -> Result<(), AllocError>
         requires { length self.old.ready < size }
         ensures ready { self.new.ready ≡ self.old.ready }
@@ -166,7 +167,8 @@ impl Buffer {
     /// nothing.
     pub(crate) fn read<R: Read>(&mut self, input: &mut R) -> Result<bool, StreamFault>
         requires { 0 < self.old.room }
-        ensures read { IfOk result (IsMore (R.remaining input.old) (R.remaining input.new) self.old.ready self.new.ready) }
+        ensures read { IfOk result
+            (IsMore (R.remaining input.old) (R.remaining input.new) self.old.ready self.new.ready) }
         ensures failed { IfErr result IsOther }
     {
         let gave = read_behind(input, self.bytes.as_mut_slice(), self.end)?;

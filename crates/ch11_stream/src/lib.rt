@@ -1,6 +1,6 @@
-//! The packets of a recording read one after the other from a reader (IRIG 106-17 Chapter 11), in memory for the largest
-//! packet of messages: which bytes are a recording, and what it holds, is said by `ch11_reader`.
-//! Its tests are in `ch11_stream_tests`.
+//! The packets of a recording read one after the other from a reader (IRIG 106-17 Chapter 11), in memory for the
+//! largest packet of messages: which bytes are a recording, and what it holds, is said by `ch11_reader`. Its tests are
+//! in `ch11_stream_tests`.
 #![tactic(auto)]
 
 mod buffer;

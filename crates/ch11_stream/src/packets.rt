@@ -15,9 +15,10 @@ use std::alloc::{AllocError, Global};
 use std::io::Read;
 use std::marker::Model;
 
-/// The packets of a recording that a reader gives, one after the other, in the file's order. Of a packet of MIL-STD-1553
-/// messages its bytes are kept until the next one is read; packets of other data types are passed. The reader is asked
-/// for at most as many bytes as there is room for: 262,144 at first, and up to twice the largest packet of messages.
+/// The packets of a recording that a reader gives, one after the other, in the file's order. Of a packet of
+/// MIL-STD-1553 messages its bytes are kept until the next one is read; packets of other data types are passed. The
+/// reader is asked for at most as many bytes as there is room for: 262,144 at first, and up to twice the largest packet
+/// of messages.
 #[derive(Drop)]
 pub struct Packets<R: Read> {
     input: R,
@@ -86,9 +87,9 @@ impl<R: Read> Packets<R> {
         })
     }
 
-    /// The next packet, as an index lists it. None at the reader's end. The first fault, K1 to K5, N2, F1 to F3, with the
-    /// packet's offset, is the answer from then on, and so is want of memory for a packet of messages, and a failure of
-    /// the reader. A read that was interrupted is made again.
+    /// The next packet, as an index lists it. None at the reader's end. The first fault, K1 to K5, N2, F1 to F3, with
+    /// the packet's offset, is the answer from then on, and so is want of memory for a packet of messages, and a
+    /// failure of the reader. A read that was interrupted is made again.
     pub fn next(&mut self) -> Result<Option<Packet>, StreamFault>
         ensures { Answers result self.old self.new }
     {
@@ -112,8 +113,8 @@ impl<R: Read> Packets<R> {
         }
     }
 
-    /// The messages of the packet that was read last, in the file's order; none where it is of another data type, before
-    /// the first packet, and behind the last one or a fault.
+    /// The messages of the packet that was read last, in the file's order; none where it is of another data type,
+    /// before the first packet, and behind the last one or a fault.
     pub fn messages(&self) -> Messages<'_>
         ensures { result ≡ self.now.given }
     {

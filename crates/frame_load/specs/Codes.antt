@@ -1,7 +1,8 @@
 -- The letters of the loader's refusals (own choice).
 use Rattle.std.specs.Prelude.{ℕ, List, codes}
 use Rattle.frame_load.specs.declared.error.LoadError.{LoadError}
-use Rattle.frame_load.specs.declared.error.LoadError.TheVariants.{End, Routines, Nesting, Jumps, Messages, Budget, Memory}
+use Rattle.frame_load.specs.declared.error.LoadError.TheVariants.{End, Routines, Nesting, Jumps, Messages, Budget}
+use Rattle.frame_load.specs.declared.error.LoadError.TheVariants.{Memory}
 use Rattle.frame_load.specs.declared.error.LoadError.TheVariants.{Periods}
 
 abbrev pub fault_code : LoadError → List ℕ

@@ -6,7 +6,8 @@ use Rattle.frame_code.specs.Routines.{routines, begin_of}
 use Rattle.frame_code.specs.Loadable.{EndsInHalt, HasRoutines, IsNested, GoesWell, HasMessage, Each, IsLoadable}
 use Rattle.frame_load.specs.Budget.{budget, worst_messages, periods}
 use Rattle.frame_load.specs.declared.error.LoadError.{LoadError}
-use Rattle.frame_load.specs.declared.error.LoadError.TheVariants.{End, Routines, Nesting, Jumps, Messages, Budget, Periods}
+use Rattle.frame_load.specs.declared.error.LoadError.TheVariants.{End, Routines, Nesting, Jumps, Messages, Budget}
+use Rattle.frame_load.specs.declared.error.LoadError.TheVariants.{Periods}
 use Rattle.frame_load.specs.declared.error.LoadError.TheVariants.{Memory}
 
 -- at most 100,000,000 steps and 1,000,000 messages

@@ -12,7 +12,8 @@ use std::marker::Model;
 /// words have a gap of 20, and 65,535 stands for all longer ones.
 #[derive(Clone, Copy, Debug)]
 pub struct Gap {
-    /// The ticks over those of contiguous words, so that rooms for words that have the gap of contiguous ones are all zeros.
+    /// The ticks over those of contiguous words, so that rooms for words that have the gap of contiguous ones are all
+    /// zeros.
     over: u16,
 }
 

@@ -1,5 +1,5 @@
--- How long words last and how long is waited for them, in ticks of 0.1 µs. A gap runs from the middle of a word's parity
--- bit to the middle of the next word's sync (MIL-STD-1553B 4.3.3.7).
+-- How long words last and how long is waited for them, in ticks of 0.1 µs. A gap runs from the middle of a word's
+-- parity bit to the middle of the next word's sync (MIL-STD-1553B 4.3.3.7).
 use Rattle.std.specs.Prelude.{ℕ}
 
 -- a word: 20 bit times of 1 µs (4.3.3.4)
