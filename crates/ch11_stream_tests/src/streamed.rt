@@ -5,6 +5,8 @@ use crate::streams::{FOREIGN, Slow, reader_of};
 use bench_dump::DumpFault;
 use bench_judge::{Verdict, judge_from};
 use bench_passes::dump_in_two_passes;
+use bench_select::Selection;
+use bench_stat::{ChannelFigures, Errors, TerminalFigures, Traffic, stat_from};
 use ch11_check::check_from;
 use ch11_header::HeaderError;
 use ch11_reader::{Fault, Refusal};
@@ -56,6 +58,83 @@ fn failing(file: &[u8], end: usize) -> Slow<'_> {
         fails: true,
         ..reader_of(front, 1)
     }
+}
+
+/// Two messages of five words, with 8.0 µs in front of each response: 106.0 µs each. The second repeats the first,
+/// which had an error of no named kind, on the other line.
+fn pair_figures() -> ChannelFigures {
+    let mut terminals = [TerminalFigures::none(); 32];
+    terminals[5] = TerminalFigures {
+        receive: 2,
+        transmit: 0,
+        mode: 0,
+        errors: 1,
+        responses: 2,
+        total: 160,
+        least: 80,
+        greatest: 80,
+    };
+    ChannelFigures {
+        channel: 1,
+        traffic: Traffic {
+            messages: 2,
+            words: 10,
+            busy: 2120,
+            begin: 0,
+            last: 10_000,
+            end: 11_060,
+        },
+        errors: Errors {
+            messages: 1,
+            response: 0,
+            word_count: 0,
+            sync: 0,
+            unsound: 0,
+            other: 1,
+        },
+        retries: 1,
+        terminals,
+    }
+}
+
+/// The figures of a reader's file, or its fault.
+fn counted(
+    rt: &impl Abort,
+    alloc: Global,
+    input: Slow<'_>,
+    wanted: &Result<&[ChannelFigures], StreamFault>,
+) {
+    let found = stat_from(alloc, input, &Selection::all());
+    match found {
+        Ok(figures) => same(rt, &Ok(figures.as_slice()), wanted),
+        Err(fault) => same(rt, &Err(fault), wanted),
+    }
+}
+
+#[test]
+fn figures_come_from_packets(rt: HostRuntime) {
+    let alloc = rt.alloc();
+    let figures = [pair_figures()];
+    counted(&rt, alloc, reader_of(&pair(), 1), &Ok(&figures));
+    counted(&rt, alloc, reader_of(&[], 1), &Ok(&[]));
+    counted(&rt, alloc, reader_of(&FOREIGN[..32], 1), &Ok(&[]));
+    let refused = Err(StreamFault::Refused(refusal()));
+    counted(&rt, alloc, reader_of(&damaged(), 1), &refused);
+    counted(&rt, alloc, failing(&pair(), 150), &Err(StreamFault::Device));
+}
+
+/// How many figures a selection of a channel has.
+fn listed_of(rt: &impl Abort, alloc: Global, channel: u16) -> usize {
+    let mut selection = Selection::all();
+    selection.channel = Some(channel);
+    let found = stat_from(alloc, reader_of(&pair(), 7), &selection);
+    found.ok().expect(rt, "figures").len()
+}
+
+#[test]
+fn figures_are_of_the_selection(rt: HostRuntime) {
+    same(&rt, &listed_of(&rt, rt.alloc(), 1), &1);
+    same(&rt, &listed_of(&rt, rt.alloc(), 0), &0);
 }
 
 /// One of two messages had an error.
