@@ -9,6 +9,7 @@ use crate::exporting::export_recording;
 use crate::given_words::{word_at_fault, words_of};
 use crate::hosts::{Errors, Host};
 use crate::judging::judge_recording;
+use crate::large::dump_large;
 use crate::looking::{draw_picture, tell_of_loss};
 use crate::pointing::point;
 use crate::recording::run_jobs;
@@ -18,7 +19,7 @@ use bench_assemble::{AssembleFault, Sizes, assemble_text, print_sizes};
 use bench_dump::{DumpFault, dump, dump_with_times};
 use bench_files::{Hold, Kind, leads_to_output};
 use bench_one::{OneFault, one, print_bytes};
-use bench_requests::{Fault, read_whole, replaceable, told_apart, write_new};
+use bench_requests::{Fault, is_large, read_whole, replaceable, told_apart, write_new};
 use clap::Error;
 use clap::error::ErrorKind;
 use std::io;
@@ -200,6 +201,8 @@ fn print_sizes_to_output<R: AllocGlobal + Print>(rt: &R, sizes: &Sizes) -> io::R
     out.flush()
 }
 
+/// Prints a recording. One of more than 64 MiB is read packet by packet, unless it is damaged or times of day are asked
+/// for, which want all of it.
 fn show<'a, R: Files + AllocGlobal + Print, E: Eprint + IsTerminal>(
     rt: &R,
     errors: &E,
@@ -207,6 +210,9 @@ fn show<'a, R: Files + AllocGlobal + Print, E: Eprint + IsTerminal>(
     skip: bool,
     times: bool,
 ) -> Result<(), Fault<'a>> {
+    if !skip && !times && is_large(rt, recording) {
+        return dump_large(rt, errors, recording);
+    }
     let bytes = read_whole(rt, recording)?;
     let printed = if times {
         dump_with_times(rt.alloc(), bytes.as_slice(), &mut io::writer(rt), skip)

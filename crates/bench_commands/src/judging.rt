@@ -1,11 +1,15 @@
 //! `bench judge`: whether a recording is what rules expect.
 
 use crate::command_line::{file, force};
+use crate::large::{Large, check_large, fault_of_reading};
 use bench_files::{Hold, Kind};
 use bench_judge::{
-    PrintFault, Verdict, judge, junit_text, not_held, write_colored, write_verdicts,
+    PassFault, PrintFault, Verdict, judge, junit_text, not_held, write_colored, write_verdicts,
+    write_verdicts_from,
 };
-use bench_requests::{Fault, read_whole, replaceable, rules_of, told_apart, write_new};
+use bench_requests::{
+    Fault, is_large, open_to_read, read_whole, replaceable, rules_of, told_apart, write_new,
+};
 use ch11_reader::{Index, ReadError};
 use clap::{Arg, ArgAction, ArgMatches, Command};
 use judge_rules::Rule;
@@ -87,6 +91,7 @@ pub(crate) fn judge_request<'a>(given: &ArgMatches<'a>) -> JudgeRequest<'a> {
 
 /// Judges a recording, whose faults come before those of the rules, and prints the verdicts. Where a rule is not held
 /// it ends with a fault of its own. The JUnit file, which may be none of the others, is written behind what is printed.
+/// A recording of more than 64 MiB is read packet by packet where its verdicts are printed as plain lines alone.
 pub fn judge_recording<'a, R: Env + Files + AllocGlobal + Print>(
     rt: &R,
     request: &JudgeRequest<'a>,
@@ -99,14 +104,66 @@ where
         told_apart(rt, &[junit], &[request.recording, rules])?;
         replaceable(rt, junit, Kind::Verdicts, request.force)?;
     }
+    if request.junit.is_none() && !request.skip && is_large(rt, request.recording) {
+        if !is_for_people(rt) {
+            return judge_large(rt, request);
+        }
+    }
     let bytes = read_whole(rt, request.recording)?;
-    let text = match request.rules {
-        Some(name) => read_whole(rt, name)?,
-        None => standard(rt.alloc())?,
-    };
+    let text = rules_text(rt, request)?;
     let index = index_of(rt.alloc(), bytes.as_slice(), request.skip)?;
     let rules = rules_of(rt.alloc(), text.as_slice())?;
     judge_by(rt, request, &index, text.as_slice(), rules.as_slice())
+}
+
+/// The text of the rules.
+fn rules_text<'a, R: Files + AllocGlobal>(
+    rt: &R,
+    request: &JudgeRequest<'a>,
+) -> Result<Vec<u8>, Fault<'a>> {
+    match request.rules {
+        Some(name) => read_whole(rt, name),
+        None => standard(rt.alloc()),
+    }
+}
+
+/// Judges a recording that is read packet by packet, whose faults come before those of the rules too.
+fn judge_large<'a, R: Files + AllocGlobal + Print>(
+    rt: &R,
+    request: &JudgeRequest<'a>,
+) -> Result<(), Fault<'a>> {
+    drop(open_to_read(rt, request.recording)?);
+    let text = rules_text(rt, request)?;
+    match rules_of(rt.alloc(), text.as_slice()) {
+        Ok(rules) => judge_large_by(rt, request.recording, rules.as_slice()),
+        Err(fault) => {
+            check_large(rt, request.recording)?;
+            Err(fault)
+        }
+    }
+}
+
+/// Judges a recording that is read packet by packet by these rules.
+fn judge_large_by<'a, R: Files + AllocGlobal + Print>(
+    rt: &R,
+    name: &'a str,
+    rules: &[Rule],
+) -> Result<(), Fault<'a>> {
+    match print_large(rt, name, rules) {
+        Ok(verdicts) => verdict_on(verdicts.as_slice()),
+        Err(PassFault::Opening(error)) => Err(Fault::of_stream(name, &error)),
+        Err(PassFault::Recording(fault)) => Err(fault_of_reading(name, fault)),
+        Err(PassFault::Printing(fault)) => Err(fault_of_printing(fault)),
+    }
+}
+
+fn print_large<R: Files + AllocGlobal + Print>(
+    rt: &R,
+    name: &str,
+    rules: &[Rule],
+) -> Result<Vec<Verdict>, PassFault> {
+    let mut out = BufWriter::new(rt.alloc(), io::writer(rt))?;
+    write_verdicts_from(rt.alloc(), &Large { rt, name }, rules, &mut out)
 }
 
 /// The text of the rule that holds where none is given.

@@ -16,6 +16,7 @@ mod given_words;
 mod hosts;
 mod judged_run;
 mod judging;
+mod large;
 mod live_run;
 mod looking;
 mod looking_line;

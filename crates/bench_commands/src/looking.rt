@@ -18,10 +18,15 @@ pub fn tell_of_loss<R: AllocGlobal, E: Eprint + IsTerminal>(rt: &R, errors: &E, 
         return;
     }
     if is_lossy(rt, bytes) {
-        let _ = eprintln!(errors;
-            "messages are missing from this recording: packets with the overflow flag"
-        );
+        tell_of_missing(errors);
     }
+}
+
+/// Says that messages are missing from a recording.
+pub(crate) fn tell_of_missing<E: Eprint>(errors: &E) {
+    let _ = eprintln!(errors;
+        "messages are missing from this recording: packets with the overflow flag"
+    );
 }
 
 /// Whether sound packets of a recording say that messages are missing from it.

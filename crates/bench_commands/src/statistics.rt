@@ -1,11 +1,15 @@
 //! `bench stat`: the figures of a recording.
 
+use crate::large::{fault_of_reading, tell_of_large_loss};
 use crate::looking::{clock_if, index_of, tell_of_loss};
 use crate::selecting::{GivenSelection, given_selection, selection_in, with_selection};
 use bench_clock::Clock;
-use bench_requests::{Fault, read_whole};
+use bench_requests::{Fault, is_large, open_to_read, read_whole};
 use bench_select::Selection;
-use bench_stat::{ChannelFigures, Shown, StatFault, print_page, print_tables, stat};
+use bench_stat::{
+    ChannelFigures, Shown, StatFault, print_page, print_plain_page, print_plain_rows, print_tables,
+    stat, stat_from,
+};
 use ch11_reader::Index;
 use clap::{Arg, ArgAction, ArgMatches, Command};
 use std::alloc::{AllocError, Global};
@@ -98,13 +102,17 @@ pub(crate) fn stat_request<'a>(given: &ArgMatches<'a>) -> StatRequest<'a> {
 }
 
 /// Prints the figures of a recording, aligned for people or as rows of comma-separated values. Where a selection has no
-/// messages, it says so and ends with the status of a refused input.
+/// messages, it says so and ends with the status of a refused input. A recording of more than 64 MiB is read packet by
+/// packet where nothing more is shown than its figures.
 pub fn show_statistics<'a, R: Files + AllocGlobal + Print, E: Eprint + IsTerminal>(
     rt: &R,
     errors: &E,
     request: &StatRequest<'a>,
 ) -> Result<(), Fault<'a>> {
     let selection = selection_in(&request.selection)?;
+    if request.shown.is_plain() && is_large(rt, request.recording) {
+        return show_large(rt, errors, request, &selection);
+    }
     let bytes = read_whole(rt, request.recording)?;
     let index = index_of(rt.alloc(), bytes.as_slice())?;
     let figures = match stat(rt.alloc(), &index, &selection) {
@@ -118,6 +126,50 @@ pub fn show_statistics<'a, R: Files + AllocGlobal + Print, E: Eprint + IsTermina
     print_figures(rt, &index, &clock, &selection, figures.as_slice(), request)?;
     tell_of_loss(rt, errors, bytes.as_slice());
     Ok(())
+}
+
+/// The same for a recording that is read packet by packet.
+fn show_large<'a, R: Files + AllocGlobal + Print, E: Eprint + IsTerminal>(
+    rt: &R,
+    errors: &E,
+    request: &StatRequest<'a>,
+    selection: &Selection,
+) -> Result<(), Fault<'a>> {
+    let file = open_to_read(rt, request.recording)?;
+    let figures = match stat_from(rt.alloc(), file, selection) {
+        Ok(figures) => figures,
+        Err(fault) => return Err(fault_of_reading(request.recording, fault)),
+    };
+    if *selection != Selection::all() && counts_nothing(figures.as_slice()) {
+        return Err(Fault::NoneSelected);
+    }
+    print_plain(rt, figures.as_slice(), request.rows)?;
+    tell_of_large_loss(rt, errors, request.recording);
+    Ok(())
+}
+
+/// Prints figures with nothing more.
+fn print_plain<'a, R: AllocGlobal + Print>(
+    rt: &R,
+    figures: &[ChannelFigures],
+    rows: bool,
+) -> Result<(), Fault<'a>> {
+    let mut out = match BufWriter::new(rt.alloc(), io::writer(rt)) {
+        Ok(out) => out,
+        Err(error) => return Err(Fault::of_stream("-", &error)),
+    };
+    let printed = if rows {
+        print_plain_rows(&mut out, figures)
+    } else {
+        print_plain_page(&mut out, figures)
+    };
+    if printed.is_err() {
+        return Err(Fault::Device("-"));
+    }
+    match out.flush() {
+        Ok(()) => Ok(()),
+        Err(error) => Err(Fault::of_stream("-", &error)),
+    }
 }
 
 /// Whether no message was counted.

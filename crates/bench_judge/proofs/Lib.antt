@@ -6,3 +6,4 @@ mod Tallying
 mod Writing
 mod Judged
 mod Streamed
+mod Rereading

@@ -5,3 +5,4 @@ pub mod Checks
 pub mod Verdicts
 pub mod Lines
 pub mod Tallies
+pub mod Streaming

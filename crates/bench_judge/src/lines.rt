@@ -59,7 +59,7 @@ fn write_message<W: Write>(
 }
 
 /// Writes those messages of a packet that miss the rule, behind so many messages of the file.
-fn write_messages<W: Write>(
+pub(crate) fn write_messages<W: Write>(
     tally: &mut Tally,
     rule: &Rule,
     before: u64,
@@ -115,7 +115,7 @@ fn write_misses<W: Write>(
 }
 
 /// Writes that a count of the rule of a line is not met.
-fn write_count<W: Write>(out: &mut W, line: u64, selected: u64) -> io::Result<()>
+pub(crate) fn write_count<W: Write>(out: &mut W, line: u64, selected: u64) -> io::Result<()>
     ensures { OnOk result (Appends (W.contents out.old) (W.contents out.new) (count_lines line selected)) }
 {
     write!(
@@ -125,7 +125,12 @@ fn write_count<W: Write>(out: &mut W, line: u64, selected: u64) -> io::Result<()
 }
 
 /// Writes how many messages the rule of a line selects, and how many miss it.
-fn write_numbers<W: Write>(out: &mut W, line: u64, selected: u64, missed: u64) -> io::Result<()>
+pub(crate) fn write_numbers<W: Write>(
+    out: &mut W,
+    line: u64,
+    selected: u64,
+    missed: u64,
+) -> io::Result<()>
     ensures { OnOk result (Appends (W.contents out.old) (W.contents out.new) (rule_line line selected missed)) }
 {
     write!(out, "rule {line} selected {selected} missed {missed}\n")
@@ -171,7 +176,7 @@ fn write_rules<W: Write>(
 }
 
 /// Writes the line behind those of the rules: how many there are, and how many are not held.
-fn write_last<W: Write>(out: &mut W, verdicts: &[Verdict]) -> io::Result<()>
+pub(crate) fn write_last<W: Write>(out: &mut W, verdicts: &[Verdict]) -> io::Result<()>
     ensures { OnOk result (Appends (W.contents out.old) (W.contents out.new)
         (last_line (length verdicts.now) (spec.not_held verdicts.now))) }
 {

@@ -15,14 +15,31 @@ fn size_of<F: OpenFile>(file: &F) -> u64 {
     }
 }
 
+/// Plain files of more bytes than this, 64 MiB (own choice), are read packet by packet and never kept, where a command
+/// can do that.
+const LARGE: u64 = 67_108_864;
+
+/// Whether this is a plain file of more than 67,108,864 bytes.
+pub fn is_large<R: Files>(rt: &R, name: &str) -> bool {
+    match fs::metadata(rt, name) {
+        Ok(about) => about.is_file() && about.len() > LARGE,
+        Err(_) => false,
+    }
+}
+
+/// A file that is to be read from its start. One that cannot be opened is a device fault with its name as given.
+pub fn open_to_read<'a, R: Files>(rt: &R, name: &'a str) -> Result<R::File, Fault<'a>> {
+    match fs::open(rt, name) {
+        Ok(file) => Ok(file),
+        Err(error) => Err(Fault::of_stream(name, &error)),
+    }
+}
+
 /// All bytes of a file. Room for as many as it is said to have is asked for before the first is read. One that cannot
 /// be opened or read, or that does not end within 1,000,000 reads of up to 65,536 bytes (own choice), is a device
 /// fault with its name as given.
 pub fn read_whole<'a, R: Files + AllocGlobal>(rt: &R, name: &'a str) -> Result<Vec<u8>, Fault<'a>> {
-    let mut file = match fs::open(rt, name) {
-        Ok(file) => file,
-        Err(error) => return Err(Fault::of_stream(name, &error)),
-    };
+    let mut file = open_to_read(rt, name)?;
     let size = size_of(&file);
     match read_sized(rt.alloc(), &mut file, size) {
         Ok(bytes) => Ok(bytes),

@@ -17,7 +17,10 @@ pub use apart::{Place, told_apart};
 pub use ending::Ending;
 pub use endings::{ending_of_run, ending_of_settings};
 pub use fault::Fault;
-pub use files::{begin, put_in_place, read_texts, read_whole, replaceable, write_new, writer_of};
+pub use files::{
+    begin, is_large, open_to_read, put_in_place, read_texts, read_whole, replaceable, write_new,
+    writer_of,
+};
 pub use jobs::jobs_of;
 pub use losses::tells_of_loss;
 pub use rules::rules_of;

@@ -34,6 +34,11 @@ pub struct Shown {
 }
 
 impl Shown {
+    /// Whether nothing is shown beside the figures that are always shown.
+    pub fn is_plain(&self) -> bool {
+        !(self.long || self.by_subaddress || self.load || self.time)
+    }
+
     /// The times of day of a channel, where they are asked for.
     pub(crate) fn times_of(&self, clock: &Clock, figures: &ChannelFigures) -> Option<Times> {
         if self.time {
@@ -95,6 +100,19 @@ fn print_losses<W: Write>(
     Ok(())
 }
 
+/// Writes the figures of a channel that are always shown, but its tables.
+pub(crate) fn print_plain_head<W: Write>(
+    out: &mut W,
+    figures: &ChannelFigures,
+    times: Option<Times>,
+) -> io::Result<()> {
+    let channel = figures.channel;
+    writeln!(out, "channel {channel}")?;
+    print_traffic(out, &figures.traffic, times)?;
+    print_errors(out, &figures.errors)?;
+    print_retries(out, figures.retries)
+}
+
 /// Writes the figures of a channel but its tables.
 fn print_head<W: Write>(
     out: &mut W,
@@ -104,13 +122,11 @@ fn print_head<W: Write>(
     long: bool,
     times: Option<Times>,
 ) -> io::Result<()> {
+    if !long {
+        return print_plain_head(out, figures, times);
+    }
     let channel = figures.channel;
     writeln!(out, "channel {channel}")?;
-    if !long {
-        print_traffic(out, &figures.traffic, times)?;
-        print_errors(out, &figures.errors)?;
-        return print_retries(out, figures.retries);
-    }
     let details = Details::of(index, selection, channel);
     print_long_traffic(out, &figures.traffic, times)?;
     print_gaps(out, &details.flow)?;

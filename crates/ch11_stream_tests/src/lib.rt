@@ -7,6 +7,8 @@ mod decoded;
 #[cfg(test)]
 mod equal;
 #[cfg(test)]
+mod rereading;
+#[cfg(test)]
 mod streamed;
 #[cfg(test)]
 mod streams;

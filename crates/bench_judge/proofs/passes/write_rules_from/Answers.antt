@@ -1,0 +1,25 @@
+use Rattle.std.proofs.Common.{◌≡◌, ◌<◌, ◌∙◌, length, take, ap, sym, subst, arith}
+use Rattle.std.specs.Prelude.{Some, slice_get}
+use Rattle.std.proofs.lemmas.List.{take_all}
+use Rattle.std.proofs.lemmas.Option.{slice_get-get_or}
+use Rattle.std.specs.Io.KnownBytes.{Appends}
+use Rattle.judge_rules.specs.declared.rules.Rule.{Rule}
+use Rattle.bench_dump.proofs.Steps.{appends_nothing}
+use Rattle.bench_judge.specs.Streaming.{history_of}
+use Rattle.bench_judge.proofs.Writing.{rules-more}
+use Rattle.bench_judge.proofs.passes.write_rules_from.Goals as goal
+
+pub rules-preserved : goal.rules-preserved
+rules-preserved g c file is read are =
+    let within : c.rules.place < length c.args.rules.now = omega arith in
+    let asked : slice_get c.args.rules.now c.rules.place ≡ Some c.index-rules-place.result =
+    slice_get-get_or c.args.rules.now c.rules.place c.index-rules-place.result within ∙ ap (λ (r : Rule). Some r) (sym c.index-rules-place.is) in
+    let one = are.each c.rules.place c.index-rules-place.result _ asked (slice_get-get_or c.args.verdicts.now c.rules.place _ (omega (arith, c.requires, within))) in
+    rules-more c.args.rules.now c.rules.place c.index-rules-place.result (history_of file) (g.W.Write.contents c.args.out.now) (g.W.Write.contents c.rules.out) (g.W.Write.contents c.write_rule_from.new.out) asked
+    (c.rules.invariant file is read are) (c.in_ok-write_rule_from.ensures file is read one).1
+
+pub returns-in_err-write_rule_from : goal.returns-in_err-write_rule_from
+returns-in_err-write_rule_from g c file is read are = ?
+
+pub returns : goal.returns
+returns g c file is read are = ?

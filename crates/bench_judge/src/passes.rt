@@ -1,0 +1,141 @@
+//! Verdicts as plain lines, of a recording that is read anew for each pass and never kept.
+ghost use Rattle.std.specs.Prelude.{◌≡◌, ℕ, List, Some, Ok, Err, length, IfOk};
+ghost use Rattle.ch11_reader.specs.declared.error.Refusal.{Refusal};
+ghost use Rattle.ch11_reader.specs.Indexed.{found_in};
+ghost use Rattle.ch11_reader.specs.Recording.{packets_in};
+ghost use Rattle.bench_judge.specs.Lines.{rules_lines, verdict_lines, verdict_text};
+ghost use Rattle.bench_judge.specs.Streaming.{Writes, history_of};
+ghost use Rattle.bench_judge.specs.Tallies.{miss_lines};
+ghost use Rattle.bench_judge.specs.Verdicts as spec;
+ghost use Rattle.bench_judge.specs.Verdicts.{AreVerdicts, IsVerdict};
+
+use crate::lines::{write_count, write_last, write_messages, write_numbers};
+use crate::pass_fault::PassFault;
+use crate::reopen::Reopen;
+use crate::streaming::judge_from;
+use crate::tallies::Tally;
+use crate::verdicts::Verdict;
+use ch11_stream::{Packets, StreamFault};
+use judge_rules::Rule;
+use std::alloc::Global;
+use std::io::{Read, Write};
+
+/// Writes the messages that miss a rule, each as a line, of all bytes that a reader has left, as their packets come. A
+/// recording that can't be read is refused with its first fault, K1 to K5, N2 or F1 to F3, and then the writer may have
+/// got lines of packets in front of it; want of memory and failures of the reader and the writer are the others.
+pub fn write_misses_from<R: Read + Drop, W: Write>(
+    alloc: Global,
+    input: R,
+    rule: &Rule,
+    out: &mut W,
+) -> Result<(), PassFault>
+    ensures { (file : List ℕ) → R.remaining input ≡ Some file
+        → Writes (miss_lines rule.now) result file (W.contents out.old) (W.contents out.new) }
+{
+    let mut packets = Packets::over(alloc, input)?;
+    let mut tally = Tally::new(alloc);
+    'packets: for _made in 0..u64::MAX {
+        match packets.next() {
+            Ok(Some(packet)) => write_messages(
+                &mut tally,
+                rule,
+                packet.before,
+                packet.header.channel,
+                packets.messages(),
+                out,
+            )?,
+            Ok(None) => return Ok(()),
+            Err(fault) => return Err(PassFault::Recording(fault)),
+        }
+    }
+    Err(PassFault::Recording(StreamFault::Device))
+}
+
+/// Writes the messages that miss a rule, of which there are so many: in a pass of its own, where there are any.
+fn write_missed_from<S: Reopen, W: Write>(
+    alloc: Global,
+    recording: &S,
+    rule: &Rule,
+    missed: u64,
+    out: &mut W,
+) -> Result<(), PassFault>
+    ensures { (file : List ℕ) → S.bytes recording.now ≡ Some file → packets_in file ≡ Ok (found_in file)
+        → missed ≡ length (spec.missed rule.now (history_of file))
+        → Writes (miss_lines rule.now) result file (W.contents out.old) (W.contents out.new) }
+{
+    if missed == 0 {
+        return Ok(());
+    }
+    match recording.reopen() {
+        Ok(input) => write_misses_from(alloc, input, rule, out),
+        Err(error) => Err(PassFault::Opening(error)),
+    }
+}
+
+/// Writes the lines of a rule, of which this is the verdict.
+fn write_rule_from<S: Reopen, W: Write>(
+    alloc: Global,
+    recording: &S,
+    rule: &Rule,
+    verdict: &Verdict,
+    out: &mut W,
+) -> Result<(), PassFault>
+    ensures { (file : List ℕ) → S.bytes recording.now ≡ Some file → packets_in file ≡ Ok (found_in file)
+        → IsVerdict rule.now (history_of file) verdict.now
+        → Writes (verdict_lines rule.now) result file (W.contents out.old) (W.contents out.new) }
+{
+    if verdict.miscounted {
+        write_count(out, verdict.line, verdict.selected)?;
+        return Ok(());
+    }
+    write_missed_from(alloc, recording, rule, verdict.missed, out)?;
+    write_numbers(out, verdict.line, verdict.selected, verdict.missed)?;
+    Ok(())
+}
+
+/// Writes the lines of all rules, of which these are the verdicts.
+fn write_rules_from<S: Reopen, W: Write>(
+    alloc: Global,
+    recording: &S,
+    rules: &[Rule],
+    verdicts: &[Verdict],
+    out: &mut W,
+) -> Result<(), PassFault>
+    requires { length verdicts.now ≡ length rules.now }
+    ensures { (file : List ℕ) → S.bytes recording.now ≡ Some file → packets_in file ≡ Ok (found_in file)
+        → AreVerdicts rules.now (history_of file) verdicts.now
+        → Writes (rules_lines rules.now) result file (W.contents out.old) (W.contents out.new) }
+{
+    'rules: for place in 0..rules.len() {
+        write_rule_from(alloc, recording, &rules[place], &verdicts[place], out)?;
+    }
+    Ok(())
+}
+
+/// Judges a recording by rules and writes the verdicts as `write_verdicts` does, in memory for the largest packet of
+/// messages, the rules and, where one asks for a period, the channels. In a first pass all rules are judged, and
+/// nothing is written of a recording that is refused; each rule that messages miss takes one more pass, which writes
+/// these. Where the recording changed between the passes, the writer may have got lines in front of a fault of it, and
+/// what a rule's last line counts is what the first pass found.
+pub fn write_verdicts_from<S: Reopen, W: Write>(
+    alloc: Global,
+    recording: &S,
+    rules: &[Rule],
+    out: &mut W,
+) -> Result<Vec<Verdict>, PassFault>
+    ensures verdicts { (file : List ℕ) → S.bytes recording.now ≡ Some file
+        → IfOk result (λ verdicts. AreVerdicts rules.now (history_of file) verdicts.items) }
+    ensures written { (file : List ℕ) → S.bytes recording.now ≡ Some file
+        → Writes (verdict_text rules.now) result file (W.contents out.old) (W.contents out.new) }
+    ensures refused { (file : List ℕ) (r : Refusal) → S.bytes recording.now ≡ Some file → packets_in file ≡ Err r
+        → out.new ≡ out.old }
+{
+    let verdicts = match recording.reopen() {
+        Ok(input) => judge_from(alloc, input, rules)?,
+        Err(error) => return Err(PassFault::Opening(error)),
+    };
+    write_rules_from(alloc, recording, rules, verdicts.as_slice(), out)?;
+    write_last(out, verdicts.as_slice())?;
+    out.flush()?;
+    Ok(verdicts)
+}

@@ -1,0 +1,19 @@
+//! A recording that can be read more than once.
+ghost use Rattle.std.specs.Prelude.{◌≡◌, ℕ, List, Option, None, Some, IfOk};
+
+use std::io;
+use std::io::Read;
+
+/// A recording that is read anew from its start for each pass, as a file is that is opened again.
+pub trait Reopen {
+    // The bytes that each pass finds, where they are known.
+    ghost bytes: { Self → Option (List ℕ) } = { λ _. None };
+
+    /// What reads it.
+    type Reader: Read + Drop;
+
+    /// A reader at the recording's first byte. It fails where the recording can't be opened.
+    fn reopen(&self) -> io::Result<Self::Reader>
+        ensures { (file : List ℕ) → bytes self.now ≡ Some file
+            → IfOk result (λ reader. Self.Reader.remaining reader ≡ Some file) };
+}

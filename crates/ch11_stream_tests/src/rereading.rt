@@ -1,0 +1,156 @@
+//! Verdicts on a recording that is read anew for each pass, worked out by hand.
+
+use crate::equal::{are_bytes, same};
+use crate::streamed::{damaged, pair, refusal};
+use crate::streams::{Slow, reader_of};
+use bench_judge::{PassFault, Reopen, Verdict, write_misses_from, write_verdicts_from};
+use ch11_stream::StreamFault;
+use judge_rules::{Rule, read_rules};
+use std::alloc::Global;
+use std::cell::Cell;
+use std::io;
+use std::io::ErrorKind;
+use std::process::Abort;
+
+/// Rules of which the first message misses the first; the second is held, and the third asks for another count.
+const RULES: &[u8] = b"expect any ok\nexpect any period 1000 1000\nexpect any count 1 1\n";
+
+/// What is written of them.
+const TEXT: &str = "missed 1 message 1 channel 1 stamp 0
+rule 1 selected 2 missed 1
+rule 2 selected 2 missed 0
+missed 3 count 2
+rule 3 selected 2 missed 1
+rules 3 missed 2
+";
+
+/// A recording that may be another from its second pass on, and that can be opened so many times. Its readers give one
+/// byte at a time.
+struct Changing<'a> {
+    first: &'a [u8],
+    later: &'a [u8],
+    most: usize,
+    opened: Cell<usize>,
+}
+
+impl<'a> Reopen for Changing<'a> {
+    type Reader = Slow<'a>;
+
+    fn reopen(&self) -> io::Result<Slow<'a>> {
+        let opened = self.opened.get();
+        self.opened.set(opened.saturating_add(1));
+        if opened >= self.most {
+            return Err(io::Error::from(ErrorKind::NotFound));
+        }
+        let file = if opened == 0 { self.first } else { self.later };
+        Ok(reader_of(file, 1))
+    }
+}
+
+/// The rules.
+fn rules_of(rt: &impl Abort, alloc: Global) -> Vec<Rule> {
+    read_rules(alloc, RULES).ok().expect(rt, "rules")
+}
+
+/// Judges the recording, of which this text is written.
+fn judged(
+    rt: &impl Abort,
+    alloc: Global,
+    recording: &Changing<'_>,
+    text: &str,
+) -> Result<Vec<Verdict>, PassFault> {
+    let rules = rules_of(rt, alloc);
+    let mut out = Vec::new(alloc);
+    let found = write_verdicts_from(alloc, recording, rules.as_slice(), &mut out);
+    are_bytes(rt, &out, text.as_bytes());
+    found
+}
+
+#[test]
+fn verdicts_are_written_in_passes(rt: HostRuntime) {
+    let file = pair();
+    let recording = Changing {
+        first: &file,
+        later: &file,
+        most: 2,
+        opened: Cell::new(0),
+    };
+    let found = judged(&rt, rt.alloc(), &recording, TEXT);
+    same(&rt, &found.ok().expect(&rt, "verdicts").len(), &3);
+    same(&rt, &recording.opened.get(), &2);
+}
+
+#[test]
+fn nothing_is_written_of_a_damaged_recording(rt: HostRuntime) {
+    let file = damaged();
+    let recording = Changing {
+        first: &file,
+        later: &file,
+        most: 2,
+        opened: Cell::new(0),
+    };
+    let found = judged(&rt, rt.alloc(), &recording, "");
+    same(
+        &rt,
+        &stream_fault(found),
+        &Some(StreamFault::Refused(refusal())),
+    );
+}
+
+/// The message that misses a rule stands in front of the fault of the second pass.
+#[test]
+fn a_later_pass_has_its_own_fault(rt: HostRuntime) {
+    let (file, broken) = (pair(), damaged());
+    let recording = Changing {
+        first: &file,
+        later: &broken,
+        most: 2,
+        opened: Cell::new(0),
+    };
+    let line = "missed 1 message 1 channel 1 stamp 0\n";
+    let found = judged(&rt, rt.alloc(), &recording, line);
+    same(
+        &rt,
+        &stream_fault(found),
+        &Some(StreamFault::Refused(refusal())),
+    );
+}
+
+#[test]
+fn a_recording_may_not_be_there_again(rt: HostRuntime) {
+    let file = pair();
+    let recording = Changing {
+        first: &file,
+        later: &file,
+        most: 1,
+        opened: Cell::new(0),
+    };
+    let found = judged(&rt, rt.alloc(), &recording, "");
+    let is_opening = matches!(&found, Err(PassFault::Opening(_)));
+    same(&rt, &is_opening, &true);
+}
+
+/// The fault of the recording, if that is what ended it.
+fn stream_fault<T: Drop>(found: Result<T, PassFault>) -> Option<StreamFault> {
+    match found {
+        Err(PassFault::Recording(fault)) => Some(fault),
+        _ => None,
+    }
+}
+
+#[test]
+fn misses_of_a_rule_come_from_packets(rt: HostRuntime) {
+    let alloc = rt.alloc();
+    let rules = rules_of(&rt, alloc);
+    let rule = rules.as_slice().first().expect(&rt, "a rule");
+    let mut out = Vec::new(alloc);
+    let found = write_misses_from(alloc, reader_of(&pair(), 7), rule, &mut out);
+    same(&rt, &found.is_ok(), &true);
+    are_bytes(&rt, &out, b"missed 1 message 1 channel 1 stamp 0\n");
+    let found = write_misses_from(alloc, reader_of(&damaged(), 7), rule, &mut out);
+    same(
+        &rt,
+        &stream_fault(found),
+        &Some(StreamFault::Refused(refusal())),
+    );
+}
