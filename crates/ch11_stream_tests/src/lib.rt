@@ -5,6 +5,8 @@
 #[cfg(test)]
 mod equal;
 #[cfg(test)]
+mod exported;
+#[cfg(test)]
 mod streamed;
 #[cfg(test)]
 mod streams;

@@ -23,7 +23,7 @@ message 2 channel 1 stamp 10000 block 2000 gaps 0050 words 2823 0001 0002 0003 2
 ";
 
 /// The foreign file twice. The first message had an error; the second has the same command, 1 ms later on line B.
-fn pair() -> [u8; 192] {
+pub(crate) fn pair() -> [u8; 192] {
     let mut file = [0u8; 192];
     file[..96].copy_from_slice(&FOREIGN);
     file[96..].copy_from_slice(&FOREIGN);
@@ -35,14 +35,14 @@ fn pair() -> [u8; 192] {
 }
 
 /// The same without the sync pattern of its last packet.
-fn damaged() -> [u8; 192] {
+pub(crate) fn damaged() -> [u8; 192] {
     let mut file = pair();
     file[128] = 0;
     file
 }
 
 /// The fault of the damaged file.
-fn refusal() -> Refusal {
+pub(crate) fn refusal() -> Refusal {
     Refusal {
         offset: 128,
         fault: Fault::Header(HeaderError::Sync),
@@ -50,7 +50,7 @@ fn refusal() -> Refusal {
 }
 
 /// A reader that fails behind so many bytes.
-fn failing(file: &[u8], end: usize) -> Slow<'_> {
+pub(crate) fn failing(file: &[u8], end: usize) -> Slow<'_> {
     let (front, _) = file.split_at(end.min(file.len()));
     Slow {
         fails: true,
