@@ -12,8 +12,11 @@ use Rattle.ch11_stream.specs.Folding.{Finds, IsFaultOf}
 use Rattle.judge_rules.specs.declared.rules.Rule.{Rule}
 use Rattle.bench_dump.proofs.Steps.{appends_both}
 use Rattle.bench_judge.specs.declared.verdicts.Verdict.{Verdict}
+use Rattle.bench_judge.specs.declared.pass_fault.PassFault.{PassFault}
+use Rattle.bench_judge.specs.declared.pass_fault.PassFault.TheVariants.{Opening, Printing, Recording}
 use Rattle.bench_judge.specs.Checks.{counts}
 use Rattle.bench_judge.specs.Lines.{count_lines, rule_line, verdict_lines}
+use Rattle.bench_judge.specs.Streaming.{Writes}
 use Rattle.bench_judge.specs.Tallies.{miss_lines}
 use Rattle.bench_judge.specs.Verdicts.{Heard, IsVerdict, missed, selected}
 
@@ -39,6 +42,12 @@ whole_rule rule history verdict got mid gets is kept misses line =
     let counted : counts rule.check (length (selected rule history)) ≡ true = counted_if _ verdict.miscounted is.3 kept in
     let numbers : Appends mid gets (rule_line rule.line (length (selected rule history)) (length (missed rule history))) = rw (is.0, is.1, is.2) at line in
     rw counted (appends_both got mid gets (miss_lines rule history) (rule_line rule.line (length (selected rule history)) (length (missed rule history))) misses numbers)
+
+-- a fault in front of some lines is one in front of others
+pub same_fault : (lines others : List Heard → List ℕ) (e : PassFault) (file : List ℕ) (got mid gets then : Option (List ℕ)) → Writes {A = Unit {0}} lines (Err e) file got mid → Writes {A = Unit {0}} others (Err e) file gets then
+same_fault lines others (Opening e) file got mid gets then is = tt
+same_fault lines others (Recording e) file got mid gets then is = is
+same_fault lines others (Printing e) file got mid gets then is = tt
 
 -- no file can be read and is refused
 pub read_or_refused : (file : List ℕ) (ps : List Found) (r : Refusal) → packets_in file ≡ Ok ps → packets_in file ≡ Err r → ⊥

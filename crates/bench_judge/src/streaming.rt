@@ -1,5 +1,5 @@
 //! One pass for all rules over a recording whose packets come from a reader.
-ghost use Rattle.std.specs.Prelude.{◌≡◌, ℕ, List, Some, reverse};
+ghost use Rattle.std.specs.Prelude.{◌≡◌, ℕ, List, Some, IfOk, length, reverse};
 ghost use Rattle.ch11_reader.specs.Contents.{heard_in};
 ghost use Rattle.ch11_stream.specs.Folding.{Finds};
 ghost use Rattle.bench_judge.specs.Verdicts.{AreVerdicts};
@@ -20,7 +20,8 @@ pub fn judge_from<R: Read + Drop>(
     input: R,
     rules: &[Rule],
 ) -> Result<Vec<Verdict>, StreamFault>
-    ensures { (file : List ℕ) → R.remaining input ≡ Some file
+    ensures many { IfOk result (λ verdicts. length verdicts.items ≡ length rules.now) }
+    ensures judged { (file : List ℕ) → R.remaining input ≡ Some file
         → Finds (λ ps verdicts. AreVerdicts rules.now (reverse (heard_in ps)) verdicts.items) result file }
 {
     let mut packets = Packets::over(alloc, input)?;

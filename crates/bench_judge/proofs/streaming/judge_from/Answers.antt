@@ -36,8 +36,8 @@ packets-preserved g c =
       counted = subst (λ (ts : List Tally). AreTallies c.args.rules.now (heard_so_far now.earlier) ts) (sym (with_items_is c.packets.tallies c.note_messages.new.tallies kept)) on;
     }
 
-pub returns-in-Ok-None : goal.returns-in-Ok-None
-returns-in-Ok-None g c file is =
+pub returns-in-Ok-None-clause-judged : goal.returns-in-Ok-None-clause-judged
+returns-in-Ok-None-clause-judged g c file is =
     let e = rw c.in-Ok-None.field-0-is at c.in-Ok-None.ensures in
     let all = all_found file c.packets.packets c.next.new.self e (c.packets.invariant.known file is) in (
       all.0,
@@ -45,5 +45,8 @@ returns-in-Ok-None g c file is =
           (c.in_ok-verdicts-in-Ok-None.ensures (heard_so_far c.packets.packets.earlier) c.packets.invariant.counted),
     )
 
-pub returns-in-Err : goal.returns-in-Err
-returns-in-Err g c file is = not_found file c.packets.packets c.next.new.self c.in-Err.fault c.in-Err.ensures (c.packets.invariant.known file is)
+pub returns-in-Err-clause-judged : goal.returns-in-Err-clause-judged
+returns-in-Err-clause-judged g c file is = not_found file c.packets.packets c.next.new.self c.in-Err.fault c.in-Err.ensures (c.packets.invariant.known file is)
+
+pub returns-in-Ok-None-clause-many : goal.returns-in-Ok-None-clause-many
+returns-in-Ok-None-clause-many g c = (c.in_ok-verdicts-in-Ok-None.ensures (heard_so_far c.packets.packets.earlier) c.packets.invariant.counted).many
