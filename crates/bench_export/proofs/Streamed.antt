@@ -46,7 +46,7 @@ rows_on k clock got mid gets before now p s so_far one = rw (s.entered, one_behi
     (subst (Appends got gets) (sym (rows_behind k clock 0 (reverse before.earlier) (last_found now p)))
     (appends_both got mid gets (packets_text k clock 0 (reverse before.earlier)) (rows_text k clock (0 + total_in (reverse before.earlier)) p.header.channel now.given) so_far (rw (behind before now p s) at one)))
 
-pub selects_on : (s : Selection) (selected : Bool) (before now : Reading) (p : Packet) → IsStep before now p → selected ≡ selects_any s (reverse before.earlier)
-    → (selected || selects_among s p.before p.header.channel now.given) ≡ selects_any s (reverse now.earlier)
-selects_on s selected before now p step so_far = rw (step.entered, one_behind (last_found now p) before.earlier, so_far, behind before now p step)
+pub selects_on : (s : Selection) (selected any : Bool) (before now : Reading) (p : Packet) → IsStep before now p → selected ≡ selects_any s (reverse before.earlier)
+    → any ≡ (selected || selects_among s p.before p.header.channel now.given) → any ≡ selects_any s (reverse now.earlier)
+selects_on s selected any before now p step so_far is = rw (is, step.entered, one_behind (last_found now p) before.earlier, so_far, behind before now p step)
     (sym (selects_one_behind s 0 (reverse before.earlier) (last_found now p)))

@@ -1,4 +1,4 @@
-use Rattle.std.proofs.Common.{◌≡◌, ◌∙◌, List, refl, subst}
+use Rattle.std.proofs.Common.{◌≡◌, List, refl, subst}
 use Rattle.std.specs.Io.KnownBytes.{Appends}
 use Rattle.csv.specs.Writing.{text_written}
 use Rattle.ch11_reader.specs.Recording.{Found}
@@ -26,7 +26,7 @@ packets-preserved g c =
       known = λ file is. amid_on file c.packets.packets now c.in-Ok-Some.packet s (c.packets.invariant.known file is);
       between = c.in_ok-selected-in-Ok-Some.ensures.between;
       written = rows_on c.args.table.now c.args.clock.now _ _ _ c.packets.packets now c.in-Ok-Some.packet s c.packets.invariant.written c.in_ok-selected-in-Ok-Some.ensures.written;
-      selected = c.in_ok-selected-in-Ok-Some.ensures.selected ∙ selects_on c.args.table.now.selection c.packets.selected c.packets.packets now c.in-Ok-Some.packet s c.packets.invariant.selected;
+      selected = selects_on c.args.table.now.selection c.packets.selected c.in_ok-selected-in-Ok-Some.selected c.packets.packets now c.in-Ok-Some.packet s c.packets.invariant.selected c.in_ok-selected-in-Ok-Some.ensures.selected;
     }
 
 pub returns-in-Ok-None : goal.returns-in-Ok-None
