@@ -1,14 +1,9 @@
 -- Lines of verdicts on a recording that is read anew for each pass.
-use Rattle.std.proofs.Common.{◌≡◌, ℕ, List, ◌++◌, length, reverse, refl, sym, ap, ◌∙◌, subst}
-use Rattle.std.specs.Prelude.{Bool, true, false, not, Option, Result, Ok, Err}
+use Rattle.std.proofs.Common.{◌≡◌, ℕ, List, length, refl, sym, ◌∙◌}
+use Rattle.std.specs.Prelude.{Bool, true, false, not, Option, Ok, Err}
 use Rattle.std.specs.Io.KnownBytes.{Appends}
 use Rattle.ch11_reader.specs.declared.error.Refusal.{Refusal}
-use Rattle.ch11_reader.specs.Contents.{heard_in}
-use Rattle.ch11_reader.specs.Indexed.{found_in}
 use Rattle.ch11_reader.specs.Recording.{Found, packets_in}
-use Rattle.ch11_stream.specs.declared.fault.StreamFault.{StreamFault}
-use Rattle.ch11_stream.specs.declared.fault.StreamFault.TheVariants.{Device, Memory, Refused}
-use Rattle.ch11_stream.specs.Folding.{Finds, IsFaultOf}
 use Rattle.judge_rules.specs.declared.rules.Rule.{Rule}
 use Rattle.bench_dump.proofs.Steps.{appends_both}
 use Rattle.bench_judge.specs.declared.verdicts.Verdict.{Verdict}

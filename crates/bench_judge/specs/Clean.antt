@@ -12,7 +12,7 @@ use Rattle.mil_message.specs.declared.forms.Due.{Due}
 use Rattle.mil_message.specs.declared.forms.Form.{Form}
 use Rattle.mil_message.specs.Forms as forms
 use Rattle.mil_message.specs.Forms.{replies_due}
-use Rattle.mil_message.specs.Parts.{Parts, parts_of, request_at}
+use Rattle.mil_message.specs.Parts.{Parts, request_at}
 use Rattle.mil_message.specs.Request.{Request}
 use Rattle.mil_message.specs.Rules.{checked}
 use Rattle.ch11_f1.specs.BodyReading.{Message}
