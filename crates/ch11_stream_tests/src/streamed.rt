@@ -98,29 +98,36 @@ fn pair_figures() -> ChannelFigures {
 }
 
 /// The figures of a reader's file, or its fault.
-fn counted(
-    rt: &impl Abort,
-    alloc: Global,
-    input: Slow<'_>,
-    wanted: &Result<&[ChannelFigures], StreamFault>,
-) {
-    let found = stat_from(alloc, input, &Selection::all());
-    match found {
-        Ok(figures) => same(rt, &Ok(figures.as_slice()), wanted),
-        Err(fault) => same(rt, &Err(fault), wanted),
-    }
+fn counted(alloc: Global, input: Slow<'_>) -> Result<Vec<ChannelFigures>, StreamFault> {
+    stat_from(alloc, input, &Selection::all())
+}
+
+/// How many channels of a file have figures.
+fn count_of(rt: &impl Abort, alloc: Global, file: &[u8]) -> usize {
+    let found = counted(alloc, reader_of(file, 1));
+    found.ok().expect(rt, "figures").len()
 }
 
 #[test]
 fn figures_come_from_packets(rt: HostRuntime) {
-    let alloc = rt.alloc();
-    let figures = [pair_figures()];
-    counted(&rt, alloc, reader_of(&pair(), 1), &Ok(&figures));
-    counted(&rt, alloc, reader_of(&[], 1), &Ok(&[]));
-    counted(&rt, alloc, reader_of(&FOREIGN[..32], 1), &Ok(&[]));
-    let refused = Err(StreamFault::Refused(refusal()));
-    counted(&rt, alloc, reader_of(&damaged(), 1), &refused);
-    counted(&rt, alloc, failing(&pair(), 150), &Err(StreamFault::Device));
+    let found = counted(rt.alloc(), reader_of(&pair(), 1));
+    let figures = found.ok().expect(&rt, "figures");
+    same(&rt, &figures.len(), &1);
+    same(
+        &rt,
+        &figures.as_slice().first().copied(),
+        &Some(pair_figures()),
+    );
+    same(&rt, &count_of(&rt, rt.alloc(), &[]), &0);
+    same(&rt, &count_of(&rt, rt.alloc(), &FOREIGN[..32]), &0);
+}
+
+#[test]
+fn a_damaged_file_has_no_figures(rt: HostRuntime) {
+    let found = counted(rt.alloc(), reader_of(&damaged(), 1));
+    same(&rt, &found.err(), &Some(StreamFault::Refused(refusal())));
+    let found = counted(rt.alloc(), failing(&pair(), 150));
+    same(&rt, &found.err(), &Some(StreamFault::Device));
 }
 
 /// How many figures a selection of a channel has.
