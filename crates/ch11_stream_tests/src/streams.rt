@@ -60,13 +60,11 @@ pub(crate) fn reader_of(file: &[u8], most: usize) -> Slow<'_> {
     }
 }
 
-/// The messages are those of a packet of the index.
-fn are_alike(rt: &impl Abort, messages: Messages<'_>, index: &Index<'_>, packet: &Packet) {
-    let mut number = packet.before;
+/// Messages are the same as others.
+fn are_alike(rt: &impl Abort, messages: Messages<'_>, others: Messages<'_>) {
+    let mut others = others;
     for seen in messages {
-        number = number.wrapping_add(1);
-        let (channel, wanted) = index.message(number).expect(rt, "a message");
-        same(rt, &channel, &packet.header.channel);
+        let wanted = others.next().expect(rt, "a message");
         same(
             rt,
             &(seen.stamp, seen.block, seen.gaps),
@@ -74,7 +72,7 @@ fn are_alike(rt: &impl Abort, messages: Messages<'_>, index: &Index<'_>, packet:
         );
         are_bytes(rt, seen.words, wanted.words);
     }
-    same(rt, &number.wrapping_sub(packet.before), &packet.count);
+    same(rt, &others.left(), &0);
 }
 
 /// The reader gives the packets of these bytes, which are sound, and then that.
@@ -87,9 +85,10 @@ fn gives(
 ) {
     let index = Index::build(alloc, sound).ok().expect(rt, "a sound file");
     let mut packets = Packets::over(alloc, input).ok().expect(rt, "memory");
-    for packet in index.packets() {
-        same(rt, &packets.next(), &Ok(Some(*packet)));
-        are_alike(rt, packets.messages(), &index, packet);
+    let listed = index.packets();
+    for place in 0..listed.len() {
+        same(rt, &packets.next(), &Ok(Some(listed[place])));
+        are_alike(rt, packets.messages(), index.messages_in(place));
     }
     same(rt, &packets.next(), &end);
     same(rt, &packets.next(), &end);
