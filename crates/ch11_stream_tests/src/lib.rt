@@ -10,3 +10,5 @@ mod exported;
 mod streamed;
 #[cfg(test)]
 mod streams;
+#[cfg(test)]
+mod waves;
