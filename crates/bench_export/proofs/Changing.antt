@@ -1,7 +1,5 @@
 -- Changes that were collected, one message after the other.
-use Rattle.std.proofs.Common.{◌≡◌, ℕ, zero, suc, ◌+◌, ◌≤◌, List, [], ◌∷◌, ◌++◌, length, take, drop, refl, sym, ap, subst, ◌∙◌, append_assoc, add-one, arith}
-use Rattle.std.specs.List.Sorted.{IsPermutation, IsStableByKey, IsNonDecreasingBy}
-use Rattle.std.specs.Ordering.{nat_cmp}
+use Rattle.std.proofs.Common.{◌≡◌, ℕ, ◌+◌, ◌≤◌, List, [], ◌∷◌, ◌++◌, length, take, drop, refl, sym, ap, ◌∙◌, append_assoc, add-one, arith}
 use Rattle.std.proofs.lemmas.List.{append-nil, drop_all}
 use Rattle.ch11_f1.specs.BodyReading.{Message}
 use Rattle.ch11_layout.specs.Layouts.{size_of}
@@ -11,7 +9,7 @@ use Rattle.ch11_reader.specs.Contents.{total_in}
 use Rattle.bench_dump.proofs.Packets.{IsAt}
 use Rattle.bench_select.specs.declared.selection.Selection.{Selection}
 use Rattle.bench_export.specs.declared.changes.Change.{Change}
-use Rattle.bench_export.specs.Changes.{changes_at, changes_up_to, changes_of, changes_if, changes_among, changes_behind, changes_in, tick_of, AreInOrder}
+use Rattle.bench_export.specs.Changes.{changes_at, changes_up_to, changes_of, changes_if, changes_among, changes_behind, changes_in}
 
 pub no_words : (got : List Change) (n channel : ℕ) (m : Message) → got ≡ got ++ changes_up_to 0 n channel m
 unfolding changes_up_to
@@ -78,8 +76,3 @@ one_packet s mid gets place ps e a g on =
 pub all_packets : (s : Selection) (got : List Change) (place : ℕ) (ps : List Found) → length ps ≤ place → IsCollecting s got place ps → got ≡ changes_in s ps
 all_packets s got place ps past g =
     sym (append-nil got) ∙ ap (λ (qs : List Found). got ++ changes_behind s (total_in (take place ps)) qs) (sym (drop_all place ps past)) ∙ g
-
--- changes that were sorted
-pub in_order : (given cs ordered : List Change) → given ≡ cs → IsPermutation given ordered → IsNonDecreasingBy tick_of ordered → IsStableByKey tick_of nat_cmp given ordered
-    → AreInOrder cs ordered
-in_order given cs ordered is same rising stable = subst (λ (xs : List Change). AreInOrder xs ordered) is (record { same = same; rising = rising; stable = stable })

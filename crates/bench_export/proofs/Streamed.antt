@@ -1,5 +1,5 @@
 -- Rows of packets as they come from a reader.
-use Rattle.std.proofs.Common.{◌≡◌, ◌∙◌, Bool, ◌||◌, ℕ, ◌+◌, List, [], ◌∷◌, ◌++◌, length, reverse, Option, sym, ap, subst, append-nil, append_assoc, arith}
+use Rattle.std.proofs.Common.{◌≡◌, ◌∙◌, Bool, ◌||◌, ℕ, ◌+◌, List, [], ◌∷◌, ◌++◌, length, reverse, Option, refl, sym, ap, subst, append-nil, append_assoc, arith}
 use Rattle.std.proofs.Math.Bool.{or-false, or_assoc}
 use Rattle.std.specs.Io.KnownBytes.{Appends}
 use Rattle.ch11_reader.specs.declared.packet.Packet.{Packet}
@@ -10,20 +10,31 @@ use Rattle.ch11_stream.proofs.Folding.{one_behind, total_reverse}
 use Rattle.bench_clock.specs.declared.clock.Mark.{Mark}
 use Rattle.bench_dump.proofs.Steps.{appends_both}
 use Rattle.bench_select.specs.declared.selection.Selection.{Selection}
+use Rattle.bench_export.specs.declared.changes.Change.{Change}
 use Rattle.bench_export.specs.declared.whole.Table.{Table}
+use Rattle.bench_export.specs.Changes.{changes_among, changes_behind, changes_in}
 use Rattle.bench_export.specs.Choosing.{selects_among, selects_any, selects_behind}
 use Rattle.bench_export.specs.Tables.{packets_text, rows_text}
 
--- the rows of one packet more
-rows_behind : (k : Table) (clock : List Mark) (before : ℕ) (ps : List Found) (q : Found) → packets_text k clock before (ps ++ q ∷ []) ≡ packets_text k clock before ps ++ rows_text k clock (before + total_in ps) q.header.channel q.messages
-rows_behind k clock before [] q =
-    let none : before + 0 ≡ before = omega arith in
-    append-nil (rows_text k clock before q.header.channel q.messages) ∙ ap (λ (n : ℕ). rows_text k clock n q.header.channel q.messages) (sym none)
-rows_behind k clock before (p ∷ ps) q =
-    let total : (before + length p.messages) + total_in ps ≡ before + total_in (p ∷ ps) = omega arith in
-    ap (λ (l : List ℕ). rows_text k clock before p.header.channel p.messages ++ l)
-    (rows_behind k clock (before + length p.messages) ps q ∙ ap (λ (n : ℕ). packets_text k clock (before + length p.messages) ps ++ rows_text k clock n q.header.channel q.messages) total)
-    ∙ sym (append_assoc (rows_text k clock before p.header.channel p.messages) (packets_text k clock (before + length p.messages) ps) (rows_text k clock (before + total_in (p ∷ ps)) q.header.channel q.messages))
+-- what each packet adds behind so many messages, and what one packet more does
+parts_behind : {A : Type 0} (one : ℕ → Found → List A) (all : ℕ → List Found → List A) → ((n : ℕ) → all n [] ≡ []) → ((n : ℕ) (p : Found) (ps : List Found) → all n (p ∷ ps) ≡ one n p ++ all (n + length p.messages) ps)
+    → (n : ℕ) (ps : List Found) (q : Found) → all n (ps ++ q ∷ []) ≡ all n ps ++ one (n + total_in ps) q
+parts_behind {A = A} one all none step n [] q =
+    let same : n + 0 ≡ n = omega arith in
+    step n q [] ∙ ap (λ (l : List A). one n q ++ l) (none (n + length q.messages)) ∙ append-nil (one n q)
+    ∙ ap (λ (k : ℕ). one k q) (sym same) ∙ ap (λ (l : List A). l ++ one (n + 0) q) (sym (none n))
+parts_behind {A = A} one all none step n (p ∷ ps) q =
+    let total : (n + length p.messages) + total_in ps ≡ n + total_in (p ∷ ps) = omega arith in
+    step n p (ps ++ q ∷ [])
+    ∙ ap (λ (l : List A). one n p ++ l) (parts_behind one all none step (n + length p.messages) ps q ∙ ap (λ (k : ℕ). all (n + length p.messages) ps ++ one k q) total)
+    ∙ sym (append_assoc (one n p) (all (n + length p.messages) ps) (one (n + total_in (p ∷ ps)) q))
+    ∙ ap (λ (l : List A). l ++ one (n + total_in (p ∷ ps)) q) (sym (step n p ps))
+
+rows_behind : (k : Table) (clock : List Mark) (ps : List Found) (q : Found) → packets_text k clock 0 (ps ++ q ∷ []) ≡ packets_text k clock 0 ps ++ rows_text k clock (0 + total_in ps) q.header.channel q.messages
+rows_behind k clock ps q = parts_behind (λ n p. rows_text k clock n p.header.channel p.messages) (packets_text k clock) (λ n. refl) (λ n p ps. refl) 0 ps q
+
+changes_one_behind : (s : Selection) (ps : List Found) (q : Found) → changes_in s (ps ++ q ∷ []) ≡ changes_in s ps ++ changes_among s (0 + total_in ps) q.header.channel q.messages
+changes_one_behind s ps q = parts_behind (λ n p. changes_among s n p.header.channel p.messages) (changes_behind s) (λ n. refl) (λ n p ps. refl) 0 ps q
 
 -- whether a message of it is selected
 selects_one_behind : (s : Selection) (before : ℕ) (ps : List Found) (q : Found) → selects_behind s before (ps ++ q ∷ []) ≡ (selects_behind s before ps || selects_among s (before + total_in ps) q.header.channel q.messages)
@@ -43,8 +54,18 @@ behind before now p s = omega (arith, ap (λ (x : Packet). x.before) s.listed, t
 pub rows_on : (k : Table) (clock : List Mark) (got mid gets : Option (List ℕ)) (before now : Reading) (p : Packet) → IsStep before now p → Appends got mid (packets_text k clock 0 (reverse before.earlier))
     → Appends mid gets (rows_text k clock p.before p.header.channel now.given) → Appends got gets (packets_text k clock 0 (reverse now.earlier))
 rows_on k clock got mid gets before now p s so_far one = rw (s.entered, one_behind (last_found now p) before.earlier)
-    (subst (Appends got gets) (sym (rows_behind k clock 0 (reverse before.earlier) (last_found now p)))
+    (subst (Appends got gets) (sym (rows_behind k clock (reverse before.earlier) (last_found now p)))
     (appends_both got mid gets (packets_text k clock 0 (reverse before.earlier)) (rows_text k clock (0 + total_in (reverse before.earlier)) p.header.channel now.given) so_far (rw (behind before now p s) at one)))
+
+pub changes_on : (s : Selection) (got mid gets : List Change) (before now : Reading) (p : Packet) → IsStep before now p → mid ≡ got ++ changes_in s (reverse before.earlier)
+    → gets ≡ mid ++ changes_among s p.before p.header.channel now.given → gets ≡ got ++ changes_in s (reverse now.earlier)
+changes_on s got mid gets before now p step so_far is = rw (step.entered, one_behind (last_found now p) before.earlier)
+    (
+    is ∙ ap (λ (l : List Change). l ++ changes_among s p.before p.header.channel now.given) so_far
+    ∙ append_assoc got (changes_in s (reverse before.earlier)) (changes_among s p.before p.header.channel now.given)
+    ∙ ap (λ (n : ℕ). got ++ (changes_in s (reverse before.earlier) ++ changes_among s n p.header.channel now.given)) (behind before now p step)
+    ∙ ap (λ (l : List Change). got ++ l) (sym (changes_one_behind s (reverse before.earlier) (last_found now p)))
+    )
 
 pub selects_on : (s : Selection) (selected any : Bool) (before now : Reading) (p : Packet) → IsStep before now p → selected ≡ selects_any s (reverse before.earlier)
     → any ≡ (selected || selects_among s p.before p.header.channel now.given) → any ≡ selects_any s (reverse now.earlier)

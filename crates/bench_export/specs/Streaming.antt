@@ -7,7 +7,7 @@ use Rattle.bench_export.specs.declared.fault.ExportFromFault.{ExportFromFault}
 use Rattle.bench_export.specs.declared.fault.ExportFromFault.TheVariants as faults
 
 -- The file can be read, and what was answered is so related to its packets; or reading ended, where a refusal is with
--- the file's first fault; or a row could not be written, which may come with any file.
+-- the file's first fault; or it could not be written, which may come with any file.
 abbrev pub Exports : {A : Type 0} → (List Found → A → Type 0) → Result A ExportFromFault → List ℕ → Type 0
 Exports P (Ok x) file = (packets_in file ≡ Ok (found_in file)) × P (found_in file) x
 Exports P (Err (faults.Reading f)) file = IsFaultOf file f

@@ -155,7 +155,7 @@ fn push_selected(
 }
 
 /// Adds the changes of a packet's selected messages, behind so many messages of the file.
-fn push_messages(
+pub(crate) fn push_messages(
     changes: &mut Vec<Change>,
     selection: &Selection,
     before: u64,
@@ -206,7 +206,14 @@ pub(crate) fn ordered_changes(
 ) -> Result<Vec<Change>, AllocError>
     ensures { IfOk result (λ changes. spec.AreInOrder (spec.changes_in selection.now index.now) changes.items) }
 {
-    let mut changes = changes_in(alloc, index, selection)?;
+    let changes = changes_in(alloc, index, selection)?;
+    ordered(changes)
+}
+
+/// Changes by rising tick, those of one tick in their order.
+pub(crate) fn ordered(mut changes: Vec<Change>) -> Result<Vec<Change>, AllocError>
+    ensures { IfOk result (λ ordered. spec.AreInOrder changes.items ordered.items) }
+{
     changes.sort_by_key(|change| change.tick)?;
     Ok(changes)
 }

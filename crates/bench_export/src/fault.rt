@@ -48,10 +48,11 @@ impl From<io::Error> for ExportFault {
 #[derive(Clone, Copy, Debug, PartialEq, Eq)]
 pub enum ExportFromFault {
     /// The next packet could not be read: the recording is refused with its first fault, memory for a packet of
-    /// messages was refused, or the reader failed. The writer may have got rows of packets in front of it.
+    /// messages was refused, or the reader failed. The writer may have got rows of packets in front of it; nothing of a
+    /// value change dump.
     Reading(StreamFault),
 
-    /// A row could not be written: memory was refused, or the writer failed.
+    /// What was read could not be written: memory for it was refused, or the writer failed.
     Writing(ExportFault),
 }
 

@@ -30,7 +30,11 @@ pub fn export_waves<W: Write>(
 }
 
 /// Writes changes that are in order.
-fn write_waves<W: Write>(alloc: Global, changes: &[Change], out: &mut W) -> Result<(), ExportFault>
+pub(crate) fn write_waves<W: Write>(
+    alloc: Global,
+    changes: &[Change],
+    out: &mut W,
+) -> Result<(), ExportFault>
     ensures { OnOk result (Appends (W.contents out.old) (W.contents out.new) (spec.waves_text changes.now)) }
 {
     let head = head_of(alloc, changes)?;

@@ -15,3 +15,5 @@ mod rereading;
 mod streamed;
 #[cfg(test)]
 mod streams;
+#[cfg(test)]
+mod waves;

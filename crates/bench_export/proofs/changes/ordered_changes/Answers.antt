@@ -1,11 +1,4 @@
-use Rattle.std.proofs.Common.{rules}
-use Rattle.std.proofs.lemmas.List.Sorted.{answers_always, IsNonDecreasingBy-from_sort_by_key}
-use Rattle.bench_export.specs.declared.changes.Change.{Change}
-use Rattle.bench_export.proofs.Changing.{in_order}
 use Rattle.bench_export.proofs.changes.ordered_changes.Goals as goal
 
 pub returns : goal.returns
-returns c =
-    in_order _ _ _ c.in_ok-changes.ensures c.in_ok-sort_by_key.ensures.permutation
-    (IsNonDecreasingBy-from_sort_by_key (λ (x : Change). x.tick) _ c.in_ok-sort_by_key.ensures.sorted (λ a r q k. search rules))
-    (c.in_ok-sort_by_key.ensures.stable (λ (x : Change). x.tick) (answers_always _ _ _ (λ f a r q k. search rules)))
+returns c = rw c.in_ok-changes.ensures at c.ordered.ensures
