@@ -14,6 +14,7 @@ use std::io::{self, ErrorKind, IsTerminal, Read};
 use std::rt::Files;
 
 /// A recording that is opened anew for each pass over it.
+#[derive(Drop)]
 pub(crate) struct Large<'f, R> {
     pub(crate) rt: &'f R,
     pub(crate) name: &'f str,

@@ -26,6 +26,7 @@ rules 3 missed 2
 
 /// A recording that may be another from its second pass on, and that can be opened so many times. Its readers give one
 /// byte at a time.
+#[derive(Drop)]
 struct Changing<'a> {
     first: &'a [u8],
     later: &'a [u8],
