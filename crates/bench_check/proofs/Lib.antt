@@ -1,4 +1,5 @@
 pub mod Filtered
+pub mod Firsts
 pub mod Fitted
 pub mod Heads
 pub mod Noted

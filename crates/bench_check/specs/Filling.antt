@@ -1,6 +1,7 @@
 -- Whether a terminal has words to transmit (own choice): its host put some up, by an action that is placed at the
 -- message or at one before it.
-use Rattle.std.specs.Prelude.{ℕ, ◌==◌, ◌&&◌, Bool, false, nat_le, List}
+use Rattle.std.specs.Prelude.{◌≡◌, ℕ, ◌+◌, ◌*◌, ◌<◌, ◌==◌, ◌&&◌, Bool, false, nat_le, List, length, slice_index_or}
+use Rattle.std.specs.Prelude.{Option, Some, None}
 use Rattle.std.specs.List.{list_any}
 use Rattle.mil_host.specs.declared.actions.Action.{Action}
 use Rattle.mil_host.specs.declared.actions.Action.TheVariants.{Transmit}
@@ -17,3 +18,14 @@ fills number address sub p = nat_le p.number number && (p.address == address && 
 
 abbrev pub is_filled : ℕ → ℕ → ℕ → List Placed → Bool
 is_filled number address sub actions = list_any (fills number address sub) actions
+
+-- a number that was kept, if any, is that of this message or of one before it
+abbrev pub is_reached : Option ℕ → ℕ → Bool
+is_reached None number = false
+is_reached (Some first) number = nat_le first number
+
+-- for each address and subaddress the least number at which one of the actions puts words up there is kept
+pub record AreFirsts (firsts : List (Option ℕ)) (actions : List Placed) : Type 0 where
+  pub all : length firsts ≡ 1024
+  pub told : (number address sub : ℕ) → address < 32 → sub < 32
+      → is_reached (slice_index_or firsts (32 * address + sub) None) number ≡ is_filled number address sub actions

@@ -1,36 +1,102 @@
 //! Whether a terminal has words to transmit.
-ghost use Rattle.std.specs.Prelude.{◌≡◌};
+ghost use Rattle.std.specs.Prelude.{◌≡◌, ◌+◌, ◌*◌, ◌<◌, ◌++◌, ◌∷◌, [], ℕ, List, nat_le, ◌||◌};
+ghost use Rattle.bc_machine.specs.declared.placed.Placed.{Placed as PlacedAction};
 ghost use Rattle.bench_check.specs.Filling as spec;
 
 use bc_machine::{Actions, Placed};
 use mil_host::Action;
+use std::marker::Model;
 
-/// Whether the action puts words up at this subaddress.
-fn puts_up(sub: u8, action: &Action) -> bool
-    ensures { result ≡ spec.puts_up sub action.now }
-{
-    match action {
-        Action::Transmit(words) => words.sub() == sub,
-        _ => false,
+/// How many addresses there are, and how many subaddresses.
+const ADDRESSES: u8 = 32;
+
+/// How many pairs of an address and a subaddress there are.
+const PAIRS: usize = 1024;
+
+/// Placed actions, and for each terminal and subaddress from which message on they have put words up there, so that a
+/// look at it takes the same time however many actions there are. Contracts see the actions alone.
+#[derive(Drop)]
+pub struct Filled {
+    placed: Actions,
+    /// The least number at which words are put up, where they are at all.
+    firsts: [Option<u32>; PAIRS],
+}
+
+impl Model for Filled {
+    ghost use Rattle.std.specs.Prelude.{List};
+    ghost use Rattle.bc_machine.specs.declared.placed.Placed.{Placed};
+
+    ghost Value = { List Placed };
+
+    ghost use Rattle.bench_check.specs.Filling.{AreFirsts};
+
+    ghost view = { λ f. f.placed };
+
+    ghost invariant = { λ f. AreFirsts f.firsts f.placed };
+}
+
+impl Filled {
+    /// These actions. It takes no memory.
+    pub fn of(placed: Actions) -> Filled
+        ensures { result ≡ placed }
+    {
+        let mut firsts = [None; PAIRS];
+        for place in 0..placed.len() {
+            note(&mut firsts, &placed.get(place));
+        }
+        Filled { placed, firsts }
     }
-}
 
-/// Whether the action puts words up at this subaddress of a terminal, before or at the message of a number.
-fn fills(number: u32, address: u8, sub: u8, placed: &Placed) -> bool
-    ensures { result ≡ spec.fills number address sub placed.now }
-{
-    placed.number <= number && placed.address == address && puts_up(sub, &placed.action)
-}
+    /// The actions.
+    pub fn actions(&self) -> &Actions
+        ensures { result.now ≡ self.now }
+    {
+        &self.placed
+    }
 
-/// Whether the host of a terminal put words up at a subaddress, by one of these actions, before or at the message of a
-/// number, counted from 1.
-pub fn is_filled(number: u32, address: u8, sub: u8, actions: &Actions) -> bool
-    ensures { result ≡ spec.is_filled number address sub actions.now }
-{
-    for place in 0..actions.len() {
-        if fills(number, address, sub, &actions.get(place)) {
-            return true;
+    /// Whether the host of a terminal put words up at a subaddress, by one of these actions, before or at the message
+    /// of a number, counted from 1.
+    pub fn is_filled(&self, number: u32, address: u8, sub: u8) -> bool
+        requires address { address < 32 }
+        requires sub { sub < 32 }
+        ensures { result ≡ spec.is_filled number address sub self.now }
+    {
+        match self.firsts[pair(address, sub)] {
+            Some(first) => first <= number,
+            None => false,
         }
     }
-    false
+}
+
+/// The place of an address and a subaddress among all pairs of these.
+fn pair(address: u8, sub: u8) -> usize
+    requires address { address < 32 }
+    requires sub { sub < 32 }
+    ensures { result ≡ 32 * address + sub }
+{
+    32 * usize::from(address) + usize::from(sub)
+}
+
+/// The lesser of a number and the one that was kept, if any.
+fn earlier(first: Option<u32>, number: u32) -> u32
+    ensures { (n : ℕ) → nat_le result n ≡ (spec.is_reached first n || nat_le number n) }
+{
+    match first {
+        Some(first) => first.min(number),
+        None => number,
+    }
+}
+
+/// Notes where an action puts words up, and at which message. (What is done at an address above 31 is done at no
+/// terminal.)
+fn note(firsts: &mut [Option<u32>; PAIRS], one: &Placed)
+    ensures { (before : List PlacedAction) → spec.AreFirsts firsts.old before
+        → spec.AreFirsts firsts.new (before ++ one.now ∷ []) }
+{
+    if let Action::Transmit(words) = &one.action {
+        if one.address < ADDRESSES {
+            let place = pair(one.address, words.sub());
+            firsts[place] = Some(earlier(firsts[place], one.number));
+        }
+    }
 }

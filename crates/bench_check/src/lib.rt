@@ -17,7 +17,7 @@ mod trying;
 
 pub use calls::Calls;
 pub use fault::CheckFault;
-pub use filling::is_filled;
+pub use filling::Filled;
 pub use findings::{Findings, print_findings, print_summary};
 pub use fitting::{Tight, tight_frames};
 pub use frames::Overrun;

@@ -1,4 +1,6 @@
 //! The lines of a message.
+ghost use Rattle.bc_machine.specs.Rising.{IsRising};
+
 use bc_machine::{Actions, Placed};
 use bitflags::Flags;
 use frame_text::print;
@@ -35,18 +37,18 @@ pub(crate) fn put_message(
     write!(text, "message {number} at {whole}.{part} us: {words}")
 }
 
-/// Puts a line for each action that is placed at a message, as it stands in a job.
+/// Puts a line for each action that is placed at a message, as it stands in a job, where numbers never fall.
 pub(crate) fn put_actions(
     text: &mut String,
     number: u32,
     actions: &Actions,
-) -> Result<(), AllocError> {
-    for place in 0..actions.len() {
-        if actions.number(place) == number {
-            text.push_str("  ")?;
-            put_action(text, &actions.get(place))?;
-            text.push_str("\n")?;
-        }
+) -> Result<(), AllocError>
+    requires { IsRising actions.now }
+{
+    for place in actions.behind(number.saturating_sub(1))..actions.behind(number) {
+        text.push_str("  ")?;
+        put_action(text, &actions.get(place))?;
+        text.push_str("\n")?;
     }
     Ok(())
 }

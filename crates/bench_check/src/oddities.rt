@@ -1,6 +1,5 @@
 //! What the messages of a job do that is probably a mistake, beside whom they call.
-use crate::filling::is_filled;
-use bc_machine::Actions;
+use crate::filling::Filled;
 use mil_bus::Talk;
 use mil_message::Commands;
 use mil_mode::codes::{TRANSMIT_LAST_COMMAND, TRANSMIT_STATUS_WORD};
@@ -46,12 +45,12 @@ impl Oddities {
     }
 
     /// Takes in the message of a number, behind all others.
-    pub(crate) fn note(&mut self, number: u32, actions: &Actions, talk: &Talk) {
+    pub(crate) fn note(&mut self, number: u32, filled: &Filled, talk: &Talk) {
         self.note_answer(number, talk);
         let commands = talk.message.commands();
-        self.note_call(number, actions, commands.first);
+        self.note_call(number, filled, commands.first);
         if let Some(second) = commands.second {
-            self.note_call(number, actions, second);
+            self.note_call(number, filled, second);
         }
     }
 
@@ -88,10 +87,10 @@ impl Oddities {
     }
 
     /// A command of the message of a number.
-    fn note_call(&mut self, number: u32, actions: &Actions, command: Command) {
+    fn note_call(&mut self, number: u32, filled: &Filled, command: Command) {
         let (address, sub) = (command.address(), command.subaddress());
         let transmits = command.is_transmit() && !command.is_mode() && !command.is_broadcast();
-        if transmits && sub != WRAP_AROUND && !is_filled(number, address, sub, actions) {
+        if transmits && sub != WRAP_AROUND && !filled.is_filled(number, address, sub) {
             let (row, place) = (usize::from(address), usize::from(sub));
             if self.unfilled[row][place] == 0 {
                 self.unfilled[row][place] = number;

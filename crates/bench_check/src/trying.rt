@@ -1,6 +1,7 @@
 //! A job, tried message by message.
 ghost use Rattle.std.specs.Prelude.{◌≡◌, ◌++◌, ◌+◌, ◌-◌, ◌<◌, ◌≤◌, ◌^◌, true, not, IfOk, OnOk};
 ghost use Rattle.std.specs.List.{filter, list_all};
+ghost use Rattle.bc_machine.specs.Rising.{IsRising};
 ghost use Rattle.mil_line.specs.Ranges.{is_in_range};
 ghost use Rattle.mil_line.specs.Plans.{faults_of};
 ghost use Rattle.mil_bus.specs.Exchange.{now_of, talk_start};
@@ -11,6 +12,7 @@ ghost use Rattle.bench_check.specs.Overruns.{overruns, overruns_at};
 
 use crate::calls::Calls;
 use crate::fault::CheckFault;
+use crate::filling::Filled;
 use crate::findings::Findings;
 use crate::frames::{Overrun, note_frame};
 use crate::meeting::meets;
@@ -91,12 +93,14 @@ fn add_numbered(
 fn note<W: Write>(
     alloc: Global,
     job: &Job,
+    filled: &Filled,
     number: u32,
     coming: &Upcoming,
     unmet: &mut Vec<(u32, Fault)>,
     told: &mut Told,
     out: &mut W,
 ) -> Result<(), CheckFault>
+    requires rising { IsRising filled.now }
     requires clock { now_of coming.now.bus < 2 ^ 60 }
     requires start { coming.now.talk.start ≡ talk_start coming.now.bus coming.now.gap }
     ensures { OnOk result (unmet.new.items
@@ -106,14 +110,23 @@ fn note<W: Write>(
 {
     let mut text = String::new(alloc);
     put_message(alloc, &mut text, number, &coming.talk)?;
-    put_actions(&mut text, number, job.actions())?;
+    put_actions(&mut text, number, filled.actions())?;
     let faults = job.plan().faults(number);
     note_faults(alloc, &mut text, unmet, number, coming, faults.as_slice())?;
     put_outcome(&mut text, &coming.talk, told.bits)?;
     told.calls.note(number, &coming.talk.message);
-    told.oddities.note(number, job.actions(), &coming.talk);
+    told.oddities.note(number, filled, &coming.talk);
     out.write_all(text.as_bytes())?;
     Ok(())
+}
+
+/// The actions of a job by rising numbers, and where they put words up. It fails for want of memory alone.
+fn filled_by(job: &Job) -> Result<Filled, AllocError>
+    ensures { IfOk result (λ filled. IsRising filled) }
+{
+    let mut placed = job.actions().copy()?;
+    placed.sort()?;
+    Ok(Filled::of(placed))
 }
 
 /// Prints the line of a frame that the next step closes, and keeps it where it took longer than its period.
@@ -147,6 +160,7 @@ pub fn try_job<W: Write>(
 {
     job_runs();
     let room = job.program().worst_messages() + 1;
+    let filled = filled_by(job)?;
     let mut told = Told {
         bits,
         calls: Calls::none(),
@@ -160,7 +174,9 @@ pub fn try_job<W: Write>(
         match machine.upcoming()? {
             Some(coming) => {
                 let number = machine.number() + 1;
-                note(alloc, job, number, &coming, &mut unmet, &mut told, out)?;
+                note(
+                    alloc, job, &filled, number, &coming, &mut unmet, &mut told, out,
+                )?;
                 let _ = machine.step();
             }
             None => match machine.step() {

@@ -3,10 +3,9 @@
 use crate::command_line::file;
 use crate::completing::{fault_of, start_of, with_time, write_out};
 use crate::hosts::{Errors, Host};
-use crate::live_run::{Way, record};
+use crate::live_run::{Run, record};
 use crate::recording::finish;
 use bench_complete::{Additions, CompleteFault, Completion, UtcSecond};
-use bench_core::Settings;
 use bench_live::Show;
 use bench_report::Report;
 use bench_requests::{Ending, Fault, RunFiles, RunRequest, read_whole};
@@ -120,19 +119,18 @@ fn is_heard(alloc: Global, job: &Job) -> Result<bool, AllocError> {
 /// packets on the channel of a job that makes a message, which is in the recording where buses are held.
 fn judge_before(
     alloc: Global,
-    jobs: &[Job],
-    settings: &Settings,
+    run: Run<'_>,
     drops: bool,
     additions: &Additions<'_>,
 ) -> Result<(), CompleteFault> {
-    match Completion::plan(alloc, &settings.prologue, additions) {
+    match Completion::plan(alloc, &run.settings.prologue, additions) {
         Ok(_) | Err(CompleteFault::Refused(_)) => {}
         Err(fault) => return Err(fault),
     }
     if drops || additions.start.is_none() {
         return Ok(());
     }
-    for job in jobs {
+    for job in run.jobs {
         if job.channel() == additions.time_channel && is_heard(alloc, job)? {
             return Err(CompleteFault::ChannelTaken);
         }
@@ -140,16 +138,14 @@ fn judge_before(
     Ok(())
 }
 
-/// Records jobs and settings that may be run, and writes the complete file of the recording into files that were begun,
-/// then the report, which is answered. Where there is a fault, what was there stays.
+/// Records a run, and writes the complete file of the recording into files that were begun, then the report, which is
+/// answered. Where there is a fault, what was there stays.
 pub(crate) fn record_completed<'a, R: Host, E: Errors>(
     rt: &R,
     errors: &E,
     request: &RunRequest<'a>,
-    way: Way,
+    run: Run<'_>,
     show: Option<&Show>,
-    jobs: &[Job],
-    settings: &Settings,
     additions: &Additions<'_>,
     files: RunFiles<'a, R::File>,
 ) -> Result<Report, Fault<'a>>
@@ -157,9 +153,7 @@ where
     R::Reader: 'static,
 {
     let mut files = files;
-    match complete_into(
-        rt, errors, request, way, show, jobs, settings, additions, &mut files,
-    ) {
+    match complete_into(rt, errors, request, run, show, additions, &mut files) {
         Ok(report) => finish(rt, files, report),
         Err(fault) => {
             files.end(rt, Ending::Broken)?;
@@ -178,27 +172,25 @@ fn with_text<'b>(additions: &Additions<'_>, text: &'b [u8]) -> Additions<'b> {
     }
 }
 
-/// Records jobs, and writes the complete file of the recording, which is kept in memory until then. What is to be added
+/// Records a run, and writes the complete file of the recording, which is kept in memory until then. What is to be added
 /// is judged before the first message as far as that needs no recording, and again behind the last.
 fn complete_into<'a, R: Host, E: Errors>(
     rt: &R,
     errors: &E,
     request: &RunRequest<'a>,
-    way: Way,
+    run: Run<'_>,
     show: Option<&Show>,
-    jobs: &[Job],
-    settings: &Settings,
     additions: &Additions<'_>,
     files: &mut RunFiles<'a, R::File>,
 ) -> Result<Report, Fault<'a>>
 where
     R::Reader: 'static,
 {
-    if let Err(fault) = judge_before(rt.alloc(), jobs, settings, request.drops, additions) {
+    if let Err(fault) = judge_before(rt.alloc(), run, request.drops, additions) {
         return Err(fault_of(fault, ""));
     }
     let sink = MemorySink::make(rt.alloc());
-    let (report, sink) = match record(rt, errors, way, show, jobs, settings, sink) {
+    let (report, sink) = match record(rt, errors, run, show, sink) {
         Ok(recorded) => recorded,
         Err(RunError::Sink { .. }) => return Err(Fault::Memory),
         Err(error) => return Err(Fault::of_run(&error)),

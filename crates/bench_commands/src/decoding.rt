@@ -1,14 +1,15 @@
 //! `bench dump --decode`, and the selection of messages of `bench dump`.
 
 use crate::judging::is_for_people;
+use crate::large::{Noted, check_large, fault_of_dump, tell_of_large_loss};
 use crate::looking::tell_of_loss;
 use crate::selecting::{GivenSelection, given_selection, selection_in, with_selection};
-use bench_decode::{Output, Shown, decode};
-use bench_dump::DumpFault;
-use bench_requests::{Fault, read_whole};
+use bench_decode::{Output, Shown, decode, decode_from};
+use bench_requests::{Fault, is_large, open_to_read, read_whole};
 use bench_select::Selection;
 use clap::{Arg, ArgAction, ArgMatches, Command};
 use std::alloc::{AllocError, Global};
+use std::cell::Cell;
 use std::io::{self, IsTerminal};
 use std::rt::{Env, Files};
 
@@ -70,16 +71,36 @@ pub(crate) fn decode_request<'a>(given: &ArgMatches<'a>) -> DecodeRequest<'a> {
 }
 
 /// Shows the messages that are asked for. Where a selection has none, it says so and ends with the status of a refused
-/// input.
+/// input. A recording of more than 64 MiB is read packet by packet, unless it is damaged or its messages are to be
+/// sorted, which want all of it.
 pub(crate) fn show_messages<'a, R: Env + Files + AllocGlobal + Print, E: Eprint + IsTerminal>(
     rt: &R,
     errors: &E,
     request: &DecodeRequest<'a>,
 ) -> Result<(), Fault<'a>> {
-    let selection = selection_in(&request.selection)?;
+    let output = output_of(rt, request)?;
+    if !request.skip && !request.by_time && is_large(rt, request.recording) {
+        return show_large(rt, errors, request.recording, &output);
+    }
     let bytes = read_whole(rt, request.recording)?;
-    let output = Output {
-        selection,
+    let printed = decode(rt.alloc(), bytes.as_slice(), &mut io::writer(rt), &output);
+    match printed {
+        Ok(count) => {
+            some_selected(count, &output)?;
+            tell_of_loss(rt, errors, bytes.as_slice());
+            Ok(())
+        }
+        Err(fault) => Err(fault_of_dump(request.recording, fault, false)),
+    }
+}
+
+/// What is asked for, as it is printed.
+fn output_of<'a, R: Env + Files + AllocGlobal>(
+    rt: &R,
+    request: &DecodeRequest<'a>,
+) -> Result<Output, Fault<'a>> {
+    Ok(Output {
+        selection: selection_in(&request.selection)?,
         decoded: request.decoded,
         shown: if request.decoded && is_for_people(rt) {
             Shown::Colored
@@ -88,15 +109,44 @@ pub(crate) fn show_messages<'a, R: Env + Files + AllocGlobal + Print, E: Eprint 
         },
         skip: request.skip,
         by_time: request.by_time,
+    })
+}
+
+/// The fault of a selection that has none of the messages.
+fn some_selected<'a>(count: u64, output: &Output) -> Result<(), Fault<'a>> {
+    if count == 0 && output.selection != Selection::all() {
+        return Err(Fault::NoneSelected);
+    }
+    Ok(())
+}
+
+/// Shows messages of a recording in two passes over it: none where the first refuses it.
+fn show_large<'a, R: Files + AllocGlobal + Print, E: Eprint + IsTerminal>(
+    rt: &R,
+    errors: &E,
+    name: &'a str,
+    output: &Output,
+) -> Result<(), Fault<'a>> {
+    check_large(rt, name)?;
+    let count = print_large(rt, name, output)?;
+    some_selected(count, output)?;
+    tell_of_large_loss(rt, errors, name);
+    Ok(())
+}
+
+/// Prints messages of a recording that was checked, and answers how many.
+fn print_large<'a, R: Files + AllocGlobal + Print>(
+    rt: &R,
+    name: &'a str,
+    output: &Output,
+) -> Result<u64, Fault<'a>> {
+    let failed = Cell::new(false);
+    let input = Noted {
+        file: open_to_read(rt, name)?,
+        failed: &failed,
     };
-    match decode(rt.alloc(), bytes.as_slice(), &mut io::writer(rt), &output) {
-        Ok(0) if selection != Selection::all() => Err(Fault::NoneSelected),
-        Ok(_) => {
-            tell_of_loss(rt, errors, bytes.as_slice());
-            Ok(())
-        }
-        Err(DumpFault::Refused(refusal)) => Err(Fault::Recording(refusal)),
-        Err(DumpFault::Memory) => Err(Fault::Memory),
-        Err(DumpFault::Device) => Err(Fault::Device("-")),
+    match decode_from(rt.alloc(), input, &mut io::writer(rt), output) {
+        Ok(count) => Ok(count),
+        Err(fault) => Err(fault_of_dump(name, fault, failed.get())),
     }
 }

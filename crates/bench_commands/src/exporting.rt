@@ -1,17 +1,24 @@
 //! `bench export`: the messages of a recording for spreadsheets, data frames and waveform viewers.
 
 use crate::command_line::{file, force};
+use crate::large::fault_of_reading;
 use crate::looking::{clock_if, index_of};
 use crate::selecting::{GivenSelection, given_selection, selection_in, with_selection};
 use bench_clock::Clock;
-use bench_export::{Columns, ExportFault, Table, export, export_waves, selects_any};
-use bench_files::{Hold, Kind};
-use bench_requests::{Fault, begin, put_in_place, read_whole, replaceable, told_apart, writer_of};
+use bench_export::{
+    Columns, ExportFault, ExportFromFault, Table, export, export_from, export_waves, selects_any,
+};
+use bench_files::{Hold, Kind, OutFile, leads_to_output};
+use bench_requests::{
+    Fault, begin, is_large, open_to_read, put_in_place, read_whole, replaceable, told_apart,
+    writer_of,
+};
 use bench_select::Selection;
 use ch11_reader::Index;
 use clap::{Arg, ArgAction, ArgMatches, Command};
 use std::alloc::{AllocError, Global};
-use std::io::{BufWriter, Write};
+use std::fs;
+use std::io::{BufWriter, Read, Write};
 use std::rt::Files;
 
 /// As what messages are exported.
@@ -145,7 +152,7 @@ fn columns_in(given: &ArgMatches<'_>) -> Columns {
 
 /// Writes the messages of a recording, or those that were selected, for other programs. The out file takes the place of
 /// what is there once it is whole; it may not be the recording itself. Where a selection has no message, nothing is
-/// written.
+/// written. Rows without times of day of a recording of more than 64 MiB are written as it is read, packet by packet.
 pub(crate) fn export_recording<'a, R: Files + AllocGlobal>(
     rt: &R,
     request: &ExportRequest<'a>,
@@ -157,6 +164,15 @@ where
     let (out, kind) = (request.out, request.exported.kind());
     told_apart(rt, &[out], &[request.recording])?;
     replaceable(rt, out, kind, request.force)?;
+    if let Exported::Rows {
+        columns,
+        timed: false,
+    } = request.exported
+    {
+        if is_large(rt, request.recording) && is_replaced(rt, out) {
+            return export_large(rt, request, columns, selection);
+        }
+    }
     let bytes = read_whole(rt, request.recording)?;
     let index = index_of(rt.alloc(), bytes.as_slice())?;
     if !request.selection.is_empty() && !selects_any(&index, &selection) {
@@ -173,12 +189,83 @@ where
         Ok(writer) => write_exported(rt.alloc(), &index, &clock, &selection, request, writer),
         Err(fault) => Err(fault),
     };
+    end(rt, out, file, answer)
+}
+
+/// Gives the out file its place where all was written, and else leaves what is there.
+fn end<'a, R: Files + AllocGlobal>(
+    rt: &R,
+    out: &'a str,
+    file: OutFile<'a, R::File>,
+    answer: Result<(), Fault<'a>>,
+) -> Result<(), Fault<'a>>
+where
+    R::File: Hold,
+{
     match answer {
         Ok(()) => put_in_place(rt, out, file),
         Err(fault) => {
             file.give_up(rt);
             Err(fault)
         }
+    }
+}
+
+/// Whether what is written to this name takes its place only once it is whole: a new file, or a plain one that is not
+/// the standard output.
+fn is_replaced<R: Files>(rt: &R, name: &str) -> bool {
+    match fs::metadata(rt, name) {
+        Ok(about) => about.is_file() && !leads_to_output(rt, name),
+        Err(_) => true,
+    }
+}
+
+/// Writes the rows of a recording as it is read, packet by packet.
+fn export_large<'a, R: Files + AllocGlobal>(
+    rt: &R,
+    request: &ExportRequest<'a>,
+    columns: Columns,
+    selection: Selection,
+) -> Result<(), Fault<'a>>
+where
+    R::File: Hold,
+{
+    let input = open_to_read(rt, request.recording)?;
+    let mut file = begin(rt, request.out, request.exported.kind(), request.force)?;
+    let table = Table {
+        columns,
+        timed: false,
+        selection,
+    };
+    let answer = match writer_of(rt, request.out, &mut file) {
+        Ok(writer) => write_large(rt.alloc(), input, &table, request, writer),
+        Err(fault) => Err(fault),
+    };
+    end(rt, request.out, file, answer)
+}
+
+/// Writes the rows of what a reader has left to the out file.
+fn write_large<'a, F: Read + Drop, W: Write + Drop>(
+    alloc: Global,
+    input: F,
+    table: &Table,
+    request: &ExportRequest<'a>,
+    writer: W,
+) -> Result<(), Fault<'a>> {
+    let clock = Clock::of(alloc, &[], &[])?;
+    match export_from(alloc, input, table, &clock, writer) {
+        Ok(exported) if exported.selected || request.selection.is_empty() => Ok(()),
+        Ok(_) => Err(Fault::NoneSelected),
+        Err(ExportFromFault::Reading(fault)) => Err(fault_of_reading(request.recording, fault)),
+        Err(ExportFromFault::Writing(fault)) => Err(fault_of_writing(request.out, fault)),
+    }
+}
+
+/// The fault of an out file that was not written to its end.
+fn fault_of_writing<'a>(out: &'a str, fault: ExportFault) -> Fault<'a> {
+    match fault {
+        ExportFault::Memory => Fault::Memory,
+        ExportFault::Device => Fault::Device(out),
     }
 }
 
@@ -204,8 +291,7 @@ fn write_exported<'a, W: Write + Drop>(
     };
     match written {
         Ok(()) => Ok(()),
-        Err(ExportFault::Memory) => Err(Fault::Memory),
-        Err(ExportFault::Device) => Err(Fault::Device(request.out)),
+        Err(fault) => Err(fault_of_writing(request.out, fault)),
     }
 }
 

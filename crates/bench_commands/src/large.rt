@@ -30,9 +30,9 @@ impl<'f, R: Files> Reopen for Large<'f, R> {
 
 /// A file that notes whether it could not be read.
 #[derive(Drop)]
-struct Noted<'f, F> {
-    file: F,
-    failed: &'f Cell<bool>,
+pub(crate) struct Noted<'f, F> {
+    pub(crate) file: F,
+    pub(crate) failed: &'f Cell<bool>,
 }
 
 impl<'f, F: Read> Read for Noted<'f, F> {
@@ -53,6 +53,16 @@ pub(crate) fn fault_of_reading<'a>(name: &'a str, fault: StreamFault) -> Fault<'
         StreamFault::Refused(refusal) => Fault::Recording(refusal),
         StreamFault::Memory => Fault::Memory,
         StreamFault::Device => Fault::Device(name),
+    }
+}
+
+/// The fault of a recording that was not printed to its end: the reader's, where that failed.
+pub(crate) fn fault_of_dump<'a>(name: &'a str, fault: DumpFault, failed: bool) -> Fault<'a> {
+    match fault {
+        DumpFault::Refused(refusal) => Fault::Recording(refusal),
+        DumpFault::Memory => Fault::Memory,
+        DumpFault::Device if failed => Fault::Device(name),
+        DumpFault::Device => Fault::Device("-"),
     }
 }
 
@@ -102,9 +112,7 @@ fn dump_files<'a, R: Files + AllocGlobal + Print>(
     let mut out = io::writer(rt);
     match dump_in_two_passes(rt.alloc(), first, second, &mut out) {
         Ok(()) => Ok(()),
-        Err(DumpFault::Refused(refusal)) => Err(Fault::Recording(refusal)),
-        Err(DumpFault::Memory) => Err(Fault::Memory),
-        Err(DumpFault::Device) => Err(Fault::Device(if failed.get() { name } else { "-" })),
+        Err(fault) => Err(fault_of_dump(name, fault, failed.get())),
     }
 }
 

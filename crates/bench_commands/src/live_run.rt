@@ -39,6 +39,14 @@ pub(crate) struct Way {
     manner: Manner,
 }
 
+/// A run that may begin: its jobs and settings, which were judged, and how it goes on.
+#[derive(Clone, Copy)]
+pub(crate) struct Run<'r> {
+    pub(crate) jobs: &'r [Job],
+    pub(crate) settings: &'r Settings,
+    pub(crate) way: Way,
+}
+
 /// The options of a run that say how it goes on.
 pub(crate) fn with_going<'a>(
     alloc: Global,
@@ -138,25 +146,23 @@ pub(crate) fn end_showing<R: Threads, E: Eprint>(rt: &R, errors: &E, showing: Op
     }
 }
 
-/// The report of a recording that is whole, and its sink: of a run that goes on like that, whose messages are shown
-/// where there is something that shows them.
+/// The report of a recording that is whole, and its sink: of a run whose messages are shown where there is something
+/// that shows them.
 pub(crate) fn record<R: Host, E: Errors, S: Sink + Drop>(
     rt: &R,
     errors: &E,
-    way: Way,
+    run: Run<'_>,
     show: Option<&Show>,
-    jobs: &[Job],
-    settings: &Settings,
     sink: S,
 ) -> Result<(Report, S), RunError<S>>
 where
     R::Reader: 'static,
     requires countable { S.failures sink < 2 ^ 64 - 1 }
 {
-    let manner = way.manner;
-    if way.live {
-        return record_beside(rt, errors, manner, show, jobs, settings, sink);
+    if run.way.live {
+        return record_beside(rt, errors, run, show, sink);
     }
+    let (jobs, settings, manner) = (run.jobs, run.settings, run.way.manner);
     if manner.pace.is_some() || show.is_some() {
         return record_paced(rt, rt.alloc(), errors, jobs, settings, manner, show, sink);
     }
@@ -172,10 +178,8 @@ where
 fn record_beside<R: Host, E: Errors, S: Sink + Drop>(
     rt: &R,
     errors: &E,
-    manner: Manner,
+    run: Run<'_>,
     show: Option<&Show>,
-    jobs: &[Job],
-    settings: &Settings,
     sink: S,
 ) -> Result<(Report, S), RunError<S>>
 where
@@ -183,6 +187,7 @@ where
     requires countable { S.failures sink < 2 ^ 64 - 1 }
 {
     let alloc = rt.alloc();
+    let (jobs, settings, manner) = (run.jobs, run.settings, run.way.manner);
     let Ok((desk, hands, inboxes)) = open_desk(alloc, jobs) else {
         return Err(RunError::Memory { sink });
     };

@@ -5,9 +5,9 @@ use crate::completed_run::{
 };
 use crate::hosts::{Errors, Host};
 use crate::judged_run::{judge_run, rules_of_run};
-use crate::live_run::{Going, Way, begin_showing, end_showing, record, way_of, with_posts};
+use crate::live_run::{Going, Run, begin_showing, end_showing, record, way_of, with_posts};
 use bench_complete::Additions;
-use bench_core::{Settings, judge};
+use bench_core::judge;
 use bench_files::Hold;
 use bench_live::Show;
 use bench_report::Report;
@@ -17,7 +17,6 @@ use bench_requests::{
 };
 use bench_run_command::{Counts, print_counts, refusals};
 use ch11_writer::StdSink;
-use job_file::Job;
 use std::alloc::{AllocError, Global};
 use std::io;
 use std::io::{BufWriter, Write};
@@ -62,25 +61,26 @@ where
         files.end(rt, ending_of_settings(&refused))?;
         return Err(Fault::of_settings(refused));
     }
-    record_and_tell(
-        rt, errors, request, way, going, &jobs, &settings, additions, files,
-    )?;
+    let run = Run {
+        jobs: &jobs,
+        settings: &settings,
+        way,
+    };
+    record_and_tell(rt, errors, request, going, run, additions, files)?;
     match rules {
         Some(rules) => judge_run(rt, errors, request, &rules),
         None => Ok(()),
     }
 }
 
-/// Records jobs and settings that may be run into files that were begun, and prints how much was recorded, behind the
-/// messages where these are shown.
+/// Records a run into files that were begun, and prints how much was recorded, behind the messages where these are
+/// shown.
 fn record_and_tell<'a, R: Host, E: Errors>(
     rt: &R,
     errors: &E,
     request: &RunRequest<'a>,
-    way: Way,
     going: &Going<'a>,
-    jobs: &[Job],
-    settings: &Settings,
+    run: Run<'_>,
     additions: Option<Additions<'_>>,
     files: RunFiles<'a, R::File>,
 ) -> Result<(), Fault<'a>>
@@ -97,24 +97,19 @@ where
         None => None,
     };
     let recorded = match additions {
-        None => record_into(rt, errors, way, show, jobs, settings, files),
-        Some(additions) => record_completed(
-            rt, errors, request, way, show, jobs, settings, &additions, files,
-        ),
+        None => record_into(rt, errors, run, show, files),
+        Some(additions) => record_completed(rt, errors, request, run, show, &additions, files),
     };
     end_showing(rt, errors, showing);
     tell(rt, errors, is_output, &recorded?)
 }
 
-/// Records jobs and settings that may be run into files that were begun, and gives these their places. The report is
-/// answered.
+/// Records a run into files that were begun, and gives these their places. The report is answered.
 fn record_into<'a, R: Host, E: Errors>(
     rt: &R,
     errors: &E,
-    way: Way,
+    run: Run<'_>,
     show: Option<&Show>,
-    jobs: &[Job],
-    settings: &Settings,
     files: RunFiles<'a, R::File>,
 ) -> Result<Report, Fault<'a>>
 where
@@ -128,7 +123,7 @@ where
             return Err(fault);
         }
     };
-    match record(rt, errors, way, show, jobs, settings, StdSink::make(file)) {
+    match record(rt, errors, run, show, StdSink::make(file)) {
         Ok((report, sink)) => {
             drop(sink);
             finish(rt, files, report)

@@ -1,5 +1,5 @@
 //! The messages of a recording as people read them: what `bench dump --decode` prints, a line a message.
-//! Its tests are in `command_tests`.
+//! Its tests are in `command_tests`, and in `ch11_stream_tests` what it prints of packets as they come.
 #![tactic(auto)]
 
 mod chosen;
@@ -12,6 +12,7 @@ mod messages;
 mod modes;
 mod numbers;
 mod replies;
+mod streaming;
 mod times;
 mod whole;
 
@@ -22,5 +23,6 @@ pub use forms::Form;
 pub use line::{Line, Shown};
 pub use messages::{Place, write_columns, write_message};
 pub use numbers::Numbers;
+pub use streaming::decode_from;
 pub use times::Time;
 pub use whole::{Output, decode};

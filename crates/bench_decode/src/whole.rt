@@ -8,7 +8,7 @@ use bench_dump::DumpFault;
 use bench_select::Selection;
 use ch11_f1::{Messages, Seen};
 use ch11_reader::{Index, ReadError, Skip};
-use std::alloc::Global;
+use std::alloc::{AllocError, Global};
 use std::io;
 use std::io::Write;
 
@@ -29,10 +29,21 @@ pub struct Output {
 
 /// What a recording is printed with, on the way.
 #[derive(Drop)]
-struct Printing {
-    line: Line,
+pub(crate) struct Printing {
+    pub(crate) line: Line,
     numbers: Numbers,
-    count: u64,
+    pub(crate) count: u64,
+}
+
+impl Printing {
+    /// Nothing was printed yet.
+    pub(crate) fn begin(alloc: Global, shown: Shown) -> Result<Printing, AllocError> {
+        Ok(Printing {
+            line: Line::new(alloc, shown)?,
+            numbers: Numbers::new(alloc)?,
+            count: 0,
+        })
+    }
 }
 
 /// Prints the selected messages of a recording, a line each, in the file's order, and answers how many there were; in
@@ -67,11 +78,7 @@ fn decode_index<W: Write>(
     out: &mut W,
     output: &Output,
 ) -> Result<u64, DumpFault> {
-    let mut printing = Printing {
-        line: Line::new(alloc, output.shown)?,
-        numbers: Numbers::new(alloc)?,
-        count: 0,
-    };
+    let mut printing = Printing::begin(alloc, output.shown)?;
     if output.by_time {
         put_skips(alloc, &mut printing.line, out, skips, usize::MAX)?;
         put_by_time(alloc, &mut printing, out, output, index)?;
@@ -141,7 +148,7 @@ fn put_skips<'s, W: Write>(
 }
 
 /// Prints the selected ones of a packet's messages, behind so many messages of the file.
-fn put_messages<W: Write>(
+pub(crate) fn put_messages<W: Write>(
     printing: &mut Printing,
     out: &mut W,
     output: &Output,

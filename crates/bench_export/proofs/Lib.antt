@@ -3,4 +3,5 @@ pub mod Dumping
 pub mod Framing
 pub mod Looking
 pub mod Parts
+pub mod Streamed
 pub mod Written

@@ -5,5 +5,6 @@ pub mod Frames
 pub mod Moments
 pub mod Rows
 pub mod Stamped
+pub mod Streaming
 pub mod Tables
 pub mod Waves

@@ -7,7 +7,12 @@ use ch11_f1::Messages;
 use ch11_reader::Index;
 
 /// Whether a packet's messages, behind so many messages of the file, have a selected one.
-fn selects_among(selection: &Selection, before: u64, channel: u16, messages: Messages<'_>) -> bool
+pub(crate) fn selects_among(
+    selection: &Selection,
+    before: u64,
+    channel: u16,
+    messages: Messages<'_>,
+) -> bool
     requires { before + length messages < 2 ^ 64 }
     ensures { result ≡ spec.selects_among selection.now before channel messages.entry }
 {

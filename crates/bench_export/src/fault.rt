@@ -1,7 +1,9 @@
 //! Why a recording was not exported, or not to its end.
 ghost use Rattle.std.specs.Prelude.{◌≡◌};
 ghost use Rattle.bench_export.specs.declared.fault.ExportFault.TheVariants.{Device, Memory};
+ghost use Rattle.bench_export.specs.declared.fault.ExportFromFault.TheVariants.{Reading, Writing};
 
+use ch11_stream::StreamFault;
 use csv::ErrorKind;
 use std::alloc::AllocError;
 use std::io;
@@ -39,5 +41,32 @@ impl From<io::Error> for ExportFault {
 
     fn from(_e: io::Error) -> ExportFault {
         ExportFault::Device
+    }
+}
+
+/// Why an export of what a reader has left failed.
+#[derive(Clone, Copy, Debug, PartialEq, Eq)]
+pub enum ExportFromFault {
+    /// The next packet could not be read: the recording is refused with its first fault, memory for a packet of
+    /// messages was refused, or the reader failed. The writer may have got rows of packets in front of it.
+    Reading(StreamFault),
+
+    /// A row could not be written: memory was refused, or the writer failed.
+    Writing(ExportFault),
+}
+
+impl From<StreamFault> for ExportFromFault {
+    ghost from_gives = { λ cause e. e ≡ Reading cause };
+
+    fn from(cause: StreamFault) -> ExportFromFault {
+        ExportFromFault::Reading(cause)
+    }
+}
+
+impl From<ExportFault> for ExportFromFault {
+    ghost from_gives = { λ cause e. e ≡ Writing cause };
+
+    fn from(cause: ExportFault) -> ExportFromFault {
+        ExportFromFault::Writing(cause)
     }
 }

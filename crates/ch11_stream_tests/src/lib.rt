@@ -1,9 +1,14 @@
 //! Tests of `ch11_stream`, against the reading of all bytes by `ch11_reader`; and of what is made of packets as they
-//! come: `ch11_check`, `bench_passes`, and what `bench_stat` and `bench_judge` say of a reader.
+//! come: `ch11_check`, `bench_passes`, and what `bench_decode`, `bench_export`, `bench_stat` and `bench_judge` say of a
+//! reader.
 #![tactic(auto)]
 
 #[cfg(test)]
+mod decoded;
+#[cfg(test)]
 mod equal;
+#[cfg(test)]
+mod exported;
 #[cfg(test)]
 mod rereading;
 #[cfg(test)]

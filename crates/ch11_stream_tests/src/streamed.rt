@@ -52,7 +52,7 @@ pub(crate) fn refusal() -> Refusal {
 }
 
 /// A reader that fails behind so many bytes.
-fn failing(file: &[u8], end: usize) -> Slow<'_> {
+pub(crate) fn failing(file: &[u8], end: usize) -> Slow<'_> {
     let (front, _) = file.split_at(end.min(file.len()));
     Slow {
         fails: true,

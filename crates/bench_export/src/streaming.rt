@@ -1,0 +1,132 @@
+//! The rows of a recording whose packets come from a reader.
+ghost use Rattle.std.specs.Prelude.{◌≡◌, ◌+◌, ◌<◌, ◌^◌, ◌||◌, ℕ, List, length, Some, IfOk, OnOk};
+ghost use Rattle.std.specs.Io.KnownBytes.{Appends};
+ghost use Rattle.csv.specs.Writing as writing;
+ghost use Rattle.bench_export.specs.Between.{IsBetween};
+ghost use Rattle.bench_export.specs.Choosing as choosing;
+ghost use Rattle.bench_export.specs.Streaming.{Exports};
+ghost use Rattle.bench_export.specs.Tables as tables;
+ghost use Rattle.bench_export.specs.Tables.{export_text, packets_text, rows_text};
+
+use crate::choosing::selects_among;
+use crate::fault::{ExportFault, ExportFromFault};
+use crate::messages::{Room, write_messages, write_row};
+use crate::names::names_of;
+use crate::whole::Table;
+use bench_clock::Clock;
+use ch11_reader::Packet;
+use ch11_stream::{Packets, StreamFault};
+use csv::Writer;
+use std::alloc::Global;
+use std::io::{Read, Write};
+
+/// What was exported of what a reader has left.
+#[derive(Drop)]
+pub struct Exported<W: Write> {
+    /// The writer, flushed.
+    pub out: W,
+    /// Whether any message was selected, and so has a row.
+    pub selected: bool,
+}
+
+/// Writes the rows that `export` writes of all bytes that a reader has left, as their packets come, in memory for the
+/// largest packet of messages. A recording that can't be read is refused with its first fault, K1 to K5, N2 or F1 to
+/// F3, and then the writer may have got rows of packets in front of it. The time of day is that of the clock that is
+/// given, since a recording's own is known at its end alone.
+pub fn export_from<R: Read + Drop, W: Write + Drop>(
+    alloc: Global,
+    input: R,
+    table: &Table,
+    clock: &Clock,
+    out: W,
+) -> Result<Exported<W>, ExportFromFault>
+    ensures { (file : List ℕ) → R.remaining input ≡ Some file
+        → Exports (λ ps exported.
+        Appends (W.contents out) (W.contents exported.out) (export_text table.now clock.now ps)
+        × (exported.selected ≡ choosing.selects_any table.now.selection ps)) result file }
+{
+    let mut writer = Writer::from_writer(out);
+    write_names(alloc, &mut writer, table)?;
+    let selected = write_packets_from(alloc, input, &mut writer, table, clock)?;
+    match writer.into_inner() {
+        Ok(out) => Ok(Exported { out, selected }),
+        Err(_) => Err(ExportFromFault::Writing(ExportFault::Device)),
+    }
+}
+
+/// Writes the row of names.
+fn write_names<W: Write + Drop>(
+    alloc: Global,
+    writer: &mut Writer<W>,
+    table: &Table,
+) -> Result<(), ExportFault>
+    requires { IsBetween writer.old }
+    ensures between { OnOk result (IsBetween writer.new) }
+    ensures written { OnOk result (Appends (writing.text_written W.contents writer.old)
+        (writing.text_written W.contents writer.new)
+        (writing.row_text writing.default_writer (tables.names_of table.now))) }
+{
+    let names = names_of(alloc, table)?;
+    write_row(writer, &names)
+}
+
+/// Writes the rows of all packets; answers whether any message was selected.
+fn write_packets_from<R: Read + Drop, W: Write + Drop>(
+    alloc: Global,
+    input: R,
+    writer: &mut Writer<W>,
+    table: &Table,
+    clock: &Clock,
+) -> Result<bool, ExportFromFault>
+    requires { IsBetween writer.old }
+    ensures { (file : List ℕ) → R.remaining input ≡ Some file
+        → Exports (λ ps selected.
+        Appends (writing.text_written W.contents writer.old) (writing.text_written W.contents writer.new)
+        (packets_text table.now clock.now 0 ps)
+        × (selected ≡ choosing.selects_any table.now.selection ps)) result file }
+{
+    let Ok(mut packets) = Packets::over(alloc, input) else {
+        return Err(ExportFromFault::Reading(StreamFault::Memory));
+    };
+    let mut room = Room::new(alloc);
+    let mut selected = false;
+    'packets: for _made in 0..u64::MAX {
+        match packets.next() {
+            Ok(Some(packet)) => {
+                selected = write_packet(
+                    writer, &mut room, table, clock, &packets, &packet, selected,
+                )?;
+            }
+            Ok(None) => return Ok(selected),
+            Err(fault) => return Err(ExportFromFault::Reading(fault)),
+        }
+    }
+    Err(ExportFromFault::Reading(StreamFault::Device))
+}
+
+/// Writes the rows of the selected messages of the packet that was read last; answers whether any message was selected
+/// before or is now.
+fn write_packet<R: Read, W: Write + Drop>(
+    writer: &mut Writer<W>,
+    room: &mut Room,
+    table: &Table,
+    clock: &Clock,
+    packets: &Packets<R>,
+    packet: &Packet,
+    selected: bool,
+) -> Result<bool, ExportFault>
+    requires few { packet.now.before + length packets.now.given < 2 ^ 64 }
+    requires between { IsBetween writer.old }
+    ensures between { OnOk result (IsBetween writer.new) }
+    ensures written { OnOk result (Appends (writing.text_written W.contents writer.old)
+        (writing.text_written W.contents writer.new)
+        (rows_text table.now clock.now packet.now.before packet.now.header.channel packets.now.given)) }
+    ensures selected { IfOk result (λ any. any ≡ (selected || choosing.selects_among table.now.selection
+        packet.now.before packet.now.header.channel packets.now.given)) }
+{
+    let (before, channel) = (packet.before, packet.header.channel);
+    let messages = packets.messages();
+    write_messages(writer, room, table, clock, before, channel, messages)?;
+    let messages = packets.messages();
+    Ok(selected || selects_among(&table.selection, before, channel, messages))
+}
