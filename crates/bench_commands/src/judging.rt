@@ -104,16 +104,19 @@ where
         told_apart(rt, &[junit], &[request.recording, rules])?;
         replaceable(rt, junit, Kind::Verdicts, request.force)?;
     }
-    if request.junit.is_none() && !request.skip && is_large(rt, request.recording) {
-        if !is_for_people(rt) {
-            return judge_large(rt, request);
-        }
+    if is_plain(request) && is_large(rt, request.recording) && !is_for_people(rt) {
+        return judge_large(rt, request);
     }
     let bytes = read_whole(rt, request.recording)?;
     let text = rules_text(rt, request)?;
     let index = index_of(rt.alloc(), bytes.as_slice(), request.skip)?;
     let rules = rules_of(rt.alloc(), text.as_slice())?;
     judge_by(rt, request, &index, text.as_slice(), rules.as_slice())
+}
+
+/// Whether nothing is asked for but the verdicts on all of a recording.
+fn is_plain(request: &JudgeRequest<'_>) -> bool {
+    request.junit.is_none() && !request.skip
 }
 
 /// The text of the rules.
