@@ -172,8 +172,8 @@ fn with_text<'b>(additions: &Additions<'_>, text: &'b [u8]) -> Additions<'b> {
     }
 }
 
-/// Records a run, and writes the complete file of the recording, which is kept in memory until then. What is to be added
-/// is judged before the first message as far as that needs no recording, and again behind the last.
+/// Records a run, and writes the complete file of the recording, which is kept in memory until then. What is to be
+/// added is judged before the first message as far as that needs no recording, and again behind the last.
 fn complete_into<'a, R: Host, E: Errors>(
     rt: &R,
     errors: &E,

@@ -6,7 +6,8 @@ use crate::looking::{clock_if, index_of};
 use crate::selecting::{GivenSelection, given_selection, selection_in, with_selection};
 use bench_clock::Clock;
 use bench_export::{
-    Columns, ExportFault, ExportFromFault, Table, export, export_from, export_waves, selects_any,
+    Columns, ExportFault, ExportFromFault, Table, export, export_from, export_waves,
+    export_waves_from, selects_any,
 };
 use bench_files::{Hold, Kind, OutFile, leads_to_output};
 use bench_requests::{
@@ -152,7 +153,7 @@ fn columns_in(given: &ArgMatches<'_>) -> Columns {
 
 /// Writes the messages of a recording, or those that were selected, for other programs. The out file takes the place of
 /// what is there once it is whole; it may not be the recording itself. Where a selection has no message, nothing is
-/// written. Rows without times of day of a recording of more than 64 MiB are written as it is read, packet by packet.
+/// written. A recording of more than 64 MiB is read packet by packet, unless times of day are asked for.
 pub(crate) fn export_recording<'a, R: Files + AllocGlobal>(
     rt: &R,
     request: &ExportRequest<'a>,
@@ -164,14 +165,8 @@ where
     let (out, kind) = (request.out, request.exported.kind());
     told_apart(rt, &[out], &[request.recording])?;
     replaceable(rt, out, kind, request.force)?;
-    if let Exported::Rows {
-        columns,
-        timed: false,
-    } = request.exported
-    {
-        if is_large(rt, request.recording) && is_replaced(rt, out) {
-            return export_large(rt, request, columns, selection);
-        }
+    if !request.exported.is_timed() && is_large(rt, request.recording) && is_replaced(rt, out) {
+        return export_large(rt, request, &selection);
     }
     let bytes = read_whole(rt, request.recording)?;
     let index = index_of(rt.alloc(), bytes.as_slice())?;
@@ -220,44 +215,79 @@ fn is_replaced<R: Files>(rt: &R, name: &str) -> bool {
     }
 }
 
-/// Writes the rows of a recording as it is read, packet by packet.
+/// Writes the messages of a recording that is read packet by packet.
 fn export_large<'a, R: Files + AllocGlobal>(
     rt: &R,
     request: &ExportRequest<'a>,
-    columns: Columns,
-    selection: Selection,
+    selection: &Selection,
 ) -> Result<(), Fault<'a>>
 where
     R::File: Hold,
 {
     let input = open_to_read(rt, request.recording)?;
     let mut file = begin(rt, request.out, request.exported.kind(), request.force)?;
-    let table = Table {
-        columns,
-        timed: false,
-        selection,
-    };
     let answer = match writer_of(rt, request.out, &mut file) {
-        Ok(writer) => write_large(rt.alloc(), input, &table, request, writer),
+        Ok(writer) => write_large(rt.alloc(), input, selection, request, writer),
         Err(fault) => Err(fault),
     };
     end(rt, request.out, file, answer)
 }
 
-/// Writes the rows of what a reader has left to the out file.
+/// Writes what is asked for of what a reader has left to the out file.
 fn write_large<'a, F: Read + Drop, W: Write + Drop>(
     alloc: Global,
     input: F,
-    table: &Table,
+    selection: &Selection,
     request: &ExportRequest<'a>,
     writer: W,
 ) -> Result<(), Fault<'a>> {
-    let clock = Clock::of(alloc, &[], &[])?;
-    match export_from(alloc, input, table, &clock, writer) {
-        Ok(exported) if exported.selected || request.selection.is_empty() => Ok(()),
+    let written = match request.exported {
+        Exported::Rows { columns, timed } => {
+            let table = Table {
+                columns,
+                timed,
+                selection: *selection,
+            };
+            write_rows_from(alloc, input, &table, writer)
+        }
+        Exported::Waves => write_dump_from(alloc, input, selection, writer),
+    };
+    match written {
+        Ok(selected) if selected || request.selection.is_empty() => Ok(()),
         Ok(_) => Err(Fault::NoneSelected),
         Err(ExportFromFault::Reading(fault)) => Err(fault_of_reading(request.recording, fault)),
         Err(ExportFromFault::Writing(fault)) => Err(fault_of_writing(request.out, fault)),
+    }
+}
+
+/// Writes rows of what a reader has left, without times of day; answers whether any message was selected.
+fn write_rows_from<F: Read + Drop, W: Write + Drop>(
+    alloc: Global,
+    input: F,
+    table: &Table,
+    writer: W,
+) -> Result<bool, ExportFromFault> {
+    let Ok(clock) = Clock::of(alloc, &[], &[]) else {
+        return Err(ExportFromFault::Writing(ExportFault::Memory));
+    };
+    let exported = export_from(alloc, input, table, &clock, writer)?;
+    Ok(exported.selected)
+}
+
+/// Writes a value change dump of what a reader has left; answers whether any message was selected.
+fn write_dump_from<F: Read + Drop, W: Write>(
+    alloc: Global,
+    input: F,
+    selection: &Selection,
+    writer: W,
+) -> Result<bool, ExportFromFault> {
+    let Ok(mut out) = BufWriter::new(alloc, writer) else {
+        return Err(ExportFromFault::Writing(ExportFault::Memory));
+    };
+    let selected = export_waves_from(alloc, input, selection, &mut out)?;
+    match out.flush() {
+        Ok(()) => Ok(selected),
+        Err(_) => Err(ExportFromFault::Writing(ExportFault::Device)),
     }
 }
 
