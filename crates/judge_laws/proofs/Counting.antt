@@ -11,7 +11,7 @@ use Rattle.mil_bus.specs.declared.talks.Source.{Source}
 use Rattle.mil_bus.specs.declared.talks.Source.TheVariants.{Controller, Terminal}
 use Rattle.mil_bus.specs.declared.talks.Sent.{Sent}
 use Rattle.mil_bus.specs.declared.counts.Came.{Came}
-use Rattle.mil_bus.specs.declared.counts.Seen.{Seen}
+use Rattle.mil_bus.specs.declared.counts.TalkCounts.{TalkCounts}
 use Rattle.mil_bus.specs.Counts.{counts_of}
 use Rattle.mil_bus.specs.Pass.{noted}
 use Rattle.mil_bus.specs.Lengthened.{is_data, goes_on, lengthened}
@@ -48,7 +48,7 @@ counts-data commands due few xs run source values small on =
 pub none-below : (due : ℕ) → nat_lt due 0 ≡ false
 none-below due = grind (arith, nat_tests)
 
-abbrev pub nothing_wrong : ℕ → Option Came → Option Came → Seen
+abbrev pub nothing_wrong : ℕ → Option Came → Option Came → TalkCounts
 nothing_wrong controllers one two = record { controllers = controllers; one = one; two = two; beyond = false; unsound = false; other_sync = false }
 
 abbrev first_word : ℕ → ℕ → Sent

@@ -23,7 +23,7 @@ use Rattle.mil_bus.specs.declared.talks.Source.{Source}
 use Rattle.mil_bus.specs.declared.talks.Source.TheVariants.{Controller, Terminal}
 use Rattle.mil_bus.specs.declared.talks.Sent.{Sent}
 use Rattle.mil_bus.specs.declared.talks.Talk.{Talk}
-use Rattle.mil_bus.specs.declared.counts.Seen.{Seen}
+use Rattle.mil_bus.specs.declared.counts.TalkCounts.{TalkCounts}
 use Rattle.mil_bus.specs.Counts.{counts_of, seen_of}
 use Rattle.mil_bus.specs.BlockStatus.{block_of, is_line_b}
 use Rattle.mil_bus.specs.Exchange.{words_of}
@@ -91,7 +91,7 @@ alone-clean start line form g c values sent f few sends none is =
     ap (λ k. counts_of k (length (replies_due form)) sent) (commands-of form f.alone) ∙ ap (λ (d : List Due). counts_of 1 (length d) sent) none ∙ ap (counts_of 1 0) is
     ∙ counts-controller 0 g c values (omega arith) f.small f.words in
     let block : m.block ≡ line_bit line = ap (block_of line form) seen ∙ block-alone line form (1 + length values) none f.alone f.long in
-    let no_gaps : m.gaps ≡ 0 = ap (λ (s : Seen). gap_half s.two * 256 + gap_half s.one) seen in
+    let no_gaps : m.gaps ≡ 0 = ap (λ (s : TalkCounts). gap_half s.two * 256 + gap_half s.one) seen in
     let bytes : m.bytes ≡ flat_map (little_bytes 2) (c ∷ values) = ap (λ ws. flat_map (little_bytes 2) (map (λ (w : Sent). raw_of w.wave) ws)) is ∙ ap (flat_map (little_bytes 2)) (raw-run 0 Controller g c values f.small f.words) in
     let between : has_bit 11 m.block ≡ false = ap (has_bit 11) block ∙ not-between (is_line_b line) in
     let first_none : first_gap m ≡ 0 = ap (λ n. n % 256) no_gaps in
@@ -174,7 +174,7 @@ module _ (start : ℕ) (line : Line) (form : Form) (g c : ℕ) (values : List �
   block = ap (block_of line form) seen ∙ block-one line form (1 + length values) due gap status back is.dues is.single.alone is.single.long is.reply.no_later is.reply.address is.reply.many
 
   gap-is : m.gaps ≡ gap
-  gap-is = ap (λ (s : Seen). gap_half s.two * 256 + gap_half s.one) seen ∙ least gap is.reply.no_later
+  gap-is = ap (λ (s : TalkCounts). gap_half s.two * 256 + gap_half s.one) seen ∙ least gap is.reply.no_later
     where
       least : (n : ℕ) → n ≤ 120 → 0 * 256 + min n 255 ≡ n
       least n le = omega (arith, le)

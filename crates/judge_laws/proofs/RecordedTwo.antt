@@ -21,7 +21,7 @@ use Rattle.mil_message.specs.Rules.{IsLawful}
 use Rattle.mil_terminal.specs.Verdicts.{is_unknown}
 use Rattle.mil_bus.specs.declared.talks.Source.TheVariants.{Controller, Terminal}
 use Rattle.mil_bus.specs.declared.talks.Sent.{Sent}
-use Rattle.mil_bus.specs.declared.counts.Seen.{Seen}
+use Rattle.mil_bus.specs.declared.counts.TalkCounts.{TalkCounts}
 use Rattle.mil_bus.specs.Counts.{counts_of, seen_of}
 use Rattle.mil_bus.specs.BlockStatus.{first_due, second_due, is_late, is_miscounted, has_other_address, is_line_b, block_of}
 use Rattle.mil_bus.specs.Exchange.{words_of}
@@ -92,7 +92,7 @@ transfer-clean start line form g c1 c2 d1 d2 t1 s1 t2 s2 vs sent f dues one two 
     (ap (λ d. is_late (first_due d) (Some (came t1 s1 vs))) dues ∙ reply-in-time d1 t1 s1 vs one) (ap (λ d. is_late (second_due d) (Some (came t2 s2 []))) dues ∙ reply-in-time d2 t2 s2 [] two)
     (ap (λ d. is_miscounted (first_due d) (Some (came t1 s1 vs))) dues ∙ reply-counted d1 t1 s1 vs one) (ap (λ d. is_miscounted (second_due d) (Some (came t2 s2 []))) dues ∙ reply-counted d2 t2 s2 [] two)
     (ap (λ d. has_other_address (first_due d) (Some (came t1 s1 vs))) dues ∙ reply-own d1 t1 s1 vs one) (ap (λ d. has_other_address (second_due d) (Some (came t2 s2 []))) dues ∙ reply-own d2 t2 s2 [] two) in
-    let gap_is : m.gaps ≡ t2 * 256 + t1 = ap (λ (s : Seen). gap_half s.two * 256 + gap_half s.one) seen ∙ least t1 t2 one.no_later two.no_later in
+    let gap_is : m.gaps ≡ t2 * 256 + t1 = ap (λ (s : TalkCounts). gap_half s.two * 256 + gap_half s.one) seen ∙ least t1 t2 one.no_later two.no_later in
     let bytes : m.bytes ≡ flat_map (little_bytes 2) (c1 ∷ c2 ∷ (s1 ∷ (vs ++ (s2 ∷ [])))) =
     ap (λ ws. flat_map (little_bytes 2) (map (λ (w : Sent). raw_of w.wave) ws)) is
     ∙ ap (flat_map (little_bytes 2)) (map-append (λ (w : Sent). raw_of w.wave) (w0 ++ w1) w2
@@ -160,7 +160,7 @@ all-transfer-clean start line form g c1 c2 d1 t1 s1 vs sent f dues one few is =
     (ap (λ d. is_late (first_due d) (Some (came t1 s1 vs))) dues ∙ reply-in-time d1 t1 s1 vs one) (ap (λ d. is_late (second_due d) None) dues)
     (ap (λ d. is_miscounted (first_due d) (Some (came t1 s1 vs))) dues ∙ reply-counted d1 t1 s1 vs one) (ap (λ d. is_miscounted (second_due d) None) dues)
     (ap (λ d. has_other_address (first_due d) (Some (came t1 s1 vs))) dues ∙ reply-own d1 t1 s1 vs one) (ap (λ d. has_other_address (second_due d) None) dues) in
-    let gap_is : m.gaps ≡ t1 = ap (λ (s : Seen). gap_half s.two * 256 + gap_half s.one) seen ∙ least t1 one.no_later in
+    let gap_is : m.gaps ≡ t1 = ap (λ (s : TalkCounts). gap_half s.two * 256 + gap_half s.one) seen ∙ least t1 one.no_later in
     let bytes : m.bytes ≡ flat_map (little_bytes 2) (c1 ∷ c2 ∷ (s1 ∷ vs)) =
     ap (λ ws. flat_map (little_bytes 2) (map (λ (w : Sent). raw_of w.wave) ws)) is
     ∙ ap (flat_map (little_bytes 2)) (map-append (λ (w : Sent). raw_of w.wave) w0 w1
