@@ -25,7 +25,7 @@ use clap::error::ErrorKind;
 use std::io;
 use std::io::{BufWriter, IsTerminal, Write};
 use std::process::ExitCode;
-use std::rt::Files;
+use std::rt::{Clock, Files};
 
 /// The exit status of a usage fault.
 const USAGE: u8 = 2;
@@ -138,7 +138,7 @@ where
         Request::Draw(request) => draw_picture(rt, request),
         Request::Complete(request) => complete_recording(rt, errors, request),
         Request::Explain { codes } => show_explanations(rt, codes),
-        Request::Judge(request) => judge_recording(rt, request),
+        Request::Judge(request) => judge_recording(rt, errors, request),
     }
 }
 
@@ -203,7 +203,7 @@ fn print_sizes_to_output<R: AllocGlobal + Print>(rt: &R, sizes: &Sizes) -> io::R
 
 /// Prints a recording. One of more than 64 MiB is read packet by packet, unless it is damaged or times of day are asked
 /// for, which want all of it.
-fn show<'a, R: Files + AllocGlobal + Print, E: Eprint + IsTerminal>(
+fn show<'a, R: Files + AllocGlobal + Print + Clock, E: Eprint + IsTerminal>(
     rt: &R,
     errors: &E,
     recording: &'a str,

@@ -1,17 +1,17 @@
 //! `bench dump --decode`, and the selection of messages of `bench dump`.
 
 use crate::judging::is_for_people;
-use crate::large::{Noted, check_large, fault_of_dump, tell_of_large_loss};
+use crate::large::{check_large, fault_of_dump, tell_of_large_loss};
 use crate::looking::tell_of_loss;
 use crate::selecting::{GivenSelection, given_selection, selection_in, with_selection};
+use crate::watching::{Watch, open_watched, prints_to_device};
 use bench_decode::{Output, Shown, decode, decode_from};
-use bench_requests::{Fault, is_large, open_to_read, read_whole};
+use bench_requests::{Fault, is_large, read_whole};
 use bench_select::Selection;
 use clap::{Arg, ArgAction, ArgMatches, Command};
 use std::alloc::{AllocError, Global};
-use std::cell::Cell;
 use std::io::{self, IsTerminal};
-use std::rt::{Env, Files};
+use std::rt::{Clock, Env, Files};
 
 /// What is to be shown of a recording.
 #[derive(Debug, Drop)]
@@ -73,11 +73,11 @@ pub(crate) fn decode_request<'a>(given: &ArgMatches<'a>) -> DecodeRequest<'a> {
 /// Shows the messages that are asked for. Where a selection has none, it says so and ends with the status of a refused
 /// input. A recording of more than 64 MiB is read packet by packet, unless it is damaged or its messages are to be
 /// sorted, which want all of it.
-pub(crate) fn show_messages<'a, R: Env + Files + AllocGlobal + Print, E: Eprint + IsTerminal>(
-    rt: &R,
-    errors: &E,
-    request: &DecodeRequest<'a>,
-) -> Result<(), Fault<'a>> {
+pub(crate) fn show_messages<
+    'a,
+    R: Env + Files + AllocGlobal + Print + Clock,
+    E: Eprint + IsTerminal,
+>(rt: &R, errors: &E, request: &DecodeRequest<'a>) -> Result<(), Fault<'a>> {
     let output = output_of(rt, request)?;
     if !request.skip && !request.by_time && is_large(rt, request.recording) {
         return show_large(rt, errors, request.recording, &output);
@@ -121,32 +121,31 @@ fn some_selected<'a>(count: u64, output: &Output) -> Result<(), Fault<'a>> {
 }
 
 /// Shows messages of a recording in two passes over it: none where the first refuses it.
-fn show_large<'a, R: Files + AllocGlobal + Print, E: Eprint + IsTerminal>(
+fn show_large<'a, R: Files + AllocGlobal + Print + Clock, E: Eprint + IsTerminal>(
     rt: &R,
     errors: &E,
     name: &'a str,
     output: &Output,
 ) -> Result<(), Fault<'a>> {
-    check_large(rt, name)?;
-    let count = print_large(rt, name, output)?;
-    some_selected(count, output)?;
+    let watch = Watch::begin(rt, errors, name);
+    let printed = print_watched(rt, name, &watch, output);
+    watch.end();
+    some_selected(printed?, output)?;
     tell_of_large_loss(rt, errors, name);
     Ok(())
 }
 
-/// Prints messages of a recording that was checked, and answers how many.
-fn print_large<'a, R: Files + AllocGlobal + Print>(
+/// Prints messages of a recording that is watched, once it is checked, and answers how many.
+fn print_watched<'a, R: Files + AllocGlobal + Print + Clock, E: Eprint + IsTerminal>(
     rt: &R,
     name: &'a str,
+    watch: &Watch<'_, R, E>,
     output: &Output,
 ) -> Result<u64, Fault<'a>> {
-    let failed = Cell::new(false);
-    let input = Noted {
-        file: open_to_read(rt, name)?,
-        failed: &failed,
-    };
+    check_large(rt, name, watch)?;
+    let input = open_watched(rt, name, watch, !prints_to_device(rt))?;
     match decode_from(rt.alloc(), input, &mut io::writer(rt), output) {
         Ok(count) => Ok(count),
-        Err(fault) => Err(fault_of_dump(name, fault, failed.get())),
+        Err(fault) => Err(fault_of_dump(name, fault, watch.has_failed())),
     }
 }

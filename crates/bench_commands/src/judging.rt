@@ -2,6 +2,7 @@
 
 use crate::command_line::{file, force};
 use crate::large::{Large, check_large, fault_of_reading};
+use crate::watching::Watch;
 use bench_files::{Hold, Kind};
 use bench_judge::{
     PassFault, PrintFault, Verdict, judge, junit_text, not_held, write_colored, write_verdicts,
@@ -14,9 +15,9 @@ use ch11_reader::{Index, ReadError};
 use clap::{Arg, ArgAction, ArgMatches, Command};
 use judge_rules::Rule;
 use std::alloc::{AllocError, Global};
-use std::io::{self, BufWriter};
+use std::io::{self, BufWriter, IsTerminal};
 use std::os::unix::fs::FileTypeExt;
-use std::rt::{Env, Files};
+use std::rt::{Clock, Env, Files};
 use std::{env, fs};
 
 /// The rule by which a recording is judged where there is no file of rules.
@@ -92,8 +93,9 @@ pub(crate) fn judge_request<'a>(given: &ArgMatches<'a>) -> JudgeRequest<'a> {
 /// Judges a recording, whose faults come before those of the rules, and prints the verdicts. Where a rule is not held
 /// it ends with a fault of its own. The JUnit file, which may be none of the others, is written behind what is printed.
 /// A recording of more than 64 MiB is read packet by packet where its verdicts are printed as plain lines alone.
-pub fn judge_recording<'a, R: Env + Files + AllocGlobal + Print>(
+pub fn judge_recording<'a, R: Env + Files + AllocGlobal + Print + Clock, E: Eprint + IsTerminal>(
     rt: &R,
+    errors: &E,
     request: &JudgeRequest<'a>,
 ) -> Result<(), Fault<'a>>
 where
@@ -105,7 +107,7 @@ where
         replaceable(rt, junit, Kind::Verdicts, request.force)?;
     }
     if is_plain(request) && is_large(rt, request.recording) && !is_for_people(rt) {
-        return judge_large(rt, request);
+        return judge_large(rt, errors, request);
     }
     let bytes = read_whole(rt, request.recording)?;
     let text = rules_text(rt, request)?;
@@ -130,29 +132,44 @@ fn rules_text<'a, R: Files + AllocGlobal>(
     }
 }
 
-/// Judges a recording that is read packet by packet, whose faults come before those of the rules too.
-fn judge_large<'a, R: Files + AllocGlobal + Print>(
+/// Judges a recording that is read packet by packet, while it is watched.
+fn judge_large<'a, R: Files + AllocGlobal + Print + Clock, E: Eprint + IsTerminal>(
     rt: &R,
+    errors: &E,
     request: &JudgeRequest<'a>,
 ) -> Result<(), Fault<'a>> {
     drop(open_to_read(rt, request.recording)?);
     let text = rules_text(rt, request)?;
-    match rules_of(rt.alloc(), text.as_slice()) {
-        Ok(rules) => judge_large_by(rt, request.recording, rules.as_slice()),
+    let watch = Watch::begin(rt, errors, request.recording);
+    let judged = judge_watched(rt, request.recording, &watch, text.as_slice());
+    watch.end();
+    judged
+}
+
+/// Judges a recording that is watched by the rules of this text. Its faults come before those of the rules.
+fn judge_watched<'a, R: Files + AllocGlobal + Print + Clock, E: Eprint + IsTerminal>(
+    rt: &R,
+    name: &'a str,
+    watch: &Watch<'_, R, E>,
+    text: &[u8],
+) -> Result<(), Fault<'a>> {
+    match rules_of(rt.alloc(), text) {
+        Ok(rules) => judge_large_by(rt, name, watch, rules.as_slice()),
         Err(fault) => {
-            check_large(rt, request.recording)?;
+            check_large(rt, name, watch)?;
             Err(fault)
         }
     }
 }
 
-/// Judges a recording that is read packet by packet by these rules.
-fn judge_large_by<'a, R: Files + AllocGlobal + Print>(
+/// Judges a recording that is watched by these rules.
+fn judge_large_by<'a, R: Files + AllocGlobal + Print + Clock, E: Eprint + IsTerminal>(
     rt: &R,
     name: &'a str,
+    watch: &Watch<'_, R, E>,
     rules: &[Rule],
 ) -> Result<(), Fault<'a>> {
-    match print_large(rt, name, rules) {
+    match print_large(rt, name, watch, rules) {
         Ok(verdicts) => verdict_on(verdicts.as_slice()),
         Err(PassFault::Opening(error)) => Err(Fault::of_stream(name, &error)),
         Err(PassFault::Recording(fault)) => Err(fault_of_reading(name, fault)),
@@ -160,13 +177,14 @@ fn judge_large_by<'a, R: Files + AllocGlobal + Print>(
     }
 }
 
-fn print_large<R: Files + AllocGlobal + Print>(
+fn print_large<R: Files + AllocGlobal + Print + Clock, E: Eprint + IsTerminal>(
     rt: &R,
     name: &str,
+    watch: &Watch<'_, R, E>,
     rules: &[Rule],
 ) -> Result<Vec<Verdict>, PassFault> {
     let mut out = BufWriter::new(rt.alloc(), io::writer(rt))?;
-    write_verdicts_from(rt.alloc(), &Large { rt, name }, rules, &mut out)
+    write_verdicts_from(rt.alloc(), &Large { rt, name, watch }, rules, &mut out)
 }
 
 /// The text of the rule that holds where none is given.

@@ -1,6 +1,7 @@
 //! Recordings that are read packet by packet and never kept, since they may be larger than memory.
 
 use crate::looking::tell_of_missing;
+use crate::watching::{Watch, Watched, open_watched, prints_to_device};
 use bench_dump::DumpFault;
 use bench_judge::Reopen;
 use bench_passes::dump_in_two_passes;
@@ -8,42 +9,28 @@ use bench_requests::{Fault, open_to_read, tells_of_loss};
 use ch11_check::check_from;
 use ch11_stream::{Packets, StreamFault};
 use std::alloc::Global;
-use std::cell::Cell;
 use std::fs;
-use std::io::{self, ErrorKind, IsTerminal, Read};
-use std::rt::Files;
+use std::io::{self, IsTerminal, Read};
+use std::rt::{Clock, Files};
 
-/// A recording that is opened anew for each pass over it.
+/// A recording that is opened anew for each pass over it. How far the first has come is shown, and how far later ones
+/// have where what they print goes to no terminal.
 #[derive(Drop)]
-pub(crate) struct Large<'f, R> {
+pub(crate) struct Large<'f, R, E> {
     pub(crate) rt: &'f R,
     pub(crate) name: &'f str,
+    pub(crate) watch: &'f Watch<'f, R, E>,
 }
 
-impl<'f, R: Files> Reopen for Large<'f, R> {
-    type Reader = R::File;
+impl<'f, R: Files + Clock, E: Eprint + IsTerminal> Reopen for Large<'f, R, E> {
+    type Reader = Watched<'f, R::File, R, E>;
 
-    fn reopen(&self) -> io::Result<R::File> {
-        fs::open(self.rt, self.name)
-    }
-}
-
-/// A file that notes whether it could not be read.
-#[derive(Drop)]
-pub(crate) struct Noted<'f, F> {
-    pub(crate) file: F,
-    pub(crate) failed: &'f Cell<bool>,
-}
-
-impl<'f, F: Read> Read for Noted<'f, F> {
-    fn read(&mut self, buf: &mut [u8]) -> io::Result<usize> {
-        let given = self.file.read(buf);
-        if let Err(error) = &given {
-            if error.kind() != ErrorKind::Interrupted {
-                self.failed.set(true);
-            }
+    fn reopen(&self) -> io::Result<Watched<'f, R::File, R, E>> {
+        let shown = self.watch.is_new() || !prints_to_device(self.rt);
+        match fs::open(self.rt, self.name) {
+            Ok(file) => Ok(Watched::over(file, self.watch, shown)),
+            Err(error) => Err(error),
         }
-        given
     }
 }
 
@@ -67,11 +54,12 @@ pub(crate) fn fault_of_dump<'a>(name: &'a str, fault: DumpFault, failed: bool) -
 }
 
 /// Whether a recording can be read to its end, or its first fault.
-pub(crate) fn check_large<'a, R: Files + AllocGlobal>(
+pub(crate) fn check_large<'a, R: Files + AllocGlobal + Clock, E: Eprint + IsTerminal>(
     rt: &R,
     name: &'a str,
+    watch: &Watch<'_, R, E>,
 ) -> Result<(), Fault<'a>> {
-    let file = open_to_read(rt, name)?;
+    let file = open_watched(rt, name, watch, true)?;
     match check_from(rt.alloc(), file) {
         Ok(()) => Ok(()),
         Err(fault) => Err(fault_of_reading(name, fault)),
@@ -79,40 +67,32 @@ pub(crate) fn check_large<'a, R: Files + AllocGlobal>(
 }
 
 /// Prints a recording in two passes over it: nothing where the first refuses it.
-pub(crate) fn dump_large<'a, R: Files + AllocGlobal + Print, E: Eprint + IsTerminal>(
+pub(crate) fn dump_large<'a, R: Files + AllocGlobal + Print + Clock, E: Eprint + IsTerminal>(
     rt: &R,
     errors: &E,
     name: &'a str,
 ) -> Result<(), Fault<'a>> {
-    let first = open_to_read(rt, name)?;
-    let second = open_to_read(rt, name)?;
-    let printed = dump_files(rt, name, first, second);
+    let watch = Watch::begin(rt, errors, name);
+    let printed = dump_watched(rt, name, &watch);
+    watch.end();
     if printed.is_ok() {
         tell_of_large_loss(rt, errors, name);
     }
     printed
 }
 
-/// Prints a recording that is opened twice.
-fn dump_files<'a, R: Files + AllocGlobal + Print>(
+/// Prints a recording that is opened twice, while it is watched.
+fn dump_watched<'a, R: Files + AllocGlobal + Print + Clock, E: Eprint + IsTerminal>(
     rt: &R,
     name: &'a str,
-    first: R::File,
-    second: R::File,
+    watch: &Watch<'_, R, E>,
 ) -> Result<(), Fault<'a>> {
-    let failed = Cell::new(false);
-    let first = Noted {
-        file: first,
-        failed: &failed,
-    };
-    let second = Noted {
-        file: second,
-        failed: &failed,
-    };
+    let first = open_watched(rt, name, watch, true)?;
+    let second = open_watched(rt, name, watch, !prints_to_device(rt))?;
     let mut out = io::writer(rt);
     match dump_in_two_passes(rt.alloc(), first, second, &mut out) {
         Ok(()) => Ok(()),
-        Err(fault) => Err(fault_of_dump(name, fault, failed.get())),
+        Err(fault) => Err(fault_of_dump(name, fault, watch.has_failed())),
     }
 }
 

@@ -29,5 +29,6 @@ mod run_line;
 mod selecting;
 mod statistics;
 mod stepping;
+mod watching;
 
 pub use commands::run;

@@ -3,8 +3,9 @@
 use crate::large::{fault_of_reading, tell_of_large_loss};
 use crate::looking::{clock_if, index_of, tell_of_loss};
 use crate::selecting::{GivenSelection, given_selection, selection_in, with_selection};
-use bench_clock::Clock;
-use bench_requests::{Fault, is_large, open_to_read, read_whole};
+use crate::watching::{Watch, open_watched};
+use bench_clock::Clock as RecordingClock;
+use bench_requests::{Fault, is_large, read_whole};
 use bench_select::Selection;
 use bench_stat::{
     ChannelFigures, Shown, StatFault, print_page, print_plain_page, print_plain_rows, print_tables,
@@ -15,7 +16,7 @@ use clap::{Arg, ArgAction, ArgMatches, Command};
 use std::alloc::{AllocError, Global};
 use std::io;
 use std::io::{BufWriter, IsTerminal, Write};
-use std::rt::Files;
+use std::rt::{Clock, Files};
 
 /// What is to be counted in, and what is to be shown of it.
 #[derive(Clone, Copy, Debug)]
@@ -104,7 +105,7 @@ pub(crate) fn stat_request<'a>(given: &ArgMatches<'a>) -> StatRequest<'a> {
 /// Prints the figures of a recording, aligned for people or as rows of comma-separated values. Where a selection has no
 /// messages, it says so and ends with the status of a refused input. A recording of more than 64 MiB is read packet by
 /// packet where nothing more is shown than its figures.
-pub fn show_statistics<'a, R: Files + AllocGlobal + Print, E: Eprint + IsTerminal>(
+pub fn show_statistics<'a, R: Files + AllocGlobal + Print + Clock, E: Eprint + IsTerminal>(
     rt: &R,
     errors: &E,
     request: &StatRequest<'a>,
@@ -129,23 +130,36 @@ pub fn show_statistics<'a, R: Files + AllocGlobal + Print, E: Eprint + IsTermina
 }
 
 /// The same for a recording that is read packet by packet.
-fn show_large<'a, R: Files + AllocGlobal + Print, E: Eprint + IsTerminal>(
+fn show_large<'a, R: Files + AllocGlobal + Print + Clock, E: Eprint + IsTerminal>(
     rt: &R,
     errors: &E,
     request: &StatRequest<'a>,
     selection: &Selection,
 ) -> Result<(), Fault<'a>> {
-    let file = open_to_read(rt, request.recording)?;
-    let figures = match stat_from(rt.alloc(), file, selection) {
-        Ok(figures) => figures,
-        Err(fault) => return Err(fault_of_reading(request.recording, fault)),
-    };
+    let watch = Watch::begin(rt, errors, request.recording);
+    let counted = count_watched(rt, request.recording, &watch, selection);
+    watch.end();
+    let figures = counted?;
     if *selection != Selection::all() && counts_nothing(figures.as_slice()) {
         return Err(Fault::NoneSelected);
     }
     print_plain(rt, figures.as_slice(), request.rows)?;
     tell_of_large_loss(rt, errors, request.recording);
     Ok(())
+}
+
+/// The figures of a recording that is watched.
+fn count_watched<'a, R: Files + AllocGlobal + Clock, E: Eprint + IsTerminal>(
+    rt: &R,
+    name: &'a str,
+    watch: &Watch<'_, R, E>,
+    selection: &Selection,
+) -> Result<Vec<ChannelFigures>, Fault<'a>> {
+    let file = open_watched(rt, name, watch, true)?;
+    match stat_from(rt.alloc(), file, selection) {
+        Ok(figures) => Ok(figures),
+        Err(fault) => Err(fault_of_reading(name, fault)),
+    }
 }
 
 /// Prints figures with nothing more.
@@ -180,7 +194,7 @@ fn counts_nothing(figures: &[ChannelFigures]) -> bool {
 fn print_figures<'a, R: AllocGlobal + Print>(
     rt: &R,
     index: &Index<'_>,
-    clock: &Clock,
+    clock: &RecordingClock,
     selection: &Selection,
     figures: &[ChannelFigures],
     request: &StatRequest<'a>,

@@ -5,3 +5,4 @@ pub mod Histories
 pub mod Following
 pub mod Packets
 pub mod Streamed
+mod Counted

@@ -37,7 +37,7 @@ chosen_both s channel before (p ∷ ps) qs =
     ap (λ (l : List Message). mine ++ l) (chosen_both s channel next ps qs ∙ ap (λ (n : ℕ). chosen s channel next ps ++ chosen s channel n qs) place)
     ∙ sym (append_assoc mine (chosen s channel next ps) (chosen s channel (before + total_in (p ∷ ps)) qs))
 
-history_more : (s : Selection) (channel : ℕ) (ps : List Found) (q : Found) → history_of s (ps ++ q ∷ []) channel ≡ reverse (own s channel ps q) ++ history_of s ps channel
+pub history_more : (s : Selection) (channel : ℕ) (ps : List Found) (q : Found) → history_of s (ps ++ q ∷ []) channel ≡ reverse (own s channel ps q) ++ history_of s ps channel
 history_more s channel ps q =
     let place : 0 + total_in ps ≡ total_in ps = omega arith in
     ap reverse (chosen_both s channel 0 ps (q ∷ []) ∙ ap (λ (n : ℕ). chosen s channel 0 ps ++ chosen s channel n (q ∷ [])) place ∙ ap (λ (l : List Message). chosen s channel 0 ps ++ l) (append-nil (own s channel ps q)))
@@ -48,7 +48,7 @@ history_here s ps q =
     history_more s q.header.channel ps q
     ∙ ap (λ (b : Bool). reverse (if b then picked s q.header.channel (total_in ps) q.messages else []) ++ history_of s ps q.header.channel) (eq-eqb q.header.channel q.header.channel refl)
 
-history_other : (s : Selection) (channel : ℕ) (ps : List Found) (q : Found) → (q.header.channel ≡ channel → ⊥) → history_of s (ps ++ q ∷ []) channel ≡ history_of s ps channel
+pub history_other : (s : Selection) (channel : ℕ) (ps : List Found) (q : Found) → (q.header.channel ≡ channel → ⊥) → history_of s (ps ++ q ∷ []) channel ≡ history_of s ps channel
 history_other s channel ps q other =
     history_more s channel ps q ∙ ap (λ (b : Bool). reverse (if b then picked s channel (total_in ps) q.messages else []) ++ history_of s ps channel) (ne_eqb q.header.channel channel other)
 

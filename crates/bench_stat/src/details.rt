@@ -28,7 +28,7 @@ pub struct Details {
 
 impl Details {
     /// Those of no messages.
-    fn none() -> Details
+    pub(crate) fn none() -> Details
         ensures { result ≡ details_of [] }
     {
         Details {
@@ -50,7 +50,7 @@ impl Details {
     }
 
     /// One more message.
-    fn note(&mut self, seen: &Seen<'_>)
+    pub(crate) fn note(&mut self, seen: &Seen<'_>)
         ensures { (history : List Message) → self.old ≡ details_of history
             → self.new ≡ details_of (message_of seen.now ∷ history) }
     {

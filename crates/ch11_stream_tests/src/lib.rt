@@ -10,6 +10,8 @@ mod equal;
 #[cfg(test)]
 mod exported;
 #[cfg(test)]
+mod followed;
+#[cfg(test)]
 mod rereading;
 #[cfg(test)]
 mod streamed;

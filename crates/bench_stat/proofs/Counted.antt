@@ -1,0 +1,39 @@
+-- What is counted of a channel, with one packet more.
+use Rattle.std.proofs.Common.{◌≡◌, ℕ, List, [], ◌∷◌, ◌++◌, reverse, Bool, true, sym, ap, subst, ◌∙◌}
+use Rattle.std.specs.Prelude.{◌==◌, if◌then◌else◌}
+use Rattle.std.proofs.lemmas.Bool.{eq-eqb}
+use Rattle.ch11_header.specs.declared.header.Header.{Header}
+use Rattle.ch11_f1.specs.BodyReading.{Message}
+use Rattle.ch11_reader.specs.declared.packet.Packet.{Packet}
+use Rattle.ch11_reader.specs.Recording.{Found}
+use Rattle.ch11_reader.specs.Contents.{total_in}
+use Rattle.ch11_stream.specs.Reading.{IsStep, Reading, last_found}
+use Rattle.ch11_stream.proofs.Folding.{one_behind}
+use Rattle.bench_select.specs.declared.selection.Selection.{Selection}
+use Rattle.bench_stat.specs.Chosen.{history_of, picked}
+use Rattle.bench_stat.specs.Streaming.{IsBehind}
+use Rattle.bench_stat.proofs.Streamed.{history_more, history_other}
+
+-- a packet of the channel
+pub counted_here : (P : List Message → Type 0) (s : Selection) (channel : ℕ) (ps : List Found) (q : Found) (p : Packet) (messages : List Message) → IsBehind ps q p messages → p.header.channel ≡ channel
+    → P (reverse (picked s channel p.before messages) ++ history_of s ps channel) → P (history_of s (ps ++ q ∷ []) channel)
+counted_here P s channel ps q p messages b here is = subst P (sym same) is
+  where
+    own : (q.header.channel == channel) ≡ true
+    own = eq-eqb q.header.channel channel (ap (λ (h : Header). h.channel) b.header ∙ here)
+
+    same : history_of s (ps ++ q ∷ []) channel ≡ reverse (picked s channel p.before messages) ++ history_of s ps channel
+    same =
+        history_more s channel ps q
+        ∙ ap (λ (x : Bool). reverse (if x then picked s channel (total_in ps) q.messages else []) ++ history_of s ps channel) own
+        ∙ ap (λ (n : ℕ). reverse (picked s channel n q.messages) ++ history_of s ps channel) (sym b.before)
+        ∙ ap (λ (ms : List Message). reverse (picked s channel p.before ms) ++ history_of s ps channel) b.given
+
+-- one of another channel
+pub passed_elsewhere : (P : List Message → Type 0) (s : Selection) (channel : ℕ) (ps : List Found) (q : Found) (p : Packet) (messages : List Message) → IsBehind ps q p messages → (p.header.channel ≡ channel → ⊥) → P (history_of s ps channel)
+    → P (history_of s (ps ++ q ∷ []) channel)
+passed_elsewhere P s channel ps q p messages b other is = subst P (sym (history_other s channel ps q (λ e. other (ap (λ (h : Header). h.channel) (sym b.header) ∙ e)))) is
+
+-- the packets so far in their order, with one more
+pub so_far_with : (P : List Message → Type 0) (s : Selection) (channel : ℕ) (before now : Reading) (p : Packet) → IsStep before now p → P (history_of s (reverse before.earlier ++ last_found now p ∷ []) channel) → P (history_of s (reverse now.earlier) channel)
+so_far_with P s channel before now p step is = subst (λ (ps : List Found). P (history_of s ps channel)) (sym (ap reverse step.entered ∙ one_behind (last_found now p) before.earlier)) is
