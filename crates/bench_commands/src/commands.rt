@@ -134,7 +134,7 @@ where
             step_through(rt, errors, request, asked.context.is_shown(errors))
         }
         Request::Stat(request) => show_statistics(rt, errors, request),
-        Request::Export(request) => export_recording(rt, request),
+        Request::Export(request) => export_recording(rt, errors, request),
         Request::Draw(request) => draw_picture(rt, request),
         Request::Complete(request) => complete_recording(rt, errors, request),
         Request::Explain { codes } => show_explanations(rt, codes),

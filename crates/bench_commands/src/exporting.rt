@@ -4,23 +4,23 @@ use crate::command_line::{file, force};
 use crate::large::fault_of_reading;
 use crate::looking::{clock_if, index_of};
 use crate::selecting::{GivenSelection, given_selection, selection_in, with_selection};
-use bench_clock::Clock;
+use crate::watching::{Watch, open_watched};
+use bench_clock::Clock as RecordingClock;
 use bench_export::{
     Columns, ExportFault, ExportFromFault, Table, export, export_from, export_waves,
     export_waves_from, selects_any,
 };
 use bench_files::{Hold, Kind, OutFile, leads_to_output};
 use bench_requests::{
-    Fault, begin, is_large, open_to_read, put_in_place, read_whole, replaceable, told_apart,
-    writer_of,
+    Fault, begin, is_large, put_in_place, read_whole, replaceable, told_apart, writer_of,
 };
 use bench_select::Selection;
 use ch11_reader::Index;
 use clap::{Arg, ArgAction, ArgMatches, Command};
 use std::alloc::{AllocError, Global};
 use std::fs;
-use std::io::{BufWriter, Read, Write};
-use std::rt::Files;
+use std::io::{BufWriter, IsTerminal, Read, Write};
+use std::rt::{Clock, Files};
 
 /// As what messages are exported.
 #[derive(Clone, Copy, Debug, PartialEq, Eq)]
@@ -154,8 +154,9 @@ fn columns_in(given: &ArgMatches<'_>) -> Columns {
 /// Writes the messages of a recording, or those that were selected, for other programs. The out file takes the place of
 /// what is there once it is whole; it may not be the recording itself. Where a selection has no message, nothing is
 /// written. A recording of more than 64 MiB is read packet by packet, unless times of day are asked for.
-pub(crate) fn export_recording<'a, R: Files + AllocGlobal>(
+pub(crate) fn export_recording<'a, R: Files + AllocGlobal + Clock, E: Eprint + IsTerminal>(
     rt: &R,
+    errors: &E,
     request: &ExportRequest<'a>,
 ) -> Result<(), Fault<'a>>
 where
@@ -166,7 +167,7 @@ where
     told_apart(rt, &[out], &[request.recording])?;
     replaceable(rt, out, kind, request.force)?;
     if !request.exported.is_timed() && is_large(rt, request.recording) && is_replaced(rt, out) {
-        return export_large(rt, request, &selection);
+        return export_large(rt, errors, request, &selection);
     }
     let bytes = read_whole(rt, request.recording)?;
     let index = index_of(rt.alloc(), bytes.as_slice())?;
@@ -215,16 +216,33 @@ fn is_replaced<R: Files>(rt: &R, name: &str) -> bool {
     }
 }
 
-/// Writes the messages of a recording that is read packet by packet.
-fn export_large<'a, R: Files + AllocGlobal>(
+/// Writes the messages of a recording that is read packet by packet, while it is watched.
+fn export_large<'a, R: Files + AllocGlobal + Clock, E: Eprint + IsTerminal>(
     rt: &R,
+    errors: &E,
     request: &ExportRequest<'a>,
     selection: &Selection,
 ) -> Result<(), Fault<'a>>
 where
     R::File: Hold,
 {
-    let input = open_to_read(rt, request.recording)?;
+    let watch = Watch::begin(rt, errors, request.recording);
+    let written = write_watched(rt, request, &watch, selection);
+    watch.end();
+    written
+}
+
+/// Writes the messages of a recording that is watched to the out file.
+fn write_watched<'a, R: Files + AllocGlobal + Clock, E: Eprint + IsTerminal>(
+    rt: &R,
+    request: &ExportRequest<'a>,
+    watch: &Watch<'_, R, E>,
+    selection: &Selection,
+) -> Result<(), Fault<'a>>
+where
+    R::File: Hold,
+{
+    let input = open_watched(rt, request.recording, watch, true)?;
     let mut file = begin(rt, request.out, request.exported.kind(), request.force)?;
     let answer = match writer_of(rt, request.out, &mut file) {
         Ok(writer) => write_large(rt.alloc(), input, selection, request, writer),
@@ -267,7 +285,7 @@ fn write_rows_from<F: Read + Drop, W: Write + Drop>(
     table: &Table,
     writer: W,
 ) -> Result<bool, ExportFromFault> {
-    let Ok(clock) = Clock::of(alloc, &[], &[]) else {
+    let Ok(clock) = RecordingClock::of(alloc, &[], &[]) else {
         return Err(ExportFromFault::Writing(ExportFault::Memory));
     };
     let exported = export_from(alloc, input, table, &clock, writer)?;
@@ -303,7 +321,7 @@ fn fault_of_writing<'a>(out: &'a str, fault: ExportFault) -> Fault<'a> {
 fn write_exported<'a, W: Write + Drop>(
     alloc: Global,
     index: &Index<'_>,
-    clock: &Clock,
+    clock: &RecordingClock,
     selection: &Selection,
     request: &ExportRequest<'a>,
     writer: W,
@@ -329,7 +347,7 @@ fn write_exported<'a, W: Write + Drop>(
 fn write_rows<W: Write + Drop>(
     alloc: Global,
     index: &Index<'_>,
-    clock: &Clock,
+    clock: &RecordingClock,
     table: &Table,
     writer: W,
 ) -> Result<(), ExportFault> {
