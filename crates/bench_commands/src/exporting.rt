@@ -293,7 +293,7 @@ fn write_rows_from<F: Read + Drop, W: Write + Drop>(
 }
 
 /// Writes a value change dump of what a reader has left; answers whether any message was selected.
-fn write_dump_from<F: Read + Drop, W: Write>(
+fn write_dump_from<F: Read + Drop, W: Write + Drop>(
     alloc: Global,
     input: F,
     selection: &Selection,
