@@ -4,7 +4,7 @@ use crate::judging::is_for_people;
 use crate::large::{check_large, fault_of_dump, tell_of_large_loss};
 use crate::looking::tell_of_loss;
 use crate::selecting::{GivenSelection, given_selection, selection_in, with_selection};
-use crate::watching::{Watch, open_watched, prints_to_device};
+use crate::watching::{Watch, open_watched, prints_to_terminal};
 use bench_decode::{Output, Shown, decode, decode_from};
 use bench_requests::{Fault, is_large, read_whole};
 use bench_select::Selection;
@@ -143,7 +143,7 @@ fn print_watched<'a, R: Files + AllocGlobal + Print + Clock, E: Eprint + IsTermi
     output: &Output,
 ) -> Result<u64, Fault<'a>> {
     check_large(rt, name, watch)?;
-    let input = open_watched(rt, name, watch, !prints_to_device(rt))?;
+    let input = open_watched(rt, name, watch, !prints_to_terminal(rt))?;
     match decode_from(rt.alloc(), input, &mut io::writer(rt), output) {
         Ok(count) => Ok(count),
         Err(fault) => Err(fault_of_dump(name, fault, watch.has_failed())),

@@ -2,7 +2,7 @@
 
 use crate::command_line::{file, force};
 use crate::large::{Large, check_large, fault_of_reading};
-use crate::watching::Watch;
+use crate::watching::{Watch, prints_to_terminal};
 use bench_files::{Hold, Kind};
 use bench_judge::{
     PassFault, PrintFault, Verdict, judge, junit_text, not_held, write_colored, write_verdicts,
@@ -15,10 +15,9 @@ use ch11_reader::{Index, ReadError};
 use clap::{Arg, ArgAction, ArgMatches, Command};
 use judge_rules::Rule;
 use std::alloc::{AllocError, Global};
+use std::env;
 use std::io::{self, BufWriter, IsTerminal};
-use std::os::unix::fs::FileTypeExt;
 use std::rt::{Clock, Env, Files};
-use std::{env, fs};
 
 /// The rule by which a recording is judged where there is no file of rules.
 const STANDARD: &[u8] = b"expect any clean";
@@ -298,11 +297,5 @@ pub(crate) fn verdict_on<'a>(verdicts: &[Verdict]) -> Result<(), Fault<'a>> {
 
 /// Whether the standard output is a terminal whose user wants colors.
 pub(crate) fn is_for_people<R: Env + Files + AllocGlobal>(rt: &R) -> bool {
-    if env::var(rt, "NO_COLOR").is_ok() {
-        return false;
-    }
-    match fs::metadata(rt, "/dev/stdout") {
-        Ok(metadata) => metadata.file_type().is_char_device(),
-        Err(_) => false,
-    }
+    env::var(rt, "NO_COLOR").is_err() && prints_to_terminal(rt)
 }

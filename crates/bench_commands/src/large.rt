@@ -1,7 +1,7 @@
 //! Recordings that are read packet by packet and never kept, since they may be larger than memory.
 
 use crate::looking::tell_of_missing;
-use crate::watching::{Watch, Watched, open_watched, prints_to_device};
+use crate::watching::{Watch, Watched, open_watched, prints_to_terminal};
 use bench_dump::DumpFault;
 use bench_judge::Reopen;
 use bench_passes::dump_in_two_passes;
@@ -26,7 +26,7 @@ impl<'f, R: Files + Clock, E: Eprint + IsTerminal> Reopen for Large<'f, R, E> {
     type Reader = Watched<'f, R::File, R, E>;
 
     fn reopen(&self) -> io::Result<Watched<'f, R::File, R, E>> {
-        let shown = self.watch.is_new() || !prints_to_device(self.rt);
+        let shown = self.watch.is_new() || !prints_to_terminal(self.rt);
         match fs::open(self.rt, self.name) {
             Ok(file) => Ok(Watched::over(file, self.watch, shown)),
             Err(error) => Err(error),
@@ -88,7 +88,7 @@ fn dump_watched<'a, R: Files + AllocGlobal + Print + Clock, E: Eprint + IsTermin
     watch: &Watch<'_, R, E>,
 ) -> Result<(), Fault<'a>> {
     let first = open_watched(rt, name, watch, true)?;
-    let second = open_watched(rt, name, watch, !prints_to_device(rt))?;
+    let second = open_watched(rt, name, watch, !prints_to_terminal(rt))?;
     let mut out = io::writer(rt);
     match dump_in_two_passes(rt.alloc(), first, second, &mut out) {
         Ok(()) => Ok(()),

@@ -2,9 +2,9 @@
 
 use bench_requests::{Fault, open_to_read};
 use std::cell::Cell;
-use std::fs;
+use std::fs::{self, Metadata};
 use std::io::{self, ErrorKind, IsTerminal, Read};
-use std::os::unix::fs::FileTypeExt;
+use std::os::unix::fs::{FileTypeExt, MetadataExt};
 use std::rt::{Clock, Files};
 use std::time::Duration;
 
@@ -209,10 +209,18 @@ pub(crate) fn open_watched<'f, 'a, R: Files + Clock, E: Eprint + IsTerminal>(
     }
 }
 
-/// Whether the standard output is a terminal, or another device, whose text a line between would break.
-pub(crate) fn prints_to_device<R: Files>(rt: &R) -> bool {
+/// Whether the standard output is a terminal, or another device that somebody may look at: the null device is none.
+pub(crate) fn prints_to_terminal<R: Files>(rt: &R) -> bool {
     match fs::metadata(rt, "/dev/stdout") {
-        Ok(about) => about.file_type().is_char_device(),
+        Ok(output) => output.file_type().is_char_device() && !is_null_device(rt, &output),
+        Err(_) => false,
+    }
+}
+
+/// Whether this is the null device.
+fn is_null_device<R: Files>(rt: &R, output: &Metadata) -> bool {
+    match fs::metadata(rt, "/dev/null") {
+        Ok(null) => null.dev() == output.dev() && null.ino() == output.ino(),
         Err(_) => false,
     }
 }
