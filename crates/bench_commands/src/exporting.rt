@@ -245,21 +245,24 @@ where
     let input = open_watched(rt, request.recording, watch, true)?;
     let mut file = begin(rt, request.out, request.exported.kind(), request.force)?;
     let answer = match writer_of(rt, request.out, &mut file) {
-        Ok(writer) => write_large(rt.alloc(), input, selection, request, writer),
+        Ok(writer) => {
+            let written = write_large(rt.alloc(), input, selection, request.exported, writer);
+            some_written(request, written)
+        }
         Err(fault) => Err(fault),
     };
     end(rt, request.out, file, answer)
 }
 
-/// Writes what is asked for of what a reader has left to the out file.
-fn write_large<'a, F: Read + Drop, W: Write + Drop>(
+/// Writes what is asked for of what a reader has left; answers whether any message was selected.
+fn write_large<F: Read + Drop, W: Write + Drop>(
     alloc: Global,
     input: F,
     selection: &Selection,
-    request: &ExportRequest<'a>,
+    exported: Exported,
     writer: W,
-) -> Result<(), Fault<'a>> {
-    let written = match request.exported {
+) -> Result<bool, ExportFromFault> {
+    match exported {
         Exported::Rows { columns, timed } => {
             let table = Table {
                 columns,
@@ -269,7 +272,14 @@ fn write_large<'a, F: Read + Drop, W: Write + Drop>(
             write_rows_from(alloc, input, &table, writer)
         }
         Exported::Waves => write_dump_from(alloc, input, selection, writer),
-    };
+    }
+}
+
+/// The fault of an export that did not end well, and of a selection that has no message.
+fn some_written<'a>(
+    request: &ExportRequest<'a>,
+    written: Result<bool, ExportFromFault>,
+) -> Result<(), Fault<'a>> {
     match written {
         Ok(selected) if selected || request.selection.is_empty() => Ok(()),
         Ok(_) => Err(Fault::NoneSelected),
