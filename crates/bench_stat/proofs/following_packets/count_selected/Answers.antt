@@ -1,4 +1,5 @@
-use Rattle.std.proofs.Common.{◌++◌, refl, arith}
+use Rattle.std.proofs.Common.{◌++◌, List, refl, arith}
+use Rattle.ch11_f1.specs.BodyReading.{Message}
 use Rattle.ch11_f1.specs.Views.{message_of}
 use Rattle.bench_stat.specs.Chosen.{picked}
 use Rattle.bench_stat.proofs.Histories.{begins, goes_on, ends}
