@@ -151,5 +151,8 @@ alike m n = grind (arith, nat_tests)
 at_alike : (k : ℕ) (rows : List Row) → filter (ties (λ (x y : Row). is_lt (nat_cmp x.number y.number)) (row_at k)) rows ≡ rows_at k rows
 at_alike k rows = filter_agree _ (λ (r : Row). eqb r.number k) (λ r. alike k r.number) rows
 
+pub sorted_rows : (old new : List Row) → IsStableByKey (λ (r : Row). r.number) nat_cmp old new → (n : ℕ) → rows_at n new ≡ rows_at n old
+sorted_rows old new stable n = sym (at_alike n new) ∙ stable (row_at n) ∙ at_alike n old
+
 pub sorted_at : (words : List PutUp) (old new : List Row) → IsStableByKey (λ (r : Row). r.number) nat_cmp old new → (n : ℕ) → placed_at n (all_placed words new) ≡ placed_at n (all_placed words old)
-sorted_at words old new stable n = same_placed n words new old (sym (at_alike n new) ∙ stable (row_at n) ∙ at_alike n old)
+sorted_at words old new stable n = same_placed n words new old (sorted_rows old new stable n)

@@ -7,6 +7,7 @@ mod begun;
 mod frames;
 mod kept;
 mod laws;
+mod lookup;
 mod machine;
 mod messages;
 mod outcomes;

@@ -1,16 +1,16 @@
 //! Placed actions in rows, and room for more.
 ghost use Rattle.std.specs.Prelude.{◌≡◌, ℕ, ◌+◌, ◌<◌, ◌≤◌, ◌++◌, ◌∷◌, [], min, max, length, take, slice_index_or};
-ghost use Rattle.std.specs.Prelude.{IsTrue, All, IfOk, IfErr, OnOk, OnErr};
+ghost use Rattle.std.specs.Prelude.{IsTrue, IfOk, IfErr, OnOk, OnErr};
 ghost use Rattle.std.specs.List.Sorted.{IsPermutation};
 ghost use Rattle.mil_bus.specs.Exchange.{now_of};
 ghost use Rattle.bc_machine.specs.Controller.{placed_at, ready};
 ghost use Rattle.bc_machine.specs.Rising.{IsRising, IsParted, IsPutIn};
-ghost use Rattle.bc_machine.specs.Rows.{rows_at, IsRow};
 ghost use Rattle.bc_machine.specs.Schedules.{AreRising};
 
 use crate::Placed;
 use crate::actions::Actions;
 use crate::kept::{Row, act_at, copies_of, insert_row};
+use crate::lookup::Lookup;
 use mil_bus::Bus;
 use mil_host::TransmitWords;
 use std::alloc::{AllocError, Global};
@@ -20,14 +20,14 @@ use std::marker::Model;
 const MOST_WORDS: usize = 4_294_967_295;
 
 /// Placed actions, in their order, and room for more; contracts see the list and for how many there is room. Where
-/// their numbers never fall, those of one number are found without a look at all others.
+/// their numbers never fall, and in a copy, those of one number are found without a look at all others.
 #[derive(Drop)]
 pub struct Schedule {
     rows: Vec<Row>,
     /// The data words that do not stand in a row.
     words: Vec<TransmitWords>,
-    /// Whether the numbers are known never to fall.
-    rising: bool,
+    /// How those of a number are found.
+    lookup: Lookup,
     /// For how many actions there is room, at most as many as the lists hold without memory.
     most: usize,
 }
@@ -40,27 +40,6 @@ impl Model for Schedule {
     ghost view = { schedule_in };
 
     ghost invariant = { IsSchedule };
-}
-
-// The part of rows whose numbers never fall that has all of one number.
-fn part(rows: &[Row], number: u32) -> &[Row]
-    requires { AreRising rows.now }
-    ensures same { rows_at number result.now ≡ rows_at number rows.now }
-    ensures rows { (n : ℕ) → All (IsRow n) rows.now → All (IsRow n) result.now }
-{
-    let from = rows.partition_point(|row| row.number < number);
-    let rest = &rows[from..];
-    let to = rest.partition_point(|row| row.number <= number);
-    &rest[..to]
-}
-
-// The rows among which those of a number are looked for: all, where their numbers are not known never to fall.
-fn around(rows: &[Row], rising: bool, number: u32) -> &[Row]
-    requires { IsTrue rising → AreRising rows.now }
-    ensures same { rows_at number result.now ≡ rows_at number rows.now }
-    ensures rows { (n : ℕ) → All (IsRow n) rows.now → All (IsRow n) result.now }
-{
-    if rising { part(rows, number) } else { rows }
 }
 
 // Whether the numbers are known never to fall once a row of this number stands behind the others.
@@ -97,7 +76,7 @@ impl Schedule {
         Schedule {
             rows: Vec::new(alloc),
             words: Vec::new(alloc),
-            rising: true,
+            lookup: Lookup::Rising,
             most: 0,
         }
     }
@@ -196,7 +175,8 @@ impl Schedule {
         if self.rows.len() >= self.most {
             return Err(one);
         }
-        self.rising = follows(self.rows.as_slice(), self.rising, one.number);
+        let rising = follows(self.rows.as_slice(), self.lookup.is_rising(), one.number);
+        self.lookup.reset(rising);
         self.rows.push_reserved(Row::of(one, &mut self.words));
         Ok(())
     }
@@ -210,7 +190,7 @@ impl Schedule {
         ensures capacity { self.new.capacity ≡ self.old.capacity }
     {
         let place = self.behind(one.number);
-        self.rising = false;
+        self.lookup.reset(false);
         let row = Row::of(one, &mut self.words);
         insert_row(&mut self.rows, place, row);
     }
@@ -228,6 +208,8 @@ impl Schedule {
     pub fn truncate(&mut self, count: usize)
         ensures { self.new.actions ≡ take count self.old.actions }
     {
+        let rising = self.lookup.is_rising();
+        self.lookup.reset(rising);
         self.rows.truncate(count);
         self.most = self.rows.len();
     }
@@ -239,9 +221,9 @@ impl Schedule {
         ensures stable { OnOk result ((n : ℕ) → placed_at n self.new.actions ≡ placed_at n self.old.actions) }
         ensures same { OnErr result (self.new.actions ≡ self.old.actions) }
     {
-        if !self.rising {
+        if !self.lookup.is_rising() {
             self.rows.sort_by_key(|row| row.number)?;
-            self.rising = true;
+            self.lookup.reset(true);
         }
         Ok(())
     }
@@ -253,21 +235,23 @@ impl Schedule {
     {
         let rows = self.rows.as_slice();
         let words = self.words.as_slice();
-        act_at(bus, around(rows, self.rising, number), words, number);
+        act_at(bus, self.lookup.rows_of(rows, words, number), words, number);
     }
 
-    /// The same actions and as much room, in memory of their own. It fails for want of memory alone.
+    /// The same actions and as much room, in memory of their own, where numbers fall with the rows by rising number
+    /// besides. It fails for want of memory alone.
     pub fn copy(&self) -> Result<Schedule, AllocError>
         ensures { IfOk result (λ s. s ≡ self.now) }
     {
         let alloc = self.allocator();
         let more = self.most - self.rows.len();
         let mut rows = self.rows.as_slice().to_vec(alloc)?;
+        let lookup = self.lookup.of_copy(alloc, rows.as_slice())?;
         rows.reserve(more)?;
         Ok(Schedule {
             rows,
             words: copies_of(alloc, self.words.as_slice(), more)?,
-            rising: self.rising,
+            lookup,
             most: self.most,
         })
     }

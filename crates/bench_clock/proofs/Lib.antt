@@ -2,3 +2,4 @@ pub mod Days
 pub mod Bodies
 pub mod Rises
 pub mod Rulings
+pub mod Streamed

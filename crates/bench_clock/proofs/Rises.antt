@@ -31,16 +31,22 @@ abbrev pub Rises : Option ℕ → List Mark → Type 0
 Rises last [] = Unit {0}
 Rises last (m ∷ ms) = (is_above last m.counter ≡ true) × (m.second < 253402300800) × Rises (Some m.counter) ms
 
-with_mark : (file : List ℕ) (last : Option ℕ) (counter : ℕ) (told : Option ℕ) (es : List Packet) (above : Bool) → ((t : ℕ) → told ≡ Some t → t < 253402300800)
-    → ((l : Option ℕ) → Rises l (marks_behind file l es)) → is_above last counter ≡ above
-    → Rises last (mark_of last counter told ++ marks_behind file (last_behind last counter told) es)
-with_mark file last counter None es above small behind is = behind last
-with_mark file last counter (Some t) es true small behind is = rw is (is, small t refl, behind (Some counter))
-with_mark file last counter (Some t) es false small behind is = rw is (behind last)
+mark_rises_if : (last : Option ℕ) (counter t : ℕ) (rest : List Mark) (above : Bool) → t < 253402300800 → is_above last counter ≡ above → Rises (cond above (Some counter) last) rest
+    → Rises last (cond above (record { counter = counter; second = t } ∷ []) [] ++ rest)
+mark_rises_if last counter t rest true small is r = (is, small, r)
+mark_rises_if last counter t rest false small is r = r
+
+-- marks rise that rise behind the mark of a packet
+pub mark_rises : (last : Option ℕ) (counter : ℕ) (told : Option ℕ) (rest : List Mark) → ((t : ℕ) → told ≡ Some t → t < 253402300800)
+    → Rises (last_behind last counter told) rest → Rises last (mark_of last counter told ++ rest)
+mark_rises last counter None rest small r = r
+mark_rises last counter (Some t) rest small r = mark_rises_if last counter t rest (is_above last counter) (small t refl) refl r
 
 pub rises : (file : List ℕ) (last : Option ℕ) (es : List Packet) → Rises last (marks_behind file last es)
 rises file last [] = tt
-rises file last (e ∷ es) = with_mark file last e.header.counter (told_by file e) es (is_above last e.header.counter) (told_small file e) (λ l. rises file l es) refl
+rises file last (e ∷ es) =
+    let l = last_behind last e.header.counter (told_by file e) in
+    mark_rises last e.header.counter (told_by file e) (marks_behind file l es) (told_small file e) (rises file l es)
 
 above_last : (last : ℕ) (ms : List Mark) → Rises (Some last) ms → (j : ℕ) (b : Mark) → slice_get ms j ≡ Some b → last ≤ b.counter
 above_last last [] r j b is = absurd (cc)
@@ -67,9 +73,10 @@ in_years last (m ∷ ms) r zero a x =
     omega (arith, ap (λ (z : Mark). z.second) same, r.1)
 in_years last (m ∷ ms) r (suc i) a x = in_years (Some m.counter) ms r.2 i a x
 
+-- what a clock keeps of marks that rise
+pub all_rise : (ms : List Mark) → Rises None ms → IsRising ms
+all_rise ms r = record { order = in_order None ms r; seconds = in_years None ms r }
+
 -- what a clock keeps of the marks of a recording
 pub rising : (file : List ℕ) (es : List Packet) → IsRising (marks_in file es)
-rising file es = record {
-  order = in_order None (marks_in file es) (rises file None es);
-  seconds = in_years None (marks_in file es) (rises file None es);
-}
+rising file es = all_rise (marks_in file es) (rises file None es)

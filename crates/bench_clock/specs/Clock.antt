@@ -1,9 +1,11 @@
 -- The time of day at a stamp (own choice): that of the last time packet at or before it, and what has passed since.
 use Rattle.std.specs.Prelude.{ℕ, ◌+◌, ◌-◌, ◌*◌, ◌==◌, Bool, true, false, nat_lt, if◌then◌else◌, List, [], ◌∷◌, ◌++◌}
 use Rattle.std.specs.Prelude.{take, drop, Option, None, Some}
+use Rattle.ch11_header.specs.declared.header.Header.{Header}
 use Rattle.ch11_header.specs.HeaderReading.{body_start}
 use Rattle.ch11_header.specs.Kinds.{time_data}
 use Rattle.ch11_reader.specs.declared.packet.Packet.{Packet}
+use Rattle.ch11_reader.specs.Recording.{body_of}
 use Rattle.bench_clock.specs.declared.clock.Mark.{Mark}
 use Rattle.bench_clock.specs.TimeBody.{second_of}
 
@@ -11,7 +13,12 @@ use Rattle.bench_clock.specs.TimeBody.{second_of}
 abbrev pub body_in : List ℕ → Packet → List ℕ
 body_in file e = take e.header.data_length (drop (e.offset + body_start e.header) file)
 
--- the UTC second that a packet tells: it is a time packet (type 11), and its body that of a second
+-- the UTC second that a packet tells, which begins these bytes: it is a time packet (type 11), and its body that of a
+-- second
+abbrev pub told_in : Header → List ℕ → Option ℕ
+told_in h bytes = if h.kind == time_data then second_of (body_of h bytes) else None
+
+-- the UTC second that a packet of a file tells: it is a time packet (type 11), and its body that of a second
 abbrev pub told_by : List ℕ → Packet → Option ℕ
 told_by file e = if e.header.kind == time_data then second_of (body_in file e) else None
 

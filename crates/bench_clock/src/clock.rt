@@ -1,12 +1,17 @@
 //! The time of day at the stamps of a recording.
-ghost use Rattle.std.specs.Prelude.{◌≡◌, IfOk, option_map};
+ghost use Rattle.std.specs.Prelude.{◌≡◌, ℕ, List, Some, IfOk, option_map};
+ghost use Rattle.ch11_reader.specs.Listing.{listing};
+ghost use Rattle.ch11_stream.specs.Folding.{Finds};
 ghost use Rattle.bench_clock.specs.Clock as spec;
 
 use crate::marks::marks_of;
 use crate::ruling::place_of;
+use crate::streaming::marks_from;
 use crate::time::{SECOND, UtcTime};
 use ch11_reader::Packet;
+use ch11_stream::StreamFault;
 use std::alloc::{AllocError, Global};
+use std::io::Read;
 use std::marker::Model;
 
 /// A time packet that counts: its relative time counter in ticks of 0.1 µs, and the UTC second at it, counted from
@@ -74,4 +79,17 @@ impl Clock {
             None
         }
     }
+}
+
+/// The clock that `Clock::of` makes of all bytes that a reader has left, in one pass over their packets, in memory for
+/// the largest packet of messages or of time, and 16 bytes for each time packet that counts. A recording that can't be
+/// read is refused with its first fault, K1 to K5, N2 or F1 to F3; want of memory and the reader's failure are the
+/// others.
+pub fn clock_from<R: Read + Drop>(alloc: Global, input: R) -> Result<Clock, StreamFault>
+    ensures { (file : List ℕ) → R.remaining input ≡ Some file
+        → Finds (λ ps clock. clock ≡ spec.marks_in file (listing ps)) result file }
+{
+    Ok(Clock {
+        marks: marks_from(alloc, input)?,
+    })
 }

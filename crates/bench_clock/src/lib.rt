@@ -1,5 +1,5 @@
 //! Times of day of a recording: the bodies of time packets, written and read, and the time of day at a stamp.
-//! Its tests are in `ch11_tests`.
+//! Its tests are in `ch11_tests`, and those of `clock_from` in `ch11_stream_tests`.
 #![tactic(auto)]
 
 mod bcd;
@@ -8,9 +8,10 @@ mod clock;
 mod marks;
 mod reading;
 mod ruling;
+mod streaming;
 mod time;
 
 pub use body::body_of;
-pub use clock::{Clock, Mark};
+pub use clock::{Clock, Mark, clock_from};
 pub use reading::read_second;
 pub use time::UtcTime;

@@ -5,26 +5,36 @@ ghost use Rattle.bench_clock.specs.Clock as spec;
 
 use crate::clock::Mark;
 use crate::reading::read_second;
+use ch11_header::Header;
 use ch11_header::kinds::TIME_DATA;
 use ch11_reader::Packet;
 use std::alloc::{AllocError, Global};
 
-/// The UTC second that a packet of a file tells; None for a packet that is no time packet, or one of another layout.
+/// The UTC second that the packet tells that has this header and begins these bytes; None for a packet that is no time
+/// packet, or one of another layout.
+pub(crate) fn told_in(header: &Header, bytes: &[u8]) -> Option<u64>
+    ensures second { result ≡ spec.told_in header.now bytes.now }
+    ensures small { IfSome result (λ t. t < 253402300800) }
+{
+    if header.kind != TIME_DATA {
+        return None;
+    }
+    let behind = bytes.get(header.body_start()..).unwrap_or(&[]);
+    let size = behind.len().min(header.data_length as usize);
+    read_second(&behind[..size])
+}
+
+/// The UTC second that a packet of a file tells.
 fn told_by(file: &[u8], packet: &Packet) -> Option<u64>
     ensures second { result ≡ spec.told_by file.now packet.now }
     ensures small { IfSome result (λ t. t < 253402300800) }
 {
-    if packet.header.kind != TIME_DATA {
-        return None;
-    }
-    let start = packet.offset.saturating_add(packet.header.body_start());
-    let behind = file.get(start..).unwrap_or(&[]);
-    let size = behind.len().min(packet.header.data_length as usize);
-    read_second(&behind[..size])
+    let behind = file.get(packet.offset..).unwrap_or(&[]);
+    told_in(&packet.header, behind)
 }
 
 /// Appends the mark of a packet, if it is above the last one, and answers the last counter behind it.
-fn keep(
+pub(crate) fn keep(
     marks: &mut Vec<Mark>,
     last: Option<u64>,
     counter: u64,

@@ -1,9 +1,10 @@
 //! `bench check`: jobs tried without a recording.
 
+use crate::options::{arguments, command_of, flag, with_rows};
 use bench_check::{Bits, CheckFault, print_findings, print_summary, tight_frames_in, try_job};
 use bench_core::{Settings, judge};
 use bench_requests::{Fault, jobs_of, read_texts};
-use clap::{Arg, ArgAction, ArgMatches, Command};
+use clap::{ArgMatches, Command};
 use job_file::Job;
 use std::alloc::{AllocError, Global};
 use std::io;
@@ -28,23 +29,18 @@ Example:
 
 /// The command line of `bench check`.
 pub(crate) fn check_command<'a>(alloc: Global) -> Result<Command<'a>, AllocError> {
-    let jobs = Arg::new(alloc, "JOB").num_args(0usize..).help(
-        "The job of a channel, as a text; 1 to 32 of them, each of another channel",
-    );
-    let summary = Arg::new(alloc, "summary")
-        .long("summary")
-        .action(ArgAction::SetTrue)
-        .help("Says only what is probably a mistake, and how many messages there are");
-    let decode = Arg::new(alloc, "decode")
-        .long("decode")
-        .action(ArgAction::SetTrue)
-        .help("Shows the bits of each status word by their names too");
-    Command::new(alloc, "check")
-        .about("Tries jobs without a recording, and says what is probably a mistake")
-        .after_help(CHECK_NOTES)
-        .arg(summary)?
-        .arg(decode)?
-        .arg(jobs)
+    let about = "Tries jobs without a recording, and says what is probably a mistake";
+    let summary = "Says only what is probably a mistake, and how many messages there are";
+    let jobs = "The job of a channel, as a text; 1 to 32 of them, each of another channel";
+    let rows = [
+        flag("summary", summary),
+        flag(
+            "decode",
+            "Shows the bits of each status word by their names too",
+        ),
+        arguments("JOB", jobs),
+    ];
+    with_rows(alloc, command_of(alloc, "check", about, CHECK_NOTES), &rows)
 }
 
 /// Which jobs are to be tried, and how this is told.
@@ -85,25 +81,44 @@ pub fn check_jobs<'a, R: Files + AllocGlobal + Print>(
     let names = request.jobs.as_slice();
     let texts = read_texts(rt, names)?;
     let jobs = jobs_of(rt.alloc(), &texts)?;
+    judge_jobs(rt.alloc(), &jobs)?;
+    print_checks(rt, request, &texts, &jobs)
+}
+
+/// Judges jobs as those of a run with the settings that it has where none are given.
+fn judge_jobs<'a>(alloc: Global, jobs: &[Job]) -> Result<(), Fault<'a>> {
     let settings = Settings {
         version: 6,
         limit: 65536,
         queue: 4096,
-        prologue: Vec::new(rt.alloc()),
+        prologue: Vec::new(alloc),
         posts: 0,
     };
-    if let Err(refused) = judge(&jobs, &settings) {
-        return Err(Fault::of_settings(refused));
+    match judge(jobs, &settings) {
+        Ok(()) => Ok(()),
+        Err(refused) => Err(Fault::of_settings(refused)),
     }
+}
+
+/// Tries jobs that were judged, and prints what is to be said of them.
+fn print_checks<'a, R: AllocGlobal + Print>(
+    rt: &R,
+    request: &CheckRequest<'a>,
+    texts: &[Vec<u8>],
+    jobs: &[Job],
+) -> Result<(), Fault<'a>> {
     let mut out = match BufWriter::new(rt.alloc(), io::writer(rt)) {
         Ok(out) => out,
         Err(error) => return Err(Fault::of_stream("-", &error)),
     };
-    match check_each(rt.alloc(), request, &texts, &jobs, &mut out) {
-        Ok(()) => {}
-        Err(CheckFault::Memory) => return Err(Fault::Memory),
-        Err(CheckFault::Device) => return Err(Fault::Device("-")),
+    match check_each(rt.alloc(), request, texts, jobs, &mut out) {
+        Ok(()) => flush(&mut out),
+        Err(CheckFault::Memory) => Err(Fault::Memory),
+        Err(CheckFault::Device) => Err(Fault::Device("-")),
     }
+}
+
+fn flush<'a, W: Write>(out: &mut W) -> Result<(), Fault<'a>> {
     match out.flush() {
         Ok(()) => Ok(()),
         Err(error) => Err(Fault::of_stream("-", &error)),
@@ -122,16 +137,26 @@ fn check_each<W: Write>(
     let mut room = 0u64;
     for ((name, text), job) in request.jobs.iter().zip(texts).zip(jobs) {
         if several {
-            writeln!(out, "{name}")?;
+            print_name(out, name)?;
         }
         room = room.saturating_add(check_one(alloc, request, text, job, out)?);
     }
     if several {
-        writeln!(
-            out,
-            "queue {room}: with room for so many nothing of all these jobs is refused"
-        )?;
+        print_room(out, room)?;
     }
+    Ok(())
+}
+
+fn print_name<W: Write>(out: &mut W, name: &str) -> Result<(), CheckFault> {
+    writeln!(out, "{name}")?;
+    Ok(())
+}
+
+fn print_room<W: Write>(out: &mut W, room: u64) -> Result<(), CheckFault> {
+    writeln!(
+        out,
+        "queue {room}: with room for so many nothing of all these jobs is refused"
+    )?;
     Ok(())
 }
 

@@ -9,12 +9,15 @@ use crate::exporting::{ExportRequest, export_command, export_request};
 use crate::judging::{JudgeRequest, judge_command, judge_request};
 use crate::live_run::{Going, going_in};
 use crate::looking_line::{draw_command, draw_request, explain_command, explain_request};
+use crate::options::{
+    argument, arguments, command_of, flag, force, version, with_option, with_rows,
+};
 use crate::run_line::{run_command, run_request};
 use crate::selecting::GivenSelection;
 use crate::statistics::{StatRequest, stat_command, stat_request};
 use bench_requests::{Fault, RunRequest};
 use clap::error::ErrorKind;
-use clap::{Arg, ArgAction, ArgMatches, Command, Error, value_parser};
+use clap::{Arg, ArgMatches, Command, Error, value_parser};
 use std::alloc::{AllocError, Global};
 
 /// What a command line asks, and when the lines that explain a fault stand behind it.
@@ -110,38 +113,68 @@ pub fn read<'a>(alloc: Global, words: &'a [String]) -> Result<Asked<'a>, Error> 
 
 /// The command that was given, with its arguments.
 fn request_in<'a>(alloc: Global, matches: &ArgMatches<'a>) -> Result<Request<'a>, AllocError> {
-    Ok(match matches.subcommand() {
-        Some(("assemble", given)) => Request::Assemble {
-            script: given.get_str("SCRIPT").unwrap_or(""),
-            image: given.get_str("IMAGE").unwrap_or(""),
-            force: given.get_flag("force"),
-        },
-        Some(("run", given)) => Request::Run {
-            request: run_request(alloc, given)?,
-            completing: completing_in(given),
-            going: going_in(given),
-        },
-        Some(("check", given)) => Request::Check(check_request(alloc, given)?),
-        Some(("dump", given)) if asks_for_messages(given) => {
-            Request::Decode(decode_request(given))
-        }
-        Some(("dump", given)) => Request::Dump {
-            recording: given.get_str("RECORDING").unwrap_or(""),
-            skip: given.get_flag("skip"),
-            times: given.get_flag("time"),
-        },
-        Some(("step", given)) => Request::Step(step_request(alloc, given)?),
-        Some(("stat", given)) => Request::Stat(stat_request(given)),
-        Some(("export", given)) => Request::Export(export_request(given)),
-        Some(("draw", given)) => Request::Draw(draw_request(given)),
-        Some(("complete", given)) => Request::Complete(complete_request(given)),
-        Some(("explain", given)) => Request::Explain {
-            codes: explain_request(alloc, given)?,
-        },
-        Some(("judge", given)) => Request::Judge(judge_request(given)),
-        Some((_, given)) => one_request(given),
-        None => one_request(matches),
+    match matches.subcommand() {
+        Some(("run", given)) => run_asked(alloc, given),
+        Some(("check", given)) => Ok(Request::Check(check_request(alloc, given)?)),
+        Some(("step", given)) => Ok(Request::Step(step_request(alloc, given)?)),
+        Some(("explain", given)) => explain_asked(alloc, given),
+        Some((name, given)) => Ok(plain_request(name, given)),
+        None => Ok(one_request(matches)),
+    }
+}
+
+fn run_asked<'a>(alloc: Global, given: &ArgMatches<'a>) -> Result<Request<'a>, AllocError> {
+    Ok(Request::Run {
+        request: run_request(alloc, given)?,
+        completing: completing_in(given),
+        going: going_in(given),
     })
+}
+
+fn explain_asked<'a>(alloc: Global, given: &ArgMatches<'a>) -> Result<Request<'a>, AllocError> {
+    Ok(Request::Explain {
+        codes: explain_request(alloc, given)?,
+    })
+}
+
+/// What the command of this name asks, which takes no list of words.
+fn plain_request<'a>(name: &str, given: &ArgMatches<'a>) -> Request<'a> {
+    match name {
+        "assemble" => assemble_request(given),
+        "dump" => dump_request(given),
+        "stat" => Request::Stat(stat_request(given)),
+        "judge" => Request::Judge(judge_request(given)),
+        _ => writing_request(name, given),
+    }
+}
+
+/// What the command of this name asks, where it writes what a recording has; else that of one message.
+fn writing_request<'a>(name: &str, given: &ArgMatches<'a>) -> Request<'a> {
+    match name {
+        "export" => Request::Export(export_request(given)),
+        "draw" => Request::Draw(draw_request(given)),
+        "complete" => Request::Complete(complete_request(given)),
+        _ => one_request(given),
+    }
+}
+
+fn assemble_request<'a>(given: &ArgMatches<'a>) -> Request<'a> {
+    Request::Assemble {
+        script: given.get_str("SCRIPT").unwrap_or(""),
+        image: given.get_str("IMAGE").unwrap_or(""),
+        force: given.get_flag("force"),
+    }
+}
+
+fn dump_request<'a>(given: &ArgMatches<'a>) -> Request<'a> {
+    if asks_for_messages(given) {
+        return Request::Decode(decode_request(given));
+    }
+    Request::Dump {
+        recording: given.get_str("RECORDING").unwrap_or(""),
+        skip: given.get_flag("skip"),
+        times: given.get_flag("time"),
+    }
 }
 
 /// A usage fault that the files show, and not the words.
@@ -179,44 +212,20 @@ fn bench_command<'a>(alloc: Global) -> Result<Command<'a>, AllocError> {
 }
 
 fn assemble_command<'a>(alloc: Global) -> Result<Command<'a>, AllocError> {
-    let script = Arg::new(alloc, "SCRIPT")
-        .required(true)
-        .help("The script to assemble, as a text");
-    let image = Arg::new(alloc, "IMAGE").required(true).help(
-        "The file to write the image to, which is not the script; it is written only where the script is accepted",
+    let command = command_of(
+        alloc,
+        "assemble",
+        "Assembles a script into an image for the bus controller, and prints its sizes",
+        "Example:\n  bench assemble poll.script poll.bc",
     );
-    Command::new(alloc, "assemble")
-        .about("Assembles a script into an image for the bus controller, and prints its sizes")
-        .after_help("Example:\n  bench assemble poll.script poll.bc")
-        .arg(force(alloc))?
-        .arg(script)?
-        .arg(image)
-}
-
-/// The leave to replace a file that is there, whatever it is.
-pub(crate) fn force<'a>(alloc: Global) -> Arg<'a> {
-    Arg::new(alloc, "force")
-        .long("force")
-        .action(ArgAction::SetTrue)
-        .help("Replaces a file that is there even where it is not of the kind that is written")
-}
-
-/// An option with the name of a file.
-pub(crate) fn file<'a>(alloc: Global, name: &'a str, help: &'a str) -> Arg<'a> {
-    Arg::new(alloc, name)
-        .long(name)
-        .value_name("FILE")
-        .help(help)
-}
-
-/// The data type version of what is written.
-pub(crate) fn version<'a>(alloc: Global) -> Arg<'a> {
-    Arg::new(alloc, "version")
-        .long("version")
-        .value_name("N")
-        .value_parser(value_parser!(u8).range(0..=255))
-        .allow_negative_numbers(true)
-        .help("The data type version in each packet's header, 0 to 255, as you choose it")
+    let image =
+        "The file to write the image to, which is not the script; it is written only where the script is accepted";
+    let rows = [
+        force(),
+        argument("SCRIPT", "The script to assemble, as a text"),
+        argument("IMAGE", image),
+    ];
+    with_rows(alloc, command, &rows)
 }
 
 /// What the help of `bench dump` ends with.
@@ -253,37 +262,29 @@ Example:
   bench dump --decode --errors --channel 2 flight.ch11
   bench dump --decode --by-time --only \"tx 5 3\" --from 1.2s flight.ch11";
 
-/// The option for times of day, which lines of decoded and of chosen messages do not have.
-fn times<'a>(alloc: Global) -> Result<Arg<'a>, AllocError> {
-    Arg::new(alloc, "time")
-        .long("time")
-        .action(ArgAction::SetTrue)
-        .help("Shows the time of day behind each time stamp, by the recording's time packets")
-        .conflicts_with("decode")?
-        .conflicts_with("by-time")?
-        .conflicts_with("channel")?
-        .conflicts_with("line")?
-        .conflicts_with("only")?
-        .conflicts_with("errors")?
-        .conflicts_with("from")?
-        .conflicts_with("to")
+/// A command with the option for times of day.
+fn with_times<'a>(alloc: Global, command: Command<'a>) -> Result<Command<'a>, AllocError> {
+    let help = "Shows the time of day behind each time stamp, by the recording's time packets";
+    with_option(command, for_all_messages(flag("time", help).arg(alloc)))
+}
+
+/// An option that lines of decoded and of chosen messages do not have.
+fn for_all_messages<'a>(option: Arg<'a>) -> Result<Arg<'a>, AllocError> {
+    option.conflicts_with_all(&[
+        "decode", "by-time", "channel", "line", "only", "errors", "from", "to",
+    ])
 }
 
 fn dump_command<'a>(alloc: Global) -> Result<Command<'a>, AllocError> {
-    let skip = Arg::new(alloc, "skip")
-        .long("skip")
-        .action(ArgAction::SetTrue)
-        .help("Shows all packets that are sound, and what was skipped between them");
-    let recording = Arg::new(alloc, "RECORDING")
-        .required(true)
-        .help("The Chapter 11 file to show");
-    let command = Command::new(alloc, "dump")
-        .about("Shows the packets and messages of a recording, or its first fault")
-        .after_help(DUMP_NOTES)
-        .arg(skip)?
-        .arg(times(alloc)?)?
-        .arg(recording)?;
-    with_decoding(alloc, command)
+    let about = "Shows the packets and messages of a recording, or its first fault";
+    let command = command_of(alloc, "dump", about, DUMP_NOTES);
+    let skip = "Shows all packets that are sound, and what was skipped between them";
+    let command = with_rows(alloc, command, &[flag("skip", skip)])?;
+    let recording = argument("RECORDING", "The Chapter 11 file to show");
+    with_decoding(
+        alloc,
+        with_rows(alloc, with_times(alloc, command)?, &[recording])?,
+    )
 }
 
 /// What the help of `bench step` ends with.
@@ -312,21 +313,13 @@ Example:
   printf 'find fail\\nstate\\n' | bench step flight.ch11 flight.report avionics.job stores.job";
 
 fn step_command<'a>(alloc: Global) -> Result<Command<'a>, AllocError> {
-    let recording = Arg::new(alloc, "RECORDING")
-        .required(true)
-        .help("The Chapter 11 file to walk through");
-    let report = Arg::new(alloc, "REPORT")
-        .required(true)
-        .help("The report of the run that recorded it");
-    let jobs = Arg::new(alloc, "JOB")
-        .num_args(0usize..)
-        .help("The jobs of that run, in their order");
-    Command::new(alloc, "step")
-        .about("Walks through a recording, and shows what the terminals hold at each message")
-        .after_help(STEP_NOTES)
-        .arg(recording)?
-        .arg(report)?
-        .arg(jobs)
+    let about = "Walks through a recording, and shows what the terminals hold at each message";
+    let rows = [
+        argument("RECORDING", "The Chapter 11 file to walk through"),
+        argument("REPORT", "The report of the run that recorded it"),
+        arguments("JOB", "The jobs of that run, in their order"),
+    ];
+    with_rows(alloc, command_of(alloc, "step", about, STEP_NOTES), &rows)
 }
 
 fn step_request<'a>(alloc: Global, given: &ArgMatches<'a>) -> Result<StepRequest<'a>, AllocError> {
@@ -340,23 +333,27 @@ fn step_request<'a>(alloc: Global, given: &ArgMatches<'a>) -> Result<StepRequest
 }
 
 fn one_command<'a>(alloc: Global) -> Result<Command<'a>, AllocError> {
-    let channel = Arg::new(alloc, "channel")
+    let command = command_of(
+        alloc,
+        "one",
+        "Runs one message on fresh terminals and prints its packet",
+        "Example:\n  bench one --channel 1 --version 6 \"A rx 5 1 [0001 0002 0003]\"",
+    );
+    let command = command.disable_version_flag(true).arg(channel(alloc))?;
+    let text = "The line (bus), A or B, and the message, as in \"A rx 5 1 [0001]\"";
+    let command = command.arg(version(alloc).required(true))?;
+    with_rows(alloc, command, &[argument("TEXT", text)])
+}
+
+/// The channel of a packet.
+fn channel<'a>(alloc: Global) -> Arg<'a> {
+    Arg::new(alloc, "channel")
         .long("channel")
         .value_name("N")
         .required(true)
         .value_parser(value_parser!(u16).range(1..=65535))
         .allow_negative_numbers(true)
-        .help("The packet's channel, 1 to 65535");
-    let text = Arg::new(alloc, "TEXT").required(true).help(
-        "The line (bus), A or B, and the message, as in \"A rx 5 1 [0001]\"",
-    );
-    Command::new(alloc, "one")
-        .about("Runs one message on fresh terminals and prints its packet")
-        .disable_version_flag(true)
-        .after_help("Example:\n  bench one --channel 1 --version 6 \"A rx 5 1 [0001 0002 0003]\"")
-        .arg(channel)?
-        .arg(version(alloc).required(true))?
-        .arg(text)
+        .help("The packet's channel, 1 to 65535")
 }
 
 fn one_request<'a>(given: &ArgMatches<'a>) -> Request<'a> {

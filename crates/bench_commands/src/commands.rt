@@ -4,13 +4,14 @@ use crate::checking::check_jobs;
 use crate::command_line::{self, Asked, Request};
 use crate::completing::complete_recording;
 use crate::decoding::show_messages;
+use crate::drawing::draw_picture;
 use crate::explaining::show_explanations;
 use crate::exporting::export_recording;
 use crate::given_words::{word_at_fault, words_of};
 use crate::hosts::{Errors, Host};
 use crate::judging::judge_recording;
 use crate::large::dump_large;
-use crate::looking::{draw_picture, tell_of_loss};
+use crate::looking::tell_of_loss;
 use crate::pointing::point;
 use crate::recording::run_jobs;
 use crate::statistics::show_statistics;
@@ -135,7 +136,7 @@ where
         }
         Request::Stat(request) => show_statistics(rt, errors, request),
         Request::Export(request) => export_recording(rt, errors, request),
-        Request::Draw(request) => draw_picture(rt, request),
+        Request::Draw(request) => draw_picture(rt, errors, request),
         Request::Complete(request) => complete_recording(rt, errors, request),
         Request::Explain { codes } => show_explanations(rt, codes),
         Request::Judge(request) => judge_recording(rt, errors, request),
@@ -201,7 +202,7 @@ fn print_sizes_to_output<R: AllocGlobal + Print>(rt: &R, sizes: &Sizes) -> io::R
     out.flush()
 }
 
-/// Prints a recording. One of more than 64 MiB is read packet by packet, unless it is damaged or times of day are asked
+/// Prints a recording. One of more than 64 MiB is read packet by packet, unless it is damaged and times of day are asked
 /// for, which want all of it.
 fn show<'a, R: Files + AllocGlobal + Print + Clock, E: Eprint + IsTerminal>(
     rt: &R,
@@ -210,8 +211,8 @@ fn show<'a, R: Files + AllocGlobal + Print + Clock, E: Eprint + IsTerminal>(
     skip: bool,
     times: bool,
 ) -> Result<(), Fault<'a>> {
-    if !skip && !times && is_large(rt, recording) {
-        return dump_large(rt, errors, recording);
+    if !(skip && times) && is_large(rt, recording) {
+        return dump_large(rt, errors, recording, skip, times);
     }
     let bytes = read_whole(rt, recording)?;
     let printed = if times {

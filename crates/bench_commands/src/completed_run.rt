@@ -1,17 +1,18 @@
 //! `bench run --complete`: jobs recorded, and the complete file made of their recording at once.
 
-use crate::command_line::file;
 use crate::completing::{fault_of, start_of, with_time, write_out};
 use crate::hosts::{Errors, Host};
 use crate::live_run::{Run, record};
-use crate::recording::finish;
+use crate::options::{file, flag, with_option, with_rows};
+use crate::recording::{ended, finish};
 use bench_complete::{Additions, CompleteFault, Completion, UtcSecond};
+use bench_files::Hold;
 use bench_live::Show;
 use bench_report::Report;
-use bench_requests::{Ending, Fault, RunFiles, RunRequest, read_whole};
+use bench_requests::{Ending, Fault, RunFiles, RunRequest};
 use bench_run::RunError;
 use ch11_writer::MemorySink;
-use clap::{Arg, ArgAction, ArgMatches, Command};
+use clap::{ArgMatches, Command};
 use job_file::{Job, next_record};
 use std::alloc::{AllocError, Global};
 use std::rt::Files;
@@ -32,17 +33,12 @@ pub(crate) fn with_completing<'a>(
     alloc: Global,
     command: Command<'a>,
 ) -> Result<Command<'a>, AllocError> {
-    let complete = Arg::new(alloc, "complete")
-        .long("complete")
-        .action(ArgAction::SetTrue)
-        .help("Writes the complete file of the recording, as `bench complete` makes it");
-    let setup = file(
-        alloc,
-        "setup",
-        "With --complete: the text of the setup record (TMATS) to put in front, 1 to 524000 bytes",
-    )
-    .requires_arg("complete")?;
-    with_time(alloc, command.arg(complete)?.arg(setup)?, Some("complete"))
+    let complete = "Writes the complete file of the recording, as `bench complete` makes it";
+    let command = with_rows(alloc, command, &[flag("complete", complete)])?;
+    let setup =
+        "With --complete: the text of the setup record (TMATS) to put in front, 1 to 524000 bytes";
+    let setup = file("setup", setup).arg(alloc).requires_arg("complete");
+    with_time(alloc, with_option(command, setup)?, Some("complete"))
 }
 
 /// How the recording of a run is to be completed, where it is.
@@ -72,17 +68,6 @@ pub(crate) fn setup_in<'a>(completing: Option<&Completing<'a>>) -> Option<&'a st
     match completing {
         Some(asked) => asked.setup,
         None => None,
-    }
-}
-
-/// The text of the setup record that a run is given; no byte where there is none.
-pub(crate) fn setup_text<'a, R: Files + AllocGlobal>(
-    rt: &R,
-    completing: Option<&Completing<'a>>,
-) -> Result<Vec<u8>, Fault<'a>> {
-    match setup_in(completing) {
-        Some(name) => read_whole(rt, name),
-        None => Ok(Vec::new(rt.alloc())),
     }
 }
 
@@ -155,10 +140,7 @@ where
     let mut files = files;
     match complete_into(rt, errors, request, run, show, additions, &mut files) {
         Ok(report) => finish(rt, files, report),
-        Err(fault) => {
-            files.end(rt, Ending::Broken)?;
-            Err(fault)
-        }
+        Err(fault) => Err(ended(rt, files, Ending::Broken, fault)),
     }
 }
 
@@ -189,19 +171,57 @@ where
     if let Err(fault) = judge_before(rt.alloc(), run, request.drops, additions) {
         return Err(fault_of(fault, ""));
     }
-    let sink = MemorySink::make(rt.alloc());
-    let (report, sink) = match record(rt, errors, run, show, sink) {
-        Ok(recorded) => recorded,
-        Err(RunError::Sink { .. }) => return Err(Fault::Memory),
-        Err(error) => return Err(Fault::of_run(&error)),
-    };
+    let (report, sink) = record_in_memory(rt, errors, run, show)?;
+    match write_completed(rt, request.out, sink.bytes(), additions, files) {
+        Ok(()) => Ok(report),
+        Err(fault) => Err(fault),
+    }
+}
+
+/// Records a run in memory.
+fn record_in_memory<'a, R: Host, E: Errors>(
+    rt: &R,
+    errors: &E,
+    run: Run<'_>,
+    show: Option<&Show>,
+) -> Result<(Report, MemorySink), Fault<'a>>
+where
+    R::Reader: 'static,
+{
+    match record(rt, errors, run, show, MemorySink::make(rt.alloc())) {
+        Ok(recorded) => Ok(recorded),
+        Err(RunError::Sink { .. }) => Err(Fault::Memory),
+        Err(error) => Err(Fault::of_run(&error)),
+    }
+}
+
+/// Writes the complete file of a recording.
+fn write_completed<'a, R: Files + AllocGlobal>(
+    rt: &R,
+    name: &'a str,
+    recording: &[u8],
+    additions: &Additions<'_>,
+    files: &mut RunFiles<'a, R::File>,
+) -> Result<(), Fault<'a>>
+where
+    R::File: Hold,
+{
     let text = additions.setup.unwrap_or(&[]);
-    match Completion::plan(rt.alloc(), sink.bytes(), &with_text(additions, text)) {
-        Ok(completion) => {
-            let writer = files.recording(rt)?;
-            write_out(rt.alloc(), request.out, writer, &completion)?;
-            Ok(report)
-        }
+    match Completion::plan(rt.alloc(), recording, &with_text(additions, text)) {
+        Ok(completion) => write_planned(rt, name, &completion, files),
         Err(fault) => Err(fault_of(fault, "")),
     }
+}
+
+fn write_planned<'a, R: Files + AllocGlobal>(
+    rt: &R,
+    name: &'a str,
+    completion: &Completion<'_>,
+    files: &mut RunFiles<'a, R::File>,
+) -> Result<(), Fault<'a>>
+where
+    R::File: Hold,
+{
+    let writer = files.recording(rt)?;
+    write_out(rt.alloc(), name, writer, completion)
 }

@@ -1,11 +1,14 @@
 //! `bench complete`: a recording made into the file that other Chapter 10 and 11 tools expect.
 
-use crate::command_line::{file, force, version};
+use crate::options::{
+    Row, argument, command_of, file, flag, force, required_file, value, version, with_option,
+    with_rows,
+};
 use bench_complete::{Additions, CompleteFault, Completion, UtcSecond};
 use bench_files::{Hold, Kind};
 use bench_requests::{Fault, begin, put_in_place, read_whole, replaceable, told_apart, writer_of};
 use ch11_reader::Skip;
-use clap::{Arg, ArgAction, ArgMatches, Command, value_parser};
+use clap::{Arg, ArgMatches, Command, value_parser};
 use std::alloc::{AllocError, Global};
 use std::io::{BufWriter, Write};
 use std::rt::Files;
@@ -42,55 +45,54 @@ Example:
 
 /// The command line of `bench complete`.
 pub(crate) fn complete_command<'a>(alloc: Global) -> Result<Command<'a>, AllocError> {
-    let recording = Arg::new(alloc, "RECORDING")
-        .required(true)
-        .help("The Chapter 11 file to complete");
-    let out = file(alloc, "out", "The file to write the complete file to").required(true);
-    let setup = file(
-        alloc,
-        "setup",
-        "The text of the setup record (TMATS) to put in front, 1 to 524000 bytes",
-    );
-    let skip = Arg::new(alloc, "skip")
-        .long("skip")
-        .action(ArgAction::SetTrue)
-        .help("Completes what is sound in a damaged recording");
-    let command = Command::new(alloc, "complete")
-        .about("Makes a recording into the file that other Chapter 10 and 11 tools expect")
-        .disable_version_flag(true)
-        .after_help(COMPLETE_NOTES)
-        .arg(recording)?
-        .arg(out)?
-        .arg(setup)?;
-    with_time(alloc, command, None)?
-        .arg(version(alloc).default_value("6"))?
-        .arg(force(alloc))?
-        .arg(skip)
+    let about = "Makes a recording into the file that other Chapter 10 and 11 tools expect";
+    let command = command_of(alloc, "complete", about, COMPLETE_NOTES).disable_version_flag(true);
+    let setup = "The text of the setup record (TMATS) to put in front, 1 to 524000 bytes";
+    let rows = [
+        argument("RECORDING", "The Chapter 11 file to complete"),
+        required_file("out", "The file to write the complete file to"),
+        file("setup", setup),
+    ];
+    let command = with_time(alloc, with_rows(alloc, command, &rows)?, None)?;
+    let command = command.arg(version(alloc).default_value("6"))?;
+    let skip = flag("skip", "Completes what is sound in a damaged recording");
+    with_rows(alloc, command, &[force(), skip])
 }
 
-/// The options of time packets, which may need another option.
+/// A command with the options of time packets, which may need another option.
 pub(crate) fn with_time<'a>(
     alloc: Global,
     command: Command<'a>,
     needed: Option<&'a str>,
 ) -> Result<Command<'a>, AllocError> {
-    let time = Arg::new(alloc, "time")
-        .long("time")
-        .value_name("YYYY-MM-DDTHH:MM:SS")
-        .help("The UTC time at tick 0, 1970 to 2099, for a time packet each second");
-    let channel = Arg::new(alloc, "time-channel")
+    let command = with_option(command, needing(time().arg(alloc), needed))?;
+    with_option(command, needing(time_channel(alloc), needed))
+}
+
+/// An option that needs another one, if any.
+fn needing<'a>(option: Arg<'a>, needed: Option<&'a str>) -> Result<Arg<'a>, AllocError> {
+    match needed {
+        Some(other) => option.requires_arg(other),
+        None => Ok(option),
+    }
+}
+
+fn time<'a>() -> Row<'a> {
+    value(
+        "time",
+        "YYYY-MM-DDTHH:MM:SS",
+        "The UTC time at tick 0, 1970 to 2099, for a time packet each second",
+    )
+}
+
+fn time_channel<'a>(alloc: Global) -> Arg<'a> {
+    Arg::new(alloc, "time-channel")
         .long("time-channel")
         .value_name("N")
         .value_parser(value_parser!(u16).range(1..=65535))
         .allow_negative_numbers(true)
         .default_value("65535")
-        .help("The channel of the time packets, 1 to 65535, which has no packet in the recording");
-    match needed {
-        None => command.arg(time)?.arg(channel),
-        Some(option) => command
-            .arg(time.requires_arg(option)?)?
-            .arg(channel.requires_arg(option)?),
-    }
+        .help("The channel of the time packets, 1 to 65535, which has no packet in the recording")
 }
 
 /// What `bench complete` is asked for.
@@ -128,17 +130,39 @@ where
     )?;
     replaceable(rt, request.out, Kind::Recording, request.force)?;
     let recording = read_whole(rt, request.recording)?;
-    let text = match request.setup {
-        Some(name) => read_whole(rt, name)?,
-        None => Vec::new(rt.alloc()),
-    };
+    let text = setup_text(rt, request.setup)?;
     let additions = Additions {
         setup: request.setup.map(|_| text.as_slice()),
         start,
         time_channel: request.time_channel,
         version: request.version,
     };
-    let completion = plan(rt.alloc(), errors, &recording, &additions, request.skip)?;
+    complete_read(rt, errors, request, recording.as_slice(), &additions)
+}
+
+/// The text of the setup record in this file; no byte where there is none.
+pub(crate) fn setup_text<'a, R: Files + AllocGlobal>(
+    rt: &R,
+    name: Option<&'a str>,
+) -> Result<Vec<u8>, Fault<'a>> {
+    match name {
+        Some(name) => read_whole(rt, name),
+        None => Ok(Vec::new(rt.alloc())),
+    }
+}
+
+/// Makes a recording that was read into a complete file with these additions.
+fn complete_read<'a, 'b, R: Files + AllocGlobal, E: Eprint>(
+    rt: &R,
+    errors: &E,
+    request: &CompleteRequest<'a>,
+    recording: &'b [u8],
+    additions: &Additions<'b>,
+) -> Result<(), Fault<'a>>
+where
+    R::File: Hold,
+{
+    let completion = plan(rt.alloc(), errors, recording, additions, request.skip)?;
     put_out(rt, request, &completion)
 }
 

@@ -3,12 +3,13 @@
 use crate::judging::is_for_people;
 use crate::large::{check_large, fault_of_dump, tell_of_large_loss};
 use crate::looking::tell_of_loss;
+use crate::options::{flag, with_rows};
 use crate::selecting::{GivenSelection, given_selection, selection_in, with_selection};
 use crate::watching::{Watch, open_watched, prints_to_terminal};
 use bench_decode::{Output, Shown, decode, decode_from};
 use bench_requests::{Fault, is_large, read_whole};
 use bench_select::Selection;
-use clap::{Arg, ArgAction, ArgMatches, Command};
+use clap::{ArgMatches, Command};
 use std::alloc::{AllocError, Global};
 use std::io::{self, IsTerminal};
 use std::rt::{Clock, Env, Files};
@@ -33,25 +34,17 @@ pub(crate) fn with_decoding<'a>(
     alloc: Global,
     command: Command<'a>,
 ) -> Result<Command<'a>, AllocError> {
-    let decode = flag(
-        alloc,
-        "decode",
-        "Shows each message as people read it, on one line",
-    );
-    let by_time = flag(
-        alloc,
-        "by-time",
-        "Shows messages of all channels in the order of their time stamps",
-    );
-    let command = command.arg(decode)?.arg(by_time)?;
-    with_selection(alloc, command)
-}
-
-fn flag<'a>(alloc: Global, name: &'a str, help: &'a str) -> Arg<'a> {
-    Arg::new(alloc, name)
-        .long(name)
-        .action(ArgAction::SetTrue)
-        .help(help)
+    let rows = [
+        flag(
+            "decode",
+            "Shows each message as people read it, on one line",
+        ),
+        flag(
+            "by-time",
+            "Shows messages of all channels in the order of their time stamps",
+        ),
+    ];
+    with_selection(alloc, with_rows(alloc, command, &rows)?)
 }
 
 /// Whether `bench dump` is asked for messages alone: decoded, by time, or some of them.
@@ -71,15 +64,15 @@ pub(crate) fn decode_request<'a>(given: &ArgMatches<'a>) -> DecodeRequest<'a> {
 }
 
 /// Shows the messages that are asked for. Where a selection has none, it says so and ends with the status of a refused
-/// input. A recording of more than 64 MiB is read packet by packet, unless it is damaged or its messages are to be
-/// sorted, which want all of it.
+/// input. A recording of more than 64 MiB is read packet by packet, unless its messages are to be sorted, which wants all
+/// of it.
 pub(crate) fn show_messages<
     'a,
     R: Env + Files + AllocGlobal + Print + Clock,
     E: Eprint + IsTerminal,
 >(rt: &R, errors: &E, request: &DecodeRequest<'a>) -> Result<(), Fault<'a>> {
     let output = output_of(rt, request)?;
-    if !request.skip && !request.by_time && is_large(rt, request.recording) {
+    if !request.by_time && is_large(rt, request.recording) {
         return show_large(rt, errors, request.recording, &output);
     }
     let bytes = read_whole(rt, request.recording)?;
@@ -120,7 +113,8 @@ fn some_selected<'a>(count: u64, output: &Output) -> Result<(), Fault<'a>> {
     Ok(())
 }
 
-/// Shows messages of a recording in two passes over it: none where the first refuses it.
+/// Shows messages of a recording in two passes over it: none where the first refuses it. One that may be damaged takes
+/// the second alone.
 fn show_large<'a, R: Files + AllocGlobal + Print + Clock, E: Eprint + IsTerminal>(
     rt: &R,
     errors: &E,
@@ -142,7 +136,9 @@ fn print_watched<'a, R: Files + AllocGlobal + Print + Clock, E: Eprint + IsTermi
     watch: &Watch<'_, R, E>,
     output: &Output,
 ) -> Result<u64, Fault<'a>> {
-    check_large(rt, name, watch)?;
+    if !output.skip {
+        check_large(rt, name, watch)?;
+    }
     let input = open_watched(rt, name, watch, !prints_to_terminal(rt))?;
     match decode_from(rt.alloc(), input, &mut io::writer(rt), output) {
         Ok(count) => Ok(count),

@@ -1,8 +1,10 @@
 //! `bench export`: the messages of a recording for spreadsheets, data frames and waveform viewers.
 
-use crate::command_line::{file, force};
-use crate::large::fault_of_reading;
+use crate::large::{clock_of_large, fault_of_reading};
 use crate::looking::{clock_if, index_of};
+use crate::options::{
+    argument, command_of, flag, force, required_file, value, with_exclusive, with_option, with_rows,
+};
 use crate::selecting::{GivenSelection, given_selection, selection_in, with_selection};
 use crate::watching::{Watch, open_watched};
 use bench_clock::Clock as RecordingClock;
@@ -16,7 +18,7 @@ use bench_requests::{
 };
 use bench_select::Selection;
 use ch11_reader::Index;
-use clap::{Arg, ArgAction, ArgMatches, Command};
+use clap::{ArgMatches, Command};
 use std::alloc::{AllocError, Global};
 use std::fs;
 use std::io::{BufWriter, IsTerminal, Read, Write};
@@ -82,42 +84,27 @@ Examples:
 
 /// The command line of `bench export`.
 pub(crate) fn export_command<'a>(alloc: Global) -> Result<Command<'a>, AllocError> {
-    let recording = Arg::new(alloc, "RECORDING")
-        .required(true)
-        .help("The Chapter 11 file to export");
-    let out = file(alloc, "out", "The file to write to").required(true);
-    let command = Command::new(alloc, "export")
-        .about("Writes one row of comma-separated values a message, or a value change dump")
-        .after_help(EXPORT_NOTES)
-        .arg(recording)?
-        .arg(out)?
-        .arg(force(alloc))?;
-    with_selection(alloc, with_forms(alloc, command)?)
+    let about = "Writes one row of comma-separated values a message, or a value change dump";
+    let command = command_of(alloc, "export", about, EXPORT_NOTES);
+    let frames = "Writes rows with a column for each value, for data frames";
+    let rows = [
+        argument("RECORDING", "The Chapter 11 file to export"),
+        required_file("out", "The file to write to"),
+        force(),
+        flag("frames", frames),
+    ];
+    with_selection(alloc, with_forms(alloc, with_rows(alloc, command, &rows)?)?)
 }
 
-/// The options that say as what messages are exported.
+/// A command with the options that say as what messages are exported, but for that of frames.
 fn with_forms<'a>(alloc: Global, command: Command<'a>) -> Result<Command<'a>, AllocError> {
-    let frames = Arg::new(alloc, "frames")
-        .long("frames")
-        .action(ArgAction::SetTrue)
-        .help("Writes rows with a column for each value, for data frames");
-    let hex = Arg::new(alloc, "hex")
-        .long("hex")
-        .value_name("PREFIX")
-        .value_parser(["0x"].as_slice())
-        .requires_arg("frames")?
-        .help("With --frames: puts 0x in front of words");
-    let time = Arg::new(alloc, "time")
-        .long("time")
-        .action(ArgAction::SetTrue)
-        .conflicts_with("vcd")?
-        .help("Writes the time of day behind each time stamp, by the recording's time packets");
-    let vcd = Arg::new(alloc, "vcd")
-        .long("vcd")
-        .action(ArgAction::SetTrue)
-        .conflicts_with("frames")?
-        .help("Writes a value change dump, for waveform viewers");
-    command.arg(frames)?.arg(hex)?.arg(time)?.arg(vcd)
+    let hex = value("hex", "PREFIX", "With --frames: puts 0x in front of words");
+    let hex = hex.arg(alloc).value_parser(["0x"].as_slice());
+    let command = with_option(command, hex.requires_arg("frames"))?;
+    let time = "Writes the time of day behind each time stamp, by the recording's time packets";
+    let command = with_exclusive(alloc, command, flag("time", time), "vcd")?;
+    let vcd = "Writes a value change dump, for waveform viewers";
+    with_exclusive(alloc, command, flag("vcd", vcd), "frames")
 }
 
 /// What `bench export` is asked for.
@@ -153,7 +140,8 @@ fn columns_in(given: &ArgMatches<'_>) -> Columns {
 
 /// Writes the messages of a recording, or those that were selected, for other programs. The out file takes the place of
 /// what is there once it is whole; it may not be the recording itself. Where a selection has no message, nothing is
-/// written. A recording of more than 64 MiB is read packet by packet, unless times of day are asked for.
+/// written. A recording of more than 64 MiB is read packet by packet, and once more first where times of day are asked
+/// for.
 pub(crate) fn export_recording<'a, R: Files + AllocGlobal + Clock, E: Eprint + IsTerminal>(
     rt: &R,
     errors: &E,
@@ -166,26 +154,48 @@ where
     let (out, kind) = (request.out, request.exported.kind());
     told_apart(rt, &[out], &[request.recording])?;
     replaceable(rt, out, kind, request.force)?;
-    if !request.exported.is_timed() && is_large(rt, request.recording) && is_replaced(rt, out) {
+    if is_large(rt, request.recording) && is_replaced(rt, out) {
         return export_large(rt, errors, request, &selection);
     }
     let bytes = read_whole(rt, request.recording)?;
-    let index = index_of(rt.alloc(), bytes.as_slice())?;
-    if !request.selection.is_empty() && !selects_any(&index, &selection) {
+    export_whole(rt, request, bytes.as_slice(), &selection)
+}
+
+/// Writes the messages of a recording that was read whole.
+fn export_whole<'a, R: Files + AllocGlobal>(
+    rt: &R,
+    request: &ExportRequest<'a>,
+    bytes: &[u8],
+    selection: &Selection,
+) -> Result<(), Fault<'a>>
+where
+    R::File: Hold,
+{
+    let index = index_of(rt.alloc(), bytes)?;
+    if !request.selection.is_empty() && !selects_any(&index, selection) {
         return Err(Fault::NoneSelected);
     }
-    let clock = clock_if(
-        rt.alloc(),
-        bytes.as_slice(),
-        &index,
-        request.exported.is_timed(),
-    )?;
-    let mut file = begin(rt, out, kind, request.force)?;
-    let answer = match writer_of(rt, out, &mut file) {
-        Ok(writer) => write_exported(rt.alloc(), &index, &clock, &selection, request, writer),
+    let clock = clock_if(rt.alloc(), bytes, &index, request.exported.is_timed())?;
+    write_whole(rt, request, &index, &clock, selection)
+}
+
+/// Writes the messages of a recording that was read whole to the out file.
+fn write_whole<'a, R: Files + AllocGlobal>(
+    rt: &R,
+    request: &ExportRequest<'a>,
+    index: &Index<'_>,
+    clock: &RecordingClock,
+    selection: &Selection,
+) -> Result<(), Fault<'a>>
+where
+    R::File: Hold,
+{
+    let mut file = begin(rt, request.out, request.exported.kind(), request.force)?;
+    let answer = match writer_of(rt, request.out, &mut file) {
+        Ok(writer) => write_exported(rt.alloc(), index, clock, selection, request, writer),
         Err(fault) => Err(fault),
     };
-    end(rt, out, file, answer)
+    end(rt, request.out, file, answer)
 }
 
 /// Gives the out file its place where all was written, and else leaves what is there.
@@ -243,10 +253,18 @@ where
     R::File: Hold,
 {
     let input = open_watched(rt, request.recording, watch, true)?;
+    let clock = clock_of_large(rt, request.recording, watch, request.exported.is_timed())?;
     let mut file = begin(rt, request.out, request.exported.kind(), request.force)?;
     let answer = match writer_of(rt, request.out, &mut file) {
         Ok(writer) => {
-            let written = write_large(rt.alloc(), input, selection, request.exported, writer);
+            let written = write_large(
+                rt.alloc(),
+                input,
+                selection,
+                request.exported,
+                &clock,
+                writer,
+            );
             some_written(request, written)
         }
         Err(fault) => Err(fault),
@@ -260,6 +278,7 @@ fn write_large<F: Read + Drop, W: Write + Drop>(
     input: F,
     selection: &Selection,
     exported: Exported,
+    clock: &RecordingClock,
     writer: W,
 ) -> Result<bool, ExportFromFault> {
     match exported {
@@ -269,7 +288,8 @@ fn write_large<F: Read + Drop, W: Write + Drop>(
                 timed,
                 selection: *selection,
             };
-            write_rows_from(alloc, input, &table, writer)
+            let exported = export_from(alloc, input, &table, clock, writer)?;
+            Ok(exported.selected)
         }
         Exported::Waves => write_dump_from(alloc, input, selection, writer),
     }
@@ -286,20 +306,6 @@ fn some_written<'a>(
         Err(ExportFromFault::Reading(fault)) => Err(fault_of_reading(request.recording, fault)),
         Err(ExportFromFault::Writing(fault)) => Err(fault_of_writing(request.out, fault)),
     }
-}
-
-/// Writes rows of what a reader has left, without times of day; answers whether any message was selected.
-fn write_rows_from<F: Read + Drop, W: Write + Drop>(
-    alloc: Global,
-    input: F,
-    table: &Table,
-    writer: W,
-) -> Result<bool, ExportFromFault> {
-    let Ok(clock) = RecordingClock::of(alloc, &[], &[]) else {
-        return Err(ExportFromFault::Writing(ExportFault::Memory));
-    };
-    let exported = export_from(alloc, input, table, &clock, writer)?;
-    Ok(exported.selected)
 }
 
 /// Writes a value change dump of what a reader has left; answers whether any message was selected.

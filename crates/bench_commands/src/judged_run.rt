@@ -1,11 +1,11 @@
 //! `bench run --judge`: the rules of a run, read before it begins, and the verdicts on what it recorded.
 
 use crate::judging::{fault_of_printing, index_of, print_verdicts, verdict_on};
+use crate::options::{Row, value};
 use bench_files::leads_to_output;
 use bench_judge::{PrintFault, Verdict, write_verdicts};
 use bench_requests::{Fault, RunRequest, read_whole, rules_of};
 use ch11_reader::Index;
-use clap::Arg;
 use judge_rules::Rule;
 use std::alloc::Global;
 use std::fs;
@@ -21,13 +21,12 @@ pub(crate) struct RunRules {
 }
 
 /// The option that names the rules of a run.
-pub(crate) fn judge_option<'a>(alloc: Global) -> Arg<'a> {
-    Arg::new(alloc, "judge")
-        .long("judge")
-        .value_name("RULES")
-        .help(
-            "The rules to judge the recording by once it is whole; status 5 where one is not held",
-        )
+pub(crate) fn judge_option<'a>() -> Row<'a> {
+    value(
+        "judge",
+        "RULES",
+        "The rules to judge the recording by once it is whole; status 5 where one is not held",
+    )
 }
 
 /// Whether a recording of this name can be read back: one that goes to a pipe or a device is gone, and one that goes
@@ -109,7 +108,7 @@ pub(crate) fn judge_run<'a, R: Env + Files + AllocGlobal + Print, E: Eprint>(
             Err(fault) => return Err(fault_of_printing(fault)),
         }
     } else {
-        print_verdicts(rt, &index, given.text.as_slice(), rules)?
+        print_verdicts(rt, request.out, &index, given.text.as_slice(), rules)?
     };
     verdict_on(verdicts.as_slice())
 }

@@ -1,18 +1,19 @@
 //! `bench judge`: whether a recording is what rules expect.
 
-use crate::command_line::{file, force};
 use crate::large::{Large, check_large, fault_of_reading};
+use crate::options::{argument, command_of, file, flag, force, optional, with_rows};
 use crate::watching::{Watch, prints_to_terminal};
 use bench_files::{Hold, Kind};
 use bench_judge::{
-    PassFault, PrintFault, Verdict, judge, junit_text, not_held, write_colored, write_verdicts,
-    write_verdicts_from,
+    PassFault, PrintFault, Verdict, judge, judge_from, junit_text, junit_text_from, not_held,
+    write_colored, write_colored_from, write_verdicts, write_verdicts_from,
 };
 use bench_requests::{
     Fault, is_large, open_to_read, read_whole, replaceable, rules_of, told_apart, write_new,
 };
+use bench_watch::Reopen;
 use ch11_reader::{Index, ReadError};
-use clap::{Arg, ArgAction, ArgMatches, Command};
+use clap::{ArgMatches, Command};
 use judge_rules::Rule;
 use std::alloc::{AllocError, Global};
 use std::env;
@@ -56,26 +57,18 @@ Example:
 
 /// The command line of `bench judge`.
 pub(crate) fn judge_command<'a>(alloc: Global) -> Result<Command<'a>, AllocError> {
-    let recording = Arg::new(alloc, "RECORDING")
-        .required(true)
-        .help("The Chapter 11 file to judge");
-    let rules = Arg::new(alloc, "RULES").help("The rules to judge it by, as a text");
-    let skip = Arg::new(alloc, "skip")
-        .long("skip")
-        .action(ArgAction::SetTrue)
-        .help("Judges what is sound of a damaged recording");
-    Command::new(alloc, "judge")
-        .about("Judges a recording by rules, or by the standard")
-        .after_help(NOTES)
-        .arg(file(
-            alloc,
+    let about = "Judges a recording by rules, or by the standard";
+    let rows = [
+        file(
             "junit",
             "The file to write a JUnit report to, a test case a rule",
-        ))?
-        .arg(skip)?
-        .arg(force(alloc))?
-        .arg(recording)?
-        .arg(rules)
+        ),
+        flag("skip", "Judges what is sound of a damaged recording"),
+        force(),
+        argument("RECORDING", "The Chapter 11 file to judge"),
+        optional("RULES", "The rules to judge it by, as a text"),
+    ];
+    with_rows(alloc, command_of(alloc, "judge", about, NOTES), &rows)
 }
 
 /// What `bench judge` is asked for.
@@ -91,7 +84,7 @@ pub(crate) fn judge_request<'a>(given: &ArgMatches<'a>) -> JudgeRequest<'a> {
 
 /// Judges a recording, whose faults come before those of the rules, and prints the verdicts. Where a rule is not held
 /// it ends with a fault of its own. The JUnit file, which may be none of the others, is written behind what is printed.
-/// A recording of more than 64 MiB is read packet by packet where its verdicts are printed as plain lines alone.
+/// A recording of more than 64 MiB is read packet by packet.
 pub fn judge_recording<'a, R: Env + Files + AllocGlobal + Print + Clock, E: Eprint + IsTerminal>(
     rt: &R,
     errors: &E,
@@ -105,7 +98,7 @@ where
         told_apart(rt, &[junit], &[request.recording, rules])?;
         replaceable(rt, junit, Kind::Verdicts, request.force)?;
     }
-    if is_plain(request) && is_large(rt, request.recording) && !is_for_people(rt) {
+    if is_large(rt, request.recording) {
         return judge_large(rt, errors, request);
     }
     let bytes = read_whole(rt, request.recording)?;
@@ -113,11 +106,6 @@ where
     let index = index_of(rt.alloc(), bytes.as_slice(), request.skip)?;
     let rules = rules_of(rt.alloc(), text.as_slice())?;
     judge_by(rt, request, &index, text.as_slice(), rules.as_slice())
-}
-
-/// Whether nothing is asked for but the verdicts on all of a recording.
-fn is_plain(request: &JudgeRequest<'_>) -> bool {
-    request.junit.is_none() && !request.skip
 }
 
 /// The text of the rules.
@@ -132,58 +120,121 @@ fn rules_text<'a, R: Files + AllocGlobal>(
 }
 
 /// Judges a recording that is read packet by packet, while it is watched.
-fn judge_large<'a, R: Files + AllocGlobal + Print + Clock, E: Eprint + IsTerminal>(
+fn judge_large<'a, R: Env + Files + AllocGlobal + Print + Clock, E: Eprint + IsTerminal>(
     rt: &R,
     errors: &E,
     request: &JudgeRequest<'a>,
-) -> Result<(), Fault<'a>> {
+) -> Result<(), Fault<'a>>
+where
+    R::File: Hold,
+{
     drop(open_to_read(rt, request.recording)?);
     let text = rules_text(rt, request)?;
     let watch = Watch::begin(rt, errors, request.recording);
-    let judged = judge_watched(rt, request.recording, &watch, text.as_slice());
+    let judged = judge_watched(rt, request, &watch, text.as_slice());
     watch.end();
     judged
 }
 
 /// Judges a recording that is watched by the rules of this text. Its faults come before those of the rules.
-fn judge_watched<'a, R: Files + AllocGlobal + Print + Clock, E: Eprint + IsTerminal>(
+fn judge_watched<'a, R: Env + Files + AllocGlobal + Print + Clock, E: Eprint + IsTerminal>(
     rt: &R,
-    name: &'a str,
+    request: &JudgeRequest<'a>,
     watch: &Watch<'_, R, E>,
     text: &[u8],
-) -> Result<(), Fault<'a>> {
+) -> Result<(), Fault<'a>>
+where
+    R::File: Hold,
+{
     match rules_of(rt.alloc(), text) {
-        Ok(rules) => judge_large_by(rt, name, watch, rules.as_slice()),
+        Ok(rules) => judge_large_by(rt, request, watch, text, rules.as_slice()),
+        Err(fault) if request.skip => Err(fault),
         Err(fault) => {
-            check_large(rt, name, watch)?;
+            check_large(rt, request.recording, watch)?;
             Err(fault)
         }
     }
 }
 
-/// Judges a recording that is watched by these rules.
-fn judge_large_by<'a, R: Files + AllocGlobal + Print + Clock, E: Eprint + IsTerminal>(
+/// Judges a recording that is watched by these rules, of which this is the text.
+fn judge_large_by<'a, R: Env + Files + AllocGlobal + Print + Clock, E: Eprint + IsTerminal>(
     rt: &R,
-    name: &'a str,
+    request: &JudgeRequest<'a>,
     watch: &Watch<'_, R, E>,
+    text: &[u8],
     rules: &[Rule],
-) -> Result<(), Fault<'a>> {
-    match print_large(rt, name, watch, rules) {
-        Ok(verdicts) => verdict_on(verdicts.as_slice()),
-        Err(PassFault::Opening(error)) => Err(Fault::of_stream(name, &error)),
-        Err(PassFault::Recording(fault)) => Err(fault_of_reading(name, fault)),
-        Err(PassFault::Printing(fault)) => Err(fault_of_printing(fault)),
+) -> Result<(), Fault<'a>>
+where
+    R::File: Hold,
+{
+    let name = request.recording;
+    let large = Large {
+        rt,
+        name,
+        watch,
+        skip: request.skip,
+        prints: true,
+    };
+    let verdicts = match print_large(rt, &large, text, rules) {
+        Ok(verdicts) => verdicts,
+        Err(fault) => return Err(fault_of_pass(name, fault)),
+    };
+    if let Some(junit) = request.junit {
+        let made = junit_text_from(rt.alloc(), &large, text, rules, verdicts.as_slice());
+        write_report(rt, request, junit, made)?;
     }
+    verdict_on(verdicts.as_slice())
 }
 
-fn print_large<R: Files + AllocGlobal + Print + Clock, E: Eprint + IsTerminal>(
+/// Judges a recording by these rules and prints the verdicts, for people where they go to a terminal.
+fn print_large<R: Env + Files + AllocGlobal + Print + Clock, E: Eprint + IsTerminal>(
     rt: &R,
-    name: &str,
-    watch: &Watch<'_, R, E>,
+    large: &Large<'_, R, E>,
+    text: &[u8],
     rules: &[Rule],
 ) -> Result<Vec<Verdict>, PassFault> {
     let mut out = BufWriter::new(rt.alloc(), io::writer(rt))?;
-    write_verdicts_from(rt.alloc(), &Large { rt, name, watch }, rules, &mut out)
+    if !is_for_people(rt) {
+        return write_verdicts_from(rt.alloc(), large, rules, &mut out);
+    }
+    let verdicts = match large.reopen() {
+        Ok(input) => judge_from(rt.alloc(), input, rules)?,
+        Err(error) => return Err(PassFault::Opening(error)),
+    };
+    write_colored_from(
+        rt.alloc(),
+        large,
+        text,
+        rules,
+        verdicts.as_slice(),
+        &mut out,
+    )?;
+    Ok(verdicts)
+}
+
+/// Writes the JUnit file if it could be made.
+fn write_report<'a, R: Files + AllocGlobal>(
+    rt: &R,
+    request: &JudgeRequest<'a>,
+    junit: &'a str,
+    made: Result<Vec<u8>, PassFault>,
+) -> Result<(), Fault<'a>>
+where
+    R::File: Hold,
+{
+    match made {
+        Ok(report) => write_new(rt, junit, Kind::Verdicts, request.force, report.as_slice()),
+        Err(fault) => Err(fault_of_pass(request.recording, fault)),
+    }
+}
+
+/// The fault of a recording with this name that was not judged to its end.
+fn fault_of_pass<'a>(name: &'a str, fault: PassFault) -> Fault<'a> {
+    match fault {
+        PassFault::Opening(error) => Fault::of_stream(name, &error),
+        PassFault::Recording(fault) => fault_of_reading(name, fault),
+        PassFault::Printing(fault) => fault_of_printing(fault),
+    }
 }
 
 /// The text of the rule that holds where none is given.
@@ -224,17 +275,20 @@ fn judge_by<'a, R: Env + Files + AllocGlobal + Print>(
 where
     R::File: Hold,
 {
-    let verdicts = print_verdicts(rt, index, text, rules)?;
+    let name = request.recording;
+    let verdicts = print_verdicts(rt, name, index, text, rules)?;
     if let Some(junit) = request.junit {
-        let report = junit_text(rt.alloc(), index, text, rules, verdicts.as_slice())?;
-        write_new(rt, junit, Kind::Verdicts, request.force, report.as_slice())?;
+        let made = junit_text(rt.alloc(), index, text, rules, verdicts.as_slice());
+        write_report(rt, request, junit, made)?;
     }
     verdict_on(verdicts.as_slice())
 }
 
-/// Judges by the rules of this text and prints the verdicts, for people where they go to a terminal.
+/// Judges the recording with this name by the rules of this text and prints the verdicts, for people where they go to a
+/// terminal.
 pub(crate) fn print_verdicts<'a, R: Env + Files + AllocGlobal + Print>(
     rt: &R,
+    name: &'a str,
     index: &Index<'_>,
     text: &[u8],
     rules: &[Rule],
@@ -246,7 +300,7 @@ pub(crate) fn print_verdicts<'a, R: Env + Files + AllocGlobal + Print>(
     };
     match printed {
         Ok(verdicts) => Ok(verdicts),
-        Err(fault) => Err(fault_of_printing(fault)),
+        Err(fault) => Err(fault_of_pass(name, fault)),
     }
 }
 
@@ -263,7 +317,7 @@ fn print_for_people<R: AllocGlobal + Print>(
     index: &Index<'_>,
     text: &[u8],
     rules: &[Rule],
-) -> Result<Vec<Verdict>, PrintFault> {
+) -> Result<Vec<Verdict>, PassFault> {
     let verdicts = judge(rt.alloc(), index, rules)?;
     let mut out = BufWriter::new(rt.alloc(), io::writer(rt))?;
     write_colored(
@@ -281,9 +335,9 @@ fn print_lines<R: AllocGlobal + Print>(
     rt: &R,
     index: &Index<'_>,
     rules: &[Rule],
-) -> Result<Vec<Verdict>, PrintFault> {
+) -> Result<Vec<Verdict>, PassFault> {
     let mut out = BufWriter::new(rt.alloc(), io::writer(rt))?;
-    write_verdicts(rt.alloc(), index, rules, &mut out)
+    Ok(write_verdicts(rt.alloc(), index, rules, &mut out)?)
 }
 
 /// The fault of a rule that is not held, where there is one.

@@ -2,16 +2,46 @@
 
 use crate::looking::tell_of_missing;
 use crate::watching::{Watch, Watched, open_watched, prints_to_terminal};
-use bench_dump::DumpFault;
-use bench_judge::Reopen;
-use bench_passes::dump_in_two_passes;
+use bench_clock::{Clock as RecordingClock, clock_from};
+use bench_dump::{DumpFault, dump_skipping_from};
+use bench_passes::{dump_in_two_passes, dump_with_times_in_two_passes};
 use bench_requests::{Fault, open_to_read, tells_of_loss};
+use bench_watch::Reopen;
 use ch11_check::check_from;
-use ch11_stream::{Packets, StreamFault};
-use std::alloc::Global;
+use ch11_stream::{SoundPackets, StreamFault, Stretch, Stretches};
+use std::alloc::{AllocError, Global};
 use std::fs;
-use std::io::{self, IsTerminal, Read};
+use std::io::{self, Error, ErrorKind, IsTerminal, Read};
 use std::rt::{Clock, Files};
+
+/// What a pass over a recording reads.
+#[derive(Drop)]
+pub(crate) enum Pass<F: Read> {
+    /// All of it.
+    Whole(F),
+    /// The packets without a fault of one that may be damaged.
+    Sound(SoundPackets<F>),
+}
+
+impl<F: Read + Drop> Pass<F> {
+    /// A pass over what a file has, or over what is sound of it.
+    pub(crate) fn over(alloc: Global, file: F, skip: bool) -> Result<Pass<F>, AllocError> {
+        if skip {
+            Ok(Pass::Sound(SoundPackets::over(alloc, file)?))
+        } else {
+            Ok(Pass::Whole(file))
+        }
+    }
+}
+
+impl<F: Read> Read for Pass<F> {
+    fn read(&mut self, buf: &mut [u8]) -> io::Result<usize> {
+        match self {
+            Pass::Whole(file) => file.read(buf),
+            Pass::Sound(packets) => packets.read(buf),
+        }
+    }
+}
 
 /// A recording that is opened anew for each pass over it. How far the first has come is shown, and how far later ones
 /// have where what they print goes to no terminal.
@@ -20,16 +50,24 @@ pub(crate) struct Large<'f, R, E> {
     pub(crate) rt: &'f R,
     pub(crate) name: &'f str,
     pub(crate) watch: &'f Watch<'f, R, E>,
+    /// Whether it may be damaged, and is read as far as it is sound.
+    pub(crate) skip: bool,
+    /// Whether passes behind the first print.
+    pub(crate) prints: bool,
 }
 
-impl<'f, R: Files + Clock, E: Eprint + IsTerminal> Reopen for Large<'f, R, E> {
-    type Reader = Watched<'f, R::File, R, E>;
+impl<'f, R: Files + AllocGlobal + Clock, E: Eprint + IsTerminal> Reopen for Large<'f, R, E> {
+    type Reader = Pass<Watched<'f, R::File, R, E>>;
 
-    fn reopen(&self) -> io::Result<Watched<'f, R::File, R, E>> {
-        let shown = self.watch.is_new() || !prints_to_terminal(self.rt);
-        match fs::open(self.rt, self.name) {
-            Ok(file) => Ok(Watched::over(file, self.watch, shown)),
-            Err(error) => Err(error),
+    fn reopen(&self) -> io::Result<Pass<Watched<'f, R::File, R, E>>> {
+        let shown = self.watch.is_new() || !self.prints || !prints_to_terminal(self.rt);
+        let file = match fs::open(self.rt, self.name) {
+            Ok(file) => Watched::over(file, self.watch, shown),
+            Err(error) => return Err(error),
+        };
+        match Pass::over(self.rt.alloc(), file, self.skip) {
+            Ok(pass) => Ok(pass),
+            Err(_) => Err(Error::from(ErrorKind::OutOfMemory)),
         }
     }
 }
@@ -66,14 +104,38 @@ pub(crate) fn check_large<'a, R: Files + AllocGlobal + Clock, E: Eprint + IsTerm
     }
 }
 
-/// Prints a recording in two passes over it: nothing where the first refuses it.
+/// The clock of a recording in a pass of its own where times of day are asked for, and else one that tells none.
+pub(crate) fn clock_of_large<'a, R: Files + AllocGlobal + Clock, E: Eprint + IsTerminal>(
+    rt: &R,
+    name: &'a str,
+    watch: &Watch<'_, R, E>,
+    timed: bool,
+) -> Result<RecordingClock, Fault<'a>> {
+    if !timed {
+        return Ok(RecordingClock::of(rt.alloc(), &[], &[])?);
+    }
+    let file = open_watched(rt, name, watch, true)?;
+    match clock_from(rt.alloc(), file) {
+        Ok(clock) => Ok(clock),
+        Err(fault) => Err(fault_of_reading(name, fault)),
+    }
+}
+
+/// Prints a recording in two passes over it, with times of day where they are asked for: nothing where the first refuses
+/// it. With `skip` what is sound of it is printed in one pass, without times.
 pub(crate) fn dump_large<'a, R: Files + AllocGlobal + Print + Clock, E: Eprint + IsTerminal>(
     rt: &R,
     errors: &E,
     name: &'a str,
+    skip: bool,
+    times: bool,
 ) -> Result<(), Fault<'a>> {
     let watch = Watch::begin(rt, errors, name);
-    let printed = dump_watched(rt, name, &watch);
+    let printed = if skip {
+        dump_sound_watched(rt, name, &watch)
+    } else {
+        dump_watched(rt, name, &watch, times)
+    };
     watch.end();
     if printed.is_ok() {
         tell_of_large_loss(rt, errors, name);
@@ -86,11 +148,31 @@ fn dump_watched<'a, R: Files + AllocGlobal + Print + Clock, E: Eprint + IsTermin
     rt: &R,
     name: &'a str,
     watch: &Watch<'_, R, E>,
+    times: bool,
 ) -> Result<(), Fault<'a>> {
     let first = open_watched(rt, name, watch, true)?;
     let second = open_watched(rt, name, watch, !prints_to_terminal(rt))?;
     let mut out = io::writer(rt);
-    match dump_in_two_passes(rt.alloc(), first, second, &mut out) {
+    let printed = if times {
+        dump_with_times_in_two_passes(rt.alloc(), first, second, &mut out)
+    } else {
+        dump_in_two_passes(rt.alloc(), first, second, &mut out)
+    };
+    match printed {
+        Ok(()) => Ok(()),
+        Err(fault) => Err(fault_of_dump(name, fault, watch.has_failed())),
+    }
+}
+
+/// Prints what is sound of a recording, while it is watched.
+fn dump_sound_watched<'a, R: Files + AllocGlobal + Print + Clock, E: Eprint + IsTerminal>(
+    rt: &R,
+    name: &'a str,
+    watch: &Watch<'_, R, E>,
+) -> Result<(), Fault<'a>> {
+    let file = open_watched(rt, name, watch, !prints_to_terminal(rt))?;
+    let mut out = io::writer(rt);
+    match dump_skipping_from(rt.alloc(), file, &mut out) {
         Ok(()) => Ok(()),
         Err(fault) => Err(fault_of_dump(name, fault, watch.has_failed())),
     }
@@ -113,14 +195,14 @@ pub(crate) fn tell_of_large_loss<R: Files + AllocGlobal, E: Eprint + IsTerminal>
     }
 }
 
-/// Whether packets of a recording, up to the first that can't be read, say that messages are missing from it.
+/// Whether sound packets of a recording say that messages are missing from it.
 fn is_lossy_from<F: Read + Drop>(alloc: Global, file: F) -> bool {
-    let Ok(mut packets) = Packets::over(alloc, file) else {
+    let Ok(mut stretches) = Stretches::over(alloc, file) else {
         return false;
     };
     for _made in 0..u64::MAX {
-        match packets.next() {
-            Ok(Some(packet)) if tells_of_loss(&[packet]) => return true,
+        match stretches.next() {
+            Ok(Some(Stretch::Sound(packet))) if tells_of_loss(&[packet]) => return true,
             Ok(Some(_)) => {}
             _ => return false,
         }

@@ -4,6 +4,7 @@ ghost use Rattle.std.specs.Prelude.{◌-◌, ◌<◌, ◌^◌};
 
 use crate::hosts::{Errors, Host};
 use crate::judging::is_for_people;
+use crate::options::{flag, value, with_rows};
 use bench_core::Settings;
 use bench_decode::Shown;
 use bench_files::leads_to_output;
@@ -13,7 +14,7 @@ use bench_requests::{Fault, RunRequest};
 use bench_run::{LiveError, RunError};
 use bench_run_command::{record_jobs_held, record_jobs_with_progress};
 use ch11_writer::Sink;
-use clap::{Arg, ArgAction, ArgMatches, Command};
+use clap::{ArgMatches, Command};
 use job_file::Job;
 use std::alloc::{AllocError, Global};
 use std::io::BufReader;
@@ -52,20 +53,17 @@ pub(crate) fn with_going<'a>(
     alloc: Global,
     command: Command<'a>,
 ) -> Result<Command<'a>, AllocError> {
-    let live = Arg::new(alloc, "live")
-        .long("live")
-        .action(ArgAction::SetTrue)
-        .help(
-            "Posts what lines `CHANNEL ADDRESS ACTION` of the standard input ask of terminals while the run goes on",
-        );
-    let pace = Arg::new(alloc, "pace").long("pace").value_name("N").help(
-        "Bus time runs at N times real time, 0.1 to 1000; without it as fast as it goes, and with --live at 1",
-    );
-    let show = Arg::new(alloc, "show")
-        .long("show")
-        .action(ArgAction::SetTrue)
-        .help("Prints each message as it is recorded, a line as dump --decode has it");
-    command.arg(live)?.arg(pace)?.arg(show)
+    let live =
+        "Posts what lines `CHANNEL ADDRESS ACTION` of the standard input ask of terminals while the run goes on";
+    let pace =
+        "Bus time runs at N times real time, 0.1 to 1000; without it as fast as it goes, and with --live at 1";
+    let show = "Prints each message as it is recorded, a line as dump --decode has it";
+    let rows = [
+        flag("live", live),
+        value("pace", "N", pace),
+        flag("show", show),
+    ];
+    with_rows(alloc, command, &rows)
 }
 
 /// How a run goes on by the words of the command line.

@@ -1,15 +1,10 @@
-//! `bench draw`: what there is to see in a recording, and whether messages are missing from it.
+//! Recordings that are read whole: their packets, their clock, and whether messages are missing from them.
 
-use crate::command_line::DrawRequest;
-use crate::selecting::selection_in;
 use bench_clock::Clock;
-use bench_draw::draw;
-use bench_files::{Hold, Kind};
-use bench_requests::{Fault, read_whole, replaceable, tells_of_loss, told_apart, write_new};
+use bench_requests::{Fault, tells_of_loss};
 use ch11_reader::{Index, ReadError};
 use std::alloc::{AllocError, Global};
 use std::io::IsTerminal;
-use std::rt::Files;
 
 /// Says on a terminal that messages are missing from a recording, where its packets say so; of a damaged one those
 /// that are sound.
@@ -55,33 +50,4 @@ pub(crate) fn clock_if(
 ) -> Result<Clock, AllocError> {
     let told = if timed { index.packets() } else { &[] };
     Clock::of(alloc, recording, told)
-}
-
-/// Writes the messages of a recording, or those that were selected, as a picture. The out file takes the place of what
-/// is there once it is whole; it may not be the recording itself. Where a selection has no message, nothing is written,
-/// and that is said.
-pub fn draw_picture<'a, R: Files + AllocGlobal>(
-    rt: &R,
-    request: &DrawRequest<'a>,
-) -> Result<(), Fault<'a>>
-where
-    R::File: Hold,
-{
-    let selection = selection_in(&request.selection)?;
-    told_apart(rt, &[request.out], &[request.recording])?;
-    replaceable(rt, request.out, Kind::Picture, request.force)?;
-    let bytes = read_whole(rt, request.recording)?;
-    let index = index_of(rt.alloc(), bytes.as_slice())?;
-    let clock = clock_if(rt.alloc(), bytes.as_slice(), &index, true)?;
-    let drawing = draw(rt.alloc(), &index, &selection, &clock)?;
-    if drawing.messages == 0 && !request.selection.is_empty() {
-        return Err(Fault::NoneSelected);
-    }
-    write_new(
-        rt,
-        request.out,
-        Kind::Picture,
-        request.force,
-        drawing.text.as_slice(),
-    )
 }

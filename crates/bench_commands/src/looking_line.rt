@@ -1,8 +1,9 @@
 //! The command line of the commands for people who look: `bench draw` and `bench explain`.
 
-use crate::command_line::{DrawRequest, file, force};
+use crate::command_line::DrawRequest;
+use crate::options::{argument, arguments, command_of, force, required_file, with_rows};
 use crate::selecting::{given_selection, with_selection};
-use clap::{Arg, ArgAction, ArgMatches, Command};
+use clap::{ArgMatches, Command};
 use std::alloc::{AllocError, Global};
 
 /// What the help of `bench draw` ends with.
@@ -20,16 +21,13 @@ Example:
 
 /// The command line of `bench draw`.
 pub(crate) fn draw_command<'a>(alloc: Global) -> Result<Command<'a>, AllocError> {
-    let recording = Arg::new(alloc, "RECORDING")
-        .required(true)
-        .help("The Chapter 11 file to draw");
-    let out = file(alloc, "out", "The file to write the picture to, as SVG").required(true);
-    let command = Command::new(alloc, "draw")
-        .about("Draws the messages of a recording over time, as a picture for a browser")
-        .after_help(DRAW_NOTES)
-        .arg(recording)?
-        .arg(out)?
-        .arg(force(alloc))?;
+    let about = "Draws the messages of a recording over time, as a picture for a browser";
+    let rows = [
+        argument("RECORDING", "The Chapter 11 file to draw"),
+        required_file("out", "The file to write the picture to, as SVG"),
+        force(),
+    ];
+    let command = with_rows(alloc, command_of(alloc, "draw", about, DRAW_NOTES), &rows)?;
     with_selection(alloc, command)
 }
 
@@ -45,13 +43,11 @@ pub(crate) fn draw_request<'a>(given: &ArgMatches<'a>) -> DrawRequest<'a> {
 
 /// The command line of `bench explain`.
 pub(crate) fn explain_command<'a>(alloc: Global) -> Result<Command<'a>, AllocError> {
-    let code = Arg::new(alloc, "CODE").num_args(0usize..).help(
-        "The code to explain, as S7 or s7, or several; all codes where there is none",
-    );
-    Command::new(alloc, "explain")
-        .about("Says what a fault means, and what to do")
-        .after_help("Examples:\n  bench explain S7\n  bench explain s4 m1")
-        .arg(code)
+    let about = "Says what a fault means, and what to do";
+    let notes = "Examples:\n  bench explain S7\n  bench explain s4 m1";
+    let codes = "The code to explain, as S7 or s7, or several; all codes where there is none";
+    let command = command_of(alloc, "explain", about, notes);
+    with_rows(alloc, command, &[arguments("CODE", codes)])
 }
 
 /// The codes that are to be explained, as they were given.

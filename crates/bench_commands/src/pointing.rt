@@ -12,8 +12,9 @@ use bench_explain::explain;
 use bench_one::OneFault;
 use bench_reasons::{Place, Reason, Text, explained, put_place};
 use bench_requests::{Fault, read_whole};
+use frame_text::Cause;
 use job_file::{JobError, read_job};
-use std::alloc::AllocError;
+use std::alloc::{AllocError, Global};
 use std::fmt::Write;
 use std::io;
 use std::io::IsTerminal;
@@ -66,21 +67,11 @@ fn particular<R: Files + AllocGlobal>(
 ) -> Result<Option<String>, AllocError> {
     match (fault, request) {
         (Fault::Text(OneFault::Text { cause, place }), Request::One { text, .. }) => {
-            let bytes = text.as_bytes();
-            let reason = reason_of_script(rt.alloc(), bytes, Text::Send, *cause, *place)?;
-            told(rt, "TEXT", bytes, reason)
+            text_lines(rt, "TEXT", text.as_bytes(), Text::Send, *cause, *place)
         }
-        (Fault::Script(AssembleFault::Text { cause, place }), Request::Assemble { script, .. }) =>
-            match read_whole(rt, script) {
-                Ok(text) => {
-                    if let Some(lines) = recording_in_place(rt, script, &text)? {
-                        return Ok(Some(lines));
-                    }
-                    let reason = reason_of_script(rt.alloc(), &text, Text::Script, *cause, *place)?;
-                    told(rt, script, &text, reason)
-                }
-                Err(_) => Ok(None),
-            },
+        (Fault::Script(AssembleFault::Text { cause, place }), Request::Assemble { script, .. }) => {
+            script_at_fault(rt, script, *cause, *place)
+        }
         (Fault::Job(error), _) => job_at_fault(rt, jobs_in(request), error),
         (Fault::Run(error), _) => refusal_of(rt, request, *error),
         (Fault::Report(error), Request::Step(step)) => {
@@ -106,6 +97,46 @@ fn jobs_in<'r, 'a>(request: &'r Request<'a>) -> &'r [&'a str] {
     }
 }
 
+/// Why the script in this file is refused, as lines.
+fn script_at_fault<R: Files + AllocGlobal>(
+    rt: &R,
+    name: &str,
+    cause: Cause,
+    place: frame_text::Place,
+) -> Result<Option<String>, AllocError> {
+    let Ok(text) = read_whole(rt, name) else {
+        return Ok(None);
+    };
+    script_lines(rt, name, text.as_slice(), cause, place)
+}
+
+/// Why a script is refused, as lines: that it is a recording, or the reason of its text.
+fn script_lines<R: AllocGlobal>(
+    rt: &R,
+    name: &str,
+    text: &[u8],
+    cause: Cause,
+    place: frame_text::Place,
+) -> Result<Option<String>, AllocError> {
+    match recording_in_place(rt, name, text)? {
+        Some(lines) => Ok(Some(lines)),
+        None => text_lines(rt, name, text, Text::Script, cause, place),
+    }
+}
+
+/// The reason of a script's text, or of that of a message, as lines.
+fn text_lines<R: AllocGlobal>(
+    rt: &R,
+    name: &str,
+    text: &[u8],
+    kind: Text,
+    cause: Cause,
+    place: frame_text::Place,
+) -> Result<Option<String>, AllocError> {
+    let reason = reason_of_script(rt.alloc(), text, kind, cause, place)?;
+    told(rt, name, text, reason)
+}
+
 /// The reason with its place, as lines.
 fn told<R: AllocGlobal>(
     rt: &R,
@@ -129,22 +160,38 @@ fn job_at_fault<R: Files + AllocGlobal>(
         let Ok(text) = read_whole(rt, name) else {
             return Ok(None);
         };
-        match read_job(rt.alloc(), &text) {
-            Ok(_) => {}
-            Err(found) if found == *error => {
-                return match recording_in_place(rt, name, &text)? {
-                    Some(lines) => Ok(Some(lines)),
-                    None => job_lines(rt, name, &text, error),
-                };
-            }
-            Err(_) => return Ok(None),
+        match refusal_of_job(rt.alloc(), text.as_slice()) {
+            None => {}
+            Some(found) if found == *error => return job_lines(rt, name, text.as_slice(), error),
+            Some(_) => return Ok(None),
         }
     }
     Ok(None)
 }
 
-/// Why a job is refused, as lines: the reason of its text, or its line `script` with what the code means.
+/// Why a text is no job, where it is none.
+fn refusal_of_job(alloc: Global, text: &[u8]) -> Option<JobError> {
+    match read_job(alloc, text) {
+        Ok(_) => None,
+        Err(error) => Some(error),
+    }
+}
+
+/// Why a job is refused, as lines: that it is a recording, or what there is to say of its text.
 fn job_lines<R: AllocGlobal>(
+    rt: &R,
+    name: &str,
+    text: &[u8],
+    error: &JobError,
+) -> Result<Option<String>, AllocError> {
+    match recording_in_place(rt, name, text)? {
+        Some(lines) => Ok(Some(lines)),
+        None => job_text_lines(rt, name, text, error),
+    }
+}
+
+/// Why a job's text is refused, as lines: its reason, or its line `script` with what the code means.
+fn job_text_lines<R: AllocGlobal>(
     rt: &R,
     name: &str,
     text: &[u8],

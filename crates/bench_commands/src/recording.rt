@@ -1,15 +1,14 @@
 //! `bench run`: jobs recorded into a file, and their report beside it.
 
-use crate::completed_run::{
-    Completing, additions_in, record_completed, setup_in, setup_text, start_in,
-};
+use crate::completed_run::{Completing, additions_in, record_completed, setup_in, start_in};
+use crate::completing::setup_text;
 use crate::hosts::{Errors, Host};
 use crate::judged_run::{judge_run, rules_of_run};
 use crate::live_run::{Going, Run, begin_showing, end_showing, record, way_of, with_posts};
 use bench_complete::Additions;
 use bench_core::judge;
 use bench_files::Hold;
-use bench_live::Show;
+use bench_live::{Show, Showing};
 use bench_report::Report;
 use bench_requests::{
     Ending, Fault, RunFiles, RunRequest, ending_of_run, ending_of_settings, jobs_of, read_texts,
@@ -51,7 +50,7 @@ where
         Some(name) => read_whole(rt, name)?,
         None => Vec::new(rt.alloc()),
     };
-    let setup = setup_text(rt, completing)?;
+    let setup = setup_text(rt, setup_in(completing))?;
     let texts = read_texts(rt, &request.jobs)?;
     let additions = additions_in(rt.alloc(), completing, start, &setup, request.version)?;
     let jobs = jobs_of(rt.alloc(), &texts)?;
@@ -88,20 +87,57 @@ where
     R::Reader: 'static,
 {
     let is_output = files.are_output();
+    let report = record_shown(rt, errors, request, going, run, additions, files)?;
+    tell(rt, errors, is_output, &report)
+}
+
+/// Records a run into files that were begun, and shows its messages where that is asked for. The report is answered.
+fn record_shown<'a, R: Host, E: Errors>(
+    rt: &R,
+    errors: &E,
+    request: &RunRequest<'a>,
+    going: &Going<'a>,
+    run: Run<'_>,
+    additions: Option<Additions<'_>>,
+    files: RunFiles<'a, R::File>,
+) -> Result<Report, Fault<'a>>
+where
+    R::Reader: 'static,
+{
     let Ok(showing) = begin_showing(rt, going) else {
-        files.end(rt, Ending::Broken)?;
-        return Err(Fault::Memory);
+        return Err(ended(rt, files, Ending::Broken, Fault::Memory));
     };
-    let show = match &showing {
-        Some(showing) => Some(showing.show()),
-        None => None,
-    };
+    let show = show_of(&showing);
     let recorded = match additions {
         None => record_into(rt, errors, run, show, files),
         Some(additions) => record_completed(rt, errors, request, run, show, &additions, files),
     };
     end_showing(rt, errors, showing);
-    tell(rt, errors, is_output, &recorded?)
+    recorded
+}
+
+/// What shows messages, where there is something that does.
+fn show_of(showing: &Option<Showing>) -> Option<&Show> {
+    match showing {
+        Some(showing) => Some(showing.show()),
+        None => None,
+    }
+}
+
+/// Ends a run that gave no recording. Its fault is answered, or that of its files where they could not be ended.
+pub(crate) fn ended<'a, R: Files>(
+    rt: &R,
+    files: RunFiles<'a, R::File>,
+    ending: Ending,
+    fault: Fault<'a>,
+) -> Fault<'a>
+where
+    R::File: Hold,
+{
+    match files.end(rt, ending) {
+        Ok(()) => fault,
+        Err(other) => other,
+    }
 }
 
 /// Records a run into files that were begun, and gives these their places. The report is answered.
@@ -116,22 +152,30 @@ where
     R::Reader: 'static,
 {
     let mut files = files;
-    let file = match files.recording(rt) {
-        Ok(file) => file,
-        Err(fault) => {
-            files.end(rt, Ending::Broken)?;
-            return Err(fault);
-        }
-    };
+    match files.recording(rt) {
+        Ok(file) => match record_to(rt, errors, run, show, file) {
+            Ok(report) => finish(rt, files, report),
+            Err((fault, ending)) => Err(ended(rt, files, ending, fault)),
+        },
+        Err(fault) => Err(ended(rt, files, Ending::Broken, fault)),
+    }
+}
+
+/// Records a run into the file of its recording. The report is answered, or why there is no recording, and how the
+/// files of the run end then.
+fn record_to<'a, R: Host, E: Errors>(
+    rt: &R,
+    errors: &E,
+    run: Run<'_>,
+    show: Option<&Show>,
+    file: R::File,
+) -> Result<Report, (Fault<'a>, Ending)>
+where
+    R::Reader: 'static,
+{
     match record(rt, errors, run, show, StdSink::make(file)) {
-        Ok((report, sink)) => {
-            drop(sink);
-            finish(rt, files, report)
-        }
-        Err(error) => {
-            files.end(rt, ending_of_run(&error))?;
-            Err(Fault::of_run(&error))
-        }
+        Ok((report, _)) => Ok(report),
+        Err(error) => Err((Fault::of_run(&error), ending_of_run(&error))),
     }
 }
 

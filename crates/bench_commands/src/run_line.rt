@@ -1,11 +1,13 @@
 //! The command line of `bench run`.
 
-use crate::command_line::{file, force, version};
 use crate::completed_run::with_completing;
 use crate::judged_run::judge_option;
 use crate::live_run::with_going;
+use crate::options::{
+    arguments, command_of, file, flag, force, required_file, version, with_exclusive, with_rows,
+};
 use bench_requests::RunRequest;
-use clap::{Arg, ArgAction, ArgMatches, Command, value_parser};
+use clap::{Arg, ArgMatches, Command, value_parser};
 use std::alloc::{AllocError, Global};
 
 /// What the help of `bench run` ends with.
@@ -40,40 +42,35 @@ Example:
 
 /// `bench run` as its command line has it: its files, settings and ways to go, and its help.
 pub(crate) fn run_command<'a>(alloc: Global) -> Result<Command<'a>, AllocError> {
-    let jobs = Arg::new(alloc, "JOB").num_args(0usize..).help(
-        "The job of a channel, as a text; 1 to 32 of them, each of another channel",
-    );
-    let command = Command::new(alloc, "run")
-        .about("Runs jobs, each on a thread of its own, and records them all into one file")
-        .disable_version_flag(true)
-        .after_help(RUN_NOTES);
+    let about = "Runs jobs, each on a thread of its own, and records them all into one file";
+    let command = command_of(alloc, "run", about, RUN_NOTES).disable_version_flag(true);
     let command = with_files(alloc, with_going(alloc, with_settings(alloc, command)?)?)?;
-    with_completing(alloc, command)?.arg(jobs)
+    let jobs = "The job of a channel, as a text; 1 to 32 of them, each of another channel";
+    with_rows(
+        alloc,
+        with_completing(alloc, command)?,
+        &[arguments("JOB", jobs)],
+    )
 }
 
 /// The settings of a run.
 fn with_settings<'a>(alloc: Global, command: Command<'a>) -> Result<Command<'a>, AllocError> {
+    let command = with_numbers(alloc, command)?;
+    let hold =
+        "Buses wait while the queue is full, so that no message is refused: so it is without this option too";
+    let command = with_exclusive(alloc, command, flag("hold", hold), "drop")?;
+    let drop =
+        "Buses never wait: a message that finds the queue full is refused, and is missing from the recording";
+    with_rows(alloc, command, &[flag("drop", drop)])
+}
+
+/// The settings of a run that are numbers.
+fn with_numbers<'a>(alloc: Global, command: Command<'a>) -> Result<Command<'a>, AllocError> {
     let limit = "How many bytes a packet has at most, 256 to 524288";
     let queue = "How many messages may wait in the queue at most, 1 to 4096";
-    let hold = Arg::new(alloc, "hold")
-        .long("hold")
-        .action(ArgAction::SetTrue)
-        .conflicts_with("drop")?
-        .help(
-            "Buses wait while the queue is full, so that no message is refused: so it is without this option too",
-        );
-    let drop = Arg::new(alloc, "drop")
-        .long("drop")
-        .action(ArgAction::SetTrue)
-        .help(
-            "Buses never wait: a message that finds the queue full is refused, and is missing from the recording",
-        );
-    command
-        .arg(version(alloc).default_value("6"))?
-        .arg(setting(alloc, "limit", limit).default_value("65536"))?
-        .arg(setting(alloc, "queue", queue).default_value("4096"))?
-        .arg(hold)?
-        .arg(drop)
+    let command = command.arg(version(alloc).default_value("6"))?;
+    let command = command.arg(setting(alloc, "limit", limit).default_value("65536"))?;
+    command.arg(setting(alloc, "queue", queue).default_value("4096"))
 }
 
 /// The files of a run but its jobs.
@@ -81,12 +78,14 @@ fn with_files<'a>(alloc: Global, command: Command<'a>) -> Result<Command<'a>, Al
     let prologue =
         "Packets to put in front of all others, such as a setup record (TMATS); none of MIL-STD-1553 messages";
     let report = "The file to write the report to; it is written only where the recording is whole";
-    command
-        .arg(file(alloc, "prologue", prologue))?
-        .arg(judge_option(alloc))?
-        .arg(file(alloc, "out", "The file to write the recording to").required(true))?
-        .arg(file(alloc, "report", report).required(true))?
-        .arg(force(alloc))
+    let rows = [
+        file("prologue", prologue),
+        judge_option(),
+        required_file("out", "The file to write the recording to"),
+        required_file("report", report),
+        force(),
+    ];
+    with_rows(alloc, command, &rows)
 }
 
 /// An option whose number the command judges.

@@ -1,8 +1,9 @@
 //! The options that choose messages of a recording, for all commands that look at one.
 
+use crate::options::{flag, signed, with_rows};
 use bench_requests::Fault;
 use bench_select::{Bound, Bus, Selection, Selector, read_bound};
-use clap::{Arg, ArgAction, ArgMatches, Command, value_parser};
+use clap::{Arg, ArgMatches, Command, value_parser};
 use judge_rules::{RuleFault, selector_of};
 use std::alloc::{AllocError, Global};
 
@@ -34,52 +35,39 @@ pub(crate) fn with_selection<'a>(
     alloc: Global,
     command: Command<'a>,
 ) -> Result<Command<'a>, AllocError> {
-    let channel = Arg::new(alloc, "channel")
+    let only =
+        "Only these messages, in the words of rules, as \"tx 5 3\", \"rt * * 7 *\" or \"mode * 2\"";
+    let from =
+        "No message before this one: its number in the file, or a time, as 1.2s, 350ms or 12us";
+    let rows = [
+        signed("only", "SELECTOR", only),
+        flag("errors", "Only messages with an error"),
+        signed("from", "BOUND", from),
+        signed(
+            "to",
+            "BOUND",
+            "No message behind this one, or behind this time",
+        ),
+    ];
+    let command = command.arg(channel(alloc))?;
+    with_rows(alloc, command.arg(line(alloc))?, &rows)
+}
+
+fn channel<'a>(alloc: Global) -> Arg<'a> {
+    Arg::new(alloc, "channel")
         .long("channel")
         .value_name("N")
         .value_parser(value_parser!(u16).range(1..=65535))
         .allow_negative_numbers(true)
-        .help("Only messages of this channel, 1 to 65535");
-    let line = Arg::new(alloc, "line")
+        .help("Only messages of this channel, 1 to 65535")
+}
+
+fn line<'a>(alloc: Global) -> Arg<'a> {
+    Arg::new(alloc, "line")
         .long("line")
         .value_name("LINE")
         .value_parser(["A", "B"].as_slice())
-        .help("Only messages on this line (bus)");
-    let errors = Arg::new(alloc, "errors")
-        .long("errors")
-        .action(ArgAction::SetTrue)
-        .help("Only messages with an error");
-    command
-        .arg(channel)?
-        .arg(line)?
-        .arg(worded(
-            alloc,
-            "only",
-            "SELECTOR",
-            "Only these messages, in the words of rules, as \"tx 5 3\", \"rt * * 7 *\" or \"mode * 2\"",
-        ))?
-        .arg(errors)?
-        .arg(worded(
-            alloc,
-            "from",
-            "BOUND",
-            "No message before this one: its number in the file, or a time, as 1.2s, 350ms or 12us",
-        ))?
-        .arg(worded(
-            alloc,
-            "to",
-            "BOUND",
-            "No message behind this one, or behind this time",
-        ))
-}
-
-/// An option whose text the command reads.
-fn worded<'a>(alloc: Global, name: &'a str, value: &'a str, help: &'a str) -> Arg<'a> {
-    Arg::new(alloc, name)
-        .long(name)
-        .value_name(value)
-        .allow_negative_numbers(true)
-        .help(help)
+        .help("Only messages on this line (bus)")
 }
 
 /// What a command line says of a selection.

@@ -1,6 +1,6 @@
 //! `bench stat`: the figures of a recording.
 
-use crate::large::{fault_of_reading, tell_of_large_loss};
+use crate::large::{clock_of_large, fault_of_reading, tell_of_large_loss};
 use crate::looking::{clock_if, index_of, tell_of_loss};
 use crate::selecting::{GivenSelection, given_selection, selection_in, with_selection};
 use crate::watching::{Watch, open_watched};
@@ -8,8 +8,8 @@ use bench_clock::Clock as RecordingClock;
 use bench_requests::{Fault, is_large, read_whole};
 use bench_select::Selection;
 use bench_stat::{
-    ChannelFigures, Shown, StatFault, print_page, print_plain_page, print_plain_rows, print_tables,
-    stat, stat_from,
+    ChannelFigures, Indexed, Shown, StatFault, Tells, ToldChannels, print_page, print_tables, stat,
+    stat_from, told_from,
 };
 use ch11_reader::Index;
 use clap::{Arg, ArgAction, ArgMatches, Command};
@@ -104,14 +104,14 @@ pub(crate) fn stat_request<'a>(given: &ArgMatches<'a>) -> StatRequest<'a> {
 
 /// Prints the figures of a recording, aligned for people or as rows of comma-separated values. Where a selection has no
 /// messages, it says so and ends with the status of a refused input. A recording of more than 64 MiB is read packet by
-/// packet where nothing more is shown than its figures.
+/// packet.
 pub fn show_statistics<'a, R: Files + AllocGlobal + Print + Clock, E: Eprint + IsTerminal>(
     rt: &R,
     errors: &E,
     request: &StatRequest<'a>,
 ) -> Result<(), Fault<'a>> {
     let selection = selection_in(&request.selection)?;
-    if request.shown.is_plain() && is_large(rt, request.recording) {
+    if is_large(rt, request.recording) {
         return show_large(rt, errors, request, &selection);
     }
     let bytes = read_whole(rt, request.recording)?;
@@ -124,12 +124,20 @@ pub fn show_statistics<'a, R: Files + AllocGlobal + Print + Clock, E: Eprint + I
         return Err(Fault::NoneSelected);
     }
     let clock = clock_if(rt.alloc(), bytes.as_slice(), &index, request.shown.time)?;
-    print_figures(rt, &index, &clock, &selection, figures.as_slice(), request)?;
+    print_indexed(rt, &index, &selection, &clock, figures.as_slice(), request)?;
     tell_of_loss(rt, errors, bytes.as_slice());
     Ok(())
 }
 
-/// The same for a recording that is read packet by packet.
+/// What is printed of a recording that is not kept.
+#[derive(Drop)]
+struct Counted {
+    figures: Vec<ChannelFigures>,
+    told: ToldChannels,
+    clock: RecordingClock,
+}
+
+/// The same for a recording that is read packet by packet. Nothing is printed in front of the last pass that it takes.
 fn show_large<'a, R: Files + AllocGlobal + Print + Clock, E: Eprint + IsTerminal>(
     rt: &R,
     errors: &E,
@@ -137,19 +145,54 @@ fn show_large<'a, R: Files + AllocGlobal + Print + Clock, E: Eprint + IsTerminal
     selection: &Selection,
 ) -> Result<(), Fault<'a>> {
     let watch = Watch::begin(rt, errors, request.recording);
-    let counted = count_watched(rt, request.recording, &watch, selection);
+    let counted = count_watched(rt, request, &watch, selection);
     watch.end();
-    let figures = counted?;
-    if *selection != Selection::all() && counts_nothing(figures.as_slice()) {
-        return Err(Fault::NoneSelected);
-    }
-    print_plain(rt, figures.as_slice(), request.rows)?;
+    let counted = counted?;
+    print_counted(rt, &counted, request)?;
     tell_of_large_loss(rt, errors, request.recording);
     Ok(())
 }
 
-/// The figures of a recording that is watched.
+/// The figures of a recording that is watched, and in further passes times of day and what more is shown.
 fn count_watched<'a, R: Files + AllocGlobal + Clock, E: Eprint + IsTerminal>(
+    rt: &R,
+    request: &StatRequest<'a>,
+    watch: &Watch<'_, R, E>,
+    selection: &Selection,
+) -> Result<Counted, Fault<'a>> {
+    let figures = figures_watched(rt, request.recording, watch, selection)?;
+    if *selection != Selection::all() && counts_nothing(figures.as_slice()) {
+        return Err(Fault::NoneSelected);
+    }
+    let clock = clock_of_large(rt, request.recording, watch, request.shown.time)?;
+    let told = told_watched(rt, request, watch, selection, figures.as_slice())?;
+    Ok(Counted {
+        figures,
+        told,
+        clock,
+    })
+}
+
+/// What more is shown of a recording that is watched.
+fn told_watched<'a, R: Files + AllocGlobal + Clock, E: Eprint + IsTerminal>(
+    rt: &R,
+    request: &StatRequest<'a>,
+    watch: &Watch<'_, R, E>,
+    selection: &Selection,
+    figures: &[ChannelFigures],
+) -> Result<ToldChannels, Fault<'a>> {
+    if !request.shown.needs_more() {
+        return Ok(ToldChannels::new(rt.alloc()));
+    }
+    let file = open_watched(rt, request.recording, watch, true)?;
+    match told_from(rt.alloc(), file, selection, figures, &request.shown) {
+        Ok(told) => Ok(told),
+        Err(fault) => Err(fault_of_reading(request.recording, fault)),
+    }
+}
+
+/// The figures of a recording that is watched.
+fn figures_watched<'a, R: Files + AllocGlobal + Clock, E: Eprint + IsTerminal>(
     rt: &R,
     name: &'a str,
     watch: &Watch<'_, R, E>,
@@ -162,40 +205,17 @@ fn count_watched<'a, R: Files + AllocGlobal + Clock, E: Eprint + IsTerminal>(
     }
 }
 
-/// Prints figures with nothing more.
-fn print_plain<'a, R: AllocGlobal + Print>(
-    rt: &R,
-    figures: &[ChannelFigures],
-    rows: bool,
-) -> Result<(), Fault<'a>> {
-    let mut out = match BufWriter::new(rt.alloc(), io::writer(rt)) {
-        Ok(out) => out,
-        Err(error) => return Err(Fault::of_stream("-", &error)),
-    };
-    let printed = if rows {
-        print_plain_rows(&mut out, figures)
-    } else {
-        print_plain_page(&mut out, figures)
-    };
-    if printed.is_err() {
-        return Err(Fault::Device("-"));
-    }
-    match out.flush() {
-        Ok(()) => Ok(()),
-        Err(error) => Err(Fault::of_stream("-", &error)),
-    }
-}
-
 /// Whether no message was counted.
 fn counts_nothing(figures: &[ChannelFigures]) -> bool {
     figures.iter().all(|channel| channel.traffic.messages == 0)
 }
 
-fn print_figures<'a, R: AllocGlobal + Print>(
+/// Prints figures, and what the recording tells beside them.
+fn print_indexed<'a, R: AllocGlobal + Print>(
     rt: &R,
     index: &Index<'_>,
-    clock: &RecordingClock,
     selection: &Selection,
+    clock: &RecordingClock,
     figures: &[ChannelFigures],
     request: &StatRequest<'a>,
 ) -> Result<(), Fault<'a>> {
@@ -203,28 +223,53 @@ fn print_figures<'a, R: AllocGlobal + Print>(
         Ok(out) => out,
         Err(error) => return Err(Fault::of_stream("-", &error)),
     };
-    let shown = &request.shown;
-    let printed = if request.rows {
-        print_tables(
-            rt.alloc(),
-            &mut out,
-            index,
-            selection,
-            figures,
-            shown,
-            clock,
-        )
-    } else {
-        print_page(
-            rt.alloc(),
-            &mut out,
-            index,
-            selection,
-            figures,
-            shown,
-            clock,
-        )
+    let told = Indexed { index, selection };
+    let (shown, rows) = (&request.shown, request.rows);
+    let printed = write_figures(rt.alloc(), &mut out, &told, clock, figures, shown, rows);
+    ended(printed, &mut out)
+}
+
+/// Prints figures, and what was told beside them.
+fn print_counted<'a, R: AllocGlobal + Print>(
+    rt: &R,
+    counted: &Counted,
+    request: &StatRequest<'a>,
+) -> Result<(), Fault<'a>> {
+    let mut out = match BufWriter::new(rt.alloc(), io::writer(rt)) {
+        Ok(out) => out,
+        Err(error) => return Err(Fault::of_stream("-", &error)),
     };
+    let printed = write_figures(
+        rt.alloc(),
+        &mut out,
+        &counted.told,
+        &counted.clock,
+        counted.figures.as_slice(),
+        &request.shown,
+        request.rows,
+    );
+    ended(printed, &mut out)
+}
+
+/// Writes figures, and what is told beside them, as rows or as a page.
+fn write_figures<W: Write, T: Tells>(
+    alloc: Global,
+    out: &mut W,
+    told: &T,
+    clock: &RecordingClock,
+    figures: &[ChannelFigures],
+    shown: &Shown,
+    rows: bool,
+) -> Result<(), StatFault> {
+    if rows {
+        print_tables(alloc, out, told, figures, shown, clock)
+    } else {
+        print_page(alloc, out, told, figures, shown, clock)
+    }
+}
+
+/// What printing comes to that ended so, once all is handed on.
+fn ended<'a, W: Write>(printed: Result<(), StatFault>, out: &mut W) -> Result<(), Fault<'a>> {
     match printed {
         Ok(()) => {}
         Err(StatFault::Memory) => return Err(Fault::Memory),

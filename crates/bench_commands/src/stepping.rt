@@ -27,10 +27,25 @@ where
     let recording = read_whole(rt, request.recording)?;
     let report = read_whole(rt, request.report)?;
     let texts = read_texts(rt, &request.jobs)?;
-    judge_recording(rt.alloc(), &recording)?;
-    let report = judge_report(rt.alloc(), &report)?;
-    let jobs = jobs_of(rt.alloc(), &texts)?;
-    walk(rt, errors, explains, &jobs, &report, &recording)
+    step_read(rt, errors, explains, &recording, &report, &texts)
+}
+
+/// The same of files that were read.
+fn step_read<'a, R: AllocGlobal + Input + Print, E: Eprint + IsTerminal>(
+    rt: &R,
+    errors: &E,
+    explains: bool,
+    recording: &[u8],
+    report: &[u8],
+    texts: &[Vec<u8>],
+) -> Result<(), Fault<'a>>
+where
+    R::Reader: IsTerminal,
+{
+    judge_recording(rt.alloc(), recording)?;
+    let report = judge_report(rt.alloc(), report)?;
+    let jobs = jobs_of(rt.alloc(), texts)?;
+    walk(rt, errors, explains, &jobs, &report, recording)
 }
 
 /// A recording is judged before the report and the jobs are.

@@ -1,21 +1,25 @@
 //! The messages of a recording whose packets come from a reader.
 
-use crate::whole::{Output, Printing, put_messages};
+use crate::whole::{Output, Printing, put_messages, put_skip};
 use bench_dump::DumpFault;
-use ch11_stream::Packets;
+use ch11_stream::{Packets, Stretch, Stretches};
 use std::alloc::Global;
 use std::io::{Read, Write};
 
 /// Prints the selected messages of all bytes that a reader has left, as their packets come, in memory for the largest
-/// packet of messages: the lines that `decode` prints of these bytes in the file's order, without what is skipped, and
-/// answers how many there were. A recording that can't be read is refused with its first fault, and then the writer may
-/// have got lines of messages in front of it. `skip` and `by_time` are asked of `decode` alone.
+/// packet of messages: the lines that `decode` prints of these bytes in the file's order, and answers how many there
+/// were. A recording that can't be read is refused with its first fault, and then the writer may have got lines of
+/// messages in front of it; with `skip` none is refused, and there is memory for the largest packet of any type.
+/// `by_time` is asked of `decode` alone.
 pub fn decode_from<R: Read + Drop, W: Write>(
     alloc: Global,
     input: R,
     out: &mut W,
     output: &Output,
 ) -> Result<u64, DumpFault> {
+    if output.skip {
+        return decode_sound_from(alloc, input, out, output);
+    }
     let mut packets = Packets::over(alloc, input)?;
     let mut printing = Printing::begin(alloc, output.shown)?;
     'packets: for _made in 0..u64::MAX {
@@ -28,6 +32,36 @@ pub fn decode_from<R: Read + Drop, W: Write>(
                 packet.header.channel,
                 packets.messages(),
             )?,
+            Ok(None) => {
+                printing.line.finish(out)?;
+                return Ok(printing.count);
+            }
+            Err(fault) => return Err(DumpFault::from(fault)),
+        }
+    }
+    Err(DumpFault::Device)
+}
+
+/// Prints a recording that may be damaged as far as it is sound, and what is skipped.
+fn decode_sound_from<R: Read + Drop, W: Write>(
+    alloc: Global,
+    input: R,
+    out: &mut W,
+    output: &Output,
+) -> Result<u64, DumpFault> {
+    let mut stretches = Stretches::over(alloc, input)?;
+    let mut printing = Printing::begin(alloc, output.shown)?;
+    'stretches: for _made in 0..u64::MAX {
+        match stretches.next() {
+            Ok(Some(Stretch::Sound(packet))) => put_messages(
+                &mut printing,
+                out,
+                output,
+                packet.before,
+                packet.header.channel,
+                stretches.messages(),
+            )?,
+            Ok(Some(Stretch::Skipped(skip))) => put_skip(alloc, &mut printing.line, out, &skip)?,
             Ok(None) => {
                 printing.line.finish(out)?;
                 return Ok(printing.count);

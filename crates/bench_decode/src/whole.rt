@@ -136,15 +136,26 @@ fn put_skips<'s, W: Write>(
         if skip.offset >= offset {
             break;
         }
-        line.hand_on(out)?;
-        line.put_labelled(b"skipped ", skip.offset as u64);
-        line.put_labelled(b" length ", skip.length as u64);
-        let fault = format!(in alloc; " {}", skip.fault)?;
-        line.put(fault.as_bytes());
-        line.end_line();
+        put_skip(alloc, line, out, skip)?;
         rest = others;
     }
     Ok(rest)
+}
+
+/// Prints a skip.
+pub(crate) fn put_skip<W: Write>(
+    alloc: Global,
+    line: &mut Line,
+    out: &mut W,
+    skip: &Skip,
+) -> Result<(), DumpFault> {
+    line.hand_on(out)?;
+    line.put_labelled(b"skipped ", skip.offset as u64);
+    line.put_labelled(b" length ", skip.length as u64);
+    let fault = format!(in alloc; " {}", skip.fault)?;
+    line.put(fault.as_bytes());
+    line.end_line();
+    Ok(())
 }
 
 /// Prints the selected ones of a packet's messages, behind so many messages of the file.

@@ -1,19 +1,24 @@
 //! A whole picture.
-ghost use Rattle.std.specs.Prelude.{◌≡◌, ◌≤◌, vec_len, IfOk};
+ghost use Rattle.std.specs.Prelude.{◌≡◌, ◌≤◌, ℕ, List, Some, Ok, vec_len, IfOk};
+ghost use Rattle.ch11_reader.specs.Indexed.{found_in};
+ghost use Rattle.ch11_reader.specs.Recording.{packets_in};
 ghost use Rattle.bench_draw.specs.Chosen.{capped, chosen};
 
 use crate::axis::draw_axis;
+use crate::drawn::{Anew, Drawn};
 use crate::extent::Extent;
+use crate::fault::DrawFault;
 use crate::frame::{draw_head, draw_names, draw_nothing};
-use crate::lanes::{Lanes, draw_lanes, draw_messages};
+use crate::lanes::{Lanes, draw_lanes};
 use crate::picture::{MOST_BYTES, Picture};
 use crate::rows::Rows;
 use crate::scale::Scale;
 use bench_clock::Clock;
 use bench_decode::{Line, Shown};
 use bench_select::Selection;
+use bench_watch::Reopen;
 use ch11_reader::Index;
-use std::alloc::{AllocError, Global};
+use std::alloc::Global;
 
 /// A picture.
 #[derive(Drop)]
@@ -28,13 +33,13 @@ pub struct Drawing {
 /// 32 of them that the file has), each message a bar over the time that it took with its number, its address, T or R,
 /// and its subaddress; all of them where there are at most 24, and else those that have the room, and the load of each
 /// line where some have not. Over the axis stands when the first of them began, by the clock too if that says it. The
-/// picture has at most 5,000,000 bytes: what there is no room for is left out.
+/// picture has at most 5,000,000 bytes: what there is no room for is left out. A fault is want of memory.
 pub fn draw(
     alloc: Global,
     index: &Index<'_>,
     selection: &Selection,
     clock: &Clock,
-) -> Result<Drawing, AllocError>
+) -> Result<Drawing, DrawFault>
     ensures bounded { IfOk result (λ drawing. vec_len drawing.text ≤ MOST_BYTES) }
     ensures messages { IfOk result (λ drawing. drawing.messages ≡ capped (chosen selection.now index.now)) }
 {
@@ -45,14 +50,39 @@ pub fn draw(
     })
 }
 
-/// Draws the selected messages, whose extent this is.
-fn draw_extent(
+/// Draws the picture that `draw` draws, of a recording that is read anew: once for what is to be drawn, and once more
+/// for each channel that is, in memory for the largest packet of messages and the picture. A recording that can't be
+/// read is refused with its first fault, K1 to K5, N2 or F1 to F3; want of memory and failures of the reader are the
+/// others.
+pub fn draw_from<S: Reopen>(
     alloc: Global,
-    index: &Index<'_>,
+    recording: &S,
+    selection: &Selection,
+    clock: &Clock,
+) -> Result<Drawing, DrawFault>
+    ensures bounded { IfOk result (λ drawing. vec_len drawing.text ≤ MOST_BYTES) }
+    ensures messages { (file : List ℕ) → S.bytes recording.now ≡ Some file → IfOk result (λ drawing.
+        (packets_in file ≡ Ok (found_in file)) × (drawing.messages ≡ capped (chosen selection.now (found_in file)))) }
+{
+    let extent = match recording.reopen() {
+        Ok(input) => Extent::of_reader(alloc, input, selection)?,
+        Err(error) => return Err(DrawFault::Opening(error)),
+    };
+    let anew = Anew { recording };
+    Ok(Drawing {
+        messages: extent.messages,
+        text: draw_extent(alloc, &anew, selection, clock, &extent)?,
+    })
+}
+
+/// Draws the selected messages, whose extent this is.
+fn draw_extent<D: Drawn>(
+    alloc: Global,
+    recording: &D,
     selection: &Selection,
     clock: &Clock,
     extent: &Extent,
-) -> Result<Vec<u8>, AllocError>
+) -> Result<Vec<u8>, DrawFault>
     ensures { IfOk result (λ text. vec_len text ≤ MOST_BYTES) }
 {
     let scale = Scale::of(extent.begin, extent.end);
@@ -63,7 +93,7 @@ fn draw_extent(
     draw_head(alloc, &mut picture, low)?;
     if count == 0 {
         draw_nothing(&mut picture)?;
-        return picture.end();
+        return Ok(picture.end()?);
     }
     let day = clock.at(extent.begin);
     draw_axis(alloc, &mut picture, &scale, day, low)?;
@@ -71,34 +101,33 @@ fn draw_extent(
     draw_channels(
         alloc,
         &mut picture,
-        index,
+        recording,
         selection,
         &scale,
         &rows,
         channels,
     )?;
-    picture.end()
+    Ok(picture.end()?)
 }
 
 /// Draws the channels.
-fn draw_channels(
+fn draw_channels<D: Drawn>(
     alloc: Global,
     picture: &mut Picture,
-    index: &Index<'_>,
+    recording: &D,
     selection: &Selection,
     scale: &Scale,
     rows: &Rows,
     channels: &[u16],
-) -> Result<(), AllocError> {
+) -> Result<(), DrawFault> {
     let mut details = Line::new(alloc, Shown::Plain)?;
     for (place, channel) in channels.iter().enumerate() {
         let place = place as u64;
         draw_names(alloc, picture, rows, place, *channel)?;
         let mut lanes = Lanes::new(alloc, rows, place)?;
-        draw_packets(
+        recording.draw_channel(
             alloc,
             picture,
-            index,
             selection,
             scale,
             &mut lanes,
@@ -106,30 +135,6 @@ fn draw_channels(
             *channel,
         )?;
         draw_lanes(alloc, picture, scale, &lanes)?;
-    }
-    Ok(())
-}
-
-/// Draws the messages of a channel.
-fn draw_packets(
-    alloc: Global,
-    picture: &mut Picture,
-    index: &Index<'_>,
-    selection: &Selection,
-    scale: &Scale,
-    lanes: &mut Lanes,
-    details: &mut Line,
-    channel: u16,
-) -> Result<(), AllocError> {
-    let packets = index.packets();
-    'packets: for place in 0..packets.len() {
-        let packet = &packets[place];
-        if packet.header.channel == channel {
-            let messages = index.messages_in(place);
-            draw_messages(
-                alloc, picture, scale, lanes, details, selection, packet, messages,
-            )?;
-        }
     }
     Ok(())
 }

@@ -1,5 +1,6 @@
 //! What is to be drawn: which channels, which time, and how.
-ghost use Rattle.std.specs.Prelude.{◌≡◌, ◌+◌, ◌<◌, ◌^◌, length, IfOk, OnOk};
+ghost use Rattle.std.specs.Prelude.{◌≡◌, ◌+◌, ◌<◌, ◌^◌, ℕ, List, Some, length, IfOk, OnOk};
+ghost use Rattle.ch11_stream.specs.Folding.{Finds};
 ghost use Rattle.bench_draw.specs.Chosen.{capped, chosen, chosen_in};
 
 use crate::rows::Rows;
@@ -7,7 +8,9 @@ use crate::scale::{Scale, end_of};
 use bench_select::Selection;
 use ch11_f1::{Messages, Seen};
 use ch11_reader::{Index, Packet};
+use ch11_stream::{Packets, StreamFault};
 use std::alloc::{AllocError, Global};
+use std::io::Read;
 
 /// How many channels a picture has at most.
 const CHANNELS: usize = 32;
@@ -31,6 +34,20 @@ pub(crate) struct Extent {
 }
 
 impl Extent {
+    /// The extent of no message.
+    fn none(alloc: Global) -> Extent
+        ensures { result.messages ≡ 0 }
+    {
+        Extent {
+            channels: Vec::new(alloc),
+            messages: 0,
+            begin: u64::MAX,
+            end: 0,
+            shortest: u64::MAX,
+            longest: 0,
+        }
+    }
+
     /// The extent of the selected messages of a recording; the channels are the first 32 that the file has, in rising
     /// order.
     pub(crate) fn of(
@@ -40,14 +57,7 @@ impl Extent {
     ) -> Result<Extent, AllocError>
         ensures { IfOk result (λ extent. extent.messages ≡ capped (chosen selection.now index.now)) }
     {
-        let mut extent = Extent {
-            channels: Vec::new(alloc),
-            messages: 0,
-            begin: u64::MAX,
-            end: 0,
-            shortest: u64::MAX,
-            longest: 0,
-        };
+        let mut extent = Extent::none(alloc);
         let packets = index.packets();
         'packets: for place in 0..packets.len() {
             widen_by(
@@ -59,6 +69,32 @@ impl Extent {
         }
         extent.channels.sort()?;
         Ok(extent)
+    }
+
+    /// The same of all bytes that a reader has left, as their packets come.
+    pub(crate) fn of_reader<R: Read + Drop>(
+        alloc: Global,
+        input: R,
+        selection: &Selection,
+    ) -> Result<Extent, StreamFault>
+        ensures { (file : List ℕ) → R.remaining input ≡ Some file
+            → Finds (λ ps extent. extent.messages ≡ capped (chosen selection.now ps)) result file }
+    {
+        let mut packets = Packets::over(alloc, input)?;
+        let mut extent = Extent::none(alloc);
+        'packets: for _made in 0..u64::MAX {
+            match packets.next() {
+                Ok(Some(packet)) => {
+                    widen_by(&mut extent, selection, &packet, packets.messages())?
+                }
+                Ok(None) => {
+                    extent.channels.sort()?;
+                    return Ok(extent);
+                }
+                Err(fault) => return Err(fault),
+            }
+        }
+        Err(StreamFault::Device)
     }
 
     /// What the lanes show: all messages as bars with labels if they are few, and else as bars those that have the

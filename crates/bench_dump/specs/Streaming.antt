@@ -1,13 +1,15 @@
 -- What a dump of a recording comes to whose bytes a reader gives.
-use Rattle.std.specs.Prelude.{◌≡◌, ℕ, false, List, Option, Result, Ok, Err}
+use Rattle.std.specs.Prelude.{◌≡◌, ℕ, false, List, [], Option, Result, Ok, Err}
 use Rattle.std.specs.Io.KnownBytes.{Appends}
 use Rattle.ch11_reader.specs.Indexed.{found_in}
 use Rattle.ch11_reader.specs.Recording.{packets_in}
 use Rattle.ch11_stream.specs.declared.fault.StreamFault.{StreamFault}
 use Rattle.ch11_stream.specs.declared.fault.StreamFault.TheVariants as stream
+use Rattle.bench_clock.specs.declared.clock.Mark.{Mark}
 use Rattle.bench_dump.specs.declared.fault.DumpFault.{DumpFault}
 use Rattle.bench_dump.specs.declared.fault.DumpFault.TheVariants as faults
 use Rattle.bench_dump.specs.SkippingText.{text_of}
+use Rattle.bench_dump.specs.TimedText.{timed_text}
 
 -- the fault of a dump where no packet could be read
 abbrev pub dump_fault : StreamFault → DumpFault
@@ -22,3 +24,11 @@ Dumps (Ok x) file got gets = (packets_in file ≡ Ok (found_in file)) × Appends
 Dumps (Err (faults.Refused r)) file got gets = packets_in file ≡ Err r
 Dumps (Err faults.Memory) file got gets = Unit {0}
 Dumps (Err faults.Device) file got gets = Unit {0}
+
+-- The same with the time of day behind each stamp, as a clock tells it.
+abbrev pub DumpsBy : {A : Type 0} → List Mark → Result A DumpFault → List ℕ → Option (List ℕ) → Option (List ℕ) → Type 0
+DumpsBy clock (Ok x) file got gets = (packets_in file ≡ Ok (found_in file))
+    × Appends got gets (timed_text clock [] (found_in file))
+DumpsBy clock (Err (faults.Refused r)) file got gets = packets_in file ≡ Err r
+DumpsBy clock (Err faults.Memory) file got gets = Unit {0}
+DumpsBy clock (Err faults.Device) file got gets = Unit {0}

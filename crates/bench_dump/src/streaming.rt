@@ -2,7 +2,7 @@
 ghost use Rattle.std.specs.Prelude.{◌≡◌, ℕ, ◌+◌, ◌<◌, ◌^◌, List, [], ◌++◌, length, Some, OnOk, IfErr};
 ghost use Rattle.bench_dump.specs.DumpText.{packet_line};
 ghost use Rattle.bench_dump.specs.Printing.{Carries, IsOther};
-ghost use Rattle.bench_dump.specs.Streaming.{Dumps};
+ghost use Rattle.bench_dump.specs.Streaming.{Dumps, DumpsBy};
 ghost use Rattle.bench_dump.specs.TimedText.{timed_lines};
 
 use crate::fault::DumpFault;
@@ -40,9 +40,9 @@ fn dump_packet<R: Read, W: Write>(
     )
 }
 
-/// Prints a recording as its packets come from a reader, in memory for the largest packet of messages: the text that
-/// `dump` prints of all bytes that the reader has left. A recording that can't be read is refused with its first fault,
-/// and then the writer may have got lines of packets in front of it.
+/// Prints a recording as its packets come from a reader, in memory for the largest packet of messages or of time: the
+/// text that `dump` prints of all bytes that the reader has left. A recording that can't be read is refused with its
+/// first fault, and then the writer may have got lines of packets in front of it.
 pub fn dump_from<R: Read + Drop, W: Write>(
     alloc: Global,
     input: R,
@@ -51,12 +51,26 @@ pub fn dump_from<R: Read + Drop, W: Write>(
     ensures { (file : List ℕ) → R.remaining input ≡ Some file
         → Dumps result file (W.contents out.old) (W.contents out.new) }
 {
+    let clock = Clock::of(alloc, &[], &[])?;
+    dump_with_times_from(alloc, input, &clock, out)
+}
+
+/// The same with the time of day behind each stamp, where the clock tells one. By the recording's own clock, as
+/// `clock_from` makes it in a pass before this one, it is the text that `dump_with_times` prints.
+pub fn dump_with_times_from<R: Read + Drop, W: Write>(
+    alloc: Global,
+    input: R,
+    clock: &Clock,
+    out: &mut W,
+) -> Result<(), DumpFault>
+    ensures { (file : List ℕ) → R.remaining input ≡ Some file
+        → DumpsBy clock.now result file (W.contents out.old) (W.contents out.new) }
+{
     let mut packets = Packets::over(alloc, input)?;
     let mut text = Text::new(alloc);
-    let clock = Clock::of(alloc, &[], &[])?;
     'packets: for _made in 0..u64::MAX {
         match packets.next() {
-            Ok(Some(packet)) => dump_packet(&mut text, out, &packets, &packet, &clock)?,
+            Ok(Some(packet)) => dump_packet(&mut text, out, &packets, &packet, clock)?,
             Ok(None) => {
                 out.write_all(text.as_slice())?;
                 out.flush()?;

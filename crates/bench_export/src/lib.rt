@@ -1,5 +1,5 @@
 //! The command `bench export`: a recording as comma-separated values, a row a message, or as a value change dump.
-//! Its tests are in `command_tests`.
+//! Its tests are in `command_tests`, and in `ch11_stream_tests` what it writes of packets as they come.
 #![tactic(auto)]
 
 mod changes;

@@ -4,6 +4,7 @@ mod Passing
 mod Whole
 mod Tallying
 mod Writing
+mod Finding
 mod Judged
 mod Streamed
 mod Rereading

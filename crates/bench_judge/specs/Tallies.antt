@@ -1,12 +1,13 @@
 -- What a tally says of the messages that were passed.
 use Rattle.std.specs.Prelude.{◌≡◌, ℕ, nat_eq, Bool, not, ◌&&◌, List, ◌++◌, length, map, reverse, Option, Some}
-use Rattle.std.specs.Prelude.{slice_get}
+use Rattle.std.specs.Prelude.{slice_get, take, ◌<◌}
 use Rattle.std.specs.HashMap.{get}
 use Rattle.std.specs.List.{flat_map}
 use Rattle.std.specs.Io.KnownBytes.{Appends}
 use Rattle.ch11_f1.specs.BodyReading.{Message}
 use Rattle.judge_rules.specs.declared.rules.Bounds.{Bounds}
 use Rattle.judge_rules.specs.declared.rules.Rule.{Rule}
+use Rattle.bench_judge.specs.declared.verdicts.Miss.{Miss}
 use Rattle.bench_judge.specs.declared.tallies.Tally.{Tally}
 use Rattle.bench_judge.specs.Selection.{selects}
 use Rattle.bench_judge.specs.Checks.{meets, period_of}
@@ -48,3 +49,8 @@ pub record IsWriting (rule : Rule) (got : Option (List ℕ)) (history : List Hea
     (tally : Tally) : Type 0 where
   pub tallied : IsTally rule history tally
   pub written : Appends got gets (miss_lines rule history)
+
+-- the first messages that missed the rule so far, at most so many, were found
+pub record IsFinding (rule : Rule) (most : ℕ) (history : List Heard) (found : List Miss) (tally : Tally) : Type 0 where
+  pub tallied : IsTally rule history tally
+  pub first : found ≡ take most (misses rule history)

@@ -1,15 +1,14 @@
 //! Verdicts for people at a terminal: each rule by its own text, green or red, and the first messages that miss it.
-use crate::fault::PrintFault;
-use crate::first::first_misses;
 use crate::names::Names;
 use crate::numbers::put_number;
-use crate::verdicts::{Miss, Verdict, not_held};
-use bench_decode::{Line, Place, Shown, write_message};
-use bench_places::number_in_channel;
+use crate::pass_fault::PassFault;
+use crate::sought::{Anew, Sought};
+use crate::verdicts::{Verdict, not_held};
+use bench_decode::{Line, Shown};
+use bench_watch::Reopen;
 use ch11_reader::Index;
 use judge_rules::Rule;
 use std::alloc::{AllocError, Global};
-use std::io;
 use std::io::Write;
 
 /// How many messages that miss a rule are shown.
@@ -63,46 +62,48 @@ fn put_last(text: &mut Vec<u8>, verdicts: &[Verdict]) -> Result<(), AllocError> 
     text.extend_from_slice(b"\n")
 }
 
-/// Writes messages that miss a rule, each on a line as `bench dump --decode` shows it.
-fn write_shown<W: Write>(
-    line: &mut Line,
-    index: &Index<'_>,
-    misses: &[Miss],
-    out: &mut W,
-) -> io::Result<()> {
-    for miss in misses {
-        if let Some((_, seen)) = index.message(miss.number) {
-            let place = Place {
-                number: miss.number,
-                channel: miss.channel,
-                in_channel: number_in_channel(index, miss.channel, miss.number),
-            };
-            write_message(line, out, &place, &seen)?;
-        }
-    }
-    line.finish(out)
-}
-
 /// Writes a rule, and the first messages that miss it.
-fn write_rule<W: Write>(
+fn write_rule<S: Sought, W: Write>(
     text: &mut Vec<u8>,
     line: &mut Line,
-    index: &Index<'_>,
+    recording: &S,
     rule: &Rule,
     verdict: &Verdict,
     out: &mut W,
-) -> Result<(), PrintFault> {
+) -> Result<(), PassFault> {
+    out.write_all(text.as_slice())?;
     if verdict.missed == 0 {
-        out.write_all(text.as_slice())?;
         return Ok(());
     }
-    let misses = first_misses(*text.allocator(), index, rule, SHOWN as usize)?;
-    out.write_all(text.as_slice())?;
-    write_shown(line, index, misses.as_slice(), out)?;
+    recording.write_first(line, *text.allocator(), rule, SHOWN as usize, out)?;
     if verdict.missed > SHOWN {
         let more = verdict.missed - SHOWN;
         write!(out, "      and {more} more\n")?;
     }
+    Ok(())
+}
+
+/// Writes the verdicts for people.
+fn write_for_people<S: Sought, W: Write>(
+    alloc: Global,
+    recording: &S,
+    rules_text: &[u8],
+    rules: &[Rule],
+    verdicts: &[Verdict],
+    out: &mut W,
+) -> Result<(), PassFault> {
+    let mut line = Line::new(alloc, Shown::Colored)?;
+    let mut text = Vec::new(alloc);
+    let mut names = Names::of(rules_text);
+    for (rule, verdict) in rules.iter().zip(verdicts) {
+        text.clear();
+        put_rule(&mut text, names.at(verdict.line), verdict)?;
+        write_rule(&mut text, &mut line, recording, rule, verdict, out)?;
+    }
+    text.clear();
+    put_last(&mut text, verdicts)?;
+    out.write_all(text.as_slice())?;
+    out.flush()?;
     Ok(())
 }
 
@@ -116,18 +117,20 @@ pub fn write_colored<W: Write>(
     rules: &[Rule],
     verdicts: &[Verdict],
     out: &mut W,
-) -> Result<(), PrintFault> {
-    let mut line = Line::new(alloc, Shown::Colored)?;
-    let mut text = Vec::new(alloc);
-    let mut names = Names::of(rules_text);
-    for (rule, verdict) in rules.iter().zip(verdicts) {
-        text.clear();
-        put_rule(&mut text, names.at(verdict.line), verdict)?;
-        write_rule(&mut text, &mut line, index, rule, verdict, out)?;
-    }
-    text.clear();
-    put_last(&mut text, verdicts)?;
-    out.write_all(text.as_slice())?;
-    out.flush()?;
-    Ok(())
+) -> Result<(), PassFault> {
+    write_for_people(alloc, index, rules_text, rules, verdicts, out)
+}
+
+/// Writes the verdicts as `write_colored` does, of a recording that is read anew for each rule that messages miss. A
+/// fault may also be the recording's, and then the writer may have got the text of rules in front of it.
+pub fn write_colored_from<S: Reopen, W: Write>(
+    alloc: Global,
+    recording: &S,
+    rules_text: &[u8],
+    rules: &[Rule],
+    verdicts: &[Verdict],
+    out: &mut W,
+) -> Result<(), PassFault> {
+    let anew = Anew { recording };
+    write_for_people(alloc, &anew, rules_text, rules, verdicts, out)
 }

@@ -1,11 +1,60 @@
 //! The first messages that miss a rule.
+ghost use Rattle.std.specs.Prelude.{◌≡◌, ◌+◌, ◌<◌, ◌≤◌, ◌^◌, ◌∷◌, ◌++◌, [], ℕ, List, Some, length, take, reverse};
+ghost use Rattle.std.specs.Prelude.{OnOk};
+ghost use Rattle.ch11_f1.specs.Views.{message_of};
+ghost use Rattle.ch11_reader.specs.Contents.{heard_in};
+ghost use Rattle.ch11_stream.specs.Folding.{Finds};
+ghost use Rattle.bench_judge.specs.Verdicts.{Heard, misses};
+ghost use Rattle.bench_judge.specs.Tallies.{IsFinding, heard_on};
 
 use crate::tallies::Tally;
 use crate::verdicts::Miss;
-use ch11_f1::Messages;
+use ch11_f1::{Messages, Seen};
 use ch11_reader::Index;
+use ch11_stream::{Packets, StreamFault};
 use judge_rules::Rule;
 use std::alloc::{AllocError, Global};
+use std::io::Read;
+
+/// Appends a message that misses a rule where there are fewer than that.
+fn put_first(found: &mut Vec<Miss>, most: usize, miss: Miss) -> Result<(), AllocError>
+    ensures { length found.old.items ≤ most
+        → OnOk result (found.new.items ≡ take most (found.old.items ++ miss ∷ [])) }
+{
+    if found.len() >= most {
+        return Ok(());
+    }
+    found.push(miss)?;
+    Ok(())
+}
+
+/// Appends one more message of a channel if it misses the rule and there are fewer than that.
+fn note_first(
+    tally: &mut Tally,
+    rule: &Rule,
+    number: u64,
+    channel: u16,
+    seen: &Seen<'_>,
+    most: usize,
+    found: &mut Vec<Miss>,
+) -> Result<(), AllocError>
+    ensures { (history : List Heard) → IsFinding rule.now most history found.old.items tally.old
+        → number ≡ length history + 1
+        → OnOk result (IsFinding rule.now most ((channel, message_of seen.now) ∷ history)
+        found.new.items tally.new) }
+{
+    let mut known = None;
+    if tally.note(rule, channel, seen, &mut known)? {
+        let stamp = seen.stamp;
+        let miss = Miss {
+            number,
+            channel,
+            stamp,
+        };
+        put_first(found, most, miss)?;
+    }
+    Ok(())
+}
 
 /// Appends those messages of a packet that miss a rule, behind so many messages of the file, until there are as many as
 /// that.
@@ -17,22 +66,18 @@ fn first_in(
     messages: Messages<'_>,
     most: usize,
     found: &mut Vec<Miss>,
-) -> Result<(), AllocError> {
+) -> Result<(), AllocError>
+    requires { before + length messages < 2 ^ 64 }
+    ensures { (history : List Heard) → IsFinding rule.now most history found.old.items tally.old
+        → before ≡ length history
+        → OnOk result (IsFinding rule.now most (heard_on channel messages.entry history)
+        found.new.items tally.new) }
+{
     let mut number = before;
     let mut rest = messages;
     'messages: while let Some(seen) = rest.next() {
-        if found.len() >= most {
-            break;
-        }
-        number = number.saturating_add(1);
-        let mut known = None;
-        if tally.note(rule, channel, &seen, &mut known)? {
-            found.push(Miss {
-                number,
-                channel,
-                stamp: seen.stamp,
-            })?;
-        }
+        number += 1;
+        note_first(tally, rule, number, channel, &seen, most, found)?;
     }
     Ok(())
 }
@@ -48,23 +93,51 @@ pub(crate) fn first_misses(
     let mut tally = Tally::new(alloc);
     let packets = index.packets();
     'packets: for place in 0..packets.len() {
-        let (before, channel) = (packets[place].before, packets[place].header.channel);
-        let messages = messages_at(index, place);
-        first_in(
-            &mut tally, rule, before, channel, messages, most, &mut found,
-        )?;
-        if found.len() >= most {
-            break;
+        if found.len() < most {
+            let packet = &packets[place];
+            first_in(
+                &mut tally,
+                rule,
+                packet.before,
+                packet.header.channel,
+                index.messages_in(place),
+                most,
+                &mut found,
+            )?;
         }
     }
     Ok(found)
 }
 
-/// The messages of the packet at a place.
-fn messages_at<'a>(index: &Index<'a>, place: usize) -> Messages<'a> {
-    if place < index.packets().len() {
-        index.messages_in(place)
-    } else {
-        Messages::none()
+/// The first messages that miss a rule, at most as many as that, of all bytes that a reader has left, as their packets
+/// come. A recording that can't be read is refused with its first fault, K1 to K5, N2 or F1 to F3; want of memory and
+/// the reader's failure are the others.
+pub fn first_misses_from<R: Read + Drop>(
+    alloc: Global,
+    input: R,
+    rule: &Rule,
+    most: usize,
+) -> Result<Vec<Miss>, StreamFault>
+    ensures { (file : List ℕ) → R.remaining input ≡ Some file
+        → Finds (λ ps found. found.items ≡ take most (misses rule.now (reverse (heard_in ps)))) result file }
+{
+    let mut packets = Packets::over(alloc, input)?;
+    let mut found = Vec::new(alloc);
+    let mut tally = Tally::new(alloc);
+    'packets: for _made in 0..u64::MAX {
+        match packets.next() {
+            Ok(Some(packet)) => first_in(
+                &mut tally,
+                rule,
+                packet.before,
+                packet.header.channel,
+                packets.messages(),
+                most,
+                &mut found,
+            )?,
+            Ok(None) => return Ok(found),
+            Err(fault) => return Err(fault),
+        }
     }
+    Err(StreamFault::Device)
 }

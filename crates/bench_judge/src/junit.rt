@@ -1,8 +1,10 @@
 //! Verdicts as a JUnit XML file: a test case a rule.
-use crate::first::first_misses;
 use crate::names::Names;
 use crate::numbers::put_number;
+use crate::pass_fault::PassFault;
+use crate::sought::{Anew, Sought};
 use crate::verdicts::{Miss, Verdict, not_held};
+use bench_watch::Reopen;
 use ch11_reader::Index;
 use judge_rules::Rule;
 use std::alloc::{AllocError, Global};
@@ -80,39 +82,39 @@ fn put_misses(text: &mut Vec<u8>, misses: &[Miss]) -> Result<(), AllocError> {
 }
 
 /// Appends the test case of a rule, named by its text, with the first messages that miss it.
-fn put_case(
+fn put_case<S: Sought>(
     text: &mut Vec<u8>,
-    index: &Index<'_>,
+    recording: &S,
     name: &[u8],
     rule: &Rule,
     verdict: &Verdict,
-) -> Result<(), AllocError> {
+) -> Result<(), PassFault> {
     put_number(text, b"  <testcase classname=\"line ", verdict.line)?;
     text.extend_from_slice(b"\" name=\"")?;
     put_escaped(text, name)?;
     if verdict.held {
-        return text.extend_from_slice(b"\"/>\n");
+        text.extend_from_slice(b"\"/>\n")?;
+        return Ok(());
     }
     text.extend_from_slice(b"\">\n    <failure message=\"")?;
     put_reason(text, verdict)?;
     text.extend_from_slice(b"\">")?;
     if verdict.missed > 0 {
-        let misses = first_misses(*text.allocator(), index, rule, TOLD)?;
+        let misses = recording.first_misses(*text.allocator(), rule, TOLD)?;
         put_misses(text, misses.as_slice())?;
     }
-    text.extend_from_slice(b"</failure>\n  </testcase>\n")
+    text.extend_from_slice(b"</failure>\n  </testcase>\n")?;
+    Ok(())
 }
 
-/// A JUnit file of the verdicts on these rules, which a text spells: a test case a rule, in their order, named by the
-/// line of the rule. Of a rule that is not held it has up to 100 of the messages that miss it, which are looked for in
-/// the recording.
-pub fn junit_text(
+/// The JUnit file.
+fn report_of<S: Sought>(
     alloc: Global,
-    index: &Index<'_>,
+    recording: &S,
     rules_text: &[u8],
     rules: &[Rule],
     verdicts: &[Verdict],
-) -> Result<Vec<u8>, AllocError> {
+) -> Result<Vec<u8>, PassFault> {
     let mut text = Vec::new(alloc);
     text.extend_from_slice(b"<?xml version=\"1.0\" encoding=\"UTF-8\"?>\n")?;
     put_number(
@@ -125,8 +127,33 @@ pub fn junit_text(
     let mut names = Names::of(rules_text);
     for (rule, verdict) in rules.iter().zip(verdicts) {
         let name = names.at(verdict.line);
-        put_case(&mut text, index, name, rule, verdict)?;
+        put_case(&mut text, recording, name, rule, verdict)?;
     }
     text.extend_from_slice(b"</testsuite>\n")?;
     Ok(text)
+}
+
+/// A JUnit file of the verdicts on these rules, which a text spells: a test case a rule, in their order, named by the
+/// line of the rule. Of a rule that is not held it has up to 100 of the messages that miss it, which are looked for in
+/// the recording. A fault is want of memory.
+pub fn junit_text(
+    alloc: Global,
+    index: &Index<'_>,
+    rules_text: &[u8],
+    rules: &[Rule],
+    verdicts: &[Verdict],
+) -> Result<Vec<u8>, PassFault> {
+    report_of(alloc, index, rules_text, rules, verdicts)
+}
+
+/// The same file, of a recording that is read anew for each rule that messages miss. A fault may also be the
+/// recording's.
+pub fn junit_text_from<S: Reopen>(
+    alloc: Global,
+    recording: &S,
+    rules_text: &[u8],
+    rules: &[Rule],
+    verdicts: &[Verdict],
+) -> Result<Vec<u8>, PassFault> {
+    report_of(alloc, &Anew { recording }, rules_text, rules, verdicts)
 }

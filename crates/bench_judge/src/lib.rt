@@ -1,5 +1,5 @@
 //! The command `bench judge`: which messages of a recording a rule selects, which of them miss it, and whether it is
-//! held. Its tests are in `command_tests`.
+//! held. Its tests are in `command_tests`, and in `ch11_stream_tests` what it says of packets as they come.
 #![tactic(auto)]
 
 mod checks;
@@ -14,23 +14,24 @@ mod names;
 mod numbers;
 mod pass_fault;
 mod passes;
-mod reopen;
 mod replies;
 mod selection;
+mod shown;
+mod sought;
 mod streaming;
 mod tallies;
 mod verdicts;
 mod words;
 
 pub use clean::is_clean;
-pub use colored::write_colored;
+pub use colored::{write_colored, write_colored_from};
 pub use fault::PrintFault;
+pub use first::first_misses_from;
 pub use judging::judge;
-pub use junit::junit_text;
+pub use junit::{junit_text, junit_text_from};
 pub use lines::write_verdicts;
 pub use pass_fault::PassFault;
 pub use passes::{write_misses_from, write_verdicts_from};
-pub use reopen::Reopen;
 pub use selection::selects;
 pub use streaming::judge_from;
 pub use verdicts::{Miss, Verdict, not_held};

@@ -1,4 +1,4 @@
-//! Why a pass over a recording did not write all its lines.
+//! Why what is said of a recording was not said to its end.
 ghost use Rattle.std.specs.Prelude.{◌≡◌};
 ghost use Rattle.bench_judge.specs.declared.fault.PrintFault.TheVariants.{Device};
 ghost use Rattle.bench_judge.specs.declared.pass_fault.PassFault.TheVariants.{Printing, Recording};
@@ -9,7 +9,8 @@ use ch11_stream::StreamFault;
 use std::alloc::AllocError;
 use std::io;
 
-/// Why the lines of a recording that is read packet by packet were not written to their end.
+/// Why what is said of a recording that is read packet by packet was not said to its end. Of one in memory want of memory
+/// and `Printing` are all.
 #[derive(Debug, Drop)]
 pub enum PassFault {
     /// A reader of the recording could not be had for one more pass.

@@ -11,10 +11,10 @@ ghost use Rattle.bench_judge.specs.Verdicts.{AreVerdicts, IsVerdict};
 
 use crate::lines::{write_count, write_last, write_messages, write_numbers};
 use crate::pass_fault::PassFault;
-use crate::reopen::Reopen;
 use crate::streaming::judge_from;
 use crate::tallies::Tally;
 use crate::verdicts::Verdict;
+use bench_watch::Reopen;
 use ch11_stream::{Packets, StreamFault};
 use judge_rules::Rule;
 use std::alloc::Global;

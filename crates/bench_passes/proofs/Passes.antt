@@ -1,12 +1,14 @@
 -- A recording that was checked first.
-use Rattle.std.proofs.Common.{◌≡◌, ℕ, List, Option, Ok, Err}
+use Rattle.std.proofs.Common.{◌≡◌, ℕ, List, Option, Result, Ok, Err, subst}
 use Rattle.ch11_reader.specs.declared.error.Refusal.{Refusal}
 use Rattle.ch11_reader.specs.Indexed.{found_in}
 use Rattle.ch11_reader.specs.Recording.{Found, packets_in}
 use Rattle.ch11_stream.specs.declared.fault.StreamFault.{StreamFault}
 use Rattle.ch11_stream.specs.declared.fault.StreamFault.TheVariants.{Device, Memory, Refused}
 use Rattle.ch11_stream.specs.Folding.{IsFaultOf}
-use Rattle.bench_dump.specs.Streaming.{Dumps, dump_fault}
+use Rattle.bench_clock.specs.declared.clock.Mark.{Mark}
+use Rattle.bench_dump.specs.declared.fault.DumpFault.{DumpFault}
+use Rattle.bench_dump.specs.Streaming.{Dumps, DumpsBy, dump_fault}
 use Rattle.bench_passes.specs.Passes.{IsRefusedBy}
 
 pub not_both : (file : List ℕ) (ps : List Found) (r : Refusal) → packets_in file ≡ Ok ps → packets_in file ≡ Err r → ⊥
@@ -23,3 +25,12 @@ pub other_fault : (file second : List ℕ) (got : Option (List ℕ)) (f : Stream
 other_fault file second got (Refused r) is read = absurd (not_both file (found_in file) r read is)
 other_fault file second got Memory is read = tt
 other_fault file second got Device is read = tt
+
+pub other_timed : (clock : List Mark) (file second : List ℕ) (got : Option (List ℕ)) (f : StreamFault) → IsFaultOf file f → packets_in file ≡ Ok (found_in file)
+    → DumpsBy {A = Unit {0}} clock (Err (dump_fault f)) second got got
+other_timed clock file second got (Refused r) is read = absurd (not_both file (found_in file) r read is)
+other_timed clock file second got Memory is read = tt
+other_timed clock file second got Device is read = tt
+
+pub same_clock : (a b : List Mark) (result : Result (Unit {0}) DumpFault) (file : List ℕ) (got gets : Option (List ℕ)) → a ≡ b → DumpsBy a result file got gets → DumpsBy b result file got gets
+same_clock a b result file got gets same d = subst (λ (clock : List Mark). DumpsBy clock result file got gets) same d

@@ -1,8 +1,11 @@
 //! Commands over a recording that is read twice, so that it need not be kept: a first pass says whether it can be read,
-//! and only then a second one prints it. It knows `ch11_check`, which is the first pass, and `bench_dump`, the second.
+//! and only then a second one prints it. It knows `ch11_check`, which is the first pass, or `bench_clock` where that has
+//! to tell times of day, and `bench_dump`, the second.
 //! Its tests are in `ch11_stream_tests`.
 #![tactic(auto)]
 
 mod dumping;
+mod dumping_with_times;
 
 pub use dumping::dump_in_two_passes;
+pub use dumping_with_times::dump_with_times_in_two_passes;

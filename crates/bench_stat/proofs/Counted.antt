@@ -7,8 +7,6 @@ use Rattle.ch11_f1.specs.BodyReading.{Message}
 use Rattle.ch11_reader.specs.declared.packet.Packet.{Packet}
 use Rattle.ch11_reader.specs.Recording.{Found}
 use Rattle.ch11_reader.specs.Contents.{total_in}
-use Rattle.ch11_stream.specs.Reading.{IsStep, Reading, last_found}
-use Rattle.ch11_stream.proofs.Folding.{one_behind}
 use Rattle.bench_select.specs.declared.selection.Selection.{Selection}
 use Rattle.bench_stat.specs.Chosen.{history_of, picked}
 use Rattle.bench_stat.specs.Streaming.{IsBehind}
@@ -33,7 +31,3 @@ counted_here P s channel ps q p messages b here is = subst P (sym same) is
 pub passed_elsewhere : (P : List Message → Type 0) (s : Selection) (channel : ℕ) (ps : List Found) (q : Found) (p : Packet) (messages : List Message) → IsBehind ps q p messages → (p.header.channel ≡ channel → ⊥) → P (history_of s ps channel)
     → P (history_of s (ps ++ q ∷ []) channel)
 passed_elsewhere P s channel ps q p messages b other is = subst P (sym (history_other s channel ps q (λ e. other (ap (λ (h : Header). h.channel) (sym b.header) ∙ e)))) is
-
--- the packets so far in their order, with one more
-pub so_far_with : (P : List Message → Type 0) (s : Selection) (channel : ℕ) (before now : Reading) (p : Packet) → IsStep before now p → P (history_of s (reverse before.earlier ++ last_found now p ∷ []) channel) → P (history_of s (reverse now.earlier) channel)
-so_far_with P s channel before now p step is = subst (λ (ps : List Found). P (history_of s ps channel)) (sym (ap reverse step.entered ∙ one_behind (last_found now p) before.earlier)) is

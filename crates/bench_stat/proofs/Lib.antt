@@ -6,3 +6,4 @@ pub mod Following
 pub mod Packets
 pub mod Streamed
 mod Counted
+mod Telling

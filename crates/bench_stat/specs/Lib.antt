@@ -9,3 +9,4 @@ pub mod Slices
 pub mod Streaming
 pub mod Details
 pub mod Times
+pub mod Told

@@ -1,5 +1,5 @@
 //! The command `bench stat`: figures of each channel and each terminal of a recording.
-//! Its tests are in `command_tests`.
+//! Its tests are in `command_tests`, and in `ch11_stream_tests` what it counts of packets as they come.
 #![tactic(auto)]
 
 mod calls;
@@ -11,21 +11,24 @@ mod entries;
 mod errors;
 mod fault;
 mod flows;
+mod followed;
 mod following_packets;
 mod losses;
 mod page;
-mod plain;
 mod printing;
 mod replies;
 mod rows;
 mod sendings;
+mod shown;
 mod slices;
 mod statistics;
 mod streaming;
 mod tables;
 mod tally;
+mod tells;
 mod terminals;
 mod times;
+mod told;
 mod traffic;
 mod units;
 
@@ -35,17 +38,20 @@ pub use details::{Details, flows_by_subaddress, load_over_time};
 pub use errors::Errors;
 pub use fault::StatFault;
 pub use flows::Flow;
-pub use following_packets::{details_from, flows_from, load_from};
+pub use followed::Followed;
+pub use following_packets::{ToldChannels, told_from};
 pub use losses::Losses;
-pub use page::{Shown, print_page};
-pub use plain::{print_plain_page, print_plain_rows};
+pub use page::print_page;
 pub use replies::Replies;
 pub use rows::print_tables;
 pub use sendings::Sending;
+pub use shown::Shown;
 pub use slices::Slice;
 pub use statistics::stat;
 pub use streaming::stat_from;
 pub use tally::Tally;
+pub use tells::{Indexed, Tells};
 pub use terminals::TerminalFigures;
 pub use times::Times;
+pub use told::Told;
 pub use traffic::Traffic;

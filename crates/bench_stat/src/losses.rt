@@ -1,8 +1,10 @@
 //! What packets say of messages that are missing.
-ghost use Rattle.std.specs.Prelude.{◌≡◌, length};
+ghost use Rattle.std.specs.Prelude.{◌≡◌, ℕ, ◌+◌, ◌-◌, ◌<◌, ◌^◌, ◌++◌, ◌∷◌, [], List, length};
 ghost use Rattle.std.specs.List.{filter};
 ghost use Rattle.ch11_reader.specs.Listing.{listing};
+ghost use Rattle.ch11_reader.specs.declared.packet.Packet.{Packet as PacketValue};
 ghost use Rattle.bench_stat.specs.Details as spec;
+ghost use Rattle.bench_stat.specs.Figures.{capped, one_if};
 
 use ch11_layout::is_set;
 use ch11_reader::{Index, Packet};
@@ -30,6 +32,37 @@ impl Losses {
             jumps: jumps(packets, channel),
         }
     }
+
+    /// What no packets say.
+    pub(crate) fn none() -> Losses
+        ensures { (channel : ℕ) → result ≡ spec.losses_of channel [] }
+    {
+        Losses {
+            overflows: 0,
+            jumps: 0,
+        }
+    }
+
+    /// One more packet of the recording, behind fewer than 2^64 - 1.
+    pub(crate) fn note(&mut self, packet: &Packet, channel: u16)
+        ensures { (packets : List PacketValue) → length packets < 2 ^ 64 - 1
+            → self.old ≡ spec.losses_of channel packets
+            → self.new ≡ spec.losses_of channel (packets ++ packet.now ∷ []) }
+    {
+        self.overflows = one_more(self.overflows, has_overflow(packet, channel));
+        self.jumps = one_more(self.jumps, is_jump(packet, channel));
+    }
+}
+
+/// One packet more where it holds, at most 2^64 - 1.
+fn one_more(count: usize, holds: bool) -> usize
+    ensures { result ≡ capped (count + one_if holds) }
+{
+    if holds {
+        count.saturating_add(1)
+    } else {
+        count
+    }
 }
 
 fn overflows(packets: &[Packet], channel: u16) -> usize
@@ -46,7 +79,7 @@ fn jumps(packets: &[Packet], channel: u16) -> usize
 {
     packets
         .iter()
-        .filter(|packet| packet.header.channel == channel && packet.sequence_jump)
+        .filter(|packet| is_jump(packet, channel))
         .count()
 }
 
@@ -54,4 +87,10 @@ fn has_overflow(packet: &Packet, channel: u16) -> bool
     ensures { result ≡ spec.overflows channel packet.now }
 {
     packet.header.channel == channel && is_set(u16::from(packet.header.flags), OVERFLOW)
+}
+
+fn is_jump(packet: &Packet, channel: u16) -> bool
+    ensures { result ≡ spec.jumps channel packet.now }
+{
+    packet.header.channel == channel && packet.sequence_jump
 }

@@ -1,93 +1,61 @@
 //! The figures as a page for people, with what more is asked for.
 
 use crate::channels::ChannelFigures;
-use crate::details::{Details, flows_by_subaddress, load_over_time};
 use crate::fault::StatFault;
 use crate::flows::Flow;
-use crate::losses::Losses;
 use crate::printing::{
     print_errors, print_load_line, print_retries, print_terminals, print_times, print_traffic,
 };
 use crate::replies::Replies;
+use crate::shown::Shown;
 use crate::tables::{print_load, print_subaddresses};
+use crate::tells::Tells;
 use crate::times::Times;
 use crate::traffic::Traffic;
 use crate::units::{rate, write_hundredths, write_time};
 use bench_clock::Clock;
-use bench_select::Selection;
-use ch11_reader::Index;
 use std::alloc::Global;
 use std::io;
 use std::io::Write;
 
-/// What is shown of a recording beside the figures that are always shown.
-#[derive(Clone, Copy, Debug, PartialEq, Eq)]
-pub struct Shown {
-    /// Messages that are missing, rates, gaps and status bits, and times in ms and s where they are long.
-    pub long: bool,
-    /// A table by terminal, direction and subaddress in place of that by terminal.
-    pub by_subaddress: bool,
-    /// The load over time.
-    pub load: bool,
-    /// The times of day of a channel's first and last message.
-    pub time: bool,
-}
-
-impl Shown {
-    /// Whether nothing is shown beside the figures that are always shown.
-    pub fn is_plain(&self) -> bool {
-        !(self.long || self.by_subaddress || self.load || self.time)
-    }
-
-    /// The times of day of a channel, where they are asked for.
-    pub(crate) fn times_of(&self, clock: &Clock, figures: &ChannelFigures) -> Option<Times> {
-        if self.time {
-            Some(Times::of(clock, &figures.traffic))
-        } else {
-            None
-        }
-    }
-}
-
-/// Writes the figures of each channel as lines aligned for people. They are those of the selected messages of the
-/// recording. Times of day are those of the clock; a channel of which it tells none has no line of them. It fails for
-/// want of memory, and where the writer does.
-pub fn print_page<W: Write>(
+/// Writes the figures of each channel as lines aligned for people, with what more is shown of it, which is told of the
+/// same messages. Times of day are those of the clock; a channel of which it tells none has no line of them. It fails
+/// for want of memory, and where the writer does.
+pub fn print_page<W: Write, T: Tells>(
     alloc: Global,
     out: &mut W,
-    index: &Index<'_>,
-    selection: &Selection,
+    told: &T,
     figures: &[ChannelFigures],
     shown: &Shown,
     clock: &Clock,
 ) -> Result<(), StatFault> {
     if shown.long {
-        print_losses(out, index, figures)?;
+        print_losses(out, told, figures)?;
     }
     for channel in figures {
         let times = shown.times_of(clock, channel);
-        print_head(out, index, selection, channel, shown.long, times)?;
+        print_head(out, told, channel, shown.long, times)?;
         if shown.by_subaddress {
-            let flows = flows_by_subaddress(alloc, index, selection, channel.channel)?;
+            let flows = told.flows(alloc, channel.channel)?;
             print_subaddresses(out, flows.as_slice(), channel.traffic.span())?;
         } else {
             print_terminals(out, &channel.terminals)?;
         }
         if shown.load {
-            print_load_of(alloc, out, index, selection, channel)?;
+            print_load_of(alloc, out, told, channel)?;
         }
     }
     Ok(())
 }
 
 /// Writes which channels have packets that say that messages are missing.
-fn print_losses<W: Write>(
+fn print_losses<W: Write, T: Tells>(
     out: &mut W,
-    index: &Index<'_>,
+    told: &T,
     figures: &[ChannelFigures],
 ) -> io::Result<()> {
     for channel in figures {
-        let losses = Losses::of(index, channel.channel);
+        let losses = told.losses(channel.channel);
         if losses.overflows > 0 || losses.jumps > 0 {
             let (number, overflows, jumps) = (channel.channel, losses.overflows, losses.jumps);
             writeln!(
@@ -100,34 +68,22 @@ fn print_losses<W: Write>(
     Ok(())
 }
 
-/// Writes the figures of a channel that are always shown, but its tables.
-pub(crate) fn print_plain_head<W: Write>(
-    out: &mut W,
-    figures: &ChannelFigures,
-    times: Option<Times>,
-) -> io::Result<()> {
-    let channel = figures.channel;
-    writeln!(out, "channel {channel}")?;
-    print_traffic(out, &figures.traffic, times)?;
-    print_errors(out, &figures.errors)?;
-    print_retries(out, figures.retries)
-}
-
 /// Writes the figures of a channel but its tables.
-fn print_head<W: Write>(
+fn print_head<W: Write, T: Tells>(
     out: &mut W,
-    index: &Index<'_>,
-    selection: &Selection,
+    told: &T,
     figures: &ChannelFigures,
     long: bool,
     times: Option<Times>,
 ) -> io::Result<()> {
-    if !long {
-        return print_plain_head(out, figures, times);
-    }
     let channel = figures.channel;
     writeln!(out, "channel {channel}")?;
-    let details = Details::of(index, selection, channel);
+    if !long {
+        print_traffic(out, &figures.traffic, times)?;
+        print_errors(out, &figures.errors)?;
+        return print_retries(out, figures.retries);
+    }
+    let details = told.details(channel);
     print_long_traffic(out, &figures.traffic, times)?;
     print_gaps(out, &details.flow)?;
     print_errors(out, &figures.errors)?;
@@ -182,18 +138,16 @@ fn print_replies<W: Write>(out: &mut W, replies: &Replies) -> io::Result<()> {
 }
 
 /// Writes the load over time of a channel.
-fn print_load_of<W: Write>(
+fn print_load_of<W: Write, T: Tells>(
     alloc: Global,
     out: &mut W,
-    index: &Index<'_>,
-    selection: &Selection,
+    told: &T,
     figures: &ChannelFigures,
 ) -> Result<(), StatFault> {
     if figures.traffic.span() == 0 {
         return Ok(());
     }
-    let (begin, end) = (figures.traffic.begin, figures.traffic.end);
-    let slices = load_over_time(alloc, index, selection, figures.channel, begin, end)?;
+    let slices = told.load(alloc, figures)?;
     print_load(out, slices.as_slice())?;
     Ok(())
 }

@@ -1,18 +1,15 @@
 //! The figures as rows of comma-separated values, a table for each that is asked for.
 
 use crate::channels::ChannelFigures;
-use crate::details::{Details, flows_by_subaddress, load_over_time};
 use crate::fault::StatFault;
 use crate::flows::Flow;
-use crate::losses::Losses;
-use crate::page::Shown;
 use crate::printing::{NAMES, TIMES, end_row, print_rows};
+use crate::shown::Shown;
 use crate::slices::Slice;
+use crate::tells::Tells;
 use crate::times::Times;
 use crate::units::{rate, write_hundredths, write_time_of_day, write_us};
 use bench_clock::{Clock, UtcTime};
-use bench_select::Selection;
-use ch11_reader::Index;
 use std::alloc::Global;
 use std::io;
 use std::io::Write;
@@ -32,11 +29,10 @@ const LOAD: &str = "channel,begin_us,end_us,load_percent";
 /// of its columns, and an empty line between two of them. Times of day are those of the clock, in two rows of a
 /// channel's figures, and in two columns behind the others of terminals and of subaddresses. It fails for want of
 /// memory, and where the writer does.
-pub fn print_tables<W: Write>(
+pub fn print_tables<W: Write, T: Tells>(
     alloc: Global,
     out: &mut W,
-    index: &Index<'_>,
-    selection: &Selection,
+    told: &T,
     figures: &[ChannelFigures],
     shown: &Shown,
     clock: &Clock,
@@ -45,7 +41,7 @@ pub fn print_tables<W: Write>(
         writeln!(out, "{FIGURES}")?;
         for channel in figures {
             let times = shown.times_of(clock, channel);
-            write_figures(out, index, selection, channel, times)?;
+            write_figures(out, told, channel, times)?;
         }
         writeln!(out, "")?;
     }
@@ -53,7 +49,7 @@ pub fn print_tables<W: Write>(
     for channel in figures {
         let times = shown.times_of(clock, channel);
         if shown.by_subaddress {
-            let flows = flows_by_subaddress(alloc, index, selection, channel.channel)?;
+            let flows = told.flows(alloc, channel.channel)?;
             write_flows(out, channel, flows.as_slice(), times)?;
         } else {
             print_rows(out, channel, times)?;
@@ -62,8 +58,7 @@ pub fn print_tables<W: Write>(
     if shown.load {
         writeln!(out, "\n{LOAD}")?;
         for channel in figures {
-            let (begin, end) = (channel.traffic.begin, channel.traffic.end);
-            let slices = load_over_time(alloc, index, selection, channel.channel, begin, end)?;
+            let slices = told.load(alloc, channel)?;
             write_slices(out, channel, slices.as_slice())?;
         }
     }
@@ -82,19 +77,18 @@ fn write_names<W: Write>(out: &mut W, shown: &Shown) -> io::Result<()> {
 }
 
 /// Writes a row for each figure of a channel.
-fn write_figures<W: Write>(
+fn write_figures<W: Write, T: Tells>(
     out: &mut W,
-    index: &Index<'_>,
-    selection: &Selection,
+    told: &T,
     figures: &ChannelFigures,
     times: Option<Times>,
 ) -> io::Result<()> {
     let channel = figures.channel;
-    let losses = Losses::of(index, channel);
+    let losses = told.losses(channel);
     write_count(out, channel, "overflow_packets", losses.overflows as u64)?;
     write_count(out, channel, "sequence_jumps", losses.jumps as u64)?;
     write_traffic(out, figures, times)?;
-    let details = Details::of(index, selection, channel);
+    let details = told.details(channel);
     write_gap(
         out,
         channel,

@@ -1,7 +1,7 @@
 -- The packet that begins the bytes to come, judged by those that are ready.
-use Rattle.std.proofs.Common.{◌≡◌, ℕ, ◌+◌, ◌<◌, ◌≤◌, Bool, true, false, List, ◌++◌, length, drop, Option, None, Some, Ok, Err, refl, sym, ap, ◌∙◌, arith}
+use Rattle.std.proofs.Common.{◌≡◌, ℕ, ◌+◌, ◌<◌, ◌≤◌, Bool, true, false, List, ◌++◌, length, drop, Option, None, Some, Ok, Err, take, cond, eqb, refl, sym, ap, ◌∙◌, arith}
 use Rattle.std.proofs.lemmas.Bool.{le-ltb, lt-ltb}
-use Rattle.std.proofs.lemmas.List.{append-nil, drop-append-le, length-append}
+use Rattle.std.proofs.lemmas.List.{append-nil, drop-append-le, length-append, take-append-le}
 use Rattle.std.specs.Io.KnownBytes.{Keeps, prepend_known}
 use Rattle.ch11_header.specs.declared.error.HeaderError.{HeaderError}
 use Rattle.ch11_header.specs.declared.header.Header.{Header}
@@ -14,6 +14,7 @@ use Rattle.ch11_reader.proofs.Joined.{HasRoom, front, header_front, header_long,
 use Rattle.ch11_stream.specs.declared.fault.StreamFault.{StreamFault}
 use Rattle.ch11_stream.specs.declared.fault.StreamFault.TheVariants.{Device, Memory, Refused}
 use Rattle.ch11_stream.specs.Feeding.{IsFilled, IsPassed}
+use Rattle.ch11_stream.specs.Holding.{is_kept}
 use Rattle.ch11_stream.specs.Taking.{IsFaultAt, IsNextHeader, IsTaken, held}
 use Rattle.ch11_stream.proofs.Feeding.{IsBoth, at_end, both_of}
 
@@ -80,25 +81,34 @@ filled_short left leaves before after there h none f bytes known = rw (all_ready
 
 -- ---- a packet of another type
 
+holds_none_if : (b other : Bool) → cond b true other ≡ false → b ≡ false
+holds_none_if true other is = absurd cc
+holds_none_if false other is = refl
+
+-- a packet whose bytes are not kept holds no messages
+holds_none : (h : Header) → is_kept h ≡ false → holds_messages h ≡ false
+holds_none h is = holds_none_if (holds_messages h) (eqb h.kind 0x11) is
+
 other_is : (bytes : List ℕ) (h : Header) → header_in bytes ≡ Ok h → h.packet_length ≤ length bytes → holds_messages h ≡ false → packet_at bytes ≡ Ok h
 unfolding packet_at
 other_is bytes h is whole other = rw (is, le-ltb (length bytes) h.packet_length whole, other) refl
 
-pub other_taken : (left leaves : Option (List ℕ)) (before after : List ℕ) (there : Bool) (h : Header) → there ≡ true → holds_messages h ≡ false → IsNextHeader (prepend_known before left) h
+pub other_taken : (left leaves : Option (List ℕ)) (before after : List ℕ) (there : Bool) (h : Header) → there ≡ true → is_kept h ≡ false → IsNextHeader (prepend_known before left) h
     → IsPassed h.packet_length left leaves before after there → IsTaken (prepend_known before left) leaves after (record { header = h; count = 0 })
 other_taken left leaves before after there h all other next p = record {
-  count = rw other refl;
+  count = rw (holds_none h other) refl;
   few = omega arith;
   whole = rw other (omega arith);
   room = next.room;
-  packet = λ bytes known. other_is bytes h (next.known bytes known) (p.enough all bytes known).0 other;
-  messages = λ bytes known. rw other refl;
+  packet = λ bytes known. other_is bytes h (next.known bytes known) (p.enough all bytes known).0 (holds_none h other);
+  messages = λ bytes known. rw (holds_none h other) refl;
+  kept = λ bytes known. rw other refl;
   behind = λ bytes known. rw other (p.enough all bytes known).1;
 }
 
--- ---- a packet of messages
+-- ---- a packet whose bytes are kept
 
-pub held_most : (h : Header) (b : Bool) → holds_messages h ≡ b → held h ≤ h.packet_length
+pub held_most : (h : Header) (b : Bool) → is_kept h ≡ b → held h ≤ h.packet_length
 held_most h true is = rw is (omega arith)
 held_most h false is = rw is (omega arith)
 
@@ -118,23 +128,24 @@ body_fault offset left leaves before after there h f all next filled is bytes kn
     let same : packet_at bytes ≡ Err f = ap packet_at (sym b.all) ∙ packet_same after b.others h (ap header_in b.all ∙ header) room (filled.enough all) ∙ is in
     (omega (arith, header_long bytes h header), ap (located offset) same)
 
-pub messages_taken : (left leaves : Option (List ℕ)) (before after : List ℕ) (there : Bool) (h : Header) (c : Checked) → holds_messages h ≡ true → IsNextHeader (prepend_known before left) h → IsFilled h.packet_length left leaves before after there
+pub kept_taken : (left leaves : Option (List ℕ)) (before after : List ℕ) (there : Bool) (h : Header) (c : Checked) → is_kept h ≡ true → IsNextHeader (prepend_known before left) h → IsFilled h.packet_length left leaves before after there
     → packet_at after ≡ Ok c.header → c.count ≡ length (messages_of c.header after) → c.count ≤ c.header.packet_length → 24 ≤ c.header.packet_length → c.header.packet_length ≤ length after → body_start c.header + c.header.data_length ≤ c.header.packet_length
     → IsTaken (prepend_known before left) leaves after c
-messages_taken left leaves before after there h c holds next filled is count few long whole room = record {
+kept_taken left leaves before after there h c holds next filled is count few long whole room = record {
   count = count;
   few = few;
-  whole = omega (arith, whole, held_most c.header (holds_messages c.header) refl);
+  whole = omega (arith, whole, held_most c.header (is_kept c.header) refl);
   room = room;
   packet = packet;
   messages = λ bytes known.
       let b = both bytes known in
       sym (messages_front c.header after b.others (record { least = long; body = room }) whole) ∙ ap (messages_of c.header) b.all;
+  kept = λ bytes known.
+      let b = both bytes known in
+      rw (all bytes known) (sym (take-append-le c.header.packet_length after b.others whole) ∙ ap (take c.header.packet_length) b.all);
   behind = λ bytes known.
       let b = both bytes known in
-      let same : c.header ≡ h = let one : Ok c.header ≡ Ok h = sym (front bytes c.header (packet bytes known)).header ∙ next.known bytes known in cc in
-      let all : holds_messages c.header ≡ true = ap holds_messages same ∙ holds in
-      rw (all, b.known) (ap Some (sym (drop-append-le c.header.packet_length after b.others whole) ∙ ap (drop c.header.packet_length) b.all));
+      rw (all bytes known, b.known) (ap Some (sym (drop-append-le c.header.packet_length after b.others whole) ∙ ap (drop c.header.packet_length) b.all));
 }
   where
     both : (bytes : List ℕ) → prepend_known before left ≡ Some bytes → IsBoth after leaves bytes
@@ -142,6 +153,12 @@ messages_taken left leaves before after there h c holds next filled is count few
 
     packet : (bytes : List ℕ) → prepend_known before left ≡ Some bytes → packet_at bytes ≡ Ok c.header
     packet bytes known = let b = both bytes known in ap packet_at (sym b.all) ∙ packet_front after b.others c.header is
+
+    all : (bytes : List ℕ) → prepend_known before left ≡ Some bytes → is_kept c.header ≡ true
+    all bytes known =
+        let one : Ok c.header ≡ Ok h = sym (front bytes c.header (packet bytes known)).header ∙ next.known bytes known in
+        let same : c.header ≡ h = cc in
+        ap is_kept same ∙ holds
 
 -- ---- bytes to come that were kept
 
@@ -153,6 +170,7 @@ taken_on coming comes left ready c k t = record {
   room = t.room;
   packet = λ bytes known. t.packet bytes (keeps_known coming comes bytes k known);
   messages = λ bytes known. t.messages bytes (keeps_known coming comes bytes k known);
+  kept = λ bytes known. t.kept bytes (keeps_known coming comes bytes k known);
   behind = λ bytes known. t.behind bytes (keeps_known coming comes bytes k known);
 }
 

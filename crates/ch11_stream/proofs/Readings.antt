@@ -43,7 +43,7 @@ amid_on file before now p s a =
       going = rw (s.entered, found_next file a.rest before now p a.place s r) on;
     }
 
-known_end : (left : Option (List ℕ)) (rest : List ℕ) → left ≡ Some rest → IsAtEnd left → rest ≡ []
+pub known_end : (left : Option (List ℕ)) (rest : List ℕ) → left ≡ Some rest → IsAtEnd left → rest ≡ []
 known_end None rest is end = absurd cc
 known_end (Some xs) rest is end = let same : xs ≡ rest = cc in sym same ∙ end
 
@@ -72,7 +72,7 @@ amid_stop file now last r s a =
 pub record IsListed (entries : List Packet) (earlier : List Found) : Type 0 where
   pub all : (qs : List Found) → listing (in_order earlier qs) ≡ entries ++ listing_behind earlier qs
 
-one_listed : (entries : List Packet) (before now : Reading) (p : Packet) → IsStep before now p → IsListed entries before.earlier → IsListed (entries ++ p ∷ []) now.earlier
+pub one_listed : (entries : List Packet) (before now : Reading) (p : Packet) → IsStep before now p → IsListed entries before.earlier → IsListed (entries ++ p ∷ []) now.earlier
 one_listed entries before now p s l = rw (s.entered) record {
   all = λ qs.
       let q = last_found now p in

@@ -1,15 +1,20 @@
--- The packet that was read last, whose bytes are ready if it is of messages.
-use Rattle.std.specs.Prelude.{◌≡◌, ℕ, ◌+◌, ◌≤◌, if◌then◌else◌, List, [], length, Option, None, Some}
+-- The packet that was read last, whose bytes are ready if it is of messages or a time packet.
+use Rattle.std.specs.Prelude.{◌≡◌, ℕ, ◌+◌, ◌≤◌, ◌==◌, Bool, true, if◌then◌else◌, List, [], length, Option, None, Some}
 use Rattle.ch11_f1.specs.BodyReading.{Message}
 use Rattle.ch11_header.specs.declared.header.Header.{Header}
 use Rattle.ch11_header.specs.HeaderReading.{body_start}
+use Rattle.ch11_header.specs.Kinds.{time_data}
 use Rattle.ch11_reader.specs.Contents.{total_in}
 use Rattle.ch11_reader.specs.Recording.{Found, holds_messages, messages_of}
 use Rattle.ch11_stream.specs.declared.fault.StreamFault.{StreamFault}
 
+-- the packet's bytes are kept until the next one is read: it is of messages, or a time packet
+abbrev pub is_kept : Header → Bool
+is_kept h = if holds_messages h then true else h.kind == time_data
+
 -- the header of a packet whose bytes are ready
 abbrev pub last_of : Header → Option Header
-last_of h = if holds_messages h then Some h else None
+last_of h = if is_kept h then Some h else None
 
 -- how many of the bytes that are ready are the last packet's
 abbrev pub held_of : Option Header → ℕ

@@ -3,6 +3,9 @@ pub mod Feeding
 pub mod Folding
 pub mod Holding
 pub mod Listed
+pub mod Looking
 pub mod Reading
+pub mod Stretches
 pub mod Taking
 pub mod Whole
+pub mod WholeStretches

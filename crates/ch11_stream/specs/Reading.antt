@@ -1,5 +1,5 @@
 -- A reading of packets, one after the other (IRIG 106-17 Chapter 11: a recording is a sequence of packets).
-use Rattle.std.specs.Prelude.{◌≡◌, ℕ, ◌+◌, ◌<◌, ◌^◌, List, [], ◌∷◌, drop, Option, None, Some, Result, Ok, Err}
+use Rattle.std.specs.Prelude.{◌≡◌, ℕ, ◌+◌, ◌<◌, ◌^◌, List, [], ◌∷◌, drop, Option, None, Some, Result, Ok, Err, take}
 use Rattle.std.specs.Io.KnownBytes.{IsAtEnd}
 use Rattle.ch11_f1.specs.BodyReading.{Message}
 use Rattle.ch11_reader.specs.declared.packet.Packet.{Packet}
@@ -7,30 +7,32 @@ use Rattle.ch11_reader.specs.Recording.{Found, messages_of, packet_at}
 use Rattle.ch11_reader.specs.Contents.{total_in}
 use Rattle.ch11_reader.specs.Listing.{listed_behind}
 use Rattle.ch11_stream.specs.declared.fault.StreamFault.{StreamFault}
-use Rattle.ch11_stream.specs.Taking.{IsFaultAt}
+use Rattle.ch11_stream.specs.Taking.{IsFaultAt, held}
 
--- a reading: the packets so far, newest first; the messages of the packet that was read last; where the next packet
--- begins, in bytes from the start of the file; the bytes from there on, where they are known; and the fault at which
--- the reading ended
+-- a reading: the packets so far, newest first; the messages of the packet that was read last, and its bytes where they
+-- are kept; where the next packet begins, in bytes from the start of the file; the bytes from there on, where they are
+-- known; and the fault at which the reading ended
 pub record Reading : Type 0 where
   pub earlier : List Found
   pub given : List Message
+  pub kept : List ℕ
   pub offset : ℕ
   pub left : Option (List ℕ)
   pub fault : Option StreamFault
 
 -- nothing was read yet
 abbrev pub at_start : Option (List ℕ) → Reading
-at_start left = record { earlier = []; given = []; offset = 0; left = left; fault = None }
+at_start left = record { earlier = []; given = []; kept = []; offset = 0; left = left; fault = None }
 
 -- the packet that was read last
 abbrev pub last_found : Reading → Packet → Found
 last_found now p = record { offset = p.offset; header = p.header; messages = now.given }
 
--- the packet is the one that begins these bytes
+-- the packet is the one that begins these bytes; all its own are kept of one of messages and of a time packet
 pub record IsRead (bytes : List ℕ) (now : Reading) (p : Packet) : Type 0 where
   pub packet : packet_at bytes ≡ Ok p.header
   pub messages : now.given ≡ messages_of p.header bytes
+  pub kept : now.kept ≡ take (held p.header) bytes
   pub left : now.left ≡ Some (drop p.header.packet_length bytes)
 
 -- A packet was read: it is listed behind the earlier ones, and where the bytes to come were known, it is the one that
@@ -48,6 +50,7 @@ pub record IsStep (before now : Reading) (p : Packet) : Type 0 where
 pub record IsEnd (before now : Reading) : Type 0 where
   pub same : now.earlier ≡ before.earlier
   pub none : now.given ≡ []
+  pub passed : now.kept ≡ []
   pub stays : now.offset ≡ before.offset
   pub sound : (before.fault ≡ None) × (now.fault ≡ None)
   pub ended : IsAtEnd before.left
@@ -57,6 +60,7 @@ pub record IsEnd (before now : Reading) : Type 0 where
 pub record IsStop (before now : Reading) (e : StreamFault) : Type 0 where
   pub same : now.earlier ≡ before.earlier
   pub none : now.given ≡ []
+  pub passed : now.kept ≡ []
   pub stays : now.offset ≡ before.offset
   pub stopped : now.fault ≡ Some e
   pub again : (f : StreamFault) → before.fault ≡ Some f → e ≡ f

@@ -1,13 +1,14 @@
 -- The packet that begins the bytes to come.
-use Rattle.std.specs.Prelude.{◌≡◌, ℕ, ◌+◌, ◌<◌, ◌≤◌, ◌^◌, List, length, drop, if◌then◌else◌, Option, None, Some}
-use Rattle.std.specs.Prelude.{Result, Ok, Err}
+use Rattle.std.specs.Prelude.{◌≡◌, ℕ, ◌+◌, ◌<◌, ◌≤◌, ◌^◌, List, length, take, drop}
+use Rattle.std.specs.Prelude.{if◌then◌else◌, Option, None, Some, Result, Ok, Err}
 use Rattle.std.specs.Io.KnownBytes.{IsAtEnd, Keeps, prepend_known}
 use Rattle.ch11_header.specs.declared.header.Header.{Header}
 use Rattle.ch11_header.specs.HeaderReading.{body_start, header_in}
 use Rattle.ch11_reader.specs.declared.packet.Checked.{Checked}
-use Rattle.ch11_reader.specs.Recording.{holds_messages, located, messages_of, packet_at}
+use Rattle.ch11_reader.specs.Recording.{located, messages_of, packet_at}
 use Rattle.ch11_stream.specs.declared.fault.StreamFault.{StreamFault}
 use Rattle.ch11_stream.specs.declared.fault.StreamFault.TheVariants as faults
+use Rattle.ch11_stream.specs.Holding.{is_kept}
 
 -- the fault is that of the packet that begins the bytes to come, which stand at an offset, where they are known; want
 -- of memory and a reader that failed may come with any bytes
@@ -29,11 +30,11 @@ Heads (Ok (Some h)) offset coming comes = IsNextHeader comes h × Keeps coming c
 Heads (Ok None) offset coming comes = IsAtEnd coming × IsAtEnd comes
 Heads (Err e) offset coming comes = IsFaultAt offset coming e
 
--- how many of the bytes that are ready are still the packet's: all of a packet of messages, none of another
+-- how many of the bytes that are ready are still the packet's: all of one that is kept, none of another
 abbrev pub held : Header → ℕ
-held h = if holds_messages h then h.packet_length else 0
+held h = if is_kept h then h.packet_length else 0
 
--- a packet was taken: the bytes of one of messages are ready, and those of another were passed
+-- a packet was taken: the bytes of one that is kept are ready, and those of another were passed
 pub record IsTaken (coming left : Option (List ℕ)) (ready : List ℕ) (c : Checked) : Type 0 where
   pub count : c.count ≡ length (messages_of c.header ready)
   pub few : c.count ≤ c.header.packet_length
@@ -41,6 +42,7 @@ pub record IsTaken (coming left : Option (List ℕ)) (ready : List ℕ) (c : Che
   pub room : body_start c.header + c.header.data_length ≤ c.header.packet_length
   pub packet : (bytes : List ℕ) → coming ≡ Some bytes → packet_at bytes ≡ Ok c.header
   pub messages : (bytes : List ℕ) → coming ≡ Some bytes → messages_of c.header ready ≡ messages_of c.header bytes
+  pub kept : (bytes : List ℕ) → coming ≡ Some bytes → take (held c.header) ready ≡ take (held c.header) bytes
   pub behind : (bytes : List ℕ) → coming ≡ Some bytes
       → prepend_known (drop (held c.header) ready) left ≡ Some (drop c.header.packet_length bytes)
 

@@ -63,7 +63,8 @@ struct Gave {
     more: bool,
 }
 
-/// What a read came to. One that was interrupted gave nothing; one that failed otherwise is a device's fault.
+/// What a read came to. One that was interrupted gave nothing; one that failed otherwise is a device's fault, unless the
+/// reader itself wanted memory.
 fn judge(read: io::Result<usize>) -> Result<Gave, StreamFault>
     ensures count { IfOk result (λ gave. gave.count ≡ count_of read) }
     ensures ended { IfOk result (λ gave. gave.more ≡ false → read ≡ Ok 0) }
@@ -78,6 +79,7 @@ fn judge(read: io::Result<usize>) -> Result<Gave, StreamFault>
             count: 0,
             more: true,
         }),
+        Err(e) if e.kind() == ErrorKind::OutOfMemory => Err(StreamFault::Memory),
         Err(_) => Err(StreamFault::Device),
     }
 }

@@ -12,7 +12,7 @@ pub enum StreamFault {
     /// K1 to K5, N2 and F1 to F3, with the packet's offset.
     Refused(Refusal),
 
-    /// Memory for a packet of messages was refused.
+    /// Memory for a packet was refused.
     Memory,
 
     /// The reader failed, or the packet ends behind byte 2^64 - 2.

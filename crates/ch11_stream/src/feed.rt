@@ -1,5 +1,5 @@
 //! Bytes of a reader, as many as are asked for.
-ghost use Rattle.std.specs.Prelude.{length, IfOk, IfErr};
+ghost use Rattle.std.specs.Prelude.{◌≤◌, length, IfOk, OnOk, IfErr};
 ghost use Rattle.ch11_stream.specs.Feeding.{IsFilled, IsOther, IsPassed};
 
 use crate::buffer::Buffer;
@@ -15,6 +15,7 @@ pub(crate) fn fill<R: Read>(
 ) -> Result<bool, StreamFault>
     ensures filled { IfOk result (IsFilled size (R.remaining input.old) (R.remaining input.new)
         buffer.old.ready buffer.new.ready) }
+    ensures more { OnOk result (length buffer.old.ready ≤ length buffer.new.ready) }
     ensures failed { IfErr result IsOther }
 {
     'reads: for _made in 0..u64::MAX {

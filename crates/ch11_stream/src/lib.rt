@@ -9,9 +9,16 @@ mod feed;
 mod found;
 mod laws;
 mod listed;
+mod looking;
 mod packets;
+mod sound;
+mod stretch;
+mod stretches;
 mod taking;
 
 pub use fault::StreamFault;
-pub use laws::steps_read_the_file;
+pub use laws::{steps_read_the_file, stretches_read_the_file};
 pub use packets::Packets;
+pub use sound::SoundPackets;
+pub use stretch::Stretch;
+pub use stretches::Stretches;

@@ -6,19 +6,18 @@ ghost use Rattle.ch11_stream.specs.Reading.{Answers, at_start};
 use crate::buffer::Buffer;
 use crate::fault::StreamFault;
 use crate::listed::Listed;
-use crate::taking::take_next;
+use crate::taking::{is_kept_by, take_next};
 use ch11_f1::Messages;
 use ch11_header::Header;
-use ch11_header::kinds::BUS_MESSAGES;
 use ch11_reader::{Packet, messages_of_packet};
 use std::alloc::{AllocError, Global};
 use std::io::Read;
 use std::marker::Model;
 
 /// The packets of a recording that a reader gives, one after the other, in the file's order. Of a packet of
-/// MIL-STD-1553 messages its bytes are kept until the next one is read; packets of other data types are passed. The
-/// reader is asked for at most as many bytes as there is room for: 262,144 at first, and up to twice the largest packet
-/// of messages.
+/// MIL-STD-1553 messages and of a time packet its bytes are kept until the next one is read; packets of other data
+/// types are passed. The reader is asked for at most as many bytes as there is room for: 262,144 at first, and up to
+/// twice the largest packet of these two types.
 #[derive(Drop)]
 pub struct Packets<R: Read> {
     input: R,
@@ -30,7 +29,7 @@ pub struct Packets<R: Read> {
 }
 
 impl<R: Read> Model for Packets<R> {
-    ghost use Rattle.std.specs.Prelude.{drop};
+    ghost use Rattle.std.specs.Prelude.{take, drop};
     ghost use Rattle.std.specs.Io.KnownBytes.{prepend_known};
     ghost use Rattle.ch11_stream.specs.Holding.{IsHolding, given_of, held_of};
     ghost use Rattle.ch11_stream.specs.Reading.{Reading};
@@ -40,6 +39,7 @@ impl<R: Read> Model for Packets<R> {
     ghost view = { λ p. record {
       earlier = p.listed;
       given = given_of p.last p.buffer.ready;
+      kept = take (held_of p.last) p.buffer.ready;
       offset = p.offset;
       left = prepend_known (drop (held_of p.last) p.buffer.ready) (R.remaining p.input);
       fault = p.fault;
@@ -58,11 +58,11 @@ fn held_by(last: &Option<Header>) -> usize
     }
 }
 
-/// The header of a packet whose bytes are ready, as those of one of messages are.
+/// The header of a packet whose bytes are ready, as those of one of messages and of a time packet are.
 fn kept_of(header: Header) -> Option<Header>
     ensures { result ≡ last_of header }
 {
-    if header.kind == BUS_MESSAGES {
+    if is_kept_by(&header) {
         Some(header)
     } else {
         None
@@ -88,8 +88,8 @@ impl<R: Read> Packets<R> {
     }
 
     /// The next packet, as an index lists it. None at the reader's end. The first fault, K1 to K5, N2, F1 to F3, with
-    /// the packet's offset, is the answer from then on, and so is want of memory for a packet of messages, and a
-    /// failure of the reader. A read that was interrupted is made again.
+    /// the packet's offset, is the answer from then on, and so is want of memory for a packet whose bytes are
+    /// kept, and a failure of the reader. A read that was interrupted is made again.
     pub fn next(&mut self) -> Result<Option<Packet>, StreamFault>
         ensures { Answers result self.old self.new }
     {
@@ -122,5 +122,13 @@ impl<R: Read> Packets<R> {
             Some(header) => messages_of_packet(self.buffer.ready(), header),
             None => Messages::none(),
         }
+    }
+
+    /// The bytes of the packet that was read last, where it is of messages or a time packet; none where it is of
+    /// another data type, before the first packet, and behind the last one or a fault.
+    pub fn bytes(&self) -> &[u8]
+        ensures { result.now ≡ self.now.kept }
+    {
+        &self.buffer.ready()[..held_by(&self.last)]
     }
 }

@@ -1,13 +1,13 @@
 //! The packet that begins the bytes to come.
 ghost use Rattle.std.specs.Prelude.{◌≡◌, ◌≤◌, length, drop, false, true};
 ghost use Rattle.std.specs.Io.KnownBytes.{prepend_known};
-ghost use Rattle.ch11_reader.specs.Recording.{holds_messages};
+ghost use Rattle.ch11_stream.specs.Holding.{is_kept};
 ghost use Rattle.ch11_stream.specs.Taking.{Heads, IsNextHeader, Nexts, Takes};
 
 use crate::buffer::Buffer;
 use crate::fault::StreamFault;
 use crate::feed::{fill, pass};
-use ch11_header::kinds::BUS_MESSAGES;
+use ch11_header::kinds::{BUS_MESSAGES, TIME_DATA};
 use ch11_header::{HEADER_SIZE, Header, read_header};
 use ch11_reader::{Checked, Fault, Refusal, check_packet};
 use std::io::Read;
@@ -39,14 +39,21 @@ pub(crate) fn next_header<R: Read>(
     }
 }
 
-/// Passes the packet with this header, which is of another data type than messages.
+/// Whether the bytes of a packet are kept until the next one is read: those of one of messages, and of a time packet.
+pub(crate) fn is_kept_by(header: &Header) -> bool
+    ensures { result ≡ is_kept header.now }
+{
+    header.kind == BUS_MESSAGES || header.kind == TIME_DATA
+}
+
+/// Passes the packet with this header, which is neither of messages nor a time packet.
 fn take_other<R: Read>(
     buffer: &mut Buffer,
     input: &mut R,
     offset: usize,
     header: Header,
 ) -> Result<Checked, StreamFault>
-    requires kind { holds_messages header ≡ false }
+    requires kind { is_kept header ≡ false }
     requires next { IsNextHeader (prepend_known buffer.old.ready (R.remaining input.old)) header }
     ensures { Takes result offset (prepend_known buffer.old.ready (R.remaining input.old))
         (R.remaining input.new) buffer.new.ready }
@@ -57,14 +64,14 @@ fn take_other<R: Read>(
     Ok(Checked { header, count: 0 })
 }
 
-/// Makes the packet with this header ready, which is of messages.
-fn take_messages<R: Read>(
+/// Makes the packet with this header ready, which is of messages or a time packet.
+fn take_kept<R: Read>(
     buffer: &mut Buffer,
     input: &mut R,
     offset: usize,
     header: Header,
 ) -> Result<Checked, StreamFault>
-    requires kind { holds_messages header ≡ true }
+    requires kind { is_kept header ≡ true }
     requires next { IsNextHeader (prepend_known buffer.old.ready (R.remaining input.old)) header }
     ensures { Takes result offset (prepend_known buffer.old.ready (R.remaining input.old))
         (R.remaining input.new) buffer.new.ready }
@@ -89,8 +96,8 @@ pub(crate) fn take_packet<R: Read>(
     ensures { Takes result offset (prepend_known buffer.old.ready (R.remaining input.old))
         (R.remaining input.new) buffer.new.ready }
 {
-    if header.kind == BUS_MESSAGES {
-        take_messages(buffer, input, offset, header)
+    if is_kept_by(&header) {
+        take_kept(buffer, input, offset, header)
     } else {
         take_other(buffer, input, offset, header)
     }

@@ -1,10 +1,12 @@
 //! Tests of `ch11_stream`, against the reading of all bytes by `ch11_reader`; and of what is made of packets as they
-//! come: `ch11_check`, `bench_passes`, and what `bench_decode`, `bench_export`, `bench_stat` and `bench_judge` say of a
-//! reader.
+//! come: `ch11_check`, `bench_passes`, and what `bench_clock`, `bench_decode`, `bench_export`, `bench_stat`, `bench_judge`
+//! and `bench_draw` say of a reader.
 #![tactic(auto)]
 
 #[cfg(test)]
 mod decoded;
+#[cfg(test)]
+mod drawn;
 #[cfg(test)]
 mod equal;
 #[cfg(test)]
@@ -14,8 +16,12 @@ mod followed;
 #[cfg(test)]
 mod rereading;
 #[cfg(test)]
+mod skipped;
+#[cfg(test)]
 mod streamed;
 #[cfg(test)]
 mod streams;
+#[cfg(test)]
+mod timed;
 #[cfg(test)]
 mod waves;

@@ -3,7 +3,11 @@
 use crate::equal::{are_bytes, same};
 use crate::streamed::{damaged, pair, refusal};
 use crate::streams::{Slow, reader_of};
-use bench_judge::{PassFault, Reopen, Verdict, write_misses_from, write_verdicts_from};
+use bench_judge::{
+    Miss, PassFault, Verdict, first_misses_from, judge_from, junit_text_from, write_colored_from,
+    write_misses_from, write_verdicts_from,
+};
+use bench_watch::Reopen;
 use ch11_stream::StreamFault;
 use judge_rules::{Rule, read_rules};
 use std::alloc::Global;
@@ -24,14 +28,31 @@ rule 3 selected 2 missed 1
 rules 3 missed 2
 ";
 
+/// Rules of a recording whose first message, which had an error, is on another channel; and what they come to.
+const APART_RULES: &[u8] = b"expect any fail\nexpect any count 1 1\n";
+
+/// What a terminal shows of them.
+const APART_COLORS: &str = "\x1b[31mmissed \x1b[0mexpect any fail  (2 selected, 1 missed)\n      \
+2     0.0010000       1       1 B    rx 5 1 3                          2800 8.0 us               \
+0001 0002 0003\n\x1b[31mmissed \x1b[0mexpect any count 1 1  (2 selected, another count)\n\
+\x1b[31m2 rules, 2 not held\x1b[0m\n";
+
+/// The report on them.
+const APART_REPORT: &str =
+    "<?xml version=\"1.0\" encoding=\"UTF-8\"?>\n<testsuite name=\"bench judge\" tests=\"2\" failures=\"2\">\n  \
+<testcase classname=\"line 1\" name=\"expect any fail\">\n    \
+<failure message=\"selected 2 missed 1\">\nmessage 2 channel 1 stamp 10000</failure>\n  </testcase>\n  \
+<testcase classname=\"line 2\" name=\"expect any count 1 1\">\n    \
+<failure message=\"count 2\"></failure>\n  </testcase>\n</testsuite>\n";
+
 /// A recording that may be another from its second pass on, and that can be opened so many times. Its readers give one
 /// byte at a time.
 #[derive(Drop)]
-struct Changing<'a> {
-    first: &'a [u8],
-    later: &'a [u8],
-    most: usize,
-    opened: Cell<usize>,
+pub(crate) struct Changing<'a> {
+    pub(crate) first: &'a [u8],
+    pub(crate) later: &'a [u8],
+    pub(crate) most: usize,
+    pub(crate) opened: Cell<usize>,
 }
 
 impl<'a> Reopen for Changing<'a> {
@@ -152,6 +173,118 @@ fn misses_of_a_rule_come_from_packets(rt: HostRuntime) {
     same(
         &rt,
         &stream_fault(found),
+        &Some(StreamFault::Refused(refusal())),
+    );
+}
+
+/// The pair, with its first message on channel 2; its header's checksum is one more then.
+pub(crate) fn apart() -> [u8; 192] {
+    let mut file = pair();
+    file[34] = 2;
+    file[54] = 0x09;
+    file
+}
+
+/// The rules of that file, and the verdicts on it.
+fn apart_verdicts(rt: &impl Abort, alloc: Global) -> (Vec<Rule>, Vec<Verdict>) {
+    let rules = read_rules(alloc, APART_RULES).ok().expect(rt, "rules");
+    let file = apart();
+    let verdicts = judge_from(alloc, reader_of(&file, 7), rules.as_slice())
+        .ok()
+        .expect(rt, "verdicts");
+    (rules, verdicts)
+}
+
+#[test]
+fn the_first_misses_come_from_packets(rt: HostRuntime) {
+    let alloc = rt.alloc();
+    let (rules, _) = apart_verdicts(&rt, alloc);
+    let rule = rules.as_slice().first().expect(&rt, "a rule");
+    let miss = Miss {
+        number: 2,
+        channel: 1,
+        stamp: 10_000,
+    };
+    for most in [0, 1, 100] {
+        let found = first_misses_from(alloc, reader_of(&apart(), 7), rule, most);
+        let misses = found.ok().expect(&rt, "misses");
+        same(&rt, &misses.len(), &most.min(1));
+        same(
+            &rt,
+            &misses.as_slice().first().copied(),
+            &(if most == 0 { None } else { Some(miss) }),
+        );
+    }
+    let found = first_misses_from(alloc, reader_of(&damaged(), 7), rule, 1);
+    same(&rt, &found.err(), &Some(StreamFault::Refused(refusal())));
+}
+
+#[test]
+fn a_terminal_shows_misses_of_packets(rt: HostRuntime) {
+    let alloc = rt.alloc();
+    let file = apart();
+    let (rules, verdicts) = apart_verdicts(&rt, alloc);
+    let recording = Changing {
+        first: &file,
+        later: &file,
+        most: 1,
+        opened: Cell::new(0),
+    };
+    let mut shown = Vec::new(alloc);
+    let found = write_colored_from(
+        alloc,
+        &recording,
+        APART_RULES,
+        rules.as_slice(),
+        verdicts.as_slice(),
+        &mut shown,
+    );
+    same(&rt, &found.is_ok(), &true);
+    are_bytes(&rt, &shown, APART_COLORS.as_bytes());
+    let found = write_colored_from(
+        alloc,
+        &recording,
+        APART_RULES,
+        rules.as_slice(),
+        verdicts.as_slice(),
+        &mut shown,
+    );
+    same(&rt, &matches!(&found, Err(PassFault::Opening(_))), &true);
+}
+
+#[test]
+fn a_report_tells_misses_of_packets(rt: HostRuntime) {
+    let alloc = rt.alloc();
+    let (file, broken) = (apart(), damaged());
+    let (rules, verdicts) = apart_verdicts(&rt, alloc);
+    let recording = Changing {
+        first: &file,
+        later: &broken,
+        most: 2,
+        opened: Cell::new(0),
+    };
+    let report = junit_text_from(
+        alloc,
+        &recording,
+        APART_RULES,
+        rules.as_slice(),
+        verdicts.as_slice(),
+    );
+    are_bytes(
+        &rt,
+        &report.ok().expect(&rt, "a report"),
+        APART_REPORT.as_bytes(),
+    );
+    let report = junit_text_from(
+        alloc,
+        &recording,
+        APART_RULES,
+        rules.as_slice(),
+        verdicts.as_slice(),
+    );
+    same(
+        &rt,
+        &stream_fault(report),
         &Some(StreamFault::Refused(refusal())),
     );
 }

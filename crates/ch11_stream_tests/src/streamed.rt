@@ -62,7 +62,7 @@ pub(crate) fn failing(file: &[u8], end: usize) -> Slow<'_> {
 
 /// Two messages of five words, with 8.0 µs in front of each response: 106.0 µs each. The second repeats the first,
 /// which had an error of no named kind, on the other line.
-fn pair_figures() -> ChannelFigures {
+pub(crate) fn pair_figures() -> ChannelFigures {
     let mut terminals = [TerminalFigures::none(); 32];
     terminals[5] = TerminalFigures {
         receive: 2,

@@ -212,3 +212,10 @@ fn those_of_a_number_act(rt: HostRuntime) {
     acts(&rt, rt.alloc(), &Schedule::of(given(&rt, rt.alloc())));
     acts(&rt, rt.alloc(), &Schedule::of(sorted(&rt, rt.alloc())));
 }
+
+#[test]
+fn those_of_a_number_act_in_a_copy(rt: HostRuntime) {
+    let schedule = Schedule::of(given(&rt, rt.alloc()));
+    let copy = schedule.copy().expect(&rt, "memory");
+    acts(&rt, rt.alloc(), &copy);
+}

@@ -7,7 +7,7 @@ use crate::looks::made::recorded;
 use bench_clock::Clock;
 use bench_export::{Columns, Table};
 use bench_select::Selection;
-use bench_stat::{Shown, print_page, print_tables, stat};
+use bench_stat::{Indexed, Shown, print_page, print_tables, stat};
 use ch11_reader::Index;
 use std::alloc::Global;
 use std::process::Abort;
@@ -194,10 +194,14 @@ fn is_told(rt: &impl Abort, alloc: Global, file: &[u8], shown: &Shown, rows: boo
     let all = Selection::all();
     let figures = stat(alloc, &index, &all).ok().expect(rt, "figures");
     let mut out = Vec::new(alloc);
+    let told = Indexed {
+        index: &index,
+        selection: &all,
+    };
     let printed = if rows {
-        print_tables(alloc, &mut out, &index, &all, &figures, shown, &clock)
+        print_tables(alloc, &mut out, &told, &figures, shown, &clock)
     } else {
-        print_page(alloc, &mut out, &index, &all, &figures, shown, &clock)
+        print_page(alloc, &mut out, &told, &figures, shown, &clock)
     };
     assert!(rt; printed.is_ok());
     reads(rt, &out, wanted);

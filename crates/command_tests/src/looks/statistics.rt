@@ -3,7 +3,7 @@ use crate::looks::equal::reads;
 use crate::looks::made::{FOREIGN, FORMS, RETRY, TRANSFER, recorded};
 use bench_clock::Clock;
 use bench_select::Selection;
-use bench_stat::{Shown, print_page, print_tables, stat};
+use bench_stat::{Indexed, Shown, print_page, print_tables, stat};
 use ch11_reader::Index;
 use std::alloc::Global;
 use std::process::Abort;
@@ -353,10 +353,14 @@ fn told(rt: &impl Abort, alloc: Global, bytes: &[u8], row: &Row, rows: bool, out
     let figures = stat(alloc, &index, &selection).ok().expect(rt, "figures");
     let clock = Clock::of(alloc, bytes, &[]).ok().expect(rt, "memory");
     let shown = &row.shown;
+    let told = Indexed {
+        index: &index,
+        selection: &selection,
+    };
     let printed = if rows {
-        print_tables(alloc, out, &index, &selection, &figures, shown, &clock)
+        print_tables(alloc, out, &told, &figures, shown, &clock)
     } else {
-        print_page(alloc, out, &index, &selection, &figures, shown, &clock)
+        print_page(alloc, out, &told, &figures, shown, &clock)
     };
     assert!(rt; printed.is_ok());
 }

@@ -18,8 +18,8 @@ invariant_of-self c =
     let items = c.push_reserved.ensures.items in
     record {
       rows = subst (All (IsRow (length new.items))) (sym items) (added_rows old.items new.items c.self.inside.rows.items c.of.result c.of.ensures.more is.rows c.of.ensures.row);
-      rising = λ above. subst AreRising (sym items) (subst (λ (rs : List Row). AreRising (rs ++ c.of.result ∷ [])) c.as_slice.ensures.value
-          (c.follows-self-inside.ensures c.of.result (ap (λ (p : Placed). p.number) c.of.ensures.placed) above));
+      found = c.reset.ensures (length new.items) c.push_reserved.new.self.items (λ above. subst AreRising (sym items) (subst (λ (rs : List Row). AreRising (rs ++ c.of.result ∷ [])) c.as_slice.ensures.value
+          (c.follows-rising.ensures c.of.result (ap (λ (p : Placed). p.number) c.of.ensures.placed) above)));
       within = omega (arith, c.push_reserved.ensures.len, c.if-len-self.false, c.len.ensures);
       room = omega (arith, c.push_reserved.ensures.capacity, is.room);
       words = omega (arith, c.push_reserved.ensures.len, c.of.ensures.capacity, was, now, more, is.words);
@@ -33,3 +33,8 @@ returns-clause-added c =
     ap (all_placed new) c.push_reserved.ensures.items
     ∙ added_placed old new c.self.inside.rows.items c.of.result c.of.ensures.more c.self.invariant.rows c.of.ensures.row c.args.one c.of.ensures.placed
     ∙ ap (λ (s : ScheduleState). s.actions ++ c.args.one ∷ []) c.self.view_is
+
+pub follows-rising-requires : goal.follows-rising-requires
+follows-rising-requires c = λ above.
+    subst AreRising (sym c.as_slice.ensures.value)
+    (c.is_rising.ensures (length c.self.inside.words.items) c.self.inside.rows.items c.self.invariant.found above)

@@ -22,7 +22,7 @@ invariant_of-self c =
     let more = at_most_one old.items new.items c.of-row.ensures.more in
     record {
       rows = subst (All (IsRow (length new.items))) (sym c.insert_row.ensures.rows) (put_rows old.items new.items rows.items c.of-row.result c.of-row.ensures.more is.rows c.of-row.ensures.row c.behind-place.result);
-      rising = λ above. absurd (search rules);
+      found = c.reset.ensures (length new.items) c.insert_row.new.rows.items (λ above. absurd (search rules));
       within = omega (arith, c.insert_row.ensures.len, room, all, long);
       room = omega (arith, c.insert_row.ensures.capacity, is.room);
       words = omega (arith, c.insert_row.ensures.len, c.of-row.ensures.capacity, was, now, more, is.words);

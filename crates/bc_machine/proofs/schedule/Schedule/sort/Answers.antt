@@ -10,12 +10,12 @@ use Rattle.bc_machine.specs.Schedules.{ScheduleState}
 use Rattle.bc_machine.proofs.Listed.{rising_placed, sorted_at}
 use Rattle.bc_machine.proofs.schedule.Schedule.sort.Goals as goal
 
-pub invariant_of-self-then-not-self : goal.invariant_of-self-then-not-self
-invariant_of-self-then-not-self c =
+pub invariant_of-self-then-not-is_rising : goal.invariant_of-self-then-not-is_rising
+invariant_of-self-then-not-is_rising c =
     let is = c.self.invariant in
     record {
       rows = All-permutation (IsRow (length c.self.inside.words.items)) c.self.inside.rows.items c.sort_by_key.new.self.items c.sort_by_key.ensures.permutation is.rows;
-      rising = λ _. IsNonDecreasingBy-from_sort_by_key (λ (r : Row). r.number) _ c.in_ok-sort_by_key.ensures.sorted (λ a r q k. search rules);
+      found = c.reset.ensures (length c.self.inside.words.items) c.sort_by_key.new.self.items (λ above. IsNonDecreasingBy-from_sort_by_key (λ (r : Row). r.number) _ c.in_ok-sort_by_key.ensures.sorted (λ a r q k. search rules));
       within = omega (arith, c.sort_by_key.ensures.len, is.within);
       room = omega (arith, c.sort_by_key.ensures.capacity, is.room);
       words = omega (arith, c.sort_by_key.ensures.len, is.words);
@@ -39,7 +39,7 @@ returns-in_ok-sort_by_key-clause-stable c = λ n.
     (c.in_ok-sort_by_key.ensures.stable (λ (r : Row). r.number) (answers_always _ _ _ (λ f a r q k. search rules))) n
     ∙ ap (λ (s : ScheduleState). placed_at n s.actions) c.self.view_is
 
-pub returns-else-not-self-clause-rising : goal.returns-else-not-self-clause-rising
-returns-else-not-self-clause-rising c =
+pub returns-else-not-is_rising-clause-rising : goal.returns-else-not-is_rising-clause-rising
+returns-else-not-is_rising-clause-rising c =
     subst (λ (s : ScheduleState). IsRising s.actions) c.self.view_is
-    (rising_placed c.self.inside.words.items c.self.inside.rows.items (c.self.invariant.rising (search rules)))
+    (rising_placed c.self.inside.words.items c.self.inside.rows.items (c.is_rising.ensures (length c.self.inside.words.items) c.self.inside.rows.items c.self.invariant.found (search rules)))

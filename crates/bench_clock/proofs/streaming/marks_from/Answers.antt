@@ -1,0 +1,40 @@
+use Rattle.std.proofs.Common.{ap, ◌∙◌}
+use Rattle.ch11_stream.proofs.Folding.{not_found}
+use Rattle.ch11_stream.proofs.Readings.{amid_on, amid_start}
+use Rattle.bench_clock.specs.Clock.{told_in}
+use Rattle.bench_clock.proofs.Streamed.{all_told, nothing_told, one_told, some_small, told_same, up_to_next, up_to_none, up_to_rises}
+use Rattle.bench_clock.proofs.streaming.marks_from.Goals as goal
+
+pub packets-init : goal.packets-init
+packets-init g c = record {
+  rises = rw c.new-marks.ensures.items up_to_none;
+  known = λ file is. rw (c.in_ok-packets.ensures, is) (amid_start file);
+  told = λ file is. rw (c.in_ok-packets.ensures, c.new-marks.ensures.items) (nothing_told file);
+}
+
+pub packets-preserved : goal.packets-preserved
+packets-preserved g c =
+    let s = rw c.in-Ok-Some.field-0-is at c.in-Ok-Some.ensures in
+    let before = c.packets.packets in
+    let now = c.next.new.self in
+    let p = c.in-Ok-Some.packet in
+    let counter = p.header.counter in
+    record {
+      rises = rw (c.in_ok-last-in-Ok-Some.ensures.marks, c.in_ok-last-in-Ok-Some.ensures.last)
+          (up_to_next c.packets.marks.items c.packets.last counter c.told_in-told.result (some_small c.told_in-told.result c.told_in-told.ensures.small) c.packets.invariant.rises);
+      known = λ file is. amid_on file before now p s (c.packets.invariant.known file is);
+      told = λ file is.
+          let same = c.told_in-told.ensures.second ∙ ap (told_in p.header) c.bytes.ensures ∙ told_same file before now p s (c.packets.invariant.known file is) in
+          rw (c.in_ok-last-in-Ok-Some.ensures.marks, c.in_ok-last-in-Ok-Some.ensures.last) (one_told file c.packets.marks.items c.packets.last c.told_in-told.result before now p s same (c.packets.invariant.told file is));
+    }
+
+pub returns-in-Ok-None-clause-rising : goal.returns-in-Ok-None-clause-rising
+returns-in-Ok-None-clause-rising g c = up_to_rises c.packets.marks.items c.packets.last c.packets.invariant.rises
+
+pub returns-in-Ok-None-clause-found : goal.returns-in-Ok-None-clause-found
+returns-in-Ok-None-clause-found g c file is =
+    let e = rw c.in-Ok-None.field-0-is at c.in-Ok-None.ensures in
+    all_told file c.packets.marks.items c.packets.last c.packets.packets c.next.new.self e (c.packets.invariant.known file is) (c.packets.invariant.told file is)
+
+pub returns-in-Err-clause-found : goal.returns-in-Err-clause-found
+returns-in-Err-clause-found g c file is = not_found file c.packets.packets c.next.new.self c.in-Err.fault c.in-Err.ensures (c.packets.invariant.known file is)

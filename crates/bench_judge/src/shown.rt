@@ -1,0 +1,122 @@
+//! Messages that miss a rule, as people read them.
+
+use crate::pass_fault::PassFault;
+use crate::tallies::Tally;
+use crate::verdicts::Miss;
+use bench_decode::{Line, Numbers, Place, write_message};
+use bench_places::number_in_channel;
+use ch11_f1::{Messages, Seen};
+use ch11_reader::Index;
+use ch11_stream::Packets;
+use judge_rules::Rule;
+use std::alloc::Global;
+use std::io;
+use std::io::{Read, Write};
+
+/// Writes messages that miss a rule, each on a line as `bench dump --decode` shows it.
+pub(crate) fn write_shown<W: Write>(
+    line: &mut Line,
+    index: &Index<'_>,
+    misses: &[Miss],
+    out: &mut W,
+) -> io::Result<()> {
+    for miss in misses {
+        if let Some((_, seen)) = index.message(miss.number) {
+            let place = Place {
+                number: miss.number,
+                channel: miss.channel,
+                in_channel: number_in_channel(index, miss.channel, miss.number),
+            };
+            write_message(line, out, &place, &seen)?;
+        }
+    }
+    line.finish(out)
+}
+
+/// A pass that writes the first messages that miss a rule, so many of which are still to come at most.
+#[derive(Drop)]
+struct Showing {
+    tally: Tally,
+    numbers: Numbers,
+    left: usize,
+}
+
+/// Writes a message if it is one of those.
+fn show_message<W: Write>(
+    showing: &mut Showing,
+    line: &mut Line,
+    rule: &Rule,
+    place: &Place,
+    seen: &Seen<'_>,
+    out: &mut W,
+) -> Result<(), PassFault> {
+    let mut known = None;
+    let missed = showing.tally.note(rule, place.channel, seen, &mut known)?;
+    if missed && showing.left > 0 {
+        showing.left -= 1;
+        write_message(line, out, place, seen)?;
+    }
+    Ok(())
+}
+
+/// Writes those of a packet's messages, behind so many messages of the file.
+fn show_messages<W: Write>(
+    showing: &mut Showing,
+    line: &mut Line,
+    rule: &Rule,
+    before: u64,
+    channel: u16,
+    messages: Messages<'_>,
+    out: &mut W,
+) -> Result<(), PassFault> {
+    let mut number = before;
+    let mut rest = messages;
+    'messages: while let Some(seen) = rest.next() {
+        number = number.saturating_add(1);
+        let place = Place {
+            number,
+            channel,
+            in_channel: showing.numbers.next(channel),
+        };
+        show_message(showing, line, rule, &place, &seen, out)?;
+    }
+    Ok(())
+}
+
+/// Writes the first messages that miss a rule, at most as many as that, of the bytes that a reader has left, as their
+/// packets come, and reads no further than these.
+pub(crate) fn write_shown_from<R: Read + Drop, W: Write>(
+    line: &mut Line,
+    alloc: Global,
+    input: R,
+    rule: &Rule,
+    most: usize,
+    out: &mut W,
+) -> Result<(), PassFault> {
+    let mut packets = Packets::over(alloc, input)?;
+    let mut showing = Showing {
+        tally: Tally::new(alloc),
+        numbers: Numbers::new(alloc)?,
+        left: most,
+    };
+    'packets: for _made in 0..u64::MAX {
+        match packets.next() {
+            Ok(Some(packet)) => show_messages(
+                &mut showing,
+                line,
+                rule,
+                packet.before,
+                packet.header.channel,
+                packets.messages(),
+                out,
+            )?,
+            Ok(None) => break,
+            Err(fault) => return Err(PassFault::Recording(fault)),
+        }
+        if showing.left == 0 {
+            break;
+        }
+    }
+    line.finish(out)?;
+    Ok(())
+}

@@ -1,0 +1,19 @@
+use Rattle.std.proofs.Common.{refl}
+use Rattle.ch11_reader.specs.Indexed.{found_in}
+use Rattle.ch11_reader.specs.Listing.{listing}
+use Rattle.bench_clock.specs.Clock.{marks_in}
+use Rattle.bench_passes.proofs.Passes.{first_fault, not_both, other_timed, same_clock}
+use Rattle.bench_passes.proofs.dumping_with_times.dump_with_times_in_two_passes.Goals as goal
+
+pub returns-in-Ok-clause-refused : goal.returns-in-Ok-clause-refused
+returns-in-Ok-clause-refused g c file r is refused = absurd (not_both file _ r (c.in-Ok.ensures file is).0 refused)
+
+pub returns-in-Ok-clause-dumped : goal.returns-in-Ok-clause-dumped
+returns-in-Ok-clause-dumped g c file other is then read =
+    same_clock _ (marks_in file (listing (found_in file))) c.dump_with_times_from.result other _ _ (c.in-Ok.ensures file is).1 (c.dump_with_times_from.ensures other then)
+
+pub returns-in-Err-clause-refused : goal.returns-in-Err-clause-refused
+returns-in-Err-clause-refused g c file r is refused = rw c.from.ensures (refl, first_fault file r c.in-Err.fault (c.in-Err.ensures file is) refused)
+
+pub returns-in-Err-clause-dumped : goal.returns-in-Err-clause-dumped
+returns-in-Err-clause-dumped g c file other is then read = rw c.from.ensures (other_timed (marks_in file (listing (found_in file))) file other _ c.in-Err.fault (c.in-Err.ensures file is) read)

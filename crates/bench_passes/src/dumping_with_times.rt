@@ -1,0 +1,35 @@
+//! A dump with times of day of a recording that is not kept in memory.
+ghost use Rattle.std.specs.Prelude.{◌≡◌, ℕ, List, Some, Ok, Err};
+ghost use Rattle.ch11_reader.specs.declared.error.Refusal.{Refusal};
+ghost use Rattle.ch11_reader.specs.Indexed.{found_in};
+ghost use Rattle.ch11_reader.specs.Listing.{listing};
+ghost use Rattle.ch11_reader.specs.Recording.{packets_in};
+ghost use Rattle.bench_clock.specs.Clock.{marks_in};
+ghost use Rattle.bench_dump.specs.Streaming.{DumpsBy};
+ghost use Rattle.bench_passes.specs.Passes.{IsRefusedBy};
+
+use bench_clock::clock_from;
+use bench_dump::{DumpFault, dump_with_times_from};
+use std::alloc::Global;
+use std::io::{Read, Write};
+
+/// Prints a recording as `dump_in_two_passes` does, and the time of day behind each stamp, as `dump_with_times` prints
+/// the bytes. The first reader's bytes tell the time, in the pass that checks them: 16 bytes are kept for each time
+/// packet that counts.
+pub fn dump_with_times_in_two_passes<R: Read + Drop, S: Read + Drop, W: Write>(
+    alloc: Global,
+    first: R,
+    second: S,
+    out: &mut W,
+) -> Result<(), DumpFault>
+    ensures refused { (file : List ℕ) (r : Refusal) → R.remaining first ≡ Some file → packets_in file ≡ Err r
+        → (out.new ≡ out.old) × IsRefusedBy r result }
+    ensures dumped { (file other : List ℕ) → R.remaining first ≡ Some file → S.remaining second ≡ Some other
+        → packets_in file ≡ Ok (found_in file)
+        → DumpsBy (marks_in file (listing (found_in file))) result other (W.contents out.old) (W.contents out.new) }
+{
+    match clock_from(alloc, first) {
+        Ok(clock) => dump_with_times_from(alloc, second, &clock, out),
+        Err(fault) => Err(DumpFault::from(fault)),
+    }
+}

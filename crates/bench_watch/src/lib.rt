@@ -1,0 +1,9 @@
+//! Recordings that are read more than once: opened anew for each pass, and watched while they are read.
+//! Its tests are in `ch11_stream_tests`.
+#![tactic(auto)]
+
+mod reopen;
+mod watching;
+
+pub use reopen::Reopen;
+pub use watching::{Watch, Watched};

@@ -1,0 +1,168 @@
+//! Recordings that may be damaged as they come from a reader, worked out by hand, and against the reading of all bytes.
+
+use crate::equal::{are_bytes, same};
+use crate::streamed::failing;
+use crate::streams::{FOREIGN, Slow, reader_of};
+use bench_dump::{DumpFault, dump_skipping_from};
+use ch11_header::HeaderError;
+use ch11_reader::{Fault, Index, Packet, Skip};
+use ch11_stream::{StreamFault, Stretch, Stretches};
+use std::alloc::Global;
+use std::process::Abort;
+
+/// The foreign file with bytes in front of it, one between its packets, and some behind it. Behind the last sync
+/// pattern there are too few bytes for a header.
+const AMONG_OTHERS: [u8; 105] = [
+    0xFF, 0x25, 0x00, 0x25, 0xEB, 0x00, 0x00, 0x20, 0x00, 0x00, 0x00, 0x06, 0x00, 0x00, 0x00, 0x06,
+    0x00, 0x00, 0x01, 0x00, 0x00, 0x00, 0x00, 0x00, 0x00, 0x51, 0xEC, 0x00, 0x00, 0x00, 0x00, 0x41,
+    0x42, 0x00, 0x00, 0x25, 0x25, 0xEB, 0x01, 0x00, 0x40, 0x00, 0x00, 0x00, 0x1C, 0x00, 0x00, 0x00,
+    0x06, 0x00, 0x80, 0x19, 0x00, 0x00, 0x00, 0x00, 0x00, 0x00, 0x08, 0x05, 0x00, 0x00, 0x00, 0x00,
+    0x00, 0x00, 0x00, 0x00, 0x00, 0x00, 0x00, 0x00, 0x01, 0x00, 0x00, 0x40, 0x00, 0x00, 0x00, 0x00,
+    0x00, 0x00, 0x00, 0x00, 0x00, 0x00, 0x50, 0x00, 0x0A, 0x00, 0x23, 0x28, 0x01, 0x00, 0x02, 0x00,
+    0x03, 0x00, 0x00, 0x28, 0x25, 0xEB, 0x00, 0x00, 0x00,
+];
+
+/// Its text.
+const AMONG_OTHERS_TEXT: &str = "skipped 0 length 3 K2
+packet 3 channel 0 type 01 skipped
+skipped 35 length 1 K2
+packet 36 channel 1 type 19 seq 0 flags 80 messages 1
+message 1 channel 1 stamp 0 block 0000 gaps 0050 words 2823 0001 0002 0003 2800
+skipped 100 length 5 K1
+";
+
+/// A header of a packet of 64 bytes, and then the first packet of the foreign file, of 32, which is the last.
+fn too_long() -> [u8; 56] {
+    let mut file = [0u8; 56];
+    file[..24].copy_from_slice(&FOREIGN[32..56]);
+    file[24..].copy_from_slice(&FOREIGN[..32]);
+    file
+}
+
+/// The same header in front of the packet that it was taken from: its body would hold more than eight million messages,
+/// of which the second ends behind it.
+fn over_a_packet() -> [u8; 88] {
+    let mut file = [0u8; 88];
+    file[..24].copy_from_slice(&FOREIGN[32..56]);
+    file[24..].copy_from_slice(&FOREIGN[32..]);
+    file
+}
+
+/// A reader's file is printed so.
+fn is_dumped(
+    rt: &impl Abort,
+    alloc: Global,
+    input: Slow<'_>,
+    answer: Result<(), DumpFault>,
+    text: &str,
+) {
+    let mut out = Vec::new(alloc);
+    same(rt, &dump_skipping_from(alloc, input, &mut out), &answer);
+    are_bytes(rt, &out, text.as_bytes());
+}
+
+/// A file is printed so, whether it is given one byte at a time or at once.
+fn is_printed(rt: &impl Abort, alloc: Global, file: &[u8], text: &str) {
+    is_dumped(rt, alloc, reader_of(file, 1), Ok(()), text);
+    is_dumped(rt, alloc, reader_of(file, usize::MAX), Ok(()), text);
+}
+
+#[test]
+fn bytes_around_packets_are_skipped(rt: HostRuntime) {
+    is_printed(&rt, rt.alloc(), &AMONG_OTHERS, AMONG_OTHERS_TEXT);
+}
+
+#[test]
+fn false_headers_are_skipped(rt: HostRuntime) {
+    is_printed(
+        &rt,
+        rt.alloc(),
+        &too_long(),
+        "skipped 0 length 24 N2\npacket 24 channel 0 type 01 skipped\n",
+    );
+    is_printed(
+        &rt,
+        rt.alloc(),
+        &over_a_packet(),
+        "skipped 0 length 24 F3
+packet 24 channel 1 type 19 seq 0 flags 80 messages 1
+message 1 channel 1 stamp 0 block 0000 gaps 0050 words 2823 0001 0002 0003 2800
+",
+    );
+}
+
+#[test]
+fn a_file_without_a_packet_is_skipped(rt: HostRuntime) {
+    let alloc = rt.alloc();
+    is_printed(&rt, alloc, &[], "");
+    is_printed(&rt, alloc, &[0x25], "skipped 0 length 1 K1\n");
+    is_printed(&rt, alloc, &[0; 30], "skipped 0 length 30 K2\n");
+}
+
+/// A reading that gives this next.
+fn gives(
+    rt: &impl Abort,
+    stretches: &mut Stretches<Slow<'_>>,
+    wanted: Result<Option<Stretch>, StreamFault>,
+) {
+    same(rt, &stretches.next(), &wanted);
+}
+
+/// Three bytes were skipped before the reader failed, which stays the answer.
+#[test]
+fn a_failing_reader_is_told(rt: HostRuntime) {
+    let input = failing(&AMONG_OTHERS, 40);
+    let mut stretches = Stretches::over(rt.alloc(), input)
+        .ok()
+        .expect(&rt, "memory");
+    let skip = Skip {
+        offset: 0,
+        length: 3,
+        fault: Fault::Header(HeaderError::Sync),
+    };
+    gives(&rt, &mut stretches, Ok(Some(Stretch::Skipped(skip))));
+    same(&rt, &stretches.messages().left(), &0);
+    same(&rt, &stretches.next().is_ok(), &true);
+    gives(&rt, &mut stretches, Err(StreamFault::Device));
+    gives(&rt, &mut stretches, Err(StreamFault::Device));
+    let failed = Err(DumpFault::Device);
+    is_dumped(&rt, rt.alloc(), failing(&AMONG_OTHERS, 40), failed, "");
+}
+
+/// The stretches of a reader are these packets and skips, and no others.
+fn are_given(
+    rt: &impl Abort,
+    stretches: &mut Stretches<Slow<'_>>,
+    packets: &[Packet],
+    skips: &[Skip],
+) {
+    let (mut packets, mut skips) = (packets.iter(), skips.iter());
+    for _made in 0..packets.len() + skips.len() {
+        match stretches.next() {
+            Ok(Some(Stretch::Sound(packet))) => {
+                same(rt, &Some(packet), &packets.next().copied());
+            }
+            Ok(Some(Stretch::Skipped(skip))) => {
+                same(rt, &Some(skip), &skips.next().copied());
+            }
+            _ => same(rt, &"a stretch", &"none"),
+        }
+    }
+    same(rt, &stretches.next(), &Ok(None));
+}
+
+/// The foreign file with one byte changed to any other is read as all its bytes are.
+#[test]
+fn reads_each_change_alike(rt: HostRuntime) {
+    for place in 0..FOREIGN.len() {
+        for change in 1..=255u8 {
+            let mut file = FOREIGN;
+            file[place] ^= change;
+            let found = Index::build_skipping(rt.alloc(), &file).ok();
+            let found = found.expect(&rt, "memory");
+            let over = Stretches::over(rt.alloc(), reader_of(&file, 5)).ok();
+            let mut stretches = over.expect(&rt, "memory");
+            are_given(&rt, &mut stretches, found.index.packets(), found.skipped());
+        }
+    }
+}

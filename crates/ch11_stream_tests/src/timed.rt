@@ -1,0 +1,215 @@
+//! Times of day of a recording whose packets come from a reader, worked out by hand.
+ghost use Rattle.std.specs.Prelude.{◌≡◌, ◌+◌, ◌<◌, ◌≤◌, ◌^◌, length};
+
+use crate::equal::{are_bytes, same};
+use crate::streamed::{failing, pair};
+use crate::streams::{FOREIGN, Slow, reader_of};
+use bench_clock::{Clock, clock_from};
+use bench_dump::DumpFault;
+use bench_passes::dump_with_times_in_two_passes;
+use ch11_header::{Header, HeaderError, write_header};
+use ch11_reader::{Fault, Refusal};
+use ch11_stream::{Packets, StreamFault};
+use std::alloc::Global;
+use std::process::Abort;
+
+/// The text of `timed`.
+const TIMED_TEXT: &str = "packet 0 channel 1 type 19 seq 0 flags 80 messages 1
+message 1 channel 1 stamp 0 block 0000 gaps 0050 words 2823 0001 0002 0003 2800
+packet 64 channel 0 type 11 skipped
+packet 100 channel 1 type 19 seq 0 flags 80 messages 1
+message 2 channel 1 stamp 1000 time 2024-12-31T23:59:58.0000000 block 0000 gaps 0050 words 2823 0001 0002 0003 2800
+packet 164 channel 0 type 11 skipped
+packet 200 channel 1 type 19 seq 0 flags 80 messages 1
+message 3 channel 1 stamp 20000999 time 2024-12-31T23:59:59.9999999 block 0000 gaps 0050 words 2823 0001 0002 0003 2800
+packet 264 channel 0 type 11 skipped
+packet 300 channel 1 type 19 seq 0 flags 80 messages 1
+message 4 channel 1 stamp 20001001 time 2025-01-01T00:00:05.0000001 block 0000 gaps 0050 words 2823 0001 0002 0003 2800
+";
+
+/// The text of `pair`, which has no time packet.
+const PAIR_TEXT: &str = "packet 0 channel 0 type 01 skipped
+packet 32 channel 1 type 19 seq 0 flags 80 messages 1
+message 1 channel 1 stamp 0 block 1000 gaps 0050 words 2823 0001 0002 0003 2800
+packet 96 channel 0 type 01 skipped
+packet 128 channel 1 type 19 seq 0 flags 80 messages 1
+message 2 channel 1 stamp 10000 block 2000 gaps 0050 words 2823 0001 0002 0003 2800
+";
+
+/// The body of 2024-12-31T23:59:58, 2000-01-01T00:00:00 and 2025-01-01T00:00:05: 2024 and 2000 are leap years.
+const END_OF_YEAR: [u8; 12] = [0x30, 3, 0, 0, 0, 0x58, 0x59, 0x23, 0x31, 0x12, 0x24, 0x20];
+
+const LONG_BEFORE: [u8; 12] = [0x30, 3, 0, 0, 0, 0x00, 0x00, 0x00, 0x01, 0x01, 0x00, 0x20];
+
+const NEW_YEAR: [u8; 12] = [0x30, 2, 0, 0, 0, 0x05, 0x00, 0x00, 0x01, 0x01, 0x25, 0x20];
+
+/// The packet of the foreign file with its message at this stamp.
+fn put_message(file: &mut [u8], at: usize, stamp: u32)
+    requires { at + 64 ≤ length file.old }
+    ensures { length file.new ≡ length file.old }
+{
+    file[at..at + 64].copy_from_slice(&FOREIGN[32..]);
+    file[at + 40..at + 44].copy_from_slice(&stamp.to_le_bytes());
+}
+
+/// A time packet on channel 0.
+fn put_time(file: &mut [u8], at: usize, counter: u64, body: &[u8; 12])
+    requires room { at + 36 ≤ length file.old }
+    requires counter { counter < 2 ^ 48 }
+    ensures { length file.new ≡ length file.old }
+{
+    let header = Header {
+        channel: 0,
+        packet_length: 36,
+        data_length: 12,
+        version: 6,
+        sequence: 0,
+        flags: 0,
+        kind: 0x11,
+        counter,
+    };
+    file[at..at + 24].copy_from_slice(&write_header(&header));
+    file[at + 24..at + 36].copy_from_slice(body);
+}
+
+/// Four messages and three time packets: the first message is in front of all of them, and the second time packet does
+/// not count, since its counter is below that of the first.
+fn timed() -> [u8; 364] {
+    let mut file = [0u8; 364];
+    put_message(&mut file, 0, 0);
+    put_time(&mut file, 64, 1000, &END_OF_YEAR);
+    put_message(&mut file, 100, 1000);
+    put_time(&mut file, 164, 900, &LONG_BEFORE);
+    put_message(&mut file, 200, 20_000_999);
+    put_time(&mut file, 264, 20_001_000, &NEW_YEAR);
+    put_message(&mut file, 300, 20_001_001);
+    file
+}
+
+/// The clock tells this at a stamp.
+fn tells(rt: &impl Abort, clock: &Clock, stamp: u64, text: &str) {
+    match clock.at(stamp) {
+        Some(time) => are_bytes(rt, &time.text(), text.as_bytes()),
+        None => same(rt, &"", &text),
+    }
+}
+
+/// Why there is no clock of what a reader has left.
+fn fault_of(rt: &impl Abort, alloc: Global, input: Slow<'_>) -> StreamFault {
+    clock_from(alloc, input).err().expect(rt, "a fault")
+}
+
+/// The same of the first bytes of a file.
+fn fault_of_front(rt: &impl Abort, alloc: Global, file: &[u8], count: usize) -> StreamFault {
+    let front = file.get(..count).unwrap_or(&[]);
+    fault_of(rt, alloc, reader_of(front, 1))
+}
+
+#[test]
+fn a_clock_comes_from_packets(rt: HostRuntime) {
+    let file = timed();
+    for most in [1, 7, usize::MAX] {
+        let found = clock_from(rt.alloc(), reader_of(&file, most));
+        let clock = found.ok().expect(&rt, "a clock");
+        tells(&rt, &clock, 999, "");
+        tells(&rt, &clock, 1000, "2024-12-31T23:59:58.0000000");
+        tells(&rt, &clock, 20_000_999, "2024-12-31T23:59:59.9999999");
+        tells(&rt, &clock, 20_001_000, "2025-01-01T00:00:05.0000000");
+    }
+}
+
+#[test]
+fn a_file_without_time_packets_has_no_clock(rt: HostRuntime) {
+    let found = clock_from(rt.alloc(), reader_of(&FOREIGN, 1));
+    same(&rt, &found.ok().expect(&rt, "a clock").is_empty(), &true);
+}
+
+/// The third time packet ends too early, has another sync pattern, or the reader fails in it.
+#[test]
+fn a_fault_behind_time_packets_is_answered(rt: HostRuntime) {
+    let alloc = rt.alloc();
+    let mut file = timed();
+    let short = Refusal {
+        offset: 264,
+        fault: Fault::End,
+    };
+    let found = fault_of_front(&rt, alloc, &file, 299);
+    same(&rt, &found, &StreamFault::Refused(short));
+    let found = fault_of(&rt, alloc, failing(&file, 299));
+    same(&rt, &found, &StreamFault::Device);
+    file[264] = 0;
+    let other = Refusal {
+        offset: 264,
+        fault: Fault::Header(HeaderError::Sync),
+    };
+    let found = fault_of(&rt, alloc, reader_of(&file, 1));
+    same(&rt, &found, &StreamFault::Refused(other));
+}
+
+/// The bytes of packets of messages and of time packets are kept, one after the other.
+#[test]
+fn bytes_are_those_of_the_last_packet(rt: HostRuntime) {
+    let file = timed();
+    let input = reader_of(&file, 1);
+    let mut packets = Packets::over(rt.alloc(), input).ok().expect(&rt, "memory");
+    are_bytes(&rt, packets.bytes(), &[]);
+    for (begin, end) in [(0, 64), (64, 100), (100, 164), (164, 200), (200, 264)] {
+        same(&rt, &packets.next().is_ok(), &true);
+        let own = file.get(begin..end).expect(&rt, "a packet");
+        are_bytes(&rt, packets.bytes(), own);
+    }
+}
+
+/// Those of a setup record are not, and none are behind the end.
+#[test]
+fn bytes_of_other_packets_are_passed(rt: HostRuntime) {
+    let input = reader_of(&FOREIGN, 7);
+    let mut packets = Packets::over(rt.alloc(), input).ok().expect(&rt, "memory");
+    same(&rt, &packets.next().is_ok(), &true);
+    are_bytes(&rt, packets.bytes(), &[]);
+    same(&rt, &packets.next().is_ok(), &true);
+    are_bytes(&rt, packets.bytes(), &FOREIGN[32..]);
+    same(&rt, &packets.next(), &Ok(None));
+    are_bytes(&rt, packets.bytes(), &[]);
+}
+
+/// A file is printed so with times of day.
+fn is_dumped(
+    rt: &impl Abort,
+    alloc: Global,
+    first: Slow<'_>,
+    second: Slow<'_>,
+    answer: Result<(), DumpFault>,
+    text: &str,
+) {
+    let mut out = Vec::new(alloc);
+    let found = dump_with_times_in_two_passes(alloc, first, second, &mut out);
+    same(rt, &found, &answer);
+    are_bytes(rt, &out, text.as_bytes());
+}
+
+#[test]
+fn times_are_printed_in_the_second_pass(rt: HostRuntime) {
+    let alloc = rt.alloc();
+    let (file, plain) = (timed(), pair());
+    let (first, second) = (reader_of(&file, 1), reader_of(&file, 7));
+    is_dumped(&rt, alloc, first, second, Ok(()), TIMED_TEXT);
+    let (first, second) = (reader_of(&plain, 7), reader_of(&plain, 1));
+    is_dumped(&rt, alloc, first, second, Ok(()), PAIR_TEXT);
+}
+
+#[test]
+fn no_times_are_printed_where_the_first_pass_fails(rt: HostRuntime) {
+    let alloc = rt.alloc();
+    let file = timed();
+    let second = reader_of(&file, 7);
+    let short = Refusal {
+        offset: 300,
+        fault: Fault::End,
+    };
+    let refused = Err(DumpFault::Refused(short));
+    let first = reader_of(&file[..363], 1);
+    is_dumped(&rt, alloc, first, second, refused, "");
+    let failed = Err(DumpFault::Device);
+    is_dumped(&rt, alloc, failing(&file, 364), second, failed, "");
+}
