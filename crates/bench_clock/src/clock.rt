@@ -9,9 +9,8 @@ use crate::ruling::place_of;
 use crate::streaming::marks_from;
 use crate::time::{SECOND, UtcTime};
 use ch11_reader::Packet;
-use ch11_stream::StreamFault;
+use ch11_stream::{Advance, StreamFault};
 use std::alloc::{AllocError, Global};
-use std::io::Read;
 use std::marker::Model;
 
 /// A time packet that counts: its relative time counter in ticks of 0.1 µs, and the UTC second at it, counted from
@@ -85,7 +84,7 @@ impl Clock {
 /// the largest packet of messages or of time, and 16 bytes for each time packet that counts. A recording that can't be
 /// read is refused with its first fault, K1 to K5, N2 or F1 to F3; want of memory and the reader's failure are the
 /// others.
-pub fn clock_from<R: Read + Drop>(alloc: Global, input: R) -> Result<Clock, StreamFault>
+pub fn clock_from<R: Advance + Drop>(alloc: Global, input: R) -> Result<Clock, StreamFault>
     ensures { (file : List ℕ) → R.remaining input ≡ Some file
         → Finds (λ ps clock. clock ≡ spec.marks_in file (listing ps)) result file }
 {

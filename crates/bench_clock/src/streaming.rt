@@ -7,12 +7,14 @@ ghost use Rattle.bench_clock.specs.Rising.{IsRising};
 
 use crate::clock::Mark;
 use crate::marks::{keep, told_in};
-use ch11_stream::{Packets, StreamFault};
+use ch11_stream::{Advance, Packets, StreamFault};
 use std::alloc::Global;
-use std::io::Read;
 
 /// The marks of all bytes that a reader has left.
-pub(crate) fn marks_from<R: Read + Drop>(alloc: Global, input: R) -> Result<Vec<Mark>, StreamFault>
+pub(crate) fn marks_from<R: Advance + Drop>(
+    alloc: Global,
+    input: R,
+) -> Result<Vec<Mark>, StreamFault>
     ensures rising { IfOk result (λ ms. IsRising ms.items) }
     ensures found { (file : List ℕ) → R.remaining input ≡ Some file
         → Finds (λ ps ms. ms.items ≡ marks_in file (listing ps)) result file }

@@ -18,10 +18,11 @@ use bench_requests::{
 };
 use bench_select::Selection;
 use ch11_reader::Index;
+use ch11_stream::Advance;
 use clap::{ArgMatches, Command};
 use std::alloc::{AllocError, Global};
 use std::fs;
-use std::io::{BufWriter, IsTerminal, Read, Write};
+use std::io::{BufWriter, IsTerminal, Write};
 use std::rt::{Clock, Files};
 
 /// As what messages are exported.
@@ -273,7 +274,7 @@ where
 }
 
 /// Writes what is asked for of what a reader has left; answers whether any message was selected.
-fn write_large<F: Read + Drop, W: Write + Drop>(
+fn write_large<F: Advance + Drop, W: Write + Drop>(
     alloc: Global,
     input: F,
     selection: &Selection,
@@ -309,7 +310,7 @@ fn some_written<'a>(
 }
 
 /// Writes a value change dump of what a reader has left; answers whether any message was selected.
-fn write_dump_from<F: Read + Drop, W: Write + Drop>(
+fn write_dump_from<F: Advance + Drop, W: Write + Drop>(
     alloc: Global,
     input: F,
     selection: &Selection,

@@ -1,14 +1,14 @@
 //! Recordings that are read packet by packet and never kept, since they may be larger than memory.
 
 use crate::looking::tell_of_missing;
-use crate::watching::{Watch, Watched, open_watched, prints_to_terminal};
+use crate::watching::{SystemFile, Watch, Watched, open_watched, prints_to_terminal};
 use bench_clock::{Clock as RecordingClock, clock_from};
 use bench_dump::{DumpFault, dump_skipping_from};
 use bench_passes::{dump_in_two_passes, dump_with_times_in_two_passes};
 use bench_requests::{Fault, open_to_read, tells_of_loss};
 use bench_watch::Reopen;
 use ch11_check::check_from;
-use ch11_stream::{SoundPackets, StreamFault, Stretch, Stretches};
+use ch11_stream::{Advance, SoundPackets, StreamFault, Stretch, Stretches};
 use std::alloc::{AllocError, Global};
 use std::fs;
 use std::io::{self, Error, ErrorKind, IsTerminal, Read};
@@ -43,6 +43,15 @@ impl<F: Read> Read for Pass<F> {
     }
 }
 
+impl<F: Advance> Advance for Pass<F> {
+    fn advance(&mut self, count: u64) -> io::Result<u64> {
+        match self {
+            Pass::Whole(file) => file.advance(count),
+            Pass::Sound(packets) => packets.advance(count),
+        }
+    }
+}
+
 /// A recording that is opened anew for each pass over it. How far the first has come is shown, and how far later ones
 /// have where what they print goes to no terminal.
 #[derive(Drop)]
@@ -57,12 +66,12 @@ pub(crate) struct Large<'f, R, E> {
 }
 
 impl<'f, R: Files + AllocGlobal + Clock, E: Eprint + IsTerminal> Reopen for Large<'f, R, E> {
-    type Reader = Pass<Watched<'f, R::File, R, E>>;
+    type Reader = Pass<Watched<'f, SystemFile<R::File>, R, E>>;
 
-    fn reopen(&self) -> io::Result<Pass<Watched<'f, R::File, R, E>>> {
+    fn reopen(&self) -> io::Result<Pass<Watched<'f, SystemFile<R::File>, R, E>>> {
         let shown = self.watch.is_new() || !self.prints || !prints_to_terminal(self.rt);
         let file = match fs::open(self.rt, self.name) {
-            Ok(file) => Watched::over(file, self.watch, shown),
+            Ok(file) => Watched::over(SystemFile::over(file), self.watch, shown),
             Err(error) => return Err(error),
         };
         match Pass::over(self.rt.alloc(), file, self.skip) {

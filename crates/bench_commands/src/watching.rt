@@ -1,7 +1,7 @@
 //! Recordings that are opened to be watched, and where what is printed goes.
 
 use bench_requests::{Fault, open_to_read};
-pub(crate) use bench_watch::{Watch, Watched};
+pub(crate) use bench_watch::{SystemFile, Watch, Watched};
 use std::fs::{self, Metadata};
 use std::io::IsTerminal;
 use std::os::unix::fs::{FileTypeExt, MetadataExt};
@@ -13,9 +13,9 @@ pub(crate) fn open_watched<'f, 'a, R: Files + Clock, E: Eprint + IsTerminal>(
     name: &'a str,
     watch: &'f Watch<'f, R, E>,
     shown: bool,
-) -> Result<Watched<'f, R::File, R, E>, Fault<'a>> {
+) -> Result<Watched<'f, SystemFile<R::File>, R, E>, Fault<'a>> {
     match open_to_read(rt, name) {
-        Ok(file) => Ok(Watched::over(file, watch, shown)),
+        Ok(file) => Ok(Watched::over(SystemFile::over(file), watch, shown)),
         Err(fault) => Err(fault),
     }
 }

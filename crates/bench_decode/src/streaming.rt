@@ -2,7 +2,7 @@
 
 use crate::whole::{Output, Printing, put_messages, put_skip};
 use bench_dump::DumpFault;
-use ch11_stream::{Packets, Stretch, Stretches};
+use ch11_stream::{Advance, Packets, Stretch, Stretches};
 use std::alloc::Global;
 use std::io::{Read, Write};
 
@@ -11,7 +11,7 @@ use std::io::{Read, Write};
 /// were. A recording that can't be read is refused with its first fault, and then the writer may have got lines of
 /// messages in front of it; with `skip` none is refused, and there is memory for the largest packet of any type.
 /// `by_time` is asked of `decode` alone.
-pub fn decode_from<R: Read + Drop, W: Write>(
+pub fn decode_from<R: Advance + Drop, W: Write>(
     alloc: Global,
     input: R,
     out: &mut W,

@@ -8,9 +8,8 @@ use bench_decode::Line;
 use bench_select::Selection;
 use bench_watch::Reopen;
 use ch11_reader::Index;
-use ch11_stream::{Packets, StreamFault};
+use ch11_stream::{Advance, Packets, StreamFault};
 use std::alloc::{AllocError, Global};
-use std::io::Read;
 
 /// A recording that is drawn channel by channel.
 pub(crate) trait Drawn {
@@ -99,7 +98,7 @@ impl<S: Reopen> Drawn for Anew<'_, S> {
 }
 
 /// Draws the messages of a channel, as the packets of a reader come.
-fn draw_packets_from<R: Read + Drop>(
+fn draw_packets_from<R: Advance + Drop>(
     alloc: Global,
     picture: &mut Picture,
     input: R,

@@ -8,9 +8,8 @@ use crate::scale::{Scale, end_of};
 use bench_select::Selection;
 use ch11_f1::{Messages, Seen};
 use ch11_reader::{Index, Packet};
-use ch11_stream::{Packets, StreamFault};
+use ch11_stream::{Advance, Packets, StreamFault};
 use std::alloc::{AllocError, Global};
-use std::io::Read;
 
 /// How many channels a picture has at most.
 const CHANNELS: usize = 32;
@@ -72,7 +71,7 @@ impl Extent {
     }
 
     /// The same of all bytes that a reader has left, as their packets come.
-    pub(crate) fn of_reader<R: Read + Drop>(
+    pub(crate) fn of_reader<R: Advance + Drop>(
         alloc: Global,
         input: R,
         selection: &Selection,

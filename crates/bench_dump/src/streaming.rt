@@ -11,12 +11,12 @@ use crate::output::dump_messages;
 use crate::text::Text;
 use bench_clock::Clock;
 use ch11_reader::Packet;
-use ch11_stream::Packets;
+use ch11_stream::{Advance, Packets};
 use std::alloc::Global;
-use std::io::{Read, Write};
+use std::io::Write;
 
 /// The lines of the packet that was read last.
-fn dump_packet<R: Read, W: Write>(
+fn dump_packet<R: Advance, W: Write>(
     text: &mut Text,
     out: &mut W,
     packets: &Packets<R>,
@@ -43,7 +43,7 @@ fn dump_packet<R: Read, W: Write>(
 /// Prints a recording as its packets come from a reader, in memory for the largest packet of messages or of time: the
 /// text that `dump` prints of all bytes that the reader has left. A recording that can't be read is refused with its
 /// first fault, and then the writer may have got lines of packets in front of it.
-pub fn dump_from<R: Read + Drop, W: Write>(
+pub fn dump_from<R: Advance + Drop, W: Write>(
     alloc: Global,
     input: R,
     out: &mut W,
@@ -57,7 +57,7 @@ pub fn dump_from<R: Read + Drop, W: Write>(
 
 /// The same with the time of day behind each stamp, where the clock tells one. By the recording's own clock, as
 /// `clock_from` makes it in a pass before this one, it is the text that `dump_with_times` prints.
-pub fn dump_with_times_from<R: Read + Drop, W: Write>(
+pub fn dump_with_times_from<R: Advance + Drop, W: Write>(
     alloc: Global,
     input: R,
     clock: &Clock,

@@ -15,10 +15,10 @@ use crate::names::names_of;
 use crate::whole::Table;
 use bench_clock::Clock;
 use ch11_reader::Packet;
-use ch11_stream::{Packets, StreamFault};
+use ch11_stream::{Advance, Packets, StreamFault};
 use csv::Writer;
 use std::alloc::Global;
-use std::io::{Read, Write};
+use std::io::Write;
 
 /// What was exported of what a reader has left.
 #[derive(Drop)]
@@ -33,7 +33,7 @@ pub struct Exported<W: Write> {
 /// largest packet of messages. A recording that can't be read is refused with its first fault, K1 to K5, N2 or F1 to
 /// F3, and then the writer may have got rows of packets in front of it. The time of day is that of the clock that is
 /// given, since a recording's own is known at its end alone.
-pub fn export_from<R: Read + Drop, W: Write + Drop>(
+pub fn export_from<R: Advance + Drop, W: Write + Drop>(
     alloc: Global,
     input: R,
     table: &Table,
@@ -71,7 +71,7 @@ fn write_names<W: Write + Drop>(
 }
 
 /// Writes the rows of all packets; answers whether any message was selected.
-fn write_packets_from<R: Read + Drop, W: Write + Drop>(
+fn write_packets_from<R: Advance + Drop, W: Write + Drop>(
     alloc: Global,
     input: R,
     writer: &mut Writer<W>,
@@ -106,7 +106,7 @@ fn write_packets_from<R: Read + Drop, W: Write + Drop>(
 
 /// Writes the rows of the selected messages of the packet that was read last; answers whether any message was selected
 /// before or is now.
-fn write_packet<R: Read, W: Write + Drop>(
+fn write_packet<R: Advance, W: Write + Drop>(
     writer: &mut Writer<W>,
     room: &mut Room,
     table: &Table,

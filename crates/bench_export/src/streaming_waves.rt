@@ -15,14 +15,14 @@ use crate::fault::{ExportFault, ExportFromFault};
 use crate::waves::write_waves;
 use bench_select::Selection;
 use ch11_reader::Packet;
-use ch11_stream::{Packets, StreamFault};
+use ch11_stream::{Advance, Packets, StreamFault};
 use std::alloc::Global;
-use std::io::{Read, Write};
+use std::io::Write;
 
 /// Writes the value change dump that `export_waves` writes of all bytes that a reader has left, and answers whether any
 /// message was selected. All changes are kept in memory, some 50 bytes each, so that nothing is written before the last
 /// packet was read. A recording that can't be read is refused with its first fault, K1 to K5, N2 or F1 to F3.
-pub fn export_waves_from<R: Read + Drop, W: Write>(
+pub fn export_waves_from<R: Advance + Drop, W: Write>(
     alloc: Global,
     input: R,
     selection: &Selection,
@@ -53,7 +53,7 @@ fn write_ordered<W: Write>(
 }
 
 /// Adds the changes of all selected messages, in the file's order; answers whether any message was selected.
-fn gather<R: Read + Drop>(
+fn gather<R: Advance + Drop>(
     alloc: Global,
     input: R,
     selection: &Selection,
@@ -81,7 +81,7 @@ fn gather<R: Read + Drop>(
 
 /// Adds the changes of the selected messages of the packet that was read last; answers whether any message was selected
 /// before or is now.
-fn push_packet<R: Read>(
+fn push_packet<R: Advance>(
     changes: &mut Vec<Change>,
     selection: &Selection,
     packets: &Packets<R>,

@@ -11,10 +11,9 @@ use crate::tallies::Tally;
 use crate::verdicts::Miss;
 use ch11_f1::{Messages, Seen};
 use ch11_reader::Index;
-use ch11_stream::{Packets, StreamFault};
+use ch11_stream::{Advance, Packets, StreamFault};
 use judge_rules::Rule;
 use std::alloc::{AllocError, Global};
-use std::io::Read;
 
 /// Appends a message that misses a rule where there are fewer than that.
 fn put_first(found: &mut Vec<Miss>, most: usize, miss: Miss) -> Result<(), AllocError>
@@ -112,7 +111,7 @@ pub(crate) fn first_misses(
 /// The first messages that miss a rule, at most as many as that, of all bytes that a reader has left, as their packets
 /// come. A recording that can't be read is refused with its first fault, K1 to K5, N2 or F1 to F3; want of memory and
 /// the reader's failure are the others.
-pub fn first_misses_from<R: Read + Drop>(
+pub fn first_misses_from<R: Advance + Drop>(
     alloc: Global,
     input: R,
     rule: &Rule,

@@ -15,15 +15,15 @@ use crate::streaming::judge_from;
 use crate::tallies::Tally;
 use crate::verdicts::Verdict;
 use bench_watch::Reopen;
-use ch11_stream::{Packets, StreamFault};
+use ch11_stream::{Advance, Packets, StreamFault};
 use judge_rules::Rule;
 use std::alloc::Global;
-use std::io::{Read, Write};
+use std::io::Write;
 
 /// Writes the messages that miss a rule, each as a line, of all bytes that a reader has left, as their packets come. A
 /// recording that can't be read is refused with its first fault, K1 to K5, N2 or F1 to F3, and then the writer may have
 /// got lines of packets in front of it; want of memory and failures of the reader and the writer are the others.
-pub fn write_misses_from<R: Read + Drop, W: Write>(
+pub fn write_misses_from<R: Advance + Drop, W: Write>(
     alloc: Global,
     input: R,
     rule: &Rule,

@@ -7,11 +7,11 @@ use bench_decode::{Line, Numbers, Place, write_message};
 use bench_places::number_in_channel;
 use ch11_f1::{Messages, Seen};
 use ch11_reader::Index;
-use ch11_stream::Packets;
+use ch11_stream::{Advance, Packets};
 use judge_rules::Rule;
 use std::alloc::Global;
 use std::io;
-use std::io::{Read, Write};
+use std::io::Write;
 
 /// Writes messages that miss a rule, each on a line as `bench dump --decode` shows it.
 pub(crate) fn write_shown<W: Write>(
@@ -85,7 +85,7 @@ fn show_messages<W: Write>(
 
 /// Writes the first messages that miss a rule, at most as many as that, of the bytes that a reader has left, as their
 /// packets come, and reads no further than these.
-pub(crate) fn write_shown_from<R: Read + Drop, W: Write>(
+pub(crate) fn write_shown_from<R: Advance + Drop, W: Write>(
     line: &mut Line,
     alloc: Global,
     input: R,

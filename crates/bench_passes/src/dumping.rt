@@ -8,14 +8,15 @@ ghost use Rattle.bench_passes.specs.Passes.{IsRefusedBy};
 
 use bench_dump::{DumpFault, dump_from};
 use ch11_check::check_from;
+use ch11_stream::Advance;
 use std::alloc::Global;
-use std::io::{Read, Write};
+use std::io::Write;
 
 /// Prints a recording that two readers give, one after the other, as `dump` prints its bytes, in memory for the largest
 /// packet of messages. The bytes of the first are only checked: where they can't be read, the first fault is the
 /// answer, and nothing is printed. The text is that of the bytes of the second, which may be others where the file
 /// changed in between: then the writer may have got lines of packets in front of a fault of these.
-pub fn dump_in_two_passes<R: Read + Drop, S: Read + Drop, W: Write>(
+pub fn dump_in_two_passes<R: Advance + Drop, S: Advance + Drop, W: Write>(
     alloc: Global,
     first: R,
     second: S,

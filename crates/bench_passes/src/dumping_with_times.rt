@@ -10,13 +10,14 @@ ghost use Rattle.bench_passes.specs.Passes.{IsRefusedBy};
 
 use bench_clock::clock_from;
 use bench_dump::{DumpFault, dump_with_times_from};
+use ch11_stream::Advance;
 use std::alloc::Global;
-use std::io::{Read, Write};
+use std::io::Write;
 
 /// Prints a recording as `dump_in_two_passes` does, and the time of day behind each stamp, as `dump_with_times` prints
 /// the bytes. The first reader's bytes tell the time, in the pass that checks them: 16 bytes are kept for each time
 /// packet that counts.
-pub fn dump_with_times_in_two_passes<R: Read + Drop, S: Read + Drop, W: Write>(
+pub fn dump_with_times_in_two_passes<R: Advance + Drop, S: Advance + Drop, W: Write>(
     alloc: Global,
     first: R,
     second: S,

@@ -16,10 +16,9 @@ use crate::told::Told;
 use bench_select::Selection;
 use ch11_f1::Messages;
 use ch11_reader::Packet;
-use ch11_stream::{Packets, StreamFault};
+use ch11_stream::{Advance, Packets, StreamFault};
 use std::alloc::{AllocError, Global};
 use std::collections::HashMap;
-use std::io::Read;
 
 /// What is told of each of some channels beside its figures.
 #[derive(Drop)]
@@ -101,7 +100,7 @@ impl ToldChannels {
 /// subaddress. It counts in the selected messages; their load is that in slices of the figures' spans. A recording that
 /// can't be read is refused with its first fault, K1 to K5, N2 or F1 to F3; want of memory and the reader's failure are
 /// the others.
-pub fn told_from<R: Read + Drop>(
+pub fn told_from<R: Advance + Drop>(
     alloc: Global,
     input: R,
     selection: &Selection,

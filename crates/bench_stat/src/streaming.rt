@@ -20,10 +20,9 @@ use bench_select::{Selection, is_of};
 use ch11_f1::Messages;
 use ch11_header::kinds::BUS_MESSAGES;
 use ch11_reader::Packet;
-use ch11_stream::{Packets, StreamFault};
+use ch11_stream::{Advance, Packets, StreamFault};
 use std::alloc::{AllocError, Global};
 use std::collections::HashMap;
-use std::io::Read;
 
 /// The figures so far of each channel that has any, by its number.
 #[derive(Drop)]
@@ -45,7 +44,7 @@ impl SoFar {
 /// The figures that `stat` gives for all bytes that a reader has left, as their packets come, in memory for the largest
 /// packet of messages and the figures of each channel. A recording that can't be read is refused with its first fault,
 /// K1 to K5, N2 or F1 to F3; want of memory and the reader's failure are the others.
-pub fn stat_from<R: Read + Drop>(
+pub fn stat_from<R: Advance + Drop>(
     alloc: Global,
     input: R,
     selection: &Selection,

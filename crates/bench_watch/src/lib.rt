@@ -3,7 +3,9 @@
 #![tactic(auto)]
 
 mod reopen;
+mod system_file;
 mod watching;
 
 pub use reopen::Reopen;
+pub use system_file::SystemFile;
 pub use watching::{Watch, Watched};

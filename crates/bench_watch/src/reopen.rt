@@ -1,8 +1,8 @@
 //! A recording that can be read more than once.
 ghost use Rattle.std.specs.Prelude.{◌≡◌, ℕ, List, Option, None, Some, IfOk};
 
+use ch11_stream::Advance;
 use std::io;
-use std::io::Read;
 
 /// A recording that is read anew from its start for each pass, as a file is that is opened again.
 pub trait Reopen {
@@ -10,7 +10,7 @@ pub trait Reopen {
     ghost bytes: { Self → Option (List ℕ) } = { λ _. None };
 
     /// What reads it.
-    type Reader: Read + Drop;
+    type Reader: Advance + Drop;
 
     /// A reader at the recording's first byte. It fails where the recording can't be opened.
     fn reopen(&self) -> io::Result<Self::Reader>

@@ -2,6 +2,7 @@
 ghost use Rattle.std.specs.Prelude.{◌≡◌};
 ghost use Rattle.bench_watch.specs.Watching.{watched_remaining};
 
+use ch11_stream::Advance;
 use std::cell::Cell;
 use std::fs;
 use std::io::{self, ErrorKind, IsTerminal, Read};
@@ -115,13 +116,13 @@ impl<'f, C: Clock + Files, E: Eprint + IsTerminal> Watch<'f, C, E> {
         self.state.set(state);
     }
 
-    /// So many bytes more were read.
-    fn note(&self, count: usize) {
+    /// So many bytes more were read or passed.
+    fn note(&self, count: u64) {
         if self.began.is_none() {
             return;
         }
         let mut state = self.state.get();
-        state.read = state.read.saturating_add(count as u64);
+        state.read = state.read.saturating_add(count);
         if state.read >= state.look {
             state.look = state.read.saturating_add(STRIDE);
             if let Some(passed) = self.passed() {
@@ -193,11 +194,23 @@ impl<'f, F: Read, C: Clock + Files, E: Eprint + IsTerminal> Read for Watched<'f,
         let given = self.file.read(buf);
         match &given {
             Ok(0) => self.watch.end(),
-            Ok(count) if self.shown => self.watch.note(*count),
+            Ok(count) if self.shown => self.watch.note(*count as u64),
             Err(error) if error.kind() != ErrorKind::Interrupted => self.watch.fail(),
             _ => {}
         }
         given
+    }
+}
+
+impl<'f, F: Advance, C: Clock + Files, E: Eprint + IsTerminal> Advance for Watched<'f, F, C, E> {
+    fn advance(&mut self, count: u64) -> io::Result<u64> {
+        let passed = self.file.advance(count);
+        match &passed {
+            Ok(count) if self.shown => self.watch.note(*count),
+            Ok(_) => {}
+            Err(_) => self.watch.fail(),
+        }
+        passed
     }
 }
 

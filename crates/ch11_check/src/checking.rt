@@ -2,14 +2,13 @@
 ghost use Rattle.std.specs.Prelude.{◌≡◌, ℕ, List, Some};
 ghost use Rattle.ch11_stream.specs.Folding.{Finds};
 
-use ch11_stream::{Packets, StreamFault};
+use ch11_stream::{Advance, Packets, StreamFault};
 use std::alloc::Global;
-use std::io::Read;
 
 /// Reads a recording to its end, in memory for the largest packet of messages. It is refused with its first fault, K1
 /// to K5, N2 or F1 to F3, with the packet's offset; want of memory and the reader's failure are the others. Otherwise
 /// each packet of it can be read.
-pub fn check_from<R: Read + Drop>(alloc: Global, input: R) -> Result<(), StreamFault>
+pub fn check_from<R: Advance + Drop>(alloc: Global, input: R) -> Result<(), StreamFault>
     ensures { (file : List ℕ) → R.remaining input ≡ Some file → Finds (λ ps none. Unit {0}) result file }
 {
     let mut packets = Packets::over(alloc, input)?;

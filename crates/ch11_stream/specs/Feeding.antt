@@ -34,6 +34,11 @@ pub record IsPassed (count : ℕ) (left leaves : Option (List ℕ)) (before afte
       → (count ≤ length bytes) × (prepend_known after leaves ≡ Some (drop count bytes))
   pub few : there ≡ false → (bytes : List ℕ) → prepend_known before left ≡ Some bytes → length bytes < count
 
+-- so many bytes were passed unread, no more than were to be; where there were fewer, none is left
+pub record IsAdvanced (count passed : ℕ) (left leaves : Option (List ℕ)) : Type 0 where
+  pub within : passed ≤ count
+  pub behind : (bytes : List ℕ) → left ≡ Some bytes → leaves ≡ Some (drop passed bytes)
+
 -- a fault that isn't the recording's
 abbrev pub IsOther : StreamFault → Type 0
 IsOther (faults.Refused r) = ⊥

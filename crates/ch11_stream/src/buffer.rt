@@ -13,12 +13,17 @@ use std::marker::Model;
 /// How many bytes there is room for at first.
 const PIECE: usize = 262_144;
 
+/// How many bytes are asked for behind bytes that were passed unread, of which more may be passed soon.
+const FEW: usize = 4096;
+
 /// Bytes that are ready, and room behind them. Contracts see the bytes, and how many more there is room for.
 #[derive(Drop)]
 pub(crate) struct Buffer {
     bytes: Vec<u8>,
     start: usize,
     end: usize,
+    /// How many bytes a read asks for at most; one is always asked for.
+    most: usize,
 }
 
 impl Model for Buffer {
@@ -63,8 +68,8 @@ struct Gave {
     more: bool,
 }
 
-/// What a read came to. One that was interrupted gave nothing; one that failed otherwise is a device's fault, unless the
-/// reader itself wanted memory.
+/// What a read came to. One that was interrupted gave nothing; one that failed otherwise is a device's fault, unless
+/// the reader itself wanted memory.
 fn judge(read: io::Result<usize>) -> Result<Gave, StreamFault>
     ensures count { IfOk result (λ gave. gave.count ≡ count_of read) }
     ensures ended { IfOk result (λ gave. gave.more ≡ false → read ≡ Ok 0) }
@@ -84,8 +89,13 @@ fn judge(read: io::Result<usize>) -> Result<Gave, StreamFault>
     }
 }
 
-/// One read behind the first `end` bytes, which stay.
-fn read_behind<R: Read>(input: &mut R, bytes: &mut [u8], end: usize) -> Result<Gave, StreamFault>
+/// One read behind the first `end` bytes, which stay, of `most` bytes at most, but of one always.
+fn read_behind<R: Read>(
+    input: &mut R,
+    bytes: &mut [u8],
+    end: usize,
+    most: usize,
+) -> Result<Gave, StreamFault>
     requires { end < length bytes.old }
     ensures front { take end bytes.new ≡ take end bytes.old }
     ensures within { IfOk result (λ gave. end + gave.count ≤ length bytes.new) }
@@ -94,7 +104,8 @@ fn read_behind<R: Read>(input: &mut R, bytes: &mut [u8], end: usize) -> Result<G
     ensures ended { IfOk result (λ gave. gave.more ≡ false → (gave.count ≡ 0) × IsAtEnd (R.remaining input.new)) }
     ensures failed { IfErr result IsOther }
 {
-    let read = input.read(&mut bytes[end..]);
+    let count = most.max(1).min(bytes.len() - end);
+    let read = input.read(&mut bytes[end..end + count]);
     judge(read)
 }
 
@@ -107,6 +118,7 @@ impl Buffer {
             bytes: Vec::new(alloc),
             start: 0,
             end: 0,
+            most: PIECE,
         }
     }
 
@@ -173,8 +185,16 @@ impl Buffer {
             (IsMore (R.remaining input.old) (R.remaining input.new) self.old.ready self.new.ready) }
         ensures failed { IfErr result IsOther }
     {
-        let gave = read_behind(input, self.bytes.as_mut_slice(), self.end)?;
+        let gave = read_behind(input, self.bytes.as_mut_slice(), self.end, self.most)?;
         self.end += gave.count;
+        self.most = self.most.saturating_mul(2);
         Ok(gave.more)
+    }
+
+    /// Has the next read ask for few bytes, and each behind it for up to twice as many as the one before.
+    pub(crate) fn read_few(&mut self)
+        ensures { self.new ≡ self.old }
+    {
+        self.most = FEW;
     }
 }

@@ -3,6 +3,7 @@
 //! in `ch11_stream_tests`.
 #![tactic(auto)]
 
+mod advance;
 mod buffer;
 mod fault;
 mod feed;
@@ -16,6 +17,7 @@ mod stretch;
 mod stretches;
 mod taking;
 
+pub use advance::Advance;
 pub use fault::StreamFault;
 pub use laws::{steps_read_the_file, stretches_read_the_file};
 pub use packets::Packets;

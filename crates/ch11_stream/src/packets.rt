@@ -3,6 +3,7 @@ ghost use Rattle.std.specs.Prelude.{◌≡◌, IfOk};
 ghost use Rattle.ch11_stream.specs.Holding.{held_of, last_of};
 ghost use Rattle.ch11_stream.specs.Reading.{Answers, at_start};
 
+use crate::advance::Advance;
 use crate::buffer::Buffer;
 use crate::fault::StreamFault;
 use crate::listed::Listed;
@@ -11,15 +12,14 @@ use ch11_f1::Messages;
 use ch11_header::Header;
 use ch11_reader::{Packet, messages_of_packet};
 use std::alloc::{AllocError, Global};
-use std::io::Read;
 use std::marker::Model;
 
 /// The packets of a recording that a reader gives, one after the other, in the file's order. Of a packet of
 /// MIL-STD-1553 messages and of a time packet its bytes are kept until the next one is read; packets of other data
-/// types are passed. The reader is asked for at most as many bytes as there is room for: 262,144 at first, and up to
-/// twice the largest packet of these two types.
+/// types are passed, unread where they are long and the reader can. The reader is asked for at most as many bytes as
+/// there is room for: 262,144 at first, and up to twice the largest packet of these two types.
 #[derive(Drop)]
-pub struct Packets<R: Read> {
+pub struct Packets<R: Advance> {
     input: R,
     buffer: Buffer,
     listed: Listed,
@@ -28,7 +28,7 @@ pub struct Packets<R: Read> {
     fault: Option<StreamFault>,
 }
 
-impl<R: Read> Model for Packets<R> {
+impl<R: Advance> Model for Packets<R> {
     ghost use Rattle.std.specs.Prelude.{take, drop};
     ghost use Rattle.std.specs.Io.KnownBytes.{prepend_known};
     ghost use Rattle.ch11_stream.specs.Holding.{IsHolding, given_of, held_of};
@@ -69,7 +69,7 @@ fn kept_of(header: Header) -> Option<Header>
     }
 }
 
-impl<R: Read> Packets<R> {
+impl<R: Advance> Packets<R> {
     /// The packets that a reader will give, from the start of a file. It has a place for each channel, 128 KiB in all.
     pub fn over(alloc: Global, input: R) -> Result<Packets<R>, AllocError>
     where

@@ -1,6 +1,7 @@
 //! A recording that may be damaged, as a reader of its sound packets.
 ghost use Rattle.std.specs.Prelude.{◌≤◌, length};
 
+use crate::advance::Advance;
 use crate::fault::StreamFault;
 use crate::stretches::Stretches;
 use std::alloc::{AllocError, Global};
@@ -63,5 +64,12 @@ impl<R: Read> Read for SoundPackets<R> {
             }
         }
         Err(Error::from(ErrorKind::Other))
+    }
+}
+
+impl<R: Read> Advance for SoundPackets<R> {
+    /// None: what is sound is seen as it is read.
+    fn advance(&mut self, _count: u64) -> io::Result<u64> {
+        Ok(0)
     }
 }

@@ -4,6 +4,7 @@ ghost use Rattle.std.specs.Io.KnownBytes.{prepend_known};
 ghost use Rattle.ch11_stream.specs.Holding.{is_kept};
 ghost use Rattle.ch11_stream.specs.Taking.{Heads, IsNextHeader, Nexts, Takes};
 
+use crate::advance::Advance;
 use crate::buffer::Buffer;
 use crate::fault::StreamFault;
 use crate::feed::{fill, pass};
@@ -47,7 +48,7 @@ pub(crate) fn is_kept_by(header: &Header) -> bool
 }
 
 /// Passes the packet with this header, which is neither of messages nor a time packet.
-fn take_other<R: Read>(
+fn take_other<R: Advance>(
     buffer: &mut Buffer,
     input: &mut R,
     offset: usize,
@@ -86,7 +87,7 @@ fn take_kept<R: Read>(
 }
 
 /// Takes the packet with this header, which begins the bytes to come.
-pub(crate) fn take_packet<R: Read>(
+pub(crate) fn take_packet<R: Advance>(
     buffer: &mut Buffer,
     input: &mut R,
     offset: usize,
@@ -104,7 +105,7 @@ pub(crate) fn take_packet<R: Read>(
 }
 
 /// Lets the bytes of the last packet go and takes the next one, which stands at an offset. None at the reader's end.
-pub(crate) fn take_next<R: Read>(
+pub(crate) fn take_next<R: Advance>(
     buffer: &mut Buffer,
     input: &mut R,
     held: usize,
