@@ -202,8 +202,7 @@ fn print_sizes_to_output<R: AllocGlobal + Print>(rt: &R, sizes: &Sizes) -> io::R
     out.flush()
 }
 
-/// Prints a recording. One of more than 64 MiB is read packet by packet, unless it is damaged and times of day are asked
-/// for, which want all of it.
+/// Prints a recording. One of more than 64 MiB is read packet by packet.
 fn show<'a, R: Files + AllocGlobal + Print + Clock, E: Eprint + IsTerminal>(
     rt: &R,
     errors: &E,
@@ -211,7 +210,7 @@ fn show<'a, R: Files + AllocGlobal + Print + Clock, E: Eprint + IsTerminal>(
     skip: bool,
     times: bool,
 ) -> Result<(), Fault<'a>> {
-    if !(skip && times) && is_large(rt, recording) {
+    if is_large(rt, recording) {
         return dump_large(rt, errors, recording, skip, times);
     }
     let bytes = read_whole(rt, recording)?;

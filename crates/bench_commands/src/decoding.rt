@@ -64,8 +64,8 @@ pub(crate) fn decode_request<'a>(given: &ArgMatches<'a>) -> DecodeRequest<'a> {
 }
 
 /// Shows the messages that are asked for. Where a selection has none, it says so and ends with the status of a refused
-/// input. A recording of more than 64 MiB is read packet by packet, unless its messages are to be sorted, which wants all
-/// of it.
+/// input. A recording of more than 64 MiB is read packet by packet, unless its messages are to be sorted, which wants
+/// all of it.
 pub(crate) fn show_messages<
     'a,
     R: Env + Files + AllocGlobal + Print + Clock,

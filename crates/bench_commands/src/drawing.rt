@@ -78,7 +78,7 @@ fn draw_watched<'a, R: Files + AllocGlobal + Clock, E: Eprint + IsTerminal>(
     watch: &Watch<'_, R, E>,
     selection: &Selection,
 ) -> Result<Drawing, Fault<'a>> {
-    let clock = clock_of_large(rt, name, watch, true)?;
+    let clock = clock_of_large(rt, name, watch, false, true)?;
     let large = Large {
         rt,
         name,

@@ -254,7 +254,13 @@ where
     R::File: Hold,
 {
     let input = open_watched(rt, request.recording, watch, true)?;
-    let clock = clock_of_large(rt, request.recording, watch, request.exported.is_timed())?;
+    let clock = clock_of_large(
+        rt,
+        request.recording,
+        watch,
+        false,
+        request.exported.is_timed(),
+    )?;
     let mut file = begin(rt, request.out, request.exported.kind(), request.force)?;
     let answer = match writer_of(rt, request.out, &mut file) {
         Ok(writer) => {

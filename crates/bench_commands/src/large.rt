@@ -113,25 +113,27 @@ pub(crate) fn check_large<'a, R: Files + AllocGlobal + Clock, E: Eprint + IsTerm
     }
 }
 
-/// The clock of a recording in a pass of its own where times of day are asked for, and else one that tells none.
+/// The clock of a recording, or with `skip` of what is sound of it, in a pass of its own where times of day are asked
+/// for, and else one that tells none.
 pub(crate) fn clock_of_large<'a, R: Files + AllocGlobal + Clock, E: Eprint + IsTerminal>(
     rt: &R,
     name: &'a str,
     watch: &Watch<'_, R, E>,
+    skip: bool,
     timed: bool,
 ) -> Result<RecordingClock, Fault<'a>> {
     if !timed {
         return Ok(RecordingClock::of(rt.alloc(), &[], &[])?);
     }
     let file = open_watched(rt, name, watch, true)?;
-    match clock_from(rt.alloc(), file) {
+    match clock_from(rt.alloc(), Pass::over(rt.alloc(), file, skip)?) {
         Ok(clock) => Ok(clock),
         Err(fault) => Err(fault_of_reading(name, fault)),
     }
 }
 
-/// Prints a recording in two passes over it, with times of day where they are asked for: nothing where the first refuses
-/// it. With `skip` what is sound of it is printed in one pass, without times.
+/// Prints a recording in two passes over it, with times of day where they are asked for: nothing where the first
+/// refuses it. With `skip` what is sound of it is printed in one pass, and its times come from one before it.
 pub(crate) fn dump_large<'a, R: Files + AllocGlobal + Print + Clock, E: Eprint + IsTerminal>(
     rt: &R,
     errors: &E,
@@ -141,7 +143,7 @@ pub(crate) fn dump_large<'a, R: Files + AllocGlobal + Print + Clock, E: Eprint +
 ) -> Result<(), Fault<'a>> {
     let watch = Watch::begin(rt, errors, name);
     let printed = if skip {
-        dump_sound_watched(rt, name, &watch)
+        dump_sound_watched(rt, name, &watch, times)
     } else {
         dump_watched(rt, name, &watch, times)
     };
@@ -178,10 +180,12 @@ fn dump_sound_watched<'a, R: Files + AllocGlobal + Print + Clock, E: Eprint + Is
     rt: &R,
     name: &'a str,
     watch: &Watch<'_, R, E>,
+    times: bool,
 ) -> Result<(), Fault<'a>> {
+    let clock = clock_of_large(rt, name, watch, true, times)?;
     let file = open_watched(rt, name, watch, !prints_to_terminal(rt))?;
     let mut out = io::writer(rt);
-    match dump_skipping_from(rt.alloc(), file, &mut out) {
+    match dump_skipping_from(rt.alloc(), file, &clock, &mut out) {
         Ok(()) => Ok(()),
         Err(fault) => Err(fault_of_dump(name, fault, watch.has_failed())),
     }

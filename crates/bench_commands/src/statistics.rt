@@ -164,7 +164,7 @@ fn count_watched<'a, R: Files + AllocGlobal + Clock, E: Eprint + IsTerminal>(
     if *selection != Selection::all() && counts_nothing(figures.as_slice()) {
         return Err(Fault::NoneSelected);
     }
-    let clock = clock_of_large(rt, request.recording, watch, request.shown.time)?;
+    let clock = clock_of_large(rt, request.recording, watch, false, request.shown.time)?;
     let told = told_watched(rt, request, watch, selection, figures.as_slice())?;
     Ok(Counted {
         figures,

@@ -51,9 +51,9 @@ pub fn draw(
 }
 
 /// Draws the picture that `draw` draws, of a recording that is read anew: once for what is to be drawn, and once more
-/// for each channel that is, in memory for the largest packet of messages and the picture. A recording that can't be
-/// read is refused with its first fault, K1 to K5, N2 or F1 to F3; want of memory and failures of the reader are the
-/// others.
+/// for each channel that is, in memory for the largest packet of messages or of time and the picture. A recording that
+/// can't be read is refused with its first fault, K1 to K5, N2 or F1 to F3; want of memory and failures of the reader
+/// are the others.
 pub fn draw_from<S: Reopen>(
     alloc: Global,
     recording: &S,

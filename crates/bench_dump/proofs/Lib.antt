@@ -1,3 +1,4 @@
+pub mod InTurn
 pub mod Packets
 pub mod Placing
 pub mod SkipLines

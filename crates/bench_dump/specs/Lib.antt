@@ -5,4 +5,5 @@ pub mod Reads
 pub mod FaultText
 pub mod SkippingText
 pub mod Streaming
+pub mod StretchText
 pub mod TimedText

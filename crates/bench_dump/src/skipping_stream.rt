@@ -1,8 +1,11 @@
 //! A dump of whatever is sound in a recording that a reader gives.
-ghost use Rattle.std.specs.Prelude.{◌+◌, ◌<◌, ◌^◌, ◌++◌, length, OnOk, IfErr};
-ghost use Rattle.bench_dump.specs.DumpText.{packet_line};
+ghost use Rattle.std.specs.Prelude.{◌≡◌, ℕ, List, [], Some, true, OnOk, IfErr};
+ghost use Rattle.std.specs.Io.KnownBytes.{Appends};
+ghost use Rattle.ch11_reader.specs.Skipping.{packets_read, skips_in};
 ghost use Rattle.bench_dump.specs.Printing.{Carries, IsOther};
-ghost use Rattle.bench_dump.specs.TimedText.{timed_lines};
+ghost use Rattle.bench_dump.specs.SkippingText.{text_of};
+ghost use Rattle.bench_dump.specs.StretchText.{IsFew, stretch_lines};
+ghost use Rattle.bench_dump.specs.TimedText.{timed_text};
 
 use crate::fault::DumpFault;
 use crate::lines::put_packet_line;
@@ -10,55 +13,62 @@ use crate::output::dump_messages;
 use crate::skips::dump_skips;
 use crate::text::Text;
 use bench_clock::Clock;
-use ch11_reader::Packet;
 use ch11_stream::{Stretch, Stretches};
 use std::alloc::Global;
 use std::io::{Read, Write};
 
-/// The lines of the packet that was read last.
-fn dump_sound<R: Read, W: Write>(
+/// The lines of the stretch that was read last.
+fn dump_stretch<R: Read, W: Write>(
     text: &mut Text,
     out: &mut W,
     stretches: &Stretches<R>,
-    packet: &Packet,
+    stretch: &Stretch,
     clock: &Clock,
 ) -> Result<(), DumpFault>
-    requires { packet.now.before + length stretches.now.given < 2 ^ 64 }
+    requires { IsFew stretch.now stretches.now.given }
     ensures printed { OnOk result (Carries (W.contents out.old) text.old (W.contents out.new) text.new
-        (packet_line packet.now.offset packet.now.header packet.now.count
-        ++ timed_lines clock.now packet.now.before packet.now.header.channel stretches.now.given)) }
+        (stretch_lines clock.now stretch.now stretches.now.given)) }
     ensures failed { IfErr result IsOther }
 {
-    put_packet_line(text, packet)?;
-    dump_messages(
-        text,
-        out,
-        packet.before,
-        packet.header.channel,
-        clock,
-        stretches.messages(),
-    )
+    match stretch {
+        Stretch::Sound(packet) => {
+            put_packet_line(text, packet)?;
+            dump_messages(
+                text,
+                out,
+                packet.before,
+                packet.header.channel,
+                clock,
+                stretches.messages(),
+            )
+        }
+        Stretch::Skipped(skip) => dump_skips(text, out, &[*skip]),
+    }
 }
 
 /// Prints whatever is sound in a recording, and what was skipped, as it comes from a reader, in memory for the largest
-/// packet: the text that `dump` with `skip` prints of all bytes that the reader has left; no clause says so. Nothing is
+/// packet, with the time of day behind each stamp, where the clock tells one: the text that `dump` with `skip` prints
+/// of all bytes that the reader has left where it tells none, and that of `dump_with_times` with `skip` by the clock of
+/// the recording's sound packets, as `clock_from` makes it of `SoundPackets` in a pass before this one. Nothing is
 /// refused: a fault is want of memory, or a failure of the reader or the writer.
 pub fn dump_skipping_from<R: Read + Drop, W: Write>(
     alloc: Global,
     input: R,
+    clock: &Clock,
     out: &mut W,
 ) -> Result<(), DumpFault>
+    ensures printed { (file : List ℕ) → R.remaining input ≡ Some file
+        → OnOk result (Appends (W.contents out.old) (W.contents out.new)
+        (timed_text clock.now (skips_in file) (packets_read file))) }
+    ensures plain { clock.now ≡ [] → (file : List ℕ) → R.remaining input ≡ Some file
+        → OnOk result (Appends (W.contents out.old) (W.contents out.new) (text_of true file)) }
     ensures failed { IfErr result IsOther }
 {
     let mut stretches = Stretches::over(alloc, input)?;
     let mut text = Text::new(alloc);
-    let clock = Clock::of(alloc, &[], &[])?;
     'stretches: for _made in 0..u64::MAX {
         match stretches.next() {
-            Ok(Some(Stretch::Sound(packet))) => {
-                dump_sound(&mut text, out, &stretches, &packet, &clock)?;
-            }
-            Ok(Some(Stretch::Skipped(skip))) => dump_skips(&mut text, out, &[skip])?,
+            Ok(Some(stretch)) => dump_stretch(&mut text, out, &stretches, &stretch, clock)?,
             Ok(None) => {
                 out.write_all(text.as_slice())?;
                 out.flush()?;

@@ -30,9 +30,9 @@ pub struct Exported<W: Write> {
 }
 
 /// Writes the rows that `export` writes of all bytes that a reader has left, as their packets come, in memory for the
-/// largest packet of messages. A recording that can't be read is refused with its first fault, K1 to K5, N2 or F1 to
-/// F3, and then the writer may have got rows of packets in front of it. The time of day is that of the clock that is
-/// given, since a recording's own is known at its end alone.
+/// largest packet of messages or of time. A recording that can't be read is refused with its first fault, K1 to K5, N2
+/// or F1 to F3, and then the writer may have got rows of packets in front of it. The time of day is that of the clock
+/// that is given, since a recording's own is known at its end alone.
 pub fn export_from<R: Advance + Drop, W: Write + Drop>(
     alloc: Global,
     input: R,

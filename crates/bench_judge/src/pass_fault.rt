@@ -9,8 +9,8 @@ use ch11_stream::StreamFault;
 use std::alloc::AllocError;
 use std::io;
 
-/// Why what is said of a recording that is read packet by packet was not said to its end. Of one in memory want of memory
-/// and `Printing` are all.
+/// Why what is said of a recording that is read packet by packet was not said to its end. Of one in memory want of
+/// memory and `Printing` are all.
 #[derive(Debug, Drop)]
 pub enum PassFault {
     /// A reader of the recording could not be had for one more pass.

@@ -11,9 +11,9 @@ use judge_rules::Rule;
 use std::alloc::Global;
 
 /// The verdicts that `judge` gives on all bytes that a reader has left, as their packets come. All rules share one
-/// pass, however many they are: memory is needed for the largest packet of messages, and for a stamp of each channel
-/// for each rule of a period. A recording that can't be read is refused with its first fault, K1 to K5, N2 or F1 to F3;
-/// want of memory and the reader's failure are the others.
+/// pass, however many they are: memory is needed for the largest packet of messages or of time, and for a stamp of each
+/// channel for each rule of a period. A recording that can't be read is refused with its first fault, K1 to K5, N2 or
+/// F1 to F3; want of memory and the reader's failure are the others.
 pub fn judge_from<R: Advance + Drop>(
     alloc: Global,
     input: R,

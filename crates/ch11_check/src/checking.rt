@@ -5,9 +5,9 @@ ghost use Rattle.ch11_stream.specs.Folding.{Finds};
 use ch11_stream::{Advance, Packets, StreamFault};
 use std::alloc::Global;
 
-/// Reads a recording to its end, in memory for the largest packet of messages. It is refused with its first fault, K1
-/// to K5, N2 or F1 to F3, with the packet's offset; want of memory and the reader's failure are the others. Otherwise
-/// each packet of it can be read.
+/// Reads a recording to its end, in memory for the largest packet of messages or of time. It is refused with its first
+/// fault, K1 to K5, N2 or F1 to F3, with the packet's offset; want of memory and the reader's failure are the others.
+/// Otherwise each packet of it can be read.
 pub fn check_from<R: Advance + Drop>(alloc: Global, input: R) -> Result<(), StreamFault>
     ensures { (file : List ℕ) → R.remaining input ≡ Some file → Finds (λ ps none. Unit {0}) result file }
 {

@@ -1,6 +1,7 @@
 //! The packets of a recording read one after the other from a reader (IRIG 106-17 Chapter 11), in memory for the
-//! largest packet of messages: which bytes are a recording, and what it holds, is said by `ch11_reader`. Its tests are
-//! in `ch11_stream_tests`.
+//! largest packet of messages or of time; and the stretches of one that may be damaged, in memory for the largest
+//! packet of any type. Which bytes are a recording, and what it holds, is said by `ch11_reader`. Its tests are in
+//! `ch11_stream_tests`.
 #![tactic(auto)]
 
 mod advance;

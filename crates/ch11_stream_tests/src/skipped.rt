@@ -3,6 +3,7 @@
 use crate::equal::{are_bytes, same};
 use crate::streamed::failing;
 use crate::streams::{FOREIGN, Slow, reader_of};
+use bench_clock::Clock;
 use bench_dump::{DumpFault, dump_skipping_from};
 use ch11_header::HeaderError;
 use ch11_reader::{Fault, Index, Packet, Skip};
@@ -56,8 +57,13 @@ fn is_dumped(
     answer: Result<(), DumpFault>,
     text: &str,
 ) {
+    let clock = Clock::of(alloc, &[], &[]).ok().expect(rt, "memory");
     let mut out = Vec::new(alloc);
-    same(rt, &dump_skipping_from(alloc, input, &mut out), &answer);
+    same(
+        rt,
+        &dump_skipping_from(alloc, input, &clock, &mut out),
+        &answer,
+    );
     are_bytes(rt, &out, text.as_bytes());
 }
 

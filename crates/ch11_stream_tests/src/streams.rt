@@ -4,7 +4,7 @@ use crate::equal::{are_bytes, same};
 use ch11_f1::Messages;
 use ch11_header::{Header, write_header};
 use ch11_reader::{Index, Packet, ReadError};
-use ch11_stream::{Packets, StreamFault};
+use ch11_stream::{Advance, Packets, StreamFault};
 use std::alloc::{AllocError, Global};
 use std::io;
 use std::io::{ErrorKind, Read};
@@ -21,7 +21,7 @@ pub(crate) const FOREIGN: [u8; 96] = [
 ];
 
 /// A reader that gives so many bytes at a time at most. It may be interrupted in front of each read that gives some,
-/// and may fail where it has no more.
+/// may fail where it has no more, and may pass bytes unread, also behind its end, where it does not fail.
 #[derive(Clone, Copy)]
 pub(crate) struct Slow<'a> {
     pub(crate) rest: &'a [u8],
@@ -29,6 +29,21 @@ pub(crate) struct Slow<'a> {
     pub(crate) interrupts: bool,
     pub(crate) interrupted: bool,
     pub(crate) fails: bool,
+    pub(crate) seeks: bool,
+}
+
+impl Advance for Slow<'_> {
+    fn advance(&mut self, count: u64) -> io::Result<u64> {
+        if !self.seeks {
+            return Ok(0);
+        }
+        let passed = self.rest.len().min(count as usize);
+        if (passed as u64) < count && self.fails {
+            return Err(io::Error::from(ErrorKind::Other));
+        }
+        self.rest = &self.rest[passed..];
+        Ok(count)
+    }
 }
 
 impl Read for Slow<'_> {
@@ -57,6 +72,15 @@ pub(crate) fn reader_of(file: &[u8], most: usize) -> Slow<'_> {
         interrupts: false,
         interrupted: false,
         fails: false,
+        seeks: false,
+    }
+}
+
+/// The same, and it passes bytes unread.
+pub(crate) fn seeking(file: &[u8], most: usize) -> Slow<'_> {
+    Slow {
+        seeks: true,
+        ..reader_of(file, most)
     }
 }
 
@@ -76,7 +100,7 @@ fn are_alike(rt: &impl Abort, messages: Messages<'_>, others: Messages<'_>) {
 }
 
 /// The reader gives the packets of these bytes, which are sound, and then that.
-fn gives(
+pub(crate) fn gives(
     rt: &impl Abort,
     alloc: Global,
     input: Slow<'_>,
@@ -96,7 +120,7 @@ fn gives(
 }
 
 /// The packets of a file come as they do where all its bytes are read at once, and so does its first fault.
-fn is_read_alike(rt: &impl Abort, alloc: Global, file: &[u8], input: Slow<'_>) {
+pub(crate) fn is_read_alike(rt: &impl Abort, alloc: Global, file: &[u8], input: Slow<'_>) {
     match Index::build(alloc, file) {
         Ok(_) => gives(rt, alloc, input, file, Ok(None)),
         Err(ReadError::Refused(refusal)) => {

@@ -5,11 +5,11 @@ use crate::equal::{are_bytes, same};
 use crate::streamed::{failing, pair};
 use crate::streams::{FOREIGN, Slow, reader_of};
 use bench_clock::{Clock, clock_from};
-use bench_dump::DumpFault;
+use bench_dump::{DumpFault, dump_skipping_from};
 use bench_passes::dump_with_times_in_two_passes;
 use ch11_header::{Header, HeaderError, write_header};
 use ch11_reader::{Fault, Refusal};
-use ch11_stream::{Packets, StreamFault};
+use ch11_stream::{Packets, SoundPackets, StreamFault};
 use std::alloc::Global;
 use std::process::Abort;
 
@@ -212,4 +212,40 @@ fn no_times_are_printed_where_the_first_pass_fails(rt: HostRuntime) {
     is_dumped(&rt, alloc, first, second, refused, "");
     let failed = Err(DumpFault::Device);
     is_dumped(&rt, alloc, failing(&file, 364), second, failed, "");
+}
+
+/// The text of `timed` with its second time packet damaged, which then is skipped: no other line changes, since that
+/// packet did not count.
+const DAMAGED_TEXT: &str = "packet 0 channel 1 type 19 seq 0 flags 80 messages 1
+message 1 channel 1 stamp 0 block 0000 gaps 0050 words 2823 0001 0002 0003 2800
+packet 64 channel 0 type 11 skipped
+packet 100 channel 1 type 19 seq 0 flags 80 messages 1
+message 2 channel 1 stamp 1000 time 2024-12-31T23:59:58.0000000 block 0000 gaps 0050 words 2823 0001 0002 0003 2800
+skipped 164 length 36 K2
+packet 200 channel 1 type 19 seq 0 flags 80 messages 1
+message 3 channel 1 stamp 20000999 time 2024-12-31T23:59:59.9999999 block 0000 gaps 0050 words 2823 0001 0002 0003 2800
+packet 264 channel 0 type 11 skipped
+packet 300 channel 1 type 19 seq 0 flags 80 messages 1
+message 4 channel 1 stamp 20001001 time 2025-01-01T00:00:05.0000001 block 0000 gaps 0050 words 2823 0001 0002 0003 2800
+";
+
+/// The clock of what is sound of a file.
+fn clock_of_sound(rt: &impl Abort, alloc: Global, file: &[u8]) -> Clock {
+    let sound = SoundPackets::over(alloc, reader_of(file, 7))
+        .ok()
+        .expect(rt, "memory");
+    clock_from(alloc, sound).ok().expect(rt, "a clock")
+}
+
+/// A damaged recording is printed with the times of day that its sound packets tell.
+#[test]
+fn what_is_sound_has_its_times(rt: HostRuntime) {
+    let alloc = rt.alloc();
+    let mut file = timed();
+    file[164] = 0x26;
+    let clock = clock_of_sound(&rt, alloc, &file);
+    let mut out = Vec::new(alloc);
+    let printed = dump_skipping_from(alloc, reader_of(&file, 1), &clock, &mut out);
+    same(&rt, &printed, &Ok(()));
+    are_bytes(&rt, &out, DAMAGED_TEXT.as_bytes());
 }

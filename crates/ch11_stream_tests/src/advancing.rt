@@ -1,0 +1,144 @@
+//! Readers that pass long packets of other data types unread.
+
+use crate::equal::same;
+use crate::streams::{FOREIGN, Slow, gives, is_read_alike, reader_of, seeking};
+use ch11_header::{Header, write_header};
+use ch11_stream::{Advance, Packets, StreamFault};
+use std::alloc::{AllocError, Global};
+use std::cell::Cell;
+use std::io::{self, Read};
+use std::process::Abort;
+
+/// How many bytes the packets have that are passed.
+const LONG: usize = 1_000_000;
+
+/// The foreign file, a packet of PCM data (0x09) of so many bytes, and the foreign file again.
+fn with_long_packet(alloc: Global, size: u32) -> Result<Vec<u8>, AllocError> {
+    let header = Header {
+        channel: 9,
+        packet_length: size,
+        data_length: size - 24,
+        version: 6,
+        sequence: 0,
+        flags: 0,
+        kind: 0x09,
+        counter: 0,
+    };
+    let mut file = Vec::new(alloc);
+    file.extend_from_slice(&FOREIGN)?;
+    file.extend_from_slice(&write_header(&header))?;
+    file.resize(FOREIGN.len() + size as usize, 0x25)?;
+    file.extend_from_slice(&FOREIGN)?;
+    Ok(file)
+}
+
+/// A reader that passes bytes unread, and counts those that it gives.
+struct Counting<'a> {
+    reader: Slow<'a>,
+    given: &'a Cell<usize>,
+}
+
+impl Read for Counting<'_> {
+    fn read(&mut self, buf: &mut [u8]) -> io::Result<usize> {
+        let read = self.reader.read(buf);
+        if let Ok(count) = &read {
+            self.given.set(self.given.get().saturating_add(*count));
+        }
+        read
+    }
+}
+
+impl Advance for Counting<'_> {
+    fn advance(&mut self, count: u64) -> io::Result<u64> {
+        self.reader.advance(count)
+    }
+}
+
+/// How many bytes are read of a file, and how many packets it has.
+fn read_of(rt: &impl Abort, alloc: Global, file: &[u8]) -> (usize, usize) {
+    let given = Cell::new(0);
+    let reader = Counting {
+        reader: seeking(file, usize::MAX),
+        given: &given,
+    };
+    let mut packets = Packets::over(alloc, reader).ok().expect(rt, "memory");
+    let mut count = 0;
+    for _ in 0..100u64 {
+        match packets.next() {
+            Ok(Some(_)) => count += 1,
+            _ => break,
+        }
+    }
+    (given.get(), count)
+}
+
+/// A long packet is passed but for its first bytes, which come with those in front of it, and its last one.
+#[test]
+fn passes_a_long_packet_unread(rt: HostRuntime) {
+    let file = with_long_packet(rt.alloc(), LONG as u32).expect(&rt, "memory");
+    let (given, count) = read_of(&rt, rt.alloc(), &file);
+    same(&rt, &count, &5);
+    same(&rt, &(given < 300_000), &true);
+}
+
+/// The packets are the same where long ones are passed and where they are read.
+#[test]
+fn passes_and_reads_alike(rt: HostRuntime) {
+    for size in [24, 32_764, 32_768, 262_048, 262_144, 294_912, 1_000_000] {
+        let file = with_long_packet(rt.alloc(), size).expect(&rt, "memory");
+        for most in [1000, 65_537, usize::MAX] {
+            is_read_alike(&rt, rt.alloc(), &file, seeking(&file, most));
+            is_read_alike(&rt, rt.alloc(), &file, reader_of(&file, most));
+        }
+    }
+}
+
+/// A file that ends within a long packet is refused there, however far a reader may pass behind its end.
+#[test]
+fn sees_the_end_within_a_long_packet(rt: HostRuntime) {
+    let file = with_long_packet(rt.alloc(), LONG as u32).expect(&rt, "memory");
+    for end in [96, 119, 120, 500_000, 96 + LONG - 1, 96 + LONG] {
+        is_read_alike(
+            &rt,
+            rt.alloc(),
+            &file[..end],
+            seeking(&file[..end], usize::MAX),
+        );
+    }
+}
+
+/// Where bytes cannot be passed the reading fails.
+#[test]
+fn fails_where_bytes_cannot_be_passed(rt: HostRuntime) {
+    let file = with_long_packet(rt.alloc(), LONG as u32).expect(&rt, "memory");
+    let failing = Slow {
+        fails: true,
+        ..seeking(&file[..500_000], usize::MAX)
+    };
+    gives(&rt, rt.alloc(), failing, &FOREIGN, Err(StreamFault::Device));
+}
+
+/// So many packets are read of bytes in memory.
+fn packets_in_memory(rt: &impl Abort, alloc: Global, file: &[u8]) -> usize {
+    let mut packets = Packets::over(alloc, file).ok().expect(rt, "memory");
+    let mut count = 0;
+    for _ in 0..100u64 {
+        match packets.next() {
+            Ok(Some(_)) => count += 1,
+            _ => break,
+        }
+    }
+    count
+}
+
+/// Bytes in memory are passed as they are.
+#[test]
+fn passes_bytes_in_memory(rt: HostRuntime) {
+    let file = with_long_packet(rt.alloc(), LONG as u32).expect(&rt, "memory");
+    same(&rt, &packets_in_memory(&rt, rt.alloc(), &file), &5);
+    same(
+        &rt,
+        &packets_in_memory(&rt, rt.alloc(), &file[..96 + LONG - 1]),
+        &2,
+    );
+}
