@@ -17,7 +17,7 @@ fn with_long_packet(alloc: Global, size: u32) -> Result<Vec<u8>, AllocError> {
     let header = Header {
         channel: 9,
         packet_length: size,
-        data_length: size - 24,
+        data_length: size.saturating_sub(24),
         version: 6,
         sequence: 0,
         flags: 0,
@@ -33,6 +33,7 @@ fn with_long_packet(alloc: Global, size: u32) -> Result<Vec<u8>, AllocError> {
 }
 
 /// A reader that passes bytes unread, and counts those that it gives.
+#[derive(Drop)]
 struct Counting<'a> {
     reader: Slow<'a>,
     given: &'a Cell<usize>,
@@ -54,29 +55,34 @@ impl Advance for Counting<'_> {
     }
 }
 
-/// How many bytes are read of a file, and how many packets it has.
-fn read_of(rt: &impl Abort, alloc: Global, file: &[u8]) -> (usize, usize) {
+/// How many packets a reader gives without a fault.
+fn packets_of<R: Advance + Drop>(rt: &impl Abort, alloc: Global, reader: R) -> usize {
+    let mut packets = Packets::over(alloc, reader).ok().expect(rt, "memory");
+    let mut count = 0usize;
+    for _ in 0..100u64 {
+        match packets.next() {
+            Ok(Some(_)) => count = count.saturating_add(1),
+            _ => break,
+        }
+    }
+    count
+}
+
+/// How many packets are read of a file by a reader that passes bytes unread, and how many bytes it gives.
+fn counted(rt: &impl Abort, alloc: Global, file: &[u8]) -> (usize, usize) {
     let given = Cell::new(0);
     let reader = Counting {
         reader: seeking(file, usize::MAX),
         given: &given,
     };
-    let mut packets = Packets::over(alloc, reader).ok().expect(rt, "memory");
-    let mut count = 0;
-    for _ in 0..100u64 {
-        match packets.next() {
-            Ok(Some(_)) => count += 1,
-            _ => break,
-        }
-    }
-    (given.get(), count)
+    (packets_of(rt, alloc, reader), given.get())
 }
 
 /// A long packet is passed but for its first bytes, which come with those in front of it, and its last one.
 #[test]
 fn passes_a_long_packet_unread(rt: HostRuntime) {
     let file = with_long_packet(rt.alloc(), LONG as u32).expect(&rt, "memory");
-    let (given, count) = read_of(&rt, rt.alloc(), &file);
+    let (count, given) = counted(&rt, rt.alloc(), &file);
     same(&rt, &count, &5);
     same(&rt, &(given < 300_000), &true);
 }
@@ -93,17 +99,18 @@ fn passes_and_reads_alike(rt: HostRuntime) {
     }
 }
 
+/// The first bytes of a file.
+fn front(file: &[u8], count: usize) -> &[u8] {
+    file.get(..count).unwrap_or(&[])
+}
+
 /// A file that ends within a long packet is refused there, however far a reader may pass behind its end.
 #[test]
 fn sees_the_end_within_a_long_packet(rt: HostRuntime) {
     let file = with_long_packet(rt.alloc(), LONG as u32).expect(&rt, "memory");
     for end in [96, 119, 120, 500_000, 96 + LONG - 1, 96 + LONG] {
-        is_read_alike(
-            &rt,
-            rt.alloc(),
-            &file[..end],
-            seeking(&file[..end], usize::MAX),
-        );
+        let cut = front(&file, end);
+        is_read_alike(&rt, rt.alloc(), cut, seeking(cut, usize::MAX));
     }
 }
 
@@ -113,32 +120,19 @@ fn fails_where_bytes_cannot_be_passed(rt: HostRuntime) {
     let file = with_long_packet(rt.alloc(), LONG as u32).expect(&rt, "memory");
     let failing = Slow {
         fails: true,
-        ..seeking(&file[..500_000], usize::MAX)
+        ..seeking(front(&file, 500_000), usize::MAX)
     };
     gives(&rt, rt.alloc(), failing, &FOREIGN, Err(StreamFault::Device));
-}
-
-/// So many packets are read of bytes in memory.
-fn packets_in_memory(rt: &impl Abort, alloc: Global, file: &[u8]) -> usize {
-    let mut packets = Packets::over(alloc, file).ok().expect(rt, "memory");
-    let mut count = 0;
-    for _ in 0..100u64 {
-        match packets.next() {
-            Ok(Some(_)) => count += 1,
-            _ => break,
-        }
-    }
-    count
 }
 
 /// Bytes in memory are passed as they are.
 #[test]
 fn passes_bytes_in_memory(rt: HostRuntime) {
     let file = with_long_packet(rt.alloc(), LONG as u32).expect(&rt, "memory");
-    same(&rt, &packets_in_memory(&rt, rt.alloc(), &file), &5);
+    same(&rt, &packets_of(&rt, rt.alloc(), file.as_slice()), &5);
     same(
         &rt,
-        &packets_in_memory(&rt, rt.alloc(), &file[..96 + LONG - 1]),
+        &packets_of(&rt, rt.alloc(), front(&file, 96 + LONG - 1)),
         &2,
     );
 }
