@@ -3,18 +3,4 @@
 #![tactic(auto)]
 
 #[cfg(test)]
-mod bodies;
-#[cfg(test)]
-mod builders;
-#[cfg(test)]
-mod clocks;
-#[cfg(test)]
-mod dumps;
-#[cfg(test)]
-mod equal;
-#[cfg(test)]
-mod readers;
-#[cfg(test)]
-mod recordings;
-#[cfg(test)]
-mod skips;
+mod tests;

@@ -1,13 +1,14 @@
 //! Damaged recordings, read both ways: by the reading that stops at the first fault, and by the one that skips.
 
-use crate::dumps::{dumped, prints};
-use crate::equal::{are_bytes, same};
-use crate::readers::{FOREIGN, ONE_MESSAGE, words_of};
+use crate::tests::dumps::{dumped, prints};
+use crate::tests::equal::{are_bytes, same};
+use crate::tests::readers::words_of;
 use ch11_f1::BodyError;
 use ch11_header::{Header, HeaderError, write_header};
 use ch11_reader::{Fault, Index, ReadError, Refusal, Skip, SkippingIndex};
 use std::alloc::{AllocError, Global};
 use std::process::Abort;
+use test_values::{FOREIGN, ONE_PACKET, foreign_with};
 
 /// The skipping reading of a file.
 fn skipping<'a>(rt: &impl Abort, alloc: Global, file: &'a [u8]) -> SkippingIndex<'a> {
@@ -93,7 +94,7 @@ fn is_one(rt: &impl Abort, alloc: Global, file: &[u8], wanted: Result<u64, Fault
 
 /// The worked packet with two of its bytes made others.
 fn changed(first: usize, byte: u8, second: usize, other: u8) -> [u8; 52] {
-    let mut file = ONE_MESSAGE;
+    let mut file = ONE_PACKET;
     if first < 52 {
         file[first] = byte;
     }
@@ -146,7 +147,7 @@ fn reads_the_rows_of_headers_both_ways(rt: HostRuntime) {
 fn reads_a_message_without_its_status(rt: HostRuntime) {
     let file = changed(40, 0x08, 52, 0);
     let found = skipping(&rt, rt.alloc(), &file);
-    same(&rt, &words_of(&found.index, 1), &Some(&ONE_MESSAGE[42..50]));
+    same(&rt, &words_of(&found.index, 1), &Some(&ONE_PACKET[42..50]));
 }
 
 /// A file of two parts.
@@ -159,7 +160,7 @@ fn joined(alloc: Global, first: &[u8], second: &[u8]) -> Result<Vec<u8>, AllocEr
 
 #[test]
 fn skips_the_bytes_behind_a_packet(rt: HostRuntime) {
-    let file = joined(rt.alloc(), &ONE_MESSAGE, &[0, 0, 0])
+    let file = joined(rt.alloc(), &ONE_PACKET, &[0, 0, 0])
         .ok()
         .expect(&rt, "memory");
     let fault = Fault::Header(HeaderError::Short);
@@ -169,7 +170,7 @@ fn skips_the_bytes_behind_a_packet(rt: HostRuntime) {
 
 #[test]
 fn skips_a_packet_in_front_of_another(rt: HostRuntime) {
-    let file = joined(rt.alloc(), &changed(22, 0x7D, 52, 0), &ONE_MESSAGE)
+    let file = joined(rt.alloc(), &changed(22, 0x7D, 52, 0), &ONE_PACKET)
         .ok()
         .expect(&rt, "memory");
     let fault = Fault::Header(HeaderError::Checksum);
@@ -213,11 +214,7 @@ fn reads_each_prefix_of_the_foreign_file_both_ways(rt: HostRuntime) {
 fn changes_are_read_alike(rt: &impl Abort, alloc: Global, from: usize, to: usize) {
     for place in from..to {
         for change in 1..=255u8 {
-            let mut file = FOREIGN;
-            if let Some(byte) = file.get_mut(place) {
-                *byte ^= change;
-            }
-            assert!(rt; is_read_alike(rt, alloc, &file));
+            assert!(rt; is_read_alike(rt, alloc, &foreign_with(place, change)));
         }
     }
 }
@@ -257,7 +254,7 @@ fn three_channels(alloc: Global) -> Result<Vec<u8>, AllocError> {
             counter: 680 * number as u64,
         };
         file.extend_from_slice(&write_header(&header))?;
-        file.extend_from_slice(&ONE_MESSAGE[24..])?;
+        file.extend_from_slice(&ONE_PACKET[24..])?;
     }
     Ok(file)
 }
@@ -368,7 +365,7 @@ fn headers_alone(alloc: Global) -> Result<Vec<u8>, AllocError> {
         };
         file.extend_from_slice(&write_header(&header))?;
     }
-    file.extend_from_slice(&ONE_MESSAGE)?;
+    file.extend_from_slice(&ONE_PACKET)?;
     Ok(file)
 }
 

@@ -1,10 +1,9 @@
 //! Bodies against the worked one of a message of five words.
 
-use crate::equal::{are_bytes, same};
-use arrayvec::ArrayVec;
+use crate::tests::equal::{are_bytes, same};
+use crate::tests::messages::message_of;
 use ch11_f1::body::messages;
 use ch11_f1::{BodyError, Seen, put_record};
-use mil_monitor::Record;
 use std::process::Abort;
 
 const WORKED: [u8; 28] = [
@@ -28,16 +27,7 @@ fn has_fault_with(rt: &impl Abort, place: usize, byte: u8, fault: Option<BodyErr
 
 #[test]
 fn puts_the_worked_record(rt: HostRuntime) {
-    let mut words = ArrayVec::new();
-    for word in [0x2823, 1, 2, 3, 0x2800] {
-        assert!(rt; words.try_push(word).is_ok());
-    }
-    let message = Record {
-        stamp: 0,
-        block: 0,
-        gaps: 0x50,
-        words,
-    };
+    let message = message_of(0, 0x50, &[0x2823, 1, 2, 3, 0x2800]);
     let mut out = [0xFFu8; 96];
     assert!(rt; message.words.len() == 5);
     same(&rt, &put_record(&message, &mut out), &24);

@@ -1,12 +1,12 @@
 //! Dumps against the worked one.
 
-use crate::equal::{are_bytes, reads, same};
-use crate::readers::FOREIGN;
+use crate::tests::equal::{are_bytes, reads, same};
 use bench_dump::{DumpFault, dump, read_all};
 use std::alloc::Global;
 use std::io;
 use std::io::Read;
 use std::process::Abort;
+use test_values::FOREIGN;
 
 const PRINTED: &str = "packet 0 channel 0 type 01 skipped
 packet 32 channel 1 type 19 seq 0 flags 80 messages 1

@@ -1,45 +1,21 @@
 //! Packets of a channel, against worked bytes and at their limits.
 ghost use Rattle.std.specs.Prelude.{◌≡◌};
 
-use crate::equal::{are_bytes, reads};
-use arrayvec::ArrayVec;
+use crate::tests::equal::{are_bytes, reads};
+use crate::tests::messages::message_of;
 use ch11_builder::{Builder, BuilderError, Pushed, run_gives_the_packets};
 use ch11_header::read_header;
 use mil_monitor::Record;
 use std::alloc::Global;
 use std::process::Abort;
-
-/// The packet of a message of five words.
-const ONE_PACKET: [u8; 52] = [
-    0x25, 0xEB, 0x01, 0x00, 0x34, 0x00, 0x00, 0x00, 0x1C, 0x00, 0x00, 0x00, 0x06, 0x00, 0x00, 0x19,
-    0x00, 0x00, 0x00, 0x00, 0x00, 0x00, 0x7C, 0x04, 0x01, 0x00, 0x00, 0x40, 0x00, 0x00, 0x00, 0x00,
-    0x00, 0x00, 0x00, 0x00, 0x00, 0x00, 0x50, 0x00, 0x0A, 0x00, 0x23, 0x28, 0x01, 0x00, 0x02, 0x00,
-    0x03, 0x00, 0x00, 0x28,
-];
-
-/// A message of five words.
-fn short_message() -> Record
-    ensures { result.stamp ≡ 0 }
-{
-    let mut words = ArrayVec::new();
-    words.push(0x2823u16);
-    words.push(1);
-    words.push(2);
-    words.push(3);
-    words.push(0x2800);
-    Record {
-        stamp: 0,
-        block: 0,
-        gaps: 0x50,
-        words,
-    }
-}
+use test_values::ONE_PACKET;
 
 #[test]
 fn one_message(rt: HostRuntime) {
     let made = Builder::make(rt.alloc(), 1, 6, 4096);
     let mut builder = made.ok().expect(&rt, "a builder");
-    let kept = matches!(builder.push(1, &short_message()), Pushed::Kept);
+    let message = message_of(0, 0x50, &[0x2823, 1, 2, 3, 0x2800]);
+    let kept = matches!(builder.push(1, &message), Pushed::Kept);
     assert!(rt; kept);
     let bytes = builder.close().expect(&rt, "a packet");
     are_bytes(&rt, bytes, &ONE_PACKET);
@@ -51,16 +27,7 @@ fn one_message(rt: HostRuntime) {
 fn long_message(stamp: u64) -> Record
     ensures { result.stamp ≡ stamp }
 {
-    let mut words: ArrayVec<u16, 40> = ArrayVec::new();
-    for _ in 0..36u8 {
-        let _ = words.try_push(7);
-    }
-    Record {
-        stamp,
-        block: 0,
-        gaps: 0,
-        words,
-    }
+    message_of(stamp, 0, &[7; 36])
 }
 
 /// Length, data length, sequence and flags of a packet: none where its header can't be read.

@@ -1,9 +1,9 @@
 //! Recordings of several channels, as their packets close, and sinks that fail.
 ghost use Rattle.std.specs.Prelude.{◌≡◌};
 
-use crate::equal::{are_bytes, same};
-use crate::readers::built;
-use arrayvec::ArrayVec;
+use crate::tests::equal::{are_bytes, same};
+use crate::tests::messages::message_of;
+use crate::tests::readers::built;
 use ch11_builder::BuilderError;
 use ch11_header::read_header;
 use ch11_reader::Index;
@@ -17,16 +17,7 @@ use std::process::Abort;
 fn received(stamp: u64) -> Record
     ensures { result.stamp ≡ stamp }
 {
-    let mut words: ArrayVec<u16, 40> = ArrayVec::new();
-    for word in [0x2821u16, 1, 0x2800] {
-        let _ = words.try_push(word);
-    }
-    Record {
-        stamp,
-        block: 0,
-        gaps: 0x50,
-        words,
-    }
+    message_of(stamp, 0x50, &[0x2821, 1, 0x2800])
 }
 
 /// Channel, length, sequence and flags of the packet at the front.
