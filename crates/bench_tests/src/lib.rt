@@ -3,14 +3,4 @@
 #![tactic(auto)]
 
 #[cfg(test)]
-mod channels;
-#[cfg(test)]
-mod equal;
-#[cfg(test)]
-mod placing;
-#[cfg(test)]
-mod posts;
-#[cfg(test)]
-mod reports;
-#[cfg(test)]
-mod worlds;
+mod tests;

@@ -1,22 +1,15 @@
 //! Recordings of one channel, byte by byte and read back.
-use crate::equal::{are_bytes, prints, same_in};
+use crate::tests::equal::{are_bytes, printed, reads, same_in};
 use bench_core::{ChannelFault, one_channel};
 use ch11_reader::Index;
 use ch11_writer::{FuseSink, MemorySink, Sink};
 use job_file::{Job, read_job};
 use std::alloc::Global;
 use std::process::Abort;
+use test_values::ONE_PACKET;
 
 /// A job that sends three words to a terminal.
 const ONE_MESSAGE: &str = "channel 1\nterminal 5\nscript\nsend A rx 5 1 [0001 0002 0003]\n";
-
-/// The packet of that message.
-const ONE_PACKET: [u8; 52] = [
-    0x25, 0xeb, 0x01, 0x00, 0x34, 0x00, 0x00, 0x00, 0x1c, 0x00, 0x00, 0x00, 0x06, 0x00, 0x00, 0x19,
-    0x00, 0x00, 0x00, 0x00, 0x00, 0x00, 0x7c, 0x04, 0x01, 0x00, 0x00, 0x40, 0x00, 0x00, 0x00, 0x00,
-    0x00, 0x00, 0x00, 0x00, 0x00, 0x00, 0x50, 0x00, 0x0a, 0x00, 0x23, 0x28, 0x01, 0x00, 0x02, 0x00,
-    0x03, 0x00, 0x00, 0x28,
-];
 
 /// A job of ten messages, and one of none.
 const TEN_MESSAGES: &str = "channel 2\nterminal 5\nscript\nrepeat 10 { send A rx 5 1 [0001] }\n";
@@ -84,22 +77,22 @@ const SENT: &[(u32, usize, &str, usize)] = &[
 
 #[test]
 fn limits_out_of_range_and_failing_sinks(rt: HostRuntime) {
-    for (limit, room, printed, held) in SENT {
-        is_sent(&rt, rt.alloc(), *limit, *room, printed, *held);
+    for (limit, room, text, held) in SENT {
+        is_sent(&rt, rt.alloc(), *limit, *room, text, *held);
     }
 }
 
-fn is_sent(rt: &impl Abort, alloc: Global, limit: u32, room: usize, printed: &str, held: usize) {
+fn is_sent(rt: &impl Abort, alloc: Global, limit: u32, room: usize, text: &str, held: usize) {
     let job = job_of(rt, alloc, ONE_MESSAGE);
     match one_channel(alloc, &job, 6, limit, FuseSink::make(alloc, room)) {
-        Ok(sink) => is_whole(rt, &sink, printed, held),
-        Err(fault) => is_fault(rt, alloc, &fault, printed, held),
+        Ok(sink) => is_whole(rt, &sink, text, held),
+        Err(fault) => is_fault(rt, alloc, &fault, text, held),
     }
 }
 
 /// There is no fault, and the sink holds so many bytes.
-fn is_whole(rt: &impl Abort, sink: &FuseSink, printed: &str, held: usize) {
-    same_in(rt, printed, &printed.is_empty(), &true);
+fn is_whole(rt: &impl Abort, sink: &FuseSink, text: &str, held: usize) {
+    same_in(rt, text, &text.is_empty(), &true);
     same_in(rt, "held", &sink.bytes().len(), &held);
 }
 
@@ -108,11 +101,11 @@ fn is_fault(
     rt: &impl Abort,
     alloc: Global,
     fault: &ChannelFault<FuseSink>,
-    printed: &str,
+    text: &str,
     held: usize,
 ) {
-    same_in(rt, printed, &held_by(fault), &held);
-    prints(rt, alloc, printed, fault, printed);
+    same_in(rt, text, &held_by(fault), &held);
+    reads(rt, text, &printed(rt, alloc, fault), text);
 }
 
 /// How many bytes the sink of a fault holds.

@@ -1,7 +1,7 @@
 //! Steps that post actions of hosts: where these act, what a report says of them, and what is refused.
-use crate::worlds::Found::{Messages, Stamp, Words};
-use crate::worlds::Then::{Finds, Holds, Plays, Reports};
-use crate::worlds::{MadeOf, Script, are_played};
+use crate::tests::scripts::Found::{Messages, Stamp, Words};
+use crate::tests::scripts::Then::{Finds, Holds, Plays, Reports};
+use crate::tests::scripts::{Found, MadeOf, Script, are_played};
 use bench_core::PlayError;
 
 /// Three mode commands, to which terminal 5 answers with its status word.
@@ -26,10 +26,32 @@ const FOUR_POSTS: MadeOf = MadeOf {
     prologue: 0,
 };
 
+/// The same where one post is taken, and where none is.
+const ONE_POST: MadeOf = MadeOf {
+    posts: 1,
+    ..FOUR_POSTS
+};
+
+const NO_POST: MadeOf = MadeOf {
+    posts: 0,
+    ..FOUR_POSTS
+};
+
 /// The words of a message to which the terminal answers without its flag, and with it.
 const WITHOUT_FLAG: &[u8] = &[0xE1, 0x2F, 0, 0x28];
 
 const WITH_FLAG: &[u8] = &[0xE1, 0x2F, 1, 0x28];
+
+/// Three messages, of which the terminal answers the second and the third with its flag.
+const FLAG_FROM_SECOND: &[Found] = &[
+    Messages(3),
+    Stamp(1, 0),
+    Words(1, WITHOUT_FLAG),
+    Stamp(2, 480),
+    Words(2, WITH_FLAG),
+    Stamp(3, 960),
+    Words(3, WITH_FLAG),
+];
 
 const SCRIPTS: &[Script] = &[
     Script {
@@ -38,13 +60,7 @@ const SCRIPTS: &[Script] = &[
         steps: &[
             Plays("05000TTTT", Ok(())),
             Holds(84, 0),
-            Finds(Messages(3)),
-            Finds(Stamp(1, 0)),
-            Finds(Words(1, WITHOUT_FLAG)),
-            Finds(Stamp(2, 480)),
-            Finds(Words(2, WITH_FLAG)),
-            Finds(Stamp(3, 960)),
-            Finds(Words(3, WITH_FLAG)),
+            Finds(FLAG_FROM_SECOND),
             Reports(ONE_PLACED),
         ],
     },
@@ -52,21 +68,12 @@ const SCRIPTS: &[Script] = &[
         name: "a post acts behind what is placed there",
         made_of: MadeOf {
             jobs: &[WITH_OWN],
-            limit: 4096,
-            queue: 4,
-            posts: 4,
-            prologue: 0,
+            ..FOUR_POSTS
         },
         steps: &[
             Plays("05000TTTT", Ok(())),
             Holds(84, 0),
-            Finds(Messages(3)),
-            Finds(Stamp(1, 0)),
-            Finds(Words(1, WITHOUT_FLAG)),
-            Finds(Stamp(2, 480)),
-            Finds(Words(2, WITH_FLAG)),
-            Finds(Stamp(3, 960)),
-            Finds(Words(3, WITH_FLAG)),
+            Finds(FLAG_FROM_SECOND),
             Reports(OWN_FIRST),
         ],
     },
@@ -81,13 +88,7 @@ const SCRIPTS: &[Script] = &[
     },
     Script {
         name: "no terminal and too many posts",
-        made_of: MadeOf {
-            jobs: &[THREE],
-            limit: 4096,
-            queue: 4,
-            posts: 1,
-            prologue: 0,
-        },
+        made_of: ONE_POST,
         steps: &[
             Plays("06-", Err(PlayError::Index)),
             Plays("0556", Err(PlayError::NoTerminal)),
@@ -97,25 +98,13 @@ const SCRIPTS: &[Script] = &[
             Plays("05", Err(PlayError::Posts)),
             Plays("000TTTT", Ok(())),
             Holds(84, 0),
-            Finds(Messages(3)),
-            Finds(Stamp(1, 0)),
-            Finds(Words(1, WITHOUT_FLAG)),
-            Finds(Stamp(2, 480)),
-            Finds(Words(2, WITH_FLAG)),
-            Finds(Stamp(3, 960)),
-            Finds(Words(3, WITH_FLAG)),
+            Finds(FLAG_FROM_SECOND),
             Reports(ONE_PLACED),
         ],
     },
     Script {
         name: "no posts are allowed",
-        made_of: MadeOf {
-            jobs: &[THREE],
-            limit: 4096,
-            queue: 4,
-            posts: 0,
-            prologue: 0,
-        },
+        made_of: NO_POST,
         steps: &[
             Plays("6", Err(PlayError::NoTerminal)),
             Plays("5", Err(PlayError::Posts)),

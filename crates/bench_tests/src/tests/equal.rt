@@ -19,14 +19,7 @@ pub(crate) fn reads(rt: &impl Abort, row: &str, text: &str, wanted: &str) {
     assert_eq!(rt; text, wanted, "{row}");
 }
 
-/// A value is printed as this text; a failure names the row.
-pub(crate) fn prints<T: Display>(
-    rt: &impl Abort,
-    alloc: Global,
-    row: &str,
-    value: &T,
-    wanted: &str,
-) {
-    let printed = value.to_string(alloc).expect(rt, row);
-    reads(rt, row, printed.as_str(), wanted);
+/// The text as which a value is printed.
+pub(crate) fn printed<T: Display>(rt: &impl Abort, alloc: Global, value: &T) -> String {
+    value.to_string(alloc).expect(rt, "memory")
 }

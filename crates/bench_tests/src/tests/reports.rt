@@ -1,5 +1,7 @@
 //! Texts of reports: what is expected stands in the format's own words.
-use crate::equal::{prints, reads, same_in};
+ghost use Rattle.std.specs.Prelude.{◌≡◌};
+
+use crate::tests::equal::{printed, reads, same_in};
 use bc_machine::{Actions, Placed};
 use bench_report::{
     ChannelReport, Report, ReportError, ReportFault, print_report, read_report, write_report,
@@ -117,7 +119,7 @@ fn are_faults(rt: &impl Abort, alloc: Global, texts: &[(&str, &str)]) {
 fn is_fault(rt: &impl Abort, alloc: Global, text: &str, wanted: &str) {
     match read_report(alloc, text.as_bytes()) {
         Ok(_) => reads(rt, text, "", wanted),
-        Err(fault) => prints(rt, alloc, text, &fault, wanted),
+        Err(fault) => reads(rt, text, &printed(rt, alloc, &fault), wanted),
     }
 }
 
@@ -164,20 +166,23 @@ fn reads_and_prints_actions_in_rows(rt: HostRuntime) {
     is_written(&rt, rt.alloc(), &report, ROWS);
 }
 
+/// An action of a terminal's host, just before a message.
+fn placed_at(number: u32, address: u8, action: Action) -> Placed
+    ensures { result ≡ record { number = number; address = address; action = action } }
+{
+    Placed {
+        number,
+        address,
+        action,
+    }
+}
+
 /// The report with two placed actions.
 fn report_with_placed(rt: &impl Abort, alloc: Global) -> Report {
     let mut placed = Actions::new(alloc);
-    let first = Placed {
-        number: 1,
-        address: 30,
-        action: Action::Fault(true),
-    };
+    let first = placed_at(1, 30, Action::Fault(true));
     placed.push(first).expect(rt, "memory");
-    let second = Placed {
-        number: 1000000,
-        address: 0,
-        action: Action::Illegal(Mark::make(false, 3, 4)),
-    };
+    let second = placed_at(1000000, 0, Action::Illegal(Mark::make(false, 3, 4)));
     placed.push(second).expect(rt, "memory");
     let mut channels = Vec::new(alloc);
     channels
@@ -241,5 +246,10 @@ fn prints_want_of_memory(rt: HostRuntime) {
         fault: ReportFault::Memory,
         line: 7,
     };
-    prints(&rt, rt.alloc(), "memory", &error, "X4 line 7");
+    reads(
+        &rt,
+        "memory",
+        &printed(&rt, rt.alloc(), &error),
+        "X4 line 7",
+    );
 }

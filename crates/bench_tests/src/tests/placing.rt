@@ -1,6 +1,6 @@
 //! A job's actions by rising number, and those that a channel's part of a report has.
-use crate::channels::job_of;
-use crate::equal::{reads, same_in};
+use crate::tests::channels::job_of;
+use crate::tests::equal::{reads, same_in};
 use bc_machine::{Actions, Placed};
 use bench_core::{channel_report, ordered_actions};
 use bench_report::ChannelReport;
