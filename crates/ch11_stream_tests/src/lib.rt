@@ -4,26 +4,4 @@
 #![tactic(auto)]
 
 #[cfg(test)]
-mod advancing;
-#[cfg(test)]
-mod decoded;
-#[cfg(test)]
-mod drawn;
-#[cfg(test)]
-mod equal;
-#[cfg(test)]
-mod exported;
-#[cfg(test)]
-mod followed;
-#[cfg(test)]
-mod rereading;
-#[cfg(test)]
-mod skipped;
-#[cfg(test)]
-mod streamed;
-#[cfg(test)]
-mod streams;
-#[cfg(test)]
-mod timed;
-#[cfg(test)]
-mod waves;
+mod tests;

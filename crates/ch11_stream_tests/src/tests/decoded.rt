@@ -1,8 +1,8 @@
 //! Messages printed as packets come from a reader, against what is printed of all bytes.
 
-use crate::equal::{are_bytes, same};
-use crate::streamed::{damaged, failing, pair, refusal};
-use crate::streams::{Slow, reader_of};
+use crate::tests::equal::{are_bytes, same, wrote};
+use crate::tests::streamed::{damaged, failing, pair, refusal};
+use crate::tests::streams::{Slow, reader_of};
 use bench_decode::{Output, Selection, Shown, decode, decode_from};
 use bench_dump::DumpFault;
 use std::alloc::Global;
@@ -32,18 +32,11 @@ fn output_of(errors: bool, decoded: bool) -> Output {
     }
 }
 
-/// A reader's file is printed so.
-fn is_printed(
-    rt: &impl Abort,
-    alloc: Global,
-    input: Slow<'_>,
-    output: &Output,
-    answer: &Result<u64, DumpFault>,
-    text: &[u8],
-) {
+/// What is printed of a reader's file, and of how many messages or why not.
+fn printed(alloc: Global, input: Slow<'_>, output: &Output) -> (Result<u64, DumpFault>, Vec<u8>) {
     let mut out = Vec::new(alloc);
-    same(rt, &decode_from(alloc, input, &mut out, output), answer);
-    are_bytes(rt, &out, text);
+    let answer = decode_from(alloc, input, &mut out, output);
+    (answer, out)
 }
 
 #[test]
@@ -51,23 +44,12 @@ fn lines_come_from_packets(rt: HostRuntime) {
     let alloc = rt.alloc();
     let (all, errors) = (output_of(false, false), output_of(true, false));
     let file = pair();
-    is_printed(
-        &rt,
-        alloc,
-        reader_of(&file, 1),
-        &all,
-        &Ok(2),
-        PAIR_LINES.as_bytes(),
-    );
-    is_printed(
-        &rt,
-        alloc,
-        reader_of(&file, 7),
-        &errors,
-        &Ok(1),
-        ERROR_LINES.as_bytes(),
-    );
-    is_printed(&rt, alloc, reader_of(&[], 1), &all, &Ok(0), b"");
+    let found = printed(alloc, reader_of(&file, 1), &all);
+    wrote(&rt, found, Ok(2), PAIR_LINES);
+    let found = printed(alloc, reader_of(&file, 7), &errors);
+    wrote(&rt, found, Ok(1), ERROR_LINES);
+    let found = printed(alloc, reader_of(&[], 1), &all);
+    wrote(&rt, found, Ok(0), "");
 }
 
 /// The decoded lines are those of the file's bytes.
@@ -75,7 +57,9 @@ fn is_decoded_alike(rt: &impl Abort, alloc: Global, output: &Output, count: u64)
     let file = pair();
     let mut wanted = Vec::new(alloc);
     same(rt, &decode(alloc, &file, &mut wanted, output), &Ok(count));
-    is_printed(rt, alloc, reader_of(&file, 1), output, &Ok(count), &wanted);
+    let (answer, out) = printed(alloc, reader_of(&file, 1), output);
+    same(rt, &answer, &Ok(count));
+    are_bytes(rt, &out, &wanted);
 }
 
 #[test]
@@ -90,7 +74,8 @@ fn messages_of_a_damaged_file_are_refused(rt: HostRuntime) {
     let alloc = rt.alloc();
     let (all, file, broken) = (output_of(false, false), pair(), damaged());
     let refused = Err(DumpFault::Refused(refusal()));
-    is_printed(&rt, alloc, reader_of(&broken, 1), &all, &refused, b"");
-    let failed = Err(DumpFault::Device);
-    is_printed(&rt, alloc, failing(&file, 150), &all, &failed, b"");
+    let found = printed(alloc, reader_of(&broken, 1), &all);
+    wrote(&rt, found, refused, "");
+    let found = printed(alloc, failing(&file, 150), &all);
+    wrote(&rt, found, Err(DumpFault::Device), "");
 }

@@ -1,8 +1,8 @@
 //! What is told of channels beside their figures, as packets come from a reader, worked out by hand.
 
-use crate::equal::{are_bytes, same};
-use crate::streamed::{damaged, pair, pair_figures, refusal};
-use crate::streams::reader_of;
+use crate::tests::equal::{are_bytes, same};
+use crate::tests::streamed::{damaged, pair, pair_figures, refusal};
+use crate::tests::streams::reader_of;
 use bench_clock::Clock;
 use bench_select::Selection;
 use bench_stat::{Flow, Losses, Shown, Slice, ToldChannels, print_page, print_tables, told_from};
@@ -159,21 +159,25 @@ fn nothing_is_told_of_a_damaged_file(rt: HostRuntime) {
     same(&rt, &found.err(), &Some(StreamFault::Refused(refusal())));
 }
 
+/// What is told of the lossy pair, as tables or on a page, is printed so.
+fn is_printed(rt: &impl Abort, alloc: Global, as_tables: bool, shown: &Shown, text: &str) {
+    let clock = Clock::of(alloc, &[], &[]).ok().expect(rt, "memory");
+    let figures = [pair_figures()];
+    let told = told_of(rt, alloc, shown);
+    let mut out = Vec::new(alloc);
+    let printed = if as_tables {
+        print_tables(alloc, &mut out, &told, &figures, shown, &clock)
+    } else {
+        print_page(alloc, &mut out, &told, &figures, shown, &clock)
+    };
+    same(rt, &printed.is_ok(), &true);
+    are_bytes(rt, &out, text.as_bytes());
+}
+
 #[test]
 fn what_packets_tell_is_printed(rt: HostRuntime) {
-    let alloc = rt.alloc();
-    let clock = Clock::of(alloc, &[], &[]).ok().expect(&rt, "memory");
-    let figures = [pair_figures()];
-    let shown = Shown { load: false, ..ALL };
-    let told = told_of(&rt, alloc, &shown);
-    let mut out = Vec::new(alloc);
-    let printed = print_page(alloc, &mut out, &told, &figures, &shown, &clock);
-    same(&rt, &printed.is_ok(), &true);
-    are_bytes(&rt, &out, PAGE.as_bytes());
-    let shown = Shown { long: false, ..ALL };
-    let told = told_of(&rt, alloc, &shown);
-    let mut out = Vec::new(alloc);
-    let printed = print_tables(alloc, &mut out, &told, &figures, &shown, &clock);
-    same(&rt, &printed.is_ok(), &true);
-    are_bytes(&rt, &out, ROWS.as_bytes());
+    let on_a_page = Shown { load: false, ..ALL };
+    is_printed(&rt, rt.alloc(), false, &on_a_page, PAGE);
+    let in_tables = Shown { long: false, ..ALL };
+    is_printed(&rt, rt.alloc(), true, &in_tables, ROWS);
 }

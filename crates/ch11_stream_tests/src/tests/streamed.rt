@@ -1,7 +1,7 @@
 //! What is made of packets as they come from a reader, one byte a time, worked out by hand.
 
-use crate::equal::{are_bytes, same};
-use crate::streams::{FOREIGN, Slow, reader_of};
+use crate::tests::equal::{are, same, wrote};
+use crate::tests::streams::{Slow, reader_of};
 use bench_dump::DumpFault;
 use bench_judge::{Verdict, judge_from};
 use bench_passes::dump_in_two_passes;
@@ -14,9 +14,10 @@ use ch11_stream::StreamFault;
 use judge_rules::read_rules;
 use std::alloc::Global;
 use std::process::Abort;
+use test_values::FOREIGN;
 
 /// The text of the foreign file twice, where the second message is that of `pair`.
-const PAIR_TEXT: &str = "packet 0 channel 0 type 01 skipped
+pub(crate) const PAIR_TEXT: &str = "packet 0 channel 0 type 01 skipped
 packet 32 channel 1 type 19 seq 0 flags 80 messages 1
 message 1 channel 1 stamp 0 block 1000 gaps 0050 words 2823 0001 0002 0003 2800
 packet 96 channel 0 type 01 skipped
@@ -112,12 +113,7 @@ fn count_of(rt: &impl Abort, alloc: Global, file: &[u8]) -> usize {
 fn figures_come_from_packets(rt: HostRuntime) {
     let found = counted(rt.alloc(), reader_of(&pair(), 1));
     let figures = found.ok().expect(&rt, "figures");
-    same(&rt, &figures.len(), &1);
-    same(
-        &rt,
-        &figures.as_slice().first().copied(),
-        &Some(pair_figures()),
-    );
+    are(&rt, figures.as_slice(), &[pair_figures()]);
     same(&rt, &count_of(&rt, rt.alloc(), &[]), &0);
     same(&rt, &count_of(&rt, rt.alloc(), &FOREIGN[..32]), &0);
 }
@@ -177,17 +173,7 @@ fn judged(rt: &impl Abort, alloc: Global, input: Slow<'_>) -> Result<Vec<Verdict
 fn verdicts_come_from_packets(rt: HostRuntime) {
     let found = judged(&rt, rt.alloc(), reader_of(&pair(), 1));
     let verdicts = found.ok().expect(&rt, "verdicts");
-    same(&rt, &verdicts.len(), &2);
-    same(
-        &rt,
-        &verdicts.as_slice().first().copied(),
-        &Some(of_errors()),
-    );
-    same(
-        &rt,
-        &verdicts.as_slice().last().copied(),
-        &Some(of_periods()),
-    );
+    are(&rt, verdicts.as_slice(), &[of_errors(), of_periods()]);
 }
 
 #[test]
@@ -209,19 +195,11 @@ fn a_file_is_checked_to_its_end(rt: HostRuntime) {
     same(&rt, &check_from(alloc, failing(&pair(), 192)), &failed);
 }
 
-/// Two readers' files are printed so.
-fn is_dumped(
-    rt: &impl Abort,
-    alloc: Global,
-    first: Slow<'_>,
-    second: Slow<'_>,
-    answer: Result<(), DumpFault>,
-    text: &str,
-) {
+/// What is printed of two readers' files, and how that ends.
+fn dumped(alloc: Global, first: Slow<'_>, second: Slow<'_>) -> (Result<(), DumpFault>, Vec<u8>) {
     let mut out = Vec::new(alloc);
-    let found = dump_in_two_passes(alloc, first, second, &mut out);
-    same(rt, &found, &answer);
-    are_bytes(rt, &out, text.as_bytes());
+    let answer = dump_in_two_passes(alloc, first, second, &mut out);
+    (answer, out)
 }
 
 #[test]
@@ -229,9 +207,9 @@ fn a_file_is_printed_in_its_second_pass(rt: HostRuntime) {
     let alloc = rt.alloc();
     let file = pair();
     let (first, second) = (reader_of(&file, 1), reader_of(&file, 7));
-    is_dumped(&rt, alloc, first, second, Ok(()), PAIR_TEXT);
+    wrote(&rt, dumped(alloc, first, second), Ok(()), PAIR_TEXT);
     let none = reader_of(&[], 1);
-    is_dumped(&rt, alloc, none, none, Ok(()), "");
+    wrote(&rt, dumped(alloc, none, none), Ok(()), "");
 }
 
 #[test]
@@ -240,9 +218,11 @@ fn nothing_is_printed_where_the_first_pass_fails(rt: HostRuntime) {
     let (file, broken) = (pair(), damaged());
     let refused = Err(DumpFault::Refused(refusal()));
     let second = reader_of(&file, 7);
-    is_dumped(&rt, alloc, reader_of(&broken, 1), second, refused, "");
+    let first = reader_of(&broken, 1);
+    wrote(&rt, dumped(alloc, first, second), refused, "");
+    let first = failing(&file, 100);
     let failed = Err(DumpFault::Device);
-    is_dumped(&rt, alloc, failing(&file, 100), second, failed, "");
+    wrote(&rt, dumped(alloc, first, second), failed, "");
 }
 
 /// The file was damaged between the passes; its lines are too few to be handed on before the fault.
@@ -251,5 +231,5 @@ fn the_second_pass_has_its_own_fault(rt: HostRuntime) {
     let (file, broken) = (pair(), damaged());
     let refused = Err(DumpFault::Refused(refusal()));
     let (first, second) = (reader_of(&file, 7), reader_of(&broken, 7));
-    is_dumped(&rt, rt.alloc(), first, second, refused, "");
+    wrote(&rt, dumped(rt.alloc(), first, second), refused, "");
 }

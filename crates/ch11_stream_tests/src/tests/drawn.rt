@@ -1,15 +1,14 @@
 //! Pictures of recordings that are read anew for each pass, against those of all bytes.
 
-use crate::equal::{are_bytes, same};
-use crate::rereading::{Changing, apart};
-use crate::streamed::{damaged, refusal};
+use crate::tests::equal::{are_bytes, same};
+use crate::tests::rereading::{Changing, apart};
+use crate::tests::streamed::{damaged, refusal};
 use bench_clock::Clock;
 use bench_draw::{DrawFault, Drawing, draw, draw_from};
 use bench_select::Selection;
 use ch11_reader::Index;
 use ch11_stream::StreamFault;
 use std::alloc::Global;
-use std::cell::Cell;
 use std::process::Abort;
 
 /// How often a piece stands in a picture.
@@ -18,16 +17,6 @@ fn count_of(picture: &[u8], piece: &str) -> usize {
         .windows(piece.len().max(1))
         .filter(|window| *window == piece.as_bytes())
         .count()
-}
-
-/// A recording of one file and then another, which may be opened so often.
-fn changing<'a>(first: &'a [u8], later: &'a [u8], most: usize) -> Changing<'a> {
-    Changing {
-        first,
-        later,
-        most,
-        opened: Cell::new(0),
-    }
 }
 
 /// The picture of a recording whose times of day are not known.
@@ -55,7 +44,7 @@ fn whole(rt: &impl Abort, alloc: Global, file: &[u8], selection: &Selection) -> 
 fn a_picture_comes_from_passes(rt: HostRuntime) {
     let alloc = rt.alloc();
     let file = apart();
-    let recording = changing(&file, &file, 3);
+    let recording = Changing::of(&file, &file, 3);
     let found = drawn(&rt, alloc, &recording, &Selection::all());
     let picture = found.ok().expect(&rt, "a picture");
     same(&rt, &recording.opened.get(), &3);
@@ -86,14 +75,14 @@ fn a_selection_is_drawn_in_passes(rt: HostRuntime) {
     let file = apart();
     let mut selection = Selection::all();
     selection.channel = Some(2);
-    let recording = changing(&file, &file, 2);
+    let recording = Changing::of(&file, &file, 2);
     let found = drawn(&rt, alloc, &recording, &selection);
     let picture = found.ok().expect(&rt, "a picture");
     same(&rt, &picture.messages, &1);
     let one = whole(&rt, alloc, &file, &selection);
     are_bytes(&rt, &picture.text, one.text.as_slice());
     selection.channel = Some(3);
-    let recording = changing(&file, &file, 1);
+    let recording = Changing::of(&file, &file, 1);
     let found = drawn(&rt, alloc, &recording, &selection);
     let picture = found.ok().expect(&rt, "a picture");
     same(&rt, &picture.messages, &0);
@@ -108,7 +97,10 @@ fn a_selection_is_drawn_in_passes(rt: HostRuntime) {
 fn a_damaged_recording_is_not_drawn(rt: HostRuntime) {
     let alloc = rt.alloc();
     let (file, broken) = (apart(), damaged());
-    for recording in [changing(&broken, &file, 3), changing(&file, &broken, 3)] {
+    for recording in [
+        Changing::of(&broken, &file, 3),
+        Changing::of(&file, &broken, 3),
+    ] {
         let found = drawn(&rt, alloc, &recording, &Selection::all());
         let fault = match found {
             Err(DrawFault::Recording(fault)) => Some(fault),
@@ -116,7 +108,7 @@ fn a_damaged_recording_is_not_drawn(rt: HostRuntime) {
         };
         same(&rt, &fault, &Some(StreamFault::Refused(refusal())));
     }
-    let recording = changing(&file, &file, 2);
+    let recording = Changing::of(&file, &file, 2);
     let found = drawn(&rt, alloc, &recording, &Selection::all());
     same(&rt, &matches!(&found, Err(DrawFault::Opening(_))), &true);
 }

@@ -12,3 +12,19 @@ pub(crate) fn same<T: PartialEq + Debug>(rt: &impl Abort, found: &T, wanted: &T)
 pub(crate) fn are_bytes(rt: &impl Abort, bytes: &[u8], wanted: &[u8]) {
     assert_eq!(rt; bytes, wanted);
 }
+
+/// The items are these.
+pub(crate) fn are<T: PartialEq + Debug>(rt: &impl Abort, items: &[T], wanted: &[T]) {
+    assert_eq!(rt; items, wanted);
+}
+
+/// A call answered this, and wrote this text.
+pub(crate) fn wrote<A: PartialEq + Debug + Drop>(
+    rt: &impl Abort,
+    found: (A, Vec<u8>),
+    answer: A,
+    text: &str,
+) {
+    same(rt, &found.0, &answer);
+    are_bytes(rt, &found.1, text.as_bytes());
+}

@@ -1,8 +1,8 @@
 //! Recordings that may be damaged as they come from a reader, worked out by hand, and against the reading of all bytes.
 
-use crate::equal::{are_bytes, same};
-use crate::streamed::failing;
-use crate::streams::{FOREIGN, Slow, reader_of};
+use crate::tests::equal::{same, wrote};
+use crate::tests::streamed::failing;
+use crate::tests::streams::{Slow, reader_of};
 use bench_clock::Clock;
 use bench_dump::{DumpFault, dump_skipping_from};
 use ch11_header::HeaderError;
@@ -10,18 +10,19 @@ use ch11_reader::{Fault, Index, Packet, Skip};
 use ch11_stream::{StreamFault, Stretch, Stretches};
 use std::alloc::Global;
 use std::process::Abort;
+use test_values::{FOREIGN, foreign_with};
 
 /// The foreign file with bytes in front of it, one between its packets, and some behind it. Behind the last sync
 /// pattern there are too few bytes for a header.
-const AMONG_OTHERS: [u8; 105] = [
-    0xFF, 0x25, 0x00, 0x25, 0xEB, 0x00, 0x00, 0x20, 0x00, 0x00, 0x00, 0x06, 0x00, 0x00, 0x00, 0x06,
-    0x00, 0x00, 0x01, 0x00, 0x00, 0x00, 0x00, 0x00, 0x00, 0x51, 0xEC, 0x00, 0x00, 0x00, 0x00, 0x41,
-    0x42, 0x00, 0x00, 0x25, 0x25, 0xEB, 0x01, 0x00, 0x40, 0x00, 0x00, 0x00, 0x1C, 0x00, 0x00, 0x00,
-    0x06, 0x00, 0x80, 0x19, 0x00, 0x00, 0x00, 0x00, 0x00, 0x00, 0x08, 0x05, 0x00, 0x00, 0x00, 0x00,
-    0x00, 0x00, 0x00, 0x00, 0x00, 0x00, 0x00, 0x00, 0x01, 0x00, 0x00, 0x40, 0x00, 0x00, 0x00, 0x00,
-    0x00, 0x00, 0x00, 0x00, 0x00, 0x00, 0x50, 0x00, 0x0A, 0x00, 0x23, 0x28, 0x01, 0x00, 0x02, 0x00,
-    0x03, 0x00, 0x00, 0x28, 0x25, 0xEB, 0x00, 0x00, 0x00,
-];
+fn among_others() -> [u8; 105] {
+    let mut file = [0u8; 105];
+    file[..3].copy_from_slice(&[0xFF, 0x25, 0x00]);
+    file[3..35].copy_from_slice(&FOREIGN[..32]);
+    file[35] = 0x25;
+    file[36..100].copy_from_slice(&FOREIGN[32..]);
+    file[100..].copy_from_slice(&[0x25, 0xEB, 0x00, 0x00, 0x00]);
+    file
+}
 
 /// Its text.
 const AMONG_OTHERS_TEXT: &str = "skipped 0 length 3 K2
@@ -49,33 +50,25 @@ fn over_a_packet() -> [u8; 88] {
     file
 }
 
-/// A reader's file is printed so.
-fn is_dumped(
-    rt: &impl Abort,
-    alloc: Global,
-    input: Slow<'_>,
-    answer: Result<(), DumpFault>,
-    text: &str,
-) {
+/// What is printed of a reader's file, and how that ends.
+fn dumped(rt: &impl Abort, alloc: Global, input: Slow<'_>) -> (Result<(), DumpFault>, Vec<u8>) {
     let clock = Clock::of(alloc, &[], &[]).ok().expect(rt, "memory");
     let mut out = Vec::new(alloc);
-    same(
-        rt,
-        &dump_skipping_from(alloc, input, &clock, &mut out),
-        &answer,
-    );
-    are_bytes(rt, &out, text.as_bytes());
+    let answer = dump_skipping_from(alloc, input, &clock, &mut out);
+    (answer, out)
 }
 
 /// A file is printed so, whether it is given one byte at a time or at once.
 fn is_printed(rt: &impl Abort, alloc: Global, file: &[u8], text: &str) {
-    is_dumped(rt, alloc, reader_of(file, 1), Ok(()), text);
-    is_dumped(rt, alloc, reader_of(file, usize::MAX), Ok(()), text);
+    for most in [1, usize::MAX] {
+        let found = dumped(rt, alloc, reader_of(file, most));
+        wrote(rt, found, Ok(()), text);
+    }
 }
 
 #[test]
 fn bytes_around_packets_are_skipped(rt: HostRuntime) {
-    is_printed(&rt, rt.alloc(), &AMONG_OTHERS, AMONG_OTHERS_TEXT);
+    is_printed(&rt, rt.alloc(), &among_others(), AMONG_OTHERS_TEXT);
 }
 
 #[test]
@@ -117,7 +110,8 @@ fn gives(
 /// Three bytes were skipped before the reader failed, which stays the answer.
 #[test]
 fn a_failing_reader_is_told(rt: HostRuntime) {
-    let input = failing(&AMONG_OTHERS, 40);
+    let file = among_others();
+    let input = failing(&file, 40);
     let mut stretches = Stretches::over(rt.alloc(), input)
         .ok()
         .expect(&rt, "memory");
@@ -131,8 +125,8 @@ fn a_failing_reader_is_told(rt: HostRuntime) {
     same(&rt, &stretches.next().is_ok(), &true);
     gives(&rt, &mut stretches, Err(StreamFault::Device));
     gives(&rt, &mut stretches, Err(StreamFault::Device));
-    let failed = Err(DumpFault::Device);
-    is_dumped(&rt, rt.alloc(), failing(&AMONG_OTHERS, 40), failed, "");
+    let found = dumped(&rt, rt.alloc(), input);
+    wrote(&rt, found, Err(DumpFault::Device), "");
 }
 
 /// The stretches of a reader are these packets and skips, and no others.
@@ -162,8 +156,7 @@ fn are_given(
 fn reads_each_change_alike(rt: HostRuntime) {
     for place in 0..FOREIGN.len() {
         for change in 1..=255u8 {
-            let mut file = FOREIGN;
-            file[place] ^= change;
+            let file = foreign_with(place, change);
             let found = Index::build_skipping(rt.alloc(), &file).ok();
             let found = found.expect(&rt, "memory");
             let over = Stretches::over(rt.alloc(), reader_of(&file, 5)).ok();

@@ -1,9 +1,9 @@
 //! Times of day of a recording whose packets come from a reader, worked out by hand.
 ghost use Rattle.std.specs.Prelude.{◌≡◌, ◌+◌, ◌<◌, ◌≤◌, ◌^◌, length};
 
-use crate::equal::{are_bytes, same};
-use crate::streamed::{failing, pair};
-use crate::streams::{FOREIGN, Slow, reader_of};
+use crate::tests::equal::{are_bytes, same, wrote};
+use crate::tests::streamed::{PAIR_TEXT, failing, pair};
+use crate::tests::streams::{Slow, reader_of};
 use bench_clock::{Clock, clock_from};
 use bench_dump::{DumpFault, dump_skipping_from};
 use bench_passes::dump_with_times_in_two_passes;
@@ -12,28 +12,21 @@ use ch11_reader::{Fault, Refusal};
 use ch11_stream::{Packets, SoundPackets, StreamFault};
 use std::alloc::Global;
 use std::process::Abort;
+use test_values::FOREIGN;
 
-/// The text of `timed`.
-const TIMED_TEXT: &str = "packet 0 channel 1 type 19 seq 0 flags 80 messages 1
+/// The text of `timed` in front of its second time packet, and behind it.
+const IN_FRONT: &str = "packet 0 channel 1 type 19 seq 0 flags 80 messages 1
 message 1 channel 1 stamp 0 block 0000 gaps 0050 words 2823 0001 0002 0003 2800
 packet 64 channel 0 type 11 skipped
 packet 100 channel 1 type 19 seq 0 flags 80 messages 1
 message 2 channel 1 stamp 1000 time 2024-12-31T23:59:58.0000000 block 0000 gaps 0050 words 2823 0001 0002 0003 2800
-packet 164 channel 0 type 11 skipped
-packet 200 channel 1 type 19 seq 0 flags 80 messages 1
+";
+
+const BEHIND: &str = "packet 200 channel 1 type 19 seq 0 flags 80 messages 1
 message 3 channel 1 stamp 20000999 time 2024-12-31T23:59:59.9999999 block 0000 gaps 0050 words 2823 0001 0002 0003 2800
 packet 264 channel 0 type 11 skipped
 packet 300 channel 1 type 19 seq 0 flags 80 messages 1
 message 4 channel 1 stamp 20001001 time 2025-01-01T00:00:05.0000001 block 0000 gaps 0050 words 2823 0001 0002 0003 2800
-";
-
-/// The text of `pair`, which has no time packet.
-const PAIR_TEXT: &str = "packet 0 channel 0 type 01 skipped
-packet 32 channel 1 type 19 seq 0 flags 80 messages 1
-message 1 channel 1 stamp 0 block 1000 gaps 0050 words 2823 0001 0002 0003 2800
-packet 96 channel 0 type 01 skipped
-packet 128 channel 1 type 19 seq 0 flags 80 messages 1
-message 2 channel 1 stamp 10000 block 2000 gaps 0050 words 2823 0001 0002 0003 2800
 ";
 
 /// The body of 2024-12-31T23:59:58, 2000-01-01T00:00:00 and 2025-01-01T00:00:05: 2024 and 2000 are leap years.
@@ -173,19 +166,17 @@ fn bytes_of_other_packets_are_passed(rt: HostRuntime) {
     are_bytes(&rt, packets.bytes(), &[]);
 }
 
-/// A file is printed so with times of day.
-fn is_dumped(
-    rt: &impl Abort,
-    alloc: Global,
-    first: Slow<'_>,
-    second: Slow<'_>,
-    answer: Result<(), DumpFault>,
-    text: &str,
-) {
+/// What is printed of two readers' files with times of day, and how that ends.
+fn dumped(alloc: Global, first: Slow<'_>, second: Slow<'_>) -> (Result<(), DumpFault>, Vec<u8>) {
     let mut out = Vec::new(alloc);
-    let found = dump_with_times_in_two_passes(alloc, first, second, &mut out);
-    same(rt, &found, &answer);
-    are_bytes(rt, &out, text.as_bytes());
+    let answer = dump_with_times_in_two_passes(alloc, first, second, &mut out);
+    (answer, out)
+}
+
+/// The text of `timed`, where this line is printed of its second time packet.
+fn timed_text(rt: &impl Abort, alloc: Global, line: &str) -> String {
+    let text = format!(in alloc; "{IN_FRONT}{line}{BEHIND}");
+    text.expect(rt, "memory")
 }
 
 #[test]
@@ -193,9 +184,11 @@ fn times_are_printed_in_the_second_pass(rt: HostRuntime) {
     let alloc = rt.alloc();
     let (file, plain) = (timed(), pair());
     let (first, second) = (reader_of(&file, 1), reader_of(&file, 7));
-    is_dumped(&rt, alloc, first, second, Ok(()), TIMED_TEXT);
+    let text = timed_text(&rt, alloc, "packet 164 channel 0 type 11 skipped\n");
+    wrote(&rt, dumped(alloc, first, second), Ok(()), &text);
+    // the pair has no time packet
     let (first, second) = (reader_of(&plain, 7), reader_of(&plain, 1));
-    is_dumped(&rt, alloc, first, second, Ok(()), PAIR_TEXT);
+    wrote(&rt, dumped(alloc, first, second), Ok(()), PAIR_TEXT);
 }
 
 #[test]
@@ -209,25 +202,11 @@ fn no_times_are_printed_where_the_first_pass_fails(rt: HostRuntime) {
     };
     let refused = Err(DumpFault::Refused(short));
     let first = reader_of(&file[..363], 1);
-    is_dumped(&rt, alloc, first, second, refused, "");
+    wrote(&rt, dumped(alloc, first, second), refused, "");
+    let first = failing(&file, 364);
     let failed = Err(DumpFault::Device);
-    is_dumped(&rt, alloc, failing(&file, 364), second, failed, "");
+    wrote(&rt, dumped(alloc, first, second), failed, "");
 }
-
-/// The text of `timed` with its second time packet damaged, which then is skipped: no other line changes, since that
-/// packet did not count.
-const DAMAGED_TEXT: &str = "packet 0 channel 1 type 19 seq 0 flags 80 messages 1
-message 1 channel 1 stamp 0 block 0000 gaps 0050 words 2823 0001 0002 0003 2800
-packet 64 channel 0 type 11 skipped
-packet 100 channel 1 type 19 seq 0 flags 80 messages 1
-message 2 channel 1 stamp 1000 time 2024-12-31T23:59:58.0000000 block 0000 gaps 0050 words 2823 0001 0002 0003 2800
-skipped 164 length 36 K2
-packet 200 channel 1 type 19 seq 0 flags 80 messages 1
-message 3 channel 1 stamp 20000999 time 2024-12-31T23:59:59.9999999 block 0000 gaps 0050 words 2823 0001 0002 0003 2800
-packet 264 channel 0 type 11 skipped
-packet 300 channel 1 type 19 seq 0 flags 80 messages 1
-message 4 channel 1 stamp 20001001 time 2025-01-01T00:00:05.0000001 block 0000 gaps 0050 words 2823 0001 0002 0003 2800
-";
 
 /// The clock of what is sound of a file.
 fn clock_of_sound(rt: &impl Abort, alloc: Global, file: &[u8]) -> Clock {
@@ -237,7 +216,8 @@ fn clock_of_sound(rt: &impl Abort, alloc: Global, file: &[u8]) -> Clock {
     clock_from(alloc, sound).ok().expect(rt, "a clock")
 }
 
-/// A damaged recording is printed with the times of day that its sound packets tell.
+/// A damaged recording is printed with the times of day that its sound packets tell. Where the second time packet is
+/// damaged, it is skipped, and no other line changes, since it did not count.
 #[test]
 fn what_is_sound_has_its_times(rt: HostRuntime) {
     let alloc = rt.alloc();
@@ -247,5 +227,6 @@ fn what_is_sound_has_its_times(rt: HostRuntime) {
     let mut out = Vec::new(alloc);
     let printed = dump_skipping_from(alloc, reader_of(&file, 1), &clock, &mut out);
     same(&rt, &printed, &Ok(()));
-    are_bytes(&rt, &out, DAMAGED_TEXT.as_bytes());
+    let text = timed_text(&rt, alloc, "skipped 164 length 36 K2\n");
+    are_bytes(&rt, &out, text.as_bytes());
 }

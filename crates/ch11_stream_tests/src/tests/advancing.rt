@@ -1,13 +1,14 @@
 //! Readers that pass long packets of other data types unread.
 
-use crate::equal::same;
-use crate::streams::{FOREIGN, Slow, gives, is_read_alike, reader_of, seeking};
+use crate::tests::equal::same;
+use crate::tests::streams::{Slow, gives, is_read_alike, reader_of, seeking};
 use ch11_header::{Header, write_header};
 use ch11_stream::{Advance, Packets, StreamFault};
 use std::alloc::{AllocError, Global};
 use std::cell::Cell;
 use std::io::{self, Read};
 use std::process::Abort;
+use test_values::FOREIGN;
 
 /// How many bytes the packets have that are passed.
 const LONG: usize = 1_000_000;

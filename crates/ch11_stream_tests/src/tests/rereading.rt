@@ -1,8 +1,8 @@
 //! Verdicts on a recording that is read anew for each pass, worked out by hand.
 
-use crate::equal::{are_bytes, same};
-use crate::streamed::{damaged, pair, refusal};
-use crate::streams::{Slow, reader_of};
+use crate::tests::equal::{are_bytes, same};
+use crate::tests::streamed::{damaged, pair, refusal};
+use crate::tests::streams::{Slow, reader_of};
 use bench_judge::{
     Miss, PassFault, Verdict, first_misses_from, judge_from, junit_text_from, write_colored_from,
     write_misses_from, write_verdicts_from,
@@ -49,10 +49,22 @@ const APART_REPORT: &str =
 /// byte at a time.
 #[derive(Drop)]
 pub(crate) struct Changing<'a> {
-    pub(crate) first: &'a [u8],
-    pub(crate) later: &'a [u8],
-    pub(crate) most: usize,
+    first: &'a [u8],
+    later: &'a [u8],
+    most: usize,
     pub(crate) opened: Cell<usize>,
+}
+
+impl<'a> Changing<'a> {
+    /// A recording of one file and then another, which may be opened so often.
+    pub(crate) fn of(first: &'a [u8], later: &'a [u8], most: usize) -> Changing<'a> {
+        Changing {
+            first,
+            later,
+            most,
+            opened: Cell::new(0),
+        }
+    }
 }
 
 impl<'a> Reopen for Changing<'a> {
@@ -91,12 +103,7 @@ fn judged(
 #[test]
 fn verdicts_are_written_in_passes(rt: HostRuntime) {
     let file = pair();
-    let recording = Changing {
-        first: &file,
-        later: &file,
-        most: 2,
-        opened: Cell::new(0),
-    };
+    let recording = Changing::of(&file, &file, 2);
     let found = judged(&rt, rt.alloc(), &recording, TEXT);
     same(&rt, &found.ok().expect(&rt, "verdicts").len(), &3);
     same(&rt, &recording.opened.get(), &2);
@@ -105,59 +112,39 @@ fn verdicts_are_written_in_passes(rt: HostRuntime) {
 #[test]
 fn nothing_is_written_of_a_damaged_recording(rt: HostRuntime) {
     let file = damaged();
-    let recording = Changing {
-        first: &file,
-        later: &file,
-        most: 2,
-        opened: Cell::new(0),
-    };
-    let found = judged(&rt, rt.alloc(), &recording, "");
-    same(
-        &rt,
-        &stream_fault(found),
-        &Some(StreamFault::Refused(refusal())),
-    );
+    let recording = Changing::of(&file, &file, 2);
+    is_refused(&rt, judged(&rt, rt.alloc(), &recording, ""));
 }
 
 /// The message that misses a rule stands in front of the fault of the second pass.
 #[test]
 fn a_later_pass_has_its_own_fault(rt: HostRuntime) {
     let (file, broken) = (pair(), damaged());
-    let recording = Changing {
-        first: &file,
-        later: &broken,
-        most: 2,
-        opened: Cell::new(0),
-    };
+    let recording = Changing::of(&file, &broken, 2);
     let line = "missed 1 message 1 channel 1 stamp 0\n";
-    let found = judged(&rt, rt.alloc(), &recording, line);
-    same(
-        &rt,
-        &stream_fault(found),
-        &Some(StreamFault::Refused(refusal())),
-    );
+    is_refused(&rt, judged(&rt, rt.alloc(), &recording, line));
 }
 
 #[test]
 fn a_recording_may_not_be_there_again(rt: HostRuntime) {
     let file = pair();
-    let recording = Changing {
-        first: &file,
-        later: &file,
-        most: 1,
-        opened: Cell::new(0),
-    };
-    let found = judged(&rt, rt.alloc(), &recording, "");
-    let is_opening = matches!(&found, Err(PassFault::Opening(_)));
-    same(&rt, &is_opening, &true);
+    let recording = Changing::of(&file, &file, 1);
+    is_not_opened(&rt, judged(&rt, rt.alloc(), &recording, ""));
 }
 
-/// The fault of the recording, if that is what ended it.
-fn stream_fault<T: Drop>(found: Result<T, PassFault>) -> Option<StreamFault> {
-    match found {
+/// What the damaged recording comes to.
+fn is_refused<T: Drop>(rt: &impl Abort, found: Result<T, PassFault>) {
+    let fault = match found {
         Err(PassFault::Recording(fault)) => Some(fault),
         _ => None,
-    }
+    };
+    same(rt, &fault, &Some(StreamFault::Refused(refusal())));
+}
+
+/// What a recording comes to that is not there again.
+fn is_not_opened<T: Drop>(rt: &impl Abort, found: Result<T, PassFault>) {
+    let is_opening = matches!(&found, Err(PassFault::Opening(_)));
+    same(rt, &is_opening, &true);
 }
 
 #[test]
@@ -170,11 +157,7 @@ fn misses_of_a_rule_come_from_packets(rt: HostRuntime) {
     same(&rt, &found.is_ok(), &true);
     are_bytes(&rt, &out, b"missed 1 message 1 channel 1 stamp 0\n");
     let found = write_misses_from(alloc, reader_of(&damaged(), 7), rule, &mut out);
-    same(
-        &rt,
-        &stream_fault(found),
-        &Some(StreamFault::Refused(refusal())),
-    );
+    is_refused(&rt, found);
 }
 
 /// The pair, with its first message on channel 2; its header's checksum is one more then.
@@ -219,72 +202,58 @@ fn the_first_misses_come_from_packets(rt: HostRuntime) {
     same(&rt, &found.err(), &Some(StreamFault::Refused(refusal())));
 }
 
+/// What a terminal shows of a recording that is apart, and how that ends.
+fn shown(
+    rt: &impl Abort,
+    alloc: Global,
+    recording: &Changing<'_>,
+) -> (Result<(), PassFault>, Vec<u8>) {
+    let (rules, verdicts) = apart_verdicts(rt, alloc);
+    let mut out = Vec::new(alloc);
+    let answer = write_colored_from(
+        alloc,
+        recording,
+        APART_RULES,
+        rules.as_slice(),
+        verdicts.as_slice(),
+        &mut out,
+    );
+    (answer, out)
+}
+
 #[test]
 fn a_terminal_shows_misses_of_packets(rt: HostRuntime) {
-    let alloc = rt.alloc();
     let file = apart();
-    let (rules, verdicts) = apart_verdicts(&rt, alloc);
-    let recording = Changing {
-        first: &file,
-        later: &file,
-        most: 1,
-        opened: Cell::new(0),
-    };
-    let mut shown = Vec::new(alloc);
-    let found = write_colored_from(
+    let recording = Changing::of(&file, &file, 1);
+    let (answer, out) = shown(&rt, rt.alloc(), &recording);
+    same(&rt, &answer.is_ok(), &true);
+    are_bytes(&rt, &out, APART_COLORS.as_bytes());
+    let (answer, _) = shown(&rt, rt.alloc(), &recording);
+    is_not_opened(&rt, answer);
+}
+
+/// The report on a recording that is apart.
+fn reported(
+    rt: &impl Abort,
+    alloc: Global,
+    recording: &Changing<'_>,
+) -> Result<Vec<u8>, PassFault> {
+    let (rules, verdicts) = apart_verdicts(rt, alloc);
+    junit_text_from(
         alloc,
-        &recording,
+        recording,
         APART_RULES,
         rules.as_slice(),
         verdicts.as_slice(),
-        &mut shown,
-    );
-    same(&rt, &found.is_ok(), &true);
-    are_bytes(&rt, &shown, APART_COLORS.as_bytes());
-    let found = write_colored_from(
-        alloc,
-        &recording,
-        APART_RULES,
-        rules.as_slice(),
-        verdicts.as_slice(),
-        &mut shown,
-    );
-    same(&rt, &matches!(&found, Err(PassFault::Opening(_))), &true);
+    )
 }
 
 #[test]
 fn a_report_tells_misses_of_packets(rt: HostRuntime) {
-    let alloc = rt.alloc();
     let (file, broken) = (apart(), damaged());
-    let (rules, verdicts) = apart_verdicts(&rt, alloc);
-    let recording = Changing {
-        first: &file,
-        later: &broken,
-        most: 2,
-        opened: Cell::new(0),
-    };
-    let report = junit_text_from(
-        alloc,
-        &recording,
-        APART_RULES,
-        rules.as_slice(),
-        verdicts.as_slice(),
-    );
-    are_bytes(
-        &rt,
-        &report.ok().expect(&rt, "a report"),
-        APART_REPORT.as_bytes(),
-    );
-    let report = junit_text_from(
-        alloc,
-        &recording,
-        APART_RULES,
-        rules.as_slice(),
-        verdicts.as_slice(),
-    );
-    same(
-        &rt,
-        &stream_fault(report),
-        &Some(StreamFault::Refused(refusal())),
-    );
+    let recording = Changing::of(&file, &broken, 2);
+    let report = reported(&rt, rt.alloc(), &recording);
+    let text = report.ok().expect(&rt, "a report");
+    are_bytes(&rt, &text, APART_REPORT.as_bytes());
+    is_refused(&rt, reported(&rt, rt.alloc(), &recording));
 }

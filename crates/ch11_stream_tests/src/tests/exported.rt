@@ -1,8 +1,8 @@
 //! Rows of packets as they come from a reader, one byte a time, worked out by hand.
 
-use crate::equal::{are_bytes, same};
-use crate::streamed::{damaged, failing, pair, refusal};
-use crate::streams::{Slow, reader_of};
+use crate::tests::equal::{are_bytes, same};
+use crate::tests::streamed::{damaged, failing, pair, refusal};
+use crate::tests::streams::{Slow, reader_of};
 use bench_clock::Clock;
 use bench_export::{Columns, ExportFault, ExportFromFault, Exported, Table, export_from};
 use bench_select::{Bound, Selection};
