@@ -4,28 +4,4 @@
 #![tactic(auto)]
 
 #[cfg(test)]
-mod actions;
-#[cfg(test)]
-mod buses;
-#[cfg(test)]
-mod equal;
-#[cfg(test)]
-mod messages;
-#[cfg(test)]
-mod modes;
-#[cfg(test)]
-mod numbers;
-#[cfg(test)]
-mod plain;
-#[cfg(test)]
-mod plans;
-#[cfg(test)]
-mod statuses;
-#[cfg(test)]
-mod terminals;
-#[cfg(test)]
-mod texts;
-#[cfg(test)]
-mod trunks;
-#[cfg(test)]
-mod words;
+mod tests;

@@ -1,7 +1,7 @@
 //! A gate that holds each channel while its share of the queue is full.
 use bench_run::Gate;
 use std::sync::atomic::{AtomicU64, Ordering};
-use std::thread;
+use std::{array, thread};
 
 /// A channel looks at the writer, and the writer tells how far it came, once in so many messages.
 const STRIDE: u32 = 64;
@@ -20,16 +20,7 @@ impl PacedGate {
         let part = u64::from(queue) / u64::from(channels.max(1));
         PacedGate {
             share: part.saturating_sub(u64::from(STRIDE)),
-            taken: [
-                AtomicU64::new(0),
-                AtomicU64::new(0),
-                AtomicU64::new(0),
-                AtomicU64::new(0),
-                AtomicU64::new(0),
-                AtomicU64::new(0),
-                AtomicU64::new(0),
-                AtomicU64::new(0),
-            ],
+            taken: array::from_fn(|_| AtomicU64::new(0)),
         }
     }
 

@@ -7,27 +7,10 @@ ghost use Rattle.mil_trunk.specs.Tags.{has, bound_of};
 
 use crate::watch::Watch;
 use crate::words::number;
-use mil_trunk::{Tagged, Tags, Taker, Ticket, Trunk, TrunkError};
+use mil_trunk::{Tags, Taker, Ticket, Trunk, TrunkError};
 use std::sync::Wait;
 use std::thread::{self, Scope, Threads};
-
-/// An item with its tag.
-#[derive(Clone, Copy)]
-struct Item {
-    tag: u8,
-    number: u32,
-}
-
-impl Tagged for Item {
-    ghost tag_of = { λ item. item.tag };
-
-    fn tag(&self) -> u8 {
-        self.tag
-    }
-}
-
-/// The largest bound that a tag may have.
-const BOUND: u64 = 1 << 55;
+use test_values::{BOUND, Item};
 
 /// How many threads send, how many items each sends, and how many items the trunk holds.
 #[derive(Clone, Copy)]

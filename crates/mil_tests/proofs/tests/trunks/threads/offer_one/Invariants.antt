@@ -1,0 +1,11 @@
+use Rattle.std.proofs.Common.{◌≡◌}
+use Rattle.mil_trunk.specs.Ends.{IsTicketOf, tags_of, bounds_of, sent}
+use Rattle.mil_tests.proofs.tests.trunks.threads.offer_one.Given as goal
+
+abbrev pub invariant-loop : goal.invariant-loop
+invariant-loop g l = record {
+  ours : IsTicketOf l.trunk l.ticket;
+  tags : tags_of l.ticket ≡ tags_of l.fn.ticket;
+  bounds : bounds_of l.ticket ≡ bounds_of l.fn.ticket;
+  sent : sent l.ticket ≡ sent l.fn.ticket;
+}

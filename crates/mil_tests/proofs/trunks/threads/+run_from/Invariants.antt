@@ -1,5 +1,0 @@
-use Rattle.std.proofs.Common.{◌-◌, length}
-use Rattle.mil_tests.proofs.trunks.threads.+run_from.Given as goal
-
-abbrev pub decreases-run_from : goal.decreases-run_from
-decreases-run_from g l = length l.lists.now - l.from

@@ -1,0 +1,81 @@
+//! Texts of actions: what is expected stands in the format's own words.
+use crate::tests::equal::{are_in, prints, same_in};
+use mil_host::{Action, BadAction, read_action};
+use std::alloc::Global;
+use std::process::Abort;
+
+/// The fault of a text, if it spells no action.
+fn fault(text: &str) -> Option<BadAction> {
+    match read_action(text.as_bytes()) {
+        Ok(_) => None,
+        Err(fault) => Some(fault),
+    }
+}
+
+/// Texts that spell no action, and the first fault of each.
+const FAULTS: &[(&str, BadAction)] = &[
+    ("busy maybe", BadAction::Word),
+    ("vector 12", BadAction::Number),
+    ("response 39", BadAction::Range),
+    ("transmit 30 0001", BadAction::Range),
+    ("", BadAction::Word),
+    ("busy on off", BadAction::Word),
+    ("deaf", BadAction::Word),
+    ("deaf C on", BadAction::Word),
+    ("deaf on", BadAction::Word),
+    ("mute a on", BadAction::Word),
+    ("mute A", BadAction::Word),
+    ("mute A maybe", BadAction::Word),
+    ("mute B on on", BadAction::Word),
+];
+
+#[test]
+fn names_the_first_fault(rt: HostRuntime) {
+    for (text, wanted) in FAULTS {
+        same_in(&rt, text, &fault(text), &Some(*wanted));
+    }
+}
+
+#[test]
+fn reads_an_action(rt: HostRuntime) {
+    is_transmit(&rt, read_action(b" transmit  1 aAaA 5555 "));
+}
+
+/// The action puts up two words at subaddress 1.
+fn is_transmit(rt: &impl Abort, action: Result<Action, BadAction>) {
+    match action {
+        Ok(Action::Transmit(put)) => {
+            same_in(rt, "subaddress", &put.sub(), &1);
+            are_in(rt, "words", put.words(), &[0xaaaa, 0x5555]);
+        }
+        _ => panic!(rt; "another action"),
+    }
+}
+
+/// Texts of actions as they are printed.
+const PRINTED: &[&str] = &[
+    "transmit 1 AAAA 5555",
+    "busy on",
+    "service off",
+    "vector 00FF",
+    "illegal receive 3 4",
+    "legal transmit 30 32",
+    "response 120",
+    "deaf A on",
+    "deaf B off",
+    "mute A off",
+    "mute B on",
+];
+
+/// The action that a text spells is printed as that text.
+fn is_printed_alike(rt: &impl Abort, alloc: Global, text: &str) {
+    let action = read_action(text.as_bytes()).expect(rt, text);
+    prints(rt, alloc, &action, text);
+}
+
+#[test]
+fn prints_what_it_reads(rt: HostRuntime) {
+    for text in PRINTED {
+        is_printed_alike(&rt, rt.alloc(), text);
+    }
+}

@@ -1,0 +1,361 @@
+//! Messages as they stand on a bus, and each fault of each form.
+use crate::tests::equal::{are_in, prints, same_in};
+use arrayvec::ArrayVec;
+use mil_message::Draft::{Between, BetweenAll, FromTerminal, ToAll, ToTerminal};
+use mil_message::ModeSubaddress::{ThirtyOne, Zero};
+use mil_message::{BadMessage, Draft, Due, Form, Message, ModeSubaddress, Waves};
+use mil_word::{Sync, Wave, Word};
+use std::process::Abort;
+
+mod refusals;
+
+/// A message as it stands on a bus.
+#[derive(Clone, Copy)]
+struct Row {
+    draft: Draft<'static>,
+    /// The controller's words are these commands and these data words.
+    commands: &'static [u16],
+    words: &'static [u16],
+    /// The replies due.
+    due: &'static [Due],
+}
+
+const DATA: &[Row] = &[
+    Row {
+        draft: ToTerminal {
+            address: 5,
+            subaddress: 1,
+            words: &[1, 2, 3],
+        },
+        commands: &[0x2823],
+        words: &[1, 2, 3],
+        due: &[Due {
+            address: 5,
+            words: 0,
+        }],
+    },
+    Row {
+        draft: FromTerminal {
+            address: 5,
+            subaddress: 2,
+            count: 32,
+        },
+        commands: &[0x2c40],
+        words: &[],
+        due: &[Due {
+            address: 5,
+            words: 32,
+        }],
+    },
+    Row {
+        draft: Between {
+            sender: 7,
+            sender_subaddress: 1,
+            receiver: 3,
+            receiver_subaddress: 4,
+            count: 2,
+        },
+        commands: &[0x1882, 0x3c22],
+        words: &[],
+        due: &[
+            Due {
+                address: 7,
+                words: 2,
+            },
+            Due {
+                address: 3,
+                words: 0,
+            },
+        ],
+    },
+    Row {
+        draft: ToAll {
+            subaddress: 1,
+            words: &[0x00aa],
+        },
+        commands: &[0xf821],
+        words: &[0x00aa],
+        due: &[],
+    },
+    Row {
+        draft: BetweenAll {
+            sender: 7,
+            sender_subaddress: 1,
+            receiver_subaddress: 4,
+            count: 2,
+        },
+        commands: &[0xf882, 0x3c22],
+        words: &[],
+        due: &[Due {
+            address: 7,
+            words: 2,
+        }],
+    },
+];
+
+/// A mode command as it stands on a bus: to terminal 5 with a subaddress, or to all.
+#[derive(Clone, Copy)]
+struct ModeRow {
+    to: Option<ModeSubaddress>,
+    code: u32,
+    written: Option<&'static [u16]>,
+    command: u16,
+    words: &'static [u16],
+    due: &'static [Due],
+}
+
+const STATUS: &[Due] = &[Due {
+    address: 5,
+    words: 0,
+}];
+
+const STATUS_AND_WORD: &[Due] = &[Due {
+    address: 5,
+    words: 1,
+}];
+
+const MODES: &[ModeRow] = &[
+    ModeRow {
+        to: Some(ThirtyOne),
+        code: 2,
+        written: None,
+        command: 0x2fe2,
+        words: &[],
+        due: STATUS,
+    },
+    ModeRow {
+        to: Some(ThirtyOne),
+        code: 18,
+        written: None,
+        command: 0x2ff2,
+        words: &[],
+        due: STATUS_AND_WORD,
+    },
+    ModeRow {
+        to: Some(ThirtyOne),
+        code: 20,
+        written: Some(&[0]),
+        command: 0x2bf4,
+        words: &[0],
+        due: STATUS,
+    },
+    ModeRow {
+        to: Some(ThirtyOne),
+        code: 22,
+        written: Some(&[0]),
+        command: 0x2bf6,
+        words: &[0],
+        due: STATUS,
+    },
+    ModeRow {
+        to: Some(ThirtyOne),
+        code: 22,
+        written: None,
+        command: 0x2ff6,
+        words: &[],
+        due: STATUS_AND_WORD,
+    },
+    ModeRow {
+        to: Some(Zero),
+        code: 2,
+        written: None,
+        command: 0x2c02,
+        words: &[],
+        due: STATUS,
+    },
+    ModeRow {
+        to: None,
+        code: 1,
+        written: None,
+        command: 0xffe1,
+        words: &[],
+        due: &[],
+    },
+    ModeRow {
+        to: None,
+        code: 17,
+        written: Some(&[7]),
+        command: 0xfbf1,
+        words: &[7],
+        due: &[],
+    },
+];
+
+#[test]
+fn messages_of_data(rt: HostRuntime) {
+    for row in DATA {
+        stands(&rt, row.draft, row.commands, row.words, row.due);
+    }
+}
+
+#[test]
+fn mode_commands(rt: HostRuntime) {
+    for row in MODES {
+        let draft = mode(row.to, row.code, row.written);
+        stands(&rt, draft, &[row.command], row.words, row.due);
+    }
+}
+
+/// A mode command to terminal 5, or to all.
+fn mode<'a>(to: Option<ModeSubaddress>, code: u32, written: Option<&'a [u16]>) -> Draft<'a> {
+    match to {
+        Some(subaddress) => Draft::mode_command(5, subaddress, code, written),
+        None => Draft::mode_command_to_all(ThirtyOne, code, written),
+    }
+}
+
+fn message(rt: &impl Abort, draft: Draft<'_>) -> Message {
+    Message::check(draft).expect(rt, "a draft in range")
+}
+
+/// The controller's words are these commands and these data words, and the replies due are these.
+fn stands(rt: &impl Abort, draft: Draft<'_>, commands: &[u16], words: &[u16], due: &[Due]) {
+    is_message(rt, &message(rt, draft), commands, words, due);
+}
+
+fn is_message(rt: &impl Abort, message: &Message, commands: &[u16], words: &[u16], due: &[Due]) {
+    sends(rt, message, commands, words);
+    are_in(rt, "data words", message.data_words(), words);
+    awaits(rt, message, due);
+    is_its_draft(rt, message);
+    is_its_parts(rt, message, words);
+    has_values(rt, message, commands, words);
+}
+
+/// The controller's words are these commands and then these data words.
+fn sends(rt: &impl Abort, message: &Message, commands: &[u16], words: &[u16]) {
+    let mut sent: ArrayVec<Word, 34> = ArrayVec::new();
+    for &value in commands {
+        put(rt, &mut sent, Sync::CommandSync, value);
+    }
+    for &value in words {
+        put(rt, &mut sent, Sync::DataSync, value);
+    }
+    same_in(
+        rt,
+        "count of words",
+        &message.controller_count(),
+        &sent.len(),
+    );
+    assert_eq!(rt; message.controller_words().as_slice(), sent.as_slice());
+}
+
+/// One more word.
+fn put(rt: &impl Abort, sent: &mut ArrayVec<Word, 34>, sync: Sync, value: u16) {
+    assert!(rt; !sent.is_full());
+    sent.push(Word { sync, value });
+}
+
+/// The replies due are these.
+fn awaits(rt: &impl Abort, message: &Message, due: &[Due]) {
+    assert_eq!(rt; message.replies_due().as_slice(), due);
+}
+
+/// The message is what its draft is read as, and the same in the place of another.
+fn is_its_draft(rt: &impl Abort, message: &Message) {
+    let mut back = Message::check(message.draft()).expect(rt, "a draft in range");
+    assert!(rt; back == message.copy());
+    message.copy_into(&mut back);
+    assert!(rt; back == *message);
+    let mut other = Message::default();
+    message.copy_into(&mut other);
+    assert!(rt; other == *message);
+}
+
+/// The values of the controller's words are those of these commands and of these data words.
+fn has_values(rt: &impl Abort, message: &Message, commands: &[u16], words: &[u16]) {
+    let values = message.values();
+    let (first, rest) = values.parts();
+    are_in(rt, "values of commands", first, commands);
+    are_in(rt, "values of data words", rest, words);
+}
+
+/// The message is made again of its parts.
+fn is_its_parts(rt: &impl Abort, message: &Message, words: &[u16]) {
+    let commands = message.commands();
+    let second = commands.second.map_or(0, |command| command.value());
+    let back = Message::of_parts(message.form_number(), commands.first.value(), second, words);
+    assert!(rt; back.expect(rt, "a message") == *message);
+}
+
+const ONE_WORD: Draft<'static> = ToTerminal {
+    address: 5,
+    subaddress: 1,
+    words: &[0],
+};
+
+#[test]
+fn waves(rt: HostRuntime) {
+    let message = message(&rt, ONE_WORD);
+    has_second_wave(&rt, &message.clone().expect(&rt, "a clone"));
+}
+
+/// Of two waves the second is that of a data word of zeros.
+fn has_second_wave(rt: &impl Abort, message: &Message) {
+    let mut room = Waves::none();
+    message.put_waves(&mut room);
+    let waves = room.as_slice();
+    let found = (waves.len(), waves.get(1).copied());
+    same_in(rt, "waves", &found, &(2, Some(Wave::of(0x1D_5555_5556))));
+}
+
+/// Where nothing else is asked, terminal 0 is asked for its status word.
+#[test]
+fn default(rt: HostRuntime) {
+    let commands = Message::default().commands();
+    same_in(&rt, "command", &commands.first.value(), &0x0402);
+    assert!(rt; commands.second.is_none());
+}
+
+/// Parts of which no message is made: the number of the form, the commands and the words.
+const NO_PARTS: &[(u8, u16, u16, &[u16])] = &[
+    (0, 0x2823, 0, &[1, 2]),
+    (0, 0x2823, 1, &[1, 2, 3]),
+    (1, 0x2823, 0, &[]),
+    (3, 0x2fe2, 0, &[1]),
+    (10, 0x2823, 0, &[1, 2, 3]),
+];
+
+#[test]
+fn parts_of_no_message(rt: HostRuntime) {
+    for (form, first, second, words) in NO_PARTS {
+        let made = Message::of_parts(*form, *first, *second, words).is_some();
+        assert!(rt; !made, "form {form}, words {words:?}");
+    }
+}
+
+/// Faults, and how they are printed.
+const PRINTED: &[(BadMessage, &str)] = &[
+    (BadMessage::Address, "M1"),
+    (BadMessage::Subaddress, "M2"),
+    (BadMessage::CountOrCode, "M3"),
+    (BadMessage::SameEnds, "M4"),
+    (BadMessage::ModeWord, "M5"),
+];
+
+#[test]
+fn printed_faults(rt: HostRuntime) {
+    for (fault, text) in PRINTED {
+        prints(&rt, rt.alloc(), fault, text);
+    }
+}
+
+#[test]
+fn form_of_a_message(rt: HostRuntime) {
+    let from_terminal = Draft::FromTerminal {
+        address: 5,
+        subaddress: 2,
+        count: 32,
+    };
+    has_form_from_5(&rt, &message(&rt, from_terminal));
+}
+
+/// The form is that of 32 words from subaddress 2 of terminal 5.
+fn has_form_from_5(rt: &impl Abort, message: &Message) {
+    let wanted = Form::FromTerminal {
+        address: 5,
+        subaddress: 2,
+        count: 32,
+    };
+    assert!(rt; *message.form() == wanted);
+}
