@@ -3,36 +3,4 @@
 #![tactic(auto)]
 
 #[cfg(test)]
-mod assembling;
-#[cfg(test)]
-mod controllers;
-#[cfg(test)]
-mod equal;
-#[cfg(test)]
-mod frames;
-#[cfg(test)]
-mod images;
-#[cfg(test)]
-mod job_refusals;
-#[cfg(test)]
-mod jobs;
-#[cfg(test)]
-mod jobs_together;
-#[cfg(test)]
-mod loading;
-#[cfg(test)]
-mod many_messages;
-#[cfg(test)]
-mod placed_lists;
-#[cfg(test)]
-mod records;
-#[cfg(test)]
-mod text_faults;
-#[cfg(test)]
-mod text_printing;
-#[cfg(test)]
-mod text_sizes;
-#[cfg(test)]
-mod trees;
-#[cfg(test)]
-mod worked;
+mod tests;

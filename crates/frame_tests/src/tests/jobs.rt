@@ -1,7 +1,7 @@
 //! Jobs played to their end, record by record.
-use crate::controllers::NINE;
-use crate::equal::{are_bytes, same};
-use crate::records::{Row, sends};
+use crate::tests::controllers::NINE;
+use crate::tests::equal::{are_bytes, same};
+use crate::tests::records::{Row, sends};
 use bc_machine::{Actions, Machine};
 use job_file::{Job, job_runs, read_job};
 use std::alloc::Global;
@@ -17,7 +17,7 @@ const ZEROS: &[u16] = &[
 ];
 
 /// Data both ways.
-const DATA: [Played; 3] = [
+const DATA: &[Played] = &[
     (
         "channel 1\nterminal 5\nscript\nsend A tx 5 2 32",
         &[(Some(0), Some((0, 0x50)), ZEROS)],
@@ -39,7 +39,7 @@ const DATA: [Played; 3] = [
 ];
 
 /// From terminal to terminal, and with a late answer.
-const BETWEEN: [Played; 3] = [
+const BETWEEN: &[Played] = &[
     (
         "channel 1\nterminal 3\nterminal 7\nat 1 7 transmit 1 AAAA 5555\nscript\nsend A rt 7 1 3 4 2",
         &[(
@@ -72,7 +72,7 @@ const BETWEEN: [Played; 3] = [
 ];
 
 /// Planned faults of the first message.
-const FAULTS: [Played; 4] = [
+const FAULTS: &[Played] = &[
     (
         "channel 1\nterminal 5\nfault 1 drop 0 3\nscript\n\
          send A rx 5 1 [0001 0002 0003] send A mode 5 2 send A mode 5 2",
@@ -100,7 +100,7 @@ const FAULTS: [Played; 4] = [
 ];
 
 /// Mode commands.
-const MODES: [Played; 3] = [
+const MODES: &[Played] = &[
     (
         "channel 1\nterminal 5\nscript\nsend A bmode 1 send A mode 5 2 send A mode 5 2 send A mode 5 1",
         &[
@@ -126,7 +126,7 @@ const MODES: [Played; 3] = [
 ];
 
 /// Hosts act before their message.
-const HOSTS: [Played; 3] = [
+const HOSTS: &[Played] = &[
     (
         "channel 1\nterminal 5\nat 1 5 fault on\nscript\n\
          send A mode 5 6 send A mode 5 1 send A mode 5 8 send A mode 5 1",
@@ -150,13 +150,16 @@ const HOSTS: [Played; 3] = [
     ),
 ];
 
+/// A poll of terminal 5, and its answer.
+const POLLED: &[u16] = &[0x2fe1, 0x2800];
+
 /// Polls of a terminal that answers.
 const ANSWERED: [Row; 5] = [
-    (Some(0), Some((0, 0x50)), &[0x2fe1, 0x2800]),
-    (Some(480), Some((0, 0x50)), &[0x2fe1, 0x2800]),
-    (Some(960), Some((0, 0x50)), &[0x2fe1, 0x2800]),
-    (Some(1440), Some((0, 0x50)), &[0x2fe1, 0x2800]),
-    (Some(1920), Some((0, 0x50)), &[0x2fe1, 0x2800]),
+    (Some(0), Some((0, 0x50)), POLLED),
+    (Some(480), Some((0, 0x50)), POLLED),
+    (Some(960), Some((0, 0x50)), POLLED),
+    (Some(1440), Some((0, 0x50)), POLLED),
+    (Some(1920), Some((0, 0x50)), POLLED),
 ];
 
 /// Polls of a terminal that is not there.
@@ -169,7 +172,7 @@ const SILENT: [Row; 4] = [
 
 /// Repeats, retries and choices. A poll is repeated twice, and then until one fails, at most three times, also by its
 /// name. Before any message no test holds; the condition is looked at before each turn.
-const TURNS: [Played; 7] = [
+const TURNS: &[Played] = &[
     ("channel 1\nscript\nif fail { send A mode 5 1 }", &[]),
     (RETRIES, &NINE),
     (
@@ -210,12 +213,13 @@ const ALL_LINES: &str =
     "# a note\nchannel 7\nstart 140737488355328\nterminal 5\nterminal 30\n\nat 2 30 busy on\nfault 3 mute 1\nscript\n\
      send A mode 5 1\n";
 
-fn job_of(rt: &impl Abort, alloc: Global, text: &str) -> Job {
+/// The job of this text.
+pub(crate) fn job_of(rt: &impl Abort, alloc: Global, text: &str) -> Job {
     read_job(alloc, text.as_bytes()).expect(rt, text)
 }
 
 /// The machine of a job under its own actions.
-fn machine_of(rt: &impl Abort, alloc: Global, text: &str) -> Machine {
+pub(crate) fn machine_of(rt: &impl Abort, alloc: Global, text: &str) -> Machine {
     let job = job_of(rt, alloc, text);
     job.machine(alloc, job.actions()).expect(rt, "memory")
 }
@@ -234,12 +238,9 @@ pub(crate) fn each_plays(rt: &impl Abort, alloc: Global, table: &[Played]) {
 
 #[test]
 fn jobs_and_their_records(rt: HostRuntime) {
-    each_plays(&rt, rt.alloc(), &DATA);
-    each_plays(&rt, rt.alloc(), &BETWEEN);
-    each_plays(&rt, rt.alloc(), &FAULTS);
-    each_plays(&rt, rt.alloc(), &MODES);
-    each_plays(&rt, rt.alloc(), &HOSTS);
-    each_plays(&rt, rt.alloc(), &TURNS);
+    for table in [DATA, BETWEEN, FAULTS, MODES, HOSTS, TURNS] {
+        each_plays(&rt, rt.alloc(), table);
+    }
 }
 
 /// There is one action, of this message and this address.

@@ -1,6 +1,6 @@
 //! What frames print as.
-use crate::equal::reads;
-use crate::worked::{boxed, sequence};
+use crate::tests::equal::reads;
+use crate::tests::worked::{boxed, sequence};
 use bumpalo::Bump;
 use frame_text::{parse, print};
 use frame_tree::{Cond, Frame};

@@ -1,8 +1,8 @@
 //! Trees: a script with a retry in a repeat, and scripts with definitions.
 ghost use Rattle.std.specs.Prelude.{◌≤◌};
 
-use crate::equal::{are_bytes, same};
-use crate::worked::{boxed, call, define, name, polling, retry, sequence};
+use crate::tests::equal::{are_bytes, same};
+use crate::tests::worked::{boxed, call, define, name, polling, retry, sequence};
 use frame_tree::{Cond, Frame, Name, Scope};
 use mil_message::OutcomeTest;
 use mil_status::StatusBit;

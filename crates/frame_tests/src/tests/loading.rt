@@ -2,9 +2,10 @@
 
 ghost use Rattle.std.specs.Prelude.{◌≤◌};
 
-use crate::equal::{prints, same};
-use crate::worked::{LOOPS, POLLING, with_byte};
+use crate::tests::equal::{each_prints, same};
+use crate::tests::worked::{LOOPS, POLLING, with_byte};
 use frame_code::{Op, read_image};
+use frame_load::LoadError::{Budget, End, Jumps, Memory, Messages, Nesting, Periods, Routines};
 use frame_load::{LoadError, Program, load};
 use std::alloc::Global;
 use std::process::Abort;
@@ -47,53 +48,53 @@ const REFUSED: [(&[u8], LoadError); 13] = [
         &[
             0x42, 0x43, 0x30, 0x32, 2, 0, 0, 0, 10, 0, 0, 0, 0, 0, 0, 0, // Call 0, Halt
         ],
-        LoadError::Routines,
+        Routines,
     ),
     (
         &[
             0x42, 0x43, 0x30, 0x32, 3, 0, 0, 0, // three operations
             10, 0, 0, 0, 11, 0, 0, 0, 0, 0, 0, 0, // Call 0, Return, Halt
         ],
-        LoadError::Routines,
+        Routines,
     ),
     (
         &[
             0x42, 0x43, 0x30, 0x31, 2, 0, 0, 0, 7, 0, 0, 0, 0, 0, 0, 0, // Jump 0, Halt
         ],
-        LoadError::Jumps,
+        Jumps,
     ),
     (
         &[
             0x42, 0x43, 0x30, 0x31, 2, 0, 0, 0, 5, 0, 0, 0, 0, 0, 0, 0, // Again 0, Halt
         ],
-        LoadError::Nesting,
+        Nesting,
     ),
     (
         &[
             0x42, 0x43, 0x30, 0x31, 2, 0, 0, 0, 1, 0, 0, 0, 0, 0, 0, 0, // Send 0, Halt
         ],
-        LoadError::Messages,
+        Messages,
     ),
-    (&[0x42, 0x43, 0x30, 0x31, 0, 0, 0, 0], LoadError::End),
+    (&[0x42, 0x43, 0x30, 0x31, 0, 0, 0, 0], End),
     (
         &[
             0x42, 0x43, 0x30, 0x31, 6, 0, 0, 0, // six operations
             4, 0, 0x10, 0x27, 4, 0, 0x10, 0x27, 3, 0, 40, 0, // Loop 10000, Loop 10000, SetGap 40
             5, 0, 2, 0, 5, 0, 1, 0, 0, 0, 0, 0, // Again 2, Again 1, Halt
         ],
-        LoadError::Budget,
+        Budget,
     ),
     (
         &[
             0x42, 0x43, 0x30, 0x33, 2, 0, 0, 0, 12, 0, 0, 0, 0, 0, 0, 0, // Begin, Halt
         ],
-        LoadError::Nesting,
+        Nesting,
     ),
     (
         &[
             0x42, 0x43, 0x30, 0x33, 2, 0, 0, 0, 13, 0, 1, 0, 0, 0, 0, 0, // Pace 1, Halt
         ],
-        LoadError::Nesting,
+        Nesting,
     ),
     (
         &[
@@ -101,7 +102,7 @@ const REFUSED: [(&[u8], LoadError); 13] = [
             12, 0, 0, 0, 4, 0, 2, 0, 13, 0, 1, 0, // Begin, Loop 2, Pace 1
             5, 0, 2, 0, 0, 0, 0, 0, // Again 2, Halt
         ],
-        LoadError::Nesting,
+        Nesting,
     ),
     (
         &[
@@ -109,7 +110,7 @@ const REFUSED: [(&[u8], LoadError); 13] = [
             4, 0, 2, 0, 12, 0, 0, 0, 6, 0, 5, 0, // Loop 2, Begin, Leave 5
             13, 0, 1, 0, 5, 0, 1, 0, 0, 0, 0, 0, // Pace 1, Again 1, Halt
         ],
-        LoadError::Jumps,
+        Jumps,
     ),
     (
         &[
@@ -117,7 +118,7 @@ const REFUSED: [(&[u8], LoadError); 13] = [
             7, 0, 2, 0, 12, 0, 0, 0, 13, 0, 1, 0, // Jump 2, Begin, Pace 1
             0, 0, 0, 0, // Halt
         ],
-        LoadError::Jumps,
+        Jumps,
     ),
     (
         &[
@@ -125,7 +126,7 @@ const REFUSED: [(&[u8], LoadError); 13] = [
             4, 0, 0x10, 0x27, 4, 0, 0xE8, 0x03, 12, 0, 0, 0, // Loop 10000, Loop 1000, Begin
             13, 0, 0xFF, 0xFF, 5, 0, 2, 0, 5, 0, 1, 0, 0, 0, 0, 0, // Pace 65535, Again 2, Again 1, Halt
         ],
-        LoadError::Periods,
+        Periods,
     ),
 ];
 
@@ -135,8 +136,8 @@ fn images_that_are_refused(rt: HostRuntime) {
         is_refused(&rt, rt.alloc(), bytes, fault);
     }
     // jumps that lead elsewhere
-    is_refused(&rt, rt.alloc(), &with_byte(36, 7), LoadError::Jumps);
-    is_refused(&rt, rt.alloc(), &with_byte(38, 8), LoadError::Jumps);
+    is_refused(&rt, rt.alloc(), &with_byte(LOOPS, 36, 7), Jumps);
+    is_refused(&rt, rt.alloc(), &with_byte(LOOPS, 38, 8), Jumps);
 }
 
 fn put(rt: &impl Abort, bytes: &mut Vec<u8>, more: &[u8]) {
@@ -163,23 +164,24 @@ fn nested(rt: &impl Abort, alloc: Global, depth: u8) -> Vec<u8>
 #[test]
 fn seventeen_loops_and_one_more(rt: HostRuntime) {
     let bytes = nested(&rt, rt.alloc(), 17);
-    is_refused(&rt, rt.alloc(), &bytes, LoadError::Budget);
+    is_refused(&rt, rt.alloc(), &bytes, Budget);
     let bytes = nested(&rt, rt.alloc(), 18);
-    is_refused(&rt, rt.alloc(), &bytes, LoadError::Nesting);
+    is_refused(&rt, rt.alloc(), &bytes, Nesting);
 }
+
+/// Refusals, and their letters.
+const LETTERS: &[(LoadError, &str)] = &[
+    (Jumps, "P1"),
+    (Nesting, "P2"),
+    (Messages, "P3"),
+    (End, "P4"),
+    (Budget, "P5"),
+    (Memory, "P6"),
+    (Routines, "P7"),
+    (Periods, "P8"),
+];
 
 #[test]
 fn refusals_are_printed_by_their_letters(rt: HostRuntime) {
-    for (refusal, letters) in [
-        (LoadError::Jumps, "P1"),
-        (LoadError::Nesting, "P2"),
-        (LoadError::Messages, "P3"),
-        (LoadError::End, "P4"),
-        (LoadError::Budget, "P5"),
-        (LoadError::Memory, "P6"),
-        (LoadError::Routines, "P7"),
-        (LoadError::Periods, "P8"),
-    ] {
-        prints(&rt, rt.alloc(), letters, &refusal, letters);
-    }
+    each_prints(&rt, rt.alloc(), LETTERS);
 }

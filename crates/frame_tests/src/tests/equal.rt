@@ -35,3 +35,10 @@ pub(crate) fn prints<T: Display>(
     let text = format!(in alloc; "{value}").expect(rt, "memory");
     reads(rt, row, text.as_str(), wanted);
 }
+
+/// Each value of a table is printed as the letters beside it.
+pub(crate) fn each_prints<T: Display>(rt: &impl Abort, alloc: Global, table: &[(T, &str)]) {
+    for (value, letters) in table {
+        prints(rt, alloc, letters, value, letters);
+    }
+}

@@ -1,6 +1,6 @@
 //! The first fault of a text, with its line.
-use crate::equal::{prints, reads};
-use crate::text_faults::repeated;
+use crate::tests::equal::{prints, reads};
+use crate::tests::text_faults::repeated;
 use job_file::{JobError, LineFault, read_job};
 use std::alloc::Global;
 use std::process::Abort;

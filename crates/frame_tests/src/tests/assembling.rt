@@ -1,8 +1,8 @@
 //! A frame and its image.
 
-use crate::equal::prints;
-use crate::images::is_written;
-use crate::worked::{LOOPS, POLLING, boxed, polling, retry};
+use crate::tests::equal::each_prints;
+use crate::tests::images::is_written;
+use crate::tests::worked::{LOOPS, POLLING, boxed, polling, retry};
 use frame_asm::{AsmError, assemble};
 use frame_tree::Frame;
 use std::alloc::Global;
@@ -30,13 +30,14 @@ fn a_routine_and_its_calls(rt: HostRuntime) {
     is_assembled(&rt, rt.alloc(), &frame, &POLLING);
 }
 
+/// Refusals, and their letters.
+const LETTERS: &[(AsmError, &str)] = &[
+    (AsmError::Operations, "A1"),
+    (AsmError::Messages, "A2"),
+    (AsmError::Memory, "A3"),
+];
+
 #[test]
 fn refusals_are_printed_by_their_letters(rt: HostRuntime) {
-    for (refusal, letters) in [
-        (AsmError::Operations, "A1"),
-        (AsmError::Messages, "A2"),
-        (AsmError::Memory, "A3"),
-    ] {
-        prints(&rt, rt.alloc(), letters, &refusal, letters);
-    }
+    each_prints(&rt, rt.alloc(), LETTERS);
 }

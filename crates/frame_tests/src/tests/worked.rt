@@ -1,7 +1,5 @@
 //! Images and a script worked by hand, which several of the tests start from.
 
-ghost use Rattle.std.specs.Prelude.{◌≤◌};
-
 use frame_tree::{Cond, Frame, Name};
 use mil_message::{Draft, Message, ModeSubaddress, OutcomeTest};
 use mil_word::Line;
@@ -35,22 +33,12 @@ pub const PACED: [u8; 34] = [
     0, 0, 0x21, 0x28, 0, 0, 1, 0, 1, 0, // the message
 ];
 
-/// The bytes of `LOOPS` with another byte at this place.
-pub(crate) fn with_byte(place: usize, byte: u8) -> [u8; 62]
-    requires { place ≤ 61 }
-{
-    let mut changed = LOOPS;
-    changed[place] = byte;
-    changed
-}
-
-/// The bytes of `PACED` with another byte at this place.
-pub(crate) fn paced_with(place: usize, byte: u8) -> [u8; 34]
-    requires { place ≤ 33 }
-{
-    let mut changed = PACED;
-    changed[place] = byte;
-    changed
+/// The bytes with another one at this place, where there is one.
+pub(crate) fn with_byte<const N: usize>(mut bytes: [u8; N], place: usize, byte: u8) -> [u8; N] {
+    if let Some(at) = bytes.get_mut(place) {
+        *at = byte;
+    }
+    bytes
 }
 
 /// The name of these bytes.

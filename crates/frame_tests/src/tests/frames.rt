@@ -1,6 +1,6 @@
 //! Frames with a period: when their messages start, and their code.
-use crate::images::is_written;
-use crate::jobs::{Played, each_plays};
+use crate::tests::images::is_written;
+use crate::tests::jobs::{Played, each_plays};
 use frame_asm::assemble;
 use frame_text::parse;
 

@@ -1,7 +1,11 @@
 //! Images and their bytes.
 
-use crate::equal::{are_bytes, prints, same};
-use crate::worked::{LOOPS, PACED, POLLING, paced_with, with_byte};
+use crate::tests::equal::{are_bytes, each_prints, same};
+use crate::tests::worked::{LOOPS, PACED, POLLING, with_byte};
+use frame_code::ImageError::{Length, Mark, Memory, Messages, Operations, Version};
+use frame_code::Op::{
+    Again, Alt, Begin, Call, Halt, Jump, JumpFalse, Leave, Loop, Pace, Send, Test,
+};
 use frame_code::{Image, ImageError, Op, read_image, write_image};
 use mil_message::OutcomeTest;
 use mil_status::StatusBit;
@@ -10,17 +14,17 @@ use std::alloc::Global;
 use std::process::Abort;
 
 const OPERATIONS: [Op; 11] = [
-    Op::Loop(3),
-    Op::Send(0),
-    Op::Loop(2),
-    Op::Test(OutcomeTest::Failed),
-    Op::JumpFalse(7),
-    Op::Alt(0),
-    Op::Jump(8),
-    Op::Leave(9),
-    Op::Again(3),
-    Op::Again(1),
-    Op::Halt,
+    Loop(3),
+    Send(0),
+    Loop(2),
+    Test(OutcomeTest::Failed),
+    JumpFalse(7),
+    Alt(0),
+    Jump(8),
+    Leave(9),
+    Again(3),
+    Again(1),
+    Halt,
 ];
 
 /// The image is written as these bytes.
@@ -43,11 +47,7 @@ fn bytes_to_image_and_back(rt: HostRuntime) {
     is_written(&rt, rt.alloc(), &image, &LOOPS);
     let image = spelled(&rt, rt.alloc(), &POLLING);
     same(&rt, &image.operations().len(), &20);
-    same(
-        &rt,
-        &image.operations().get(10).copied(),
-        &Some(Op::Call(0)),
-    );
+    same(&rt, &image.operations().get(10).copied(), &Some(Call(0)));
     is_written(&rt, rt.alloc(), &image, &POLLING);
 }
 
@@ -64,16 +64,16 @@ fn sends_one(rt: &impl Abort, image: &Image, command: u16, words: &[u16]) {
 #[test]
 fn a_frame_with_a_period_and_back(rt: HostRuntime) {
     let image = spelled(&rt, rt.alloc(), &PACED);
-    let operations = [Op::Begin, Op::Send(0), Op::Pace(10), Op::Halt];
+    let operations = [Begin, Send(0), Pace(10), Halt];
     same(&rt, &image.operations(), &operations.as_slice());
     sends_one(&rt, &image, 0x2821, &[1]);
     is_written(&rt, rt.alloc(), &image, &PACED);
     // the longest period
-    let mut longest = paced_with(18, 0xff);
+    let mut longest = with_byte(PACED, 18, 0xff);
     longest[19] = 0xff;
     let image = spelled(&rt, rt.alloc(), &longest);
     let pace = image.operations().get(2).copied();
-    same(&rt, &pace, &Some(Op::Pace(65_535)));
+    same(&rt, &pace, &Some(Pace(65_535)));
     is_written(&rt, rt.alloc(), &image, &longest);
 }
 
@@ -81,38 +81,47 @@ fn has_fault(rt: &impl Abort, alloc: Global, bytes: &[u8], fault: ImageError) {
     same(rt, &read_image(alloc, bytes).err(), &Some(fault));
 }
 
+/// Changes of one byte of `LOOPS`, by its place, and the fault that the bytes have then.
+const CHANGED: [(usize, u8, ImageError); 3] = [
+    (8, 0x0a, Operations),
+    (52, 0x0a, Messages),
+    (3, 0x32, Version),
+];
+
 #[test]
 fn the_first_fault_of_bytes(rt: HostRuntime) {
     let alloc = rt.alloc();
-    has_fault(&rt, alloc, &LOOPS[..3], ImageError::Mark);
-    has_fault(&rt, alloc, &LOOPS[..61], ImageError::Length);
+    has_fault(&rt, alloc, &LOOPS[..3], Mark);
+    has_fault(&rt, alloc, &LOOPS[..61], Length);
     let mut longer = [0; 63];
     longer[..62].copy_from_slice(&LOOPS);
-    has_fault(&rt, alloc, &longer, ImageError::Length);
-    has_fault(&rt, alloc, &with_byte(8, 0x0a), ImageError::Operations);
-    has_fault(&rt, alloc, &with_byte(52, 0x0a), ImageError::Messages);
-    has_fault(&rt, alloc, &with_byte(3, 0x32), ImageError::Version);
-    let mut changed = POLLING;
-    changed[3] = 0x31;
-    has_fault(&rt, alloc, &changed, ImageError::Operations);
+    has_fault(&rt, alloc, &longer, Length);
+    for (place, byte, fault) in CHANGED {
+        has_fault(&rt, alloc, &with_byte(LOOPS, place, byte), fault);
+    }
+    has_fault(&rt, alloc, &with_byte(POLLING, 3, 0x31), Operations);
 }
+
+/// The same of `PACED`.
+const PACED_CHANGED: [(usize, u8, ImageError); 6] = [
+    // neither BC02 nor BC01 knows Begin, and there is no BC04
+    (3, 0x32, Operations),
+    (3, 0x31, Operations),
+    (3, 0x34, Mark),
+    // number 14, Begin with an operand, Pace 0
+    (8, 14, Operations),
+    (10, 1, Operations),
+    (18, 0, Operations),
+];
 
 #[test]
 fn faults_of_frames_with_a_period(rt: HostRuntime) {
-    let alloc = rt.alloc();
-    // neither BC02 nor BC01 knows Begin, and there is no BC04
-    has_fault(&rt, alloc, &paced_with(3, 0x32), ImageError::Operations);
-    has_fault(&rt, alloc, &paced_with(3, 0x31), ImageError::Operations);
-    has_fault(&rt, alloc, &paced_with(3, 0x34), ImageError::Mark);
-    // number 14, Begin with an operand, Pace 0
-    has_fault(&rt, alloc, &paced_with(8, 14), ImageError::Operations);
-    has_fault(&rt, alloc, &paced_with(10, 1), ImageError::Operations);
-    has_fault(&rt, alloc, &paced_with(18, 0), ImageError::Operations);
+    for (place, byte, fault) in PACED_CHANGED {
+        has_fault(&rt, rt.alloc(), &with_byte(PACED, place, byte), fault);
+    }
     // BC03 where BC01 or BC02 knows all operations
-    has_fault(&rt, alloc, &with_byte(3, 0x33), ImageError::Version);
-    let mut changed = POLLING;
-    changed[3] = 0x33;
-    has_fault(&rt, alloc, &changed, ImageError::Version);
+    has_fault(&rt, rt.alloc(), &with_byte(LOOPS, 3, 0x33), Version);
+    has_fault(&rt, rt.alloc(), &with_byte(POLLING, 3, 0x33), Version);
 }
 
 /// The tests that an operation may have, by the numbers that an image gives them.
@@ -131,37 +140,34 @@ const TESTS: [(u8, OutcomeTest); 10] = [
 
 /// The fourth operation of this image is this test.
 fn tests(rt: &impl Abort, image: &Image, test: OutcomeTest) {
-    same(
-        rt,
-        &image.operations().get(3).copied(),
-        &Some(Op::Test(test)),
-    );
+    same(rt, &image.operations().get(3).copied(), &Some(Test(test)));
 }
 
 #[test]
 fn tests_by_number(rt: HostRuntime) {
     let alloc = rt.alloc();
     for (number, test) in TESTS {
-        let changed = with_byte(22, number);
+        let changed = with_byte(LOOPS, 22, number);
         let image = spelled(&rt, alloc, &changed);
         tests(&rt, &image, test);
         is_written(&rt, alloc, &image, &changed);
     }
     for number in [2, 15, 21, 23, 27, 255] {
-        has_fault(&rt, alloc, &with_byte(22, number), ImageError::Operations);
+        has_fault(&rt, alloc, &with_byte(LOOPS, 22, number), Operations);
     }
 }
 
+/// Faults, and their letters.
+const LETTERS: &[(ImageError, &str)] = &[
+    (Mark, "C1"),
+    (Length, "C2"),
+    (Operations, "C3"),
+    (Messages, "C4"),
+    (Memory, "C5"),
+    (Version, "C6"),
+];
+
 #[test]
 fn faults_are_printed_by_their_letters(rt: HostRuntime) {
-    for (fault, letters) in [
-        (ImageError::Mark, "C1"),
-        (ImageError::Length, "C2"),
-        (ImageError::Operations, "C3"),
-        (ImageError::Messages, "C4"),
-        (ImageError::Memory, "C5"),
-        (ImageError::Version, "C6"),
-    ] {
-        prints(&rt, rt.alloc(), letters, &fault, letters);
-    }
+    each_prints(&rt, rt.alloc(), LETTERS);
 }

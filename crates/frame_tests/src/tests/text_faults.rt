@@ -1,6 +1,6 @@
 //! Texts with each fault at the first, a middle and the last place where it may stand; lines and columns are counted by
 //! hand.
-use crate::equal::{prints, reads};
+use crate::tests::equal::{prints, reads};
 use frame_text::{parse, read_send};
 use std::alloc::Global;
 use std::fmt::Write;
@@ -10,7 +10,7 @@ use std::process::Abort;
 type Told = (&'static str, &'static str);
 
 /// A byte that is in no token, and a token that may not stand where it does.
-const MISPLACED: [Told; 14] = [
+const MISPLACED: &[Told] = &[
     ("@", "S1 line 1 column 1"),
     ("gap @ 50", "S1 line 1 column 5"),
     ("gap 50 # @\n  @ gap 60", "S1 line 2 column 3"),
@@ -28,7 +28,7 @@ const MISPLACED: [Told; 14] = [
 ];
 
 /// A word that spells no number or data word, and numbers that no message has.
-const WRONG_NUMBERS: [Told; 9] = [
+const WRONG_NUMBERS: &[Told] = &[
     ("gap fifty", "S3 line 1 column 5"),
     (
         "gap 50\nretry 1x send A mode 5 1 gap 60",
@@ -44,7 +44,7 @@ const WRONG_NUMBERS: [Told; 9] = [
 ];
 
 /// Texts that end too early: the place is directly behind the last byte.
-const EARLY_ENDS: [Told; 8] = [
+const EARLY_ENDS: &[Told] = &[
     ("send", "S5 line 1 column 5"),
     ("gap\n", "S5 line 2 column 1"),
     ("if fail {", "S5 line 1 column 10"),
@@ -56,7 +56,7 @@ const EARLY_ENDS: [Told; 8] = [
 ];
 
 /// Numbers out of their ranges, and too many messages.
-const RANGES: [Told; 20] = [
+const RANGES: &[Told] = &[
     ("frame 150 { }", "S7 line 1 column 7"),
     ("frame 0 { }", "S7 line 1 column 7"),
     ("gap 50\n frame 6553600 { @", "S7 line 2 column 8"),
@@ -89,7 +89,7 @@ const RANGES: [Told; 20] = [
 ];
 
 /// Names of definitions: what a name is, which may be called, which may be defined.
-const NAMES: [Told; 18] = [
+const NAMES: &[Told] = &[
     ("call x", "S10 line 1 column 6"),
     ("define a { } define a { }", "S10 line 1 column 21"),
     ("define a { call a }", "S10 line 1 column 17"),
@@ -129,11 +129,9 @@ fn each_fault(rt: &impl Abort, alloc: Global, table: &[Told]) {
 
 #[test]
 fn faults_and_their_places(rt: HostRuntime) {
-    each_fault(&rt, rt.alloc(), &MISPLACED);
-    each_fault(&rt, rt.alloc(), &WRONG_NUMBERS);
-    each_fault(&rt, rt.alloc(), &EARLY_ENDS);
-    each_fault(&rt, rt.alloc(), &RANGES);
-    each_fault(&rt, rt.alloc(), &NAMES);
+    for table in [MISPLACED, WRONG_NUMBERS, EARLY_ENDS, RANGES, NAMES] {
+        each_fault(&rt, rt.alloc(), table);
+    }
 }
 
 /// A text, then one piece a number of times, then another text; and what is printed of the fault of the whole.

@@ -1,9 +1,9 @@
 //! Controllers on real buses, against worked records.
 
-use crate::equal::same;
-use crate::loading::loaded;
-use crate::records::{Row, are_rows, has_ended, sends, sent};
-use crate::worked::LOOPS;
+use crate::tests::equal::same;
+use crate::tests::loading::loaded;
+use crate::tests::records::{Row, are_rows, has_ended, sends, sent};
+use crate::tests::worked::LOOPS;
 use bc_machine::{Actions, Machine, Placed};
 use mil_bus::Bus;
 use mil_host::Action;
@@ -73,23 +73,28 @@ fn controller(
     Machine::start(loaded(rt, alloc, image), bus, plan, placed)
 }
 
-/// One with no fault and no action.
-fn plain(rt: &impl Abort, alloc: Global, image: &[u8]) -> Machine {
-    controller(rt, alloc, image, Plan::make(alloc), Actions::new(alloc))
+/// One with no fault and no action sends these rows in so many steps, and halts then.
+fn plays_out(rt: &impl Abort, alloc: Global, image: &[u8], steps: u32, rows: &[Row]) {
+    let mut machine = controller(rt, alloc, image, Plan::make(alloc), Actions::new(alloc));
+    sends(
+        rt,
+        alloc,
+        "no fault and no action",
+        &mut machine,
+        steps,
+        rows,
+    );
+    has_ended(rt, &mut machine, rows.len());
 }
 
 #[test]
 fn retries_take_turns_on_the_lines(rt: HostRuntime) {
-    let mut machine = plain(&rt, rt.alloc(), &LOOPS);
-    sends(&rt, rt.alloc(), "retries", &mut machine, 47, &NINE);
-    has_ended(&rt, &mut machine, 9);
+    plays_out(&rt, rt.alloc(), &LOOPS, 47, &NINE);
 }
 
 #[test]
 fn before_any_message_each_test_is_false(rt: HostRuntime) {
-    let mut machine = plain(&rt, rt.alloc(), &CHOSEN);
-    sends(&rt, rt.alloc(), "a choice", &mut machine, 6, &[]);
-    has_ended(&rt, &mut machine, 0);
+    plays_out(&rt, rt.alloc(), &CHOSEN, 6, &[]);
 }
 
 /// No fault but a word of the first message that is not sent.

@@ -1,7 +1,7 @@
 //! Lists of placed actions: what is put into them, in which order, and copies.
 ghost use Rattle.bc_machine.specs.Rising.{IsRising};
 
-use crate::equal::{reads, same};
+use crate::tests::equal::{reads, same};
 use bc_machine::{Actions, Placed, Schedule};
 use mil_bus::Bus;
 use mil_host::read_action;

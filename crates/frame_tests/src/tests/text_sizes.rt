@@ -1,5 +1,5 @@
 //! The sizes of what is read.
-use crate::equal::same_in;
+use crate::tests::equal::same_in;
 use frame_text::{parse, read_cond};
 use std::alloc::Global;
 use std::process::Abort;

@@ -1,6 +1,6 @@
 //! Jobs of several texts, read together.
-use crate::equal::{prints, reads, same};
-use crate::jobs::RETRIES;
+use crate::tests::equal::{prints, reads, same};
+use crate::tests::jobs::RETRIES;
 use job_file::{Job, read_jobs};
 use std::alloc::Global;
 use std::process::Abort;

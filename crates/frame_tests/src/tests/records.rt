@@ -1,6 +1,6 @@
 //! Records against those that are expected.
 
-use crate::equal::{same, same_in};
+use crate::tests::equal::{same, same_in};
 use bc_machine::{Machine, Stepped};
 use mil_monitor::Record;
 use std::alloc::Global;
@@ -61,8 +61,8 @@ pub(crate) fn sends(
 }
 
 /// The machine halts, after so many messages.
-pub(crate) fn has_ended(rt: &impl Abort, machine: &mut Machine, number: u32) {
+pub(crate) fn has_ended(rt: &impl Abort, machine: &mut Machine, messages: usize) {
     let halts = matches!(machine.step(), Stepped::Halted);
     same(rt, &halts, &true);
-    same(rt, &machine.number(), &number);
+    same(rt, &(machine.number() as usize), &messages);
 }

@@ -1,49 +1,36 @@
 //! Lines of a job that speak of many messages: `faults` and `series`.
-use crate::equal::same;
-use crate::job_refusals::{Told, each_fault};
-use crate::jobs::{Played, each_plays};
-use job_file::read_job;
+use crate::tests::equal::{same, same_in};
+use crate::tests::job_refusals::{Told, each_fault};
+use crate::tests::jobs::{Played, each_plays, job_of, machine_of};
+use crate::tests::records::sent;
 use std::alloc::Global;
 use std::process::Abort;
 
+/// The text of a job of commands to send the word at subaddress 3 of terminal 5, and the words that are sent.
+type Sent = (&'static str, &'static [u16]);
+
 /// What series place: the words of five messages, the wrap at 65,536, and actions at one message in the order of the
 /// lines.
-const SERIES: [Played; 5] = [
+const SERIES: [Sent; 5] = [
     (
         "channel 1\nterminal 5\nseries 1 5 2 5 3 0010 FFFF\nscript\nrepeat 5 { send A tx 5 3 1 }",
-        &[
-            (None, None, &[0x2c61, 0x2800, 0x10]),
-            (None, None, &[0x2c61, 0x2800, 0x10]),
-            (None, None, &[0x2c61, 0x2800, 0xf]),
-            (None, None, &[0x2c61, 0x2800, 0xf]),
-            (None, None, &[0x2c61, 0x2800, 0xe]),
-        ],
+        &[0x10, 0x10, 0xf, 0xf, 0xe],
     ),
     (
         "channel 1\nterminal 5\nseries 2 5 2 5 3 00aa 0001\nscript\nrepeat 5 { send A tx 5 3 1 }",
-        &[
-            (None, None, &[0x2c61, 0x2800, 0]),
-            (None, None, &[0x2c61, 0x2800, 0xaa]),
-            (None, None, &[0x2c61, 0x2800, 0xaa]),
-            (None, None, &[0x2c61, 0x2800, 0xab]),
-            (None, None, &[0x2c61, 0x2800, 0xab]),
-        ],
+        &[0, 0xaa, 0xaa, 0xab, 0xab],
     ),
     (
         "channel 1\nterminal 5\nseries 1 3 1 5 3 FFFF 0002\nscript\nrepeat 3 { send A tx 5 3 1 }",
-        &[
-            (None, None, &[0x2c61, 0x2800, 0xffff]),
-            (None, None, &[0x2c61, 0x2800, 1]),
-            (None, None, &[0x2c61, 0x2800, 3]),
-        ],
+        &[0xffff, 1, 3],
     ),
     (
         "channel 1\nterminal 5\nat 1 5 transmit 3 AAAA\nseries 1 1 1 5 3 0001 0000\nscript\nsend A tx 5 3 1",
-        &[(None, None, &[0x2c61, 0x2800, 1])],
+        &[1],
     ),
     (
         "channel 1\nterminal 5\nseries 1 1 1000000 5 3 0001 0000\nat 1 5 transmit 3 AAAA\nscript\nsend A tx 5 3 1",
-        &[(None, None, &[0x2c61, 0x2800, 0xaaaa])],
+        &[0xaaaa],
     ),
 ];
 
@@ -69,9 +56,21 @@ const FAULTS: [Played; 2] = [
     ),
 ];
 
+/// The job of this text sends these words, each behind its command and its status.
+fn sends_words(rt: &impl Abort, alloc: Global, text: &str, words: &[u16]) {
+    let records = sent(rt, alloc, &mut machine_of(rt, alloc, text), 1_000);
+    same_in(rt, text, &records.len(), &words.len());
+    for (record, word) in records.iter().zip(words) {
+        let wanted = [0x2c61, 0x2800, *word];
+        same_in(rt, text, &record.words.as_slice(), &wanted.as_slice());
+    }
+}
+
 #[test]
 fn records(rt: HostRuntime) {
-    each_plays(&rt, rt.alloc(), &SERIES);
+    for (text, words) in SERIES {
+        sends_words(&rt, rt.alloc(), text, words);
+    }
     each_plays(&rt, rt.alloc(), &FAULTS);
 }
 
@@ -153,15 +152,15 @@ fn a_million_of_series(rt: HostRuntime) {
 
 /// The job of this text has so many placed actions.
 fn places(rt: &impl Abort, alloc: Global, text: &str, count: usize) {
-    let job = read_job(alloc, text.as_bytes()).expect(rt, text);
-    same(rt, &job.actions().len(), &count);
+    same(rt, &job_of(rt, alloc, text).actions().len(), &count);
 }
 
 #[test]
 fn counts(rt: HostRuntime) {
-    let alloc = rt.alloc();
-    let text = "channel 1\nterminal 5\nseries 1 1000000 3 5 3 0000 0001\nscript\n";
-    places(&rt, alloc, text, 333_334);
-    let text = "channel 1\nterminal 5\nseries 1 999999 3 5 3 0000 0001\nat 1 5 busy on\nscript\n";
-    places(&rt, alloc, text, 333_334);
+    for text in [
+        "channel 1\nterminal 5\nseries 1 1000000 3 5 3 0000 0001\nscript\n",
+        "channel 1\nterminal 5\nseries 1 999999 3 5 3 0000 0001\nat 1 5 busy on\nscript\n",
+    ] {
+        places(&rt, rt.alloc(), text, 333_334);
+    }
 }
