@@ -1,0 +1,20 @@
+//! Tests of runs, of live runs and of mailboxes.
+mod channels;
+mod counts;
+mod fixtures;
+mod full_queues;
+mod gates;
+mod held;
+mod hosts;
+mod live;
+mod live_hosts;
+mod live_many;
+mod mailboxes;
+mod many;
+mod posting;
+mod progress;
+mod recordings;
+mod refusals;
+mod rows;
+mod settled;
+mod sinks;
