@@ -3,10 +3,4 @@
 #![tactic(auto)]
 
 #[cfg(test)]
-mod lines;
-#[cfg(test)]
-mod paces;
-#[cfg(test)]
-mod posts;
-#[cfg(test)]
-mod shows;
+mod tests;

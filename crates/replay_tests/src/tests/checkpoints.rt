@@ -51,16 +51,16 @@ fn stands_as(replay: &Replay<'_>, other: &mut Replay<'_>) -> bool {
     other.go(replay.place()).is_ok() && seen_at(replay) == seen_at(other)
 }
 
-/// After how many steps back at most 63 messages were played, and the state is that of another recording that goes
-/// there.
-fn good_steps(replay: &mut Replay<'_>, other: &mut Replay<'_>, steps: u64) -> u64 {
-    let mut good = 0u64;
+/// Whether a step back plays at most 63 messages, and comes to the state of another recording that goes there.
+fn is_short_step(replay: &mut Replay<'_>, other: &mut Replay<'_>) -> bool {
+    replay.back().is_ok() && replay.replayed() <= 63 && stands_as(replay, other)
+}
+
+/// So many steps back are short ones.
+fn steps_back(rt: &impl Abort, replay: &mut Replay<'_>, other: &mut Replay<'_>, steps: u64) {
     for _ in 0..steps {
-        if replay.back().is_ok() && replay.replayed() <= 63 && stands_as(replay, other) {
-            good = good.saturating_add(1);
-        }
+        assert!(rt; is_short_step(replay, other));
     }
-    good
 }
 
 #[test]
@@ -69,7 +69,7 @@ fn seventy_back_play_few(rt: HostRuntime) {
     let mut replay = opened(&rt, rt.alloc(), &one, &one.file);
     let mut other = opened(&rt, rt.alloc(), &one, &one.file);
     moves(&rt, rt.alloc(), &mut replay, &COUNTED[..1]);
-    same(&rt, &good_steps(&mut replay, &mut other, 70), &70);
+    steps_back(&rt, &mut replay, &mut other, 70);
     same(&rt, &replay.place(), &30);
 }
 
@@ -83,15 +83,11 @@ fn is_kept(replay: &mut Replay<'_>, other: &mut Replay<'_>, place: u64) -> bool 
     }
 }
 
-/// How many of some moves are kept.
-fn kept_moves(replay: &mut Replay<'_>, other: &mut Replay<'_>, places: &[u64]) -> usize {
-    let mut good = 0usize;
+/// The moves to these places, one after the other, are kept.
+fn are_kept(rt: &impl Abort, replay: &mut Replay<'_>, other: &mut Replay<'_>, places: &[u64]) {
     for place in places {
-        if is_kept(replay, other, *place) {
-            good = good.saturating_add(1);
-        }
+        assert!(rt; is_kept(replay, other, *place), "to {place}");
     }
-    good
 }
 
 /// To be tried with each growth refused in turn, too.
@@ -101,5 +97,5 @@ fn refused_memory_leaves_all(rt: HostRuntime) {
     let mut replay = opened(&rt, rt.alloc(), &one, &one.file);
     let mut other = opened(&rt, rt.alloc(), &one, &one.file);
     let places = [100u64, 3, 64, 99, 98, 20, 21, 0];
-    same(&rt, &kept_moves(&mut replay, &mut other, &places), &8);
+    are_kept(&rt, &mut replay, &mut other, &places);
 }

@@ -6,9 +6,19 @@ use replay::{Replay, ReplayError};
 use std::alloc::Global;
 use std::process::Abort;
 
+/// The text of a job, the parts in which its messages are offered, and how many of them are recorded.
+struct Offered {
+    text: &'static str,
+    parts: &'static [u16],
+    total: u64,
+}
+
 /// A message whose last data word is dropped, and then twice the question for the status.
-const THREE_MESSAGES: &str =
-    "channel 1\nterminal 5\nfault 1 drop 0 3\nscript\nsend A rx 5 1 [0001 0002 0003] send A mode 5 2 send A mode 5 2\n";
+const THREE_MESSAGES: Offered = Offered {
+    text: "channel 1\nterminal 5\nfault 1 drop 0 3\nscript\nsend A rx 5 1 [0001 0002 0003] send A mode 5 2 send A mode 5 2\n",
+    parts: &[1; 3],
+    total: 3,
+};
 
 const THREE_MOVES: [Row; 8] = [
     (Back, Err(ReplayError::Start), 0, None, None),
@@ -27,8 +37,11 @@ const THREE_MOVES: [Row; 8] = [
     (Forward, Ok(()), 1, None, None),
 ];
 
-const FIVE_MESSAGES: &str =
-    "channel 1\nterminal 5\nat 3 5 busy on\nscript\nrepeat 5 { send A rx 5 1 [0001] }\n";
+const FIVE_MESSAGES: Offered = Offered {
+    text: "channel 1\nterminal 5\nat 3 5 busy on\nscript\nrepeat 5 { send A rx 5 1 [0001] }\n",
+    parts: &[1, 2, 1, 1],
+    total: 4,
+};
 
 /// Message 3 turns the terminal busy and is refused: it has happened at the next place all the same.
 const FIVE_MOVES: [Row; 4] = [
@@ -38,8 +51,11 @@ const FIVE_MOVES: [Row; 4] = [
     (Find("bit busy"), Ok(()), 3, None, None),
 ];
 
-const HUNDRED_MESSAGES: &str =
-    "channel 1\nterminal 5\nscript\nrepeat 100 { send A rx 5 1 [0001] }\n";
+const HUNDRED_MESSAGES: Offered = Offered {
+    text: "channel 1\nterminal 5\nscript\nrepeat 100 { send A rx 5 1 [0001] }\n",
+    parts: &[1; 100],
+    total: 100,
+};
 
 const HUNDRED_MOVES: [Row; 2] = [
     (Go(100), Ok(()), 100, None, None),
@@ -60,18 +76,10 @@ fn begins(rt: &impl Abort, replay: &Replay<'_>, total: u64) {
 
 /// The moves of some rows, and those of others over the same recording opened anew, lead to the same state at the same
 /// time.
-fn meets(
-    rt: &impl Abort,
-    alloc: Global,
-    text: &str,
-    parts: &[u16],
-    total: u64,
-    rows: &[Row],
-    others: &[Row],
-) {
-    let one = record_of(rt, alloc, text, parts);
+fn meets(rt: &impl Abort, alloc: Global, job: &Offered, rows: &[Row], others: &[Row]) {
+    let one = record_of(rt, alloc, job.text, job.parts);
     let mut replay = opened(rt, alloc, &one, &one.file);
-    begins(rt, &replay, total);
+    begins(rt, &replay, job.total);
     moves(rt, alloc, &mut replay, rows);
     let mut other = opened(rt, alloc, &one, &one.file);
     moves(rt, alloc, &mut other, others);
@@ -81,40 +89,16 @@ fn meets(
 #[test]
 fn three_messages_step_by_step(rt: HostRuntime) {
     let first = [(Go(1), Ok(()), 1, Some((1, 0x2C00, 0x2823)), None)];
-    meets(
-        &rt,
-        rt.alloc(),
-        THREE_MESSAGES,
-        &[1; 3],
-        3,
-        &THREE_MOVES,
-        &first,
-    );
+    meets(&rt, rt.alloc(), &THREE_MESSAGES, &THREE_MOVES, &first);
 }
 
 #[test]
 fn a_refused_message_has_happened(rt: HostRuntime) {
     let third = [(Go(3), Ok(()), 3, Some((4, 0x2808, 0x2821)), None)];
-    meets(
-        &rt,
-        rt.alloc(),
-        FIVE_MESSAGES,
-        &[1, 2, 1, 1],
-        4,
-        &FIVE_MOVES,
-        &third,
-    );
+    meets(&rt, rt.alloc(), &FIVE_MESSAGES, &FIVE_MOVES, &third);
 }
 
 #[test]
 fn a_hundred_messages_and_seventy_back(rt: HostRuntime) {
-    meets(
-        &rt,
-        rt.alloc(),
-        HUNDRED_MESSAGES,
-        &[1; 100],
-        100,
-        &HUNDRED_MOVES,
-        &THIRTY,
-    );
+    meets(&rt, rt.alloc(), &HUNDRED_MESSAGES, &HUNDRED_MOVES, &THIRTY);
 }

@@ -14,71 +14,76 @@ const TWO_MESSAGES: &str = "channel 1\nterminal 5\nscript\nrepeat 2 { send A rx 
 /// One message of another channel.
 const CHANNEL_SEVEN: &str = "channel 7\nterminal 5\nscript\nsend A rx 5 1 [0001]\n";
 
-/// Reports that are not of the two messages, and the first difference: its channel and its number.
-const OTHER_REPORTS: [(&str, u16, u32); 8] = [
-    ("channel 2\nmade 2\npackets 1\n", 1, 0),
-    ("packets 1\n", 1, 0),
-    ("channel 1\nmade 2\nchannel 3\nmade 0\npackets 1\n", 3, 0),
-    ("channel 1\nmade 1\npackets 1\n", 1, 2),
-    ("channel 1\nmade 3\npackets 1\n", 1, 3),
-    ("channel 1\nmade 2\nrefused 2\npackets 1\n", 1, 3),
-    ("channel 1\nmade 2\nrefused 1\npackets 1\n", 1, 2),
-    ("channel 1\nmade 2\nplaced 1 5 busy on\npackets 1\n", 1, 1),
+/// The channel and the number of the first difference between a file and a report.
+type Difference = (u16, u32);
+
+/// Reports that are not of the two messages, and the first difference.
+const OTHER_REPORTS: [(&str, Difference); 8] = [
+    ("channel 2\nmade 2\npackets 1\n", (1, 0)),
+    ("packets 1\n", (1, 0)),
+    ("channel 1\nmade 2\nchannel 3\nmade 0\npackets 1\n", (3, 0)),
+    ("channel 1\nmade 1\npackets 1\n", (1, 2)),
+    ("channel 1\nmade 3\npackets 1\n", (1, 3)),
+    ("channel 1\nmade 2\nrefused 2\npackets 1\n", (1, 3)),
+    ("channel 1\nmade 2\nrefused 1\npackets 1\n", (1, 2)),
+    ("channel 1\nmade 2\nplaced 1 5 busy on\npackets 1\n", (1, 1)),
 ];
 
-/// Why a file is not opened with the jobs of a recording and a report, None where it is.
-fn opens(
+/// Why a file is not opened with the jobs of a recording and a report; None where it is.
+fn refusal(
     rt: &impl Abort,
     alloc: Global,
     one: &Recorded,
     report: &Report,
     file: &[u8],
-    wanted: Option<ReplayError>,
-) {
+) -> Option<ReplayError> {
     let index = Index::build(alloc, file).ok().expect(rt, "an index");
-    let refusal = Replay::open(alloc, &one.jobs, report, index).err();
-    same(rt, &refusal, &wanted);
+    Replay::open(alloc, &one.jobs, report, index).err()
 }
 
-/// A file does not agree with a recording's jobs and report: the channel and the number of the first difference.
-fn differs(rt: &impl Abort, alloc: Global, one: &Recorded, file: &[u8], channel: u16, number: u32) {
-    let fault = ReplayError::Mismatch { channel, number };
-    opens(rt, alloc, one, &one.report, file, Some(fault));
+/// The refusal of a file and a report that differ.
+fn mismatch(first: Difference) -> Option<ReplayError> {
+    let (channel, number) = first;
+    Some(ReplayError::Mismatch { channel, number })
+}
+
+/// A file does not agree with a recording's jobs and report.
+fn differs(rt: &impl Abort, alloc: Global, one: &Recorded, file: &[u8], first: Difference) {
+    let found = refusal(rt, alloc, one, &one.report, file);
+    same(rt, &found, &mismatch(first));
 }
 
 #[test]
 fn another_word_in_the_file(rt: HostRuntime) {
     let mut one = record_of(&rt, rt.alloc(), ONE_MESSAGE, &[1]);
     same(&rt, &one.file.len(), &52);
-    opens(&rt, rt.alloc(), &one, &one.report, &one.file, None);
+    let found = refusal(&rt, rt.alloc(), &one, &one.report, &one.file);
+    same(&rt, &found, &None);
     *one.file.get_mut(44).expect(&rt, "a byte") = 2;
-    differs(&rt, rt.alloc(), &one, &one.file, 1, 1);
+    differs(&rt, rt.alloc(), &one, &one.file, (1, 1));
 }
 
 /// The report of a text does not agree with a recording.
-fn report_differs(rt: &impl Abort, alloc: Global, one: &Recorded, row: &(&str, u16, u32)) {
-    let (text, channel, number) = *row;
+fn report_differs(rt: &impl Abort, alloc: Global, one: &Recorded, text: &str, first: Difference) {
     let report = report_of(rt, alloc, text);
-    let index = Index::build(alloc, &one.file).ok().expect(rt, "an index");
-    let refusal = Replay::open(alloc, &one.jobs, &report, index).err();
-    let fault = ReplayError::Mismatch { channel, number };
-    assert_eq!(rt; refusal, Some(fault), "{text}");
+    let found = refusal(rt, alloc, one, &report, &one.file);
+    assert_eq!(rt; found, mismatch(first), "{text}");
 }
 
 #[test]
 fn another_report(rt: HostRuntime) {
     let one = record_of(&rt, rt.alloc(), TWO_MESSAGES, &[1, 1]);
-    for row in &OTHER_REPORTS {
-        report_differs(&rt, rt.alloc(), &one, row);
+    for (text, first) in OTHER_REPORTS {
+        report_differs(&rt, rt.alloc(), &one, text, first);
     }
 }
 
 #[test]
 fn a_file_without_the_last_message_or_of_another_channel(rt: HostRuntime) {
     let one = record_of(&rt, rt.alloc(), TWO_MESSAGES, &[1, 1]);
-    differs(&rt, rt.alloc(), &one, &[], 1, 1);
+    differs(&rt, rt.alloc(), &one, &[], (1, 1));
     let other = record_of(&rt, rt.alloc(), CHANNEL_SEVEN, &[1]);
-    differs(&rt, rt.alloc(), &one, &other.file, 7, 0);
+    differs(&rt, rt.alloc(), &one, &other.file, (7, 0));
 }
 
 /// A refusal is printed as this text.

@@ -1,0 +1,5 @@
+//! Tests of live recordings.
+mod lines;
+mod paces;
+mod posts;
+mod shows;
