@@ -4,10 +4,11 @@
 mod completions;
 mod dated;
 mod decodings;
-mod equal;
+pub(crate) mod equal;
 mod explanations;
 mod exports;
-mod made;
+pub(crate) mod made;
+mod pages;
 mod pictures;
 mod selections;
 mod statistics;

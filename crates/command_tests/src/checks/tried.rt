@@ -1,6 +1,6 @@
 //! What `bench check` says of jobs, worked out by hand.
+use crate::looks::made::{TRANSFER, job_of};
 use bench_check::{Bits, print_findings, print_summary, tight_frames_in, try_job};
-use job_file::read_job;
 use std::alloc::Global;
 use std::process::Abort;
 
@@ -36,10 +36,7 @@ probably a mistake:
 queue 3: with room for so many nothing of this job is refused
 ";
 
-/// The job of examples/transfer.job: its first message takes 132.0 µs, and the next starts 2.0 behind it.
-const TRANSFER: &str =
-    "channel 1\nterminal 3\nterminal 7\nat 1 7 transmit 1 AAAA 5555\nscript\nsend A rt 7 1 3 4 2\nsend A mode 3 2\n";
-
+/// The first message takes 132.0 µs, and the next starts 2.0 behind it.
 const TRANSFERRED: &str = "message 1 at 0.0 us: send A rt 7 1 3 4 2
   at 1 7 transmit 1 AAAA 5555
   status 3800 1800, block terminal_to_terminal
@@ -160,86 +157,41 @@ probably a mistake:
 queue 6: with room for so many nothing of this job is refused
 ";
 
-/// How a job is told.
-#[derive(Clone, Copy)]
-struct Row {
-    job: &'static str,
-    summary: bool,
-    bits: Bits,
-    wanted: &'static str,
-}
+/// A job, whether it is told by its summary alone, how bits are written, and what is printed.
+type Row = (&'static str, bool, Bits, &'static str);
 
 const ROWS: [Row; 8] = [
-    Row {
-        job: MISTAKEN,
-        summary: false,
-        bits: Bits::Digits,
-        wanted: MISTAKES,
-    },
-    Row {
-        job: TRANSFER,
-        summary: false,
-        bits: Bits::Digits,
-        wanted: TRANSFERRED,
-    },
-    Row {
-        job: FAULTY,
-        summary: false,
-        bits: Bits::Digits,
-        wanted: FAULTED,
-    },
-    Row {
-        job: ODD,
-        summary: true,
-        bits: Bits::Digits,
-        wanted: ODDITIES,
-    },
-    Row {
-        job: REPEATED,
-        summary: false,
-        bits: Bits::Names,
-        wanted: REPEATED_NAMES,
-    },
-    Row {
-        job: REPEATED,
-        summary: true,
-        bits: Bits::Digits,
-        wanted: REPEATED_SUMMARY,
-    },
-    Row {
-        job: MAY_OVERRUN,
-        summary: true,
-        bits: Bits::Digits,
-        wanted: MAY_OVERRUN_SUMMARY,
-    },
-    Row {
-        job: FIVE_FRAMES,
-        summary: true,
-        bits: Bits::Digits,
-        wanted: FIVE_FRAMES_SUMMARY,
-    },
+    (MISTAKEN, false, Bits::Digits, MISTAKES),
+    (TRANSFER, false, Bits::Digits, TRANSFERRED),
+    (FAULTY, false, Bits::Digits, FAULTED),
+    (ODD, true, Bits::Digits, ODDITIES),
+    (REPEATED, false, Bits::Names, REPEATED_NAMES),
+    (REPEATED, true, Bits::Digits, REPEATED_SUMMARY),
+    (MAY_OVERRUN, true, Bits::Digits, MAY_OVERRUN_SUMMARY),
+    (FIVE_FRAMES, true, Bits::Digits, FIVE_FRAMES_SUMMARY),
 ];
 
 /// What the job of a row comes to.
 fn comes_to(rt: &impl Abort, alloc: Global, row: &Row) {
-    let job = read_job(alloc, row.job.as_bytes()).ok().expect(rt, "a job");
+    let (text, summary, bits, wanted) = row;
+    let job = job_of(rt, alloc, text);
     let mut out = Vec::new(alloc);
-    let findings = try_job(alloc, &job, row.bits, &mut out)
+    let findings = try_job(alloc, &job, *bits, &mut out)
         .ok()
         .expect(rt, "findings");
-    let tight = tight_frames_in(alloc, row.job.as_bytes())
+    let tight = tight_frames_in(alloc, text.as_bytes())
         .ok()
         .expect(rt, "frames");
-    if row.summary {
+    if *summary {
         out.clear();
     }
-    let printed = if row.summary {
+    let printed = if *summary {
         print_summary(alloc, &job, &findings, &tight, &mut out)
     } else {
         print_findings(alloc, &job, &findings, &tight, &mut out)
     };
     assert!(rt; printed.is_ok());
-    assert_eq!(rt; out.as_slice(), row.wanted.as_bytes());
+    assert_eq!(rt; out.as_slice(), wanted.as_bytes());
 }
 
 #[test]

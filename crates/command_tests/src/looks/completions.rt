@@ -1,9 +1,10 @@
 //! What `bench complete` makes of recordings, worked out by hand.
 use crate::looks::equal::same_in;
-use crate::looks::made::{FOREIGN, recorded};
+use crate::looks::made::recorded;
 use bench_complete::{Additions, CompleteFault, Completion, UtcSecond, complete};
 use std::alloc::Global;
 use std::process::Abort;
+use test_values::FOREIGN;
 
 /// A poll at tick 15,000,000.
 pub(crate) const LATE: &str = "channel 1\nterminal 5\nstart 15000000\nscript\nsend A mode 5 1\n";
@@ -27,33 +28,38 @@ fn additions<'a>(setup: Option<&'a [u8]>, time: &str, time_channel: u16) -> Addi
     }
 }
 
-/// The recordings of jobs of these texts, completed with the time 2024-12-31T23:59:58 at tick 0.
+/// A time, which is that of tick 0 in most tests.
+const START: &str = "2024-12-31T23:59:58";
+
+/// The recordings of jobs of these texts, completed with the time `START` at tick 0.
 pub(crate) fn dated(rt: &impl Abort, alloc: Global, texts: &[&str]) -> Vec<u8> {
     let file = recorded(rt, alloc, texts);
     let mut out = Vec::new(alloc);
-    let added = additions(None, "2024-12-31T23:59:58", 7);
+    let added = additions(None, START, 7);
     let answer = complete(alloc, &file, &added, &mut out);
     same_in(rt, "dated", &answer, &Ok(()));
     out
 }
 
-/// A file is completed to these bytes, or refused so.
-fn is_completed(
+/// A file is completed to these bytes.
+fn is_completed(rt: &impl Abort, alloc: Global, file: &[u8], added: &Additions<'_>, wanted: &[u8]) {
+    let mut out = Vec::new(alloc);
+    let answer = complete(alloc, file, added, &mut out);
+    same_in(rt, "answer", &answer, &Ok(()));
+    same_in(rt, "file", &out.as_slice(), &wanted);
+}
+
+/// A file is not completed, for this fault.
+fn is_refused(
     rt: &impl Abort,
     alloc: Global,
     file: &[u8],
     added: &Additions<'_>,
-    wanted: Result<&[u8], CompleteFault>,
+    fault: CompleteFault,
 ) {
     let mut out = Vec::new(alloc);
     let answer = complete(alloc, file, added, &mut out);
-    match wanted {
-        Ok(bytes) => {
-            same_in(rt, "answer", &answer, &Ok(()));
-            same_in(rt, "file", &out.as_slice(), &bytes);
-        }
-        Err(fault) => same_in(rt, "fault", &answer, &Err(fault)),
-    }
+    same_in(rt, "fault", &answer, &Err(fault));
 }
 
 /// The setup record and the time packet stand in front, and what is complete stays so.
@@ -62,11 +68,11 @@ fn a_late_poll_is_completed(rt: HostRuntime) {
     let file = recorded(&rt, rt.alloc(), &[LATE]);
     let mut wanted = FRONT.to_vec(rt.alloc()).expect(&rt, "memory");
     wanted.extend_from_slice(&file).expect(&rt, "memory");
-    let added = additions(Some(b"AB"), "2024-12-31T23:59:58", 7);
-    is_completed(&rt, rt.alloc(), &file, &added, Ok(&wanted));
+    let added = additions(Some(b"AB"), START, 7);
+    is_completed(&rt, rt.alloc(), &file, &added, &wanted);
     let none = additions(None, "", 65535);
-    is_completed(&rt, rt.alloc(), &wanted, &none, Ok(&wanted));
-    is_completed(&rt, rt.alloc(), &FOREIGN, &none, Ok(&FOREIGN));
+    is_completed(&rt, rt.alloc(), &wanted, &none, &wanted);
+    is_completed(&rt, rt.alloc(), &FOREIGN, &none, &FOREIGN);
 }
 
 /// What the options get wrong.
@@ -74,29 +80,11 @@ fn a_late_poll_is_completed(rt: HostRuntime) {
 fn misuses_are_refused(rt: HostRuntime) {
     let file = recorded(&rt, rt.alloc(), &[LATE]);
     let empty = additions(Some(b""), "", 65535);
-    is_completed(
-        &rt,
-        rt.alloc(),
-        &file,
-        &empty,
-        Err(CompleteFault::SetupSize),
-    );
+    is_refused(&rt, rt.alloc(), &file, &empty, CompleteFault::SetupSize);
     let twice = additions(Some(b"AB"), "", 65535);
-    is_completed(
-        &rt,
-        rt.alloc(),
-        &FOREIGN,
-        &twice,
-        Err(CompleteFault::SetupTwice),
-    );
-    let taken = additions(None, "2024-12-31T23:59:58", 1);
-    is_completed(
-        &rt,
-        rt.alloc(),
-        &file,
-        &taken,
-        Err(CompleteFault::ChannelTaken),
-    );
+    is_refused(&rt, rt.alloc(), &FOREIGN, &twice, CompleteFault::SetupTwice);
+    let taken = additions(None, START, 1);
+    is_refused(&rt, rt.alloc(), &file, &taken, CompleteFault::ChannelTaken);
 }
 
 /// Times of the years 1970 to 2099 as seconds, and texts that are none.
@@ -162,45 +150,55 @@ fn turns(rt: &impl Abort, alloc: Global, time: &str, first: [u8; 12], last: [u8;
     );
 }
 
+/// What a time packet says: the second byte of its body, 3 in a leap year and else 2, and the digits of year, month,
+/// day, hour, minute and second.
+type Said = (u8, u64);
+
+/// Times at tick 0, and what the time packets of the first and of the last second say.
+const TURNS: [(&str, Said, Said); 5] = [
+    (
+        "2023-12-31T23:59:59",
+        (2, 0x2023_1231_235959),
+        (3, 0x2024_0101_000000),
+    ),
+    (
+        "1999-12-31T23:59:59",
+        (2, 0x1999_1231_235959),
+        (3, 0x2000_0101_000000),
+    ),
+    (
+        "2099-12-31T23:59:59",
+        (2, 0x2099_1231_235959),
+        (2, 0x2100_0101_000000),
+    ),
+    (
+        "2024-02-28T23:59:59",
+        (3, 0x2024_0228_235959),
+        (3, 0x2024_0229_000000),
+    ),
+    (
+        "2023-02-28T12:34:58",
+        (2, 0x2023_0228_123458),
+        (2, 0x2023_0228_123459),
+    ),
+];
+
+/// The body of a time packet that says this: two digits a byte, the last ones first.
+fn body_of(said: Said) -> [u8; 12] {
+    let (leap, digits) = said;
+    let [second, minute, hour, day, month, year, century, _] = digits.to_le_bytes();
+    [
+        0x30, leap, 0, 0, 0, second, minute, hour, day, month, year, century,
+    ]
+}
+
 /// Years, leap years and leap days begin where the calendar has them, and the last second is the one at the highest
 /// counter.
 #[test]
 fn seconds_turn_as_the_calendar_does(rt: HostRuntime) {
-    turns(
-        &rt,
-        rt.alloc(),
-        "2023-12-31T23:59:59",
-        [0x30, 2, 0, 0, 0, 0x59, 0x59, 0x23, 0x31, 0x12, 0x23, 0x20],
-        [0x30, 3, 0, 0, 0, 0, 0, 0, 0x01, 0x01, 0x24, 0x20],
-    );
-    turns(
-        &rt,
-        rt.alloc(),
-        "1999-12-31T23:59:59",
-        [0x30, 2, 0, 0, 0, 0x59, 0x59, 0x23, 0x31, 0x12, 0x99, 0x19],
-        [0x30, 3, 0, 0, 0, 0, 0, 0, 0x01, 0x01, 0x00, 0x20],
-    );
-    turns(
-        &rt,
-        rt.alloc(),
-        "2099-12-31T23:59:59",
-        [0x30, 2, 0, 0, 0, 0x59, 0x59, 0x23, 0x31, 0x12, 0x99, 0x20],
-        [0x30, 2, 0, 0, 0, 0, 0, 0, 0x01, 0x01, 0x00, 0x21],
-    );
-    turns(
-        &rt,
-        rt.alloc(),
-        "2024-02-28T23:59:59",
-        [0x30, 3, 0, 0, 0, 0x59, 0x59, 0x23, 0x28, 0x02, 0x24, 0x20],
-        [0x30, 3, 0, 0, 0, 0, 0, 0, 0x29, 0x02, 0x24, 0x20],
-    );
-    turns(
-        &rt,
-        rt.alloc(),
-        "2023-02-28T12:34:58",
-        [0x30, 2, 0, 0, 0, 0x58, 0x34, 0x12, 0x28, 0x02, 0x23, 0x20],
-        [0x30, 2, 0, 0, 0, 0x59, 0x34, 0x12, 0x28, 0x02, 0x23, 0x20],
-    );
+    for (time, first, last) in TURNS {
+        turns(&rt, rt.alloc(), time, body_of(first), body_of(last));
+    }
 }
 
 /// An index of a recording (type 03) is left out, and its channel is taken all the same.
@@ -212,15 +210,9 @@ fn an_index_is_left_out(rt: HostRuntime) {
     file[23] = 0x85;
     file.extend_from_slice(&late).expect(&rt, "memory");
     let none = additions(None, "", 65535);
-    is_completed(&rt, rt.alloc(), &file, &none, Ok(&late));
-    let taken = additions(None, "2024-12-31T23:59:58", 7);
-    is_completed(
-        &rt,
-        rt.alloc(),
-        &file,
-        &taken,
-        Err(CompleteFault::ChannelTaken),
-    );
+    is_completed(&rt, rt.alloc(), &file, &none, &late);
+    let taken = additions(None, START, 7);
+    is_refused(&rt, rt.alloc(), &file, &taken, CompleteFault::ChannelTaken);
 }
 
 /// Of a damaged recording what is sound is completed, and what is not is told.

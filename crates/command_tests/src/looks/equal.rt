@@ -17,3 +17,19 @@ pub(crate) fn same_in<T: PartialEq + Debug>(rt: &impl Abort, row: &str, found: &
 pub(crate) fn reads(rt: &impl Abort, bytes: &[u8], wanted: &str) {
     assert_eq!(rt; bytes, wanted.as_bytes());
 }
+
+/// What stands behind a text with which the bytes begin.
+pub(crate) fn behind<'a>(rt: &impl Abort, bytes: &'a [u8], text: &str) -> &'a [u8] {
+    let (front, rest) = bytes.split_at(text.len().min(bytes.len()));
+    reads(rt, front, text);
+    rest
+}
+
+/// The bytes are those of these texts, one behind the other.
+pub(crate) fn reads_all(rt: &impl Abort, bytes: &[u8], wanted: &[&str]) {
+    let mut left = bytes;
+    for text in wanted {
+        left = behind(rt, left, text);
+    }
+    reads(rt, left, "");
+}

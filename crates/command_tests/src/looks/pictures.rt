@@ -1,13 +1,15 @@
 //! What `bench draw` draws of recordings, worked out by hand.
 use crate::looks::completions::{FRONT, LATE};
 use crate::looks::equal::same_in;
-use crate::looks::made::{FOREIGN, FORMS, RETRY, recorded};
+use crate::looks::made::{FORMS, RETRY, recorded};
+use crate::looks::selections::selected;
 use bench_clock::Clock;
 use bench_draw::{MOST_BYTES, draw};
 use bench_select::{Bound, Bus, Selection};
 use ch11_reader::Index;
 use std::alloc::Global;
 use std::process::Abort;
+use test_values::FOREIGN;
 
 /// Four hundred messages of 46.0 µs each with 2.0 µs between them: three pixels for each.
 const MANY: &str =
@@ -24,93 +26,130 @@ fn count_of(picture: &[u8], piece: &[u8]) -> usize {
         .count()
 }
 
-/// A piece, in the picture of which messages it is looked for, and how often it stands there.
-type Row = (u64, u64, &'static str, usize);
+/// A piece of a picture, and how often it stands there.
+type Piece = (&'static str, usize);
+
+/// From which message to which, and pieces of the picture of these.
+type Row = (u64, u64, &'static [Piece]);
 
 /// A message of 106.0 µs over 1200 pixels from pixel 90 on: the command for 20.0, data for 60.0, 6.0 of pause, the
 /// status for 20.0; ten steps of 10 µs go into it.
-const FOREIGN_ROWS: [Row; 11] = [
-    (1, 1, "x=\"90.0\" y=\"138\" width=\"226.4\"", 1),
-    (1, 1, "x=\"316.4\" y=\"138\" width=\"679.2\"", 1),
-    (1, 1, "x=\"1063.5\" y=\"138\" width=\"226.5\"", 1),
-    (1, 1, "class=\"a\">5</text>", 1),
-    (1, 1, "class=\"a\">5 R 1</text>", 1),
-    (1, 1, "class=\"d\">0003</text>", 1),
-    (1, 1, "class=\"n\">1</text>", 1),
-    (1, 1, "class=\"t\">", 11),
-    (1, 1, "class=\"t\">100</text>", 1),
+const FOREIGN_ROWS: [Row; 2] = [
     (
         1,
         1,
-        "time in \u{b5}s from the start of the first message, at 0.0000000 s<",
-        1,
+        &[
+            ("x=\"90.0\" y=\"138\" width=\"226.4\"", 1),
+            ("x=\"316.4\" y=\"138\" width=\"679.2\"", 1),
+            ("x=\"1063.5\" y=\"138\" width=\"226.5\"", 1),
+            ("class=\"a\">5</text>", 1),
+            ("class=\"a\">5 R 1</text>", 1),
+            ("class=\"d\">0003</text>", 1),
+            ("class=\"n\">1</text>", 1),
+            ("class=\"t\">", 11),
+            ("class=\"t\">100</text>", 1),
+            (
+                "time in \u{b5}s from the start of the first message, at 0.0000000 s<",
+                1,
+            ),
+        ],
     ),
-    (2, 9, "no message is selected", 1),
+    (2, 9, &[("no message is selected", 1)]),
 ];
 
 /// Three errors in six messages, the last of two kinds.
-const RETRY_ROWS: [Row; 4] = [
-    (1, 6, "<g><title>message ", 6),
+const RETRY_ROWS: [Row; 2] = [
+    (
+        1,
+        6,
+        &[
+            ("<g><title>message ", 6),
+            ("class=\"e\">NR", 3),
+            ("class=\"e\">NR WC", 1),
+        ],
+    ),
     (
         2,
         2,
-        "<g><title>message 2, channel 1, number 2 there, line B\n0.0000960 s\nrx 5 1 3\nstatus words: 2800 8.0 us\n\
-         data words: 0001 0002 0003</title>",
-        1,
+        &[(
+            "<g><title>message 2, channel 1, number 2 there, line B\n0.0000960 s\nrx 5 1 3\n\
+             status words: 2800 8.0 us\ndata words: 0001 0002 0003</title>",
+            1,
+        )],
     ),
-    (1, 6, "class=\"e\">NR", 3),
-    (1, 6, "class=\"e\">NR WC", 1),
 ];
 
 /// Of many messages no bar, but the mark of the one that has an error, and the load of line B; 24 of them with their
 /// labels, and of 60, twenty pixels for each, one in three, where a label takes fifty.
-const MANY_ROWS: [Row; 7] = [
-    (1, 400, "<g>", 0),
-    (1, 400, "<title>message 200</title>", 1),
-    (1, 400, "class=\"r\">100 %</text>", 1),
-    (1, 100, "<g>", 100),
-    (1, 100, "class=\"r\">", 0),
-    (1, 24, "class=\"n\">", 24),
-    (1, 60, "class=\"n\">", 20),
+const MANY_ROWS: [Row; 4] = [
+    (
+        1,
+        400,
+        &[
+            ("<g>", 0),
+            ("<title>message 200</title>", 1),
+            ("class=\"r\">100 %</text>", 1),
+        ],
+    ),
+    (1, 100, &[("<g>", 100), ("class=\"r\">", 0)]),
+    (1, 24, &[("class=\"n\">", 24)]),
+    (1, 60, &[("class=\"n\">", 20)]),
 ];
 
 /// In the first of a hundred parts of 569.7 µs lies one message: 80 thousandths of the load, drawn 32 of the 40 pixels
 /// that stand for ten percent.
-const SPARSE_ROWS: [Row; 4] = [
-    (1, 100, "<g>", 0),
-    (1, 100, "class=\"r\">10 %</text>", 1),
-    (1, 100, "d=\"M90 146H90V114.0", 1),
-    (1, 100, "time in ms from", 1),
-];
+const SPARSE_ROWS: [Row; 1] = [(
+    1,
+    100,
+    &[
+        ("<g>", 0),
+        ("class=\"r\">10 %</text>", 1),
+        ("d=\"M90 146H90V114.0", 1),
+        ("time in ms from", 1),
+    ],
+)];
 
 /// A poll at 1.5 seconds, behind the time packet of 2024-12-31T23:59:59 at the first.
 const LATE_ROWS: [Row; 1] = [(
     1,
     1,
-    "time in \u{b5}s from the start of the first message, at 1.5000000 s, 2024-12-31T23:59:59.5000000 UTC<",
-    1,
+    &[(
+        "time in \u{b5}s from the start of the first message, at 1.5000000 s, 2024-12-31T23:59:59.5000000 UTC<",
+        1,
+    )],
 )];
 
 /// The forms of messages by their labels.
-const FORMS_ROWS: [Row; 7] = [
-    (1, 6, "class=\"l\">5 T 2</text>", 1),
-    (1, 6, "class=\"l\">mode 17</text>", 1),
-    (1, 6, "class=\"l\">5 R</text>", 1),
-    (1, 6, "class=\"l\">broadcast</text>", 3),
-    (1, 6, "class=\"l\">R 1</text>", 1),
-    (1, 6, "class=\"l\">R 4, 5 T 1</text>", 1),
-    (1, 6, "class=\"l\">T mode 1</text>", 1),
-];
+const FORMS_ROWS: [Row; 1] = [(
+    1,
+    6,
+    &[
+        ("class=\"l\">5 T 2</text>", 1),
+        ("class=\"l\">mode 17</text>", 1),
+        ("class=\"l\">5 R</text>", 1),
+        ("class=\"l\">broadcast</text>", 3),
+        ("class=\"l\">R 1</text>", 1),
+        ("class=\"l\">R 4, 5 T 1</text>", 1),
+        ("class=\"l\">T mode 1</text>", 1),
+    ],
+)];
 
-/// A piece stands so often in the picture of some messages, which is not too large and says how many they are.
-fn has_piece(
+/// The pieces stand in a picture so often.
+fn has_pieces(rt: &impl Abort, picture: &[u8], pieces: &[Piece]) {
+    for (piece, wanted) in pieces {
+        same_in(rt, piece, &count_of(picture, piece.as_bytes()), wanted);
+    }
+}
+
+/// The picture of selected messages is not too large, says how many they are, and has these pieces.
+fn is_drawn(
     rt: &impl Abort,
     alloc: Global,
     file: &[u8],
     selection: &Selection,
-    row: (u64, &str, usize),
+    messages: u64,
+    pieces: &[Piece],
 ) {
-    let (messages, piece, wanted) = row;
     let index = Index::build(alloc, file).ok().expect(rt, "a recording");
     let clock = Clock::of(alloc, file, index.packets())
         .ok()
@@ -118,111 +157,69 @@ fn has_piece(
     let drawing = draw(alloc, &index, selection, &clock)
         .ok()
         .expect(rt, "memory");
-    same_in(rt, piece, &(drawing.text.len() <= MOST_BYTES), &true);
-    same_in(rt, piece, &drawing.messages, &messages);
-    same_in(
-        rt,
-        piece,
-        &count_of(&drawing.text, piece.as_bytes()),
-        &wanted,
-    );
+    same_in(rt, "size", &(drawing.text.len() <= MOST_BYTES), &true);
+    same_in(rt, "messages", &drawing.messages, &messages);
+    has_pieces(rt, &drawing.text, pieces);
 }
 
-/// The pieces of some rows stand in the pictures of a file with so many messages.
-fn has_pieces(rt: &impl Abort, alloc: Global, file: &[u8], messages: u64, rows: &[Row]) {
-    for (from, to, piece, wanted) in rows {
-        let selection = Selection {
-            channel: None,
-            line: None,
-            selector: None,
-            errors: false,
-            from: Some(Bound::Number(*from)),
-            to: Some(Bound::Number(*to)),
-        };
+/// Of a file with so many messages those of some rows are drawn.
+fn are_drawn(rt: &impl Abort, alloc: Global, file: &[u8], messages: u64, rows: &[Row]) {
+    for (from, to, pieces) in rows {
+        let mut selection = Selection::all();
+        selection.from = Some(Bound::Number(*from));
+        selection.to = Some(Bound::Number(*to));
         let last = (*to).min(messages);
         let chosen = last.saturating_add(1).saturating_sub(*from);
-        has_piece(rt, alloc, file, &selection, (chosen, *piece, *wanted));
+        is_drawn(rt, alloc, file, &selection, chosen, pieces);
     }
 }
 
 #[test]
 fn pieces_stand_where_they_should(rt: HostRuntime) {
-    has_pieces(&rt, rt.alloc(), &FOREIGN, 1, &FOREIGN_ROWS);
+    are_drawn(&rt, rt.alloc(), &FOREIGN, 1, &FOREIGN_ROWS);
     let retry = recorded(&rt, rt.alloc(), &[RETRY]);
-    has_pieces(&rt, rt.alloc(), &retry, 6, &RETRY_ROWS);
+    are_drawn(&rt, rt.alloc(), &retry, 6, &RETRY_ROWS);
     let many = recorded(&rt, rt.alloc(), &[MANY]);
-    has_pieces(&rt, rt.alloc(), &many, 400, &MANY_ROWS);
+    are_drawn(&rt, rt.alloc(), &many, 400, &MANY_ROWS);
     let sparse = recorded(&rt, rt.alloc(), &[SPARSE]);
-    has_pieces(&rt, rt.alloc(), &sparse, 100, &SPARSE_ROWS);
+    are_drawn(&rt, rt.alloc(), &sparse, 100, &SPARSE_ROWS);
     let late = recorded(&rt, rt.alloc(), &[LATE]);
     let mut dated = FRONT.to_vec(rt.alloc()).expect(&rt, "memory");
     dated.extend_from_slice(&late).expect(&rt, "memory");
-    has_pieces(&rt, rt.alloc(), &dated, 1, &LATE_ROWS);
+    are_drawn(&rt, rt.alloc(), &dated, 1, &LATE_ROWS);
     let forms = recorded(&rt, rt.alloc(), &[FORMS]);
-    has_pieces(&rt, rt.alloc(), &forms, 6, &FORMS_ROWS);
+    are_drawn(&rt, rt.alloc(), &forms, 6, &FORMS_ROWS);
 }
 
-/// Of the messages of three retries those with an error, those on line B, those from a time on, and none.
-const CHOSEN: [(Selection, u64, &str, usize); 4] = [
+/// Of the messages of three retries those of a channel, on a line, with an error, and from a bound on: how many they
+/// are, and a piece of their picture.
+const CHOSEN: [(Option<u16>, Option<Bus>, bool, Option<Bound>, u64, Piece); 4] = [
+    (None, None, true, None, 3, ("class=\"n\">5</text>", 1)),
     (
-        Selection {
-            channel: None,
-            line: None,
-            selector: None,
-            errors: true,
-            from: None,
-            to: None,
-        },
+        Some(1),
+        Some(Bus::B),
+        false,
+        None,
         3,
-        "class=\"n\">5</text>",
-        1,
+        ("class=\"n\">5</text>", 0),
     ),
     (
-        Selection {
-            channel: Some(1),
-            line: Some(Bus::B),
-            selector: None,
-            errors: false,
-            from: None,
-            to: None,
-        },
-        3,
-        "class=\"n\">5</text>",
-        0,
-    ),
-    (
-        Selection {
-            channel: None,
-            line: None,
-            selector: None,
-            errors: false,
-            from: Some(Bound::Time(960)),
-            to: None,
-        },
+        None,
+        None,
+        false,
+        Some(Bound::Time(960)),
         5,
-        "class=\"n\">",
-        5,
+        ("class=\"n\">", 5),
     ),
-    (
-        Selection {
-            channel: Some(2),
-            line: None,
-            selector: None,
-            errors: false,
-            from: None,
-            to: None,
-        },
-        0,
-        "no message is selected",
-        1,
-    ),
+    (Some(2), None, false, None, 0, ("no message is selected", 1)),
 ];
 
 #[test]
 fn chosen_messages_are_drawn(rt: HostRuntime) {
     let retry = recorded(&rt, rt.alloc(), &[RETRY]);
-    for (selection, messages, piece, wanted) in CHOSEN {
-        let row = (messages, piece, wanted);
-        has_piece(&rt, rt.alloc(), &retry, &selection, row);
+    for (channel, line, errors, from, messages, piece) in CHOSEN {
+        let mut selection = selected(channel, line, errors);
+        selection.from = from;
+        is_drawn(&rt, rt.alloc(), &retry, &selection, messages, &[piece]);
     }
 }

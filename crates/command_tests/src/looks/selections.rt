@@ -1,54 +1,64 @@
 //! Which messages are chosen, worked out by hand, and how a bound and a selector are written.
+use crate::looks::decodings::{COLUMNS, FILE_LINES, POLL, all, shows};
 use crate::looks::equal::{reads, same, same_in};
 use crate::looks::made::{TRANSFER, recorded};
-use bench_decode::{Output, Shown, decode};
+use bench_decode::{Output, decode};
 use bench_select::{Bound, Bus, Selection, Selector, read_bound};
 use judge_rules::{RuleFault, selector_of};
 use std::alloc::Global;
 use std::process::Abort;
 
-/// Two messages of channel 2 at 0 and 480 ticks.
-const POLL: &str = "channel 2\nterminal 5\nscript\nrepeat 2 { send B mode 5 2 }\n";
-
 /// A message of channel 9 at 480 ticks, and one at 1160 that gets no reply.
 const LATER: &str =
     "channel 9\nstart 480\nterminal 5\nfault 2 mute 1\nscript\nsend A tx 5 2 1\nsend A rx 5 1 [0001]\n";
 
-/// Bounds as they are written, and what they say.
-const BOUNDS: [(&str, Option<Bound>); 24] = [
-    ("7", Some(Bound::Number(7))),
-    ("007", Some(Bound::Number(7))),
-    ("9999999999", Some(Bound::Number(9_999_999_999))),
-    ("10000000000", None),
-    ("0", None),
-    ("", None),
-    ("-1", None),
-    ("1.2", None),
-    ("1.2s", Some(Bound::Time(12_000_000))),
-    ("0s", Some(Bound::Time(0))),
-    ("1.2345678s", Some(Bound::Time(12_345_678))),
-    ("1.23456789s", None),
-    (
-        "9999999999.9999999s",
-        Some(Bound::Time(99_999_999_999_999_999)),
-    ),
-    ("350ms", Some(Bound::Time(3_500_000))),
-    ("0.0001ms", Some(Bound::Time(1))),
-    ("0.00001ms", None),
-    ("12us", Some(Bound::Time(120))),
-    ("0.1us", Some(Bound::Time(1))),
-    ("0.05us", None),
-    ("s", None),
-    (".5s", None),
-    ("5.s", None),
-    ("1.2.3s", None),
-    ("1 s", None),
+/// Bounds that are numbers of messages, as they are written.
+const NUMBERS: [(&str, u64); 3] = [("7", 7), ("007", 7), ("9999999999", 9_999_999_999)];
+
+/// Those that are times, and how many ticks they are.
+const TIMES: [(&str, u64); 8] = [
+    ("1.2s", 12_000_000),
+    ("0s", 0),
+    ("1.2345678s", 12_345_678),
+    ("9999999999.9999999s", 99_999_999_999_999_999),
+    ("350ms", 3_500_000),
+    ("0.0001ms", 1),
+    ("12us", 120),
+    ("0.1us", 1),
 ];
+
+/// What is no bound.
+const NO_BOUNDS: [&str; 13] = [
+    "10000000000",
+    "0",
+    "",
+    "-1",
+    "1.2",
+    "1.23456789s",
+    "0.00001ms",
+    "0.05us",
+    "s",
+    ".5s",
+    "5.s",
+    "1.2.3s",
+    "1 s",
+];
+
+/// A text is this bound, or none.
+fn is_bound(rt: &impl Abort, text: &str, wanted: Option<Bound>) {
+    same_in(rt, text, &read_bound(text.as_bytes()), &wanted);
+}
 
 #[test]
 fn bounds_are_read(rt: HostRuntime) {
-    for (text, wanted) in BOUNDS {
-        same_in(&rt, text, &read_bound(text.as_bytes()), &wanted);
+    for (text, number) in NUMBERS {
+        is_bound(&rt, text, Some(Bound::Number(number)));
+    }
+    for (text, ticks) in TIMES {
+        is_bound(&rt, text, Some(Bound::Time(ticks)));
+    }
+    for text in NO_BOUNDS {
+        is_bound(&rt, text, None);
     }
 }
 
@@ -92,22 +102,6 @@ fn selectors_are_read(rt: HostRuntime) {
         same_in(&rt, text, &selector_of(text.as_bytes()), &wanted);
     }
 }
-
-/// All messages of a file as a dump has them.
-const ALL: Output = Output {
-    selection: Selection {
-        channel: None,
-        line: None,
-        selector: None,
-        errors: false,
-        from: None,
-        to: None,
-    },
-    decoded: false,
-    shown: Shown::Plain,
-    skip: false,
-    by_time: false,
-};
 
 /// Selectors and bounds, with the numbers of the messages that are chosen in the file's order, and by time. The file
 /// has two messages of channel 2 at 0 and 480 ticks on line B, mode 5 2; two of channel 1 at 0 and 1340, rt 7 1 3 4 2
@@ -167,11 +161,20 @@ fn chooses(
     numbers: &str,
     by_time: &str,
 ) {
-    let mut output = ALL;
+    let mut output = all(false);
     output.selection = selection;
     reads(rt, numbers_of(rt, alloc, file, &output).as_slice(), numbers);
     output.by_time = true;
     reads(rt, numbers_of(rt, alloc, file, &output).as_slice(), by_time);
+}
+
+/// Messages of a channel, on a line, or with an error; all of them where nothing is said.
+pub(crate) fn selected(channel: Option<u16>, line: Option<Bus>, errors: bool) -> Selection {
+    let mut selection = Selection::all();
+    selection.channel = channel;
+    selection.line = line;
+    selection.errors = errors;
+    selection
 }
 
 /// Each way to choose messages.
@@ -179,40 +182,17 @@ fn chooses(
 fn messages_are_selected(rt: HostRuntime) {
     let file = recorded(&rt, rt.alloc(), &[POLL, TRANSFER, LATER]);
     for (only, from, to, numbers, by_time) in ROWS {
-        let mut selection = ALL.selection;
+        let mut selection = Selection::all();
         selection.selector = selector_of(only.as_bytes()).ok();
         selection.from = read_bound(from.as_bytes());
         selection.to = read_bound(to.as_bytes());
         chooses(&rt, rt.alloc(), &file, selection, numbers, by_time);
     }
     for (channel, line, errors, numbers, by_time) in OTHERS {
-        let mut selection = ALL.selection;
-        selection.channel = channel;
-        selection.line = line;
-        selection.errors = errors;
+        let selection = selected(channel, line, errors);
         chooses(&rt, rt.alloc(), &file, selection, numbers, by_time);
     }
 }
-
-/// What is shown of a file.
-fn shows(rt: &impl Abort, alloc: Global, file: &[u8], output: &Output, wanted: &str) {
-    let mut out = Vec::new(alloc);
-    let count = decode(alloc, file, &mut out, output).ok();
-    count.expect(rt, "a recording");
-    reads(rt, out.as_slice(), wanted);
-}
-
-/// The messages of a file by time, with their numbers in the file and in their channels.
-const BY_TIME: &str =
-    "message       seconds channel  number line form                              \
-status words, responses   data words, block status\n      1     0.0000000       \
-2       1 B    mode 5 2 transmit status word     2800 8.0 us\n      3     \
-0.0000000       1       1 A    rt 7 1 3 4 2                      \
-3800 8.0 us, 1800 8.0 us  AAAA 5555 terminal_to_terminal\n      5     \
-0.0000000       2       3 B    mode 5 2 transmit status word     2800 8.0 us\n      2     \
-0.0000480       2       2 B    mode 5 2 transmit status word     2800 8.0 us\n      6     \
-0.0000480       2       4 B    mode 5 2 transmit status word     2800 8.0 us\n      4     \
-0.0001340       1       2 A    mode 3 2 transmit status word     1800 8.0 us\n";
 
 /// Bytes behind a packet, which are skipped, and its messages.
 const SKIPPED: &str = "skipped 64 length 2 K1\n\
@@ -223,14 +203,15 @@ message 2 channel 2 stamp 480 block 2000 gaps 0050 words 2FE2 2800\n";
 #[test]
 fn messages_are_shown_by_time(rt: HostRuntime) {
     let file = recorded(&rt, rt.alloc(), &[POLL, TRANSFER, POLL]);
-    let mut output = ALL;
+    let mut output = all(true);
     output.by_time = true;
-    output.decoded = true;
-    shows(&rt, rt.alloc(), &file, &output, BY_TIME);
-    shows(&rt, rt.alloc(), b"", &output, "");
+    let [one, two, three, four, five, six] = FILE_LINES;
+    let shown = [COLUMNS, one, three, five, two, six, four];
+    shows(&rt, rt.alloc(), &file, &output, &shown, 6);
+    shows(&rt, rt.alloc(), b"", &output, &[], 0);
     let mut damaged = recorded(&rt, rt.alloc(), &[POLL]);
     damaged.extend_from_slice(b"AB").ok().expect(&rt, "memory");
     output.decoded = false;
     output.skip = true;
-    shows(&rt, rt.alloc(), &damaged, &output, SKIPPED);
+    shows(&rt, rt.alloc(), &damaged, &output, &[SKIPPED], 2);
 }

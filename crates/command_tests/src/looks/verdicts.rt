@@ -1,11 +1,12 @@
 //! What `bench judge` says of recordings, worked out by hand.
 use crate::looks::equal::{reads, same_in};
-use crate::looks::made::{FOREIGN, FORMS, TRANSFER, recorded};
+use crate::looks::made::{FORMS, TRANSFER, recorded};
 use bench_judge::{judge, junit_text, write_colored, write_verdicts};
 use ch11_reader::Index;
 use judge_rules::read_rules;
 use std::alloc::Global;
 use std::process::Abort;
+use test_values::FOREIGN;
 
 /// A word of the first message is lost, which has no reply then; two mode commands follow, 48.0 µs apart.
 const LOST: &str =
@@ -186,45 +187,33 @@ fn what_is_not_clean_is_told(rt: HostRuntime) {
     }
 }
 
+/// What is shown of rules and a recording: a report, or what a terminal shows.
+fn shown(rt: &impl Abort, alloc: Global, file: &[u8], text: &str, colored: bool) -> Vec<u8> {
+    let index = Index::build(alloc, file).ok().expect(rt, "a recording");
+    let text = text.as_bytes();
+    let rules = read_rules(alloc, text).ok().expect(rt, "rules");
+    let rules = rules.as_slice();
+    let verdicts = judge(alloc, &index, rules).expect(rt, "memory");
+    let verdicts = verdicts.as_slice();
+    if colored {
+        let mut shown = Vec::new(alloc);
+        let written = write_colored(alloc, &index, text, rules, verdicts, &mut shown);
+        written.ok().expect(rt, "verdicts");
+        return shown;
+    }
+    junit_text(alloc, &index, text, rules, verdicts).expect(rt, "memory")
+}
+
 #[test]
 fn a_report_has_a_test_case_a_rule(rt: HostRuntime) {
     let file = recorded(&rt, rt.alloc(), &[LOST]);
-    let index = Index::build(rt.alloc(), &file)
-        .ok()
-        .expect(&rt, "a recording");
-    let text = LOST_RULES.as_bytes();
-    let rules = read_rules(rt.alloc(), text).ok().expect(&rt, "rules");
-    let verdicts = judge(rt.alloc(), &index, rules.as_slice()).expect(&rt, "memory");
-    let report = junit_text(
-        rt.alloc(),
-        &index,
-        text,
-        rules.as_slice(),
-        verdicts.as_slice(),
-    )
-    .expect(&rt, "memory");
+    let report = shown(&rt, rt.alloc(), &file, LOST_RULES, false);
     reads(&rt, report.as_slice(), LOST_REPORT);
 }
 
 #[test]
 fn a_terminal_shows_the_first_misses(rt: HostRuntime) {
     let file = recorded(&rt, rt.alloc(), &[POLLS]);
-    let index = Index::build(rt.alloc(), &file)
-        .ok()
-        .expect(&rt, "a recording");
-    let text = POLL_RULES.as_bytes();
-    let rules = read_rules(rt.alloc(), text).ok().expect(&rt, "rules");
-    let verdicts = judge(rt.alloc(), &index, rules.as_slice()).expect(&rt, "memory");
-    let mut shown = Vec::new(rt.alloc());
-    write_colored(
-        rt.alloc(),
-        &index,
-        text,
-        rules.as_slice(),
-        verdicts.as_slice(),
-        &mut shown,
-    )
-    .ok()
-    .expect(&rt, "verdicts");
-    reads(&rt, shown.as_slice(), POLL_COLORS);
+    let colors = shown(&rt, rt.alloc(), &file, POLL_RULES, true);
+    reads(&rt, colors.as_slice(), POLL_COLORS);
 }

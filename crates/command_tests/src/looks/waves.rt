@@ -1,6 +1,6 @@
 //! What `bench export --vcd` writes of recordings, worked out by hand, and read back by a small parser.
 use crate::looks::equal::reads;
-use crate::looks::made::{FOREIGN, FORMS, RETRY, TRANSFER, recorded};
+use crate::looks::made::{FORMS, RETRY, TRANSFER, recorded};
 use bench_export::export_waves;
 use bench_select::{Bound, Selection};
 use ch11_reader::Index;
@@ -8,145 +8,39 @@ use std::alloc::Global;
 use std::io::Write;
 use std::process::Abort;
 use std::str;
-
-/// The dump of the file of another recorder: a command at tick 0, three data words, and a status word behind 8.0 µs.
-const FOREIGN_DUMP: &str = "\
-$comment kind: 1 command word, 2 data word, 3 status word; z: the line is idle $end\n\
-$timescale 100 ns $end\n\
-$scope module channel_1 $end\n\
-$scope module A $end\n\
-$var reg 16 wA1 word $end\n\
-$var reg 2 kA1 kind $end\n\
-$var reg 5 tA1 terminal $end\n\
-$var integer 64 mA1 message $end\n\
-$upscope $end\n\
-$scope module B $end\n\
-$var reg 16 wB1 word $end\n\
-$var reg 2 kB1 kind $end\n\
-$var reg 5 tB1 terminal $end\n\
-$var integer 64 mB1 message $end\n\
-$upscope $end\n\
-$upscope $end\n\
-$enddefinitions $end\n\
-#0\n\
-$dumpvars\n\
-bz wA1\nbz kA1\nbz tA1\nbz mA1\n\
-bz wB1\nbz kB1\nbz tB1\nbz mB1\n\
-$end\n\
-b10100000100011 wA1\nb1 kA1\nb101 tA1\nb1 mA1\n\
-#200\n\
-b1 wA1\nb10 kA1\nb101 tA1\nb1 mA1\n\
-#400\n\
-b10 wA1\nb10 kA1\nb101 tA1\nb1 mA1\n\
-#600\n\
-b11 wA1\nb10 kA1\nb101 tA1\nb1 mA1\n\
-#800\n\
-bz wA1\nbz kA1\nbz tA1\nbz mA1\n\
-#860\n\
-b10100000000000 wA1\nb11 kA1\nb101 tA1\nb1 mA1\n\
-#1060\n\
-bz wA1\nbz kA1\nbz tA1\nbz mA1\n";
-
-/// The dump of a file without messages.
-const EMPTY_DUMP: &str = "\
-$comment kind: 1 command word, 2 data word, 3 status word; z: the line is idle $end\n\
-$timescale 100 ns $end\n\
-$enddefinitions $end\n\
-#0\n\
-$dumpvars\n\
-$end\n";
+use test_values::{EMPTY_DUMP, FOREIGN, FOREIGN_DUMP};
 
 /// A transfer and a mode command on channel 1 beside the other forms on channel 9: tick, line with channel, word, kind,
-/// terminal and message, or z for an idle line.
+/// terminal and message, or z where it is idle. A line of the source ends where one of the bus falls idle.
 const MERGED: &str = "\
-0 A1 z\n\
-0 B1 z\n\
-0 A9 z\n\
-0 B9 z\n\
-0 A1 1882 1 3 1\n\
-0 A9 2C42 1 5 3\n\
-200 A1 3C22 1 7 1\n\
-200 A9 z\n\
-260 A9 2800 3 5 3\n\
-400 A1 z\n\
-460 A1 3800 3 7 1\n\
-460 A9 0000 2 5 3\n\
-660 A1 AAAA 2 7 1\n\
-660 A9 0000 2 5 3\n\
-860 A1 5555 2 7 1\n\
-860 A9 z\n\
-880 B9 2BF1 1 5 4\n\
-1060 A1 z\n\
-1080 B9 00AA 2 5 4\n\
-1120 A1 1800 3 3 1\n\
-1280 B9 z\n\
-1320 A1 z\n\
-1340 A1 1FE2 1 3 2\n\
-1340 B9 2800 3 5 4\n\
-1540 A1 z\n\
-1540 B9 z\n\
-1560 A9 2FF0 1 5 5\n\
-1600 A1 1800 3 3 2\n\
-1760 A9 z\n\
-1800 A1 z\n\
-1820 A9 2800 3 5 5\n\
-2020 A9 0000 2 5 5\n\
-2220 A9 z\n\
-2240 A9 F821 1 31 6\n\
-2440 A9 00BB 2 31 6\n\
-2640 A9 z\n\
-2800 A9 F882 1 31 7\n\
-3000 A9 2C22 1 5 7\n\
-3200 A9 z\n\
-3260 A9 2800 3 5 7\n\
-3460 A9 0000 2 5 7\n\
-3660 A9 0000 2 5 7\n\
-3860 A9 z\n\
-3880 A9 FFE1 1 31 8\n\
-4080 A9 z\n\
+0 A1 z\n0 B1 z\n0 A9 z\n0 B9 z\n\
+0 A1 1882 1 3 1\n0 A9 2C42 1 5 3\n200 A1 3C22 1 7 1\n200 A9 z\n\
+260 A9 2800 3 5 3\n400 A1 z\n\
+460 A1 3800 3 7 1\n460 A9 0000 2 5 3\n660 A1 AAAA 2 7 1\n660 A9 0000 2 5 3\n860 A1 5555 2 7 1\n860 A9 z\n\
+880 B9 2BF1 1 5 4\n1060 A1 z\n\
+1080 B9 00AA 2 5 4\n1120 A1 1800 3 3 1\n1280 B9 z\n1320 A1 z\n\
+1340 A1 1FE2 1 3 2\n1340 B9 2800 3 5 4\n1540 A1 z\n1540 B9 z\n\
+1560 A9 2FF0 1 5 5\n1600 A1 1800 3 3 2\n1760 A9 z\n1800 A1 z\n\
+1820 A9 2800 3 5 5\n2020 A9 0000 2 5 5\n2220 A9 z\n\
+2240 A9 F821 1 31 6\n2440 A9 00BB 2 31 6\n2640 A9 z\n\
+2800 A9 F882 1 31 7\n3000 A9 2C22 1 5 7\n3200 A9 z\n\
+3260 A9 2800 3 5 7\n3460 A9 0000 2 5 7\n3660 A9 0000 2 5 7\n3860 A9 z\n\
+3880 A9 FFE1 1 31 8\n4080 A9 z\n\
 ";
 
 /// Three errors, each with a retry on the other line.
 const RETRIES: &str = "\
-0 A1 z\n\
-0 B1 z\n\
-0 A1 2823 1 5 1\n\
-200 A1 0001 2 5 1\n\
-400 A1 0002 2 5 1\n\
-600 A1 0003 2 5 1\n\
-800 A1 z\n\
-960 B1 2823 1 5 2\n\
-1160 B1 0001 2 5 2\n\
-1360 B1 0002 2 5 2\n\
-1560 B1 0003 2 5 2\n\
-1760 B1 z\n\
-1820 B1 2800 3 5 2\n\
-2020 B1 z\n\
-2040 A1 2823 1 5 3\n\
-2240 A1 0001 2 5 3\n\
-2440 A1 0002 2 5 3\n\
-2640 A1 0003 2 5 3\n\
-2840 A1 z\n\
-2991 A1 2800 3 5 3\n\
-3191 A1 z\n\
-3351 B1 2823 1 5 4\n\
-3551 B1 0001 2 5 4\n\
-3751 B1 0002 2 5 4\n\
-3951 B1 0003 2 5 4\n\
-4151 B1 z\n\
-4211 B1 2800 3 5 4\n\
-4411 B1 z\n\
-4431 A1 2823 1 5 5\n\
-4631 A1 0001 2 5 5\n\
-4831 A1 0002 2 5 5\n\
-5031 A1 z\n\
-5191 B1 2823 1 5 6\n\
-5391 B1 0001 2 5 6\n\
-5591 B1 0002 2 5 6\n\
-5791 B1 0003 2 5 6\n\
-5991 B1 z\n\
-6051 B1 2800 3 5 6\n\
-6251 B1 z\n\
+0 A1 z\n0 B1 z\n\
+0 A1 2823 1 5 1\n200 A1 0001 2 5 1\n400 A1 0002 2 5 1\n600 A1 0003 2 5 1\n800 A1 z\n\
+960 B1 2823 1 5 2\n1160 B1 0001 2 5 2\n1360 B1 0002 2 5 2\n1560 B1 0003 2 5 2\n1760 B1 z\n\
+1820 B1 2800 3 5 2\n2020 B1 z\n\
+2040 A1 2823 1 5 3\n2240 A1 0001 2 5 3\n2440 A1 0002 2 5 3\n2640 A1 0003 2 5 3\n2840 A1 z\n\
+2991 A1 2800 3 5 3\n3191 A1 z\n\
+3351 B1 2823 1 5 4\n3551 B1 0001 2 5 4\n3751 B1 0002 2 5 4\n3951 B1 0003 2 5 4\n4151 B1 z\n\
+4211 B1 2800 3 5 4\n4411 B1 z\n\
+4431 A1 2823 1 5 5\n4631 A1 0001 2 5 5\n4831 A1 0002 2 5 5\n5031 A1 z\n\
+5191 B1 2823 1 5 6\n5391 B1 0001 2 5 6\n5591 B1 0002 2 5 6\n5791 B1 0003 2 5 6\n5991 B1 z\n\
+6051 B1 2800 3 5 6\n6251 B1 z\n\
 ";
 
 /// The dump of a file's selected messages.
@@ -243,12 +137,9 @@ fn dumps_are_written(rt: HostRuntime) {
 
 /// The second message of two, alone: the first tick is its stamp.
 const CHOSEN: &str = "\
-1340 A1 z\n\
-1340 B1 z\n\
-1340 A1 1FE2 1 3 2\n\
-1540 A1 z\n\
-1600 A1 1800 3 3 2\n\
-1800 A1 z\n";
+1340 A1 z\n1340 B1 z\n\
+1340 A1 1FE2 1 3 2\n1540 A1 z\n\
+1600 A1 1800 3 3 2\n1800 A1 z\n";
 
 /// Every word stands at its tick: both lines, two channels, all forms, late and missing replies; a message alone.
 #[test]

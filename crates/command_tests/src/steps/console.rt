@@ -1,53 +1,9 @@
 //! What a session shows at a terminal.
 use bench_step::{Manner, Prompted};
-use std::fmt::Display;
 use std::io::{self, IsTerminal, Read};
 use std::process::Abort;
-use std::sync::{Mutex, Wait};
-
-/// What is written to the errors is kept.
-#[derive(Drop)]
-struct Screen<'a, R: Wait + AllocGlobal> {
-    rt: &'a R,
-    text: Mutex<String>,
-}
-
-impl<'a, R: Wait + AllocGlobal> Screen<'a, R> {
-    fn make(rt: &'a R) -> Screen<'a, R> {
-        Screen {
-            rt,
-            text: Mutex::new(String::new(rt.alloc())),
-        }
-    }
-
-    /// Whether it shows the first text and then the second.
-    fn shows(&self, first: &str, second: &str) -> bool {
-        self.text.lock(self.rt).as_str().strip_prefix(first) == Some(second)
-    }
-
-    fn add(&self, text: &str) -> io::Result<()> {
-        self.text.lock(self.rt).push_str(text)?;
-        Ok(())
-    }
-}
-
-impl<R: Wait + AllocGlobal> Eprint for Screen<'_, R> {
-    fn eprint<D: Display + Drop>(&self, value: D) -> io::Result<()> {
-        let text = format!(in self.rt.alloc(); "{value}")?;
-        self.add(text.as_str())
-    }
-
-    fn eprintln<D: Display + Drop>(&self, value: D) -> io::Result<()> {
-        let text = format!(in self.rt.alloc(); "{value}\n")?;
-        self.add(text.as_str())
-    }
-}
-
-impl<R: Wait + AllocGlobal> IsTerminal for Screen<'_, R> {
-    fn is_terminal(&self) -> bool {
-        true
-    }
-}
+use std::sync::Wait;
+use test_values::Screen;
 
 /// Lines that are typed, or come from a file, one a read.
 #[derive(Drop)]
@@ -102,14 +58,14 @@ quit            ends the session
 
 /// Lines that are typed, or come from a file: what is shown at first, and what behind it once they are read.
 fn shows<R: Wait + AllocGlobal + Abort>(rt: &R, typed: bool, first: &str, second: &str) {
-    let screen = Screen::make(rt);
+    let screen = Screen::make(rt, true);
     let mut lines = Prompted::begin(Keys { left: 2, typed }, &screen);
-    assert!(rt; screen.shows(first, ""));
+    assert!(rt; screen.shows(first));
     let manner = if typed { Manner::Typed } else { Manner::Given };
     assert_eq!(rt; lines.manner(), manner);
     let is_read = read_on(&mut lines).is_ok();
     assert!(rt; is_read);
-    assert!(rt; screen.shows(first, second));
+    assert!(rt; screen.shows_both(first, second));
 }
 
 #[test]

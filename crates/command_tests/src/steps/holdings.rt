@@ -1,7 +1,6 @@
 //! What hosts set, and the data words that terminals hold.
-use crate::steps::made::{reads, subject_of};
-use std::alloc::Global;
-use std::process::Abort;
+use crate::steps::made::{NEW_5, NEW_9, prints, subject_of};
+use bench_step::Manner;
 
 /// Two terminals whose hosts set each of their marks.
 const MARKED: &str = "\
@@ -34,39 +33,27 @@ placed 3 9 control on
 packets 1
 ";
 
-const MARKED_STATES: &str = "\
-channel 4 number 0
-terminal 5 status 2800 last 0000 vector 0000 bit 0000 sync 0000 off -
-terminal 5 deaf - mute -
-terminal 5 marks -
-terminal 9 status 4800 last 0000 vector 0000 bit 0000 sync 0000 off -
-terminal 9 deaf - mute -
-terminal 9 marks -
-at 1
-channel 4 number 1
-terminal 5 status 2808 last 2FE1 vector 0000 bit 0000 sync 0000 off -
-terminal 5 deaf - mute -
-terminal 5 marks busy
-terminal 9 status 4800 last 0000 vector 0000 bit 0000 sync 0000 off -
-terminal 9 deaf - mute -
-terminal 9 marks -
-at 2
-channel 4 number 2
-terminal 5 status 290C last 2FE1 vector 0000 bit 0000 sync 0000 off -
-terminal 5 deaf - mute -
-terminal 5 marks busy service subsystem
-terminal 9 status 4800 last 0000 vector 0000 bit 0000 sync 0000 off -
-terminal 9 deaf - mute -
-terminal 9 marks control
-at 3
-channel 4 number 3
-terminal 5 status 2905 last 2FE1 vector 0000 bit 0000 sync 0000 off -
-terminal 5 deaf - mute -
-terminal 5 marks service subsystem fault
-terminal 9 status 4800 last 0000 vector 0000 bit 0000 sync 0000 off -
-terminal 9 deaf - mute -
-terminal 9 marks control
-";
+/// Terminal 9 with the mark of its host, before its first message.
+const MARKED_9: &str = "terminal 9 status 4800 last 0000 vector 0000 bit 0000 sync 0000 off -\n\
+     terminal 9 deaf - mute -\nterminal 9 marks control\n";
+
+const MARKED_STATES: &[&str] = &[
+    "channel 4 number 0\n",
+    NEW_5,
+    NEW_9,
+    "at 1\nchannel 4 number 1\n",
+    "terminal 5 status 2808 last 2FE1 vector 0000 bit 0000 sync 0000 off -\n",
+    "terminal 5 deaf - mute -\nterminal 5 marks busy\n",
+    NEW_9,
+    "at 2\nchannel 4 number 2\n",
+    "terminal 5 status 290C last 2FE1 vector 0000 bit 0000 sync 0000 off -\n",
+    "terminal 5 deaf - mute -\nterminal 5 marks busy service subsystem\n",
+    MARKED_9,
+    "at 3\nchannel 4 number 3\n",
+    "terminal 5 status 2905 last 2FE1 vector 0000 bit 0000 sync 0000 off -\n",
+    "terminal 5 deaf - mute -\nterminal 5 marks service subsystem fault\n",
+    MARKED_9,
+];
 
 /// A terminal that is sent words, alone and with all others, and whose host puts words up.
 const FILLED: &str = "\
@@ -113,25 +100,18 @@ unknown
 unknown
 ";
 
-/// What a session of a job prints.
-fn prints(rt: &impl Abort, alloc: Global, job: &str, report: &str, lines: &str, printed: &str) {
-    let one = subject_of(rt, alloc, &[job], report);
-    let mut out = Vec::new(alloc);
-    let (ended, _) = one.session(alloc, lines, &mut out);
-    assert_eq!(rt; ended, Ok(()), "{lines}");
-    reads(rt, &out, printed);
-}
-
 #[test]
 fn marks_of_hosts(rt: HostRuntime) {
+    let one = subject_of(&rt, rt.alloc(), &[MARKED], MARKED_REPORT);
     let lines = "state --all\nforward\nstate --all\nforward\nstate --all\nforward\nstate --all\n";
-    prints(&rt, rt.alloc(), MARKED, MARKED_REPORT, lines, MARKED_STATES);
+    prints(&rt, rt.alloc(), &one, Manner::Given, lines, MARKED_STATES);
 }
 
 #[test]
 fn words_at_a_subaddress(rt: HostRuntime) {
+    let one = subject_of(&rt, rt.alloc(), &[FILLED], FILLED_REPORT);
     let lines =
         "data 5 3\nforward\ndata 5 3\ngo 3\ndata 5 3\n data  5 4 \ndata 5 30\ndata 9 1\ndata 5\ndata 5 0\ndata 5 31\n\
          data 31 1\ndata 5 1 1\ndata\n";
-    prints(&rt, rt.alloc(), FILLED, FILLED_REPORT, lines, FILLED_DATA);
+    prints(&rt, rt.alloc(), &one, Manner::Given, lines, &[FILLED_DATA]);
 }

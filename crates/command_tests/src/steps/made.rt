@@ -1,9 +1,9 @@
 //! Jobs, recordings and reports to step through.
-use bench_core::one_channel;
+use crate::looks::equal::reads_all;
+use crate::looks::made::{job_of, recorded};
 use bench_report::{Report, read_report};
 use bench_step::{Manner, StepFault, step};
-use ch11_writer::{MemorySink, Sink};
-use job_file::{Job, read_job};
+use job_file::Job;
 use std::alloc::Global;
 use std::io::{BufRead, Write};
 use std::process::Abort;
@@ -16,35 +16,37 @@ pub(crate) const DROPPED: &str =
 /// Its report.
 pub(crate) const DROPPED_REPORT: &str = "channel 1\nmade 3\npackets 1\n";
 
-/// The bytes are those of a text.
-pub(crate) fn reads(rt: &impl Abort, bytes: &[u8], wanted: &str) {
-    assert_eq!(rt; bytes, wanted.as_bytes());
-}
+/// Three messages of one form, with the stamps 0, 48 and 96 µs.
+pub(crate) const EQUAL: &str = "channel 1\nterminal 5\nscript\nrepeat 3 { send A mode 5 1 }\n";
+
+pub(crate) const EQUAL_REPORT: &str = "channel 1\nmade 3\npackets 1\n";
+
+/// Two channels, the first with a higher number, one behind the other in the file: places 1 and 2, and 3 and 4. Each
+/// has the stamps 0 and 48 µs.
+pub(crate) const TWO_CHANNELS: [&str; 2] = [
+    "channel 7\nterminal 5\nscript\nsend A mode 5 1\nsend A mode 5 1\n",
+    "channel 2\nterminal 5\nscript\nsend A mode 5 1\nsend A mode 5 1\n",
+];
+
+pub(crate) const TWO_CHANNELS_REPORT: &str = "channel 7\nmade 2\nchannel 2\nmade 2\npackets 2\n";
+
+/// Terminal 5 before the first message, as `state --all` has it.
+pub(crate) const NEW_5: &str =
+    "terminal 5 status 2800 last 0000 vector 0000 bit 0000 sync 0000 off -\n\
+     terminal 5 deaf - mute -\nterminal 5 marks -\n";
+
+/// Terminal 9, likewise.
+pub(crate) const NEW_9: &str =
+    "terminal 9 status 4800 last 0000 vector 0000 bit 0000 sync 0000 off -\n\
+     terminal 9 deaf - mute -\nterminal 9 marks -\n";
 
 /// The jobs of these texts.
 fn jobs_of(rt: &impl Abort, alloc: Global, texts: &[&str]) -> Vec<Job> {
     let mut jobs = Vec::new(alloc);
     for text in texts {
-        let job = read_job(alloc, text.as_bytes()).ok().expect(rt, "a job");
-        jobs.push(job).expect(rt, "memory");
+        jobs.push(job_of(rt, alloc, text)).expect(rt, "memory");
     }
     jobs
-}
-
-/// The recording of a job, behind what a file holds.
-fn add_recording(rt: &impl Abort, alloc: Global, job: &Job, file: &mut Vec<u8>) {
-    let sink = one_channel(alloc, job, 6, 4096, MemorySink::make(alloc));
-    let sink = sink.ok().expect(rt, "a recording");
-    file.extend_from_slice(sink.bytes()).expect(rt, "memory");
-}
-
-/// The recordings of the jobs, one behind the other.
-fn recorded(rt: &impl Abort, alloc: Global, jobs: &[Job]) -> Vec<u8> {
-    let mut file = Vec::new(alloc);
-    for job in jobs {
-        add_recording(rt, alloc, job, &mut file);
-    }
-    file
 }
 
 /// What a session steps through.
@@ -60,7 +62,7 @@ pub(crate) fn subject_of(rt: &impl Abort, alloc: Global, texts: &[&str], report:
     let jobs = jobs_of(rt, alloc, texts);
     let report = read_report(alloc, report.as_bytes());
     let report = report.ok().expect(rt, "a report");
-    let file = recorded(rt, alloc, &jobs);
+    let file = recorded(rt, alloc, texts);
     Subject { jobs, report, file }
 }
 
@@ -94,5 +96,30 @@ impl Subject {
             input,
             out,
         )
+    }
+}
+
+/// A session of these lines, which come in this manner, ends well and prints these texts, one behind the other. Answers
+/// the lines that it leaves.
+pub(crate) fn prints<'a>(
+    rt: &impl Abort,
+    alloc: Global,
+    one: &Subject,
+    manner: Manner,
+    lines: &'a str,
+    printed: &[&str],
+) -> &'a [u8] {
+    let mut out = Vec::new(alloc);
+    let mut input = lines.as_bytes();
+    let ended: Result<(), StepFault> = one.session_of(alloc, manner, &mut input, &mut out);
+    assert_eq!(rt; ended, Ok(()), "{lines}");
+    reads_all(rt, &out, printed);
+    input
+}
+
+/// Sessions of lines that come from a file end well, and print what stands beside the lines.
+pub(crate) fn answers(rt: &impl Abort, alloc: Global, one: &Subject, sessions: &[(&str, &str)]) {
+    for (lines, printed) in sessions {
+        prints(rt, alloc, one, Manner::Given, lines, &[*printed]);
     }
 }

@@ -1,5 +1,6 @@
 //! Sessions that do not begin, or do not come to their end.
-use crate::steps::made::{DROPPED, DROPPED_REPORT, Subject, reads, subject_of};
+use crate::looks::equal::reads;
+use crate::steps::made::{DROPPED, DROPPED_REPORT, Subject, subject_of};
 use bench_step::StepFault;
 use std::alloc::Global;
 use std::io;

@@ -1,8 +1,6 @@
 //! Moves to the messages that a selector is about.
-use crate::steps::made::{DROPPED, DROPPED_REPORT, Subject, reads, subject_of};
-use bench_step::{Manner, StepFault};
-use std::alloc::Global;
-use std::process::Abort;
+use crate::steps::made::{DROPPED, DROPPED_REPORT, answers, prints, subject_of};
+use bench_step::Manner;
 
 /// A message of each of several forms.
 const FORMS: &str = "\
@@ -49,28 +47,10 @@ const SESSIONS: [(&str, &str); 5] = [
     ),
 ];
 
-/// What a session prints whose lines come in this manner.
-fn prints(
-    rt: &impl Abort,
-    alloc: Global,
-    one: &Subject,
-    manner: Manner,
-    lines: &str,
-    printed: &str,
-) {
-    let mut out = Vec::new(alloc);
-    let mut input = lines.as_bytes();
-    let ended: Result<(), StepFault> = one.session_of(alloc, manner, &mut input, &mut out);
-    assert_eq!(rt; ended, Ok(()), "{lines}");
-    reads(rt, &out, printed);
-}
-
 #[test]
 fn messages_of_selectors(rt: HostRuntime) {
     let one = subject_of(&rt, rt.alloc(), &[FORMS], FORMS_REPORT);
-    for (lines, printed) in SESSIONS {
-        prints(&rt, rt.alloc(), &one, Manner::Given, lines, printed);
-    }
+    answers(&rt, rt.alloc(), &one, &SESSIONS);
 }
 
 /// The state at the place is that behind the message, and a condition is one as before.
@@ -90,5 +70,5 @@ channel 1 number 3
 terminal 5 status 2C00 last 2FE2 vector 0000 bit 0000 sync 0000 off -
 at 1
 ";
-    prints(&rt, rt.alloc(), &one, Manner::Given, lines, printed);
+    prints(&rt, rt.alloc(), &one, Manner::Given, lines, &[printed]);
 }

@@ -1,7 +1,6 @@
 //! What sessions print.
-use crate::steps::made::{DROPPED, DROPPED_REPORT, Subject, reads, subject_of};
-use std::alloc::Global;
-use std::process::Abort;
+use crate::steps::made::{DROPPED, DROPPED_REPORT, NEW_5, NEW_9, answers, prints, subject_of};
+use bench_step::Manner;
 
 /// The lines of sessions of one job, and the whole of what each prints.
 const SESSIONS: [(&str, &str); 5] = [
@@ -43,25 +42,25 @@ const SECOND: &str = "channel 2\nterminal 30\nscript\nsend B mode 30 4\nsend A m
 const BOTH_REPORT: &str =
     "channel 7\nmade 2\nplaced 1 9 vector 00AF\nchannel 2\nmade 2\npackets 2\n";
 
-const BOTH_STATES: &str = "\
-channel 7 number 0
-terminal 5 status 2800 last 0000 vector 0000 bit 0000 sync 0000 off -
-terminal 9 status 4800 last 0000 vector 0000 bit 0000 sync 0000 off -
-channel 2 number 0
-terminal 30 status F000 last 0000 vector 0000 bit 0000 sync 0000 off -
-at 1
-channel 7 number 1
-terminal 5 status 2800 last 2FE4 vector 0000 bit 0000 sync 0000 off B
-terminal 9 status 4800 last 0000 vector 00AF bit 0000 sync 0000 off -
-channel 2 number 0
-terminal 30 status F000 last 0000 vector 0000 bit 0000 sync 0000 off -
-at 4
-channel 7 number 2
-terminal 5 status 2800 last 2FE4 vector 0000 bit 0000 sync 0000 off AB
-terminal 9 status 4800 last 0000 vector 00AF bit 0000 sync 0000 off -
-channel 2 number 2
-terminal 30 status F000 last F3F1 vector 0000 bit 0000 sync BEEF off A
-";
+/// The second channel before its first message.
+const NEW_SECOND: &str =
+    "channel 2 number 0\nterminal 30 status F000 last 0000 vector 0000 bit 0000 sync 0000 off -\n";
+
+const BOTH_STATES: &[&str] = &[
+    "channel 7 number 0\n",
+    "terminal 5 status 2800 last 0000 vector 0000 bit 0000 sync 0000 off -\n",
+    "terminal 9 status 4800 last 0000 vector 0000 bit 0000 sync 0000 off -\n",
+    NEW_SECOND,
+    "at 1\nchannel 7 number 1\n",
+    "terminal 5 status 2800 last 2FE4 vector 0000 bit 0000 sync 0000 off B\n",
+    "terminal 9 status 4800 last 0000 vector 00AF bit 0000 sync 0000 off -\n",
+    NEW_SECOND,
+    "at 4\nchannel 7 number 2\n",
+    "terminal 5 status 2800 last 2FE4 vector 0000 bit 0000 sync 0000 off AB\n",
+    "terminal 9 status 4800 last 0000 vector 00AF bit 0000 sync 0000 off -\n",
+    "channel 2 number 2\n",
+    "terminal 30 status F000 last F3F1 vector 0000 bit 0000 sync BEEF off A\n",
+];
 
 /// Two terminals whose hosts have made them deaf and mute, and one whose host has not.
 const FAILING: &str = "\
@@ -93,83 +92,58 @@ placed 3 9 deaf B on
 packets 1
 ";
 
-const FAILING_STATES: &str = "\
-channel 3 number 0
-terminal 5 status 2800 last 0000 vector 0000 bit 0000 sync 0000 off -
-terminal 5 deaf - mute -
-terminal 5 marks -
-terminal 9 status 4800 last 0000 vector 0000 bit 0000 sync 0000 off -
-terminal 9 deaf - mute -
-terminal 9 marks -
-terminal 30 status F000 last 0000 vector 0000 bit 0000 sync 0000 off -
-terminal 30 deaf - mute -
-terminal 30 marks -
-at 1
-channel 3 number 1
-terminal 5 status 2800 last 2FE1 vector 0000 bit 0000 sync 0000 off -
-terminal 5 deaf - mute A
-terminal 5 marks -
-terminal 9 status 4800 last 0000 vector 0000 bit 0000 sync 0000 off -
-terminal 9 deaf - mute -
-terminal 9 marks -
-terminal 30 status F000 last 0000 vector 0000 bit 0000 sync 0000 off -
-terminal 30 deaf - mute -
-terminal 30 marks -
-at 2
-channel 3 number 2
-terminal 5 status 2800 last 2FE1 vector 0000 bit 0000 sync 0000 off -
-terminal 5 deaf B mute A
-terminal 5 marks -
-terminal 9 status 4800 last 0000 vector 0000 bit 0000 sync 0000 off -
-terminal 9 deaf A mute AB
-terminal 9 marks -
-terminal 30 status F000 last 0000 vector 0000 bit 0000 sync 0000 off -
-terminal 30 deaf - mute -
-terminal 30 marks -
-at 3
-channel 3 number 3
-terminal 5 status 2800 last 2FE1 vector 0000 bit 0000 sync 0000 off -
-terminal 5 deaf B mute -
-terminal 5 marks -
-terminal 9 status 4800 last 0000 vector 0000 bit 0000 sync 0000 off -
-terminal 9 deaf AB mute AB
-terminal 9 marks -
-terminal 30 status F000 last 0000 vector 0000 bit 0000 sync 0000 off -
-terminal 30 deaf - mute -
-terminal 30 marks -
-channel 3 number 3
-terminal 5 status 2800 last 2FE1 vector 0000 bit 0000 sync 0000 off -
-terminal 9 status 4800 last 0000 vector 0000 bit 0000 sync 0000 off -
-terminal 30 status F000 last 0000 vector 0000 bit 0000 sync 0000 off -
-";
+/// The registers of terminal 5 behind a poll.
+const POLLED_5: &str = "terminal 5 status 2800 last 2FE1 vector 0000 bit 0000 sync 0000 off -\n";
 
-/// The whole printed text of a session that memory was refused for at no line.
-fn prints(rt: &impl Abort, alloc: Global, one: &Subject, lines: &str, printed: &str) {
-    let mut out = Vec::new(alloc);
-    let (ended, _) = one.session(alloc, lines, &mut out);
-    assert_eq!(rt; ended, Ok(()), "{lines}");
-    reads(rt, &out, printed);
-}
+/// Terminal 30 before its first message, as `state --all` has it.
+const NEW_30: &str = "terminal 30 status F000 last 0000 vector 0000 bit 0000 sync 0000 off -\n\
+     terminal 30 deaf - mute -\nterminal 30 marks -\n";
+
+const FAILING_STATES: &[&str] = &[
+    "channel 3 number 0\n",
+    NEW_5,
+    NEW_9,
+    NEW_30,
+    "at 1\nchannel 3 number 1\n",
+    POLLED_5,
+    "terminal 5 deaf - mute A\nterminal 5 marks -\n",
+    NEW_9,
+    NEW_30,
+    "at 2\nchannel 3 number 2\n",
+    POLLED_5,
+    "terminal 5 deaf B mute A\nterminal 5 marks -\n",
+    "terminal 9 status 4800 last 0000 vector 0000 bit 0000 sync 0000 off -\n",
+    "terminal 9 deaf A mute AB\nterminal 9 marks -\n",
+    NEW_30,
+    "at 3\nchannel 3 number 3\n",
+    POLLED_5,
+    "terminal 5 deaf B mute -\nterminal 5 marks -\n",
+    "terminal 9 status 4800 last 0000 vector 0000 bit 0000 sync 0000 off -\n",
+    "terminal 9 deaf AB mute AB\nterminal 9 marks -\n",
+    NEW_30,
+    "channel 3 number 3\n",
+    POLLED_5,
+    "terminal 9 status 4800 last 0000 vector 0000 bit 0000 sync 0000 off -\n",
+    "terminal 30 status F000 last 0000 vector 0000 bit 0000 sync 0000 off -\n",
+];
 
 #[test]
 fn lines_are_answered(rt: HostRuntime) {
     let one = subject_of(&rt, rt.alloc(), &[DROPPED], DROPPED_REPORT);
-    for (lines, printed) in SESSIONS {
-        prints(&rt, rt.alloc(), &one, lines, printed);
-    }
+    answers(&rt, rt.alloc(), &one, &SESSIONS);
 }
 
 #[test]
 fn channels_in_the_order_of_jobs(rt: HostRuntime) {
     let both = subject_of(&rt, rt.alloc(), &[FIRST, SECOND], BOTH_REPORT);
     let lines = "state\nforward\nstate\ngo 4\nstate\n";
-    prints(&rt, rt.alloc(), &both, lines, BOTH_STATES);
+    prints(&rt, rt.alloc(), &both, Manner::Given, lines, BOTH_STATES);
 }
 
 #[test]
 fn what_hosts_set(rt: HostRuntime) {
-    let failing = subject_of(&rt, rt.alloc(), &[FAILING], FAILING_REPORT);
+    let one = subject_of(&rt, rt.alloc(), &[FAILING], FAILING_REPORT);
     let lines =
         "state --all\nforward\n  state   --all \nforward\nstate --all\ngo 3\nstate --all\nstate\n";
-    prints(&rt, rt.alloc(), &failing, lines, FAILING_STATES);
+    prints(&rt, rt.alloc(), &one, Manner::Given, lines, FAILING_STATES);
 }

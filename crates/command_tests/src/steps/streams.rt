@@ -1,5 +1,6 @@
 //! Readers and writers of sessions: answers are flushed one by one, and a fault ends a session with what was answered.
-use crate::steps::made::{DROPPED, DROPPED_REPORT, reads, subject_of};
+use crate::looks::equal::reads;
+use crate::steps::made::{DROPPED, DROPPED_REPORT, subject_of};
 use bench_step::{Manner, StepFault};
 use std::alloc::Global;
 use std::io;

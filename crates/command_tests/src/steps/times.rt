@@ -1,15 +1,10 @@
 //! Moves by time.
-use crate::steps::made::{Subject, reads, subject_of};
-use bench_step::{Manner, StepFault};
-use std::alloc::Global;
-use std::process::Abort;
+use crate::steps::made::{
+    EQUAL, EQUAL_REPORT, TWO_CHANNELS, TWO_CHANNELS_REPORT, prints, subject_of,
+};
+use bench_step::Manner;
 
-/// Three messages of one form, with the stamps 0, 48 and 96 µs.
-const EQUAL: &str = "channel 1\nterminal 5\nscript\nrepeat 3 { send A mode 5 1 }\n";
-
-const EQUAL_REPORT: &str = "channel 1\nmade 3\npackets 1\n";
-
-/// The lines of a session of them, how the lines come, and what is printed.
+/// The lines of a session of `EQUAL`, how the lines come, and what is printed.
 const SESSIONS: [(&str, Manner, &str); 4] = [
     // Up to a time, that one too.
     (
@@ -38,41 +33,18 @@ const SESSIONS: [(&str, Manner, &str); 4] = [
     ),
 ];
 
-/// What a session prints whose lines come in this manner.
-fn prints(
-    rt: &impl Abort,
-    alloc: Global,
-    one: &Subject,
-    manner: Manner,
-    lines: &str,
-    printed: &str,
-) {
-    let mut out = Vec::new(alloc);
-    let mut input = lines.as_bytes();
-    let ended: Result<(), StepFault> = one.session_of(alloc, manner, &mut input, &mut out);
-    assert_eq!(rt; ended, Ok(()), "{lines}");
-    reads(rt, &out, printed);
-}
-
 #[test]
 fn places_of_times(rt: HostRuntime) {
     let one = subject_of(&rt, rt.alloc(), &[EQUAL], EQUAL_REPORT);
     for (lines, manner, printed) in SESSIONS {
-        prints(&rt, rt.alloc(), &one, manner, lines, printed);
+        prints(&rt, rt.alloc(), &one, manner, lines, &[printed]);
     }
 }
 
-/// Two channels, one behind the other in the file, each with the stamps 0 and 48 µs.
-const FIRST: &str = "channel 7\nterminal 5\nscript\nsend A mode 5 1\nsend A mode 5 1\n";
-
-const SECOND: &str = "channel 2\nterminal 5\nscript\nsend A mode 5 1\nsend A mode 5 1\n";
-
-const BOTH_REPORT: &str = "channel 7\nmade 2\nchannel 2\nmade 2\npackets 2\n";
-
 #[test]
 fn nothing_later_is_past(rt: HostRuntime) {
-    let both = subject_of(&rt, rt.alloc(), &[FIRST, SECOND], BOTH_REPORT);
+    let both = subject_of(&rt, rt.alloc(), &TWO_CHANNELS, TWO_CHANNELS_REPORT);
     let lines = "go 47.9us\ngo 48us\n";
     let printed = "at 1\nat 4\n";
-    prints(&rt, rt.alloc(), &both, Manner::Given, lines, printed);
+    prints(&rt, rt.alloc(), &both, Manner::Given, lines, &[printed]);
 }

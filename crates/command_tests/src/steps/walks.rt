@@ -1,15 +1,12 @@
 //! Moves by number, by channel and backwards, and messages as people read them.
-use crate::steps::made::{DROPPED, DROPPED_REPORT, Subject, reads, subject_of};
-use bench_step::{Manner, StepFault};
-use std::alloc::Global;
-use std::process::Abort;
+use crate::looks::equal::reads;
+use crate::steps::made::{
+    DROPPED, DROPPED_REPORT, EQUAL, EQUAL_REPORT, TWO_CHANNELS, TWO_CHANNELS_REPORT, prints,
+    subject_of,
+};
+use bench_step::Manner;
 
-/// Three messages of one form.
-const EQUAL: &str = "channel 1\nterminal 5\nscript\nrepeat 3 { send A mode 5 1 }\n";
-
-const EQUAL_REPORT: &str = "channel 1\nmade 3\npackets 1\n";
-
-/// The lines of a session of them, how the lines come, what is printed, and what is left.
+/// The lines of a session of `EQUAL`, how the lines come, what is printed, and what is left.
 const SESSIONS: [(&str, Manner, &str, &str); 6] = [
     // Moves where lines are typed: each shows its message.
     (
@@ -79,29 +76,12 @@ at 1
     ),
 ];
 
-/// What a session prints, and what it leaves.
-fn prints(
-    rt: &impl Abort,
-    alloc: Global,
-    one: &Subject,
-    manner: Manner,
-    lines: &str,
-    printed: &str,
-    left: &str,
-) {
-    let mut out = Vec::new(alloc);
-    let mut input = lines.as_bytes();
-    let ended: Result<(), StepFault> = one.session_of(alloc, manner, &mut input, &mut out);
-    assert_eq!(rt; ended, Ok(()), "{lines}");
-    reads(rt, &out, printed);
-    reads(rt, input, left);
-}
-
 #[test]
 fn moves_and_messages(rt: HostRuntime) {
     let one = subject_of(&rt, rt.alloc(), &[EQUAL], EQUAL_REPORT);
     for (lines, manner, printed, left) in SESSIONS {
-        prints(&rt, rt.alloc(), &one, manner, lines, printed, left);
+        let rest = prints(&rt, rt.alloc(), &one, manner, lines, &[printed]);
+        reads(&rt, rest, left);
     }
 }
 
@@ -111,19 +91,13 @@ fn back_to_what_failed(rt: HostRuntime) {
     let lines = "find back fail\ngo 3\nfind back fail\nfind back fail\ngo 3\nfind back not fail\n\
          find back not fail\n  find   back any(fail silent)\n";
     let printed = "Y2\nat 3\nat 1\nY2\nat 3\nat 2\nY2\nat 1\n";
-    prints(&rt, rt.alloc(), &one, Manner::Given, lines, printed, "");
+    let left = prints(&rt, rt.alloc(), &one, Manner::Given, lines, &[printed]);
+    reads(&rt, left, "");
 }
-
-/// Two channels, the first with a higher number: places 1 and 2, and 3 and 4.
-const FIRST: &str = "channel 7\nterminal 5\nscript\nsend A mode 5 1\nsend A mode 5 1\n";
-
-const SECOND: &str = "channel 2\nterminal 5\nscript\nsend A mode 5 1\nsend A mode 5 1\n";
-
-const BOTH_REPORT: &str = "channel 7\nmade 2\nchannel 2\nmade 2\npackets 2\n";
 
 #[test]
 fn messages_of_a_channel(rt: HostRuntime) {
-    let both = subject_of(&rt, rt.alloc(), &[FIRST, SECOND], BOTH_REPORT);
+    let both = subject_of(&rt, rt.alloc(), &TWO_CHANNELS, TWO_CHANNELS_REPORT);
     let lines =
         "go channel 2 1\nshow\ngo channel 7 2\ngo channel 2 2\ngo channel 2 3\ngo channel 3 1\ngo channel 2 0\n\
          go  channel  7  01 \n";
@@ -137,5 +111,6 @@ Y2
 Y2
 at 1
 ";
-    prints(&rt, rt.alloc(), &both, Manner::Given, lines, printed, "");
+    let left = prints(&rt, rt.alloc(), &both, Manner::Given, lines, &[printed]);
+    reads(&rt, left, "");
 }
