@@ -1,4 +1,5 @@
 //! The hosts: each sets a vector word on its terminal, and then asks for service.
+ghost use Rattle.std.specs.Prelude.{◌≡◌};
 ghost use Rattle.live_example.specs.Hosts.{MayPost};
 
 use crate::gate::Posted;
@@ -15,6 +16,28 @@ pub struct Host<'a> {
     pub channel: u16,
     pub address: u8,
     pub word: u16,
+}
+
+impl<'a> Host<'a> {
+    /// The host of the terminal at this address of a channel, which sets this vector word.
+    pub fn of(
+        mailbox: &'a Mailbox,
+        poster: Poster,
+        channel: u16,
+        address: u8,
+        word: u16,
+    ) -> Host<'a>
+        ensures mailbox { result.mailbox.now ≡ mailbox.now }
+        ensures poster { result.poster ≡ poster }
+    {
+        Host {
+            mailbox,
+            poster,
+            channel,
+            address,
+            word,
+        }
+    }
 }
 
 /// Posts the vector word and the service request, and tells the gate. The mailbox has room for both, so that neither

@@ -133,20 +133,8 @@ fn report_with<R: Threads + Wait + Sync>(
 {
     let inboxes = both(alloc, first.inbox, second.inbox)?;
     let boxes = [first.mailbox, second.mailbox];
-    let first = Host {
-        mailbox: &boxes[0],
-        poster: first.poster,
-        channel: 1,
-        address: 5,
-        word: 0x00AA,
-    };
-    let second = Host {
-        mailbox: &boxes[1],
-        poster: second.poster,
-        channel: 2,
-        address: 6,
-        word: 0x0155,
-    };
+    let first = Host::of(&boxes[0], first.poster, 1, 5, 0x00AA);
+    let second = Host::of(&boxes[1], second.poster, 2, 6, 0x0155);
     run_beside(rt, alloc, jobs, &boxes, inboxes, first, second)
 }
 

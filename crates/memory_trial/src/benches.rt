@@ -1,7 +1,7 @@
 //! Calls on the bench one step at a time.
 use crate::told::Told;
-use crate::worked::{FIVE, ONE, jobs_of};
-use bench_core::{PlayError, Settings, Step, World, WorldError};
+use crate::worked::{FIVE, ONE, jobs_of, settings_of};
+use bench_core::{PlayError, Step, World, WorldError};
 use std::alloc::Global;
 
 /// The steps of a queue of one item between a channel of five messages and one of one; a take is None.
@@ -28,14 +28,7 @@ const WHOLE: usize = 136;
 /// What two channels and a queue of one item make; None where memory is refused before.
 fn made_of_two(alloc: Global) -> Option<Result<World, WorldError>> {
     let jobs = jobs_of(alloc, &[FIVE, ONE])?;
-    let settings = Settings {
-        version: 6,
-        limit: 4096,
-        queue: 1,
-        prologue: Vec::new(alloc),
-        posts: 0,
-    };
-    Some(World::make(alloc, &jobs, &settings))
+    Some(World::make(alloc, &jobs, &settings_of(alloc, 1)))
 }
 
 /// A world of two channels; None where memory is refused.

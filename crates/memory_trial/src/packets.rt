@@ -1,10 +1,11 @@
 //! Calls on packets, recordings and reports.
 use crate::told::Told;
-use crate::worked::{FOREIGN, REPORT};
+use crate::worked::REPORT;
 use bench_report::{ReportFault, print_report, read_report};
 use ch11_builder::{Builder, BuilderError};
 use ch11_reader::{Index, ReadError};
 use std::alloc::Global;
+use test_values::FOREIGN;
 
 /// `Builder::make`.
 pub(crate) fn builder(alloc: Global) -> Told {

@@ -1,8 +1,8 @@
 //! Calls on queues and on runs.
 
 use crate::told::Told;
-use crate::worked::{FIVE, ONE, job_of, jobs_of};
-use bench_core::{ChannelFault, Settings, one_channel};
+use crate::worked::{FIVE, ONE, job_of, jobs_of, settings_of};
+use bench_core::{ChannelFault, one_channel};
 use bench_report::Report;
 use bench_run::{MailError, Mailbox, OpenGate, RunError, run};
 use ch11_writer::MemorySink;
@@ -85,13 +85,7 @@ fn run_told(answer: &Result<(Report, MemorySink), RunError<MemorySink>>) -> Told
 
 /// A run of jobs into memory, with a queue that has room for all.
 fn ran<R: Threads + Wait + Sync>(rt: &R, alloc: Global, jobs: &[Job]) -> Told {
-    let settings = Settings {
-        version: 6,
-        limit: 4096,
-        queue: 64,
-        prologue: Vec::new(alloc),
-        posts: 0,
-    };
+    let settings = settings_of(alloc, 64);
     let sink = MemorySink::make(alloc);
     run_told(&run(rt, alloc, jobs, &settings, &OpenGate, sink))
 }
