@@ -1,6 +1,7 @@
 //! `bench check`: jobs tried without a recording.
 
-use crate::options::{arguments, command_of, flag, with_rows};
+use crate::options::{command_of, flag, jobs, words_in};
+use crate::streams::on_stream;
 use bench_check::{Bits, CheckFault, print_findings, print_summary, tight_frames_in, try_job};
 use bench_core::{Settings, judge};
 use bench_requests::{Fault, jobs_of, read_texts};
@@ -31,16 +32,15 @@ Example:
 pub(crate) fn check_command<'a>(alloc: Global) -> Result<Command<'a>, AllocError> {
     let about = "Tries jobs without a recording, and says what is probably a mistake";
     let summary = "Says only what is probably a mistake, and how many messages there are";
-    let jobs = "The job of a channel, as a text; 1 to 32 of them, each of another channel";
     let rows = [
         flag("summary", summary),
         flag(
             "decode",
             "Shows the bits of each status word by their names too",
         ),
-        arguments("JOB", jobs),
+        jobs(),
     ];
-    with_rows(alloc, command_of(alloc, "check", about, CHECK_NOTES), &rows)
+    command_of(alloc, "check", about, CHECK_NOTES, &[&rows])
 }
 
 /// Which jobs are to be tried, and how this is told.
@@ -59,10 +59,8 @@ pub(crate) fn check_request<'a>(
     alloc: Global,
     given: &ArgMatches<'a>,
 ) -> Result<CheckRequest<'a>, AllocError> {
-    let mut jobs = Vec::new(alloc);
-    jobs.extend_from_slice(given.get_strs("JOB").unwrap_or(&[]))?;
     Ok(CheckRequest {
-        jobs,
+        jobs: words_in(alloc, given, "JOB")?,
         summary: given.get_flag("summary"),
         bits: if given.get_flag("decode") {
             Bits::Names
@@ -107,21 +105,11 @@ fn print_checks<'a, R: AllocGlobal + Print>(
     texts: &[Vec<u8>],
     jobs: &[Job],
 ) -> Result<(), Fault<'a>> {
-    let mut out = match BufWriter::new(rt.alloc(), io::writer(rt)) {
-        Ok(out) => out,
-        Err(error) => return Err(Fault::of_stream("-", &error)),
-    };
+    let mut out = on_stream("-", BufWriter::new(rt.alloc(), io::writer(rt)))?;
     match check_each(rt.alloc(), request, texts, jobs, &mut out) {
-        Ok(()) => flush(&mut out),
+        Ok(()) => on_stream("-", out.flush()),
         Err(CheckFault::Memory) => Err(Fault::Memory),
         Err(CheckFault::Device) => Err(Fault::Device("-")),
-    }
-}
-
-fn flush<'a, W: Write>(out: &mut W) -> Result<(), Fault<'a>> {
-    match out.flush() {
-        Ok(()) => Ok(()),
-        Err(error) => Err(Fault::of_stream("-", &error)),
     }
 }
 

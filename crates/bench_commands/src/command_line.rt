@@ -4,20 +4,19 @@ use crate::checking::{CheckRequest, check_command, check_request};
 use crate::completed_run::{Completing, completing_in};
 use crate::completing::{CompleteRequest, complete_command, complete_request};
 use crate::context::{Context, context_in, context_option};
-use crate::decoding::{DecodeRequest, asks_for_messages, decode_request, with_decoding};
+use crate::decoding::{DecodeRequest, asks_for_messages, decode_request};
 use crate::exporting::{ExportRequest, export_command, export_request};
+use crate::extracting::Extract;
 use crate::judging::{JudgeRequest, judge_command, judge_request};
 use crate::live_run::{Going, going_in};
-use crate::looking_line::{draw_command, draw_request, explain_command, explain_request};
-use crate::options::{
-    argument, arguments, command_of, flag, force, version, with_option, with_rows,
-};
+use crate::looking_line::{draw_command, explain_command};
+use crate::options::{argument, arguments, channel, command_of, flag, force, version, words_in};
 use crate::run_line::{run_command, run_request};
-use crate::selecting::GivenSelection;
+use crate::selecting::selection_options;
 use crate::statistics::{StatRequest, stat_command, stat_request};
 use bench_requests::{Fault, RunRequest};
 use clap::error::ErrorKind;
-use clap::{Arg, ArgMatches, Command, Error, value_parser};
+use clap::{ArgMatches, Command, Error};
 use std::alloc::{AllocError, Global};
 
 /// What a command line asks, and when the lines that explain a fault stand behind it.
@@ -66,7 +65,7 @@ pub enum Request<'a> {
     /// The messages of a recording, written to a file for other programs.
     Export(ExportRequest<'a>),
     /// The messages of a recording over time, written to a file as a picture.
-    Draw(DrawRequest<'a>),
+    Draw(Extract<'a>),
     /// A recording, made into the file that other tools expect.
     Complete(CompleteRequest<'a>),
     /// What codes mean; all of them where none is given.
@@ -75,19 +74,6 @@ pub enum Request<'a> {
     },
     /// A recording, judged by rules.
     Judge(JudgeRequest<'a>),
-}
-
-/// What is to be drawn, and where to.
-#[derive(Debug, Drop)]
-pub struct DrawRequest<'a> {
-    /// The file of the recording.
-    pub recording: &'a str,
-    /// The file to write the picture to.
-    pub out: &'a str,
-    /// Which of its messages.
-    pub selection: GivenSelection<'a>,
-    /// Whether a file of another kind may be replaced.
-    pub force: bool,
 }
 
 /// What is to be walked through.
@@ -133,7 +119,7 @@ fn run_asked<'a>(alloc: Global, given: &ArgMatches<'a>) -> Result<Request<'a>, A
 
 fn explain_asked<'a>(alloc: Global, given: &ArgMatches<'a>) -> Result<Request<'a>, AllocError> {
     Ok(Request::Explain {
-        codes: explain_request(alloc, given)?,
+        codes: words_in(alloc, given, "CODE")?,
     })
 }
 
@@ -152,7 +138,7 @@ fn plain_request<'a>(name: &str, given: &ArgMatches<'a>) -> Request<'a> {
 fn writing_request<'a>(name: &str, given: &ArgMatches<'a>) -> Request<'a> {
     match name {
         "export" => Request::Export(export_request(given)),
-        "draw" => Request::Draw(draw_request(given)),
+        "draw" => Request::Draw(Extract::given(given)),
         "complete" => Request::Complete(complete_request(given)),
         _ => one_request(given),
     }
@@ -212,12 +198,8 @@ fn bench_command<'a>(alloc: Global) -> Result<Command<'a>, AllocError> {
 }
 
 fn assemble_command<'a>(alloc: Global) -> Result<Command<'a>, AllocError> {
-    let command = command_of(
-        alloc,
-        "assemble",
-        "Assembles a script into an image for the bus controller, and prints its sizes",
-        "Example:\n  bench assemble poll.script poll.bc",
-    );
+    let about = "Assembles a script into an image for the bus controller, and prints its sizes";
+    let notes = "Example:\n  bench assemble poll.script poll.bc";
     let image =
         "The file to write the image to, which is not the script; it is written only where the script is accepted";
     let rows = [
@@ -225,8 +207,13 @@ fn assemble_command<'a>(alloc: Global) -> Result<Command<'a>, AllocError> {
         argument("SCRIPT", "The script to assemble, as a text"),
         argument("IMAGE", image),
     ];
-    with_rows(alloc, command, &rows)
+    command_of(alloc, "assemble", about, notes, &[&rows])
 }
+
+/// The options of `bench dump` that ask for messages alone, whose lines have no time of day.
+const FOR_MESSAGES: &[&str] = &[
+    "decode", "by-time", "channel", "line", "only", "errors", "from", "to",
+];
 
 /// What the help of `bench dump` ends with.
 const DUMP_NOTES: &str = "\
@@ -262,29 +249,23 @@ Example:
   bench dump --decode --errors --channel 2 flight.ch11
   bench dump --decode --by-time --only \"tx 5 3\" --from 1.2s flight.ch11";
 
-/// A command with the option for times of day.
-fn with_times<'a>(alloc: Global, command: Command<'a>) -> Result<Command<'a>, AllocError> {
-    let help = "Shows the time of day behind each time stamp, by the recording's time packets";
-    with_option(command, for_all_messages(flag("time", help).arg(alloc)))
-}
-
-/// An option that lines of decoded and of chosen messages do not have.
-fn for_all_messages<'a>(option: Arg<'a>) -> Result<Arg<'a>, AllocError> {
-    option.conflicts_with_all(&[
-        "decode", "by-time", "channel", "line", "only", "errors", "from", "to",
-    ])
-}
-
 fn dump_command<'a>(alloc: Global) -> Result<Command<'a>, AllocError> {
     let about = "Shows the packets and messages of a recording, or its first fault";
-    let command = command_of(alloc, "dump", about, DUMP_NOTES);
     let skip = "Shows all packets that are sound, and what was skipped between them";
-    let command = with_rows(alloc, command, &[flag("skip", skip)])?;
-    let recording = argument("RECORDING", "The Chapter 11 file to show");
-    with_decoding(
-        alloc,
-        with_rows(alloc, with_times(alloc, command)?, &[recording])?,
-    )
+    let time = "Shows the time of day behind each time stamp, by the recording's time packets";
+    let by_time = "Shows messages of all channels in the order of their time stamps";
+    let rows = [
+        flag("skip", skip),
+        flag("time", time).never_with(FOR_MESSAGES),
+        argument("RECORDING", "The Chapter 11 file to show"),
+        flag(
+            "decode",
+            "Shows each message as people read it, on one line",
+        ),
+        flag("by-time", by_time),
+    ];
+    let selection = selection_options();
+    command_of(alloc, "dump", about, DUMP_NOTES, &[&rows, &selection])
 }
 
 /// What the help of `bench step` ends with.
@@ -319,41 +300,27 @@ fn step_command<'a>(alloc: Global) -> Result<Command<'a>, AllocError> {
         argument("REPORT", "The report of the run that recorded it"),
         arguments("JOB", "The jobs of that run, in their order"),
     ];
-    with_rows(alloc, command_of(alloc, "step", about, STEP_NOTES), &rows)
+    command_of(alloc, "step", about, STEP_NOTES, &[&rows])
 }
 
 fn step_request<'a>(alloc: Global, given: &ArgMatches<'a>) -> Result<StepRequest<'a>, AllocError> {
-    let mut jobs = Vec::new(alloc);
-    jobs.extend_from_slice(given.get_strs("JOB").unwrap_or(&[]))?;
     Ok(StepRequest {
         recording: given.get_str("RECORDING").unwrap_or(""),
         report: given.get_str("REPORT").unwrap_or(""),
-        jobs,
+        jobs: words_in(alloc, given, "JOB")?,
     })
 }
 
 fn one_command<'a>(alloc: Global) -> Result<Command<'a>, AllocError> {
-    let command = command_of(
-        alloc,
-        "one",
-        "Runs one message on fresh terminals and prints its packet",
-        "Example:\n  bench one --channel 1 --version 6 \"A rx 5 1 [0001 0002 0003]\"",
-    );
-    let command = command.disable_version_flag(true).arg(channel(alloc))?;
+    let about = "Runs one message on fresh terminals and prints its packet";
+    let notes = "Example:\n  bench one --channel 1 --version 6 \"A rx 5 1 [0001 0002 0003]\"";
     let text = "The line (bus), A or B, and the message, as in \"A rx 5 1 [0001]\"";
-    let command = command.arg(version(alloc).required(true))?;
-    with_rows(alloc, command, &[argument("TEXT", text)])
-}
-
-/// The channel of a packet.
-fn channel<'a>(alloc: Global) -> Arg<'a> {
-    Arg::new(alloc, "channel")
-        .long("channel")
-        .value_name("N")
-        .required(true)
-        .value_parser(value_parser!(u16).range(1..=65535))
-        .allow_negative_numbers(true)
-        .help("The packet's channel, 1 to 65535")
+    let rows = [
+        channel("channel", "The packet's channel, 1 to 65535").required(),
+        version().required(),
+        argument("TEXT", text),
+    ];
+    Ok(command_of(alloc, "one", about, notes, &[&rows])?.disable_version_flag(true))
 }
 
 fn one_request<'a>(given: &ArgMatches<'a>) -> Request<'a> {

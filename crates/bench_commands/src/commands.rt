@@ -10,17 +10,19 @@ use crate::exporting::export_recording;
 use crate::given_words::{word_at_fault, words_of};
 use crate::hosts::{Errors, Host};
 use crate::judging::judge_recording;
-use crate::large::dump_large;
+use crate::large::{dump_large, fault_of_dump};
 use crate::looking::tell_of_loss;
 use crate::pointing::point;
 use crate::recording::run_jobs;
+use crate::replacing::may_write;
 use crate::statistics::show_statistics;
 use crate::stepping::step_through;
+use crate::streams::on_stream;
 use bench_assemble::{AssembleFault, Sizes, assemble_text, print_sizes};
-use bench_dump::{DumpFault, dump, dump_with_times};
+use bench_dump::{dump, dump_with_times};
 use bench_files::{Hold, Kind, leads_to_output};
 use bench_one::{OneFault, one, print_bytes};
-use bench_requests::{Fault, is_large, read_whole, replaceable, told_apart, write_new};
+use bench_requests::{Fault, is_large, read_whole, write_new};
 use clap::Error;
 use clap::error::ErrorKind;
 use std::io;
@@ -154,10 +156,7 @@ fn run_one<'a, R: AllocGlobal + Print>(
         Err(OneFault::Memory) => return Err(Fault::Memory),
         Err(fault) => return Err(Fault::Text(fault)),
     };
-    match print_to_output(rt, bytes.as_slice()) {
-        Ok(()) => Ok(()),
-        Err(error) => Err(Fault::of_stream("-", &error)),
-    }
+    on_stream("-", print_to_output(rt, bytes.as_slice()))
 }
 
 fn print_to_output<R: AllocGlobal + Print>(rt: &R, bytes: &[u8]) -> io::Result<()> {
@@ -166,18 +165,14 @@ fn print_to_output<R: AllocGlobal + Print>(rt: &R, bytes: &[u8]) -> io::Result<(
     out.flush()
 }
 
-fn run_assemble<'a, R: Files + AllocGlobal + Print, E: Eprint>(
+fn run_assemble<'a, R: Files<File: Hold> + AllocGlobal + Print, E: Eprint>(
     rt: &R,
     errors: &E,
     script: &'a str,
     image: &'a str,
     force: bool,
-) -> Result<(), Fault<'a>>
-where
-    R::File: Hold,
-{
-    told_apart(rt, &[image], &[script])?;
-    replaceable(rt, image, Kind::Image, force)?;
+) -> Result<(), Fault<'a>> {
+    may_write(rt, image, Kind::Image, force, &[script])?;
     let text = read_whole(rt, script)?;
     let (bytes, sizes) = match assemble_text(rt.alloc(), text.as_slice()) {
         Ok(made) => made,
@@ -190,10 +185,7 @@ where
         let _ = eprintln!(errors; "{sizes}");
         return Ok(());
     }
-    match print_sizes_to_output(rt, &sizes) {
-        Ok(()) => Ok(()),
-        Err(error) => Err(Fault::of_stream("-", &error)),
-    }
+    on_stream("-", print_sizes_to_output(rt, &sizes))
 }
 
 fn print_sizes_to_output<R: AllocGlobal + Print>(rt: &R, sizes: &Sizes) -> io::Result<()> {
@@ -224,8 +216,6 @@ fn show<'a, R: Files + AllocGlobal + Print + Clock, E: Eprint + IsTerminal>(
             tell_of_loss(rt, errors, bytes.as_slice());
             Ok(())
         }
-        Err(DumpFault::Refused(refusal)) => Err(Fault::Recording(refusal)),
-        Err(DumpFault::Memory) => Err(Fault::Memory),
-        Err(DumpFault::Device) => Err(Fault::Device("-")),
+        Err(fault) => Err(fault_of_dump(recording, fault, false)),
     }
 }

@@ -1,18 +1,17 @@
 //! `bench run --complete`: jobs recorded, and the complete file made of their recording at once.
 
-use crate::completing::{fault_of, start_of, with_time, write_out};
+use crate::completing::{fault_of, start_of, time, time_channel, write_out};
 use crate::hosts::{Errors, Host};
 use crate::live_run::{Run, record};
-use crate::options::{file, flag, with_option, with_rows};
+use crate::options::{Row, file, flag};
 use crate::recording::{ended, finish};
 use bench_complete::{Additions, CompleteFault, Completion, UtcSecond};
 use bench_files::Hold;
-use bench_live::Show;
 use bench_report::Report;
 use bench_requests::{Ending, Fault, RunFiles, RunRequest};
 use bench_run::RunError;
 use ch11_writer::MemorySink;
-use clap::{ArgMatches, Command};
+use clap::ArgMatches;
 use job_file::{Job, next_record};
 use std::alloc::{AllocError, Global};
 use std::rt::Files;
@@ -29,16 +28,16 @@ pub struct Completing<'a> {
 }
 
 /// The options of `bench run` that have its recording completed.
-pub(crate) fn with_completing<'a>(
-    alloc: Global,
-    command: Command<'a>,
-) -> Result<Command<'a>, AllocError> {
+pub(crate) fn completing_options<'a>() -> [Row<'a>; 4] {
     let complete = "Writes the complete file of the recording, as `bench complete` makes it";
-    let command = with_rows(alloc, command, &[flag("complete", complete)])?;
     let setup =
         "With --complete: the text of the setup record (TMATS) to put in front, 1 to 524000 bytes";
-    let setup = file("setup", setup).arg(alloc).requires_arg("complete");
-    with_time(alloc, with_option(command, setup)?, Some("complete"))
+    [
+        flag("complete", complete),
+        file("setup", setup).only_with("complete"),
+        time().only_with("complete"),
+        time_channel().only_with("complete"),
+    ]
 }
 
 /// How the recording of a run is to be completed, where it is.
@@ -104,7 +103,7 @@ fn is_heard(alloc: Global, job: &Job) -> Result<bool, AllocError> {
 /// packets on the channel of a job that makes a message, which is in the recording where buses are held.
 fn judge_before(
     alloc: Global,
-    run: Run<'_>,
+    run: Run<'_, '_>,
     drops: bool,
     additions: &Additions<'_>,
 ) -> Result<(), CompleteFault> {
@@ -129,8 +128,7 @@ pub(crate) fn record_completed<'a, R: Host, E: Errors>(
     rt: &R,
     errors: &E,
     request: &RunRequest<'a>,
-    run: Run<'_>,
-    show: Option<&Show>,
+    run: Run<'_, '_>,
     additions: &Additions<'_>,
     files: RunFiles<'a, R::File>,
 ) -> Result<Report, Fault<'a>>
@@ -138,7 +136,7 @@ where
     R::Reader: 'static,
 {
     let mut files = files;
-    match complete_into(rt, errors, request, run, show, additions, &mut files) {
+    match complete_into(rt, errors, request, run, additions, &mut files) {
         Ok(report) => finish(rt, files, report),
         Err(fault) => Err(ended(rt, files, Ending::Broken, fault)),
     }
@@ -160,8 +158,7 @@ fn complete_into<'a, R: Host, E: Errors>(
     rt: &R,
     errors: &E,
     request: &RunRequest<'a>,
-    run: Run<'_>,
-    show: Option<&Show>,
+    run: Run<'_, '_>,
     additions: &Additions<'_>,
     files: &mut RunFiles<'a, R::File>,
 ) -> Result<Report, Fault<'a>>
@@ -171,7 +168,7 @@ where
     if let Err(fault) = judge_before(rt.alloc(), run, request.drops, additions) {
         return Err(fault_of(fault, ""));
     }
-    let (report, sink) = record_in_memory(rt, errors, run, show)?;
+    let (report, sink) = record_in_memory(rt, errors, run)?;
     match write_completed(rt, request.out, sink.bytes(), additions, files) {
         Ok(()) => Ok(report),
         Err(fault) => Err(fault),
@@ -182,13 +179,12 @@ where
 fn record_in_memory<'a, R: Host, E: Errors>(
     rt: &R,
     errors: &E,
-    run: Run<'_>,
-    show: Option<&Show>,
+    run: Run<'_, '_>,
 ) -> Result<(Report, MemorySink), Fault<'a>>
 where
     R::Reader: 'static,
 {
-    match record(rt, errors, run, show, MemorySink::make(rt.alloc())) {
+    match record(rt, errors, run, MemorySink::make(rt.alloc())) {
         Ok(recorded) => Ok(recorded),
         Err(RunError::Sink { .. }) => Err(Fault::Memory),
         Err(error) => Err(Fault::of_run(&error)),
@@ -196,16 +192,13 @@ where
 }
 
 /// Writes the complete file of a recording.
-fn write_completed<'a, R: Files + AllocGlobal>(
+fn write_completed<'a, R: Files<File: Hold> + AllocGlobal>(
     rt: &R,
     name: &'a str,
     recording: &[u8],
     additions: &Additions<'_>,
     files: &mut RunFiles<'a, R::File>,
-) -> Result<(), Fault<'a>>
-where
-    R::File: Hold,
-{
+) -> Result<(), Fault<'a>> {
     let text = additions.setup.unwrap_or(&[]);
     match Completion::plan(rt.alloc(), recording, &with_text(additions, text)) {
         Ok(completion) => write_planned(rt, name, &completion, files),
@@ -213,15 +206,12 @@ where
     }
 }
 
-fn write_planned<'a, R: Files + AllocGlobal>(
+fn write_planned<'a, R: Files<File: Hold> + AllocGlobal>(
     rt: &R,
     name: &'a str,
     completion: &Completion<'_>,
     files: &mut RunFiles<'a, R::File>,
-) -> Result<(), Fault<'a>>
-where
-    R::File: Hold,
-{
+) -> Result<(), Fault<'a>> {
     let writer = files.recording(rt)?;
     write_out(rt.alloc(), name, writer, completion)
 }

@@ -1,14 +1,13 @@
 //! `bench complete`: a recording made into the file that other Chapter 10 and 11 tools expect.
 
-use crate::options::{
-    Row, argument, command_of, file, flag, force, required_file, value, version, with_option,
-    with_rows,
-};
+use crate::options::{Row, argument, channel, command_of, file, flag, force, value, version};
+use crate::replacing::{begin_to_write, may_write, put_or_give_up};
+use crate::streams::on_stream;
 use bench_complete::{Additions, CompleteFault, Completion, UtcSecond};
 use bench_files::{Hold, Kind};
-use bench_requests::{Fault, begin, put_in_place, read_whole, replaceable, told_apart, writer_of};
+use bench_requests::{Fault, read_whole};
 use ch11_reader::Skip;
-use clap::{Arg, ArgMatches, Command, value_parser};
+use clap::{ArgMatches, Command};
 use std::alloc::{AllocError, Global};
 use std::io::{BufWriter, Write};
 use std::rt::Files;
@@ -46,38 +45,23 @@ Example:
 /// The command line of `bench complete`.
 pub(crate) fn complete_command<'a>(alloc: Global) -> Result<Command<'a>, AllocError> {
     let about = "Makes a recording into the file that other Chapter 10 and 11 tools expect";
-    let command = command_of(alloc, "complete", about, COMPLETE_NOTES).disable_version_flag(true);
     let setup = "The text of the setup record (TMATS) to put in front, 1 to 524000 bytes";
     let rows = [
         argument("RECORDING", "The Chapter 11 file to complete"),
-        required_file("out", "The file to write the complete file to"),
+        file("out", "The file to write the complete file to").required(),
         file("setup", setup),
+        time(),
+        time_channel(),
+        version().or("6"),
+        force(),
+        flag("skip", "Completes what is sound in a damaged recording"),
     ];
-    let command = with_time(alloc, with_rows(alloc, command, &rows)?, None)?;
-    let command = command.arg(version(alloc).default_value("6"))?;
-    let skip = flag("skip", "Completes what is sound in a damaged recording");
-    with_rows(alloc, command, &[force(), skip])
+    let command = command_of(alloc, "complete", about, COMPLETE_NOTES, &[&rows])?;
+    Ok(command.disable_version_flag(true))
 }
 
-/// A command with the options of time packets, which may need another option.
-pub(crate) fn with_time<'a>(
-    alloc: Global,
-    command: Command<'a>,
-    needed: Option<&'a str>,
-) -> Result<Command<'a>, AllocError> {
-    let command = with_option(command, needing(time().arg(alloc), needed))?;
-    with_option(command, needing(time_channel(alloc), needed))
-}
-
-/// An option that needs another one, if any.
-fn needing<'a>(option: Arg<'a>, needed: Option<&'a str>) -> Result<Arg<'a>, AllocError> {
-    match needed {
-        Some(other) => option.requires_arg(other),
-        None => Ok(option),
-    }
-}
-
-fn time<'a>() -> Row<'a> {
+/// The option that asks for time packets.
+pub(crate) fn time<'a>() -> Row<'a> {
     value(
         "time",
         "YYYY-MM-DDTHH:MM:SS",
@@ -85,14 +69,10 @@ fn time<'a>() -> Row<'a> {
     )
 }
 
-fn time_channel<'a>(alloc: Global) -> Arg<'a> {
-    Arg::new(alloc, "time-channel")
-        .long("time-channel")
-        .value_name("N")
-        .value_parser(value_parser!(u16).range(1..=65535))
-        .allow_negative_numbers(true)
-        .default_value("65535")
-        .help("The channel of the time packets, 1 to 65535, which has no packet in the recording")
+/// The option that names their channel.
+pub(crate) fn time_channel<'a>() -> Row<'a> {
+    let help = "The channel of the time packets, 1 to 65535, which has no packet in the recording";
+    channel("time-channel", help).or("65535")
 }
 
 /// What `bench complete` is asked for.
@@ -111,24 +91,17 @@ pub(crate) fn complete_request<'a>(given: &ArgMatches<'a>) -> CompleteRequest<'a
 
 /// Makes a recording into a complete file. The recording is read, then the text of the setup record; the out file,
 /// which is neither of them, is made once both were accepted.
-pub fn complete_recording<'a, R: Files + AllocGlobal, E: Eprint>(
+pub fn complete_recording<'a, R: Files<File: Hold> + AllocGlobal, E: Eprint>(
     rt: &R,
     errors: &E,
     request: &CompleteRequest<'a>,
-) -> Result<(), Fault<'a>>
-where
-    R::File: Hold,
-{
+) -> Result<(), Fault<'a>> {
     let start = start_of(request.time)?;
-    told_apart(
-        rt,
-        &[request.out],
-        &[
-            request.recording,
-            request.setup.unwrap_or(request.recording),
-        ],
-    )?;
-    replaceable(rt, request.out, Kind::Recording, request.force)?;
+    let read = [
+        request.recording,
+        request.setup.unwrap_or(request.recording),
+    ];
+    may_write(rt, request.out, Kind::Recording, request.force, &read)?;
     let recording = read_whole(rt, request.recording)?;
     let text = setup_text(rt, request.setup)?;
     let additions = Additions {
@@ -152,16 +125,13 @@ pub(crate) fn setup_text<'a, R: Files + AllocGlobal>(
 }
 
 /// Makes a recording that was read into a complete file with these additions.
-fn complete_read<'a, 'b, R: Files + AllocGlobal, E: Eprint>(
+fn complete_read<'a, 'b, R: Files<File: Hold> + AllocGlobal, E: Eprint>(
     rt: &R,
     errors: &E,
     request: &CompleteRequest<'a>,
     recording: &'b [u8],
     additions: &Additions<'b>,
-) -> Result<(), Fault<'a>>
-where
-    R::File: Hold,
-{
+) -> Result<(), Fault<'a>> {
     let completion = plan(rt.alloc(), errors, recording, additions, request.skip)?;
     put_out(rt, request, &completion)
 }
@@ -213,26 +183,14 @@ fn print_skips<E: Eprint>(errors: &E, skips: &[Skip]) {
 }
 
 /// Writes the complete file, which takes the place of one that is there once it is whole.
-fn put_out<'a, R: Files + AllocGlobal>(
+fn put_out<'a, R: Files<File: Hold> + AllocGlobal>(
     rt: &R,
     request: &CompleteRequest<'a>,
     completion: &Completion<'_>,
-) -> Result<(), Fault<'a>>
-where
-    R::File: Hold,
-{
-    let mut file = begin(rt, request.out, Kind::Recording, request.force)?;
-    let answer = match writer_of(rt, request.out, &mut file) {
-        Ok(writer) => write_out(rt.alloc(), request.out, writer, completion),
-        Err(fault) => Err(fault),
-    };
-    match answer {
-        Ok(()) => put_in_place(rt, request.out, file),
-        Err(fault) => {
-            file.give_up(rt);
-            Err(fault)
-        }
-    }
+) -> Result<(), Fault<'a>> {
+    let (file, writer) = begin_to_write(rt, request.out, Kind::Recording, request.force)?;
+    let written = write_out(rt.alloc(), request.out, writer, completion);
+    put_or_give_up(rt, request.out, file, written)
 }
 
 /// Writes the complete file to the out file of this name.
@@ -242,17 +200,10 @@ pub(crate) fn write_out<'a, W: Write + Drop>(
     writer: W,
     completion: &Completion<'_>,
 ) -> Result<(), Fault<'a>> {
-    let mut out = match BufWriter::new(alloc, writer) {
-        Ok(out) => out,
-        Err(error) => return Err(Fault::of_stream(name, &error)),
-    };
+    let mut out = on_stream(name, BufWriter::new(alloc, writer))?;
     match completion.write(alloc, &mut out) {
-        Ok(()) => {}
-        Err(fault) => return Err(fault_of(fault, name)),
-    }
-    match out.flush() {
-        Ok(()) => Ok(()),
-        Err(error) => Err(Fault::of_stream(name, &error)),
+        Ok(()) => on_stream(name, out.flush()),
+        Err(fault) => Err(fault_of(fault, name)),
     }
 }
 

@@ -1,16 +1,14 @@
 //! `bench dump --decode`, and the selection of messages of `bench dump`.
 
 use crate::judging::is_for_people;
-use crate::large::{check_large, fault_of_dump, tell_of_large_loss};
+use crate::large::{answer_of_watched, check_large, fault_of_dump, tell_of_large_loss};
 use crate::looking::tell_of_loss;
-use crate::options::{flag, with_rows};
-use crate::selecting::{GivenSelection, given_selection, selection_in, with_selection};
+use crate::selecting::{GivenSelection, given_selection, selection_in};
 use crate::watching::{Watch, open_watched, prints_to_terminal};
 use bench_decode::{Output, Shown, decode, decode_from};
 use bench_requests::{Fault, is_large, read_whole};
 use bench_select::Selection;
-use clap::{ArgMatches, Command};
-use std::alloc::{AllocError, Global};
+use clap::ArgMatches;
 use std::io::{self, IsTerminal};
 use std::rt::{Clock, Env, Files};
 
@@ -27,24 +25,6 @@ pub struct DecodeRequest<'a> {
     pub skip: bool,
     /// Whether in the order of their stamps, or else in the file's.
     pub by_time: bool,
-}
-
-/// The command line of `bench dump` with `--decode`, `--by-time` and the selection of messages.
-pub(crate) fn with_decoding<'a>(
-    alloc: Global,
-    command: Command<'a>,
-) -> Result<Command<'a>, AllocError> {
-    let rows = [
-        flag(
-            "decode",
-            "Shows each message as people read it, on one line",
-        ),
-        flag(
-            "by-time",
-            "Shows messages of all channels in the order of their time stamps",
-        ),
-    ];
-    with_selection(alloc, with_rows(alloc, command, &rows)?)
 }
 
 /// Whether `bench dump` is asked for messages alone: decoded, by time, or some of them.
@@ -140,8 +120,6 @@ fn print_watched<'a, R: Files + AllocGlobal + Print + Clock, E: Eprint + IsTermi
         check_large(rt, name, watch)?;
     }
     let input = open_watched(rt, name, watch, !prints_to_terminal(rt))?;
-    match decode_from(rt.alloc(), input, &mut io::writer(rt), output) {
-        Ok(count) => Ok(count),
-        Err(fault) => Err(fault_of_dump(name, fault, watch.has_failed())),
-    }
+    let printed = decode_from(rt.alloc(), input, &mut io::writer(rt), output);
+    answer_of_watched(name, watch, printed)
 }

@@ -1,13 +1,12 @@
 //! `bench draw`: the messages of a recording as a picture.
 
-use crate::command_line::DrawRequest;
+use crate::extracting::Extract;
 use crate::large::{Large, clock_of_large, fault_of_reading};
 use crate::looking::{clock_if, index_of};
-use crate::selecting::selection_in;
 use crate::watching::Watch;
 use bench_draw::{DrawFault, Drawing, draw, draw_from};
 use bench_files::{Hold, Kind};
-use bench_requests::{Fault, is_large, read_whole, replaceable, told_apart, write_new};
+use bench_requests::{Fault, is_large, read_whole, write_new};
 use bench_select::Selection;
 use std::io::IsTerminal;
 use std::rt::{Clock, Files};
@@ -15,17 +14,12 @@ use std::rt::{Clock, Files};
 /// Writes the messages of a recording, or those that were selected, as a picture. The out file takes the place of what
 /// is there once it is whole; it may not be the recording itself. Where a selection has no message, nothing is written,
 /// and that is said. A recording of more than 64 MiB is read packet by packet.
-pub fn draw_picture<'a, R: Files + AllocGlobal + Clock, E: Eprint + IsTerminal>(
+pub fn draw_picture<'a, R: Files<File: Hold> + AllocGlobal + Clock, E: Eprint + IsTerminal>(
     rt: &R,
     errors: &E,
-    request: &DrawRequest<'a>,
-) -> Result<(), Fault<'a>>
-where
-    R::File: Hold,
-{
-    let selection = selection_in(&request.selection)?;
-    told_apart(rt, &[request.out], &[request.recording])?;
-    replaceable(rt, request.out, Kind::Picture, request.force)?;
+    request: &Extract<'a>,
+) -> Result<(), Fault<'a>> {
+    let selection = request.judge(rt, Kind::Picture)?;
     let drawing = if is_large(rt, request.recording) {
         draw_large(rt, errors, request.recording, &selection)?
     } else {
@@ -50,7 +44,7 @@ fn draw_whole<'a, R: Files + AllocGlobal>(
     selection: &Selection,
 ) -> Result<Drawing, Fault<'a>> {
     let bytes = read_whole(rt, name)?;
-    let index = index_of(rt.alloc(), bytes.as_slice())?;
+    let index = index_of(rt.alloc(), bytes.as_slice(), false)?;
     let clock = clock_if(rt.alloc(), bytes.as_slice(), &index, true)?;
     match draw(rt.alloc(), &index, selection, &clock) {
         Ok(drawing) => Ok(drawing),

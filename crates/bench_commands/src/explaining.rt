@@ -1,5 +1,6 @@
 //! `bench explain`: what codes mean, and what to do.
 
+use crate::streams::on_stream;
 use bench_explain::{explain, print_explanation, print_list};
 use bench_requests::Fault;
 use std::io;
@@ -18,10 +19,7 @@ pub fn show_explanations<'a, R: AllocGlobal + Print>(
             }
         }
     }
-    match print_codes(rt, given) {
-        Ok(()) => Ok(()),
-        Err(error) => Err(Fault::of_stream("-", &error)),
-    }
+    on_stream("-", print_codes(rt, given))
 }
 
 fn print_codes<R: AllocGlobal + Print>(rt: &R, given: &[&str]) -> io::Result<()> {

@@ -1,11 +1,11 @@
 //! `bench export`: the messages of a recording for spreadsheets, data frames and waveform viewers.
 
+use crate::extracting::{Extract, extract_options};
 use crate::large::{clock_of_large, fault_of_reading};
 use crate::looking::{clock_if, index_of};
-use crate::options::{
-    argument, command_of, flag, force, required_file, value, with_exclusive, with_option, with_rows,
-};
-use crate::selecting::{GivenSelection, given_selection, selection_in, with_selection};
+use crate::options::{Row, choice, command_of, flag};
+use crate::replacing::{begin_to_write, put_or_give_up};
+use crate::selecting::selection_options;
 use crate::watching::{Watch, open_watched};
 use bench_clock::Clock as RecordingClock;
 use bench_export::{
@@ -13,9 +13,7 @@ use bench_export::{
     export_waves_from, selects_any,
 };
 use bench_files::{Hold, Kind, OutFile, leads_to_output};
-use bench_requests::{
-    Fault, begin, is_large, put_in_place, read_whole, replaceable, told_apart, writer_of,
-};
+use bench_requests::{Fault, is_large, read_whole};
 use bench_select::Selection;
 use ch11_reader::Index;
 use ch11_stream::Advance;
@@ -52,16 +50,25 @@ impl Exported {
 /// What is to be exported, and where to.
 #[derive(Debug, Drop)]
 pub struct ExportRequest<'a> {
-    /// The file of the recording.
-    pub recording: &'a str,
-    /// The file to write to.
-    pub out: &'a str,
+    /// Which messages, and the file to write to.
+    pub extract: Extract<'a>,
     /// As what.
     pub exported: Exported,
-    /// Which of its messages.
-    pub selection: GivenSelection<'a>,
-    /// Whether a file of another kind may be replaced.
-    pub force: bool,
+}
+
+impl<'a> ExportRequest<'a> {
+    /// The out file, which is begun, and where its bytes go.
+    fn begin<R: Files<File: Hold> + AllocGlobal>(
+        &self,
+        rt: &R,
+    ) -> Result<(OutFile<'a, R::File>, R::File), Fault<'a>> {
+        begin_to_write(
+            rt,
+            self.extract.out,
+            self.exported.kind(),
+            self.extract.force,
+        )
+    }
 }
 
 /// What the help of `bench export` ends with.
@@ -86,36 +93,36 @@ Examples:
 /// The command line of `bench export`.
 pub(crate) fn export_command<'a>(alloc: Global) -> Result<Command<'a>, AllocError> {
     let about = "Writes one row of comma-separated values a message, or a value change dump";
-    let command = command_of(alloc, "export", about, EXPORT_NOTES);
-    let frames = "Writes rows with a column for each value, for data frames";
-    let rows = [
-        argument("RECORDING", "The Chapter 11 file to export"),
-        required_file("out", "The file to write to"),
-        force(),
-        flag("frames", frames),
-    ];
-    with_selection(alloc, with_forms(alloc, with_rows(alloc, command, &rows)?)?)
+    let rows = extract_options("The Chapter 11 file to export", "The file to write to");
+    let (forms, selection) = (form_options(), selection_options());
+    command_of(
+        alloc,
+        "export",
+        about,
+        EXPORT_NOTES,
+        &[&rows, &forms, &selection],
+    )
 }
 
-/// A command with the options that say as what messages are exported, but for that of frames.
-fn with_forms<'a>(alloc: Global, command: Command<'a>) -> Result<Command<'a>, AllocError> {
-    let hex = value("hex", "PREFIX", "With --frames: puts 0x in front of words");
-    let hex = hex.arg(alloc).value_parser(["0x"].as_slice());
-    let command = with_option(command, hex.requires_arg("frames"))?;
+/// The options that say as what messages are exported.
+fn form_options<'a>() -> [Row<'a>; 4] {
+    let frames = "Writes rows with a column for each value, for data frames";
+    let hex = "With --frames: puts 0x in front of words";
     let time = "Writes the time of day behind each time stamp, by the recording's time packets";
-    let command = with_exclusive(alloc, command, flag("time", time), "vcd")?;
     let vcd = "Writes a value change dump, for waveform viewers";
-    with_exclusive(alloc, command, flag("vcd", vcd), "frames")
+    [
+        flag("frames", frames),
+        choice("hex", "PREFIX", &["0x"], hex).only_with("frames"),
+        flag("time", time).never_with(&["vcd"]),
+        flag("vcd", vcd).never_with(&["frames"]),
+    ]
 }
 
 /// What `bench export` is asked for.
 pub(crate) fn export_request<'a>(given: &ArgMatches<'a>) -> ExportRequest<'a> {
     ExportRequest {
-        recording: given.get_str("RECORDING").unwrap_or(""),
-        out: given.get_str("out").unwrap_or(""),
+        extract: Extract::given(given),
         exported: exported_in(given),
-        selection: given_selection(given),
-        force: given.get_flag("force"),
     }
 }
 
@@ -143,37 +150,32 @@ fn columns_in(given: &ArgMatches<'_>) -> Columns {
 /// what is there once it is whole; it may not be the recording itself. Where a selection has no message, nothing is
 /// written. A recording of more than 64 MiB is read packet by packet, and once more first where times of day are asked
 /// for.
-pub(crate) fn export_recording<'a, R: Files + AllocGlobal + Clock, E: Eprint + IsTerminal>(
+pub fn export_recording<'a, R: Files<File: Hold> + AllocGlobal + Clock, E: Eprint + IsTerminal>(
     rt: &R,
     errors: &E,
     request: &ExportRequest<'a>,
-) -> Result<(), Fault<'a>>
-where
-    R::File: Hold,
-{
-    let selection = selection_in(&request.selection)?;
-    let (out, kind) = (request.out, request.exported.kind());
-    told_apart(rt, &[out], &[request.recording])?;
-    replaceable(rt, out, kind, request.force)?;
-    if is_large(rt, request.recording) && is_replaced(rt, out) {
-        return export_large(rt, errors, request, &selection);
+) -> Result<(), Fault<'a>> {
+    let selection = request.extract.judge(rt, request.exported.kind())?;
+    let (recording, out) = (request.extract.recording, request.extract.out);
+    if is_large(rt, recording) && is_replaced(rt, out) {
+        let watch = Watch::begin(rt, errors, recording);
+        let written = write_watched(rt, request, &watch, &selection);
+        watch.end();
+        return written;
     }
-    let bytes = read_whole(rt, request.recording)?;
+    let bytes = read_whole(rt, recording)?;
     export_whole(rt, request, bytes.as_slice(), &selection)
 }
 
 /// Writes the messages of a recording that was read whole.
-fn export_whole<'a, R: Files + AllocGlobal>(
+fn export_whole<'a, R: Files<File: Hold> + AllocGlobal>(
     rt: &R,
     request: &ExportRequest<'a>,
     bytes: &[u8],
     selection: &Selection,
-) -> Result<(), Fault<'a>>
-where
-    R::File: Hold,
-{
-    let index = index_of(rt.alloc(), bytes)?;
-    if !request.selection.is_empty() && !selects_any(&index, selection) {
+) -> Result<(), Fault<'a>> {
+    let index = index_of(rt.alloc(), bytes, false)?;
+    if !request.extract.selection.is_empty() && !selects_any(&index, selection) {
         return Err(Fault::NoneSelected);
     }
     let clock = clock_if(rt.alloc(), bytes, &index, request.exported.is_timed())?;
@@ -181,41 +183,16 @@ where
 }
 
 /// Writes the messages of a recording that was read whole to the out file.
-fn write_whole<'a, R: Files + AllocGlobal>(
+fn write_whole<'a, R: Files<File: Hold> + AllocGlobal>(
     rt: &R,
     request: &ExportRequest<'a>,
     index: &Index<'_>,
     clock: &RecordingClock,
     selection: &Selection,
-) -> Result<(), Fault<'a>>
-where
-    R::File: Hold,
-{
-    let mut file = begin(rt, request.out, request.exported.kind(), request.force)?;
-    let answer = match writer_of(rt, request.out, &mut file) {
-        Ok(writer) => write_exported(rt.alloc(), index, clock, selection, request, writer),
-        Err(fault) => Err(fault),
-    };
-    end(rt, request.out, file, answer)
-}
-
-/// Gives the out file its place where all was written, and else leaves what is there.
-fn end<'a, R: Files + AllocGlobal>(
-    rt: &R,
-    out: &'a str,
-    file: OutFile<'a, R::File>,
-    answer: Result<(), Fault<'a>>,
-) -> Result<(), Fault<'a>>
-where
-    R::File: Hold,
-{
-    match answer {
-        Ok(()) => put_in_place(rt, out, file),
-        Err(fault) => {
-            file.give_up(rt);
-            Err(fault)
-        }
-    }
+) -> Result<(), Fault<'a>> {
+    let (file, writer) = request.begin(rt)?;
+    let written = write_exported(rt.alloc(), index, clock, selection, request, writer);
+    put_or_give_up(rt, request.extract.out, file, written)
 }
 
 /// Whether what is written to this name takes its place only once it is whole: a new file, or a plain one that is not
@@ -227,56 +204,24 @@ fn is_replaced<R: Files>(rt: &R, name: &str) -> bool {
     }
 }
 
-/// Writes the messages of a recording that is read packet by packet, while it is watched.
-fn export_large<'a, R: Files + AllocGlobal + Clock, E: Eprint + IsTerminal>(
-    rt: &R,
-    errors: &E,
-    request: &ExportRequest<'a>,
-    selection: &Selection,
-) -> Result<(), Fault<'a>>
-where
-    R::File: Hold,
-{
-    let watch = Watch::begin(rt, errors, request.recording);
-    let written = write_watched(rt, request, &watch, selection);
-    watch.end();
-    written
-}
-
 /// Writes the messages of a recording that is watched to the out file.
-fn write_watched<'a, R: Files + AllocGlobal + Clock, E: Eprint + IsTerminal>(
+fn write_watched<'a, R: Files<File: Hold> + AllocGlobal + Clock, E: Eprint + IsTerminal>(
     rt: &R,
     request: &ExportRequest<'a>,
     watch: &Watch<'_, R, E>,
     selection: &Selection,
-) -> Result<(), Fault<'a>>
-where
-    R::File: Hold,
-{
-    let input = open_watched(rt, request.recording, watch, true)?;
-    let clock = clock_of_large(
+) -> Result<(), Fault<'a>> {
+    let (recording, exported) = (request.extract.recording, request.exported);
+    let input = open_watched(rt, recording, watch, true)?;
+    let clock = clock_of_large(rt, recording, watch, false, exported.is_timed())?;
+    let (file, writer) = request.begin(rt)?;
+    let written = write_large(rt.alloc(), input, selection, exported, &clock, writer);
+    put_or_give_up(
         rt,
-        request.recording,
-        watch,
-        false,
-        request.exported.is_timed(),
-    )?;
-    let mut file = begin(rt, request.out, request.exported.kind(), request.force)?;
-    let answer = match writer_of(rt, request.out, &mut file) {
-        Ok(writer) => {
-            let written = write_large(
-                rt.alloc(),
-                input,
-                selection,
-                request.exported,
-                &clock,
-                writer,
-            );
-            some_written(request, written)
-        }
-        Err(fault) => Err(fault),
-    };
-    end(rt, request.out, file, answer)
+        request.extract.out,
+        file,
+        some_written(request, written),
+    )
 }
 
 /// Writes what is asked for of what a reader has left; answers whether any message was selected.
@@ -308,10 +253,13 @@ fn some_written<'a>(
     written: Result<bool, ExportFromFault>,
 ) -> Result<(), Fault<'a>> {
     match written {
-        Ok(selected) if selected || request.selection.is_empty() => Ok(()),
+        Ok(selected) if selected || request.extract.selection.is_empty() => Ok(()),
         Ok(_) => Err(Fault::NoneSelected),
-        Err(ExportFromFault::Reading(fault)) => Err(fault_of_reading(request.recording, fault)),
-        Err(ExportFromFault::Writing(fault)) => Err(fault_of_writing(request.out, fault)),
+        Err(ExportFromFault::Reading(fault)) => Err(fault_of_reading(
+            request.extract.recording,
+            fault,
+        )),
+        Err(ExportFromFault::Writing(fault)) => Err(fault_of_writing(request.extract.out, fault)),
     }
 }
 
@@ -362,7 +310,7 @@ fn write_exported<'a, W: Write + Drop>(
     };
     match written {
         Ok(()) => Ok(()),
-        Err(fault) => Err(fault_of_writing(request.out, fault)),
+        Err(fault) => Err(fault_of_writing(request.extract.out, fault)),
     }
 }
 

@@ -1,6 +1,9 @@
 //! `bench run --judge`: the rules of a run, read before it begins, and the verdicts on what it recorded.
 
-use crate::judging::{fault_of_printing, index_of, print_verdicts, verdict_on};
+use crate::hosts::System;
+use crate::judged::{Judged, Spelled};
+use crate::judging::{fault_of_printing, print_verdicts, verdict_on};
+use crate::looking::index_of;
 use crate::options::{Row, value};
 use bench_files::leads_to_output;
 use bench_judge::{PrintFault, Verdict, write_verdicts};
@@ -9,9 +12,9 @@ use ch11_reader::Index;
 use judge_rules::Rule;
 use std::alloc::Global;
 use std::fs;
-use std::io::{self, BufWriter, Write};
+use std::io::{self, BufWriter, IsTerminal, Write};
 use std::os::unix::fs::FileTypeExt;
-use std::rt::{Env, Files};
+use std::rt::Files;
 
 /// The rules of a run, and the text that spells them.
 #[derive(Drop)]
@@ -93,7 +96,7 @@ fn tell_verdicts<E: Eprint>(
 
 /// Judges what a run recorded, and prints the verdicts where its counts went. Where a rule is not held it ends with a
 /// fault of its own.
-pub(crate) fn judge_run<'a, R: Env + Files + AllocGlobal + Print, E: Eprint>(
+pub(crate) fn judge_run<'a, R: System, E: Eprint + IsTerminal>(
     rt: &R,
     errors: &E,
     request: &RunRequest<'a>,
@@ -108,7 +111,9 @@ pub(crate) fn judge_run<'a, R: Env + Files + AllocGlobal + Print, E: Eprint>(
             Err(fault) => return Err(fault_of_printing(fault)),
         }
     } else {
-        print_verdicts(rt, request.out, &index, given.text.as_slice(), rules)?
+        let judged: Judged<'_, R, E> = Judged::Whole(&index);
+        let text = given.text.as_slice();
+        print_verdicts(rt, request.out, &judged, Spelled { text, rules })?
     };
     verdict_on(verdicts.as_slice())
 }

@@ -1,24 +1,20 @@
 //! `bench judge`: whether a recording is what rules expect.
 
+use crate::hosts::System;
+use crate::judged::{Judged, Spelled};
 use crate::large::{Large, check_large, fault_of_reading};
-use crate::options::{argument, command_of, file, flag, force, optional, with_rows};
+use crate::looking::index_of;
+use crate::options::{argument, command_of, file, flag, force, optional};
+use crate::replacing::may_write;
 use crate::watching::{Watch, prints_to_terminal};
 use bench_files::{Hold, Kind};
-use bench_judge::{
-    PassFault, PrintFault, Verdict, judge, judge_from, junit_text, junit_text_from, not_held,
-    write_colored, write_colored_from, write_verdicts, write_verdicts_from,
-};
-use bench_requests::{
-    Fault, is_large, open_to_read, read_whole, replaceable, rules_of, told_apart, write_new,
-};
-use bench_watch::Reopen;
-use ch11_reader::{Index, ReadError};
+use bench_judge::{PassFault, PrintFault, Verdict, not_held};
+use bench_requests::{Fault, is_large, open_to_read, read_whole, rules_of, write_new};
 use clap::{ArgMatches, Command};
-use judge_rules::Rule;
 use std::alloc::{AllocError, Global};
 use std::env;
 use std::io::{self, BufWriter, IsTerminal};
-use std::rt::{Clock, Env, Files};
+use std::rt::{Env, Files};
 
 /// The rule by which a recording is judged where there is no file of rules.
 const STANDARD: &[u8] = b"expect any clean";
@@ -68,7 +64,7 @@ pub(crate) fn judge_command<'a>(alloc: Global) -> Result<Command<'a>, AllocError
         argument("RECORDING", "The Chapter 11 file to judge"),
         optional("RULES", "The rules to judge it by, as a text"),
     ];
-    with_rows(alloc, command_of(alloc, "judge", about, NOTES), &rows)
+    command_of(alloc, "judge", about, NOTES, &[&rows])
 }
 
 /// What `bench judge` is asked for.
@@ -85,18 +81,20 @@ pub(crate) fn judge_request<'a>(given: &ArgMatches<'a>) -> JudgeRequest<'a> {
 /// Judges a recording, whose faults come before those of the rules, and prints the verdicts. Where a rule is not held
 /// it ends with a fault of its own. The JUnit file, which may be none of the others, is written behind what is printed.
 /// A recording of more than 64 MiB is read packet by packet.
-pub fn judge_recording<'a, R: Env + Files + AllocGlobal + Print + Clock, E: Eprint + IsTerminal>(
+pub fn judge_recording<'a, R: System, E: Eprint + IsTerminal>(
     rt: &R,
     errors: &E,
     request: &JudgeRequest<'a>,
-) -> Result<(), Fault<'a>>
-where
-    R::File: Hold,
-{
+) -> Result<(), Fault<'a>> {
     if let Some(junit) = request.junit {
         let rules = request.rules.unwrap_or(request.recording);
-        told_apart(rt, &[junit], &[request.recording, rules])?;
-        replaceable(rt, junit, Kind::Verdicts, request.force)?;
+        may_write(
+            rt,
+            junit,
+            Kind::Verdicts,
+            request.force,
+            &[request.recording, rules],
+        )?;
     }
     if is_large(rt, request.recording) {
         return judge_large(rt, errors, request);
@@ -105,7 +103,16 @@ where
     let text = rules_text(rt, request)?;
     let index = index_of(rt.alloc(), bytes.as_slice(), request.skip)?;
     let rules = rules_of(rt.alloc(), text.as_slice())?;
-    judge_by(rt, request, &index, text.as_slice(), rules.as_slice())
+    let judged: Judged<'_, R, E> = Judged::Whole(&index);
+    judge_by(
+        rt,
+        request,
+        &judged,
+        Spelled {
+            text: text.as_slice(),
+            rules: rules.as_slice(),
+        },
+    )
 }
 
 /// The text of the rules.
@@ -120,14 +127,11 @@ fn rules_text<'a, R: Files + AllocGlobal>(
 }
 
 /// Judges a recording that is read packet by packet, while it is watched.
-fn judge_large<'a, R: Env + Files + AllocGlobal + Print + Clock, E: Eprint + IsTerminal>(
+fn judge_large<'a, R: System, E: Eprint + IsTerminal>(
     rt: &R,
     errors: &E,
     request: &JudgeRequest<'a>,
-) -> Result<(), Fault<'a>>
-where
-    R::File: Hold,
-{
+) -> Result<(), Fault<'a>> {
     drop(open_to_read(rt, request.recording)?);
     let text = rules_text(rt, request)?;
     let watch = Watch::begin(rt, errors, request.recording);
@@ -137,17 +141,24 @@ where
 }
 
 /// Judges a recording that is watched by the rules of this text. Its faults come before those of the rules.
-fn judge_watched<'a, R: Env + Files + AllocGlobal + Print + Clock, E: Eprint + IsTerminal>(
+fn judge_watched<'a, R: System, E: Eprint + IsTerminal>(
     rt: &R,
     request: &JudgeRequest<'a>,
     watch: &Watch<'_, R, E>,
     text: &[u8],
-) -> Result<(), Fault<'a>>
-where
-    R::File: Hold,
-{
+) -> Result<(), Fault<'a>> {
+    let large = Large {
+        rt,
+        name: request.recording,
+        watch,
+        skip: request.skip,
+        prints: true,
+    };
     match rules_of(rt.alloc(), text) {
-        Ok(rules) => judge_large_by(rt, request, watch, text, rules.as_slice()),
+        Ok(rules) => {
+            let rules = rules.as_slice();
+            judge_by(rt, request, &Judged::Large(&large), Spelled { text, rules })
+        }
         Err(fault) if request.skip => Err(fault),
         Err(fault) => {
             check_large(rt, request.recording, watch)?;
@@ -156,72 +167,56 @@ where
     }
 }
 
-/// Judges a recording that is watched by these rules, of which this is the text.
-fn judge_large_by<'a, R: Env + Files + AllocGlobal + Print + Clock, E: Eprint + IsTerminal>(
+/// Judges by these rules, prints the verdicts and writes the JUnit file.
+fn judge_by<'a, R: System, E: Eprint + IsTerminal>(
     rt: &R,
     request: &JudgeRequest<'a>,
-    watch: &Watch<'_, R, E>,
-    text: &[u8],
-    rules: &[Rule],
-) -> Result<(), Fault<'a>>
-where
-    R::File: Hold,
-{
-    let name = request.recording;
-    let large = Large {
-        rt,
-        name,
-        watch,
-        skip: request.skip,
-        prints: true,
-    };
-    let verdicts = match print_large(rt, &large, text, rules) {
-        Ok(verdicts) => verdicts,
-        Err(fault) => return Err(fault_of_pass(name, fault)),
-    };
+    judged: &Judged<'_, R, E>,
+    spelled: Spelled<'_>,
+) -> Result<(), Fault<'a>> {
+    let verdicts = print_verdicts(rt, request.recording, judged, spelled)?;
     if let Some(junit) = request.junit {
-        let made = junit_text_from(rt.alloc(), &large, text, rules, verdicts.as_slice());
+        let made = judged.junit_text(rt.alloc(), spelled, verdicts.as_slice());
         write_report(rt, request, junit, made)?;
     }
     verdict_on(verdicts.as_slice())
 }
 
-/// Judges a recording by these rules and prints the verdicts, for people where they go to a terminal.
-fn print_large<R: Env + Files + AllocGlobal + Print + Clock, E: Eprint + IsTerminal>(
+/// Judges the recording with this name by these rules and prints the verdicts.
+pub(crate) fn print_verdicts<'a, R: System, E: Eprint + IsTerminal>(
     rt: &R,
-    large: &Large<'_, R, E>,
-    text: &[u8],
-    rules: &[Rule],
+    name: &'a str,
+    judged: &Judged<'_, R, E>,
+    spelled: Spelled<'_>,
+) -> Result<Vec<Verdict>, Fault<'a>> {
+    match print_judged(rt, judged, spelled) {
+        Ok(verdicts) => Ok(verdicts),
+        Err(fault) => Err(fault_of_pass(name, fault)),
+    }
+}
+
+/// Prints the verdicts of these rules, for people where they go to a terminal.
+fn print_judged<R: System, E: Eprint + IsTerminal>(
+    rt: &R,
+    judged: &Judged<'_, R, E>,
+    spelled: Spelled<'_>,
 ) -> Result<Vec<Verdict>, PassFault> {
     let mut out = BufWriter::new(rt.alloc(), io::writer(rt))?;
     if !is_for_people(rt) {
-        return write_verdicts_from(rt.alloc(), large, rules, &mut out);
+        return judged.write_lines(rt.alloc(), spelled.rules, &mut out);
     }
-    let verdicts = match large.reopen() {
-        Ok(input) => judge_from(rt.alloc(), input, rules)?,
-        Err(error) => return Err(PassFault::Opening(error)),
-    };
-    write_colored_from(
-        rt.alloc(),
-        large,
-        text,
-        rules,
-        verdicts.as_slice(),
-        &mut out,
-    )?;
+    let verdicts = judged.verdicts(rt.alloc(), spelled.rules)?;
+    judged.write_colored(rt.alloc(), spelled, verdicts.as_slice(), &mut out)?;
     Ok(verdicts)
 }
 
 /// Writes the JUnit file if it could be made.
-fn write_report<'a, R: Files + AllocGlobal>(
+fn write_report<'a, R: Files<File: Hold> + AllocGlobal>(
     rt: &R,
     request: &JudgeRequest<'a>,
     junit: &'a str,
     made: Result<Vec<u8>, PassFault>,
-) -> Result<(), Fault<'a>>
-where
-    R::File: Hold,
-{
+) -> Result<(), Fault<'a>> {
     match made {
         Ok(report) => write_new(rt, junit, Kind::Verdicts, request.force, report.as_slice()),
         Err(fault) => Err(fault_of_pass(request.recording, fault)),
@@ -245,99 +240,12 @@ fn standard<'a>(alloc: Global) -> Result<Vec<u8>, Fault<'a>> {
     }
 }
 
-/// The packets of a recording, or why it is refused.
-pub(crate) fn index_of<'a, 'b>(
-    alloc: Global,
-    recording: &'b [u8],
-    skip: bool,
-) -> Result<Index<'b>, Fault<'a>> {
-    if skip {
-        return match Index::build_skipping(alloc, recording) {
-            Ok(found) => Ok(found.index),
-            Err(_) => Err(Fault::Memory),
-        };
-    }
-    match Index::build(alloc, recording) {
-        Ok(index) => Ok(index),
-        Err(ReadError::Refused(refusal)) => Err(Fault::Recording(refusal)),
-        Err(ReadError::Memory) => Err(Fault::Memory),
-    }
-}
-
-/// Judges by these rules, of which this is the text.
-fn judge_by<'a, R: Env + Files + AllocGlobal + Print>(
-    rt: &R,
-    request: &JudgeRequest<'a>,
-    index: &Index<'_>,
-    text: &[u8],
-    rules: &[Rule],
-) -> Result<(), Fault<'a>>
-where
-    R::File: Hold,
-{
-    let name = request.recording;
-    let verdicts = print_verdicts(rt, name, index, text, rules)?;
-    if let Some(junit) = request.junit {
-        let made = junit_text(rt.alloc(), index, text, rules, verdicts.as_slice());
-        write_report(rt, request, junit, made)?;
-    }
-    verdict_on(verdicts.as_slice())
-}
-
-/// Judges the recording with this name by the rules of this text and prints the verdicts, for people where they go to a
-/// terminal.
-pub(crate) fn print_verdicts<'a, R: Env + Files + AllocGlobal + Print>(
-    rt: &R,
-    name: &'a str,
-    index: &Index<'_>,
-    text: &[u8],
-    rules: &[Rule],
-) -> Result<Vec<Verdict>, Fault<'a>> {
-    let printed = if is_for_people(rt) {
-        print_for_people(rt, index, text, rules)
-    } else {
-        print_lines(rt, index, rules)
-    };
-    match printed {
-        Ok(verdicts) => Ok(verdicts),
-        Err(fault) => Err(fault_of_pass(name, fault)),
-    }
-}
-
 /// The fault of verdicts that were not printed to their end.
 pub(crate) fn fault_of_printing<'a>(fault: PrintFault) -> Fault<'a> {
     match fault {
         PrintFault::Memory => Fault::Memory,
         PrintFault::Device(error) => Fault::of_stream("-", &error),
     }
-}
-
-fn print_for_people<R: AllocGlobal + Print>(
-    rt: &R,
-    index: &Index<'_>,
-    text: &[u8],
-    rules: &[Rule],
-) -> Result<Vec<Verdict>, PassFault> {
-    let verdicts = judge(rt.alloc(), index, rules)?;
-    let mut out = BufWriter::new(rt.alloc(), io::writer(rt))?;
-    write_colored(
-        rt.alloc(),
-        index,
-        text,
-        rules,
-        verdicts.as_slice(),
-        &mut out,
-    )?;
-    Ok(verdicts)
-}
-
-fn print_lines<R: AllocGlobal + Print>(
-    rt: &R,
-    index: &Index<'_>,
-    rules: &[Rule],
-) -> Result<Vec<Verdict>, PassFault> {
-    let mut out = BufWriter::new(rt.alloc(), io::writer(rt))?;
-    Ok(write_verdicts(rt.alloc(), index, rules, &mut out)?)
 }
 
 /// The fault of a rule that is not held, where there is one.

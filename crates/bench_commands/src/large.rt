@@ -90,6 +90,17 @@ pub(crate) fn fault_of_reading<'a>(name: &'a str, fault: StreamFault) -> Fault<'
     }
 }
 
+/// What was made of a recording with this name, or the fault of one that could not be read to its end.
+pub(crate) fn answer_of_reading<'a, T>(
+    name: &'a str,
+    answer: Result<T, StreamFault>,
+) -> Result<T, Fault<'a>> {
+    match answer {
+        Ok(made) => Ok(made),
+        Err(fault) => Err(fault_of_reading(name, fault)),
+    }
+}
+
 /// The fault of a recording that was not printed to its end: the reader's, where that failed.
 pub(crate) fn fault_of_dump<'a>(name: &'a str, fault: DumpFault, failed: bool) -> Fault<'a> {
     match fault {
@@ -100,6 +111,18 @@ pub(crate) fn fault_of_dump<'a>(name: &'a str, fault: DumpFault, failed: bool) -
     }
 }
 
+/// What was printed of a recording that is watched, or why it was not printed to its end.
+pub(crate) fn answer_of_watched<'a, R: Files + Clock, E: Eprint + IsTerminal, T>(
+    name: &'a str,
+    watch: &Watch<'_, R, E>,
+    printed: Result<T, DumpFault>,
+) -> Result<T, Fault<'a>> {
+    match printed {
+        Ok(answer) => Ok(answer),
+        Err(fault) => Err(fault_of_dump(name, fault, watch.has_failed())),
+    }
+}
+
 /// Whether a recording can be read to its end, or its first fault.
 pub(crate) fn check_large<'a, R: Files + AllocGlobal + Clock, E: Eprint + IsTerminal>(
     rt: &R,
@@ -107,10 +130,7 @@ pub(crate) fn check_large<'a, R: Files + AllocGlobal + Clock, E: Eprint + IsTerm
     watch: &Watch<'_, R, E>,
 ) -> Result<(), Fault<'a>> {
     let file = open_watched(rt, name, watch, true)?;
-    match check_from(rt.alloc(), file) {
-        Ok(()) => Ok(()),
-        Err(fault) => Err(fault_of_reading(name, fault)),
-    }
+    answer_of_reading(name, check_from(rt.alloc(), file))
 }
 
 /// The clock of a recording, or with `skip` of what is sound of it, in a pass of its own where times of day are asked
@@ -126,10 +146,8 @@ pub(crate) fn clock_of_large<'a, R: Files + AllocGlobal + Clock, E: Eprint + IsT
         return Ok(RecordingClock::of(rt.alloc(), &[], &[])?);
     }
     let file = open_watched(rt, name, watch, true)?;
-    match clock_from(rt.alloc(), Pass::over(rt.alloc(), file, skip)?) {
-        Ok(clock) => Ok(clock),
-        Err(fault) => Err(fault_of_reading(name, fault)),
-    }
+    let pass = Pass::over(rt.alloc(), file, skip)?;
+    answer_of_reading(name, clock_from(rt.alloc(), pass))
 }
 
 /// Prints a recording in two passes over it, with times of day where they are asked for: nothing where the first
@@ -143,7 +161,10 @@ pub(crate) fn dump_large<'a, R: Files + AllocGlobal + Print + Clock, E: Eprint +
 ) -> Result<(), Fault<'a>> {
     let watch = Watch::begin(rt, errors, name);
     let printed = if skip {
-        dump_sound_watched(rt, name, &watch, times)
+        match clock_of_large(rt, name, &watch, true, times) {
+            Ok(clock) => dump_sound_watched(rt, name, &watch, &clock),
+            Err(fault) => Err(fault),
+        }
     } else {
         dump_watched(rt, name, &watch, times)
     };
@@ -169,26 +190,20 @@ fn dump_watched<'a, R: Files + AllocGlobal + Print + Clock, E: Eprint + IsTermin
     } else {
         dump_in_two_passes(rt.alloc(), first, second, &mut out)
     };
-    match printed {
-        Ok(()) => Ok(()),
-        Err(fault) => Err(fault_of_dump(name, fault, watch.has_failed())),
-    }
+    answer_of_watched(name, watch, printed)
 }
 
-/// Prints what is sound of a recording, while it is watched.
+/// Prints what is sound of a recording that is watched, with the times of day of this clock.
 fn dump_sound_watched<'a, R: Files + AllocGlobal + Print + Clock, E: Eprint + IsTerminal>(
     rt: &R,
     name: &'a str,
     watch: &Watch<'_, R, E>,
-    times: bool,
+    clock: &RecordingClock,
 ) -> Result<(), Fault<'a>> {
-    let clock = clock_of_large(rt, name, watch, true, times)?;
     let file = open_watched(rt, name, watch, !prints_to_terminal(rt))?;
     let mut out = io::writer(rt);
-    match dump_skipping_from(rt.alloc(), file, &clock, &mut out) {
-        Ok(()) => Ok(()),
-        Err(fault) => Err(fault_of_dump(name, fault, watch.has_failed())),
-    }
+    let printed = dump_skipping_from(rt.alloc(), file, clock, &mut out);
+    answer_of_watched(name, watch, printed)
 }
 
 /// Says on a terminal that messages are missing from a recording, where its packets say so: one more pass.

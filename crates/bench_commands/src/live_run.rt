@@ -4,7 +4,7 @@ ghost use Rattle.std.specs.Prelude.{◌-◌, ◌<◌, ◌^◌};
 
 use crate::hosts::{Errors, Host};
 use crate::judging::is_for_people;
-use crate::options::{flag, value, with_rows};
+use crate::options::{Row, flag, value};
 use bench_core::Settings;
 use bench_decode::Shown;
 use bench_files::leads_to_output;
@@ -14,9 +14,9 @@ use bench_requests::{Fault, RunRequest};
 use bench_run::{LiveError, RunError};
 use bench_run_command::{record_jobs_held, record_jobs_with_progress};
 use ch11_writer::Sink;
-use clap::{ArgMatches, Command};
+use clap::ArgMatches;
 use job_file::Job;
-use std::alloc::{AllocError, Global};
+use std::alloc::AllocError;
 use std::io::BufReader;
 use std::rt::Files;
 use std::sync::Arc;
@@ -42,28 +42,26 @@ pub(crate) struct Way {
 
 /// A run that may begin: its jobs and settings, which were judged, and how it goes on.
 #[derive(Clone, Copy)]
-pub(crate) struct Run<'r> {
+pub(crate) struct Run<'r, 's> {
     pub(crate) jobs: &'r [Job],
     pub(crate) settings: &'r Settings,
     pub(crate) way: Way,
+    /// What shows its messages, where they are shown.
+    pub(crate) show: Option<&'s Show>,
 }
 
 /// The options of a run that say how it goes on.
-pub(crate) fn with_going<'a>(
-    alloc: Global,
-    command: Command<'a>,
-) -> Result<Command<'a>, AllocError> {
+pub(crate) fn going_options<'a>() -> [Row<'a>; 3] {
     let live =
         "Posts what lines `CHANNEL ADDRESS ACTION` of the standard input ask of terminals while the run goes on";
     let pace =
         "Bus time runs at N times real time, 0.1 to 1000; without it as fast as it goes, and with --live at 1";
     let show = "Prints each message as it is recorded, a line as dump --decode has it";
-    let rows = [
+    [
         flag("live", live),
         value("pace", "N", pace),
         flag("show", show),
-    ];
-    with_rows(alloc, command, &rows)
+    ]
 }
 
 /// How a run goes on by the words of the command line.
@@ -144,13 +142,11 @@ pub(crate) fn end_showing<R: Threads, E: Eprint>(rt: &R, errors: &E, showing: Op
     }
 }
 
-/// The report of a recording that is whole, and its sink: of a run whose messages are shown where there is something
-/// that shows them.
+/// The report of a recording that is whole, and its sink.
 pub(crate) fn record<R: Host, E: Errors, S: Sink + Drop>(
     rt: &R,
     errors: &E,
-    run: Run<'_>,
-    show: Option<&Show>,
+    run: Run<'_, '_>,
     sink: S,
 ) -> Result<(Report, S), RunError<S>>
 where
@@ -158,9 +154,9 @@ where
     requires countable { S.failures sink < 2 ^ 64 - 1 }
 {
     if run.way.live {
-        return record_beside(rt, errors, run, show, sink);
+        return record_beside(rt, errors, run, sink);
     }
-    let (jobs, settings, manner) = (run.jobs, run.settings, run.way.manner);
+    let (jobs, settings, manner, show) = (run.jobs, run.settings, run.way.manner, run.show);
     if manner.pace.is_some() || show.is_some() {
         return record_paced(rt, rt.alloc(), errors, jobs, settings, manner, show, sink);
     }
@@ -176,8 +172,7 @@ where
 fn record_beside<R: Host, E: Errors, S: Sink + Drop>(
     rt: &R,
     errors: &E,
-    run: Run<'_>,
-    show: Option<&Show>,
+    run: Run<'_, '_>,
     sink: S,
 ) -> Result<(Report, S), RunError<S>>
 where
@@ -185,7 +180,7 @@ where
     requires countable { S.failures sink < 2 ^ 64 - 1 }
 {
     let alloc = rt.alloc();
-    let (jobs, settings, manner) = (run.jobs, run.settings, run.way.manner);
+    let (jobs, settings, manner, show) = (run.jobs, run.settings, run.way.manner, run.show);
     let Ok((desk, hands, inboxes)) = open_desk(alloc, jobs) else {
         return Err(RunError::Memory { sink });
     };

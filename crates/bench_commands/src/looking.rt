@@ -32,8 +32,18 @@ pub(crate) fn is_lossy<R: AllocGlobal>(rt: &R, bytes: &[u8]) -> bool {
     }
 }
 
-/// The packets of a recording, or why it is refused.
-pub(crate) fn index_of<'a, 'b>(alloc: Global, recording: &'b [u8]) -> Result<Index<'b>, Fault<'a>> {
+/// The packets of a recording, or why it is refused; with `skip` whatever is sound of it.
+pub(crate) fn index_of<'a, 'b>(
+    alloc: Global,
+    recording: &'b [u8],
+    skip: bool,
+) -> Result<Index<'b>, Fault<'a>> {
+    if skip {
+        return match Index::build_skipping(alloc, recording) {
+            Ok(found) => Ok(found.index),
+            Err(_) => Err(Fault::Memory),
+        };
+    }
     match Index::build(alloc, recording) {
         Ok(index) => Ok(index),
         Err(ReadError::Refused(refusal)) => Err(Fault::Recording(refusal)),

@@ -1,9 +1,9 @@
 //! The command line of the commands for people who look: `bench draw` and `bench explain`.
 
-use crate::command_line::DrawRequest;
-use crate::options::{argument, arguments, command_of, force, required_file, with_rows};
-use crate::selecting::{given_selection, with_selection};
-use clap::{ArgMatches, Command};
+use crate::extracting::extract_options;
+use crate::options::{arguments, command_of};
+use crate::selecting::selection_options;
+use clap::Command;
 use std::alloc::{AllocError, Global};
 
 /// What the help of `bench draw` ends with.
@@ -22,23 +22,10 @@ Example:
 /// The command line of `bench draw`.
 pub(crate) fn draw_command<'a>(alloc: Global) -> Result<Command<'a>, AllocError> {
     let about = "Draws the messages of a recording over time, as a picture for a browser";
-    let rows = [
-        argument("RECORDING", "The Chapter 11 file to draw"),
-        required_file("out", "The file to write the picture to, as SVG"),
-        force(),
-    ];
-    let command = with_rows(alloc, command_of(alloc, "draw", about, DRAW_NOTES), &rows)?;
-    with_selection(alloc, command)
-}
-
-/// What `bench draw` is asked for.
-pub(crate) fn draw_request<'a>(given: &ArgMatches<'a>) -> DrawRequest<'a> {
-    DrawRequest {
-        recording: given.get_str("RECORDING").unwrap_or(""),
-        out: given.get_str("out").unwrap_or(""),
-        selection: given_selection(given),
-        force: given.get_flag("force"),
-    }
+    let out = "The file to write the picture to, as SVG";
+    let rows = extract_options("The Chapter 11 file to draw", out);
+    let selection = selection_options();
+    command_of(alloc, "draw", about, DRAW_NOTES, &[&rows, &selection])
 }
 
 /// The command line of `bench explain`.
@@ -46,16 +33,6 @@ pub(crate) fn explain_command<'a>(alloc: Global) -> Result<Command<'a>, AllocErr
     let about = "Says what a fault means, and what to do";
     let notes = "Examples:\n  bench explain S7\n  bench explain s4 m1";
     let codes = "The code to explain, as S7 or s7, or several; all codes where there is none";
-    let command = command_of(alloc, "explain", about, notes);
-    with_rows(alloc, command, &[arguments("CODE", codes)])
-}
-
-/// The codes that are to be explained, as they were given.
-pub(crate) fn explain_request<'a>(
-    alloc: Global,
-    given: &ArgMatches<'a>,
-) -> Result<Vec<&'a str>, AllocError> {
-    let mut codes = Vec::new(alloc);
-    codes.extend_from_slice(given.get_strs("CODE").unwrap_or(&[]))?;
-    Ok(codes)
+    let rows = [arguments("CODE", codes)];
+    command_of(alloc, "explain", about, notes, &[&rows])
 }

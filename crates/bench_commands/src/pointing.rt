@@ -184,39 +184,30 @@ fn job_lines<R: AllocGlobal>(
     text: &[u8],
     error: &JobError,
 ) -> Result<Option<String>, AllocError> {
-    match recording_in_place(rt, name, text)? {
-        Some(lines) => Ok(Some(lines)),
-        None => job_text_lines(rt, name, text, error),
+    if let Some(lines) = recording_in_place(rt, name, text)? {
+        return Ok(Some(lines));
     }
-}
-
-/// Why a job's text is refused, as lines: its reason, or its line `script` with what the code means.
-fn job_text_lines<R: AllocGlobal>(
-    rt: &R,
-    name: &str,
-    text: &[u8],
-    error: &JobError,
-) -> Result<Option<String>, AllocError> {
     match error {
         JobError::Assembly { line, .. } | JobError::Loading { line, .. } => {
-            let mut out = line_shown(rt, name, text, *line)?;
-            put_meaning(&mut out, format!(in rt.alloc(); "{error}")?.as_str())?;
-            Ok(Some(out))
+            let fault = format!(in rt.alloc(); "{error}")?;
+            line_lines(rt, name, text, *line, fault.as_str())
         }
         _ => told(rt, name, text, reason_of_job(rt.alloc(), text, error)?),
     }
 }
 
-/// A line of a text, marked where it begins.
-fn line_shown<R: AllocGlobal>(
+/// A line of a text, marked where it begins, and what the last code in a fault's text means.
+fn line_lines<R: AllocGlobal>(
     rt: &R,
     name: &str,
     text: &[u8],
     line: u64,
-) -> Result<String, AllocError> {
+    fault: &str,
+) -> Result<Option<String>, AllocError> {
     let mut out = String::new(rt.alloc());
     put_place(&mut out, name, text, Place { line, column: 1 }, 1)?;
-    Ok(out)
+    put_meaning(&mut out, fault)?;
+    Ok(Some(out))
 }
 
 /// The line of a report or of rules that is refused, and what that means.
@@ -229,9 +220,8 @@ fn line_at_fault<R: Files + AllocGlobal>(
     let Ok(text) = read_whole(rt, name) else {
         return Ok(None);
     };
-    let mut out = line_shown(rt, name, &text, line)?;
-    put_meaning(&mut out, format!(in rt.alloc(); "{fault}")?.as_str())?;
-    Ok(Some(out))
+    let fault = format!(in rt.alloc(); "{fault}")?;
+    line_lines(rt, name, text.as_slice(), line, fault.as_str())
 }
 
 /// What a fault's code means, as lines.

@@ -5,6 +5,7 @@ use crate::completing::setup_text;
 use crate::hosts::{Errors, Host};
 use crate::judged_run::{judge_run, rules_of_run};
 use crate::live_run::{Going, Run, begin_showing, end_showing, record, way_of, with_posts};
+use crate::streams::on_stream;
 use bench_complete::Additions;
 use bench_core::judge;
 use bench_files::Hold;
@@ -64,6 +65,7 @@ where
         jobs: &jobs,
         settings: &settings,
         way,
+        show: None,
     };
     record_and_tell(rt, errors, request, going, run, additions, files)?;
     match rules {
@@ -79,7 +81,7 @@ fn record_and_tell<'a, R: Host, E: Errors>(
     errors: &E,
     request: &RunRequest<'a>,
     going: &Going<'a>,
-    run: Run<'_>,
+    run: Run<'_, '_>,
     additions: Option<Additions<'_>>,
     files: RunFiles<'a, R::File>,
 ) -> Result<(), Fault<'a>>
@@ -87,33 +89,25 @@ where
     R::Reader: 'static,
 {
     let is_output = files.are_output();
-    let report = record_shown(rt, errors, request, going, run, additions, files)?;
-    tell(rt, errors, is_output, &report)
-}
-
-/// Records a run into files that were begun, and shows its messages where that is asked for. The report is answered.
-fn record_shown<'a, R: Host, E: Errors>(
-    rt: &R,
-    errors: &E,
-    request: &RunRequest<'a>,
-    going: &Going<'a>,
-    run: Run<'_>,
-    additions: Option<Additions<'_>>,
-    files: RunFiles<'a, R::File>,
-) -> Result<Report, Fault<'a>>
-where
-    R::Reader: 'static,
-{
     let Ok(showing) = begin_showing(rt, going) else {
         return Err(ended(rt, files, Ending::Broken, Fault::Memory));
     };
     let show = show_of(&showing);
+    let run = Run {
+        jobs: run.jobs,
+        settings: run.settings,
+        way: run.way,
+        show,
+    };
     let recorded = match additions {
-        None => record_into(rt, errors, run, show, files),
-        Some(additions) => record_completed(rt, errors, request, run, show, &additions, files),
+        None => record_into(rt, errors, run, files),
+        Some(additions) => record_completed(rt, errors, request, run, &additions, files),
     };
     end_showing(rt, errors, showing);
-    recorded
+    match recorded {
+        Ok(report) => tell(rt, errors, is_output, &report),
+        Err(fault) => Err(fault),
+    }
 }
 
 /// What shows messages, where there is something that does.
@@ -125,15 +119,12 @@ fn show_of(showing: &Option<Showing>) -> Option<&Show> {
 }
 
 /// Ends a run that gave no recording. Its fault is answered, or that of its files where they could not be ended.
-pub(crate) fn ended<'a, R: Files>(
+pub(crate) fn ended<'a, R: Files<File: Hold>>(
     rt: &R,
     files: RunFiles<'a, R::File>,
     ending: Ending,
     fault: Fault<'a>,
-) -> Fault<'a>
-where
-    R::File: Hold,
-{
+) -> Fault<'a> {
     match files.end(rt, ending) {
         Ok(()) => fault,
         Err(other) => other,
@@ -144,8 +135,7 @@ where
 fn record_into<'a, R: Host, E: Errors>(
     rt: &R,
     errors: &E,
-    run: Run<'_>,
-    show: Option<&Show>,
+    run: Run<'_, '_>,
     files: RunFiles<'a, R::File>,
 ) -> Result<Report, Fault<'a>>
 where
@@ -153,7 +143,7 @@ where
 {
     let mut files = files;
     match files.recording(rt) {
-        Ok(file) => match record_to(rt, errors, run, show, file) {
+        Ok(file) => match record_to(rt, errors, run, file) {
             Ok(report) => finish(rt, files, report),
             Err((fault, ending)) => Err(ended(rt, files, ending, fault)),
         },
@@ -166,28 +156,24 @@ where
 fn record_to<'a, R: Host, E: Errors>(
     rt: &R,
     errors: &E,
-    run: Run<'_>,
-    show: Option<&Show>,
+    run: Run<'_, '_>,
     file: R::File,
 ) -> Result<Report, (Fault<'a>, Ending)>
 where
     R::Reader: 'static,
 {
-    match record(rt, errors, run, show, StdSink::make(file)) {
+    match record(rt, errors, run, StdSink::make(file)) {
         Ok((report, _)) => Ok(report),
         Err(error) => Err((Fault::of_run(&error), ending_of_run(&error))),
     }
 }
 
 /// Writes the report of a recording that is whole, and gives both their places. The report is answered.
-pub(crate) fn finish<'a, R: Files + AllocGlobal>(
+pub(crate) fn finish<'a, R: Files<File: Hold> + AllocGlobal>(
     rt: &R,
     files: RunFiles<'a, R::File>,
     report: Report,
-) -> Result<Report, Fault<'a>>
-where
-    R::File: Hold,
-{
+) -> Result<Report, Fault<'a>> {
     files.finish(rt, &report)?;
     Ok(report)
 }
@@ -203,8 +189,8 @@ fn tell<'a, R: AllocGlobal + Print, E: Eprint>(
     let counts = Counts::of_report(report);
     if is_output {
         let _ = eprintln!(errors; "{counts}");
-    } else if let Err(error) = print_counts_to_output(rt, &counts) {
-        return Err(Fault::of_stream("-", &error));
+    } else {
+        on_stream("-", print_counts_to_output(rt, &counts))?;
     }
     let text = refusals(rt.alloc(), report)?;
     if !text.is_empty() {

@@ -1,13 +1,11 @@
 //! The command line of `bench run`.
 
-use crate::completed_run::with_completing;
+use crate::completed_run::completing_options;
 use crate::judged_run::judge_option;
-use crate::live_run::with_going;
-use crate::options::{
-    arguments, command_of, file, flag, force, required_file, version, with_exclusive, with_rows,
-};
+use crate::live_run::going_options;
+use crate::options::{Row, command_of, file, flag, force, jobs, number, version, words_in};
 use bench_requests::RunRequest;
-use clap::{Arg, ArgMatches, Command, value_parser};
+use clap::{ArgMatches, Command};
 use std::alloc::{AllocError, Global};
 
 /// What the help of `bench run` ends with.
@@ -43,59 +41,42 @@ Example:
 /// `bench run` as its command line has it: its files, settings and ways to go, and its help.
 pub(crate) fn run_command<'a>(alloc: Global) -> Result<Command<'a>, AllocError> {
     let about = "Runs jobs, each on a thread of its own, and records them all into one file";
-    let command = command_of(alloc, "run", about, RUN_NOTES).disable_version_flag(true);
-    let command = with_files(alloc, with_going(alloc, with_settings(alloc, command)?)?)?;
-    let jobs = "The job of a channel, as a text; 1 to 32 of them, each of another channel";
-    with_rows(
-        alloc,
-        with_completing(alloc, command)?,
-        &[arguments("JOB", jobs)],
-    )
+    let (settings, going) = (setting_options(), going_options());
+    let (files, completing) = (file_options(), completing_options());
+    let arguments = [jobs()];
+    let tables: &[&[Row<'a>]] = &[&settings, &going, &files, &completing, &arguments];
+    Ok(command_of(alloc, "run", about, RUN_NOTES, tables)?.disable_version_flag(true))
 }
 
 /// The settings of a run.
-fn with_settings<'a>(alloc: Global, command: Command<'a>) -> Result<Command<'a>, AllocError> {
-    let command = with_numbers(alloc, command)?;
-    let hold =
-        "Buses wait while the queue is full, so that no message is refused: so it is without this option too";
-    let command = with_exclusive(alloc, command, flag("hold", hold), "drop")?;
-    let drop =
-        "Buses never wait: a message that finds the queue full is refused, and is missing from the recording";
-    with_rows(alloc, command, &[flag("drop", drop)])
-}
-
-/// The settings of a run that are numbers.
-fn with_numbers<'a>(alloc: Global, command: Command<'a>) -> Result<Command<'a>, AllocError> {
+fn setting_options<'a>() -> [Row<'a>; 5] {
     let limit = "How many bytes a packet has at most, 256 to 524288";
     let queue = "How many messages may wait in the queue at most, 1 to 4096";
-    let command = command.arg(version(alloc).default_value("6"))?;
-    let command = command.arg(setting(alloc, "limit", limit).default_value("65536"))?;
-    command.arg(setting(alloc, "queue", queue).default_value("4096"))
+    let hold =
+        "Buses wait while the queue is full, so that no message is refused: so it is without this option too";
+    let drop =
+        "Buses never wait: a message that finds the queue full is refused, and is missing from the recording";
+    [
+        version().or("6"),
+        number("limit", limit).or("65536"),
+        number("queue", queue).or("4096"),
+        flag("hold", hold).never_with(&["drop"]),
+        flag("drop", drop),
+    ]
 }
 
 /// The files of a run but its jobs.
-fn with_files<'a>(alloc: Global, command: Command<'a>) -> Result<Command<'a>, AllocError> {
+fn file_options<'a>() -> [Row<'a>; 5] {
     let prologue =
         "Packets to put in front of all others, such as a setup record (TMATS); none of MIL-STD-1553 messages";
     let report = "The file to write the report to; it is written only where the recording is whole";
-    let rows = [
+    [
         file("prologue", prologue),
         judge_option(),
-        required_file("out", "The file to write the recording to"),
-        required_file("report", report),
+        file("out", "The file to write the recording to").required(),
+        file("report", report).required(),
         force(),
-    ];
-    with_rows(alloc, command, &rows)
-}
-
-/// An option whose number the command judges.
-fn setting<'a>(alloc: Global, name: &'a str, help: &'a str) -> Arg<'a> {
-    Arg::new(alloc, name)
-        .long(name)
-        .value_name("N")
-        .value_parser(value_parser!(u32).range(0..=4_294_967_295))
-        .allow_negative_numbers(true)
-        .help(help)
+    ]
 }
 
 /// The jobs of a run, and how they are recorded.
@@ -103,8 +84,6 @@ pub(crate) fn run_request<'a>(
     alloc: Global,
     given: &ArgMatches<'a>,
 ) -> Result<RunRequest<'a>, AllocError> {
-    let mut jobs = Vec::new(alloc);
-    jobs.extend_from_slice(given.get_strs("JOB").unwrap_or(&[]))?;
     Ok(RunRequest {
         version: given.get_one::<u8>("version").unwrap_or(6),
         limit: given.get_one::<u32>("limit").unwrap_or(65536),
@@ -115,6 +94,6 @@ pub(crate) fn run_request<'a>(
         judge: given.get_str("judge"),
         out: given.get_str("out").unwrap_or(""),
         report: given.get_str("report").unwrap_or(""),
-        jobs,
+        jobs: words_in(alloc, given, "JOB")?,
     })
 }

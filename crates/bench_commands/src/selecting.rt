@@ -1,11 +1,10 @@
 //! The options that choose messages of a recording, for all commands that look at one.
 
-use crate::options::{flag, signed, with_rows};
+use crate::options::{Row, channel, choice, flag, signed};
 use bench_requests::Fault;
 use bench_select::{Bound, Bus, Selection, Selector, read_bound};
-use clap::{Arg, ArgMatches, Command, value_parser};
+use clap::ArgMatches;
 use judge_rules::{RuleFault, selector_of};
-use std::alloc::{AllocError, Global};
 
 /// What a command line says of a selection.
 #[derive(Clone, Copy, Debug)]
@@ -30,16 +29,20 @@ impl GivenSelection<'_> {
     }
 }
 
-/// A command with the options that choose messages.
-pub(crate) fn with_selection<'a>(
-    alloc: Global,
-    command: Command<'a>,
-) -> Result<Command<'a>, AllocError> {
+/// The options that choose messages.
+pub(crate) fn selection_options<'a>() -> [Row<'a>; 6] {
     let only =
         "Only these messages, in the words of rules, as \"tx 5 3\", \"rt * * 7 *\" or \"mode * 2\"";
     let from =
         "No message before this one: its number in the file, or a time, as 1.2s, 350ms or 12us";
-    let rows = [
+    [
+        channel("channel", "Only messages of this channel, 1 to 65535"),
+        choice(
+            "line",
+            "LINE",
+            &["A", "B"],
+            "Only messages on this line (bus)",
+        ),
         signed("only", "SELECTOR", only),
         flag("errors", "Only messages with an error"),
         signed("from", "BOUND", from),
@@ -48,26 +51,7 @@ pub(crate) fn with_selection<'a>(
             "BOUND",
             "No message behind this one, or behind this time",
         ),
-    ];
-    let command = command.arg(channel(alloc))?;
-    with_rows(alloc, command.arg(line(alloc))?, &rows)
-}
-
-fn channel<'a>(alloc: Global) -> Arg<'a> {
-    Arg::new(alloc, "channel")
-        .long("channel")
-        .value_name("N")
-        .value_parser(value_parser!(u16).range(1..=65535))
-        .allow_negative_numbers(true)
-        .help("Only messages of this channel, 1 to 65535")
-}
-
-fn line<'a>(alloc: Global) -> Arg<'a> {
-    Arg::new(alloc, "line")
-        .long("line")
-        .value_name("LINE")
-        .value_parser(["A", "B"].as_slice())
-        .help("Only messages on this line (bus)")
+    ]
 }
 
 /// What a command line says of a selection.

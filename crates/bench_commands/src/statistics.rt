@@ -1,8 +1,10 @@
 //! `bench stat`: the figures of a recording.
 
-use crate::large::{clock_of_large, fault_of_reading, tell_of_large_loss};
+use crate::large::{answer_of_reading, clock_of_large, tell_of_large_loss};
 use crate::looking::{clock_if, index_of, tell_of_loss};
-use crate::selecting::{GivenSelection, given_selection, selection_in, with_selection};
+use crate::options::{argument, choice, command_of, flag};
+use crate::selecting::{GivenSelection, given_selection, selection_in, selection_options};
+use crate::streams::on_stream;
 use crate::watching::{Watch, open_watched};
 use bench_clock::Clock as RecordingClock;
 use bench_requests::{Fault, is_large, read_whole};
@@ -12,7 +14,7 @@ use bench_stat::{
     stat_from, told_from,
 };
 use ch11_reader::Index;
-use clap::{Arg, ArgAction, ArgMatches, Command};
+use clap::{ArgMatches, Command};
 use std::alloc::{AllocError, Global};
 use std::io;
 use std::io::{BufWriter, IsTerminal, Write};
@@ -48,43 +50,26 @@ Example:
 
 /// The command line of `bench stat`.
 pub(crate) fn stat_command<'a>(alloc: Global) -> Result<Command<'a>, AllocError> {
-    let recording = Arg::new(alloc, "RECORDING")
-        .required(true)
-        .help("The Chapter 11 file to count in");
-    let by = Arg::new(alloc, "by")
-        .long("by")
-        .value_name("WHAT")
-        .value_parser(["terminal", "subaddress"].as_slice())
-        .help("One row a terminal, or one a terminal, direction and subaddress");
-    let command = Command::new(alloc, "stat")
-        .about("Shows bus load, errors, retries and response times of a recording")
-        .after_help(STAT_NOTES)
-        .arg(shows(alloc, "csv", "One row of comma-separated values a terminal"))?
-        .arg(shows(
-            alloc,
-            "long",
-            "Shows messages that are missing, rates, gaps and status bits too",
-        ))?
-        .arg(by)?
-        .arg(shows(
-            alloc,
-            "load",
-            "Shows the bus load over time, in twenty slices",
-        ))?
-        .arg(shows(
-            alloc,
-            "time",
-            "Shows the times of day of each channel's first and last message",
-        ))?;
-    with_selection(alloc, command)?.arg(recording)
-}
-
-/// An option that shows something.
-fn shows<'a>(alloc: Global, name: &'a str, help: &'a str) -> Arg<'a> {
-    Arg::new(alloc, name)
-        .long(name)
-        .action(ArgAction::SetTrue)
-        .help(help)
+    let about = "Shows bus load, errors, retries and response times of a recording";
+    let long = "Shows messages that are missing, rates, gaps and status bits too";
+    let by = "One row a terminal, or one a terminal, direction and subaddress";
+    let time = "Shows the times of day of each channel's first and last message";
+    let rows = [
+        flag("csv", "One row of comma-separated values a terminal"),
+        flag("long", long),
+        choice("by", "WHAT", &["terminal", "subaddress"], by),
+        flag("load", "Shows the bus load over time, in twenty slices"),
+        flag("time", time),
+    ];
+    let arguments = [argument("RECORDING", "The Chapter 11 file to count in")];
+    let selection = selection_options();
+    command_of(
+        alloc,
+        "stat",
+        about,
+        STAT_NOTES,
+        &[&rows, &selection, &arguments],
+    )
 }
 
 /// What `bench stat` is asked for.
@@ -115,7 +100,7 @@ pub fn show_statistics<'a, R: Files + AllocGlobal + Print + Clock, E: Eprint + I
         return show_large(rt, errors, request, &selection);
     }
     let bytes = read_whole(rt, request.recording)?;
-    let index = index_of(rt.alloc(), bytes.as_slice())?;
+    let index = index_of(rt.alloc(), bytes.as_slice(), false)?;
     let figures = match stat(rt.alloc(), &index, &selection) {
         Ok(figures) => figures,
         Err(_) => return Err(Fault::Memory),
@@ -185,10 +170,8 @@ fn told_watched<'a, R: Files + AllocGlobal + Clock, E: Eprint + IsTerminal>(
         return Ok(ToldChannels::new(rt.alloc()));
     }
     let file = open_watched(rt, request.recording, watch, true)?;
-    match told_from(rt.alloc(), file, selection, figures, &request.shown) {
-        Ok(told) => Ok(told),
-        Err(fault) => Err(fault_of_reading(request.recording, fault)),
-    }
+    let told = told_from(rt.alloc(), file, selection, figures, &request.shown);
+    answer_of_reading(request.recording, told)
 }
 
 /// The figures of a recording that is watched.
@@ -199,10 +182,7 @@ fn figures_watched<'a, R: Files + AllocGlobal + Clock, E: Eprint + IsTerminal>(
     selection: &Selection,
 ) -> Result<Vec<ChannelFigures>, Fault<'a>> {
     let file = open_watched(rt, name, watch, true)?;
-    match stat_from(rt.alloc(), file, selection) {
-        Ok(figures) => Ok(figures),
-        Err(fault) => Err(fault_of_reading(name, fault)),
-    }
+    answer_of_reading(name, stat_from(rt.alloc(), file, selection))
 }
 
 /// Whether no message was counted.
@@ -210,7 +190,7 @@ fn counts_nothing(figures: &[ChannelFigures]) -> bool {
     figures.iter().all(|channel| channel.traffic.messages == 0)
 }
 
-/// Prints figures, and what the recording tells beside them.
+/// Prints the figures of an index.
 fn print_indexed<'a, R: AllocGlobal + Print>(
     rt: &R,
     index: &Index<'_>,
@@ -219,64 +199,46 @@ fn print_indexed<'a, R: AllocGlobal + Print>(
     figures: &[ChannelFigures],
     request: &StatRequest<'a>,
 ) -> Result<(), Fault<'a>> {
-    let mut out = match BufWriter::new(rt.alloc(), io::writer(rt)) {
-        Ok(out) => out,
-        Err(error) => return Err(Fault::of_stream("-", &error)),
-    };
+    let mut out = on_stream("-", BufWriter::new(rt.alloc(), io::writer(rt)))?;
     let told = Indexed { index, selection };
-    let (shown, rows) = (&request.shown, request.rows);
-    let printed = write_figures(rt.alloc(), &mut out, &told, clock, figures, shown, rows);
+    let printed = print_figures(rt.alloc(), &mut out, &told, clock, figures, request);
     ended(printed, &mut out)
 }
 
-/// Prints figures, and what was told beside them.
+/// Prints the figures of a recording that is not kept.
 fn print_counted<'a, R: AllocGlobal + Print>(
     rt: &R,
     counted: &Counted,
     request: &StatRequest<'a>,
 ) -> Result<(), Fault<'a>> {
-    let mut out = match BufWriter::new(rt.alloc(), io::writer(rt)) {
-        Ok(out) => out,
-        Err(error) => return Err(Fault::of_stream("-", &error)),
-    };
-    let printed = write_figures(
-        rt.alloc(),
-        &mut out,
-        &counted.told,
-        &counted.clock,
-        counted.figures.as_slice(),
-        &request.shown,
-        request.rows,
-    );
+    let mut out = on_stream("-", BufWriter::new(rt.alloc(), io::writer(rt)))?;
+    let (told, clock) = (&counted.told, &counted.clock);
+    let figures = counted.figures.as_slice();
+    let printed = print_figures(rt.alloc(), &mut out, told, clock, figures, request);
     ended(printed, &mut out)
 }
 
-/// Writes figures, and what is told beside them, as rows or as a page.
-fn write_figures<W: Write, T: Tells>(
+/// Prints figures, and what is told beside them, as rows or as a page.
+fn print_figures<W: Write, T: Tells>(
     alloc: Global,
     out: &mut W,
     told: &T,
     clock: &RecordingClock,
     figures: &[ChannelFigures],
-    shown: &Shown,
-    rows: bool,
+    request: &StatRequest<'_>,
 ) -> Result<(), StatFault> {
-    if rows {
-        print_tables(alloc, out, told, figures, shown, clock)
+    if request.rows {
+        print_tables(alloc, out, told, figures, &request.shown, clock)
     } else {
-        print_page(alloc, out, told, figures, shown, clock)
+        print_page(alloc, out, told, figures, &request.shown, clock)
     }
 }
 
 /// What printing comes to that ended so, once all is handed on.
 fn ended<'a, W: Write>(printed: Result<(), StatFault>, out: &mut W) -> Result<(), Fault<'a>> {
     match printed {
-        Ok(()) => {}
-        Err(StatFault::Memory) => return Err(Fault::Memory),
-        Err(StatFault::Device) => return Err(Fault::Device("-")),
-    }
-    match out.flush() {
-        Ok(()) => Ok(()),
-        Err(error) => Err(Fault::of_stream("-", &error)),
+        Ok(()) => on_stream("-", out.flush()),
+        Err(StatFault::Memory) => Err(Fault::Memory),
+        Err(StatFault::Device) => Err(Fault::Device("-")),
     }
 }

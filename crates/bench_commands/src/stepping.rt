@@ -1,11 +1,12 @@
 //! `bench step`: a recording, walked through by lines of the standard input.
 
 use crate::command_line::StepRequest;
+use crate::looking::index_of;
+use crate::streams::on_stream;
 use bench_reasons::Explained;
 use bench_report::{Report, ReportError, ReportFault, read_report};
 use bench_requests::{Fault, jobs_of, read_texts, read_whole};
 use bench_step::{Prompted, step};
-use ch11_reader::{Index, ReadError};
 use job_file::Job;
 use std::alloc::Global;
 use std::io;
@@ -15,15 +16,11 @@ use std::rt::Files;
 /// Walks through a recording as the lines of the standard input ask, and answers each of them on the standard output.
 /// All files are read before the first of them is judged: the recording, then the report, then the jobs. Where that is
 /// asked for, the reason of a reply that refuses a line goes to `errors`.
-pub fn step_through<'a, R: Files + AllocGlobal + Input + Print, E: Eprint + IsTerminal>(
-    rt: &R,
-    errors: &E,
-    request: &StepRequest<'a>,
-    explains: bool,
-) -> Result<(), Fault<'a>>
-where
-    R::Reader: IsTerminal,
-{
+pub fn step_through<
+    'a,
+    R: Files + AllocGlobal + Input<Reader: IsTerminal> + Print,
+    E: Eprint + IsTerminal,
+>(rt: &R, errors: &E, request: &StepRequest<'a>, explains: bool) -> Result<(), Fault<'a>> {
     let recording = read_whole(rt, request.recording)?;
     let report = read_whole(rt, request.report)?;
     let texts = read_texts(rt, &request.jobs)?;
@@ -31,17 +28,14 @@ where
 }
 
 /// The same of files that were read.
-fn step_read<'a, R: AllocGlobal + Input + Print, E: Eprint + IsTerminal>(
+fn step_read<'a, R: AllocGlobal + Input<Reader: IsTerminal> + Print, E: Eprint + IsTerminal>(
     rt: &R,
     errors: &E,
     explains: bool,
     recording: &[u8],
     report: &[u8],
     texts: &[Vec<u8>],
-) -> Result<(), Fault<'a>>
-where
-    R::Reader: IsTerminal,
-{
+) -> Result<(), Fault<'a>> {
     judge_recording(rt.alloc(), recording)?;
     let report = judge_report(rt.alloc(), report)?;
     let jobs = jobs_of(rt.alloc(), texts)?;
@@ -50,10 +44,9 @@ where
 
 /// A recording is judged before the report and the jobs are.
 fn judge_recording<'a>(alloc: Global, recording: &[u8]) -> Result<(), Fault<'a>> {
-    match Index::build(alloc, recording) {
+    match index_of(alloc, recording, false) {
         Ok(_) => Ok(()),
-        Err(ReadError::Refused(refusal)) => Err(Fault::Recording(refusal)),
-        Err(ReadError::Memory) => Err(Fault::Memory),
+        Err(fault) => Err(fault),
     }
 }
 
@@ -70,27 +63,22 @@ fn judge_report<'a>(alloc: Global, text: &[u8]) -> Result<Report, Fault<'a>> {
     }
 }
 
-fn walk<'a, R: AllocGlobal + Input + Print, E: Eprint + IsTerminal>(
+fn walk<'a, R: AllocGlobal + Input<Reader: IsTerminal> + Print, E: Eprint + IsTerminal>(
     rt: &R,
     errors: &E,
     explains: bool,
     jobs: &[Job],
     report: &Report,
     recording: &[u8],
-) -> Result<(), Fault<'a>>
-where
-    R::Reader: IsTerminal,
-{
+) -> Result<(), Fault<'a>> {
     let lines = Prompted::begin(rt.reader(), errors);
     let manner = lines.manner();
     let mut input = match BufReader::new(rt.alloc(), lines) {
         Ok(input) => input,
         Err(error) => return Err(Fault::of_stream("-", &error)),
     };
-    let mut out = match BufWriter::new(rt.alloc(), io::writer(rt)) {
-        Ok(out) => Explained::begin(out, errors, explains),
-        Err(error) => return Err(Fault::of_stream("-", &error)),
-    };
+    let out = on_stream("-", BufWriter::new(rt.alloc(), io::writer(rt)))?;
+    let mut out = Explained::begin(out, errors, explains);
     match step(
         rt.alloc(),
         manner,

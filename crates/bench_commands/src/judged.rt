@@ -1,0 +1,88 @@
+//! Recordings that are judged: read whole, or packet by packet in one pass after another.
+
+use crate::large::Large;
+use bench_judge::{
+    PassFault, Verdict, judge, judge_from, junit_text, junit_text_from, write_colored,
+    write_colored_from, write_verdicts, write_verdicts_from,
+};
+use bench_watch::Reopen;
+use ch11_reader::Index;
+use judge_rules::Rule;
+use std::alloc::Global;
+use std::io::{IsTerminal, Write};
+use std::rt::{Clock, Files};
+
+/// Rules, and the text that spells them.
+#[derive(Clone, Copy)]
+pub(crate) struct Spelled<'r> {
+    pub(crate) text: &'r [u8],
+    pub(crate) rules: &'r [Rule],
+}
+
+/// A recording that is judged.
+#[derive(Drop)]
+pub(crate) enum Judged<'s, R, E> {
+    /// One that was read whole.
+    Whole(&'s Index<'s>),
+    /// One that is opened anew for each pass.
+    Large(&'s Large<'s, R, E>),
+}
+
+impl<R: Files + AllocGlobal + Clock, E: Eprint + IsTerminal> Judged<'_, R, E> {
+    /// The verdicts of rules.
+    pub(crate) fn verdicts(
+        &self,
+        alloc: Global,
+        rules: &[Rule],
+    ) -> Result<Vec<Verdict>, PassFault> {
+        match self {
+            Judged::Whole(index) => Ok(judge(alloc, index, rules)?),
+            Judged::Large(large) => match large.reopen() {
+                Ok(input) => Ok(judge_from(alloc, input, rules)?),
+                Err(error) => Err(PassFault::Opening(error)),
+            },
+        }
+    }
+
+    /// Writes the verdicts of rules as lines, and answers them.
+    pub(crate) fn write_lines<W: Write>(
+        &self,
+        alloc: Global,
+        rules: &[Rule],
+        out: &mut W,
+    ) -> Result<Vec<Verdict>, PassFault> {
+        match self {
+            Judged::Whole(index) => Ok(write_verdicts(alloc, index, rules, out)?),
+            Judged::Large(large) => write_verdicts_from(alloc, *large, rules, out),
+        }
+    }
+
+    /// Writes verdicts for people.
+    pub(crate) fn write_colored<W: Write>(
+        &self,
+        alloc: Global,
+        spelled: Spelled<'_>,
+        verdicts: &[Verdict],
+        out: &mut W,
+    ) -> Result<(), PassFault> {
+        let (text, rules) = (spelled.text, spelled.rules);
+        match self {
+            Judged::Whole(index) => write_colored(alloc, index, text, rules, verdicts, out),
+            Judged::Large(large) => write_colored_from(alloc, *large, text, rules, verdicts, out),
+        }
+    }
+
+    /// A JUnit report of verdicts, a test case a rule.
+    pub(crate) fn junit_text(
+        &self,
+        alloc: Global,
+        spelled: Spelled<'_>,
+        verdicts: &[Verdict],
+    ) -> Result<Vec<u8>, PassFault> {
+        let (text, rules) = (spelled.text, spelled.rules);
+        match self {
+            Judged::Whole(index) => junit_text(alloc, index, text, rules, verdicts),
+            Judged::Large(large) => junit_text_from(alloc, *large, text, rules, verdicts),
+        }
+    }
+}
