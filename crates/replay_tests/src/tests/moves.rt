@@ -15,7 +15,8 @@ struct Offered {
 
 /// A message whose last data word is dropped, and then twice the question for the status.
 const THREE_MESSAGES: Offered = Offered {
-    text: "channel 1\nterminal 5\nfault 1 drop 0 3\nscript\nsend A rx 5 1 [0001 0002 0003] send A mode 5 2 send A mode 5 2\n",
+    text: "channel 1\nterminal 5\nfault 1 drop 0 3\nscript\n\
+           send A rx 5 1 [0001 0002 0003] send A mode 5 2 send A mode 5 2\n",
     parts: &[1; 3],
     total: 3,
 };

@@ -207,8 +207,8 @@ impl Gate for GoesFirst {
     }
 }
 
-/// The writer waits after its first item until two channels have offered an item of this number: their tenth message, or,
-/// as 0, their end mark, which the queue has to keep.
+/// The writer waits after its first item until two channels have offered an item of this number: their tenth message,
+/// or, as 0, their end mark, which the queue has to keep.
 #[derive(Drop)]
 pub(super) struct HeldFromTheFirst {
     pub(super) waits: Waits,
