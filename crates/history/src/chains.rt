@@ -1,6 +1,6 @@
 //! The chain of links of which a history is made, each with the one that it follows.
-ghost use Rattle.std.specs.Prelude.{◌≡◌};
 ghost use Rattle.history.specs.Items.{items};
+ghost use Rattle.std.specs.Prelude.{◌≡◌};
 
 use std::marker::Model;
 use std::snapshot::Snapshot;

@@ -1,5 +1,5 @@
 -- The numbers that words spell. A letter of either case is a digit: `a` and `A` are ten (own choice).
-use Rattle.std.specs.Prelude.{ℕ, Bool, ◌&&◌, nat_lt, nat_le, if◌then◌else◌, List, length, Option, Some, None}
+use Rattle.std.specs.Prelude.{ℕ, ◌+◌, Bool, ◌&&◌, nat_lt, nat_le, if◌then◌else◌, List, length, Option, Some, None}
 use Rattle.std.specs.List.{list_all}
 use Rattle.std.specs.Char.{digit_value}
 use Rattle.std.specs.Str.Parse.{digits_value}
@@ -13,3 +13,7 @@ unfoldable pub spelled : ℕ → ℕ → ℕ → List ℕ → Option ℕ
 spelled base least most word =
     if nat_le least (length word) && nat_le (length word) most && are_digits base word
     then Some (digits_value base word) else None
+
+-- the upper-case hexadecimal digit of a value
+abbrev pub digit_of : ℕ → ℕ
+digit_of value = if nat_lt value 10 then 48 + value else 55 + value

@@ -1,13 +1,13 @@
-//! Numbers in texts: the value of a digit, and the number that the digits of a word spell. Letters are digits of either
-//! case.
+//! Numbers in texts: the value of a digit, the digit of a value, and the number that the digits of a word spell.
+//! Letters are digits of either case.
 //!
 //! Its tests are in `mil_tests`.
 #![tactic(auto)]
 
-ghost use Rattle.std.specs.Prelude.{◌≡◌, ◌≤◌, ◌<◌, ◌^◌, true, length, IfSome};
+ghost use Rattle.numerals.specs.Numerals.{are_digits, digit_of, spelled};
 ghost use Rattle.std.specs.Char.{digit_value};
+ghost use Rattle.std.specs.Prelude.{◌≡◌, ◌≤◌, ◌<◌, ◌^◌, true, length, IfSome};
 ghost use Rattle.std.specs.Str.Parse.{digits_value};
-ghost use Rattle.numerals.specs.Numerals.{are_digits, spelled};
 
 /// The value of a digit or a letter, and 36 for any other byte.
 pub fn digit(byte: u8) -> u8
@@ -19,6 +19,18 @@ pub fn digit(byte: u8) -> u8
         b'A'..=b'Z' => byte - b'A' + 10,
         b'a'..=b'z' => byte - b'a' + 10,
         _ => 36,
+    }
+}
+
+/// The hexadecimal digit of a value, in upper case.
+pub fn digit_of(value: u8) -> u8
+    requires { value < 16 }
+    ensures { result ≡ digit_of value }
+{
+    if value < 10 {
+        b'0' + value
+    } else {
+        b'A' + (value - 10)
     }
 }
 

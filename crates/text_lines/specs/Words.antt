@@ -1,5 +1,5 @@
 -- The words of a text, which spaces alone part (own choice).
-use Rattle.std.specs.Prelude.{ℕ, Bool, true, false, ◌==◌, if◌then◌else◌, List, [], ◌∷◌}
+use Rattle.std.specs.Prelude.{ℕ, Bool, true, false, ◌==◌, if◌then◌else◌, List, [], ◌∷◌, Option, Some, None}
 use Rattle.std.specs.List.{filter, slice_split, before_first, after_first}
 use Rattle.std.specs.Str.{bytes_eq}
 
@@ -33,3 +33,8 @@ behind_word line = after_first is_space (from_word line)
 abbrev pub begins_with : Text → List Text → Bool
 begins_with keyword [] = false
 begins_with keyword (word ∷ rest) = bytes_eq word keyword
+
+-- what stands beside the first of some words that is this one
+abbrev pub meaning : {X : Type 0} → List (Text × X) → Text → Option X
+meaning [] word = None
+meaning ((keyword, x) ∷ rest) word = if bytes_eq word keyword then Some x else meaning rest word

@@ -1,10 +1,13 @@
 //! The lines of a text and the words of a line, for every text that the bench reads: jobs, reports, rules, actions and
-//! the lines of a session. LF ends a line, and spaces alone part words (own choice).
+//! the lines of a session; and why a text was not written. LF ends a line, and spaces alone part words (own choice).
 //! Its tests are in `mil_tests`.
 #![tactic(auto)]
 
+mod fault;
 mod lines;
+mod parting;
 mod words;
 
+pub use fault::WriteFault;
 pub use lines::{next_line, split_line, without_end};
-pub use words::{Words, next_word, split_word};
+pub use words::{Words, from_word, meaning, next_word, split_word};

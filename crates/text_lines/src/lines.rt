@@ -1,20 +1,9 @@
 //! The lines of a text, one by one.
-ghost use Rattle.std.specs.Prelude.{◌≡◌, ◌≤◌, ◌<◌, ◌∷◌, [], length, drop, MatchOption, IfSome};
-ghost use Rattle.std.specs.List.{position_or_len, before_first, after_first};
+ghost use Rattle.std.specs.List.{before_first, after_first};
+ghost use Rattle.std.specs.Prelude.{◌≡◌, ◌<◌, ◌∷◌, [], length, drop, MatchOption, IfSome};
 ghost use Rattle.text_lines.specs.Lines.{text_lines, is_line_end};
 
-/// How many bytes stand before the first LF.
-fn line_len(text: &[u8]) -> usize
-    ensures value { result ≡ position_or_len is_line_end text.now }
-    ensures within { result ≤ length text.now }
-{
-    for (i, byte) in text.iter().enumerate() {
-        if *byte == b'\n' {
-            return i;
-        }
-    }
-    text.len()
-}
+use crate::parting::{len_before, split_before};
 
 /// What stands behind the LF that ends a line.
 fn behind_end(rest: &[u8]) -> &[u8]
@@ -35,7 +24,7 @@ pub fn next_line(text: &[u8]) -> Option<(&[u8], &[u8])>
     if text.is_empty() {
         return None;
     }
-    let (line, rest) = text.split_at(line_len(text));
+    let (line, rest) = text.split_at(len_before(text, b'\n'));
     Some((line, behind_end(rest)))
 }
 
@@ -45,17 +34,13 @@ pub fn split_line(text: &[u8]) -> (&[u8], &[u8])
     ensures line { result.0.now ≡ before_first is_line_end text.now }
     ensures rest { result.1.now ≡ after_first is_line_end text.now }
 {
-    let (line, rest) = text.split_at(line_len(text));
-    match rest.split_first() {
-        Some((_, behind)) => (line, behind),
-        None => (line, rest),
-    }
+    split_before(text, b'\n')
 }
 
 /// A line without the LF that ends it, if one does.
 pub fn without_end(line: &[u8]) -> &[u8]
     ensures { result.now ≡ before_first is_line_end line.now }
 {
-    let (front, _) = line.split_at(line_len(line));
+    let (front, _) = split_before(line, b'\n');
     front
 }

@@ -1,10 +1,9 @@
 //! The words of a text, one after the other.
-ghost use Rattle.std.specs.Prelude.{◌≡◌, ◌≤◌, ◌<◌, [], ◌∷◌, List, length, drop, slice_get, slice_index, false};
-ghost use Rattle.std.specs.Prelude.{MatchOption, if◌then◌else◌};
 ghost use Rattle.std.specs.Option.{option_copied};
-ghost use Rattle.std.specs.List.{position_or_len};
-ghost use Rattle.text_lines.specs.Words.{begins_with, behind_word, first_word, from_word, is_space, words};
+ghost use Rattle.std.specs.Prelude.{◌≡◌, [], ◌∷◌, drop, slice_get, MatchOption, if◌then◌else◌, map};
+ghost use Rattle.text_lines.specs.Words.{begins_with, behind_word, first_word, from_word, meaning, words};
 
+use crate::parting::{len_before, split_before};
 use std::marker::Model;
 
 /// The words that are left of a text. Spaces part them.
@@ -71,24 +70,27 @@ pub fn next_word(text: &[u8]) -> Option<(&[u8], &[u8])>
     if text.is_empty() {
         return None;
     }
-    Some(text.split_at(word_len(text)))
+    Some(text.split_at(len_before(text, b' ')))
 }
 
-/// The length of the word with which a text begins.
-fn word_len(text: &[u8]) -> usize
-    ensures value { result ≡ position_or_len is_space text.now }
-    ensures within { result ≤ length text.now }
+/// What stands beside the first of these words that is this one; none where none of them is.
+pub fn meaning<T: Copy>(rows: &[(&[u8], T)], word: &[u8]) -> Option<T>
+    ensures { result ≡ meaning (map (λ row. (row.0.now, row.1)) rows.now) word.now }
 {
-    for (i, byte) in text.iter().enumerate() {
-        if *byte == b' ' {
-            return i;
+    match rows.split_first() {
+        None => None,
+        Some((first, rest)) => {
+            if word == first.0 {
+                Some(first.1)
+            } else {
+                meaning(rest, word)
+            }
         }
     }
-    text.len()
 }
 
 /// What is left from the next word on.
-fn from_word(text: &[u8]) -> &[u8]
+pub fn from_word(text: &[u8]) -> &[u8]
     ensures { result.now ≡ from_word text.now }
 {
     let mut rest = text;
@@ -106,10 +108,5 @@ pub fn split_word(line: &[u8]) -> (&[u8], &[u8])
     ensures word { result.0.now ≡ first_word line.now }
     ensures rest { result.1.now ≡ behind_word line.now }
 {
-    let text = from_word(line);
-    let (word, rest) = text.split_at(word_len(text));
-    match rest.split_first() {
-        Some((_, behind)) => (word, behind),
-        None => (word, rest),
-    }
+    split_before(from_word(line), b' ')
 }

@@ -9,4 +9,4 @@ returns-then-is_empty-clause-lines c = let none : length c.args.text.now ≡ 0 =
 pub returns-clause-lines : goal.returns-clause-lines
 returns-clause-lines c =
     let some : 0 < length c.args.text.now = grind (arith, nat_tests) in
-    rw (text_lines-first c.args.text.now some, c.split_at.ensures.front, c.behind_end.ensures, c.split_at.ensures.back, c.line_len.ensures.value) refl
+    rw (text_lines-first c.args.text.now some, c.split_at.ensures.front, c.behind_end.ensures, c.split_at.ensures.back, c.len_before.ensures.value) refl

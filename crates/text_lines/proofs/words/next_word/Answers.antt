@@ -18,4 +18,4 @@ returns c =
     let starts = from_word-starts c.args.text.now (subst (λ t. 0 < length t) is some) in
     let start : is_space (slice_index c.from_word-text.result.now 0) ≡ false = subst (λ t. is_space (slice_index t 0) ≡ false) (sym is) starts in
     let same : words c.args.text.now ≡ words c.from_word-text.result.now = sym (from_word-words c.args.text.now) ∙ ap words (sym is) in
-    rw (same, words-first c.from_word-text.result.now some (λ _. start), c.split_at.ensures.front, c.split_at.ensures.back, c.word_len.ensures.value) refl
+    rw (same, words-first c.from_word-text.result.now some (λ _. start), c.split_at.ensures.front, c.split_at.ensures.back, c.len_before.ensures.value) refl
