@@ -1,8 +1,8 @@
 //! The addresses of a new bus.
-ghost use Rattle.std.specs.Prelude.{◌≡◌, ◌+◌, ◌≤◌, ◌==◌, ◌++◌, ◌∷◌, [], if◌then◌else◌, IfOk, OnOk};
-ghost use Rattle.std.specs.List.{list_any};
 ghost use Rattle.mil_bus.specs.Addresses.{is_fit, stations_of};
 ghost use Rattle.mil_bus.specs.Index.{IsIndex, IsIndexBelow};
+ghost use Rattle.std.specs.List.{list_any};
+ghost use Rattle.std.specs.Prelude.{◌≡◌, ◌+◌, ◌≤◌, ◌==◌, ◌++◌, ◌∷◌, [], if◌then◌else◌, IfOk, OnOk};
 
 use mil_terminal::Terminal;
 use std::alloc::{AllocError, Global};

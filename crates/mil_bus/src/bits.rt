@@ -1,6 +1,6 @@
 //! Bits of a mask.
-ghost use Rattle.std.specs.Prelude.{◌≡◌, ℕ, ◌<◌, ◌≤◌, false};
 ghost use Rattle.std.specs.Int.{bit_at};
+ghost use Rattle.std.specs.Prelude.{◌≡◌, ℕ, ◌<◌, ◌≤◌, false};
 
 /// The place of the lowest bit that is set in a mask, from a place on; 32 or more where there is none.
 #[inline]

@@ -1,19 +1,20 @@
 //! The bus.
-ghost use Rattle.std.specs.Prelude.{◌≡◌, ◌+◌, ◌<◌, ◌≤◌, ◌^◌, ◌↔◌, ◌∷◌, true, false, unwrap_or, IfOk, Err};
-ghost use Rattle.std.specs.List.{list_all};
-ghost use Rattle.std.specs.Option.{is_some, option_copied};
-ghost use Rattle.mil_line.specs.Ranges.{is_in_range};
 ghost use Rattle.mil_bus.specs.Actions.{place_of, station_of, acted};
 ghost use Rattle.mil_bus.specs.Addresses.{is_fit, fresh_bus};
 ghost use Rattle.mil_bus.specs.BlockStatus.{block_of, outcome_of};
 ghost use Rattle.mil_bus.specs.Counts.{seen_of};
 ghost use Rattle.mil_bus.specs.Exchange.{exchanged, talk_of, next_start, talk_start, clock_of, now_of, paced, last_on};
 ghost use Rattle.mil_bus.specs.Exchange.{gap_since, least_after};
+ghost use Rattle.mil_line.specs.Ranges.{is_in_range};
+ghost use Rattle.std.specs.List.{list_all};
+ghost use Rattle.std.specs.Option.{is_some, option_copied};
+ghost use Rattle.std.specs.Prelude.{◌≡◌, ◌+◌, ◌<◌, ◌≤◌, ◌^◌, ◌↔◌, ◌∷◌, true, false, unwrap_or, IfOk, Err};
 
 use crate::addresses::is_fit;
 use crate::offers::Offered;
 use crate::runs::all_runs;
 use crate::terminals::Terminals;
+use crate::times::Times;
 use crate::{BusError, Finished, Source, Talk, TalkCounts};
 use history::History;
 use mil_host::Action;
@@ -29,30 +30,20 @@ use std::marker::Model;
 /// latest first, and the terminals' addresses and histories, in order of address; no value holds a list of talks.
 #[derive(Drop)]
 pub struct Bus {
-    pub(crate) begin: u64,
-    pub(crate) least_start: u64,
-    pub(crate) clock: u64,
-    pub(crate) least: Option<u16>,
-    pub(crate) on_a: Option<u64>,
-    pub(crate) on_b: Option<u64>,
+    pub(crate) times: Times,
     pub(crate) terminals: Terminals,
     pub(crate) past: History<Talk>,
 }
 
 impl Model for Bus {
     ghost use Rattle.mil_bus.specs.Exchange.{BusState};
-    ghost use Rattle.mil_bus.specs.KeepsTimes.{KeepsTimes};
+    ghost use Rattle.mil_bus.specs.KeepsTimes.{KeepsTimes, bus_of};
 
     ghost Value = { BusState };
 
-    ghost view = { λ b. record {
-      start = b.begin;
-      least_start = b.least_start;
-      talks = b.past;
-      stations = b.terminals;
-    } };
+    ghost view = { λ b. bus_of b.times b.past b.terminals };
 
-    ghost invariant = { λ b. KeepsTimes b.begin b.clock b.least b.on_a b.on_b b.past };
+    ghost invariant = { λ b. KeepsTimes b.times b.past };
 }
 
 /// The least gap after a talk, in ticks, which failed or not.
@@ -91,12 +82,14 @@ impl Bus {
         }
         match Terminals::make(alloc, addresses) {
             Ok(terminals) => Ok(Bus {
-                begin: start,
-                least_start: 0,
-                clock: start,
-                least: None,
-                on_a: None,
-                on_b: None,
+                times: Times {
+                    begin: start,
+                    least_start: 0,
+                    clock: start,
+                    least: None,
+                    on_a: None,
+                    on_b: None,
+                },
                 terminals,
                 past: History::none(),
             }),
@@ -108,21 +101,21 @@ impl Bus {
     pub fn clock(&self) -> u64
         ensures { result ≡ clock_of self.now.start self.now.talks }
     {
-        self.clock
+        self.times.clock
     }
 
     /// Now, in ticks: the clock, or the least start where that is later.
     pub fn now(&self) -> u64
         ensures { result ≡ now_of self.now }
     {
-        self.clock.max(self.least_start)
+        self.times.clock.max(self.times.least_start)
     }
 
     /// Raises the least start to a tick, where it is lower: no talk from now on starts before that tick (own choice).
     pub fn pace(&mut self, tick: u64)
         ensures { self.new ≡ paced tick self.old }
     {
-        self.least_start = self.least_start.max(tick);
+        self.times.least_start = self.times.least_start.max(tick);
     }
 
     /// When the next talk would start by its gap alone.
@@ -132,9 +125,9 @@ impl Bus {
         ensures soon { result ≤ clock_of self.now.start self.now.talks + 2 ^ 17 }
         ensures after { clock_of self.now.start self.now.talks ≤ result }
     {
-        match self.least {
-            None => self.begin,
-            Some(least) => self.clock
+        match self.times.least {
+            None => self.times.begin,
+            Some(least) => self.times.clock
                 + u64::from(gap.ticks().max(least)).saturating_sub(u64::from(CONTIGUOUS_GAP)),
         }
     }
@@ -147,7 +140,7 @@ impl Bus {
         ensures soon { result ≤ now_of self.now + 2 ^ 17 }
         ensures after { now_of self.now ≤ result }
     {
-        self.next_start(gap).max(self.least_start)
+        self.next_start(gap).max(self.times.least_start)
     }
 
     /// The gap from the last word on a line.
@@ -157,8 +150,8 @@ impl Bus {
         ensures { result ≡ gap_since (last_on line self.now.talks) tick }
     {
         match line {
-            Line::A => gap_from(self.on_a, tick),
-            Line::B => gap_from(self.on_b, tick),
+            Line::A => gap_from(self.times.on_a, tick),
+            Line::B => gap_from(self.times.on_b, tick),
         }
     }
 
@@ -178,12 +171,12 @@ impl Bus {
         } }
     {
         let end = talk.end();
-        self.clock = end;
-        self.least = Some(least_gap(talk, failed));
+        self.times.clock = end;
+        self.times.least = Some(least_gap(talk, failed));
         if !talk.sent.is_empty() {
             match talk.line {
-                Line::A => self.on_a = Some(end),
-                Line::B => self.on_b = Some(end),
+                Line::A => self.times.on_a = Some(end),
+                Line::B => self.times.on_b = Some(end),
             }
         }
         self.past = self.past.put_before(talk);
@@ -292,12 +285,7 @@ impl Bus {
     {
         let terminals = self.terminals.copy()?;
         Ok(Bus {
-            begin: self.begin,
-            least_start: self.least_start,
-            clock: self.clock,
-            least: self.least,
-            on_a: self.on_a,
-            on_b: self.on_b,
+            times: self.times,
             terminals,
             past: self.past.same(),
         })

@@ -1,9 +1,9 @@
 //! What the runs of a talk that are kept as a whole come to.
-ghost use Rattle.std.specs.Prelude.{◌≡◌, ℕ, ◌+◌, ◌<◌, ◌≤◌, take, length, get_or, Some};
-ghost use Rattle.mil_word.specs.declared.Sync.TheVariants.{CommandSync};
-ghost use Rattle.mil_bus.specs.declared.talks.Sent.{Sent as SentValue};
 ghost use Rattle.mil_bus.specs.Counts.{counts_of};
 ghost use Rattle.mil_bus.specs.Wholes.{whole_words, all_words, words_in};
+ghost use Rattle.mil_bus.specs.declared.talks.Sent.{Sent as SentValue};
+ghost use Rattle.mil_word.specs.declared.Sync.TheVariants.{CommandSync};
+ghost use Rattle.std.specs.Prelude.{◌≡◌, ℕ, ◌+◌, ◌<◌, ◌≤◌, take, length, get_or, Some};
 
 use crate::counts::{Came, TalkCounts};
 use crate::wholes::Whole;

@@ -1,9 +1,9 @@
 //! What one pass over the words of a talk counts.
-ghost use Rattle.std.specs.Prelude.{◌≡◌, ℕ, ◌+◌, ◌<◌, ◌≤◌, [], length};
 ghost use Rattle.mil_bus.specs.Counts.{counts_of, takes_command, differs};
-ghost use Rattle.mil_bus.specs.Pass.{noted, one_more, words_in, place_in};
 ghost use Rattle.mil_bus.specs.Lengthened.{is_data, AreLike, longer, goes_on, lengthened};
+ghost use Rattle.mil_bus.specs.Pass.{noted, one_more, words_in, place_in};
 ghost use Rattle.mil_word.specs.Words.{is_command_sync};
+ghost use Rattle.std.specs.Prelude.{◌≡◌, ℕ, ◌+◌, ◌<◌, ◌≤◌, [], length};
 
 use crate::Sent;
 use mil_line::Gap;

@@ -1,9 +1,9 @@
 //! The data words of a run, which come to all terminals of a bus as a whole.
-ghost use Rattle.std.specs.Prelude.{◌≡◌, ℕ, ◌<◌, ◌≤◌, false, List, length, map, get_or};
-ghost use Rattle.mil_word.specs.Words.{data_wave};
-ghost use Rattle.mil_terminal.specs.Station.{Station};
 ghost use Rattle.mil_bus.specs.DataRuns.{hearing_all, run_words};
 ghost use Rattle.mil_bus.specs.Index.{IsClosed, AreClosed, HasCome};
+ghost use Rattle.mil_terminal.specs.Station.{Station};
+ghost use Rattle.mil_word.specs.Words.{data_wave};
+ghost use Rattle.std.specs.Prelude.{◌≡◌, ℕ, ◌<◌, ◌≤◌, false, List, length, map, get_or};
 
 use crate::bits::{next_set, with_bit};
 use crate::hearing::{misses, pass};

@@ -12,8 +12,8 @@ pub enum BusError {
 
 /// `B1` and `B2`.
 impl Display for BusError {
-    ghost use Rattle.std.specs.Prelude.{Some};
     ghost use Rattle.mil_bus.specs.Codes.{fault_code};
+    ghost use Rattle.std.specs.Prelude.{Some};
 
     ghost output = { λ fault. Some (fault_code fault) };
 

@@ -1,12 +1,12 @@
 //! A word that comes to all terminals of a bus.
-ghost use Rattle.std.specs.Prelude.{◌≡◌, ℕ, ◌<◌, ◌≤◌, false, List, length, map, get_or, slice_index};
-ghost use Rattle.std.specs.Int.{bit_at};
-ghost use Rattle.mil_word.specs.Wave.{word_of};
-ghost use Rattle.mil_terminal.specs.declared.events.Event.TheVariants.{Heard};
-ghost use Rattle.mil_terminal.specs.Station.{Station};
-ghost use Rattle.mil_terminal.specs.Windows.{is_listening, opens};
 ghost use Rattle.mil_bus.specs.Exchange.{hearing, sends, misses};
 ghost use Rattle.mil_bus.specs.Index.{IsClosed, AreClosed, HasCome, is_command_to};
+ghost use Rattle.mil_terminal.specs.Station.{Station};
+ghost use Rattle.mil_terminal.specs.Windows.{is_listening, opens};
+ghost use Rattle.mil_terminal.specs.declared.events.Event.TheVariants.{Heard};
+ghost use Rattle.mil_word.specs.Wave.{word_of};
+ghost use Rattle.std.specs.Int.{bit_at};
+ghost use Rattle.std.specs.Prelude.{◌≡◌, ℕ, ◌<◌, ◌≤◌, false, List, length, map, get_or, slice_index};
 
 use crate::bits::{next_set, with_bit};
 use crate::counts::is_command;

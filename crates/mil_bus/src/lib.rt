@@ -23,6 +23,7 @@ pub mod sent_words;
 mod talk_runs;
 pub mod talks;
 mod terminals;
+mod times;
 mod wholes;
 
 pub use buses::Bus;

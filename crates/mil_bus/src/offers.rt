@@ -1,7 +1,7 @@
 //! What a sender gives to the line.
-ghost use Rattle.std.specs.Prelude.{◌≡◌};
 ghost use Rattle.mil_bus.specs.Exchange.{offer_of};
 ghost use Rattle.mil_bus.specs.Offers.{offered};
+ghost use Rattle.std.specs.Prelude.{◌≡◌};
 
 use crate::Source;
 use arrayvec::ArrayVec;

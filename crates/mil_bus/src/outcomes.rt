@@ -1,10 +1,10 @@
 //! The block status word of a finished talk, and what a program learns of it.
-ghost use Rattle.std.specs.Prelude.{◌≡◌, ◌≤◌, length};
 ghost use Rattle.mil_bus.specs.BlockStatus.{first_due, second_due, is_late, is_excuse, is_miscounted};
 ghost use Rattle.mil_bus.specs.BlockStatus.{has_other_address, bit_if, is_line_b, is_transfer, has_response_time_out};
 ghost use Rattle.mil_bus.specs.BlockStatus.{has_word_count_error, has_error, block_of, came_bits, outcome_of};
 ghost use Rattle.mil_bus.specs.Counts.{seen_of};
 ghost use Rattle.mil_message.specs.Forms.{controller_words, replies_due};
+ghost use Rattle.std.specs.Prelude.{◌≡◌, ◌≤◌, length};
 
 use crate::Talk;
 use crate::counts::{Came, TalkCounts, is_command};

@@ -1,11 +1,11 @@
 //! A quiet that comes to all terminals of a bus, and the first answer to it.
-ghost use Rattle.std.specs.Prelude.{◌≡◌, ℕ, ◌<◌, ◌≤◌, false, None, List, length, map, get_or, take};
-ghost use Rattle.std.specs.Option.{option_or};
-ghost use Rattle.mil_terminal.specs.Station.{Station};
-ghost use Rattle.mil_terminal.specs.Windows.{is_listening};
 ghost use Rattle.mil_bus.specs.Exchange.{quieted, answer, first_reply};
 ghost use Rattle.mil_bus.specs.Index.{IsClosed, AreClosed, HasCome};
 ghost use Rattle.mil_bus.specs.Offers.{given};
+ghost use Rattle.mil_terminal.specs.Station.{Station};
+ghost use Rattle.mil_terminal.specs.Windows.{is_listening};
+ghost use Rattle.std.specs.Option.{option_or};
+ghost use Rattle.std.specs.Prelude.{◌≡◌, ℕ, ◌<◌, ◌≤◌, false, None, List, length, map, get_or, take};
 
 use crate::bits::{next_set, with_bit};
 use crate::offers::Offered;

@@ -1,11 +1,11 @@
 //! The runs of an exchange: words and quiets, told to all terminals.
-ghost use Rattle.std.specs.Prelude.{◌≡◌, ℕ, ◌+◌, ◌-◌, ◌≤◌, true, [], ◌∷◌, ◌++◌, length, Some};
+ghost use Rattle.mil_bus.specs.Exchange.{all_hearing, quiet_after, next_offer, words_of, run_sent, runs};
+ghost use Rattle.mil_bus.specs.Offers.{offered, given};
+ghost use Rattle.mil_bus.specs.Wholes.{value_waves};
+ghost use Rattle.mil_line.specs.Ranges.{is_in_range};
 ghost use Rattle.mil_word.specs.Words.{command_wave};
 ghost use Rattle.std.specs.List.{list_all};
-ghost use Rattle.mil_line.specs.Ranges.{is_in_range};
-ghost use Rattle.mil_bus.specs.Exchange.{all_hearing, quiet_after, next_offer, words_of, run_sent, runs};
-ghost use Rattle.mil_bus.specs.Wholes.{value_waves};
-ghost use Rattle.mil_bus.specs.Offers.{offered, given};
+ghost use Rattle.std.specs.Prelude.{◌≡◌, ℕ, ◌+◌, ◌-◌, ◌≤◌, true, [], ◌∷◌, ◌++◌, length, Some};
 
 use crate::offers::Offered;
 use crate::talk_runs::Run;

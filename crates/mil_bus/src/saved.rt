@@ -4,6 +4,7 @@ ghost use Rattle.std.specs.Prelude.{◌≡◌, IfOk, OnOk, OnErr};
 use crate::Talk;
 use crate::buses::Bus;
 use crate::saved_terminals::SavedTerminals;
+use crate::times::Times;
 use history::History;
 use std::alloc::AllocError;
 use std::marker::Model;
@@ -13,30 +14,20 @@ use std::marker::Model;
 /// see what they see of the bus.
 #[derive(Drop)]
 pub struct SavedBus {
-    begin: u64,
-    least_start: u64,
-    clock: u64,
-    least: Option<u16>,
-    on_a: Option<u64>,
-    on_b: Option<u64>,
+    times: Times,
     terminals: SavedTerminals,
     past: History<Talk>,
 }
 
 impl Model for SavedBus {
     ghost use Rattle.mil_bus.specs.Exchange.{BusState};
-    ghost use Rattle.mil_bus.specs.KeepsTimes.{KeepsTimes};
+    ghost use Rattle.mil_bus.specs.KeepsTimes.{KeepsTimes, bus_of};
 
     ghost Value = { BusState };
 
-    ghost view = { λ b. record {
-      start = b.begin;
-      least_start = b.least_start;
-      talks = b.past;
-      stations = b.terminals;
-    } };
+    ghost view = { λ b. bus_of b.times b.past b.terminals };
 
-    ghost invariant = { λ b. KeepsTimes b.begin b.clock b.least b.on_a b.on_b b.past };
+    ghost invariant = { λ b. KeepsTimes b.times b.past };
 }
 
 impl Bus {
@@ -45,12 +36,7 @@ impl Bus {
         ensures { IfOk result (λ s. s ≡ self.now) }
     {
         Ok(SavedBus {
-            begin: self.begin,
-            least_start: self.least_start,
-            clock: self.clock,
-            least: self.least,
-            on_a: self.on_a,
-            on_b: self.on_b,
+            times: self.times,
             terminals: self.terminals.save()?,
             past: self.past.same(),
         })
@@ -63,12 +49,7 @@ impl Bus {
         ensures same { OnErr result (self.new ≡ self.old) }
     {
         self.terminals.restore(&saved.terminals)?;
-        self.begin = saved.begin;
-        self.least_start = saved.least_start;
-        self.clock = saved.clock;
-        self.least = saved.least;
-        self.on_a = saved.on_a;
-        self.on_b = saved.on_b;
+        self.times = saved.times;
         self.past = saved.past.same();
         Ok(())
     }

@@ -15,9 +15,9 @@ pub struct SavedTerminals {
 }
 
 impl Model for SavedTerminals {
-    ghost use Rattle.std.specs.Prelude.{List};
-    ghost use Rattle.mil_terminal.specs.Station.{Station};
     ghost use Rattle.mil_bus.specs.Index.{AreClosed, IsIndex};
+    ghost use Rattle.mil_terminal.specs.Station.{Station};
+    ghost use Rattle.std.specs.Prelude.{List};
 
     ghost Value = { List Station };
 

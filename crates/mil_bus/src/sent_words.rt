@@ -1,11 +1,11 @@
 //! The words of an exchange, as they came on the line.
-ghost use Rattle.std.specs.Prelude.{◌≡◌, ℕ, ◌+◌, ◌*◌, ◌<◌, ◌≤◌, ◌^◌, ◌==◌, true, false, List, [], ◌++◌, length, map};
-ghost use Rattle.mil_word.specs.Wave.{raw_of};
-ghost use Rattle.mil_bus.specs.declared.talks.Sent.{Sent as SentValue};
 ghost use Rattle.mil_bus.specs.Counts.{counts_of};
 ghost use Rattle.mil_bus.specs.DataRuns.{run_words};
 ghost use Rattle.mil_bus.specs.Times.{end_from, is_last_or, is_controllers_last};
 ghost use Rattle.mil_bus.specs.Wholes.{value_waves, whole_words, all_words, words_in};
+ghost use Rattle.mil_bus.specs.declared.talks.Sent.{Sent as SentValue};
+ghost use Rattle.mil_word.specs.Wave.{raw_of};
+ghost use Rattle.std.specs.Prelude.{◌≡◌, ℕ, ◌+◌, ◌*◌, ◌<◌, ◌≤◌, ◌^◌, ◌==◌, true, false, List, [], ◌++◌, length, map};
 
 use crate::Sent;
 use crate::counted_runs::counted_runs;
@@ -37,10 +37,10 @@ pub struct SentWords {
 }
 
 impl Model for SentWords {
-    ghost use Rattle.std.specs.Prelude.{◌++◌};
     ghost use Rattle.arrayvec.specs.ArrayVec.{ArrayVec as Items};
-    ghost use Rattle.mil_bus.specs.declared.talks.Sent.{Sent as SentValue};
     ghost use Rattle.mil_bus.specs.Wholes.{all_words, IsKept};
+    ghost use Rattle.mil_bus.specs.declared.talks.Sent.{Sent as SentValue};
+    ghost use Rattle.std.specs.Prelude.{◌++◌};
 
     ghost Value = { Items SentValue };
 

@@ -1,7 +1,7 @@
 //! A run of words.
-ghost use Rattle.std.specs.Prelude.{◌≡◌, cond, false, None};
-ghost use Rattle.mil_word.specs.Words.{command_in, command_wave, data_wave};
 ghost use Rattle.mil_bus.specs.DataRuns.{run_from};
+ghost use Rattle.mil_word.specs.Words.{command_in, command_wave, data_wave};
+ghost use Rattle.std.specs.Prelude.{◌≡◌, cond, false, None};
 
 use crate::wholes::wave_of;
 use crate::{Sent, Source};

@@ -1,8 +1,8 @@
 //! One exchange as it was on a line.
-ghost use Rattle.std.specs.Prelude.{◌≡◌, ◌+◌, ◌<◌, ◌≤◌, ◌^◌, []};
-ghost use Rattle.mil_bus.specs.declared.talks.Source.TheVariants.{Controller};
-ghost use Rattle.mil_bus.specs.declared.talks.Sent.{Sent};
 ghost use Rattle.mil_bus.specs.Times.{end_of, lasting, is_controllers_last};
+ghost use Rattle.mil_bus.specs.declared.talks.Sent.{Sent};
+ghost use Rattle.mil_bus.specs.declared.talks.Source.TheVariants.{Controller};
+ghost use Rattle.std.specs.Prelude.{◌≡◌, ◌+◌, ◌<◌, ◌≤◌, ◌^◌, []};
 
 use crate::SentWords;
 use mil_line::Gap;

@@ -1,14 +1,14 @@
 //! The terminals of a bus, in order of address.
-ghost use Rattle.std.specs.Prelude.{◌≡◌, IfOk, map, None};
-ghost use Rattle.std.specs.Option.{is_some, option_copied};
 ghost use Rattle.mil_bus.specs.Actions.{place_of, station_of, acting};
 ghost use Rattle.mil_bus.specs.Addresses.{stations_of};
-ghost use Rattle.mil_bus.specs.Exchange.{hearing, all_hearing, quieted, first_reply};
-ghost use Rattle.mil_word.specs.Words.{command_wave, data_wave};
 ghost use Rattle.mil_bus.specs.DataRuns.{hearing_all, run_words};
-ghost use Rattle.mil_word.specs.Wave.{word_of};
-ghost use Rattle.mil_bus.specs.Wholes.{value_waves};
+ghost use Rattle.mil_bus.specs.Exchange.{hearing, all_hearing, quieted, first_reply};
 ghost use Rattle.mil_bus.specs.Offers.{given};
+ghost use Rattle.mil_bus.specs.Wholes.{value_waves};
+ghost use Rattle.mil_word.specs.Wave.{word_of};
+ghost use Rattle.mil_word.specs.Words.{command_wave, data_wave};
+ghost use Rattle.std.specs.Option.{is_some, option_copied};
+ghost use Rattle.std.specs.Prelude.{◌≡◌, IfOk, map, None};
 
 use crate::Sent;
 use crate::addresses::fresh;
@@ -39,9 +39,9 @@ pub struct Terminals {
 }
 
 impl Model for Terminals {
-    ghost use Rattle.std.specs.Prelude.{List};
-    ghost use Rattle.mil_terminal.specs.Station.{Station};
     ghost use Rattle.mil_bus.specs.Index.{AreClosed, IsIndex};
+    ghost use Rattle.mil_terminal.specs.Station.{Station};
+    ghost use Rattle.std.specs.Prelude.{List};
 
     ghost Value = { List Station };
 

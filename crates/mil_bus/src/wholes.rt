@@ -1,9 +1,9 @@
 //! A run that is sent as it should.
-ghost use Rattle.std.specs.Prelude.{◌≡◌, ℕ, ◌<◌, List, length, take, drop, get_or, cond, nat_lt};
-ghost use Rattle.mil_word.specs.Words.{command_wave, data_wave};
-ghost use Rattle.mil_bus.specs.declared.talks.Sent.{Sent as SentValue};
 ghost use Rattle.mil_bus.specs.DataRuns.{gap_at};
 ghost use Rattle.mil_bus.specs.Wholes.{whole_words};
+ghost use Rattle.mil_bus.specs.declared.talks.Sent.{Sent as SentValue};
+ghost use Rattle.mil_word.specs.Words.{command_wave, data_wave};
+ghost use Rattle.std.specs.Prelude.{◌≡◌, ℕ, ◌<◌, List, length, take, drop, get_or, cond, nat_lt};
 
 use crate::{Sent, Source};
 use mil_line::Gap;

@@ -1,8 +1,8 @@
 //! What a host sets.
-ghost use Rattle.std.specs.Prelude.{◌≡◌, ◌≤◌, Ok, All};
+ghost use Rattle.mil_host.specs.Printing.{text_of};
 ghost use Rattle.mil_host.specs.Ranges.{IsInRange};
 ghost use Rattle.mil_host.specs.Reading.{action_in};
-ghost use Rattle.mil_host.specs.Printing.{text_of};
+ghost use Rattle.std.specs.Prelude.{◌≡◌, ◌≤◌, Ok, All};
 
 use crate::values::{Mark, ResponseGap, TransmitWords};
 use mil_word::Line;

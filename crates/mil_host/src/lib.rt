@@ -11,5 +11,6 @@ mod reading;
 mod values;
 
 pub use actions::Action;
-pub use reading::{BadAction, read_action};
+pub use data_words::{DataWord, DataWords};
+pub use reading::{BadAction, number_within, read_action};
 pub use values::{Mark, ResponseGap, TransmitWords};

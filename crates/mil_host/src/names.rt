@@ -1,6 +1,6 @@
 //! The names of actions.
-ghost use Rattle.std.specs.Prelude.{◌≡◌};
 ghost use Rattle.mil_host.specs.Reading.{name_of};
+ghost use Rattle.std.specs.Prelude.{◌≡◌};
 
 /// The first word of an action's text.
 #[derive(Clone, Copy, Debug)]

@@ -1,13 +1,13 @@
 //! The text of an action, and the code of a fault in such a text.
-ghost use Rattle.std.specs.Prelude.{◌≡◌};
 ghost use Rattle.mil_host.specs.Printing.{text_of, switch_text, direction_text, line_text};
+ghost use Rattle.std.specs.Prelude.{◌≡◌};
 
 use crate::actions::Action;
 use crate::data_words::{DataWord, DataWords};
 use crate::reading::BadAction;
 use crate::values::Mark;
 use mil_word::Line;
-use std::fmt;
+use std::fmt::{self, Display, Formatter, Write};
 
 fn switch(on: bool) -> &'static str
     ensures { result.now ≡ switch_text on }
@@ -35,13 +35,13 @@ fn direction(mark: &Mark) -> &'static str
 }
 
 /// The code of the fault: `H1`, `H2` or `H3`.
-impl fmt::Display for BadAction {
-    ghost use Rattle.std.specs.Prelude.{Some};
+impl Display for BadAction {
     ghost use Rattle.mil_host.specs.Printing.{fault_code};
+    ghost use Rattle.std.specs.Prelude.{Some};
 
     ghost output = { λ e. Some (fault_code e) };
 
-    fn fmt<W: fmt::Write>(&self, f: &mut fmt::Formatter<W>) -> fmt::Result {
+    fn fmt<W: Write>(&self, f: &mut Formatter<W>) -> fmt::Result {
         f.write_str(match self {
             BadAction::Word => "H1",
             BadAction::Number => "H2",
@@ -51,13 +51,13 @@ impl fmt::Display for BadAction {
 }
 
 /// A direction, a subaddress and a count as three words.
-impl fmt::Display for Mark {
-    ghost use Rattle.std.specs.Prelude.{Some};
+impl Display for Mark {
     ghost use Rattle.mil_host.specs.Printing.{mark_words, spaced};
+    ghost use Rattle.std.specs.Prelude.{Some};
 
     ghost output = { λ m. Some (spaced (mark_words m)) };
 
-    fn fmt<W: fmt::Write>(&self, f: &mut fmt::Formatter<W>) -> fmt::Result {
+    fn fmt<W: Write>(&self, f: &mut Formatter<W>) -> fmt::Result {
         let side = direction(self);
         let sub = self.sub();
         let count = self.count();
@@ -66,14 +66,14 @@ impl fmt::Display for Mark {
 }
 
 /// The action as its text: single spaces, and data words in upper case.
-impl fmt::Display for Action {
-    ghost use Rattle.std.specs.Prelude.{Some};
+impl Display for Action {
     ghost use Rattle.mil_host.specs.Printing.{text_of};
+    ghost use Rattle.std.specs.Prelude.{Some};
 
     ghost output = { λ a. Some (text_of a) };
 
     #[tactic(auto, unfolding(crate::specs::Printing::text_of))]
-    fn fmt<W: fmt::Write>(&self, f: &mut fmt::Formatter<W>) -> fmt::Result {
+    fn fmt<W: Write>(&self, f: &mut Formatter<W>) -> fmt::Result {
         match self {
             Action::Transmit(put) => {
                 let sub = put.sub();

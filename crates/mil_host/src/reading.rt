@@ -1,8 +1,8 @@
 //! The action that a text spells.
-ghost use Rattle.std.specs.Prelude.{◌≡◌, ◌≤◌, Ok, Err, true, length, drop, IfOk, MatchResult};
 ghost use Rattle.mil_host.specs.Reading.{action_in, of_name, number_in, data_in, one_of, line_of, line_in, switch_in};
 ghost use Rattle.mil_host.specs.Reading.{direction_in, and_end, some_data, only_switch, only_line_switch, only_data};
 ghost use Rattle.mil_host.specs.Reading.{only_ticks, only_words, only_mark, data_of, number_of};
+ghost use Rattle.std.specs.Prelude.{◌≡◌, ◌≤◌, Ok, Err, Some, None, slice_get, true, length, drop, IfOk, MatchResult};
 
 use crate::actions::Action;
 use crate::names::{Name, name_in};
@@ -25,8 +25,9 @@ pub enum BadAction {
     Range,
 }
 
-/// The number of a word, within a range.
-fn number_within(word: &[u8], low: u8, high: u8) -> Result<u8, BadAction>
+/// The number of a word, within a range: H2 where it is not a number of one to seven digits, H3 where it is out of
+/// range.
+pub fn number_within(word: &[u8], low: u16, high: u16) -> Result<u16, BadAction>
     ensures value { result ≡ number_of low high word.now }
     ensures range { IfOk result (λ n. (low ≤ n) × (n ≤ high)) }
 {
@@ -34,7 +35,7 @@ fn number_within(word: &[u8], low: u8, high: u8) -> Result<u8, BadAction>
         return Err(BadAction::Number);
     };
     if u64::from(low) <= value && value <= u64::from(high) {
-        Ok(value as u8)
+        Ok(value as u16)
     } else {
         Err(BadAction::Range)
     }
@@ -74,16 +75,26 @@ fn line_named(word: &[u8]) -> Result<Line, BadAction>
     }
 }
 
+/// The next word.
+fn next_of<'a>(words: &mut Words<'a>) -> Result<&'a [u8], BadAction>
+    ensures word { MatchResult result (λ word. Some word.now ≡ slice_get words.old 0)
+        (λ e. (None ≡ slice_get words.old 0) × (e ≡ BadAction.Word)) }
+    ensures rest { words.new ≡ drop 1 words.old }
+{
+    match words.next() {
+        Some(word) => Ok(word),
+        None => Err(BadAction::Word),
+    }
+}
+
 /// A number as the next word.
 fn read_number(words: &mut Words<'_>, low: u8, high: u8) -> Result<u8, BadAction>
     ensures value { result ≡ number_in low high words.old }
     ensures range { IfOk result (λ n. (low ≤ n) × (n ≤ high)) }
     ensures rest { words.new ≡ drop 1 words.old }
 {
-    match words.next() {
-        Some(word) => number_within(word, low, high),
-        None => Err(BadAction::Word),
-    }
+    let number = number_within(next_of(words)?, u16::from(low), u16::from(high))?;
+    Ok(number as u8)
 }
 
 /// A data word as the next word.
@@ -91,10 +102,7 @@ fn read_data(words: &mut Words<'_>) -> Result<u16, BadAction>
     ensures value { result ≡ data_in words.old }
     ensures rest { words.new ≡ drop 1 words.old }
 {
-    match words.next() {
-        Some(word) => data_word(word),
-        None => Err(BadAction::Word),
-    }
+    data_word(next_of(words)?)
 }
 
 /// `on` or `off` as the next word.
@@ -102,10 +110,7 @@ fn read_switch(words: &mut Words<'_>) -> Result<bool, BadAction>
     ensures value { result ≡ switch_in words.old }
     ensures rest { words.new ≡ drop 1 words.old }
 {
-    match words.next() {
-        Some(word) => yes_or_no(word, b"on", b"off"),
-        None => Err(BadAction::Word),
-    }
+    yes_or_no(next_of(words)?, b"on", b"off")
 }
 
 /// `A` or `B` as the next word.
@@ -113,10 +118,7 @@ fn read_line(words: &mut Words<'_>) -> Result<Line, BadAction>
     ensures value { result ≡ line_in words.old }
     ensures rest { words.new ≡ drop 1 words.old }
 {
-    match words.next() {
-        Some(word) => line_named(word),
-        None => Err(BadAction::Word),
-    }
+    line_named(next_of(words)?)
 }
 
 /// `transmit` or `receive` as the next word.
@@ -124,10 +126,7 @@ fn read_direction(words: &mut Words<'_>) -> Result<bool, BadAction>
     ensures value { result ≡ direction_in words.old }
     ensures rest { words.new ≡ drop 1 words.old }
 {
-    match words.next() {
-        Some(word) => yes_or_no(word, b"transmit", b"receive"),
-        None => Err(BadAction::Word),
-    }
+    yes_or_no(next_of(words)?, b"transmit", b"receive")
 }
 
 /// No word is left.

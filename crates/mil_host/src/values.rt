@@ -1,6 +1,6 @@
 //! The values of an action that keep their ranges.
-ghost use Rattle.std.specs.Prelude.{◌≡◌, ◌≤◌, ◌<◌, length, All};
 ghost use Rattle.mil_host.specs.Ranges.{IsPutUp, IsMark};
+ghost use Rattle.std.specs.Prelude.{◌≡◌, ◌≤◌, ◌<◌, length, All};
 
 use arrayvec::ArrayVec;
 use std::marker::Model;
@@ -14,8 +14,8 @@ pub struct TransmitWords {
 }
 
 impl Model for TransmitWords {
-    ghost use Rattle.std.specs.Prelude.{◌≤◌, length};
     ghost use Rattle.mil_host.specs.Values.{PutUp};
+    ghost use Rattle.std.specs.Prelude.{◌≤◌, length};
 
     ghost Value = { PutUp };
 
@@ -91,8 +91,8 @@ pub struct Mark {
 }
 
 impl Model for Mark {
-    ghost use Rattle.std.specs.Prelude.{◌≤◌};
     ghost use Rattle.mil_host.specs.Values.{Marked};
+    ghost use Rattle.std.specs.Prelude.{◌≤◌};
 
     ghost Value = { Marked };
 

@@ -14,8 +14,8 @@ pub enum LineError {
 
 /// `L1` to `L3`.
 impl Display for LineError {
-    ghost use Rattle.std.specs.Prelude.{Some};
     ghost use Rattle.mil_line.specs.Codes.{fault_code};
+    ghost use Rattle.std.specs.Prelude.{Some};
 
     ghost output = { λ fault. Some (fault_code fault) };
 

@@ -1,8 +1,8 @@
 //! A planned fault, and what it asks at a place of a run.
-ghost use Rattle.std.specs.Prelude.{◌≡◌, ◌&&◌, nat_le};
 ghost use Rattle.mil_line.specs.Faults.{mask_at, drops, added_at, mutes, late_by};
 ghost use Rattle.mil_line.specs.Ranges.{is_in_range};
 ghost use Rattle.mil_line.specs.declared.faults.Fault.TheVariants.{Mute};
+ghost use Rattle.std.specs.Prelude.{◌≡◌, ◌&&◌, nat_le};
 
 use mil_word::{Wave, Word, encode};
 

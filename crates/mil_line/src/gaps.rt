@@ -1,8 +1,8 @@
 //! The gap before a word.
-ghost use Rattle.std.specs.Prelude.{◌≡◌, ◌≤◌, ◌==◌};
-ghost use Rattle.std.specs.Cmp.Rules.{comparing};
-ghost use Rattle.std.proofs.Common.{rules};
 ghost use Rattle.mil_word.specs.Timing.{contiguous_gap};
+ghost use Rattle.std.proofs.Common.{rules};
+ghost use Rattle.std.specs.Cmp.Rules.{comparing};
+ghost use Rattle.std.specs.Prelude.{◌≡◌, ◌≤◌, ◌==◌};
 
 use mil_word::timing::CONTIGUOUS_GAP;
 use std::marker::Model;
@@ -18,8 +18,8 @@ pub struct Gap {
 }
 
 impl Model for Gap {
-    ghost use Rattle.std.specs.Prelude.{◌≡◌, ℕ, ◌+◌, ◌-◌, ◌<◌, ◌^◌};
     ghost use Rattle.mil_word.specs.Timing.{contiguous_gap};
+    ghost use Rattle.std.specs.Prelude.{◌≡◌, ℕ, ◌+◌, ◌-◌, ◌<◌, ◌^◌};
 
     ghost Value = { ℕ };
 

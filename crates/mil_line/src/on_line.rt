@@ -1,8 +1,8 @@
 //! What the planned faults make of one run.
-ghost use Rattle.std.specs.Prelude.{◌≡◌, ◌+◌, ◌<◌, ◌≤◌, ◌^◌, take, length, ◌++◌, ◌∷◌, [], true};
-ghost use Rattle.std.specs.List.{list_any, list_all, filter_map};
 ghost use Rattle.mil_line.specs.Faults.{mask_at, drops, added_at, mutes, inverted, at_place, altered, gap_of};
 ghost use Rattle.mil_line.specs.Ranges.{is_in_range};
+ghost use Rattle.std.specs.List.{list_any, list_all, filter_map};
+ghost use Rattle.std.specs.Prelude.{◌≡◌, ◌+◌, ◌<◌, ◌≤◌, ◌^◌, take, length, ◌++◌, ◌∷◌, [], true};
 
 use crate::{Fault, Gap};
 use arrayvec::ArrayVec;

@@ -1,9 +1,9 @@
 //! The faults that are planned for the messages of a channel.
-ghost use Rattle.std.specs.Prelude.{◌≡◌, ◌∷◌, ◌++◌, [], ◌<◌, ◌≤◌, ◌&&◌, ◌↔◌, true, false, length, Err, OnOk, IfOk};
-ghost use Rattle.std.specs.Prelude.{OnErr};
-ghost use Rattle.std.specs.List.{list_all};
 ghost use Rattle.mil_line.specs.Plans.{faults_of};
 ghost use Rattle.mil_line.specs.Ranges.{is_in_range, is_number};
+ghost use Rattle.std.specs.List.{list_all};
+ghost use Rattle.std.specs.Prelude.{OnErr};
+ghost use Rattle.std.specs.Prelude.{◌≡◌, ◌∷◌, ◌++◌, [], ◌<◌, ◌≤◌, ◌&&◌, ◌↔◌, true, false, length, Err, OnOk, IfOk};
 
 use crate::{Fault, LineError};
 use arrayvec::ArrayVec;
@@ -21,9 +21,9 @@ pub struct Plan {
 }
 
 impl Model for Plan {
-    ghost use Rattle.std.specs.Prelude.{List};
     ghost use Rattle.mil_line.specs.Plans.{Planned};
     ghost use Rattle.mil_line.specs.StandsFor.{StandsFor};
+    ghost use Rattle.std.specs.Prelude.{List};
 
     ghost Value = { List Planned };
 

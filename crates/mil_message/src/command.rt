@@ -1,6 +1,6 @@
 //! Command words from their fields (MIL-STD-1553B 4.3.3.5.1).
-ghost use Rattle.std.specs.Prelude.{◌≡◌, ◌≤◌};
 ghost use Rattle.mil_message.specs.Forms as words;
+ghost use Rattle.std.specs.Prelude.{◌≡◌, ◌≤◌};
 
 use crate::ModeSubaddress;
 use mil_word::Command;

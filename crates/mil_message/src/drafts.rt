@@ -1,6 +1,6 @@
 //! What a script or a job asks for: a message with unchecked numbers.
-ghost use Rattle.std.specs.Prelude.{◌≡◌};
 ghost use Rattle.mil_message.specs.Request.{request_of, written, mode_request, mode_request_to_all};
+ghost use Rattle.std.specs.Prelude.{◌≡◌};
 
 /// The two subaddresses that mark a mode command, alike in meaning (MIL-STD-1553B 4.3.3.5.1.7, Notice 2).
 #[derive(Clone, Copy, Debug, PartialEq, Eq)]

@@ -18,8 +18,8 @@ pub enum BadMessage {
 
 /// `M1` to `M5`.
 impl Display for BadMessage {
-    ghost use Rattle.std.specs.Prelude.{Some};
     ghost use Rattle.mil_message.specs.Codes.{fault_code};
+    ghost use Rattle.std.specs.Prelude.{Some};
 
     ghost output = { λ fault. Some (fault_code fault) };
 

@@ -1,7 +1,7 @@
 //! The form that a draft asks for, or the first fault: one function for each of the ten forms.
-ghost use Rattle.std.specs.Prelude.{◌≡◌};
 ghost use Rattle.mil_message.specs.Request as asks;
 ghost use Rattle.mil_message.specs.Rules.{checked};
+ghost use Rattle.std.specs.Prelude.{◌≡◌};
 
 use crate::ranges::{
     address, code_alone, code_from, code_to, data_words, ends, no_word, one_word, subaddress,

@@ -1,12 +1,12 @@
 //! A message in one of the ten forms.
-ghost use Rattle.std.specs.Prelude.{◌≡◌, ◌≤◌, ◌↔◌, ◌∷◌, ◌++◌, Ok, length, map, take, drop};
-ghost use Rattle.mil_word.specs.Words.{command_wave, data_wave};
-ghost use Rattle.std.specs.Option.{option_to_list};
-ghost use Rattle.mil_message.specs.declared.forms.Form.{Form as FormValue};
-ghost use Rattle.mil_message.specs.Request.{request_of};
-ghost use Rattle.mil_message.specs.Rules.{checked, request_for, IsLawful};
 ghost use Rattle.mil_message.specs.Forms.{commands, first_command, second_command, data_words, controller_words};
 ghost use Rattle.mil_message.specs.Forms.{controller_waves, command_of, replies_due, form_number};
+ghost use Rattle.mil_message.specs.Request.{request_of};
+ghost use Rattle.mil_message.specs.Rules.{checked, request_for, IsLawful};
+ghost use Rattle.mil_message.specs.declared.forms.Form.{Form as FormValue};
+ghost use Rattle.mil_word.specs.Words.{command_wave, data_wave};
+ghost use Rattle.std.specs.Option.{option_to_list};
+ghost use Rattle.std.specs.Prelude.{◌≡◌, ◌≤◌, ◌↔◌, ◌∷◌, ◌++◌, Ok, length, map, take, drop};
 
 use crate::command::{
     mode_command, mode_command_to_all, receive_command, receive_command_to_all, transmit_command,
@@ -296,9 +296,9 @@ impl Clone for Message {
 
 /// A message to begin with where another is to take its place: terminal 0 is asked for its status word (mode code 2).
 impl Default for Message {
-    ghost use Rattle.std.specs.Prelude.{◌≡◌};
     ghost use Rattle.mil_message.specs.declared.drafts.ModeSubaddress.TheVariants.{Zero};
     ghost use Rattle.mil_message.specs.declared.forms.Form.TheVariants.{Mode};
+    ghost use Rattle.std.specs.Prelude.{◌≡◌};
 
     ghost is_default = { λ m. m ≡ Mode 0 Zero 2 };
 

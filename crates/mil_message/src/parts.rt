@@ -1,9 +1,9 @@
 //! A message as numbers, as the image of a program holds it.
-ghost use Rattle.std.specs.Prelude.{◌≡◌, ◌↔◌, Ok, Some, IsTrue, option_map, unwrap_or};
-ghost use Rattle.mil_message.specs.declared.forms.Form.{Form as FormValue};
+ghost use Rattle.mil_message.specs.Parts.{parts_of, request_at, transfer_at, mode_command_at};
 ghost use Rattle.mil_message.specs.Request.{request_of};
 ghost use Rattle.mil_message.specs.Rules.{checked, request_for, IsLawful};
-ghost use Rattle.mil_message.specs.Parts.{parts_of, request_at, transfer_at, mode_command_at};
+ghost use Rattle.mil_message.specs.declared.forms.Form.{Form as FormValue};
+ghost use Rattle.std.specs.Prelude.{◌≡◌, ◌↔◌, Ok, Some, IsTrue, option_map, unwrap_or};
 
 use crate::{Draft, Message, ModeSubaddress};
 use mil_word::Command;

@@ -1,7 +1,7 @@
 //! The waves of the words of a run, in room of their own.
-ghost use Rattle.std.specs.Prelude.{◌≡◌, ◌+◌, ◌≤◌, ◌++◌, ◌∷◌, [], length, map};
 ghost use Rattle.mil_word.specs.Wave.{wave_of};
 ghost use Rattle.mil_word.specs.Words.{data_wave};
+ghost use Rattle.std.specs.Prelude.{◌≡◌, ◌+◌, ◌≤◌, ◌++◌, ◌∷◌, [], length, map};
 
 use mil_word::{Sync, Wave, Word, encode};
 use std::marker::Model;

@@ -8,12 +8,12 @@
 
 pub mod codes;
 
-ghost use Rattle.std.specs.Prelude.{◌≡◌, ◌≤◌, ◌↔◌, IsTrue, ◌||◌, not};
-ghost use Rattle.mil_mode.specs.Table.{row_of, is_known, is_reserved, is_broadcast_mode, data_word_count};
-ghost use Rattle.mil_mode.specs.Table.{is_legal_mode as is_legal};
-ghost use Rattle.std.specs.Prelude.{◌==◌};
 ghost use Rattle.mil_mode.specs.Codes.{override_selected_shutdown, selected_shutdown, synchronize_with_word};
 ghost use Rattle.mil_mode.specs.Codes.{transmit_bit_word, transmit_last_command, transmit_vector_word};
+ghost use Rattle.mil_mode.specs.Table.{is_legal_mode as is_legal};
+ghost use Rattle.mil_mode.specs.Table.{row_of, is_known, is_reserved, is_broadcast_mode, data_word_count};
+ghost use Rattle.std.specs.Prelude.{◌==◌};
+ghost use Rattle.std.specs.Prelude.{◌≡◌, ◌≤◌, ◌↔◌, IsTrue, ◌||◌, not};
 
 use codes::{
     FIRST_RESERVED, FIRST_RESERVED_WITH_WORD, INITIATE_SELF_TEST, LAST_RESERVED_WITHOUT_WORD,

@@ -1,8 +1,8 @@
 //! The record of a finished talk.
-ghost use Rattle.std.specs.Prelude.{◌≡◌, ◌<◌};
 ghost use Rattle.mil_bus.specs.BlockStatus.{block_of};
 ghost use Rattle.mil_bus.specs.Counts.{seen_of};
 ghost use Rattle.mil_monitor.specs.Observed.{observed, gap_half};
+ghost use Rattle.std.specs.Prelude.{◌≡◌, ◌<◌};
 
 use crate::Record;
 use mil_bus::{Came, Talk, TalkCounts};

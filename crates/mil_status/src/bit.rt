@@ -1,6 +1,6 @@
 //! One bit of a status word.
-ghost use Rattle.std.specs.Prelude.{◌≡◌, IfSome};
 ghost use Rattle.mil_status.specs.Status as table;
+ghost use Rattle.std.specs.Prelude.{◌≡◌, IfSome};
 
 /// A bit of a status word that has a meaning (MIL-STD-1553B 4.3.3.5.3).
 #[derive(Clone, Copy, Debug, PartialEq, Eq)]

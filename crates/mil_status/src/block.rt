@@ -61,8 +61,8 @@ impl BlockBits {
 }
 
 impl Flags for BlockBits {
-    ghost use Rattle.std.specs.Prelude.{⊤};
     ghost use Rattle.mil_status.specs.Block.{block_bits};
+    ghost use Rattle.std.specs.Prelude.{⊤};
 
     type Bits = u16;
 

@@ -1,6 +1,6 @@
 //! The bits of a status word.
-ghost use Rattle.std.specs.Prelude.{◌≡◌, ◌≤◌, ◌<◌, ◌+◌, ◌*◌, ◌^◌};
 ghost use Rattle.mil_status.specs.Status.{status_of};
+ghost use Rattle.std.specs.Prelude.{◌≡◌, ◌≤◌, ◌<◌, ◌+◌, ◌*◌, ◌^◌};
 
 use bitflags::{Flag, Flags};
 
@@ -66,8 +66,8 @@ impl StatusBits {
 }
 
 impl Flags for StatusBits {
-    ghost use Rattle.std.specs.Prelude.{⊤};
     ghost use Rattle.mil_status.specs.Status.{status_bits};
+    ghost use Rattle.std.specs.Prelude.{⊤};
 
     type Bits = u16;
 

@@ -13,8 +13,8 @@ pub struct Block {
 }
 
 impl Model for Block {
-    ghost use Rattle.std.specs.Prelude.{◌≡◌, ℕ, ◌≤◌, ◌<◌, List, length, vec_len, slice_index};
     ghost use Rattle.mil_terminal.specs.Slots.{slots};
+    ghost use Rattle.std.specs.Prelude.{◌≡◌, ℕ, ◌≤◌, ◌<◌, List, length, vec_len, slice_index};
 
     ghost Value = { List (List ℕ) };
 

@@ -1,6 +1,6 @@
 //! A condition that each line has for itself.
-ghost use Rattle.std.specs.Prelude.{◌≡◌, false};
 ghost use Rattle.mil_terminal.specs.ByLines.{on_line, with_line};
+ghost use Rattle.std.specs.Prelude.{◌≡◌, false};
 
 use mil_word::Line;
 

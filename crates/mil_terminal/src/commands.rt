@@ -1,8 +1,8 @@
 //! What a terminal asks about a command.
-ghost use Rattle.std.specs.Prelude.{◌≡◌};
 ghost use Rattle.mil_terminal.specs.Registers as registers;
 ghost use Rattle.mil_terminal.specs.Updates.{is_code};
 ghost use Rattle.mil_terminal.specs.Verdicts.{is_unknown as unknown};
+ghost use Rattle.std.specs.Prelude.{◌≡◌};
 
 use crate::addresses::Address;
 use mil_mode::codes::{TRANSMIT_LAST_COMMAND, TRANSMIT_STATUS_WORD};

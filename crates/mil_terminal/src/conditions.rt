@@ -1,6 +1,6 @@
 //! The conditions that a status word tells.
-ghost use Rattle.std.specs.Prelude.{◌≡◌, if◌then◌else◌};
 ghost use Rattle.mil_terminal.specs.Status.{no_conditions, bits_of, status_word as word_of};
+ghost use Rattle.std.specs.Prelude.{◌≡◌, if◌then◌else◌};
 
 use crate::addresses::Address;
 use mil_status::{StatusBits, status_word};

@@ -1,4 +1,7 @@
 //! Why there is no such terminal.
+ghost use Rattle.mil_terminal.specs.declared.error.TerminalError.TheVariants.{Memory};
+ghost use Rattle.std.specs.Prelude.{◌≡◌};
+
 use std::alloc::AllocError;
 use std::fmt::{self, Display, Formatter, Write};
 
@@ -13,8 +16,8 @@ pub enum TerminalError {
 
 /// `Z1` and `Z2`.
 impl Display for TerminalError {
-    ghost use Rattle.std.specs.Prelude.{Some};
     ghost use Rattle.mil_terminal.specs.Codes.{fault_code};
+    ghost use Rattle.std.specs.Prelude.{Some};
 
     ghost output = { λ fault. Some (fault_code fault) };
 
@@ -27,9 +30,6 @@ impl Display for TerminalError {
 }
 
 impl From<AllocError> for TerminalError {
-    ghost use Rattle.std.specs.Prelude.{◌≡◌};
-    ghost use Rattle.mil_terminal.specs.declared.error.TerminalError.TheVariants.{Memory};
-
     ghost from_gives = { λ _ e. e ≡ Memory };
 
     fn from(_: AllocError) -> TerminalError {

@@ -1,7 +1,7 @@
 //! What the host has set.
-ghost use Rattle.std.specs.Prelude.{◌≡◌, [], ◌∷◌};
-ghost use Rattle.mil_terminal.specs.declared.events.Event.TheVariants.{Host as host_event};
 ghost use Rattle.mil_terminal.specs.History.{History};
+ghost use Rattle.mil_terminal.specs.declared.events.Event.TheVariants.{Host as host_event};
+ghost use Rattle.std.specs.Prelude.{◌≡◌, [], ◌∷◌};
 
 use crate::by_lines::ByLine;
 use crate::marks::Marks;
@@ -71,18 +71,6 @@ impl Settings {
     pub fn copy(&self) -> Settings
         ensures { result ≡ self.now }
     {
-        Settings {
-            busy: self.busy,
-            service: self.service,
-            subsystem: self.subsystem,
-            fault: self.fault,
-            control: self.control,
-            vector: self.vector,
-            self_test: self.self_test,
-            response: self.response,
-            marks: self.marks.copy(),
-            deaf: self.deaf,
-            mute: self.mute,
-        }
+        self.save().settings(self.marks.copy())
     }
 }

@@ -1,6 +1,6 @@
 //! The commands that the host has marked as illegal.
-ghost use Rattle.std.specs.Prelude.{◌≡◌, ℕ, ◌+◌, Bool, true, false, replicate, ◌<◌, ◌≤◌, if◌then◌else◌};
 ghost use Rattle.mil_terminal.specs.Host.{is_mark};
+ghost use Rattle.std.specs.Prelude.{◌≡◌, ℕ, ◌+◌, Bool, true, false, replicate, ◌<◌, ◌≤◌, if◌then◌else◌};
 
 use mil_host::Mark;
 

@@ -1,17 +1,17 @@
 //! An undecided window, by a small state for each word.
-ghost use Rattle.std.specs.Prelude.{◌≡◌, ℕ, ◌<◌, ◌≤◌, nat_lt, ◌&&◌, List, [], ◌∷◌, ◌++◌, length, map, take, slice_set};
-ghost use Rattle.std.specs.Prelude.{Some, None, IfSome, IfNone, unwrap_or, true, false, if◌then◌else◌};
+ghost use Rattle.mil_terminal.specs.Phases as phases;
+ghost use Rattle.mil_terminal.specs.Registers.{value_of};
+ghost use Rattle.mil_terminal.specs.Runs.{heard, AreNoCommands, AreSmall};
+ghost use Rattle.mil_terminal.specs.Verdicts as verdicts;
+ghost use Rattle.mil_terminal.specs.Windows as windows;
+ghost use Rattle.mil_terminal.specs.declared.events.Event.TheVariants.{Heard, Quiet};
+ghost use Rattle.mil_terminal.specs.declared.events.Event.{Event};
+ghost use Rattle.mil_terminal.specs.declared.pending.Phase.TheVariants.{Taking};
+ghost use Rattle.mil_word.specs.Words.{same_line as same, command_in, data_in, data_wave};
 ghost use Rattle.std.specs.List.{filter_map};
 ghost use Rattle.std.specs.Option.{is_some};
-ghost use Rattle.mil_word.specs.Words.{same_line as same, command_in, data_in, data_wave};
-ghost use Rattle.mil_terminal.specs.declared.events.Event.{Event};
-ghost use Rattle.mil_terminal.specs.declared.events.Event.TheVariants.{Heard, Quiet};
-ghost use Rattle.mil_terminal.specs.Windows as windows;
-ghost use Rattle.mil_terminal.specs.Verdicts as verdicts;
-ghost use Rattle.mil_terminal.specs.Registers.{value_of};
-ghost use Rattle.mil_terminal.specs.Phases as phases;
-ghost use Rattle.mil_terminal.specs.Runs.{heard, AreNoCommands, AreSmall};
-ghost use Rattle.mil_terminal.specs.declared.pending.Phase.TheVariants.{Taking};
+ghost use Rattle.std.specs.Prelude.{Some, None, IfSome, IfNone, unwrap_or, true, false, if◌then◌else◌};
+ghost use Rattle.std.specs.Prelude.{◌≡◌, ℕ, ◌<◌, ◌≤◌, nat_lt, ◌&&◌, List, [], ◌∷◌, ◌++◌, length, map, take, slice_set};
 
 use crate::addresses::Address;
 use crate::sounds::Sound;
@@ -150,8 +150,8 @@ fn put_values(values: &mut [u16; 32], waves: &[Wave]) -> bool
 }
 
 impl Pending {
-    ghost use Rattle.mil_terminal.specs.Phases.{with_due, due_value, after_word, after_run, decides, shape_now};
     ghost use Rattle.mil_terminal.specs.Phases.{phase_after_quiet, window_of, IsPending};
+    ghost use Rattle.mil_terminal.specs.Phases.{with_due, due_value, after_word, after_run, decides, shape_now};
 
     /// A window that was just opened.
     pub fn open(line: Line, command: Command) -> Pending

@@ -1,18 +1,18 @@
 //! The registers of a terminal, which stand for its history.
-ghost use Rattle.std.specs.Prelude.{◌≡◌, ◌+◌, ◌≤◌, ◌<◌, ◌==◌, ◌&&◌, not, [], ◌∷◌, IfOk, length, replicate, ◌++◌, Some};
-ghost use Rattle.std.specs.Prelude.{None, if◌then◌else◌};
-ghost use Rattle.mil_terminal.specs.declared.events.Event.TheVariants.{Heard, Quiet, Host};
+ghost use Rattle.arrayvec.specs.ArrayVec.{array_vec_len};
 ghost use Rattle.mil_terminal.specs.History.{History};
 ghost use Rattle.mil_terminal.specs.Host.{is_deaf, is_mute};
 ghost use Rattle.mil_terminal.specs.Registers as registers;
-ghost use Rattle.mil_terminal.specs.Status.{status};
 ghost use Rattle.mil_terminal.specs.Replies as replies;
 ghost use Rattle.mil_terminal.specs.Replies.{exactly};
-ghost use Rattle.mil_word.specs.Fields.{address_of};
-ghost use Rattle.mil_terminal.specs.Windows.{is_listening};
 ghost use Rattle.mil_terminal.specs.Runs.{heard, met, AreNoCommands};
+ghost use Rattle.mil_terminal.specs.Status.{status};
+ghost use Rattle.mil_terminal.specs.Windows.{is_listening};
+ghost use Rattle.mil_terminal.specs.declared.events.Event.TheVariants.{Heard, Quiet, Host};
+ghost use Rattle.mil_word.specs.Fields.{address_of};
 ghost use Rattle.std.specs.Option.{option_to_list};
-ghost use Rattle.arrayvec.specs.ArrayVec.{array_vec_len};
+ghost use Rattle.std.specs.Prelude.{None, if◌then◌else◌};
+ghost use Rattle.std.specs.Prelude.{◌≡◌, ◌+◌, ◌≤◌, ◌<◌, ◌==◌, ◌&&◌, not, [], ◌∷◌, IfOk, length, replicate, ◌++◌, Some};
 
 use crate::addresses::Address;
 use crate::blocks::Block;
@@ -47,8 +47,8 @@ pub struct Registers {
 
 impl Registers {
     ghost use Rattle.mil_terminal.specs.StandsFor.{StandsFor};
-    ghost use Rattle.mil_terminal.specs.Updates.{told, opened, settled, stored, off_on, answer_now, mode_data_now};
     ghost use Rattle.mil_terminal.specs.Updates.{put_up_at, is_barred};
+    ghost use Rattle.mil_terminal.specs.Updates.{told, opened, settled, stored, off_on, answer_now, mode_data_now};
 
     /// The registers of a terminal that has met nothing yet. All room is made here.
     pub fn make(alloc: Global, own: Address) -> Result<Registers, AllocError>

@@ -19,8 +19,8 @@ pub struct SavedTerminal {
 }
 
 impl Model for SavedTerminal {
-    ghost use Rattle.mil_terminal.specs.Station.{Station};
     ghost use Rattle.mil_terminal.specs.StandsFor.{StandsFor};
+    ghost use Rattle.mil_terminal.specs.Station.{Station};
 
     ghost Value = { Station };
 

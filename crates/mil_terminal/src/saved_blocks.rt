@@ -1,6 +1,6 @@
 //! The words of a terminal, packed.
-ghost use Rattle.std.specs.Prelude.{◌≡◌, ◌≤◌, ◌<◌, ◌++◌, IfOk, OnOk, length};
 ghost use Rattle.mil_terminal.specs.Slots.{entry, entries};
+ghost use Rattle.std.specs.Prelude.{◌≡◌, ◌≤◌, ◌<◌, ◌++◌, IfOk, OnOk, length};
 
 use crate::blocks::Block;
 use std::alloc::{AllocError, Global};
@@ -16,8 +16,8 @@ pub struct SavedBlock {
 }
 
 impl Model for SavedBlock {
-    ghost use Rattle.std.specs.Prelude.{ℕ, List};
     ghost use Rattle.mil_terminal.specs.Slots.{IsPacked};
+    ghost use Rattle.std.specs.Prelude.{ℕ, List};
 
     ghost Value = { List (List ℕ) };
 

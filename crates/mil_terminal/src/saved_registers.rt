@@ -1,6 +1,6 @@
 //! What is kept of a terminal's registers.
-ghost use Rattle.std.specs.Prelude.{◌≡◌, IfOk};
 ghost use Rattle.mil_terminal.specs.SavingHost.{kept_marks, marks_kept, window_kept, settings_kept};
+ghost use Rattle.std.specs.Prelude.{◌≡◌, IfOk};
 
 use crate::addresses::Address;
 use crate::by_lines::ByLine;
@@ -53,8 +53,8 @@ pub struct SavedRegisters {
 }
 
 impl Model for SavedRegisters {
-    ghost use Rattle.mil_terminal.specs.declared.registers.Registers.{Registers};
     ghost use Rattle.mil_terminal.specs.Saving.{registers_kept};
+    ghost use Rattle.mil_terminal.specs.declared.registers.Registers.{Registers};
 
     ghost Value = { Registers };
 
@@ -75,7 +75,7 @@ impl Marks {
 
 impl Settings {
     /// The same settings, to be kept, the marks excepted.
-    fn save(&self) -> SavedSettings
+    pub(crate) fn save(&self) -> SavedSettings
         ensures { settings_kept result self.now.marks ≡ self.now }
     {
         SavedSettings {
@@ -95,7 +95,7 @@ impl Settings {
 
 impl SavedSettings {
     /// The settings that were kept, with these marks.
-    fn settings(&self, marks: Marks) -> Settings
+    pub(crate) fn settings(&self, marks: Marks) -> Settings
         ensures { result ≡ settings_kept self.now marks }
     {
         Settings {

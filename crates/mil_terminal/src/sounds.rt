@@ -1,10 +1,10 @@
 //! A wave that was heard, with its word.
-ghost use Rattle.std.specs.Prelude.{◌≡◌, ◌||◌, ◌==◌};
-ghost use Rattle.std.specs.Option.{option_and_then};
-ghost use Rattle.mil_word.specs.declared.Word.{Word};
+ghost use Rattle.mil_word.specs.Fields.{address_of, is_broadcast};
 ghost use Rattle.mil_word.specs.Wave.{word_of};
 ghost use Rattle.mil_word.specs.Words.{command_in, data_in, value_if};
-ghost use Rattle.mil_word.specs.Fields.{address_of, is_broadcast};
+ghost use Rattle.mil_word.specs.declared.Word.{Word};
+ghost use Rattle.std.specs.Option.{option_and_then};
+ghost use Rattle.std.specs.Prelude.{◌≡◌, ◌||◌, ◌==◌};
 
 use crate::addresses::Address;
 use mil_word::{Command, Sync, Wave, Word};
@@ -18,8 +18,8 @@ pub struct Sound {
 }
 
 impl Model for Sound {
-    ghost use Rattle.std.specs.Prelude.{◌≡◌, ℕ};
     ghost use Rattle.mil_word.specs.Wave.{word_of};
+    ghost use Rattle.std.specs.Prelude.{◌≡◌, ℕ};
 
     ghost Value = { ℕ };
 

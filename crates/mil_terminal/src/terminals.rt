@@ -1,16 +1,16 @@
 //! The remote terminal.
-ghost use Rattle.std.specs.Prelude.{◌≡◌, ◌<◌, ◌≤◌, ◌↔◌, ◌/◌, ◌%◌, ◌^◌, ◌==◌, Err, None, [], false, IfOk, map};
-ghost use Rattle.mil_word.specs.declared.Line.{Line as LineValue};
-ghost use Rattle.mil_word.specs.Wave.{word_of};
-ghost use Rattle.mil_word.specs.Words.{command_in, data_wave};
-ghost use Rattle.mil_terminal.specs.declared.events.Event.TheVariants.{Heard, Quiet, Host};
 ghost use Rattle.mil_terminal.specs.Host.{is_deaf, is_mute};
 ghost use Rattle.mil_terminal.specs.Registers as registers;
 ghost use Rattle.mil_terminal.specs.Replies as replies;
+ghost use Rattle.mil_terminal.specs.Runs.{heard, met, after_all, AreNoCommands};
+ghost use Rattle.mil_terminal.specs.Station.{after};
 ghost use Rattle.mil_terminal.specs.Status as statuses;
 ghost use Rattle.mil_terminal.specs.Windows as windows;
-ghost use Rattle.mil_terminal.specs.Station.{after};
-ghost use Rattle.mil_terminal.specs.Runs.{heard, met, after_all, AreNoCommands};
+ghost use Rattle.mil_terminal.specs.declared.events.Event.TheVariants.{Heard, Quiet, Host};
+ghost use Rattle.mil_word.specs.Wave.{word_of};
+ghost use Rattle.mil_word.specs.Words.{command_in, data_wave};
+ghost use Rattle.mil_word.specs.declared.Line.{Line as LineValue};
+ghost use Rattle.std.specs.Prelude.{◌≡◌, ◌<◌, ◌≤◌, ◌↔◌, ◌/◌, ◌%◌, ◌^◌, ◌==◌, Err, None, [], false, IfOk, map};
 
 use crate::addresses::Address;
 use crate::registers::Registers;
@@ -35,8 +35,8 @@ pub struct Terminal {
 }
 
 impl Model for Terminal {
-    ghost use Rattle.mil_terminal.specs.Station.{Station};
     ghost use Rattle.mil_terminal.specs.StandsFor.{StandsFor};
+    ghost use Rattle.mil_terminal.specs.Station.{Station};
 
     ghost Value = { Station };
 

@@ -1,8 +1,8 @@
 //! Data words that are heard by their values.
-ghost use Rattle.std.specs.Prelude.{◌≡◌, map};
-ghost use Rattle.mil_word.specs.Words.{data_wave};
 ghost use Rattle.mil_terminal.specs.History.{History};
 ghost use Rattle.mil_terminal.specs.Runs.{heard, met, AreSmall};
+ghost use Rattle.mil_word.specs.Words.{data_wave};
+ghost use Rattle.std.specs.Prelude.{◌≡◌, map};
 
 use crate::pending::same_line;
 use crate::registers::Registers;

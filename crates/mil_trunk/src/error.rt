@@ -13,8 +13,8 @@ pub enum TrunkError {
 
 /// `Q1` and `Q2`.
 impl Display for TrunkError {
-    ghost use Rattle.std.specs.Prelude.{Some};
     ghost use Rattle.mil_trunk.specs.Codes.{fault_code};
+    ghost use Rattle.std.specs.Prelude.{Some};
 
     ghost output = { λ fault. Some (fault_code fault) };
 

@@ -117,8 +117,8 @@ impl<T> Split<View<T>> for BothEnds {
 pub struct Offer;
 
 impl<T> Outcome<T, View<T>> for Offer {
-    ghost use Rattle.std.specs.Prelude.{◌≡◌};
     ghost use Rattle.mil_trunk.specs.Views.{pushed};
+    ghost use Rattle.std.specs.Prelude.{◌≡◌};
 
     ghost then = { λ v x w. w ≡ pushed v x };
 }

@@ -1,6 +1,6 @@
 //! The tags by which items are told apart, and sets of them.
-ghost use Rattle.std.specs.Prelude.{◌≡◌, ◌≢◌, ◌<◌, ◌^◌, ℕ, true, false};
 ghost use Rattle.mil_trunk.specs.Tags.{has};
+ghost use Rattle.std.specs.Prelude.{◌≡◌, ◌≢◌, ◌<◌, ◌^◌, ℕ, true, false};
 
 use std::marker::Model;
 

@@ -1,10 +1,10 @@
 //! The queue, its tickets and its taker.
-ghost use Rattle.std.specs.Prelude.{◌≡◌, ◌<◌, ◌≤◌, ◌+◌, ◌^◌, ◌↔◌, ◌⊎◌, ◌++◌, ◌∷◌, [], ℕ, true, length, sum, not, ◌&&◌};
-ghost use Rattle.std.specs.Prelude.{◌||◌, All, IfOk, OnOk, IfErr, OnErr, IfSome, IfNone};
 ghost use Rattle.mil_trunk.specs.Ends.{IsCapacity, IsTicketOf, IsTakerOf, capacity_of, bounds_of, bounds_in, tags_of};
 ghost use Rattle.mil_trunk.specs.Ends.{sent, received};
 ghost use Rattle.mil_trunk.specs.Tags.{has, all_tags, minus, bound_of, bounds_outside, Includes};
 ghost use Rattle.mil_trunk.specs.Views.{with_tag, inside, outside};
+ghost use Rattle.std.specs.Prelude.{◌||◌, All, IfOk, OnOk, IfErr, OnErr, IfSome, IfNone};
+ghost use Rattle.std.specs.Prelude.{◌≡◌, ◌<◌, ◌≤◌, ◌+◌, ◌^◌, ◌↔◌, ◌⊎◌, ◌++◌, ◌∷◌, [], ℕ, true, length, sum, not, ◌&&◌};
 
 use crate::error::TrunkError;
 use crate::rule::{

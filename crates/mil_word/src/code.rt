@@ -1,9 +1,9 @@
 //! The wave of a word, and the word of a wave.
-ghost use Rattle.std.specs.Prelude.{◌≡◌, ◌+◌, ◌*◌, ◌/◌, ◌%◌, ◌<◌, ◌^◌, ◌↔◌, ◌==◌, if◌then◌else◌, Some};
-ghost use Rattle.std.specs.List.{flat_map};
+ghost use Rattle.mil_word.specs.Wave.{digits, number, pair, first_halves, wave_of, raw_of, word_of};
 ghost use Rattle.mil_word.specs.declared.Sync.TheVariants.{CommandSync, DataSync};
 ghost use Rattle.mil_word.specs.declared.Word.{Word};
-ghost use Rattle.mil_word.specs.Wave.{digits, number, pair, first_halves, wave_of, raw_of, word_of};
+ghost use Rattle.std.specs.List.{flat_map};
+ghost use Rattle.std.specs.Prelude.{◌≡◌, ◌+◌, ◌*◌, ◌/◌, ◌%◌, ◌<◌, ◌^◌, ◌↔◌, ◌==◌, if◌then◌else◌, Some};
 
 use crate::tables::{FIRSTS, PAIRS};
 use crate::{Sync, Wave, Word};

@@ -1,7 +1,7 @@
 //! The fields of a command word (MIL-STD-1553B 4.3.3.5.1).
-ghost use Rattle.std.specs.Prelude.{◌≡◌, ◌≤◌, ◌<◌, ◌^◌};
 ghost use Rattle.mil_word.specs.Fields.{address_of, is_transmit, sub_of, code_of, count_of, is_mode, is_receive};
 ghost use Rattle.mil_word.specs.Fields.{is_broadcast};
+ghost use Rattle.std.specs.Prelude.{◌≡◌, ◌≤◌, ◌<◌, ◌^◌};
 
 use crate::fields::{ALL_TERMINALS, MODE_SUBADDRESS_OF_ONES, MODE_SUBADDRESS_OF_ZEROS, MOST_WORDS};
 use std::marker::Model;

@@ -41,8 +41,8 @@ pub struct Word {
 
 /// A data word of zeros.
 impl Default for Word {
-    ghost use Rattle.std.specs.Prelude.{◌≡◌};
     ghost use Rattle.mil_word.specs.declared.Sync.TheVariants.{DataSync};
+    ghost use Rattle.std.specs.Prelude.{◌≡◌};
 
     ghost is_default = { λ w. w ≡ record { sync = DataSync; value = 0 } };
 

@@ -1,9 +1,9 @@
 //! The wave of a word on the line.
-ghost use Rattle.std.specs.Prelude.{◌≡◌, ◌<◌, ◌^◌, ◌==◌, bit_xor};
-ghost use Rattle.std.specs.Cmp.Rules.{comparing};
-ghost use Rattle.std.proofs.Common.{rules};
-ghost use Rattle.mil_word.specs.Wave.{wave_of, word_of};
 ghost use Rattle.mil_word.specs.Kept as kept;
+ghost use Rattle.mil_word.specs.Wave.{wave_of, word_of};
+ghost use Rattle.std.proofs.Common.{rules};
+ghost use Rattle.std.specs.Cmp.Rules.{comparing};
+ghost use Rattle.std.specs.Prelude.{◌≡◌, ◌<◌, ◌^◌, ◌==◌, bit_xor};
 
 use crate::code::{half_bits_of, read};
 use crate::{Sync, Word};
@@ -22,8 +22,8 @@ pub struct Wave {
 }
 
 impl Model for Wave {
-    ghost use Rattle.std.specs.Prelude.{ℕ};
     ghost use Rattle.mil_word.specs.Kept.{half_bits_in, kept_for, IsKept, kept_back};
+    ghost use Rattle.std.specs.Prelude.{ℕ};
 
     ghost Value = { ℕ };
 
