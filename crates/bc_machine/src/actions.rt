@@ -1,9 +1,9 @@
 //! A list of placed actions.
-ghost use Rattle.std.specs.Prelude.{◌≡◌, ℕ, ◌<◌, ◌≤◌, ◌==◌, ◌++◌, ◌∷◌, [], length, take, slice_index_or, IfOk};
-ghost use Rattle.std.specs.Prelude.{OnOk, OnErr};
-ghost use Rattle.std.specs.List.Sorted.{IsPermutation};
 ghost use Rattle.bc_machine.specs.Controller.{placed_at};
 ghost use Rattle.bc_machine.specs.Rising.{IsRising, IsParted};
+ghost use Rattle.std.specs.List.Sorted.{IsPermutation};
+ghost use Rattle.std.specs.Prelude.{OnOk, OnErr};
+ghost use Rattle.std.specs.Prelude.{◌≡◌, ℕ, ◌<◌, ◌≤◌, ◌==◌, ◌++◌, ◌∷◌, [], length, take, slice_index_or, IfOk};
 
 use crate::Placed;
 use crate::schedule::Schedule;
@@ -18,8 +18,8 @@ pub struct Actions {
 }
 
 impl Model for Actions {
-    ghost use Rattle.std.specs.Prelude.{List};
     ghost use Rattle.bc_machine.specs.declared.placed.Placed.{Placed};
+    ghost use Rattle.std.specs.Prelude.{List};
 
     ghost Value = { List Placed };
 

@@ -1,6 +1,6 @@
 //! What proofs know of the bus that a controller began with; no byte of it is kept at run time.
-ghost use Rattle.std.specs.Prelude.{◌≡◌};
 ghost use Rattle.bc_machine.specs.StartingBus.{bus_in};
+ghost use Rattle.std.specs.Prelude.{◌≡◌};
 
 use mil_bus::Bus;
 use std::marker::Model;
@@ -21,8 +21,8 @@ enum Link {
 }
 
 impl Model for Begun {
-    ghost use Rattle.std.specs.Prelude.{ℕ};
     ghost use Rattle.mil_bus.specs.Exchange.{BusState};
+    ghost use Rattle.std.specs.Prelude.{ℕ};
 
     ghost Value = { BusState × ℕ };
 

@@ -1,10 +1,10 @@
 //! Frames with a period (own choice).
-ghost use Rattle.std.specs.Prelude.{◌≡◌, ◌<◌, ◌≤◌, ◌+◌, ◌*◌, ◌^◌, length, IfSome};
-ghost use Rattle.frame_code.specs.Table.{keeps_pace};
-ghost use Rattle.bc_machine.specs.Running.{moved_by, clock_in, world_in};
-ghost use Rattle.bc_machine.specs.Moves.{framed};
 ghost use Rattle.bc_machine.specs.Frames.{HaveBegun, closing_of};
 ghost use Rattle.bc_machine.specs.MayStep.{IsAble};
+ghost use Rattle.bc_machine.specs.Moves.{framed};
+ghost use Rattle.bc_machine.specs.Running.{moved_by, clock_in, world_in};
+ghost use Rattle.frame_code.specs.Table.{keeps_pace};
+ghost use Rattle.std.specs.Prelude.{◌≡◌, ◌<◌, ◌≤◌, ◌+◌, ◌*◌, ◌^◌, length, IfSome};
 
 use crate::Stepped;
 use crate::laws::BusSetting;

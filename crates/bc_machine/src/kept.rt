@@ -1,10 +1,10 @@
 //! Placed actions as rows of 16 bytes.
-ghost use Rattle.std.specs.Prelude.{◌≡◌, ◌+◌, ◌<◌, ◌≤◌, length, vec_len, vec_capacity, All, IfOk};
-ghost use Rattle.std.specs.List.{insert};
-ghost use Rattle.mil_host.specs.declared.actions.Action.TheVariants.{Transmit};
-ghost use Rattle.mil_bus.specs.Exchange.{now_of};
 ghost use Rattle.bc_machine.specs.Controller.{ready};
 ghost use Rattle.bc_machine.specs.Rows.{action_of, placed_of, all_placed, IsKept, IsRow, IsMore};
+ghost use Rattle.mil_bus.specs.Exchange.{now_of};
+ghost use Rattle.mil_host.specs.declared.actions.Action.TheVariants.{Transmit};
+ghost use Rattle.std.specs.List.{insert};
+ghost use Rattle.std.specs.Prelude.{◌≡◌, ◌+◌, ◌<◌, ◌≤◌, length, vec_len, vec_capacity, All, IfOk};
 
 use crate::Placed;
 use arrayvec::ArrayVec;

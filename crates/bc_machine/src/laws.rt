@@ -1,18 +1,18 @@
 //! What holds of every run of a controller.
-ghost use Rattle.std.specs.Prelude.{◌≡◌, ◌≢◌, ◌≤◌, ◌-◌, ℕ, List};
-ghost use Rattle.mil_line.specs.Plans.{Planned};
-ghost use Rattle.mil_bus.specs.Exchange.{BusState};
-ghost use Rattle.frame_code.specs.Table.{Code, halted, stuck};
-ghost use Rattle.frame_code.specs.Loadable.{IsLoadable};
-ghost use Rattle.frame_load.specs.Budget.{budget, worst_messages};
-ghost use Rattle.bc_machine.specs.declared.placed.Placed.{Placed};
-ghost use Rattle.bc_machine.specs.Running.{started, after_steps, turn_of};
 ghost use Rattle.bc_machine.specs.Posting.{ActionsToComeAreFree, HaltsAlike};
+ghost use Rattle.bc_machine.specs.Running.{started, after_steps, turn_of};
+ghost use Rattle.bc_machine.specs.declared.placed.Placed.{Placed};
+ghost use Rattle.frame_code.specs.Loadable.{IsLoadable};
+ghost use Rattle.frame_code.specs.Table.{Code, halted, stuck};
+ghost use Rattle.frame_load.specs.Budget.{budget, worst_messages};
+ghost use Rattle.mil_bus.specs.Exchange.{BusState};
+ghost use Rattle.mil_line.specs.Plans.{Planned};
+ghost use Rattle.std.specs.Prelude.{◌≡◌, ◌≢◌, ◌≤◌, ◌-◌, ℕ, List};
 
 use frame_code::Setting;
 use frame_load::loadable_runs;
 
-/// The bus as what frames run on, for proofs alone.
+/// The bus as what frames run on, for laws alone.
 pub struct BusSetting;
 
 impl Setting for BusSetting {

@@ -21,7 +21,7 @@ mod upcoming;
 
 pub use actions::Actions;
 pub use frames::Closing;
-pub use laws::{actions_to_come_are_free, controller_runs};
+pub use laws::{BusSetting, actions_to_come_are_free, controller_runs};
 pub use machine::Machine;
 use mil_monitor::Record;
 pub use outcomes::asks;

@@ -1,7 +1,7 @@
 //! How the placed actions of a number are found among the others.
-ghost use Rattle.std.specs.Prelude.{◌≡◌, ℕ, List, IsTrue, All, IfOk, length};
 ghost use Rattle.bc_machine.specs.Rows.{rows_at, IsRow};
 ghost use Rattle.bc_machine.specs.Schedules.{AreRising, AreSorted, FindsRows};
+ghost use Rattle.std.specs.Prelude.{◌≡◌, ℕ, List, IsTrue, All, IfOk, length};
 
 use crate::kept::Row;
 use mil_host::TransmitWords;

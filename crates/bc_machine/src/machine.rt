@@ -1,9 +1,9 @@
 //! A controller whose program is under way.
-ghost use Rattle.std.specs.Prelude.{◌≡◌, ◌≤◌, ◌^◌, IfOk, OnOk, OnErr};
-ghost use Rattle.mil_bus.specs.Exchange.{now_of};
+ghost use Rattle.bc_machine.specs.Alike.{AreAlike};
 ghost use Rattle.bc_machine.specs.Running.{started, stepped, answered};
 ghost use Rattle.bc_machine.specs.UnderWay.{IsUnderWay, TellsStep};
-ghost use Rattle.bc_machine.specs.Alike.{AreAlike};
+ghost use Rattle.mil_bus.specs.Exchange.{now_of};
+ghost use Rattle.std.specs.Prelude.{◌≡◌, ◌≤◌, ◌^◌, IfOk, OnOk, OnErr};
 
 use crate::laws::BusSetting;
 use crate::parts::Parts;

@@ -1,9 +1,9 @@
 //! One message on the bus.
-ghost use Rattle.std.specs.Prelude.{◌≡◌, ◌≤◌, ◌+◌, ◌^◌, ◌∷◌, ◌++◌};
+ghost use Rattle.bc_machine.specs.Controller.{ready, world_of};
 ghost use Rattle.mil_bus.specs.BlockStatus.{block_of};
 ghost use Rattle.mil_bus.specs.Counts.{seen_of};
 ghost use Rattle.mil_bus.specs.Exchange.{now_of};
-ghost use Rattle.bc_machine.specs.Controller.{ready, world_of};
+ghost use Rattle.std.specs.Prelude.{◌≡◌, ◌≤◌, ◌+◌, ◌^◌, ◌∷◌, ◌++◌};
 
 use crate::schedule::Schedule;
 use mil_bus::{Bus, Finished, Talk, TalkCounts};

@@ -1,8 +1,8 @@
 //! Tests of the last outcome, and the other line.
-ghost use Rattle.std.specs.Prelude.{◌≡◌};
-ghost use Rattle.mil_message.specs.World.{other_line};
 ghost use Rattle.bc_machine.specs.Controller.{holds};
 ghost use Rattle.bc_machine.specs.Outcomes.{test_of};
+ghost use Rattle.mil_message.specs.World.{other_line};
+ghost use Rattle.std.specs.Prelude.{◌≡◌};
 
 use mil_bus::Outcome;
 use mil_message::OutcomeTest;

@@ -1,19 +1,19 @@
 //! A controller's parts, wherever its program stands.
-ghost use Rattle.std.specs.Prelude.{◌≡◌, ◌<◌, ◌≤◌, ◌+◌, ◌^◌, ◌≢◌, Some, None, if◌then◌else◌, slice_get, length, IfOk};
-ghost use Rattle.std.specs.Prelude.{OnOk, OnErr};
-ghost use Rattle.mil_word.specs.declared.Line.{Line};
-ghost use Rattle.mil_message.specs.World.{sent};
-ghost use Rattle.frame_code.specs.Table.{sends, turns, leaves, calls, comes_back};
-ghost use Rattle.frame_code.specs.Routines.{routine_at};
-ghost use Rattle.frame_load.specs.Judging.{IsWithin, HasShortPeriods};
-ghost use Rattle.frame_code.specs.Loadable.{IsLoadable};
-ghost use Rattle.bc_machine.specs.Running.{started, moved_by, stepped, answered, latest, clock_in, world_in};
-ghost use Rattle.bc_machine.specs.Outcomes.{test_of};
-ghost use Rattle.bc_machine.specs.Moves as moves;
-ghost use Rattle.bc_machine.specs.Moves.{line_of};
+ghost use Rattle.bc_machine.specs.Alike.{AreAlike};
 ghost use Rattle.bc_machine.specs.Frames.{most_ticks};
 ghost use Rattle.bc_machine.specs.MayStep.{IsAble};
-ghost use Rattle.bc_machine.specs.Alike.{AreAlike};
+ghost use Rattle.bc_machine.specs.Moves as moves;
+ghost use Rattle.bc_machine.specs.Moves.{line_of};
+ghost use Rattle.bc_machine.specs.Outcomes.{test_of};
+ghost use Rattle.bc_machine.specs.Running.{started, moved_by, stepped, answered, latest, clock_in, world_in};
+ghost use Rattle.frame_code.specs.Loadable.{IsLoadable};
+ghost use Rattle.frame_code.specs.Routines.{routine_at};
+ghost use Rattle.frame_code.specs.Table.{sends, turns, leaves, calls, comes_back};
+ghost use Rattle.frame_load.specs.Judging.{IsWithin, HasShortPeriods};
+ghost use Rattle.mil_message.specs.World.{sent};
+ghost use Rattle.mil_word.specs.declared.Line.{Line};
+ghost use Rattle.std.specs.Prelude.{OnOk, OnErr};
+ghost use Rattle.std.specs.Prelude.{◌≡◌, ◌<◌, ◌≤◌, ◌+◌, ◌^◌, ◌≢◌, Some, None, if◌then◌else◌, slice_get, length, IfOk};
 
 use crate::begun::{Begun, begun_with, same};
 use crate::messages::exchange;

@@ -1,7 +1,7 @@
 //! Actions that are placed while the program is under way, each at the next message.
-ghost use Rattle.std.specs.Prelude.{◌≡◌, ◌+◌, ◌<◌, ◌≤◌, ◌^◌, ◌++◌, ◌∷◌, [], length, IfErr, OnOk, OnErr};
 ghost use Rattle.bc_machine.specs.Posting.{with_placed, with_room, at_next};
 ghost use Rattle.bc_machine.specs.UnderWay.{IsUnderWay};
+ghost use Rattle.std.specs.Prelude.{◌≡◌, ◌+◌, ◌<◌, ◌≤◌, ◌^◌, ◌++◌, ◌∷◌, [], length, IfErr, OnOk, OnErr};
 
 use crate::Placed;
 use crate::machine::Machine;

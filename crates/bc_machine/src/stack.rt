@@ -11,8 +11,8 @@ pub struct Stack<T: Copy + Default, const N: usize> {
 }
 
 impl<T: Copy + Default, const N: usize> Model for Stack<T, N> {
-    ghost use Rattle.std.specs.Prelude.{List, ◌≤◌};
     ghost use Rattle.bc_machine.specs.Stacks.{stacked};
+    ghost use Rattle.std.specs.Prelude.{List, ◌≤◌};
 
     ghost Value = { List T };
 

@@ -1,12 +1,12 @@
 //! The message that the next step sends, before it is sent.
-ghost use Rattle.std.specs.Prelude.{◌≡◌, true, ◌<◌, ◌≤◌, ◌^◌, length, slice_get, IfOk, IfSome};
-ghost use Rattle.std.specs.List.{list_all};
-ghost use Rattle.mil_line.specs.Ranges.{is_in_range};
-ghost use Rattle.mil_bus.specs.Exchange.{now_of, talk_of};
-ghost use Rattle.bc_machine.specs.Running.{clock_in};
-ghost use Rattle.bc_machine.specs.Moves.{line_of};
-ghost use Rattle.bc_machine.specs.MayStep.{IsAble};
 ghost use Rattle.bc_machine.specs.Coming.{IsAbout, Comes};
+ghost use Rattle.bc_machine.specs.MayStep.{IsAble};
+ghost use Rattle.bc_machine.specs.Moves.{line_of};
+ghost use Rattle.bc_machine.specs.Running.{clock_in};
+ghost use Rattle.mil_bus.specs.Exchange.{now_of, talk_of};
+ghost use Rattle.mil_line.specs.Ranges.{is_in_range};
+ghost use Rattle.std.specs.List.{list_all};
+ghost use Rattle.std.specs.Prelude.{◌≡◌, true, ◌<◌, ◌≤◌, ◌^◌, length, slice_get, IfOk, IfSome};
 
 use crate::laws::BusSetting;
 use crate::machine::Machine;

@@ -1,12 +1,12 @@
 //! Writing the operations and messages of a frame behind those that are there.
-ghost use Rattle.std.specs.Prelude.{◌≡◌, ◌+◌, ◌<◌, ◌≤◌, [], ◌∷◌, ◌++◌, length, map, IfOk, OnOk};
-ghost use Rattle.frame_tree.specs.Tree.{condition_in, tree_of, choose, until, chain};
-ghost use Rattle.frame_tree.specs.Names.{meant_by};
-ghost use Rattle.frame_tree.specs.Scopes.{scope_of};
-ghost use Rattle.frame_tree.specs.Bounds.{CallsKnown, IsDefined};
 ghost use Rattle.frame_asm.specs.Shapes.{branch_size, probe, branch, size, entries, messages_of, retry_shape};
 ghost use Rattle.frame_asm.specs.Shapes.{until_front, shape, AreRoutines};
 ghost use Rattle.frame_code.specs.declared.Op.TheVariants as op;
+ghost use Rattle.frame_tree.specs.Bounds.{CallsKnown, IsDefined};
+ghost use Rattle.frame_tree.specs.Names.{meant_by};
+ghost use Rattle.frame_tree.specs.Scopes.{scope_of};
+ghost use Rattle.frame_tree.specs.Tree.{condition_in, tree_of, choose, until, chain};
+ghost use Rattle.std.specs.Prelude.{◌≡◌, ◌+◌, ◌<◌, ◌≤◌, [], ◌∷◌, ◌++◌, length, map, IfOk, OnOk};
 
 use crate::sizes::{branch_len, operation_count};
 use frame_code::Op;

@@ -1,6 +1,9 @@
 //! Why a frame has no image.
+ghost use Rattle.frame_asm.specs.declared.error.AsmError.TheVariants.{Memory};
+ghost use Rattle.std.specs.Prelude.{◌≡◌};
+
 use std::alloc::AllocError;
-use std::fmt;
+use std::fmt::{self, Display, Formatter, Write};
 
 /// Why a frame has no image.
 #[derive(Clone, Copy, PartialEq, Eq, Debug)]
@@ -13,13 +16,13 @@ pub enum AsmError {
     Memory,
 }
 
-impl fmt::Display for AsmError {
-    ghost use Rattle.std.specs.Prelude.{Some};
+impl Display for AsmError {
     ghost use Rattle.frame_asm.specs.Codes as letters;
+    ghost use Rattle.std.specs.Prelude.{Some};
 
     ghost output = { λ e. Some (letters.fault_code e) };
 
-    fn fmt<W: fmt::Write>(&self, f: &mut fmt::Formatter<W>) -> fmt::Result {
+    fn fmt<W: Write>(&self, f: &mut Formatter<W>) -> fmt::Result {
         f.write_str(match self {
             AsmError::Operations => "A1",
             AsmError::Messages => "A2",
@@ -29,9 +32,6 @@ impl fmt::Display for AsmError {
 }
 
 impl From<AllocError> for AsmError {
-    ghost use Rattle.std.specs.Prelude.{◌≡◌};
-    ghost use Rattle.frame_asm.specs.declared.error.AsmError.TheVariants.{Memory};
-
     ghost from_gives = { λ _ e. e ≡ Memory };
 
     fn from(_: AllocError) -> AsmError {

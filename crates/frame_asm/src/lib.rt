@@ -2,14 +2,14 @@
 //! are in `frame_tests`.
 #![tactic(auto)]
 
-ghost use Rattle.std.specs.Prelude.{◌≡◌, ◌<◌, ◌≤◌, ◌↔◌, length, IfOk, Err};
-ghost use Rattle.mil_message.specs.World.{World, Point};
-ghost use Rattle.frame_tree.specs.Tree.{Tree, tree_of};
-ghost use Rattle.frame_tree.specs.Bounds.{IsSound};
+ghost use Rattle.frame_asm.specs.Behaves.{Behaves};
+ghost use Rattle.frame_asm.specs.Shapes.{code_of_tree, size, entries};
 ghost use Rattle.frame_code.specs.Loadable.{IsLoadable};
 ghost use Rattle.frame_code.specs.Ranges.{IsImage};
-ghost use Rattle.frame_asm.specs.Shapes.{code_of_tree, size, entries};
-ghost use Rattle.frame_asm.specs.Behaves.{Behaves};
+ghost use Rattle.frame_tree.specs.Bounds.{IsSound};
+ghost use Rattle.frame_tree.specs.Tree.{Tree, tree_of};
+ghost use Rattle.mil_message.specs.World.{World, Point};
+ghost use Rattle.std.specs.Prelude.{◌≡◌, ◌<◌, ◌≤◌, ◌↔◌, length, IfOk, Err};
 
 mod emission;
 mod error;

@@ -1,7 +1,7 @@
 //! How many operations and messages a frame has, so that each place is known before it is written.
-ghost use Rattle.std.specs.Prelude.{◌≡◌, min};
-ghost use Rattle.frame_tree.specs.Tree.{condition_in, tree_of};
 ghost use Rattle.frame_asm.specs.Shapes.{branch_size, size, entries};
+ghost use Rattle.frame_tree.specs.Tree.{condition_in, tree_of};
+ghost use Rattle.std.specs.Prelude.{◌≡◌, min};
 
 use frame_tree::{Cond, Frame};
 use std::alloc::Allocator;

@@ -1,6 +1,6 @@
 //! Why an image cannot be read or written.
 use std::alloc::{AllocError, AllocFailed};
-use std::fmt;
+use std::fmt::{self, Display, Formatter, Write};
 
 /// Why bytes are not an image. They are judged field by field in their order; want of memory comes last.
 #[derive(Clone, Copy, PartialEq, Eq, Debug)]
@@ -20,13 +20,13 @@ pub enum ImageError {
     Memory,
 }
 
-impl fmt::Display for ImageError {
-    ghost use Rattle.std.specs.Prelude.{Some};
+impl Display for ImageError {
     ghost use Rattle.frame_code.specs.Codes.{fault_code};
+    ghost use Rattle.std.specs.Prelude.{Some};
 
     ghost output = { λ e. Some (fault_code e) };
 
-    fn fmt<W: fmt::Write>(&self, f: &mut fmt::Formatter<W>) -> fmt::Result {
+    fn fmt<W: Write>(&self, f: &mut Formatter<W>) -> fmt::Result {
         f.write_str(match self {
             ImageError::Mark => "C1",
             ImageError::Length => "C2",
@@ -39,8 +39,8 @@ impl fmt::Display for ImageError {
 }
 
 impl From<AllocError> for ImageError {
-    ghost use Rattle.std.specs.Prelude.{◌≡◌};
     ghost use Rattle.frame_code.specs.declared.error.ImageError.TheVariants.{Memory};
+    ghost use Rattle.std.specs.Prelude.{◌≡◌};
 
     ghost from_gives = { λ _ e. e ≡ Memory };
 
@@ -50,8 +50,8 @@ impl From<AllocError> for ImageError {
 }
 
 impl<T: Drop> From<AllocFailed<T>> for ImageError {
-    ghost use Rattle.std.specs.Prelude.{◌≡◌};
     ghost use Rattle.frame_code.specs.declared.error.ImageError.TheVariants.{Memory};
+    ghost use Rattle.std.specs.Prelude.{◌≡◌};
 
     ghost from_gives = { λ _ e. e ≡ Memory };
 

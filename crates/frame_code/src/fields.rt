@@ -1,6 +1,6 @@
 //! Which fields a message may have, form by form (MIL-STD-1553B 4.3.3.5.1, 4.3.3.6).
-ghost use Rattle.std.specs.Prelude.{◌≡◌, ◌≤◌};
 ghost use Rattle.frame_code.specs.Fields as table;
+ghost use Rattle.std.specs.Prelude.{◌≡◌, ◌≤◌};
 
 use mil_mode::data_words;
 use mil_word::Command;

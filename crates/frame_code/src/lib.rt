@@ -2,8 +2,8 @@
 //! tests are in `frame_tests`.
 #![tactic(auto)]
 
-ghost use Rattle.std.specs.Prelude.{◌≡◌, IfOk};
 ghost use Rattle.frame_code.specs.Ranges.{IsImage};
+ghost use Rattle.std.specs.Prelude.{◌≡◌, IfOk};
 
 mod error;
 mod fields;

@@ -1,17 +1,17 @@
 //! The image that bytes spell. The bytes are judged first, which takes no memory, and then the image is made.
-ghost use Rattle.std.specs.Prelude.{nat_le, if◌then◌else◌, Some, None, ◌∷◌, ◌++◌, ◌≡◌, ◌≢◌, ◌≤◌, ◌<◌, ◌↔◌, IsTrue};
-ghost use Rattle.std.specs.Prelude.{IfOk, IfSome, MatchResult, Ok, Err, length};
-ghost use Rattle.frame_code.specs.Table.{Code};
-ghost use Rattle.frame_code.specs.Ranges.{in_range, is_routine, AreInRange};
-ghost use Rattle.frame_code.specs.Bytes.{version_of, version_for, two_bytes, mark, header_bytes, number_of};
-ghost use Rattle.frame_code.specs.Bytes.{number_of_test, operand_of, operation_bytes, line_number, message_bytes};
 ghost use Rattle.frame_code.specs.Bytes.{image_bytes};
-ghost use Rattle.std.specs.List.{flat_map};
+ghost use Rattle.frame_code.specs.Bytes.{number_of_test, operand_of, operation_bytes, line_number, message_bytes};
+ghost use Rattle.frame_code.specs.Bytes.{version_of, version_for, two_bytes, mark, header_bytes, number_of};
 ghost use Rattle.frame_code.specs.Fields as table;
+ghost use Rattle.frame_code.specs.Ranges.{in_range, is_routine, AreInRange};
 ghost use Rattle.frame_code.specs.Reading as spelled;
 ghost use Rattle.frame_code.specs.Reading.{Gives, Builds, behind, many_versions, image_of};
-ghost use Rattle.frame_code.specs.declared.error.ImageError.{ImageError};
+ghost use Rattle.frame_code.specs.Table.{Code};
 ghost use Rattle.frame_code.specs.declared.Op.TheVariants as op;
+ghost use Rattle.frame_code.specs.declared.error.ImageError.{ImageError};
+ghost use Rattle.std.specs.List.{flat_map};
+ghost use Rattle.std.specs.Prelude.{IfOk, IfSome, MatchResult, Ok, Err, length};
+ghost use Rattle.std.specs.Prelude.{nat_le, if◌then◌else◌, Some, None, ◌∷◌, ◌++◌, ◌≡◌, ◌≢◌, ◌≤◌, ◌<◌, ◌↔◌, IsTrue};
 
 use crate::fields::{first_fits, second_fits, words_due};
 use crate::writing::{version_for, version_of};

@@ -1,11 +1,11 @@
 //! The bytes of an image.
-ghost use Rattle.std.specs.Prelude.{◌≡◌, ◌≤◌, ◌++◌, Ok, IfOk, OnOk};
-ghost use Rattle.std.specs.List.{flat_map};
-ghost use Rattle.mil_message.specs.Rules.{IsLawful};
-ghost use Rattle.mil_message.specs.Parts.{parts_of};
-ghost use Rattle.frame_code.specs.Ranges.{IsImage};
 ghost use Rattle.frame_code.specs.Bytes as spelled;
+ghost use Rattle.frame_code.specs.Ranges.{IsImage};
 ghost use Rattle.frame_code.specs.Reading.{image_of};
+ghost use Rattle.mil_message.specs.Parts.{parts_of};
+ghost use Rattle.mil_message.specs.Rules.{IsLawful};
+ghost use Rattle.std.specs.List.{flat_map};
+ghost use Rattle.std.specs.Prelude.{◌≡◌, ◌≤◌, ◌++◌, Ok, IfOk, OnOk};
 
 use crate::{Image, Op};
 use mil_message::{Message, OutcomeTest};

@@ -1,10 +1,10 @@
 //! The rules of the loader that need no sums.
-ghost use Rattle.std.specs.Prelude.{◌≡◌, ◌≤◌, ◌<◌, ◌↔◌, ℕ, length, get_or, slice_get, Some, IsTrue};
-ghost use Rattle.frame_code.specs.Loadable.{open_at, EndsInHalt, LeavesTo, JumpsTo, TurnsTo, GoesWell, HasMessage};
 ghost use Rattle.frame_code.specs.Loadable.{Each};
+ghost use Rattle.frame_code.specs.Loadable.{open_at, EndsInHalt, LeavesTo, JumpsTo, TurnsTo, GoesWell, HasMessage};
 ghost use Rattle.frame_code.specs.Routines.{owner_at};
 ghost use Rattle.frame_code.specs.declared.Op.{Op};
 ghost use Rattle.frame_load.specs.Marks.{AreBrackets};
+ghost use Rattle.std.specs.Prelude.{◌≡◌, ◌≤◌, ◌<◌, ◌↔◌, ℕ, length, get_or, slice_get, Some, IsTrue};
 
 use frame_code::Op;
 

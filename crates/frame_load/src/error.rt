@@ -1,5 +1,5 @@
 //! Why an image is no program.
-use std::fmt;
+use std::fmt::{self, Display, Formatter, Write};
 
 /// Why an image is not loaded. The rules are judged in the order in which they stand here, each over the whole image.
 #[derive(Clone, Copy, PartialEq, Eq, Debug)]
@@ -27,13 +27,13 @@ pub enum LoadError {
     Periods,
 }
 
-impl fmt::Display for LoadError {
-    ghost use Rattle.std.specs.Prelude.{Some};
+impl Display for LoadError {
     ghost use Rattle.frame_load.specs.Codes.{fault_code};
+    ghost use Rattle.std.specs.Prelude.{Some};
 
     ghost output = { λ e. Some (fault_code e) };
 
-    fn fmt<W: fmt::Write>(&self, f: &mut fmt::Formatter<W>) -> fmt::Result {
+    fn fmt<W: Write>(&self, f: &mut Formatter<W>) -> fmt::Result {
         f.write_str(match self {
             LoadError::Jumps => "P1",
             LoadError::Nesting => "P2",

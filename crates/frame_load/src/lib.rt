@@ -2,19 +2,19 @@
 //! sends. Its tests are in `frame_tests`.
 #![tactic(auto)]
 
-ghost use Rattle.std.specs.Prelude.{◌+◌, ◌-◌, ◌≡◌, ◌≢◌, ◌≤◌, ◌<◌, ◌↔◌, ℕ, length, slice_get, Some, None, Err, IfOk};
-ghost use Rattle.std.specs.Prelude.{IfErr};
-ghost use Rattle.mil_message.specs.World.{World, Point};
-ghost use Rattle.frame_code.specs.declared.Op.{Op};
-ghost use Rattle.frame_code.specs.declared.Op.TheVariants as op;
-ghost use Rattle.frame_code.specs.Table.{Code, Running, goes_on, stuck, start, step, run};
-ghost use Rattle.frame_code.specs.Routines.{main_of, routine_at};
 ghost use Rattle.frame_code.specs.Loadable.{IsLoadable};
+ghost use Rattle.frame_code.specs.Routines.{main_of, routine_at};
+ghost use Rattle.frame_code.specs.Table.{Code, Running, goes_on, stuck, start, step, run};
+ghost use Rattle.frame_code.specs.declared.Op.TheVariants as op;
+ghost use Rattle.frame_code.specs.declared.Op.{Op};
 ghost use Rattle.frame_load.specs.Budget as sums;
+ghost use Rattle.frame_load.specs.Judging.{Judges, Refuses, IsWithin, HasShortPeriods};
 ghost use Rattle.frame_load.specs.Marks.{AreBrackets};
 ghost use Rattle.frame_load.specs.Runs.{Reaches, HaltsWithin, EachReached, paid};
-ghost use Rattle.frame_load.specs.Judging.{Judges, Refuses, IsWithin, HasShortPeriods};
 ghost use Rattle.frame_load.specs.declared.error.LoadError.{LoadError};
+ghost use Rattle.mil_message.specs.World.{World, Point};
+ghost use Rattle.std.specs.Prelude.{IfErr};
+ghost use Rattle.std.specs.Prelude.{◌+◌, ◌-◌, ◌≡◌, ◌≢◌, ◌≤◌, ◌<◌, ◌↔◌, ℕ, length, slice_get, Some, None, Err, IfOk};
 
 mod checks;
 mod error;

@@ -1,9 +1,9 @@
 //! Whether brackets pair in each routine, and how many of a kind are open at once.
-ghost use Rattle.std.specs.Prelude.{◌≡◌, ◌≤◌, ◌<◌, ◌↔◌, ℕ, length, get_or, slice_get, Some, IsTrue};
-ghost use Rattle.frame_code.specs.declared.Op.{Op};
 ghost use Rattle.frame_code.specs.Loadable.{open_at, loops_among, EndsInHalt, HasRoutines, IsPaired, Each, IsNested};
+ghost use Rattle.frame_code.specs.declared.Op.{Op};
 ghost use Rattle.frame_load.specs.Marks.{AreBrackets, kind_at, effect_of, peak_of, depth_after, most_of, HasRoomFor};
 ghost use Rattle.frame_load.specs.declared.nesting.Effect.TheVariants as effect_as;
+ghost use Rattle.std.specs.Prelude.{◌≡◌, ◌≤◌, ◌<◌, ◌↔◌, ℕ, length, get_or, slice_get, Some, IsTrue};
 
 use frame_code::Op;
 

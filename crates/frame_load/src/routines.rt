@@ -1,8 +1,8 @@
 //! The routines of a code: their numbers, and where they begin. A routine ends at each Return; what stands behind the
 //! last is the main part.
-ghost use Rattle.std.specs.Prelude.{◌≡◌, ◌≤◌, ◌<◌, ◌^◌, ◌↔◌, ℕ, length, get_or, Some, IsTrue};
-ghost use Rattle.frame_code.specs.Routines.{passed, owner_at, routines, begin_of};
 ghost use Rattle.frame_code.specs.Loadable.{CallsEarlier, HasRoutines};
+ghost use Rattle.frame_code.specs.Routines.{passed, owner_at, routines, begin_of};
+ghost use Rattle.std.specs.Prelude.{◌≡◌, ◌≤◌, ◌<◌, ◌^◌, ◌↔◌, ℕ, length, get_or, Some, IsTrue};
 
 use frame_code::Op;
 

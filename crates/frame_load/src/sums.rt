@@ -1,12 +1,12 @@
 //! The weights of operations, and their sums. What is beyond the most that any of the sums may come to is counted as
 //! one more than that.
-ghost use Rattle.std.specs.Prelude.{◌≡◌, ◌≤◌, ◌<◌, ◌^◌, ◌+◌, ◌*◌, ℕ, min, length, IsTrue};
 ghost use Rattle.frame_code.specs.Loadable.{HasRoutines};
 ghost use Rattle.frame_code.specs.Ranges.{AreInRange, in_range};
-ghost use Rattle.frame_load.specs.Marks.{AreBrackets, AreWeights, counted};
+ghost use Rattle.frame_code.specs.declared.Op.TheVariants as op_of;
 ghost use Rattle.frame_load.specs.Budget as sums;
 ghost use Rattle.frame_load.specs.Budget.{total};
-ghost use Rattle.frame_code.specs.declared.Op.TheVariants as op_of;
+ghost use Rattle.frame_load.specs.Marks.{AreBrackets, AreWeights, counted};
+ghost use Rattle.std.specs.Prelude.{◌≡◌, ◌≤◌, ◌<◌, ◌^◌, ◌+◌, ◌*◌, ℕ, min, length, IsTrue};
 
 use frame_code::Op;
 

@@ -1,5 +1,5 @@
 -- What reading tokens from left to right comes to: what was read and the tokens after it, or the first fault.
-use Rattle.std.specs.Prelude.{◌≡◌, ℕ, nat_eq, Bool, true, false, ◌&&◌, ◌||◌, if◌then◌else◌, List, [], ◌∷◌, ◌++◌}
+use Rattle.std.specs.Prelude.{◌≡◌, ◌<◌, ℕ, nat_eq, Bool, true, false, ◌&&◌, ◌||◌, if◌then◌else◌, List, [], ◌∷◌, ◌++◌}
 use Rattle.std.specs.Prelude.{length, Result, Ok, Err, codes}
 use Rattle.frame_text.specs.Tokens.{in_word, tokens, BeginsToken}
 use Rattle.frame_text.specs.declared.faults.Cause.{Cause}
@@ -41,6 +41,13 @@ abbrev pub Builds : {X Y : Type 0} → Type 0 → (X → Y) → Result X Fault �
 Builds refused view (Ok x) read = read ≡ Ok (view x)
 Builds refused view (Err e) read = Breaks refused e read
 
+-- what a call made of a text is what reading its tokens comes to, and fewer of them are left
+abbrev pub Makes : {X Y : Type 0} → Type 0 → (X → Y × Tokens) → (Tokens → Reading Y) → List ℕ → Result X Fault
+    → Type 0
+Makes refused view reader text (Ok x) =
+    (reader (tokens text) ≡ Ok (view x)) × (length (view x).1 < length (tokens text))
+Makes refused view reader text (Err e) = Breaks refused e (reader (tokens text))
+
 -- reading comes to no fault
 abbrev pub HasNoFault : {Y : Type 0} → Result Y Cause → Type 0
 HasNoFault {Y} read = (y : Y) × (read ≡ Ok y)
@@ -57,6 +64,11 @@ Answers view (Err e) read = Refuses e read
 abbrev pub is_word : List ℕ → Bool
 is_word [] = false
 is_word (b ∷ bs) = in_word b
+
+-- what stands beside the first of these words that is this one; else what is given for none
+abbrev pub beside : {X : Type 0} → X → List (List ℕ × X) → List ℕ → X
+beside none [] w = none
+beside none ((v, x) ∷ rows) w = if same_bytes w v then x else beside none rows w
 
 -- the brackets { } ( ) [ ]
 abbrev pub is_bracket : List ℕ → Bool

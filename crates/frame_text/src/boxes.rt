@@ -1,7 +1,7 @@
 //! Frames in memory.
 
-ghost use Rattle.std.specs.Prelude.{◌≡◌, IfOk};
 ghost use Rattle.frame_tree.specs.Tree.{condition_in, tree_of};
+ghost use Rattle.std.specs.Prelude.{◌≡◌, IfOk};
 
 use crate::builder::Builder;
 use frame_tree::{Cond, Frame, Name, Scope};
@@ -23,8 +23,8 @@ fn boxed<A: Allocator + Clone, T: Drop>(alloc: &A, value: T) -> Result<Box<T, A>
 }
 
 impl<A: Allocator + Clone> Builder for Boxes<A> {
-    ghost use Rattle.std.specs.Prelude.{map};
     ghost use Rattle.frame_tree.specs.Tree.{condition_in, tree_of};
+    ghost use Rattle.std.specs.Prelude.{map};
 
     type Cond = Cond<A>;
 

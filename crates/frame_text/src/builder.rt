@@ -1,12 +1,12 @@
 //! What the readers make of a text. The same readers make a frame in memory (`boxes`), and what it comes to where
 //! memory was refused (`weights`).
 
-ghost use Rattle.std.specs.Prelude.{◌≡◌, ℕ, List, [], ◌∷◌, ◌++◌, min, IfOk, OnErr};
-ghost use Rattle.frame_tree.specs.Tree.{Condition, asked, negated, both, either, Tree, chain};
-ghost use Rattle.frame_tree.specs.Tree as trees;
-ghost use Rattle.frame_tree.specs.Names as names;
 ghost use Rattle.frame_tree.specs.Bounds.{worst_messages, depth_in};
+ghost use Rattle.frame_tree.specs.Names as names;
 ghost use Rattle.frame_tree.specs.Scopes.{scope_of};
+ghost use Rattle.frame_tree.specs.Tree as trees;
+ghost use Rattle.frame_tree.specs.Tree.{Condition, asked, negated, both, either, Tree, chain};
+ghost use Rattle.std.specs.Prelude.{◌≡◌, ℕ, List, [], ◌∷◌, ◌++◌, min, IfOk, OnErr};
 
 use frame_tree::{Name, Scope};
 use mil_message::{Message, OutcomeTest};

@@ -1,9 +1,9 @@
 //! The text of a condition.
 
-ghost use Rattle.std.specs.Prelude.{◌<◌, length, IfOk, IfErr};
-ghost use Rattle.frame_text.specs.Tokens.{tokens};
-ghost use Rattle.frame_text.specs.Reading.{Gives, Builds, IsOfText};
 ghost use Rattle.frame_text.specs.Conditions.{name_at, pair_at, condition_at, below_at};
+ghost use Rattle.frame_text.specs.Reading.{Gives, Builds, IsOfText};
+ghost use Rattle.frame_text.specs.Tokens.{tokens};
+ghost use Rattle.std.specs.Prelude.{◌<◌, length, IfOk, IfErr};
 
 use crate::builder::Builder;
 use crate::faults::{Cause, Fault};

@@ -1,14 +1,14 @@
 //! The text of a script: definitions, and the frames behind them.
 
-ghost use Rattle.std.specs.Prelude.{length, IfOk, IfErr};
-ghost use Rattle.frame_tree.specs.Scopes.{scope_of};
-ghost use Rattle.frame_text.specs.Tokens.{tokens};
-ghost use Rattle.frame_text.specs.Reading.{Gives, Builds, IsOfText};
 ghost use Rattle.frame_text.specs.Frames.{fresh_name_at, main_at, script_at};
+ghost use Rattle.frame_text.specs.Reading.{Gives, Builds, IsOfText};
+ghost use Rattle.frame_text.specs.Tokens.{tokens};
+ghost use Rattle.frame_tree.specs.Scopes.{scope_of};
+ghost use Rattle.std.specs.Prelude.{length, IfOk, IfErr};
 
 use crate::builder::Builder;
 use crate::faults::{Cause, Fault};
-use crate::frames::{block, frame, label};
+use crate::frames::{Around, block, frame, label};
 use crate::keywords::is;
 use crate::memory::or_refused;
 use crate::tokens::{fault, next};
@@ -37,11 +37,17 @@ fn main<B: Builder>(
         (main_at (scope_of scope.now) (length (tokens text.now)) (tokens text.now)) }
     ensures fits { IfOk result (λ f. B.fits (scope_of scope.now) (scope_of costs.now) f) }
 {
+    let around = Around {
+        builder,
+        scope,
+        costs,
+        depth: 16,
+    };
     let mut found = or_refused!(builder.no_frames(), text);
     let mut rest = text;
     while let Some((word, _)) = next(rest) {
         let _ = word;
-        let (one, left) = frame(builder, rest, scope, costs, 16)?;
+        let (one, left) = frame(&around, rest)?;
         found = or_refused!(builder.more(found, one), left);
         rest = left;
     }
@@ -70,7 +76,13 @@ pub fn script<'s, B: Builder>(
         return Err(fault(Cause::Definitions, text));
     }
     let (name, rest) = fresh_name(rest, &*scope)?;
-    let (body, rest) = block(builder, rest, &*scope, &*costs, 17)?;
+    let around = Around {
+        builder,
+        scope: &*scope,
+        costs: &*costs,
+        depth: 17,
+    };
+    let (body, rest) = block(&around, rest)?;
     let depth = builder.depth(&body, &*scope);
     let cost = builder.messages(&body);
     let inner = Scope::With(&name, depth, &*scope);

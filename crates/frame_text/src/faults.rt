@@ -56,8 +56,8 @@ pub enum Fault {
 }
 
 impl Cause {
-    ghost use Rattle.std.specs.Prelude.{◌≡◌};
     ghost use Rattle.frame_text.specs.Codes.{fault_code};
+    ghost use Rattle.std.specs.Prelude.{◌≡◌};
 
     /// `S1` to `S8`, `S10` and `S11`.
     fn code(&self) -> &'static str
@@ -80,8 +80,8 @@ impl Cause {
 
 /// `S1` to `S8`, `S10`, `S11`, and `S4 M1` to `S4 M5`.
 impl Display for Cause {
-    ghost use Rattle.std.specs.Prelude.{Some};
     ghost use Rattle.frame_text.specs.Codes.{cause_text};
+    ghost use Rattle.std.specs.Prelude.{Some};
 
     ghost output = { λ c. Some (cause_text c) };
 
@@ -95,8 +95,8 @@ impl Display for Cause {
 
 /// `line 1 column 8`.
 impl Display for Place {
-    ghost use Rattle.std.specs.Prelude.{Some};
     ghost use Rattle.frame_text.specs.Codes.{place_text};
+    ghost use Rattle.std.specs.Prelude.{Some};
 
     ghost output = { λ p. Some (place_text p) };
 
@@ -107,8 +107,8 @@ impl Display for Place {
 
 /// `S7 line 1 column 8`, `S4 line 1 column 8 M3`, and `memory`.
 impl Display for ScriptError {
-    ghost use Rattle.std.specs.Prelude.{Some};
     ghost use Rattle.frame_text.specs.Codes.{error_text};
+    ghost use Rattle.std.specs.Prelude.{Some};
 
     ghost output = { λ e. Some (error_text e) };
 

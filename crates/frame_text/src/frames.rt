@@ -1,13 +1,13 @@
 //! The text of frames.
 
-ghost use Rattle.std.specs.Prelude.{◌≡◌, ◌<◌, ◌≤◌, ℕ, length, Ok, IfOk, IfErr};
-ghost use Rattle.frame_tree.specs.Tree.{Tree, chain, nothing};
+ghost use Rattle.frame_text.specs.Frames.{call_at, frame_at, frames_at, block_at, inner_at};
+ghost use Rattle.frame_text.specs.Frames.{else_at, retry_at, choice_at, until_at, label_at};
+ghost use Rattle.frame_text.specs.Reading.{Tokens, Gives, Builds, Makes, IsOfText};
+ghost use Rattle.frame_text.specs.Tokens.{tokens};
 ghost use Rattle.frame_tree.specs.Names as names;
 ghost use Rattle.frame_tree.specs.Scopes.{scope_of};
-ghost use Rattle.frame_text.specs.Tokens.{tokens};
-ghost use Rattle.frame_text.specs.Reading.{Tokens, Gives, Builds, IsOfText};
-ghost use Rattle.frame_text.specs.Frames.{else_at, retry_at, repeat_at, choice_at, until_at, timed_at, label_at};
-ghost use Rattle.frame_text.specs.Frames.{call_at, frame_at, frames_at, block_at, inner_at};
+ghost use Rattle.frame_tree.specs.Tree.{Tree, chain, nothing};
+ghost use Rattle.std.specs.Prelude.{◌≡◌, ◌<◌, ◌≤◌, ℕ, length, Ok, IfOk, IfErr};
 
 use crate::builder::Builder;
 use crate::conditions::condition;
@@ -15,13 +15,26 @@ use crate::faults::{Cause, Fault};
 use crate::keywords::{FrameWord, frame_word, is, misplaced};
 use crate::memory::or_refused;
 use crate::messages::send;
-use crate::tokens::{after_token, fault, next};
+use crate::tokens::{Read, after_token, fault, next};
 use crate::words::{number_in_range, period};
 use frame_tree::{Name, Scope};
 use mil_word::timing::LEAST_GAP;
 
+/// Where frames are read.
+#[derive(Drop)]
+pub struct Around<'a, B: Builder> {
+    /// What makes them.
+    pub builder: &'a B,
+    /// Of each name in scope the depth of its body.
+    pub scope: &'a Scope<'a>,
+    /// Of each the number that the builder has for it.
+    pub costs: &'a Scope<'a>,
+    /// How many blocks may stand in one another.
+    pub depth: u8,
+}
+
 // No frames, where the rest of the text goes on.
-fn no_frames<'a, B: Builder>(builder: &B, rest: &'a [u8]) -> Result<(B::Frame, &'a [u8]), Fault>
+fn no_frames<'a, B: Builder>(builder: &B, rest: &'a [u8]) -> Read<'a, B::Frame>
     ensures tree { Builds {Y = Tree × Tokens} B.refused (λ x. (B.tree x.0, tokens x.1.now)) result
         (Ok (nothing, tokens rest.now)) }
     ensures rest { IfOk result (λ x. x.1.now ≡ rest.now) }
@@ -45,20 +58,13 @@ fn within(scope: &Scope<'_>, depth: u8, text: &[u8]) -> Result<u8, Fault>
     Ok(depth - 1)
 }
 
-/// A block in its braces, with at most `depth` blocks in one another, this one among them.
+/// A block in its braces, with at most `around.depth` blocks in one another, this one among them.
 #[cycle(frames)]
 #[tactic(auto, unfolding(crate::specs::Frames::block_from))]
-pub fn block<'a, B: Builder>(
-    builder: &B,
-    text: &'a [u8],
-    scope: &Scope<'_>,
-    costs: &Scope<'_>,
-    depth: u8,
-) -> Result<(B::Frame, &'a [u8]), Fault>
-    ensures tree { Builds B.refused (λ x. (B.tree x.0, tokens x.1.now)) result
-        (block_at (scope_of scope.now) depth (tokens text.now)) }
-    ensures fewer { IfOk result (λ x. length (tokens x.1.now) < length (tokens text.now)) }
-    ensures fits { IfOk result (λ x. B.fits (scope_of scope.now) (scope_of costs.now) x.0) }
+pub fn block<'a, B: Builder>(around: &Around<'_, B>, text: &'a [u8]) -> Read<'a, B::Frame>
+    ensures made { Makes B.refused (λ x. (B.tree x.0, tokens x.1.now))
+        (block_at (scope_of around.now.scope.now) around.now.depth) text.now result }
+    ensures fits { IfOk result (λ x. B.fits (scope_of around.now.scope.now) (scope_of around.now.costs.now) x.0) }
 {
     let Some((word, rest)) = next(text) else {
         return Err(fault(Cause::End, text));
@@ -66,33 +72,31 @@ pub fn block<'a, B: Builder>(
     if !is(word, b"{") {
         return Err(fault(misplaced(word), text));
     }
-    let depth = within(scope, depth, text)?;
-    let (found, rest) = frames(builder, rest, scope, costs, depth)?;
-    Ok((builder.whole(found), rest))
+    let inside = Around {
+        builder: around.builder,
+        scope: around.scope,
+        costs: around.costs,
+        depth: within(around.scope, around.depth, text)?,
+    };
+    let (found, rest) = frames(&inside, rest)?;
+    Ok((around.builder.whole(found), rest))
 }
 
 // Frames up to the closing brace.
 #[cycle(frames)]
-fn frames<'a, B: Builder>(
-    builder: &B,
-    text: &'a [u8],
-    scope: &Scope<'_>,
-    costs: &Scope<'_>,
-    depth: u8,
-) -> Result<(B::Row, &'a [u8]), Fault>
-    ensures tree { Builds B.refused (λ x. (chain (B.row_trees x.0), tokens x.1.now)) result
-        (frames_at (frame_at (scope_of scope.now) depth) (length (tokens text.now)) (tokens text.now)) }
-    ensures fewer { IfOk result (λ x. length (tokens x.1.now) < length (tokens text.now)) }
-    ensures fits { IfOk result (λ x. B.row_fits (scope_of scope.now) (scope_of costs.now) x.0) }
+fn frames<'a, B: Builder>(around: &Around<'_, B>, text: &'a [u8]) -> Read<'a, B::Row>
+    ensures made { Makes B.refused (λ x. (chain (B.row_trees x.0), tokens x.1.now))
+        (λ ts. frames_at (frame_at (scope_of around.now.scope.now) around.now.depth) (length ts) ts) text.now result }
+    ensures fits { IfOk result (λ x. B.row_fits (scope_of around.now.scope.now) (scope_of around.now.costs.now) x.0) }
 {
-    let mut found = or_refused!(builder.no_frames(), text);
+    let mut found = or_refused!(around.builder.no_frames(), text);
     let mut rest = text;
     while let Some((word, after)) = next(rest) {
         if is(word, b"}") {
             return Ok((found, after));
         }
-        let (one, left) = frame(builder, rest, scope, costs, depth)?;
-        found = or_refused!(builder.more(found, one), left);
+        let (one, left) = frame(around, rest)?;
+        found = or_refused!(around.builder.more(found, one), left);
         rest = left;
     }
     Err(fault(Cause::End, rest))
@@ -101,31 +105,24 @@ fn frames<'a, B: Builder>(
 // What stands behind an else, or nothing.
 #[cycle(frames)]
 #[tactic(auto, unfolding(crate::specs::Frames::else_at))]
-fn else_part<'a, B: Builder>(
-    builder: &B,
-    text: &'a [u8],
-    scope: &Scope<'_>,
-    costs: &Scope<'_>,
-    depth: u8,
-) -> Result<(B::Frame, &'a [u8]), Fault>
+fn else_part<'a, B: Builder>(around: &Around<'_, B>, text: &'a [u8]) -> Read<'a, B::Frame>
     ensures tree { Builds B.refused (λ x. (B.tree x.0, tokens x.1.now)) result
-        (else_at (block_at (scope_of scope.now) depth) (tokens text.now)) }
+        (else_at (block_at (scope_of around.now.scope.now) around.now.depth) (tokens text.now)) }
     ensures fewer { IfOk result (λ x. length (tokens x.1.now) ≤ length (tokens text.now)) }
-    ensures fits { IfOk result (λ x. B.fits (scope_of scope.now) (scope_of costs.now) x.0) }
+    ensures fits { IfOk result (λ x. B.fits (scope_of around.now.scope.now) (scope_of around.now.costs.now) x.0) }
 {
     let Some((word, rest)) = next(text) else {
-        return no_frames(builder, text);
+        return no_frames(around.builder, text);
     };
     if !is(word, b"else") {
-        return no_frames(builder, text);
+        return no_frames(around.builder, text);
     }
-    block(builder, rest, scope, costs, depth)
+    block(around, rest)
 }
 
 // A message that is sent again, behind its first word.
-fn retry<'a, B: Builder>(builder: &B, text: &'a [u8]) -> Result<(B::Frame, &'a [u8]), Fault>
-    ensures tree { Builds B.refused (λ x. (B.tree x.0, tokens x.1.now)) result (retry_at (tokens text.now)) }
-    ensures fewer { IfOk result (λ x. length (tokens x.1.now) < length (tokens text.now)) }
+fn retry<'a, B: Builder>(builder: &B, text: &'a [u8]) -> Read<'a, B::Frame>
+    ensures made { Makes B.refused (λ x. (B.tree x.0, tokens x.1.now)) retry_at text.now result }
     ensures fits { IfOk result (λ x. (ds ms : names.Scope ℕ) → B.fits ds ms x.0) }
 {
     let (count, rest) = number_in_range(text, 1, 8)?;
@@ -151,127 +148,58 @@ pub fn label(text: &[u8]) -> Result<(Name, &[u8]), Fault>
 }
 
 // A call, behind its first word; `text` begins with that.
-fn call<'a, B: Builder>(
-    builder: &B,
-    text: &[u8],
-    behind: &'a [u8],
-    scope: &Scope<'_>,
-    costs: &Scope<'_>,
-    depth: u8,
-) -> Result<(B::Frame, &'a [u8]), Fault>
-    ensures tree { Builds B.refused (λ x. (B.tree x.0, tokens x.1.now)) result
-        (call_at (scope_of scope.now) depth (tokens behind.now)) }
-    ensures fewer { IfOk result (λ x. length (tokens x.1.now) < length (tokens behind.now)) }
-    ensures fits { IfOk result (λ x. B.fits (scope_of scope.now) (scope_of costs.now) x.0) }
+fn call<'a, B: Builder>(around: &Around<'_, B>, text: &[u8], behind: &'a [u8]) -> Read<'a, B::Frame>
+    ensures made { Makes B.refused (λ x. (B.tree x.0, tokens x.1.now))
+        (call_at (scope_of around.now.scope.now) around.now.depth) behind.now result }
+    ensures fits { IfOk result (λ x. B.fits (scope_of around.now.scope.now) (scope_of around.now.costs.now) x.0) }
 {
     let (name, rest) = label(behind)?;
-    if !scope.has(&name) {
+    if !around.scope.has(&name) {
         return Err(fault(Cause::Name, behind));
     }
-    if scope.number_of(&name) > u32::from(depth) {
+    if around.scope.number_of(&name) > u32::from(around.depth) {
         return Err(fault(Cause::Depth, text));
     }
-    Ok((builder.call(name, scope, costs), rest))
-}
-
-// A repeated block, behind its first word.
-#[cycle(frames)]
-fn repeat<'a, B: Builder>(
-    builder: &B,
-    text: &'a [u8],
-    scope: &Scope<'_>,
-    costs: &Scope<'_>,
-    depth: u8,
-) -> Result<(B::Frame, &'a [u8]), Fault>
-    ensures tree { Builds B.refused (λ x. (B.tree x.0, tokens x.1.now)) result
-        (repeat_at (block_at (scope_of scope.now) depth) (tokens text.now)) }
-    ensures fewer { IfOk result (λ x. length (tokens x.1.now) < length (tokens text.now)) }
-    ensures fits { IfOk result (λ x. B.fits (scope_of scope.now) (scope_of costs.now) x.0) }
-{
-    let (count, rest) = number_in_range(text, 1, 10_000)?;
-    let (body, rest) = block(builder, rest, scope, costs, depth)?;
-    let whole = or_refused!(builder.repeat(count as u16, body), rest);
-    Ok((whole, rest))
+    Ok((around.builder.call(name, around.scope, around.costs), rest))
 }
 
 // A choice between two blocks, behind its first word.
 #[cycle(frames)]
-fn choice<'a, B: Builder>(
-    builder: &B,
-    text: &'a [u8],
-    scope: &Scope<'_>,
-    costs: &Scope<'_>,
-    depth: u8,
-) -> Result<(B::Frame, &'a [u8]), Fault>
-    ensures tree { Builds B.refused (λ x. (B.tree x.0, tokens x.1.now)) result
-        (choice_at (block_at (scope_of scope.now) depth) (tokens text.now)) }
-    ensures fewer { IfOk result (λ x. length (tokens x.1.now) < length (tokens text.now)) }
-    ensures fits { IfOk result (λ x. B.fits (scope_of scope.now) (scope_of costs.now) x.0) }
+fn choice<'a, B: Builder>(around: &Around<'_, B>, text: &'a [u8]) -> Read<'a, B::Frame>
+    ensures made { Makes B.refused (λ x. (B.tree x.0, tokens x.1.now))
+        (choice_at (block_at (scope_of around.now.scope.now) around.now.depth)) text.now result }
+    ensures fits { IfOk result (λ x. B.fits (scope_of around.now.scope.now) (scope_of around.now.costs.now) x.0) }
 {
-    let (asked, rest) = condition(builder, text, 16)?;
-    let (then, rest) = block(builder, rest, scope, costs, depth)?;
-    let (otherwise, rest) = else_part(builder, rest, scope, costs, depth)?;
-    let whole = or_refused!(builder.choose(asked, then, otherwise), rest);
+    let (asked, rest) = condition(around.builder, text, 16)?;
+    let (then, rest) = block(around, rest)?;
+    let (otherwise, rest) = else_part(around, rest)?;
+    let whole = or_refused!(around.builder.choose(asked, then, otherwise), rest);
     Ok((whole, rest))
 }
 
 // A block that runs until a condition holds, at most so many times, behind its first word.
 #[cycle(frames)]
-fn until<'a, B: Builder>(
-    builder: &B,
-    text: &'a [u8],
-    scope: &Scope<'_>,
-    costs: &Scope<'_>,
-    depth: u8,
-) -> Result<(B::Frame, &'a [u8]), Fault>
-    ensures tree { Builds B.refused (λ x. (B.tree x.0, tokens x.1.now)) result
-        (until_at (block_at (scope_of scope.now) depth) (tokens text.now)) }
-    ensures fewer { IfOk result (λ x. length (tokens x.1.now) < length (tokens text.now)) }
-    ensures fits { IfOk result (λ x. B.fits (scope_of scope.now) (scope_of costs.now) x.0) }
+fn until<'a, B: Builder>(around: &Around<'_, B>, text: &'a [u8]) -> Read<'a, B::Frame>
+    ensures made { Makes B.refused (λ x. (B.tree x.0, tokens x.1.now))
+        (until_at (block_at (scope_of around.now.scope.now) around.now.depth)) text.now result }
+    ensures fits { IfOk result (λ x. B.fits (scope_of around.now.scope.now) (scope_of around.now.costs.now) x.0) }
 {
-    let (asked, rest) = condition(builder, text, 16)?;
+    let (asked, rest) = condition(around.builder, text, 16)?;
     let rest = after_token(rest, b"at")?;
     let rest = after_token(rest, b"most")?;
     let (count, rest) = number_in_range(rest, 1, 10_000)?;
-    let (body, rest) = block(builder, rest, scope, costs, depth)?;
-    let whole = or_refused!(builder.until(asked, count as u16, body), rest);
+    let (body, rest) = block(around, rest)?;
+    let whole = or_refused!(around.builder.until(asked, count as u16, body), rest);
     Ok((whole, rest))
 }
 
-// A block with a period, behind its first word.
-#[cycle(frames)]
-fn timed<'a, B: Builder>(
-    builder: &B,
-    text: &'a [u8],
-    scope: &Scope<'_>,
-    costs: &Scope<'_>,
-    depth: u8,
-) -> Result<(B::Frame, &'a [u8]), Fault>
-    ensures tree { Builds B.refused (λ x. (B.tree x.0, tokens x.1.now)) result
-        (timed_at (block_at (scope_of scope.now) depth) (tokens text.now)) }
-    ensures fewer { IfOk result (λ x. length (tokens x.1.now) < length (tokens text.now)) }
-    ensures fits { IfOk result (λ x. B.fits (scope_of scope.now) (scope_of costs.now) x.0) }
-{
-    let (hundreds, rest) = period(text)?;
-    let (body, rest) = block(builder, rest, scope, costs, depth)?;
-    let whole = or_refused!(builder.timed(hundreds, body), rest);
-    Ok((whole, rest))
-}
-
-/// A frame with at most `depth` blocks in one another.
+/// A frame with at most `around.depth` blocks in one another.
 #[cycle(frames)]
 #[tactic(auto, unfolding(crate::specs::Frames::frame_from, crate::specs::Frames::frame_of))]
-pub fn frame<'a, B: Builder>(
-    builder: &B,
-    text: &'a [u8],
-    scope: &Scope<'_>,
-    costs: &Scope<'_>,
-    depth: u8,
-) -> Result<(B::Frame, &'a [u8]), Fault>
-    ensures tree { Builds B.refused (λ x. (B.tree x.0, tokens x.1.now)) result
-        (frame_at (scope_of scope.now) depth (tokens text.now)) }
-    ensures fewer { IfOk result (λ x. length (tokens x.1.now) < length (tokens text.now)) }
-    ensures fits { IfOk result (λ x. B.fits (scope_of scope.now) (scope_of costs.now) x.0) }
+pub fn frame<'a, B: Builder>(around: &Around<'_, B>, text: &'a [u8]) -> Read<'a, B::Frame>
+    ensures made { Makes B.refused (λ x. (B.tree x.0, tokens x.1.now))
+        (frame_at (scope_of around.now.scope.now) around.now.depth) text.now result }
+    ensures fits { IfOk result (λ x. B.fits (scope_of around.now.scope.now) (scope_of around.now.costs.now) x.0) }
 {
     let Some((word, rest)) = next(text) else {
         return Err(fault(Cause::End, text));
@@ -279,18 +207,32 @@ pub fn frame<'a, B: Builder>(
     match frame_word(word) {
         FrameWord::Send => {
             let (line, message, rest) = send(rest)?;
-            Ok((builder.send(line, message), rest))
+            Ok((around.builder.send(line, message), rest))
         }
-        FrameWord::Retry => retry(builder, rest),
+        FrameWord::Retry => retry(around.builder, rest),
         FrameWord::Gap => {
             let (ticks, rest) = number_in_range(rest, u32::from(LEAST_GAP), 65_535)?;
-            Ok((builder.gap(ticks as u16), rest))
+            Ok((around.builder.gap(ticks as u16), rest))
         }
-        FrameWord::Repeat => repeat(builder, rest, scope, costs, depth),
-        FrameWord::If => choice(builder, rest, scope, costs, depth),
-        FrameWord::Until => until(builder, rest, scope, costs, depth),
-        FrameWord::Timed => timed(builder, rest, scope, costs, depth),
-        FrameWord::Call => call(builder, text, rest, scope, costs, depth),
+        FrameWord::Repeat => {
+            let (count, rest) = number_in_range(rest, 1, 10_000)?;
+            let (body, rest) = block(around, rest)?;
+            Ok((
+                or_refused!(around.builder.repeat(count as u16, body), rest),
+                rest,
+            ))
+        }
+        FrameWord::If => choice(around, rest),
+        FrameWord::Until => until(around, rest),
+        FrameWord::Timed => {
+            let (hundreds, rest) = period(rest)?;
+            let (body, rest) = block(around, rest)?;
+            Ok((
+                or_refused!(around.builder.timed(hundreds, body), rest),
+                rest,
+            ))
+        }
+        FrameWord::Call => call(around, text, rest),
         FrameWord::NoFrame => Err(fault(misplaced(word), text)),
     }
 }

@@ -1,11 +1,11 @@
 //! The words that the grammar knows, by where they stand.
 
-ghost use Rattle.std.specs.Prelude.{◌≡◌};
-ghost use Rattle.frame_text.specs.Reading as reading;
-ghost use Rattle.frame_text.specs.Tokens as tokens_of;
-ghost use Rattle.frame_text.specs.Messages as messages;
 ghost use Rattle.frame_text.specs.Conditions as conditions;
 ghost use Rattle.frame_text.specs.Frames as frames;
+ghost use Rattle.frame_text.specs.Messages as messages;
+ghost use Rattle.frame_text.specs.Reading as reading;
+ghost use Rattle.frame_text.specs.Tokens as tokens_of;
+ghost use Rattle.std.specs.Prelude.{◌≡◌, map};
 
 use crate::faults::Cause;
 
@@ -96,95 +96,77 @@ fn is_bracket(word: &[u8]) -> bool
         || is(word, b"]")
 }
 
+// What stands beside the first of these words that is this one; else what is given for none.
+fn beside<T: Copy>(none: T, rows: &[(&[u8], T)], word: &[u8]) -> T
+    ensures { result ≡ reading.beside none (map (λ row. (row.0.now, row.1)) rows.now) word.now }
+{
+    match rows.split_first() {
+        None => none,
+        Some((first, rest)) => {
+            if is(word, first.0) {
+                first.1
+            } else {
+                beside(none, rest, word)
+            }
+        }
+    }
+}
+
+// What each of these words is at the beginning of a message.
+const MESSAGE_WORDS: [(&[u8], MessageWord); 9] = [
+    (b"rx", MessageWord::Receive),
+    (b"tx", MessageWord::Transmit),
+    (b"rt", MessageWord::Transfer),
+    (b"mode", MessageWord::Mode),
+    (b"mode0", MessageWord::ModeZero),
+    (b"brx", MessageWord::ReceiveAll),
+    (b"brt", MessageWord::TransferAll),
+    (b"bmode", MessageWord::ModeAll),
+    (b"bmode0", MessageWord::ModeZeroAll),
+];
+
 /// What a message may begin with.
 #[tactic(auto, unfolding(crate::specs::Messages::message_word))]
 pub fn message_word(word: &[u8]) -> MessageWord
     ensures { result ≡ messages.message_word word.now }
 {
-    if is(word, b"rx") {
-        return MessageWord::Receive;
-    }
-    if is(word, b"tx") {
-        return MessageWord::Transmit;
-    }
-    if is(word, b"rt") {
-        return MessageWord::Transfer;
-    }
-    if is(word, b"mode") {
-        return MessageWord::Mode;
-    }
-    if is(word, b"mode0") {
-        return MessageWord::ModeZero;
-    }
-    if is(word, b"brx") {
-        return MessageWord::ReceiveAll;
-    }
-    if is(word, b"brt") {
-        return MessageWord::TransferAll;
-    }
-    if is(word, b"bmode") {
-        return MessageWord::ModeAll;
-    }
-    if is(word, b"bmode0") {
-        return MessageWord::ModeZeroAll;
-    }
-    MessageWord::NoMessage
+    beside(MessageWord::NoMessage, &MESSAGE_WORDS, word)
 }
+
+// What each of these words is at the beginning of a condition.
+const CONDITION_WORDS: [(&[u8], ConditionWord); 6] = [
+    (b"fail", ConditionWord::Fail),
+    (b"silent", ConditionWord::Silent),
+    (b"bit", ConditionWord::Bit),
+    (b"not", ConditionWord::Not),
+    (b"all", ConditionWord::All),
+    (b"any", ConditionWord::Any),
+];
 
 /// What a condition may begin with.
 #[tactic(auto, unfolding(crate::specs::Conditions::condition_word))]
 pub fn condition_word(word: &[u8]) -> ConditionWord
     ensures { result ≡ conditions.condition_word word.now }
 {
-    if is(word, b"fail") {
-        return ConditionWord::Fail;
-    }
-    if is(word, b"silent") {
-        return ConditionWord::Silent;
-    }
-    if is(word, b"bit") {
-        return ConditionWord::Bit;
-    }
-    if is(word, b"not") {
-        return ConditionWord::Not;
-    }
-    if is(word, b"all") {
-        return ConditionWord::All;
-    }
-    if is(word, b"any") {
-        return ConditionWord::Any;
-    }
-    ConditionWord::NoCondition
+    beside(ConditionWord::NoCondition, &CONDITION_WORDS, word)
 }
+
+// What each of these words is at the beginning of a frame.
+const FRAME_WORDS: [(&[u8], FrameWord); 8] = [
+    (b"send", FrameWord::Send),
+    (b"retry", FrameWord::Retry),
+    (b"gap", FrameWord::Gap),
+    (b"repeat", FrameWord::Repeat),
+    (b"if", FrameWord::If),
+    (b"until", FrameWord::Until),
+    (b"frame", FrameWord::Timed),
+    (b"call", FrameWord::Call),
+];
 
 /// What a frame may begin with.
 #[tactic(auto, unfolding(crate::specs::Frames::frame_word))]
 pub fn frame_word(word: &[u8]) -> FrameWord
     ensures { result ≡ frames.frame_word word.now }
 {
-    if is(word, b"send") {
-        return FrameWord::Send;
-    }
-    if is(word, b"retry") {
-        return FrameWord::Retry;
-    }
-    if is(word, b"gap") {
-        return FrameWord::Gap;
-    }
-    if is(word, b"repeat") {
-        return FrameWord::Repeat;
-    }
-    if is(word, b"if") {
-        return FrameWord::If;
-    }
-    if is(word, b"until") {
-        return FrameWord::Until;
-    }
-    if is(word, b"frame") {
-        return FrameWord::Timed;
-    }
-    if is(word, b"call") {
-        return FrameWord::Call;
-    }
-    FrameWord::NoFrame
+    beside(FrameWord::NoFrame, &FRAME_WORDS, word)
 }

@@ -2,16 +2,16 @@
 //! fault from left to right. Its tests are in `frame_tests`.
 #![tactic(auto)]
 
-ghost use Rattle.std.specs.Prelude.{◌≡◌, Ok, IfOk, IfErr, string_bytes};
-ghost use Rattle.frame_tree.specs.Tree.{condition_in, tree_of};
-ghost use Rattle.frame_tree.specs.Bounds.{IsSound};
-ghost use Rattle.frame_text.specs.Reading.{Answers, IsTextError};
-ghost use Rattle.frame_text.specs.Messages.{send_of_text};
+ghost use Rattle.frame_text.specs.Chains.{IsScript};
 ghost use Rattle.frame_text.specs.Conditions.{condition_of_text};
 ghost use Rattle.frame_text.specs.Frames.{tree_of_text};
+ghost use Rattle.frame_text.specs.Messages.{send_of_text};
 ghost use Rattle.frame_text.specs.Places.{StandsIn};
 ghost use Rattle.frame_text.specs.Printing.{printed};
-ghost use Rattle.frame_text.specs.Chains.{IsScript};
+ghost use Rattle.frame_text.specs.Reading.{Answers, IsTextError};
+ghost use Rattle.frame_tree.specs.Bounds.{IsSound};
+ghost use Rattle.frame_tree.specs.Tree.{condition_in, tree_of};
+ghost use Rattle.std.specs.Prelude.{◌≡◌, Ok, IfOk, IfErr, string_bytes};
 
 mod boxes;
 mod builder;
@@ -42,6 +42,7 @@ use mil_word::Line;
 use places::located;
 use printed_frames::put_lines;
 use std::alloc::{AllocError, Allocator, Global};
+pub use tokens::next as next_token;
 
 /// The frame of a script. It is refused with the first fault from left to right; for want of memory only where it has
 /// none, so that what is answered of a text with a fault is the same with and without memory. A frame is sound, a chain

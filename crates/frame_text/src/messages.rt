@@ -1,10 +1,10 @@
 //! The text of a message.
 
-ghost use Rattle.std.specs.Prelude.{◌≡◌, ◌<◌, length, IfOk, IfErr};
-ghost use Rattle.mil_message.specs.Request.{request_of};
-ghost use Rattle.frame_text.specs.Tokens.{tokens};
-ghost use Rattle.frame_text.specs.Reading.{Gives, IsOfText};
 ghost use Rattle.frame_text.specs.Messages as reads;
+ghost use Rattle.frame_text.specs.Reading.{Gives, IsOfText};
+ghost use Rattle.frame_text.specs.Tokens.{tokens};
+ghost use Rattle.mil_message.specs.Request.{request_of};
+ghost use Rattle.std.specs.Prelude.{◌≡◌, ◌<◌, length, IfOk, IfErr};
 
 use crate::faults::{Cause, Fault};
 use crate::keywords::{MessageWord, is, message_word, misplaced};

@@ -1,8 +1,8 @@
 //! Conditions and frames that proofs alone know: no byte of them is kept at run time. What keeps nothing but numbers of
 //! a frame holds one, so that its contracts can speak of the frame.
 
-ghost use Rattle.std.specs.Prelude.{◌≡◌};
 ghost use Rattle.frame_text.specs.OutlineParts.{asked_by, outlined};
+ghost use Rattle.std.specs.Prelude.{◌≡◌};
 
 use frame_tree::Name;
 use mil_message::{Message, OutcomeTest};
@@ -28,8 +28,8 @@ pub enum Ask {
 }
 
 impl Model for Asked {
-    ghost use Rattle.std.specs.Prelude.{ℕ, List};
     ghost use Rattle.frame_text.specs.Outlines.{Step};
+    ghost use Rattle.std.specs.Prelude.{ℕ, List};
 
     ghost Value = { List Step × ℕ };
 

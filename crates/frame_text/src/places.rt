@@ -1,8 +1,8 @@
 //! Places in a text.
 
-ghost use Rattle.std.specs.Prelude.{◌≡◌, ◌++◌, ◌-◌, List, ℕ, length, take};
-ghost use Rattle.frame_text.specs.Reading.{IsLocated, IsOfText, IsTextError};
 ghost use Rattle.frame_text.specs.Places.{place_behind, IsPlaced, StandsIn};
+ghost use Rattle.frame_text.specs.Reading.{IsLocated, IsOfText, IsTextError};
+ghost use Rattle.std.specs.Prelude.{◌≡◌, ◌++◌, ◌-◌, List, ℕ, length, take};
 
 use crate::faults::{Fault, Place, ScriptError};
 use crate::keywords::is_word_byte;

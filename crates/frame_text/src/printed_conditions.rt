@@ -1,8 +1,8 @@
 //! Conditions as text.
 
-ghost use Rattle.std.specs.Prelude.{◌≡◌, ◌++◌, OnOk, string_bytes};
-ghost use Rattle.frame_tree.specs.Tree.{condition_in};
 ghost use Rattle.frame_text.specs.PrintedConditions as texts;
+ghost use Rattle.frame_tree.specs.Tree.{condition_in};
+ghost use Rattle.std.specs.Prelude.{◌≡◌, ◌++◌, OnOk, string_bytes};
 
 use frame_tree::Cond;
 use mil_message::OutcomeTest;

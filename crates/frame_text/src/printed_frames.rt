@@ -1,11 +1,11 @@
 //! Frames as text, one a line.
 
-ghost use Rattle.std.specs.Prelude.{◌≡◌, true, ◌+◌, ◌++◌, OnOk, string_bytes, codes, decimal};
-ghost use Rattle.frame_tree.specs.Tree.{condition_in, tree_of, send, retry, gap, repeat, until, timed, call};
-ghost use Rattle.frame_tree.specs.Names.{are_word_bytes};
 ghost use Rattle.frame_text.specs.PrintedConditions.{condition_text};
 ghost use Rattle.frame_text.specs.PrintedMessages.{send_text};
 ghost use Rattle.frame_text.specs.Printing as texts;
+ghost use Rattle.frame_tree.specs.Names.{are_word_bytes};
+ghost use Rattle.frame_tree.specs.Tree.{condition_in, tree_of, send, retry, gap, repeat, until, timed, call};
+ghost use Rattle.std.specs.Prelude.{◌≡◌, true, ◌+◌, ◌++◌, OnOk, string_bytes, codes, decimal};
 
 use crate::printed_conditions::put_condition;
 use crate::printed_messages::put_send;

@@ -1,7 +1,7 @@
 //! Messages as text.
 
-ghost use Rattle.std.specs.Prelude.{◌≡◌, ◌++◌, ◌∷◌, [], OnOk, string_bytes, true};
 ghost use Rattle.frame_text.specs.PrintedMessages as texts;
+ghost use Rattle.std.specs.Prelude.{◌≡◌, ◌++◌, ◌∷◌, [], OnOk, string_bytes, true};
 
 use mil_message::{Form, Message, ModeSubaddress};
 use mil_word::Line;

@@ -1,11 +1,14 @@
 //! The tokens of a text, one by one: no list of them is ever made.
 
-ghost use Rattle.std.specs.Prelude.{◌≡◌, ◌<◌, ◌≤◌, ◌++◌, ℕ, List, [], ◌∷◌, length, MatchOption, IfSome, IfOk, IfErr};
-ghost use Rattle.frame_text.specs.Tokens.{is_space, tokens, BeginsToken};
 ghost use Rattle.frame_text.specs.Reading.{Gives, IsAtToken, IsCause, IsOfText, past};
+ghost use Rattle.frame_text.specs.Tokens.{is_space, tokens, BeginsToken};
+ghost use Rattle.std.specs.Prelude.{◌≡◌, ◌<◌, ◌≤◌, ◌++◌, ℕ, List, [], ◌∷◌, length, MatchOption, IfSome, IfOk, IfErr};
 
 use crate::faults::{Cause, Fault};
 use crate::keywords::{is, is_word_byte, misplaced};
+
+/// What was read, and what comes after it.
+pub type Read<'a, T> = Result<(T, &'a [u8]), Fault>;
 
 fn is_space_byte(b: u8) -> bool
     ensures { result ≡ is_space b }

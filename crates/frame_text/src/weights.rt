@@ -47,8 +47,8 @@ fn deeper(first: u32, second: u32) -> u32
 }
 
 impl Builder for Weigher {
-    ghost use Rattle.frame_text.specs.Weights.{IsOfFrame, IsOfRow};
     ghost use Rattle.frame_text.specs.OutlineParts.{condition_known, tree_known, row_known};
+    ghost use Rattle.frame_text.specs.Weights.{IsOfFrame, IsOfRow};
 
     type Cond = Snapshot<Asked>;
 
@@ -71,27 +71,19 @@ impl Builder for Weigher {
     ghost refused = { ⊥ };
 
     #[tactic(auto, using(crate::proofs::Made::condition_again, crate::proofs::Made::tree_again))]
-    fn ask(&self, test: OutcomeTest) -> Snapshot<Asked> {
+    fn ask(&self, test: OutcomeTest) -> Self::Cond {
         asked_of(Ask::Test(test))
     }
 
-    fn not(&self, inner: Snapshot<Asked>) -> Result<Snapshot<Asked>, AllocError> {
+    fn not(&self, inner: Self::Cond) -> Result<Self::Cond, AllocError> {
         Ok(asked_of(Ask::Not(inner)))
     }
 
-    fn all(
-        &self,
-        first: Snapshot<Asked>,
-        second: Snapshot<Asked>,
-    ) -> Result<Snapshot<Asked>, AllocError> {
+    fn all(&self, first: Self::Cond, second: Self::Cond) -> Result<Self::Cond, AllocError> {
         Ok(asked_of(Ask::All(first, second)))
     }
 
-    fn any(
-        &self,
-        first: Snapshot<Asked>,
-        second: Snapshot<Asked>,
-    ) -> Result<Snapshot<Asked>, AllocError> {
+    fn any(&self, first: Self::Cond, second: Self::Cond) -> Result<Self::Cond, AllocError> {
         Ok(asked_of(Ask::Any(first, second)))
     }
 
@@ -134,7 +126,7 @@ impl Builder for Weigher {
 
     fn choose(
         &self,
-        asked: Snapshot<Asked>,
+        asked: Self::Cond,
         then: Weight,
         otherwise: Weight,
     ) -> Result<Weight, AllocError> {
@@ -147,12 +139,7 @@ impl Builder for Weigher {
         })
     }
 
-    fn until(
-        &self,
-        asked: Snapshot<Asked>,
-        count: u16,
-        body: Weight,
-    ) -> Result<Weight, AllocError> {
+    fn until(&self, asked: Self::Cond, count: u16, body: Weight) -> Result<Weight, AllocError> {
         let messages = times_capped(count, body.messages);
         let depth = deeper(body.depth, 0);
         Ok(Weight {

@@ -1,12 +1,12 @@
 //! Whole texts.
 
-ghost use Rattle.std.specs.Prelude.{IfOk, IfErr};
-ghost use Rattle.frame_tree.specs.Bounds.{IsSound};
-ghost use Rattle.frame_text.specs.Reading.{Gives, Builds, Fails, Breaks, HasNoFault, IsOfText};
-ghost use Rattle.frame_text.specs.Messages.{send_of_text};
+ghost use Rattle.frame_text.specs.Chains.{IsScript};
 ghost use Rattle.frame_text.specs.Conditions.{condition_of_text};
 ghost use Rattle.frame_text.specs.Frames.{tree_of_text};
-ghost use Rattle.frame_text.specs.Chains.{IsScript};
+ghost use Rattle.frame_text.specs.Messages.{send_of_text};
+ghost use Rattle.frame_text.specs.Reading.{Gives, Builds, Fails, Breaks, HasNoFault, IsOfText};
+ghost use Rattle.frame_tree.specs.Bounds.{IsSound};
+ghost use Rattle.std.specs.Prelude.{IfOk, IfErr};
 
 use crate::builder::Builder;
 use crate::faults::{Cause, Fault};

@@ -1,10 +1,10 @@
 //! Numbers, periods and data words.
 
-ghost use Rattle.std.specs.Prelude.{◌≡◌, ◌<◌, ◌≤◌, ◌++◌, ◌∷◌, [], length, take, IfOk, option_map, IfErr};
-ghost use Rattle.frame_text.specs.Tokens.{tokens};
 ghost use Rattle.frame_text.specs.Reading.{Gives, IsAtToken, IsCause, IsOfText};
+ghost use Rattle.frame_text.specs.Tokens.{tokens};
 ghost use Rattle.frame_text.specs.Words.{number_of, data_word_of, unspelled, number_at, number_within, period_at};
 ghost use Rattle.frame_text.specs.Words.{words_at, counted, bracketed_at, optional_at};
+ghost use Rattle.std.specs.Prelude.{◌≡◌, ◌<◌, ◌≤◌, ◌++◌, ◌∷◌, [], length, take, IfOk, option_map, IfErr};
 
 use crate::faults::{Cause, Fault};
 use crate::keywords::{is, is_word, misplaced};

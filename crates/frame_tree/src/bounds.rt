@@ -1,12 +1,12 @@
 //! How large a frame is, and whether it may be assembled. What a definition's body comes to is counted once, and its
 //! calls take that number: no expansion is ever built.
 
-ghost use Rattle.std.specs.Prelude.{◌≡◌, ℕ, ◌≤◌, ◌*◌, ◌↔◌, IsTrue, min, length, []};
-ghost use Rattle.frame_tree.specs.Tree.{Tree, tree_of};
+ghost use Rattle.frame_tree.specs.Bounds.{IsDefined, IsSound};
+ghost use Rattle.frame_tree.specs.Bounds.{depth, depth_in, worst_messages, messages_in, IsInRange, CallsKnown};
 ghost use Rattle.frame_tree.specs.Expansion.{expansion};
 ghost use Rattle.frame_tree.specs.Scopes.{scope_of};
-ghost use Rattle.frame_tree.specs.Bounds.{depth, depth_in, worst_messages, messages_in, IsInRange, CallsKnown};
-ghost use Rattle.frame_tree.specs.Bounds.{IsDefined, IsSound};
+ghost use Rattle.frame_tree.specs.Tree.{Tree, tree_of};
+ghost use Rattle.std.specs.Prelude.{◌≡◌, ℕ, ◌≤◌, ◌*◌, ◌↔◌, IsTrue, min, length, []};
 
 use crate::{Frame, Scope};
 use mil_word::timing::LEAST_GAP;

@@ -1,8 +1,8 @@
 //! Conditions.
 
-ghost use Rattle.std.specs.Prelude.{◌≡◌, IfOk, min};
-ghost use Rattle.frame_tree.specs.Tree.{condition_in};
 ghost use Rattle.frame_tree.specs.Bounds.{operators};
+ghost use Rattle.frame_tree.specs.Tree.{condition_in};
+ghost use Rattle.std.specs.Prelude.{◌≡◌, IfOk, min};
 
 use crate::Cond;
 use std::alloc::{AllocError, Allocator};

@@ -1,7 +1,7 @@
 //! Copies of frames.
 
-ghost use Rattle.std.specs.Prelude.{◌≡◌, map, IfOk};
 ghost use Rattle.frame_tree.specs.Tree.{tree_of, send, retry};
+ghost use Rattle.std.specs.Prelude.{◌≡◌, map, IfOk};
 
 use crate::Frame;
 use mil_message::Message;

@@ -1,8 +1,8 @@
 //! Names of definitions, and the names in scope.
 
-ghost use Rattle.std.specs.Prelude.{◌≡◌, ◌≤◌, true, if◌then◌else◌, Some, None, length};
 ghost use Rattle.frame_tree.specs.Names.{is_letter, are_word_bytes, begins, is_name, same_bytes, meant_by, is_known};
 ghost use Rattle.frame_tree.specs.Scopes.{scope_of};
+ghost use Rattle.std.specs.Prelude.{◌≡◌, ◌≤◌, true, if◌then◌else◌, Some, None, length};
 
 use arrayvec::ArrayVec;
 use std::marker::Model;

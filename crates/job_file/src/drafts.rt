@@ -1,14 +1,16 @@
 //! A job as far as its lines were read.
-ghost use Rattle.std.specs.Prelude.{◌≡◌, ◌<◌, ◌≤◌, true, [], map, Some, None, OnOk, IfOk, IfErr};
-ghost use Rattle.text_lines.specs.Words.{words};
-ghost use Rattle.job_file.specs.HeadLines.{has};
-ghost use Rattle.job_file.specs.Lines.{channel, start, terminal, action, said};
-ghost use Rattle.job_file.specs.Lines as says;
-ghost use Rattle.job_file.specs.Entries.{said_by, IsInRange};
-ghost use Rattle.job_file.specs.Spans.{IsSpan, numbers_of};
 ghost use Rattle.job_file.specs.Drafts.{shown, Takes};
-ghost use Rattle.job_file.specs.Reading.{TakesLine, AreInRange};
+ghost use Rattle.job_file.specs.Entries.{said_by, IsInRange};
 ghost use Rattle.job_file.specs.Faults.{IsEntryRefused, IsLineRefused, are_line_words, plan_fault, first_fault};
+ghost use Rattle.job_file.specs.HeadLines.{has};
+ghost use Rattle.job_file.specs.Lines as says;
+ghost use Rattle.job_file.specs.Lines.{terminal, action, said};
+ghost use Rattle.job_file.specs.Reading.{TakesLine, AreInRange};
+ghost use Rattle.job_file.specs.Spans.{IsSpan, numbers_of};
+ghost use Rattle.job_file.specs.declared.error.LineFault.TheVariants.{Order};
+ghost use Rattle.job_file.specs.declared.error.Refusal.TheVariants as refusal;
+ghost use Rattle.std.specs.Prelude.{◌≡◌, ◌<◌, ◌≤◌, true, [], map, Some, None, OnOk, OnErr, IfOk, IfErr};
+ghost use Rattle.text_lines.specs.Words.{words};
 
 use crate::error::{LineFault, Refusal};
 use crate::lines::{Entry, read_line};
@@ -25,6 +27,20 @@ pub enum Taken {
     Line,
     /// The line of the script.
     Script,
+}
+
+/// Keeps what a job says once.
+fn say_once<T: Drop>(said: &mut Option<T>, value: T) -> Result<(), Refusal>
+    ensures first { OnOk result (said.old ≡ None) }
+    ensures kept { OnOk result (said.new ≡ Some value) }
+    ensures again { OnErr result ((before : T) × (said.old ≡ Some before)) }
+    ensures order { IfErr result (λ f. f ≡ refusal.Line Order) }
+{
+    if said.is_some() {
+        return Err(Refusal::Line(LineFault::Order));
+    }
+    *said = Some(value);
+    Ok(())
 }
 
 /// What the lines of a job have said so far.
@@ -59,28 +75,6 @@ impl Draft {
         ensures { result ≡ has address self.now.addresses.items }
     {
         self.addresses.iter().any(|a| *a == address)
-    }
-
-    fn name_channel(&mut self, number: u16) -> Result<(), Refusal>
-        ensures takes { Takes (channel number) (shown self.old) (shown self.new) result }
-        ensures refused { IfErr result (IsEntryRefused (channel number) (shown self.old)) }
-    {
-        if self.channel.is_some() {
-            return Err(Refusal::Line(LineFault::Order));
-        }
-        self.channel = Some(number);
-        Ok(())
-    }
-
-    fn start_at(&mut self, tick: u64) -> Result<(), Refusal>
-        ensures takes { Takes (start tick) (shown self.old) (shown self.new) result }
-        ensures refused { IfErr result (IsEntryRefused (start tick) (shown self.old)) }
-    {
-        if self.start.is_some() {
-            return Err(Refusal::Line(LineFault::Order));
-        }
-        self.start = Some(tick);
-        Ok(())
     }
 
     fn add_terminal(&mut self, address: u8) -> Result<(), Refusal>
@@ -215,8 +209,8 @@ impl Draft {
         match entry {
             Entry::Script => return Ok(Taken::Script),
             Entry::Blank => {}
-            Entry::Channel(number) => self.name_channel(*number)?,
-            Entry::Start(tick) => self.start_at(*tick)?,
+            Entry::Channel(number) => say_once(&mut self.channel, *number)?,
+            Entry::Start(tick) => say_once(&mut self.start, *tick)?,
             Entry::Terminal(address) => self.add_terminal(*address)?,
             Entry::Action {
                 number,

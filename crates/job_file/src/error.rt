@@ -34,8 +34,8 @@ pub enum Refusal {
 }
 
 impl From<LineFault> for Refusal {
-    ghost use Rattle.std.specs.Prelude.{◌≡◌};
     ghost use Rattle.job_file.specs.declared.error.Refusal.TheVariants.{Line};
+    ghost use Rattle.std.specs.Prelude.{◌≡◌};
 
     ghost from_gives = { λ f r. r ≡ Line f };
 

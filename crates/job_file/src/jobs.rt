@@ -1,17 +1,17 @@
 //! A job: all that is to be known of a channel's bus.
-ghost use Rattle.std.specs.Prelude.{◌≡◌, ◌≤◌, true, Some, IfOk};
-ghost use Rattle.std.specs.List.{list_all};
-ghost use Rattle.mil_bus.specs.Addresses.{is_fit};
-ghost use Rattle.frame_tree.specs.Bounds.{IsSound};
-ghost use Rattle.frame_asm.specs.Shapes.{code_of_tree};
 ghost use Rattle.bc_machine.specs.Running.{started};
-ghost use Rattle.job_file.specs.JobRanges.{may_act, IsFit};
+ghost use Rattle.frame_asm.specs.Shapes.{code_of_tree};
+ghost use Rattle.frame_tree.specs.Bounds.{IsSound};
 ghost use Rattle.job_file.specs.Drafts.{shown};
-ghost use Rattle.job_file.specs.Spelled.{job_with};
-ghost use Rattle.job_file.specs.Scripts.{tree_spelled, IsProgramOf};
+ghost use Rattle.job_file.specs.JobRanges.{may_act, IsFit};
 ghost use Rattle.job_file.specs.Jobs.{tree_in, job_in};
-ghost use Rattle.job_file.specs.Meaning.{bus_of};
 ghost use Rattle.job_file.specs.Machines.{IsOf, IsTold};
+ghost use Rattle.job_file.specs.Meaning.{bus_of};
+ghost use Rattle.job_file.specs.Scripts.{tree_spelled, IsProgramOf};
+ghost use Rattle.job_file.specs.Spelled.{job_with};
+ghost use Rattle.mil_bus.specs.Addresses.{is_fit};
+ghost use Rattle.std.specs.List.{list_all};
+ghost use Rattle.std.specs.Prelude.{◌≡◌, ◌≤◌, true, Some, IfOk};
 
 use crate::drafts::Draft;
 use crate::scripts::Script;
@@ -36,9 +36,9 @@ pub struct Job {
 }
 
 impl Model for Job {
+    ghost use Rattle.job_file.specs.Jobs.{JobState};
     ghost use Rattle.job_file.specs.contracts.scripts.Script as scripts;
     ghost use Rattle.std.specs.Coded.{codes};
-    ghost use Rattle.job_file.specs.Jobs.{JobState};
 
     ghost Value = { JobState };
 

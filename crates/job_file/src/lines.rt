@@ -1,14 +1,14 @@
 //! What a line of a job says, by itself: whether it may stand where it does is judged elsewhere.
-ghost use Rattle.std.specs.Prelude.{◌≡◌, ◌≤◌, IfOk, IfErr};
-ghost use Rattle.text_lines.specs.Words.{words};
-ghost use Rattle.job_file.specs.Options.{Gives};
-ghost use Rattle.job_file.specs.Lines as lines;
 ghost use Rattle.job_file.specs.Entries.{said_by, IsInRange};
-ghost use Rattle.job_file.specs.Spans.{IsSpan};
 ghost use Rattle.job_file.specs.Faults.{IsFaultOfWords, are_fault_words, are_words_behind, are_line_words};
+ghost use Rattle.job_file.specs.Lines as lines;
+ghost use Rattle.job_file.specs.Options.{Gives};
+ghost use Rattle.job_file.specs.Spans.{IsSpan};
 ghost use Rattle.job_file.specs.declared.error.LineFault.TheVariants.{Word as BadWord, Number as BadNumber};
 ghost use Rattle.job_file.specs.declared.keywords.FaultWord.TheVariants as kinds;
 ghost use Rattle.job_file.specs.declared.keywords.Keyword.TheVariants as keywords;
+ghost use Rattle.std.specs.Prelude.{◌≡◌, ◌≤◌, IfOk, IfErr};
+ghost use Rattle.text_lines.specs.Words.{words};
 
 use crate::error::LineFault;
 use crate::keywords::{FaultWord, Keyword, fault_word_in, keyword_in, sync_in};

@@ -1,9 +1,9 @@
 //! Numbers in the lines of a job.
-ghost use Rattle.std.specs.Prelude.{◌≡◌, ◌≤◌, ◌<◌, ◌^◌, IfOk, IfErr};
-ghost use Rattle.numerals.specs.Numerals.{spelled};
-ghost use Rattle.job_file.specs.Options.{Gives};
 ghost use Rattle.job_file.specs.Numbers.{number_of, number_within, data_word_of, half_bits_of, start_of};
+ghost use Rattle.job_file.specs.Options.{Gives};
 ghost use Rattle.job_file.specs.declared.error.LineFault.TheVariants.{Number};
+ghost use Rattle.numerals.specs.Numerals.{spelled};
+ghost use Rattle.std.specs.Prelude.{◌≡◌, ◌≤◌, ◌<◌, ◌^◌, IfOk, IfErr};
 
 use crate::error::LineFault;
 use mil_word::Wave;

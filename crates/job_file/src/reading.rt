@@ -1,16 +1,16 @@
 //! The job of a text.
-ghost use Rattle.std.specs.Prelude.{◌≡◌, Ok, Some, MatchResult, IfOk, IfErr};
-ghost use Rattle.frame_tree.specs.Tree.{tree_of};
-ghost use Rattle.frame_tree.specs.Bounds.{IsSound};
-ghost use Rattle.frame_text.specs.Frames.{tree_of_text};
 ghost use Rattle.frame_asm.specs.Shapes.{code_of_tree};
+ghost use Rattle.frame_text.specs.Frames.{tree_of_text};
+ghost use Rattle.frame_tree.specs.Bounds.{IsSound};
+ghost use Rattle.frame_tree.specs.Tree.{tree_of};
 ghost use Rattle.job_file.specs.Drafts.{shown};
-ghost use Rattle.job_file.specs.JobRanges.{IsFit};
-ghost use Rattle.job_file.specs.Spelled.{spelled, job_of};
-ghost use Rattle.job_file.specs.Reading.{IsRefusal, IsScriptRefusal, IsCodeRefusal, HasProgram};
 ghost use Rattle.job_file.specs.Faults.{IsHead, IsFirstFault, IsScriptRefused, IsLineOf};
+ghost use Rattle.job_file.specs.JobRanges.{IsFit};
 ghost use Rattle.job_file.specs.Jobs.{tree_in, job_in};
+ghost use Rattle.job_file.specs.Reading.{IsRefusal, IsScriptRefusal, IsCodeRefusal, HasProgram};
+ghost use Rattle.job_file.specs.Spelled.{spelled, job_of};
 ghost use Rattle.job_file.specs.Texts.{IsAccepted};
+ghost use Rattle.std.specs.Prelude.{◌≡◌, Ok, Some, MatchResult, IfOk, IfErr};
 
 use crate::drafts::{Draft, Taken};
 use crate::error::{JobError, LineFault};

@@ -1,6 +1,6 @@
 //! Lines that speak of many messages, and what a series places at them.
-ghost use Rattle.std.specs.Prelude.{◌≡◌, ◌<◌, ◌≤◌};
 ghost use Rattle.job_file.specs.Spans.{IsSpan, count_of, number_at, word_at, placed_at};
+ghost use Rattle.std.specs.Prelude.{◌≡◌, ◌<◌, ◌≤◌};
 
 use arrayvec::ArrayVec;
 use bc_machine::Placed;

@@ -1,13 +1,13 @@
 //! The controller of a job, from one record to the next.
-ghost use Rattle.std.specs.Prelude.{◌≡◌, ◌+◌, ◌<◌, ◌≤◌, ◌^◌, List, Some, length, slice_get, IfSome, IfNone};
-ghost use Rattle.frame_tree.specs.Bounds.{IsSound};
-ghost use Rattle.frame_code.specs.Table.{halted};
-ghost use Rattle.bc_machine.specs.declared.placed.Placed.{Placed};
 ghost use Rattle.bc_machine.specs.Running.{clock_in, turn_of};
 ghost use Rattle.bc_machine.specs.UnderWay.{IsUnderWay};
-ghost use Rattle.job_file.specs.Spelled.{ChannelJob};
-ghost use Rattle.job_file.specs.Meaning.{records};
+ghost use Rattle.bc_machine.specs.declared.placed.Placed.{Placed};
+ghost use Rattle.frame_code.specs.Table.{halted};
+ghost use Rattle.frame_tree.specs.Bounds.{IsSound};
 ghost use Rattle.job_file.specs.Machines.{IsOf, IsTold};
+ghost use Rattle.job_file.specs.Meaning.{records};
+ghost use Rattle.job_file.specs.Spelled.{ChannelJob};
+ghost use Rattle.std.specs.Prelude.{◌≡◌, ◌+◌, ◌<◌, ◌≤◌, ◌^◌, List, Some, length, slice_get, IfSome, IfNone};
 
 use crate::laws::job_runs;
 use bc_machine::{Machine, Stepped};

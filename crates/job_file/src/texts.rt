@@ -1,7 +1,7 @@
 //! The jobs of several texts.
-ghost use Rattle.std.specs.Prelude.{map, IfOk, IfErr};
 ghost use Rattle.job_file.specs.Jobs.{job_in};
 ghost use Rattle.job_file.specs.Texts.{AreSpelled, IsFirstRefused};
+ghost use Rattle.std.specs.Prelude.{map, IfOk, IfErr};
 
 use crate::error::JobError;
 use crate::jobs::Job;

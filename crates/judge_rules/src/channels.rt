@@ -1,6 +1,6 @@
 //! Channel and line of a rule.
-ghost use Rattle.std.specs.Prelude.{◌≡◌};
 ghost use Rattle.judge_rules.specs.Lines as spec;
+ghost use Rattle.std.specs.Prelude.{◌≡◌};
 
 use crate::fault::RuleFault;
 use crate::rules::Bus;

@@ -1,6 +1,6 @@
 //! The check of a rule, with which its line ends.
-ghost use Rattle.std.specs.Prelude.{◌≡◌};
 ghost use Rattle.judge_rules.specs.Checks as spec;
+ghost use Rattle.std.specs.Prelude.{◌≡◌};
 
 use crate::fault::{RuleFault, both};
 use crate::rules::{Bounds, Check, Datum};

@@ -1,8 +1,8 @@
 //! Why a text spells no rules.
-ghost use Rattle.std.specs.Prelude.{◌≡◌};
 ghost use Rattle.judge_rules.specs.Faults as spec;
+ghost use Rattle.std.specs.Prelude.{◌≡◌};
 
-use std::fmt;
+use std::fmt::{self, Display, Formatter, Write};
 
 /// What is wrong with a line of rules.
 #[derive(Clone, Copy, Debug, PartialEq, Eq)]
@@ -26,13 +26,13 @@ pub struct RuleError {
 }
 
 /// The code of the fault and its line, as in `I2 line 3`.
-impl fmt::Display for RuleError {
-    ghost use Rattle.std.specs.Prelude.{Some};
+impl Display for RuleError {
     ghost use Rattle.judge_rules.specs.Codes.{error_text};
+    ghost use Rattle.std.specs.Prelude.{Some};
 
     ghost output = { λ e. Some (error_text e) };
 
-    fn fmt<W: fmt::Write>(&self, f: &mut fmt::Formatter<W>) -> fmt::Result {
+    fn fmt<W: Write>(&self, f: &mut Formatter<W>) -> fmt::Result {
         let line = self.line;
         match self.fault {
             RuleFault::Word => write!(f, "I1 line {line}"),

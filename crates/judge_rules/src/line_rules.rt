@@ -1,6 +1,6 @@
 //! The rule that a line spells.
-ghost use Rattle.std.specs.Prelude.{◌≡◌};
 ghost use Rattle.judge_rules.specs.Lines as spec;
+ghost use Rattle.std.specs.Prelude.{◌≡◌};
 
 use crate::channels::{read_bus, read_channel};
 use crate::checks::read_check;

@@ -1,7 +1,7 @@
 //! The rules that a text spells.
+ghost use Rattle.judge_rules.specs.Rules.{rules_in, rules_from, Fits, FitsAt};
 ghost use Rattle.std.specs.Prelude.{◌≡◌, ◌+◌, ◌≤◌, ◌<◌, ◌^◌, Ok, Err, IfOk, IfErr, length};
 ghost use Rattle.text_lines.specs.Lines.{text_lines};
-ghost use Rattle.judge_rules.specs.Rules.{rules_in, rules_from, Fits, FitsAt};
 
 use crate::fault::{RuleError, RuleFault};
 use crate::line_rules::read_line;

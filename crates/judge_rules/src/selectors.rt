@@ -1,6 +1,6 @@
 //! The selector of a rule.
-ghost use Rattle.std.specs.Prelude.{◌≡◌, drop};
 ghost use Rattle.judge_rules.specs.Selectors as spec;
+ghost use Rattle.std.specs.Prelude.{◌≡◌, drop};
 
 use crate::fault::{RuleFault, both};
 use crate::rules::Selector;
@@ -48,28 +48,6 @@ fn read_end(words: &mut Words<'_>) -> Result<(Option<u8>, Option<u8>), RuleFault
     both(address, subaddress)
 }
 
-fn read_receive(words: &mut Words<'_>) -> Result<Selector, RuleFault>
-    ensures value { result ≡ spec.receive_in words.old }
-    ensures rest { words.new ≡ drop 2 words.old }
-{
-    let (address, subaddress) = read_end(words)?;
-    Ok(Selector::Receive {
-        address,
-        subaddress,
-    })
-}
-
-fn read_transmit(words: &mut Words<'_>) -> Result<Selector, RuleFault>
-    ensures value { result ≡ spec.transmit_in words.old }
-    ensures rest { words.new ≡ drop 2 words.old }
-{
-    let (address, subaddress) = read_end(words)?;
-    Ok(Selector::Transmit {
-        address,
-        subaddress,
-    })
-}
-
 #[tactic(auto, unfolding(crate::specs::Selectors::between_in, crate::specs::Selectors::behind_ends))]
 fn read_between(words: &mut Words<'_>) -> Result<Selector, RuleFault>
     ensures value { result ≡ spec.between_in words.old }
@@ -96,14 +74,6 @@ fn read_mode(words: &mut Words<'_>) -> Result<Selector, RuleFault>
     Ok(Selector::Mode { address, code })
 }
 
-fn read_receive_all(words: &mut Words<'_>) -> Result<Selector, RuleFault>
-    ensures value { result ≡ spec.receive_all_in words.old }
-    ensures rest { words.new ≡ drop 1 words.old }
-{
-    let subaddress = read_subaddress(words)?;
-    Ok(Selector::ReceiveAll { subaddress })
-}
-
 fn read_between_all(words: &mut Words<'_>) -> Result<Selector, RuleFault>
     ensures value { result ≡ spec.between_all_in words.old }
     ensures rest { words.new ≡ drop 3 words.old }
@@ -118,14 +88,6 @@ fn read_between_all(words: &mut Words<'_>) -> Result<Selector, RuleFault>
     })
 }
 
-fn read_mode_all(words: &mut Words<'_>) -> Result<Selector, RuleFault>
-    ensures value { result ≡ spec.mode_all_in words.old }
-    ensures rest { words.new ≡ drop 1 words.old }
-{
-    let code = read_code(words)?;
-    Ok(Selector::ModeAll { code })
-}
-
 /// The selector that the next words spell.
 pub(crate) fn read_selector(words: &mut Words<'_>) -> Result<Selector, RuleFault>
     ensures value { result ≡ spec.selector_in words.old }
@@ -137,19 +99,29 @@ pub(crate) fn read_selector(words: &mut Words<'_>) -> Result<Selector, RuleFault
     if name == b"any".as_slice() {
         Ok(Selector::Any)
     } else if name == b"rx".as_slice() {
-        read_receive(words)
+        let (address, subaddress) = read_end(words)?;
+        Ok(Selector::Receive {
+            address,
+            subaddress,
+        })
     } else if name == b"tx".as_slice() {
-        read_transmit(words)
+        let (address, subaddress) = read_end(words)?;
+        Ok(Selector::Transmit {
+            address,
+            subaddress,
+        })
     } else if name == b"rt".as_slice() {
         read_between(words)
     } else if name == b"mode".as_slice() {
         read_mode(words)
     } else if name == b"brx".as_slice() {
-        read_receive_all(words)
+        let subaddress = read_subaddress(words)?;
+        Ok(Selector::ReceiveAll { subaddress })
     } else if name == b"brt".as_slice() {
         read_between_all(words)
     } else if name == b"bmode".as_slice() {
-        read_mode_all(words)
+        let code = read_code(words)?;
+        Ok(Selector::ModeAll { code })
     } else {
         Err(RuleFault::Word)
     }

@@ -1,6 +1,6 @@
 //! Values in the words of a rule.
-ghost use Rattle.std.specs.Prelude.{◌≡◌, ◌≤◌, Ok, Err, IfOk, MatchResult, drop, length, ◌∷◌};
 ghost use Rattle.judge_rules.specs.Values as spec;
+ghost use Rattle.std.specs.Prelude.{◌≡◌, ◌≤◌, Ok, Err, IfOk, MatchResult, drop, length, ◌∷◌};
 
 use crate::fault::{RuleFault, both};
 use crate::rules::{Bounds, Datum};

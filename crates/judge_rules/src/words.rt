@@ -1,6 +1,6 @@
 //! Where the words of a line end.
-ghost use Rattle.std.specs.Prelude.{◌≡◌};
 ghost use Rattle.judge_rules.specs.Faults as faults;
+ghost use Rattle.std.specs.Prelude.{◌≡◌};
 
 use crate::fault::RuleFault;
 use text_lines::Words;

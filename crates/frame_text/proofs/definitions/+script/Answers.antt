@@ -30,22 +30,22 @@ returns-in_err-name-clause-tree g t c =
 pub returns-in_err-body-clause-tree : goal.returns-in_err-body-clause-tree
 returns-in_err-body-clause-tree g t c =
     let p = err_from_is_err_and c.from_residual-in_err-body.result c.from_residual-in_err-body.ensures.1 in
-    rw (p.1, p.2) (body_fails c.args.left (scope_of c.args.scope.now) c.in-Some.word.now (tokens c.args.text.now) (tokens c.in-Some.rest.now) c.in-Some.ensures.tokens (sym c.is.ensures ∙ c.if-not-is.false) c.if-left-eq0.false _ c.in_err-body.field-0.0 c.in_ok-name.name (tokens c.in_ok-name.rest.now) c.in_ok-name.ensures.tree c.in_err-body.ensures.tree)
+    rw (p.1, p.2) (body_fails c.args.left (scope_of c.args.scope.now) c.in-Some.word.now (tokens c.args.text.now) (tokens c.in-Some.rest.now) c.in-Some.ensures.tokens (sym c.is.ensures ∙ c.if-not-is.false) c.if-left-eq0.false _ c.in_err-body.field-0.0 c.in_ok-name.name (tokens c.in_ok-name.rest.now) c.in_ok-name.ensures.tree c.in_err-body.ensures.made)
 
 pub returns-in_err-others-clause-tree : goal.returns-in_err-others-clause-tree
 returns-in_err-others-clause-tree g t c =
     let p = err_from_is_err_and c.from_residual-in_err-others.result c.from_residual-in_err-others.ensures.1 in
     let ds = scope_of c.args.scope.now in
     let body = g.B.Builder.tree c.in_ok-body.body in
-    let low = body_low ds (tokens c.in_ok-name.rest.now) (body, tokens c.in_ok-body.rest.now) c.in_ok-body.ensures.tree in
+    let low = body_low ds (tokens c.in_ok-name.rest.now) (body, tokens c.in_ok-body.rest.now) c.in_ok-body.ensures.made.0 in
     rw (p.1, p.2) (rest_fails c.args.left ds c.in-Some.word.now (tokens c.args.text.now) (tokens c.in-Some.rest.now) c.in-Some.ensures.tokens (sym c.is.ensures ∙ c.if-not-is.false) c.if-left-eq0.false _ c.in_err-others.field-0.0 c.in_ok-name.name (tokens c.in_ok-name.rest.now) (tokens c.in_ok-body.rest.now) body _
-    c.in_ok-name.ensures.tree c.in_ok-body.ensures.tree (search (rules, the_lemmas) ∙ not_cut c.in_ok-name.name c.depth-depth.result _ ds (c.depth-depth.ensures _ c.in_ok-body.ensures.fits) low) c.in_err-others.ensures.tree)
+    c.in_ok-name.ensures.tree c.in_ok-body.ensures.made.0 (search (rules, the_lemmas) ∙ not_cut c.in_ok-name.name c.depth-depth.result _ ds (c.depth-depth.ensures _ c.in_ok-body.ensures.fits) low) c.in_err-others.ensures.tree)
 
 pub returns-clause-tree : goal.returns-clause-tree
 returns-clause-tree g t c =
     let ds = scope_of c.args.scope.now in
     let body = g.B.Builder.tree c.in_ok-body.body in
-    let low = body_low ds (tokens c.in_ok-name.rest.now) (body, tokens c.in_ok-body.rest.now) c.in_ok-body.ensures.tree in
+    let low = body_low ds (tokens c.in_ok-name.rest.now) (body, tokens c.in_ok-body.rest.now) c.in_ok-body.ensures.made.0 in
     all_read c.args.left ds c.in-Some.word.now (tokens c.args.text.now) (tokens c.in-Some.rest.now) c.in-Some.ensures.tokens (sym c.is.ensures ∙ c.if-not-is.false) c.if-left-eq0.false c.in_ok-name.name (tokens c.in_ok-name.rest.now) (tokens c.in_ok-body.rest.now) body (g.B.Builder.tree c.in_ok-others.others) _
-    c.in_ok-name.ensures.tree c.in_ok-body.ensures.tree (search (rules, the_lemmas) ∙ not_cut c.in_ok-name.name c.depth-depth.result _ ds (c.depth-depth.ensures _ c.in_ok-body.ensures.fits) low) c.in_ok-others.ensures.tree
+    c.in_ok-name.ensures.tree c.in_ok-body.ensures.made.0 (search (rules, the_lemmas) ∙ not_cut c.in_ok-name.name c.depth-depth.result _ ds (c.depth-depth.ensures _ c.in_ok-body.ensures.fits) low) c.in_ok-others.ensures.tree
     ∙ ap Ok (sym c.in-Ok.ensures.tree)
