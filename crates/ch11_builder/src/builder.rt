@@ -1,10 +1,10 @@
 //! The builder of a channel's packets, record by record.
-ghost use Rattle.std.specs.Prelude.{◌≡◌, ◌≤◌, ◌<◌, ◌^◌, ◌↔◌, ◌⊎◌, [], false, if◌then◌else◌, length, IfOk, IfSome};
-ghost use Rattle.std.specs.Prelude.{IsErrOf, MatchOption};
-ghost use Rattle.std.specs.Borrow.{sem};
-ghost use Rattle.std.specs.Io.BufRead.{Rests};
 ghost use Rattle.ch11_builder.specs.Cutting.{is_empty};
 ghost use Rattle.ch11_builder.specs.Held.{Held, fresh, pushed, closed, packet_of, latest_number};
+ghost use Rattle.std.specs.Borrow.{sem};
+ghost use Rattle.std.specs.Io.BufRead.{Rests};
+ghost use Rattle.std.specs.Prelude.{IsErrOf, MatchOption};
+ghost use Rattle.std.specs.Prelude.{◌≡◌, ◌≤◌, ◌<◌, ◌^◌, ◌↔◌, ◌⊎◌, [], false, if◌then◌else◌, length, IfOk, IfSome};
 
 use crate::error::BuilderError;
 use crate::packing::Packing;
@@ -37,8 +37,8 @@ impl Model for Builder {
 }
 
 impl Builder {
-    ghost use Rattle.ch11_builder.specs.contracts.builder.Builder.{the_row};
     ghost use Rattle.ch11_builder.specs.Pushing.{ClosesWhereFull, IsSmall};
+    ghost use Rattle.ch11_builder.specs.contracts.builder.Builder.{the_row};
 
     /// A builder for the packets of a channel, each of at most `limit` bytes. G1 where the limit is outside 256 to
     /// 524,288, then G2 where memory is refused.

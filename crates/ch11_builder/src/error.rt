@@ -1,5 +1,5 @@
 //! Why there is no builder.
-use std::fmt;
+use std::fmt::{self, Display, Formatter, Write};
 
 /// Why there is no builder. The limit is judged first.
 #[derive(Clone, Copy, Debug, PartialEq, Eq)]
@@ -11,13 +11,13 @@ pub enum BuilderError {
     Memory,
 }
 
-impl fmt::Display for BuilderError {
-    ghost use Rattle.std.specs.Prelude.{Some};
+impl Display for BuilderError {
     ghost use Rattle.ch11_builder.specs.Codes.{fault_code};
+    ghost use Rattle.std.specs.Prelude.{Some};
 
     ghost output = { λ e. Some (fault_code e) };
 
-    fn fmt<W: fmt::Write>(&self, f: &mut fmt::Formatter<W>) -> fmt::Result {
+    fn fmt<W: Write>(&self, f: &mut Formatter<W>) -> fmt::Result {
         f.write_str(match self {
             BuilderError::Limit => "G1",
             BuilderError::Memory => "G2",

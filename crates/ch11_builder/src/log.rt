@@ -1,6 +1,6 @@
 //! What proofs know of the records in the open packet. It has no bytes.
-ghost use Rattle.std.specs.Prelude.{◌≡◌};
 ghost use Rattle.ch11_builder.specs.Log.{records_in};
+ghost use Rattle.std.specs.Prelude.{◌≡◌};
 
 use mil_monitor::Record;
 use std::marker::Model;
@@ -23,8 +23,8 @@ pub enum Link {
 }
 
 impl Model for Log {
-    ghost use Rattle.std.specs.Prelude.{List, ℕ};
     ghost use Rattle.ch11_builder.specs.Packet.{Numbered};
+    ghost use Rattle.std.specs.Prelude.{List, ℕ};
 
     ghost Value = { List Numbered × ℕ };
 

@@ -1,10 +1,10 @@
 //! The open packet of a channel in its buffer.
-ghost use Rattle.std.specs.Prelude.{◌≡◌, [], ◌∷◌, ◌++◌, ◌+◌, ◌≤◌, ◌<◌, ◌^◌, ◌==◌, ◌||◌, true, false, not};
-ghost use Rattle.std.specs.Prelude.{if◌then◌else◌, length, vec_len, IfOk, IfErr};
-ghost use Rattle.ch11_builder.specs.Packet.{packet_length};
+ghost use Rattle.ch11_builder.specs.Built.{State};
 ghost use Rattle.ch11_builder.specs.Cutting.{is_empty};
 ghost use Rattle.ch11_builder.specs.Held.{Held, fresh, fits, pushed, closed, with_record, packet_of, latest_number};
-ghost use Rattle.ch11_builder.specs.Built.{State};
+ghost use Rattle.ch11_builder.specs.Packet.{packet_length};
+ghost use Rattle.std.specs.Prelude.{if◌then◌else◌, length, vec_len, IfOk, IfErr};
+ghost use Rattle.std.specs.Prelude.{◌≡◌, [], ◌∷◌, ◌++◌, ◌+◌, ◌≤◌, ◌<◌, ◌^◌, ◌==◌, ◌||◌, true, false, not};
 
 use crate::error::BuilderError;
 use crate::log::{Link, Log, log_of};

@@ -1,9 +1,9 @@
 //! Records and headers in a buffer.
-ghost use Rattle.std.specs.Prelude.{◌≡◌, ◌++◌, ◌+◌, ◌*◌, ◌≤◌, ◌<◌, ◌^◌, length, take, drop};
 ghost use Rattle.byteorder.specs.Endian.{little_bytes};
+ghost use Rattle.ch11_builder.specs.Packet.{padded, filled};
 ghost use Rattle.ch11_f1.specs.BodyBytes.{words_of, record_bytes};
 ghost use Rattle.ch11_header.specs.HeaderBytes.{header_bytes};
-ghost use Rattle.ch11_builder.specs.Packet.{padded, filled};
+ghost use Rattle.std.specs.Prelude.{◌≡◌, ◌++◌, ◌+◌, ◌*◌, ◌≤◌, ◌<◌, ◌^◌, length, take, drop};
 
 use byteorder::{ByteOrder, LittleEndian};
 use ch11_f1::put_record;

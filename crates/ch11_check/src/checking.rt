@@ -1,6 +1,6 @@
 //! A pass over a recording that keeps nothing of it.
-ghost use Rattle.std.specs.Prelude.{◌≡◌, ℕ, List, Some};
 ghost use Rattle.ch11_stream.specs.Folding.{Finds};
+ghost use Rattle.std.specs.Prelude.{◌≡◌, ℕ, List, Some};
 
 use ch11_stream::{Advance, Packets, StreamFault};
 use std::alloc::Global;

@@ -1,5 +1,5 @@
 //! Why bytes are no body of a packet of MIL-STD-1553 messages.
-use std::fmt;
+use std::fmt::{self, Display, Formatter, Write};
 
 /// Why bytes are no body. Messages are judged in their order, and the length of a message before its end.
 #[derive(Clone, Copy, Debug, PartialEq, Eq)]
@@ -14,13 +14,13 @@ pub enum BodyError {
     End,
 }
 
-impl fmt::Display for BodyError {
-    ghost use Rattle.std.specs.Prelude.{Some};
+impl Display for BodyError {
     ghost use Rattle.ch11_f1.specs.Codes.{fault_code};
+    ghost use Rattle.std.specs.Prelude.{Some};
 
     ghost output = { λ e. Some (fault_code e) };
 
-    fn fmt<W: fmt::Write>(&self, f: &mut fmt::Formatter<W>) -> fmt::Result {
+    fn fmt<W: Write>(&self, f: &mut Formatter<W>) -> fmt::Result {
         f.write_str(match self {
             BodyError::Short => "F1",
             BodyError::Odd => "F2",

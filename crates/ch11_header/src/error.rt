@@ -1,5 +1,5 @@
 //! Why bytes are no packet header.
-use std::fmt;
+use std::fmt::{self, Display, Formatter, Write};
 
 /// Why bytes are no header, the first reason in this order.
 #[derive(Clone, Copy, Debug, PartialEq, Eq)]
@@ -20,13 +20,13 @@ pub enum HeaderError {
     DataLength,
 }
 
-impl fmt::Display for HeaderError {
-    ghost use Rattle.std.specs.Prelude.{Some};
+impl Display for HeaderError {
     ghost use Rattle.ch11_header.specs.Codes.{fault_code};
+    ghost use Rattle.std.specs.Prelude.{Some};
 
     ghost output = { λ e. Some (fault_code e) };
 
-    fn fmt<W: fmt::Write>(&self, f: &mut fmt::Formatter<W>) -> fmt::Result {
+    fn fmt<W: Write>(&self, f: &mut Formatter<W>) -> fmt::Result {
         f.write_str(match self {
             HeaderError::Short => "K1",
             HeaderError::Sync => "K2",

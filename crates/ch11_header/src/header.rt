@@ -1,7 +1,7 @@
 //! The header of a packet, written and read (IRIG 106-17 Chapter 11, packet header).
-ghost use Rattle.std.specs.Prelude.{◌≡◌, ◌+◌, ◌<◌, ◌≤◌, ◌^◌, length, IfOk};
 ghost use Rattle.ch11_header.specs.HeaderBytes.{header_bytes, header_sum};
 ghost use Rattle.ch11_header.specs.HeaderReading.{body_start, header_in, with_lawful_lengths};
+ghost use Rattle.std.specs.Prelude.{◌≡◌, ◌+◌, ◌<◌, ◌≤◌, ◌^◌, length, IfOk};
 
 use crate::error::HeaderError;
 use byteorder::{ByteOrder, LittleEndian};

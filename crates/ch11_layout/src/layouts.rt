@@ -1,8 +1,8 @@
 //! The words of a recorded message by what they are.
-ghost use Rattle.std.specs.Prelude.{◌≡◌, ◌≤◌, ◌==◌, ◌&&◌, nat_lt, if◌then◌else◌};
-ghost use Rattle.mil_word.specs.Fields.{has_bit};
 ghost use Rattle.ch11_f1.specs.Views.{message_of};
 ghost use Rattle.ch11_layout.specs.Layouts as spec;
+ghost use Rattle.mil_word.specs.Fields.{has_bit};
+ghost use Rattle.std.specs.Prelude.{◌≡◌, ◌≤◌, ◌==◌, ◌&&◌, nat_lt, if◌then◌else◌};
 
 use ch11_f1::Seen;
 use mil_word::Command;

@@ -1,14 +1,14 @@
 //! One pass over the bytes of a recording.
-ghost use Rattle.std.specs.Prelude.{◌≡◌, length, replicate, vec_len, slice_index_or, slice_set, IfOk, IfErr, None};
-ghost use Rattle.std.specs.Prelude.{Some, Ok, Err};
+ghost use Rattle.ch11_reader.specs.Listing.{jumps};
+ghost use Rattle.ch11_reader.specs.Recording.{Gives, packets_in};
 ghost use Rattle.ch11_reader.specs.declared.error.ReadError.TheVariants.{Refused};
 ghost use Rattle.ch11_reader.specs.declared.error.Refusal.{Refusal};
-ghost use Rattle.ch11_reader.specs.Recording.{Gives, packets_in};
-ghost use Rattle.ch11_reader.specs.Listing.{jumps};
+ghost use Rattle.std.specs.Prelude.{Some, Ok, Err};
+ghost use Rattle.std.specs.Prelude.{◌≡◌, length, replicate, vec_len, slice_index_or, slice_set, IfOk, IfErr, None};
 
 use crate::error::{ReadError, Refusal};
 use crate::index::Index;
-use crate::packet::{Packet, check_packet};
+use crate::packet::{Checked, Packet, check_packet};
 use std::alloc::{AllocError, Global};
 
 /// How many channels there can be.
@@ -23,9 +23,8 @@ pub fn no_sequences(alloc: Global) -> Result<Vec<Option<u8>>, AllocError>
     Ok(latest)
 }
 
-/// Whether a packet breaks its channel's sequence. Its number becomes the channel's latest. Condition: there is a place
-/// for each channel.
-pub fn note_sequence(latest: &mut [Option<u8>], channel: u16, sequence: u8) -> bool
+/// Whether a packet breaks its channel's sequence. Its number becomes the channel's latest.
+fn note_sequence(latest: &mut [Option<u8>], channel: u16, sequence: u8) -> bool
     requires { length latest.old ≡ CHANNELS }
     ensures answer { result ≡ jumps (slice_index_or latest.old channel None) sequence }
     ensures noted { latest.new ≡ slice_set latest.old channel (Some sequence) }
@@ -37,6 +36,35 @@ pub fn note_sequence(latest: &mut [Option<u8>], channel: u16, sequence: u8) -> b
     };
     latest[place] = Some(sequence);
     jump
+}
+
+/// What an index tells of a packet that stands at an offset, with so many messages before it in the file. Its number
+/// becomes its channel's latest. Condition: there is a place for each channel.
+pub fn list_packet(
+    latest: &mut [Option<u8>],
+    offset: usize,
+    before: u64,
+    checked: Checked,
+) -> Packet
+    requires { length latest.old ≡ CHANNELS }
+    ensures packet { result ≡ record {
+      offset = offset;
+      header = checked.header;
+      before = before;
+      count = checked.count;
+      sequence_jump = jumps (slice_index_or latest.old checked.header.channel None) checked.header.sequence;
+    } }
+    ensures noted { latest.new ≡ slice_set latest.old checked.header.channel (Some checked.header.sequence) }
+{
+    let header = checked.header;
+    let sequence_jump = note_sequence(latest, header.channel, header.sequence);
+    Packet {
+        offset,
+        header,
+        before,
+        count: checked.count,
+        sequence_jump,
+    }
 }
 
 /// The index of a recording, or its first fault. Memory may be answered before a fault is found.
@@ -54,17 +82,10 @@ pub(crate) fn read_packets<'a>(alloc: Global, file: &'a [u8]) -> Result<Index<'a
             Ok(checked) => checked,
             Err(fault) => return Err(ReadError::Refused(Refusal { offset, fault })),
         };
-        let header = checked.header;
-        let sequence_jump = note_sequence(&mut latest, header.channel, header.sequence);
-        packets.push(Packet {
-            offset,
-            header,
-            before,
-            count: checked.count,
-            sequence_jump,
-        })?;
+        let packet = list_packet(&mut latest, offset, before, checked);
+        packets.push(packet)?;
         before += checked.count;
-        let (_, after) = rest.split_at(header.packet_length as usize);
+        let (_, after) = rest.split_at(checked.header.packet_length as usize);
         rest = after;
     }
     Ok(Index {

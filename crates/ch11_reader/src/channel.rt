@@ -1,9 +1,9 @@
 //! The messages of one channel.
-ghost use Rattle.std.specs.Prelude.{◌≡◌, map};
-ghost use Rattle.std.specs.Iterator.{YieldsFirstBy, item_count};
 ghost use Rattle.ch11_f1.specs.Views.{message_of};
 ghost use Rattle.ch11_reader.specs.Contents.{reading};
 ghost use Rattle.ch11_reader.specs.Indexed.{AreWithin, found_of};
+ghost use Rattle.std.specs.Iterator.{YieldsFirstBy, item_count};
+ghost use Rattle.std.specs.Prelude.{◌≡◌, map};
 
 use crate::packet::{Packet, messages_in_packet};
 use ch11_f1::{Messages, Seen};
@@ -19,10 +19,10 @@ pub struct ChannelMessages<'a, 'i> {
 }
 
 impl<'a, 'i> Model for ChannelMessages<'a, 'i> {
-    ghost use Rattle.std.specs.Prelude.{List, ◌++◌, map};
     ghost use Rattle.ch11_f1.specs.BodyReading.{Message};
     ghost use Rattle.ch11_reader.specs.Contents.{reading};
     ghost use Rattle.ch11_reader.specs.Indexed.{AreWithin, found_of};
+    ghost use Rattle.std.specs.Prelude.{List, ◌++◌, map};
 
     ghost Value = { List Message };
 

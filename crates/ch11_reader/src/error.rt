@@ -1,11 +1,11 @@
 //! Why a recording can't be read.
-ghost use Rattle.std.specs.Prelude.{◌≡◌};
 ghost use Rattle.ch11_reader.specs.declared.error.ReadError.TheVariants.{Memory};
+ghost use Rattle.std.specs.Prelude.{◌≡◌};
 
 use ch11_f1::BodyError;
 use ch11_header::HeaderError;
 use std::alloc::{AllocError, AllocFailed};
-use std::fmt;
+use std::fmt::{self, Display, Formatter, Write};
 
 /// What is wrong with a packet. The header is judged first, then the packet's end, then its body.
 #[derive(Clone, Copy, Debug, PartialEq, Eq)]
@@ -40,13 +40,13 @@ pub enum ReadError {
     Memory,
 }
 
-impl fmt::Display for Fault {
-    ghost use Rattle.std.specs.Prelude.{Some};
+impl Display for Fault {
     ghost use Rattle.ch11_reader.specs.Codes.{fault_code};
+    ghost use Rattle.std.specs.Prelude.{Some};
 
     ghost output = { λ e. Some (fault_code e) };
 
-    fn fmt<W: fmt::Write>(&self, f: &mut fmt::Formatter<W>) -> fmt::Result {
+    fn fmt<W: Write>(&self, f: &mut Formatter<W>) -> fmt::Result {
         match self {
             Fault::Header(fault) => write!(f, "{fault}"),
             Fault::End => write!(f, "N2"),
@@ -55,24 +55,24 @@ impl fmt::Display for Fault {
     }
 }
 
-impl fmt::Display for Refusal {
-    ghost use Rattle.std.specs.Prelude.{Some};
+impl Display for Refusal {
     ghost use Rattle.ch11_reader.specs.Codes.{refusal_text};
+    ghost use Rattle.std.specs.Prelude.{Some};
 
     ghost output = { λ e. Some (refusal_text e) };
 
-    fn fmt<W: fmt::Write>(&self, f: &mut fmt::Formatter<W>) -> fmt::Result {
+    fn fmt<W: Write>(&self, f: &mut Formatter<W>) -> fmt::Result {
         write!(f, "{} offset {}", self.fault, self.offset)
     }
 }
 
-impl fmt::Display for ReadError {
-    ghost use Rattle.std.specs.Prelude.{Some};
+impl Display for ReadError {
     ghost use Rattle.ch11_reader.specs.Codes.{error_text};
+    ghost use Rattle.std.specs.Prelude.{Some};
 
     ghost output = { λ e. Some (error_text e) };
 
-    fn fmt<W: fmt::Write>(&self, f: &mut fmt::Formatter<W>) -> fmt::Result {
+    fn fmt<W: Write>(&self, f: &mut Formatter<W>) -> fmt::Result {
         match self {
             ReadError::Refused(refusal) => write!(f, "{refusal}"),
             ReadError::Memory => write!(f, "memory"),
@@ -83,7 +83,7 @@ impl fmt::Display for ReadError {
 impl From<AllocError> for ReadError {
     ghost from_gives = { λ _ e. e ≡ Memory };
 
-    fn from(_e: AllocError) -> ReadError {
+    fn from(_: AllocError) -> ReadError {
         ReadError::Memory
     }
 }
@@ -91,7 +91,7 @@ impl From<AllocError> for ReadError {
 impl<T: Drop> From<AllocFailed<T>> for ReadError {
     ghost from_gives = { λ _ e. e ≡ Memory };
 
-    fn from(_e: AllocFailed<T>) -> ReadError {
+    fn from(_: AllocFailed<T>) -> ReadError {
         ReadError::Memory
     }
 }

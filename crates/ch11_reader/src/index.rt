@@ -1,11 +1,11 @@
 //! The packets of a recording that was read.
-ghost use Rattle.std.specs.Prelude.{◌≡◌, ◌<◌, ◌^◌, length, slice_get, Some, IfOk, IfErr, option_map};
 ghost use Rattle.ch11_f1.specs.Views.{message_of};
-ghost use Rattle.ch11_reader.specs.Recording.{Found, Gives, packets_in};
 ghost use Rattle.ch11_reader.specs.Contents.{message_numbered, reading, total_in};
 ghost use Rattle.ch11_reader.specs.Listing.{listing};
+ghost use Rattle.ch11_reader.specs.Recording.{Found, Gives, packets_in};
 ghost use Rattle.ch11_reader.specs.Skipping.{packets_read, skips_in};
 ghost use Rattle.ch11_reader.specs.declared.error.ReadError.TheVariants.{Memory};
+ghost use Rattle.std.specs.Prelude.{◌≡◌, ◌<◌, ◌^◌, length, slice_get, Some, IfOk, IfErr, option_map};
 
 use crate::build::{fault_or_memory, read_packets};
 use crate::channel::ChannelMessages;
@@ -27,9 +27,9 @@ pub struct Index<'a> {
 }
 
 impl<'a> Model for Index<'a> {
-    ghost use Rattle.std.specs.Prelude.{List};
-    ghost use Rattle.ch11_reader.specs.Recording.{Found};
     ghost use Rattle.ch11_reader.specs.Indexed.{IsIndex, indexed};
+    ghost use Rattle.ch11_reader.specs.Recording.{Found};
+    ghost use Rattle.std.specs.Prelude.{List};
 
     ghost Value = { List Found };
 

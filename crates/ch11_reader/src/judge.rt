@@ -1,9 +1,9 @@
 //! Packets judged at any place of a file, in time that stays in proportion to its bytes.
-ghost use Rattle.std.specs.Prelude.{◌≡◌, ◌+◌, ◌≤◌, length, drop, IfOk, IfSome, MatchResult, Ok, Err};
 ghost use Rattle.ch11_header.specs.HeaderReading.{body_start};
 ghost use Rattle.ch11_reader.specs.Recording.{messages_of, packet_at};
 ghost use Rattle.ch11_reader.specs.Skipping.{bytes_before};
 ghost use Rattle.ch11_reader.specs.Walking.{IsRest};
+ghost use Rattle.std.specs.Prelude.{◌≡◌, ◌+◌, ◌≤◌, length, drop, IfOk, IfSome, MatchResult, Ok, Err};
 
 use crate::error::Fault;
 use crate::jumps::Jumps;

@@ -6,9 +6,9 @@
 //! be a message's, how many messages a jump may pass over and how many bytes. A jump is one message, or one message and
 //! the two jumps behind it where they are equal in messages; so any number of messages is walked in some forty jumps or
 //! steps.
-ghost use Rattle.std.specs.Prelude.{◌≡◌, ℕ, ◌+◌, ◌*◌, ◌<◌, ◌≤◌, length, IfOk, IfErr, IfSome, Err, slice_index_or};
 ghost use Rattle.ch11_f1.specs.BodyReading.{message_at, messages_at};
 ghost use Rattle.ch11_reader.specs.Walking.{between, no_jump, Leads, IsJump, AreJumps};
+ghost use Rattle.std.specs.Prelude.{◌≡◌, ℕ, ◌+◌, ◌*◌, ◌<◌, ◌≤◌, length, IfOk, IfErr, IfSome, Err, slice_index_or};
 
 use byteorder::{ByteOrder, LittleEndian};
 use ch11_f1::{BodyError, RECORD_HEAD};
@@ -37,8 +37,8 @@ pub(crate) struct Jumps<'a> {
 }
 
 impl<'a> Model for Jumps<'a> {
-    ghost use Rattle.std.specs.Prelude.{ℕ, List};
     ghost use Rattle.ch11_reader.specs.Walking.{AreJumps};
+    ghost use Rattle.std.specs.Prelude.{ℕ, List};
 
     ghost Value = { List ℕ };
 

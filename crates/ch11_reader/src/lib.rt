@@ -15,7 +15,7 @@ mod search;
 mod skip;
 mod skipping;
 
-pub use build::{CHANNELS, no_sequences, note_sequence};
+pub use build::{CHANNELS, list_packet, no_sequences};
 pub use channel::ChannelMessages;
 pub use error::{Fault, ReadError, Refusal};
 pub use index::Index;

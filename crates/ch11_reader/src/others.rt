@@ -1,6 +1,6 @@
 //! Recordings with no MIL-STD-1553 messages.
-ghost use Rattle.std.specs.Prelude.{◌↔◌, IsTrue};
 ghost use Rattle.ch11_reader.specs.Recording.{HoldsNoMessages};
+ghost use Rattle.std.specs.Prelude.{◌↔◌, IsTrue};
 
 use crate::packet::check_packet;
 use ch11_header::kinds::BUS_MESSAGES;

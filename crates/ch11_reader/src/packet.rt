@@ -1,8 +1,8 @@
 //! One packet of a recording.
-ghost use Rattle.std.specs.Prelude.{◌≡◌, ◌+◌, ◌≤◌, length, drop, IfOk, MatchResult, Ok, Err, option_map, slice_get};
 ghost use Rattle.ch11_f1.specs.Views.{message_of};
 ghost use Rattle.ch11_header.specs.HeaderReading.{body_start};
 ghost use Rattle.ch11_reader.specs.Recording.{messages_of, packet_at};
+ghost use Rattle.std.specs.Prelude.{◌≡◌, ◌+◌, ◌≤◌, length, drop, IfOk, MatchResult, Ok, Err, option_map, slice_get};
 
 use crate::error::Fault;
 use ch11_f1::body::messages;

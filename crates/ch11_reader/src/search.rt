@@ -1,6 +1,6 @@
 //! The packet that a message stands in.
-ghost use Rattle.std.specs.Prelude.{◌≡◌, ◌+◌, ◌<◌, ◌≤◌, length, slice_get, Some};
 ghost use Rattle.ch11_reader.specs.declared.packet.Packet.{Packet};
+ghost use Rattle.std.specs.Prelude.{◌≡◌, ◌+◌, ◌<◌, ◌≤◌, length, slice_get, Some};
 
 use crate::packet::Packet;
 

@@ -1,13 +1,12 @@
 //! A recording read as far as it is sound.
-ghost use Rattle.std.specs.Prelude.{◌≡◌, length, IfOk, IfErr};
-ghost use Rattle.ch11_reader.specs.declared.error.ReadError.TheVariants.{Memory};
 ghost use Rattle.ch11_reader.specs.Skipping.{packets_read, skips_in};
+ghost use Rattle.ch11_reader.specs.declared.error.ReadError.TheVariants.{Memory};
+ghost use Rattle.std.specs.Prelude.{◌≡◌, length, IfOk, IfErr};
 
-use crate::build::{no_sequences, note_sequence};
+use crate::build::{list_packet, no_sequences};
 use crate::error::ReadError;
 use crate::index::Index;
 use crate::judge::Judge;
-use crate::packet::Packet;
 use crate::skip::Skip;
 use std::alloc::Global;
 
@@ -49,17 +48,10 @@ pub(crate) fn read_skipping<'a>(
         let offset = file.len() - rest.len();
         match judge.check(rest) {
             Ok(checked) => {
-                let header = checked.header;
-                let sequence_jump = note_sequence(&mut latest, header.channel, header.sequence);
-                packets.push(Packet {
-                    offset,
-                    header,
-                    before,
-                    count: checked.count,
-                    sequence_jump,
-                })?;
+                let packet = list_packet(&mut latest, offset, before, checked);
+                packets.push(packet)?;
                 before += checked.count;
-                rest = rest.split_at(header.packet_length as usize).1;
+                rest = rest.split_at(checked.header.packet_length as usize).1;
             }
             Err(fault) => {
                 let length = judge.bytes_to_skip(rest)?;

@@ -1,12 +1,12 @@
 //! One channel of a recording.
-ghost use Rattle.std.specs.Prelude.{◌≡◌, ◌<◌, ◌≤◌, ◌^◌, ◌+◌, ◌||◌, not, true, false, if◌then◌else◌, IfOk, IsTrue};
-ghost use Rattle.std.specs.Prelude.{IsFalse};
-ghost use Rattle.ch11_writer.specs.Writing.{Puts, progress_of};
 ghost use Rattle.ch11_builder.specs.Held.{fresh, pushed, latest_number};
-ghost use Rattle.ch11_recording.specs.declared.item.Item.TheVariants as item;
+ghost use Rattle.ch11_recording.specs.Counting.{Counts};
 ghost use Rattle.ch11_recording.specs.Items.{numbered};
 ghost use Rattle.ch11_recording.specs.WrittenFile.{closing, closed_by, met};
-ghost use Rattle.ch11_recording.specs.Counting.{Counts};
+ghost use Rattle.ch11_recording.specs.declared.item.Item.TheVariants as item;
+ghost use Rattle.ch11_writer.specs.Writing.{Puts, progress_of};
+ghost use Rattle.std.specs.Prelude.{IsFalse};
+ghost use Rattle.std.specs.Prelude.{◌≡◌, ◌<◌, ◌≤◌, ◌^◌, ◌+◌, ◌||◌, not, true, false, if◌then◌else◌, IfOk, IsTrue};
 
 use crate::packet_writer::PacketWriter;
 use ch11_builder::{Builder, BuilderError, Pushed, packet_is_read_again, run_gives_the_packets};
@@ -26,8 +26,8 @@ pub(crate) struct Lane {
 }
 
 impl Model for Lane {
-    ghost use Rattle.std.specs.Prelude.{◌≡◌};
     ghost use Rattle.ch11_builder.specs.Held.{Held, latest_number};
+    ghost use Rattle.std.specs.Prelude.{◌≡◌};
 
     ghost Value = { Held };
 

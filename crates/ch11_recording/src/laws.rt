@@ -1,9 +1,9 @@
 //! Laws of the definitions of this crate, each the contract of a function that does nothing.
-ghost use Rattle.std.specs.Prelude.{ℕ, ◌<◌, ◌^◌};
 ghost use Rattle.ch11_builder.specs.Recorded.{IsRecorded};
 ghost use Rattle.ch11_recording.specs.Items.{numbered};
-ghost use Rattle.ch11_recording.specs.Laws.{RecordingIsRead, RecordsAreKept, EndedIsClosed, FileGoesOn, LatestIsLast};
 ghost use Rattle.ch11_recording.specs.Laws.{FileIsPackets, PacketsHaveBytes, AllPacketsAreWhole, PacketsGoOn};
+ghost use Rattle.ch11_recording.specs.Laws.{RecordingIsRead, RecordsAreKept, EndedIsClosed, FileGoesOn, LatestIsLast};
+ghost use Rattle.std.specs.Prelude.{ℕ, ◌<◌, ◌^◌};
 
 use ch11_builder::{packet_is_read_again, run_gives_the_packets};
 use ch11_reader::recordings_join;

@@ -1,8 +1,8 @@
 //! Packets on their way into a sink.
-ghost use Rattle.std.specs.Prelude.{◌≡◌, ◌<◌, ◌≤◌, ◌^◌, ◌+◌, ◌-◌, ◌↔◌, ◌||◌, not, [], ◌∷◌, true, false, length, is_ok};
-ghost use Rattle.std.specs.Prelude.{if◌then◌else◌, IfErr, IsOk, OnOk};
-ghost use Rattle.ch11_writer.specs.Writing.{IsWritten, Puts, PutsNone, progress_of};
 ghost use Rattle.ch11_recording.specs.Counting.{Counts};
+ghost use Rattle.ch11_writer.specs.Writing.{IsWritten, Puts, PutsNone, progress_of};
+ghost use Rattle.std.specs.Prelude.{if◌then◌else◌, IfErr, IsOk, OnOk};
+ghost use Rattle.std.specs.Prelude.{◌≡◌, ◌<◌, ◌≤◌, ◌^◌, ◌+◌, ◌-◌, ◌↔◌, ◌||◌, not, [], ◌∷◌, true, false, length, is_ok};
 
 use ch11_writer::{Sink, WriteFault, Writer};
 use std::marker::Model;
@@ -15,8 +15,8 @@ pub(crate) struct PacketWriter<S: Sink> {
 }
 
 impl<S: Sink> Model for PacketWriter<S> {
-    ghost use Rattle.std.specs.Prelude.{◌≤◌};
     ghost use Rattle.ch11_recording.specs.Counting.{Counting};
+    ghost use Rattle.std.specs.Prelude.{◌≤◌};
 
     ghost Value = { Counting S };
 

@@ -1,12 +1,12 @@
 //! A recording that is being written.
-ghost use Rattle.std.specs.Prelude.{ℕ, List, Option, true, ◌≡◌, ◌<◌, ◌≤◌, ◌^◌, ◌+◌, ◌-◌, ◌↔◌, ◌||◌, not, [], false};
-ghost use Rattle.std.specs.Prelude.{length, map, is_ok, slice_get, Some, if◌then◌else◌, IfOk, IfErr, IsOk, OnOk};
-ghost use Rattle.std.specs.Prelude.{IsTrue, IsFalse};
 ghost use Rattle.ch11_builder.specs.Held.{Held, fresh, latest_number};
+ghost use Rattle.ch11_recording.specs.Recording.{IsLimit, IsRecordingOf, GoesOn};
+ghost use Rattle.ch11_recording.specs.WrittenFile.{Format, channel_in};
 ghost use Rattle.ch11_recording.specs.declared.item.Item.TheVariants as item;
 ghost use Rattle.ch11_recording.specs.declared.item.Item.{Item};
-ghost use Rattle.ch11_recording.specs.WrittenFile.{Format, channel_in};
-ghost use Rattle.ch11_recording.specs.Recording.{IsLimit, IsRecordingOf, GoesOn};
+ghost use Rattle.std.specs.Prelude.{IsTrue, IsFalse};
+ghost use Rattle.std.specs.Prelude.{length, map, is_ok, slice_get, Some, if◌then◌else◌, IfOk, IfErr, IsOk, OnOk};
+ghost use Rattle.std.specs.Prelude.{ℕ, List, Option, true, ◌≡◌, ◌<◌, ◌≤◌, ◌^◌, ◌+◌, ◌-◌, ◌↔◌, ◌||◌, not, [], false};
 
 use crate::lane::Lane;
 use crate::packet_writer::PacketWriter;

@@ -2,7 +2,6 @@
 use Rattle.std.specs.Prelude.{◌≡◌, ℕ, ◌+◌, ◌<◌, ◌≤◌, ◌^◌, List, [], length, take, drop, Option, None, Some}
 use Rattle.std.specs.Prelude.{Result, Ok, Err}
 use Rattle.std.specs.Io.KnownBytes.{IsAtEnd, prepend_known}
-use Rattle.ch11_f1.specs.BodyReading.{Message}
 use Rattle.ch11_header.specs.declared.header.Header.{Header}
 use Rattle.ch11_header.specs.HeaderReading.{body_start}
 use Rattle.ch11_reader.specs.declared.packet.Checked.{Checked}
@@ -16,21 +15,13 @@ use Rattle.ch11_stream.specs.declared.stretch.Stretch.TheVariants as stretches
 use Rattle.ch11_stream.specs.declared.stretches.Taken.{Taken}
 use Rattle.ch11_stream.specs.declared.stretches.Taken.TheVariants as takes
 use Rattle.ch11_stream.specs.Feeding.{IsOther}
+use Rattle.ch11_stream.specs.Holding.{held_of}
 use Rattle.ch11_stream.specs.Reading.{IsEnd, IsStep, Reading}
 use Rattle.ch11_stream.specs.Taking.{held}
 
 -- ---- what is kept
 
--- how many of the bytes that are ready are the last packet's, its messages, and its bytes where it is of messages or a
--- time packet
-abbrev pub size_of : Option Header → ℕ
-size_of None = 0
-size_of (Some h) = h.packet_length
-
-abbrev pub messages_in : Option Header → List ℕ → List Message
-messages_in None ready = []
-messages_in (Some h) ready = messages_of h ready
-
+-- the bytes of the last packet, where it is of messages or a time packet
 abbrev pub bytes_in : Option Header → List ℕ → List ℕ
 bytes_in None ready = []
 bytes_in (Some h) ready = take (held h) ready
@@ -39,7 +30,7 @@ bytes_in (Some h) ready = take (held h) ready
 pub record IsKeeping (earlier : List Found) (offset : ℕ) (last : Option Header) (ready : List ℕ)
     (fault : Option StreamFault) : Type 0 where
   pub few : total_in earlier ≤ offset
-  pub whole : size_of last ≤ length ready
+  pub whole : held_of last ≤ length ready
   pub room : (h : Header) → last ≡ Some h → body_start h + h.data_length ≤ h.packet_length
   pub stopped : (e : StreamFault) → fault ≡ Some e → (last ≡ None) × IsOther e
 

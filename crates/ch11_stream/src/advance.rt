@@ -1,6 +1,6 @@
 //! Readers that may pass bytes without giving them.
-ghost use Rattle.std.specs.Prelude.{◌≤◌, IfOk};
 ghost use Rattle.ch11_stream.specs.Feeding.{IsAdvanced};
+ghost use Rattle.std.specs.Prelude.{◌≤◌, IfOk};
 
 use std::io;
 use std::io::Read;

@@ -1,8 +1,8 @@
 //! Bytes that a reader gave, on their way to whoever uses them.
-ghost use Rattle.std.specs.Prelude.{◌≡◌, ◌+◌, ◌-◌, ◌<◌, ◌≤◌, [], ◌++◌, length, take, drop, slice_range, vec_len};
-ghost use Rattle.std.specs.Prelude.{false, Ok, IfOk, IfErr, OnOk};
-ghost use Rattle.std.specs.Io.KnownBytes.{Consumes, IsAtEnd};
 ghost use Rattle.ch11_stream.specs.Feeding.{IsMore, IsOther, count_of};
+ghost use Rattle.std.specs.Io.KnownBytes.{Consumes, IsAtEnd};
+ghost use Rattle.std.specs.Prelude.{false, Ok, IfOk, IfErr, OnOk};
+ghost use Rattle.std.specs.Prelude.{◌≡◌, ◌+◌, ◌-◌, ◌<◌, ◌≤◌, [], ◌++◌, length, take, drop, slice_range, vec_len};
 
 use crate::fault::StreamFault;
 use std::alloc::{AllocError, Global};
@@ -27,8 +27,8 @@ pub(crate) struct Buffer {
 }
 
 impl Model for Buffer {
-    ghost use Rattle.std.specs.Prelude.{◌-◌, ◌≤◌, length, slice_range};
     ghost use Rattle.ch11_stream.specs.Feeding.{Buffered};
+    ghost use Rattle.std.specs.Prelude.{◌-◌, ◌≤◌, length, slice_range};
 
     ghost Value = { Buffered };
 

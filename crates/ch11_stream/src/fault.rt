@@ -1,10 +1,10 @@
 //! Why no packet was read.
-ghost use Rattle.std.specs.Prelude.{◌≡◌};
 ghost use Rattle.ch11_stream.specs.declared.fault.StreamFault.TheVariants.{Memory};
+ghost use Rattle.std.specs.Prelude.{◌≡◌};
 
 use ch11_reader::Refusal;
 use std::alloc::AllocError;
-use std::fmt;
+use std::fmt::{self, Display, Formatter, Write};
 
 /// Why a packet could not be read.
 #[derive(Clone, Copy, Debug, PartialEq, Eq)]
@@ -19,13 +19,13 @@ pub enum StreamFault {
     Device,
 }
 
-impl fmt::Display for StreamFault {
-    ghost use Rattle.std.specs.Prelude.{Some};
+impl Display for StreamFault {
     ghost use Rattle.ch11_stream.specs.FaultText.{fault_text};
+    ghost use Rattle.std.specs.Prelude.{Some};
 
     ghost output = { λ e. Some (fault_text e) };
 
-    fn fmt<W: fmt::Write>(&self, f: &mut fmt::Formatter<W>) -> fmt::Result {
+    fn fmt<W: Write>(&self, f: &mut Formatter<W>) -> fmt::Result {
         match self {
             StreamFault::Refused(refusal) => write!(f, "{refusal}"),
             StreamFault::Memory => write!(f, "memory"),
@@ -37,7 +37,7 @@ impl fmt::Display for StreamFault {
 impl From<AllocError> for StreamFault {
     ghost from_gives = { λ _ e. e ≡ Memory };
 
-    fn from(_e: AllocError) -> StreamFault {
+    fn from(_: AllocError) -> StreamFault {
         StreamFault::Memory
     }
 }

@@ -1,6 +1,6 @@
 //! Bytes of a reader, as many as are asked for.
-ghost use Rattle.std.specs.Prelude.{◌≡◌, ◌<◌, ◌≤◌, length, IfOk, OnOk, IfErr};
 ghost use Rattle.ch11_stream.specs.Feeding.{IsAdvanced, IsFilled, IsOther, IsPassed};
+ghost use Rattle.std.specs.Prelude.{◌≡◌, ◌<◌, ◌≤◌, length, IfOk, OnOk, IfErr};
 
 use crate::advance::Advance;
 use crate::buffer::Buffer;

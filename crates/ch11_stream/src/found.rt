@@ -1,6 +1,6 @@
 //! A packet that was read, as proofs alone know it. It has no bytes.
-ghost use Rattle.std.specs.Prelude.{◌≡◌};
 ghost use Rattle.ch11_stream.specs.Listed.{found_at};
+ghost use Rattle.std.specs.Prelude.{◌≡◌};
 
 use crate::buffer::Buffer;
 use ch11_header::Header;

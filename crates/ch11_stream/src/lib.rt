@@ -14,6 +14,7 @@ mod listed;
 mod looking;
 mod packets;
 mod sound;
+mod standing;
 mod stretch;
 mod stretches;
 mod taking;

@@ -1,13 +1,13 @@
 //! What is known of the packets so far: how many messages they have, and the latest sequence number of each channel.
-ghost use Rattle.std.specs.Prelude.{◌≡◌, ◌+◌, ◌<◌, ◌^◌, [], ◌∷◌, length, IfOk};
-ghost use Rattle.ch11_reader.specs.Recording.{messages_of};
 ghost use Rattle.ch11_reader.specs.Contents.{total_in};
 ghost use Rattle.ch11_reader.specs.Listing.{listed_behind};
+ghost use Rattle.ch11_reader.specs.Recording.{messages_of};
 ghost use Rattle.ch11_stream.specs.Listed.{found_at};
+ghost use Rattle.std.specs.Prelude.{◌≡◌, ◌+◌, ◌<◌, ◌^◌, [], ◌∷◌, length, IfOk};
 
 use crate::buffer::Buffer;
 use crate::found::{FoundPacket, found_in};
-use ch11_reader::{Checked, Packet, no_sequences, note_sequence};
+use ch11_reader::{Checked, Packet, list_packet, no_sequences};
 use history::History;
 use std::alloc::{AllocError, Global};
 use std::marker::Model;
@@ -21,9 +21,9 @@ pub(crate) struct Listed {
 }
 
 impl Model for Listed {
-    ghost use Rattle.std.specs.Prelude.{List};
     ghost use Rattle.ch11_reader.specs.Recording.{Found};
     ghost use Rattle.ch11_stream.specs.Listed.{IsTally};
+    ghost use Rattle.std.specs.Prelude.{List};
 
     ghost Value = { List Found };
 
@@ -52,17 +52,11 @@ impl Listed {
         ensures listed { result ≡ listed_behind self.old (found_at offset checked.header buffer.now.ready) }
         ensures entered { self.new ≡ found_at offset checked.header buffer.now.ready ∷ self.old }
     {
-        let header = checked.header;
-        let sequence_jump = note_sequence(&mut self.latest, header.channel, header.sequence);
-        let packet = Packet {
-            offset,
-            header,
-            before: self.before,
-            count: checked.count,
-            sequence_jump,
-        };
+        let packet = list_packet(&mut self.latest, offset, self.before, checked);
         self.before += checked.count;
-        self.past = self.past.put_before(&found_in(offset, header, buffer));
+        self.past = self
+            .past
+            .put_before(&found_in(offset, checked.header, buffer));
         packet
     }
 }

@@ -1,10 +1,10 @@
 //! What begins the bytes to come, where that may be no packet.
-ghost use Rattle.std.specs.Prelude.{◌≡◌, ◌+◌, ◌<◌, ◌≤◌, List, ℕ, ◌++◌, length, drop, false, Ok, IfOk, IfErr, OnOk};
-ghost use Rattle.std.specs.Io.KnownBytes.{Keeps, prepend_known};
 ghost use Rattle.ch11_header.specs.HeaderReading.{header_in};
 ghost use Rattle.ch11_reader.specs.Skipping.{bytes_before};
 ghost use Rattle.ch11_stream.specs.Feeding.{IsOther};
 ghost use Rattle.ch11_stream.specs.Looking.{Begins, IsPast, IsSettled, IsSkipped};
+ghost use Rattle.std.specs.Io.KnownBytes.{Keeps, prepend_known};
+ghost use Rattle.std.specs.Prelude.{◌≡◌, ◌+◌, ◌<◌, ◌≤◌, List, ℕ, ◌++◌, length, drop, false, Ok, IfOk, IfErr, OnOk};
 
 use crate::buffer::Buffer;
 use crate::fault::StreamFault;

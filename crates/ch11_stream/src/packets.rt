@@ -1,16 +1,15 @@
 //! The packets of a recording, one after the other.
-ghost use Rattle.std.specs.Prelude.{◌≡◌, IfOk};
-ghost use Rattle.ch11_stream.specs.Holding.{held_of, last_of};
+ghost use Rattle.ch11_stream.specs.Holding.{last_of};
 ghost use Rattle.ch11_stream.specs.Reading.{Answers, at_start};
+ghost use Rattle.std.specs.Prelude.{◌≡◌, IfOk};
 
 use crate::advance::Advance;
-use crate::buffer::Buffer;
 use crate::fault::StreamFault;
-use crate::listed::Listed;
+use crate::standing::Standing;
 use crate::taking::{is_kept_by, take_next};
 use ch11_f1::Messages;
 use ch11_header::Header;
-use ch11_reader::{Packet, messages_of_packet};
+use ch11_reader::Packet;
 use std::alloc::{AllocError, Global};
 use std::marker::Model;
 
@@ -21,41 +20,27 @@ use std::marker::Model;
 #[derive(Drop)]
 pub struct Packets<R: Advance> {
     input: R,
-    buffer: Buffer,
-    listed: Listed,
-    last: Option<Header>,
-    offset: usize,
-    fault: Option<StreamFault>,
+    at: Standing,
 }
 
 impl<R: Advance> Model for Packets<R> {
-    ghost use Rattle.std.specs.Prelude.{take, drop};
-    ghost use Rattle.std.specs.Io.KnownBytes.{prepend_known};
     ghost use Rattle.ch11_stream.specs.Holding.{IsHolding, given_of, held_of};
     ghost use Rattle.ch11_stream.specs.Reading.{Reading};
+    ghost use Rattle.std.specs.Io.KnownBytes.{prepend_known};
+    ghost use Rattle.std.specs.Prelude.{take, drop};
 
     ghost Value = { Reading };
 
     ghost view = { λ p. record {
-      earlier = p.listed;
-      given = given_of p.last p.buffer.ready;
-      kept = take (held_of p.last) p.buffer.ready;
-      offset = p.offset;
-      left = prepend_known (drop (held_of p.last) p.buffer.ready) (R.remaining p.input);
-      fault = p.fault;
+      earlier = p.at.listed;
+      given = given_of p.at.last p.at.buffer.ready;
+      kept = take (held_of p.at.last) p.at.buffer.ready;
+      offset = p.at.offset;
+      left = prepend_known (drop (held_of p.at.last) p.at.buffer.ready) (R.remaining p.input);
+      fault = p.at.fault;
     } };
 
-    ghost invariant = { λ p. IsHolding p.listed p.offset p.last p.buffer.ready p.fault };
-}
-
-/// How many of the bytes that are ready are the last packet's.
-fn held_by(last: &Option<Header>) -> usize
-    ensures { result ≡ held_of last.now }
-{
-    match last {
-        Some(header) => header.packet_length as usize,
-        None => 0,
-    }
+    ghost invariant = { λ p. IsHolding p.at.listed p.at.offset p.at.last p.at.buffer.ready p.at.fault };
 }
 
 /// The header of a packet whose bytes are ready, as those of one of messages and of a time packet are.
@@ -76,15 +61,8 @@ impl<R: Advance> Packets<R> {
         R: Drop,
         ensures { IfOk result (λ p. p ≡ at_start (R.remaining input)) }
     {
-        let listed = Listed::none(alloc)?;
-        Ok(Packets {
-            input,
-            buffer: Buffer::none(alloc),
-            listed,
-            last: None,
-            offset: 0,
-            fault: None,
-        })
+        let at = Standing::at_start(alloc)?;
+        Ok(Packets { input, at })
     }
 
     /// The next packet, as an index lists it. None at the reader's end. The first fault, K1 to K5, N2, F1 to F3, with
@@ -93,21 +71,19 @@ impl<R: Advance> Packets<R> {
     pub fn next(&mut self) -> Result<Option<Packet>, StreamFault>
         ensures { Answers result self.old self.new }
     {
-        if let Some(fault) = self.fault {
+        if let Some(fault) = self.at.fault {
             return Err(fault);
         }
-        let held = held_by(&self.last);
-        self.last = None;
-        match take_next(&mut self.buffer, &mut self.input, held, self.offset) {
+        let held = self.at.held();
+        self.at.last = None;
+        match take_next(&mut self.at.buffer, &mut self.input, held, self.at.offset) {
             Ok(Some(checked)) => {
-                let packet = self.listed.enter(self.offset, checked, &self.buffer);
-                self.offset += checked.header.packet_length as usize;
-                self.last = kept_of(checked.header);
-                Ok(Some(packet))
+                let last = kept_of(checked.header);
+                Ok(Some(self.at.enter(checked, last)))
             }
             Ok(None) => Ok(None),
             Err(fault) => {
-                self.fault = Some(fault);
+                self.at.fault = Some(fault);
                 Err(fault)
             }
         }
@@ -118,10 +94,7 @@ impl<R: Advance> Packets<R> {
     pub fn messages(&self) -> Messages<'_>
         ensures { result ≡ self.now.given }
     {
-        match &self.last {
-            Some(header) => messages_of_packet(self.buffer.ready(), header),
-            None => Messages::none(),
-        }
+        self.at.messages()
     }
 
     /// The bytes of the packet that was read last, where it is of messages or a time packet; none where it is of
@@ -129,6 +102,6 @@ impl<R: Advance> Packets<R> {
     pub fn bytes(&self) -> &[u8]
         ensures { result.now ≡ self.now.kept }
     {
-        &self.buffer.ready()[..held_by(&self.last)]
+        self.at.bytes()
     }
 }

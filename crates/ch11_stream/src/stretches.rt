@@ -1,17 +1,16 @@
 //! The stretches of a recording that may be damaged, one after the other.
-ghost use Rattle.std.specs.Prelude.{◌≡◌, ◌≤◌, length, drop, IfOk};
-ghost use Rattle.std.specs.Io.KnownBytes.{prepend_known};
 ghost use Rattle.ch11_stream.specs.Reading.{at_start};
-ghost use Rattle.ch11_stream.specs.Stretches.{Gives, Takes, size_of};
+ghost use Rattle.ch11_stream.specs.Stretches.{Gives, Takes};
+ghost use Rattle.std.specs.Io.KnownBytes.{prepend_known};
+ghost use Rattle.std.specs.Prelude.{◌≡◌, ◌≤◌, length, drop, IfOk};
 
 use crate::buffer::Buffer;
 use crate::fault::StreamFault;
-use crate::listed::Listed;
 use crate::looking::{Coming, look, pass_skip};
+use crate::standing::Standing;
 use crate::stretch::Stretch;
 use ch11_f1::Messages;
-use ch11_header::Header;
-use ch11_reader::{Checked, Skip, messages_of_packet};
+use ch11_reader::{Checked, Skip};
 use std::alloc::{AllocError, Global};
 use std::io::Read;
 use std::marker::Model;
@@ -32,41 +31,28 @@ pub(crate) enum Taken {
 #[derive(Drop)]
 pub struct Stretches<R: Read> {
     input: R,
-    buffer: Buffer,
-    listed: Listed,
-    last: Option<Header>,
-    offset: usize,
-    fault: Option<StreamFault>,
+    at: Standing,
 }
 
 impl<R: Read> Model for Stretches<R> {
-    ghost use Rattle.std.specs.Prelude.{drop};
-    ghost use Rattle.std.specs.Io.KnownBytes.{prepend_known};
+    ghost use Rattle.ch11_stream.specs.Holding.{given_of, held_of};
     ghost use Rattle.ch11_stream.specs.Reading.{Reading};
-    ghost use Rattle.ch11_stream.specs.Stretches.{IsKeeping, bytes_in, messages_in, size_of};
+    ghost use Rattle.ch11_stream.specs.Stretches.{IsKeeping, bytes_in};
+    ghost use Rattle.std.specs.Io.KnownBytes.{prepend_known};
+    ghost use Rattle.std.specs.Prelude.{drop};
 
     ghost Value = { Reading };
 
     ghost view = { λ s. record {
-      earlier = s.listed;
-      given = messages_in s.last s.buffer.ready;
-      kept = bytes_in s.last s.buffer.ready;
-      offset = s.offset;
-      left = prepend_known (drop (size_of s.last) s.buffer.ready) (R.remaining s.input);
-      fault = s.fault;
+      earlier = s.at.listed;
+      given = given_of s.at.last s.at.buffer.ready;
+      kept = bytes_in s.at.last s.at.buffer.ready;
+      offset = s.at.offset;
+      left = prepend_known (drop (held_of s.at.last) s.at.buffer.ready) (R.remaining s.input);
+      fault = s.at.fault;
     } };
 
-    ghost invariant = { λ s. IsKeeping s.listed s.offset s.last s.buffer.ready s.fault };
-}
-
-/// How many of the bytes that are ready are the last packet's.
-fn size_of_last(last: &Option<Header>) -> usize
-    ensures { result ≡ size_of last.now }
-{
-    match last {
-        Some(header) => header.packet_length as usize,
-        None => 0,
-    }
+    ghost invariant = { λ s. IsKeeping s.at.listed s.at.offset s.at.last s.at.buffer.ready s.at.fault };
 }
 
 /// Takes the stretch that begins the bytes to come, which stand at an offset.
@@ -106,15 +92,8 @@ impl<R: Read> Stretches<R> {
         R: Drop,
         ensures { IfOk result (λ s. s ≡ at_start (R.remaining input)) }
     {
-        let listed = Listed::none(alloc)?;
-        Ok(Stretches {
-            input,
-            buffer: Buffer::none(alloc),
-            listed,
-            last: None,
-            offset: 0,
-            fault: None,
-        })
+        let at = Standing::at_start(alloc)?;
+        Ok(Stretches { input, at })
     }
 
     /// The next stretch. None at the reader's end. Nothing is refused: want of memory for a packet, and a failure of
@@ -122,25 +101,24 @@ impl<R: Read> Stretches<R> {
     pub fn next(&mut self) -> Result<Option<Stretch>, StreamFault>
         ensures { Gives result self.old self.new }
     {
-        if let Some(fault) = self.fault {
+        if let Some(fault) = self.at.fault {
             return Err(fault);
         }
-        self.buffer.pass(size_of_last(&self.last));
-        self.last = None;
-        match take_stretch(&mut self.buffer, &mut self.input, self.offset) {
+        let held = self.at.held();
+        self.at.buffer.pass(held);
+        self.at.last = None;
+        match take_stretch(&mut self.at.buffer, &mut self.input, self.at.offset) {
             Ok(Taken::Sound(checked)) => {
-                let packet = self.listed.enter(self.offset, checked, &self.buffer);
-                self.offset += checked.header.packet_length as usize;
-                self.last = Some(checked.header);
+                let packet = self.at.enter(checked, Some(checked.header));
                 Ok(Some(Stretch::Sound(packet)))
             }
             Ok(Taken::Skipped(skip)) => {
-                self.offset += skip.length;
+                self.at.offset += skip.length;
                 Ok(Some(Stretch::Skipped(skip)))
             }
             Ok(Taken::End) => Ok(None),
             Err(fault) => {
-                self.fault = Some(fault);
+                self.at.fault = Some(fault);
                 Err(fault)
             }
         }
@@ -151,14 +129,11 @@ impl<R: Read> Stretches<R> {
     pub fn messages(&self) -> Messages<'_>
         ensures { result ≡ self.now.given }
     {
-        match &self.last {
-            Some(header) => messages_of_packet(self.buffer.ready(), header),
-            None => Messages::none(),
-        }
+        self.at.messages()
     }
 
     /// All bytes of the packet that was read last; none where the last stretch is no packet.
     pub(crate) fn packet(&self) -> &[u8] {
-        &self.buffer.ready()[..size_of_last(&self.last)]
+        self.at.bytes()
     }
 }

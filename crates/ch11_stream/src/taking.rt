@@ -1,8 +1,8 @@
 //! The packet that begins the bytes to come.
-ghost use Rattle.std.specs.Prelude.{◌≡◌, ◌≤◌, length, drop, false, true};
-ghost use Rattle.std.specs.Io.KnownBytes.{prepend_known};
 ghost use Rattle.ch11_stream.specs.Holding.{is_kept};
 ghost use Rattle.ch11_stream.specs.Taking.{Heads, IsNextHeader, Nexts, Takes};
+ghost use Rattle.std.specs.Io.KnownBytes.{prepend_known};
+ghost use Rattle.std.specs.Prelude.{◌≡◌, ◌≤◌, length, drop, false, true};
 
 use crate::advance::Advance;
 use crate::buffer::Buffer;

@@ -1,7 +1,8 @@
 //! A sink that takes one byte a call.
-ghost use Rattle.std.specs.Prelude.{◌≡◌, ◌++◌, ◌+◌, ◌-◌, ◌<◌, ◌^◌, [], true, false, length, take, is_ok, if◌then◌else◌};
 ghost use Rattle.std.specs.Prelude.{IfOk, IsOk, Some};
+ghost use Rattle.std.specs.Prelude.{◌≡◌, ◌++◌, ◌+◌, ◌-◌, ◌<◌, ◌^◌, [], true, false, length, take, is_ok, if◌then◌else◌};
 
+use crate::memory::MemorySink;
 use crate::sink::{Sink, SinkFault};
 use std::alloc::Global;
 use std::marker::Model;
@@ -9,9 +10,7 @@ use std::marker::Model;
 /// A sink in memory that takes one byte a call, as a slow device may. Refused memory is a fault.
 #[derive(Drop)]
 pub struct DripSink {
-    bytes: Vec<u8>,
-    failures: u64,
-    finished: bool,
+    held: MemorySink,
 }
 
 impl Model for DripSink {
@@ -19,7 +18,7 @@ impl Model for DripSink {
 
     ghost Value = { Memory };
 
-    ghost view = { λ s. record { bytes = s.bytes.items; failures = s.failures; finished = s.finished } };
+    ghost view = { λ s. s.held };
 }
 
 impl DripSink {
@@ -28,9 +27,7 @@ impl DripSink {
         ensures { result ≡ record { bytes = []; failures = 0; finished = false } }
     {
         DripSink {
-            bytes: Vec::new(alloc),
-            failures: 0,
-            finished: false,
+            held: MemorySink::make(alloc),
         }
     }
 
@@ -38,7 +35,7 @@ impl DripSink {
     pub fn bytes(&self) -> &[u8]
         ensures { result.now ≡ self.now.bytes }
     {
-        &self.bytes
+        self.held.bytes()
     }
 }
 
@@ -58,13 +55,7 @@ impl Sink for DripSink {
             then record self.old { bytes = self.old.bytes ++ take 1 bytes.now }
             else record self.old { failures = self.old.failures + 1 }) }
     {
-        match self.bytes.extend_from_slice(&bytes[..1]) {
-            Ok(()) => Ok(1),
-            Err(_) => {
-                self.failures += 1;
-                Err(SinkFault)
-            }
-        }
+        self.held.take(&bytes[..1])
     }
 
     /// Succeeds always.
@@ -72,11 +63,10 @@ impl Sink for DripSink {
         ensures ok { IsOk result }
         ensures after { self.new ≡ record self.old { finished = true } }
     {
-        self.finished = true;
-        Ok(())
+        self.held.finish()
     }
 
     fn failures(&self) -> u64 {
-        self.failures
+        self.held.failures()
     }
 }

@@ -1,7 +1,8 @@
 //! A sink that fails once.
-ghost use Rattle.std.specs.Prelude.{◌≡◌, ◌≢◌, ◌++◌, ◌+◌, ◌-◌, ◌<◌, ◌^◌, [], true, false, length, min, is_ok};
 ghost use Rattle.std.specs.Prelude.{if◌then◌else◌, IfOk, IsOk, Some};
+ghost use Rattle.std.specs.Prelude.{◌≡◌, ◌≢◌, ◌++◌, ◌+◌, ◌-◌, ◌<◌, ◌^◌, [], true, false, length, min, is_ok};
 
+use crate::memory::MemorySink;
 use crate::sink::{Sink, SinkFault};
 use std::alloc::Global;
 use std::marker::Model;
@@ -10,11 +11,9 @@ use std::marker::Model;
 /// It counts its takes.
 #[derive(Drop)]
 pub struct FlakySink {
-    bytes: Vec<u8>,
+    held: MemorySink,
     fails_at: u64,
     takes: u64,
-    failures: u64,
-    finished: bool,
 }
 
 impl Model for FlakySink {
@@ -23,11 +22,11 @@ impl Model for FlakySink {
     ghost Value = { Flaky };
 
     ghost view = { λ s. record {
-      bytes = s.bytes.items;
+      bytes = s.held.bytes;
       fails_at = s.fails_at;
       takes = s.takes;
-      failures = s.failures;
-      finished = s.finished;
+      failures = s.held.failures;
+      finished = s.held.finished;
     } };
 }
 
@@ -37,11 +36,9 @@ impl FlakySink {
         ensures { result ≡ record { bytes = []; fails_at = fails_at; takes = 0; failures = 0; finished = false } }
     {
         FlakySink {
-            bytes: Vec::new(alloc),
+            held: MemorySink::make(alloc),
             fails_at,
             takes: 0,
-            failures: 0,
-            finished: false,
         }
     }
 
@@ -49,7 +46,7 @@ impl FlakySink {
     pub fn bytes(&self) -> &[u8]
         ensures { result.now ≡ self.now.bytes }
     {
-        &self.bytes
+        self.held.bytes()
     }
 
     /// How often `take` was called, at most 2^64 - 1.
@@ -79,16 +76,9 @@ impl Sink for FlakySink {
     {
         self.takes = self.takes.saturating_add(1);
         if self.takes == self.fails_at {
-            self.failures += 1;
-            return Err(SinkFault);
+            return Err(self.held.fail());
         }
-        match self.bytes.extend_from_slice(bytes) {
-            Ok(()) => Ok(bytes.len()),
-            Err(_) => {
-                self.failures += 1;
-                Err(SinkFault)
-            }
-        }
+        self.held.take(bytes)
     }
 
     /// Succeeds always.
@@ -96,11 +86,10 @@ impl Sink for FlakySink {
         ensures ok { IsOk result }
         ensures after { self.new ≡ record self.old { finished = true } }
     {
-        self.finished = true;
-        Ok(())
+        self.held.finish()
     }
 
     fn failures(&self) -> u64 {
-        self.failures
+        self.held.failures()
     }
 }

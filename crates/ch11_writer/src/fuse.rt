@@ -1,7 +1,8 @@
 //! A sink in memory that fails once it has taken so many bytes.
-ghost use Rattle.std.specs.Prelude.{◌≡◌, ◌+◌, ◌-◌, ◌<◌, ◌^◌, ◌++◌, ◌↔◌, ◌||◌, ◌==◌, [], true, false, length, take, min};
 ghost use Rattle.std.specs.Prelude.{is_ok, if◌then◌else◌, IfOk, IsOk, Some};
+ghost use Rattle.std.specs.Prelude.{◌≡◌, ◌+◌, ◌-◌, ◌<◌, ◌^◌, ◌++◌, ◌↔◌, ◌||◌, ◌==◌, [], true, false, length, take, min};
 
+use crate::memory::MemorySink;
 use crate::sink::{Sink, SinkFault};
 use std::alloc::Global;
 use std::marker::Model;
@@ -10,11 +11,9 @@ use std::marker::Model;
 /// from then on for good, `finish` included. Refused memory is a fault of that call alone.
 #[derive(Drop)]
 pub struct FuseSink {
-    bytes: Vec<u8>,
+    held: MemorySink,
     left: usize,
     blown: bool,
-    failures: u64,
-    finished: bool,
 }
 
 impl Model for FuseSink {
@@ -23,11 +22,11 @@ impl Model for FuseSink {
     ghost Value = { Fused };
 
     ghost view = { λ s. record {
-      bytes = s.bytes.items;
+      bytes = s.held.bytes;
       left = s.left;
       blown = s.blown;
-      failures = s.failures;
-      finished = s.finished;
+      failures = s.held.failures;
+      finished = s.held.finished;
     } };
 }
 
@@ -37,11 +36,9 @@ impl FuseSink {
         ensures { result ≡ record { bytes = []; left = k; blown = false; failures = 0; finished = false } }
     {
         FuseSink {
-            bytes: Vec::new(alloc),
+            held: MemorySink::make(alloc),
             left: k,
             blown: false,
-            failures: 0,
-            finished: false,
         }
     }
 
@@ -49,7 +46,7 @@ impl FuseSink {
     pub fn bytes(&self) -> &[u8]
         ensures { result.now ≡ self.now.bytes }
     {
-        &self.bytes
+        self.held.bytes()
     }
 }
 
@@ -75,20 +72,11 @@ impl Sink for FuseSink {
     {
         if self.left == 0 {
             self.blown = true;
-            self.failures += 1;
-            return Err(SinkFault);
+            return Err(self.held.fail());
         }
-        let size = bytes.len().min(self.left);
-        match self.bytes.extend_from_slice(&bytes[..size]) {
-            Ok(()) => {
-                self.left -= size;
-                Ok(size)
-            }
-            Err(_) => {
-                self.failures += 1;
-                Err(SinkFault)
-            }
-        }
+        let size = self.held.take(&bytes[..bytes.len().min(self.left)])?;
+        self.left -= size;
+        Ok(size)
     }
 
     /// Fails where the fuse has blown, and only there.
@@ -99,14 +87,12 @@ impl Sink for FuseSink {
             then record self.old { finished = true } else record self.old { failures = self.old.failures + 1 }) }
     {
         if self.blown {
-            self.failures += 1;
-            return Err(SinkFault);
+            return Err(self.held.fail());
         }
-        self.finished = true;
-        Ok(())
+        self.held.finish()
     }
 
     fn failures(&self) -> u64 {
-        self.failures
+        self.held.failures()
     }
 }

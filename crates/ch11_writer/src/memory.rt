@@ -1,6 +1,6 @@
 //! A sink in memory.
-ghost use Rattle.std.specs.Prelude.{◌≡◌, ◌++◌, ◌+◌, ◌-◌, ◌<◌, ◌^◌, [], true, false, length, is_ok, if◌then◌else◌, IfOk};
 ghost use Rattle.std.specs.Prelude.{IsOk, Some};
+ghost use Rattle.std.specs.Prelude.{◌≡◌, ◌++◌, ◌+◌, ◌-◌, ◌<◌, ◌^◌, [], true, false, length, is_ok, if◌then◌else◌, IfOk};
 
 use crate::sink::{Sink, SinkFault};
 use std::alloc::Global;
@@ -40,6 +40,15 @@ impl MemorySink {
     {
         &self.bytes
     }
+
+    /// Counts a failure, for a sink that holds this one and fails where this one would not.
+    pub(crate) fn fail(&mut self) -> SinkFault
+        requires { self.old.failures < 2 ^ 64 - 1 }
+        ensures { self.new ≡ record self.old { failures = self.old.failures + 1 } }
+    {
+        self.failures += 1;
+        SinkFault
+    }
 }
 
 impl Sink for MemorySink {
@@ -60,10 +69,7 @@ impl Sink for MemorySink {
     {
         match self.bytes.extend_from_slice(bytes) {
             Ok(()) => Ok(bytes.len()),
-            Err(_) => {
-                self.failures += 1;
-                Err(SinkFault)
-            }
+            Err(_) => Err(self.fail()),
         }
     }
 

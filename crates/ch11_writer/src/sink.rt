@@ -1,8 +1,8 @@
 //! Sinks: what takes the bytes of a recording, and may fail.
-ghost use Rattle.std.specs.Prelude.{◌≡◌, ℕ, List, ◌+◌, ◌-◌, ◌≤◌, ◌<◌, ◌^◌, Bool, true, length, take, is_ok};
-ghost use Rattle.std.specs.Prelude.{if◌then◌else◌, IfOk};
-ghost use Rattle.std.specs.declared.option.Option.{Option};
 ghost use Rattle.std.specs.Io.KnownBytes.{Keeps, WriteAppends};
+ghost use Rattle.std.specs.Prelude.{if◌then◌else◌, IfOk};
+ghost use Rattle.std.specs.Prelude.{◌≡◌, ℕ, List, ◌+◌, ◌-◌, ◌≤◌, ◌<◌, ◌^◌, Bool, true, length, take, is_ok};
+ghost use Rattle.std.specs.declared.option.Option.{Option};
 
 /// A sink did not do what it was asked for: it took no byte, or it could not be finished.
 #[derive(Clone, Copy, Debug, PartialEq, Eq)]

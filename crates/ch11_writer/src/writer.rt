@@ -1,13 +1,12 @@
 //! The writer of packets into a sink.
-ghost use Rattle.std.specs.Prelude.{◌≡◌, [], ◌+◌, ◌-◌, ◌≤◌, ◌<◌, ◌^◌, ◌↔◌, ◌||◌, true, false, length, take, is_ok};
-ghost use Rattle.std.specs.Prelude.{if◌then◌else◌, IfErr, IsOk, OnOk, OnErr};
-ghost use Rattle.std.specs.Io.KnownBytes.{Keeps, Appends};
-ghost use Rattle.ch11_writer.specs.Writing.{IsWritten, Puts, PutsNone, progress_of};
 ghost use Rattle.ch11_writer.specs.Sent.{shown_by, IsSent};
+ghost use Rattle.ch11_writer.specs.Writing.{IsWritten, Puts, PutsNone, progress_of};
+ghost use Rattle.std.specs.Io.KnownBytes.{Keeps, Appends};
+ghost use Rattle.std.specs.Prelude.{if◌then◌else◌, IfErr, IsOk, OnOk, OnErr};
+ghost use Rattle.std.specs.Prelude.{◌≡◌, [], ◌+◌, ◌-◌, ◌≤◌, ◌<◌, ◌^◌, ◌↔◌, ◌||◌, true, false, length, take, is_ok};
 
 use crate::sink::Sink;
-use std::fmt;
-use std::fmt::Display;
+use std::fmt::{self, Display, Formatter, Write};
 use std::marker::Model;
 
 /// V1: the sink failed in this call or an earlier one. `taken` counts the bytes that it took from the writer.
@@ -17,12 +16,12 @@ pub struct WriteFault {
 }
 
 impl Display for WriteFault {
-    ghost use Rattle.std.specs.Prelude.{Some};
     ghost use Rattle.ch11_writer.specs.Codes.{fault_text};
+    ghost use Rattle.std.specs.Prelude.{Some};
 
     ghost output = { λ e. Some (fault_text e) };
 
-    fn fmt<W: fmt::Write>(&self, f: &mut fmt::Formatter<W>) -> fmt::Result {
+    fn fmt<W: Write>(&self, f: &mut Formatter<W>) -> fmt::Result {
         write!(f, "V1 taken {}", self.taken)
     }
 }
@@ -65,8 +64,8 @@ pub struct Writer<S: Sink> {
 }
 
 impl<S: Sink> Model for Writer<S> {
-    ghost use Rattle.std.specs.Prelude.{◌≡◌, ◌-◌, ◌<◌, ◌^◌, false};
     ghost use Rattle.ch11_writer.specs.Writing.{Writing};
+    ghost use Rattle.std.specs.Prelude.{◌≡◌, ◌-◌, ◌<◌, ◌^◌, false};
 
     ghost Value = { Writing S };
 

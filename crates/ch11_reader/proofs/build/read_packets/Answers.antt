@@ -1,4 +1,4 @@
-use Rattle.std.proofs.Common.{◌≡◌, ℕ, List, Option, Some, rules, set, length, sym, ap, ◌∙◌, arith}
+use Rattle.std.proofs.Common.{◌≡◌, ℕ, List, Option, Some, rules, set, length, sym, ap, ◌∙◌, refl, arith}
 use Rattle.std.proofs.lemmas.Bool.{eqb-true, eqb-false}
 use Rattle.std.proofs.lemmas.List.{length-set, with_items_is}
 use Rattle.ch11_reader.proofs.Loop.{IsNext, starts, builds_on, stops, entries_index, is_read}
@@ -25,12 +25,12 @@ loop-rest-preserved c =
       count = c.in-Ok.ensures.count;
       few = c.in-Ok.ensures.few;
     } in
-    let noted : c.note_sequence-sequence_jump.new.latest ≡ set c.loop-rest.latest.items h.channel (Some h.sequence) =
-    c.note_sequence-sequence_jump.ensures.noted ∙ ap (λ (x : List (Option ℕ)). set x h.channel (Some h.sequence)) c.deref_mut.ensures.value in
-    let kept : length c.note_sequence-sequence_jump.new.latest ≡ c.loop-rest.latest.len = omega (arith, ap length noted, length-set c.loop-rest.latest.items h.channel (Some h.sequence), b.entered.table, c.loop-rest.invariant.1) in
-    let latest = with_items_is c.loop-rest.latest c.note_sequence-sequence_jump.new.latest kept ∙ noted in
-    let jump = rw c.deref_mut.ensures.value at c.note_sequence-sequence_jump.ensures.answer in
-    (rw (c.split_at.ensures.back, c.in_ok-push.ensures.items, latest) (builds_on c.args.file.now c.loop-rest.rest.now c.loop-rest.packets.items c.loop-rest.before c.loop-rest.latest.items h c.in-Ok.checked.count c.note_sequence-sequence_jump.result next b jump), c.loop-rest.invariant.1)
+    let noted : c.list_packet-packet.new.latest ≡ set c.loop-rest.latest.items h.channel (Some h.sequence) =
+    c.list_packet-packet.ensures.noted ∙ ap (λ (x : List (Option ℕ)). set x h.channel (Some h.sequence)) c.deref_mut.ensures.value in
+    let kept : length c.list_packet-packet.new.latest ≡ c.loop-rest.latest.len = omega (arith, ap length noted, length-set c.loop-rest.latest.items h.channel (Some h.sequence), b.entered.table, c.loop-rest.invariant.1) in
+    let latest = with_items_is c.loop-rest.latest c.list_packet-packet.new.latest kept ∙ noted in
+    let packet = rw c.deref_mut.ensures.value at c.list_packet-packet.ensures.packet in
+    (rw (c.split_at.ensures.back, c.in_ok-push.ensures.items, packet, latest) (builds_on c.args.file.now c.loop-rest.rest.now c.loop-rest.packets.items c.loop-rest.before c.loop-rest.latest.items h c.in-Ok.checked.count _ next b refl), c.loop-rest.invariant.1)
 
 pub invariant_of-result : goal.invariant_of-result
 invariant_of-result c = let b = c.loop-rest.invariant.0 in entries_index c.args.file.now c.loop-rest.rest.now b.earlier c.loop-rest.packets.items c.loop-rest.before c.loop-rest.latest.items b.entered

@@ -31,12 +31,12 @@ stretches-preserved-in-Ok c =
       count = c.in-Ok.ensures.count;
       few = c.in-Ok.ensures.few;
     } in
-    let noted : c.note_sequence-sequence_jump.new.latest ≡ set c.stretches.latest.items h.channel (Some h.sequence) =
-    c.note_sequence-sequence_jump.ensures.noted ∙ ap (λ (x : List (Option ℕ)). set x h.channel (Some h.sequence)) c.deref_mut.ensures.value in
-    let kept : length c.note_sequence-sequence_jump.new.latest ≡ c.stretches.latest.len = omega (arith, ap length noted, length-set c.stretches.latest.items h.channel (Some h.sequence), b.entered.table, c.stretches.invariant.1) in
-    let latest = with_items_is c.stretches.latest c.note_sequence-sequence_jump.new.latest kept ∙ noted in
-    let jump = rw c.deref_mut.ensures.value at c.note_sequence-sequence_jump.ensures.answer in
-    (rw (c.split_at.ensures.back, c.in_ok-push-in-Ok.ensures.items, latest) (reads_one c.args.file.now c.stretches.rest.now c.stretches.packets.items c.stretches.before c.stretches.latest.items c.stretches.skips.items h c.in-Ok.checked.count c.note_sequence-sequence_jump.result next b jump), c.stretches.invariant.1, c.check.ensures.same ∙ c.stretches.invariant.2)
+    let noted : c.list_packet-packet.new.latest ≡ set c.stretches.latest.items h.channel (Some h.sequence) =
+    c.list_packet-packet.ensures.noted ∙ ap (λ (x : List (Option ℕ)). set x h.channel (Some h.sequence)) c.deref_mut.ensures.value in
+    let kept : length c.list_packet-packet.new.latest ≡ c.stretches.latest.len = omega (arith, ap length noted, length-set c.stretches.latest.items h.channel (Some h.sequence), b.entered.table, c.stretches.invariant.1) in
+    let latest = with_items_is c.stretches.latest c.list_packet-packet.new.latest kept ∙ noted in
+    let packet = rw c.deref_mut.ensures.value at c.list_packet-packet.ensures.packet in
+    (rw (c.split_at.ensures.back, c.in_ok-push-in-Ok.ensures.items, packet, latest) (reads_one c.args.file.now c.stretches.rest.now c.stretches.packets.items c.stretches.before c.stretches.latest.items c.stretches.skips.items h c.in-Ok.checked.count _ next b refl), c.stretches.invariant.1, c.check.ensures.same ∙ c.stretches.invariant.2)
 
 pub split_at-requires-in-Err : goal.split_at-requires-in-Err
 split_at-requires-in-Err c = rw c.in_ok-length-in-Err.ensures.skipped (few_before c.stretches.rest.now)
