@@ -134,7 +134,7 @@ state_in w = record {
   format = record { version = w.version; limit = w.limit };
   prologue = w.prologue.value.items;
   most = w.most;
-  bench = record { lanes = w.lanes.items; capacity = w.capacity; queue = w.queue.items; taken = w.taken.value.0 };
+  bench = record { lanes = w.lanes.items; capacity = w.capacity; queue = w.queue.items; taken = w.taken };
 }
 
 pub record IsKept (slots : ℕ) (builders : List Held) (bytes : List ℕ) (count : ℕ) (w : WorldState) : Type 0 where

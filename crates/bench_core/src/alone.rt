@@ -1,12 +1,12 @@
 //! One channel from its job to a recording, on the calling thread.
-ghost use Rattle.std.specs.Prelude.{◌≡◌, ◌-◌, ◌<◌, ◌≤◌, ◌^◌, ◌∷◌, [], false, IfOk, IfErr, OnOk};
-ghost use Rattle.std.specs.Io.KnownBytes.{Appends};
-ghost use Rattle.job_file.specs.Jobs.{job_in};
-ghost use Rattle.job_file.specs.Meaning.{records};
-ghost use Rattle.job_file.specs.Machines.{IsOf};
-ghost use Rattle.ch11_recording.specs.Recording.{IsLimit, IsRecordingOf};
 ghost use Rattle.bench_core.specs.OneChannel.{format_of, channel_file, IsReadAs};
 ghost use Rattle.bench_core.specs.OneChannelFaults.{Leaves};
+ghost use Rattle.ch11_recording.specs.Recording.{IsLimit, IsRecordingOf};
+ghost use Rattle.job_file.specs.Jobs.{job_in};
+ghost use Rattle.job_file.specs.Machines.{IsOf};
+ghost use Rattle.job_file.specs.Meaning.{records};
+ghost use Rattle.std.specs.Io.KnownBytes.{Appends};
+ghost use Rattle.std.specs.Prelude.{◌≡◌, ◌-◌, ◌<◌, ◌≤◌, ◌^◌, ◌∷◌, [], false, IfOk, IfErr, OnOk};
 
 use crate::channel_fault::ChannelFault;
 use bc_machine::Machine;

@@ -14,8 +14,8 @@ pub enum ChannelFault<S> {
 
 /// `G1`, `U3`, `U4 taken 100`.
 impl<S> Display for ChannelFault<S> {
-    ghost use Rattle.std.specs.Prelude.{Some};
     ghost use Rattle.bench_core.specs.Codes.{channel_code};
+    ghost use Rattle.std.specs.Prelude.{Some};
 
     ghost output = { λ e. Some (channel_code e) };
 

@@ -21,8 +21,8 @@ pub enum PlayError {
 
 /// `O1`, `O2`, `O3`, `O4`.
 impl Display for PlayError {
-    ghost use Rattle.std.specs.Prelude.{Some};
     ghost use Rattle.bench_core.specs.World.{play_code};
+    ghost use Rattle.std.specs.Prelude.{Some};
 
     ghost output = { λ e. Some (play_code e) };
 
@@ -53,8 +53,8 @@ pub enum WorldError {
 
 /// `U2`, `U1`, `U5`, `U3`.
 impl Display for WorldError {
-    ghost use Rattle.std.specs.Prelude.{Some};
     ghost use Rattle.bench_core.specs.Lawful.{fault_code};
+    ghost use Rattle.std.specs.Prelude.{Some};
 
     ghost output = { λ e. Some (fault_code e) };
 

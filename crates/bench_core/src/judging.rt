@@ -1,9 +1,9 @@
 //! Which jobs may be run, and with which settings.
-ghost use Rattle.std.specs.Prelude.{◌≡◌, ◌↔◌, ◌==◌, IsTrue, IsOk, OnOk, IfErr};
-ghost use Rattle.std.specs.List.{list_any};
+ghost use Rattle.bench_core.specs.Lawful.{AreInRange, AreLawful, Refuses, channels_of};
 ghost use Rattle.ch11_recording.specs.Recording.{AreDistinct};
 ghost use Rattle.job_file.specs.Jobs.{JobState};
-ghost use Rattle.bench_core.specs.Lawful.{AreInRange, AreLawful, Refuses, channels_of};
+ghost use Rattle.std.specs.List.{list_any};
+ghost use Rattle.std.specs.Prelude.{◌≡◌, ◌↔◌, ◌==◌, IsTrue, IsOk, OnOk, IfErr};
 
 use crate::error::WorldError;
 use crate::settings::Settings;

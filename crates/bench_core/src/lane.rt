@@ -1,11 +1,11 @@
 //! One channel of a world: its controller, and what became of its messages.
-ghost use Rattle.std.specs.Prelude.{◌≡◌, ◌<◌, ◌||◌, not, if◌then◌else◌, [], ◌∷◌, ◌++◌, vec_len, Some, None, IfOk, OnOk};
-ghost use Rattle.std.specs.Prelude.{OnErr};
-ghost use Rattle.std.specs.Vec.{vec_capacity};
-ghost use Rattle.ch11_recording.specs.declared.item.Item.TheVariants as item;
 ghost use Rattle.bench_core.specs.Bench.{begun_lane, with_post};
-ghost use Rattle.bench_core.specs.Channels.{posts_of, has_terminal, after_next, queued_next, next_in, report_part};
 ghost use Rattle.bench_core.specs.Channels.{IsMade};
+ghost use Rattle.bench_core.specs.Channels.{posts_of, has_terminal, after_next, queued_next, next_in, report_part};
+ghost use Rattle.ch11_recording.specs.declared.item.Item.TheVariants as item;
+ghost use Rattle.std.specs.Prelude.{OnErr};
+ghost use Rattle.std.specs.Prelude.{◌≡◌, ◌<◌, ◌||◌, not, if◌then◌else◌, [], ◌∷◌, ◌++◌, vec_len, Some, None, IfOk, OnOk};
+ghost use Rattle.std.specs.Vec.{vec_capacity};
 
 use crate::parts::channel_report;
 use crate::placing::{add_posted, ordered_actions};

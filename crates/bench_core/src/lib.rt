@@ -15,7 +15,6 @@ mod play;
 mod settings;
 mod step;
 mod stepping;
-mod taken;
 mod world;
 mod writing;
 

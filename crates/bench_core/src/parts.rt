@@ -1,8 +1,8 @@
 //! The part of a report that tells of one channel.
-ghost use Rattle.std.specs.Prelude.{◌≡◌, ◌≤◌, List};
 ghost use Rattle.bc_machine.specs.declared.placed.Placed.{Placed};
-ghost use Rattle.bench_report.specs.Reports.{Rises};
 ghost use Rattle.bench_core.specs.Placing.{placed_up_to, IsOrdered};
+ghost use Rattle.bench_report.specs.Reports.{Rises};
+ghost use Rattle.std.specs.Prelude.{◌≡◌, ◌≤◌, List};
 
 use bc_machine::Actions;
 use bench_report::ChannelReport;

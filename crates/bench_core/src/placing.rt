@@ -1,8 +1,8 @@
 //! Actions in the order in which a channel's messages meet them.
-ghost use Rattle.std.specs.Prelude.{◌≡◌, ◌<◌, ◌≤◌, ◌++◌, ◌∷◌, [], List, length, IfOk};
 ghost use Rattle.bc_machine.specs.declared.placed.Placed.{Placed};
-ghost use Rattle.bench_report.specs.Reports.{IsPlace};
 ghost use Rattle.bench_core.specs.Placing.{placed_up_to, IsOrdered};
+ghost use Rattle.bench_report.specs.Reports.{IsPlace};
+ghost use Rattle.std.specs.Prelude.{◌≡◌, ◌<◌, ◌≤◌, ◌++◌, ◌∷◌, [], List, length, IfOk};
 
 use bc_machine::{Actions, Placed, Schedule};
 use job_file::Job;

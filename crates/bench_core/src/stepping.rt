@@ -1,7 +1,7 @@
 //! Which steps may be taken.
-ghost use Rattle.std.specs.Prelude.{◌≡◌, ◌↔◌, ◌+◌, ◌≤◌, IsTrue};
-ghost use Rattle.bench_core.specs.World.{IsStep, AreSteps, IsForTerminal, AreForTerminals, is_post_for, posts_for};
 ghost use Rattle.bench_core.specs.World.{AreFewPosts};
+ghost use Rattle.bench_core.specs.World.{IsStep, AreSteps, IsForTerminal, AreForTerminals, is_post_for, posts_for};
+ghost use Rattle.std.specs.Prelude.{◌≡◌, ◌↔◌, ◌+◌, ◌≤◌, IsTrue};
 
 use crate::lane::Lane;
 use crate::step::Step;

@@ -1,14 +1,14 @@
 //! The bench of jobs, one step at a time.
-ghost use Rattle.std.specs.Prelude.{◌≡◌, ◌≢◌, ◌<◌, ◌≤◌, ◌^◌, ◌++◌, nat_lt, map, length, slice_get, Some, Option, IfOk};
-ghost use Rattle.std.specs.Prelude.{IfErr, OnOk, OnErr, MatchOption, option_to_list};
-ghost use Rattle.std.specs.List.{AllByRecursion};
-ghost use Rattle.std.specs.VecDeque.{deque_capacity};
-ghost use Rattle.ch11_builder.specs.Held.{fresh};
-ghost use Rattle.ch11_recording.specs.WrittenFile.{channel_in};
-ghost use Rattle.bench_core.specs.Lawful.{AreLawful, Refuses};
 ghost use Rattle.bench_core.specs.Bench.{LaneState, begun_lane, offered, posted, taken_from, stepped};
 ghost use Rattle.bench_core.specs.Channels.{after_next, queued_next, next_in, IsMade};
+ghost use Rattle.bench_core.specs.Lawful.{AreLawful, Refuses};
 ghost use Rattle.bench_core.specs.World.{world_of, with_bench, file_of, report_of, IsWhole};
+ghost use Rattle.ch11_builder.specs.Held.{fresh};
+ghost use Rattle.ch11_recording.specs.WrittenFile.{channel_in};
+ghost use Rattle.std.specs.List.{AllByRecursion};
+ghost use Rattle.std.specs.Prelude.{IfErr, OnOk, OnErr, MatchOption, option_to_list};
+ghost use Rattle.std.specs.Prelude.{◌≡◌, ◌≢◌, ◌<◌, ◌≤◌, ◌^◌, ◌++◌, nat_lt, map, length, slice_get, Some, Option, IfOk};
+ghost use Rattle.std.specs.VecDeque.{deque_capacity};
 
 use crate::error::WorldError;
 use crate::judging::judge;
@@ -16,11 +16,11 @@ use crate::lane::Lane;
 use crate::laws::bench_is_settled;
 use crate::settings::Settings;
 use crate::step::Step;
-use crate::taken::{Taken, also_taken, none_taken};
 use crate::writing::{LONGEST, channel_of, write};
 use bench_report::Report;
 use ch11_builder::{Builder, BuilderError};
 use ch11_recording::{Item, file_is_packets, latest_is_last, recording_goes_on};
+use history::History;
 use job_file::Job;
 use mil_host::Action;
 use std::alloc::{AllocError, Global};
@@ -42,7 +42,7 @@ pub struct World {
     most: u32,
     file: Vec<u8>,
     packets: u64,
-    taken: Snapshot<Taken>,
+    taken: History<Item>,
 }
 
 impl Model for World {
@@ -160,7 +160,7 @@ impl World {
             most: settings.posts,
             file,
             packets: 0,
-            taken: none_taken(),
+            taken: History::none(),
         })
     }
 
@@ -215,8 +215,7 @@ impl World {
         recording_goes_on();
         file_is_packets();
         self.packets += write(&mut self.builders[index], &mut self.file, &item);
-        let before = std::mem::replace(&mut self.taken, none_taken());
-        self.taken = also_taken(before, &item);
+        self.taken = self.taken.put_behind(&item);
         Ok(())
     }
 

@@ -1,9 +1,9 @@
 //! What the writer of a world does with an item.
-ghost use Rattle.std.specs.Prelude.{◌≡◌, ◌<◌, ◌≤◌, ◌+◌, ◌++◌, vec_len, length, if◌then◌else◌};
-ghost use Rattle.std.specs.Vec.{vec_capacity};
+ghost use Rattle.bench_core.specs.Writing.{MayCome};
 ghost use Rattle.ch11_recording.specs.Items.{channel_of};
 ghost use Rattle.ch11_recording.specs.WrittenFile.{met, closes, closing};
-ghost use Rattle.bench_core.specs.Writing.{MayCome};
+ghost use Rattle.std.specs.Prelude.{◌≡◌, ◌<◌, ◌≤◌, ◌+◌, ◌++◌, vec_len, length, if◌then◌else◌};
+ghost use Rattle.std.specs.Vec.{vec_capacity};
 
 use ch11_builder::{Builder, Pushed};
 use ch11_recording::Item;

@@ -14,8 +14,8 @@ pub enum MailError {
 
 /// `E1` and `E2`.
 impl Display for MailError {
-    ghost use Rattle.std.specs.Prelude.{Some};
     ghost use Rattle.bench_mail.specs.MailCodes.{mail_code};
+    ghost use Rattle.std.specs.Prelude.{Some};
 
     ghost output = { λ fault. Some (mail_code fault) };
 
@@ -40,8 +40,8 @@ pub enum PostError {
 
 /// `E3` and `E4`.
 impl Display for PostError {
-    ghost use Rattle.std.specs.Prelude.{Some};
     ghost use Rattle.bench_mail.specs.MailCodes.{post_code};
+    ghost use Rattle.std.specs.Prelude.{Some};
 
     ghost output = { λ fault. Some (post_code fault) };
 

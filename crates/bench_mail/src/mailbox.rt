@@ -1,12 +1,12 @@
 //! Mailboxes: while a channel runs, hosts post actions for its terminals.
-ghost use Rattle.std.specs.Prelude.{◌≡◌, ◌<◌, ◌+◌, ◌^◌, ◌↔◌, ◌⊎◌, ◌++◌, ◌∷◌, [], ℕ, true, length, not, ◌&&◌, ◌||◌, Err};
-ghost use Rattle.std.specs.Prelude.{IfOk, OnOk, IfErr, IfSome, IfNone, IsTrue};
-ghost use Rattle.mil_trunk.specs.Tags.{has, bound_of, Includes};
-ghost use Rattle.mil_trunk.specs.Views.{with_tag, inside, outside};
-ghost use Rattle.mil_trunk.specs.Ends.{IsCapacity};
-ghost use Rattle.bench_mail.specs.Posts.{host_of};
 ghost use Rattle.bench_mail.specs.Mail.{hosts_of, limits_of, posted, received_by, IsPosterOf, IsInboxOf, room_of};
 ghost use Rattle.bench_mail.specs.Mail.{stands_in, IsMadeFor, Returns};
+ghost use Rattle.bench_mail.specs.Posts.{host_of};
+ghost use Rattle.mil_trunk.specs.Ends.{IsCapacity};
+ghost use Rattle.mil_trunk.specs.Tags.{has, bound_of, Includes};
+ghost use Rattle.mil_trunk.specs.Views.{with_tag, inside, outside};
+ghost use Rattle.std.specs.Prelude.{IfOk, OnOk, IfErr, IfSome, IfNone, IsTrue};
+ghost use Rattle.std.specs.Prelude.{◌≡◌, ◌<◌, ◌+◌, ◌^◌, ◌↔◌, ◌⊎◌, ◌++◌, ◌∷◌, [], ℕ, true, length, not, ◌&&◌, ◌||◌, Err};
 
 use crate::mail_error::{MailError, PostError};
 use job_file::Job;

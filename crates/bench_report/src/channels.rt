@@ -1,9 +1,9 @@
 //! The report of one channel.
-ghost use Rattle.std.specs.Prelude.{◌≡◌, ◌≤◌, All, []};
-ghost use Rattle.mil_host.specs.Ranges.{IsInRange};
 ghost use Rattle.bc_machine.specs.declared.placed.Placed.{Placed};
-ghost use Rattle.bench_report.specs.Reports.{IsPart, IsPlaced, IsPlace, Rises, NeverFalls};
 ghost use Rattle.bench_report.specs.Drafts.{Takes, last_number, numbers, with_refused, with_placed};
+ghost use Rattle.bench_report.specs.Reports.{IsPart, IsPlaced, IsPlace, Rises, NeverFalls};
+ghost use Rattle.mil_host.specs.Ranges.{IsInRange};
+ghost use Rattle.std.specs.Prelude.{◌≡◌, ◌≤◌, All, []};
 
 use crate::fault::ReportFault;
 use bc_machine::{Actions, Placed};

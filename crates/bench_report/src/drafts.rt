@@ -1,8 +1,8 @@
 //! A report as far as its lines have come.
-ghost use Rattle.std.specs.Prelude.{◌≡◌, IfErr};
-ghost use Rattle.bench_report.specs.declared.fault.ReportFault.TheVariants.{Order};
-ghost use Rattle.bench_report.specs.Lines.{IsLine};
 ghost use Rattle.bench_report.specs.Drafts.{Takes, TakesText, Gives, no_lines, closed, with_line, finished};
+ghost use Rattle.bench_report.specs.Lines.{IsLine};
+ghost use Rattle.bench_report.specs.declared.fault.ReportFault.TheVariants.{Order};
+ghost use Rattle.std.specs.Prelude.{◌≡◌, IfErr};
 
 use crate::channels::ChannelReport;
 use crate::fault::ReportFault;

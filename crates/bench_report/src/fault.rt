@@ -1,6 +1,6 @@
 //! Why a text spells no report.
 use std::alloc::{AllocError, AllocFailed};
-use std::fmt;
+use std::fmt::{self, Display, Formatter, Write};
 
 /// What is wrong with a line of a report.
 #[derive(Clone, Copy, Debug, PartialEq, Eq)]
@@ -17,8 +17,8 @@ pub enum ReportFault {
 }
 
 impl From<AllocError> for ReportFault {
-    ghost use Rattle.std.specs.Prelude.{◌≡◌};
     ghost use Rattle.bench_report.specs.declared.fault.ReportFault.TheVariants.{Memory};
+    ghost use Rattle.std.specs.Prelude.{◌≡◌};
 
     ghost from_gives = { λ _ e. e ≡ Memory };
 
@@ -28,8 +28,8 @@ impl From<AllocError> for ReportFault {
 }
 
 impl<T: Drop> From<AllocFailed<T>> for ReportFault {
-    ghost use Rattle.std.specs.Prelude.{◌≡◌};
     ghost use Rattle.bench_report.specs.declared.fault.ReportFault.TheVariants.{Memory};
+    ghost use Rattle.std.specs.Prelude.{◌≡◌};
 
     ghost from_gives = { λ _ e. e ≡ Memory };
 
@@ -47,13 +47,13 @@ pub struct ReportError {
 }
 
 /// The code of the fault and its line, as in `X2 line 3`.
-impl fmt::Display for ReportError {
-    ghost use Rattle.std.specs.Prelude.{Some};
+impl Display for ReportError {
     ghost use Rattle.bench_report.specs.Printing.{error_text};
+    ghost use Rattle.std.specs.Prelude.{Some};
 
     ghost output = { λ e. Some (error_text e) };
 
-    fn fmt<W: fmt::Write>(&self, f: &mut fmt::Formatter<W>) -> fmt::Result {
+    fn fmt<W: Write>(&self, f: &mut Formatter<W>) -> fmt::Result {
         let line = self.line;
         match self.fault {
             ReportFault::Word => write!(f, "X1 line {line}"),

@@ -1,10 +1,10 @@
 //! Numbers in the lines of a report.
+ghost use Rattle.bench_report.specs.Drafts.{Gives, IsBad};
+ghost use Rattle.bench_report.specs.Faults.{is_one_word};
+ghost use Rattle.bench_report.specs.Lines.{number_of, only_number};
+ghost use Rattle.bench_report.specs.declared.fault.ReportFault.TheVariants.{Number};
 ghost use Rattle.std.specs.Prelude.{◌≡◌, ◌≤◌, IfOk, IfErr};
 ghost use Rattle.text_lines.specs.Words.{words};
-ghost use Rattle.bench_report.specs.Lines.{number_of, only_number};
-ghost use Rattle.bench_report.specs.Faults.{is_one_word};
-ghost use Rattle.bench_report.specs.Drafts.{Gives, IsBad};
-ghost use Rattle.bench_report.specs.declared.fault.ReportFault.TheVariants.{Number};
 
 use crate::fault::ReportFault;
 use numerals::spelled;

@@ -1,8 +1,8 @@
 //! The text of a report.
-ghost use Rattle.std.specs.Prelude.{◌≡◌, IfOk, OnOk, string_bytes};
-ghost use Rattle.std.specs.Io.KnownBytes.{Appends};
 ghost use Rattle.bench_report.specs.Printing.{report_text};
 ghost use Rattle.bench_report.specs.Spelling.{Spells};
+ghost use Rattle.std.specs.Io.KnownBytes.{Appends};
+ghost use Rattle.std.specs.Prelude.{◌≡◌, IfOk, OnOk, string_bytes};
 
 use crate::channels::ChannelReport;
 use crate::reports::Report;
@@ -39,9 +39,9 @@ pub fn write_report<W: Write>(out: &mut W, report: &Report) -> io::Result<()>
 struct RefusedLines<'a>(&'a [u32]);
 
 impl fmt::Display for RefusedLines<'_> {
-    ghost use Rattle.std.specs.Prelude.{Some};
-    ghost use Rattle.std.specs.List.{flat_map};
     ghost use Rattle.bench_report.specs.Printing.{refused_text};
+    ghost use Rattle.std.specs.List.{flat_map};
+    ghost use Rattle.std.specs.Prelude.{Some};
 
     ghost output = { λ r. Some (flat_map refused_text r.0.now) };
 
@@ -58,9 +58,9 @@ impl fmt::Display for RefusedLines<'_> {
 struct PlacedLines<'a>(&'a Actions);
 
 impl fmt::Display for PlacedLines<'_> {
-    ghost use Rattle.std.specs.Prelude.{Some};
-    ghost use Rattle.std.specs.List.{flat_map};
     ghost use Rattle.bench_report.specs.Printing.{placed_text};
+    ghost use Rattle.std.specs.List.{flat_map};
+    ghost use Rattle.std.specs.Prelude.{Some};
 
     ghost output = { λ p. Some (flat_map placed_text p.0.now) };
 
@@ -78,8 +78,8 @@ impl fmt::Display for PlacedLines<'_> {
 
 /// The lines of a channel.
 impl fmt::Display for ChannelReport {
-    ghost use Rattle.std.specs.Prelude.{Some};
     ghost use Rattle.bench_report.specs.Printing.{part_text};
+    ghost use Rattle.std.specs.Prelude.{Some};
 
     ghost output = { λ c. Some (part_text c) };
 
@@ -97,9 +97,9 @@ impl fmt::Display for ChannelReport {
 struct Channels<'a>(&'a [ChannelReport]);
 
 impl fmt::Display for Channels<'_> {
-    ghost use Rattle.std.specs.Prelude.{Some};
-    ghost use Rattle.std.specs.List.{flat_map};
     ghost use Rattle.bench_report.specs.Printing.{part_text};
+    ghost use Rattle.std.specs.List.{flat_map};
+    ghost use Rattle.std.specs.Prelude.{Some};
 
     ghost output = { λ c. Some (flat_map part_text c.0.now) };
 
@@ -113,8 +113,8 @@ impl fmt::Display for Channels<'_> {
 
 /// The report as its text.
 impl fmt::Display for Report {
-    ghost use Rattle.std.specs.Prelude.{Some};
     ghost use Rattle.bench_report.specs.Printing.{report_text};
+    ghost use Rattle.std.specs.Prelude.{Some};
 
     ghost output = { λ r. Some (report_text r) };
 

@@ -1,9 +1,9 @@
 //! The report that a text spells.
-ghost use Rattle.std.specs.Prelude.{IfOk, IfErr};
+ghost use Rattle.bench_report.specs.Drafts.{IsRefusal};
+ghost use Rattle.bench_report.specs.Faults.{IsFirstFault};
 ghost use Rattle.bench_report.specs.Reports.{RunReport, IsReport};
 ghost use Rattle.bench_report.specs.Spelling.{Spells};
-ghost use Rattle.bench_report.specs.Faults.{IsFirstFault};
-ghost use Rattle.bench_report.specs.Drafts.{IsRefusal};
+ghost use Rattle.std.specs.Prelude.{IfOk, IfErr};
 
 use crate::drafts::Draft;
 use crate::fault::ReportError;

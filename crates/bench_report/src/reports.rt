@@ -1,6 +1,6 @@
 //! The report of a run.
-ghost use Rattle.std.specs.Prelude.{◌≡◌, ◌≤◌, All};
 ghost use Rattle.bench_report.specs.Reports.{IsPart, IsReport};
+ghost use Rattle.std.specs.Prelude.{◌≡◌, ◌≤◌, All};
 
 use crate::channels::ChannelReport;
 use std::marker::Model;

@@ -1,15 +1,15 @@
 //! One channel's thread.
-ghost use Rattle.std.specs.Prelude.{◌≡◌, ◌<◌, ◌≤◌, ◌-◌, ◌++◌, ◌∷◌, [], true, length, vec_capacity, slice_get, Some};
-ghost use Rattle.mil_trunk.specs.Tags.{has, bound_of};
-ghost use Rattle.mil_trunk.specs.Ends.{IsTicketOf, tags_of, bounds_of, sent};
+ghost use Rattle.bench_mail.specs.Mail.{IsInboxOf};
 ghost use Rattle.bench_run.specs.Runs.{records_of};
-ghost use Rattle.job_file.specs.Rooms.{most_items};
+ghost use Rattle.bench_run.specs.Threads.{IsRoom, Offered, SoFar};
+ghost use Rattle.bench_run.specs.declared.entry.Entry.TheVariants.{End};
 ghost use Rattle.ch11_builder.specs.Recorded.{IsRecorded};
 ghost use Rattle.ch11_recording.specs.Items.{numbered};
 ghost use Rattle.job_file.specs.Jobs.{JobState};
-ghost use Rattle.bench_mail.specs.Mail.{IsInboxOf};
-ghost use Rattle.bench_run.specs.Threads.{IsRoom, Offered, SoFar};
-ghost use Rattle.bench_run.specs.declared.entry.Entry.TheVariants.{End};
+ghost use Rattle.job_file.specs.Rooms.{most_items};
+ghost use Rattle.mil_trunk.specs.Ends.{IsTicketOf, tags_of, bounds_of, sent};
+ghost use Rattle.mil_trunk.specs.Tags.{has, bound_of};
+ghost use Rattle.std.specs.Prelude.{◌≡◌, ◌<◌, ◌≤◌, ◌-◌, ◌++◌, ◌∷◌, [], true, length, vec_capacity, slice_get, Some};
 
 use crate::entry::Entry;
 use crate::gate::Gate;

@@ -1,12 +1,12 @@
 //! What comes of a run, once its threads have ended.
-ghost use Rattle.std.specs.Prelude.{◌≡◌, ◌<◌, ◌^◌, [], ℕ, List, IfOk, IfErr};
-ghost use Rattle.mil_trunk.specs.Ends.{received};
 ghost use Rattle.bench_core.specs.Lawful.{AreLawful, channels_of, format_of};
-ghost use Rattle.bench_run.specs.declared.entry.Entry.{Entry};
-ghost use Rattle.bench_run.specs.Runs.{RefusesNoneWithRoom};
-ghost use Rattle.bench_run.specs.Live.{RanLive, LeavesLate};
-ghost use Rattle.bench_run.specs.Writer.{IsLogged};
 ghost use Rattle.bench_run.specs.Ending.{IsAllLive};
+ghost use Rattle.bench_run.specs.Live.{RanLive, LeavesLate};
+ghost use Rattle.bench_run.specs.Runs.{RefusesNoneWithRoom};
+ghost use Rattle.bench_run.specs.Writer.{IsLogged};
+ghost use Rattle.bench_run.specs.declared.entry.Entry.{Entry};
+ghost use Rattle.mil_trunk.specs.Ends.{received};
+ghost use Rattle.std.specs.Prelude.{◌≡◌, ◌<◌, ◌^◌, [], ℕ, List, IfOk, IfErr};
 
 use crate::entry::Entry;
 use crate::error::{LiveError, RunError};

@@ -26,8 +26,8 @@ pub enum RunError<S> {
 
 /// `U2`, `U1`, `U5`, `U3`, `U4 taken 100`.
 impl<S> Display for RunError<S> {
-    ghost use Rattle.std.specs.Prelude.{Some};
     ghost use Rattle.bench_run.specs.Codes.{run_code};
+    ghost use Rattle.std.specs.Prelude.{Some};
 
     ghost output = { λ e. Some (run_code e) };
 
@@ -64,8 +64,8 @@ impl<S> LiveError<S> {
 
 /// What the fault prints.
 impl<S> Display for LiveError<S> {
-    ghost use Rattle.std.specs.Prelude.{Some};
     ghost use Rattle.bench_run.specs.Codes.{run_code};
+    ghost use Rattle.std.specs.Prelude.{Some};
 
     ghost output = { λ e. Some (run_code e.fault) };
 

@@ -1,7 +1,7 @@
 //! What a run needs before its threads start.
-ghost use Rattle.std.specs.Prelude.{◌≡◌, ◌≤◌, length, vec_len, All, IfOk};
 ghost use Rattle.bench_core.specs.Lawful.{channels_of};
 ghost use Rattle.bench_run.specs.Ending.{IsReady};
+ghost use Rattle.std.specs.Prelude.{◌≡◌, ◌≤◌, length, vec_len, All, IfOk};
 
 use crate::channel::Room;
 use crate::entry::Entry;

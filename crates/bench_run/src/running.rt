@@ -1,10 +1,10 @@
 //! Jobs on threads of their own, and one recording of them all; with posts of hosts, or without.
-ghost use Rattle.std.specs.Prelude.{◌≡◌, ◌-◌, ◌<◌, ◌^◌, length, vec_len, IfOk, IfErr, OnOk, IsTrue};
 ghost use Rattle.bench_core.specs.Lawful.{AreLawful};
-ghost use Rattle.bench_mail.specs.declared.mailbox.Mailbox.{Mailbox};
-ghost use Rattle.bench_run.specs.Runs.{ArePairs, Ran, RefusesNoneWithRoom, Leaves};
 ghost use Rattle.bench_mail.specs.Mail.{IsMadeFor};
+ghost use Rattle.bench_mail.specs.declared.mailbox.Mailbox.{Mailbox};
 ghost use Rattle.bench_run.specs.Live.{AreInboxesOf, HaveMail, RanLive, LeavesLate, LeavesLive};
+ghost use Rattle.bench_run.specs.Runs.{ArePairs, Ran, RefusesNoneWithRoom, Leaves};
+ghost use Rattle.std.specs.Prelude.{◌≡◌, ◌-◌, ◌<◌, ◌^◌, length, vec_len, IfOk, IfErr, OnOk, IsTrue};
 
 use crate::ending::Before;
 use crate::error::{LiveError, RunError};

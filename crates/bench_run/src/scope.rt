@@ -1,11 +1,11 @@
 //! The threads of a run in their scope, while the calling thread writes.
-ghost use Rattle.std.specs.Prelude.{◌≡◌, ◌≤◌, [], false, length, vec_capacity, IfOk, IfErr};
-ghost use Rattle.ch11_recording.specs.Recording.{IsRecordingOf};
 ghost use Rattle.bench_core.specs.Lawful.{AreLawful, channels_of, format_of};
-ghost use Rattle.bench_run.specs.Runs.{RefusesNoneWithRoom};
-ghost use Rattle.bench_run.specs.Live.{AreInboxesOf, RanLive, LeavesLate};
-ghost use Rattle.bench_run.specs.Writer.{IsLogged};
 ghost use Rattle.bench_run.specs.Ending.{IsReady};
+ghost use Rattle.bench_run.specs.Live.{AreInboxesOf, RanLive, LeavesLate};
+ghost use Rattle.bench_run.specs.Runs.{RefusesNoneWithRoom};
+ghost use Rattle.bench_run.specs.Writer.{IsLogged};
+ghost use Rattle.ch11_recording.specs.Recording.{IsRecordingOf};
+ghost use Rattle.std.specs.Prelude.{◌≡◌, ◌≤◌, [], false, length, vec_capacity, IfOk, IfErr};
 
 use crate::channel::Ended;
 use crate::ending::{Before, conclude, stopped};

@@ -1,20 +1,20 @@
 //! The threads of a run: each is started with its job, and joined again.
-ghost use Rattle.std.specs.Prelude.{◌≡◌, ◌≢◌, ℕ, List, ◌<◌, ◌≤◌, ◌++◌, ◌||◌, [], true, Some, length, map, vec_len};
-ghost use Rattle.std.specs.Prelude.{vec_capacity, IfSome, IfOk};
-ghost use Rattle.std.specs.List.{AllByRecursion};
-ghost use Rattle.mil_trunk.specs.Tags.{has, bound_of, bounds_outside};
-ghost use Rattle.mil_trunk.specs.Views.{with_tag};
-ghost use Rattle.mil_trunk.specs.Ends.{IsTicketOf, capacity_of, tags_of, bounds_of, sent};
-ghost use Rattle.ch11_recording.specs.Recording.{AreDistinct};
 ghost use Rattle.bench_core.specs.Lawful.{channels_of};
+ghost use Rattle.bench_mail.specs.Mail.{IsInboxOf};
 ghost use Rattle.bench_run.specs.Entries.{index_of};
+ghost use Rattle.bench_run.specs.Live.{AreInboxesOf};
 ghost use Rattle.bench_run.specs.Runs.{ArePairs};
-ghost use Rattle.job_file.specs.Rooms.{most_items};
+ghost use Rattle.bench_run.specs.Threads.{Offered, IsRoom, HasOnly, ArePromised, IsEnded, AreEnded};
 ghost use Rattle.bench_run.specs.declared.channel.Room.{Room};
 ghost use Rattle.bench_run.specs.declared.threads.Joined.{Joined};
-ghost use Rattle.bench_mail.specs.Mail.{IsInboxOf};
-ghost use Rattle.bench_run.specs.Live.{AreInboxesOf};
-ghost use Rattle.bench_run.specs.Threads.{Offered, IsRoom, HasOnly, ArePromised, IsEnded, AreEnded};
+ghost use Rattle.ch11_recording.specs.Recording.{AreDistinct};
+ghost use Rattle.job_file.specs.Rooms.{most_items};
+ghost use Rattle.mil_trunk.specs.Ends.{IsTicketOf, capacity_of, tags_of, bounds_of, sent};
+ghost use Rattle.mil_trunk.specs.Tags.{has, bound_of, bounds_outside};
+ghost use Rattle.mil_trunk.specs.Views.{with_tag};
+ghost use Rattle.std.specs.List.{AllByRecursion};
+ghost use Rattle.std.specs.Prelude.{vec_capacity, IfSome, IfOk};
+ghost use Rattle.std.specs.Prelude.{◌≡◌, ◌≢◌, ℕ, List, ◌<◌, ◌≤◌, ◌++◌, ◌||◌, [], true, Some, length, map, vec_len};
 
 use crate::channel::{Ended, Room, channel};
 use crate::entry::Entry;
@@ -46,7 +46,8 @@ pub struct Offers<'a> {
 impl<'a> Promise<Ended> for Offers<'a> {
     ghost use Rattle.bench_run.specs.Threads.{Offered};
 
-    ghost kept_by = { λ p r. Offered p.trunk.now p.ticket.value p.index p.job.now p.mailbox.now p.most p.inbox.value r };
+    ghost kept_by = { λ p r. Offered p.trunk.now p.ticket.value p.index p.job.now p.mailbox.now p.most
+        p.inbox.value r };
 }
 
 /// How many items each channel may send: its messages, and its end mark.

@@ -1,14 +1,14 @@
 //! What the calling thread does while the channels run: it takes each item and records it.
-ghost use Rattle.std.specs.Prelude.{◌≡◌, ◌<◌, ◌≤◌, ◌+◌, ◌*◌, ◌^◌, ◌++◌, ◌∷◌, [], ℕ, List, true, false, not, ◌||◌};
-ghost use Rattle.std.specs.Prelude.{if◌then◌else◌, length, sum, IsTrue, IsFalse};
+ghost use Rattle.bench_run.specs.Entries.{index_of};
+ghost use Rattle.bench_run.specs.Writer.{item_with, IsTakenBy, Records};
+ghost use Rattle.bench_run.specs.declared.entry.Entry.{Entry};
+ghost use Rattle.ch11_builder.specs.Held.{Held};
+ghost use Rattle.ch11_recording.specs.Recording.{AreDistinct, GoesOn};
 ghost use Rattle.mil_trunk.specs.Ends.{IsTicketOf, IsTakerOf, bounds_of, bounds_in, tags_of, sent, received};
 ghost use Rattle.mil_trunk.specs.Tags.{has, bound_of};
 ghost use Rattle.mil_trunk.specs.Views.{with_tag};
-ghost use Rattle.ch11_builder.specs.Held.{Held};
-ghost use Rattle.ch11_recording.specs.Recording.{AreDistinct, GoesOn};
-ghost use Rattle.bench_run.specs.declared.entry.Entry.{Entry};
-ghost use Rattle.bench_run.specs.Entries.{index_of};
-ghost use Rattle.bench_run.specs.Writer.{item_with, IsTakenBy, Records};
+ghost use Rattle.std.specs.Prelude.{if◌then◌else◌, length, sum, IsTrue, IsFalse};
+ghost use Rattle.std.specs.Prelude.{◌≡◌, ◌<◌, ◌≤◌, ◌+◌, ◌*◌, ◌^◌, ◌++◌, ◌∷◌, [], ℕ, List, true, false, not, ◌||◌};
 
 use crate::entry::Entry;
 use crate::gate::Gate;

@@ -1,7 +1,7 @@
 //! The states of all jobs at checkpoints, which are kept while job after job is played.
-ghost use Rattle.std.specs.Prelude.{◌≡◌, ◌+◌, ◌*◌, ◌<◌, ◌≤◌, [], ◌∷◌, ◌++◌, length, IfOk, OnOk};
-ghost use Rattle.replay.specs.Standings.{AreCheckpoints};
 ghost use Rattle.replay.specs.Keeping.{AreSpaced, IsCounted, IsDue, KeepsOn};
+ghost use Rattle.replay.specs.Standings.{AreCheckpoints};
+ghost use Rattle.std.specs.Prelude.{◌≡◌, ◌+◌, ◌*◌, ◌<◌, ◌≤◌, [], ◌∷◌, ◌++◌, length, IfOk, OnOk};
 
 use crate::standings::{Kept, Standing};
 use crate::tracks::count;

@@ -1,10 +1,10 @@
 //! The file's next message, and the message that a job makes next.
-ghost use Rattle.std.specs.Prelude.{◌≡◌, ◌==◌, ◌↔◌, IsTrue};
-ghost use Rattle.std.specs.List.{list_any, flat_map};
 ghost use Rattle.byteorder.specs.Endian.{little_bytes};
-ghost use Rattle.ch11_f1.specs.BodyBytes.{words_of};
 ghost use Rattle.ch11_f1.specs.Again.{as_message};
+ghost use Rattle.ch11_f1.specs.BodyBytes.{words_of};
 ghost use Rattle.ch11_f1.specs.Views.{message_of};
+ghost use Rattle.std.specs.List.{list_any, flat_map};
+ghost use Rattle.std.specs.Prelude.{◌≡◌, ◌==◌, ◌↔◌, IsTrue};
 
 use bench_report::ChannelReport;
 use byteorder::{ByteOrder, LittleEndian};

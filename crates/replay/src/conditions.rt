@@ -1,7 +1,7 @@
 //! Conditions on the outcome of a message.
-ghost use Rattle.std.specs.Prelude.{◌≡◌};
 ghost use Rattle.frame_tree.specs.Tree.{condition_in};
 ghost use Rattle.replay.specs.Conditions.{answer_of};
+ghost use Rattle.std.specs.Prelude.{◌≡◌};
 
 use bc_machine::asks;
 use frame_tree::Cond;

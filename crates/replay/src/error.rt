@@ -23,8 +23,8 @@ pub enum ReplayError {
 
 /// `Y1 channel 1 number 3`, `Y2`, `Y3`, `memory`.
 impl Display for ReplayError {
-    ghost use Rattle.std.specs.Prelude.{Some};
     ghost use Rattle.replay.specs.Codes.{error_text};
+    ghost use Rattle.std.specs.Prelude.{Some};
 
     ghost output = { λ e. Some (error_text e) };
 
@@ -43,8 +43,8 @@ impl Display for ReplayError {
 impl Error for ReplayError {}
 
 impl From<AllocError> for ReplayError {
-    ghost use Rattle.std.specs.Prelude.{◌≡◌};
     ghost use Rattle.replay.specs.declared.error.ReplayError.TheVariants.{Memory};
+    ghost use Rattle.std.specs.Prelude.{◌≡◌};
 
     ghost from_gives = { λ _ e. e ≡ Memory };
 
@@ -54,8 +54,8 @@ impl From<AllocError> for ReplayError {
 }
 
 impl<T: Drop> From<AllocFailed<T>> for ReplayError {
-    ghost use Rattle.std.specs.Prelude.{◌≡◌};
     ghost use Rattle.replay.specs.declared.error.ReplayError.TheVariants.{Memory};
+    ghost use Rattle.std.specs.Prelude.{◌≡◌};
 
     ghost from_gives = { λ _ e. e ≡ Memory };
 

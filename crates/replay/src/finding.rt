@@ -1,9 +1,9 @@
 //! The first message past a place whose outcome makes a condition true.
-ghost use Rattle.std.specs.Prelude.{◌≡◌, ◌≤◌, length};
-ghost use Rattle.std.specs.List.{AllByRecursion};
 ghost use Rattle.frame_tree.specs.Tree.{condition_in};
 ghost use Rattle.replay.specs.Finding.{earlier, IsMetBy, IsMetIn, Finds};
 ghost use Rattle.replay.specs.Standings.{HasRoom};
+ghost use Rattle.std.specs.List.{AllByRecursion};
+ghost use Rattle.std.specs.Prelude.{◌≡◌, ◌≤◌, length};
 
 use crate::conditions::holds;
 use crate::tracks::{Track, count};

@@ -1,17 +1,18 @@
 //! Opening a recording: do jobs, report and recording agree?
-ghost use Rattle.std.specs.Prelude.{◌≡◌, ◌++◌, [], length, replicate, IfOk, IfErr, OnOk, MatchOption};
 ghost use Rattle.bench_core.specs.Lawful.{channels_of};
 ghost use Rattle.replay.specs.Accord.{reported, AreOfChannels};
 ghost use Rattle.replay.specs.Differences.{IsWrongChannel, IsStranger};
-ghost use Rattle.replay.specs.Places.{heard_channels};
-ghost use Rattle.replay.specs.Tracks.{jobs_in, parts_in};
+ghost use Rattle.replay.specs.Keeping.{AreSpaced};
 ghost use Rattle.replay.specs.Moves.{OpensNot};
 ghost use Rattle.replay.specs.Opening.{AgreeBefore, FailsIn};
+ghost use Rattle.replay.specs.Places.{heard_channels};
 ghost use Rattle.replay.specs.Standings.{AreCheckpoints};
-ghost use Rattle.replay.specs.Keeping.{AreSpaced};
+ghost use Rattle.replay.specs.Tracks.{jobs_in, parts_in};
+ghost use Rattle.std.specs.Prelude.{◌≡◌, ◌++◌, [], length, replicate, IfOk, IfErr, OnOk, MatchOption};
 
 use crate::checkpoints::Stop;
 use crate::error::ReplayError;
+use crate::playing::play;
 use crate::tracks::Track;
 use bench_report::ChannelReport;
 use ch11_header::kinds::BUS_MESSAGES;
@@ -131,7 +132,7 @@ pub(crate) fn tracks(
 {
     let mut tracks = Vec::with_capacity(alloc, jobs.len())?;
     for i in 0..jobs.len() {
-        tracks.push(Track::play(alloc, &jobs[i], &parts[i], index, channels, stops)?)?;
+        tracks.push(play(alloc, &jobs[i], &parts[i], index, channels, stops)?)?;
     }
     Ok(tracks)
 }

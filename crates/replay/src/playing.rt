@@ -1,18 +1,16 @@
 //! A job that is played again beside the messages of its channel in the file.
-ghost use Rattle.std.specs.Prelude.{◌≡◌, MatchBool, IfOk, IfErr, OnOk, length};
-ghost use Rattle.frame_tree.specs.Bounds.{IsSound};
-ghost use Rattle.job_file.specs.Jobs.{tree_in};
-ghost use Rattle.replay.specs.Accord.{AgreesOn, kept_in};
-ghost use Rattle.replay.specs.Tracks.{IsThere, AreMarks};
+ghost use Rattle.replay.specs.Accord.{AgreesOn};
+ghost use Rattle.replay.specs.Keeping.{AreSpaced, AddsStates};
 ghost use Rattle.replay.specs.Places.{heard_channels};
 ghost use Rattle.replay.specs.Playing.{TellsMessage, IsOver, GoesOn, FailsAt};
-ghost use Rattle.replay.specs.Keeping.{AreSpaced, AddsStates};
+ghost use Rattle.replay.specs.Tracks.{IsThere};
+ghost use Rattle.std.specs.Prelude.{◌≡◌, MatchBool, IfOk, IfErr, OnOk, length};
 
 use crate::checkpoints::{Due, Stop};
 use crate::comparing::{is_record, is_refused};
 use crate::error::ReplayError;
 use crate::standings::Standing;
-use crate::tracks::{Mark, count};
+use crate::tracks::{Mark, Track, count};
 use bc_machine::Machine;
 use bench_report::ChannelReport;
 use ch11_reader::{ChannelMessages, Index};
@@ -83,8 +81,8 @@ fn mark(machine: &Machine) -> Mark
 }
 
 /// Plays a job again, under the actions that its part of the report says were placed, and compares part and file with
-/// it: a mark before any message, and behind each that was kept; and at each checkpoint the job's state is kept, where
-/// these are the channels of all messages. Y1 names the first number at fault.
+/// it. The track has a mark before any message, and behind each that was kept; and at each checkpoint the job's state
+/// is kept, where these are the channels of all messages. Y1 names the first number at fault.
 pub(crate) fn play(
     alloc: Global,
     job: &Job,
@@ -92,11 +90,10 @@ pub(crate) fn play(
     index: &Index<'_>,
     channels: &[u16],
     stops: &mut Vec<Stop>,
-) -> Result<Vec<Mark>, ReplayError>
+) -> Result<Track, ReplayError>
     requires channels { channels.now ≡ heard_channels index.now }
     requires spaced { AreSpaced (length channels.now) (length stops.old.items) }
-    ensures sound { OnOk result (IsSound (tree_in job.now)) }
-    ensures marks { IfOk result (λ v. AreMarks job.now part.now (kept_in job.now part.now) v.items) }
+    ensures track { IfOk result (λ t. t ≡ record { job = job.now; part = part.now }) }
     ensures agrees { OnOk result (AgreesOn index.now job.now part.now) }
     ensures fault { IfErr result (λ e. FailsAt index.now job.now part.now e) }
     ensures count { OnOk result (length stops.new.items ≡ length stops.old.items) }
@@ -129,5 +126,5 @@ pub(crate) fn play(
         let number = part.made() + 1;
         return Err(ReplayError::Mismatch { channel, number });
     }
-    Ok(marks)
+    Ok(Track::of(job, part, marks))
 }

@@ -1,14 +1,14 @@
 //! The debugger: a recording, and behind how many of its messages it stands.
-ghost use Rattle.std.specs.Prelude.{◌≡◌, ◌+◌, ◌-◌, ◌<◌, ◌≤◌, ◌%◌, length, slice_get, Some, IfOk, IfErr, OnOk, OnErr};
-ghost use Rattle.mil_bus.specs.Exchange.{played};
 ghost use Rattle.frame_tree.specs.Tree.{condition_in};
 ghost use Rattle.job_file.specs.Jobs.{JobState, job_in};
-ghost use Rattle.job_file.specs.Meaning.{bus_after};
 ghost use Rattle.job_file.specs.Machines.{IsOf, IsTold};
+ghost use Rattle.job_file.specs.Meaning.{bus_after};
+ghost use Rattle.mil_bus.specs.Exchange.{played};
 ghost use Rattle.replay.specs.Accord.{Agrees};
-ghost use Rattle.replay.specs.Places.{number_at};
-ghost use Rattle.replay.specs.Moves.{opened, at_place, total_of, OfJob, IsNextMet, IsNowhere};
 ghost use Rattle.replay.specs.Moves.{OpensNot, PastWhere, StartWhere, IsMemory};
+ghost use Rattle.replay.specs.Moves.{opened, at_place, total_of, OfJob, IsNextMet, IsNowhere};
+ghost use Rattle.replay.specs.Places.{number_at};
+ghost use Rattle.std.specs.Prelude.{◌≡◌, ◌+◌, ◌-◌, ◌<◌, ◌≤◌, ◌%◌, length, slice_get, Some, IfOk, IfErr, OnOk, OnErr};
 
 use crate::checkpoints::empty_stops;
 use crate::error::ReplayError;
@@ -37,10 +37,10 @@ pub struct Replay<'a> {
 
 impl<'a> Model for Replay<'a> {
     ghost use Rattle.job_file.specs.contracts.scripts.Script as scripts;
-    ghost use Rattle.std.specs.Coded.{codes};
     ghost use Rattle.replay.specs.Moves.{DebuggerState};
-    ghost use Rattle.replay.specs.Tracks.{jobs_in, parts_in};
     ghost use Rattle.replay.specs.Replaying.{IsReplay};
+    ghost use Rattle.replay.specs.Tracks.{jobs_in, parts_in};
+    ghost use Rattle.std.specs.Coded.{codes};
 
     ghost Value = { DebuggerState };
 

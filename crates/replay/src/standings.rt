@@ -1,8 +1,8 @@
 //! The controllers of all jobs at a place of the file.
-ghost use Rattle.std.specs.Prelude.{◌≡◌, ◌≤◌, length, map, IfOk, OnOk, OnErr};
 ghost use Rattle.bc_machine.specs.Alike.{AreAlike};
-ghost use Rattle.replay.specs.Tracks.{IsThere};
 ghost use Rattle.replay.specs.Standings.{HaveRoom, AreOf, AreAt, AreKept, AreBegun, saved_of};
+ghost use Rattle.replay.specs.Tracks.{IsThere};
+ghost use Rattle.std.specs.Prelude.{◌≡◌, ◌≤◌, length, map, IfOk, OnOk, OnErr};
 
 use crate::tracks::Track;
 use bc_machine::{Machine, Saved};

@@ -1,7 +1,7 @@
 //! The jobs of a recording from place to place: where their controllers stand, and the states that are kept.
-ghost use Rattle.std.specs.Prelude.{◌≡◌, ◌≤◌, ◌<◌, ◌-◌, ◌*◌, ◌%◌, length, IfOk, IfSome, OnOk, OnErr, true};
-ghost use Rattle.replay.specs.Standings.{HaveRoom, AreAt, AreOf, StandAt, AreCheckpoints, IsStop, StopsStay, StopsTurn};
 ghost use Rattle.replay.specs.Standings.{AreApart, IsTimeline, IsNearest, IsNoted, Has, Keeps};
+ghost use Rattle.replay.specs.Standings.{HaveRoom, AreAt, AreOf, StandAt, AreCheckpoints, IsStop, StopsStay, StopsTurn};
+ghost use Rattle.std.specs.Prelude.{◌≡◌, ◌≤◌, ◌<◌, ◌-◌, ◌*◌, ◌%◌, length, IfOk, IfSome, OnOk, OnErr, true};
 
 use crate::checkpoints::{APART, Stop};
 use crate::standings::{Standing, play_all, restore_all, save_all};

@@ -1,23 +1,18 @@
 //! One job under the debugger.
-ghost use Rattle.std.specs.Prelude.{◌≡◌, ◌≤◌, ◌==◌, ℕ, count_by, length, take, IfOk, IfErr, OnOk};
 ghost use Rattle.ch11_recording.specs.Items.{last_number};
-ghost use Rattle.replay.specs.Accord.{kept_in, played, AgreesOn};
-ghost use Rattle.replay.specs.Playing.{FailsAt};
-ghost use Rattle.replay.specs.Places.{heard_channels, IsAfter};
-ghost use Rattle.replay.specs.Tracks.{IsThere, IsLast};
+ghost use Rattle.frame_tree.specs.Bounds.{IsSound};
+ghost use Rattle.job_file.specs.Jobs.{tree_in};
+ghost use Rattle.replay.specs.Accord.{kept_in, played};
+ghost use Rattle.replay.specs.Places.{IsAfter};
 ghost use Rattle.replay.specs.Standings.{HasRoom, IsAt};
-ghost use Rattle.replay.specs.Keeping.{AreSpaced, AddsStates};
+ghost use Rattle.replay.specs.Tracks.{IsThere, IsLast, AreMarks};
+ghost use Rattle.std.specs.Prelude.{◌≡◌, ◌≤◌, ◌==◌, ℕ, count_by, length, take};
 
-use crate::checkpoints::Stop;
-use crate::error::ReplayError;
-use crate::playing::play;
 use crate::standings::Standing;
 use bc_machine::Machine;
 use bench_report::ChannelReport;
-use ch11_reader::Index;
 use job_file::{Job, job_runs, next_record};
 use mil_bus::Outcome;
-use std::alloc::Global;
 use std::marker::Model;
 use std::snapshot::Snapshot;
 
@@ -40,8 +35,8 @@ pub(crate) struct Track {
 
 impl Model for Track {
     ghost use Rattle.job_file.specs.contracts.scripts.Script as scripts;
-    ghost use Rattle.std.specs.Coded.{codes};
     ghost use Rattle.replay.specs.Tracks.{Pair, IsTrack};
+    ghost use Rattle.std.specs.Coded.{codes};
 
     ghost Value = { Pair };
 
@@ -61,31 +56,18 @@ pub(crate) fn count(channels: &[u16], channel: u16) -> usize
 }
 
 impl Track {
-    /// Plays a job again with its part of the report, compares the file with it, and keeps the job's states at the
-    /// checkpoints, where these are the channels of all messages. Y1 names the first number at fault.
-    pub(crate) fn play(
-        alloc: Global,
-        job: &Job,
-        part: &ChannelReport,
-        index: &Index<'_>,
-        channels: &[u16],
-        stops: &mut Vec<Stop>,
-    ) -> Result<Track, ReplayError>
-        requires channels { channels.now ≡ heard_channels index.now }
-        requires spaced { AreSpaced (length channels.now) (length stops.old.items) }
-        ensures track { IfOk result (λ t. t ≡ record { job = job.now; part = part.now }) }
-        ensures agrees { OnOk result (AgreesOn index.now job.now part.now) }
-        ensures fault { IfErr result (λ e. FailsAt index.now job.now part.now e) }
-        ensures count { OnOk result (length stops.new.items ≡ length stops.old.items) }
-        ensures states { OnOk result
-            (AddsStates (record { job = job.now; part = part.now }) channels.now stops.old.items stops.new.items) }
+    /// A job with its part of the report and these marks.
+    pub(crate) fn of(job: &Job, part: &ChannelReport, marks: Vec<Mark>) -> Track
+        requires sound { IsSound (tree_in job.now) }
+        requires marks { AreMarks job.now part.now (kept_in job.now part.now) marks.items }
+        ensures { result ≡ record { job = job.now; part = part.now } }
     {
-        Ok(Track {
+        Track {
             channel: job.channel(),
-            marks: play(alloc, job, part, index, channels, stops)?,
+            marks,
             job: Snapshot::of(job),
             part: Snapshot::of(part),
-        })
+        }
     }
 
     /// The number of the job's channel, 1 to 65,535.

@@ -77,8 +77,8 @@ returns-then-not-is_over-clause-fault c =
           (ends_at c.args.index.now c.args.job.now c.args.part.now c.loop-played.played c.loop-played.standing.machine c.loop-played.heard c.loop-played.marks.items c.loop-played.invariant.playing all c.if-not-is_over.ensures),
     )
 
-pub returns-clause-marks : goal.returns-clause-marks
-returns-clause-marks c =
+pub of-requires-clause-marks : goal.of-requires-clause-marks
+of-requires-clause-marks c =
     let all : c.loop-played.played ≡ c.args.part.now.made = omega (arith, c.loop-played-test.false, c.loop-played.auto.played-end, c.made-played-end.ensures.value) in
     (accords_at c.args.index.now c.args.job.now c.args.part.now c.loop-played.played c.loop-played.standing.machine c.loop-played.heard c.loop-played.marks.items c.loop-played.invariant.playing all c.if-not-is_over.ensures).1
 

@@ -9,7 +9,7 @@ invariant_of-self c =
     let w = c.self.inside in
     let low : c.args.index < length w.lanes.items = omega (arith, c.if-index-len.false, c.len.ensures, w.lanes.ok.0) in
     let at = there w.lanes.items c.args.index c.index_mut.result.now c.index_mut.result.now low c.index_mut.ensures.value in
-    offer_keeps (record { version = w.version; limit = w.limit }) w.prologue.value.items w.most w.lanes.items w.capacity w.queue.items w.taken.value.0 c.args.index c.index_mut.result.now c.offer_to.new.lane c.offer_to.new.queue.items at
+    offer_keeps (record { version = w.version; limit = w.limit }) w.prologue.value.items w.most w.lanes.items w.capacity w.queue.items w.taken c.args.index c.index_mut.result.now c.offer_to.new.lane c.offer_to.new.queue.items at
     c.offer_to.result (deque_capacity w.queue) w.builders.items w.file.items w.packets (deque_capacity c.offer_to.new.queue) c.offer_to.ensures.capacity
     c.offer_to.ensures.lane c.offer_to.ensures.queue c.offer_to.ensures.made c.offer_to.ensures.same_lane c.offer_to.ensures.same_queue c.self.invariant
 
@@ -18,5 +18,5 @@ returns-clause-ok c =
     let w = c.self.inside in
     let low : c.args.index < length w.lanes.items = omega (arith, c.if-index-len.false, c.len.ensures, w.lanes.ok.0) in
     let at = there w.lanes.items c.args.index c.index_mut.result.now c.index_mut.result.now low c.index_mut.ensures.value in
-    offer_done (record { version = w.version; limit = w.limit }) w.prologue.value.items w.most w.lanes.items w.capacity w.queue.items w.taken.value.0 c.args.index c.index_mut.result.now c.offer_to.new.lane c.offer_to.new.queue.items at
+    offer_done (record { version = w.version; limit = w.limit }) w.prologue.value.items w.most w.lanes.items w.capacity w.queue.items w.taken c.args.index c.index_mut.result.now c.offer_to.new.lane c.offer_to.new.queue.items at
     c.offer_to.result c.args.self.now c.self.view_is c.offer_to.ensures.lane c.offer_to.ensures.queue
