@@ -1,6 +1,6 @@
 //! Binary coded decimals.
-ghost use Rattle.std.specs.Prelude.{◌≡◌, ◌<◌, ◌≤◌, ℕ};
 ghost use Rattle.bench_clock.specs.TimeBody.{two_digits};
+ghost use Rattle.std.specs.Prelude.{◌≡◌, ◌<◌, ◌≤◌, ℕ};
 
 /// A number below 100 as two decimal digits, the tens in bits 7 to 4.
 pub(crate) fn two_digits(number: u8) -> u8

@@ -1,8 +1,8 @@
 //! The body of a time packet, written (IRIG 106-17 Chapter 11, time data packets, Format 1; its layout is a profile of
 //! ours).
-ghost use Rattle.std.specs.Prelude.{◌≡◌, ◌<◌, ◌≤◌, pos};
 ghost use Rattle.bench_clock.specs.Calendar.{day_numbered};
 ghost use Rattle.bench_clock.specs.TimeBody as spec;
+ghost use Rattle.std.specs.Prelude.{◌≡◌, ◌<◌, ◌≤◌, pos};
 
 use crate::bcd::two_digits;
 use jiff_core::civil::{Date, is_leap_year};

@@ -1,8 +1,8 @@
 //! The time of day at the stamps of a recording.
-ghost use Rattle.std.specs.Prelude.{◌≡◌, ℕ, List, Some, IfOk, option_map};
+ghost use Rattle.bench_clock.specs.Clock as spec;
 ghost use Rattle.ch11_reader.specs.Listing.{listing};
 ghost use Rattle.ch11_stream.specs.Folding.{Finds};
-ghost use Rattle.bench_clock.specs.Clock as spec;
+ghost use Rattle.std.specs.Prelude.{◌≡◌, ℕ, List, Some, IfOk, option_map};
 
 use crate::marks::marks_of;
 use crate::ruling::place_of;
@@ -28,9 +28,9 @@ pub struct Clock {
 }
 
 impl Model for Clock {
-    ghost use Rattle.std.specs.Prelude.{List};
-    ghost use Rattle.bench_clock.specs.declared.clock.Mark.{Mark};
     ghost use Rattle.bench_clock.specs.Rising.{IsRising};
+    ghost use Rattle.bench_clock.specs.declared.clock.Mark.{Mark};
+    ghost use Rattle.std.specs.Prelude.{List};
 
     ghost Value = { List Mark };
 

@@ -1,7 +1,7 @@
 //! What the packets of a recording tell of the time.
-ghost use Rattle.std.specs.Prelude.{◌≡◌, ◌<◌, ◌++◌, take, drop, IfSome, IfOk, OnOk};
-ghost use Rattle.ch11_header.specs.HeaderReading.{body_start};
 ghost use Rattle.bench_clock.specs.Clock as spec;
+ghost use Rattle.ch11_header.specs.HeaderReading.{body_start};
+ghost use Rattle.std.specs.Prelude.{◌≡◌, ◌<◌, ◌++◌, take, drop, IfSome, IfOk, OnOk};
 
 use crate::clock::Mark;
 use crate::reading::read_second;

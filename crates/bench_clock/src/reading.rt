@@ -1,9 +1,9 @@
 //! The body of a time packet, read.
-ghost use Rattle.std.specs.Prelude.{◌≡◌, ◌<◌, ◌≤◌, ℕ, pos, length, Some, IfSome};
-ghost use Rattle.std.specs.Str.{bytes_eq};
-ghost use Rattle.jiff_core.specs.Date.{epoch_day};
 ghost use Rattle.bench_clock.specs.Calendar.{day_numbered};
 ghost use Rattle.bench_clock.specs.TimeBody as spec;
+ghost use Rattle.jiff_core.specs.Date.{epoch_day};
+ghost use Rattle.std.specs.Prelude.{◌≡◌, ◌<◌, ◌≤◌, ℕ, pos, length, Some, IfSome};
+ghost use Rattle.std.specs.Str.{bytes_eq};
 
 use crate::bcd::number_of;
 use crate::body::{DAY, body_of};

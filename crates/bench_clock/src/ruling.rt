@@ -1,7 +1,7 @@
 //! The mark that rules a stamp.
-ghost use Rattle.std.specs.Prelude.{◌≡◌, ◌≤◌, ◌<◌, ℕ, length, slice_get, Some};
-ghost use Rattle.bench_clock.specs.declared.clock.Mark.{Mark};
 ghost use Rattle.bench_clock.specs.Rising.{IsRising};
+ghost use Rattle.bench_clock.specs.declared.clock.Mark.{Mark};
+ghost use Rattle.std.specs.Prelude.{◌≡◌, ◌≤◌, ◌<◌, ℕ, length, slice_get, Some};
 
 use crate::clock::Mark;
 

@@ -1,9 +1,9 @@
 //! The marks of a recording whose packets come from a reader.
-ghost use Rattle.std.specs.Prelude.{◌≡◌, ℕ, List, Some, IfOk};
-ghost use Rattle.ch11_reader.specs.Listing.{listing};
-ghost use Rattle.ch11_stream.specs.Folding.{Finds};
 ghost use Rattle.bench_clock.specs.Clock.{marks_in};
 ghost use Rattle.bench_clock.specs.Rising.{IsRising};
+ghost use Rattle.ch11_reader.specs.Listing.{listing};
+ghost use Rattle.ch11_stream.specs.Folding.{Finds};
+ghost use Rattle.std.specs.Prelude.{◌≡◌, ℕ, List, Some, IfOk};
 
 use crate::clock::Mark;
 use crate::marks::{keep, told_in};

@@ -1,7 +1,7 @@
 //! A time of day.
-ghost use Rattle.std.specs.Prelude.{◌≡◌, ◌<◌, ◌≤◌};
 ghost use Rattle.bench_clock.specs.Calendar.{day_numbered};
 ghost use Rattle.bench_clock.specs.TimeText as spec;
+ghost use Rattle.std.specs.Prelude.{◌≡◌, ◌<◌, ◌≤◌};
 
 use crate::body::{DAY, date_of};
 

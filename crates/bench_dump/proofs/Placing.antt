@@ -5,7 +5,8 @@ use lib.Ieee.Fits.{and_l, and_r}
 use Rattle.std.specs.Prelude.{slice_index}
 use Rattle.std.specs.Fmt.{decimal}
 use Rattle.itoa.proofs.Decimal.{decimal_pair, decimal_four}
-use Rattle.bench_dump.specs.DumpText.{bus_words, digit_of, byte_digits}
+use Rattle.numerals.specs.Numerals.{digit_of}
+use Rattle.bench_dump.specs.DumpText.{bus_words, byte_digits}
 use Rattle.bench_dump.specs.Places.{IsPlaced, two_digits, four_digits, eight_digits}
 use Rattle.bench_dump.proofs.Steps.{bus_words_more, bus_words_end}
 use Rattle.bench_dump.specs.declared.digits.TheConstants.{HEXADECIMAL, DECIMAL}

@@ -1,13 +1,10 @@
 -- The text of a dump (own choice): a line for each packet of a recording, and behind it a line for each of
 -- its messages, numbered from 1 over the file.
-use Rattle.std.specs.Prelude.{ℕ, ◌+◌, ◌/◌, ◌%◌, nat_lt, if◌then◌else◌, List, [], ◌∷◌, ◌++◌, length, codes, decimal}
+use Rattle.std.specs.Prelude.{ℕ, ◌+◌, ◌/◌, ◌%◌, if◌then◌else◌, List, [], ◌∷◌, ◌++◌, length, codes, decimal}
+use Rattle.numerals.specs.Numerals.{digit_of}
 use Rattle.ch11_header.specs.declared.header.Header.{Header}
 use Rattle.ch11_f1.specs.BodyReading.{Message}
 use Rattle.ch11_reader.specs.Recording.{Found, holds_messages}
-
--- an upper-case hexadecimal digit
-abbrev pub digit_of : ℕ → ℕ
-digit_of value = if nat_lt value 10 then 48 + value else 55 + value
 
 -- a byte as two digits
 abbrev pub byte_digits : ℕ → List ℕ

@@ -1,7 +1,7 @@
 //! Digits, written two at a time at a place of a buffer that has room for them.
-ghost use Rattle.std.specs.Prelude.{◌≡◌, ◌+◌, ◌<◌, ◌≤◌, length, decimal};
 ghost use Rattle.bench_dump.specs.DumpText.{byte_digits};
 ghost use Rattle.bench_dump.specs.Places.{IsPlaced, eight_digits, four_digits, two_digits};
+ghost use Rattle.std.specs.Prelude.{◌≡◌, ℕ, ◌+◌, ◌<◌, ◌≤◌, ◌^◌, List, length, decimal};
 
 /// The two upper-case hexadecimal digits of each byte.
 static HEXADECIMAL: [u8; 512] =
@@ -32,88 +32,101 @@ pub(crate) fn place_byte(buffer: &mut [u8], at: usize, byte: u8) -> usize
     at + 2
 }
 
-/// Places a number below 100 as two digits.
-#[inline(always)]
-fn place_two(buffer: &mut [u8], at: usize, number: u32) -> usize
-    requires small { number < 100 }
-    requires room { at + 2 ≤ length buffer.old }
-    ensures placed { IsPlaced buffer.old buffer.new at (two_digits number) result }
-    ensures end { result ≡ at + 2 }
-{
-    let from = number as usize * 2;
-    let (first, second) = (DECIMAL[from], DECIMAL[from + 1]);
-    buffer[at] = first;
-    buffer[at + 1] = second;
-    at + 2
+/// So many decimal digits of a number, in a buffer that has room for them.
+trait Digits {
+    // How many, and those of a number that has noughts in front where it has fewer.
+    ghost count: { ℕ };
+
+    ghost padded: { ℕ → List ℕ };
+
+    /// Places a number with noughts in front.
+    fn place_padded(buffer: &mut [u8], at: usize, number: u32) -> usize
+        requires small { number < 10 ^ count }
+        requires room { at + count ≤ length buffer.old }
+        ensures placed { IsPlaced buffer.old buffer.new at (padded number) result }
+        ensures end { result ≡ at + count };
+
+    /// Places a number without noughts in front, in one digit at least.
+    fn place(buffer: &mut [u8], at: usize, number: u32) -> usize
+        requires small { number < 10 ^ count }
+        requires room { at + count ≤ length buffer.old }
+        ensures placed { IsPlaced buffer.old buffer.new at (decimal number) result }
+        ensures few { result ≤ at + count };
 }
 
-/// Places a number below 10,000 as four digits.
-#[inline(always)]
-fn place_four(buffer: &mut [u8], at: usize, number: u32) -> usize
-    requires small { number < 10000 }
-    requires room { at + 4 ≤ length buffer.old }
-    ensures placed { IsPlaced buffer.old buffer.new at (four_digits number) result }
-    ensures end { result ≡ at + 4 }
-{
-    let middle = place_two(buffer, at, number / 100);
-    place_two(buffer, middle, number % 100)
-}
+/// Numbers below 100.
+struct Two;
 
-/// Places a number below 100,000,000 as eight digits.
-#[inline(always)]
-fn place_eight(buffer: &mut [u8], at: usize, number: u32) -> usize
-    requires small { number < 100000000 }
-    requires room { at + 8 ≤ length buffer.old }
-    ensures placed { IsPlaced buffer.old buffer.new at (eight_digits number) result }
-    ensures end { result ≡ at + 8 }
-{
-    let middle = place_four(buffer, at, number / 10_000);
-    place_four(buffer, middle, number % 10_000)
-}
+impl Digits for Two {
+    ghost count = { 2 };
 
-/// Places a number below 100 in one or two digits.
-#[inline(always)]
-fn place_below_hundred(buffer: &mut [u8], at: usize, number: u32) -> usize
-    requires small { number < 100 }
-    requires room { at + 2 ≤ length buffer.old }
-    ensures placed { IsPlaced buffer.old buffer.new at (decimal number) result }
-    ensures few { result ≤ at + 2 }
-{
-    if number < 10 {
-        buffer[at] = b'0' + number as u8;
-        return at + 1;
+    ghost padded = { two_digits };
+
+    #[inline(always)]
+    fn place_padded(buffer: &mut [u8], at: usize, number: u32) -> usize {
+        let from = number as usize * 2;
+        let (first, second) = (DECIMAL[from], DECIMAL[from + 1]);
+        buffer[at] = first;
+        buffer[at + 1] = second;
+        at + 2
     }
-    place_two(buffer, at, number)
+
+    #[inline(always)]
+    fn place(buffer: &mut [u8], at: usize, number: u32) -> usize {
+        if number < 10 {
+            buffer[at] = b'0' + number as u8;
+            return at + 1;
+        }
+        Two::place_padded(buffer, at, number)
+    }
 }
 
-/// Places a number below 10,000 in one to four digits.
-#[inline(always)]
-fn place_short(buffer: &mut [u8], at: usize, number: u32) -> usize
-    requires small { number < 10000 }
-    requires room { at + 4 ≤ length buffer.old }
-    ensures placed { IsPlaced buffer.old buffer.new at (decimal number) result }
-    ensures few { result ≤ at + 4 }
-{
-    if number < 100 {
-        return place_below_hundred(buffer, at, number);
+/// Numbers below 10,000.
+struct Four;
+
+impl Digits for Four {
+    ghost count = { 4 };
+
+    ghost padded = { four_digits };
+
+    #[inline(always)]
+    fn place_padded(buffer: &mut [u8], at: usize, number: u32) -> usize {
+        let middle = Two::place_padded(buffer, at, number / 100);
+        Two::place_padded(buffer, middle, number % 100)
     }
-    let middle = place_below_hundred(buffer, at, number / 100);
-    place_two(buffer, middle, number % 100)
+
+    #[inline(always)]
+    fn place(buffer: &mut [u8], at: usize, number: u32) -> usize {
+        if number < 100 {
+            return Two::place(buffer, at, number);
+        }
+        let middle = Two::place(buffer, at, number / 100);
+        Two::place_padded(buffer, middle, number % 100)
+    }
 }
 
-/// Places a number below 100,000,000 in one to eight digits.
-#[inline(always)]
-fn place_long(buffer: &mut [u8], at: usize, number: u32) -> usize
-    requires small { number < 100000000 }
-    requires room { at + 8 ≤ length buffer.old }
-    ensures placed { IsPlaced buffer.old buffer.new at (decimal number) result }
-    ensures few { result ≤ at + 8 }
-{
-    if number < 10_000 {
-        return place_short(buffer, at, number);
+/// Numbers below 100,000,000.
+struct Eight;
+
+impl Digits for Eight {
+    ghost count = { 8 };
+
+    ghost padded = { eight_digits };
+
+    #[inline(always)]
+    fn place_padded(buffer: &mut [u8], at: usize, number: u32) -> usize {
+        let middle = Four::place_padded(buffer, at, number / 10_000);
+        Four::place_padded(buffer, middle, number % 10_000)
     }
-    let middle = place_short(buffer, at, number / 10_000);
-    place_four(buffer, middle, number % 10_000)
+
+    #[inline(always)]
+    fn place(buffer: &mut [u8], at: usize, number: u32) -> usize {
+        if number < 10_000 {
+            return Four::place(buffer, at, number);
+        }
+        let middle = Four::place(buffer, at, number / 10_000);
+        Four::place_padded(buffer, middle, number % 10_000)
+    }
 }
 
 /// Places what stands before the last eight digits of a number.
@@ -125,10 +138,10 @@ fn place_high(buffer: &mut [u8], at: usize, number: u64) -> usize
     ensures few { result ≤ at + 12 }
 {
     if number < 100_000_000 {
-        return place_long(buffer, at, number as u32);
+        return Eight::place(buffer, at, number as u32);
     }
-    let middle = place_short(buffer, at, (number / 100_000_000) as u32);
-    place_eight(buffer, middle, (number % 100_000_000) as u32)
+    let middle = Four::place(buffer, at, (number / 100_000_000) as u32);
+    Eight::place_padded(buffer, middle, (number % 100_000_000) as u32)
 }
 
 /// Places a number in one to twenty digits in a buffer that has room for twenty, and answers where they end. What
@@ -140,8 +153,8 @@ pub fn place_decimal(buffer: &mut [u8], at: usize, number: u64) -> usize
     ensures few { result ≤ at + 20 }
 {
     if number < 100_000_000 {
-        return place_long(buffer, at, number as u32);
+        return Eight::place(buffer, at, number as u32);
     }
     let middle = place_high(buffer, at, number / 100_000_000);
-    place_eight(buffer, middle, (number % 100_000_000) as u32)
+    Eight::place_padded(buffer, middle, (number % 100_000_000) as u32)
 }

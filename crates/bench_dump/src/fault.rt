@@ -1,12 +1,13 @@
 //! Why a recording was not dumped, or not to its end.
-ghost use Rattle.std.specs.Prelude.{◌≡◌};
-ghost use Rattle.bench_dump.specs.declared.fault.DumpFault.TheVariants.{Device, Memory};
 ghost use Rattle.bench_dump.specs.Streaming.{dump_fault};
+ghost use Rattle.bench_dump.specs.declared.fault.DumpFault.TheVariants.{Device, Memory};
+ghost use Rattle.std.specs.Prelude.{◌≡◌};
 
 use ch11_reader::Refusal;
 use ch11_stream::StreamFault;
 use std::alloc::AllocError;
-use std::{fmt, io};
+use std::fmt::{self, Display, Formatter, Write};
+use std::io;
 
 /// Why a dump failed.
 #[derive(Clone, Copy, Debug, PartialEq, Eq)]
@@ -21,13 +22,13 @@ pub enum DumpFault {
     Device,
 }
 
-impl fmt::Display for DumpFault {
-    ghost use Rattle.std.specs.Prelude.{Some};
+impl Display for DumpFault {
     ghost use Rattle.bench_dump.specs.FaultText.{fault_text};
+    ghost use Rattle.std.specs.Prelude.{Some};
 
     ghost output = { λ e. Some (fault_text e) };
 
-    fn fmt<W: fmt::Write>(&self, f: &mut fmt::Formatter<W>) -> fmt::Result {
+    fn fmt<W: Write>(&self, f: &mut Formatter<W>) -> fmt::Result {
         match self {
             DumpFault::Refused(refusal) => write!(f, "{refusal}"),
             DumpFault::Memory => write!(f, "memory"),
@@ -39,7 +40,7 @@ impl fmt::Display for DumpFault {
 impl From<AllocError> for DumpFault {
     ghost from_gives = { λ _ e. e ≡ Memory };
 
-    fn from(_e: AllocError) -> DumpFault {
+    fn from(_: AllocError) -> DumpFault {
         DumpFault::Memory
     }
 }
@@ -47,7 +48,7 @@ impl From<AllocError> for DumpFault {
 impl From<io::Error> for DumpFault {
     ghost from_gives = { λ _ e. e ≡ Device };
 
-    fn from(_e: io::Error) -> DumpFault {
+    fn from(_: io::Error) -> DumpFault {
         DumpFault::Device
     }
 }

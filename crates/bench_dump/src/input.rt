@@ -1,8 +1,8 @@
 //! A file read whole.
-ghost use Rattle.std.specs.Prelude.{◌≡◌, ◌+◌, ◌*◌, ◌<◌, ◌≤◌, ◌++◌, length, [], false, Ok, IfOk, IfErr, IfSome, OnOk};
-ghost use Rattle.std.specs.Io.KnownBytes.{IsAtEnd};
 ghost use Rattle.bench_dump.specs.Printing.{IsOther};
 ghost use Rattle.bench_dump.specs.Reads.{IsRead, IsFaultOf, given};
+ghost use Rattle.std.specs.Io.KnownBytes.{IsAtEnd};
+ghost use Rattle.std.specs.Prelude.{◌≡◌, ◌+◌, ◌*◌, ◌<◌, ◌≤◌, ◌++◌, length, [], false, Ok, IfOk, IfErr, IfSome, OnOk};
 
 use crate::fault::DumpFault;
 use std::alloc::Global;

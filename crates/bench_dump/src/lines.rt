@@ -1,7 +1,8 @@
 //! The lines of a dump, appended to a text.
-ghost use Rattle.std.specs.Prelude.{◌≡◌, ◌<◌, ◌++◌, OnOk, decimal};
-ghost use Rattle.bench_dump.specs.DumpText.{bus_words, byte_digits, digit_of, packet_contents, packet_line};
+ghost use Rattle.bench_dump.specs.DumpText.{bus_words, byte_digits, packet_contents, packet_line};
+ghost use Rattle.std.specs.Prelude.{◌≡◌, ◌++◌, OnOk, decimal};
 
+use crate::digits::place_byte;
 use crate::places::place_bus_words;
 use crate::text::Text;
 use ch11_header::kinds::BUS_MESSAGES;
@@ -9,23 +10,13 @@ use ch11_reader::Packet;
 use itoa::Buffer;
 use std::alloc::AllocError;
 
-/// A hexadecimal digit.
-fn digit(value: u8) -> u8
-    requires { value < 16 }
-    ensures { result ≡ digit_of value }
-{
-    if value < 10 {
-        b'0' + value
-    } else {
-        b'A' + (value - 10)
-    }
-}
-
 /// A byte as two digits.
 fn digits_of_byte(byte: u8) -> [u8; 2]
     ensures { result ≡ byte_digits byte }
 {
-    [digit(byte / 16), digit(byte % 16)]
+    let mut digits = [0; 2];
+    place_byte(&mut digits, 0, byte);
+    digits
 }
 
 /// Appends a label and a number.

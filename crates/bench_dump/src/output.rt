@@ -1,11 +1,12 @@
 //! The whole dump, through one buffer.
-ghost use Rattle.std.specs.Prelude.{◌≡◌, ◌+◌, ◌<◌, ◌^◌, length, true, false, [], OnOk, IfErr, Err};
-ghost use Rattle.std.specs.Io.KnownBytes.{Appends};
-ghost use Rattle.ch11_reader.specs.declared.error.Refusal.{Refusal};
-ghost use Rattle.ch11_reader.specs.Recording.{packets_in};
+ghost use Rattle.bench_dump.specs.DumpText.{packet_line};
+ghost use Rattle.bench_dump.specs.Printing.{Carries, IsAnswerBy, IsOther};
 ghost use Rattle.bench_dump.specs.SkippingText.{text_of};
 ghost use Rattle.bench_dump.specs.TimedText.{clock_of, text_by, timed_lines, timed_text};
-ghost use Rattle.bench_dump.specs.Printing.{Carries, IsAnswerBy, IsOther};
+ghost use Rattle.ch11_reader.specs.Recording.{packets_in};
+ghost use Rattle.ch11_reader.specs.declared.error.Refusal.{Refusal};
+ghost use Rattle.std.specs.Io.KnownBytes.{Appends};
+ghost use Rattle.std.specs.Prelude.{◌≡◌, ◌+◌, ◌<◌, ◌^◌, ◌++◌, length, true, false, [], OnOk, IfErr, Err};
 
 use crate::fault::DumpFault;
 use crate::lines::put_packet_line;
@@ -13,7 +14,7 @@ use crate::skips::{dump_skips, dump_skips_before};
 use crate::text::Text;
 use bench_clock::Clock;
 use ch11_f1::Messages;
-use ch11_reader::{Index, ReadError, Skip};
+use ch11_reader::{Index, Packet, ReadError, Skip};
 use std::alloc::Global;
 use std::io::Write;
 
@@ -54,6 +55,25 @@ pub(crate) fn dump_messages<W: Write>(
         hand_on(text, out)?;
     }
     Ok(())
+}
+
+/// The lines of a packet and of its messages, with the times of day that a clock tells.
+pub(crate) fn dump_packet<W: Write>(
+    text: &mut Text,
+    out: &mut W,
+    packet: &Packet,
+    clock: &Clock,
+    messages: Messages<'_>,
+) -> Result<(), DumpFault>
+    requires { packet.now.before + length messages < 2 ^ 64 }
+    ensures printed { OnOk result (Carries (W.contents out.old) text.old (W.contents out.new) text.new
+        (packet_line packet.now.offset packet.now.header packet.now.count
+        ++ timed_lines clock.now packet.now.before packet.now.header.channel messages.entry)) }
+    ensures failed { IfErr result IsOther }
+{
+    put_packet_line(text, packet)?;
+    let (before, channel) = (packet.before, packet.header.channel);
+    dump_messages(text, out, before, channel, clock, messages)
 }
 
 /// Prints a recording: a line for each packet, and behind it a line for each of its messages, numbered from
@@ -169,7 +189,6 @@ fn print_index<W: Write>(
         )?;
     }
     dump_skips(&mut text, out, rest)?;
-    out.write_all(text.as_slice())?;
-    out.flush()?;
+    text.finish(out)?;
     Ok(())
 }

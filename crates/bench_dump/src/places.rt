@@ -1,9 +1,9 @@
 //! The parts of a message's line, written one behind the other into a buffer that has room for all of them.
-ghost use Rattle.std.specs.Prelude.{◌≡◌, ◌+◌, ◌*◌, ◌/◌, ◌≤◌, ◌∷◌, ◌++◌, length, decimal, option_map};
-ghost use Rattle.ch11_f1.specs.Views.{message_of};
 ghost use Rattle.bench_dump.specs.DumpText.{bus_words, byte_digits, word_digits};
 ghost use Rattle.bench_dump.specs.Places.{IsPlaced};
 ghost use Rattle.bench_dump.specs.TimedText.{time_words, timed_line};
+ghost use Rattle.ch11_f1.specs.Views.{message_of};
+ghost use Rattle.std.specs.Prelude.{◌≡◌, ◌+◌, ◌*◌, ◌/◌, ◌≤◌, ◌∷◌, ◌++◌, length, decimal, option_map};
 
 use crate::digits::{place_byte, place_decimal};
 use bench_clock::UtcTime;

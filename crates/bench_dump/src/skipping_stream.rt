@@ -1,15 +1,14 @@
 //! A dump of whatever is sound in a recording that a reader gives.
-ghost use Rattle.std.specs.Prelude.{◌≡◌, ℕ, List, [], Some, true, OnOk, IfErr};
-ghost use Rattle.std.specs.Io.KnownBytes.{Appends};
-ghost use Rattle.ch11_reader.specs.Skipping.{packets_read, skips_in};
 ghost use Rattle.bench_dump.specs.Printing.{Carries, IsOther};
 ghost use Rattle.bench_dump.specs.SkippingText.{text_of};
 ghost use Rattle.bench_dump.specs.StretchText.{IsFew, stretch_lines};
 ghost use Rattle.bench_dump.specs.TimedText.{timed_text};
+ghost use Rattle.ch11_reader.specs.Skipping.{packets_read, skips_in};
+ghost use Rattle.std.specs.Io.KnownBytes.{Appends};
+ghost use Rattle.std.specs.Prelude.{◌≡◌, ℕ, List, [], Some, true, OnOk, IfErr};
 
 use crate::fault::DumpFault;
-use crate::lines::put_packet_line;
-use crate::output::dump_messages;
+use crate::output::dump_packet;
 use crate::skips::dump_skips;
 use crate::text::Text;
 use bench_clock::Clock;
@@ -31,17 +30,7 @@ fn dump_stretch<R: Read, W: Write>(
     ensures failed { IfErr result IsOther }
 {
     match stretch {
-        Stretch::Sound(packet) => {
-            put_packet_line(text, packet)?;
-            dump_messages(
-                text,
-                out,
-                packet.before,
-                packet.header.channel,
-                clock,
-                stretches.messages(),
-            )
-        }
+        Stretch::Sound(packet) => dump_packet(text, out, packet, clock, stretches.messages()),
         Stretch::Skipped(skip) => dump_skips(text, out, &[*skip]),
     }
 }
@@ -70,8 +59,7 @@ pub fn dump_skipping_from<R: Read + Drop, W: Write>(
         match stretches.next() {
             Ok(Some(stretch)) => dump_stretch(&mut text, out, &stretches, &stretch, clock)?,
             Ok(None) => {
-                out.write_all(text.as_slice())?;
-                out.flush()?;
+                text.finish(out)?;
                 return Ok(());
             }
             Err(fault) => return Err(DumpFault::from(fault)),

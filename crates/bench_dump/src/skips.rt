@@ -1,9 +1,9 @@
 //! The lines of skipped bytes.
-ghost use Rattle.std.specs.Prelude.{◌≡◌, ◌++◌, OnOk, IfOk, IfErr};
-ghost use Rattle.std.specs.Io.KnownBytes.{Appends};
-ghost use Rattle.ch11_reader.specs.Codes.{fault_code};
-ghost use Rattle.bench_dump.specs.SkippingText.{skip_line, skip_lines, skips_before, skips_behind};
 ghost use Rattle.bench_dump.specs.Printing.{Carries, IsOther};
+ghost use Rattle.bench_dump.specs.SkippingText.{skip_line, skip_lines, skips_before, skips_behind};
+ghost use Rattle.ch11_reader.specs.Codes.{fault_code};
+ghost use Rattle.std.specs.Io.KnownBytes.{Appends};
+ghost use Rattle.std.specs.Prelude.{◌≡◌, ◌++◌, OnOk, IfOk, IfErr};
 
 use crate::fault::DumpFault;
 use crate::lines::put_number;

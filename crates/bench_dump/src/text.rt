@@ -1,12 +1,16 @@
 //! Text on its way to a writer.
-ghost use Rattle.std.specs.Prelude.{◌≡◌, ◌+◌, ◌≤◌, ◌++◌, [], length, take, vec_len, option_map, OnOk};
-ghost use Rattle.ch11_f1.specs.Views.{message_of};
+ghost use Rattle.bench_dump.specs.Printing.{IsOther};
 ghost use Rattle.bench_dump.specs.TimedText.{timed_line};
+ghost use Rattle.ch11_f1.specs.Views.{message_of};
+ghost use Rattle.std.specs.Io.KnownBytes.{Appends};
+ghost use Rattle.std.specs.Prelude.{◌≡◌, ◌+◌, ◌≤◌, ◌++◌, [], length, take, vec_len, option_map, OnOk, IfErr};
 
+use crate::fault::DumpFault;
 use crate::places::{MESSAGE_HEAD, place_bytes, place_message};
 use bench_clock::UtcTime;
 use ch11_f1::Seen;
 use std::alloc::{AllocError, Global};
+use std::io::Write;
 use std::marker::Model;
 
 /// The text that waits for the writer; contracts see its bytes. Behind them lies room that can be written at once.
@@ -96,6 +100,16 @@ impl Text {
         make_room(&mut self.bytes, self.len, bytes.len())?;
         let buffer = self.bytes.as_mut_slice();
         self.len = place_bytes(buffer, self.len, bytes);
+        Ok(())
+    }
+
+    /// Hands all text on to the writer, and flushes it.
+    pub(crate) fn finish<W: Write>(&self, out: &mut W) -> Result<(), DumpFault>
+        ensures printed { OnOk result (Appends (W.contents out.old) (W.contents out.new) self.now) }
+        ensures failed { IfErr result IsOther }
+    {
+        out.write_all(self.as_slice())?;
+        out.flush()?;
         Ok(())
     }
 

@@ -1,6 +1,7 @@
 -- A recording that is checked before a command reads it a second time.
-use Rattle.std.specs.Prelude.{◌≡◌, Result, Ok, Err}
+use Rattle.std.specs.Prelude.{◌≡◌, ℕ, List, Option, Some, Result, Ok, Err}
 use Rattle.ch11_reader.specs.declared.error.Refusal.{Refusal}
+use Rattle.ch11_reader.specs.Recording.{packets_in}
 use Rattle.bench_dump.specs.declared.fault.DumpFault.{DumpFault}
 use Rattle.bench_dump.specs.declared.fault.DumpFault.TheVariants as faults
 
@@ -10,3 +11,8 @@ IsRefusedBy r (Ok x) = ⊥
 IsRefusedBy r (Err (faults.Refused other)) = other ≡ r
 IsRefusedBy r (Err faults.Memory) = Unit {0}
 IsRefusedBy r (Err faults.Device) = Unit {0}
+
+-- where the first pass reads a recording that is refused, that is the answer, and the writer gets nothing
+abbrev pub Refuses : {A W : Type 0} → Option (List ℕ) → W → W → Result A DumpFault → Type 0
+Refuses first old new result =
+    (file : List ℕ) (r : Refusal) → first ≡ Some file → packets_in file ≡ Err r → (new ≡ old) × IsRefusedBy r result

@@ -1,12 +1,14 @@
-//! A dump of a recording that is not kept in memory.
-ghost use Rattle.std.specs.Prelude.{◌≡◌, ℕ, List, Some, Ok, Err};
-ghost use Rattle.ch11_reader.specs.declared.error.Refusal.{Refusal};
+//! Dumps of a recording that is not kept in memory.
+ghost use Rattle.bench_clock.specs.Clock.{marks_in};
+ghost use Rattle.bench_dump.specs.Streaming.{Dumps, DumpsBy};
+ghost use Rattle.bench_passes.specs.Passes.{Refuses};
 ghost use Rattle.ch11_reader.specs.Indexed.{found_in};
+ghost use Rattle.ch11_reader.specs.Listing.{listing};
 ghost use Rattle.ch11_reader.specs.Recording.{packets_in};
-ghost use Rattle.bench_dump.specs.Streaming.{Dumps};
-ghost use Rattle.bench_passes.specs.Passes.{IsRefusedBy};
+ghost use Rattle.std.specs.Prelude.{◌≡◌, ℕ, List, Some, Ok};
 
-use bench_dump::{DumpFault, dump_from};
+use bench_clock::clock_from;
+use bench_dump::{DumpFault, dump_from, dump_with_times_from};
 use ch11_check::check_from;
 use ch11_stream::Advance;
 use std::alloc::Global;
@@ -22,13 +24,32 @@ pub fn dump_in_two_passes<R: Advance + Drop, S: Advance + Drop, W: Write>(
     second: S,
     out: &mut W,
 ) -> Result<(), DumpFault>
-    ensures refused { (file : List ℕ) (r : Refusal) → R.remaining first ≡ Some file → packets_in file ≡ Err r
-        → (out.new ≡ out.old) × IsRefusedBy r result }
+    ensures refused { Refuses (R.remaining first) out.old out.new result }
     ensures dumped { (file other : List ℕ) → R.remaining first ≡ Some file → S.remaining second ≡ Some other
         → packets_in file ≡ Ok (found_in file) → Dumps result other (W.contents out.old) (W.contents out.new) }
 {
     match check_from(alloc, first) {
         Ok(()) => dump_from(alloc, second, out),
+        Err(fault) => Err(DumpFault::from(fault)),
+    }
+}
+
+/// Prints a recording as `dump_in_two_passes` does, and the time of day behind each stamp, as `dump_with_times` prints
+/// the bytes. The first reader's bytes tell the time, in the pass that checks them: 16 bytes are kept for each time
+/// packet that counts.
+pub fn dump_with_times_in_two_passes<R: Advance + Drop, S: Advance + Drop, W: Write>(
+    alloc: Global,
+    first: R,
+    second: S,
+    out: &mut W,
+) -> Result<(), DumpFault>
+    ensures refused { Refuses (R.remaining first) out.old out.new result }
+    ensures dumped { (file other : List ℕ) → R.remaining first ≡ Some file → S.remaining second ≡ Some other
+        → packets_in file ≡ Ok (found_in file)
+        → DumpsBy (marks_in file (listing (found_in file))) result other (W.contents out.old) (W.contents out.new) }
+{
+    match clock_from(alloc, first) {
+        Ok(clock) => dump_with_times_from(alloc, second, &clock, out),
         Err(fault) => Err(DumpFault::from(fault)),
     }
 }

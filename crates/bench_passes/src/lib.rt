@@ -5,7 +5,5 @@
 #![tactic(auto)]
 
 mod dumping;
-mod dumping_with_times;
 
-pub use dumping::dump_in_two_passes;
-pub use dumping_with_times::dump_with_times_in_two_passes;
+pub use dumping::{dump_in_two_passes, dump_with_times_in_two_passes};

@@ -1,6 +1,6 @@
 //! How far a pass over a large recording has come, on a terminal.
-ghost use Rattle.std.specs.Prelude.{◌≡◌};
 ghost use Rattle.bench_watch.specs.Watching.{watched_remaining};
+ghost use Rattle.std.specs.Prelude.{◌≡◌};
 
 use ch11_stream::Advance;
 use std::cell::Cell;

@@ -5,4 +5,4 @@ use Rattle.bench_dump.proofs.digits.place_decimal.Goals as goal
 pub returns-clause-placed : goal.returns-clause-placed
 returns-clause-placed c =
     rw (decimal_eights c.args.number c.if-number-lt100000000.false (omega arith))
-    (placed_then _ _ _ _ _ _ _ _ c.place_high-middle.ensures.placed c.place_eight.ensures.placed)
+    (placed_then _ _ _ _ _ _ _ _ c.place_high-middle.ensures.placed c.place_padded.ensures.placed)

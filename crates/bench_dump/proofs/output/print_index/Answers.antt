@@ -1,6 +1,6 @@
 use Rattle.std.proofs.Common.{length, ap, arith}
 use Rattle.std.proofs.lemmas.Result.{err_from_is_err_and}
-use Rattle.bench_dump.proofs.Packets.{begins, no_packet, at_place, same_count, goes_on, ends, kept}
+use Rattle.bench_dump.proofs.Packets.{begins, no_packet, at_place, same_count, goes_on, ends}
 use Rattle.bench_dump.proofs.output.print_index.Goals as goal
 
 pub packets-init : goal.packets-init
@@ -26,4 +26,4 @@ returns-in_err-dump_messages-clause-failed g c =
 
 pub returns-clause-printed : goal.returns-clause-printed
 returns-clause-printed g c =
-    kept _ _ _ _ (ends _ _ _ _ _ _ _ c.packets.place _ _ c.args.index.now (omega (arith, same_count c.args.index.now c.packets-packets.result.now c.packets-packets.ensures.listed, c.packets-test.false)) c.packets.invariant c.in_ok-dump_skips.ensures.printed (rw c.as_slice.ensures at c.in_ok-write_all.ensures.bytes)) c.in_ok-flush.ensures.bytes
+    ends _ _ _ _ _ _ _ c.packets.place _ _ c.args.index.now (omega (arith, same_count c.args.index.now c.packets-packets.result.now c.packets-packets.ensures.listed, c.packets-test.false)) c.packets.invariant c.in_ok-dump_skips.ensures.printed c.in_ok-finish.ensures.printed

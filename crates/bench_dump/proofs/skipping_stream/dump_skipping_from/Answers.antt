@@ -1,4 +1,3 @@
-use Rattle.bench_dump.proofs.Packets.{kept}
 use Rattle.bench_dump.proofs.InTurn.{all_printed, nothing_printed, plain_skipping, stretch_few, stretch_printed}
 use Rattle.bench_dump.proofs.skipping_stream.dump_skipping_from.Goals as goal
 
@@ -16,9 +15,8 @@ stretches-preserved g c file is =
 pub returns-in-Ok-None-clause-printed : goal.returns-in-Ok-None-clause-printed
 returns-in-Ok-None-clause-printed g c file is =
     let e = rw c.in-Ok-None.field-0-is at c.in-Ok-None.ensures in
-    let all = all_printed c.args.clock.now file (g.W.Write.contents c.args.out.now) (g.W.Write.contents c.stretches.out) (g.W.Write.contents c.write_all.new.self) c.stretches.text c.stretches.stretches c.next.new.self e (c.stretches.invariant file is)
-    (rw c.as_slice.ensures at c.in_ok-write_all-in-Ok-None.ensures.bytes) in
-    kept _ _ _ _ all c.in_ok-flush-in-Ok-None.ensures.bytes
+    all_printed c.args.clock.now file (g.W.Write.contents c.args.out.now) (g.W.Write.contents c.stretches.out) (g.W.Write.contents c.finish.new.out) c.stretches.text c.stretches.stretches c.next.new.self e (c.stretches.invariant file is)
+    c.in_ok-finish-in-Ok-None.ensures.printed
 
 pub returns-in-Ok-None-clause-plain : goal.returns-in-Ok-None-clause-plain
 returns-in-Ok-None-clause-plain g c none file is = plain_skipping c.args.clock.now file _ _ none (returns-in-Ok-None-clause-printed g c file is)

@@ -1,7 +1,6 @@
 use Rattle.std.proofs.Common.{ap}
 use Rattle.ch11_stream.specs.Reading.{Reading}
 use Rattle.ch11_stream.proofs.Readings.{amid_on, amid_start}
-use Rattle.bench_dump.proofs.Packets.{kept}
 use Rattle.bench_dump.proofs.Streamed.{all_put, not_read, nothing_put, one_put}
 use Rattle.bench_dump.proofs.streaming.dump_with_times_from.Goals as goal
 
@@ -17,15 +16,14 @@ packets-preserved g c =
     record {
       known = λ file is. amid_on file c.packets.packets c.next.new.self c.in-Ok-Some.packet s (c.packets.invariant.known file is);
       put = one_put c.args.clock.now (g.W.Write.contents c.args.out.now) (g.W.Write.contents c.packets.out) (g.W.Write.contents c.dump_packet.new.out) c.packets.text c.dump_packet.new.text c.packets.packets c.next.new.self c.in-Ok-Some.packet s c.packets.invariant.put
-          c.in_ok-dump_packet-in-Ok-Some.ensures.printed;
+          (rw c.messages.ensures at c.in_ok-dump_packet-in-Ok-Some.ensures.printed);
     }
 
 pub returns-in-Ok-None : goal.returns-in-Ok-None
 returns-in-Ok-None g c file is =
     let e = rw c.in-Ok-None.field-0-is at c.in-Ok-None.ensures in
-    let all = all_put c.args.clock.now file (g.W.Write.contents c.args.out.now) (g.W.Write.contents c.packets.out) (g.W.Write.contents c.write_all.new.self) c.packets.text c.packets.packets c.next.new.self e (c.packets.invariant.known file is) c.packets.invariant.put
-    (rw c.as_slice.ensures at c.in_ok-write_all-in-Ok-None.ensures.bytes) in
-    (all.0, kept _ _ _ _ all.1 c.in_ok-flush-in-Ok-None.ensures.bytes)
+    all_put c.args.clock.now file (g.W.Write.contents c.args.out.now) (g.W.Write.contents c.packets.out) (g.W.Write.contents c.finish.new.out) c.packets.text c.packets.packets c.next.new.self e (c.packets.invariant.known file is) c.packets.invariant.put
+    c.in_ok-finish-in-Ok-None.ensures.printed
 
 pub returns-in-Err : goal.returns-in-Err
 returns-in-Err g c file is =

@@ -1,8 +1,8 @@
 use Rattle.std.proofs.Common.{arith}
 use Rattle.bench_dump.proofs.Placing.{decimal_fours, placed_then}
-use Rattle.bench_dump.proofs.digits.place_long.Goals as goal
+use Rattle.bench_dump.proofs.digits.EightDigits.place.Goals as goal
 
 pub returns-clause-placed : goal.returns-clause-placed
 returns-clause-placed c =
     rw (decimal_fours c.args.number c.if-number-lt10000.false (omega arith))
-    (placed_then _ _ _ _ _ _ _ _ c.place_short-middle.ensures.placed c.place_four.ensures.placed)
+    (placed_then _ _ _ _ _ _ _ _ c.place-middle.ensures.placed c.place_padded.ensures.placed)

@@ -3,7 +3,7 @@ use Rattle.ch11_reader.specs.Indexed.{found_in}
 use Rattle.ch11_reader.specs.Listing.{listing}
 use Rattle.bench_clock.specs.Clock.{marks_in}
 use Rattle.bench_passes.proofs.Passes.{first_fault, not_both, other_timed, same_clock}
-use Rattle.bench_passes.proofs.dumping_with_times.dump_with_times_in_two_passes.Goals as goal
+use Rattle.bench_passes.proofs.dumping.dump_with_times_in_two_passes.Goals as goal
 
 pub returns-in-Ok-clause-refused : goal.returns-in-Ok-clause-refused
 returns-in-Ok-clause-refused g c file r is refused = absurd (not_both file _ r (c.in-Ok.ensures file is).0 refused)

@@ -1,5 +1,5 @@
 use Rattle.bench_dump.proofs.Placing.{decimal_at, placed_pair}
-use Rattle.bench_dump.proofs.digits.place_two.Goals as goal
+use Rattle.bench_dump.proofs.digits.TwoDigits.place_padded.Goals as goal
 
 pub returns-clause-placed : goal.returns-clause-placed
 returns-clause-placed c =
