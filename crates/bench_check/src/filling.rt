@@ -1,7 +1,7 @@
 //! Whether a terminal has words to transmit.
-ghost use Rattle.std.specs.Prelude.{◌≡◌, ◌+◌, ◌*◌, ◌<◌, ◌++◌, ◌∷◌, [], ℕ, List, nat_le, ◌||◌};
 ghost use Rattle.bc_machine.specs.declared.placed.Placed.{Placed as PlacedAction};
 ghost use Rattle.bench_check.specs.Filling as spec;
+ghost use Rattle.std.specs.Prelude.{◌≡◌, ◌+◌, ◌*◌, ◌<◌, ◌++◌, ◌∷◌, [], ℕ, List, nat_le, ◌||◌};
 
 use bc_machine::{Actions, Placed};
 use mil_host::Action;
@@ -23,8 +23,8 @@ pub struct Filled {
 }
 
 impl Model for Filled {
-    ghost use Rattle.std.specs.Prelude.{List};
     ghost use Rattle.bc_machine.specs.declared.placed.Placed.{Placed};
+    ghost use Rattle.std.specs.Prelude.{List};
 
     ghost Value = { List Placed };
 

@@ -1,6 +1,5 @@
 //! What a job that was tried came to.
 use crate::calls::Calls;
-use crate::fault::CheckFault;
 use crate::fitting::Tight;
 use crate::frames::{Overrun, parts_of, period_of};
 use crate::messages::put_action;
@@ -11,6 +10,7 @@ use mil_line::Fault;
 use std::alloc::{AllocError, Global};
 use std::fmt::Write as _;
 use std::io::Write;
+use text_lines::WriteFault;
 
 /// How many frames are shown that may take longer than their period.
 const SHOWN: usize = 3;
@@ -42,7 +42,7 @@ pub fn print_findings<W: Write>(
     findings: &Findings,
     tight: &[Tight],
     out: &mut W,
-) -> Result<(), CheckFault> {
+) -> Result<(), WriteFault> {
     let mut text = String::new(alloc);
     put_mistakes(&mut text, job, findings, tight)?;
     print_mistakes(text.as_bytes(), findings, out)
@@ -57,7 +57,7 @@ pub fn print_summary<W: Write>(
     findings: &Findings,
     tight: &[Tight],
     out: &mut W,
-) -> Result<(), CheckFault> {
+) -> Result<(), WriteFault> {
     let mut text = String::new(alloc);
     put_mistakes(&mut text, job, findings, tight)?;
     put_unfilled(&mut text, job, &findings.oddities)?;
@@ -87,7 +87,7 @@ fn print_mistakes<W: Write>(
     text: &[u8],
     findings: &Findings,
     out: &mut W,
-) -> Result<(), CheckFault> {
+) -> Result<(), WriteFault> {
     if text.is_empty() {
         out.write_all(b"nothing looks like a mistake\n")?;
     } else {

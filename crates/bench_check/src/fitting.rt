@@ -1,8 +1,8 @@
 //! Which frames with a period may not fit into it at worst.
-ghost use Rattle.std.specs.Prelude.{◌≡◌, ◌++◌, ◌+◌, ◌*◌, ◌≤◌, length, IfOk, OnOk};
-ghost use Rattle.frame_tree.specs.Tree.{tree_of};
-ghost use Rattle.frame_tree.specs.Scopes.{scope_of};
 ghost use Rattle.bench_check.specs.Fitting as spec;
+ghost use Rattle.frame_tree.specs.Scopes.{scope_of};
+ghost use Rattle.frame_tree.specs.Tree.{tree_of};
+ghost use Rattle.std.specs.Prelude.{◌≡◌, ◌++◌, ◌+◌, ◌*◌, ◌≤◌, length, IfOk, OnOk};
 
 use frame_tree::{Frame, Scope};
 use mil_message::{Due, Message};

@@ -1,6 +1,6 @@
 //! Frames with a period: what time was left of each, and which took longer.
-ghost use Rattle.std.specs.Prelude.{◌≡◌, ◌++◌, OnOk};
 ghost use Rattle.bench_check.specs.Overruns.{overruns_at, late_of};
+ghost use Rattle.std.specs.Prelude.{◌≡◌, ◌++◌, OnOk};
 
 use bc_machine::{Closing, Machine};
 use std::alloc::AllocError;

@@ -3,7 +3,6 @@
 #![tactic(auto)]
 
 mod calls;
-mod fault;
 mod filling;
 mod findings;
 mod fitting;
@@ -16,7 +15,6 @@ mod scripts;
 mod trying;
 
 pub use calls::Calls;
-pub use fault::CheckFault;
 pub use filling::Filled;
 pub use findings::{Findings, print_findings, print_summary};
 pub use fitting::{Tight, tight_frames};

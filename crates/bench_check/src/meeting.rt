@@ -1,9 +1,9 @@
 //! Whether a planned fault meets something.
-ghost use Rattle.std.specs.Prelude.{◌≡◌, ◌<◌, ◌^◌, true, length, IfOk};
-ghost use Rattle.std.specs.List.{filter, list_all};
-ghost use Rattle.mil_line.specs.Ranges.{is_in_range};
-ghost use Rattle.mil_bus.specs.Exchange.{now_of, talk_start};
 ghost use Rattle.bench_check.specs.Meeting as spec;
+ghost use Rattle.mil_bus.specs.Exchange.{now_of, talk_start};
+ghost use Rattle.mil_line.specs.Ranges.{is_in_range};
+ghost use Rattle.std.specs.List.{filter, list_all};
+ghost use Rattle.std.specs.Prelude.{◌≡◌, ◌<◌, ◌^◌, true, length, IfOk};
 
 use bc_machine::Upcoming;
 use mil_bus::Sent;

@@ -1,17 +1,16 @@
 //! A job, tried message by message.
-ghost use Rattle.std.specs.Prelude.{◌≡◌, ◌++◌, ◌+◌, ◌-◌, ◌<◌, ◌≤◌, ◌^◌, true, not, IfOk, OnOk};
-ghost use Rattle.std.specs.List.{filter, list_all};
 ghost use Rattle.bc_machine.specs.Rising.{IsRising};
-ghost use Rattle.mil_line.specs.Ranges.{is_in_range};
-ghost use Rattle.mil_line.specs.Plans.{faults_of};
-ghost use Rattle.mil_bus.specs.Exchange.{now_of, talk_start};
 ghost use Rattle.bench_check.specs.Meeting.{meets as is_met};
+ghost use Rattle.bench_check.specs.Overruns.{overruns, overruns_at};
 ghost use Rattle.bench_check.specs.Unmet as spec;
 ghost use Rattle.job_file.specs.Rooms.{most_items};
-ghost use Rattle.bench_check.specs.Overruns.{overruns, overruns_at};
+ghost use Rattle.mil_bus.specs.Exchange.{now_of, talk_start};
+ghost use Rattle.mil_line.specs.Plans.{faults_of};
+ghost use Rattle.mil_line.specs.Ranges.{is_in_range};
+ghost use Rattle.std.specs.List.{filter, list_all};
+ghost use Rattle.std.specs.Prelude.{◌≡◌, ◌++◌, ◌+◌, ◌-◌, ◌<◌, ◌≤◌, ◌^◌, true, not, IfOk, OnOk};
 
 use crate::calls::Calls;
-use crate::fault::CheckFault;
 use crate::filling::Filled;
 use crate::findings::Findings;
 use crate::frames::{Overrun, note_frame};
@@ -24,6 +23,7 @@ use job_file::{Job, job_runs};
 use mil_line::{Fault, Plan};
 use std::alloc::{AllocError, Global};
 use std::io::Write;
+use text_lines::WriteFault;
 
 /// What is told of the messages on the way, and how.
 #[derive(Clone, Copy)]
@@ -99,7 +99,7 @@ fn note<W: Write>(
     unmet: &mut Vec<(u32, Fault)>,
     told: &mut Told,
     out: &mut W,
-) -> Result<(), CheckFault>
+) -> Result<(), WriteFault>
     requires rising { IsRising filled.now }
     requires clock { now_of coming.now.bus < 2 ^ 60 }
     requires start { coming.now.talk.start ≡ talk_start coming.now.bus coming.now.gap }
@@ -135,7 +135,7 @@ fn close<W: Write>(
     overruns: &mut Vec<Overrun>,
     machine: &Machine,
     out: &mut W,
-) -> Result<(), CheckFault>
+) -> Result<(), WriteFault>
     ensures { OnOk result (overruns.new.items ≡ overruns.old.items ++ overruns_at machine.now) }
 {
     let mut text = String::new(alloc);
@@ -152,7 +152,7 @@ pub fn try_job<W: Write>(
     job: &Job,
     bits: Bits,
     out: &mut W,
-) -> Result<Findings, CheckFault>
+) -> Result<Findings, WriteFault>
     ensures made { IfOk result (λ f. f.made ≡ spec.made job.now) }
     ensures unmet { IfOk result (λ f. f.unmet.items ≡ spec.unmet job.now) }
     ensures room { IfOk result (λ f. f.room ≡ most_items job.now) }

@@ -1,11 +1,11 @@
 //! A recording that was judged, and the complete file of it.
-ghost use Rattle.std.specs.Prelude.{◌≡◌, ◌≤◌, true, option_map, Ok, OnOk, IfOk, IfErr, MatchResult, None, Some};
-ghost use Rattle.ch11_reader.specs.Recording.{packets_in};
-ghost use Rattle.ch11_reader.specs.Skipping.{packets_read, skips_in};
 ghost use Rattle.bench_complete.specs.Complete.{Completes, low_by, plan_for, times_between};
 ghost use Rattle.bench_complete.specs.Judging.{AllReadAt, Fails, IsCompleted, Plans, Refuses, StopsWriting};
 ghost use Rattle.bench_complete.specs.Judging.{is_setup};
 ghost use Rattle.bench_complete.specs.Judging.{misuse};
+ghost use Rattle.ch11_reader.specs.Recording.{packets_in};
+ghost use Rattle.ch11_reader.specs.Skipping.{packets_read, skips_in};
+ghost use Rattle.std.specs.Prelude.{◌≡◌, ◌≤◌, true, option_map, Ok, OnOk, IfOk, IfErr, MatchResult, None, Some};
 
 use crate::additions::Additions;
 use crate::extent::{Extent, extent_of};
@@ -32,11 +32,11 @@ pub struct Completion<'a> {
 }
 
 impl<'a> Model for Completion<'a> {
-    ghost use Rattle.std.specs.Prelude.{◌++◌, option_map};
-    ghost use Rattle.bench_complete.specs.Pieces.{kept_packets};
-    ghost use Rattle.bench_complete.specs.TimePackets.{times_in};
     ghost use Rattle.bench_complete.specs.Complete.{Plan};
     ghost use Rattle.bench_complete.specs.Judging.{IsPlanned};
+    ghost use Rattle.bench_complete.specs.Pieces.{kept_packets};
+    ghost use Rattle.bench_complete.specs.TimePackets.{times_in};
+    ghost use Rattle.std.specs.Prelude.{◌++◌, option_map};
 
     ghost Value = { Plan };
 

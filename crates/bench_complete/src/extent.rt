@@ -1,7 +1,7 @@
 //! From when to when a recording lasts.
-ghost use Rattle.std.specs.Prelude.{◌≡◌, ℕ, ◌+◌, ◌-◌, ◌/◌, ◌<◌, ◌^◌, List};
-ghost use Rattle.bench_complete.specs.Pieces.{kept_entries};
 ghost use Rattle.bench_complete.specs.Complete.{widened, extent_of};
+ghost use Rattle.bench_complete.specs.Pieces.{kept_entries};
+ghost use Rattle.std.specs.Prelude.{◌≡◌, ℕ, ◌+◌, ◌-◌, ◌/◌, ◌<◌, ◌^◌, List};
 
 use crate::times::SECOND;
 use ch11_header::kinds::RECORDING_INDEX;

@@ -1,6 +1,6 @@
 //! Why a recording was not completed.
-ghost use Rattle.std.specs.Prelude.{◌≡◌};
 ghost use Rattle.bench_complete.specs.declared.fault.CompleteFault.TheVariants.{Device, Memory};
+ghost use Rattle.std.specs.Prelude.{◌≡◌};
 
 use ch11_reader::Refusal;
 use std::alloc::{AllocError, AllocFailed};

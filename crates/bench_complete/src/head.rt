@@ -1,10 +1,10 @@
 //! The next packet of a channel.
-ghost use Rattle.std.specs.Prelude.{◌≡◌, ◌==◌};
-ghost use Rattle.std.proofs.Common.{rules};
-ghost use Rattle.std.specs.Cmp.{partial_order_from_own_ties};
-ghost use Rattle.std.specs.Cmp.Rules.{comparing};
-ghost use Rattle.std.specs.Ordering.{nat_cmp, on, flip_args, then_cmp, eq_of_both, as_partial_cmp};
 ghost use Rattle.bench_complete.specs.Merging.{turn};
+ghost use Rattle.std.proofs.Common.{rules};
+ghost use Rattle.std.specs.Cmp.Rules.{comparing};
+ghost use Rattle.std.specs.Cmp.{partial_order_from_own_ties};
+ghost use Rattle.std.specs.Ordering.{nat_cmp, on, flip_args, then_cmp, eq_of_both, as_partial_cmp};
+ghost use Rattle.std.specs.Prelude.{◌≡◌, ◌==◌};
 
 use ch11_header::kinds::{SETUP_RECORD, TIME_DATA};
 use std::cmp::Ordering;

@@ -1,7 +1,7 @@
 //! Usage faults.
-ghost use Rattle.std.specs.Prelude.{◌≡◌, ◌==◌, ◌&&◌, MatchResult, None, Some, option_map};
-ghost use Rattle.std.specs.List.{list_any};
 ghost use Rattle.bench_complete.specs.Judging.{is_setup, is_too_long, misuse_by, misuse_of};
+ghost use Rattle.std.specs.List.{list_any};
+ghost use Rattle.std.specs.Prelude.{◌≡◌, ◌==◌, ◌&&◌, MatchResult, None, Some, option_map};
 
 use crate::additions::{Additions, MOST_SETUP};
 use crate::extent::Extent;

@@ -1,10 +1,10 @@
 //! The packets that are merged, channel by channel.
-ghost use Rattle.std.specs.Prelude.{◌≡◌, ◌<◌, ◌≤◌, List, [], ◌∷◌, length, IfOk, IfErr, OnOk, MatchOption};
+ghost use Rattle.bench_complete.specs.Lanes as spec;
+ghost use Rattle.bench_complete.specs.Merging.{of_channel};
+ghost use Rattle.bench_complete.specs.Pieces.{Piece, kept_entries};
 ghost use Rattle.std.specs.BinaryHeap.{IsHeap, KeepsHeap, heap_items};
 ghost use Rattle.std.specs.Io.KnownBytes.{Appends};
-ghost use Rattle.bench_complete.specs.Pieces.{Piece, kept_entries};
-ghost use Rattle.bench_complete.specs.Merging.{of_channel};
-ghost use Rattle.bench_complete.specs.Lanes as spec;
+ghost use Rattle.std.specs.Prelude.{◌≡◌, ◌<◌, ◌≤◌, List, [], ◌∷◌, length, IfOk, IfErr, OnOk, MatchOption};
 
 use crate::fault::CompleteFault;
 use crate::head::{Head, Source, turn};

@@ -1,7 +1,7 @@
 //! For each packet of a recording the next one of its channel.
-ghost use Rattle.std.specs.Prelude.{◌≡◌, ◌<◌, ◌≤◌, length, vec_len, slice_index, slice_set, if◌then◌else◌, IfOk};
-ghost use Rattle.bench_complete.specs.Pieces.{goes_over};
 ghost use Rattle.bench_complete.specs.Lanes.{AreLinked};
+ghost use Rattle.bench_complete.specs.Pieces.{goes_over};
+ghost use Rattle.std.specs.Prelude.{◌≡◌, ◌<◌, ◌≤◌, length, vec_len, slice_index, slice_set, if◌then◌else◌, IfOk};
 
 use ch11_header::kinds::RECORDING_INDEX;
 use ch11_reader::Packet;

@@ -1,9 +1,9 @@
 //! The merge of all channels.
-ghost use Rattle.std.specs.Prelude.{OnOk, IfErr};
-ghost use Rattle.std.specs.BinaryHeap.{IsHeap, heap_items};
-ghost use Rattle.bench_complete.specs.Merging.{of_channel};
 ghost use Rattle.bench_complete.specs.Judging.{StopsWriting};
 ghost use Rattle.bench_complete.specs.Lanes.{AreHeads, AreInFile, AreLinked, IsSmall, Merges, head_cmp, parts_of};
+ghost use Rattle.bench_complete.specs.Merging.{of_channel};
+ghost use Rattle.std.specs.BinaryHeap.{IsHeap, heap_items};
+ghost use Rattle.std.specs.Prelude.{OnOk, IfErr};
 
 use crate::fault::CompleteFault;
 use crate::head::Head;

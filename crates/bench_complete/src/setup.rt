@@ -1,10 +1,10 @@
 //! The setup record in front of a file (IRIG 106-17 Chapter 11, computer generated data packets, Format 1).
-ghost use Rattle.std.specs.Prelude.{◌≡◌, ◌<◌, ◌≤◌, ◌^◌, length, option_map, true, OnOk, IfErr};
-ghost use Rattle.std.specs.Io.KnownBytes.{Appends};
-ghost use Rattle.bench_complete.specs.Pieces.{bytes_of};
 ghost use Rattle.bench_complete.specs.Complete.{front_of};
 ghost use Rattle.bench_complete.specs.Judging.{is_setup};
+ghost use Rattle.bench_complete.specs.Pieces.{bytes_of};
 ghost use Rattle.bench_complete.specs.SetupRecord.{filler_for, setup_header, setup_piece};
+ghost use Rattle.std.specs.Io.KnownBytes.{Appends};
+ghost use Rattle.std.specs.Prelude.{◌≡◌, ◌<◌, ◌≤◌, ◌^◌, length, option_map, true, OnOk, IfErr};
 
 use crate::fault::CompleteFault;
 use ch11_header::kinds::SETUP_RECORD;

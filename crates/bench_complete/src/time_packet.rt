@@ -1,8 +1,8 @@
 //! A time packet (IRIG 106-17 Chapter 11, time data packets, Format 1).
-ghost use Rattle.std.specs.Prelude.{◌≡◌, ◌<◌, ◌≤◌, OnOk, IfErr};
-ghost use Rattle.std.specs.Io.KnownBytes.{Appends};
-ghost use Rattle.bench_complete.specs.TimePackets.{time_header, time_piece};
 ghost use Rattle.bench_complete.specs.Lanes.{IsSmall};
+ghost use Rattle.bench_complete.specs.TimePackets.{time_header, time_piece};
+ghost use Rattle.std.specs.Io.KnownBytes.{Appends};
+ghost use Rattle.std.specs.Prelude.{◌≡◌, ◌<◌, ◌≤◌, OnOk, IfErr};
 
 use crate::fault::CompleteFault;
 use crate::times::{SECOND, Times};

@@ -1,10 +1,10 @@
 //! UTC times as texts.
-ghost use Rattle.std.specs.Prelude.{◌≡◌, ◌/◌, ◌<◌, ◌≤◌, ℕ, pos, length, Some, IfSome, option_map};
-ghost use Rattle.std.specs.Str.{bytes_eq};
-ghost use Rattle.jiff_core.specs.Date.{epoch_day};
 ghost use Rattle.bench_clock.specs.Calendar.{day_numbered};
 ghost use Rattle.bench_clock.specs.TimeText.{digit};
 ghost use Rattle.bench_complete.specs.UtcText.{second_text};
+ghost use Rattle.jiff_core.specs.Date.{epoch_day};
+ghost use Rattle.std.specs.Prelude.{◌≡◌, ◌/◌, ◌<◌, ◌≤◌, ℕ, pos, length, Some, IfSome, option_map};
+ghost use Rattle.std.specs.Str.{bytes_eq};
 
 use crate::additions::UtcSecond;
 use bench_clock::UtcTime;

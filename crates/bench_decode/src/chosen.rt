@@ -1,15 +1,15 @@
 //! The chosen messages of a recording, in the order of their stamps.
-ghost use Rattle.std.specs.Prelude.{◌≡◌, ◌+◌, ◌<◌, ◌^◌, ◌++◌, ◌∷◌, List, length, map, reverse, IfOk, OnOk};
+ghost use Rattle.bench_decode.specs.ByTime.{Heard, AreByTime, AreChosen, chosen, told_of};
 ghost use Rattle.ch11_f1.specs.BodyReading.{Message};
 ghost use Rattle.ch11_f1.specs.Views.{message_of};
 ghost use Rattle.ch11_reader.specs.Contents.{heard_in};
-ghost use Rattle.bench_decode.specs.ByTime.{Heard, AreByTime, AreChosen, chosen, told_of};
+ghost use Rattle.std.specs.Prelude.{◌≡◌, ◌+◌, ◌<◌, ◌^◌, ◌++◌, ◌∷◌, List, length, map, reverse, IfOk, OnOk};
 
 use crate::messages::Place;
 use crate::numbers::Numbers;
 use bench_select::Selection;
 use ch11_f1::{Messages, Seen};
-use ch11_reader::Index;
+use ch11_reader::{Index, Packet};
 use std::alloc::{AllocError, Global};
 
 /// A chosen message of a recording.
@@ -55,13 +55,7 @@ fn chosen_messages<'a>(
     };
     let packets = index.packets();
     'packets: for place in 0..packets.len() {
-        let packet = &packets[place];
-        choosing.choose_all(
-            selection,
-            packet.before,
-            packet.header.channel,
-            index.messages_in(place),
-        )?;
+        choosing.choose_all(selection, &packets[place], index.messages_in(place))?;
     }
     Ok(choosing.found)
 }
@@ -78,31 +72,27 @@ impl<'a> Choosing<'a> {
         ensures { (history : List Heard) → AreChosen selection.now history self.old → number ≡ length history + 1
             → OnOk result (AreChosen selection.now ((channel, message_of seen.now) ∷ history) self.new) }
     {
-        let place = Place {
-            number,
-            channel,
-            in_channel: self.numbers.next(channel),
-        };
+        let place = self.numbers.place(number, channel);
         if selection.selects(number, channel, seen) {
             self.found.push(Chosen { place, seen: *seen })?;
         }
         Ok(())
     }
 
-    /// The messages of a packet of this channel, behind so many messages of the file.
+    /// The messages of a packet.
     fn choose_all(
         &mut self,
         selection: &Selection,
-        before: u64,
-        channel: u16,
+        packet: &Packet,
         messages: Messages<'a>,
     ) -> Result<(), AllocError>
-        requires { before + length messages < 2 ^ 64 }
-        ensures { (history : List Heard) → AreChosen selection.now history self.old → before ≡ length history
-            → OnOk result (AreChosen selection.now
-            (reverse (map (λ (m : Message). (channel, m)) messages.entry) ++ history) self.new) }
+        requires { packet.now.before + length messages < 2 ^ 64 }
+        ensures { (history : List Heard) → AreChosen selection.now history self.old
+            → packet.now.before ≡ length history → OnOk result (AreChosen selection.now
+            (reverse (map (λ (m : Message). (packet.now.header.channel, m)) messages.entry) ++ history) self.new) }
     {
-        let mut number = before;
+        let channel = packet.header.channel;
+        let mut number = packet.before;
         let mut rest = messages;
         'messages: while let Some(seen) = rest.next() {
             number += 1;

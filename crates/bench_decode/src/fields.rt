@@ -29,6 +29,13 @@ fn put_mode<const N: usize>(
     line.put(mode_name(transmit, code));
 }
 
+/// Puts a word of a script with its numbers.
+#[inline]
+fn put_word<const N: usize>(line: &mut Line, word: &[u8], numbers: [u8; N]) {
+    line.put(word);
+    put_numbers(line, numbers);
+}
+
 /// Puts a form in the words of a script, with the count of data words of its command.
 pub(crate) fn put_form(line: &mut Line, form: Form) {
     match form {
@@ -36,18 +43,12 @@ pub(crate) fn put_form(line: &mut Line, form: Form) {
             address,
             subaddress,
             count,
-        } => {
-            line.put(b"rx");
-            put_numbers(line, [address, subaddress, count]);
-        }
+        } => put_word(line, b"rx", [address, subaddress, count]),
         Form::Transmit {
             address,
             subaddress,
             count,
-        } => {
-            line.put(b"tx");
-            put_numbers(line, [address, subaddress, count]);
-        }
+        } => put_word(line, b"tx", [address, subaddress, count]),
         Form::Mode {
             address,
             subaddress,
@@ -58,10 +59,7 @@ pub(crate) fn put_form(line: &mut Line, form: Form) {
             put_mode(line, subaddress, [address, code], transmit, code);
         }
         Form::Between { .. } | Form::BetweenAll { .. } => put_transfer(line, form),
-        Form::ReceiveAll { subaddress, count } => {
-            line.put(b"brx");
-            put_numbers(line, [subaddress, count]);
-        }
+        Form::ReceiveAll { subaddress, count } => put_word(line, b"brx", [subaddress, count]),
         Form::ModeAll {
             subaddress,
             transmit,
@@ -83,31 +81,27 @@ fn put_transfer(line: &mut Line, form: Form) {
             receiver,
             receiver_subaddress,
             count,
-        } => {
-            line.put(b"rt");
-            put_numbers(
-                line,
-                [
-                    sender,
-                    sender_subaddress,
-                    receiver,
-                    receiver_subaddress,
-                    count,
-                ],
-            );
-        }
+        } => put_word(
+            line,
+            b"rt",
+            [
+                sender,
+                sender_subaddress,
+                receiver,
+                receiver_subaddress,
+                count,
+            ],
+        ),
         Form::BetweenAll {
             sender,
             sender_subaddress,
             receiver_subaddress,
             count,
-        } => {
-            line.put(b"brt");
-            put_numbers(
-                line,
-                [sender, sender_subaddress, receiver_subaddress, count],
-            );
-        }
+        } => put_word(
+            line,
+            b"brt",
+            [sender, sender_subaddress, receiver_subaddress, count],
+        ),
         _ => {}
     }
 }

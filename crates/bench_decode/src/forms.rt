@@ -1,7 +1,7 @@
 //! The form of a message.
-ghost use Rattle.std.specs.Prelude.{◌≡◌};
-ghost use Rattle.ch11_f1.specs.Views.{message_of};
 ghost use Rattle.bench_decode.specs.Forms as spec;
+ghost use Rattle.ch11_f1.specs.Views.{message_of};
+ghost use Rattle.std.specs.Prelude.{◌≡◌};
 
 use ch11_f1::Seen;
 use ch11_layout::{is_set, word_at};

@@ -1,7 +1,8 @@
 //! The numbers of messages in their channels.
-ghost use Rattle.std.specs.Prelude.{◌≡◌, ◌+◌, ◌∷◌, [], ℕ, List, IfOk};
 ghost use Rattle.bench_decode.specs.Numbering.{count_in, AreCounts, ArePassed};
+ghost use Rattle.std.specs.Prelude.{◌≡◌, ◌+◌, ◌∷◌, [], ℕ, List, IfOk};
 
+use crate::messages::Place;
 use std::alloc::{AllocError, Global};
 
 /// How many channels there can be, 0 among them.
@@ -36,5 +37,18 @@ impl Numbers {
         let number = self.counts[place].saturating_add(1);
         self.counts[place] = number;
         number
+    }
+
+    /// Where the next message of a channel stands, which is of this number of the file and is passed with it.
+    pub fn place(&mut self, number: u64, channel: u16) -> Place
+        ensures same { (result.number ≡ number) × (result.channel ≡ channel) }
+        ensures number { (p : List ℕ) → ArePassed p self.old.counts.items → result.in_channel ≡ count_in channel p + 1 }
+        ensures new { (p : List ℕ) → ArePassed p self.old.counts.items → AreCounts (channel ∷ p) self.new.counts.items }
+    {
+        Place {
+            number,
+            channel,
+            in_channel: self.next(channel),
+        }
     }
 }

@@ -24,14 +24,9 @@ pub fn decode_from<R: Advance + Drop, W: Write>(
     let mut printing = Printing::begin(alloc, output.shown)?;
     'packets: for _made in 0..u64::MAX {
         match packets.next() {
-            Ok(Some(packet)) => put_messages(
-                &mut printing,
-                out,
-                output,
-                packet.before,
-                packet.header.channel,
-                packets.messages(),
-            )?,
+            Ok(Some(packet)) => {
+                put_messages(&mut printing, out, output, &packet, packets.messages())?
+            }
             Ok(None) => {
                 printing.line.finish(out)?;
                 return Ok(printing.count);
@@ -53,14 +48,9 @@ fn decode_sound_from<R: Read + Drop, W: Write>(
     let mut printing = Printing::begin(alloc, output.shown)?;
     'stretches: for _made in 0..u64::MAX {
         match stretches.next() {
-            Ok(Some(Stretch::Sound(packet))) => put_messages(
-                &mut printing,
-                out,
-                output,
-                packet.before,
-                packet.header.channel,
-                stretches.messages(),
-            )?,
+            Ok(Some(Stretch::Sound(packet))) => {
+                put_messages(&mut printing, out, output, &packet, stretches.messages())?
+            }
             Ok(Some(Stretch::Skipped(skip))) => put_skip(alloc, &mut printing.line, out, &skip)?,
             Ok(None) => {
                 printing.line.finish(out)?;

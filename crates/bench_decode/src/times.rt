@@ -1,6 +1,6 @@
 //! Times.
-ghost use Rattle.std.specs.Prelude.{◌≡◌, ◌<◌};
 ghost use Rattle.bench_decode.specs.Times.{seconds_of, ticks_of};
+ghost use Rattle.std.specs.Prelude.{◌≡◌, ◌<◌};
 
 /// How many ticks of 0.1 µs a second has.
 pub(crate) const SECOND: u64 = 10_000_000;

@@ -7,7 +7,7 @@ use crate::numbers::Numbers;
 use bench_dump::DumpFault;
 use bench_select::Selection;
 use ch11_f1::{Messages, Seen};
-use ch11_reader::{Index, ReadError, Skip};
+use ch11_reader::{Index, Packet, ReadError, Skip};
 use std::alloc::{AllocError, Global};
 use std::io;
 use std::io::Write;
@@ -91,8 +91,7 @@ fn decode_index<W: Write>(
         let messages = messages_at(index, place);
         let packet = &packets[place];
         rest = put_skips(alloc, &mut printing.line, out, rest, packet.offset)?;
-        let (before, channel) = (packet.before, packet.header.channel);
-        put_messages(&mut printing, out, output, before, channel, messages)?;
+        put_messages(&mut printing, out, output, packet, messages)?;
     }
     put_skips(alloc, &mut printing.line, out, rest, usize::MAX)?;
     printing.line.finish(out)?;
@@ -158,25 +157,21 @@ pub(crate) fn put_skip<W: Write>(
     Ok(())
 }
 
-/// Prints the selected ones of a packet's messages, behind so many messages of the file.
+/// Prints the selected ones of a packet's messages.
 pub(crate) fn put_messages<W: Write>(
     printing: &mut Printing,
     out: &mut W,
     output: &Output,
-    before: u64,
-    channel: u16,
+    packet: &Packet,
     messages: Messages<'_>,
 ) -> io::Result<()> {
     let all = output.selection == Selection::all();
-    let mut number = before;
+    let channel = packet.header.channel;
+    let mut number = packet.before;
     let mut rest = messages;
     'messages: while let Some(seen) = rest.next() {
         number = number.saturating_add(1);
-        let place = Place {
-            number,
-            channel,
-            in_channel: printing.numbers.next(channel),
-        };
+        let place = printing.numbers.place(number, channel);
         if all || output.selection.selects(number, channel, &seen) {
             put_message(printing, out, output.decoded, &place, &seen)?;
         }

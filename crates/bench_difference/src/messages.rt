@@ -1,5 +1,6 @@
 //! A message of a channel: as its job makes it, and as the recording has it.
 
+use crate::channels::channels_of_each;
 use bench_report::{ChannelReport, Report};
 use ch11_f1::Seen;
 use ch11_reader::Index;
@@ -77,8 +78,9 @@ fn put_recorded(out: &mut String, seen: &Seen<'_>) -> Result<(), AllocError> {
     out.push('\n')
 }
 
-/// The lines with a message of a channel as its job makes it, and as the recording has it.
-pub(crate) fn messages_at(
+/// The lines that say what was expected at the first difference, and what the recording has: of a message of a
+/// channel, counted from 1; of the channels themselves, where the number is 0.
+pub fn difference(
     alloc: Global,
     jobs: &[Job],
     report: &Report,
@@ -86,6 +88,9 @@ pub(crate) fn messages_at(
     channel: u16,
     number: u32,
 ) -> Result<String, AllocError> {
+    if number == 0 {
+        return channels_of_each(alloc, jobs, report, recording);
+    }
     let mut out = String::new(alloc);
     for (job, part) in jobs.iter().zip(report.channels()) {
         if job.channel() == channel {

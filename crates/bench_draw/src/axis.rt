@@ -1,6 +1,6 @@
 //! The axis: its unit, its steps and what stands there.
-ghost use Rattle.std.specs.Prelude.{◌≡◌, ◌<◌, ◌≤◌, ◌*◌};
 ghost use Rattle.bench_draw.specs.Axis.{IsRound, unit_of};
+ghost use Rattle.std.specs.Prelude.{◌≡◌, ◌<◌, ◌≤◌, ◌*◌};
 
 use crate::picture::Picture;
 use crate::scale::{LEFT, Scale};

@@ -1,26 +1,24 @@
 //! Messages as bars.
 
+use crate::canvas::Canvas;
 use crate::labels::direction;
-use crate::picture::Picture;
 use crate::rows::{BAR, Lane};
 use crate::scale::{LEFT, Run, Scale, WORD, end_of, runs_of};
-use bench_decode::{Line, Place, put_details};
+use bench_decode::{Place, put_details};
 use ch11_f1::Seen;
 use ch11_layout::{Role, is_set, word_at};
 use mil_word::Command;
-use std::alloc::{AllocError, Global};
+use std::alloc::AllocError;
 use std::str;
 
-/// How many tenths of a pixel a bar takes at least that shows an address, or whom a command calls with its subaddress;
-/// the same of a command to all terminals; and for each data word.
-const ADDRESS_ROOM: u64 = 140;
+/// How many tenths of a pixel a bar takes at least that shows an address, and one that shows whom a command calls with
+/// its subaddress.
+const ROOM: (u64, u64) = (140, 420);
 
-const SUBADDRESS_ROOM: u64 = 420;
+/// The same of a command to all terminals.
+const BROADCAST_ROOM: (u64, u64) = (540, 820);
 
-const BROADCAST_ROOM: u64 = 540;
-
-const BROADCAST_SUBADDRESS_ROOM: u64 = 820;
-
+/// How many tenths of a pixel a bar takes for each data word that it shows.
 const DATA_ROOM: u64 = 280;
 
 /// How many tenths of a pixel a bar takes at least that has an edge.
@@ -37,41 +35,30 @@ fn color(role: Role) -> &'static str {
 /// Draws a message: a bar for the words of each role with what there is room for, a mark where there is an error, and
 /// where the mouse rests on it the message as people read it.
 pub(crate) fn draw_bar(
-    alloc: Global,
-    picture: &mut Picture,
-    scale: &Scale,
+    canvas: &mut Canvas,
     lane: &Lane,
-    details: &mut Line,
     place: &Place,
     seen: &Seen<'_>,
 ) -> Result<(), AllocError> {
-    let mut text = String::new(alloc);
+    let scale = &canvas.scale;
+    let mut text = String::new(canvas.alloc);
     text.push_str("<g><title>")?;
-    put_details(details, place, seen);
-    text.push_str(str::from_utf8(details.text()).unwrap_or(""))?;
+    put_details(&mut canvas.details, place, seen);
+    text.push_str(str::from_utf8(canvas.details.text()).unwrap_or(""))?;
     text.push_str("</title>")?;
-    put_runs(&mut text, scale, lane, seen)?;
-    put_error(&mut text, scale, lane, seen)?;
-    text.push_str("</g>\n")?;
-    picture.put(text.as_str())
-}
-
-/// Puts the words of a message, those of one role behind one another as a bar.
-fn put_runs(
-    text: &mut String,
-    scale: &Scale,
-    lane: &Lane,
-    seen: &Seen<'_>,
-) -> Result<(), AllocError> {
     let mut before = 0usize;
     for run in runs_of(seen) {
         if run.words > 0 {
-            put_run(text, scale, lane, &run)?;
-            put_words(text, scale, lane, &run, seen, before)?;
+            put_run(&mut text, scale, lane, &run)?;
+            put_words(&mut text, scale, lane, &run, seen, before)?;
         }
         before = before.saturating_add(run.words as usize);
     }
-    Ok(())
+    if is_set(seen.block, 12) {
+        put_error(&mut text, scale, lane, seen)?;
+    }
+    text.push_str("</g>\n")?;
+    canvas.picture.put(text.as_str())
 }
 
 /// Puts the bar of a run.
@@ -108,7 +95,7 @@ fn put_words(
         Role::Command => put_command(text, scale, base, run, Command::of(first)),
         Role::Status => {
             let (middle, wide) = middle_of(scale, run.begin, run.end());
-            if wide >= ADDRESS_ROOM {
+            if wide >= ROOM.0 {
                 let address = first / 2048;
                 write!(
                     text,
@@ -139,11 +126,7 @@ fn put_command(
 ) -> Result<(), AllocError> {
     let (middle, wide) = middle_of(scale, run.begin, run.end());
     let all = command.is_broadcast();
-    let (least, ample) = if all {
-        (BROADCAST_ROOM, BROADCAST_SUBADDRESS_ROOM)
-    } else {
-        (ADDRESS_ROOM, SUBADDRESS_ROOM)
-    };
+    let (least, ample) = if all { BROADCAST_ROOM } else { ROOM };
     if wide < least {
         return Ok(());
     }
@@ -188,16 +171,13 @@ fn put_data(
     Ok(())
 }
 
-/// Puts a mark over a message that has an error, and under it the kinds of its errors where there is room.
+/// Puts a mark over a message, which has an error, and under it the kinds of its errors where there is room.
 fn put_error(
     text: &mut String,
     scale: &Scale,
     lane: &Lane,
     seen: &Seen<'_>,
 ) -> Result<(), AllocError> {
-    if !is_set(seen.block, 12) {
-        return Ok(());
-    }
     let left = scale.tenths(seen.stamp);
     let width = scale.tenths(end_of(seen)).saturating_sub(left);
     let (x, wide) = (LEFT.saturating_add(left / 10), (width / 10).max(2));

@@ -1,10 +1,11 @@
 //! A whole picture.
-ghost use Rattle.std.specs.Prelude.{◌≡◌, ◌≤◌, ℕ, List, Some, Ok, vec_len, IfOk};
+ghost use Rattle.bench_draw.specs.Chosen.{capped, chosen};
 ghost use Rattle.ch11_reader.specs.Indexed.{found_in};
 ghost use Rattle.ch11_reader.specs.Recording.{packets_in};
-ghost use Rattle.bench_draw.specs.Chosen.{capped, chosen};
+ghost use Rattle.std.specs.Prelude.{◌≡◌, ◌≤◌, ℕ, List, Some, Ok, vec_len, IfOk};
 
 use crate::axis::draw_axis;
+use crate::canvas::Canvas;
 use crate::drawn::{Anew, Drawn};
 use crate::extent::Extent;
 use crate::fault::DrawFault;
@@ -97,44 +98,30 @@ fn draw_extent<D: Drawn>(
     }
     let day = clock.at(extent.begin);
     draw_axis(alloc, &mut picture, &scale, day, low)?;
-    let channels = extent.channels.as_slice();
-    draw_channels(
+    let mut canvas = Canvas {
         alloc,
-        &mut picture,
-        recording,
-        selection,
-        &scale,
-        &rows,
-        channels,
-    )?;
-    Ok(picture.end()?)
+        selection: *selection,
+        scale,
+        picture,
+        details: Line::new(alloc, Shown::Plain)?,
+    };
+    draw_channels(&mut canvas, recording, &rows, extent.channels.as_slice())?;
+    Ok(canvas.picture.end()?)
 }
 
 /// Draws the channels.
 fn draw_channels<D: Drawn>(
-    alloc: Global,
-    picture: &mut Picture,
+    canvas: &mut Canvas,
     recording: &D,
-    selection: &Selection,
-    scale: &Scale,
     rows: &Rows,
     channels: &[u16],
 ) -> Result<(), DrawFault> {
-    let mut details = Line::new(alloc, Shown::Plain)?;
     for (place, channel) in channels.iter().enumerate() {
         let place = place as u64;
-        draw_names(alloc, picture, rows, place, *channel)?;
-        let mut lanes = Lanes::new(alloc, rows, place)?;
-        recording.draw_channel(
-            alloc,
-            picture,
-            selection,
-            scale,
-            &mut lanes,
-            &mut details,
-            *channel,
-        )?;
-        draw_lanes(alloc, picture, scale, &lanes)?;
+        draw_names(canvas.alloc, &mut canvas.picture, rows, place, *channel)?;
+        let mut lanes = Lanes::new(canvas.alloc, rows, place, *channel)?;
+        recording.draw_channel(canvas, &mut lanes)?;
+        draw_lanes(canvas, &lanes)?;
     }
     Ok(())
 }

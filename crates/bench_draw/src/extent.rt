@@ -1,7 +1,7 @@
 //! What is to be drawn: which channels, which time, and how.
-ghost use Rattle.std.specs.Prelude.{◌≡◌, ◌+◌, ◌<◌, ◌^◌, ℕ, List, Some, length, IfOk, OnOk};
-ghost use Rattle.ch11_stream.specs.Folding.{Finds};
 ghost use Rattle.bench_draw.specs.Chosen.{capped, chosen, chosen_in};
+ghost use Rattle.ch11_stream.specs.Folding.{Finds};
+ghost use Rattle.std.specs.Prelude.{◌≡◌, ◌+◌, ◌<◌, ◌^◌, ℕ, List, Some, length, IfOk, OnOk};
 
 use crate::rows::Rows;
 use crate::scale::{Scale, end_of};

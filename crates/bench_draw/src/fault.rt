@@ -1,7 +1,7 @@
 //! Why a recording was not drawn.
-ghost use Rattle.std.specs.Prelude.{◌≡◌};
 ghost use Rattle.bench_draw.specs.declared.fault.DrawFault.TheVariants.{Recording};
 ghost use Rattle.ch11_stream.specs.declared.fault.StreamFault.TheVariants.{Memory};
+ghost use Rattle.std.specs.Prelude.{◌≡◌};
 
 use ch11_stream::StreamFault;
 use std::alloc::AllocError;

@@ -1,6 +1,6 @@
 //! Labels over the bars: numbers, and who is called.
-ghost use Rattle.std.specs.Prelude.{◌≤◌};
 ghost use Rattle.bench_draw.specs.Labels.{HaveRoom};
+ghost use Rattle.std.specs.Prelude.{◌≤◌};
 
 use crate::picture::Picture;
 use crate::rows::Lane;

@@ -1,14 +1,13 @@
 //! The lanes of a channel.
 
 use crate::bars::draw_bar;
+use crate::canvas::Canvas;
 use crate::extent::is_bar;
 use crate::labels::{Label, Labels};
 use crate::load::Load;
-use crate::picture::Picture;
 use crate::rows::{Lane, Rows};
-use crate::scale::{Scale, end_of};
-use bench_decode::{Form, Line, Place};
-use bench_select::Selection;
+use crate::scale::end_of;
+use bench_decode::{Form, Place};
 use ch11_f1::{Messages, Seen};
 use ch11_layout::is_set;
 use ch11_reader::Packet;
@@ -22,9 +21,11 @@ struct Bus {
     load: Load,
 }
 
-/// A channel on the way into the picture: what lanes show, how many of its messages were passed, and its lines.
+/// A channel on the way into the picture: its number, what lanes show, how many of its messages were passed, and its
+/// lines.
 #[derive(Drop)]
 pub(crate) struct Lanes {
+    pub(crate) channel: u16,
     rows: Rows,
     passed: u64,
     on_a: Bus,
@@ -41,25 +42,26 @@ impl Bus {
     }
 
     /// Draws what is known of a lane once all messages were passed.
-    fn draw(
-        &self,
-        alloc: Global,
-        picture: &mut Picture,
-        scale: &Scale,
-        rows: &Rows,
-    ) -> Result<(), AllocError> {
+    fn draw(&self, canvas: &mut Canvas, rows: &Rows) -> Result<(), AllocError> {
+        let (alloc, picture) = (canvas.alloc, &mut canvas.picture);
         self.labels.draw(alloc, picture, &self.lane, rows.all)?;
         if rows.load {
-            self.load.draw(alloc, picture, scale, &self.lane)?;
+            self.load.draw(alloc, picture, &canvas.scale, &self.lane)?;
         }
         Ok(())
     }
 }
 
 impl Lanes {
-    /// The lanes of the channel at a place, with no message yet.
-    pub(crate) fn new(alloc: Global, rows: &Rows, place: u64) -> Result<Lanes, AllocError> {
+    /// The lanes of a channel that stands at a place, with no message yet.
+    pub(crate) fn new(
+        alloc: Global,
+        rows: &Rows,
+        place: u64,
+        channel: u16,
+    ) -> Result<Lanes, AllocError> {
         Ok(Lanes {
+            channel,
             rows: *rows,
             passed: 0,
             on_a: Bus::new(alloc, rows.lane(place, false))?,
@@ -69,24 +71,15 @@ impl Lanes {
 }
 
 /// Draws the labels and the load of both lines.
-pub(crate) fn draw_lanes(
-    alloc: Global,
-    picture: &mut Picture,
-    scale: &Scale,
-    lanes: &Lanes,
-) -> Result<(), AllocError> {
-    lanes.on_a.draw(alloc, picture, scale, &lanes.rows)?;
-    lanes.on_b.draw(alloc, picture, scale, &lanes.rows)
+pub(crate) fn draw_lanes(canvas: &mut Canvas, lanes: &Lanes) -> Result<(), AllocError> {
+    lanes.on_a.draw(canvas, &lanes.rows)?;
+    lanes.on_b.draw(canvas, &lanes.rows)
 }
 
 /// Draws the selected ones of a packet's messages as bars, or adds them to the load of their lane.
 pub(crate) fn draw_messages(
-    alloc: Global,
-    picture: &mut Picture,
-    scale: &Scale,
+    canvas: &mut Canvas,
     lanes: &mut Lanes,
-    details: &mut Line,
-    selection: &Selection,
     packet: &Packet,
     messages: Messages<'_>,
 ) -> Result<(), AllocError> {
@@ -96,13 +89,13 @@ pub(crate) fn draw_messages(
     'messages: while let Some(seen) = rest.next() {
         number = number.saturating_add(1);
         lanes.passed = lanes.passed.saturating_add(1);
-        if selection.selects(number, channel, &seen) {
+        if canvas.selection.selects(number, channel, &seen) {
             let place = Place {
                 number,
                 channel,
                 in_channel: lanes.passed,
             };
-            draw_message(alloc, picture, scale, lanes, details, &place, &seen)?;
+            draw_message(canvas, lanes, &place, &seen)?;
         }
     }
     Ok(())
@@ -110,11 +103,8 @@ pub(crate) fn draw_messages(
 
 /// Draws a message on its line.
 fn draw_message(
-    alloc: Global,
-    picture: &mut Picture,
-    scale: &Scale,
+    canvas: &mut Canvas,
     lanes: &mut Lanes,
-    details: &mut Line,
     place: &Place,
     seen: &Seen<'_>,
 ) -> Result<(), AllocError> {
@@ -126,18 +116,18 @@ fn draw_message(
     };
     let end = end_of(seen);
     if rows.load {
-        bus.load.add(scale, seen.stamp, end);
+        bus.load.add(&canvas.scale, seen.stamp, end);
     }
-    if rows.all || is_bar(scale, end.saturating_sub(seen.stamp)) {
+    if rows.all || is_bar(&canvas.scale, end.saturating_sub(seen.stamp)) {
         bus.labels.add(Label {
-            at: scale.tenths(seen.stamp) / 10,
+            at: canvas.scale.tenths(seen.stamp) / 10,
             number: place.number,
             form: Form::of(seen),
         })?;
-        return draw_bar(alloc, picture, scale, &bus.lane, details, place, seen);
+        return draw_bar(canvas, &bus.lane, place, seen);
     }
     if is_set(seen.block, 12) {
-        bus.load.fail(scale, seen.stamp, place.number);
+        bus.load.fail(&canvas.scale, seen.stamp, place.number);
     }
     Ok(())
 }

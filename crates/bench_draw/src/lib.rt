@@ -4,6 +4,7 @@
 
 mod axis;
 mod bars;
+mod canvas;
 mod drawing;
 mod drawn;
 mod extent;

@@ -1,6 +1,6 @@
 //! The explanation of a code.
-ghost use Rattle.std.specs.Prelude.{◌≡◌, map, IfSome};
 ghost use Rattle.std.specs.Char.{to_ascii_lowercase};
+ghost use Rattle.std.specs.Prelude.{◌≡◌, map, IfSome};
 
 use crate::explanation::Explanation;
 use crate::{buses, jobs, recordings, rules, runs, scripts};

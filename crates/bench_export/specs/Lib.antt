@@ -2,6 +2,7 @@ pub mod Between
 pub mod Changes
 pub mod Choosing
 pub mod Frames
+pub mod Heads
 pub mod Moments
 pub mod Rows
 pub mod Stamped

@@ -1,15 +1,16 @@
 //! The changes of the lines of a recording over time.
-ghost use Rattle.std.specs.Prelude.{◌≡◌, ◌+◌, ◌<◌, ◌^◌, ◌++◌, ◌==◌, ◌&&◌, nat_lt, length, OnOk, IfOk};
-ghost use Rattle.ch11_f1.specs.Views.{message_of};
-ghost use Rattle.ch11_layout.specs.Layouts.{layout_of, size_of};
 ghost use Rattle.bench_export.specs.Changes as spec;
 ghost use Rattle.bench_export.specs.Moments as moments;
+ghost use Rattle.ch11_f1.specs.Views.{message_of};
+ghost use Rattle.ch11_layout.specs.Layouts.{layout_of, size_of};
+ghost use Rattle.std.specs.Prelude.{◌≡◌, ◌+◌, ◌<◌, ◌^◌, ◌++◌, ◌==◌, ◌&&◌, nat_lt, length, OnOk, IfOk};
 
 use crate::moments::{WORD, begin_of};
+use crate::place::Place;
 use bench_select::Selection;
 use ch11_f1::{Messages, Seen};
 use ch11_layout::{Layout, Role, is_set, word_at};
-use ch11_reader::Index;
+use ch11_reader::{Index, Packet};
 use mil_word::Command;
 use std::alloc::{AllocError, Global};
 
@@ -37,13 +38,6 @@ pub struct Change {
     pub on_b: bool,
     /// The word that begins; none where the line is idle from here on.
     pub driven: Option<Driven>,
-}
-
-/// Where a message stands.
-#[derive(Clone, Copy)]
-struct Place {
-    number: u64,
-    channel: u16,
 }
 
 /// The terminal of the word at a place.
@@ -121,15 +115,13 @@ fn push_word(
 /// Adds the changes of a message.
 fn push_message(
     changes: &mut Vec<Change>,
-    number: u64,
-    channel: u16,
+    message: Place,
     seen: &Seen<'_>,
 ) -> Result<(), AllocError>
     ensures { OnOk result (changes.new.items
-        ≡ changes.old.items ++ spec.changes_of number channel (message_of seen.now)) }
+        ≡ changes.old.items ++ spec.changes_of message.number message.channel (message_of seen.now)) }
 {
     let layout = Layout::of(seen);
-    let message = Place { number, channel };
     'words: for place in 0..layout.words {
         push_word(changes, message, seen, &layout, place)?;
     }
@@ -141,36 +133,35 @@ fn push_message(
 fn push_selected(
     changes: &mut Vec<Change>,
     selection: &Selection,
-    number: u64,
-    channel: u16,
+    message: Place,
     seen: &Seen<'_>,
 ) -> Result<(), AllocError>
     ensures { OnOk result (changes.new.items
-        ≡ changes.old.items ++ spec.changes_if selection.now number channel (message_of seen.now)) }
+        ≡ changes.old.items ++ spec.changes_if selection.now message.number message.channel (message_of seen.now)) }
 {
-    if !selection.selects(number, channel, seen) {
+    if !selection.selects(message.number, message.channel, seen) {
         return Ok(());
     }
-    push_message(changes, number, channel, seen)
+    push_message(changes, message, seen)
 }
 
-/// Adds the changes of a packet's selected messages, behind so many messages of the file.
+/// Adds the changes of a packet's selected messages.
 pub(crate) fn push_messages(
     changes: &mut Vec<Change>,
     selection: &Selection,
-    before: u64,
-    channel: u16,
+    packet: &Packet,
     messages: Messages<'_>,
 ) -> Result<(), AllocError>
-    requires { before + length messages < 2 ^ 64 }
-    ensures { OnOk result (changes.new.items
-        ≡ changes.old.items ++ spec.changes_among selection.now before channel messages.entry) }
+    requires { packet.now.before + length messages < 2 ^ 64 }
+    ensures { OnOk result (changes.new.items ≡ changes.old.items
+        ++ spec.changes_among selection.now packet.now.before packet.now.header.channel messages.entry) }
 {
-    let mut number = before;
+    let channel = packet.header.channel;
+    let mut number = packet.before;
     let mut rest = messages;
     'messages: while let Some(seen) = rest.next() {
         number += 1;
-        push_selected(changes, selection, number, channel, &seen)?;
+        push_selected(changes, selection, Place { number, channel }, &seen)?;
     }
     Ok(())
 }
@@ -186,14 +177,8 @@ fn changes_in(
     let mut changes = Vec::new(alloc);
     let packets = index.packets();
     'packets: for place in 0..packets.len() {
-        let packet = &packets[place];
-        push_messages(
-            &mut changes,
-            selection,
-            packet.before,
-            packet.header.channel,
-            index.messages_in(place),
-        )?;
+        let messages = index.messages_in(place);
+        push_messages(&mut changes, selection, &packets[place], messages)?;
     }
     Ok(changes)
 }

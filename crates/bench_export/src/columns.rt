@@ -1,8 +1,8 @@
 //! The columns of a message for data frames.
-ghost use Rattle.std.specs.Prelude.{◌≡◌, ◌++◌, OnOk};
+ghost use Rattle.bench_export.specs.Frames as spec;
 ghost use Rattle.ch11_f1.specs.Views.{message_of};
 ghost use Rattle.ch11_layout.specs.Layouts.{layout_of};
-ghost use Rattle.bench_export.specs.Frames as spec;
+ghost use Rattle.std.specs.Prelude.{◌≡◌, ◌++◌, OnOk};
 
 use crate::fields::{form_name, line_name, push_called};
 use crate::flags::{push_error_flags, push_status_flags};

@@ -1,48 +1,10 @@
 //! Why a recording was not exported, or not to its end.
-ghost use Rattle.std.specs.Prelude.{◌≡◌};
-ghost use Rattle.bench_export.specs.declared.fault.ExportFault.TheVariants.{Device, Memory};
 ghost use Rattle.bench_export.specs.declared.fault.ExportFromFault.TheVariants.{Reading, Writing};
+ghost use Rattle.std.specs.Prelude.{◌≡◌};
 
 use ch11_stream::StreamFault;
 use csv::ErrorKind;
-use std::alloc::AllocError;
-use std::io;
-
-/// Why an export failed.
-#[derive(Clone, Copy, Debug, PartialEq, Eq)]
-pub enum ExportFault {
-    /// Memory was refused.
-    Memory,
-
-    /// The writer failed, which may have got some of the text.
-    Device,
-}
-
-impl ExportFault {
-    /// What an error of a writer of comma-separated values is.
-    pub(crate) fn of(error: &csv::Error) -> ExportFault {
-        match error.kind() {
-            ErrorKind::OutOfMemory => ExportFault::Memory,
-            _ => ExportFault::Device,
-        }
-    }
-}
-
-impl From<AllocError> for ExportFault {
-    ghost from_gives = { λ _ e. e ≡ Memory };
-
-    fn from(_e: AllocError) -> ExportFault {
-        ExportFault::Memory
-    }
-}
-
-impl From<io::Error> for ExportFault {
-    ghost from_gives = { λ _ e. e ≡ Device };
-
-    fn from(_e: io::Error) -> ExportFault {
-        ExportFault::Device
-    }
-}
+use text_lines::WriteFault;
 
 /// Why an export of what a reader has left failed.
 #[derive(Clone, Copy, Debug, PartialEq, Eq)]
@@ -53,7 +15,7 @@ pub enum ExportFromFault {
     Reading(StreamFault),
 
     /// What was read could not be written: memory for it was refused, or the writer failed.
-    Writing(ExportFault),
+    Writing(WriteFault),
 }
 
 impl From<StreamFault> for ExportFromFault {
@@ -64,10 +26,18 @@ impl From<StreamFault> for ExportFromFault {
     }
 }
 
-impl From<ExportFault> for ExportFromFault {
+impl From<WriteFault> for ExportFromFault {
     ghost from_gives = { λ cause e. e ≡ Writing cause };
 
-    fn from(cause: ExportFault) -> ExportFromFault {
+    fn from(cause: WriteFault) -> ExportFromFault {
         ExportFromFault::Writing(cause)
+    }
+}
+
+/// What an error of a writer of comma-separated values is.
+pub(crate) fn written(error: &csv::Error) -> WriteFault {
+    match error.kind() {
+        ErrorKind::OutOfMemory => WriteFault::Memory,
+        _ => WriteFault::Device,
     }
 }

@@ -1,8 +1,8 @@
 //! The fields of a message.
-ghost use Rattle.std.specs.Prelude.{◌≡◌, ◌++◌, ◌∷◌, ◌-◌, ◌*◌, ◌≤◌, [], length, OnOk};
+ghost use Rattle.bench_export.specs.Rows as spec;
 ghost use Rattle.ch11_f1.specs.Views.{message_of};
 ghost use Rattle.ch11_layout.specs.Layouts.{layout_of};
-ghost use Rattle.bench_export.specs.Rows as spec;
+ghost use Rattle.std.specs.Prelude.{◌≡◌, ◌++◌, ◌∷◌, ◌-◌, ◌*◌, ◌≤◌, [], length, OnOk};
 
 use crate::row::Row;
 use crate::texts::{push_block, push_gap, push_number, push_words};

@@ -1,7 +1,7 @@
 //! Bits as columns of their own.
-ghost use Rattle.std.specs.Prelude.{◌≡◌, ◌≤◌, ◌++◌, ◌∷◌, [], OnOk};
-ghost use Rattle.mil_word.specs.Fields.{has_bit};
 ghost use Rattle.bench_export.specs.Frames as spec;
+ghost use Rattle.mil_word.specs.Fields.{has_bit};
+ghost use Rattle.std.specs.Prelude.{◌≡◌, ◌≤◌, ◌++◌, ◌∷◌, [], OnOk};
 
 use crate::row::Row;
 use ch11_layout::is_set;

@@ -1,10 +1,12 @@
 //! What stands in front of the changes of a value change dump.
-ghost use Rattle.std.specs.Prelude.{◌≡◌, ◌++◌, ◌<◌, length, OnOk};
+ghost use Rattle.bench_export.specs.Heads.{part_text};
 ghost use Rattle.bench_export.specs.Waves as spec;
+ghost use Rattle.std.specs.Prelude.{◌≡◌, ◌++◌, ◌<◌, length, OnOk};
 
 use crate::changes::Change;
-use crate::present::{CHANNELS, is_present};
+use crate::present::is_present;
 use crate::signals::{Wire, letter_of, put_code, put_number, put_values};
+use bench_select::CHANNELS;
 use std::alloc::AllocError;
 
 /// Puts what the kinds of words are, and the unit of time.
@@ -117,29 +119,34 @@ fn put_idle(text: &mut Vec<u8>, channel: u16) -> Result<(), AllocError>
     )
 }
 
-/// Puts the declarations of all channels that are marked.
-fn put_scopes(text: &mut Vec<u8>, present: &[bool]) -> Result<(), AllocError>
-    requires { length present.now ≡ CHANNELS }
-    ensures { OnOk result (text.new.items
-        ≡ text.old.items ++ spec.channels_text spec.scope_text (spec.marked present.now) 65536) }
-{
-    'channels: for channel in 0..CHANNELS {
-        if is_present(present, channel) {
-            put_scope(text, channel as u16)?;
-        }
-    }
-    Ok(())
+/// What is put of each channel in front of the changes.
+#[derive(Clone, Copy)]
+pub(crate) enum Part {
+    /// The declarations of its signals.
+    Scope,
+    /// That its lines are idle.
+    Idle,
 }
 
-/// Puts that the lines of all channels that are marked are idle.
-fn put_idles(text: &mut Vec<u8>, present: &[bool]) -> Result<(), AllocError>
+/// Puts a part of a channel.
+fn put_part(text: &mut Vec<u8>, part: Part, channel: u16) -> Result<(), AllocError>
+    ensures { OnOk result (text.new.items ≡ text.old.items ++ part_text part channel) }
+{
+    match part {
+        Part::Scope => put_scope(text, channel),
+        Part::Idle => put_idle(text, channel),
+    }
+}
+
+/// Puts this part of all channels that are marked.
+fn put_channels(text: &mut Vec<u8>, part: Part, present: &[bool]) -> Result<(), AllocError>
     requires { length present.now ≡ CHANNELS }
     ensures { OnOk result (text.new.items
-        ≡ text.old.items ++ spec.channels_text spec.idle_text (spec.marked present.now) 65536) }
+        ≡ text.old.items ++ spec.channels_text (part_text part) (spec.marked present.now) 65536) }
 {
     'channels: for channel in 0..CHANNELS {
         if is_present(present, channel) {
-            put_idle(text, channel as u16)?;
+            put_part(text, part, channel as u16)?;
         }
     }
     Ok(())
@@ -176,9 +183,9 @@ pub(crate) fn put_head(
     ensures { OnOk result (text.new.items ≡ text.old.items ++ spec.head_text changes.now) }
 {
     put_notes(text)?;
-    put_scopes(text, present)?;
+    put_channels(text, Part::Scope, present)?;
     put_start(text, first_tick(changes))?;
-    put_idles(text, present)?;
+    put_channels(text, Part::Idle, present)?;
     text.extend_from_slice(b"$end\n")?;
     Ok(())
 }

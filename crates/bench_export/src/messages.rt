@@ -1,22 +1,24 @@
 //! Messages as rows.
-ghost use Rattle.std.specs.Prelude.{◌≡◌, ◌+◌, ◌<◌, ◌^◌, ◌++◌, length, OnOk};
-ghost use Rattle.std.specs.Io.KnownBytes.{Appends};
-ghost use Rattle.csv.specs.Writing as writing;
-ghost use Rattle.ch11_f1.specs.Views.{message_of};
+ghost use Rattle.bench_export.specs.Between.{IsBetween, Writes};
 ghost use Rattle.bench_export.specs.Tables.{columns_of, other_columns_of, row_if, rows_text};
-ghost use Rattle.bench_export.specs.Between.{IsBetween};
+ghost use Rattle.ch11_f1.specs.Views.{message_of};
+ghost use Rattle.csv.specs.Writing as writing;
+ghost use Rattle.std.specs.Prelude.{◌≡◌, ◌+◌, ◌<◌, ◌^◌, ◌++◌, length, OnOk};
 
 use crate::columns::{Columns, push_columns};
-use crate::fault::ExportFault;
+use crate::fault::written;
 use crate::fields::push_fields;
+use crate::place::Place;
 use crate::row::Row;
 use crate::stamped::push_stamped;
 use crate::whole::Table;
 use bench_clock::Clock;
 use ch11_f1::{Messages, Seen};
+use ch11_reader::Packet;
 use csv::Writer;
 use std::alloc::{AllocError, Global};
 use std::io::Write;
+use text_lines::WriteFault;
 
 /// Room for a row and for a field.
 #[derive(Drop)]
@@ -46,20 +48,20 @@ impl Room {
         }
     }
 
-    /// The columns of message n of the file.
+    /// The columns of a message.
     fn fill(
         &mut self,
         table: &Table,
         clock: &Clock,
-        number: u64,
-        channel: u16,
+        place: Place,
         seen: &Seen<'_>,
     ) -> Result<(), AllocError>
-        ensures { OnOk result (self.new.row ≡ columns_of table.now clock.now number channel (message_of seen.now)) }
+        ensures { OnOk result (self.new.row
+            ≡ columns_of table.now clock.now place.number place.channel (message_of seen.now)) }
     {
         let (row, text) = (&mut self.row, &mut self.text);
         row.clear();
-        push_stamped(row, text, table, clock, number, channel, seen)?;
+        push_stamped(row, text, table, clock, place, seen)?;
         self.fill_behind(table.columns, seen)
     }
 }
@@ -68,63 +70,61 @@ impl Room {
 pub(crate) fn write_row<W: Write + Drop>(
     writer: &mut Writer<W>,
     row: &Row,
-) -> Result<(), ExportFault>
+) -> Result<(), WriteFault>
     requires { IsBetween writer.old }
     ensures between { OnOk result (IsBetween writer.new) }
-    ensures written { OnOk result (Appends (writing.text_written W.contents writer.old)
-        (writing.text_written W.contents writer.new) (writing.row_text writing.default_writer row.now)) }
+    ensures written { OnOk result (Writes W.contents writer.old writer.new
+        (writing.row_text writing.default_writer row.now)) }
 {
     match writer.write_byte_record(row.record()) {
         Ok(()) => Ok(()),
-        Err(error) => Err(ExportFault::of(&error)),
+        Err(error) => Err(written(&error)),
     }
 }
 
-/// Writes the row of message n, if it is selected.
+/// Writes the row of a message, if it is selected.
 #[tactic(auto, unfolding(crate::specs::Tables::row_if))]
 fn write_selected<W: Write + Drop>(
     writer: &mut Writer<W>,
     room: &mut Room,
     table: &Table,
     clock: &Clock,
-    number: u64,
-    channel: u16,
+    place: Place,
     seen: &Seen<'_>,
-) -> Result<(), ExportFault>
+) -> Result<(), WriteFault>
     requires { IsBetween writer.old }
     ensures between { OnOk result (IsBetween writer.new) }
-    ensures written { OnOk result (Appends (writing.text_written W.contents writer.old)
-        (writing.text_written W.contents writer.new)
-        (row_if table.now clock.now number channel (message_of seen.now))) }
+    ensures written { OnOk result (Writes W.contents writer.old writer.new
+        (row_if table.now clock.now place.number place.channel (message_of seen.now))) }
 {
-    if !table.selection.selects(number, channel, seen) {
+    if !table.selection.selects(place.number, place.channel, seen) {
         return Ok(());
     }
-    room.fill(table, clock, number, channel, seen)?;
+    room.fill(table, clock, place, seen)?;
     write_row(writer, &room.row)
 }
 
-/// Writes the rows of a packet's selected messages, behind so many messages of the file.
+/// Writes the rows of a packet's selected messages.
 pub(crate) fn write_messages<W: Write + Drop>(
     writer: &mut Writer<W>,
     room: &mut Room,
     table: &Table,
     clock: &Clock,
-    before: u64,
-    channel: u16,
+    packet: &Packet,
     messages: Messages<'_>,
-) -> Result<(), ExportFault>
-    requires few { before + length messages < 2 ^ 64 }
+) -> Result<(), WriteFault>
+    requires few { packet.now.before + length messages < 2 ^ 64 }
     requires between { IsBetween writer.old }
     ensures between { OnOk result (IsBetween writer.new) }
-    ensures written { OnOk result (Appends (writing.text_written W.contents writer.old)
-        (writing.text_written W.contents writer.new) (rows_text table.now clock.now before channel messages.entry)) }
+    ensures written { OnOk result (Writes W.contents writer.old writer.new
+        (rows_text table.now clock.now packet.now.before packet.now.header.channel messages.entry)) }
 {
-    let mut number = before;
+    let channel = packet.header.channel;
+    let mut number = packet.before;
     let mut rest = messages;
     'rows: while let Some(seen) = rest.next() {
         number += 1;
-        write_selected(writer, room, table, clock, number, channel, &seen)?;
+        write_selected(writer, room, table, clock, Place { number, channel }, &seen)?;
     }
     Ok(())
 }

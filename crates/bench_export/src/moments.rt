@@ -1,8 +1,8 @@
 //! When the words of a recorded message are on the line.
-ghost use Rattle.std.specs.Prelude.{◌≡◌, ◌-◌, ◌<◌, ◌≤◌, ◌^◌};
+ghost use Rattle.bench_export.specs.Moments as spec;
 ghost use Rattle.ch11_f1.specs.Views.{message_of};
 ghost use Rattle.ch11_layout.specs.Layouts.{layout_of, last_gap};
-ghost use Rattle.bench_export.specs.Moments as spec;
+ghost use Rattle.std.specs.Prelude.{◌≡◌, ◌-◌, ◌<◌, ◌≤◌, ◌^◌};
 
 use ch11_f1::Seen;
 use ch11_layout::{Layout, first_gap, is_set, second_gap};

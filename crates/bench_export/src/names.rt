@@ -1,9 +1,9 @@
 //! The names of the columns.
-ghost use Rattle.std.specs.Prelude.{◌≡◌, ◌<◌, ◌+◌, ◌++◌, ◌∷◌, [], codes, decimal, IfOk, OnOk};
 ghost use Rattle.bench_export.specs.Frames as frames;
-ghost use Rattle.bench_export.specs.Rows.{first_names, names, other_names};
+ghost use Rattle.bench_export.specs.Rows.{names};
 ghost use Rattle.bench_export.specs.Stamped.{number_names, stamp_name, stamped_names, time_names};
 ghost use Rattle.bench_export.specs.Tables as spec;
+ghost use Rattle.std.specs.Prelude.{◌≡◌, ◌<◌, ◌+◌, ◌++◌, ◌∷◌, [], codes, decimal, map, IfOk, OnOk};
 
 use crate::columns::{Columns, DATA_COLUMNS};
 use crate::row::Row;
@@ -64,121 +64,84 @@ fn push_names_behind(alloc: Global, row: &mut Row, columns: Columns) -> Result<(
     }
 }
 
+/// These names.
+fn push_all(row: &mut Row, names: &[&[u8]]) -> Result<(), AllocError>
+    ensures { OnOk result (row.new ≡ row.old ++ map (λ name. name.now) names.now) }
+{
+    'names: for name in names {
+        row.push(name)?;
+    }
+    Ok(())
+}
+
 /// The names of the columns of words of a kind together.
 fn push_message_names(row: &mut Row) -> Result<(), AllocError>
     ensures { OnOk result (row.new ≡ row.old ++ names) }
 {
-    push_first_names(row)?;
-    push_other_names(row)?;
-    Ok(())
-}
-
-fn push_first_names(row: &mut Row) -> Result<(), AllocError>
-    ensures { OnOk result (row.new ≡ row.old ++ first_names) }
-{
-    row.push(b"line")?;
-    row.push(b"form")?;
-    row.push(b"terminal")?;
-    row.push(b"subaddress")?;
-    row.push(b"count")?;
-    Ok(())
-}
-
-fn push_other_names(row: &mut Row) -> Result<(), AllocError>
-    ensures { OnOk result (row.new ≡ row.old ++ other_names) }
-{
-    row.push(b"mode_code")?;
-    row.push(b"sender")?;
-    row.push(b"sender_subaddress")?;
-    row.push(b"status_words")?;
-    row.push(b"block_status")?;
-    row.push(b"gap1_us")?;
-    row.push(b"gap2_us")?;
-    row.push(b"data_words")?;
-    Ok(())
-}
-
-/// The names of the columns for data frames.
-fn push_frame_names(alloc: Global, row: &mut Row) -> Result<(), AllocError>
-    ensures { OnOk result (row.new ≡ row.old ++ frames.frame_names) }
-{
-    push_sent_names(row)?;
+    push_all(row, &[b"line", b"form"])?;
     push_called_names(row)?;
-    push_answered_names(row)?;
-    push_carried_names(alloc, row)?;
+    push_all(
+        row,
+        &[
+            b"status_words",
+            b"block_status",
+            b"gap1_us",
+            b"gap2_us",
+            b"data_words",
+        ],
+    )?;
     Ok(())
 }
 
-/// How a message was sent.
-fn push_sent_names(row: &mut Row) -> Result<(), AllocError>
-    ensures { OnOk result (row.new ≡ row.old ++ frames.sent_names) }
-{
-    row.push(b"line")?;
-    row.push(b"form")?;
-    row.push(b"tr")?;
-    Ok(())
-}
-
-/// Whom it calls.
+/// Whom a message calls.
 fn push_called_names(row: &mut Row) -> Result<(), AllocError>
     ensures { OnOk result (row.new ≡ row.old ++ frames.called_names) }
 {
-    row.push(b"terminal")?;
-    row.push(b"subaddress")?;
-    row.push(b"count")?;
-    row.push(b"mode_code")?;
-    row.push(b"sender")?;
-    row.push(b"sender_subaddress")?;
-    Ok(())
+    push_all(
+        row,
+        &[
+            b"terminal",
+            b"subaddress",
+            b"count",
+            b"mode_code",
+            b"sender",
+            b"sender_subaddress",
+        ],
+    )
 }
 
-/// What was answered.
-fn push_answered_names(row: &mut Row) -> Result<(), AllocError>
-    ensures { OnOk result (row.new ≡ row.old ++ frames.answered_names) }
+/// The names of the columns for data frames: how a message was sent, whom it calls, what was answered, the bits of the
+/// status words, the errors, and the data words.
+fn push_frame_names(alloc: Global, row: &mut Row) -> Result<(), AllocError>
+    ensures { OnOk result (row.new ≡ row.old ++ frames.frame_names) }
 {
-    row.push(b"gap1_us")?;
-    row.push(b"gap2_us")?;
-    row.push(b"status1")?;
-    row.push(b"status2")?;
-    Ok(())
-}
-
-/// The bits, and the data words.
-fn push_carried_names(alloc: Global, row: &mut Row) -> Result<(), AllocError>
-    ensures { OnOk result (row.new ≡ row.old ++ frames.carried_names) }
-{
-    push_status_names(row)?;
-    push_error_names(row)?;
-    row.push(b"data_words")?;
+    push_all(row, &[b"line", b"form", b"tr"])?;
+    push_called_names(row)?;
+    push_all(
+        row,
+        &[
+            b"gap1_us",
+            b"gap2_us",
+            b"status1",
+            b"status2",
+            b"status_message_error",
+            b"status_instrumentation",
+            b"status_service_request",
+            b"status_broadcast",
+            b"status_busy",
+            b"status_subsystem",
+            b"status_control",
+            b"status_terminal",
+            b"message_error",
+            b"format_error",
+            b"response_timeout",
+            b"word_count_error",
+            b"sync_type_error",
+            b"invalid_word_error",
+            b"data_words",
+        ],
+    )?;
     push_data_names(alloc, row)?;
-    Ok(())
-}
-
-/// The bits of the status words.
-fn push_status_names(row: &mut Row) -> Result<(), AllocError>
-    ensures { OnOk result (row.new ≡ row.old ++ frames.status_names) }
-{
-    row.push(b"status_message_error")?;
-    row.push(b"status_instrumentation")?;
-    row.push(b"status_service_request")?;
-    row.push(b"status_broadcast")?;
-    row.push(b"status_busy")?;
-    row.push(b"status_subsystem")?;
-    row.push(b"status_control")?;
-    row.push(b"status_terminal")?;
-    Ok(())
-}
-
-/// The errors.
-fn push_error_names(row: &mut Row) -> Result<(), AllocError>
-    ensures { OnOk result (row.new ≡ row.old ++ frames.error_names) }
-{
-    row.push(b"message_error")?;
-    row.push(b"format_error")?;
-    row.push(b"response_timeout")?;
-    row.push(b"word_count_error")?;
-    row.push(b"sync_type_error")?;
-    row.push(b"invalid_word_error")?;
     Ok(())
 }
 

@@ -1,6 +1,6 @@
 //! A row of fields on the way.
-ghost use Rattle.std.specs.Prelude.{◌≡◌, ◌∷◌, ◌++◌, [], OnOk};
 ghost use Rattle.csv.specs.Records.{fields_of};
+ghost use Rattle.std.specs.Prelude.{◌≡◌, ◌∷◌, ◌++◌, [], OnOk};
 
 use csv::ByteRecord;
 use std::alloc::{AllocError, Global};
@@ -13,8 +13,8 @@ pub(crate) struct Row {
 }
 
 impl Model for Row {
-    ghost use Rattle.std.specs.Prelude.{◌≡◌, ℕ, List, []};
     ghost use Rattle.csv.specs.Records.{fields_of, partial_of};
+    ghost use Rattle.std.specs.Prelude.{◌≡◌, ℕ, List, []};
 
     ghost Value = { List (List ℕ) };
 

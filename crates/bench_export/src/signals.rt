@@ -1,6 +1,6 @@
 //! The values of the signals of a value change dump, as text.
-ghost use Rattle.std.specs.Prelude.{◌≡◌, ◌++◌, decimal, OnOk};
 ghost use Rattle.bench_export.specs.Waves as spec;
+ghost use Rattle.std.specs.Prelude.{◌≡◌, ◌++◌, decimal, OnOk};
 
 use crate::changes::{Change, Driven};
 use ch11_layout::Role;

@@ -1,9 +1,10 @@
 //! The columns that say which message it is and when it was.
-ghost use Rattle.std.specs.Prelude.{◌≡◌, ◌++◌, ◌∷◌, [], OnOk, option_map};
-ghost use Rattle.ch11_f1.specs.Views.{message_of};
 ghost use Rattle.bench_export.specs.Stamped as spec;
+ghost use Rattle.ch11_f1.specs.Views.{message_of};
+ghost use Rattle.std.specs.Prelude.{◌≡◌, ◌++◌, ◌∷◌, [], OnOk, option_map};
 
 use crate::columns::Columns;
+use crate::place::Place;
 use crate::row::Row;
 use crate::texts::{push_micros, push_number};
 use crate::values::push_seconds;
@@ -27,19 +28,19 @@ fn push_stamp(
     }
 }
 
-/// The number, the channel and the stamp of message n. The text is room for a field.
+/// The number, the channel and the stamp of a message. The text is room for a field.
 fn push_number_columns(
     row: &mut Row,
     text: &mut Vec<u8>,
     columns: Columns,
-    number: u64,
-    channel: u16,
+    place: Place,
     seen: &Seen<'_>,
 ) -> Result<(), AllocError>
-    ensures { OnOk result (row.new ≡ row.old ++ spec.number_columns columns number channel (message_of seen.now)) }
+    ensures { OnOk result (row.new
+        ≡ row.old ++ spec.number_columns columns place.number place.channel (message_of seen.now)) }
 {
-    push_number(row, number)?;
-    push_number(row, u64::from(channel))?;
+    push_number(row, place.number)?;
+    push_number(row, u64::from(place.channel))?;
     push_stamp(row, text, columns, seen.stamp)
 }
 
@@ -60,20 +61,19 @@ fn push_time_columns(row: &mut Row, timed: bool, time: Option<UtcTime>) -> Resul
     if timed { push_time(row, time) } else { Ok(()) }
 }
 
-/// The first columns of message n of the file. The text is room for a field.
+/// The first columns of a message. The text is room for a field.
 pub(crate) fn push_stamped(
     row: &mut Row,
     text: &mut Vec<u8>,
     table: &Table,
     clock: &Clock,
-    number: u64,
-    channel: u16,
+    place: Place,
     seen: &Seen<'_>,
 ) -> Result<(), AllocError>
     ensures { OnOk result (row.new
-        ≡ row.old ++ spec.stamped_columns table.now.columns table.now.timed clock.now number channel
+        ≡ row.old ++ spec.stamped_columns table.now.columns table.now.timed clock.now place.number place.channel
         (message_of seen.now)) }
 {
-    push_number_columns(row, text, table.columns, number, channel, seen)?;
+    push_number_columns(row, text, table.columns, place, seen)?;
     push_time_columns(row, table.timed, clock.at(seen.stamp))
 }

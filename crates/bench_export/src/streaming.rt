@@ -1,15 +1,15 @@
 //! The rows of a recording whose packets come from a reader.
-ghost use Rattle.std.specs.Prelude.{◌≡◌, ◌+◌, ◌<◌, ◌^◌, ◌||◌, ℕ, List, length, Some, IfOk, OnOk};
-ghost use Rattle.std.specs.Io.KnownBytes.{Appends};
-ghost use Rattle.csv.specs.Writing as writing;
-ghost use Rattle.bench_export.specs.Between.{IsBetween};
+ghost use Rattle.bench_export.specs.Between.{IsBetween, Writes};
 ghost use Rattle.bench_export.specs.Choosing as choosing;
 ghost use Rattle.bench_export.specs.Streaming.{Exports};
 ghost use Rattle.bench_export.specs.Tables as tables;
 ghost use Rattle.bench_export.specs.Tables.{export_text, packets_text, rows_text};
+ghost use Rattle.csv.specs.Writing as writing;
+ghost use Rattle.std.specs.Io.KnownBytes.{Appends};
+ghost use Rattle.std.specs.Prelude.{◌≡◌, ◌+◌, ◌<◌, ◌^◌, ◌||◌, ℕ, List, length, Some, IfOk, OnOk};
 
 use crate::choosing::selects_among;
-use crate::fault::{ExportFault, ExportFromFault};
+use crate::fault::ExportFromFault;
 use crate::messages::{Room, write_messages, write_row};
 use crate::names::names_of;
 use crate::whole::Table;
@@ -19,6 +19,7 @@ use ch11_stream::{Advance, Packets, StreamFault};
 use csv::Writer;
 use std::alloc::Global;
 use std::io::Write;
+use text_lines::WriteFault;
 
 /// What was exported of what a reader has left.
 #[derive(Drop)]
@@ -50,7 +51,7 @@ pub fn export_from<R: Advance + Drop, W: Write + Drop>(
     let selected = write_packets_from(alloc, input, &mut writer, table, clock)?;
     match writer.into_inner() {
         Ok(out) => Ok(Exported { out, selected }),
-        Err(_) => Err(ExportFromFault::Writing(ExportFault::Device)),
+        Err(_) => Err(ExportFromFault::Writing(WriteFault::Device)),
     }
 }
 
@@ -59,11 +60,10 @@ fn write_names<W: Write + Drop>(
     alloc: Global,
     writer: &mut Writer<W>,
     table: &Table,
-) -> Result<(), ExportFault>
+) -> Result<(), WriteFault>
     requires { IsBetween writer.old }
     ensures between { OnOk result (IsBetween writer.new) }
-    ensures written { OnOk result (Appends (writing.text_written W.contents writer.old)
-        (writing.text_written W.contents writer.new)
+    ensures written { OnOk result (Writes W.contents writer.old writer.new
         (writing.row_text writing.default_writer (tables.names_of table.now))) }
 {
     let names = names_of(alloc, table)?;
@@ -81,8 +81,7 @@ fn write_packets_from<R: Advance + Drop, W: Write + Drop>(
     requires { IsBetween writer.old }
     ensures { (file : List ℕ) → R.remaining input ≡ Some file
         → Exports (λ ps selected.
-        Appends (writing.text_written W.contents writer.old) (writing.text_written W.contents writer.new)
-        (packets_text table.now clock.now 0 ps)
+        Writes W.contents writer.old writer.new (packets_text table.now clock.now 0 ps)
         × (selected ≡ choosing.selects_any table.now.selection ps)) result file }
 {
     let Ok(mut packets) = Packets::over(alloc, input) else {
@@ -114,19 +113,15 @@ fn write_packet<R: Advance, W: Write + Drop>(
     packets: &Packets<R>,
     packet: &Packet,
     selected: bool,
-) -> Result<bool, ExportFault>
+) -> Result<bool, WriteFault>
     requires few { packet.now.before + length packets.now.given < 2 ^ 64 }
     requires between { IsBetween writer.old }
     ensures between { OnOk result (IsBetween writer.new) }
-    ensures written { OnOk result (Appends (writing.text_written W.contents writer.old)
-        (writing.text_written W.contents writer.new)
+    ensures written { OnOk result (Writes W.contents writer.old writer.new
         (rows_text table.now clock.now packet.now.before packet.now.header.channel packets.now.given)) }
     ensures selected { IfOk result (λ any. any ≡ (selected || choosing.selects_among table.now.selection
         packet.now.before packet.now.header.channel packets.now.given)) }
 {
-    let (before, channel) = (packet.before, packet.header.channel);
-    let messages = packets.messages();
-    write_messages(writer, room, table, clock, before, channel, messages)?;
-    let messages = packets.messages();
-    Ok(selected || selects_among(&table.selection, before, channel, messages))
+    write_messages(writer, room, table, clock, packet, packets.messages())?;
+    Ok(selected || selects_among(&table.selection, packet, packets.messages()))
 }

@@ -1,23 +1,24 @@
 //! The value change dump of a recording whose packets come from a reader.
-ghost use Rattle.std.specs.Prelude.{◌≡◌, ◌+◌, ◌<◌, ◌^◌, ◌||◌, ◌++◌, ℕ, List, length, Some, Err, IfOk, OnOk};
-ghost use Rattle.std.specs.Io.KnownBytes.{Appends};
-ghost use Rattle.ch11_stream.specs.declared.fault.StreamFault.{StreamFault as Cause};
 ghost use Rattle.bench_export.specs.Changes.{AreInOrder, changes_among, changes_in};
 ghost use Rattle.bench_export.specs.Choosing as choosing;
 ghost use Rattle.bench_export.specs.Streaming.{Exports};
 ghost use Rattle.bench_export.specs.Waves.{GetsDump, waves_text};
 ghost use Rattle.bench_export.specs.declared.changes.Change.{Change as Item};
 ghost use Rattle.bench_export.specs.declared.fault.ExportFromFault.TheVariants.{Reading};
+ghost use Rattle.ch11_stream.specs.declared.fault.StreamFault.{StreamFault as Cause};
+ghost use Rattle.std.specs.Io.KnownBytes.{Appends};
+ghost use Rattle.std.specs.Prelude.{◌≡◌, ◌+◌, ◌<◌, ◌^◌, ◌||◌, ◌++◌, ℕ, List, length, Some, Err, IfOk, OnOk};
 
 use crate::changes::{Change, ordered, push_messages};
 use crate::choosing::selects_among;
-use crate::fault::{ExportFault, ExportFromFault};
+use crate::fault::ExportFromFault;
 use crate::waves::write_waves;
 use bench_select::Selection;
 use ch11_reader::Packet;
 use ch11_stream::{Advance, Packets, StreamFault};
 use std::alloc::Global;
 use std::io::Write;
+use text_lines::WriteFault;
 
 /// Writes the value change dump that `export_waves` writes of all bytes that a reader has left, and answers whether any
 /// message was selected. All changes are kept in memory, some 50 bytes each, so that nothing is written before the last
@@ -44,7 +45,7 @@ fn write_ordered<W: Write>(
     alloc: Global,
     changes: Vec<Change>,
     out: &mut W,
-) -> Result<(), ExportFault>
+) -> Result<(), WriteFault>
     ensures { OnOk result ((given : List Item) × AreInOrder changes.items given
         × Appends (W.contents out.old) (W.contents out.new) (waves_text given)) }
 {
@@ -87,15 +88,13 @@ fn push_packet<R: Advance>(
     packets: &Packets<R>,
     packet: &Packet,
     selected: bool,
-) -> Result<bool, ExportFault>
+) -> Result<bool, WriteFault>
     requires { packet.now.before + length packets.now.given < 2 ^ 64 }
     ensures pushed { OnOk result (changes.new.items ≡ changes.old.items ++ changes_among selection.now
         packet.now.before packet.now.header.channel packets.now.given) }
     ensures selected { IfOk result (λ any. any ≡ (selected || choosing.selects_among selection.now
         packet.now.before packet.now.header.channel packets.now.given)) }
 {
-    let (before, channel) = (packet.before, packet.header.channel);
-    push_messages(changes, selection, before, channel, packets.messages())?;
-    let messages = packets.messages();
-    Ok(selected || selects_among(selection, before, channel, messages))
+    push_messages(changes, selection, packet, packets.messages())?;
+    Ok(selected || selects_among(selection, packet, packets.messages()))
 }

@@ -1,6 +1,6 @@
 //! The texts of single fields.
-ghost use Rattle.std.specs.Prelude.{◌≡◌, ◌≤◌, ◌++◌, ◌∷◌, [], drop, OnOk, decimal};
 ghost use Rattle.bench_export.specs.Rows.{micros, gap_text, words_text, block_text, name_if};
+ghost use Rattle.std.specs.Prelude.{◌≡◌, ◌≤◌, ◌++◌, ◌∷◌, [], drop, OnOk, decimal};
 
 use crate::row::Row;
 use bench_dump::put_words;

@@ -1,10 +1,11 @@
 //! Times in seconds, and single words.
-ghost use Rattle.std.specs.Prelude.{◌≡◌, ◌<◌, ◌/◌, ◌++◌, ◌∷◌, [], OnOk};
-ghost use Rattle.bench_dump.specs.DumpText.{digit_of, word_digits};
+ghost use Rattle.bench_dump.specs.DumpText.{word_digits};
 ghost use Rattle.bench_export.specs.Frames as spec;
+ghost use Rattle.std.specs.Prelude.{◌≡◌, ◌/◌, ◌++◌, ◌∷◌, [], OnOk};
 
 use crate::row::Row;
 use itoa::Buffer;
+use numerals::digit_of;
 use std::alloc::AllocError;
 
 /// How many ticks of 0.1 µs a second has.
@@ -38,27 +39,15 @@ pub(crate) fn push_seconds(row: &mut Row, text: &mut Vec<u8>, ticks: u64) -> Res
     row.push(text.as_slice())
 }
 
-/// An upper-case hexadecimal digit.
-fn digit(value: u16) -> u8
-    requires { value < 16 }
-    ensures { result ≡ digit_of value }
-{
-    if value < 10 {
-        b'0' + value as u8
-    } else {
-        b'A' + (value - 10) as u8
-    }
-}
-
 /// Puts a word as four digits.
 fn put_word(text: &mut Vec<u8>, word: u16) -> Result<(), AllocError>
     ensures { OnOk result (text.new.items ≡ text.old.items ++ word_digits word) }
 {
-    let (high, low) = (word / 256, word % 256);
-    text.push(digit(high / 16))?;
-    text.push(digit(high % 16))?;
-    text.push(digit(low / 16))?;
-    text.push(digit(low % 16))?;
+    let (high, low) = ((word / 256) as u8, (word % 256) as u8);
+    text.push(digit_of(high / 16))?;
+    text.push(digit_of(high % 16))?;
+    text.push(digit_of(low / 16))?;
+    text.push(digit_of(low % 16))?;
     Ok(())
 }
 

@@ -1,10 +1,9 @@
 //! A whole recording as a value change dump (IEEE 1364-2001 section 18).
-ghost use Rattle.std.specs.Prelude.{◌≡◌, ◌++◌, IfOk, OnOk};
-ghost use Rattle.std.specs.Io.KnownBytes.{Appends};
 ghost use Rattle.bench_export.specs.Waves as spec;
+ghost use Rattle.std.specs.Io.KnownBytes.{Appends};
+ghost use Rattle.std.specs.Prelude.{◌≡◌, ◌++◌, IfOk, OnOk};
 
 use crate::changes::{Change, ordered_changes};
-use crate::fault::ExportFault;
 use crate::heads::{first_tick, put_head};
 use crate::present::present_in;
 use crate::signals::put_change;
@@ -12,6 +11,7 @@ use bench_select::Selection;
 use ch11_reader::Index;
 use std::alloc::{AllocError, Global};
 use std::io::Write;
+use text_lines::WriteFault;
 
 /// Writes the selected messages of a recording that was read as a value change dump, in units of 0.1 µs: for each
 /// channel and line the word on the line, what it is (1 a command, 2 data, 3 a status), its terminal, and the number of
@@ -22,7 +22,7 @@ pub fn export_waves<W: Write>(
     index: &Index<'_>,
     selection: &Selection,
     out: &mut W,
-) -> Result<(), ExportFault>
+) -> Result<(), WriteFault>
     ensures { OnOk result (spec.GetsDump (W.contents out.old) (W.contents out.new) selection.now index.now) }
 {
     let changes = ordered_changes(alloc, index, selection)?;
@@ -34,7 +34,7 @@ pub(crate) fn write_waves<W: Write>(
     alloc: Global,
     changes: &[Change],
     out: &mut W,
-) -> Result<(), ExportFault>
+) -> Result<(), WriteFault>
     ensures { OnOk result (Appends (W.contents out.old) (W.contents out.new) (spec.waves_text changes.now)) }
 {
     let head = head_of(alloc, changes)?;
@@ -53,11 +53,7 @@ fn head_of(alloc: Global, changes: &[Change]) -> Result<Vec<u8>, AllocError>
 }
 
 /// Writes the changes behind the head.
-fn write_changes<W: Write>(
-    alloc: Global,
-    changes: &[Change],
-    out: &mut W,
-) -> Result<(), ExportFault>
+fn write_changes<W: Write>(alloc: Global, changes: &[Change], out: &mut W) -> Result<(), WriteFault>
     ensures { OnOk result (Appends (W.contents out.old) (W.contents out.new)
         (spec.changes_text (spec.first_tick changes.now) changes.now)) }
 {

@@ -1,12 +1,10 @@
 //! A whole recording as rows.
-ghost use Rattle.std.specs.Prelude.{◌≡◌, ◌++◌, IfOk, OnOk};
-ghost use Rattle.std.specs.Io.KnownBytes.{Appends};
-ghost use Rattle.csv.specs.Writing as writing;
+ghost use Rattle.bench_export.specs.Between.{IsBetween, Writes};
 ghost use Rattle.bench_export.specs.Tables.{export_text, packets_text};
-ghost use Rattle.bench_export.specs.Between.{IsBetween};
+ghost use Rattle.std.specs.Io.KnownBytes.{Appends};
+ghost use Rattle.std.specs.Prelude.{◌≡◌, ◌++◌, IfOk, OnOk};
 
 use crate::columns::Columns;
-use crate::fault::ExportFault;
 use crate::messages::{Room, write_messages, write_row};
 use crate::names::names_of;
 use bench_clock::Clock;
@@ -15,6 +13,7 @@ use ch11_reader::Index;
 use csv::Writer;
 use std::alloc::Global;
 use std::io::Write;
+use text_lines::WriteFault;
 
 /// What of a recording is written as rows.
 #[derive(Clone, Copy, Debug, PartialEq, Eq)]
@@ -36,7 +35,7 @@ pub fn export<W: Write + Drop>(
     table: &Table,
     clock: &Clock,
     out: W,
-) -> Result<W, ExportFault>
+) -> Result<W, WriteFault>
     ensures { IfOk result (λ w. Appends (W.contents out) (W.contents w) (export_text table.now clock.now index.now)) }
 {
     let mut writer = Writer::from_writer(out);
@@ -44,7 +43,7 @@ pub fn export<W: Write + Drop>(
     write_packets(alloc, &mut writer, table, clock, index)?;
     match writer.into_inner() {
         Ok(out) => Ok(out),
-        Err(_) => Err(ExportFault::Device),
+        Err(_) => Err(WriteFault::Device),
     }
 }
 
@@ -55,24 +54,15 @@ fn write_packets<W: Write + Drop>(
     table: &Table,
     clock: &Clock,
     index: &Index<'_>,
-) -> Result<(), ExportFault>
+) -> Result<(), WriteFault>
     requires { IsBetween writer.old }
-    ensures { OnOk result (Appends (writing.text_written W.contents writer.old)
-        (writing.text_written W.contents writer.new) (packets_text table.now clock.now 0 index.now)) }
+    ensures { OnOk result (Writes W.contents writer.old writer.new (packets_text table.now clock.now 0 index.now)) }
 {
     let mut room = Room::new(alloc);
     let packets = index.packets();
     'packets: for place in 0..packets.len() {
-        let packet = &packets[place];
-        write_messages(
-            writer,
-            &mut room,
-            table,
-            clock,
-            packet.before,
-            packet.header.channel,
-            index.messages_in(place),
-        )?;
+        let messages = index.messages_in(place);
+        write_messages(writer, &mut room, table, clock, &packets[place], messages)?;
     }
     Ok(())
 }

@@ -1,6 +1,6 @@
 -- What a tally says of the messages that were passed.
-use Rattle.std.specs.Prelude.{◌≡◌, ℕ, nat_eq, Bool, not, ◌&&◌, List, ◌++◌, length, map, reverse, Option, Some}
-use Rattle.std.specs.Prelude.{slice_get, take, ◌<◌}
+use Rattle.std.specs.Prelude.{◌≡◌, ℕ, nat_eq, Bool, true, false, not, ◌&&◌, List, ◌++◌, length, map, reverse}
+use Rattle.std.specs.Prelude.{slice_get, take, ◌<◌, Option, None, Some}
 use Rattle.std.specs.HashMap.{get}
 use Rattle.std.specs.List.{flat_map}
 use Rattle.std.specs.Io.KnownBytes.{Appends}
@@ -39,6 +39,15 @@ pub record AreTallies (rules : List Rule) (history : List Heard) (tallies : List
 -- the next message is selected and misses the rule
 abbrev pub misses_next : Rule → List Heard → Heard → Bool
 misses_next rule history h = selects rule h.0 h.1 && not (meets rule.check (latest_stamp rule h.0 history) h.1)
+
+-- a message that misses a rule, by its number
+abbrev pub miss_at : ℕ → Heard → Miss
+miss_at number h = record { number = number; channel = h.0; stamp = h.1.stamp }
+
+-- this message where it misses a rule, and none where it does not
+abbrev pub IsMissIf : Bool → Miss → Option Miss → Type 0
+IsMissIf misses miss None = false ≡ misses
+IsMissIf misses miss (Some found) = (true ≡ misses) × (found ≡ miss)
 
 -- the lines of the messages that miss a rule
 abbrev pub miss_lines : Rule → List Heard → List ℕ

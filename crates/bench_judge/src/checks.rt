@@ -1,9 +1,9 @@
 //! Which of the selected messages miss their rule.
-ghost use Rattle.std.specs.Prelude.{◌≡◌, ◌+◌, ◌<◌, ◌^◌, length};
-ghost use Rattle.std.specs.List.{list_all};
-ghost use Rattle.ch11_f1.specs.Views.{message_of};
 ghost use Rattle.bench_judge.specs.Checks as spec;
 ghost use Rattle.bench_judge.specs.Clean.{IsKnown};
+ghost use Rattle.ch11_f1.specs.Views.{message_of};
+ghost use Rattle.std.specs.List.{list_all};
+ghost use Rattle.std.specs.Prelude.{◌≡◌, ◌+◌, ◌<◌, ◌^◌, length};
 
 use crate::clean::clean_once;
 use crate::words::statuses;

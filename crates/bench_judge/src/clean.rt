@@ -1,9 +1,9 @@
 //! Messages as the standard has them.
-ghost use Rattle.std.specs.Prelude.{◌≡◌, ◌-◌, ◌≤◌, Some, if◌then◌else◌};
-ghost use Rattle.ch11_f1.specs.Views.{message_of};
-ghost use Rattle.ch11_layout.specs.Layouts.{layout_of};
 ghost use Rattle.bench_judge.specs.Clean as spec;
 ghost use Rattle.bench_judge.specs.Words.{data_count};
+ghost use Rattle.ch11_f1.specs.Views.{message_of};
+ghost use Rattle.ch11_layout.specs.Layouts.{layout_of};
+ghost use Rattle.std.specs.Prelude.{◌≡◌, ◌-◌, ◌≤◌, Some, if◌then◌else◌};
 
 use crate::replies::{replies_fit, sends_no_data, words_due};
 use crate::words::{data_words, statuses};

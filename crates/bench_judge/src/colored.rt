@@ -2,8 +2,8 @@
 use crate::names::Names;
 use crate::numbers::put_number;
 use crate::pass_fault::PassFault;
-use crate::sought::{Anew, Sought};
-use crate::verdicts::{Verdict, not_held};
+use crate::sought::{Anew, Sought, Wanted};
+use crate::verdicts::{Judged, Verdict, not_held};
 use bench_decode::{Line, Shown};
 use bench_watch::Reopen;
 use ch11_reader::Index;
@@ -75,7 +75,12 @@ fn write_rule<S: Sought, W: Write>(
     if verdict.missed == 0 {
         return Ok(());
     }
-    recording.write_first(line, *text.allocator(), rule, SHOWN as usize, out)?;
+    let wanted = Wanted {
+        alloc: *text.allocator(),
+        rule,
+        most: SHOWN as usize,
+    };
+    recording.write_first(wanted, line, out)?;
     if verdict.missed > SHOWN {
         let more = verdict.missed - SHOWN;
         write!(out, "      and {more} more\n")?;
@@ -87,21 +92,19 @@ fn write_rule<S: Sought, W: Write>(
 fn write_for_people<S: Sought, W: Write>(
     alloc: Global,
     recording: &S,
-    rules_text: &[u8],
-    rules: &[Rule],
-    verdicts: &[Verdict],
+    judged: Judged<'_>,
     out: &mut W,
 ) -> Result<(), PassFault> {
     let mut line = Line::new(alloc, Shown::Colored)?;
     let mut text = Vec::new(alloc);
-    let mut names = Names::of(rules_text);
-    for (rule, verdict) in rules.iter().zip(verdicts) {
+    let mut names = Names::of(judged.text);
+    for (rule, verdict) in judged.rules.iter().zip(judged.verdicts) {
         text.clear();
         put_rule(&mut text, names.at(verdict.line), verdict)?;
         write_rule(&mut text, &mut line, recording, rule, verdict, out)?;
     }
     text.clear();
-    put_last(&mut text, verdicts)?;
+    put_last(&mut text, judged.verdicts)?;
     out.write_all(text.as_slice())?;
     out.flush()?;
     Ok(())
@@ -118,7 +121,8 @@ pub fn write_colored<W: Write>(
     verdicts: &[Verdict],
     out: &mut W,
 ) -> Result<(), PassFault> {
-    write_for_people(alloc, index, rules_text, rules, verdicts, out)
+    let judged = Judged::of(rules_text, rules, verdicts);
+    write_for_people(alloc, index, judged, out)
 }
 
 /// Writes the verdicts as `write_colored` does, of a recording that is read anew for each rule that messages miss. A
@@ -131,6 +135,6 @@ pub fn write_colored_from<S: Reopen, W: Write>(
     verdicts: &[Verdict],
     out: &mut W,
 ) -> Result<(), PassFault> {
-    let anew = Anew { recording };
-    write_for_people(alloc, &anew, rules_text, rules, verdicts, out)
+    let judged = Judged::of(rules_text, rules, verdicts);
+    write_for_people(alloc, &Anew { recording }, judged, out)
 }

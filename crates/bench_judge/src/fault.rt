@@ -1,6 +1,6 @@
 //! Why verdicts were not printed, or not to their end.
-ghost use Rattle.std.specs.Prelude.{◌≡◌};
 ghost use Rattle.bench_judge.specs.declared.fault.PrintFault.TheVariants.{Device, Memory};
+ghost use Rattle.std.specs.Prelude.{◌≡◌};
 
 use std::alloc::AllocError;
 use std::io;

@@ -1,16 +1,16 @@
 //! The first messages that miss a rule.
-ghost use Rattle.std.specs.Prelude.{◌≡◌, ◌+◌, ◌<◌, ◌≤◌, ◌^◌, ◌∷◌, ◌++◌, [], ℕ, List, Some, length, take, reverse};
-ghost use Rattle.std.specs.Prelude.{OnOk};
+ghost use Rattle.bench_judge.specs.Tallies.{IsFinding, heard_on};
+ghost use Rattle.bench_judge.specs.Verdicts.{Heard, misses};
 ghost use Rattle.ch11_f1.specs.Views.{message_of};
 ghost use Rattle.ch11_reader.specs.Contents.{heard_in};
 ghost use Rattle.ch11_stream.specs.Folding.{Finds};
-ghost use Rattle.bench_judge.specs.Verdicts.{Heard, misses};
-ghost use Rattle.bench_judge.specs.Tallies.{IsFinding, heard_on};
+ghost use Rattle.std.specs.Prelude.{OnOk};
+ghost use Rattle.std.specs.Prelude.{◌≡◌, ◌+◌, ◌<◌, ◌≤◌, ◌^◌, ◌∷◌, ◌++◌, [], ℕ, List, Some, length, take, reverse};
 
 use crate::tallies::Tally;
 use crate::verdicts::Miss;
 use ch11_f1::{Messages, Seen};
-use ch11_reader::Index;
+use ch11_reader::{Index, Packet};
 use ch11_stream::{Advance, Packets, StreamFault};
 use judge_rules::Rule;
 use std::alloc::{AllocError, Global};
@@ -42,37 +42,29 @@ fn note_first(
         → OnOk result (IsFinding rule.now most ((channel, message_of seen.now) ∷ history)
         found.new.items tally.new) }
 {
-    let mut known = None;
-    if tally.note(rule, channel, seen, &mut known)? {
-        let stamp = seen.stamp;
-        let miss = Miss {
-            number,
-            channel,
-            stamp,
-        };
+    if let Some(miss) = tally.note_miss(rule, number, channel, seen)? {
         put_first(found, most, miss)?;
     }
     Ok(())
 }
 
-/// Appends those messages of a packet that miss a rule, behind so many messages of the file, until there are as many as
-/// that.
+/// Appends those messages of a packet that miss a rule, until there are as many as that.
 fn first_in(
     tally: &mut Tally,
     rule: &Rule,
-    before: u64,
-    channel: u16,
+    packet: &Packet,
     messages: Messages<'_>,
     most: usize,
     found: &mut Vec<Miss>,
 ) -> Result<(), AllocError>
-    requires { before + length messages < 2 ^ 64 }
+    requires { packet.now.before + length messages < 2 ^ 64 }
     ensures { (history : List Heard) → IsFinding rule.now most history found.old.items tally.old
-        → before ≡ length history
-        → OnOk result (IsFinding rule.now most (heard_on channel messages.entry history)
+        → packet.now.before ≡ length history
+        → OnOk result (IsFinding rule.now most (heard_on packet.now.header.channel messages.entry history)
         found.new.items tally.new) }
 {
-    let mut number = before;
+    let channel = packet.header.channel;
+    let mut number = packet.before;
     let mut rest = messages;
     'messages: while let Some(seen) = rest.next() {
         number += 1;
@@ -93,13 +85,12 @@ pub(crate) fn first_misses(
     let packets = index.packets();
     'packets: for place in 0..packets.len() {
         if found.len() < most {
-            let packet = &packets[place];
+            let messages = index.messages_in(place);
             first_in(
                 &mut tally,
                 rule,
-                packet.before,
-                packet.header.channel,
-                index.messages_in(place),
+                &packets[place],
+                messages,
                 most,
                 &mut found,
             )?;
@@ -125,15 +116,10 @@ pub fn first_misses_from<R: Advance + Drop>(
     let mut tally = Tally::new(alloc);
     'packets: for _made in 0..u64::MAX {
         match packets.next() {
-            Ok(Some(packet)) => first_in(
-                &mut tally,
-                rule,
-                packet.before,
-                packet.header.channel,
-                packets.messages(),
-                most,
-                &mut found,
-            )?,
+            Ok(Some(packet)) => {
+                let messages = packets.messages();
+                first_in(&mut tally, rule, &packet, messages, most, &mut found)?;
+            }
             Ok(None) => return Ok(found),
             Err(fault) => return Err(fault),
         }

@@ -1,13 +1,14 @@
 //! Passes over the messages of a recording: one for all rules, but for many rules of many channels.
-ghost use Rattle.std.specs.Prelude.{◌≡◌, ◌+◌, ◌<◌, ◌≤◌, ◌^◌, ◌∷◌, ◌++◌, [], List, length, reverse, IfOk, OnOk};
-ghost use Rattle.judge_rules.specs.declared.rules.Rule.{Rule};
+ghost use Rattle.bench_judge.specs.Tallies.{AreTallies, heard_on};
+ghost use Rattle.bench_judge.specs.Verdicts.{Heard, AreVerdicts};
 ghost use Rattle.ch11_f1.specs.Views.{message_of};
 ghost use Rattle.ch11_reader.specs.Contents.{heard_in};
-ghost use Rattle.bench_judge.specs.Verdicts.{Heard, AreVerdicts};
-ghost use Rattle.bench_judge.specs.Tallies.{AreTallies, heard_on};
+ghost use Rattle.judge_rules.specs.declared.rules.Rule.{Rule};
+ghost use Rattle.std.specs.Prelude.{◌≡◌, ◌+◌, ◌<◌, ◌≤◌, ◌^◌, ◌∷◌, ◌++◌, [], List, length, reverse, IfOk, OnOk};
 
 use crate::tallies::Tally;
 use crate::verdicts::{Verdict, verdict_of};
+use bench_select::no_channels;
 use ch11_f1::{Messages, Seen};
 use ch11_reader::Index;
 use judge_rules::Rule;
@@ -15,9 +16,6 @@ use std::alloc::{AllocError, Global};
 
 /// How many stamps are kept at once at most, one of each channel for each rule.
 const STAMPS: usize = 65536;
-
-/// The greatest number of channels.
-const CHANNELS: usize = 65536;
 
 /// The verdict of each rule on the messages of a recording, in the order of the rules. All rules share one pass over
 /// the recording, in which it is worked out at most once whether a message is clean; but where there are more rules
@@ -61,7 +59,7 @@ fn rules_of_a_pass(alloc: Global, index: &Index<'_>) -> Result<usize, AllocError
 
 /// How many channels a recording has packets of.
 fn channels_in(alloc: Global, index: &Index<'_>) -> Result<usize, AllocError> {
-    let mut met = vec![in alloc; false; CHANNELS]?;
+    let mut met = no_channels(alloc)?;
     let mut count = 0usize;
     for packet in index.packets() {
         let place = usize::from(packet.header.channel);

@@ -2,8 +2,8 @@
 use crate::names::Names;
 use crate::numbers::put_number;
 use crate::pass_fault::PassFault;
-use crate::sought::{Anew, Sought};
-use crate::verdicts::{Miss, Verdict, not_held};
+use crate::sought::{Anew, Sought, Wanted};
+use crate::verdicts::{Judged, Miss, Verdict, not_held};
 use bench_watch::Reopen;
 use ch11_reader::Index;
 use judge_rules::Rule;
@@ -100,7 +100,11 @@ fn put_case<S: Sought>(
     put_reason(text, verdict)?;
     text.extend_from_slice(b"\">")?;
     if verdict.missed > 0 {
-        let misses = recording.first_misses(*text.allocator(), rule, TOLD)?;
+        let misses = recording.first_misses(Wanted {
+            alloc: *text.allocator(),
+            rule,
+            most: TOLD,
+        })?;
         put_misses(text, misses.as_slice())?;
     }
     text.extend_from_slice(b"</failure>\n  </testcase>\n")?;
@@ -111,21 +115,19 @@ fn put_case<S: Sought>(
 fn report_of<S: Sought>(
     alloc: Global,
     recording: &S,
-    rules_text: &[u8],
-    rules: &[Rule],
-    verdicts: &[Verdict],
+    judged: Judged<'_>,
 ) -> Result<Vec<u8>, PassFault> {
     let mut text = Vec::new(alloc);
     text.extend_from_slice(b"<?xml version=\"1.0\" encoding=\"UTF-8\"?>\n")?;
     put_number(
         &mut text,
         b"<testsuite name=\"bench judge\" tests=\"",
-        verdicts.len() as u64,
+        judged.verdicts.len() as u64,
     )?;
-    put_number(&mut text, b"\" failures=\"", not_held(verdicts))?;
+    put_number(&mut text, b"\" failures=\"", not_held(judged.verdicts))?;
     text.extend_from_slice(b"\">\n")?;
-    let mut names = Names::of(rules_text);
-    for (rule, verdict) in rules.iter().zip(verdicts) {
+    let mut names = Names::of(judged.text);
+    for (rule, verdict) in judged.rules.iter().zip(judged.verdicts) {
         let name = names.at(verdict.line);
         put_case(&mut text, recording, name, rule, verdict)?;
     }
@@ -143,7 +145,8 @@ pub fn junit_text(
     rules: &[Rule],
     verdicts: &[Verdict],
 ) -> Result<Vec<u8>, PassFault> {
-    report_of(alloc, index, rules_text, rules, verdicts)
+    let judged = Judged::of(rules_text, rules, verdicts);
+    report_of(alloc, index, judged)
 }
 
 /// The same file, of a recording that is read anew for each rule that messages miss. A fault may also be the
@@ -155,5 +158,6 @@ pub fn junit_text_from<S: Reopen>(
     rules: &[Rule],
     verdicts: &[Verdict],
 ) -> Result<Vec<u8>, PassFault> {
-    report_of(alloc, &Anew { recording }, rules_text, rules, verdicts)
+    let judged = Judged::of(rules_text, rules, verdicts);
+    report_of(alloc, &Anew { recording }, judged)
 }

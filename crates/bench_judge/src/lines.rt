@@ -1,20 +1,20 @@
 //! Verdicts as plain lines, on their way to a writer.
-ghost use Rattle.std.specs.Prelude.{◌≡◌, ◌+◌, ◌<◌, ◌^◌, ◌∷◌, List, ℕ, Option, length, reverse, IfOk, OnOk};
-ghost use Rattle.std.specs.Io.KnownBytes.{Appends};
-ghost use Rattle.ch11_f1.specs.Views.{message_of};
-ghost use Rattle.ch11_reader.specs.Contents.{heard_in};
-ghost use Rattle.bench_judge.specs.Verdicts as spec;
-ghost use Rattle.bench_judge.specs.Verdicts.{Heard, AreVerdicts, IsVerdict};
-ghost use Rattle.bench_judge.specs.Tallies.{IsWriting, heard_on, miss_lines};
 ghost use Rattle.bench_judge.specs.Lines.{count_lines, last_line, miss_line, rule_line, rules_lines};
 ghost use Rattle.bench_judge.specs.Lines.{verdict_lines, verdict_text};
+ghost use Rattle.bench_judge.specs.Tallies.{IsWriting, heard_on, miss_lines};
+ghost use Rattle.bench_judge.specs.Verdicts as spec;
+ghost use Rattle.bench_judge.specs.Verdicts.{Heard, AreVerdicts, IsVerdict};
+ghost use Rattle.ch11_f1.specs.Views.{message_of};
+ghost use Rattle.ch11_reader.specs.Contents.{heard_in};
+ghost use Rattle.std.specs.Io.KnownBytes.{Appends};
+ghost use Rattle.std.specs.Prelude.{◌≡◌, ◌+◌, ◌<◌, ◌^◌, ◌∷◌, List, ℕ, Option, length, reverse, IfOk, OnOk};
 
 use crate::fault::PrintFault;
 use crate::judging::judge;
 use crate::tallies::Tally;
 use crate::verdicts::{Miss, Verdict, not_held};
 use ch11_f1::{Messages, Seen};
-use ch11_reader::Index;
+use ch11_reader::{Index, Packet};
 use judge_rules::Rule;
 use std::alloc::Global;
 use std::io;
@@ -45,35 +45,28 @@ fn write_message<W: Write>(
         → OnOk result (IsWriting rule.now got ((channel, message_of seen.now) ∷ history)
         (W.contents out.new) tally.new) }
 {
-    let mut known = None;
-    if tally.note(rule, channel, seen, &mut known)? {
-        let stamp = seen.stamp;
-        let miss = Miss {
-            number,
-            channel,
-            stamp,
-        };
+    if let Some(miss) = tally.note_miss(rule, number, channel, seen)? {
         write_miss(out, rule.line, &miss)?;
     }
     Ok(())
 }
 
-/// Writes those messages of a packet that miss the rule, behind so many messages of the file.
+/// Writes those messages of a packet that miss the rule.
 pub(crate) fn write_messages<W: Write>(
     tally: &mut Tally,
     rule: &Rule,
-    before: u64,
-    channel: u16,
+    packet: &Packet,
     messages: Messages<'_>,
     out: &mut W,
 ) -> Result<(), PrintFault>
-    requires { before + length messages < 2 ^ 64 }
+    requires { packet.now.before + length messages < 2 ^ 64 }
     ensures { (history : List Heard) → (got : Option (List ℕ))
-        → IsWriting rule.now got history (W.contents out.old) tally.old → before ≡ length history
-        → OnOk result (IsWriting rule.now got (heard_on channel messages.entry history)
+        → IsWriting rule.now got history (W.contents out.old) tally.old → packet.now.before ≡ length history
+        → OnOk result (IsWriting rule.now got (heard_on packet.now.header.channel messages.entry history)
         (W.contents out.new) tally.new) }
 {
-    let mut number = before;
+    let channel = packet.header.channel;
+    let mut number = packet.before;
     let mut rest = messages;
     'messages: while let Some(seen) = rest.next() {
         number += 1;
@@ -101,15 +94,8 @@ fn write_misses<W: Write>(
     let mut tally = Tally::new(alloc);
     let packets = index.packets();
     'packets: for place in 0..packets.len() {
-        let packet = &packets[place];
-        write_messages(
-            &mut tally,
-            rule,
-            packet.before,
-            packet.header.channel,
-            index.messages_in(place),
-            out,
-        )?;
+        let messages = index.messages_in(place);
+        write_messages(&mut tally, rule, &packets[place], messages, out)?;
     }
     Ok(())
 }

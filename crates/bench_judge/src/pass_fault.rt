@@ -1,8 +1,8 @@
 //! Why what is said of a recording was not said to its end.
-ghost use Rattle.std.specs.Prelude.{◌≡◌};
 ghost use Rattle.bench_judge.specs.declared.fault.PrintFault.TheVariants.{Device};
 ghost use Rattle.bench_judge.specs.declared.pass_fault.PassFault.TheVariants.{Printing, Recording};
 ghost use Rattle.ch11_stream.specs.declared.fault.StreamFault.TheVariants.{Memory};
+ghost use Rattle.std.specs.Prelude.{◌≡◌};
 
 use crate::fault::PrintFault;
 use ch11_stream::StreamFault;

@@ -1,13 +1,13 @@
 //! Verdicts as plain lines, of a recording that is read anew for each pass and never kept.
-ghost use Rattle.std.specs.Prelude.{◌≡◌, ℕ, List, Some, Ok, Err, length, IfOk};
-ghost use Rattle.ch11_reader.specs.declared.error.Refusal.{Refusal};
-ghost use Rattle.ch11_reader.specs.Indexed.{found_in};
-ghost use Rattle.ch11_reader.specs.Recording.{packets_in};
 ghost use Rattle.bench_judge.specs.Lines.{rules_lines, verdict_lines, verdict_text};
 ghost use Rattle.bench_judge.specs.Streaming.{Writes, history_of};
 ghost use Rattle.bench_judge.specs.Tallies.{miss_lines};
 ghost use Rattle.bench_judge.specs.Verdicts as spec;
 ghost use Rattle.bench_judge.specs.Verdicts.{AreVerdicts, IsVerdict};
+ghost use Rattle.ch11_reader.specs.Indexed.{found_in};
+ghost use Rattle.ch11_reader.specs.Recording.{packets_in};
+ghost use Rattle.ch11_reader.specs.declared.error.Refusal.{Refusal};
+ghost use Rattle.std.specs.Prelude.{◌≡◌, ℕ, List, Some, Ok, Err, length, IfOk};
 
 use crate::lines::{write_count, write_last, write_messages, write_numbers};
 use crate::pass_fault::PassFault;
@@ -36,14 +36,9 @@ pub fn write_misses_from<R: Advance + Drop, W: Write>(
     let mut tally = Tally::new(alloc);
     'packets: for _made in 0..u64::MAX {
         match packets.next() {
-            Ok(Some(packet)) => write_messages(
-                &mut tally,
-                rule,
-                packet.before,
-                packet.header.channel,
-                packets.messages(),
-                out,
-            )?,
+            Ok(Some(packet)) => {
+                write_messages(&mut tally, rule, &packet, packets.messages(), out)?;
+            }
             Ok(None) => return Ok(()),
             Err(fault) => return Err(PassFault::Recording(fault)),
         }

@@ -1,6 +1,6 @@
 //! The replies that are due to a message.
-ghost use Rattle.std.specs.Prelude.{◌≡◌, []};
 ghost use Rattle.bench_judge.specs.Clean as spec;
+ghost use Rattle.std.specs.Prelude.{◌≡◌, []};
 
 use ch11_layout::is_set;
 use mil_message::Due;

@@ -1,7 +1,7 @@
 //! Which messages a rule selects.
-ghost use Rattle.std.specs.Prelude.{◌≡◌};
-ghost use Rattle.ch11_f1.specs.Views.{message_of};
 ghost use Rattle.bench_judge.specs.Selection as spec;
+ghost use Rattle.ch11_f1.specs.Views.{message_of};
+ghost use Rattle.std.specs.Prelude.{◌≡◌};
 
 use bench_select::{is_of, is_on, selects_commands};
 use ch11_f1::Seen;

@@ -1,15 +1,15 @@
 //! Messages that miss a rule, as people read them.
 
 use crate::pass_fault::PassFault;
+use crate::sought::Wanted;
 use crate::tallies::Tally;
 use crate::verdicts::Miss;
 use bench_decode::{Line, Numbers, Place, write_message};
 use bench_places::number_in_channel;
 use ch11_f1::{Messages, Seen};
-use ch11_reader::Index;
+use ch11_reader::{Index, Packet};
 use ch11_stream::{Advance, Packets};
 use judge_rules::Rule;
-use std::alloc::Global;
 use std::io;
 use std::io::Write;
 
@@ -59,57 +59,46 @@ fn show_message<W: Write>(
     Ok(())
 }
 
-/// Writes those of a packet's messages, behind so many messages of the file.
+/// Writes those of a packet's messages.
 fn show_messages<W: Write>(
     showing: &mut Showing,
     line: &mut Line,
     rule: &Rule,
-    before: u64,
-    channel: u16,
+    packet: &Packet,
     messages: Messages<'_>,
     out: &mut W,
 ) -> Result<(), PassFault> {
-    let mut number = before;
+    let channel = packet.header.channel;
+    let mut number = packet.before;
     let mut rest = messages;
     'messages: while let Some(seen) = rest.next() {
         number = number.saturating_add(1);
-        let place = Place {
-            number,
-            channel,
-            in_channel: showing.numbers.next(channel),
-        };
+        let place = showing.numbers.place(number, channel);
         show_message(showing, line, rule, &place, &seen, out)?;
     }
     Ok(())
 }
 
-/// Writes the first messages that miss a rule, at most as many as that, of the bytes that a reader has left, as their
-/// packets come, and reads no further than these.
+/// Writes the messages that are wanted, of the bytes that a reader has left, as their packets come, and reads no
+/// further than these.
 pub(crate) fn write_shown_from<R: Advance + Drop, W: Write>(
     line: &mut Line,
-    alloc: Global,
     input: R,
-    rule: &Rule,
-    most: usize,
+    wanted: Wanted<'_>,
     out: &mut W,
 ) -> Result<(), PassFault> {
+    let (alloc, rule) = (wanted.alloc, wanted.rule);
     let mut packets = Packets::over(alloc, input)?;
     let mut showing = Showing {
         tally: Tally::new(alloc),
         numbers: Numbers::new(alloc)?,
-        left: most,
+        left: wanted.most,
     };
     'packets: for _made in 0..u64::MAX {
         match packets.next() {
-            Ok(Some(packet)) => show_messages(
-                &mut showing,
-                line,
-                rule,
-                packet.before,
-                packet.header.channel,
-                packets.messages(),
-                out,
-            )?,
+            Ok(Some(packet)) => {
+                show_messages(&mut showing, line, rule, &packet, packets.messages(), out)?
+            }
             Ok(None) => break,
             Err(fault) => return Err(PassFault::Recording(fault)),
         }

@@ -11,41 +11,40 @@ use judge_rules::Rule;
 use std::alloc::Global;
 use std::io::Write;
 
+/// Which messages are looked for: the first that miss a rule, at most as many as that.
+#[derive(Clone, Copy)]
+pub(crate) struct Wanted<'r> {
+    pub(crate) alloc: Global,
+    pub(crate) rule: &'r Rule,
+    pub(crate) most: usize,
+}
+
 /// A recording in which the messages that miss a rule are looked for.
 pub(crate) trait Sought {
-    /// The first messages that miss a rule, at most as many as that.
-    fn first_misses(&self, alloc: Global, rule: &Rule, most: usize) -> Result<Vec<Miss>, PassFault>;
+    /// These messages.
+    fn first_misses(&self, wanted: Wanted<'_>) -> Result<Vec<Miss>, PassFault>;
 
     /// Writes these messages, each on a line as `bench dump --decode` shows it.
     fn write_first<W: Write>(
         &self,
+        wanted: Wanted<'_>,
         line: &mut Line,
-        alloc: Global,
-        rule: &Rule,
-        most: usize,
         out: &mut W,
     ) -> Result<(), PassFault>;
 }
 
 impl Sought for Index<'_> {
-    fn first_misses(
-        &self,
-        alloc: Global,
-        rule: &Rule,
-        most: usize,
-    ) -> Result<Vec<Miss>, PassFault> {
-        Ok(first_misses(alloc, self, rule, most)?)
+    fn first_misses(&self, wanted: Wanted<'_>) -> Result<Vec<Miss>, PassFault> {
+        Ok(first_misses(wanted.alloc, self, wanted.rule, wanted.most)?)
     }
 
     fn write_first<W: Write>(
         &self,
+        wanted: Wanted<'_>,
         line: &mut Line,
-        alloc: Global,
-        rule: &Rule,
-        most: usize,
         out: &mut W,
     ) -> Result<(), PassFault> {
-        let misses = first_misses(alloc, self, rule, most)?;
+        let misses = self.first_misses(wanted)?;
         write_shown(line, self, misses.as_slice(), out)?;
         Ok(())
     }
@@ -58,29 +57,18 @@ pub(crate) struct Anew<'s, S> {
 }
 
 impl<S: Reopen> Sought for Anew<'_, S> {
-    fn first_misses(
-        &self,
-        alloc: Global,
-        rule: &Rule,
-        most: usize,
-    ) -> Result<Vec<Miss>, PassFault> {
-        match self.recording.reopen() {
-            Ok(input) => Ok(first_misses_from(alloc, input, rule, most)?),
-            Err(error) => Err(PassFault::Opening(error)),
-        }
+    fn first_misses(&self, wanted: Wanted<'_>) -> Result<Vec<Miss>, PassFault> {
+        let input = self.recording.reopen().map_err(PassFault::Opening)?;
+        Ok(first_misses_from(wanted.alloc, input, wanted.rule, wanted.most)?)
     }
 
     fn write_first<W: Write>(
         &self,
+        wanted: Wanted<'_>,
         line: &mut Line,
-        alloc: Global,
-        rule: &Rule,
-        most: usize,
         out: &mut W,
     ) -> Result<(), PassFault> {
-        match self.recording.reopen() {
-            Ok(input) => write_shown_from(line, alloc, input, rule, most, out),
-            Err(error) => Err(PassFault::Opening(error)),
-        }
+        let input = self.recording.reopen().map_err(PassFault::Opening)?;
+        write_shown_from(line, input, wanted, out)
     }
 }

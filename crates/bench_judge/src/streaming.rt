@@ -1,8 +1,8 @@
 //! One pass for all rules over a recording whose packets come from a reader.
-ghost use Rattle.std.specs.Prelude.{◌≡◌, ℕ, List, Some, IfOk, length, reverse};
+ghost use Rattle.bench_judge.specs.Verdicts.{AreVerdicts};
 ghost use Rattle.ch11_reader.specs.Contents.{heard_in};
 ghost use Rattle.ch11_stream.specs.Folding.{Finds};
-ghost use Rattle.bench_judge.specs.Verdicts.{AreVerdicts};
+ghost use Rattle.std.specs.Prelude.{◌≡◌, ℕ, List, Some, IfOk, length, reverse};
 
 use crate::judging::{no_tallies, note_messages, verdicts_of};
 use crate::verdicts::Verdict;

@@ -1,14 +1,15 @@
 //! The verdict of a rule while the recording is passed.
-ghost use Rattle.std.specs.Prelude.{◌≡◌, ◌+◌, ◌∷◌, ◌<◌, ◌≤◌, ◌^◌, [], true, List, length, OnOk, IfOk};
-ghost use Rattle.ch11_f1.specs.Views.{message_of};
 ghost use Rattle.bench_judge.specs.Checks.{meets as spec_meets};
 ghost use Rattle.bench_judge.specs.Clean.{IsKnown};
 ghost use Rattle.bench_judge.specs.Selection.{selects as selects_message};
+ghost use Rattle.bench_judge.specs.Tallies.{IsLatest, IsMissIf, IsTally, miss_at, misses_next};
 ghost use Rattle.bench_judge.specs.Verdicts.{Heard, latest_stamp};
-ghost use Rattle.bench_judge.specs.Tallies.{IsTally, IsLatest, misses_next};
+ghost use Rattle.ch11_f1.specs.Views.{message_of};
+ghost use Rattle.std.specs.Prelude.{◌≡◌, ◌+◌, ◌∷◌, ◌<◌, ◌≤◌, ◌^◌, [], true, List, length, OnOk, IfOk};
 
 use crate::checks::{follows_in, meets, period_of};
 use crate::selection::selects;
+use crate::verdicts::Miss;
 use ch11_f1::Seen;
 use judge_rules::{Check, Rule};
 use std::alloc::{AllocError, Global};
@@ -89,5 +90,31 @@ impl Tally {
         }
         self.missed = self.missed.saturating_add(1);
         Ok(true)
+    }
+
+    /// One more message of a channel, of this number in the file. Answers it if it misses the rule.
+    pub(crate) fn note_miss(
+        &mut self,
+        rule: &Rule,
+        number: u64,
+        channel: u16,
+        seen: &Seen<'_>,
+    ) -> Result<Option<Miss>, AllocError>
+        ensures told { (history : List Heard) → IsTally rule.now history self.old
+            → IfOk result (IsMissIf (misses_next rule.now history (channel, message_of seen.now))
+            (miss_at number (channel, message_of seen.now))) }
+        ensures noted { (history : List Heard) → IsTally rule.now history self.old → length history + 1 < 2 ^ 64
+            → OnOk result (IsTally rule.now ((channel, message_of seen.now) ∷ history) self.new) }
+    {
+        let mut known = None;
+        let stamp = seen.stamp;
+        if self.note(rule, channel, seen, &mut known)? {
+            return Ok(Some(Miss {
+                number,
+                channel,
+                stamp,
+            }));
+        }
+        Ok(None)
     }
 }

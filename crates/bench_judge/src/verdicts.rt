@@ -1,6 +1,6 @@
 //! What became of a rule.
-ghost use Rattle.std.specs.Prelude.{◌≡◌, ◌≤◌, length};
 ghost use Rattle.bench_judge.specs.Verdicts as spec;
+ghost use Rattle.std.specs.Prelude.{◌≡◌, ◌≤◌, length};
 
 use crate::checks::{counts, is_count};
 use judge_rules::Rule;
@@ -30,6 +30,25 @@ pub struct Verdict {
     /// Whether it is held: no selected message misses it, a count is met, and any other rule selects a message at
     /// least.
     pub held: bool,
+}
+
+/// Rules that a text spells, with the verdict on each.
+#[derive(Clone, Copy)]
+pub(crate) struct Judged<'j> {
+    pub(crate) text: &'j [u8],
+    pub(crate) rules: &'j [Rule],
+    pub(crate) verdicts: &'j [Verdict],
+}
+
+impl<'j> Judged<'j> {
+    /// These rules, which this text spells, with these verdicts.
+    pub(crate) fn of(text: &'j [u8], rules: &'j [Rule], verdicts: &'j [Verdict]) -> Judged<'j> {
+        Judged {
+            text,
+            rules,
+            verdicts,
+        }
+    }
 }
 
 /// The verdict of a rule that selects so many messages, of which so many miss it.

@@ -1,8 +1,8 @@
 //! Status words and data words of a recorded message.
-ghost use Rattle.std.specs.Prelude.{◌≡◌, ◌≤◌, ◌-◌};
+ghost use Rattle.bench_judge.specs.Words as spec;
 ghost use Rattle.ch11_f1.specs.Views.{message_of};
 ghost use Rattle.ch11_layout.specs.Layouts.{layout_of};
-ghost use Rattle.bench_judge.specs.Words as spec;
+ghost use Rattle.std.specs.Prelude.{◌≡◌, ◌≤◌, ◌-◌};
 
 use arrayvec::ArrayVec;
 use ch11_f1::Seen;

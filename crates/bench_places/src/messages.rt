@@ -1,8 +1,8 @@
 //! The messages of a recording, one after the other.
-ghost use Rattle.std.specs.Prelude.{◌≡◌, drop};
-ghost use Rattle.std.specs.Iterator.{YieldsFirstBy, item_count};
 ghost use Rattle.ch11_f1.specs.Views.{message_of};
 ghost use Rattle.ch11_reader.specs.Contents.{heard_in};
+ghost use Rattle.std.specs.Iterator.{YieldsFirstBy, item_count};
+ghost use Rattle.std.specs.Prelude.{◌≡◌, drop};
 
 use ch11_f1::{Messages, Seen};
 use ch11_reader::Index;
@@ -19,10 +19,10 @@ pub(crate) struct Following<'a, 'i> {
 }
 
 impl<'a, 'i> Model for Following<'a, 'i> {
-    ghost use Rattle.std.specs.Prelude.{List, ◌++◌, drop, map};
+    ghost use Rattle.bench_places.specs.Places.{Heard};
     ghost use Rattle.ch11_f1.specs.BodyReading.{Message};
     ghost use Rattle.ch11_reader.specs.Contents.{heard_in};
-    ghost use Rattle.bench_places.specs.Places.{Heard};
+    ghost use Rattle.std.specs.Prelude.{List, ◌++◌, drop, map};
 
     ghost Value = { List Heard };
 

@@ -1,8 +1,8 @@
 //! The places of messages.
-ghost use Rattle.std.specs.Prelude.{◌≡◌, ◌≤◌, ◌<◌, ◌+◌, ◌^◌, ◌∷◌, [], drop, length, MatchOption, Some, if◌then◌else◌};
-ghost use Rattle.ch11_f1.specs.Views.{message_of};
 ghost use Rattle.bench_places.specs.Places.{count_of, count_to, latest_of, meets, numbered, place_before, place_of};
 ghost use Rattle.bench_places.specs.Places.{places_behind};
+ghost use Rattle.ch11_f1.specs.Views.{message_of};
+ghost use Rattle.std.specs.Prelude.{◌≡◌, ◌≤◌, ◌<◌, ◌+◌, ◌^◌, ◌∷◌, [], drop, length, MatchOption, Some, if◌then◌else◌};
 
 use crate::messages::Following;
 use crate::sought::Sought;

@@ -1,7 +1,7 @@
 //! What is asked of a message.
-ghost use Rattle.std.specs.Prelude.{◌≡◌};
-ghost use Rattle.ch11_f1.specs.Views.{message_of};
 ghost use Rattle.bench_places.specs.Places.{meets};
+ghost use Rattle.ch11_f1.specs.Views.{message_of};
+ghost use Rattle.std.specs.Prelude.{◌≡◌};
 
 use bench_select::{Selector, selects_commands};
 use ch11_f1::Seen;

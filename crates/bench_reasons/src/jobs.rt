@@ -4,8 +4,8 @@ use crate::fault::ScriptFault;
 use crate::places::Place;
 use crate::reason::Reason;
 use crate::scripts::{Text, reason_behind};
-use crate::words::next_word;
 use std::alloc::{AllocError, Global};
+use text_lines::next_word;
 
 /// Why the script of a job is refused with a fault at a place of the whole text; none where that is no fault of it.
 pub fn job_script_reason(

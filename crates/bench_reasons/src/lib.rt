@@ -15,7 +15,6 @@ mod session;
 mod showing;
 mod spans;
 mod symbols;
-mod tokens;
 mod view;
 mod walk;
 mod words;

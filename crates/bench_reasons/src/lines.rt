@@ -8,8 +8,8 @@ use crate::repeated::{order_reason, terminal_reason};
 use crate::spans::{count_of_actions, order_of_messages};
 use crate::symbols::Symbol;
 use crate::walk::{Walk, text_of};
-use crate::words::next_word;
 use std::alloc::{AllocError, Global};
+use text_lines::next_word;
 
 /// What is wrong with a word of a line: the column of its first byte, counted from 1, and how many it has.
 #[derive(Clone, Copy)]

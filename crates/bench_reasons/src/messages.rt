@@ -5,8 +5,8 @@ use crate::kinds::{Kind, Slip};
 use crate::places::{last_of, place_at};
 use crate::reason::Reason;
 use crate::symbols::{Symbol, behind_message_word};
-use crate::tokens::next_token;
 use crate::walk::text_of;
+use frame_text::next_token;
 use numerals::spelled;
 
 /// How many data words a message may have (MIL-STD-1553B 4.3.3.5.1.5).

@@ -3,8 +3,9 @@
 use crate::places::{Place, line_of};
 use crate::reason::{Other, Reason};
 use crate::walk::text_of;
-use crate::words::{column_of, from_nth_word, split_word};
+use crate::words::{column_of, from_nth_word};
 use numerals::spelled;
+use text_lines::split_word;
 
 /// The first word of a line, and the one behind it; empty where there is none.
 fn words_of(line: &[u8]) -> (&[u8], &[u8]) {

@@ -3,8 +3,9 @@
 use crate::places::{Place, line_of};
 use crate::reason::Reason;
 use crate::walk::text_of;
-use crate::words::{column_of, from_nth_word, split_word};
+use crate::words::{column_of, from_nth_word};
 use numerals::spelled;
+use text_lines::split_word;
 
 /// Whether a line of a job stands for many messages: its second word is the first of them, its third the last.
 fn is_of_many(line: &[u8]) -> bool {

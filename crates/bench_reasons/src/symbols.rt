@@ -1,6 +1,14 @@
 //! What may stand next in a script, in a line of a job or in the text of a message, as symbols of one grammar.
 
 use crate::kinds::Kind;
+use crate::kinds::Kind::{
+    Address, Channel, Count, DataWord, Direction, Gap, HalfBits, Index, LateTicks, Line,
+    MessageNumber, ModeCode, Name, NewName, Period, ReplyRun, ResponseTicks, Retries, Run,
+    StartTick, StatusBit, Step, Subaddress, Switch, Sync, TransmitSubaddress, Turns,
+};
+use Symbol::{
+    Action, Block, Condition, Else, Message, One, OptionalWords, PlannedFault, Rest, Token, Words,
+};
 
 /// What may stand next.
 #[derive(Clone, Copy, Debug, PartialEq, Eq)]
@@ -35,160 +43,24 @@ pub enum Symbol {
     Action,
 }
 
-/// A block in its braces.
-const BLOCK: &[Symbol] = &[Symbol::Token("{"), Symbol::Block];
-
-/// A line and a message.
-const SEND: &[Symbol] = &[Symbol::One(Kind::Line), Symbol::Message];
-
-const RETRY: &[Symbol] = &[
-    Symbol::One(Kind::Retries),
-    Symbol::Token("send"),
-    Symbol::One(Kind::Line),
-    Symbol::Message,
-];
-
-const REPEAT: &[Symbol] = &[Symbol::One(Kind::Turns), Symbol::Token("{"), Symbol::Block];
-
-const FRAME: &[Symbol] = &[Symbol::One(Kind::Period), Symbol::Token("{"), Symbol::Block];
-
-const CHOICE: &[Symbol] = &[
-    Symbol::Condition,
-    Symbol::Token("{"),
-    Symbol::Block,
-    Symbol::Else,
-];
-
-const UNTIL: &[Symbol] = &[
-    Symbol::Condition,
-    Symbol::Token("at"),
-    Symbol::Token("most"),
-    Symbol::One(Kind::Turns),
-    Symbol::Token("{"),
-    Symbol::Block,
-];
-
-/// Two conditions in their brackets.
-const PAIR: &[Symbol] = &[
-    Symbol::Token("("),
-    Symbol::Condition,
-    Symbol::Condition,
-    Symbol::Token(")"),
-];
-
-const RECEIVE: &[Symbol] = &[
-    Symbol::One(Kind::Address),
-    Symbol::One(Kind::Subaddress),
-    Symbol::Token("["),
-    Symbol::Words,
-];
-
-const TRANSMIT: &[Symbol] = &[
-    Symbol::One(Kind::Address),
-    Symbol::One(Kind::Subaddress),
-    Symbol::One(Kind::Count),
-];
-
-const TRANSFER: &[Symbol] = &[
-    Symbol::One(Kind::Address),
-    Symbol::One(Kind::Subaddress),
-    Symbol::One(Kind::Address),
-    Symbol::One(Kind::Subaddress),
-    Symbol::One(Kind::Count),
-];
-
-const MODE: &[Symbol] = &[
-    Symbol::One(Kind::Address),
-    Symbol::One(Kind::ModeCode),
-    Symbol::OptionalWords,
-];
-
-const RECEIVE_ALL: &[Symbol] = &[
-    Symbol::One(Kind::Subaddress),
-    Symbol::Token("["),
-    Symbol::Words,
-];
-
-const TRANSFER_ALL: &[Symbol] = &[
-    Symbol::One(Kind::Address),
-    Symbol::One(Kind::Subaddress),
-    Symbol::One(Kind::Subaddress),
-    Symbol::One(Kind::Count),
-];
-
-const MODE_ALL: &[Symbol] = &[Symbol::One(Kind::ModeCode), Symbol::OptionalWords];
-
-/// The place of a word.
-const PLACE: &[Symbol] = &[Symbol::One(Kind::Run), Symbol::One(Kind::Index)];
-
-const MASK: &[Symbol] = &[
-    Symbol::One(Kind::Run),
-    Symbol::One(Kind::Index),
-    Symbol::One(Kind::HalfBits),
-];
-
-const ADD: &[Symbol] = &[
-    Symbol::One(Kind::Run),
-    Symbol::One(Kind::Index),
-    Symbol::One(Kind::Sync),
-    Symbol::One(Kind::DataWord),
-];
-
-const LATE: &[Symbol] = &[Symbol::One(Kind::ReplyRun), Symbol::One(Kind::LateTicks)];
-
-const ACTION: &[Symbol] = &[
-    Symbol::One(Kind::MessageNumber),
-    Symbol::One(Kind::Address),
-    Symbol::Action,
-];
-
-const LEGALITY: &[Symbol] = &[
-    Symbol::One(Kind::Direction),
-    Symbol::One(Kind::Subaddress),
-    Symbol::One(Kind::Count),
-];
-
-const WORDS_PUT_UP: &[Symbol] = &[
-    Symbol::One(Kind::TransmitSubaddress),
-    Symbol::One(Kind::DataWord),
-    Symbol::Rest(Kind::DataWord),
-];
-
-const PLANNED: &[Symbol] = &[Symbol::One(Kind::MessageNumber), Symbol::PlannedFault];
-
-/// The numbers of messages: the first, the last, and how far they are apart; and a fault that is planned at each.
-const MANY_PLANNED: &[Symbol] = &[
-    Symbol::One(Kind::MessageNumber),
-    Symbol::One(Kind::MessageNumber),
-    Symbol::One(Kind::Step),
-    Symbol::PlannedFault,
-];
-
-/// The same numbers; a terminal, a subaddress, and two data words.
-const SERIES: &[Symbol] = &[
-    Symbol::One(Kind::MessageNumber),
-    Symbol::One(Kind::MessageNumber),
-    Symbol::One(Kind::Step),
-    Symbol::One(Kind::Address),
-    Symbol::One(Kind::TransmitSubaddress),
-    Symbol::One(Kind::DataWord),
-    Symbol::One(Kind::DataWord),
-];
-
-/// Whether something is on, on one line.
-const ON_LINE: &[Symbol] = &[Symbol::One(Kind::Line), Symbol::One(Kind::Switch)];
-
 /// What follows the first word of a frame; none where no frame begins so.
 fn behind_frame_word(word: &str) -> Option<&'static [Symbol]> {
     match word {
-        "send" => Some(SEND),
-        "retry" => Some(RETRY),
-        "gap" => Some(&[Symbol::One(Kind::Gap)]),
-        "repeat" => Some(REPEAT),
-        "if" => Some(CHOICE),
-        "until" => Some(UNTIL),
-        "call" => Some(&[Symbol::One(Kind::Name)]),
-        "frame" => Some(FRAME),
+        "send" => Some(&[One(Line), Message]),
+        "retry" => Some(&[One(Retries), Token("send"), One(Line), Message]),
+        "gap" => Some(&[One(Gap)]),
+        "repeat" => Some(&[One(Turns), Token("{"), Block]),
+        "if" => Some(&[Condition, Token("{"), Block, Else]),
+        "until" => Some(&[
+            Condition,
+            Token("at"),
+            Token("most"),
+            One(Turns),
+            Token("{"),
+            Block,
+        ]),
+        "call" => Some(&[One(Name)]),
+        "frame" => Some(&[One(Period), Token("{"), Block]),
         _ => None,
     }
 }
@@ -196,13 +68,19 @@ fn behind_frame_word(word: &str) -> Option<&'static [Symbol]> {
 /// What follows the first word of a message; none where no message begins so.
 pub fn behind_message_word(word: &str) -> Option<&'static [Symbol]> {
     match word {
-        "rx" => Some(RECEIVE),
-        "tx" => Some(TRANSMIT),
-        "rt" => Some(TRANSFER),
-        "mode" | "mode0" => Some(MODE),
-        "brx" => Some(RECEIVE_ALL),
-        "brt" => Some(TRANSFER_ALL),
-        "bmode" | "bmode0" => Some(MODE_ALL),
+        "rx" => Some(&[One(Address), One(Subaddress), Token("["), Words]),
+        "tx" => Some(&[One(Address), One(Subaddress), One(Count)]),
+        "rt" => Some(&[
+            One(Address),
+            One(Subaddress),
+            One(Address),
+            One(Subaddress),
+            One(Count),
+        ]),
+        "mode" | "mode0" => Some(&[One(Address), One(ModeCode), OptionalWords]),
+        "brx" => Some(&[One(Subaddress), Token("["), Words]),
+        "brt" => Some(&[One(Address), One(Subaddress), One(Subaddress), One(Count)]),
+        "bmode" | "bmode0" => Some(&[One(ModeCode), OptionalWords]),
         _ => None,
     }
 }
@@ -211,9 +89,9 @@ pub fn behind_message_word(word: &str) -> Option<&'static [Symbol]> {
 fn behind_condition_word(word: &str) -> Option<&'static [Symbol]> {
     match word {
         "fail" | "silent" => Some(&[]),
-        "bit" => Some(&[Symbol::One(Kind::StatusBit)]),
-        "not" => Some(&[Symbol::Condition]),
-        "all" | "any" => Some(PAIR),
+        "bit" => Some(&[One(StatusBit)]),
+        "not" => Some(&[Condition]),
+        "all" | "any" => Some(&[Token("("), Condition, Condition, Token(")")]),
         _ => None,
     }
 }
@@ -221,13 +99,27 @@ fn behind_condition_word(word: &str) -> Option<&'static [Symbol]> {
 /// What follows the first word of a line of a job.
 fn behind_entry_word(word: &str) -> Option<&'static [Symbol]> {
     match word {
-        "channel" => Some(&[Symbol::One(Kind::Channel)]),
-        "start" => Some(&[Symbol::One(Kind::StartTick)]),
-        "terminal" => Some(&[Symbol::One(Kind::Address)]),
-        "at" => Some(ACTION),
-        "fault" => Some(PLANNED),
-        "faults" => Some(MANY_PLANNED),
-        "series" => Some(SERIES),
+        "channel" => Some(&[One(Channel)]),
+        "start" => Some(&[One(StartTick)]),
+        "terminal" => Some(&[One(Address)]),
+        "at" => Some(&[One(MessageNumber), One(Address), Action]),
+        "fault" => Some(&[One(MessageNumber), PlannedFault]),
+        // the first message, the last, and how far they are apart
+        "faults" => Some(&[
+            One(MessageNumber),
+            One(MessageNumber),
+            One(Step),
+            PlannedFault,
+        ]),
+        "series" => Some(&[
+            One(MessageNumber),
+            One(MessageNumber),
+            One(Step),
+            One(Address),
+            One(TransmitSubaddress),
+            One(DataWord),
+            One(DataWord),
+        ]),
         "script" => Some(&[]),
         _ => None,
     }
@@ -236,11 +128,11 @@ fn behind_entry_word(word: &str) -> Option<&'static [Symbol]> {
 /// What follows the name of a planned fault.
 fn behind_fault_word(word: &str) -> Option<&'static [Symbol]> {
     match word {
-        "mask" => Some(MASK),
-        "drop" => Some(PLACE),
-        "add" => Some(ADD),
-        "late" => Some(LATE),
-        "mute" => Some(&[Symbol::One(Kind::ReplyRun)]),
+        "mask" => Some(&[One(Run), One(Index), One(HalfBits)]),
+        "drop" => Some(&[One(Run), One(Index)]),
+        "add" => Some(&[One(Run), One(Index), One(Sync), One(DataWord)]),
+        "late" => Some(&[One(ReplyRun), One(LateTicks)]),
+        "mute" => Some(&[One(ReplyRun)]),
         _ => None,
     }
 }
@@ -248,14 +140,12 @@ fn behind_fault_word(word: &str) -> Option<&'static [Symbol]> {
 /// What follows the name of an action.
 fn behind_action_word(word: &str) -> Option<&'static [Symbol]> {
     match word {
-        "transmit" => Some(WORDS_PUT_UP),
-        "busy" | "service" | "subsystem" | "fault" | "control" => {
-            Some(&[Symbol::One(Kind::Switch)])
-        }
-        "deaf" | "mute" => Some(ON_LINE),
-        "vector" | "selftest" => Some(&[Symbol::One(Kind::DataWord)]),
-        "illegal" | "legal" => Some(LEGALITY),
-        "response" => Some(&[Symbol::One(Kind::ResponseTicks)]),
+        "transmit" => Some(&[One(TransmitSubaddress), One(DataWord), Rest(DataWord)]),
+        "busy" | "service" | "subsystem" | "fault" | "control" => { Some(&[One(Switch)]) }
+        "deaf" | "mute" => Some(&[One(Line), One(Switch)]),
+        "vector" | "selftest" => Some(&[One(DataWord)]),
+        "illegal" | "legal" => Some(&[One(Direction), One(Subaddress), One(Count)]),
+        "response" => Some(&[One(ResponseTicks)]),
         _ => None,
     }
 }
@@ -265,18 +155,14 @@ impl Symbol {
     /// where the token is none that may begin it. Words of a kind are not judged.
     pub fn behind(self, token: &str) -> Option<&'static [Symbol]> {
         match self {
-            Symbol::Script if token == "define" => Some(&[
-                Symbol::One(Kind::NewName),
-                Symbol::Token("{"),
-                Symbol::Block,
-            ]),
+            Symbol::Script if token == "define" => Some(&[One(NewName), Token("{"), Block]),
             Symbol::Script | Symbol::Frames => behind_frame_word(token),
             Symbol::Block if token == "}" => Some(&[]),
             Symbol::Block => behind_frame_word(token),
-            Symbol::Else if token == "else" => Some(BLOCK),
+            Symbol::Else if token == "else" => Some(&[Token("{"), Block]),
             Symbol::Message => behind_message_word(token),
             Symbol::Condition => behind_condition_word(token),
-            Symbol::OptionalWords if token == "[" => Some(&[Symbol::Words]),
+            Symbol::OptionalWords if token == "[" => Some(&[Words]),
             Symbol::Token(wanted) if token == wanted => Some(&[]),
             Symbol::Else | Symbol::OptionalWords | Symbol::Token(_) => None,
             Symbol::Words | Symbol::One(_) | Symbol::Rest(_) => Some(&[]),

@@ -2,7 +2,7 @@
 
 use crate::places::last_of;
 use crate::symbols::Symbol;
-use crate::tokens::next_token;
+use frame_text::next_token;
 use std::alloc::{AllocError, Global};
 use std::str;
 

@@ -1,7 +1,7 @@
 //! The first and the last message of a selection, and how they are written.
-ghost use Rattle.std.specs.Prelude.{◌≡◌, ◌≤◌, ◌<◌, ◌^◌, length, IfSome};
-ghost use Rattle.std.specs.List.{position_or_len};
 ghost use Rattle.bench_select.specs.Bounds as spec;
+ghost use Rattle.std.specs.List.{position_or_len};
+ghost use Rattle.std.specs.Prelude.{◌≡◌, ◌≤◌, ◌<◌, ◌^◌, length, IfSome};
 
 use numerals::spelled;
 

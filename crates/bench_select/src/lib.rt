@@ -1,12 +1,14 @@
 //! One way to choose messages of a recording, for all commands that look at one: by channel, line, form, errors, number
-//! and time. Its tests are in `command_tests`.
+//! and time; and a mark for each channel. Its tests are in `command_tests`.
 #![tactic(auto)]
 
 mod bounds;
+mod channels;
 mod selection;
 mod selectors;
 
 pub use bounds::{Bound, read_bound};
+pub use channels::{CHANNELS, mark_channel, no_channels};
 pub use judge_rules::{Bus, Selector};
 pub use selection::Selection;
 pub use selectors::{is_of, is_on, selects_commands};

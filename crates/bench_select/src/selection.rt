@@ -1,7 +1,7 @@
 //! A selection of messages.
-ghost use Rattle.std.specs.Prelude.{◌≡◌};
-ghost use Rattle.ch11_f1.specs.Views.{message_of};
 ghost use Rattle.bench_select.specs.Selecting as spec;
+ghost use Rattle.ch11_f1.specs.Views.{message_of};
+ghost use Rattle.std.specs.Prelude.{◌≡◌};
 
 use crate::bounds::Bound;
 use crate::selectors::{is_of, is_on, selects_commands};

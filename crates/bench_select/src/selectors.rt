@@ -1,8 +1,8 @@
 //! Which messages a selector is about, and which are of a channel and on a line.
-ghost use Rattle.std.specs.Prelude.{◌≡◌};
+ghost use Rattle.bench_select.specs.Selectors as spec;
 ghost use Rattle.ch11_f1.specs.Views.{message_of};
 ghost use Rattle.ch11_layout.specs.Layouts.{commands_in};
-ghost use Rattle.bench_select.specs.Selectors as spec;
+ghost use Rattle.std.specs.Prelude.{◌≡◌};
 
 use ch11_f1::Seen;
 use ch11_layout::{is_set, word_at};

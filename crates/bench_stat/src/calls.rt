@@ -1,6 +1,6 @@
 //! Commands to terminals.
-ghost use Rattle.std.specs.Prelude.{◌≡◌, ◌<◌};
 ghost use Rattle.bench_stat.specs.Sendings.{call_by, kind_of};
+ghost use Rattle.std.specs.Prelude.{◌≡◌, ◌<◌};
 
 use mil_word::Command;
 

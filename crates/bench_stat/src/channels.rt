@@ -1,7 +1,7 @@
 //! The figures of a channel.
-ghost use Rattle.std.specs.Prelude.{◌≡◌};
-ghost use Rattle.bench_stat.specs.Figures.{figures_of_channel};
 ghost use Rattle.bench_stat.specs.Chosen.{history_of};
+ghost use Rattle.bench_stat.specs.Figures.{figures_of_channel};
+ghost use Rattle.std.specs.Prelude.{◌≡◌};
 
 use crate::chosen::Chosen;
 use crate::errors::Errors;

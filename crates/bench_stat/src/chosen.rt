@@ -1,10 +1,10 @@
 //! The selected messages of a channel.
-ghost use Rattle.std.specs.Prelude.{◌≡◌, ◌+◌, ◌<◌, ◌^◌, ◌∷◌, [], length, take, drop, MatchOption};
-ghost use Rattle.std.specs.Iterator.{YieldsFirstBy, item_count};
-ghost use Rattle.ch11_f1.specs.Views.{message_of};
-ghost use Rattle.ch11_reader.specs.Contents.{total_in};
 ghost use Rattle.bench_select.specs.declared.selection.Selection.{Selection as SelectionValue};
 ghost use Rattle.bench_stat.specs.Chosen.{picked, chosen, IsNext};
+ghost use Rattle.ch11_f1.specs.Views.{message_of};
+ghost use Rattle.ch11_reader.specs.Contents.{total_in};
+ghost use Rattle.std.specs.Iterator.{YieldsFirstBy, item_count};
+ghost use Rattle.std.specs.Prelude.{◌≡◌, ◌+◌, ◌<◌, ◌^◌, ◌∷◌, [], length, take, drop, MatchOption};
 
 use bench_select::Selection;
 use ch11_f1::{Messages, Seen};
@@ -25,10 +25,10 @@ pub(crate) struct Chosen<'a, 'i> {
 }
 
 impl<'a, 'i> Model for Chosen<'a, 'i> {
-    ghost use Rattle.std.specs.Prelude.{List, ◌++◌, ◌+◌, ◌<◌, ◌^◌, length, take, drop};
+    ghost use Rattle.bench_stat.specs.Chosen.{picked, chosen};
     ghost use Rattle.ch11_f1.specs.BodyReading.{Message};
     ghost use Rattle.ch11_reader.specs.Contents.{total_in};
-    ghost use Rattle.bench_stat.specs.Chosen.{picked, chosen};
+    ghost use Rattle.std.specs.Prelude.{List, ◌++◌, ◌+◌, ◌<◌, ◌^◌, length, take, drop};
 
     ghost Value = { List Message };
 

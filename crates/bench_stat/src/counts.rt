@@ -1,6 +1,6 @@
 //! Counts that stop at the most that 64 bits hold.
-ghost use Rattle.std.specs.Prelude.{◌≡◌, ◌+◌};
 ghost use Rattle.bench_stat.specs.Figures.{capped, one_if};
+ghost use Rattle.std.specs.Prelude.{◌≡◌, ◌+◌};
 
 /// The sum, at most 2^64 - 1.
 pub(crate) fn more(count: u64, by: u64) -> u64

@@ -1,11 +1,11 @@
 //! What is told of a channel beside its figures, each in one pass over its selected messages.
-ghost use Rattle.std.specs.Prelude.{◌≡◌, ◌∷◌, [], List, IfOk};
-ghost use Rattle.ch11_f1.specs.BodyReading.{Message};
-ghost use Rattle.ch11_f1.specs.Views.{message_of};
 ghost use Rattle.bench_stat.specs.Chosen.{history_of};
 ghost use Rattle.bench_stat.specs.Details.{details_of};
 ghost use Rattle.bench_stat.specs.Entries.{AreEntries};
 ghost use Rattle.bench_stat.specs.Slices.{AreBusy};
+ghost use Rattle.ch11_f1.specs.BodyReading.{Message};
+ghost use Rattle.ch11_f1.specs.Views.{message_of};
+ghost use Rattle.std.specs.Prelude.{◌≡◌, ◌∷◌, [], List, IfOk};
 
 use crate::chosen::Chosen;
 use crate::entries::{no_entries, note_entries};

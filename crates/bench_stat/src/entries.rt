@@ -1,8 +1,8 @@
 //! Messages by terminal, direction and subaddress.
-ghost use Rattle.std.specs.Prelude.{◌≡◌, ◌∷◌, [], List, length, IfOk};
+ghost use Rattle.bench_stat.specs.Entries.{AreEntries, is_same as are_same, with_choice};
 ghost use Rattle.ch11_f1.specs.BodyReading.{Message};
 ghost use Rattle.ch11_f1.specs.Views.{message_of};
-ghost use Rattle.bench_stat.specs.Entries.{AreEntries, is_same as are_same, with_choice};
+ghost use Rattle.std.specs.Prelude.{◌≡◌, ◌∷◌, [], List, length, IfOk};
 
 use crate::flows::Flow;
 use crate::sendings::Sending;

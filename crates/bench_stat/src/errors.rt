@@ -1,8 +1,8 @@
 //! The errors of a channel, by their kind.
-ghost use Rattle.std.specs.Prelude.{◌≡◌, []};
-ghost use Rattle.ch11_f1.specs.Views.{message_of};
 ghost use Rattle.bench_stat.specs.Figures.{errors_of};
 ghost use Rattle.bench_stat.specs.Steps.{with_errors};
+ghost use Rattle.ch11_f1.specs.Views.{message_of};
+ghost use Rattle.std.specs.Prelude.{◌≡◌, []};
 
 use crate::counts::counted;
 use ch11_f1::Seen;
@@ -10,7 +10,7 @@ use ch11_layout::is_set;
 
 /// How many messages had which error, by the block status word (IRIG 106-17 Chapter 11). A message counts under each
 /// kind that it has. Counts go as far as 64 bits count.
-#[derive(Clone, Copy, Debug, PartialEq, Eq)]
+#[derive(Clone, Copy, Debug, Default, PartialEq, Eq)]
 pub struct Errors {
     /// Messages with an error of whatever kind: bit 12.
     pub messages: u64,
@@ -31,14 +31,7 @@ impl Errors {
     pub fn none() -> Errors
         ensures { result ≡ errors_of [] }
     {
-        Errors {
-            messages: 0,
-            response: 0,
-            word_count: 0,
-            sync: 0,
-            unsound: 0,
-            other: 0,
-        }
+        Errors::default()
     }
 
     /// One more message.

@@ -1,13 +1,13 @@
 //! What is told of a channel's messages beside their figures, as they come.
-ghost use Rattle.std.specs.Prelude.{◌≡◌, ◌+◌, ◌<◌, ◌^◌, ◌++◌, ◌∷◌, [], List, Some, IfOk, length, reverse, true};
-ghost use Rattle.ch11_f1.specs.BodyReading.{Message};
-ghost use Rattle.ch11_f1.specs.Views.{message_of};
-ghost use Rattle.bench_stat.specs.declared.shown.Shown.{Shown as ShownValue};
 ghost use Rattle.bench_stat.specs.Chosen.{picked};
 ghost use Rattle.bench_stat.specs.Details.{details_of};
 ghost use Rattle.bench_stat.specs.Entries.{AreEntries};
 ghost use Rattle.bench_stat.specs.Slices.{AreBusy};
 ghost use Rattle.bench_stat.specs.Told.{IsFollowed};
+ghost use Rattle.bench_stat.specs.declared.shown.Shown.{Shown as ShownValue};
+ghost use Rattle.ch11_f1.specs.BodyReading.{Message};
+ghost use Rattle.ch11_f1.specs.Views.{message_of};
+ghost use Rattle.std.specs.Prelude.{◌≡◌, ◌+◌, ◌<◌, ◌^◌, ◌++◌, ◌∷◌, [], List, Some, IfOk, length, reverse, true};
 
 use crate::chosen::next_selected;
 use crate::details::Details;

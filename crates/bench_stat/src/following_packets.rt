@@ -1,14 +1,14 @@
 //! What is told of channels beside their figures, as the packets of a recording come from a reader.
-ghost use Rattle.std.specs.Prelude.{◌≡◌, ◌+◌, ◌<◌, ◌^◌, ◌++◌, ◌∷◌, [], ℕ, List, None, Some, IfOk, OnOk, length};
-ghost use Rattle.std.specs.Prelude.{nat_eq};
-ghost use Rattle.std.specs.HashMap.{get};
-ghost use Rattle.std.specs.Option.{option_copied};
-ghost use Rattle.ch11_reader.specs.Recording.{Found};
-ghost use Rattle.ch11_stream.specs.Folding.{Finds};
 ghost use Rattle.bench_select.specs.declared.selection.Selection.{Selection as SelectionValue};
+ghost use Rattle.bench_stat.specs.Told.{AreTold, IsListedBehind};
 ghost use Rattle.bench_stat.specs.declared.channels.ChannelFigures.{ChannelFigures as FiguresValue};
 ghost use Rattle.bench_stat.specs.declared.shown.Shown.{Shown as ShownValue};
-ghost use Rattle.bench_stat.specs.Told.{AreTold, IsListedBehind};
+ghost use Rattle.ch11_reader.specs.Recording.{Found};
+ghost use Rattle.ch11_stream.specs.Folding.{Finds};
+ghost use Rattle.std.specs.HashMap.{get};
+ghost use Rattle.std.specs.Option.{option_copied};
+ghost use Rattle.std.specs.Prelude.{nat_eq};
+ghost use Rattle.std.specs.Prelude.{◌≡◌, ◌+◌, ◌<◌, ◌^◌, ◌++◌, ◌∷◌, [], ℕ, List, None, Some, IfOk, OnOk, length};
 
 use crate::channels::ChannelFigures;
 use crate::shown::Shown;

@@ -1,10 +1,10 @@
 //! What packets say of messages that are missing.
-ghost use Rattle.std.specs.Prelude.{◌≡◌, ℕ, ◌+◌, ◌-◌, ◌<◌, ◌^◌, ◌++◌, ◌∷◌, [], List, length};
-ghost use Rattle.std.specs.List.{filter};
-ghost use Rattle.ch11_reader.specs.Listing.{listing};
-ghost use Rattle.ch11_reader.specs.declared.packet.Packet.{Packet as PacketValue};
 ghost use Rattle.bench_stat.specs.Details as spec;
 ghost use Rattle.bench_stat.specs.Figures.{capped, one_if};
+ghost use Rattle.ch11_reader.specs.Listing.{listing};
+ghost use Rattle.ch11_reader.specs.declared.packet.Packet.{Packet as PacketValue};
+ghost use Rattle.std.specs.List.{filter};
+ghost use Rattle.std.specs.Prelude.{◌≡◌, ℕ, ◌+◌, ◌-◌, ◌<◌, ◌^◌, ◌++◌, ◌∷◌, [], List, length};
 
 use ch11_layout::is_set;
 use ch11_reader::{Index, Packet};

@@ -1,7 +1,6 @@
 //! The figures as a page for people, with what more is asked for.
 
 use crate::channels::ChannelFigures;
-use crate::fault::StatFault;
 use crate::flows::Flow;
 use crate::printing::{
     print_errors, print_load_line, print_retries, print_terminals, print_times, print_traffic,
@@ -17,6 +16,7 @@ use bench_clock::Clock;
 use std::alloc::Global;
 use std::io;
 use std::io::Write;
+use text_lines::WriteFault;
 
 /// Writes the figures of each channel as lines aligned for people, with what more is shown of it, which is told of the
 /// same messages. Times of day are those of the clock; a channel of which it tells none has no line of them. It fails
@@ -28,7 +28,7 @@ pub fn print_page<W: Write, T: Tells>(
     figures: &[ChannelFigures],
     shown: &Shown,
     clock: &Clock,
-) -> Result<(), StatFault> {
+) -> Result<(), WriteFault> {
     if shown.long {
         print_losses(out, told, figures)?;
     }
@@ -143,7 +143,7 @@ fn print_load_of<W: Write, T: Tells>(
     out: &mut W,
     told: &T,
     figures: &ChannelFigures,
-) -> Result<(), StatFault> {
+) -> Result<(), WriteFault> {
     if figures.traffic.span() == 0 {
         return Ok(());
     }

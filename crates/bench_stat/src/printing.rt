@@ -5,7 +5,7 @@ use crate::errors::Errors;
 use crate::terminals::TerminalFigures;
 use crate::times::Times;
 use crate::traffic::Traffic;
-use crate::units::write_time_of_day;
+use crate::units::{hundredths, tenths, write_hundredths, write_time_of_day, write_us};
 use std::io;
 use std::io::Write;
 
@@ -19,31 +19,6 @@ pub(crate) const NAMES: &str =
 
 /// The columns behind those of any row, where times of day are asked for.
 pub(crate) const TIMES: &str = ",first_time,last_time";
-
-/// A number with its last digits behind a point: tenths, or hundredths.
-#[derive(Clone, Copy)]
-struct Parts {
-    whole: u64,
-    part: u64,
-}
-
-impl Parts {
-    /// A number of tenths.
-    fn of_tenths(number: u64) -> Parts {
-        Parts {
-            whole: number / 10,
-            part: number % 10,
-        }
-    }
-
-    /// A number of hundredths.
-    fn of_hundredths(number: u64) -> Parts {
-        Parts {
-            whole: number / 100,
-            part: number % 100,
-        }
-    }
-}
 
 /// Writes a row of comma-separated values for each terminal address of a channel that was called. A fault is the
 /// writer's.
@@ -78,8 +53,7 @@ pub(crate) fn print_traffic<W: Write>(
     traffic: &Traffic,
     times: Option<Times>,
 ) -> io::Result<()> {
-    let span = Parts::of_tenths(traffic.span());
-    let (whole, part) = (span.whole, span.part);
+    let (whole, part) = tenths(traffic.span());
     writeln!(out, "  span      {whole}.{part} us")?;
     print_times(out, times)?;
     let (messages, words) = (traffic.messages, traffic.words);
@@ -107,8 +81,7 @@ pub(crate) fn print_times<W: Write>(out: &mut W, times: Option<Times>) -> io::Re
 pub(crate) fn print_load_line<W: Write>(out: &mut W, traffic: &Traffic) -> io::Result<()> {
     match traffic.load() {
         Some(load) => {
-            let load = Parts::of_hundredths(load);
-            let (whole, part) = (load.whole, load.part);
+            let (whole, part) = hundredths(load);
             writeln!(out, "  bus load  {whole}.{part:02} %")
         }
         None => writeln!(out, "  bus load  -"),
@@ -161,23 +134,17 @@ fn print_terminal<W: Write>(
     } else {
         write!(out, "{address:>10}")?;
     }
-    let (receive, transmit, mode) = (terminal.receive, terminal.transmit, terminal.mode);
-    let (errors, responses) = (terminal.errors, terminal.responses);
-    write!(
-        out,
-        " {receive:>10} {transmit:>10} {mode:>10} {errors:>10} {responses:>10}"
-    )?;
+    for count in terminal.counts() {
+        write!(out, " {count:>10}")?;
+    }
     let Some(mean) = terminal.mean() else {
         return writeln!(out, "         -         -            -");
     };
-    let least = Parts::of_tenths(u64::from(terminal.least));
-    let mean = Parts::of_hundredths(mean);
-    let greatest = Parts::of_tenths(u64::from(terminal.greatest));
-    let (whole, part) = (least.whole, least.part);
+    let (whole, part) = tenths(u64::from(terminal.least));
     write!(out, " {whole:>7}.{part}")?;
-    let (whole, part) = (mean.whole, mean.part);
+    let (whole, part) = hundredths(mean);
     write!(out, " {whole:>6}.{part:02}")?;
-    let (whole, part) = (greatest.whole, greatest.part);
+    let (whole, part) = tenths(u64::from(terminal.greatest));
     writeln!(out, " {whole:>10}.{part}")
 }
 
@@ -188,22 +155,16 @@ fn print_row<W: Write>(
     address: usize,
     terminal: &TerminalFigures,
 ) -> io::Result<()> {
-    let (receive, transmit, mode) = (terminal.receive, terminal.transmit, terminal.mode);
-    let (errors, responses) = (terminal.errors, terminal.responses);
-    write!(
-        out,
-        "{channel},{address},{receive},{transmit},{mode},{errors},{responses},"
-    )?;
+    write!(out, "{channel},{address},")?;
+    for count in terminal.counts() {
+        write!(out, "{count},")?;
+    }
     let Some(mean) = terminal.mean() else {
         return write!(out, ",,");
     };
-    let least = Parts::of_tenths(u64::from(terminal.least));
-    let mean = Parts::of_hundredths(mean);
-    let greatest = Parts::of_tenths(u64::from(terminal.greatest));
-    let (whole, part) = (least.whole, least.part);
-    write!(out, "{whole}.{part},")?;
-    let (whole, part) = (mean.whole, mean.part);
-    write!(out, "{whole}.{part:02},")?;
-    let (whole, part) = (greatest.whole, greatest.part);
-    write!(out, "{whole}.{part}")
+    write_us(out, u64::from(terminal.least))?;
+    write!(out, ",")?;
+    write_hundredths(out, mean)?;
+    write!(out, ",")?;
+    write_us(out, u64::from(terminal.greatest))
 }

@@ -1,8 +1,8 @@
 //! Status words by their bits.
-ghost use Rattle.std.specs.Prelude.{◌≡◌, ◌∷◌, [], List};
+ghost use Rattle.bench_stat.specs.Replies as spec;
 ghost use Rattle.ch11_f1.specs.BodyReading.{Message};
 ghost use Rattle.ch11_f1.specs.Views.{message_of};
-ghost use Rattle.bench_stat.specs.Replies as spec;
+ghost use Rattle.std.specs.Prelude.{◌≡◌, ◌∷◌, [], List};
 
 use crate::counts::{counted, more};
 use ch11_f1::Seen;
@@ -11,7 +11,7 @@ use mil_word::Status;
 
 /// How many status words came, and in how many of them each bit was set (MIL-STD-1553B 4.3.3.5.3). Counts go as far as
 /// 64 bits count.
-#[derive(Clone, Copy, Debug, PartialEq, Eq)]
+#[derive(Clone, Copy, Debug, Default, PartialEq, Eq)]
 pub struct Replies {
     /// Status words.
     pub words: u64,
@@ -40,18 +40,7 @@ impl Replies {
     pub fn none() -> Replies
         ensures { result ≡ spec.replies_of [] }
     {
-        Replies {
-            words: 0,
-            message_error: 0,
-            instrumentation: 0,
-            service_request: 0,
-            reserved: 0,
-            broadcast: 0,
-            busy: 0,
-            subsystem: 0,
-            control: 0,
-            terminal: 0,
-        }
+        Replies::default()
     }
 
     /// The counts of the bits, each with its name as a script and a rule have it.

@@ -1,7 +1,6 @@
 //! The figures as rows of comma-separated values, a table for each that is asked for.
 
 use crate::channels::ChannelFigures;
-use crate::fault::StatFault;
 use crate::flows::Flow;
 use crate::printing::{NAMES, TIMES, end_row, print_rows};
 use crate::shown::Shown;
@@ -13,6 +12,7 @@ use bench_clock::{Clock, UtcTime};
 use std::alloc::Global;
 use std::io;
 use std::io::Write;
+use text_lines::WriteFault;
 
 /// The columns of the figures of channels.
 const FIGURES: &str = "channel,figure,value";
@@ -36,7 +36,7 @@ pub fn print_tables<W: Write, T: Tells>(
     figures: &[ChannelFigures],
     shown: &Shown,
     clock: &Clock,
-) -> Result<(), StatFault> {
+) -> Result<(), WriteFault> {
     if shown.long {
         writeln!(out, "{FIGURES}")?;
         for channel in figures {
@@ -76,6 +76,29 @@ fn write_names<W: Write>(out: &mut W, shown: &Shown) -> io::Result<()> {
     writeln!(out, "{names}{times}")
 }
 
+/// What stands in a row of a figure: a count, hundredths, a time in ticks, or a time of day; nothing where there is
+/// none.
+#[derive(Clone, Copy)]
+enum Value {
+    Count(u64),
+    Hundredths(Option<u64>),
+    Ticks(Option<u64>),
+    Day(Option<UtcTime>),
+}
+
+/// Writes the row of a figure.
+fn write_figure<W: Write>(out: &mut W, channel: u16, name: &str, value: Value) -> io::Result<()> {
+    write!(out, "{channel},{name},")?;
+    match value {
+        Value::Count(count) => write!(out, "{count}")?,
+        Value::Hundredths(Some(number)) => write_hundredths(out, number)?,
+        Value::Ticks(Some(ticks)) => write_us(out, ticks)?,
+        Value::Day(time) => write_time_of_day(out, time, "")?,
+        Value::Hundredths(None) | Value::Ticks(None) => {}
+    }
+    writeln!(out, "")
+}
+
 /// Writes a row for each figure of a channel.
 fn write_figures<W: Write, T: Tells>(
     out: &mut W,
@@ -85,35 +108,30 @@ fn write_figures<W: Write, T: Tells>(
 ) -> io::Result<()> {
     let channel = figures.channel;
     let losses = told.losses(channel);
-    write_count(out, channel, "overflow_packets", losses.overflows as u64)?;
-    write_count(out, channel, "sequence_jumps", losses.jumps as u64)?;
+    let (overflows, jumps) = (losses.overflows as u64, losses.jumps as u64);
+    write_figure(out, channel, "overflow_packets", Value::Count(overflows))?;
+    write_figure(out, channel, "sequence_jumps", Value::Count(jumps))?;
     write_traffic(out, figures, times)?;
     let details = told.details(channel);
-    write_gap(
-        out,
-        channel,
-        "least_gap_us",
-        &details.flow,
-        details.flow.least_gap,
-    )?;
-    write_gap(
-        out,
-        channel,
-        "greatest_gap_us",
-        &details.flow,
-        details.flow.greatest_gap,
-    )?;
+    let (least, greatest) = gaps_of(&details.flow);
+    write_figure(out, channel, "least_gap_us", Value::Ticks(least))?;
+    write_figure(out, channel, "greatest_gap_us", Value::Ticks(greatest))?;
     write_errors(out, figures)?;
-    write_count(out, channel, "status_words", details.replies.words)?;
+    let words = Value::Count(details.replies.words);
+    write_figure(out, channel, "status_words", words)?;
     for (name, count) in details.replies.bits() {
         writeln!(out, "{channel},status_{name},{count}")?;
     }
     Ok(())
 }
 
-/// Writes a row with a number.
-fn write_count<W: Write>(out: &mut W, channel: u16, name: &str, count: u64) -> io::Result<()> {
-    writeln!(out, "{channel},{name},{count}")
+/// The least and the greatest gap between two messages, where there are two.
+fn gaps_of(flow: &Flow) -> (Option<u64>, Option<u64>) {
+    if flow.messages > 1 {
+        (Some(flow.least_gap), Some(flow.greatest_gap))
+    } else {
+        (None, None)
+    }
 }
 
 /// Writes the rows of how much a channel carried; those of its rate and its load are empty where no time passed.
@@ -123,63 +141,17 @@ fn write_traffic<W: Write>(
     times: Option<Times>,
 ) -> io::Result<()> {
     let (channel, traffic) = (figures.channel, &figures.traffic);
-    write!(out, "{channel},span_us,")?;
-    write_us(out, traffic.span())?;
-    writeln!(out, "")?;
+    let (span, load) = (traffic.span(), traffic.load());
+    write_figure(out, channel, "span_us", Value::Ticks(Some(span)))?;
     if let Some(times) = times {
-        write_time_row(out, channel, "first_time", times.first)?;
-        write_time_row(out, channel, "last_time", times.last)?;
+        write_figure(out, channel, "first_time", Value::Day(times.first))?;
+        write_figure(out, channel, "last_time", Value::Day(times.last))?;
     }
-    write_count(out, channel, "messages", traffic.messages)?;
-    write_count(out, channel, "words", traffic.words)?;
-    write_share(
-        out,
-        channel,
-        "messages_per_second",
-        rate(traffic.messages, traffic.span()),
-    )?;
-    write_share(out, channel, "bus_load_percent", traffic.load())
-}
-
-/// Writes a row with a time of day, or with nothing.
-fn write_time_row<W: Write>(
-    out: &mut W,
-    channel: u16,
-    name: &str,
-    time: Option<UtcTime>,
-) -> io::Result<()> {
-    write!(out, "{channel},{name},")?;
-    write_time_of_day(out, time, "")?;
-    writeln!(out, "")
-}
-
-/// Writes a row with hundredths, or with nothing.
-fn write_share<W: Write>(
-    out: &mut W,
-    channel: u16,
-    name: &str,
-    share: Option<u64>,
-) -> io::Result<()> {
-    write!(out, "{channel},{name},")?;
-    if let Some(share) = share {
-        write_hundredths(out, share)?;
-    }
-    writeln!(out, "")
-}
-
-/// Writes a row with a gap, or with nothing where there is none.
-fn write_gap<W: Write>(
-    out: &mut W,
-    channel: u16,
-    name: &str,
-    flow: &Flow,
-    gap: u64,
-) -> io::Result<()> {
-    write!(out, "{channel},{name},")?;
-    if flow.messages > 1 {
-        write_us(out, gap)?;
-    }
-    writeln!(out, "")
+    write_figure(out, channel, "messages", Value::Count(traffic.messages))?;
+    write_figure(out, channel, "words", Value::Count(traffic.words))?;
+    let rate = Value::Hundredths(rate(traffic.messages, span));
+    write_figure(out, channel, "messages_per_second", rate)?;
+    write_figure(out, channel, "bus_load_percent", Value::Hundredths(load))
 }
 
 /// Writes a row for each kind of error, behind one for all messages with an error, then one for the retries.
@@ -195,7 +167,7 @@ fn write_errors<W: Write>(out: &mut W, figures: &ChannelFigures) -> io::Result<(
         ("retries", figures.retries),
     ];
     for (name, count) in rows {
-        writeln!(out, "{channel},{name},{count}")?;
+        write_figure(out, channel, name, Value::Count(count))?;
     }
     Ok(())
 }

@@ -1,8 +1,8 @@
 //! How a recorded message was sent.
-ghost use Rattle.std.specs.Prelude.{◌≡◌, ◌/◌, nat_lt, length, if◌then◌else◌};
+ghost use Rattle.bench_stat.specs.Sendings as spec;
 ghost use Rattle.ch11_f1.specs.Views.{message_of};
 ghost use Rattle.ch11_layout.specs.Layouts.{word_of};
-ghost use Rattle.bench_stat.specs.Sendings as spec;
+ghost use Rattle.std.specs.Prelude.{◌≡◌, ◌/◌, nat_lt, length, if◌then◌else◌};
 
 use ch11_f1::Seen;
 use ch11_layout::{is_set, word_at};

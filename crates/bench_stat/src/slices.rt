@@ -1,8 +1,8 @@
 //! The load of a channel over time.
-ghost use Rattle.std.specs.Prelude.{◌≡◌, ◌∷◌, [], List, length, map, IfOk};
+ghost use Rattle.bench_stat.specs.Slices as spec;
 ghost use Rattle.ch11_f1.specs.BodyReading.{Message};
 ghost use Rattle.ch11_f1.specs.Views.{message_of};
-ghost use Rattle.bench_stat.specs.Slices as spec;
+ghost use Rattle.std.specs.Prelude.{◌≡◌, ◌∷◌, [], List, length, map, IfOk};
 
 use crate::counts::more;
 use crate::flows::end_of;

@@ -1,17 +1,14 @@
 //! The figures of a whole recording.
-ghost use Rattle.std.specs.Prelude.{◌≡◌, ◌<◌, ◌&&◌, length, replicate, true, false, slice_set, slice_index_or, IfOk};
-ghost use Rattle.std.specs.Prelude.{vec_len};
 ghost use Rattle.bench_select.specs.Selectors.{is_chosen};
 ghost use Rattle.bench_stat.specs.Figures.{statistics, headers_listed, ArePresent};
+ghost use Rattle.std.specs.Prelude.{vec_len};
+ghost use Rattle.std.specs.Prelude.{◌≡◌, ◌<◌, ◌&&◌, length, false, slice_index_or, IfOk};
 
 use crate::channels::{ChannelFigures, channel_figures};
-use bench_select::Selection;
+use bench_select::{CHANNELS, Selection, mark_channel, no_channels};
 use ch11_header::kinds::BUS_MESSAGES;
 use ch11_reader::{Index, Packet};
 use std::alloc::{AllocError, Global};
-
-/// How many channels there can be.
-pub(crate) const CHANNELS: usize = 65536;
 
 /// The figures over the selected messages of each channel with packets of MIL-STD-1553 messages that the selection is
 /// of, in rising order of the channels' numbers. The only refusal is want of memory.
@@ -51,25 +48,8 @@ fn present_channels(alloc: Global, packets: &[Packet]) -> Result<Vec<bool>, Allo
     let mut present = no_channels(alloc)?;
     'packets: for packet in packets {
         if packet.header.kind == BUS_MESSAGES {
-            mark(&mut present, packet.header.channel);
+            mark_channel(&mut present, packet.header.channel);
         }
     }
     Ok(present)
-}
-
-/// A mark for each channel: none is present.
-fn no_channels(alloc: Global) -> Result<Vec<bool>, AllocError>
-    ensures items { IfOk result (λ v. v.items ≡ replicate CHANNELS false) }
-    ensures len { IfOk result (λ v. vec_len v ≡ CHANNELS) }
-{
-    let present = vec![in alloc; false; CHANNELS]?;
-    Ok(present)
-}
-
-/// The channel is present.
-fn mark(present: &mut [bool], channel: u16)
-    requires { length present.old ≡ CHANNELS }
-    ensures { present.new ≡ slice_set present.old channel true }
-{
-    present[usize::from(channel)] = true;
 }

@@ -1,22 +1,20 @@
 //! The figures of a recording whose packets come from a reader.
-ghost use Rattle.std.specs.Prelude.{◌≡◌, ◌+◌, ◌<◌, ◌^◌, ◌++◌, ◌∷◌, [], ℕ, List, length, nat_eq, reverse, true};
-ghost use Rattle.std.specs.Prelude.{None, Some, IfOk, OnOk};
-ghost use Rattle.std.specs.HashMap.{get};
-ghost use Rattle.ch11_f1.specs.BodyReading.{Message};
-ghost use Rattle.ch11_reader.specs.Recording.{Found};
-ghost use Rattle.ch11_stream.specs.Folding.{Finds};
 ghost use Rattle.bench_select.specs.declared.selection.Selection.{Selection as SelectionValue};
-ghost use Rattle.bench_select.specs.Selectors.{is_chosen};
 ghost use Rattle.bench_stat.specs.Chosen.{picked};
 ghost use Rattle.bench_stat.specs.Figures.{statistics};
 ghost use Rattle.bench_stat.specs.Steps.{tally_of};
 ghost use Rattle.bench_stat.specs.Streaming.{AreSoFar, IsBehind, tally_or_none, with_figures};
+ghost use Rattle.ch11_f1.specs.BodyReading.{Message};
+ghost use Rattle.ch11_reader.specs.Recording.{Found};
+ghost use Rattle.ch11_stream.specs.Folding.{Finds};
+ghost use Rattle.std.specs.HashMap.{get};
+ghost use Rattle.std.specs.Prelude.{None, Some, IfOk, OnOk};
+ghost use Rattle.std.specs.Prelude.{◌≡◌, ◌+◌, ◌<◌, ◌^◌, ◌++◌, ◌∷◌, [], ℕ, List, length, nat_eq, reverse};
 
 use crate::channels::ChannelFigures;
 use crate::chosen::next_selected;
-use crate::statistics::CHANNELS;
 use crate::tally::Tally;
-use bench_select::{Selection, is_of};
+use bench_select::{CHANNELS, Selection, is_of};
 use ch11_f1::Messages;
 use ch11_header::kinds::BUS_MESSAGES;
 use ch11_reader::Packet;
@@ -67,7 +65,7 @@ pub fn stat_from<R: Advance + Drop>(
     Err(StreamFault::Device)
 }
 
-/// One more packet.
+/// One more packet: its selected messages, where it is one of messages and the selection is of its channel.
 fn note_packet(
     so_far: &mut SoFar,
     selection: &Selection,
@@ -81,27 +79,10 @@ fn note_packet(
     if packet.header.kind != BUS_MESSAGES {
         return Ok(());
     }
-    if is_of(selection.channel, packet.header.channel) {
-        note_channel(so_far, selection, packet, messages)
-    } else {
-        Ok(())
-    }
-}
-
-/// One more packet of messages, of a channel that the selection is of.
-fn note_channel(
-    so_far: &mut SoFar,
-    selection: &Selection,
-    packet: &Packet,
-    messages: Messages<'_>,
-) -> Result<(), AllocError>
-    requires { packet.now.before + length messages < 2 ^ 64 }
-    ensures { (ps : List Found) (q : Found) → AreSoFar selection.now ps so_far.old
-        → IsBehind ps q packet.now messages.entry → packet.now.header.kind ≡ BUS_MESSAGES
-        → is_chosen selection.now.channel packet.now.header.channel ≡ true
-        → OnOk result (AreSoFar selection.now (ps ++ q ∷ []) so_far.new) }
-{
     let channel = packet.header.channel;
+    if !is_of(selection.channel, channel) {
+        return Ok(());
+    }
     let mut tally = tally_at(so_far, channel);
     note_selected(&mut tally, selection, channel, packet.before, messages);
     so_far.channels.insert(channel, tally)?;

@@ -2,7 +2,7 @@
 
 use crate::flows::Flow;
 use crate::slices::Slice;
-use crate::units::rate;
+use crate::units::{hundredths, rate, tenths};
 use std::io;
 use std::io::Write;
 
@@ -60,7 +60,7 @@ fn print_entry<W: Write>(out: &mut W, entry: usize, flow: &Flow, span: u64) -> i
     print_gap_columns(out, flow)?;
     match rate(messages, span) {
         Some(rate) => {
-            let (whole, part) = (rate / 100, rate % 100);
+            let (whole, part) = hundredths(rate);
             writeln!(out, " {whole:>10}.{part:02}")
         }
         None => writeln!(out, "             -"),
@@ -72,9 +72,9 @@ fn print_gap_columns<W: Write>(out: &mut W, flow: &Flow) -> io::Result<()> {
     if flow.messages < 2 {
         return write!(out, "             -                -");
     }
-    let (whole, part) = (flow.least_gap / 10, flow.least_gap % 10);
+    let (whole, part) = tenths(flow.least_gap);
     write!(out, " {whole:>11}.{part}")?;
-    let (whole, part) = (flow.greatest_gap / 10, flow.greatest_gap % 10);
+    let (whole, part) = tenths(flow.greatest_gap);
     write!(out, " {whole:>14}.{part}")
 }
 
@@ -85,7 +85,7 @@ pub(crate) fn print_load<W: Write>(out: &mut W, slices: &[Slice]) -> io::Result<
     for slice in slices {
         let (seconds, ticks) = (slice.begin / SECOND, slice.begin % SECOND);
         let load = slice.load();
-        let (whole, part) = (load / 100, load % 100);
+        let (whole, part) = hundredths(load);
         write!(out, " {seconds:>5}.{ticks:07} {whole:>3}.{part:02} %  ")?;
         out.write_all(bar_of(load))?;
         out.write_all(b"\n")?;

@@ -1,11 +1,11 @@
 //! A channel's figures on the way.
-ghost use Rattle.std.specs.Prelude.{◌≡◌, ℕ, ◌∷◌, ◌++◌, [], List, length};
+ghost use Rattle.bench_stat.specs.Figures.{terminals_of};
+ghost use Rattle.bench_stat.specs.Sendings.{calls_sent, is_retry_behind};
+ghost use Rattle.bench_stat.specs.Steps.{tally_of};
+ghost use Rattle.bench_stat.specs.declared.calls.Call.{Call as CallValue};
 ghost use Rattle.ch11_f1.specs.BodyReading.{Message};
 ghost use Rattle.ch11_f1.specs.Views.{message_of};
-ghost use Rattle.bench_stat.specs.declared.calls.Call.{Call as CallValue};
-ghost use Rattle.bench_stat.specs.Sendings.{calls_sent, is_retry_behind};
-ghost use Rattle.bench_stat.specs.Figures.{terminals_of};
-ghost use Rattle.bench_stat.specs.Steps.{tally_of};
+ghost use Rattle.std.specs.Prelude.{◌≡◌, ℕ, ◌∷◌, ◌++◌, [], List, length};
 
 use crate::calls::Call;
 use crate::channels::ChannelFigures;

@@ -1,8 +1,8 @@
 //! The figures of a terminal.
-ghost use Rattle.std.specs.Prelude.{◌≡◌, ◌<◌, ◌∷◌, [], List, length};
-ghost use Rattle.bench_stat.specs.declared.calls.Call.{Call as CallValue};
 ghost use Rattle.bench_stat.specs.Figures.{figures_of, terminals_of, is_receive_call, is_transmit_call, is_mode_call};
 ghost use Rattle.bench_stat.specs.Steps.{with_kind, with_response, with_call};
+ghost use Rattle.bench_stat.specs.declared.calls.Call.{Call as CallValue};
+ghost use Rattle.std.specs.Prelude.{◌≡◌, ◌<◌, ◌∷◌, [], List, length};
 
 use crate::calls::{Call, CallKind};
 use crate::counts::{counted, more};
@@ -51,6 +51,17 @@ impl TerminalFigures {
     /// How many commands it got, as far as 64 bits count.
     pub fn commands(&self) -> u64 {
         more(more(self.receive, self.transmit), self.mode)
+    }
+
+    /// What is shown of it in front of its response times: the commands of each kind, errors and responses.
+    pub(crate) fn counts(&self) -> [u64; 5] {
+        [
+            self.receive,
+            self.transmit,
+            self.mode,
+            self.errors,
+            self.responses,
+        ]
     }
 
     /// The mean response time in hundredths of a µs, rounded down; None where there was no response.

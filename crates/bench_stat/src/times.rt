@@ -1,8 +1,8 @@
 //! The times of day of a channel.
-ghost use Rattle.std.specs.Prelude.{◌≡◌, List};
-ghost use Rattle.ch11_f1.specs.BodyReading.{Message};
 ghost use Rattle.bench_stat.specs.Figures.{traffic_of};
 ghost use Rattle.bench_stat.specs.Times.{AreTimes};
+ghost use Rattle.ch11_f1.specs.BodyReading.{Message};
+ghost use Rattle.std.specs.Prelude.{◌≡◌, List};
 
 use crate::traffic::Traffic;
 use bench_clock::{Clock, UtcTime};

@@ -1,8 +1,8 @@
 //! Messages, words and times of a channel.
-ghost use Rattle.std.specs.Prelude.{◌≡◌, []};
-ghost use Rattle.ch11_f1.specs.Views.{message_of};
 ghost use Rattle.bench_stat.specs.Figures.{traffic_of, capped, duration};
 ghost use Rattle.bench_stat.specs.Steps.{with_traffic};
+ghost use Rattle.ch11_f1.specs.Views.{message_of};
+ghost use Rattle.std.specs.Prelude.{◌≡◌, []};
 
 use crate::counts::more;
 use ch11_f1::Seen;

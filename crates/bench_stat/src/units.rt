@@ -12,7 +12,7 @@ const SECOND: u64 = 10_000_000;
 /// Writes a time in ticks as µs, ms or s by its size.
 pub(crate) fn write_time<W: Write>(out: &mut W, ticks: u64) -> io::Result<()> {
     if ticks < MILLISECOND {
-        let (whole, part) = (ticks / 10, ticks % 10);
+        let (whole, part) = tenths(ticks);
         write!(out, "{whole}.{part} us")
     } else if ticks < SECOND {
         let (whole, part) = (ticks / MILLISECOND, ticks % MILLISECOND);
@@ -35,15 +35,25 @@ pub(crate) fn write_time_of_day<W: Write>(
     }
 }
 
+/// A number of tenths, as ticks are tenths of a µs: what stands in front of the point, and the digit behind it.
+pub(crate) fn tenths(number: u64) -> (u64, u64) {
+    (number / 10, number % 10)
+}
+
+/// A number of hundredths: what stands in front of the point, and the two digits behind it.
+pub(crate) fn hundredths(number: u64) -> (u64, u64) {
+    (number / 100, number % 100)
+}
+
 /// Writes a number of hundredths.
 pub(crate) fn write_hundredths<W: Write>(out: &mut W, number: u64) -> io::Result<()> {
-    let (whole, part) = (number / 100, number % 100);
+    let (whole, part) = hundredths(number);
     write!(out, "{whole}.{part:02}")
 }
 
 /// Writes a time in ticks as µs, without the unit.
 pub(crate) fn write_us<W: Write>(out: &mut W, ticks: u64) -> io::Result<()> {
-    let (whole, part) = (ticks / 10, ticks % 10);
+    let (whole, part) = tenths(ticks);
     write!(out, "{whole}.{part}")
 }
 

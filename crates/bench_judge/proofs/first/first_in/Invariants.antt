@@ -7,8 +7,8 @@ use Rattle.bench_judge.proofs.first.first_in.Given as goal
 -- the first of the messages so far that miss the rule are found
 abbrev pub invariant-messages : goal.invariant-messages
 invariant-messages l = record {
-  counted : l.number + length l.rest ≡ l.before + length l.fn.messages;
-  passing : (history : List Heard) → IsFinding l.rule l.most history l.fn.found.items l.fn.tally → l.before ≡ length history
+  counted : l.number + length l.rest ≡ l.fn.packet.before + length l.fn.messages;
+  passing : (history : List Heard) → IsFinding l.rule l.most history l.fn.found.items l.fn.tally → l.fn.packet.before ≡ length history
       → IsPassing (λ hs. IsFinding l.rule l.most hs l.found.items l.tally) l.channel l.fn.messages l.rest history;
 }
 

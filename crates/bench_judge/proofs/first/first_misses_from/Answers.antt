@@ -25,7 +25,7 @@ packets-preserved g c =
     let p = c.in-Ok-Some.packet in
     let front : p.before ≡ total_in earlier = ap (λ (x : Packet). x.before) s.listed in
     let behind : p.before ≡ length (heard_so_far earlier) = front ∙ sym (heard_count earlier) in
-    let finding = rw c.messages.ensures at c.in_ok-first_in-in-Ok-Some.ensures (heard_so_far earlier) c.packets.invariant.finding behind in
+    let finding = rw c.messages-messages.ensures at c.in_ok-first_in-in-Ok-Some.ensures (heard_so_far earlier) c.packets.invariant.finding behind in
     record {
       known = λ file is. amid_on file c.packets.packets now p s (c.packets.invariant.known file is);
       finding = subst (λ (hs : List Heard). IsFinding c.args.rule.now c.args.most hs c.first_in.new.found.items c.first_in.new.tally) (heard_more (last_found now p) earlier ∙ ap heard_so_far (sym s.entered)) finding;

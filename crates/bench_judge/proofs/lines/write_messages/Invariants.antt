@@ -8,8 +8,8 @@ use Rattle.bench_judge.proofs.lines.write_messages.Given as goal
 -- those of the messages so far that miss the rule are written
 abbrev pub invariant-messages : goal.invariant-messages
 invariant-messages g l = record {
-  counted : l.number + length l.rest ≡ l.before + length l.fn.messages;
-  passing : (history : List Heard) → (got : Option (List ℕ)) → IsWriting l.rule got history (g.W.Write.contents l.fn.out) l.fn.tally → l.before ≡ length history
+  counted : l.number + length l.rest ≡ l.fn.packet.before + length l.fn.messages;
+  passing : (history : List Heard) → (got : Option (List ℕ)) → IsWriting l.rule got history (g.W.Write.contents l.fn.out) l.fn.tally → l.fn.packet.before ≡ length history
       → IsPassing (λ hs. IsWriting l.rule got hs (g.W.Write.contents l.out) l.tally) l.channel l.fn.messages l.rest history;
 }
 

@@ -17,10 +17,10 @@ packets-preserved c =
     elim c.if-packet-eq-BUS_MESSAGES.branch [
       | then-packet-eq-BUS_MESSAGES w ↦
           let channel = (get_or c.args.packets.now c.packets.packet-index no_packet).header.channel in
-          let noted : w.mark.new.present ≡ set c.packets.present.items channel true = w.mark.ensures ∙ ap (λ (xs : List Bool). set xs channel true) w.deref_mut.ensures.value in
+          let noted : w.mark_channel.new.marks ≡ set c.packets.present.items channel true = w.mark_channel.ensures ∙ ap (λ (xs : List Bool). set xs channel true) w.deref_mut.ensures.value in
           let long : length c.packets.present.items ≡ 65536 = omega (arith, ap length w.deref_mut.ensures.value, w.deref_mut.ensures.len, c.packets.invariant.many) in
-          let kept : length w.mark.new.present ≡ c.packets.present.len = omega (arith, ap length noted, length-set c.packets.present.items channel true, long, c.packets.invariant.many) in
-          let marks = ap (λ (v : Vec Bool Global). v.items) w.present-is ∙ with_items_is c.packets.present w.mark.new.present kept ∙ noted in
+          let kept : length w.mark_channel.new.marks ≡ c.packets.present.len = omega (arith, ap length noted, length-set c.packets.present.items channel true, long, c.packets.invariant.many) in
+          let marks = ap (λ (v : Vec Bool Global). v.items) w.present-is ∙ with_items_is c.packets.present w.mark_channel.new.marks kept ∙ noted in
           record {
             present = λ k below. ap (λ (xs : List Bool). get_or xs k false) marks
                 ∙ marks_more c.args.packets.now c.packets.packet-index c.packets.present.items c.packets-test.true long c.packets.invariant.present w.if-packet-eq-BUS_MESSAGES.true k below;

@@ -6,8 +6,8 @@ use Rattle.bench_decode.proofs.chosen.Choosing.choose_all.Given as goal
 -- those of the messages so far are chosen
 abbrev pub invariant-messages : goal.invariant-messages
 invariant-messages l = record {
-  counted : l.number + length l.rest ≡ l.before + length l.fn.messages;
-  passing : (history : List Heard) → AreChosen l.selection history l.fn.self → l.before ≡ length history → IsPassing (λ (hs : List Heard). AreChosen l.selection hs l.self) l.channel l.before l.number l.fn.messages l.rest history;
+  counted : l.number + length l.rest ≡ l.fn.packet.before + length l.fn.messages;
+  passing : (history : List Heard) → AreChosen l.selection history l.fn.self → l.fn.packet.before ≡ length history → IsPassing (λ (hs : List Heard). AreChosen l.selection hs l.self) l.channel l.fn.packet.before l.number l.fn.messages l.rest history;
 }
 
 abbrev pub decreases-messages : goal.decreases-messages

@@ -1,0 +1,17 @@
+//! What messages are drawn with.
+
+use crate::picture::Picture;
+use crate::scale::Scale;
+use bench_decode::Line;
+use bench_select::Selection;
+use std::alloc::Global;
+
+/// A picture into which messages are drawn: which of them, by which scale, and room for what people read of one.
+#[derive(Drop)]
+pub(crate) struct Canvas {
+    pub(crate) alloc: Global,
+    pub(crate) selection: Selection,
+    pub(crate) scale: Scale,
+    pub(crate) picture: Picture,
+    pub(crate) details: Line,
+}

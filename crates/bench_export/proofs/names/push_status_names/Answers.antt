@@ -1,7 +1,0 @@
-use Rattle.std.proofs.Common.{append_assoc}
-use Rattle.bench_export.proofs.names.push_status_names.Goals as goal
-
-pub returns : goal.returns
-returns c =
-    rw (c.in_ok-push-8.ensures, c.in_ok-push-7.ensures, c.in_ok-push-6.ensures, c.in_ok-push-5.ensures, c.in_ok-push-4.ensures, c.in_ok-push-3.ensures, c.in_ok-push-2.ensures, c.in_ok-push.ensures)
-    (simp append_assoc)

@@ -1,6 +1,0 @@
-use Rattle.std.proofs.Common.{length}
-use Rattle.bench_reasons.proofs.tokens.behind_space.Given as goal
-
--- each turn leaves a shorter rest
-abbrev pub decreases-loop-first : goal.decreases-loop-first
-decreases-loop-first l = length l.rest

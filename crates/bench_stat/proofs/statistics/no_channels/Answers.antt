@@ -1,4 +1,0 @@
-use Rattle.bench_stat.proofs.statistics.no_channels.Goals as goal
-
-pub returns-clause-items : goal.returns-clause-items
-returns-clause-items c = c.in_ok-present.ensures.items_if_clones_equal (λ x h. h)
