@@ -1,10 +1,10 @@
 //! A script as the bytes of its image.
-ghost use Rattle.std.specs.Prelude.{◌≡◌, Ok, IfOk, IfErr};
-ghost use Rattle.frame_tree.specs.Tree.{tree_of};
-ghost use Rattle.frame_tree.specs.Bounds.{IsSound};
+ghost use Rattle.bench_assemble.specs.Assembled.{image_of_text, image_of_tree, judged, IsRefusal, told_as};
 ghost use Rattle.frame_asm.specs.Shapes.{code_of_tree};
 ghost use Rattle.frame_code.specs.Loadable.{IsLoadable};
-ghost use Rattle.bench_assemble.specs.Assembled.{image_of_text, image_of_tree, judged, IsRefusal, told_as};
+ghost use Rattle.frame_tree.specs.Bounds.{IsSound};
+ghost use Rattle.frame_tree.specs.Tree.{tree_of};
+ghost use Rattle.std.specs.Prelude.{◌≡◌, Ok, IfOk, IfErr};
 
 use crate::{AssembleFault, Sizes};
 use frame_asm::{AsmError, assemble};

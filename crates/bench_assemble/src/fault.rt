@@ -1,12 +1,12 @@
 //! Why a script has no image.
-ghost use Rattle.std.specs.Prelude.{◌≡◌};
 ghost use Rattle.bench_assemble.specs.declared.fault.AssembleFault.TheVariants.{Memory};
+ghost use Rattle.std.specs.Prelude.{◌≡◌};
 
 use frame_asm::AsmError;
 use frame_load::LoadError;
 use frame_text::{Cause, Place, ScriptError};
 use std::alloc::AllocError;
-use std::fmt;
+use std::fmt::{self, Display, Formatter, Write};
 
 /// Why a script has no image. Faults of the text count before those of its code, and want of memory comes last.
 #[derive(Clone, Copy, Debug, PartialEq, Eq)]
@@ -27,12 +27,12 @@ pub enum AssembleFault {
 }
 
 /// `S7 line 1 column 8`, `A1`, `P5`, `P8`, `memory`.
-impl fmt::Display for AssembleFault {
+impl Display for AssembleFault {
     ghost use Rattle.bench_assemble.specs.Letters.{letters_of};
 
     ghost output = { letters_of };
 
-    fn fmt<W: fmt::Write>(&self, f: &mut fmt::Formatter<W>) -> fmt::Result {
+    fn fmt<W: Write>(&self, f: &mut Formatter<W>) -> fmt::Result {
         match self {
             AssembleFault::Text { cause, place } => {
                 let text = ScriptError::Text {

@@ -2,7 +2,7 @@
 
 use crate::options::{command_of, flag, jobs, words_in};
 use crate::streams::on_stream;
-use bench_check::{Bits, CheckFault, print_findings, print_summary, tight_frames_in, try_job};
+use bench_check::{Bits, print_findings, print_summary, tight_frames_in, try_job};
 use bench_core::{Settings, judge};
 use bench_requests::{Fault, jobs_of, read_texts};
 use clap::{ArgMatches, Command};
@@ -11,6 +11,7 @@ use std::alloc::{AllocError, Global};
 use std::io;
 use std::io::{BufWriter, Write};
 use std::rt::Files;
+use text_lines::WriteFault;
 
 /// What the help of `bench check` ends with.
 const CHECK_NOTES: &str = "\
@@ -108,8 +109,8 @@ fn print_checks<'a, R: AllocGlobal + Print>(
     let mut out = on_stream("-", BufWriter::new(rt.alloc(), io::writer(rt)))?;
     match check_each(rt.alloc(), request, texts, jobs, &mut out) {
         Ok(()) => on_stream("-", out.flush()),
-        Err(CheckFault::Memory) => Err(Fault::Memory),
-        Err(CheckFault::Device) => Err(Fault::Device("-")),
+        Err(WriteFault::Memory) => Err(Fault::Memory),
+        Err(WriteFault::Device) => Err(Fault::Device("-")),
     }
 }
 
@@ -120,7 +121,7 @@ fn check_each<W: Write>(
     texts: &[Vec<u8>],
     jobs: &[Job],
     out: &mut W,
-) -> Result<(), CheckFault> {
+) -> Result<(), WriteFault> {
     let several = jobs.len() > 1;
     let mut room = 0u64;
     for ((name, text), job) in request.jobs.iter().zip(texts).zip(jobs) {
@@ -135,12 +136,12 @@ fn check_each<W: Write>(
     Ok(())
 }
 
-fn print_name<W: Write>(out: &mut W, name: &str) -> Result<(), CheckFault> {
+fn print_name<W: Write>(out: &mut W, name: &str) -> Result<(), WriteFault> {
     writeln!(out, "{name}")?;
     Ok(())
 }
 
-fn print_room<W: Write>(out: &mut W, room: u64) -> Result<(), CheckFault> {
+fn print_room<W: Write>(out: &mut W, room: u64) -> Result<(), WriteFault> {
     writeln!(
         out,
         "queue {room}: with room for so many nothing of all these jobs is refused"
@@ -155,7 +156,7 @@ fn check_one<W: Write>(
     text: &[u8],
     job: &Job,
     out: &mut W,
-) -> Result<u64, CheckFault> {
+) -> Result<u64, WriteFault> {
     let tight = tight_frames_in(alloc, text)?;
     if request.summary {
         let findings = try_job(alloc, job, request.bits, &mut io::sink())?;

@@ -9,8 +9,8 @@ use crate::selecting::selection_options;
 use crate::watching::{Watch, open_watched};
 use bench_clock::Clock as RecordingClock;
 use bench_export::{
-    Columns, ExportFault, ExportFromFault, Table, export, export_from, export_waves,
-    export_waves_from, selects_any,
+    Columns, ExportFromFault, Table, export, export_from, export_waves, export_waves_from,
+    selects_any,
 };
 use bench_files::{Hold, Kind, OutFile, leads_to_output};
 use bench_requests::{Fault, is_large, read_whole};
@@ -22,6 +22,7 @@ use std::alloc::{AllocError, Global};
 use std::fs;
 use std::io::{BufWriter, IsTerminal, Write};
 use std::rt::{Clock, Files};
+use text_lines::WriteFault;
 
 /// As what messages are exported.
 #[derive(Clone, Copy, Debug, PartialEq, Eq)]
@@ -271,20 +272,20 @@ fn write_dump_from<F: Advance + Drop, W: Write + Drop>(
     writer: W,
 ) -> Result<bool, ExportFromFault> {
     let Ok(mut out) = BufWriter::new(alloc, writer) else {
-        return Err(ExportFromFault::Writing(ExportFault::Memory));
+        return Err(ExportFromFault::Writing(WriteFault::Memory));
     };
     let selected = export_waves_from(alloc, input, selection, &mut out)?;
     match out.flush() {
         Ok(()) => Ok(selected),
-        Err(_) => Err(ExportFromFault::Writing(ExportFault::Device)),
+        Err(_) => Err(ExportFromFault::Writing(WriteFault::Device)),
     }
 }
 
 /// The fault of an out file that was not written to its end.
-fn fault_of_writing<'a>(out: &'a str, fault: ExportFault) -> Fault<'a> {
+fn fault_of_writing<'a>(out: &'a str, fault: WriteFault) -> Fault<'a> {
     match fault {
-        ExportFault::Memory => Fault::Memory,
-        ExportFault::Device => Fault::Device(out),
+        WriteFault::Memory => Fault::Memory,
+        WriteFault::Device => Fault::Device(out),
     }
 }
 
@@ -321,7 +322,7 @@ fn write_rows<W: Write + Drop>(
     clock: &RecordingClock,
     table: &Table,
     writer: W,
-) -> Result<(), ExportFault> {
+) -> Result<(), WriteFault> {
     match export(alloc, index, table, clock, writer) {
         Ok(_) => Ok(()),
         Err(fault) => Err(fault),
@@ -334,13 +335,13 @@ fn write_dump<W: Write + Drop>(
     index: &Index<'_>,
     selection: &Selection,
     writer: W,
-) -> Result<(), ExportFault> {
+) -> Result<(), WriteFault> {
     let Ok(mut out) = BufWriter::new(alloc, writer) else {
-        return Err(ExportFault::Memory);
+        return Err(WriteFault::Memory);
     };
     export_waves(alloc, index, selection, &mut out)?;
     match out.flush() {
         Ok(()) => Ok(()),
-        Err(_) => Err(ExportFault::Device),
+        Err(_) => Err(WriteFault::Device),
     }
 }

@@ -10,8 +10,8 @@ use bench_clock::Clock as RecordingClock;
 use bench_requests::{Fault, is_large, read_whole};
 use bench_select::Selection;
 use bench_stat::{
-    ChannelFigures, Indexed, Shown, StatFault, Tells, ToldChannels, print_page, print_tables, stat,
-    stat_from, told_from,
+    ChannelFigures, Indexed, Shown, Tells, ToldChannels, print_page, print_tables, stat, stat_from,
+    told_from,
 };
 use ch11_reader::Index;
 use clap::{ArgMatches, Command};
@@ -19,6 +19,7 @@ use std::alloc::{AllocError, Global};
 use std::io;
 use std::io::{BufWriter, IsTerminal, Write};
 use std::rt::{Clock, Files};
+use text_lines::WriteFault;
 
 /// What is to be counted in, and what is to be shown of it.
 #[derive(Clone, Copy, Debug)]
@@ -226,7 +227,7 @@ fn print_figures<W: Write, T: Tells>(
     clock: &RecordingClock,
     figures: &[ChannelFigures],
     request: &StatRequest<'_>,
-) -> Result<(), StatFault> {
+) -> Result<(), WriteFault> {
     if request.rows {
         print_tables(alloc, out, told, figures, &request.shown, clock)
     } else {
@@ -235,10 +236,10 @@ fn print_figures<W: Write, T: Tells>(
 }
 
 /// What printing comes to that ended so, once all is handed on.
-fn ended<'a, W: Write>(printed: Result<(), StatFault>, out: &mut W) -> Result<(), Fault<'a>> {
+fn ended<'a, W: Write>(printed: Result<(), WriteFault>, out: &mut W) -> Result<(), Fault<'a>> {
     match printed {
         Ok(()) => on_stream("-", out.flush()),
-        Err(StatFault::Memory) => Err(Fault::Memory),
-        Err(StatFault::Device) => Err(Fault::Device("-")),
+        Err(WriteFault::Memory) => Err(Fault::Memory),
+        Err(WriteFault::Device) => Err(Fault::Device("-")),
     }
 }

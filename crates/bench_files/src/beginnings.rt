@@ -1,6 +1,6 @@
 //! How what commands write is told by its beginning.
-ghost use Rattle.std.specs.Prelude.{◌≡◌};
 ghost use Rattle.bench_files.specs.Kinds.{behind_line, is_of_kind, is_report};
+ghost use Rattle.std.specs.Prelude.{◌≡◌};
 
 use crate::kind::Kind;
 

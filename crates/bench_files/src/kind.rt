@@ -22,8 +22,8 @@ pub enum Kind {
 
 /// `recording`, `report`, `image`, `table of messages`, `picture`, `JUnit report`, `value change dump`.
 impl Display for Kind {
-    ghost use Rattle.std.specs.Prelude.{Some};
     ghost use Rattle.bench_files.specs.Codes.{kind_text};
+    ghost use Rattle.std.specs.Prelude.{Some};
 
     ghost output = { λ kind. Some (kind_text kind) };
 

@@ -1,6 +1,6 @@
 //! Names of files: where links lead, and the name that a file has until it is whole.
-ghost use Rattle.std.specs.Prelude.{◌≡◌, string_bytes, IfOk};
 ghost use Rattle.bench_files.specs.Names.{part_of};
+ghost use Rattle.std.specs.Prelude.{◌≡◌, string_bytes, IfOk};
 
 use std::alloc::{AllocError, Global};
 use std::io;

@@ -1,6 +1,6 @@
 //! The mailboxes of a run, and what posts into them.
-ghost use Rattle.std.specs.Prelude.{IfOk, OnOk};
 ghost use Rattle.bench_live.specs.Posting.{IsOpened};
+ghost use Rattle.std.specs.Prelude.{IfOk, OnOk};
 
 use bench_run::{Inbox, Mailbox, Poster};
 use job_file::Job;

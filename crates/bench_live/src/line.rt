@@ -1,11 +1,9 @@
 //! The line that asks for an action while a run goes on.
-ghost use Rattle.std.specs.Prelude.{◌≡◌, ◌≤◌, IfOk};
-ghost use Rattle.mil_host.specs.Reading.{number_of};
-ghost use Rattle.text_lines.specs.Words.{words};
 ghost use Rattle.bench_live.specs.Lines.{post_of};
+ghost use Rattle.std.specs.Prelude.{◌≡◌};
+ghost use Rattle.text_lines.specs.Words.{words};
 
-use mil_host::{Action, BadAction, read_action};
-use numerals::spelled;
+use mil_host::{Action, BadAction, number_within, read_action};
 use text_lines::next_word;
 
 /// What a line asks for.
@@ -16,21 +14,6 @@ pub struct LivePost {
     /// The address of a terminal, 0 to 30.
     pub address: u8,
     pub action: Action,
-}
-
-/// The number of a word, within a range.
-fn number_within(word: &[u8], low: u16, high: u16) -> Result<u16, BadAction>
-    ensures value { result ≡ number_of low high word.now }
-    ensures range { IfOk result (λ n. (low ≤ n) × (n ≤ high)) }
-{
-    let Some(value) = spelled(10, 1, 7, word) else {
-        return Err(BadAction::Number);
-    };
-    if u64::from(low) <= value && value <= u64::from(high) {
-        Ok(value as u16)
-    } else {
-        Err(BadAction::Range)
-    }
 }
 
 /// What a line asks for: `CHANNEL ADDRESS ACTION`, words parted by one or more spaces, with a channel of 1 to 65,535,

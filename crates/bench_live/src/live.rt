@@ -1,9 +1,9 @@
 //! Runs that are paced, and runs while a host posts what lines ask for.
-ghost use Rattle.std.specs.Prelude.{◌-◌, ◌<◌, ◌^◌, IfOk, IfErr, OnOk};
 ghost use Rattle.bench_core.specs.Lawful.{AreLawful};
-ghost use Rattle.bench_run.specs.Runs.{Ran, RefusesNoneWithRoom, Leaves};
-ghost use Rattle.bench_run.specs.Live.{AreInboxesOf, HaveMail, RanLive, LeavesLive};
 ghost use Rattle.bench_live.specs.Posting.{AreHandsOf};
+ghost use Rattle.bench_run.specs.Live.{AreInboxesOf, HaveMail, RanLive, LeavesLive};
+ghost use Rattle.bench_run.specs.Runs.{Ran, RefusesNoneWithRoom, Leaves};
+ghost use Rattle.std.specs.Prelude.{◌-◌, ◌<◌, ◌^◌, IfOk, IfErr, OnOk};
 
 use crate::desk::{Desk, Hand};
 use crate::gates::SessionGate;

@@ -1,10 +1,10 @@
 //! Lines posted while a run goes on.
-ghost use Rattle.std.specs.Prelude.{◌≡◌, ◌≤◌, ◌∷◌, ◌++◌, [], length, IfOk, IfErr, OnOk};
-ghost use Rattle.std.specs.List.{before_first, position_or_len};
-ghost use Rattle.text_lines.specs.Lines.{is_line_end};
-ghost use Rattle.bench_mail.specs.Mail.{posted};
-ghost use Rattle.bench_live.specs.Posting.{IsHandOf, AreHandsOf, as_post, is_channel, LeavesHand, IsLineDone};
 ghost use Rattle.bench_live.specs.Posting.{IsCallDone};
+ghost use Rattle.bench_live.specs.Posting.{IsHandOf, AreHandsOf, as_post, is_channel, LeavesHand, IsLineDone};
+ghost use Rattle.bench_mail.specs.Mail.{posted};
+ghost use Rattle.std.specs.List.{before_first, position_or_len};
+ghost use Rattle.std.specs.Prelude.{◌≡◌, ◌≤◌, ◌∷◌, ◌++◌, [], length, IfOk, IfErr, OnOk};
+ghost use Rattle.text_lines.specs.Lines.{is_line_end};
 
 use crate::desk::{Desk, Hand};
 use crate::line::{LivePost, read_post};

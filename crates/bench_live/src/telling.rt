@@ -11,8 +11,8 @@ use std::sync::Wait;
 
 /// `H2 line 3`, `channel 9 is not there: line 3`.
 impl Display for Told {
-    ghost use Rattle.std.specs.Prelude.{Some};
     ghost use Rattle.bench_live.specs.Telling.{told_text};
+    ghost use Rattle.std.specs.Prelude.{Some};
 
     ghost output = { λ told. Some (told_text told.number told.fault) };
 

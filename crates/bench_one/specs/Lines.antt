@@ -1,9 +1,6 @@
 -- Bytes as lines of pairs (own choice).
-use Rattle.std.specs.Prelude.{ℕ, ◌+◌, ◌/◌, ◌%◌, ◌==◌, ◌||◌, if◌then◌else◌, List, [], ◌∷◌, length, nat_lt}
-
--- the character of a hexadecimal digit
-abbrev pub digit_of : ℕ → ℕ
-digit_of value = if nat_lt value 10 then 48 + value else 55 + value
+use Rattle.std.specs.Prelude.{ℕ, ◌+◌, ◌/◌, ◌%◌, ◌==◌, ◌||◌, if◌then◌else◌, List, [], ◌∷◌, length}
+use Rattle.numerals.specs.Numerals.{digit_of}
 
 -- behind a byte: a line end after every sixteenth place and after the last byte, else a space
 abbrev pub behind : ℕ → ℕ → ℕ

@@ -1,10 +1,10 @@
 //! Why there is no packet.
-ghost use Rattle.std.specs.Prelude.{◌≡◌};
 ghost use Rattle.bench_one.specs.declared.fault.OneFault.TheVariants.{Memory};
+ghost use Rattle.std.specs.Prelude.{◌≡◌};
 
 use frame_text::{Cause, Place, ScriptError};
 use std::alloc::AllocError;
-use std::fmt;
+use std::fmt::{self, Display, Formatter, Write};
 
 /// Why a text gave no packet.
 #[derive(Clone, Copy, Debug, PartialEq, Eq)]
@@ -16,13 +16,13 @@ pub enum OneFault {
 }
 
 /// `S1 line 1 column 3`, `S4 line 1 column 3 M3`, `memory`.
-impl fmt::Display for OneFault {
-    ghost use Rattle.std.specs.Prelude.{Some};
+impl Display for OneFault {
     ghost use Rattle.bench_one.specs.Codes.{fault_text};
+    ghost use Rattle.std.specs.Prelude.{Some};
 
     ghost output = { λ e. Some (fault_text e) };
 
-    fn fmt<W: fmt::Write>(&self, f: &mut fmt::Formatter<W>) -> fmt::Result {
+    fn fmt<W: Write>(&self, f: &mut Formatter<W>) -> fmt::Result {
         match self {
             OneFault::Text { cause, place } => {
                 let text = ScriptError::Text {

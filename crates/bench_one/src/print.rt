@@ -1,9 +1,10 @@
 //! Bytes as lines of upper-case pairs.
 
-ghost use Rattle.std.specs.Prelude.{◌≡◌, ◌<◌, ◌+◌, OnOk};
+ghost use Rattle.bench_one.specs.Lines.{lines_of, behind};
 ghost use Rattle.std.specs.Io.KnownBytes.{Appends};
-ghost use Rattle.bench_one.specs.Lines.{lines_of, digit_of, behind};
+ghost use Rattle.std.specs.Prelude.{◌≡◌, OnOk};
 
+use numerals::digit_of;
 use std::io;
 use std::io::Write;
 
@@ -14,25 +15,13 @@ pub fn print_bytes<W: Write>(out: &mut W, bytes: &[u8]) -> io::Result<()>
 {
     for (place, byte) in bytes.iter().enumerate() {
         let pair = [
-            digit(*byte / 16),
-            digit(*byte % 16),
+            digit_of(*byte / 16),
+            digit_of(*byte % 16),
             separator(place, bytes.len() - place),
         ];
         out.write_all(pair.as_slice())?;
     }
     Ok(())
-}
-
-/// A digit's character.
-fn digit(value: u8) -> u8
-    requires { value < 16 }
-    ensures { result ≡ digit_of value }
-{
-    if value < 10 {
-        b'0' + value
-    } else {
-        b'A' + (value - 10)
-    }
 }
 
 /// What stands behind the byte at a place, where so many bytes are left with it.

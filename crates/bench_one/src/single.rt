@@ -1,8 +1,8 @@
 //! One message on fresh terminals.
-ghost use Rattle.std.specs.Prelude.{◌≡◌, ◌<◌, ◌^◌, true, Ok, IfOk, IfErr};
+ghost use Rattle.bench_one.specs.One.{addresses_named, only_talk, packet_of_send, packet_of_text, IsRefusal};
 ghost use Rattle.mil_bus.specs.Addresses.{is_fit};
 ghost use Rattle.mil_monitor.specs.Observed.{observed};
-ghost use Rattle.bench_one.specs.One.{addresses_named, only_talk, packet_of_send, packet_of_text, IsRefusal};
+ghost use Rattle.std.specs.Prelude.{◌≡◌, ◌<◌, ◌^◌, true, Ok, IfOk, IfErr};
 
 use crate::fault::OneFault;
 use arrayvec::ArrayVec;

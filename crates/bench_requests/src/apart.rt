@@ -1,6 +1,6 @@
 //! Files told apart by what they are, so that no command writes over a file that it reads or that it writes besides.
-ghost use Rattle.std.specs.Prelude.{◌≡◌};
 ghost use Rattle.bench_requests.specs.Apart.{is_same_place};
+ghost use Rattle.std.specs.Prelude.{◌≡◌};
 
 use crate::fault::Fault;
 use bench_files::{followed, part_of};

@@ -1,6 +1,6 @@
 //! Which fault of a run has its files end how.
-ghost use Rattle.std.specs.Prelude.{◌≡◌};
 ghost use Rattle.bench_requests.specs.Endings.{ending_of, ending_of_settings};
+ghost use Rattle.std.specs.Prelude.{◌≡◌};
 
 use crate::ending::Ending;
 use bench_core::WorldError;

@@ -1,7 +1,7 @@
 //! Why `bench` stops, and with which exit status.
-ghost use Rattle.std.specs.Prelude.{◌≡◌};
-ghost use Rattle.bench_requests.specs.declared.fault.Fault.TheVariants as faults;
 ghost use Rattle.bench_requests.specs.Status.{status_of, fault_of, fault_of_settings, IsOfOut, IsOfStep};
+ghost use Rattle.bench_requests.specs.declared.fault.Fault.TheVariants as faults;
+ghost use Rattle.std.specs.Prelude.{◌≡◌};
 
 use bench_assemble::AssembleFault;
 use bench_core::WorldError;

@@ -1,8 +1,8 @@
 //! Jobs, judged once their files are read.
-ghost use Rattle.std.specs.Prelude.{◌≡◌, map, IfOk, IfErr};
+ghost use Rattle.bench_requests.specs.Requests.{IsRefusedJob};
 ghost use Rattle.job_file.specs.Jobs.{job_in};
 ghost use Rattle.job_file.specs.Texts.{AreSpelled};
-ghost use Rattle.bench_requests.specs.Requests.{IsRefusedJob};
+ghost use Rattle.std.specs.Prelude.{◌≡◌, map, IfOk, IfErr};
 
 use crate::fault::Fault;
 use job_file::{Job, JobError};

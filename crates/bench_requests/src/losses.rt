@@ -1,7 +1,7 @@
 //! Whether a recording says that messages are missing from it.
-ghost use Rattle.std.specs.Prelude.{◌≡◌};
-ghost use Rattle.std.specs.List.{list_any};
 ghost use Rattle.bench_requests.specs.Losses.{has_overflow};
+ghost use Rattle.std.specs.List.{list_any};
+ghost use Rattle.std.specs.Prelude.{◌≡◌};
 
 use ch11_reader::Packet;
 

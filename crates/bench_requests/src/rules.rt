@@ -1,7 +1,7 @@
 //! Rules, judged once their file is read.
-ghost use Rattle.std.specs.Prelude.{◌≡◌, Ok, IfOk, IfErr};
-ghost use Rattle.judge_rules.specs.Rules.{rules_in};
 ghost use Rattle.bench_requests.specs.Requests.{IsRefusedText, fault_of_rules};
+ghost use Rattle.judge_rules.specs.Rules.{rules_in};
+ghost use Rattle.std.specs.Prelude.{◌≡◌, Ok, IfOk, IfErr};
 
 use crate::fault::Fault;
 use judge_rules::{Rule, RuleError, RuleFault, read_rules};

@@ -1,7 +1,7 @@
 //! Jobs recorded: with or without a word on how far the recording has come, and with buses that are held or not.
-ghost use Rattle.std.specs.Prelude.{◌-◌, ◌<◌, ◌^◌, IfOk, IfErr, OnOk};
 ghost use Rattle.bench_core.specs.Lawful.{AreLawful};
 ghost use Rattle.bench_run.specs.Runs.{Ran, RefusesNoneWithRoom, Leaves};
+ghost use Rattle.std.specs.Prelude.{◌-◌, ◌<◌, ◌^◌, IfOk, IfErr, OnOk};
 
 use crate::progress::Progress;
 use bench_core::Settings;

@@ -1,6 +1,6 @@
 //! How many messages a full queue refused, and of which channels.
-ghost use Rattle.std.specs.Prelude.{◌≡◌, string_bytes, IfOk};
 ghost use Rattle.bench_run_command.specs.Refused.{refused_count, refusals_text, refused_of, told_of};
+ghost use Rattle.std.specs.Prelude.{◌≡◌, string_bytes, IfOk};
 
 use bench_report::{ChannelReport, Report};
 use std::alloc::{AllocError, Global};

@@ -1,18 +1,8 @@
--- One more word, and one more action, behind those before it.
+-- One more action behind those before it.
 use Rattle.std.proofs.Common.{◌≡◌, ℕ, zero, suc, ◌+◌, ◌<◌, List, [], ◌∷◌, ◌++◌, length, take, get_or, ap, sym, ◌∙◌, append_assoc, append-nil, arith, codes}
-use Rattle.text_lines.specs.Words.{Text}
-use Rattle.mil_host.specs.Printing.{data_text}
 use Rattle.mil_terminal.specs.History.{History}
 use Rattle.bc_machine.specs.declared.placed.Placed.{Placed}
 use Rattle.bench_state.specs.Marks.{host_history, met_of}
-use Rattle.bench_state.specs.DataText.{all_words}
-
-pub words_more : (words : List ℕ) (i d : ℕ) → i < length words → all_words (take (suc i) words) ≡ all_words (take i words) ++ (codes " " ++ data_text (get_or words i d))
-words_more [] i d lt = absurd (omega arith)
-words_more (w ∷ ws) zero d lt = append-nil (codes " " ++ data_text w)
-words_more (w ∷ ws) (suc i) d lt =
-    ap (λ (l : Text). (codes " " ++ data_text w) ++ l) (words_more ws i d (omega arith))
-    ∙ sym (append_assoc (codes " " ++ data_text w) (all_words (take i ws)) (codes " " ++ data_text (get_or ws i d)))
 
 pub history_more : (address number : ℕ) (placed : List Placed) (i : ℕ) (d : Placed) → i < length placed
     → host_history address number (take (suc i) placed) ≡ met_of address number (get_or placed i d) ++ host_history address number (take i placed)

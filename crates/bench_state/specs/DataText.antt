@@ -3,13 +3,13 @@
 use Rattle.std.specs.Prelude.{ℕ, Bool, ◌&&◌, ◌==◌, nat_le, if◌then◌else◌, List, [], ◌∷◌, ◌++◌, codes, decimal}
 use Rattle.std.specs.List.{flat_map}
 use Rattle.text_lines.specs.Words.{Text}
-use Rattle.mil_host.specs.Printing.{data_text}
+use Rattle.mil_host.specs.Printing.{spaced_data}
 use Rattle.mil_terminal.specs.Station.{Station}
 use Rattle.mil_terminal.specs.Registers.{received, received_from_all, transmit_words}
 
 -- words, each behind a space
 abbrev pub all_words : List ℕ → Text
-all_words words = flat_map (λ (w : ℕ). codes " " ++ data_text w) words
+all_words words = flat_map spaced_data words
 
 -- a dash where there is none
 abbrev pub words_text : List ℕ → Text

@@ -1,7 +1,7 @@
 //! The data words of a terminal, as lines.
-ghost use Rattle.std.specs.Prelude.{◌≡◌, ◌≤◌, OnOk};
-ghost use Rattle.std.specs.Io.KnownBytes.{Appends};
 ghost use Rattle.bench_state.specs.DataText.{data_line, data_lines, data_shown};
+ghost use Rattle.std.specs.Io.KnownBytes.{Appends};
+ghost use Rattle.std.specs.Prelude.{◌≡◌, ◌≤◌, OnOk};
 
 use crate::printing::print_words;
 use mil_terminal::Terminal;

@@ -1,9 +1,9 @@
 //! What the host of a terminal has set on or off.
-ghost use Rattle.std.specs.Prelude.{◌≡◌, ◌∷◌, ◌++◌, [], OnOk};
-ghost use Rattle.std.specs.Io.KnownBytes.{Appends};
-ghost use Rattle.mil_terminal.specs.declared.events.Event.TheVariants.{Host};
-ghost use Rattle.mil_terminal.specs.History.{History};
 ghost use Rattle.bench_state.specs.Marks.{host_history, marks_in, marks_line, met_of, name_if, none_if};
+ghost use Rattle.mil_terminal.specs.History.{History};
+ghost use Rattle.mil_terminal.specs.declared.events.Event.TheVariants.{Host};
+ghost use Rattle.std.specs.Io.KnownBytes.{Appends};
+ghost use Rattle.std.specs.Prelude.{◌≡◌, ◌∷◌, ◌++◌, [], OnOk};
 
 use bc_machine::{Actions, Placed};
 use mil_host::Action;

@@ -1,15 +1,15 @@
 //! What the terminals of a channel hold, as lines.
-ghost use Rattle.std.specs.Prelude.{◌≡◌, ◌++◌, OnOk, codes};
-ghost use Rattle.std.specs.Io.KnownBytes.{Appends};
 ghost use Rattle.bench_state.specs.StateText.{channel_text, field, host_line, lines_text, off_text, set_lines};
 ghost use Rattle.bench_state.specs.StateText.{terminal_line, terminal_lines, terminal_text};
+ghost use Rattle.std.specs.Io.KnownBytes.{Appends};
+ghost use Rattle.std.specs.Prelude.{◌≡◌, ◌++◌, OnOk, codes};
 
 use crate::data::print_data;
 use crate::details::Detail;
 use crate::marks::Marks;
-use crate::printing::Digits;
 use bc_machine::Actions;
 use mil_bus::Bus;
+use mil_host::DataWord;
 use mil_terminal::Terminal;
 use mil_word::Line;
 use std::io;
@@ -31,7 +31,7 @@ fn lines(a: bool, b: bool) -> &'static str
 fn print_field<W: Write>(out: &mut W, name: &str, value: u16) -> io::Result<()>
     ensures { OnOk result (Appends (W.contents out.old) (W.contents out.new) (field name.now value)) }
 {
-    let digits = Digits(value);
+    let digits = DataWord(value);
     write!(out, "{name}{digits}")
 }
 

@@ -6,7 +6,8 @@ unfoldable pub help_text : Text
 help_text =
     codes "forward, back   one message of the recording on, or back\n"
     ++ (codes "go N            to the place where N messages are past, 0 for the beginning\n"
-    ++ (codes "find COND       on to the next message whose outcome makes a condition true, as in: find any ( fail silent )\n"
+    ++ (codes "find COND       on to the next message whose outcome makes a condition true, as in: "
+    ++ (codes "find any ( fail silent )\n"
     ++ (codes "state           the channels, and the registers of their terminals\n"
     ++ (codes "state --all     what the hosts of the terminals set, too\n"
     ++ (codes "forward N, back N   so many messages on, or back (where lines are typed)\n"
@@ -18,4 +19,4 @@ help_text =
     ++ (codes "show, show N    the message at the place, or message N, as people read it\n"
     ++ (codes "data A S        what terminal A holds at subaddress S: received, received from all, to transmit\n"
     ++ (codes "help            these lines\n"
-    ++ (codes "quit            ends the session\n"))))))))))))))
+    ++ (codes "quit            ends the session\n")))))))))))))))

@@ -1,11 +1,11 @@
 //! The latest message before a place whose outcome makes a condition true.
-ghost use Rattle.std.specs.Prelude.{◌≡◌, IfOk};
-ghost use Rattle.frame_tree.specs.Tree.{condition_in};
-ghost use Rattle.ch11_reader.specs.Indexed.{found_in};
 ghost use Rattle.bench_step.specs.Answering.{IsOpen, opened};
 ghost use Rattle.bench_step.specs.Backwards.{Latest};
 ghost use Rattle.bench_step.specs.Commands.{find_back};
 ghost use Rattle.bench_step.specs.Session.{Replies, after_reply};
+ghost use Rattle.ch11_reader.specs.Indexed.{found_in};
+ghost use Rattle.frame_tree.specs.Tree.{condition_in};
+ghost use Rattle.std.specs.Prelude.{◌≡◌, IfOk};
 
 use crate::moves::move_to;
 use crate::opening::open_replay;

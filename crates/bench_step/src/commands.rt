@@ -1,12 +1,12 @@
 //! What a line of a session asks.
-ghost use Rattle.std.specs.Prelude.{◌≡◌, ◌≤◌, IfOk, IfSome, OnErr};
-ghost use Rattle.text_lines.specs.Words.{words};
-ghost use Rattle.judge_rules.specs.Selectors.{selector_of};
-ghost use Rattle.std.specs.Prelude.{option_map};
 ghost use Rattle.bench_step.specs.Commands.{Asked, asked, asked_of, asked_by, alone, finding_back, finding_in};
 ghost use Rattle.bench_step.specs.Commands.{finding_on, forward, back, go, show_at, going, holding, number_up_to};
 ghost use Rattle.bench_step.specs.Commands.{of_channel, only_number, only_time, plain, selecting, select, select_back};
 ghost use Rattle.bench_step.specs.Commands.{showing, steps, telling, two_words, with_number, TakesMemory};
+ghost use Rattle.judge_rules.specs.Selectors.{selector_of};
+ghost use Rattle.std.specs.Prelude.{option_map};
+ghost use Rattle.std.specs.Prelude.{◌≡◌, ◌≤◌, IfOk, IfSome, OnErr};
+ghost use Rattle.text_lines.specs.Words.{words};
 
 use crate::manners::Manner;
 use bench_places::Sought;

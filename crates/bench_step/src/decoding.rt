@@ -1,6 +1,6 @@
 //! Messages as people read them, one at a time.
-ghost use Rattle.std.specs.Prelude.{◌≡◌, []};
 ghost use Rattle.bench_step.specs.Session.{MayTell};
+ghost use Rattle.std.specs.Prelude.{◌≡◌, []};
 
 use crate::manners::Manner;
 use crate::replies::Reply;

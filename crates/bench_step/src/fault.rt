@@ -1,9 +1,10 @@
 //! Why a session ended before its lines did, or with a refusal for memory.
-ghost use Rattle.std.specs.IoError.{error_kind};
 ghost use Rattle.bench_step.specs.Answering.{IsReaders};
+ghost use Rattle.std.specs.IoError.{error_kind};
 
 use ch11_reader::Refusal;
-use std::{fmt, io};
+use std::fmt::{self, Display, Formatter, Write};
+use std::io;
 
 /// Why a session ended before its lines did, or with a refusal for memory.
 #[derive(Clone, Copy, Debug, PartialEq, Eq)]
@@ -28,13 +29,13 @@ pub enum StepFault {
 }
 
 /// `K3 offset 0`, `Y1 channel 1 number 3`, `memory`, `device -`.
-impl fmt::Display for StepFault {
-    ghost use Rattle.std.specs.Prelude.{Some};
+impl Display for StepFault {
     ghost use Rattle.bench_step.specs.FaultText.{fault_text};
+    ghost use Rattle.std.specs.Prelude.{Some};
 
     ghost output = { λ e. Some (fault_text e) };
 
-    fn fmt<W: fmt::Write>(&self, f: &mut fmt::Formatter<W>) -> fmt::Result {
+    fn fmt<W: Write>(&self, f: &mut Formatter<W>) -> fmt::Result {
         match self {
             StepFault::Refused(refusal) => write!(f, "{refusal}"),
             StepFault::Mismatch { channel, number } => {

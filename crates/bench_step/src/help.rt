@@ -1,6 +1,6 @@
 //! The commands of a session as they are shown.
-ghost use Rattle.std.specs.Prelude.{◌≡◌};
 ghost use Rattle.bench_step.specs.HelpText.{help_text};
+ghost use Rattle.std.specs.Prelude.{◌≡◌};
 
 /// The commands of a session, a line each.
 #[tactic(auto, unfolding(crate::specs::HelpText::help_text))]

@@ -1,8 +1,8 @@
 //! The moves of the debugger, and what is replied to each.
-ghost use Rattle.std.specs.Prelude.{◌≡◌, ◌+◌, ◌-◌};
-ghost use Rattle.frame_tree.specs.Tree.{condition_in};
 ghost use Rattle.bench_step.specs.Commands as asked;
 ghost use Rattle.bench_step.specs.Session.{Replies, IsMoveTo, after_reply};
+ghost use Rattle.frame_tree.specs.Tree.{condition_in};
+ghost use Rattle.std.specs.Prelude.{◌≡◌, ◌+◌, ◌-◌};
 
 use crate::replies::Reply;
 use bench_places::{Sought, latest_place, nth_place, place_before};

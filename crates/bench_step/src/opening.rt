@@ -1,7 +1,7 @@
 //! Opening a recording under the debugger.
-ghost use Rattle.std.specs.Prelude.{◌≡◌, IfOk, IfErr, OnOk};
-ghost use Rattle.ch11_reader.specs.Indexed.{found_in};
 ghost use Rattle.bench_step.specs.Answering.{IsAccepted, IsRefusal, opened};
+ghost use Rattle.ch11_reader.specs.Indexed.{found_in};
+ghost use Rattle.std.specs.Prelude.{◌≡◌, IfOk, IfErr, OnOk};
 
 use crate::fault::StepFault;
 use bench_report::Report;

@@ -1,8 +1,8 @@
 //! What is replied to a line.
-ghost use Rattle.std.specs.Prelude.{◌≡◌, ◌<◌, length, MatchResult, OnOk};
-ghost use Rattle.std.specs.Io.KnownBytes.{Appends};
-ghost use Rattle.replay.specs.Moves.{OfJob};
 ghost use Rattle.bench_step.specs.Session.{is_end, is_memory, job_text, reply_text, state_text};
+ghost use Rattle.replay.specs.Moves.{OfJob};
+ghost use Rattle.std.specs.Io.KnownBytes.{Appends};
+ghost use Rattle.std.specs.Prelude.{◌≡◌, ◌<◌, length, MatchResult, OnOk};
 
 use crate::help::commands;
 use bench_report::Report;

@@ -1,9 +1,9 @@
 //! A recording under the debugger, and the answer to a line.
-ghost use Rattle.std.specs.Prelude.{◌≡◌, ◌++◌, IfOk, IfErr, OnOk};
-ghost use Rattle.std.specs.Io.KnownBytes.{Appends};
 ghost use Rattle.bench_step.specs.Answering.{IsAccepted, IsAnswered, IsRefusal, opened};
 ghost use Rattle.bench_step.specs.Commands.{asked, asked_of, show_at};
 ghost use Rattle.bench_step.specs.Session.{Replies, after_reply, reply_text};
+ghost use Rattle.std.specs.Io.KnownBytes.{Appends};
+ghost use Rattle.std.specs.Prelude.{◌≡◌, ◌++◌, IfOk, IfErr, OnOk};
 
 use crate::backwards::back_to;
 use crate::commands::{Command, read_command};
@@ -36,9 +36,9 @@ pub(crate) struct Session<'a> {
 }
 
 impl<'a> Model for Session<'a> {
+    ghost use Rattle.bench_step.specs.Answering.{IsOpen, SessionState};
     ghost use Rattle.job_file.specs.contracts.scripts.Script as scripts;
     ghost use Rattle.std.specs.Coded.{codes};
-    ghost use Rattle.bench_step.specs.Answering.{IsOpen, SessionState};
 
     ghost Value = { SessionState };
 

@@ -1,6 +1,6 @@
 //! The hosts: each sets a vector word on its terminal, and then asks for service.
-ghost use Rattle.std.specs.Prelude.{◌≡◌};
 ghost use Rattle.live_example.specs.Hosts.{MayPost};
+ghost use Rattle.std.specs.Prelude.{◌≡◌};
 
 use crate::gate::Posted;
 use bench_run::{Mailbox, Poster};

@@ -3,10 +3,10 @@
 //! left out, and message 50 of each channel waits until its host has posted.
 #![tactic(auto)]
 
-ghost use Rattle.std.specs.Prelude.{◌≡◌, ◌∷◌, [], IfSome};
-ghost use Rattle.bench_run.specs.Live.{AreInboxesOf};
 ghost use Rattle.bench_mail.specs.Mail.{IsInboxOf};
+ghost use Rattle.bench_run.specs.Live.{AreInboxesOf};
 ghost use Rattle.live_example.specs.Hosts.{MayPost};
+ghost use Rattle.std.specs.Prelude.{◌≡◌, ◌∷◌, [], IfSome};
 
 mod gate;
 mod hosts;
