@@ -1,6 +1,6 @@
 //! Calls on scripts, their trees, their images and their programs.
-ghost use Rattle.frame_tree.specs.Tree.{tree_of};
 ghost use Rattle.frame_tree.specs.Bounds.{IsSound};
+ghost use Rattle.frame_tree.specs.Tree.{tree_of};
 
 use crate::told::Told;
 use crate::worked::{LOOPS, SCRIPT};

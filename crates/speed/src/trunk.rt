@@ -1,9 +1,9 @@
 //! A trunk, for `benches/trunk`: THREADS COUNT CAPACITY, so many threads, at most 64, which send so many items each,
 //! with a ticket of its own, while the main thread takes them all. Its figures: the nanoseconds of the exchange, and a
 //! sum over what was taken.
-ghost use Rattle.std.specs.Prelude.{◌≡◌, ◌<◌, ◌≤◌, ◌+◌, ◌^◌, [], ℕ, true, length, IfSome};
 ghost use Rattle.mil_trunk.specs.Ends.{IsTicketOf, IsTakerOf, bounds_of, tags_of, sent};
 ghost use Rattle.mil_trunk.specs.Tags.{has, bound_of};
+ghost use Rattle.std.specs.Prelude.{◌≡◌, ◌<◌, ◌≤◌, ◌+◌, ◌^◌, [], ℕ, true, length, IfSome};
 
 use crate::watch::Watch;
 use crate::words::number;

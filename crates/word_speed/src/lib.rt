@@ -1,9 +1,9 @@
 //! The word codec for callers in C: `benches/words` measures it beside the same in C and in Rust.
 #![tactic(auto)]
 
-ghost use Rattle.std.specs.Prelude.{◌≡◌};
-ghost use Rattle.mil_word.specs.Words.{command_wave};
 ghost use Rattle.mil_word.specs.Wave.{raw_of, word_of};
+ghost use Rattle.mil_word.specs.Words.{command_wave};
+ghost use Rattle.std.specs.Prelude.{◌≡◌};
 ghost use Rattle.word_speed.specs.Told.{told, lowest_forty};
 
 use mil_word::{Sync, Wave, Word, decode, encode, raw_bits};

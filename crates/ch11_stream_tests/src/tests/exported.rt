@@ -4,13 +4,14 @@ use crate::tests::equal::{are_bytes, same};
 use crate::tests::streamed::{damaged, failing, pair, refusal};
 use crate::tests::streams::{Slow, reader_of};
 use bench_clock::Clock;
-use bench_export::{Columns, ExportFault, ExportFromFault, Exported, Table, export_from};
+use bench_export::{Columns, ExportFromFault, Exported, Table, export_from};
 use bench_select::{Bound, Selection};
 use ch11_stream::StreamFault;
 use std::alloc::Global;
 use std::io;
 use std::io::{ErrorKind, Write};
 use std::process::Abort;
+use text_lines::WriteFault;
 
 const NAMES: &str =
     "number,channel,time_us,line,form,terminal,subaddress,count,mode_code,sender,sender_subaddress,\
@@ -144,6 +145,6 @@ fn a_failing_reader_and_a_failing_writer_are_told_apart(rt: HostRuntime) {
     let table = table_of(Selection::all());
     let file = pair();
     let found = exported(&rt, rt.alloc(), reader_of(&file, 7), &table, Full);
-    let written = ExportFromFault::Writing(ExportFault::Device);
+    let written = ExportFromFault::Writing(WriteFault::Device);
     same(&rt, &found.err(), &Some(written));
 }

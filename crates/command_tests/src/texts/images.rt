@@ -1,6 +1,6 @@
 //! What `bench assemble` makes of scripts, against worked images and refusals.
-ghost use Rattle.frame_tree.specs.Tree.{tree_of};
 ghost use Rattle.frame_tree.specs.Bounds.{IsSound};
+ghost use Rattle.frame_tree.specs.Tree.{tree_of};
 
 use bench_assemble::{AssembleFault, Sizes, assemble_text, print_sizes};
 use bumpalo::Bump;

@@ -1,8 +1,8 @@
 //! The codec bit by bit: plain, slow bodies under the contracts of `mil_word`, for tests to compare with.
-ghost use Rattle.std.specs.Prelude.{◌≡◌, ◌+◌, ◌*◌, ◌/◌, ◌%◌, ◌<◌, ◌^◌, ◌↔◌, ◌==◌, if◌then◌else◌, Some};
+ghost use Rattle.mil_word.specs.Wave.{wave_of, raw_of, word_of};
 ghost use Rattle.mil_word.specs.declared.Sync.TheVariants.{CommandSync, DataSync};
 ghost use Rattle.mil_word.specs.declared.Word.{Word};
-ghost use Rattle.mil_word.specs.Wave.{wave_of, raw_of, word_of};
+ghost use Rattle.std.specs.Prelude.{◌≡◌, ◌+◌, ◌*◌, ◌/◌, ◌%◌, ◌<◌, ◌^◌, ◌↔◌, ◌==◌, if◌then◌else◌, Some};
 
 use mil_word::{Sync, Wave, Word};
 

@@ -1,8 +1,8 @@
 //! Posts that a live run did not take are in the mailbox behind it, in their order.
-ghost use Rattle.std.specs.Prelude.{◌≡◌, [], ◌∷◌};
 ghost use Rattle.bench_mail.specs.Mail.{IsInboxOf};
 ghost use Rattle.bench_run.specs.Live.{AreInboxesOf};
 ghost use Rattle.run_tests.specs.Hosts.{HasPosted};
+ghost use Rattle.std.specs.Prelude.{◌≡◌, [], ◌∷◌};
 
 use crate::tests::fixtures::{Bench, bench_of};
 use crate::tests::gates::HeldForPosts;

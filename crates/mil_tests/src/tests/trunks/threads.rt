@@ -1,8 +1,8 @@
 //! The trunk as threads share it: what each sends arrives in its order, once, and nothing else does.
-ghost use Rattle.std.specs.Prelude.{◌≡◌, ◌==◌, ◌<◌, ◌≤◌, ◌+◌, ◌^◌, ◌++◌, ◌∷◌, [], ℕ, true, length, All, IsTrue, IfOk};
-ghost use Rattle.std.specs.Prelude.{IfSome, IfNone, vec_len, vec_capacity, slice_index_or, filter};
 ghost use Rattle.mil_trunk.specs.Ends.{IsTicketOf, IsTakerOf, bounds_of, tags_of, sent, received};
 ghost use Rattle.mil_trunk.specs.Tags.{has, bound_of};
+ghost use Rattle.std.specs.Prelude.{IfSome, IfNone, vec_len, vec_capacity, slice_index_or, filter};
+ghost use Rattle.std.specs.Prelude.{◌≡◌, ◌==◌, ◌<◌, ◌≤◌, ◌+◌, ◌^◌, ◌++◌, ◌∷◌, [], ℕ, true, length, All, IsTrue, IfOk};
 
 use mil_trunk::{Tags, Taker, Ticket, Trunk};
 use std::alloc::{AllocError, Global};
@@ -109,8 +109,8 @@ struct Sends<'a> {
 }
 
 impl<'a> Promise<(Ticket<Item>, bool)> for Sends<'a> {
-    ghost use Rattle.std.specs.Prelude.{◌≡◌, IsTrue};
     ghost use Rattle.mil_trunk.specs.Ends.{IsTicketOf, tags_of, sent};
+    ghost use Rattle.std.specs.Prelude.{◌≡◌, IsTrue};
 
     ghost kept_by = { λ p r. IsTicketOf p.trunk.now r.0 × (tags_of r.0 ≡ tags_of p.ticket.value)
         × (IsTrue r.1 → sent r.0 ≡ p.items.now) };
