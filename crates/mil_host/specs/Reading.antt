@@ -58,9 +58,12 @@ data_in (word ∷ rest) = data_of word
 abbrev pub one_of : Text → Text → Text → Read Bool
 one_of first second word = if bytes_eq word first then Ok true else if bytes_eq word second then Ok false else Err Word
 
+abbrev pub one_in : Text → Text → List Text → Read Bool
+one_in first second [] = Err Word
+one_in first second (word ∷ rest) = one_of first second word
+
 abbrev pub switch_in : List Text → Read Bool
-switch_in [] = Err Word
-switch_in (word ∷ rest) = one_of (codes "on") (codes "off") word
+switch_in rest = one_in (codes "on") (codes "off") rest
 
 abbrev pub line_of : Text → Read Line
 line_of word = and_then (one_of (codes "A") (codes "B") word) (λ first. Ok (if first then A else B))
@@ -70,8 +73,7 @@ line_in [] = Err Word
 line_in (word ∷ rest) = line_of word
 
 abbrev pub direction_in : List Text → Read Bool
-direction_in [] = Err Word
-direction_in (word ∷ rest) = one_of (codes "transmit") (codes "receive") word
+direction_in rest = one_in (codes "transmit") (codes "receive") rest
 
 -- no word is left over
 abbrev pub and_end : {X : Type 0} → List Text → X → Read X

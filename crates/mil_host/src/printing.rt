@@ -1,6 +1,7 @@
 //! The text of an action, and the code of a fault in such a text.
-ghost use Rattle.mil_host.specs.Printing.{text_of, switch_text, direction_text, line_text};
-ghost use Rattle.std.specs.Prelude.{◌≡◌};
+ghost use Rattle.mil_host.specs.Printing.{text_of, switch_text, direction_text, line_text, fault_code, mark_words};
+ghost use Rattle.mil_host.specs.Printing.{spaced};
+ghost use Rattle.std.specs.Prelude.{◌≡◌, Some};
 
 use crate::actions::Action;
 use crate::data_words::{DataWord, DataWords};
@@ -36,9 +37,6 @@ fn direction(mark: &Mark) -> &'static str
 
 /// The code of the fault: `H1`, `H2` or `H3`.
 impl Display for BadAction {
-    ghost use Rattle.mil_host.specs.Printing.{fault_code};
-    ghost use Rattle.std.specs.Prelude.{Some};
-
     ghost output = { λ e. Some (fault_code e) };
 
     fn fmt<W: Write>(&self, f: &mut Formatter<W>) -> fmt::Result {
@@ -52,9 +50,6 @@ impl Display for BadAction {
 
 /// A direction, a subaddress and a count as three words.
 impl Display for Mark {
-    ghost use Rattle.mil_host.specs.Printing.{mark_words, spaced};
-    ghost use Rattle.std.specs.Prelude.{Some};
-
     ghost output = { λ m. Some (spaced (mark_words m)) };
 
     fn fmt<W: Write>(&self, f: &mut Formatter<W>) -> fmt::Result {
@@ -67,9 +62,6 @@ impl Display for Mark {
 
 /// The action as its text: single spaces, and data words in upper case.
 impl Display for Action {
-    ghost use Rattle.mil_host.specs.Printing.{text_of};
-    ghost use Rattle.std.specs.Prelude.{Some};
-
     ghost output = { λ a. Some (text_of a) };
 
     #[tactic(auto, unfolding(crate::specs::Printing::text_of))]

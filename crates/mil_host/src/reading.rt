@@ -1,6 +1,6 @@
 //! The action that a text spells.
 ghost use Rattle.mil_host.specs.Reading.{action_in, of_name, number_in, data_in, one_of, line_of, line_in, switch_in};
-ghost use Rattle.mil_host.specs.Reading.{direction_in, and_end, some_data, only_switch, only_line_switch, only_data};
+ghost use Rattle.mil_host.specs.Reading.{one_in, and_end, some_data, only_switch, only_line_switch, only_data};
 ghost use Rattle.mil_host.specs.Reading.{only_ticks, only_words, only_mark, data_of, number_of};
 ghost use Rattle.std.specs.Prelude.{◌≡◌, ◌≤◌, Ok, Err, Some, None, slice_get, true, length, drop, IfOk, MatchResult};
 
@@ -105,12 +105,20 @@ fn read_data(words: &mut Words<'_>) -> Result<u16, BadAction>
     data_word(next_of(words)?)
 }
 
+/// Which of two words the next one is.
+fn read_one_of(words: &mut Words<'_>, first: &[u8], second: &[u8]) -> Result<bool, BadAction>
+    ensures value { result ≡ one_in first.now second.now words.old }
+    ensures rest { words.new ≡ drop 1 words.old }
+{
+    yes_or_no(next_of(words)?, first, second)
+}
+
 /// `on` or `off` as the next word.
 fn read_switch(words: &mut Words<'_>) -> Result<bool, BadAction>
     ensures value { result ≡ switch_in words.old }
     ensures rest { words.new ≡ drop 1 words.old }
 {
-    yes_or_no(next_of(words)?, b"on", b"off")
+    read_one_of(words, b"on", b"off")
 }
 
 /// `A` or `B` as the next word.
@@ -119,14 +127,6 @@ fn read_line(words: &mut Words<'_>) -> Result<Line, BadAction>
     ensures rest { words.new ≡ drop 1 words.old }
 {
     line_named(next_of(words)?)
-}
-
-/// `transmit` or `receive` as the next word.
-fn read_direction(words: &mut Words<'_>) -> Result<bool, BadAction>
-    ensures value { result ≡ direction_in words.old }
-    ensures rest { words.new ≡ drop 1 words.old }
-{
-    yes_or_no(next_of(words)?, b"transmit", b"receive")
 }
 
 /// No word is left.
@@ -205,7 +205,7 @@ fn read_only_words(words: &mut Words<'_>) -> Result<TransmitWords, BadAction>
 fn read_only_mark(words: &mut Words<'_>) -> Result<Mark, BadAction>
     ensures { result ≡ only_mark words.old }
 {
-    let transmit = read_direction(words)?;
+    let transmit = read_one_of(words, b"transmit", b"receive")?;
     let sub = read_number(words, 1, HIGHEST_SUBADDRESS)?;
     let count = read_number(words, 1, MOST_WORDS)?;
     read_end(words, Mark::make(transmit, sub, count))

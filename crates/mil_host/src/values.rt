@@ -3,6 +3,7 @@ ghost use Rattle.mil_host.specs.Ranges.{IsPutUp, IsMark};
 ghost use Rattle.std.specs.Prelude.{◌≡◌, ◌≤◌, ◌<◌, length, All};
 
 use arrayvec::ArrayVec;
+use mil_word::copied;
 use std::marker::Model;
 
 /// The data words that a host puts up for a transmit command at a subaddress: 1 to 32 words, at a subaddress of 1 to
@@ -66,11 +67,9 @@ impl TransmitWords {
     pub fn copy(&self) -> TransmitWords
         ensures { result ≡ self.now }
     {
-        let mut words = ArrayVec::new();
-        let _ = words.try_extend_from_slice(self.words.as_slice());
         TransmitWords {
             place: self.place,
-            words,
+            words: copied(&self.words),
         }
     }
 }

@@ -94,9 +94,8 @@ impl Plan {
     pub fn copy(&self) -> Result<Plan, AllocError>
         ensures { IfOk result (λ p. p ≡ self.now) }
     {
-        let by_number = self.by_number.clone()?;
         Ok(Plan {
-            by_number,
+            by_number: self.by_number.clone()?,
             added: self.added.same(),
         })
     }

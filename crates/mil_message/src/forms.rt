@@ -3,7 +3,7 @@ ghost use Rattle.std.specs.Prelude.{◌≡◌};
 
 use crate::ModeSubaddress;
 use arrayvec::ArrayVec;
-use mil_word::Command;
+use mil_word::{Command, copied};
 
 /// A message by its form. Addresses are 0 to 30, subaddresses 1 to 30, counts and numbers of words 1 to 32, mode codes
 /// those of the form.
@@ -71,15 +71,6 @@ pub enum Form {
         code: u8,
         word: u16,
     },
-}
-
-/// The same words once more, copied as a whole.
-fn copied(words: &ArrayVec<u16, 32>) -> ArrayVec<u16, 32>
-    ensures { result ≡ words.now }
-{
-    let mut copied = ArrayVec::new();
-    let _ = copied.try_extend_from_slice(words.as_slice());
-    copied
 }
 
 impl Form {

@@ -24,6 +24,18 @@ pub enum StatusBit {
 }
 
 impl StatusBit {
+    /// The bits that have a meaning, the first on the line first.
+    const EVERY: [StatusBit; 8] = [
+        StatusBit::MessageError,
+        StatusBit::Instrumentation,
+        StatusBit::ServiceRequest,
+        StatusBit::Broadcast,
+        StatusBit::Busy,
+        StatusBit::Subsystem,
+        StatusBit::Control,
+        StatusBit::Terminal,
+    ];
+
     /// Its place in a status word, 0 (terminal flag) to 4 (broadcast) or 8 (service request) to 10 (message error).
     pub fn place(self) -> u8
         ensures { result ≡ table.place_of self }
@@ -79,24 +91,11 @@ impl StatusBit {
     pub fn named(name: &[u8]) -> Option<StatusBit>
         ensures { result ≡ table.bit_named name.now }
     {
-        if name == b"message_error".as_slice() {
-            Some(StatusBit::MessageError)
-        } else if name == b"instrumentation".as_slice() {
-            Some(StatusBit::Instrumentation)
-        } else if name == b"service_request".as_slice() {
-            Some(StatusBit::ServiceRequest)
-        } else if name == b"broadcast".as_slice() {
-            Some(StatusBit::Broadcast)
-        } else if name == b"busy".as_slice() {
-            Some(StatusBit::Busy)
-        } else if name == b"subsystem".as_slice() {
-            Some(StatusBit::Subsystem)
-        } else if name == b"control".as_slice() {
-            Some(StatusBit::Control)
-        } else if name == b"terminal".as_slice() {
-            Some(StatusBit::Terminal)
-        } else {
-            None
+        for bit in StatusBit::EVERY {
+            if name == bit.name().as_bytes() {
+                return Some(bit);
+            }
         }
+        None
     }
 }

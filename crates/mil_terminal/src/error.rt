@@ -1,6 +1,7 @@
 //! Why there is no such terminal.
+ghost use Rattle.mil_terminal.specs.Codes.{fault_code};
 ghost use Rattle.mil_terminal.specs.declared.error.TerminalError.TheVariants.{Memory};
-ghost use Rattle.std.specs.Prelude.{◌≡◌};
+ghost use Rattle.std.specs.Prelude.{◌≡◌, Some};
 
 use std::alloc::AllocError;
 use std::fmt::{self, Display, Formatter, Write};
@@ -16,9 +17,6 @@ pub enum TerminalError {
 
 /// `Z1` and `Z2`.
 impl Display for TerminalError {
-    ghost use Rattle.mil_terminal.specs.Codes.{fault_code};
-    ghost use Rattle.std.specs.Prelude.{Some};
-
     ghost output = { λ fault. Some (fault_code fault) };
 
     fn fmt<W: Write>(&self, f: &mut Formatter<W>) -> fmt::Result {

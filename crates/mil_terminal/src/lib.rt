@@ -10,6 +10,7 @@ mod commands;
 mod conditions;
 mod error;
 mod events;
+mod exactly;
 mod host;
 mod marks;
 mod pending;

@@ -19,7 +19,7 @@ use arrayvec::ArrayVec;
 use mil_line::Gap;
 use mil_mode::codes::FIRST_WITH_WORD;
 use mil_word::timing::{CONTIGUOUS_GAP, SYNC_TO_PARITY, TRANSFER_TIME_OUT};
-use mil_word::{Command, Line, Sync, Wave, Word, decode, encode};
+use mil_word::{Command, Line, Sync, Wave, Word, copied, decode, encode};
 
 /// The latest gap of the status of the sender of a transfer, so that the first data word comes to the receiver in time.
 const LATEST_ANSWER: u16 = TRANSFER_TIME_OUT - 2 * (SYNC_TO_PARITY + CONTIGUOUS_GAP);
@@ -174,13 +174,11 @@ impl Pending {
     pub fn copy(&self) -> Pending
         ensures { result ≡ self.now }
     {
-        let mut words = ArrayVec::new();
-        let _ = words.try_extend_from_slice(self.words.as_slice());
         Pending {
             line: self.line,
             command: self.command,
             phase: self.phase,
-            words,
+            words: copied(&self.words),
         }
     }
 

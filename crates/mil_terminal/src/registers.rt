@@ -1,10 +1,8 @@
 //! The registers of a terminal, which stand for its history.
-ghost use Rattle.arrayvec.specs.ArrayVec.{array_vec_len};
 ghost use Rattle.mil_terminal.specs.History.{History};
 ghost use Rattle.mil_terminal.specs.Host.{is_deaf, is_mute};
 ghost use Rattle.mil_terminal.specs.Registers as registers;
 ghost use Rattle.mil_terminal.specs.Replies as replies;
-ghost use Rattle.mil_terminal.specs.Replies.{exactly};
 ghost use Rattle.mil_terminal.specs.Runs.{heard, met, AreNoCommands};
 ghost use Rattle.mil_terminal.specs.Status.{status};
 ghost use Rattle.mil_terminal.specs.Windows.{is_listening};
@@ -12,12 +10,13 @@ ghost use Rattle.mil_terminal.specs.declared.events.Event.TheVariants.{Heard, Qu
 ghost use Rattle.mil_word.specs.Fields.{address_of};
 ghost use Rattle.std.specs.Option.{option_to_list};
 ghost use Rattle.std.specs.Prelude.{None, if◌then◌else◌};
-ghost use Rattle.std.specs.Prelude.{◌≡◌, ◌+◌, ◌≤◌, ◌<◌, ◌==◌, ◌&&◌, not, [], ◌∷◌, IfOk, length, replicate, ◌++◌, Some};
+ghost use Rattle.std.specs.Prelude.{◌≡◌, ◌+◌, ◌≤◌, ◌<◌, ◌==◌, ◌&&◌, not, [], ◌∷◌, IfOk, length, Some};
 
 use crate::addresses::Address;
 use crate::blocks::Block;
 use crate::commands::{is_bus_control, is_question, is_unknown};
 use crate::conditions::Conditions;
+use crate::exactly::push_exactly;
 use crate::host::Settings;
 use crate::pending::{Pending, same_line};
 use crate::replies::Reply;
@@ -393,27 +392,4 @@ impl Registers {
             block,
         })
     }
-}
-
-/// So many words: the first of these, and zeros where there are fewer.
-fn push_exactly(words: &mut ArrayVec<u16, 33>, count: usize, from: &[u16])
-    requires { array_vec_len words.old + count ≤ 33 }
-    ensures { words.new.items ≡ words.old.items ++ exactly count from.now }
-{
-    let taken = if count < from.len() {
-        count
-    } else {
-        from.len()
-    };
-    let _ = words.try_extend_from_slice(&from[..taken]);
-    push_zeros(words, count - taken);
-}
-
-/// So many zeros.
-fn push_zeros(words: &mut ArrayVec<u16, 33>, count: usize)
-    requires { array_vec_len words.old + count ≤ 33 }
-    ensures { words.new.items ≡ words.old.items ++ replicate count 0 }
-{
-    let zeros = [0; 33];
-    let _ = words.try_extend_from_slice(&zeros[..count]);
 }

@@ -175,9 +175,8 @@ impl Terminal {
     pub fn copy(&self) -> Result<Terminal, AllocError>
         ensures { IfOk result (λ t. t ≡ self.now) }
     {
-        let registers = self.registers.copy()?;
         Ok(Terminal {
-            registers,
+            registers: self.registers.copy()?,
             past: self.past.same(),
         })
     }

@@ -1,5 +1,5 @@
-//! The words of a MIL-STD-1553B data bus: a word and its wave of forty half bits, and the fields of
-//! command and status words.
+//! The words of a MIL-STD-1553B data bus: a word and its wave of forty half bits, the fields of
+//! command and status words, and lists of data words.
 //!
 //! Its tests are in `mil_tests`.
 #![tactic(auto)]
@@ -7,6 +7,7 @@
 pub mod code;
 pub mod commands;
 pub mod fields;
+mod lists;
 pub mod statuses;
 mod tables;
 pub mod timing;
@@ -14,6 +15,7 @@ pub mod waves;
 
 pub use code::{decode, encode, raw_bits};
 pub use commands::Command;
+pub use lists::copied;
 pub use statuses::Status;
 pub use waves::Wave;
 

@@ -1,7 +1,7 @@
 use Rattle.std.proofs.Common.{◌≡◌, ℕ, ◌≤◌, ◌++◌, length, take, replicate, ap, ◌∙◌, arith}
 use Rattle.std.proofs.lemmas.List.{length-replicate}
 use Rattle.mil_terminal.proofs.SlotLemmas.{take_same, where_ok}
-use Rattle.mil_terminal.proofs.registers.push_zeros.Goals as goal
+use Rattle.mil_terminal.proofs.exactly.push_zeros.Goals as goal
 
 pub returns : goal.returns
 returns c =
