@@ -10,6 +10,7 @@ pub mod Moves
 pub mod MayStep
 pub mod Stacks
 pub mod StartingBus
+pub mod Progress
 pub mod PlainMachine
 pub mod Posting
 pub mod SavedMachine

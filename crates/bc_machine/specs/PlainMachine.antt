@@ -1,5 +1,6 @@
 -- A controller's fields as plain data.
 use Rattle.std.specs.Prelude.{◌+◌, ◌++◌, length}
+use Rattle.bc_machine.specs.Progress.{registers_in, point_in}
 use Rattle.bc_machine.specs.Running.{MachineState}
 use Rattle.bc_machine.specs.declared.parts.Parts.TheInside.{Inside}
 
@@ -10,14 +11,7 @@ state_in m = record {
   placed = m.placed.actions ++ m.posted.actions;
   capacity = length m.placed.actions + m.posted.capacity;
   begun = m.begun.value.0;
-  taken = m.taken;
-  at = record {
-    place = m.place;
-    counters = m.counters;
-    returns = m.returns;
-    frames = m.frames;
-    flag = m.flag;
-    line = m.line;
-  };
-  point = record { state = m.bus; number = m.number; gap = m.gap; last = m.last };
+  taken = m.progress.taken;
+  at = registers_in m.progress;
+  point = point_in m.progress m.bus;
 }

@@ -1,5 +1,6 @@
 -- What is kept of a controller, as plain data.
 use Rattle.std.specs.Prelude.{◌+◌, ◌++◌, length}
+use Rattle.bc_machine.specs.Progress.{registers_in, point_in}
 use Rattle.bc_machine.specs.Running.{MachineState}
 use Rattle.bc_machine.specs.declared.saved.SavedParts.TheInside.{Inside}
 
@@ -10,14 +11,7 @@ state_kept s = record {
   placed = s.placed.value.actions ++ s.posted.value.actions;
   capacity = length s.placed.value.actions + (length s.posted.value.actions + s.room);
   begun = s.begun.value.0;
-  taken = s.taken;
-  at = record {
-    place = s.place;
-    counters = s.counters;
-    returns = s.returns;
-    frames = s.frames;
-    flag = s.flag;
-    line = s.line;
-  };
-  point = record { state = s.bus; number = s.number; gap = s.gap; last = s.last };
+  taken = s.progress.taken;
+  at = registers_in s.progress;
+  point = point_in s.progress s.bus;
 }

@@ -28,7 +28,7 @@ impl Parts {
         requires { length self.old.at.frames < 16 }
         ensures { self.new ≡ framed self.old }
     {
-        self.frames.push(self.bus.now());
+        self.progress.frames.push(self.bus.now());
     }
 
     /// Closes the frame that was opened last: no message starts before so many hundreds of µs have passed since it
@@ -44,7 +44,7 @@ impl Parts {
         ensures answer { result ≡ Stepped.Ran }
         ensures soon { clock_in self.new ≤ clock_in self.old + 1000 * hundreds }
     {
-        match self.frames.pop() {
+        match self.progress.frames.pop() {
             Some(begin) => {
                 self.bus.pace(begin + 1000 * u64::from(hundreds));
                 self.go_on()
@@ -61,7 +61,7 @@ impl Parts {
         let Op::Pace(hundreds) = self.op() else {
             return None;
         };
-        let began = self.frames.copy().pop()?;
+        let began = self.progress.frames.copy().pop()?;
         Some(Closing { began, hundreds })
     }
 }

@@ -14,6 +14,7 @@ mod outcomes;
 mod parts;
 mod placed;
 mod posting;
+mod progress;
 mod saved;
 mod schedule;
 mod stack;

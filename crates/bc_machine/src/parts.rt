@@ -18,6 +18,7 @@ ghost use Rattle.std.specs.Prelude.{◌≡◌, ◌<◌, ◌≤◌, ◌+◌, ◌^
 use crate::begun::{Begun, begun_with, same};
 use crate::messages::exchange;
 use crate::outcomes::{asks, other};
+use crate::progress::Progress;
 use crate::saved::SavedParts;
 use crate::schedule::Schedule;
 use crate::stack::Stack;
@@ -42,17 +43,8 @@ pub struct Parts {
     pub(crate) placed: Schedule,
     pub(crate) posted: Schedule,
     begun: Snapshot<Begun>,
-    taken: u32,
-    place: u16,
-    counters: Stack<u16, 17>,
-    returns: Stack<u16, 32>,
-    pub(crate) frames: Stack<u64, 16>,
-    flag: bool,
-    pub(crate) line: Line,
+    pub(crate) progress: Progress,
     pub(crate) bus: Bus,
-    pub(crate) number: u32,
-    pub(crate) gap: Gap,
-    last: Option<Outcome>,
     /// Room for the talk of a message while it is sent; what is there between messages counts for nothing.
     talk: Talk,
 }
@@ -86,17 +78,19 @@ impl Parts {
             placed,
             posted,
             begun,
-            taken: 0,
-            place,
-            counters: Stack::none(),
-            returns: Stack::none(),
-            frames: Stack::none(),
-            flag: false,
-            line: Line::A,
+            progress: Progress {
+                taken: 0,
+                place,
+                counters: Stack::none(),
+                returns: Stack::none(),
+                frames: Stack::none(),
+                flag: false,
+                line: Line::A,
+                number: 0,
+                gap: Gap::of(LEAST_GAP),
+                last: None,
+            },
             bus,
-            number: 0,
-            gap: Gap::of(LEAST_GAP),
-            last: None,
             talk: Talk::none(),
         }
     }
@@ -106,7 +100,7 @@ impl Parts {
         requires { self.now.at.place < length self.now.code.operations }
         ensures { slice_get self.now.code.operations self.now.at.place ≡ Some result }
     {
-        self.program.image().operations()[self.place as usize]
+        self.program.image().operations()[self.progress.place as usize]
     }
 
     /// Goes to a place.
@@ -115,8 +109,8 @@ impl Parts {
         ensures value { self.new ≡ moves.gone self.old place }
         ensures answer { result ≡ Stepped.Ran }
     {
-        self.place = place;
-        self.taken += 1;
+        self.progress.place = place;
+        self.progress.taken += 1;
         Stepped::Ran
     }
 
@@ -127,7 +121,7 @@ impl Parts {
         ensures value { self.new ≡ moves.gone self.old (self.old.at.place + 1) }
         ensures answer { result ≡ Stepped.Ran }
     {
-        let next = self.place + 1;
+        let next = self.progress.place + 1;
         self.go(next)
     }
 
@@ -136,7 +130,7 @@ impl Parts {
         requires { 40 ≤ ticks }
         ensures { self.new ≡ moves.gap_set self.old ticks }
     {
-        self.gap = Gap::of(ticks);
+        self.progress.gap = Gap::of(ticks);
     }
 
     /// Opens a loop.
@@ -144,14 +138,14 @@ impl Parts {
         requires { length self.old.at.counters < 17 }
         ensures { self.new ≡ moves.opened self.old count }
     {
-        self.counters.push(count);
+        self.progress.counters.push(count);
     }
 
     /// Sets the flag.
     fn test(&mut self, test: OutcomeTest)
         ensures { self.new ≡ moves.flagged self.old (test_of test self.old.point.last) }
     {
-        self.flag = asks(test, self.last);
+        self.progress.flag = asks(test, self.progress.last);
     }
 
     /// Takes 1 from the top counter: above 0 goes to a place, at 0 pops it and goes on.
@@ -163,9 +157,9 @@ impl Parts {
             (turns (world_in self.old) self.old.at.counters place self.old.at self.old.point) self.old }
         ensures answer { result ≡ Stepped.Ran }
     {
-        match self.counters.pop() {
+        match self.progress.counters.pop() {
             Some(count) if count > 1 => {
-                self.counters.push(count - 1);
+                self.progress.counters.push(count - 1);
                 self.go(place)
             }
             _ => self.go_on(),
@@ -180,7 +174,7 @@ impl Parts {
             (leaves (world_in self.old) self.old.at.counters place self.old.at self.old.point) self.old }
         ensures answer { result ≡ Stepped.Ran }
     {
-        let _ = self.counters.pop();
+        let _ = self.progress.counters.pop();
         self.go(place)
     }
 
@@ -196,7 +190,7 @@ impl Parts {
         ensures answer { result ≡ Stepped.Ran }
     {
         let begin = self.program.routine(routine);
-        self.returns.push(self.place + 1);
+        self.progress.returns.push(self.progress.place + 1);
         self.go(begin)
     }
 
@@ -208,7 +202,7 @@ impl Parts {
             (comes_back (world_in self.old) self.old.at.returns self.old.at self.old.point) self.old }
         ensures answer { result ≡ Stepped.Ran }
     {
-        match self.returns.pop() {
+        match self.progress.returns.pop() {
             Some(place) => self.go(place),
             None => Stepped::Ran,
         }
@@ -221,7 +215,7 @@ impl Parts {
         ensures value { self.new ≡ moves.gone self.old (if self.old.at.flag then self.old.at.place + 1 else place) }
         ensures answer { result ≡ Stepped.Ran }
     {
-        if self.flag {
+        if self.progress.flag {
             self.go_on()
         } else {
             self.go(place)
@@ -242,25 +236,29 @@ impl Parts {
         ensures soon { clock_in self.new ≤ clock_in self.old + 2 ^ 24 }
     {
         let (own, message) = &self.program.image().messages()[index as usize];
-        let line = if alternates { other(self.line) } else { *own };
-        self.number += 1;
+        let line = if alternates {
+            other(self.progress.line)
+        } else {
+            *own
+        };
+        self.progress.number += 1;
         let mut seen = TalkCounts::none();
         let verdict = exchange(
             &mut self.bus,
             &self.plan,
             &self.placed,
             &self.posted,
-            self.number,
+            self.progress.number,
             line,
             message,
-            self.gap,
+            self.progress.gap,
             &mut self.talk,
             &mut seen,
         );
-        self.last = Some(verdict.outcome);
-        self.line = line;
-        self.place += 1;
-        self.taken += 1;
+        self.progress.last = Some(verdict.outcome);
+        self.progress.line = line;
+        self.progress.place += 1;
+        self.progress.taken += 1;
         Stepped::Sent(observe_with(&self.talk, &seen, verdict.block))
     }
 
@@ -312,14 +310,14 @@ impl Parts {
     pub fn number(&self) -> u32
         ensures { result ≡ self.now.point.number }
     {
-        self.number
+        self.progress.number
     }
 
     /// The last outcome.
     pub fn last_outcome(&self) -> Option<Outcome>
         ensures { result ≡ self.now.point.last }
     {
-        self.last
+        self.progress.last
     }
 
     /// Equal parts, in memory of their own.
@@ -332,17 +330,8 @@ impl Parts {
             placed: self.placed.copy()?,
             posted: self.posted.copy()?,
             begun: same(&self.begun),
-            taken: self.taken,
-            place: self.place,
-            counters: self.counters.copy(),
-            returns: self.returns.copy(),
-            frames: self.frames.copy(),
-            flag: self.flag,
-            line: self.line,
+            progress: self.progress.copy(),
             bus: self.bus.copy()?,
-            number: self.number,
-            gap: self.gap,
-            last: self.last,
             talk: Talk::none(),
         })
     }
@@ -351,7 +340,6 @@ impl Parts {
     pub fn save(&self) -> Result<SavedParts, AllocError>
         ensures { IfOk result (λ s. s ≡ self.now) }
     {
-        let taken = self.taken;
         Ok(SavedParts {
             program: Snapshot::of(&self.program),
             plan: Snapshot::of(&self.plan),
@@ -359,17 +347,8 @@ impl Parts {
             posted: Snapshot::of(&self.posted),
             room: self.posted.capacity() - self.posted.len(),
             begun: same(&self.begun),
-            taken,
-            place: self.place,
-            counters: self.counters.copy(),
-            returns: self.returns.copy(),
-            frames: self.frames.copy(),
-            flag: self.flag,
-            line: self.line,
+            progress: self.progress.copy(),
             bus: self.bus.save()?,
-            number: self.number,
-            gap: self.gap,
-            last: self.last,
         })
     }
 
@@ -389,16 +368,7 @@ impl Parts {
             return Err(failed);
         }
         self.posted.shrink(most);
-        self.taken = saved.taken;
-        self.place = saved.place;
-        self.counters = saved.counters.copy();
-        self.returns = saved.returns.copy();
-        self.frames = saved.frames.copy();
-        self.flag = saved.flag;
-        self.line = saved.line;
-        self.number = saved.number;
-        self.gap = saved.gap;
-        self.last = saved.last;
+        self.progress = saved.progress.copy();
         Ok(())
     }
 }

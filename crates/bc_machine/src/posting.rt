@@ -18,25 +18,15 @@ impl Parts {
         self.posted.room(count)
     }
 
-    /// Places an action at the next message, behind those that are placed there, where room was made for it.
-    fn place(&mut self, address: u8, action: Action) -> Result<(), Action>
-        requires { self.old.point.number < 2 ^ 31 }
-        ensures placed { OnOk result
-            (self.new ≡ with_placed self.old (self.old.placed ++ at_next self.old address action ∷ [])) }
+    /// Puts an action behind those that are placed, where room was made for it; else it comes back.
+    fn add(&mut self, one: Placed) -> Result<(), Placed>
+        ensures placed { OnOk result (self.new ≡ with_placed self.old (self.old.placed ++ one ∷ [])) }
         ensures there { OnOk result (length self.old.placed < self.old.capacity) }
         ensures used_up { OnErr result (self.old.capacity ≤ length self.old.placed) }
-        ensures back { IfErr result (λ back. back ≡ action) }
+        ensures back { IfErr result (λ back. back ≡ one) }
         ensures same { OnErr result (self.new ≡ self.old) }
     {
-        let one = Placed {
-            number: self.number + 1,
-            address,
-            action,
-        };
-        match self.posted.add(one) {
-            Ok(()) => Ok(()),
-            Err(Placed { action, .. }) => Err(action),
-        }
+        self.posted.add(one)
     }
 }
 
@@ -62,6 +52,14 @@ impl Machine {
         ensures same { OnErr result (self.new ≡ self.old) }
         ensures under_way { IsUnderWay self.new }
     {
-        self.parts.place(address, action)
+        let one = Placed {
+            number: self.parts.number() + 1,
+            address,
+            action,
+        };
+        match self.parts.add(one) {
+            Ok(()) => Ok(()),
+            Err(Placed { action, .. }) => Err(action),
+        }
     }
 }

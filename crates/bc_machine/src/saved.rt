@@ -1,11 +1,10 @@
 //! What is kept of a controller, for it to be taken back there.
 use crate::begun::Begun;
+use crate::progress::Progress;
 use crate::schedule::Schedule;
-use crate::stack::Stack;
 use frame_load::Program;
-use mil_bus::{Outcome, SavedBus};
-use mil_line::{Gap, Plan};
-use mil_word::Line;
+use mil_bus::SavedBus;
+use mil_line::Plan;
 use std::marker::Model;
 use std::snapshot::Snapshot;
 
@@ -20,18 +19,8 @@ pub struct SavedParts {
     /// For how many actions more there was room.
     pub room: usize,
     pub begun: Snapshot<Begun>,
-    pub taken: u32,
-    pub place: u16,
-    pub counters: Stack<u16, 17>,
-    pub returns: Stack<u16, 32>,
-    /// The tick at which each began.
-    pub frames: Stack<u64, 16>,
-    pub flag: bool,
-    pub line: Line,
+    pub progress: Progress,
     pub bus: SavedBus,
-    pub number: u32,
-    pub gap: Gap,
-    pub last: Option<Outcome>,
 }
 
 impl Model for SavedParts {

@@ -61,12 +61,16 @@ impl Parts {
             (λ x. IsAbout self.now (line_of alternates self.now.at.line x.0) x.1 u)) }
     {
         let (own, message) = &self.program.image().messages()[index as usize];
-        let line = if alternates { other(self.line) } else { *own };
-        let number = self.number + 1;
+        let line = if alternates {
+            other(self.progress.line)
+        } else {
+            *own
+        };
+        let number = self.progress.number + 1;
         let mut bus = self.bus.copy()?;
         act_both(&mut bus, &self.placed, &self.posted, number);
         let faults = self.plan.faults(number);
-        prepared(bus, line, message, self.gap, faults.as_slice())
+        prepared(bus, line, message, self.progress.gap, faults.as_slice())
     }
 
     /// The message that the next step sends; None where it sends none.

@@ -108,6 +108,10 @@ shape rs p m (call n) = op.Call (meant_by 0 rs n) ∷ []
 shape rs p m (define n b r) = shape rs p m b
     ++ (op.Return ∷ shape ((n, length rs) ∷ rs) (p + size b + 1) (m + entries b) r)
 
+-- operations, and behind them those of a frame
+abbrev pub with_shape : Scope ℕ → List Op → ℕ → Tree → List Op
+with_shape rs os m t = os ++ shape rs (length os) m t
+
 -- the code of a tree
 abbrev pub code_of_tree : Tree → Code
 code_of_tree t = record { operations = shape [] 0 0 t ++ op.Halt ∷ []; messages = messages_of t }

@@ -1,6 +1,6 @@
 //! Writing the operations and messages of a frame behind those that are there.
 ghost use Rattle.frame_asm.specs.Shapes.{branch_size, probe, branch, size, entries, messages_of, retry_shape};
-ghost use Rattle.frame_asm.specs.Shapes.{until_front, shape, AreRoutines};
+ghost use Rattle.frame_asm.specs.Shapes.{until_front, with_shape, AreRoutines};
 ghost use Rattle.frame_code.specs.declared.Op.TheVariants as op;
 ghost use Rattle.frame_tree.specs.Bounds.{CallsKnown, IsDefined};
 ghost use Rattle.frame_tree.specs.Names.{meant_by};
@@ -191,8 +191,7 @@ pub fn emit<A: Allocator + Clone>(
     requires calls { CallsKnown (scope_of scope.now) (tree_of frame.now) }
     requires routines { AreRoutines (scope_of scope.now) }
     ensures operations { OnOk result (operations.new.items
-        ≡ operations.old.items ++ shape (scope_of scope.now) (length operations.old.items) (length messages.old.items)
-        (tree_of frame.now)) }
+        ≡ with_shape (scope_of scope.now) operations.old.items (length messages.old.items) (tree_of frame.now)) }
     ensures messages { OnOk result (messages.new.items ≡ messages.old.items ++ messages_of (tree_of frame.now)) }
 {
     match frame {
@@ -252,7 +251,7 @@ fn emit_sequence<A: Allocator + Clone>(
     requires calls { CallsKnown (scope_of scope.now) (chain (map tree_of frames.now.items)) }
     requires routines { AreRoutines (scope_of scope.now) }
     ensures operations { OnOk result (operations.new.items
-        ≡ operations.old.items ++ shape (scope_of scope.now) (length operations.old.items) (length messages.old.items)
+        ≡ with_shape (scope_of scope.now) operations.old.items (length messages.old.items)
         (chain (map tree_of frames.now.items))) }
     ensures messages { OnOk result
         (messages.new.items ≡ messages.old.items ++ messages_of (chain (map tree_of frames.now.items))) }
@@ -292,8 +291,7 @@ pub fn emit_all<'a, A: Allocator + Clone>(
     requires count { length (scope_of scope.now) ≡ count }
     requires routines { AreRoutines (scope_of scope.now) }
     ensures operations { OnOk result (operations.new.items
-        ≡ operations.old.items ++ shape (scope_of scope.now) (length operations.old.items) (length messages.old.items)
-        (tree_of frame.now)) }
+        ≡ with_shape (scope_of scope.now) operations.old.items (length messages.old.items) (tree_of frame.now)) }
     ensures messages { OnOk result (messages.new.items ≡ messages.old.items ++ messages_of (tree_of frame.now)) }
 {
     match frame {

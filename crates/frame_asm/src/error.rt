@@ -1,6 +1,6 @@
 //! Why a frame has no image.
 ghost use Rattle.frame_asm.specs.declared.error.AsmError.TheVariants.{Memory};
-ghost use Rattle.std.specs.Prelude.{◌≡◌};
+ghost use Rattle.std.specs.Prelude.{◌≡◌, Some};
 
 use std::alloc::AllocError;
 use std::fmt::{self, Display, Formatter, Write};
@@ -18,7 +18,6 @@ pub enum AsmError {
 
 impl Display for AsmError {
     ghost use Rattle.frame_asm.specs.Codes as letters;
-    ghost use Rattle.std.specs.Prelude.{Some};
 
     ghost output = { λ e. Some (letters.fault_code e) };
 

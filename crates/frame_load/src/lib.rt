@@ -28,14 +28,20 @@ use frame_code::{Image, Setting};
 use std::alloc::{AllocError, Global};
 use std::marker::Model;
 
+/// What a run comes to at most.
+#[derive(Clone, Copy)]
+struct Most {
+    steps: u64,
+    messages: u64,
+}
+
 /// An image that the controller may run.
 #[derive(Drop)]
 pub struct Program {
     image: Image,
     starts: [u16; 33],
     main: u8,
-    budget: u64,
-    worst_messages: u64,
+    most: Most,
 }
 
 impl Model for Program {
@@ -47,7 +53,7 @@ impl Model for Program {
 
     ghost view = { λ p. p.image };
 
-    ghost invariant = { λ p. IsProgram p.image p.starts p.main p.budget p.worst_messages };
+    ghost invariant = { λ p. IsProgram p.image p.starts p.main p.most.steps p.most.messages };
 }
 
 impl Program {
@@ -82,7 +88,7 @@ impl Program {
         ensures value { result ≡ sums.budget self.now.operations }
         ensures within { result ≤ 100000000 }
     {
-        self.budget
+        self.most.steps
     }
 
     /// How many messages a run sends at most, 0 to 1,000,000: the same sum over the operations that send.
@@ -90,7 +96,7 @@ impl Program {
         ensures value { result ≡ sums.worst_messages self.now.operations }
         ensures within { result ≤ 1000000 }
     {
-        self.worst_messages
+        self.most.messages
     }
 
     /// An equal program, in memory of its own.
@@ -101,8 +107,7 @@ impl Program {
             image: self.image.copy()?,
             starts: self.starts,
             main: self.main,
-            budget: self.budget,
-            worst_messages: self.worst_messages,
+            most: self.most,
         })
     }
 }
@@ -150,27 +155,27 @@ const MESSAGES: u64 = 1_000_000;
 // The most ticks that the periods of a run may come to.
 const PERIODS: u64 = 1 << 46;
 
-// How many steps a run takes at most, and how many messages it sends, or the first rule on sums that the image breaks.
-fn weigh(image: &Image, brackets: &[u16; 4096]) -> Result<(u64, u64), LoadError>
+// What a run comes to at most, or the first rule on sums that the image breaks.
+fn weigh(image: &Image, brackets: &[u16; 4096]) -> Result<Most, LoadError>
     requires loadable { IsLoadable image.now }
     requires marked { AreBrackets image.now.operations brackets.now }
     ensures kept { IfOk result (λ most. IsWithin image.now × HasShortPeriods image.now) }
-    ensures value { IfOk result (λ most.
-        (most.0 ≡ sums.budget image.now.operations) × (most.1 ≡ sums.worst_messages image.now.operations)) }
+    ensures steps { IfOk result (λ most. most.steps ≡ sums.budget image.now.operations) }
+    ensures messages { IfOk result (λ most. most.messages ≡ sums.worst_messages image.now.operations) }
     ensures broken { IfErr result (Refuses image.now) }
 {
     let operations = image.operations();
     let mut weights = [0; 4096];
     sums::mark_weights(operations, brackets, &mut weights);
-    let budget = sums::count(operations, &weights, Counted::Steps);
-    let worst_messages = sums::count(operations, &weights, Counted::Messages);
-    if STEPS < budget || MESSAGES < worst_messages {
+    let steps = sums::count(operations, &weights, Counted::Steps);
+    let messages = sums::count(operations, &weights, Counted::Messages);
+    if STEPS < steps || MESSAGES < messages {
         return Err(LoadError::Budget);
     }
     if PERIODS < sums::count(operations, &weights, Counted::Periods) {
         return Err(LoadError::Periods);
     }
-    Ok((budget, worst_messages))
+    Ok(Most { steps, messages })
 }
 
 // The program of an image, or the first rule that it breaks.
@@ -197,15 +202,14 @@ fn judge(image: Image) -> Result<Program, LoadError>
     if !checks::all_have_messages(operations, image.messages().len()) {
         return Err(LoadError::Messages);
     }
-    let (budget, worst_messages) = weigh(&image, &brackets)?;
+    let most = weigh(&image, &brackets)?;
     let mut starts = [0; 33];
     let main = routines::find(operations, &mut starts);
     Ok(Program {
         image,
         starts,
         main,
-        budget,
-        worst_messages,
+        most,
     })
 }
 

@@ -11,6 +11,11 @@ test_text Failed = codes "fail"
 test_text Silent = codes "silent"
 test_text (Bit b) = codes "bit " ++ name_of b
 
+-- what stands in front of two conditions in an operator
+abbrev pub opening : Condition → List ℕ
+opening (both a b) = codes "all ( "
+opening c = codes "any ( "
+
 unfoldable pub condition_text : Condition → List ℕ
 condition_text (asked t) = test_text t
 condition_text (negated c) = codes "not " ++ condition_text c

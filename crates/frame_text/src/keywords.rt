@@ -8,9 +8,15 @@ ghost use Rattle.frame_text.specs.Tokens as tokens_of;
 ghost use Rattle.std.specs.Prelude.{◌≡◌, map};
 
 use crate::faults::Cause;
+use ConditionWord::{All, Any, Bit, Fail, NoCondition, Not, Silent};
+use FrameWord::{Call, Gap, If, NoFrame, Repeat, Retry, Send, Timed, Until};
+use MessageWord::{
+    Mode, ModeAll, ModeZero, ModeZeroAll, NoMessage, Receive, ReceiveAll, Transfer, TransferAll,
+    Transmit,
+};
 
 /// The word that a message begins with.
-#[derive(Clone, Copy, Debug, PartialEq, Eq)]
+#[derive(Clone, Copy)]
 pub enum MessageWord {
     Receive,
     Transmit,
@@ -25,7 +31,7 @@ pub enum MessageWord {
 }
 
 /// The word that a condition begins with.
-#[derive(Clone, Copy, Debug, PartialEq, Eq)]
+#[derive(Clone, Copy)]
 pub enum ConditionWord {
     Fail,
     Silent,
@@ -37,7 +43,7 @@ pub enum ConditionWord {
 }
 
 /// The word that a frame begins with.
-#[derive(Clone, Copy, Debug, PartialEq, Eq)]
+#[derive(Clone, Copy)]
 pub enum FrameWord {
     Send,
     Retry,
@@ -114,15 +120,37 @@ fn beside<T: Copy>(none: T, rows: &[(&[u8], T)], word: &[u8]) -> T
 
 // What each of these words is at the beginning of a message.
 const MESSAGE_WORDS: [(&[u8], MessageWord); 9] = [
-    (b"rx", MessageWord::Receive),
-    (b"tx", MessageWord::Transmit),
-    (b"rt", MessageWord::Transfer),
-    (b"mode", MessageWord::Mode),
-    (b"mode0", MessageWord::ModeZero),
-    (b"brx", MessageWord::ReceiveAll),
-    (b"brt", MessageWord::TransferAll),
-    (b"bmode", MessageWord::ModeAll),
-    (b"bmode0", MessageWord::ModeZeroAll),
+    (b"rx", Receive),
+    (b"tx", Transmit),
+    (b"rt", Transfer),
+    (b"mode", Mode),
+    (b"mode0", ModeZero),
+    (b"brx", ReceiveAll),
+    (b"brt", TransferAll),
+    (b"bmode", ModeAll),
+    (b"bmode0", ModeZeroAll),
+];
+
+// What each of these words is at the beginning of a condition.
+const CONDITION_WORDS: [(&[u8], ConditionWord); 6] = [
+    (b"fail", Fail),
+    (b"silent", Silent),
+    (b"bit", Bit),
+    (b"not", Not),
+    (b"all", All),
+    (b"any", Any),
+];
+
+// What each of these words is at the beginning of a frame.
+const FRAME_WORDS: [(&[u8], FrameWord); 8] = [
+    (b"send", Send),
+    (b"retry", Retry),
+    (b"gap", Gap),
+    (b"repeat", Repeat),
+    (b"if", If),
+    (b"until", Until),
+    (b"frame", Timed),
+    (b"call", Call),
 ];
 
 /// What a message may begin with.
@@ -130,43 +158,21 @@ const MESSAGE_WORDS: [(&[u8], MessageWord); 9] = [
 pub fn message_word(word: &[u8]) -> MessageWord
     ensures { result ≡ messages.message_word word.now }
 {
-    beside(MessageWord::NoMessage, &MESSAGE_WORDS, word)
+    beside(NoMessage, &MESSAGE_WORDS, word)
 }
-
-// What each of these words is at the beginning of a condition.
-const CONDITION_WORDS: [(&[u8], ConditionWord); 6] = [
-    (b"fail", ConditionWord::Fail),
-    (b"silent", ConditionWord::Silent),
-    (b"bit", ConditionWord::Bit),
-    (b"not", ConditionWord::Not),
-    (b"all", ConditionWord::All),
-    (b"any", ConditionWord::Any),
-];
 
 /// What a condition may begin with.
 #[tactic(auto, unfolding(crate::specs::Conditions::condition_word))]
 pub fn condition_word(word: &[u8]) -> ConditionWord
     ensures { result ≡ conditions.condition_word word.now }
 {
-    beside(ConditionWord::NoCondition, &CONDITION_WORDS, word)
+    beside(NoCondition, &CONDITION_WORDS, word)
 }
-
-// What each of these words is at the beginning of a frame.
-const FRAME_WORDS: [(&[u8], FrameWord); 8] = [
-    (b"send", FrameWord::Send),
-    (b"retry", FrameWord::Retry),
-    (b"gap", FrameWord::Gap),
-    (b"repeat", FrameWord::Repeat),
-    (b"if", FrameWord::If),
-    (b"until", FrameWord::Until),
-    (b"frame", FrameWord::Timed),
-    (b"call", FrameWord::Call),
-];
 
 /// What a frame may begin with.
 #[tactic(auto, unfolding(crate::specs::Frames::frame_word))]
 pub fn frame_word(word: &[u8]) -> FrameWord
     ensures { result ≡ frames.frame_word word.now }
 {
-    beside(FrameWord::NoFrame, &FRAME_WORDS, word)
+    beside(NoFrame, &FRAME_WORDS, word)
 }

@@ -22,6 +22,16 @@ fn put_test(out: &mut String, test: OutcomeTest) -> Result<(), AllocError>
     }
 }
 
+// What stands in front of two conditions in an operator.
+fn opening<A: Allocator + Clone>(condition: &Cond<A>) -> &'static str
+    ensures { result.now ≡ texts.opening (condition_in condition.now) }
+{
+    match condition {
+        Cond::And(..) => "all ( ",
+        _ => "any ( ",
+    }
+}
+
 /// A condition; two in an operator stand in brackets.
 #[tactic(auto, unfolding(crate::specs::PrintedConditions::condition_text))]
 pub fn put_condition<A: Allocator + Clone>(
@@ -37,15 +47,8 @@ pub fn put_condition<A: Allocator + Clone>(
             out.push_str("not ")?;
             put_condition(out, inner)
         }
-        Cond::And(first, second) => {
-            out.push_str("all ( ")?;
-            put_condition(out, first)?;
-            out.push_str(" ")?;
-            put_condition(out, second)?;
-            out.push_str(" )")
-        }
-        Cond::Or(first, second) => {
-            out.push_str("any ( ")?;
+        Cond::And(first, second) | Cond::Or(first, second) => {
+            out.push_str(opening(condition))?;
             put_condition(out, first)?;
             out.push_str(" ")?;
             put_condition(out, second)?;

@@ -4,22 +4,27 @@ ghost use Rattle.frame_text.specs.Chains.{IsScript};
 ghost use Rattle.frame_text.specs.Conditions.{condition_of_text};
 ghost use Rattle.frame_text.specs.Frames.{tree_of_text};
 ghost use Rattle.frame_text.specs.Messages.{send_of_text};
-ghost use Rattle.frame_text.specs.Reading.{Gives, Builds, Fails, Breaks, HasNoFault, IsOfText};
+ghost use Rattle.frame_text.specs.Places.{StandsIn};
+ghost use Rattle.frame_text.specs.Reading.{Gives, Builds, Fails, Breaks, HasNoFault, IsOfText, Answers, IsTextError};
 ghost use Rattle.frame_tree.specs.Bounds.{IsSound};
+ghost use Rattle.frame_tree.specs.Tree.{condition_in, tree_of};
 ghost use Rattle.std.specs.Prelude.{IfOk, IfErr};
 
+use crate::boxes::Boxes;
 use crate::builder::Builder;
-use crate::faults::{Cause, Fault};
+use crate::faults::{Cause, Fault, ScriptError};
 use crate::keywords::misplaced;
+use crate::places::located;
 use crate::tokens::{fault, next};
 use crate::weights::Weigher;
 use crate::{conditions, definitions, messages};
-use frame_tree::Scope;
+use frame_tree::{Cond, Frame, Scope};
 use mil_message::Message;
 use mil_word::Line;
+use std::alloc::Allocator;
 
-/// The frame of a script, with at most 1,000,000 messages at worst.
-pub fn script<B: Builder>(builder: &B, text: &[u8]) -> Result<B::Frame, Fault>
+// The frame of a script, with at most 1,000,000 messages at worst.
+fn script<B: Builder>(builder: &B, text: &[u8]) -> Result<B::Frame, Fault>
     ensures tree { Builds B.refused B.tree result (tree_of_text text.now) }
     ensures sound { IfOk result (λ f. IsSound (B.tree f)) }
     ensures script { IfOk result (λ f. IsScript (B.tree f)) }
@@ -31,9 +36,9 @@ pub fn script<B: Builder>(builder: &B, text: &[u8]) -> Result<B::Frame, Fault>
     Ok(frame)
 }
 
-/// The line and the message of a whole text.
+// The line and the message of a whole text.
 #[tactic(auto, unfolding(crate::specs::Reading::to_the_end))]
-pub fn send(text: &[u8]) -> Result<(Line, Message), Fault>
+fn send(text: &[u8]) -> Result<(Line, Message), Fault>
     ensures tree { Gives (λ x. x) result (send_of_text text.now) }
     ensures of_text { IfErr result (λ e. IsOfText e) }
 {
@@ -44,9 +49,9 @@ pub fn send(text: &[u8]) -> Result<(Line, Message), Fault>
     }
 }
 
-/// The condition of a whole text.
+// The condition of a whole text.
 #[tactic(auto, unfolding(crate::specs::Reading::to_the_end))]
-pub fn condition<B: Builder>(builder: &B, text: &[u8]) -> Result<B::Cond, Fault>
+fn condition<B: Builder>(builder: &B, text: &[u8]) -> Result<B::Cond, Fault>
     ensures { Builds B.refused B.condition result (condition_of_text text.now) }
 {
     let (condition, rest) = conditions::condition(builder, text, 16)?;
@@ -56,10 +61,10 @@ pub fn condition<B: Builder>(builder: &B, text: &[u8]) -> Result<B::Cond, Fault>
     }
 }
 
-/// The fault of a script. Where memory was refused the text is read once more, without memory, so that a fault of the
-/// text comes before want of memory.
+// The fault of a script. Where memory was refused the text is read once more, without memory, so that a fault of the
+// text comes before want of memory.
 #[tactic(auto, using(crate::proofs::Refusing::read_again, crate::proofs::Refusing::sure))]
-pub fn script_fault(text: &[u8], fault: Fault) -> Fault
+fn script_fault(text: &[u8], fault: Fault) -> Fault
     requires { Fails fault (tree_of_text text.now) }
     ensures { Breaks (HasNoFault (tree_of_text text.now)) result (tree_of_text text.now) }
 {
@@ -72,9 +77,9 @@ pub fn script_fault(text: &[u8], fault: Fault) -> Fault
     }
 }
 
-/// The same of a condition.
+// The same of a condition.
 #[tactic(auto, using(crate::proofs::Refusing::read_again, crate::proofs::Refusing::sure))]
-pub fn condition_fault(text: &[u8], fault: Fault) -> Fault
+fn condition_fault(text: &[u8], fault: Fault) -> Fault
     requires { Fails fault (condition_of_text text.now) }
     ensures { Breaks (HasNoFault (condition_of_text text.now)) result (condition_of_text text.now) }
 {
@@ -84,5 +89,47 @@ pub fn condition_fault(text: &[u8], fault: Fault) -> Fault
     match condition(&Weigher, text) {
         Ok(_) => fault,
         Err(first) => first,
+    }
+}
+
+/// The frame of a script. It is refused with the first fault from left to right; for want of memory only where it has
+/// none, so that what is answered of a text with a fault is the same with and without memory. A frame is sound, a chain
+/// of frames behind its definitions.
+#[tactic(auto, using(crate::proofs::Refusing::told, crate::proofs::Refusing::unsure))]
+pub fn parse<A: Allocator + Clone>(alloc: A, text: &[u8]) -> Result<Frame<A>, ScriptError>
+    ensures tree { Answers tree_of result (tree_of_text text.now) }
+    ensures place { IfErr result (λ e. StandsIn text.now e) }
+    ensures sound { IfOk result (λ f. IsSound (tree_of f)) }
+    ensures script { IfOk result (λ f. IsScript (tree_of f)) }
+{
+    match script(&Boxes { alloc }, text) {
+        Ok(frame) => Ok(frame),
+        Err(fault) => Err(located(text, script_fault(text, fault))),
+    }
+}
+
+/// The line and the message of a text such as `A rx 5 1 [0001]`. It takes no memory, and is never refused for want of
+/// it.
+pub fn read_send(text: &[u8]) -> Result<(Line, Message), ScriptError>
+    ensures tree { Answers (λ x. x) result (send_of_text text.now) }
+    ensures no_memory { IfErr result (λ e. IsTextError e) }
+    ensures place { IfErr result (λ e. StandsIn text.now e) }
+{
+    match send(text) {
+        Ok(read) => Ok(read),
+        Err(fault) => Err(located(text, fault)),
+    }
+}
+
+/// The condition of a text such as `any ( fail silent )`. It is refused with the first fault from left to right; for
+/// want of memory only where it has none.
+#[tactic(auto, using(crate::proofs::Refusing::told, crate::proofs::Refusing::unsure))]
+pub fn read_cond<A: Allocator + Clone>(alloc: A, text: &[u8]) -> Result<Cond<A>, ScriptError>
+    ensures tree { Answers condition_in result (condition_of_text text.now) }
+    ensures place { IfErr result (λ e. StandsIn text.now e) }
+{
+    match condition(&Boxes { alloc }, text) {
+        Ok(condition) => Ok(condition),
+        Err(fault) => Err(located(text, condition_fault(text, fault))),
     }
 }

@@ -81,6 +81,11 @@ three ws = first ws >>= (λ a. two a.1 >>= (λ b. Some (a.0, b.0, b.1)))
 unfoldable pub four : List Text → Option (Text × Text × Text × Text)
 four ws = first ws >>= (λ a. three a.1 >>= (λ b. Some (a.0, b.0, b.1, b.2)))
 
+-- exactly two words, each a number
+unfoldable pub two_numbers : List Text → Option (ℕ × ℕ)
+two_numbers ws =
+    two ws >>= (λ w. number_of w.0 >>= (λ first. number_of w.1 >>= (λ second. Some (first, second))))
+
 -- the first three words and those behind them
 unfoldable pub front : List Text → Option ((Text × Text × Text) × List Text)
 front ws = first ws >>= (λ a. first a.1 >>= (λ b. first b.1 >>= (λ c. Some ((a.0, b.0, c.0), c.1))))
@@ -90,27 +95,18 @@ unfoldable pub mask_in : List Text → Option Fault
 mask_in ws = three ws >>= (λ w. number_of w.0 >>=
     (λ run. number_of w.1 >>= (λ index. half_bits_of w.2 >>= (λ half_bits. Some (Mask run index half_bits)))))
 
-unfoldable pub drop_in : List Text → Option Fault
-drop_in ws = two ws >>= (λ w. number_of w.0 >>= (λ run. number_of w.1 >>= (λ index. Some (Drop run index))))
-
 unfoldable pub add_in : List Text → Option Fault
 add_in ws =
     four ws >>= (λ w. sync_of w.2 >>=
     (λ sync. number_of w.0 >>= (λ run. number_of w.1 >>= (λ index. data_word_of w.3 >>= (λ value.
     Some (Add run index (record { sync = sync; value = value })))))))
 
-unfoldable pub late_in : List Text → Option Fault
-late_in ws = two ws >>= (λ w. number_of w.0 >>= (λ run. number_of w.1 >>= (λ ticks. Some (Late run ticks))))
-
-unfoldable pub mute_in : List Text → Option Fault
-mute_in ws = one ws >>= (λ w. number_of w >>= (λ run. Some (Mute run)))
-
 unfoldable pub fault_of : FaultWord → List Text → Option Fault
 fault_of word.Mask ws = mask_in ws
-fault_of word.Drop ws = drop_in ws
+fault_of word.Drop ws = two_numbers ws >>= (λ n. Some (Drop n.0 n.1))
 fault_of word.Add ws = add_in ws
-fault_of word.Late ws = late_in ws
-fault_of word.Mute ws = mute_in ws
+fault_of word.Late ws = two_numbers ws >>= (λ n. Some (Late n.0 n.1))
+fault_of word.Mute ws = one ws >>= (λ w. number_of w >>= (λ run. Some (Mute run)))
 
 -- what stands behind the first word of a line
 

@@ -1,5 +1,8 @@
 //! Why a text spells no job.
 ghost use Rattle.job_file.specs.Errors.{IsOfLine};
+ghost use Rattle.job_file.specs.Printing.{fault_text};
+ghost use Rattle.job_file.specs.declared.error.Refusal.TheVariants.{Line};
+ghost use Rattle.std.specs.Prelude.{◌≡◌};
 
 use frame_asm::AsmError;
 use frame_load::LoadError;
@@ -34,9 +37,6 @@ pub enum Refusal {
 }
 
 impl From<LineFault> for Refusal {
-    ghost use Rattle.job_file.specs.declared.error.Refusal.TheVariants.{Line};
-    ghost use Rattle.std.specs.Prelude.{◌≡◌};
-
     ghost from_gives = { λ f r. r ≡ Line f };
 
     fn from(fault: LineFault) -> Refusal {
@@ -75,8 +75,6 @@ impl JobError {
 /// `J4 line 3`, `J5 line 4 H3`, `J6 line 3 L2`, `J7 line 9 column 3 S2`, `J7 line 9 column 3 S4 M3`, `J7 line 9 P5`,
 /// `J7 line 9 P8`, `J8`.
 impl Display for JobError {
-    ghost use Rattle.job_file.specs.Printing.{fault_text};
-
     ghost output = { fault_text };
 
     fn fmt<W: Write>(&self, f: &mut Formatter<W>) -> fmt::Result {

@@ -5,11 +5,13 @@ ghost use Rattle.job_file.specs.declared.error.LineFault.TheVariants.{Word};
 ghost use Rattle.std.specs.Prelude.{◌≡◌, IfErr};
 
 use crate::error::LineFault;
+use FaultWord::{Add, Drop, Late, Mask, Mute};
+use Keyword::{At, Channel, Fault, Faults, Script, Series, Start, Terminal};
 use mil_word::Sync;
 use text_lines::meaning;
 
 /// The first word of a line.
-#[derive(Clone, Copy, Debug)]
+#[derive(Clone, Copy)]
 pub enum Keyword {
     Channel,
     Start,
@@ -22,7 +24,7 @@ pub enum Keyword {
 }
 
 /// The word for a kind of planned fault.
-#[derive(Clone, Copy, Debug)]
+#[derive(Clone, Copy)]
 pub enum FaultWord {
     Mask,
     Drop,
@@ -33,15 +35,27 @@ pub enum FaultWord {
 
 /// The first words of lines.
 const KEYWORDS: [(&[u8], Keyword); 8] = [
-    (b"channel", Keyword::Channel),
-    (b"start", Keyword::Start),
-    (b"terminal", Keyword::Terminal),
-    (b"at", Keyword::At),
-    (b"fault", Keyword::Fault),
-    (b"faults", Keyword::Faults),
-    (b"series", Keyword::Series),
-    (b"script", Keyword::Script),
+    (b"channel", Channel),
+    (b"start", Start),
+    (b"terminal", Terminal),
+    (b"at", At),
+    (b"fault", Fault),
+    (b"faults", Faults),
+    (b"series", Series),
+    (b"script", Script),
 ];
+
+/// The words for kinds of planned faults.
+const FAULT_WORDS: [(&[u8], FaultWord); 5] = [
+    (b"mask", Mask),
+    (b"drop", Drop),
+    (b"add", Add),
+    (b"late", Late),
+    (b"mute", Mute),
+];
+
+/// The letters of the syncs.
+const SYNCS: [(&[u8], Sync); 2] = [(b"c", Sync::CommandSync), (b"d", Sync::DataSync)];
 
 /// The keyword that a word is.
 pub fn keyword_in(word: &[u8]) -> Result<Keyword, LineFault>
@@ -51,15 +65,6 @@ pub fn keyword_in(word: &[u8]) -> Result<Keyword, LineFault>
     meaning(&KEYWORDS, word).ok_or(LineFault::Word)
 }
 
-/// The words for kinds of planned faults.
-const FAULT_WORDS: [(&[u8], FaultWord); 5] = [
-    (b"mask", FaultWord::Mask),
-    (b"drop", FaultWord::Drop),
-    (b"add", FaultWord::Add),
-    (b"late", FaultWord::Late),
-    (b"mute", FaultWord::Mute),
-];
-
 /// The kind of fault that a word names.
 pub fn fault_word_in(word: &[u8]) -> Result<FaultWord, LineFault>
     ensures value { Gives (λ k. k) result (fault_word_of word.now) }
@@ -67,9 +72,6 @@ pub fn fault_word_in(word: &[u8]) -> Result<FaultWord, LineFault>
 {
     meaning(&FAULT_WORDS, word).ok_or(LineFault::Word)
 }
-
-/// The letters of the syncs.
-const SYNCS: [(&[u8], Sync); 2] = [(b"c", Sync::CommandSync), (b"d", Sync::DataSync)];
 
 /// The sync that `c` (command and status words) or `d` (data words) names.
 pub fn sync_in(word: &[u8]) -> Result<Sync, LineFault>

@@ -7,6 +7,7 @@ ghost use Rattle.job_file.specs.Spans.{IsSpan};
 ghost use Rattle.job_file.specs.declared.error.LineFault.TheVariants.{Word as BadWord, Number as BadNumber};
 ghost use Rattle.job_file.specs.declared.keywords.FaultWord.TheVariants as kinds;
 ghost use Rattle.job_file.specs.declared.keywords.Keyword.TheVariants as keywords;
+ghost use Rattle.std.specs.Option.{is_some};
 ghost use Rattle.std.specs.Prelude.{◌≡◌, ◌≤◌, IfOk, IfErr};
 ghost use Rattle.text_lines.specs.Words.{words};
 
@@ -129,31 +130,29 @@ fn front(text: &[u8]) -> Result<(&[u8], &[u8], &[u8], &[u8]), LineFault>
     Ok((first, second, third, rest))
 }
 
+/// The only two words, each a number.
+#[tactic(auto, unfolding(crate::specs::Lines::two_numbers))]
+fn two_numbers(text: &[u8]) -> Result<(u32, u32), LineFault>
+    ensures value { Gives (λ x. x) result (lines.two_numbers (words text.now)) }
+    ensures words { IsFaultOfWords result (is_some (lines.two (words text.now))) }
+{
+    let (first, second) = two_words(text)?;
+    let first = number(first)?;
+    let second = number(second)?;
+    Ok((first, second))
+}
+
 #[tactic(auto, unfolding(crate::specs::Lines::mask_in))]
 fn mask(text: &[u8]) -> Result<Fault, LineFault>
     ensures value { Gives (λ f. f) result (lines.mask_in (words text.now)) }
     ensures words { IsFaultOfWords result (are_fault_words kinds.Mask (words text.now)) }
 {
     let (run, index, mask) = three_words(text)?;
-    let run = number(run)?;
-    let index = number(index)?;
-    let half_bits = half_bits(mask)?;
     Ok(Fault::Mask {
-        run,
-        index,
-        half_bits,
+        run: number(run)?,
+        index: number(index)?,
+        half_bits: half_bits(mask)?,
     })
-}
-
-#[tactic(auto, unfolding(crate::specs::Lines::drop_in))]
-fn dropped(text: &[u8]) -> Result<Fault, LineFault>
-    ensures value { Gives (λ f. f) result (lines.drop_in (words text.now)) }
-    ensures words { IsFaultOfWords result (are_fault_words kinds.Drop (words text.now)) }
-{
-    let (run, index) = two_words(text)?;
-    let run = number(run)?;
-    let index = number(index)?;
-    Ok(Fault::Drop { run, index })
 }
 
 #[tactic(auto, unfolding(crate::specs::Lines::add_in))]
@@ -163,35 +162,14 @@ fn added(text: &[u8]) -> Result<Fault, LineFault>
 {
     let (run, index, name, value) = four_words(text)?;
     let sync = sync_in(name)?;
-    let run = number(run)?;
-    let index = number(index)?;
-    let value = data_word(value)?;
     Ok(Fault::Add {
-        run,
-        index,
-        word: Word { sync, value },
+        run: number(run)?,
+        index: number(index)?,
+        word: Word {
+            sync,
+            value: data_word(value)?,
+        },
     })
-}
-
-#[tactic(auto, unfolding(crate::specs::Lines::late_in))]
-fn late(text: &[u8]) -> Result<Fault, LineFault>
-    ensures value { Gives (λ f. f) result (lines.late_in (words text.now)) }
-    ensures words { IsFaultOfWords result (are_fault_words kinds.Late (words text.now)) }
-{
-    let (run, ticks) = two_words(text)?;
-    let run = number(run)?;
-    let ticks = number(ticks)?;
-    Ok(Fault::Late { run, ticks })
-}
-
-#[tactic(auto, unfolding(crate::specs::Lines::mute_in))]
-fn muted(text: &[u8]) -> Result<Fault, LineFault>
-    ensures value { Gives (λ f. f) result (lines.mute_in (words text.now)) }
-    ensures words { IsFaultOfWords result (are_fault_words kinds.Mute (words text.now)) }
-{
-    let run = one_word(text)?;
-    let run = number(run)?;
-    Ok(Fault::Mute { run })
 }
 
 #[tactic(auto, unfolding(crate::specs::Lines::fault_of))]
@@ -201,46 +179,45 @@ fn fault_named(kind: FaultWord, text: &[u8]) -> Result<Fault, LineFault>
 {
     match kind {
         FaultWord::Mask => mask(text),
-        FaultWord::Drop => dropped(text),
+        FaultWord::Drop => {
+            let (run, index) = two_numbers(text)?;
+            Ok(Fault::Drop { run, index })
+        }
         FaultWord::Add => added(text),
-        FaultWord::Late => late(text),
-        FaultWord::Mute => muted(text),
+        FaultWord::Late => {
+            let (run, ticks) = two_numbers(text)?;
+            Ok(Fault::Late { run, ticks })
+        }
+        FaultWord::Mute => {
+            let run = number(one_word(text)?)?;
+            Ok(Fault::Mute { run })
+        }
     }
 }
 
+/// The number of the channel.
 #[tactic(auto, unfolding(crate::specs::Lines::channel_in))]
-fn channel(text: &[u8]) -> Result<Entry<'_>, LineFault>
-    ensures said { Gives said_by result (lines.channel_in (words text.now)) }
-    ensures range { IfOk result (λ e. IsInRange (said_by e)) }
+fn channel(text: &[u8]) -> Result<u16, LineFault>
+    ensures said { Gives lines.channel result (lines.channel_in (words text.now)) }
+    ensures range { IfOk result (λ n. (1 ≤ n) × (n ≤ 65535)) }
     ensures words { IsFaultOfWords result (are_words_behind keywords.Channel (words text.now)) }
 {
-    let word = one_word(text)?;
-    let channel = number_within(word, 1, 65_535)?;
-    Ok(Entry::Channel(channel as u16))
+    let channel = number_within(one_word(text)?, 1, 65_535)?;
+    Ok(channel as u16)
 }
 
-#[tactic(auto, unfolding(crate::specs::Lines::start_in))]
-fn start(text: &[u8]) -> Result<Entry<'_>, LineFault>
-    ensures said { Gives said_by result (lines.start_in (words text.now)) }
-    ensures range { IfOk result (λ e. IsInRange (said_by e)) }
-    ensures words { IsFaultOfWords result (are_words_behind keywords.Start (words text.now)) }
-{
-    let word = one_word(text)?;
-    let start = start_tick(word)?;
-    Ok(Entry::Start(start))
-}
-
+/// The address of a terminal.
 #[tactic(auto, unfolding(crate::specs::Lines::terminal_in))]
-fn terminal(text: &[u8]) -> Result<Entry<'_>, LineFault>
-    ensures said { Gives said_by result (lines.terminal_in (words text.now)) }
-    ensures range { IfOk result (λ e. IsInRange (said_by e)) }
+fn terminal(text: &[u8]) -> Result<u8, LineFault>
+    ensures said { Gives lines.terminal result (lines.terminal_in (words text.now)) }
+    ensures range { IfOk result (λ n. n ≤ 30) }
     ensures words { IsFaultOfWords result (are_words_behind keywords.Terminal (words text.now)) }
 {
-    let word = one_word(text)?;
-    let address = number_within(word, 0, 30)?;
-    Ok(Entry::Terminal(address as u8))
+    let address = number_within(one_word(text)?, 0, 30)?;
+    Ok(address as u8)
 }
 
+/// An action of a terminal's host.
 #[tactic(auto, unfolding(crate::specs::Lines::action_in))]
 fn action(text: &[u8]) -> Result<Entry<'_>, LineFault>
     ensures said { Gives said_by result (lines.action_in (words text.now)) }
@@ -259,18 +236,16 @@ fn action(text: &[u8]) -> Result<Entry<'_>, LineFault>
     })
 }
 
+/// The number of a message, and a fault of it.
 #[tactic(auto, unfolding(crate::specs::Lines::fault_in))]
-fn fault(text: &[u8]) -> Result<Entry<'_>, LineFault>
-    ensures said { Gives said_by result (lines.fault_in (words text.now)) }
-    ensures range { IfOk result (λ e. IsInRange (said_by e)) }
+fn fault(text: &[u8]) -> Result<(u32, Fault), LineFault>
+    ensures said { Gives (λ x. lines.fault x.0 x.1) result (lines.fault_in (words text.now)) }
     ensures words { IsFaultOfWords result (are_words_behind keywords.Fault (words text.now)) }
 {
     let (message, rest) = first_word(text)?;
     let (name, rest) = first_word(rest)?;
-    let kind = fault_word_in(name)?;
-    let fault = fault_named(kind, rest)?;
-    let number = number(message)?;
-    Ok(Entry::Fault { number, fault })
+    let fault = fault_named(fault_word_in(name)?, rest)?;
+    Ok((number(message)?, fault))
 }
 
 /// The messages of three words: the first, the last, and the step.
@@ -286,6 +261,7 @@ fn span(first: &[u8], last: &[u8], step: &[u8]) -> Result<Span, LineFault>
     Ok(Span { first, last, step })
 }
 
+/// Messages, and a fault of each of them.
 #[tactic(auto, unfolding(crate::specs::Lines::faults_in))]
 fn faults(text: &[u8]) -> Result<Entry<'_>, LineFault>
     ensures said { Gives said_by result (lines.faults_in (words text.now)) }
@@ -294,77 +270,55 @@ fn faults(text: &[u8]) -> Result<Entry<'_>, LineFault>
 {
     let (first, last, step, rest) = front(text)?;
     let (name, rest) = first_word(rest)?;
-    let kind = fault_word_in(name)?;
-    let fault = fault_named(kind, rest)?;
+    let fault = fault_named(fault_word_in(name)?, rest)?;
     let span = span(first, last, step)?;
     Ok(Entry::Faults { span, fault })
 }
 
-/// What a series places at these messages: four words, the address, the subaddress, the first data word and what is
-/// added.
-#[tactic(auto, unfolding(crate::specs::Lines::series_of))]
-fn series_at(
-    span: Span,
-    address: &[u8],
-    sub: &[u8],
-    start: &[u8],
-    add: &[u8],
-) -> Result<Series, LineFault>
-    ensures value { Gives (λ s. s) result (lines.series_of span (address.now, sub.now, start.now, add.now)) }
-    ensures span { IfOk result (λ s. s.span ≡ span) }
-    ensures range { IfOk result (λ s. (s.address ≤ 30) × (1 ≤ s.sub) × (s.sub ≤ 29)) }
-    ensures fault { IfErr result (λ f. f ≡ BadNumber) }
-{
-    let address = number_within(address, 0, 30)?;
-    let sub = number_within(sub, 1, 29)?;
-    let start = data_word(start)?;
-    let add = data_word(add)?;
-    Ok(Series {
-        span,
-        address: address as u8,
-        sub: sub as u8,
-        start,
-        add,
-    })
-}
-
-#[tactic(auto, unfolding(crate::specs::Lines::series_in))]
-fn series(text: &[u8]) -> Result<Entry<'_>, LineFault>
-    ensures said { Gives said_by result (lines.series_in (words text.now)) }
-    ensures range { IfOk result (λ e. IsInRange (said_by e)) }
+/// Actions of a terminal's host, one before each of some messages: behind the messages four words, the address, the
+/// subaddress, the first data word and what is added.
+#[tactic(auto, unfolding(crate::specs::Lines::series_in, crate::specs::Lines::series_of))]
+fn series(text: &[u8]) -> Result<Series, LineFault>
+    ensures said { Gives lines.series result (lines.series_in (words text.now)) }
+    ensures range { IfOk result (λ s. IsInRange (lines.series s)) }
     ensures words { IsFaultOfWords result (are_words_behind keywords.Series (words text.now)) }
 {
     let (first, last, step, rest) = front(text)?;
     let (address, sub, start, add) = four_words(rest)?;
     let span = span(first, last, step)?;
-    let series = series_at(span, address, sub, start, add)?;
-    Ok(Entry::Series(series))
+    Ok(Series {
+        span,
+        address: number_within(address, 0, 30)? as u8,
+        sub: number_within(sub, 1, 29)? as u8,
+        start: data_word(start)?,
+        add: data_word(add)?,
+    })
 }
 
-fn script(text: &[u8]) -> Result<Entry<'_>, LineFault>
-    ensures said { Gives said_by result (lines.ended (words text.now) lines.script) }
-    ensures range { IfOk result (λ e. IsInRange (said_by e)) }
-    ensures words { IsFaultOfWords result (are_words_behind keywords.Script (words text.now)) }
-{
-    end(text)?;
-    Ok(Entry::Script)
-}
-
-#[tactic(auto, unfolding(crate::specs::Lines::of_keyword))]
+#[tactic(auto, unfolding(crate::specs::Lines::of_keyword, crate::specs::Lines::start_in))]
 fn after_keyword(keyword: Keyword, text: &[u8]) -> Result<Entry<'_>, LineFault>
     ensures said { Gives said_by result (lines.of_keyword keyword (words text.now)) }
     ensures range { IfOk result (λ e. IsInRange (said_by e)) }
     ensures words { IsFaultOfWords result (are_words_behind keyword (words text.now)) }
 {
     match keyword {
-        Keyword::Channel => channel(text),
-        Keyword::Start => start(text),
-        Keyword::Terminal => terminal(text),
+        Keyword::Channel => Ok(Entry::Channel(channel(text)?)),
+        Keyword::Start => {
+            let start = start_tick(one_word(text)?)?;
+            Ok(Entry::Start(start))
+        }
+        Keyword::Terminal => Ok(Entry::Terminal(terminal(text)?)),
         Keyword::At => action(text),
-        Keyword::Fault => fault(text),
+        Keyword::Fault => {
+            let (number, fault) = fault(text)?;
+            Ok(Entry::Fault { number, fault })
+        }
         Keyword::Faults => faults(text),
-        Keyword::Series => series(text),
-        Keyword::Script => script(text),
+        Keyword::Series => Ok(Entry::Series(series(text)?)),
+        Keyword::Script => {
+            end(text)?;
+            Ok(Entry::Script)
+        }
     }
 }
 

@@ -1,5 +1,6 @@
 //! The jobs of several texts.
 ghost use Rattle.job_file.specs.Jobs.{job_in};
+ghost use Rattle.job_file.specs.Printing.{fault_text};
 ghost use Rattle.job_file.specs.Texts.{AreSpelled, IsFirstRefused};
 ghost use Rattle.std.specs.Prelude.{map, IfOk, IfErr};
 
@@ -19,8 +20,6 @@ pub struct JobsError {
 
 /// The fault as it stands for one text.
 impl Display for JobsError {
-    ghost use Rattle.job_file.specs.Printing.{fault_text};
-
     ghost output = { λ e. fault_text e.fault };
 
     fn fmt<W: Write>(&self, f: &mut Formatter<W>) -> fmt::Result {

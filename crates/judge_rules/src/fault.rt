@@ -1,6 +1,7 @@
 //! Why a text spells no rules.
+ghost use Rattle.judge_rules.specs.Codes.{error_text};
+ghost use Rattle.std.specs.Prelude.{◌≡◌, Some};
 ghost use Rattle.judge_rules.specs.Faults as spec;
-ghost use Rattle.std.specs.Prelude.{◌≡◌};
 
 use std::fmt::{self, Display, Formatter, Write};
 
@@ -27,9 +28,6 @@ pub struct RuleError {
 
 /// The code of the fault and its line, as in `I2 line 3`.
 impl Display for RuleError {
-    ghost use Rattle.judge_rules.specs.Codes.{error_text};
-    ghost use Rattle.std.specs.Prelude.{Some};
-
     ghost output = { λ e. Some (error_text e) };
 
     fn fmt<W: Write>(&self, f: &mut Formatter<W>) -> fmt::Result {

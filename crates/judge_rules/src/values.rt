@@ -13,9 +13,7 @@ fn number_within(word: &[u8], low: u32, high: u32) -> Result<u32, RuleFault>
     ensures value { result ≡ spec.number_of low high word.now }
     ensures range { IfOk result (λ n. (low ≤ n) × (n ≤ high)) }
 {
-    let Some(value) = spelled(10, 1, 7, word) else {
-        return Err(RuleFault::Number);
-    };
+    let value = spelled(10, 1, 7, word).ok_or(RuleFault::Number)?;
     if u64::from(low) <= value && value <= u64::from(high) {
         Ok(value as u32)
     } else {

@@ -1,14 +1,15 @@
-use Rattle.std.proofs.Common.{refl, arith}
-use Rattle.bc_machine.specs.Posting.{at_next}
+use Rattle.std.proofs.Common.{ℕ, ◌+◌, ap, arith}
+use Rattle.bc_machine.specs.declared.placed.Placed.{Placed}
 use Rattle.bc_machine.proofs.Posted.{placed_under_way}
 use Rattle.bc_machine.proofs.machine.Machine.place.Goals as goal
 
-pub place-requires : goal.place-requires
-place-requires c = let u = c.self.invariant in omega (arith, u.messages, u.within.1)
+pub overflow_add-one : goal.overflow_add-one
+overflow_add-one c = let u = c.self.invariant in omega (arith, u.messages, u.within.1, c.number.ensures)
 
 pub invariant_of-self : goal.invariant_of-self
 invariant_of-self c =
-    placed_under_way c.place.result c.self.inside.parts c.place.new.self (at_next c.self.inside.parts c.args.address c.args.action) c.self.invariant refl c.place.ensures.placed c.place.ensures.same
+    let one : Placed = record { number = c.number.result + 1; address = c.args.address; action = c.args.action } in
+    placed_under_way c.add.result c.self.inside.parts c.add.new.self one c.self.invariant (ap (λ (n : ℕ). n + 1) c.number.ensures) c.add.ensures.placed c.add.ensures.same
 
 pub returns-clause-under_way : goal.returns-clause-under_way
 returns-clause-under_way c = invariant_of-self c

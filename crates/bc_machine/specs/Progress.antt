@@ -1,0 +1,19 @@
+-- How far a controller has come, as plain data.
+use Rattle.mil_message.specs.World.{Point}
+use Rattle.mil_bus.specs.Exchange.{BusState}
+use Rattle.mil_bus.specs.declared.outcomes.Outcome.{Outcome}
+use Rattle.frame_code.specs.Table.{Registers}
+use Rattle.bc_machine.specs.declared.progress.Progress.{Progress}
+
+abbrev pub registers_in : Progress → Registers
+registers_in p = record {
+  place = p.place;
+  counters = p.counters;
+  returns = p.returns;
+  frames = p.frames;
+  flag = p.flag;
+  line = p.line;
+}
+
+abbrev pub point_in : Progress → BusState → Point BusState Outcome
+point_in p b = record { state = b; number = p.number; gap = p.gap; last = p.last }

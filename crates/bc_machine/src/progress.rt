@@ -1,0 +1,45 @@
+//! How far a controller has come.
+ghost use Rattle.std.specs.Prelude.{◌≡◌};
+
+use crate::stack::Stack;
+use mil_bus::Outcome;
+use mil_line::Gap;
+use mil_word::Line;
+
+/// What steps change of a controller, but for its bus.
+#[derive(Drop)]
+pub struct Progress {
+    /// How many steps it took.
+    pub taken: u32,
+    pub place: u16,
+    pub counters: Stack<u16, 17>,
+    pub returns: Stack<u16, 32>,
+    /// The tick at which each frame that is open began.
+    pub frames: Stack<u64, 16>,
+    pub flag: bool,
+    pub line: Line,
+    /// How many messages were sent.
+    pub number: u32,
+    pub gap: Gap,
+    pub last: Option<Outcome>,
+}
+
+impl Progress {
+    /// The same once more.
+    pub fn copy(&self) -> Progress
+        ensures { result ≡ self.now }
+    {
+        Progress {
+            taken: self.taken,
+            place: self.place,
+            counters: self.counters.copy(),
+            returns: self.returns.copy(),
+            frames: self.frames.copy(),
+            flag: self.flag,
+            line: self.line,
+            number: self.number,
+            gap: self.gap,
+            last: self.last,
+        }
+    }
+}
