@@ -14,15 +14,5 @@ pub(crate) fn place_of(marks: &[Mark], stamp: u64) -> usize
     ensures from { (m : Mark) → slice_get marks.now result ≡ Some m → m.counter ≤ stamp }
     ensures last { (j : ℕ) (m : Mark) → result < j → slice_get marks.now j ≡ Some m → stamp < m.counter }
 {
-    let mut low = 0;
-    let mut high = marks.len();
-    'halving: while high - low > 1 {
-        let middle = low + (high - low) / 2;
-        if marks[middle].counter <= stamp {
-            low = middle;
-        } else {
-            high = middle;
-        }
-    }
-    low
+    marks.partition_point(|mark| mark.counter <= stamp) - 1
 }

@@ -12,11 +12,9 @@ use Rattle.ch11_stream.specs.declared.fault.StreamFault.TheVariants.{Device, Mem
 use Rattle.ch11_stream.specs.Reading.{IsEnd, IsStep, IsStop, Reading, last_found}
 use Rattle.ch11_stream.proofs.Readings.{IsAmid, amid_end, amid_stop}
 use Rattle.bench_clock.specs.declared.clock.Mark.{Mark}
-use Rattle.bench_dump.specs.declared.fault.DumpFault.{DumpFault}
-use Rattle.bench_dump.specs.declared.fault.DumpFault.TheVariants as faults
 use Rattle.bench_dump.specs.DumpText.{packet_line}
 use Rattle.bench_dump.specs.Printing.{Carries}
-use Rattle.bench_dump.specs.Streaming.{Dumps, DumpsBy, dump_fault}
+use Rattle.bench_dump.specs.Streaming.{Dumps, DumpsBy}
 use Rattle.bench_dump.specs.TimedText.{timed_in_order, timed_lines, timed_text}
 use Rattle.bench_dump.proofs.Packets.{carries_both}
 use Rattle.bench_dump.proofs.Steps.{appends_both, carries_nothing}
@@ -64,14 +62,14 @@ all_put clock file got mid gets waits now last e a g then =
     )
 
 -- no packet could be read
-pub not_read : (clock : List Mark) (file : List ℕ) (got gets : Option (List ℕ)) (now last : Reading) (f : StreamFault) → IsStop now last f → IsAmid file now → DumpsBy {A = Unit {0}} clock (Err (dump_fault f)) file got gets
+pub not_read : (clock : List Mark) (file : List ℕ) (got gets : Option (List ℕ)) (now last : Reading) (f : StreamFault) → IsStop now last f → IsAmid file now → DumpsBy {A = Unit {0}} clock (Err f) file got gets
 not_read clock file got gets now last (Refused r) s a = amid_stop file now last r s a
 not_read clock file got gets now last Memory s a = tt
 not_read clock file got gets now last Device s a = tt
 
 -- by a clock that tells no time it is the dump
-pub plain_dumps : (clock : List Mark) (result : Result (Unit {0}) DumpFault) (file : List ℕ) (got gets : Option (List ℕ)) → clock ≡ [] → DumpsBy clock result file got gets → Dumps result file got gets
+pub plain_dumps : (clock : List Mark) (result : Result (Unit {0}) StreamFault) (file : List ℕ) (got gets : Option (List ℕ)) → clock ≡ [] → DumpsBy clock result file got gets → Dumps result file got gets
 plain_dumps clock (Ok x) file got gets none d = (d.0, subst (Appends got gets) (ap (λ (c : List Mark). timed_text c [] (found_in file)) none ∙ plain_text false file) d.1)
-plain_dumps clock (Err (faults.Refused r)) file got gets none d = d
-plain_dumps clock (Err faults.Memory) file got gets none d = tt
-plain_dumps clock (Err faults.Device) file got gets none d = tt
+plain_dumps clock (Err (Refused r)) file got gets none d = d
+plain_dumps clock (Err Memory) file got gets none d = tt
+plain_dumps clock (Err Device) file got gets none d = tt

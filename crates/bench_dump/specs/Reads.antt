@@ -1,8 +1,8 @@
 -- What one read of a file gave.
 use Rattle.std.specs.Prelude.{◌≡◌, ℕ, Bool, false, List, [], ◌++◌, take, Option, Result, Ok, Err, IsOk, IsErr}
 use Rattle.std.specs.Io.KnownBytes.{Consumes, IsAtEnd}
-use Rattle.bench_dump.specs.declared.fault.DumpFault.{DumpFault}
-use Rattle.bench_dump.specs.declared.fault.DumpFault.TheVariants as faults
+use Rattle.ch11_stream.specs.declared.fault.StreamFault.{StreamFault}
+use Rattle.ch11_stream.specs.declared.fault.StreamFault.TheVariants as faults
 
 -- the bytes that the reader lost were appended, and the reader is at its end where there is no more
 pub record IsRead (left leaves : Option (List ℕ)) (before after : List ℕ) (more : Bool) : Type 0 where
@@ -18,7 +18,7 @@ given (Err e) piece = []
 
 -- What a read comes to behind which no more is read: want of memory for what it gave, or a device's fault where it
 -- failed.
-abbrev pub IsFaultOf : {E : Type 0} → Result ℕ E → DumpFault → Type 0
+abbrev pub IsFaultOf : {E : Type 0} → Result ℕ E → StreamFault → Type 0
 IsFaultOf read (faults.Refused r) = ⊥
 IsFaultOf read faults.Memory = IsOk read
 IsFaultOf read faults.Device = IsErr read

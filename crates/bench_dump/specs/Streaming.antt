@@ -4,29 +4,22 @@ use Rattle.std.specs.Io.KnownBytes.{Appends}
 use Rattle.ch11_reader.specs.Indexed.{found_in}
 use Rattle.ch11_reader.specs.Recording.{packets_in}
 use Rattle.ch11_stream.specs.declared.fault.StreamFault.{StreamFault}
-use Rattle.ch11_stream.specs.declared.fault.StreamFault.TheVariants as stream
 use Rattle.bench_clock.specs.declared.clock.Mark.{Mark}
-use Rattle.bench_dump.specs.declared.fault.DumpFault.{DumpFault}
-use Rattle.bench_dump.specs.declared.fault.DumpFault.TheVariants as faults
+use Rattle.ch11_stream.specs.declared.fault.StreamFault.TheVariants as faults
 use Rattle.bench_dump.specs.SkippingText.{text_of}
 use Rattle.bench_dump.specs.TimedText.{timed_text}
 
--- the fault of a dump where no packet could be read
-abbrev pub dump_fault : StreamFault → DumpFault
-dump_fault (stream.Refused r) = faults.Refused r
-dump_fault stream.Memory = faults.Memory
-dump_fault stream.Device = faults.Device
-
 -- A dump ends where the recording can be read, and its text is the recording's; it is refused with the recording's
 -- first fault. Want of memory and a device's failure may come with any recording.
-abbrev pub Dumps : {A : Type 0} → Result A DumpFault → List ℕ → Option (List ℕ) → Option (List ℕ) → Type 0
+abbrev pub Dumps : {A : Type 0} → Result A StreamFault → List ℕ → Option (List ℕ) → Option (List ℕ) → Type 0
 Dumps (Ok x) file got gets = (packets_in file ≡ Ok (found_in file)) × Appends got gets (text_of false file)
 Dumps (Err (faults.Refused r)) file got gets = packets_in file ≡ Err r
 Dumps (Err faults.Memory) file got gets = Unit {0}
 Dumps (Err faults.Device) file got gets = Unit {0}
 
 -- The same with the time of day behind each stamp, as a clock tells it.
-abbrev pub DumpsBy : {A : Type 0} → List Mark → Result A DumpFault → List ℕ → Option (List ℕ) → Option (List ℕ) → Type 0
+abbrev pub DumpsBy : {A : Type 0} → List Mark → Result A StreamFault → List ℕ → Option (List ℕ) → Option (List ℕ)
+    → Type 0
 DumpsBy clock (Ok x) file got gets = (packets_in file ≡ Ok (found_in file))
     × Appends got gets (timed_text clock [] (found_in file))
 DumpsBy clock (Err (faults.Refused r)) file got gets = packets_in file ≡ Err r

@@ -1,10 +1,10 @@
 //! A file read whole.
-ghost use Rattle.bench_dump.specs.Printing.{IsOther};
 ghost use Rattle.bench_dump.specs.Reads.{IsRead, IsFaultOf, given};
+ghost use Rattle.ch11_stream.specs.Feeding.{IsOther};
 ghost use Rattle.std.specs.Io.KnownBytes.{IsAtEnd};
 ghost use Rattle.std.specs.Prelude.{◌≡◌, ◌+◌, ◌*◌, ◌<◌, ◌≤◌, ◌++◌, length, [], false, Ok, IfOk, IfErr, IfSome, OnOk};
 
-use crate::fault::DumpFault;
+use ch11_stream::StreamFault;
 use std::alloc::Global;
 use std::io;
 use std::io::{ErrorKind, Read};
@@ -17,7 +17,7 @@ const READS: u32 = 1_000_000;
 
 /// Keeps what a read gave, and answers whether there may be more. Nothing is given by a read that was interrupted; one
 /// that failed otherwise is a device's fault. Condition: the read gave no more than the piece has.
-fn keep(read: io::Result<usize>, piece: &[u8], bytes: &mut Vec<u8>) -> Result<bool, DumpFault>
+fn keep(read: io::Result<usize>, piece: &[u8], bytes: &mut Vec<u8>) -> Result<bool, StreamFault>
     requires { IfOk read (λ count. count ≤ length piece.now) }
     ensures kept { OnOk result (bytes.new.items ≡ bytes.old.items ++ given read piece.now) }
     ensures few { OnOk result (length bytes.new.items ≤ length bytes.old.items + length piece.now) }
@@ -32,7 +32,7 @@ fn keep(read: io::Result<usize>, piece: &[u8], bytes: &mut Vec<u8>) -> Result<bo
             Ok(true)
         }
         Err(e) if e.kind() == ErrorKind::Interrupted => Ok(true),
-        Err(_) => Err(DumpFault::Device),
+        Err(_) => Err(StreamFault::Device),
     }
 }
 
@@ -41,7 +41,7 @@ fn read_piece<R: Read>(
     input: &mut R,
     piece: &mut [u8],
     bytes: &mut Vec<u8>,
-) -> Result<bool, DumpFault>
+) -> Result<bool, StreamFault>
     requires { 0 < length piece.old }
     ensures read { IfOk result (IsRead (R.remaining input.old)
         (R.remaining input.new) bytes.old.items bytes.new.items) }
@@ -53,7 +53,7 @@ fn read_piece<R: Read>(
 }
 
 /// Reads a file to its end behind no bytes yet.
-fn read_to_end<R: Read>(input: &mut R, mut bytes: Vec<u8>) -> Result<Vec<u8>, DumpFault>
+fn read_to_end<R: Read>(input: &mut R, mut bytes: Vec<u8>) -> Result<Vec<u8>, StreamFault>
     requires { bytes.items ≡ [] }
     ensures whole { IfOk result (λ bytes. IfSome (R.remaining input.old) (λ xs. bytes.items ≡ xs)) }
     ensures end { OnOk result (IsAtEnd (R.remaining input.new)) }
@@ -66,12 +66,12 @@ fn read_to_end<R: Read>(input: &mut R, mut bytes: Vec<u8>) -> Result<Vec<u8>, Du
             return Ok(bytes);
         }
     }
-    Err(DumpFault::Device)
+    Err(StreamFault::Device)
 }
 
 /// Reads a file to its end, in at most 1,000,000 reads of up to 65,536 bytes: one more is a device fault, as an error
 /// of the reader is. A read that was interrupted counts and is made again. Any other fault is want of memory.
-pub fn read_all<R: Read>(alloc: Global, input: &mut R) -> Result<Vec<u8>, DumpFault>
+pub fn read_all<R: Read>(alloc: Global, input: &mut R) -> Result<Vec<u8>, StreamFault>
     ensures whole { IfOk result (λ bytes. IfSome (R.remaining input.old) (λ xs. bytes.items ≡ xs)) }
     ensures end { OnOk result (IsAtEnd (R.remaining input.new)) }
     ensures few { IfOk result (λ bytes. length bytes.items ≤ READS * PIECE) }
@@ -83,7 +83,7 @@ pub fn read_all<R: Read>(alloc: Global, input: &mut R) -> Result<Vec<u8>, DumpFa
 /// The same for a file that is said to have so many bytes: room for all of them is asked for at once, before the first
 /// is read, so that a file larger than memory is refused and not read into the last of it. The file may have more bytes
 /// or fewer.
-pub fn read_sized<R: Read>(alloc: Global, input: &mut R, size: u64) -> Result<Vec<u8>, DumpFault>
+pub fn read_sized<R: Read>(alloc: Global, input: &mut R, size: u64) -> Result<Vec<u8>, StreamFault>
     ensures whole { IfOk result (λ bytes. IfSome (R.remaining input.old) (λ xs. bytes.items ≡ xs)) }
     ensures end { OnOk result (IsAtEnd (R.remaining input.new)) }
     ensures few { IfOk result (λ bytes. length bytes.items ≤ READS * PIECE) }

@@ -3,7 +3,6 @@
 #![tactic(auto)]
 
 mod digits;
-mod fault;
 mod input;
 mod laws;
 mod lines;
@@ -15,7 +14,6 @@ mod streaming;
 mod text;
 
 pub use digits::place_decimal;
-pub use fault::DumpFault;
 pub use input::{read_all, read_sized};
 pub use laws::timeless_is_plain;
 pub use lines::put_words;

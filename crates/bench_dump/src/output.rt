@@ -1,20 +1,21 @@
 //! The whole dump, through one buffer.
 ghost use Rattle.bench_dump.specs.DumpText.{packet_line};
-ghost use Rattle.bench_dump.specs.Printing.{Carries, IsAnswerBy, IsOther};
+ghost use Rattle.bench_dump.specs.Printing.{Carries, IsAnswerBy};
 ghost use Rattle.bench_dump.specs.SkippingText.{text_of};
 ghost use Rattle.bench_dump.specs.TimedText.{clock_of, text_by, timed_lines, timed_text};
 ghost use Rattle.ch11_reader.specs.Recording.{packets_in};
 ghost use Rattle.ch11_reader.specs.declared.error.Refusal.{Refusal};
+ghost use Rattle.ch11_stream.specs.Feeding.{IsOther};
 ghost use Rattle.std.specs.Io.KnownBytes.{Appends};
 ghost use Rattle.std.specs.Prelude.{◌≡◌, ◌+◌, ◌<◌, ◌^◌, ◌++◌, length, true, false, [], OnOk, IfErr, Err};
 
-use crate::fault::DumpFault;
 use crate::lines::put_packet_line;
 use crate::skips::{dump_skips, dump_skips_before};
 use crate::text::Text;
 use bench_clock::Clock;
 use ch11_f1::Messages;
 use ch11_reader::{Index, Packet, ReadError, Skip};
+use ch11_stream::StreamFault;
 use std::alloc::Global;
 use std::io::Write;
 
@@ -22,7 +23,7 @@ use std::io::Write;
 const PIECE: usize = 65536;
 
 /// Hands the text on to the writer where it is long enough.
-pub(crate) fn hand_on<W: Write>(text: &mut Text, out: &mut W) -> Result<(), DumpFault>
+pub(crate) fn hand_on<W: Write>(text: &mut Text, out: &mut W) -> Result<(), StreamFault>
     ensures handed { OnOk result (Carries (W.contents out.old) text.old (W.contents out.new) text.new []) }
     ensures failed { IfErr result IsOther }
 {
@@ -41,7 +42,7 @@ pub(crate) fn dump_messages<W: Write>(
     channel: u16,
     clock: &Clock,
     messages: Messages<'_>,
-) -> Result<(), DumpFault>
+) -> Result<(), StreamFault>
     requires { before + length messages < 2 ^ 64 }
     ensures printed { OnOk result (Carries (W.contents out.old) text.old (W.contents out.new) text.new
         (timed_lines clock.now before channel messages.entry)) }
@@ -64,7 +65,7 @@ pub(crate) fn dump_packet<W: Write>(
     packet: &Packet,
     clock: &Clock,
     messages: Messages<'_>,
-) -> Result<(), DumpFault>
+) -> Result<(), StreamFault>
     requires { packet.now.before + length messages < 2 ^ 64 }
     ensures printed { OnOk result (Carries (W.contents out.old) text.old (W.contents out.new) text.new
         (packet_line packet.now.offset packet.now.header packet.now.count
@@ -80,7 +81,12 @@ pub(crate) fn dump_packet<W: Write>(
 /// 1 over the file. A recording that can't be read is refused with its first fault, and nothing is printed; but
 /// with `skip` it is read as far as it is sound, and a line for each skip stands among the others in the order of
 /// their offsets.
-pub fn dump<W: Write>(alloc: Global, bytes: &[u8], out: &mut W, skip: bool) -> Result<(), DumpFault>
+pub fn dump<W: Write>(
+    alloc: Global,
+    bytes: &[u8],
+    out: &mut W,
+    skip: bool,
+) -> Result<(), StreamFault>
     ensures answer { IsAnswerBy skip result (packets_in bytes.now) }
     ensures printed { OnOk result (Appends (W.contents out.old) (W.contents out.new) (text_of skip bytes.now)) }
     ensures refused { (r : Refusal) → skip ≡ false → packets_in bytes.now ≡ Err r → out.new ≡ out.old }
@@ -95,7 +101,7 @@ pub fn dump_with_times<W: Write>(
     bytes: &[u8],
     out: &mut W,
     skip: bool,
-) -> Result<(), DumpFault>
+) -> Result<(), StreamFault>
     ensures answer { IsAnswerBy skip result (packets_in bytes.now) }
     ensures printed { OnOk result (Appends (W.contents out.old) (W.contents out.new) (text_by true skip bytes.now)) }
     ensures refused { (r : Refusal) → skip ≡ false → packets_in bytes.now ≡ Err r → out.new ≡ out.old }
@@ -110,7 +116,7 @@ fn dump_by<W: Write>(
     out: &mut W,
     skip: bool,
     timed: bool,
-) -> Result<(), DumpFault>
+) -> Result<(), StreamFault>
     ensures answer { IsAnswerBy skip result (packets_in bytes.now) }
     ensures printed { OnOk result (Appends (W.contents out.old) (W.contents out.new) (text_by timed skip bytes.now)) }
     ensures refused { (r : Refusal) → skip ≡ false → packets_in bytes.now ≡ Err r → out.new ≡ out.old }
@@ -120,8 +126,8 @@ fn dump_by<W: Write>(
     }
     let index = match Index::build(alloc, bytes) {
         Ok(index) => index,
-        Err(ReadError::Refused(refusal)) => return Err(DumpFault::Refused(refusal)),
-        Err(ReadError::Memory) => return Err(DumpFault::Memory),
+        Err(ReadError::Refused(refusal)) => return Err(StreamFault::Refused(refusal)),
+        Err(ReadError::Memory) => return Err(StreamFault::Memory),
     };
     dump_index(alloc, bytes, &index, &[], out, timed)
 }
@@ -132,13 +138,13 @@ fn dump_skipping<W: Write>(
     bytes: &[u8],
     out: &mut W,
     timed: bool,
-) -> Result<(), DumpFault>
+) -> Result<(), StreamFault>
     ensures printed { OnOk result (Appends (W.contents out.old) (W.contents out.new) (text_by timed true bytes.now)) }
     ensures failed { IfErr result IsOther }
 {
     match Index::build_skipping(alloc, bytes) {
         Ok(found) => dump_index(alloc, bytes, &found.index, &found.skips, out, timed),
-        Err(_) => Err(DumpFault::Memory),
+        Err(_) => Err(StreamFault::Memory),
     }
 }
 
@@ -150,7 +156,7 @@ fn dump_index<W: Write>(
     skips: &[Skip],
     out: &mut W,
     timed: bool,
-) -> Result<(), DumpFault>
+) -> Result<(), StreamFault>
     ensures printed { OnOk result (Appends (W.contents out.old) (W.contents out.new)
         (timed_text (clock_of timed bytes.now index.now) skips.now index.now)) }
     ensures failed { IfErr result IsOther }
@@ -167,7 +173,7 @@ fn print_index<W: Write>(
     skips: &[Skip],
     out: &mut W,
     clock: &Clock,
-) -> Result<(), DumpFault>
+) -> Result<(), StreamFault>
     ensures printed { OnOk result (Appends (W.contents out.old) (W.contents out.new)
         (timed_text clock.now skips.now index.now)) }
     ensures failed { IfErr result IsOther }

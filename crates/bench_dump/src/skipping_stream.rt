@@ -1,18 +1,18 @@
 //! A dump of whatever is sound in a recording that a reader gives.
-ghost use Rattle.bench_dump.specs.Printing.{Carries, IsOther};
+ghost use Rattle.bench_dump.specs.Printing.{Carries};
 ghost use Rattle.bench_dump.specs.SkippingText.{text_of};
 ghost use Rattle.bench_dump.specs.StretchText.{IsFew, stretch_lines};
 ghost use Rattle.bench_dump.specs.TimedText.{timed_text};
 ghost use Rattle.ch11_reader.specs.Skipping.{packets_read, skips_in};
+ghost use Rattle.ch11_stream.specs.Feeding.{IsOther};
 ghost use Rattle.std.specs.Io.KnownBytes.{Appends};
 ghost use Rattle.std.specs.Prelude.{◌≡◌, ℕ, List, [], Some, true, OnOk, IfErr};
 
-use crate::fault::DumpFault;
 use crate::output::dump_packet;
 use crate::skips::dump_skips;
 use crate::text::Text;
 use bench_clock::Clock;
-use ch11_stream::{Stretch, Stretches};
+use ch11_stream::{StreamFault, Stretch, Stretches};
 use std::alloc::Global;
 use std::io::{Read, Write};
 
@@ -23,7 +23,7 @@ fn dump_stretch<R: Read, W: Write>(
     stretches: &Stretches<R>,
     stretch: &Stretch,
     clock: &Clock,
-) -> Result<(), DumpFault>
+) -> Result<(), StreamFault>
     requires { IsFew stretch.now stretches.now.given }
     ensures printed { OnOk result (Carries (W.contents out.old) text.old (W.contents out.new) text.new
         (stretch_lines clock.now stretch.now stretches.now.given)) }
@@ -45,7 +45,7 @@ pub fn dump_skipping_from<R: Read + Drop, W: Write>(
     input: R,
     clock: &Clock,
     out: &mut W,
-) -> Result<(), DumpFault>
+) -> Result<(), StreamFault>
     ensures printed { (file : List ℕ) → R.remaining input ≡ Some file
         → OnOk result (Appends (W.contents out.old) (W.contents out.new)
         (timed_text clock.now (skips_in file) (packets_read file))) }
@@ -62,8 +62,8 @@ pub fn dump_skipping_from<R: Read + Drop, W: Write>(
                 text.finish(out)?;
                 return Ok(());
             }
-            Err(fault) => return Err(DumpFault::from(fault)),
+            Err(fault) => return Err(fault),
         }
     }
-    Err(DumpFault::Device)
+    Err(StreamFault::Device)
 }

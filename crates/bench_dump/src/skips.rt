@@ -1,17 +1,18 @@
 //! The lines of skipped bytes.
-ghost use Rattle.bench_dump.specs.Printing.{Carries, IsOther};
+ghost use Rattle.bench_dump.specs.Printing.{Carries};
 ghost use Rattle.bench_dump.specs.SkippingText.{skip_line, skip_lines, skips_before, skips_behind};
 ghost use Rattle.ch11_reader.specs.Codes.{fault_code};
+ghost use Rattle.ch11_stream.specs.Feeding.{IsOther};
 ghost use Rattle.std.specs.Io.KnownBytes.{Appends};
 ghost use Rattle.std.specs.Prelude.{◌≡◌, ◌++◌, OnOk, IfOk, IfErr};
 
-use crate::fault::DumpFault;
 use crate::lines::put_number;
 use crate::output::hand_on;
 use crate::text::Text;
 use ch11_f1::BodyError;
 use ch11_header::HeaderError;
 use ch11_reader::{Fault, Skip};
+use ch11_stream::StreamFault;
 use std::alloc::AllocError;
 use std::io::Write;
 
@@ -51,7 +52,7 @@ pub(crate) fn dump_skips_before<'s, W: Write>(
     out: &mut W,
     skips: &'s [Skip],
     offset: usize,
-) -> Result<&'s [Skip], DumpFault>
+) -> Result<&'s [Skip], StreamFault>
     ensures printed { IfOk result (λ behind. Carries (W.contents out.old) text.old (W.contents out.new) text.new
         (skip_lines (skips_before offset skips.now))) }
     ensures behind { IfOk result (λ behind. behind.now ≡ skips_behind offset skips.now) }
@@ -74,7 +75,7 @@ pub(crate) fn dump_skips<W: Write>(
     text: &mut Text,
     out: &mut W,
     skips: &[Skip],
-) -> Result<(), DumpFault>
+) -> Result<(), StreamFault>
     ensures printed { OnOk result (Carries (W.contents out.old) text.old (W.contents out.new) text.new
         (skip_lines skips.now)) }
     ensures failed { IfErr result IsOther }

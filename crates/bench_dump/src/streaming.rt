@@ -2,11 +2,10 @@
 ghost use Rattle.bench_dump.specs.Streaming.{Dumps, DumpsBy};
 ghost use Rattle.std.specs.Prelude.{◌≡◌, ℕ, List, Some};
 
-use crate::fault::DumpFault;
 use crate::output::dump_packet;
 use crate::text::Text;
 use bench_clock::Clock;
-use ch11_stream::{Advance, Packets};
+use ch11_stream::{Advance, Packets, StreamFault};
 use std::alloc::Global;
 use std::io::Write;
 
@@ -17,7 +16,7 @@ pub fn dump_from<R: Advance + Drop, W: Write>(
     alloc: Global,
     input: R,
     out: &mut W,
-) -> Result<(), DumpFault>
+) -> Result<(), StreamFault>
     ensures { (file : List ℕ) → R.remaining input ≡ Some file
         → Dumps result file (W.contents out.old) (W.contents out.new) }
 {
@@ -32,7 +31,7 @@ pub fn dump_with_times_from<R: Advance + Drop, W: Write>(
     input: R,
     clock: &Clock,
     out: &mut W,
-) -> Result<(), DumpFault>
+) -> Result<(), StreamFault>
     ensures { (file : List ℕ) → R.remaining input ≡ Some file
         → DumpsBy clock.now result file (W.contents out.old) (W.contents out.new) }
 {
@@ -45,8 +44,8 @@ pub fn dump_with_times_from<R: Advance + Drop, W: Write>(
                 text.finish(out)?;
                 return Ok(());
             }
-            Err(fault) => return Err(DumpFault::from(fault)),
+            Err(fault) => return Err(fault),
         }
     }
-    Err(DumpFault::Device)
+    Err(StreamFault::Device)
 }

@@ -1,14 +1,14 @@
 //! Text on its way to a writer.
-ghost use Rattle.bench_dump.specs.Printing.{IsOther};
 ghost use Rattle.bench_dump.specs.TimedText.{timed_line};
 ghost use Rattle.ch11_f1.specs.Views.{message_of};
+ghost use Rattle.ch11_stream.specs.Feeding.{IsOther};
 ghost use Rattle.std.specs.Io.KnownBytes.{Appends};
 ghost use Rattle.std.specs.Prelude.{◌≡◌, ◌+◌, ◌≤◌, ◌++◌, [], length, take, vec_len, option_map, OnOk, IfErr};
 
-use crate::fault::DumpFault;
 use crate::places::{MESSAGE_HEAD, place_bytes, place_message};
 use bench_clock::UtcTime;
 use ch11_f1::Seen;
+use ch11_stream::StreamFault;
 use std::alloc::{AllocError, Global};
 use std::io::Write;
 use std::marker::Model;
@@ -104,7 +104,7 @@ impl Text {
     }
 
     /// Hands all text on to the writer, and flushes it.
-    pub(crate) fn finish<W: Write>(&self, out: &mut W) -> Result<(), DumpFault>
+    pub(crate) fn finish<W: Write>(&self, out: &mut W) -> Result<(), StreamFault>
         ensures printed { OnOk result (Appends (W.contents out.old) (W.contents out.new) self.now) }
         ensures failed { IfErr result IsOther }
     {

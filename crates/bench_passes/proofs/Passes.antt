@@ -7,30 +7,29 @@ use Rattle.ch11_stream.specs.declared.fault.StreamFault.{StreamFault}
 use Rattle.ch11_stream.specs.declared.fault.StreamFault.TheVariants.{Device, Memory, Refused}
 use Rattle.ch11_stream.specs.Folding.{IsFaultOf}
 use Rattle.bench_clock.specs.declared.clock.Mark.{Mark}
-use Rattle.bench_dump.specs.declared.fault.DumpFault.{DumpFault}
-use Rattle.bench_dump.specs.Streaming.{Dumps, DumpsBy, dump_fault}
+use Rattle.bench_dump.specs.Streaming.{Dumps, DumpsBy}
 use Rattle.bench_passes.specs.Passes.{IsRefusedBy}
 
 pub not_both : (file : List ℕ) (ps : List Found) (r : Refusal) → packets_in file ≡ Ok ps → packets_in file ≡ Err r → ⊥
 not_both file ps r read refused = absurd cc
 
 -- the fault of the first pass is the recording's first
-pub first_fault : (file : List ℕ) (r : Refusal) (f : StreamFault) → IsFaultOf file f → packets_in file ≡ Err r → IsRefusedBy {A = Unit {0}} r (Err (dump_fault f))
+pub first_fault : (file : List ℕ) (r : Refusal) (f : StreamFault) → IsFaultOf file f → packets_in file ≡ Err r → IsRefusedBy {A = Unit {0}} r (Err f)
 first_fault file r (Refused other) is refused = cc
 first_fault file r Memory is refused = tt
 first_fault file r Device is refused = tt
 
 -- a recording that can be read has no fault of its own in the first pass
-pub other_fault : (file second : List ℕ) (got : Option (List ℕ)) (f : StreamFault) → IsFaultOf file f → packets_in file ≡ Ok (found_in file) → Dumps {A = Unit {0}} (Err (dump_fault f)) second got got
+pub other_fault : (file second : List ℕ) (got : Option (List ℕ)) (f : StreamFault) → IsFaultOf file f → packets_in file ≡ Ok (found_in file) → Dumps {A = Unit {0}} (Err f) second got got
 other_fault file second got (Refused r) is read = absurd (not_both file (found_in file) r read is)
 other_fault file second got Memory is read = tt
 other_fault file second got Device is read = tt
 
 pub other_timed : (clock : List Mark) (file second : List ℕ) (got : Option (List ℕ)) (f : StreamFault) → IsFaultOf file f → packets_in file ≡ Ok (found_in file)
-    → DumpsBy {A = Unit {0}} clock (Err (dump_fault f)) second got got
+    → DumpsBy {A = Unit {0}} clock (Err f) second got got
 other_timed clock file second got (Refused r) is read = absurd (not_both file (found_in file) r read is)
 other_timed clock file second got Memory is read = tt
 other_timed clock file second got Device is read = tt
 
-pub same_clock : (a b : List Mark) (result : Result (Unit {0}) DumpFault) (file : List ℕ) (got gets : Option (List ℕ)) → a ≡ b → DumpsBy a result file got gets → DumpsBy b result file got gets
+pub same_clock : (a b : List Mark) (result : Result (Unit {0}) StreamFault) (file : List ℕ) (got gets : Option (List ℕ)) → a ≡ b → DumpsBy a result file got gets → DumpsBy b result file got gets
 same_clock a b result file got gets same d = subst (λ (clock : List Mark). DumpsBy clock result file got gets) same d

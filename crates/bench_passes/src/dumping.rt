@@ -8,9 +8,9 @@ ghost use Rattle.ch11_reader.specs.Recording.{packets_in};
 ghost use Rattle.std.specs.Prelude.{◌≡◌, ℕ, List, Some, Ok};
 
 use bench_clock::clock_from;
-use bench_dump::{DumpFault, dump_from, dump_with_times_from};
+use bench_dump::{dump_from, dump_with_times_from};
 use ch11_check::check_from;
-use ch11_stream::Advance;
+use ch11_stream::{Advance, StreamFault};
 use std::alloc::Global;
 use std::io::Write;
 
@@ -23,14 +23,14 @@ pub fn dump_in_two_passes<R: Advance + Drop, S: Advance + Drop, W: Write>(
     first: R,
     second: S,
     out: &mut W,
-) -> Result<(), DumpFault>
+) -> Result<(), StreamFault>
     ensures refused { Refuses (R.remaining first) out.old out.new result }
     ensures dumped { (file other : List ℕ) → R.remaining first ≡ Some file → S.remaining second ≡ Some other
         → packets_in file ≡ Ok (found_in file) → Dumps result other (W.contents out.old) (W.contents out.new) }
 {
     match check_from(alloc, first) {
         Ok(()) => dump_from(alloc, second, out),
-        Err(fault) => Err(DumpFault::from(fault)),
+        Err(fault) => Err(fault),
     }
 }
 
@@ -42,7 +42,7 @@ pub fn dump_with_times_in_two_passes<R: Advance + Drop, S: Advance + Drop, W: Wr
     first: R,
     second: S,
     out: &mut W,
-) -> Result<(), DumpFault>
+) -> Result<(), StreamFault>
     ensures refused { Refuses (R.remaining first) out.old out.new result }
     ensures dumped { (file other : List ℕ) → R.remaining first ≡ Some file → S.remaining second ≡ Some other
         → packets_in file ≡ Ok (found_in file)
@@ -50,6 +50,6 @@ pub fn dump_with_times_in_two_passes<R: Advance + Drop, S: Advance + Drop, W: Wr
 {
     match clock_from(alloc, first) {
         Ok(clock) => dump_with_times_from(alloc, second, &clock, out),
-        Err(fault) => Err(DumpFault::from(fault)),
+        Err(fault) => Err(fault),
     }
 }

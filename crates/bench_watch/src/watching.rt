@@ -2,18 +2,12 @@
 ghost use Rattle.bench_watch.specs.Watching.{watched_remaining};
 ghost use Rattle.std.specs.Prelude.{◌≡◌};
 
+use crate::elapsed::{Elapsed, PAUSE, QUIET};
 use ch11_stream::Advance;
 use std::cell::Cell;
 use std::fs;
 use std::io::{self, ErrorKind, IsTerminal, Read};
 use std::rt::{Clock, Files};
-use std::time::Duration;
-
-/// How many milliseconds the passes take before anything is shown.
-const QUIET: u64 = 2000;
-
-/// How many milliseconds lie between two lines at least.
-const PAUSE: u64 = 200;
 
 /// After so many bytes the clock is looked at.
 const STRIDE: u64 = 16_777_216;
@@ -42,10 +36,9 @@ struct State {
 /// terminal and there is a clock.
 #[derive(Drop)]
 pub struct Watch<'f, C, E> {
-    clock: &'f C,
     errors: &'f E,
-    /// When the first pass began, where anything may be shown.
-    began: Option<Duration>,
+    /// The time since the first pass began.
+    elapsed: Elapsed<'f, C>,
     /// How many bytes a pass reads.
     size: u64,
     state: Cell<State>,
@@ -54,15 +47,9 @@ pub struct Watch<'f, C, E> {
 impl<'f, C: Clock + Files, E: Eprint + IsTerminal> Watch<'f, C, E> {
     /// Passes over the recording with this name, which begin now.
     pub fn begin(clock: &'f C, errors: &'f E, name: &str) -> Watch<'f, C, E> {
-        let began = if errors.is_terminal() {
-            clock.monotonic().ok()
-        } else {
-            None
-        };
         Watch {
-            clock,
             errors,
-            began,
+            elapsed: Elapsed::begin(clock, errors),
             size: size_of(clock, name),
             state: Cell::new(State {
                 pass: 0,
@@ -103,7 +90,7 @@ impl<'f, C: Clock + Files, E: Eprint + IsTerminal> Watch<'f, C, E> {
         state.pass = state.pass.saturating_add(1);
         state.read = 0;
         state.look = STRIDE;
-        if let Some(passed) = self.passed() {
+        if let Some(passed) = self.elapsed.milliseconds() {
             state.began = passed;
         }
         self.state.set(state);
@@ -118,14 +105,14 @@ impl<'f, C: Clock + Files, E: Eprint + IsTerminal> Watch<'f, C, E> {
 
     /// So many bytes more were read or passed.
     fn note(&self, count: u64) {
-        if self.began.is_none() {
+        if !self.elapsed.is_shown() {
             return;
         }
         let mut state = self.state.get();
         state.read = state.read.saturating_add(count);
         if state.read >= state.look {
             state.look = state.read.saturating_add(STRIDE);
-            if let Some(passed) = self.passed() {
+            if let Some(passed) = self.elapsed.milliseconds() {
                 self.show(&mut state, passed);
             }
         }
@@ -146,15 +133,6 @@ impl<'f, C: Clock + Files, E: Eprint + IsTerminal> Watch<'f, C, E> {
         let _ = eprint!(self.errors; "\rpass {pass}: {percent} % read, {left} s left\x1b[K");
         state.due = passed.saturating_add(PAUSE);
         state.shown = true;
-    }
-
-    /// How many milliseconds have passed since the first pass began.
-    fn passed(&self) -> Option<u64> {
-        let began = self.began?;
-        match self.clock.monotonic() {
-            Ok(now) => Some(milliseconds(now.saturating_sub(began))),
-            Err(_) => None,
-        }
     }
 }
 
@@ -238,11 +216,4 @@ fn left_of(passed: u64, read: u64, left: u64) -> u64 {
     }
     let time = u128::from(passed) * u128::from(left) / u128::from(read);
     u64::try_from(time.div_ceil(1000)).unwrap_or(u64::MAX)
-}
-
-/// A span in whole milliseconds, as far as they can be counted.
-fn milliseconds(span: Duration) -> u64 {
-    span.as_secs()
-        .saturating_mul(1000)
-        .saturating_add(u64::from(span.subsec_millis()))
 }

@@ -12,7 +12,7 @@ pub record State : Type 0 where
   pub lent : List ℕ
 
 abbrev pub records_of : Inside → List Numbered
-records_of p = p.records.value.0
+records_of p = p.records
 
 abbrev pub state_of : Inside → State
 state_of p = record {

@@ -4,7 +4,6 @@ pub mod Cutting
 pub mod Held
 pub mod Run
 pub mod Pushing
-pub mod Log
 pub mod Built
 pub mod Recorded
 pub mod Examples

@@ -5,7 +5,7 @@
 mod builder;
 mod error;
 mod laws;
-mod log;
+mod numbered;
 mod packing;
 mod sealing;
 

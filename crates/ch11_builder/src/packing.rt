@@ -7,15 +7,15 @@ ghost use Rattle.std.specs.Prelude.{if◌then◌else◌, length, vec_len, IfOk, 
 ghost use Rattle.std.specs.Prelude.{◌≡◌, [], ◌∷◌, ◌++◌, ◌+◌, ◌≤◌, ◌<◌, ◌^◌, ◌==◌, ◌||◌, true, false, not};
 
 use crate::error::BuilderError;
-use crate::log::{Link, Log, log_of};
+use crate::numbered::NumberedRecord;
 use crate::sealing::{FIRST_MESSAGE, padded, put_behind, seal};
 use ch11_f1::RECORD_HEAD;
 use ch11_header::Header;
 use ch11_header::kinds::BUS_MESSAGES;
+use history::History;
 use mil_monitor::Record;
 use std::alloc::Global;
 use std::marker::Model;
-use std::snapshot::Snapshot;
 
 /// Packets span less than this many ticks of 0.1 µs from their first stamp to their last.
 const LONGEST: u64 = 1_000_000;
@@ -39,7 +39,7 @@ pub struct Packing {
     before: u64,
     place: u64,
     overflow: bool,
-    records: Snapshot<Log>,
+    records: History<NumberedRecord>,
 }
 
 impl Model for Packing {
@@ -116,7 +116,7 @@ impl Packing {
             before: 0,
             place: 0,
             overflow: false,
-            records: log_of(Link::Start),
+            records: History::none(),
         })
     }
 
@@ -153,8 +153,9 @@ impl Packing {
         self.last = number;
         self.count += 1;
         self.used = put_behind(&mut self.filling, self.used, message);
-        let log = log_of(Link::Same(Snapshot::of(&self.records)));
-        self.records = log_of(Link::Kept(number, Snapshot::of(message), log));
+        self.records = self
+            .records
+            .put_behind(&NumberedRecord::of(number, message));
     }
 
     /// Finishes the packet of the open records.
@@ -180,7 +181,7 @@ impl Packing {
         self.before = self.last;
         self.place += 1;
         self.overflow = false;
-        self.records = log_of(Link::Start);
+        self.records = History::none();
     }
 
     /// Takes the record in, and says whether it opened a new packet.

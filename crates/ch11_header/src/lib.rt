@@ -1,5 +1,5 @@
 //! The header of a packet: its fields, its 24 bytes, and which bytes are a header
-//! (IRIG 106-17 Chapter 11, packet header). All numbers are little-endian.
+//! (IRIG 106-17 Chapter 11, packet header). All numbers are little-endian. Its tests are in `ch11_tests`.
 #![tactic(auto)]
 
 mod error;
@@ -10,6 +10,3 @@ mod laws;
 pub use error::HeaderError;
 pub use header::{HEADER_SIZE, Header, SYNC, read_header, write_header};
 pub use laws::written_is_read;
-
-#[cfg(test)]
-mod tests;

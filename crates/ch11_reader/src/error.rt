@@ -1,6 +1,7 @@
 //! Why a recording can't be read.
+ghost use Rattle.ch11_reader.specs.Codes.{fault_code, refusal_text, error_text};
 ghost use Rattle.ch11_reader.specs.declared.error.ReadError.TheVariants.{Memory};
-ghost use Rattle.std.specs.Prelude.{◌≡◌};
+ghost use Rattle.std.specs.Prelude.{◌≡◌, Some};
 
 use ch11_f1::BodyError;
 use ch11_header::HeaderError;
@@ -41,9 +42,6 @@ pub enum ReadError {
 }
 
 impl Display for Fault {
-    ghost use Rattle.ch11_reader.specs.Codes.{fault_code};
-    ghost use Rattle.std.specs.Prelude.{Some};
-
     ghost output = { λ e. Some (fault_code e) };
 
     fn fmt<W: Write>(&self, f: &mut Formatter<W>) -> fmt::Result {
@@ -56,9 +54,6 @@ impl Display for Fault {
 }
 
 impl Display for Refusal {
-    ghost use Rattle.ch11_reader.specs.Codes.{refusal_text};
-    ghost use Rattle.std.specs.Prelude.{Some};
-
     ghost output = { λ e. Some (refusal_text e) };
 
     fn fmt<W: Write>(&self, f: &mut Formatter<W>) -> fmt::Result {
@@ -67,9 +62,6 @@ impl Display for Refusal {
 }
 
 impl Display for ReadError {
-    ghost use Rattle.ch11_reader.specs.Codes.{error_text};
-    ghost use Rattle.std.specs.Prelude.{Some};
-
     ghost output = { λ e. Some (error_text e) };
 
     fn fmt<W: Write>(&self, f: &mut Formatter<W>) -> fmt::Result {

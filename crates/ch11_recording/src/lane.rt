@@ -1,12 +1,12 @@
 //! One channel of a recording.
 ghost use Rattle.ch11_builder.specs.Held.{fresh, pushed, latest_number};
-ghost use Rattle.ch11_recording.specs.Counting.{Counts};
+ghost use Rattle.ch11_recording.specs.Counting.{Counts, WritesOn};
 ghost use Rattle.ch11_recording.specs.Items.{numbered};
 ghost use Rattle.ch11_recording.specs.WrittenFile.{closing, closed_by, met};
 ghost use Rattle.ch11_recording.specs.declared.item.Item.TheVariants as item;
 ghost use Rattle.ch11_writer.specs.Writing.{Puts, progress_of};
 ghost use Rattle.std.specs.Prelude.{IsFalse};
-ghost use Rattle.std.specs.Prelude.{◌≡◌, ◌<◌, ◌≤◌, ◌^◌, ◌+◌, ◌||◌, not, true, false, if◌then◌else◌, IfOk, IsTrue};
+ghost use Rattle.std.specs.Prelude.{◌≡◌, ◌<◌, ◌^◌, ◌+◌, true, false, IfOk, IsTrue};
 
 use crate::packet_writer::PacketWriter;
 use ch11_builder::{Builder, BuilderError, Pushed, packet_is_read_again, run_gives_the_packets};
@@ -47,11 +47,7 @@ fn put<S: Sink>(builder: &mut Builder, writer: &mut PacketWriter<S>, number: u64
         (progress_of S.taken writer.old.writing) (progress_of S.taken writer.new.writing) }
     ensures counted { Counts (closed_by builder.old (item.Message builder.old.channel.channel number message.now))
         writer.old writer.new }
-    ensures unfinished { writer.new.writing.finished ≡ false }
-    ensures few { writer.new.writing.taken ≤ writer.old.writing.taken + 524288 }
-    ensures failures { S.failures writer.new.writing.sink
-        ≡ (if writer.old.writing.failed || not writer.new.writing.failed
-        then S.failures writer.old.writing.sink else S.failures writer.old.writing.sink + 1) }
+    ensures writes { WritesOn S.failures 524288 writer.old.writing writer.new.writing }
 {
     packet_is_read_again();
     if let Pushed::Closed(packet) = builder.push(number, message) {
@@ -96,11 +92,7 @@ impl Lane {
         ensures refused { IsFalse result → self.new ≡ self.old }
         ensures silent { IsFalse result → writer.new ≡ writer.old }
         ensures when { latest_number self.old < number → message.now.stamp < 2 ^ 48 → result ≡ true }
-        ensures unfinished { writer.new.writing.finished ≡ false }
-        ensures few { writer.new.writing.taken ≤ writer.old.writing.taken + 524288 }
-        ensures failures { S.failures writer.new.writing.sink
-            ≡ (if writer.old.writing.failed || not writer.new.writing.failed
-            then S.failures writer.old.writing.sink else S.failures writer.old.writing.sink + 1) }
+        ensures writes { WritesOn S.failures 524288 writer.old.writing writer.new.writing }
     {
         if number <= self.last || message.stamp >= STAMPS {
             return false;
@@ -119,11 +111,7 @@ impl Lane {
         ensures written { Puts (closing self.old (item.End self.old.channel.channel))
             (progress_of S.taken writer.old.writing) (progress_of S.taken writer.new.writing) }
         ensures counted { Counts (closed_by self.old (item.End self.old.channel.channel)) writer.old writer.new }
-        ensures unfinished { writer.new.writing.finished ≡ false }
-        ensures few { writer.new.writing.taken ≤ writer.old.writing.taken + 524288 }
-        ensures failures { S.failures writer.new.writing.sink
-            ≡ (if writer.old.writing.failed || not writer.new.writing.failed
-            then S.failures writer.old.writing.sink else S.failures writer.old.writing.sink + 1) }
+        ensures writes { WritesOn S.failures 524288 writer.old.writing writer.new.writing }
     {
         packet_is_read_again();
         if let Some(packet) = self.builder.close() {

@@ -1,8 +1,8 @@
 //! Packets on their way into a sink.
-ghost use Rattle.ch11_recording.specs.Counting.{Counts};
+ghost use Rattle.ch11_recording.specs.Counting.{Counts, WritesOn};
 ghost use Rattle.ch11_writer.specs.Writing.{IsWritten, Puts, PutsNone, progress_of};
 ghost use Rattle.std.specs.Prelude.{if◌then◌else◌, IfErr, IsOk, OnOk};
-ghost use Rattle.std.specs.Prelude.{◌≡◌, ◌<◌, ◌≤◌, ◌^◌, ◌+◌, ◌-◌, ◌↔◌, ◌||◌, not, [], ◌∷◌, true, false, length, is_ok};
+ghost use Rattle.std.specs.Prelude.{◌≡◌, ◌<◌, ◌^◌, ◌+◌, ◌-◌, ◌↔◌, ◌||◌, [], ◌∷◌, true, false, length, is_ok};
 
 use ch11_writer::{Sink, WriteFault, Writer};
 use std::marker::Model;
@@ -46,10 +46,7 @@ impl<S: Sink> PacketWriter<S> {
         requires few { self.old.writing.taken + length bytes.now < 2 ^ 64 }
         ensures packets { self.new.packets ≡ self.old.packets }
         ensures written { Puts bytes.now (progress_of S.taken self.old.writing) (progress_of S.taken self.new.writing) }
-        ensures unfinished { self.new.writing.finished ≡ false }
-        ensures few { self.new.writing.taken ≤ self.old.writing.taken + length bytes.now }
-        ensures failures { S.failures self.new.writing.sink ≡ (if self.old.writing.failed || not self.new.writing.failed
-            then S.failures self.old.writing.sink else S.failures self.old.writing.sink + 1) }
+        ensures writes { WritesOn S.failures (length bytes.now) self.old.writing self.new.writing }
     {
         let _ = self.writer.prologue(bytes);
     }
@@ -62,10 +59,7 @@ impl<S: Sink> PacketWriter<S> {
         ensures counted { Counts (packet.now ∷ []) self.old self.new }
         ensures written { Puts packet.now (progress_of S.taken self.old.writing)
             (progress_of S.taken self.new.writing) }
-        ensures unfinished { self.new.writing.finished ≡ false }
-        ensures few { self.new.writing.taken ≤ self.old.writing.taken + length packet.now }
-        ensures failures { S.failures self.new.writing.sink ≡ (if self.old.writing.failed || not self.new.writing.failed
-            then S.failures self.old.writing.sink else S.failures self.old.writing.sink + 1) }
+        ensures writes { WritesOn S.failures (length packet.now) self.old.writing self.new.writing }
     {
         if self.writer.put(packet).is_ok() {
             self.packets += 1;

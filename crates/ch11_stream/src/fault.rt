@@ -1,28 +1,28 @@
-//! Why no packet was read.
-ghost use Rattle.ch11_stream.specs.declared.fault.StreamFault.TheVariants.{Memory};
-ghost use Rattle.std.specs.Prelude.{◌≡◌};
+//! Why a recording was not read to its end, or what is made of it not written.
+ghost use Rattle.ch11_stream.specs.FaultText.{fault_text};
+ghost use Rattle.ch11_stream.specs.declared.fault.StreamFault.TheVariants.{Device, Memory};
+ghost use Rattle.std.specs.Prelude.{◌≡◌, Some};
 
 use ch11_reader::Refusal;
 use std::alloc::AllocError;
 use std::fmt::{self, Display, Formatter, Write};
+use std::io;
 
-/// Why a packet could not be read.
+/// Why a packet could not be read, or what is made of packets not written.
 #[derive(Clone, Copy, Debug, PartialEq, Eq)]
 pub enum StreamFault {
     /// K1 to K5, N2 and F1 to F3, with the packet's offset.
     Refused(Refusal),
 
-    /// Memory for a packet was refused.
+    /// Memory was refused.
     Memory,
 
-    /// The reader failed, or the packet ends behind byte 2^64 - 2.
+    /// The reader failed, or the packet ends behind byte 2^64 - 2; or the writer failed, which may have got some of the
+    /// text.
     Device,
 }
 
 impl Display for StreamFault {
-    ghost use Rattle.ch11_stream.specs.FaultText.{fault_text};
-    ghost use Rattle.std.specs.Prelude.{Some};
-
     ghost output = { λ e. Some (fault_text e) };
 
     fn fmt<W: Write>(&self, f: &mut Formatter<W>) -> fmt::Result {
@@ -39,5 +39,13 @@ impl From<AllocError> for StreamFault {
 
     fn from(_: AllocError) -> StreamFault {
         StreamFault::Memory
+    }
+}
+
+impl From<io::Error> for StreamFault {
+    ghost from_gives = { λ _ e. e ≡ Device };
+
+    fn from(_: io::Error) -> StreamFault {
+        StreamFault::Device
     }
 }

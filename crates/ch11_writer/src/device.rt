@@ -45,12 +45,7 @@ impl<W: Write> StdSink<W> {
     pub fn into_writer(self) -> W
         ensures { result ≡ self.writer }
     {
-        let StdSink {
-            writer,
-            failures: _,
-            finished: _,
-        } = self;
-        writer
+        self.writer
     }
 }
 

@@ -1,4 +1,4 @@
-//! Bytes of a recording into a sink that may fail.
+//! Bytes of a recording into a sink that may fail. Its tests are in `ch11_tests`.
 #![tactic(auto)]
 
 mod device;
@@ -6,16 +6,15 @@ mod drip;
 mod flaky;
 mod fuse;
 mod memory;
+mod ruled;
 mod sink;
 mod writer;
 
 pub use device::StdSink;
-pub use drip::DripSink;
-pub use flaky::FlakySink;
-pub use fuse::FuseSink;
+pub use drip::{DripSink, OneByte};
+pub use flaky::{FailsOnce, FlakySink};
+pub use fuse::{Fuse, FuseSink};
 pub use memory::MemorySink;
+pub use ruled::{RuledSink, TakeRule};
 pub use sink::{Sink, SinkFault};
 pub use writer::{WriteFault, Writer};
-
-#[cfg(test)]
-mod tests;

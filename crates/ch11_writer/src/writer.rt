@@ -1,9 +1,11 @@
 //! The writer of packets into a sink.
+ghost use Rattle.ch11_writer.specs.Codes.{fault_text};
+ghost use Rattle.ch11_writer.specs.Putting.{IsPut};
 ghost use Rattle.ch11_writer.specs.Sent.{shown_by, IsSent};
-ghost use Rattle.ch11_writer.specs.Writing.{IsWritten, Puts, PutsNone, progress_of};
-ghost use Rattle.std.specs.Io.KnownBytes.{Keeps, Appends};
-ghost use Rattle.std.specs.Prelude.{if◌then◌else◌, IfErr, IsOk, OnOk, OnErr};
-ghost use Rattle.std.specs.Prelude.{◌≡◌, [], ◌+◌, ◌-◌, ◌≤◌, ◌<◌, ◌^◌, ◌↔◌, ◌||◌, true, false, length, take, is_ok};
+ghost use Rattle.ch11_writer.specs.Writing.{IsWritten, Puts, PutsNone, progress_of, Writing};
+ghost use Rattle.std.specs.Io.KnownBytes.{Keeps};
+ghost use Rattle.std.specs.Prelude.{if◌then◌else◌, IfErr, IsOk, OnOk, Some};
+ghost use Rattle.std.specs.Prelude.{◌≡◌, [], ◌+◌, ◌-◌, ◌<◌, ◌^◌, ◌↔◌, ◌||◌, true, false, length, is_ok};
 
 use crate::sink::Sink;
 use std::fmt::{self, Display, Formatter, Write};
@@ -16,9 +18,6 @@ pub struct WriteFault {
 }
 
 impl Display for WriteFault {
-    ghost use Rattle.ch11_writer.specs.Codes.{fault_text};
-    ghost use Rattle.std.specs.Prelude.{Some};
-
     ghost output = { λ e. Some (fault_text e) };
 
     fn fmt<W: Write>(&self, f: &mut Formatter<W>) -> fmt::Result {
@@ -64,9 +63,6 @@ pub struct Writer<S: Sink> {
 }
 
 impl<S: Sink> Model for Writer<S> {
-    ghost use Rattle.ch11_writer.specs.Writing.{Writing};
-    ghost use Rattle.std.specs.Prelude.{◌≡◌, ◌-◌, ◌<◌, ◌^◌, false};
-
     ghost Value = { Writing S };
 
     ghost view = { λ w. record { sink = w.sink; taken = w.taken; failed = w.failed; finished = w.finished } };
@@ -93,24 +89,8 @@ impl<S: Sink> Writer<S> {
     pub fn prologue(&mut self, bytes: &[u8]) -> Result<(), WriteFault>
         requires unfinished { self.old.finished ≡ false }
         requires few { self.old.taken + length bytes.now < 2 ^ 64 }
-
-        // It fails exactly where the sink fails now or has failed before, and tells how many bytes the sink took.
-        ensures ok { IsOk result ↔ (self.new.failed ≡ false) }
-        ensures failures { S.failures self.new.sink ≡ (if self.old.failed || is_ok result
-            then S.failures self.old.sink else S.failures self.old.sink + 1) }
-        ensures fault { IfErr result (λ e. e.taken ≡ self.new.taken) }
-
-        // After a failure nothing changes: the sink is called no more.
-        ensures silent { self.old.failed ≡ true → self.new ≡ self.old }
-
-        // The sink took all of the bytes, or those before its failure.
-        ensures taken { Appends (S.taken self.old.sink) (S.taken self.new.sink)
-            (take (self.new.taken - self.old.taken) bytes.now) }
-        ensures whole { OnOk result (self.new.taken ≡ self.old.taken + length bytes.now) }
-        ensures part { OnErr result (self.old.failed ≡ false →
-            (self.old.taken ≤ self.new.taken) × (self.new.taken < self.old.taken + length bytes.now)) }
+        ensures put { IsPut (shown_by S.taken S.failures S.finished) bytes.now result self.old self.new }
         ensures written { Puts bytes.now (progress_of S.taken self.old) (progress_of S.taken self.new) }
-        ensures unfinished { (self.new.finished ≡ false) × (S.finished self.new.sink ≡ S.finished self.old.sink) }
     {
         self.put(bytes)
     }
@@ -120,24 +100,8 @@ impl<S: Sink> Writer<S> {
     pub fn put(&mut self, bytes: &[u8]) -> Result<(), WriteFault>
         requires unfinished { self.old.finished ≡ false }
         requires few { self.old.taken + length bytes.now < 2 ^ 64 }
-
-        // It fails exactly where the sink fails now or has failed before, and tells how many bytes the sink took.
-        ensures ok { IsOk result ↔ (self.new.failed ≡ false) }
-        ensures failures { S.failures self.new.sink ≡ (if self.old.failed || is_ok result
-            then S.failures self.old.sink else S.failures self.old.sink + 1) }
-        ensures fault { IfErr result (λ e. e.taken ≡ self.new.taken) }
-
-        // After a failure nothing changes: the sink is called no more.
-        ensures silent { self.old.failed ≡ true → self.new ≡ self.old }
-
-        // The sink took all of the bytes, or those before its failure.
-        ensures taken { Appends (S.taken self.old.sink) (S.taken self.new.sink)
-            (take (self.new.taken - self.old.taken) bytes.now) }
-        ensures whole { OnOk result (self.new.taken ≡ self.old.taken + length bytes.now) }
-        ensures part { OnErr result (self.old.failed ≡ false →
-            (self.old.taken ≤ self.new.taken) × (self.new.taken < self.old.taken + length bytes.now)) }
+        ensures put { IsPut (shown_by S.taken S.failures S.finished) bytes.now result self.old self.new }
         ensures written { Puts bytes.now (progress_of S.taken self.old) (progress_of S.taken self.new) }
-        ensures unfinished { (self.new.finished ≡ false) × (S.finished self.new.sink ≡ S.finished self.old.sink) }
     {
         if self.failed {
             return Err(WriteFault { taken: self.taken });
@@ -178,12 +142,6 @@ impl<S: Sink> Writer<S> {
     pub fn into_sink(self) -> S
         ensures { result ≡ self.sink }
     {
-        let Writer {
-            sink,
-            taken: _,
-            failed: _,
-            finished: _,
-        } = self;
-        sink
+        self.sink
     }
 }

@@ -1,23 +1,20 @@
-use Rattle.std.proofs.Common.{◌-◌, ◌+◌, ◌/◌, ◌<◌, ℕ, length, arith}
-use Rattle.std.proofs.lemmas.Option.{slice_get_within, slice_get-get_or}
+use Rattle.std.proofs.Common.{leb, rules, of_calls, arith}
+use Rattle.std.proofs.lemmas.Fn.{always_returns_same}
+use Rattle.bench_clock.specs.declared.clock.Mark.{Mark}
+use Rattle.bench_clock.proofs.Halves.{parted, some_before, last_before, none_behind}
 use Rattle.bench_clock.proofs.ruling.place_of.Goals as goal
 
-pub halving-init : goal.halving-init
-halving-init c = record {
-  order = c.requires.some;
-  within = omega arith;
-  from = c.requires.first;
-  last = λ j m le is. let within = slice_get_within c.args.marks.now j m is in absurd (omega (arith, within, le));
-}
+pub overflow_sub-result : goal.overflow_sub-result
+overflow_sub-result c =
+    let point = c.partition_point.ensures.partitioned (λ (m : Mark). leb m.counter c.args.stamp) (always_returns_same _ _ _ (λ a r f k. search (rules, of_calls))) (parted c.args.marks.now c.args.stamp c.requires.rising) in
+    omega (arith, some_before c.args.marks.now c.args.stamp c.partition_point.result point c.requires.some c.requires.first)
 
-pub halving-preserved : goal.halving-preserved
-halving-preserved c =
-    let middle : ℕ = c.halving.low + (c.halving.high - c.halving.low) / 2 in
-    let within : middle < length c.args.marks.now = omega (arith, c.halving-test.true, c.halving.invariant.within) in record {
-      order = omega (arith, c.halving-test.true);
-      within = omega (arith, c.halving-test.true, c.halving.invariant.within);
-      from = c.halving.invariant.from;
-      last = λ j m le is.
-          let later = c.requires.rising.order middle j _ m le (slice_get-get_or c.args.marks.now middle (record { counter = 0; second = 0 }) within) is in
-          omega (arith, c.if-marks-middle.false, later);
-    }
+pub returns-clause-from : goal.returns-clause-from
+returns-clause-from c m is =
+    let point = c.partition_point.ensures.partitioned (λ (m : Mark). leb m.counter c.args.stamp) (always_returns_same _ _ _ (λ a r f k. search (rules, of_calls))) (parted c.args.marks.now c.args.stamp c.requires.rising) in
+    last_before c.args.marks.now c.args.stamp c.partition_point.result point m (some_before c.args.marks.now c.args.stamp c.partition_point.result point c.requires.some c.requires.first) is
+
+pub returns-clause-last : goal.returns-clause-last
+returns-clause-last c j m lt is =
+    let point = c.partition_point.ensures.partitioned (λ (m : Mark). leb m.counter c.args.stamp) (always_returns_same _ _ _ (λ a r f k. search (rules, of_calls))) (parted c.args.marks.now c.args.stamp c.requires.rising) in
+    none_behind c.args.marks.now c.args.stamp c.partition_point.result point j m lt is

@@ -27,4 +27,4 @@ returns-in-Ok-None g c file is =
 
 pub returns-in-Err : goal.returns-in-Err
 returns-in-Err g c file is =
-    rw c.from.ensures (not_read c.args.clock.now file (g.W.Write.contents c.args.out.now) (g.W.Write.contents c.packets.out) c.packets.packets c.next.new.self c.in-Err.fault c.in-Err.ensures (c.packets.invariant.known file is))
+    not_read c.args.clock.now file (g.W.Write.contents c.args.out.now) (g.W.Write.contents c.packets.out) c.packets.packets c.next.new.self c.in-Err.fault c.in-Err.ensures (c.packets.invariant.known file is)

@@ -13,7 +13,7 @@ returns-in-Ok-clause-dumped g c file other is then read =
     same_clock _ (marks_in file (listing (found_in file))) c.dump_with_times_from.result other _ _ (c.in-Ok.ensures file is).1 (c.dump_with_times_from.ensures other then)
 
 pub returns-in-Err-clause-refused : goal.returns-in-Err-clause-refused
-returns-in-Err-clause-refused g c file r is refused = rw c.from.ensures (refl, first_fault file r c.in-Err.fault (c.in-Err.ensures file is) refused)
+returns-in-Err-clause-refused g c file r is refused = (refl, first_fault file r c.in-Err.fault (c.in-Err.ensures file is) refused)
 
 pub returns-in-Err-clause-dumped : goal.returns-in-Err-clause-dumped
-returns-in-Err-clause-dumped g c file other is then read = rw c.from.ensures (other_timed (marks_in file (listing (found_in file))) file other _ c.in-Err.fault (c.in-Err.ensures file is) read)
+returns-in-Err-clause-dumped g c file other is then read = other_timed (marks_in file (listing (found_in file))) file other _ c.in-Err.fault (c.in-Err.ensures file is) read

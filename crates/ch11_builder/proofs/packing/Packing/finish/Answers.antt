@@ -11,7 +11,7 @@ use Rattle.ch11_builder.proofs.packing.Packing.finish.Goals as goal
 pub invariant_of-self : goal.invariant_of-self
 invariant_of-self c =
     let some : 0 < length (records_of c.self.inside) = subst (λ (s : State). 0 < length s.held.records) (sym c.self.view_is) c.requires in
-    let now : c.log_of.result.value.0 ≡ [] = ap (λ v. v.0) c.log_of.ensures in
+    let now : c.none.result ≡ [] = c.none.ensures in
     let long : length c.seal-self-inside.new.buffer ≡ c.self.inside.limit = omega (arith, c.seal-self-inside.auto.buffer, ap length c.deref_mut.ensures.value, c.self.invariant.open_room) in
     let new = refilled c.self.inside.filling.len c.seal-self-inside.new.buffer c.self.inside.filling.items (long ∙ sym c.self.invariant.open_len) in
     record {
@@ -37,7 +37,7 @@ invariant_of-self c =
 
 pub returns : goal.returns
 returns c =
-    let now : c.log_of.result.value.0 ≡ [] = ap (λ v. v.0) c.log_of.ensures in
+    let now : c.none.result ≡ [] = c.none.ensures in
     let long : length c.seal-self-inside.new.buffer ≡ c.self.inside.limit = omega (arith, c.seal-self-inside.auto.buffer, ap length c.deref_mut.ensures.value, c.self.invariant.open_room) in
     let new = refilled c.self.inside.filling.len c.seal-self-inside.new.buffer c.self.inside.filling.items (long ∙ sym c.self.invariant.open_len) in
     let s : Held = (state_of c.self.inside).held in

@@ -16,7 +16,7 @@ invariant_of-self c =
     let n : Numbered = record { number = c.args.number; message = c.args.message.now } in
     let room : packet_length (records_of c.self.inside ++ n ∷ []) ≤ c.self.inside.limit = subst (λ (s : State). packet_length (s.held.records ++ n ∷ []) ≤ s.held.channel.limit) (sym c.self.view_is) c.requires.room in
     let above : last_number c.self.inside.before (records_of c.self.inside) < c.args.number = subst (λ (s : State). last_number s.held.before s.held.records < c.args.number) (sym c.self.view_is) c.requires.number in
-    let now : c.log_of.result.value.0 ≡ records_of c.self.inside ++ n ∷ [] = ap (λ v. v.0) c.log_of.ensures ∙ rw (c.of-2.ensures, c.log_of-log.ensures, c.of.ensures) refl in
+    let now : c.put_behind-2.result ≡ records_of c.self.inside ++ n ∷ [] = rw (c.put_behind-2.ensures, c.of.ensures) refl in
     let long : length c.put_behind-self-inside.new.buffer ≡ c.self.inside.limit = omega (arith, c.put_behind-self-inside.auto.buffer, ap length c.deref_mut.ensures.value, c.self.invariant.open_room) in
     let new = refilled c.self.inside.filling.len c.put_behind-self-inside.new.buffer c.self.inside.filling.items (long ∙ sym c.self.invariant.open_len) in
     record {

@@ -1,10 +1,10 @@
-use Rattle.std.proofs.Common.{◌≡◌, take, [], refl, ap, arith}
+use Rattle.std.proofs.Common.{◌≡◌, take, [], refl, arith}
 use Rattle.std.proofs.lemmas.List.{drop_all, length-take}
 use Rattle.ch11_builder.proofs.packing.Packing.make.Goals as goal
 
 pub invariant_of-result : goal.invariant_of-result
 invariant_of-result c =
-    let now : c.log_of.result.value.0 ≡ [] = ap (λ v. v.0) c.log_of.ensures in
+    let now : c.none.result ≡ [] = c.none.ensures in
     record {
       low = omega arith;
       high = omega arith;
