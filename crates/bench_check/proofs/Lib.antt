@@ -5,3 +5,4 @@ pub mod Heads
 pub mod Noted
 pub mod Overruns
 pub mod Played
+pub mod Tried

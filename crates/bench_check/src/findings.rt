@@ -35,35 +35,25 @@ pub struct Findings {
 }
 
 /// Prints what is probably a mistake, a line for each, and the room that the queue needs for nothing to be refused. The
-/// frames that may not fit into their period are those of the job's script.
+/// frames that may not fit into their period are those of the job's script. A summary begins with how many messages
+/// there are and how many of them have an error; among what is probably a mistake are then also subaddresses that
+/// transmit and were never filled, and messages that were answered with the message error bit and not sent again.
 pub fn print_findings<W: Write>(
     alloc: Global,
     job: &Job,
     findings: &Findings,
     tight: &[Tight],
+    is_summary: bool,
     out: &mut W,
 ) -> Result<(), WriteFault> {
     let mut text = String::new(alloc);
     put_mistakes(&mut text, job, findings, tight)?;
-    print_mistakes(text.as_bytes(), findings, out)
-}
-
-/// Prints how many messages there are, how many of them have an error, and the same as `print_findings`; among what is
-/// probably a mistake are also subaddresses that transmit and were never filled, and messages that were answered with
-/// the message error bit and not sent again.
-pub fn print_summary<W: Write>(
-    alloc: Global,
-    job: &Job,
-    findings: &Findings,
-    tight: &[Tight],
-    out: &mut W,
-) -> Result<(), WriteFault> {
-    let mut text = String::new(alloc);
-    put_mistakes(&mut text, job, findings, tight)?;
-    put_unfilled(&mut text, job, &findings.oddities)?;
-    put_left(&mut text, &findings.oddities)?;
-    let (made, failed) = (findings.made, findings.oddities.failed());
-    writeln!(out, "messages {made}, with an error {failed}")?;
+    if is_summary {
+        put_unfilled(&mut text, job, &findings.oddities)?;
+        put_left(&mut text, &findings.oddities)?;
+        let (made, failed) = (findings.made, findings.oddities.failed());
+        writeln!(out, "messages {made}, with an error {failed}")?;
+    }
     print_mistakes(text.as_bytes(), findings, out)
 }
 

@@ -16,7 +16,7 @@ mod trying;
 
 pub use calls::Calls;
 pub use filling::Filled;
-pub use findings::{Findings, print_findings, print_summary};
+pub use findings::{Findings, print_findings};
 pub use fitting::{Tight, tight_frames};
 pub use frames::Overrun;
 pub use meeting::meets;

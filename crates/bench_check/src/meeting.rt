@@ -60,6 +60,21 @@ fn earlier(alloc: Global, faults: &[Fault], run: u32) -> Result<Vec<Fault>, Allo
     Ok(kept)
 }
 
+/// How many words a run of a message that is coming has under these faults. It fails for want of memory alone.
+fn words_under(coming: &Upcoming, faults: &[Fault], run: u32) -> Result<usize, AllocError>
+    requires clock { now_of coming.now.bus < 2 ^ 60 }
+    requires start { coming.now.talk.start ≡ talk_start coming.now.bus coming.now.gap }
+    requires in_range { list_all is_in_range faults.now ≡ true }
+    ensures { IfOk result
+        (λ n. n ≡ length (spec.words_of run (spec.sent_under coming.now.bus coming.now.talk faults.now))) }
+{
+    let mut bus = coming.bus.copy()?;
+    let talk = &coming.talk;
+    let played = bus.exchange(talk.line, &talk.message, coming.gap, faults);
+    let sent = played.sent.list();
+    Ok(count_of(sent.as_slice(), run))
+}
+
 /// Whether a fault that is planned for a message meets something: its run comes about, and has its word. The faults
 /// are all that are planned for the message. It fails for want of memory alone.
 pub fn meets(
@@ -75,9 +90,6 @@ pub fn meets(
 {
     let run = run_of(fault);
     let before = earlier(alloc, faults, run)?;
-    let mut bus = coming.bus.copy()?;
-    let talk = &coming.talk;
-    let played = bus.exchange(talk.line, &talk.message, coming.gap, before.as_slice());
-    let sent = played.sent.list();
-    Ok(is_there(count_of(sent.as_slice(), run), fault))
+    let words = words_under(coming, before.as_slice(), run)?;
+    Ok(is_there(words, fault))
 }

@@ -21,6 +21,15 @@ pub enum Bits {
 /// The bits of a status word that have no terminal address (MIL-STD-1553B 4.3.3.5.3).
 const PLACES: u16 = 11;
 
+/// The line and form of a message in a script's words.
+fn words_of(alloc: Global, talk: &Talk) -> Result<String, AllocError> {
+    let frame = Frame::Send {
+        line: talk.line,
+        message: talk.message.copy(),
+    };
+    print::<Global>(alloc, &frame)
+}
+
 /// Puts the line of a message: its number, its time, and its line and form in a script's words.
 pub(crate) fn put_message(
     alloc: Global,
@@ -29,12 +38,9 @@ pub(crate) fn put_message(
     talk: &Talk,
 ) -> Result<(), AllocError> {
     let (whole, part) = (talk.start / 10, talk.start % 10);
-    let frame = Frame::Send {
-        line: talk.line,
-        message: talk.message.copy(),
-    };
-    let words = print::<Global>(alloc, &frame)?;
-    write!(text, "message {number} at {whole}.{part} us: {words}")
+    write!(text, "message {number} at {whole}.{part} us: ")?;
+    let words = words_of(alloc, talk)?;
+    text.push_str(words.as_str())
 }
 
 /// Puts a line for each action that is placed at a message, as it stands in a job, where numbers never fall.

@@ -2,13 +2,14 @@
 ghost use Rattle.bc_machine.specs.Rising.{IsRising};
 ghost use Rattle.bench_check.specs.Meeting.{meets as is_met};
 ghost use Rattle.bench_check.specs.Overruns.{overruns, overruns_at};
+ghost use Rattle.bench_check.specs.Trying.{IsTried, StepsOn, HasEnded};
 ghost use Rattle.bench_check.specs.Unmet as spec;
 ghost use Rattle.job_file.specs.Rooms.{most_items};
 ghost use Rattle.mil_bus.specs.Exchange.{now_of, talk_start};
 ghost use Rattle.mil_line.specs.Plans.{faults_of};
 ghost use Rattle.mil_line.specs.Ranges.{is_in_range};
 ghost use Rattle.std.specs.List.{filter, list_all};
-ghost use Rattle.std.specs.Prelude.{◌≡◌, ◌++◌, ◌+◌, ◌-◌, ◌<◌, ◌≤◌, ◌^◌, true, not, IfOk, OnOk};
+ghost use Rattle.std.specs.Prelude.{◌≡◌, ◌++◌, ◌+◌, ◌-◌, ◌<◌, ◌≤◌, ◌^◌, true, false, not, IfOk, OnOk};
 
 use crate::calls::Calls;
 use crate::filling::Filled;
@@ -31,6 +32,15 @@ struct Told {
     bits: Bits,
     calls: Calls,
     oddities: Oddities,
+}
+
+/// A job that is tried: its controller, and what was found so far.
+#[derive(Drop)]
+struct Trial {
+    machine: Machine,
+    unmet: Vec<(u32, Fault)>,
+    overruns: Vec<Overrun>,
+    told: Told,
 }
 
 /// Puts a line for each fault that is planned for a message, and keeps those that meet nothing.
@@ -144,6 +154,94 @@ fn close<W: Write>(
     Ok(())
 }
 
+impl Trial {
+    /// A job before any message.
+    fn begin(alloc: Global, job: &Job, bits: Bits) -> Result<Trial, AllocError>
+        ensures { IfOk result (λ t. IsTried job.now t) }
+    {
+        let machine = job.machine(alloc, job.actions())?;
+        let unmet = Vec::new(alloc);
+        let overruns = Vec::new(alloc);
+        let told = Told {
+            bits,
+            calls: Calls::none(),
+            oddities: Oddities::none(),
+        };
+        Ok(Trial {
+            machine,
+            unmet,
+            overruns,
+            told,
+        })
+    }
+
+    /// Makes one step, prints the lines of its message and of the frame that it closes, and answers whether there are
+    /// more.
+    fn step<W: Write>(
+        &mut self,
+        alloc: Global,
+        job: &Job,
+        filled: &Filled,
+        out: &mut W,
+    ) -> Result<bool, WriteFault>
+        requires rising { IsRising filled.now }
+        requires tried { IsTried job.now self.old }
+        ensures on { IfOk result (λ more. more ≡ true → StepsOn job.now self.old self.new) }
+        ensures ends { IfOk result (λ more. more ≡ false → HasEnded job.now self.new) }
+    {
+        job_runs();
+        let _sound = job.program();
+        close(alloc, &mut self.overruns, &self.machine, out)?;
+        match self.machine.upcoming()? {
+            Some(coming) => {
+                let number = self.machine.number() + 1;
+                note(
+                    alloc,
+                    job,
+                    filled,
+                    number,
+                    &coming,
+                    &mut self.unmet,
+                    &mut self.told,
+                    out,
+                )?;
+                let _ = self.machine.step();
+                Ok(true)
+            }
+            None => match self.machine.step() {
+                Stepped::Halted => Ok(false),
+                Stepped::Ran => Ok(true),
+                Stepped::Sent(_) => Ok(true),
+            },
+        }
+    }
+
+    /// Makes all steps.
+    fn run<W: Write>(
+        &mut self,
+        alloc: Global,
+        job: &Job,
+        filled: &Filled,
+        out: &mut W,
+    ) -> Result<(), WriteFault>
+        requires rising { IsRising filled.now }
+        requires tried { IsTried job.now self.old }
+        ensures made { OnOk result (self.new.machine.point.number ≡ spec.made job.now) }
+        ensures unmet { OnOk result (self.new.unmet.items ≡ spec.unmet job.now) }
+        ensures overruns { OnOk result (self.new.overruns.items ≡ overruns job.now) }
+    {
+        'steps: loop {
+            let more = self.step(alloc, job, filled, out)?;
+            if !more {
+                break;
+            }
+        }
+        add_never_sent(&mut self.unmet, job.plan(), self.machine.number())?;
+        self.told.oddities.finish();
+        Ok(())
+    }
+}
+
 /// Tries a job: prints each of its messages, with the actions that are placed at it, the faults that are planned for it
 /// and what it comes to, and behind each frame with a period what time was left of it; and answers what was found. It
 /// fails for want of memory, and where the writer does.
@@ -158,43 +256,16 @@ pub fn try_job<W: Write>(
     ensures room { IfOk result (λ f. f.room ≡ most_items job.now) }
     ensures overruns { IfOk result (λ f. f.overruns.items ≡ overruns job.now) }
 {
-    job_runs();
     let room = job.program().worst_messages() + 1;
     let filled = filled_by(job)?;
-    let mut told = Told {
-        bits,
-        calls: Calls::none(),
-        oddities: Oddities::none(),
-    };
-    let mut unmet = Vec::new(alloc);
-    let mut overruns = Vec::new(alloc);
-    let mut machine = job.machine(alloc, job.actions())?;
-    'steps: loop {
-        close(alloc, &mut overruns, &machine, out)?;
-        match machine.upcoming()? {
-            Some(coming) => {
-                let number = machine.number() + 1;
-                note(
-                    alloc, job, &filled, number, &coming, &mut unmet, &mut told, out,
-                )?;
-                let _ = machine.step();
-            }
-            None => match machine.step() {
-                Stepped::Halted => break,
-                Stepped::Ran => {}
-                Stepped::Sent(_) => {}
-            },
-        }
-    }
-    let made = machine.number();
-    add_never_sent(&mut unmet, job.plan(), made)?;
-    told.oddities.finish();
+    let mut trial = Trial::begin(alloc, job, bits)?;
+    trial.run(alloc, job, &filled, out)?;
     Ok(Findings {
-        made,
-        unmet,
-        overruns,
-        calls: told.calls,
-        oddities: told.oddities,
+        made: trial.machine.number(),
+        unmet: trial.unmet,
+        overruns: trial.overruns,
+        calls: trial.told.calls,
+        oddities: trial.told.oddities,
         room,
     })
 }

@@ -1,8 +1,9 @@
 //! The text of a report.
-ghost use Rattle.bench_report.specs.Printing.{report_text};
+ghost use Rattle.bench_report.specs.Printing.{report_text, refused_text, placed_text, part_text};
 ghost use Rattle.bench_report.specs.Spelling.{Spells};
 ghost use Rattle.std.specs.Io.KnownBytes.{Appends};
-ghost use Rattle.std.specs.Prelude.{◌≡◌, IfOk, OnOk, string_bytes};
+ghost use Rattle.std.specs.List.{flat_map};
+ghost use Rattle.std.specs.Prelude.{◌≡◌, IfOk, OnOk, string_bytes, Some};
 
 use crate::channels::ChannelReport;
 use crate::reports::Report;
@@ -39,10 +40,6 @@ pub fn write_report<W: Write>(out: &mut W, report: &Report) -> io::Result<()>
 struct RefusedLines<'a>(&'a [u32]);
 
 impl fmt::Display for RefusedLines<'_> {
-    ghost use Rattle.bench_report.specs.Printing.{refused_text};
-    ghost use Rattle.std.specs.List.{flat_map};
-    ghost use Rattle.std.specs.Prelude.{Some};
-
     ghost output = { λ r. Some (flat_map refused_text r.0.now) };
 
     fn fmt<W: fmt::Write>(&self, f: &mut fmt::Formatter<W>) -> fmt::Result {
@@ -58,10 +55,6 @@ impl fmt::Display for RefusedLines<'_> {
 struct PlacedLines<'a>(&'a Actions);
 
 impl fmt::Display for PlacedLines<'_> {
-    ghost use Rattle.bench_report.specs.Printing.{placed_text};
-    ghost use Rattle.std.specs.List.{flat_map};
-    ghost use Rattle.std.specs.Prelude.{Some};
-
     ghost output = { λ p. Some (flat_map placed_text p.0.now) };
 
     fn fmt<W: fmt::Write>(&self, f: &mut fmt::Formatter<W>) -> fmt::Result {
@@ -78,9 +71,6 @@ impl fmt::Display for PlacedLines<'_> {
 
 /// The lines of a channel.
 impl fmt::Display for ChannelReport {
-    ghost use Rattle.bench_report.specs.Printing.{part_text};
-    ghost use Rattle.std.specs.Prelude.{Some};
-
     ghost output = { λ c. Some (part_text c) };
 
     fn fmt<W: fmt::Write>(&self, f: &mut fmt::Formatter<W>) -> fmt::Result {
@@ -97,10 +87,6 @@ impl fmt::Display for ChannelReport {
 struct Channels<'a>(&'a [ChannelReport]);
 
 impl fmt::Display for Channels<'_> {
-    ghost use Rattle.bench_report.specs.Printing.{part_text};
-    ghost use Rattle.std.specs.List.{flat_map};
-    ghost use Rattle.std.specs.Prelude.{Some};
-
     ghost output = { λ c. Some (flat_map part_text c.0.now) };
 
     fn fmt<W: fmt::Write>(&self, f: &mut fmt::Formatter<W>) -> fmt::Result {
@@ -113,9 +99,6 @@ impl fmt::Display for Channels<'_> {
 
 /// The report as its text.
 impl fmt::Display for Report {
-    ghost use Rattle.bench_report.specs.Printing.{report_text};
-    ghost use Rattle.std.specs.Prelude.{Some};
-
     ghost output = { λ r. Some (report_text r) };
 
     fn fmt<W: fmt::Write>(&self, f: &mut fmt::Formatter<W>) -> fmt::Result {

@@ -19,6 +19,7 @@ use Rattle.bc_machine.specs.contracts.schedule.Schedule as schedule
 use Rattle.bc_machine.specs.contracts.stack.Stack as stack
 use Rattle.bc_machine.specs.contracts.stack.Stack.TheInside as inside
 use Rattle.mil_bus.specs.contracts.outcomes.Outcome as outcome
+use Rattle.bc_machine.specs.contracts.progress.Progress as progress
 use Rattle.bc_machine.specs.contracts.parts.Parts as parts
 use Rattle.bc_machine.specs.contracts.parts.Parts.TheInside as parts_inside
 use Rattle.bc_machine.specs.contracts.machine.Machine as machine
@@ -70,8 +71,11 @@ stack_send T N given sent =
 outcome_send : IsSend outcome.the_row
 outcome_send = search (sendable, crosses) depth 40 fits 10000
 
+progress_send : IsSend progress.the_row
+progress_send = declared_send progress.the_type ((search (sendable, crosses) depth 40 fits 20000), ((search (sendable, crosses) depth 40 fits 20000), ((search (stack_send, sendable, crosses) depth 40 fits 20000), ((search (stack_send, sendable, crosses) depth 40 fits 20000), ((search (stack_send, sendable, crosses) depth 40 fits 20000), ((search (sendable, crosses) depth 40 fits 20000), ((search (sendable, crosses) depth 40 fits 20000), ((search (sendable, crosses) depth 40 fits 20000), ((search (sendable, crosses) depth 40 fits 20000), ((search (outcome_send, sendable, crosses) depth 40 fits 20000), tt))))))))))
+
 parts_send : IsSend parts.the_row
-parts_send = view_send parts_inside.the_row _ _ _ _ (declared_send parts_inside.the_type ((search (program_send, sendable, crosses) depth 40 fits 20000), ((search (plan_send, sendable, crosses) depth 40 fits 20000), ((search (schedule_send, sendable, crosses) depth 40 fits 20000), ((search (schedule_send, sendable, crosses) depth 40 fits 20000), ((search (sendable, crosses) depth 40 fits 20000), ((search (sendable, crosses) depth 40 fits 20000), ((search (sendable, crosses) depth 40 fits 20000), ((search (stack_send, sendable, crosses) depth 40 fits 20000), ((search (stack_send, sendable, crosses) depth 40 fits 20000), ((search (stack_send, sendable, crosses) depth 40 fits 20000), ((search (sendable, crosses) depth 40 fits 20000), ((search (sendable, crosses) depth 40 fits 20000), ((search (bus_send, sendable, crosses) depth 40 fits 20000), ((search (sendable, crosses) depth 40 fits 20000), ((search (sendable, crosses) depth 40 fits 20000), ((search (outcome_send, sendable, crosses) depth 40 fits 20000), ((search (sendable, crosses) depth 40 fits 20000), tt))))))))))))))))))
+parts_send = view_send parts_inside.the_row _ _ _ _ (declared_send parts_inside.the_type ((search (program_send, sendable, crosses) depth 40 fits 20000), ((search (plan_send, sendable, crosses) depth 40 fits 20000), ((search (schedule_send, sendable, crosses) depth 40 fits 20000), ((search (schedule_send, sendable, crosses) depth 40 fits 20000), ((search (sendable, crosses) depth 40 fits 20000), ((search (progress_send, sendable, crosses) depth 40 fits 20000), ((search (bus_send, sendable, crosses) depth 40 fits 20000), ((search (sendable, crosses) depth 40 fits 20000), tt)))))))))
 
 pub machine_send : IsSend machine.the_row
 machine_send = search (parts_send, sendable, crosses) depth 40 fits 10000

@@ -1,23 +1,28 @@
 -- The end of a run: every channel has ended, and the writer has received all that was sent.
-use Rattle.std.specs.Prelude.{◌≡◌, ℕ, ◌<◌, ◌≤◌, true, List, [], Some, length, map, slice_get}
+use Rattle.std.specs.Prelude.{◌≡◌, ℕ, ◌<◌, ◌≤◌, Bool, true, List, [], Option, Some, length, map, slice_get}
 use Rattle.std.specs.List.{AllByRecursion}
 use Rattle.job_file.specs.Jobs.{JobState}
 use Rattle.mil_trunk.specs.Views.{with_tag}
 use Rattle.mil_trunk.specs.Tags.{has}
 use Rattle.mil_trunk.specs.Ends.{IsTicketOf, IsTakerOf, capacity_of, tags_of, bounds_of, bounds_in, sent, received}
 use Rattle.bench_report.specs.Reports.{ChannelPart}
-use Rattle.bench_core.specs.Lawful.{channels_of}
+use Rattle.ch11_recording.specs.Recording.{Recording}
+use Rattle.bench_core.specs.declared.settings.Settings.{Settings}
+use Rattle.bench_core.specs.Lawful.{AreLawful, channels_of, format_of}
 use Rattle.bench_core.specs.Settled.{kept_records}
 use Rattle.bench_run.specs.declared.entry.Entry.{Entry}
 use Rattle.bench_run.specs.Entries.{index_of, entries_to_the_end}
+use Rattle.bench_run.specs.declared.ending.Before.{Before}
 use Rattle.bench_run.specs.declared.ready.Shared.{Shared}
 use Rattle.bench_run.specs.declared.ready.Own.{Own}
 use Rattle.bench_run.specs.declared.channel.Room.{Room}
 use Rattle.bench_mail.specs.declared.mailbox.Inbox.{Inbox}
+use Rattle.bench_mail.specs.declared.mailbox.Mailbox.{Mailbox}
 use Rattle.bench_run.specs.Runs.{ArePairs, records_of, most_in_all}
 use Rattle.job_file.specs.Rooms.{most_items}
 use Rattle.bench_run.specs.Threads.{IsRoom, IsCountedIn}
-use Rattle.bench_run.specs.Live.{AreLive}
+use Rattle.bench_run.specs.Live.{AreLive, AreInboxesOf}
+use Rattle.bench_run.specs.Writer.{IsLogged}
 
 -- what the writer received: of each job its records but for the refused, and its end mark, and nothing else
 pub record IsAll (capacity : ℕ) (jobs : List JobState) (parts : List ChannelPart) (got : List Entry) : Type 0 where
@@ -50,3 +55,15 @@ pub record IsReady (capacity : ℕ) (jobs : List JobState) (most : ℕ) (inboxes
   pub inboxes_are : map (λ (room : Room). room.posts.inbox) own.rooms.items ≡ inboxes
   pub most_are : AllByRecursion (λ (room : Room). room.posts.left ≡ most) own.rooms.items
   pub channels : shared.channels.items ≡ channels_of jobs
+
+-- What the threads of a run begin with: lawful jobs with a mailbox and an inbox each, all that the threads need, and a
+-- recording of the prologue alone.
+pub record MayStart {S : Type 0} (taken : S → Option (List ℕ)) (failures : S → ℕ) (jobs : List JobState) (s : Settings)
+    (boxes : List Mailbox) (before : Before S) (shared : Shared) (own : Own) (recorder : Recording S)
+    (whole : Bool) : Type 0 where
+  pub lawful : AreLawful jobs s
+  pub mailboxes : length boxes ≡ length jobs
+  pub ends : AreInboxesOf boxes before.inboxes.value.items
+  pub ready : IsReady s.queue jobs before.most before.inboxes.value.items shared own
+  pub logged : IsLogged taken failures (format_of s) s.prologue.items before.sink.value (channels_of jobs) [] recorder
+      whole

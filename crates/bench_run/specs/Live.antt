@@ -2,6 +2,8 @@
 -- mailbox, and places each at that message, behind what is placed there. A live run is a run of the jobs with these
 -- actions besides their own.
 use Rattle.std.specs.Prelude.{◌≡◌, ℕ, ◌+◌, ◌<◌, ◌≤◌, List, [], ◌++◌, length, map, take, slice_get, Option, Some}
+use Rattle.std.specs.Prelude.{Result, IfOk, IfErr}
+use Rattle.std.specs.Global.{Vec}
 use Rattle.std.specs.List.{AllByRecursion}
 use Rattle.mil_host.specs.declared.actions.Action.{Action}
 use Rattle.bc_machine.specs.declared.placed.Placed.{Placed}
@@ -15,10 +17,11 @@ use Rattle.bench_core.specs.Lawful.{AreInRange, AreLawful, channels_of}
 use Rattle.bench_mail.specs.declared.mailbox.Post.{Post}
 use Rattle.bench_mail.specs.declared.mailbox.Mailbox.{Mailbox}
 use Rattle.bench_mail.specs.declared.mailbox.Inbox.{Inbox}
+use Rattle.bench_run.specs.declared.error.LiveError.{LiveError}
 use Rattle.bench_run.specs.declared.error.RunError.{RunError}
 use Rattle.bench_run.specs.declared.error.RunError.TheVariants as fault
 use Rattle.bench_mail.specs.Mail.{received_by, IsInboxOf, IsMadeFor}
-use Rattle.bench_run.specs.Runs.{ArePairs, Ran, TookPart, IsCut}
+use Rattle.bench_run.specs.Runs.{ArePairs, Ran, RefusesNoneWithRoom, TookPart, IsCut}
 
 -- a job with actions besides its own; at one number its own come first
 abbrev pub with_posts : JobState → List Placed → JobState
@@ -100,6 +103,17 @@ LeavesLate taken failures most jobs s inboxes before (fault.Sink sink report cou
     × ((lives : List JobState) × AreLive most jobs inboxes back report.channels lives
     × IsCut taken lives s before report count sink)
 LeavesLate taken failures most jobs s inboxes before other back = ⊥
+
+-- What the threads of a run of lawful jobs answer, in one statement: a finished run whose inboxes are those of the
+-- mailboxes, and which refused none where the queue had room for all; or a late refusal and the inboxes that come back.
+pub record RanLiveOrLeft {S : Type 0} (taken : S → Option (List ℕ)) (failures : S → ℕ) (most : ℕ) (jobs : List JobState)
+    (s : Settings) (boxes : List Mailbox) (inboxes : List Inbox) (before : S)
+    (answer : Result (RunReport × Vec Inbox × S) (LiveError S)) : Type 0 where
+  pub ran : IfOk answer (λ r. RanLive taken most jobs s inboxes before r.0 r.1.items r.2)
+  pub ends : IfOk answer (λ r. AreInboxesOf boxes r.1.items)
+  pub room : IfOk answer (λ r. RefusesNoneWithRoom jobs s r.0)
+  pub refused : IfErr answer (λ e. LeavesLate taken failures most jobs s inboxes before e.fault e.inboxes.items)
+  pub back : IfErr answer (λ e. AreInboxesOf boxes e.inboxes.items)
 
 -- What a refusal says and leaves, as of a run: a missing mailbox or inbox, or one of another job, counts with the
 -- settings, so every other refusal says that the mailboxes and inboxes were those of the jobs.

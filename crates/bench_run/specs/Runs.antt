@@ -1,6 +1,6 @@
 -- What a run of jobs came to (own choice): the items that the writer took, the file of these, and the report.
 use Rattle.std.specs.Prelude.{◌≡◌, ◌≢◌, ℕ, ◌+◌, ◌-◌, ◌<◌, ◌≤◌, ◌==◌, not, List, [], ◌∷◌, length, map, sum, take, Option}
-use Rattle.std.specs.Prelude.{Ok}
+use Rattle.std.specs.Prelude.{Result, Ok, IfOk, IfErr, OnOk}
 use Rattle.std.specs.List.{AllByRecursion, filter}
 use Rattle.std.specs.Io.KnownBytes.{Appends}
 use Rattle.mil_monitor.specs.declared.Record.{Record}
@@ -124,3 +124,12 @@ Leaves taken failures jobs s before (fault.Memory sink) =
     AreLawful jobs s × ((items : List Item) × (count : ℕ) × TookPart taken s items count before sink)
 Leaves taken failures jobs s before (fault.Sink sink report count) =
     AreLawful jobs s × (failures before < failures sink) × IsCut taken jobs s before report count sink
+
+-- What a run answers, in one statement: where it ends well its jobs and settings were lawful, the sink took the file of
+-- a finished run, and a queue with room for all refused none; else this is what the refusal leaves.
+pub record RanOrLeft {S : Type 0} (taken : S → Option (List ℕ)) (failures : S → ℕ) (jobs : List JobState) (s : Settings)
+    (before : S) (answer : Result (RunReport × S) (RunError S)) : Type 0 where
+  pub lawful : OnOk answer (AreLawful jobs s)
+  pub ran : IfOk answer (λ r. Ran taken jobs s before r.0 r.1)
+  pub room : IfOk answer (λ r. RefusesNoneWithRoom jobs s r.0)
+  pub refused : IfErr answer (Leaves taken failures jobs s before)

@@ -1,5 +1,6 @@
 //! Why a run gave no recording.
-ghost use Rattle.std.specs.Prelude.{◌≡◌, []};
+ghost use Rattle.bench_run.specs.Codes.{run_code};
+ghost use Rattle.std.specs.Prelude.{◌≡◌, [], Some};
 
 use bench_mail::Inbox;
 use bench_report::Report;
@@ -26,9 +27,6 @@ pub enum RunError<S> {
 
 /// `U2`, `U1`, `U5`, `U3`, `U4 taken 100`.
 impl<S> Display for RunError<S> {
-    ghost use Rattle.bench_run.specs.Codes.{run_code};
-    ghost use Rattle.std.specs.Prelude.{Some};
-
     ghost output = { λ e. Some (run_code e) };
 
     fn fmt<W: Write>(&self, f: &mut Formatter<W>) -> fmt::Result {
@@ -64,9 +62,6 @@ impl<S> LiveError<S> {
 
 /// What the fault prints.
 impl<S> Display for LiveError<S> {
-    ghost use Rattle.bench_run.specs.Codes.{run_code};
-    ghost use Rattle.std.specs.Prelude.{Some};
-
     ghost output = { λ e. Some (run_code e.fault) };
 
     fn fmt<W: Write>(&self, f: &mut Formatter<W>) -> fmt::Result {

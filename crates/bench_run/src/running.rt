@@ -2,7 +2,7 @@
 ghost use Rattle.bench_core.specs.Lawful.{AreLawful};
 ghost use Rattle.bench_mail.specs.Mail.{IsMadeFor};
 ghost use Rattle.bench_mail.specs.declared.mailbox.Mailbox.{Mailbox};
-ghost use Rattle.bench_run.specs.Live.{AreInboxesOf, HaveMail, RanLive, LeavesLate, LeavesLive};
+ghost use Rattle.bench_run.specs.Live.{AreInboxesOf, HaveMail, RanLive, RanLiveOrLeft, LeavesLive};
 ghost use Rattle.bench_run.specs.Runs.{ArePairs, Ran, RefusesNoneWithRoom, Leaves};
 ghost use Rattle.std.specs.Prelude.{◌≡◌, ◌-◌, ◌<◌, ◌^◌, length, vec_len, IfOk, IfErr, OnOk, IsTrue};
 
@@ -22,30 +22,36 @@ use std::snapshot::Snapshot;
 use std::sync::Wait;
 use std::thread::Threads;
 
-/// Runs lawful jobs, and takes at most `most` posts from each inbox.
+/// The mailboxes and inboxes of a run, in the order of its jobs, and how many posts may be taken from each.
+struct Mail<'b> {
+    boxes: &'b [Mailbox],
+    inboxes: Vec<Inbox>,
+    most: u32,
+}
+
+/// Runs lawful jobs.
 fn run_lawful<R: Threads + Wait + Sync, G: Gate, S: Sink + Drop>(
     rt: &R,
     alloc: Global,
     jobs: &[Job],
     settings: &Settings,
-    boxes: &[Mailbox],
-    inboxes: Vec<Inbox>,
-    most: u32,
+    mail: Mail<'_>,
     gate: &G,
     sink: S,
 ) -> Result<(Report, Vec<Inbox>, S), LiveError<S>>
     requires lawful { AreLawful jobs.now settings.now }
     requires countable { S.failures sink < 2 ^ 64 - 1 }
-    requires boxes { length boxes.now ≡ length jobs.now }
-    requires inboxes { length jobs.now ≡ vec_len inboxes }
-    requires ends { AreInboxesOf boxes.now inboxes.items }
-    ensures ran { IfOk result (λ r. RanLive S.taken most jobs.now settings.now inboxes.items sink r.0 r.1.items r.2) }
-    ensures ends { IfOk result (λ r. AreInboxesOf boxes.now r.1.items) }
-    ensures room { IfOk result (λ r. RefusesNoneWithRoom jobs.now settings.now r.0) }
-    ensures refused { IfErr result
-        (λ e. LeavesLate S.taken S.failures most jobs.now settings.now inboxes.items sink e.fault e.inboxes.items) }
-    ensures back { IfErr result (λ e. AreInboxesOf boxes.now e.inboxes.items) }
+    requires boxes { length mail.boxes.now ≡ length jobs.now }
+    requires inboxes { length jobs.now ≡ vec_len mail.inboxes }
+    requires ends { AreInboxesOf mail.boxes.now mail.inboxes.items }
+    ensures { RanLiveOrLeft S.taken S.failures mail.entry.most jobs.now settings.now mail.entry.boxes.now
+        mail.entry.inboxes.items sink result }
 {
+    let Mail {
+        boxes,
+        inboxes,
+        most,
+    } = mail;
     let before = Before {
         most,
         inboxes: Snapshot::of(&inboxes),
@@ -122,7 +128,12 @@ pub fn run<R: Threads + Wait + Sync, G: Gate, S: Sink + Drop>(
     let Ok((boxes, inboxes)) = no_posts(alloc, jobs) else {
         return Err(RunError::Memory { sink });
     };
-    match run_lawful(rt, alloc, jobs, settings, &boxes, inboxes, 0, gate, sink) {
+    let mail = Mail {
+        boxes: &boxes,
+        inboxes,
+        most: 0,
+    };
+    match run_lawful(rt, alloc, jobs, settings, mail, gate, sink) {
         Ok((report, _, sink)) => Ok((report, sink)),
         Err(LiveError { fault, .. }) => Err(fault),
     }
@@ -192,8 +203,12 @@ pub fn run_live<R: Threads + Wait + Sync, G: Gate, S: Sink + Drop>(
     }
     let fault = match judge(jobs, settings) {
         Ok(()) => {
-            let most = settings.posts;
-            return run_lawful(rt, alloc, jobs, settings, boxes, inboxes, most, gate, sink);
+            let mail = Mail {
+                boxes,
+                inboxes,
+                most: settings.posts,
+            };
+            return run_lawful(rt, alloc, jobs, settings, mail, gate, sink);
         }
         Err(WorldError::Settings) => RunError::Settings { sink },
         Err(WorldError::ChannelTwice) => RunError::ChannelTwice { sink },

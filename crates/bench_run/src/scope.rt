@@ -1,11 +1,10 @@
 //! The threads of a run in their scope, while the calling thread writes.
 ghost use Rattle.bench_core.specs.Lawful.{AreLawful, channels_of, format_of};
-ghost use Rattle.bench_run.specs.Ending.{IsReady};
-ghost use Rattle.bench_run.specs.Live.{AreInboxesOf, RanLive, LeavesLate};
-ghost use Rattle.bench_run.specs.Runs.{RefusesNoneWithRoom};
+ghost use Rattle.bench_run.specs.Ending.{IsReady, MayStart};
+ghost use Rattle.bench_run.specs.Live.{AreInboxesOf, RanLiveOrLeft};
 ghost use Rattle.bench_run.specs.Writer.{IsLogged};
 ghost use Rattle.ch11_recording.specs.Recording.{IsRecordingOf};
-ghost use Rattle.std.specs.Prelude.{◌≡◌, ◌≤◌, [], false, length, vec_capacity, IfOk, IfErr};
+ghost use Rattle.std.specs.Prelude.{◌≡◌, ◌≤◌, [], false, length, vec_capacity, IfOk};
 
 use crate::channel::Ended;
 use crate::ending::{Before, conclude, stopped};
@@ -89,21 +88,10 @@ fn on_threads<'s, E, R: Threads + Wait + Sync, G: Gate, S: Sink + Drop>(
     own: Own,
     log: Log<S>,
 ) -> Result<(Report, Vec<Inbox>, S), LiveError<S>>
-    requires lawful { AreLawful jobs.now settings.now }
-    requires boxes { length boxes.now ≡ length jobs.now }
-    requires ends { AreInboxesOf boxes.now before.inboxes.value.items }
-    requires ready { IsReady settings.now.queue jobs.now before.most before.inboxes.value.items shared.now own }
-    requires logged { IsLogged S.taken S.failures
-        (format_of settings.now) settings.now.prologue.items before.sink.value
-        (channels_of jobs.now) [] log.recorder log.whole }
-    ensures ran { IfOk result (λ r. RanLive S.taken before.most jobs.now settings.now before.inboxes.value.items
-        before.sink.value r.0 r.1.items r.2) }
-    ensures ends { IfOk result (λ r. AreInboxesOf boxes.now r.1.items) }
-    ensures room { IfOk result (λ r. RefusesNoneWithRoom jobs.now settings.now r.0) }
-    ensures refused { IfErr result
-        (λ e. LeavesLate S.taken S.failures before.most jobs.now settings.now before.inboxes.value.items
-        before.sink.value e.fault e.inboxes.items) }
-    ensures back { IfErr result (λ e. AreInboxesOf boxes.now e.inboxes.items) }
+    requires { MayStart S.taken S.failures jobs.now settings.now boxes.now before shared.now own log.recorder
+        log.whole }
+    ensures { RanLiveOrLeft S.taken S.failures before.most jobs.now settings.now boxes.now
+        before.inboxes.value.items before.sink.value result }
 {
     let (mut rest, mut taker, mut log) = (own.ticket, own.taker, log);
     let Ok(lists) = make_lists(alloc, jobs.len()) else {
@@ -164,31 +152,17 @@ pub(crate) fn run_ready<R: Threads + Wait + Sync, G: Gate, S: Sink + Drop>(
     requires logged { IsLogged S.taken S.failures
         (format_of settings.now) settings.now.prologue.items before.sink.value
         (channels_of jobs.now) [] log.recorder log.whole }
-    ensures ran { IfOk result (λ r. RanLive S.taken before.most jobs.now settings.now before.inboxes.value.items
-        before.sink.value r.0 r.1.items r.2) }
-    ensures ends { IfOk result (λ r. AreInboxesOf boxes.now r.1.items) }
-    ensures room { IfOk result (λ r. RefusesNoneWithRoom jobs.now settings.now r.0) }
-    ensures refused { IfErr result
-        (λ e. LeavesLate S.taken S.failures before.most jobs.now settings.now before.inboxes.value.items
-        before.sink.value e.fault e.inboxes.items) }
-    ensures back { IfErr result (λ e. AreInboxesOf boxes.now e.inboxes.items) }
+    ensures { RanLiveOrLeft S.taken S.failures before.most jobs.now settings.now boxes.now
+        before.inboxes.value.items before.sink.value result }
 {
     thread::scope(
         thread::scope_env(),
         rt,
         move |scope| -> Result<(Report, Vec<Inbox>, S), LiveError<S>>
-            requires { AreLawful jobs.now settings.now × (length boxes.now ≡ length jobs.now)
-                × AreInboxesOf boxes.now before.inboxes.value.items
-                × IsReady settings.now.queue jobs.now before.most before.inboxes.value.items shared.now own
-                × IsLogged S.taken S.failures (format_of settings.now) settings.now.prologue.items before.sink.value
-                (channels_of jobs.now) [] log.recorder log.whole }
-            ensures { IfOk result (λ r. RanLive S.taken before.most jobs.entry.now settings.entry.now
-                before.inboxes.value.items before.sink.value r.0 r.1.items r.2)
-                × IfOk result (λ r. AreInboxesOf boxes.entry.now r.1.items)
-                × IfOk result (λ r. RefusesNoneWithRoom jobs.entry.now settings.entry.now r.0)
-                × IfErr result (λ e. LeavesLate S.taken S.failures before.most jobs.entry.now settings.entry.now
-                before.inboxes.value.items before.sink.value e.fault e.inboxes.items)
-                × IfErr result (λ e. AreInboxesOf boxes.entry.now e.inboxes.items) }
+            requires { MayStart S.taken S.failures jobs.now settings.now boxes.now before shared.now own
+                log.recorder log.whole }
+            ensures { RanLiveOrLeft S.taken S.failures before.most jobs.entry.now settings.entry.now
+                boxes.entry.now before.inboxes.value.items before.sink.value result }
         {
             on_threads(
                 scope, rt, alloc, shared, gate, jobs, settings, boxes, before, own, log,

@@ -124,15 +124,6 @@ module _ (found : List Found) (job : JobState) (part : ChannelPart) where
     keeping = record { due_is = is.keeping.due_is; count = is.keeping.count; kept = is.keeping.kept };
   }
 
-  -- the same, where branches of the code join
-  pub carried : (channels : List ℕ) (n : ℕ) (s t : Standing) (hs : List Message) (marks others : List Mark) (due next : Due) (old new newer : List Stop)
-      → IsPlayed found job part channels n s hs marks due old new → t ≡ s → others ≡ marks → next ≡ due → newer ≡ new → IsPlayed found job part channels n t hs others next old newer
-  carried channels n s t hs marks others due next old new newer is same_s same_marks same_due same_stops =
-      subst (λ (v : Standing). IsPlayed found job part channels n v hs others next old newer) (sym same_s)
-      (subst (λ (v : List Mark). IsPlayed found job part channels n s hs v next old newer) (sym same_marks)
-      (subst (λ (v : Due). IsPlayed found job part channels n s hs marks v old newer) (sym same_due)
-      (subst (λ (v : List Stop). IsPlayed found job part channels n s hs marks due old v) (sym same_stops) is)))
-
   -- ---- at the end
 
   -- no state is due any more, as no message of the channel is left

@@ -9,6 +9,7 @@ use Rattle.replay.specs.declared.standings.Standing.{Standing}
 use Rattle.replay.specs.declared.checkpoints.Stop.{Stop}
 use Rattle.replay.specs.declared.checkpoints.Due.{Due}
 use Rattle.replay.specs.declared.tracks.Mark.{Mark}
+use Rattle.replay.specs.declared.playing.Playing.{Playing}
 use Rattle.replay.specs.Accord.{kept_in}
 use Rattle.replay.specs.Finding.{count_to}
 use Rattle.replay.specs.Tracks.{Pair, IsThere}
@@ -67,3 +68,26 @@ pub record IsPlayed (found : List Found) (job : JobState) (part : ChannelPart) (
   pub heard : length marks ≡ s.heard + 1
   pub few : s.heard ≤ n
   pub keeping : IsKeeping (record { job = job; part = part }) channels s due old new
+
+-- the same of what the code has in hand
+abbrev pub IsPlayedTo : List Found → JobState → ChannelPart → List ℕ → ℕ → Playing → List Message → List Stop
+    → List Stop → Type 0
+IsPlayedTo found job part channels n p rest old new =
+    IsPlayed found job part channels n p.standing rest p.marks.items p.due old new
+
+-- a job before any message: it has left a mark, and its first state is due
+pub record IsUnplayed (job : JobState) (part : ChannelPart) (p : Playing) : Type 0 where
+  pub heard : p.standing.heard ≡ 0
+  pub there : IsThere job part 0 p.standing.machine
+  pub due : p.due ≡ record { channel = job.channel; stop = 0; heard = 0 }
+  pub mark : Mark
+  pub number : mark.number ≡ p.standing.machine.point.number
+  pub last : mark.last ≡ p.standing.machine.point.last
+  pub marks : p.marks.items ≡ mark ∷ []
+
+-- whatever the file is of which so much is left, and whatever states were kept at first: one message more is played
+abbrev pub PlaysOn : JobState → ChannelPart → List ℕ → Playing → List Message → List Stop → Playing → List Message
+    → List Stop → Type 0
+PlaysOn job part channels old heard stops new rest more =
+    (found : List Found) (n : ℕ) (first : List Stop) → IsPlayedTo found job part channels n old heard first stops
+    → IsPlayedTo found job part channels (n + 1) new rest first more

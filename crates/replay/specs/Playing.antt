@@ -50,11 +50,15 @@ pub record IsOther (job : JobState) (part : ChannelPart) (n : ℕ) (heard : List
   pub listed : is_listed part (n + 1) ≡ false
   pub other : slice_get heard 0 ≢ Some (as_message message)
 
+-- the job makes no more, or its next message should be in the file, which has none or another one next
+abbrev pub StopsBehind : JobState → ChannelPart → ℕ → List Message → Type 0
+StopsBehind job part n heard = (n ≡ length (played job part)) ⊎ IsOther job part n heard
+
 -- what is told of the message behind so many
 abbrev pub TellsMessage : JobState → ChannelPart → ℕ → Played → MachineState → List Message → List Message → Type 0
 TellsMessage job part n Kept m heard rest = IsKept job part n m heard rest
 TellsMessage job part n Refused m heard rest = IsPassed job part n m heard rest
-TellsMessage job part n Unlike m heard rest = (n ≡ length (played job part)) ⊎ IsOther job part n heard
+TellsMessage job part n Unlike m heard rest = StopsBehind job part n heard
 
 -- the job makes no more, and the file has no more
 abbrev pub IsOver : JobState → ChannelPart → ℕ → List Message → Type 0
