@@ -77,31 +77,17 @@ fn put_transfer(line: &mut Line, form: Form) {
     match form {
         Form::Between {
             sender,
-            sender_subaddress,
+            sender_subaddress: from,
             receiver,
-            receiver_subaddress,
+            receiver_subaddress: to,
             count,
-        } => put_word(
-            line,
-            b"rt",
-            [
-                sender,
-                sender_subaddress,
-                receiver,
-                receiver_subaddress,
-                count,
-            ],
-        ),
+        } => put_word(line, b"rt", [sender, from, receiver, to, count]),
         Form::BetweenAll {
             sender,
-            sender_subaddress,
-            receiver_subaddress,
+            sender_subaddress: from,
+            receiver_subaddress: to,
             count,
-        } => put_word(
-            line,
-            b"brt",
-            [sender, sender_subaddress, receiver_subaddress, count],
-        ),
+        } => put_word(line, b"brt", [sender, from, to, count]),
         _ => {}
     }
 }

@@ -1,8 +1,7 @@
 //! The messages of a recording whose packets come from a reader.
 
 use crate::whole::{Output, Printing, put_messages, put_skip};
-use bench_dump::DumpFault;
-use ch11_stream::{Advance, Packets, Stretch, Stretches};
+use ch11_stream::{Advance, Packets, StreamFault, Stretch, Stretches};
 use std::alloc::Global;
 use std::io::{Read, Write};
 
@@ -16,7 +15,7 @@ pub fn decode_from<R: Advance + Drop, W: Write>(
     input: R,
     out: &mut W,
     output: &Output,
-) -> Result<u64, DumpFault> {
+) -> Result<u64, StreamFault> {
     if output.skip {
         return decode_sound_from(alloc, input, out, output);
     }
@@ -31,10 +30,10 @@ pub fn decode_from<R: Advance + Drop, W: Write>(
                 printing.line.finish(out)?;
                 return Ok(printing.count);
             }
-            Err(fault) => return Err(DumpFault::from(fault)),
+            Err(fault) => return Err(fault),
         }
     }
-    Err(DumpFault::Device)
+    Err(StreamFault::Device)
 }
 
 /// Prints a recording that may be damaged as far as it is sound, and what is skipped.
@@ -43,7 +42,7 @@ fn decode_sound_from<R: Read + Drop, W: Write>(
     input: R,
     out: &mut W,
     output: &Output,
-) -> Result<u64, DumpFault> {
+) -> Result<u64, StreamFault> {
     let mut stretches = Stretches::over(alloc, input)?;
     let mut printing = Printing::begin(alloc, output.shown)?;
     'stretches: for _made in 0..u64::MAX {
@@ -56,8 +55,8 @@ fn decode_sound_from<R: Read + Drop, W: Write>(
                 printing.line.finish(out)?;
                 return Ok(printing.count);
             }
-            Err(fault) => return Err(DumpFault::from(fault)),
+            Err(fault) => return Err(fault),
         }
     }
-    Err(DumpFault::Device)
+    Err(StreamFault::Device)
 }

@@ -1,13 +1,13 @@
 //! A whole recording.
 
-use crate::chosen::messages_by_time;
+use crate::chosen::{Chosen, messages_by_time};
 use crate::line::{Line, Shown};
-use crate::messages::{Place, write_columns, write_message};
+use crate::messages::{write_columns, write_message};
 use crate::numbers::Numbers;
-use bench_dump::DumpFault;
 use bench_select::Selection;
-use ch11_f1::{Messages, Seen};
-use ch11_reader::{Index, Packet, ReadError, Skip};
+use ch11_f1::Messages;
+use ch11_reader::{Index, Packet, ReadError, Skip, SkippingIndex};
+use ch11_stream::StreamFault;
 use std::alloc::{AllocError, Global};
 use std::io;
 use std::io::Write;
@@ -56,28 +56,36 @@ pub fn decode<W: Write>(
     bytes: &[u8],
     out: &mut W,
     output: &Output,
-) -> Result<u64, DumpFault> {
-    if output.skip {
-        return match Index::build_skipping(alloc, bytes) {
-            Ok(found) => decode_index(alloc, &found.index, &found.skips, out, output),
-            Err(_) => Err(DumpFault::Memory),
-        };
+) -> Result<u64, StreamFault> {
+    match read_index(alloc, bytes, output.skip) {
+        Ok(found) => decode_index(alloc, &found, out, output),
+        Err(ReadError::Refused(refusal)) => Err(StreamFault::Refused(refusal)),
+        Err(ReadError::Memory) => Err(StreamFault::Memory),
     }
-    match Index::build(alloc, bytes) {
-        Ok(index) => decode_index(alloc, &index, &[], out, output),
-        Err(ReadError::Refused(refusal)) => Err(DumpFault::Refused(refusal)),
-        Err(ReadError::Memory) => Err(DumpFault::Memory),
+}
+
+/// The packets of a recording, which with `skip` may be damaged; without it nothing is skipped.
+fn read_index<'a>(
+    alloc: Global,
+    bytes: &'a [u8],
+    skip: bool,
+) -> Result<SkippingIndex<'a>, ReadError> {
+    if skip {
+        return Index::build_skipping(alloc, bytes);
     }
+    let index = Index::build(alloc, bytes)?;
+    let skips = Vec::new(alloc);
+    Ok(SkippingIndex { index, skips })
 }
 
 /// Prints the packets of a recording that was read, and the skips among them.
 fn decode_index<W: Write>(
     alloc: Global,
-    index: &Index<'_>,
-    skips: &[Skip],
+    found: &SkippingIndex<'_>,
     out: &mut W,
     output: &Output,
-) -> Result<u64, DumpFault> {
+) -> Result<u64, StreamFault> {
+    let (index, skips) = (&found.index, found.skipped());
     let mut printing = Printing::begin(alloc, output.shown)?;
     if output.by_time {
         put_skips(alloc, &mut printing.line, out, skips, usize::MAX)?;
@@ -105,10 +113,10 @@ fn put_by_time<W: Write>(
     out: &mut W,
     output: &Output,
     index: &Index<'_>,
-) -> Result<(), DumpFault> {
+) -> Result<(), StreamFault> {
     let messages = messages_by_time(alloc, index, &output.selection)?;
     'messages: for one in messages.as_slice() {
-        put_message(printing, out, output.decoded, &one.place, &one.seen)?;
+        put_message(printing, out, output.decoded, one)?;
     }
     Ok(())
 }
@@ -129,7 +137,7 @@ fn put_skips<'s, W: Write>(
     out: &mut W,
     skips: &'s [Skip],
     offset: usize,
-) -> Result<&'s [Skip], DumpFault> {
+) -> Result<&'s [Skip], StreamFault> {
     let mut rest = skips;
     'skips: while let Some((skip, others)) = rest.split_first() {
         if skip.offset >= offset {
@@ -147,7 +155,7 @@ pub(crate) fn put_skip<W: Write>(
     line: &mut Line,
     out: &mut W,
     skip: &Skip,
-) -> Result<(), DumpFault> {
+) -> Result<(), StreamFault> {
     line.hand_on(out)?;
     line.put_labelled(b"skipped ", skip.offset as u64);
     line.put_labelled(b" length ", skip.length as u64);
@@ -168,12 +176,11 @@ pub(crate) fn put_messages<W: Write>(
     let all = output.selection == Selection::all();
     let channel = packet.header.channel;
     let mut number = packet.before;
-    let mut rest = messages;
-    'messages: while let Some(seen) = rest.next() {
+    for seen in messages {
         number = number.saturating_add(1);
         let place = printing.numbers.place(number, channel);
         if all || output.selection.selects(number, channel, &seen) {
-            put_message(printing, out, output.decoded, &place, &seen)?;
+            put_message(printing, out, output.decoded, &Chosen { place, seen })?;
         }
     }
     Ok(())
@@ -184,27 +191,22 @@ fn put_message<W: Write>(
     printing: &mut Printing,
     out: &mut W,
     decoded: bool,
-    place: &Place,
-    seen: &Seen<'_>,
+    one: &Chosen<'_>,
 ) -> io::Result<()> {
     if !decoded {
         printing.count = printing.count.saturating_add(1);
-        return put_as_dump(&mut printing.line, out, place, seen);
+        return put_as_dump(&mut printing.line, out, one);
     }
     if printing.count == 0 {
         write_columns(&mut printing.line, out)?;
     }
     printing.count = printing.count.saturating_add(1);
-    write_message(&mut printing.line, out, place, seen)
+    write_message(&mut printing.line, out, &one.place, &one.seen)
 }
 
 /// Prints a message as a dump has it.
-fn put_as_dump<W: Write>(
-    line: &mut Line,
-    out: &mut W,
-    place: &Place,
-    seen: &Seen<'_>,
-) -> io::Result<()> {
+fn put_as_dump<W: Write>(line: &mut Line, out: &mut W, one: &Chosen<'_>) -> io::Result<()> {
+    let (place, seen) = (&one.place, &one.seen);
     line.hand_on(out)?;
     line.put_labelled(b"message ", place.number);
     line.put_labelled(b" channel ", u64::from(place.channel));

@@ -121,8 +121,7 @@ pub fn write_colored<W: Write>(
     verdicts: &[Verdict],
     out: &mut W,
 ) -> Result<(), PassFault> {
-    let judged = Judged::of(rules_text, rules, verdicts);
-    write_for_people(alloc, index, judged, out)
+    write_for_people(alloc, index, Judged::of(rules_text, rules, verdicts), out)
 }
 
 /// Writes the verdicts as `write_colored` does, of a recording that is read anew for each rule that messages miss. A
@@ -135,6 +134,6 @@ pub fn write_colored_from<S: Reopen, W: Write>(
     verdicts: &[Verdict],
     out: &mut W,
 ) -> Result<(), PassFault> {
-    let judged = Judged::of(rules_text, rules, verdicts);
-    write_for_people(alloc, &Anew { recording }, judged, out)
+    let anew = Anew { recording };
+    write_for_people(alloc, &anew, Judged::of(rules_text, rules, verdicts), out)
 }

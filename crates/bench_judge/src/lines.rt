@@ -100,25 +100,24 @@ fn write_misses<W: Write>(
     Ok(())
 }
 
-/// Writes that a count of the rule of a line is not met.
-pub(crate) fn write_count<W: Write>(out: &mut W, line: u64, selected: u64) -> io::Result<()>
-    ensures { OnOk result (Appends (W.contents out.old) (W.contents out.new) (count_lines line selected)) }
+/// Writes that the count of a rule is not met, of which this is the verdict.
+pub(crate) fn write_count<W: Write>(out: &mut W, verdict: &Verdict) -> io::Result<()>
+    ensures { OnOk result (Appends (W.contents out.old) (W.contents out.new)
+        (count_lines verdict.now.line verdict.now.selected)) }
 {
+    let (line, selected) = (verdict.line, verdict.selected);
     write!(
         out,
         "missed {line} count {selected}\nrule {line} selected {selected} missed 1\n"
     )
 }
 
-/// Writes how many messages the rule of a line selects, and how many miss it.
-pub(crate) fn write_numbers<W: Write>(
-    out: &mut W,
-    line: u64,
-    selected: u64,
-    missed: u64,
-) -> io::Result<()>
-    ensures { OnOk result (Appends (W.contents out.old) (W.contents out.new) (rule_line line selected missed)) }
+/// Writes how many messages a rule selects, and how many miss it, of which this is the verdict.
+pub(crate) fn write_numbers<W: Write>(out: &mut W, verdict: &Verdict) -> io::Result<()>
+    ensures { OnOk result (Appends (W.contents out.old) (W.contents out.new)
+        (rule_line verdict.now.line verdict.now.selected verdict.now.missed)) }
 {
+    let (line, selected, missed) = (verdict.line, verdict.selected, verdict.missed);
     write!(out, "rule {line} selected {selected} missed {missed}\n")
 }
 
@@ -135,12 +134,10 @@ fn write_rule<W: Write>(
         (verdict_lines rule.now (reverse (heard_in index.now)))) }
 {
     if verdict.miscounted {
-        write_count(out, verdict.line, verdict.selected)?;
-        return Ok(());
+        return Ok(write_count(out, verdict)?);
     }
     write_misses(alloc, index, rule, verdict.missed, out)?;
-    write_numbers(out, verdict.line, verdict.selected, verdict.missed)?;
-    Ok(())
+    Ok(write_numbers(out, verdict)?)
 }
 
 /// Writes the lines of all rules, of which these are the verdicts.

@@ -80,12 +80,10 @@ fn write_rule_from<S: Reopen, W: Write>(
         → Writes (verdict_lines rule.now) result file (W.contents out.old) (W.contents out.new) }
 {
     if verdict.miscounted {
-        write_count(out, verdict.line, verdict.selected)?;
-        return Ok(());
+        return Ok(write_count(out, verdict)?);
     }
     write_missed_from(alloc, recording, rule, verdict.missed, out)?;
-    write_numbers(out, verdict.line, verdict.selected, verdict.missed)?;
-    Ok(())
+    Ok(write_numbers(out, verdict)?)
 }
 
 /// Writes the lines of all rules, of which these are the verdicts.

@@ -70,8 +70,7 @@ fn show_messages<W: Write>(
 ) -> Result<(), PassFault> {
     let channel = packet.header.channel;
     let mut number = packet.before;
-    let mut rest = messages;
-    'messages: while let Some(seen) = rest.next() {
+    for seen in messages {
         number = number.saturating_add(1);
         let place = showing.numbers.place(number, channel);
         show_message(showing, line, rule, &place, &seen, out)?;

@@ -89,6 +89,9 @@ is_here sought place left h rest new is one last = rw (is, last) (sym (found_her
 pub is_none : (sought : Sought) (place left : ℕ) (rest : List Heard) → rest ≡ [] → None ≡ numbered left (places_behind place sought rest)
 is_none sought place left rest is = rw is (sym (none_left left))
 
+-- each step on the way to the message of a number, and where it ends
+pub ruleset to_number = (goes_past, goes_down, is_here, is_none)
+
 -- the latest of messages of which one is the first
 latest_first : (sought : Sought) (before : ℕ) (o : Option ℕ) (x : Heard) (xs : List Heard)
     → last_or o (places_behind before sought (x ∷ xs)) ≡ last_or (if meets sought x then Some (before + 1) else o) (places_behind (before + 1) sought xs)

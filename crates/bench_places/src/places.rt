@@ -22,7 +22,7 @@ fn past<'a, 'i>(messages: Following<'a, 'i>, count: u64) -> Following<'a, 'i>
 
 /// The place of the message of a number, counted from 1, among those that meet it, where they stand behind so many
 /// others.
-#[tactic(auto, using(crate::proofs::Walking::goes_past, crate::proofs::Walking::goes_down, crate::proofs::Walking::is_here, crate::proofs::Walking::is_none))]
+#[tactic(auto, using(crate::proofs::Walking::to_number))]
 fn nth_behind(messages: Following<'_, '_>, sought: &Sought, before: u64, n: u64) -> Option<u64>
     requires { before + length messages < 2 ^ 64 }
     ensures { result ≡ numbered n (places_behind before sought.now messages.entry) }

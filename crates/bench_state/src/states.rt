@@ -15,6 +15,15 @@ use mil_word::Line;
 use std::io;
 use std::io::Write;
 
+/// What is shown of each terminal: this detail, behind the message of a number, where these actions of hosts were
+/// placed.
+#[derive(Clone, Copy)]
+struct Shown<'a> {
+    detail: Detail,
+    number: u32,
+    placed: &'a Actions,
+}
+
 /// The lines for which something holds: whether for A, and whether for B.
 fn lines(a: bool, b: bool) -> &'static str
     ensures { result.now ≡ lines_text a b }
@@ -73,38 +82,27 @@ fn print_host<W: Write>(out: &mut W, terminal: &Terminal) -> io::Result<()>
     writeln!(out, "terminal {address} deaf {deaf} mute {mute}")
 }
 
-/// Prints the two lines of what its host set by the message of a number, where these actions were placed.
-fn print_set<W: Write>(
-    out: &mut W,
-    number: u32,
-    placed: &Actions,
-    terminal: &Terminal,
-) -> io::Result<()>
+/// Prints the two lines of what its host set by the message of the number.
+fn print_set<W: Write>(out: &mut W, shown: &Shown<'_>, terminal: &Terminal) -> io::Result<()>
     ensures { OnOk result (Appends (W.contents out.old) (W.contents out.new)
-        (set_lines number placed.now terminal.now)) }
+        (set_lines shown.now.number shown.now.placed.now terminal.now)) }
 {
     print_host(out, terminal)?;
     let address = terminal.address();
-    let marks = Marks::by(placed, address, number);
+    let marks = Marks::by(shown.placed, address, shown.number);
     marks.print(out, address)
 }
 
 /// Prints what is to be shown of a terminal.
-fn print_detail<W: Write>(
-    out: &mut W,
-    detail: Detail,
-    number: u32,
-    placed: &Actions,
-    terminal: &Terminal,
-) -> io::Result<()>
+fn print_detail<W: Write>(out: &mut W, shown: &Shown<'_>, terminal: &Terminal) -> io::Result<()>
     ensures { OnOk result (Appends (W.contents out.old) (W.contents out.new)
-        (terminal_text detail number placed.now terminal.now)) }
+        (terminal_text shown.now.detail shown.now.number shown.now.placed.now terminal.now)) }
 {
-    match detail {
+    match shown.detail {
         Detail::Registers => print_terminal(out, terminal),
         Detail::Host => {
             print_terminal(out, terminal)?;
-            print_set(out, number, placed, terminal)
+            print_set(out, shown, terminal)
         }
         Detail::Data {
             address,
@@ -115,19 +113,13 @@ fn print_detail<W: Write>(
 
 /// Prints what is to be shown of each terminal of a bus, in order of address.
 #[tactic(auto, unfolding(crate::specs::StateText::terminal_lines))]
-fn print_terminals<W: Write>(
-    out: &mut W,
-    detail: Detail,
-    number: u32,
-    placed: &Actions,
-    bus: &Bus,
-) -> io::Result<()>
+fn print_terminals<W: Write>(out: &mut W, shown: &Shown<'_>, bus: &Bus) -> io::Result<()>
     ensures { OnOk result (Appends (W.contents out.old) (W.contents out.new)
-        (terminal_lines detail number placed.now bus.now)) }
+        (terminal_lines shown.now.detail shown.now.number shown.now.placed.now bus.now)) }
 {
     for address in 0..31u8 {
         if let Some(terminal) = bus.terminal(address) {
-            print_detail(out, detail, number, placed, terminal)?;
+            print_detail(out, shown, terminal)?;
         }
     }
     Ok(())
@@ -148,6 +140,11 @@ pub fn print_channel<W: Write>(
     ensures { OnOk result (Appends (W.contents out.old) (W.contents out.new)
         (channel_text detail channel number placed.now bus.now)) }
 {
+    let shown = Shown {
+        detail,
+        number,
+        placed,
+    };
     writeln!(out, "channel {channel} number {number}")?;
-    print_terminals(out, detail, number, placed, bus)
+    print_terminals(out, &shown, bus)
 }

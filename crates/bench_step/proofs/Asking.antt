@@ -6,21 +6,23 @@ use Rattle.replay.specs.declared.error.ReplayError.TheVariants as error
 use Rattle.replay.specs.Moves.{ReplayState}
 use Rattle.judge_rules.specs.Faults.{Read}
 use Rattle.judge_rules.specs.declared.rules.Selector.{Selector}
-use Rattle.bench_step.specs.Commands.{Asked, forward, back, go, go_time, seek, find, find_back, select, select_back, state, show, show_at, help, quit, no_condition, unknown, finding, selecting, TakesMemory}
+use Rattle.bench_step.specs.Commands.{Asked, forward, back, go, go_time, seek, find, find_back, select, select_back, state, show, show_at, help, quit, no_condition, unknown, finding, meets, selecting, selects, TakesMemory}
 use Rattle.bench_step.specs.Session.{Replies}
+use Rattle.bench_step.specs.declared.commands.Way.{Way}
+use Rattle.bench_step.specs.declared.commands.Way.TheVariants.{On, Back}
 use Rattle.bench_step.specs.declared.replies.Reply.TheVariants as reply
 
-selecting_takes : (read : Read Selector) → TakesMemory (selecting select read) × TakesMemory (selecting select_back read)
-selecting_takes (Ok selector) = (tt, tt)
-selecting_takes (Err fault) = (tt, tt)
+selecting_takes : (way : Way) (read : Read Selector) → TakesMemory (selecting (selects way) read)
+selecting_takes On (Ok selector) = tt
+selecting_takes On (Err fault) = tt
+selecting_takes Back (Ok selector) = tt
+selecting_takes Back (Err fault) = tt
 
-pub finding_takes : (read : Result Condition Cause) (other : Read Selector) → TakesMemory (finding find select read other)
-finding_takes (Ok test) other = tt
-finding_takes (Err cause) other = (selecting_takes other).0
-
-pub finding_back_takes : (read : Result Condition Cause) (other : Read Selector) → TakesMemory (finding find_back select_back read other)
-finding_back_takes (Ok test) other = tt
-finding_back_takes (Err cause) other = (selecting_takes other).1
+pub finding_takes : (way : Way) (read : Result Condition Cause) (other : Read Selector) → TakesMemory (finding (meets way) (selects way) read other)
+finding_takes On (Ok test) other = tt
+finding_takes On (Err cause) other = selecting_takes On other
+finding_takes Back (Ok test) other = tt
+finding_takes Back (Err cause) other = selecting_takes Back other
 
 pub refused_memory : (s : ReplayState) (a : Asked) → TakesMemory a → Replies s a (reply.Refused error.Memory)
 refused_memory s (forward n) never = absurd never

@@ -10,7 +10,7 @@ use Rattle.bench_report.specs.Reports.{ChannelPart}
 use Rattle.bench_step.specs.Answering.{IsOpen, opened}
 use Rattle.bench_step.specs.Backwards.{IsLatest, Latest}
 use Rattle.bench_step.specs.Commands.{find_back}
-use Rattle.bench_step.specs.Session.{Replies, IsMoveTo, IsNoneBefore}
+use Rattle.bench_step.specs.Session.{Replies, IsMoveIfAny, IsMoveTo, IsNoneBefore}
 use Rattle.bench_step.specs.declared.replies.Reply.{Reply}
 use Rattle.bench_step.specs.declared.replies.Reply.TheVariants as reply
 
@@ -91,6 +91,9 @@ looks_past s now test place turn n latest h next past =
 pub looks_out : (s now : ReplayState) (test : Condition) (place : ℕ) (latest : Option ℕ) → IsLooking s now test place place latest → Latest s test place latest
 looks_out s now test place latest h = latest_so_far s test place now.place latest h.found (λ m behind before met. absurd (omega (arith, h.far)))
 
+-- each step of looking, and where it ends
+pub ruleset looking = (looks, looks_on, looks_nowhere, looks_past, looks_out)
+
 -- a debugger that is opened with the same jobs, report and recording meets the same
 stands_at : (s : ReplayState) (jobs : List JobState) (parts : List ChannelPart) (found : List Found) (recording : List ℕ) → IsOpen s jobs parts found recording
     → at_place s.place (opened jobs parts recording) ≡ s
@@ -125,10 +128,12 @@ found_back s test k reply.Help there is = absurd is
 found_back s test k reply.Quit there is = absurd is
 found_back s test k reply.Unknown there is = absurd is
 
-pub back_found : (s : ReplayState) (jobs : List JobState) (parts : List ChannelPart) (found : List Found) (recording : List ℕ) (test : Condition) (k : ℕ) (r : Reply)
-    → IsOpen s jobs parts found recording → IsLatest (opened jobs parts recording) test s.place k → IsMoveTo k r → Replies s (find_back test) r
-back_found s jobs parts found recording test k r h l is = found_back s test k r (latest_here s jobs parts found recording test k h l) is
-
-pub back_none : (s : ReplayState) (jobs : List JobState) (parts : List ChannelPart) (found : List Found) (recording : List ℕ) (test : Condition)
-    → IsOpen s jobs parts found recording → ((m : ℕ) → m < s.place → ¬ IsMet (opened jobs parts recording) test m) → Replies s (find_back test) (reply.Refused error.Past)
-back_none s jobs parts found recording test h none = inl (none_here s jobs parts found recording test h none)
+-- and where it was looked for from the place
+pub looked_back : (s : ReplayState) (jobs : List JobState) (parts : List ChannelPart) (found : List Found) (recording : List ℕ) (test : Condition) (place : ℕ) (latest : Option ℕ) (r : Reply)
+    → IsOpen s jobs parts found recording → place ≡ s.place → Latest (opened jobs parts recording) test place latest → IsMoveIfAny latest r → Replies s (find_back test) r
+looked_back s jobs parts found recording test place None r h here l is =
+    let none : (m : ℕ) → m < s.place → ¬ IsMet (opened jobs parts recording) test m = rw here at l in
+    rw is (inl (none_here s jobs parts found recording test h none))
+looked_back s jobs parts found recording test place (Some k) r h here l is =
+    let there : IsLatest (opened jobs parts recording) test s.place k = rw here at l in
+    found_back s test k r (latest_here s jobs parts found recording test k h there) is

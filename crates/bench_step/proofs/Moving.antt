@@ -1,17 +1,18 @@
 -- What is replied to a move.
-use Rattle.std.proofs.Common.{◌≡◌, ℕ, ◌+◌, ◌-◌, ◌<◌, ◌≤◌, List, Option, Some, None, ap, sym, subst, ◌∙◌, inl, inr, arith}
+use Rattle.std.proofs.Common.{◌≡◌, ℕ, ◌+◌, ◌-◌, ◌<◌, ◌≤◌, List, Option, Some, None, refl, ap, sym, subst, ◌∙◌, inl, inr, arith}
 use Rattle.replay.specs.declared.error.ReplayError.TheVariants as error
 use Rattle.replay.specs.Moves.{ReplayState, total_of}
 use Rattle.bench_places.specs.declared.sought.Sought.{Sought}
-use Rattle.bench_places.specs.Places.{latest_of, place_of}
-use Rattle.bench_places.specs.declared.sought.Sought.TheVariants.{Commands}
+use Rattle.bench_places.specs.Places.{place_of}
 use Rattle.judge_rules.specs.declared.rules.Selector.{Selector}
-use Rattle.bench_step.specs.Commands.{forward, back, seek, select, select_back, show, show_at}
+use Rattle.bench_step.specs.Commands.{forward, back, seek, selects, show, show_at}
 use Rattle.job_file.specs.Jobs.{JobState}
 use Rattle.ch11_reader.specs.Recording.{Found}
 use Rattle.bench_report.specs.Reports.{ChannelPart}
 use Rattle.bench_step.specs.Answering.{IsOpen}
-use Rattle.bench_step.specs.Session.{Replies, IsMoveTo, Finds, after_reply}
+use Rattle.bench_step.specs.Session.{Replies, IsMoveIfAny, IsMoveTo, Finds, after_reply, selected_place}
+use Rattle.bench_step.specs.declared.commands.Way.{Way}
+use Rattle.bench_step.specs.declared.commands.Way.TheVariants.{On, Back}
 use Rattle.bench_step.specs.declared.replies.Reply.{Reply}
 use Rattle.bench_step.specs.declared.replies.Reply.TheVariants as reply
 
@@ -39,17 +40,21 @@ moved_back s k reply.Help within is = absurd is
 moved_back s k reply.Quit within is = absurd is
 moved_back s k reply.Unknown within is = absurd is
 
-pub sought : (s : ReplayState) (what : Sought) (k place : ℕ) (r : Reply) → place_of what 0 k s.found ≡ Some place → IsMoveTo place r → Replies s (seek what k) r
-sought s what k place (reply.At n) there is = there ∙ ap Some (sym is)
-sought s what k place (reply.Refused (error.Mismatch c n)) there is = absurd is
-sought s what k place (reply.Refused error.Past) there is = absurd is
-sought s what k place (reply.Refused error.Start) there is = absurd is
-sought s what k place (reply.Refused error.Memory) there is = λ none. cc
-sought s what k place (reply.Shown detail) there is = absurd is
-sought s what k place (reply.Message n) there is = absurd is
-sought s what k place reply.Help there is = absurd is
-sought s what k place reply.Quit there is = absurd is
-sought s what k place reply.Unknown there is = absurd is
+sought_at : (s : ReplayState) (what : Sought) (k place : ℕ) (r : Reply) → place_of what 0 k s.found ≡ Some place → IsMoveTo place r → Replies s (seek what k) r
+sought_at s what k place (reply.At n) there is = there ∙ ap Some (sym is)
+sought_at s what k place (reply.Refused (error.Mismatch c n)) there is = absurd is
+sought_at s what k place (reply.Refused error.Past) there is = absurd is
+sought_at s what k place (reply.Refused error.Start) there is = absurd is
+sought_at s what k place (reply.Refused error.Memory) there is = λ none. cc
+sought_at s what k place (reply.Shown detail) there is = absurd is
+sought_at s what k place (reply.Message n) there is = absurd is
+sought_at s what k place reply.Help there is = absurd is
+sought_at s what k place reply.Quit there is = absurd is
+sought_at s what k place reply.Unknown there is = absurd is
+
+pub sought : (s : ReplayState) (what : Sought) (k : ℕ) (found : Option ℕ) (r : Reply) → found ≡ place_of what 0 k s.found → IsMoveIfAny found r → Replies s (seek what k) r
+sought s what k None r none is = rw is (sym none)
+sought s what k (Some place) r there is = sought_at s what k place r (sym there) is
 
 -- what is replied where a selector leads to a message
 finds_place : (found : Option ℕ) (place : ℕ) (r : Reply) → found ≡ Some place → IsMoveTo place r → Finds found r
@@ -64,21 +69,15 @@ finds_place found place reply.Help there is = absurd is
 finds_place found place reply.Quit there is = absurd is
 finds_place found place reply.Unknown there is = absurd is
 
-pub selected : (s : ReplayState) (found : List Found) (stands place : ℕ) (selector : Selector) (r : Reply) → found ≡ s.found → stands ≡ s.place
-    → Some place ≡ place_of (Commands selector) stands 1 found → IsMoveTo place r → Replies s (select selector) r
-selected s found stands place selector r same here there is = finds_place _ place r (rw (same, here) at (sym there)) is
+-- and where it leads to one, or to none
+finds_any : (found : Option ℕ) (r : Reply) → IsMoveIfAny found r → Finds found r
+finds_any None r is = rw is (inl refl)
+finds_any (Some place) r is = finds_place (Some place) place r refl is
 
-pub none_selected : (s : ReplayState) (found : List Found) (stands : ℕ) (selector : Selector) → found ≡ s.found → stands ≡ s.place
-    → None ≡ place_of (Commands selector) stands 1 found → Replies s (select selector) (reply.Refused error.Past)
-none_selected s found stands selector same here none = inl (rw (same, here) at (sym none))
-
-pub selected_back : (s : ReplayState) (found : List Found) (stands place : ℕ) (selector : Selector) (r : Reply) → found ≡ s.found → stands ≡ s.place
-    → Some place ≡ latest_of (Commands selector) stands found → IsMoveTo place r → Replies s (select_back selector) r
-selected_back s found stands place selector r same here there is = finds_place _ place r (rw (same, here) at (sym there)) is
-
-pub none_selected_back : (s : ReplayState) (found : List Found) (stands : ℕ) (selector : Selector) → found ≡ s.found → stands ≡ s.place
-    → None ≡ latest_of (Commands selector) stands found → Replies s (select_back selector) (reply.Refused error.Past)
-none_selected_back s found stands selector same here none = inl (rw (same, here) at (sym none))
+pub selected : (way : Way) (s : ReplayState) (found : List Found) (stands : ℕ) (place : Option ℕ) (selector : Selector) (r : Reply) → found ≡ s.found → stands ≡ s.place
+    → place ≡ selected_place way selector stands found → IsMoveIfAny place r → Replies s (selects way selector) r
+selected On s found stands place selector r same here there is = subst (λ (p : Option ℕ). Finds p r) (rw (same, here) at there) (finds_any place r is)
+selected Back s found stands place selector r same here there is = subst (λ (p : Option ℕ). Finds p r) (rw (same, here) at there) (finds_any place r is)
 
 -- a reply leaves the debugger on the same recording
 pub still_open : (s new : ReplayState) (jobs : List JobState) (parts : List ChannelPart) (found : List Found) (recording : List ℕ) (r : Reply)

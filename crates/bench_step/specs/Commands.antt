@@ -24,6 +24,8 @@ use Rattle.bench_step.specs.declared.manners.Manner.{Manner}
 use Rattle.bench_step.specs.declared.manners.Manner.TheVariants.{Given, Typed}
 use Rattle.bench_step.specs.declared.commands.Command.{Command}
 use Rattle.bench_step.specs.declared.commands.Command.TheVariants as command
+use Rattle.bench_step.specs.declared.commands.Way.{Way}
+use Rattle.bench_step.specs.declared.commands.Way.TheVariants.{On, Back}
 
 pub data Asked : Type 0 where
   -- so many messages of the recording on, and so many back
@@ -139,16 +141,22 @@ abbrev pub finding : (Condition → Asked) → (Selector → Asked) → Result C
 finding asks selects (Ok test) selector = asks test
 finding asks selects (Err cause) selector = selecting selects selector
 
--- all that stands behind `find`, and behind `find back`
-abbrev pub finding_on : Text → Asked
-finding_on text = finding find select (condition_of_text text) (selector_of text)
+-- what a condition and a selector ask of the messages behind the place, or of those before it
+abbrev pub meets : Way → Condition → Asked
+meets On test = find test
+meets Back test = find_back test
 
-abbrev pub finding_back : Text → Asked
-finding_back text = finding find_back select_back (condition_of_text text) (selector_of text)
+abbrev pub selects : Way → Selector → Asked
+selects On selector = select selector
+selects Back selector = select_back selector
+
+-- all that stands behind `find`, and behind `find back`
+abbrev pub finding_to : Way → Text → Asked
+finding_to way text = finding (meets way) (selects way) (condition_of_text text) (selector_of text)
 
 abbrev pub finding_in : Text → Asked
 finding_in rest =
-    if bytes_eq (first_word rest) (codes "back") then finding_back (behind_word rest) else finding_on rest
+    if bytes_eq (first_word rest) (codes "back") then finding_to Back (behind_word rest) else finding_to On rest
 
 -- what `state` shows: where lines are typed, what hosts set too
 abbrev pub plain : Manner → Detail

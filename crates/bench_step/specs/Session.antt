@@ -6,6 +6,8 @@ use Rattle.text_lines.specs.Words.{Text}
 use Rattle.frame_tree.specs.Tree.{Condition}
 use Rattle.job_file.specs.Jobs.{JobState, job_in}
 use Rattle.job_file.specs.Meaning.{bus_after}
+use Rattle.judge_rules.specs.declared.rules.Selector.{Selector}
+use Rattle.ch11_reader.specs.Recording.{Found}
 use Rattle.ch11_reader.specs.Contents.{message_numbered}
 use Rattle.bench_report.specs.Reports.{ChannelPart}
 use Rattle.replay.specs.declared.error.ReplayError.{ReplayError}
@@ -21,6 +23,8 @@ use Rattle.bench_step.specs.Commands.{Asked, forward, back, go, go_time, seek, f
 use Rattle.bench_step.specs.Commands.{state, show, show_at, help, quit, no_condition, unknown, asked}
 use Rattle.bench_step.specs.HelpText.{help_text}
 use Rattle.bench_step.specs.Backwards.{IsLatest}
+use Rattle.bench_step.specs.declared.commands.Way.{Way}
+use Rattle.bench_step.specs.declared.commands.Way.TheVariants.{On, Back}
 use Rattle.bench_step.specs.declared.manners.Manner.{Manner}
 use Rattle.bench_step.specs.declared.manners.Manner.TheVariants.{Given, Typed}
 use Rattle.bench_step.specs.declared.replies.Reply.{Reply}
@@ -63,6 +67,16 @@ abbrev pub IsMoveTo : ℕ → Reply → Type 0
 IsMoveTo place (reply.At n) = n ≡ place
 IsMoveTo place (reply.Refused e) = IsMemory e
 IsMoveTo place _ = ⊥
+
+-- and to a move to the place that was looked for, if there is one
+abbrev pub IsMoveIfAny : Option ℕ → Reply → Type 0
+IsMoveIfAny None r = r ≡ reply.Refused error.Past
+IsMoveIfAny (Some place) r = IsMoveTo place r
+
+-- the place that a selector leads to from another: that of the next message, or of the latest one before it
+abbrev pub selected_place : Way → Selector → ℕ → List Found → Option ℕ
+selected_place On selector place found = place_of (Commands selector) place 1 found
+selected_place Back selector place found = latest_of (Commands selector) place found
 
 -- what is replied where this is the place that was looked for, if there is one
 abbrev pub Finds : Option ℕ → Reply → Type 0

@@ -7,7 +7,7 @@ ghost use Rattle.ch11_reader.specs.Indexed.{found_in};
 ghost use Rattle.frame_tree.specs.Tree.{condition_in};
 ghost use Rattle.std.specs.Prelude.{◌≡◌, IfOk};
 
-use crate::moves::move_to;
+use crate::moves::move_if_any;
 use crate::opening::open_replay;
 use crate::replies::Reply;
 use bench_report::Report;
@@ -18,7 +18,7 @@ use std::alloc::{AllocError, Global};
 
 /// The latest message before a place whose outcome makes the condition true, found by a debugger that stands at the
 /// start: it goes on from one such message to the next. It fails for want of memory alone.
-#[tactic(auto, using(crate::proofs::Looking::looks, crate::proofs::Looking::looks_on, crate::proofs::Looking::looks_nowhere, crate::proofs::Looking::looks_past, crate::proofs::Looking::looks_out))]
+#[tactic(auto, using(crate::proofs::Looking::looking))]
 fn latest_before(
     scout: &mut Replay<'_>,
     condition: &Cond<Global>,
@@ -67,7 +67,6 @@ fn latest_of(
 
 /// Back to the latest message before the place whose outcome makes the condition true: another debugger, which is
 /// opened with the same jobs, report and recording, looks for it.
-#[tactic(auto, using(crate::proofs::Looking::back_found, crate::proofs::Looking::back_none))]
 pub(crate) fn back_to(
     alloc: Global,
     replay: &mut Replay<'_>,
@@ -82,8 +81,7 @@ pub(crate) fn back_to(
 {
     let place = replay.place();
     match latest_of(alloc, jobs, report, recording, condition, place) {
-        Ok(Some(number)) => move_to(replay, number),
-        Ok(None) => Reply::Refused(ReplayError::Past),
+        Ok(found) => move_if_any(replay, found),
         Err(_) => Reply::Refused(ReplayError::Memory),
     }
 }

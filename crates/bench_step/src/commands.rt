@@ -1,8 +1,9 @@
 //! What a line of a session asks.
-ghost use Rattle.bench_step.specs.Commands.{Asked, asked, asked_of, asked_by, alone, finding_back, finding_in};
-ghost use Rattle.bench_step.specs.Commands.{finding_on, forward, back, go, show_at, going, holding, number_up_to};
-ghost use Rattle.bench_step.specs.Commands.{of_channel, only_number, only_time, plain, selecting, select, select_back};
+ghost use Rattle.bench_step.specs.Commands.{Asked, asked, asked_of, asked_by, alone, finding_in, finding_to};
+ghost use Rattle.bench_step.specs.Commands.{forward, back, go, show_at, going, holding, meets, number_up_to};
+ghost use Rattle.bench_step.specs.Commands.{of_channel, only_number, only_time, plain, selecting, selects};
 ghost use Rattle.bench_step.specs.Commands.{showing, steps, telling, two_words, with_number, TakesMemory};
+ghost use Rattle.frame_tree.specs.Tree.{condition_in};
 ghost use Rattle.judge_rules.specs.Selectors.{selector_of};
 ghost use Rattle.std.specs.Prelude.{option_map};
 ghost use Rattle.std.specs.Prelude.{◌≡◌, ◌≤◌, IfOk, IfSome, OnErr};
@@ -54,6 +55,13 @@ pub enum Command {
     NoCondition,
     /// Nothing that a line may ask.
     Unknown,
+}
+
+/// Which messages are looked through: those behind the place, or those before it.
+#[derive(Clone, Copy)]
+pub(crate) enum Way {
+    On,
+    Back,
 }
 
 /// A command that no word may follow.
@@ -177,48 +185,36 @@ fn going(rest: &[u8]) -> Command
     }
 }
 
-/// A selector, of the messages behind the place.
-fn selecting(rest: &[u8]) -> Command
-    ensures { asked_of result ≡ selecting select (selector_of rest.now) }
+/// A selector, of the messages that way.
+fn selecting(way: Way, rest: &[u8]) -> Command
+    ensures { asked_of result ≡ selecting (selects way) (selector_of rest.now) }
 {
-    match selector_of(rest) {
-        Ok(selector) => Command::Select(selector),
-        Err(_) => Command::NoCondition,
+    match (way, selector_of(rest)) {
+        (Way::On, Ok(selector)) => Command::Select(selector),
+        (Way::Back, Ok(selector)) => Command::SelectBack(selector),
+        (_, Err(_)) => Command::NoCondition,
     }
 }
 
-/// A selector, of the messages before the place.
-fn selecting_back(rest: &[u8]) -> Command
-    ensures { asked_of result ≡ selecting select_back (selector_of rest.now) }
+/// A condition, on the messages that way.
+fn meeting(way: Way, condition: Cond<Global>) -> Command
+    ensures { asked_of result ≡ meets way (condition_in condition) }
 {
-    match selector_of(rest) {
-        Ok(selector) => Command::SelectBack(selector),
-        Err(_) => Command::NoCondition,
+    match way {
+        Way::On => Command::Find(condition),
+        Way::Back => Command::FindBack(condition),
     }
 }
 
-/// A condition, or else a selector, on the messages behind the place.
+/// A condition, or else a selector, on the messages that way.
 #[tactic(auto, using(crate::proofs::Asking::finding_takes))]
-fn finding_on(alloc: Global, rest: &[u8]) -> Result<Command, AllocError>
-    ensures read { IfOk result (λ c. asked_of c ≡ finding_on rest.now) }
-    ensures memory { OnErr result (TakesMemory (finding_on rest.now)) }
+fn finding_to(alloc: Global, way: Way, rest: &[u8]) -> Result<Command, AllocError>
+    ensures read { IfOk result (λ c. asked_of c ≡ finding_to way rest.now) }
+    ensures memory { OnErr result (TakesMemory (finding_to way rest.now)) }
 {
     match read_cond(alloc, rest) {
-        Ok(condition) => Ok(Command::Find(condition)),
-        Err(ScriptError::Text { .. }) => Ok(selecting(rest)),
-        Err(ScriptError::Memory { .. }) => Err(AllocError),
-    }
-}
-
-/// A condition, or else a selector, on the messages before the place.
-#[tactic(auto, using(crate::proofs::Asking::finding_back_takes))]
-fn finding_back(alloc: Global, rest: &[u8]) -> Result<Command, AllocError>
-    ensures read { IfOk result (λ c. asked_of c ≡ finding_back rest.now) }
-    ensures memory { OnErr result (TakesMemory (finding_back rest.now)) }
-{
-    match read_cond(alloc, rest) {
-        Ok(condition) => Ok(Command::FindBack(condition)),
-        Err(ScriptError::Text { .. }) => Ok(selecting_back(rest)),
+        Ok(condition) => Ok(meeting(way, condition)),
+        Err(ScriptError::Text { .. }) => Ok(selecting(way, rest)),
         Err(ScriptError::Memory { .. }) => Err(AllocError),
     }
 }
@@ -230,9 +226,9 @@ fn finding_in(alloc: Global, rest: &[u8]) -> Result<Command, AllocError>
 {
     let (word, behind) = split_word(rest);
     if word == b"back".as_slice() {
-        finding_back(alloc, behind)
+        finding_to(alloc, Way::Back, behind)
     } else {
-        finding_on(alloc, rest)
+        finding_to(alloc, Way::On, rest)
     }
 }
 

@@ -1,6 +1,8 @@
 //! Why a session ended before its lines did, or with a refusal for memory.
 ghost use Rattle.bench_step.specs.Answering.{IsReaders};
+ghost use Rattle.bench_step.specs.FaultText.{fault_text};
 ghost use Rattle.std.specs.IoError.{error_kind};
+ghost use Rattle.std.specs.Prelude.{Some};
 
 use ch11_reader::Refusal;
 use std::fmt::{self, Display, Formatter, Write};
@@ -30,9 +32,6 @@ pub enum StepFault {
 
 /// `K3 offset 0`, `Y1 channel 1 number 3`, `memory`, `device -`.
 impl Display for StepFault {
-    ghost use Rattle.bench_step.specs.FaultText.{fault_text};
-    ghost use Rattle.std.specs.Prelude.{Some};
-
     ghost output = { λ e. Some (fault_text e) };
 
     fn fmt<W: Write>(&self, f: &mut Formatter<W>) -> fmt::Result {

@@ -1,9 +1,10 @@
 //! The moves of the debugger, and what is replied to each.
 ghost use Rattle.bench_step.specs.Commands as asked;
-ghost use Rattle.bench_step.specs.Session.{Replies, IsMoveTo, after_reply};
+ghost use Rattle.bench_step.specs.Session.{Replies, IsMoveIfAny, IsMoveTo, after_reply, selected_place};
 ghost use Rattle.frame_tree.specs.Tree.{condition_in};
 ghost use Rattle.std.specs.Prelude.{◌≡◌, ◌+◌, ◌-◌};
 
+use crate::commands::Way;
 use crate::replies::Reply;
 use bench_places::{Sought, latest_place, nth_place, place_before};
 use bench_select::Selector;
@@ -20,6 +21,17 @@ pub(crate) fn move_to(replay: &mut Replay<'_>, place: u64) -> Reply
     match replay.go(place) {
         Ok(()) => Reply::At(place),
         Err(_) => Reply::Refused(ReplayError::Memory),
+    }
+}
+
+/// To the place that was looked for, which is one of the recording, if there is one.
+pub(crate) fn move_if_any(replay: &mut Replay<'_>, found: Option<u64>) -> Reply
+    ensures reply { IsMoveIfAny found result }
+    ensures after { replay.new.state ≡ after_reply result replay.old.state }
+{
+    match found {
+        Some(place) => move_to(replay, place),
+        None => Reply::Refused(ReplayError::Past),
     }
 }
 
@@ -83,10 +95,8 @@ pub(crate) fn seek(
     ensures lawful { Replies replay.old.state (asked.seek sought.now number) result }
     ensures after { replay.new.state ≡ after_reply result replay.old.state }
 {
-    match nth_place(index, sought, 0, number) {
-        Some(place) => move_to(replay, place),
-        None => Reply::Refused(ReplayError::Past),
-    }
+    let found = nth_place(index, sought, 0, number);
+    move_if_any(replay, found)
 }
 
 /// On to the next message whose outcome makes the condition true.
@@ -98,31 +108,31 @@ pub(crate) fn find_on(replay: &mut Replay<'_>, condition: &Cond<Global>) -> Repl
     Reply::to_move(replay, moved)
 }
 
-/// On to the next message that the selector is about, where these are the packets of the recording.
-#[tactic(auto, using(crate::proofs::Moving::selected, crate::proofs::Moving::none_selected))]
-pub(crate) fn select_on(replay: &mut Replay<'_>, index: &Index<'_>, selector: Selector) -> Reply
-    requires { index.now ≡ replay.old.state.found }
-    ensures lawful { Replies replay.old.state (asked.select selector) result }
-    ensures after { replay.new.state ≡ after_reply result replay.old.state }
+/// The place of the next message that the selector is about, or of the latest one before a place, if there is one.
+fn selected_place(index: &Index<'_>, way: Way, selector: Selector, place: u64) -> Option<u64>
+    ensures { result ≡ selected_place way selector place index.now }
 {
-    let place = replay.place();
-    match nth_place(index, &Sought::Commands(selector), place, 1) {
-        Some(next) => move_to(replay, next),
-        None => Reply::Refused(ReplayError::Past),
+    let sought = Sought::Commands(selector);
+    match way {
+        Way::On => nth_place(index, &sought, place, 1),
+        Way::Back => latest_place(index, &sought, place),
     }
 }
 
-/// Back to the latest message before the place that the selector is about, where these are the packets of the
-/// recording.
-#[tactic(auto, using(crate::proofs::Moving::selected_back, crate::proofs::Moving::none_selected_back))]
-pub(crate) fn select_back(replay: &mut Replay<'_>, index: &Index<'_>, selector: Selector) -> Reply
+/// On to the next message that the selector is about, or back to the latest one before the place, where these are the
+/// packets of the recording.
+#[tactic(auto, using(crate::proofs::Moving::selected))]
+pub(crate) fn select(
+    replay: &mut Replay<'_>,
+    index: &Index<'_>,
+    way: Way,
+    selector: Selector,
+) -> Reply
     requires { index.now ≡ replay.old.state.found }
-    ensures lawful { Replies replay.old.state (asked.select_back selector) result }
+    ensures lawful { Replies replay.old.state (asked.selects way selector) result }
     ensures after { replay.new.state ≡ after_reply result replay.old.state }
 {
     let place = replay.place();
-    match latest_place(index, &Sought::Commands(selector), place) {
-        Some(latest) => move_to(replay, latest),
-        None => Reply::Refused(ReplayError::Past),
-    }
+    let found = selected_place(index, way, selector, place);
+    move_if_any(replay, found)
 }

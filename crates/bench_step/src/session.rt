@@ -6,11 +6,11 @@ ghost use Rattle.std.specs.Io.KnownBytes.{Appends};
 ghost use Rattle.std.specs.Prelude.{◌≡◌, ◌++◌, IfOk, IfErr, OnOk};
 
 use crate::backwards::back_to;
-use crate::commands::{Command, read_command};
+use crate::commands::{Command, Way, read_command};
 use crate::decoding::Decoder;
 use crate::fault::StepFault;
 use crate::manners::Manner;
-use crate::moves::{find_on, go_back, go_on, go_time, go_to, seek, select_back, select_on};
+use crate::moves::{find_on, go_back, go_on, go_time, go_to, seek, select};
 use crate::opening::{open_replay, packets_of};
 use crate::replies::Reply;
 use bench_report::Report;
@@ -142,9 +142,11 @@ impl<'a> Session<'a> {
                 self.recording,
                 condition,
             ),
-            Command::Select(selector) => select_on(&mut self.replay, &self.index, *selector),
+            Command::Select(selector) => {
+                select(&mut self.replay, &self.index, Way::On, *selector)
+            }
             Command::SelectBack(selector) => {
-                select_back(&mut self.replay, &self.index, *selector)
+                select(&mut self.replay, &self.index, Way::Back, *selector)
             }
             Command::State(detail) => Reply::Shown(*detail),
             Command::Show => {
