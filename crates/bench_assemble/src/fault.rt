@@ -1,4 +1,5 @@
 //! Why a script has no image.
+ghost use Rattle.bench_assemble.specs.Letters.{letters_of};
 ghost use Rattle.bench_assemble.specs.declared.fault.AssembleFault.TheVariants.{Memory};
 ghost use Rattle.std.specs.Prelude.{◌≡◌};
 
@@ -28,8 +29,6 @@ pub enum AssembleFault {
 
 /// `S7 line 1 column 8`, `A1`, `P5`, `P8`, `memory`.
 impl Display for AssembleFault {
-    ghost use Rattle.bench_assemble.specs.Letters.{letters_of};
-
     ghost output = { letters_of };
 
     fn fmt<W: Write>(&self, f: &mut Formatter<W>) -> fmt::Result {

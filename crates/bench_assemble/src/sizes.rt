@@ -1,7 +1,7 @@
 //! How large an image is.
 ghost use Rattle.bench_assemble.specs.SizesLine.{sizes_line};
 ghost use Rattle.std.specs.Io.KnownBytes.{Appends};
-ghost use Rattle.std.specs.Prelude.{OnOk, ◌++◌, ◌∷◌, []};
+ghost use Rattle.std.specs.Prelude.{OnOk, ◌++◌, ◌∷◌, [], Some};
 
 use std::io::Write;
 use std::{fmt, io};
@@ -19,9 +19,6 @@ pub struct Sizes {
 
 /// `operations 11 messages 1 budget 47`
 impl fmt::Display for Sizes {
-    ghost use Rattle.bench_assemble.specs.SizesLine.{sizes_line};
-    ghost use Rattle.std.specs.Prelude.{Some};
-
     ghost output = { λ s. Some (sizes_line s.operations s.messages s.budget) };
 
     fn fmt<W: fmt::Write>(&self, f: &mut fmt::Formatter<W>) -> fmt::Result {

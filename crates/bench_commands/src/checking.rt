@@ -2,7 +2,7 @@
 
 use crate::options::{command_of, flag, jobs, words_in};
 use crate::streams::on_stream;
-use bench_check::{Bits, print_findings, print_summary, tight_frames_in, try_job};
+use bench_check::{Bits, print_findings, tight_frames_in, try_job};
 use bench_core::{Settings, judge};
 use bench_requests::{Fault, jobs_of, read_texts};
 use clap::{ArgMatches, Command};
@@ -158,12 +158,11 @@ fn check_one<W: Write>(
     out: &mut W,
 ) -> Result<u64, WriteFault> {
     let tight = tight_frames_in(alloc, text)?;
-    if request.summary {
-        let findings = try_job(alloc, job, request.bits, &mut io::sink())?;
-        print_summary(alloc, job, &findings, &tight, out)?;
-        return Ok(findings.room);
-    }
-    let findings = try_job(alloc, job, request.bits, out)?;
-    print_findings(alloc, job, &findings, &tight, out)?;
+    let findings = if request.summary {
+        try_job(alloc, job, request.bits, &mut io::sink())?
+    } else {
+        try_job(alloc, job, request.bits, out)?
+    };
+    print_findings(alloc, job, &findings, &tight, request.summary, out)?;
     Ok(findings.room)
 }

@@ -3,7 +3,7 @@
 use crate::looking::tell_of_missing;
 use crate::watching::{SystemFile, Watch, Watched, open_watched, prints_to_terminal};
 use bench_clock::{Clock as RecordingClock, clock_from};
-use bench_dump::{DumpFault, dump_skipping_from};
+use bench_dump::dump_skipping_from;
 use bench_passes::{dump_in_two_passes, dump_with_times_in_two_passes};
 use bench_requests::{Fault, open_to_read, tells_of_loss};
 use bench_watch::Reopen;
@@ -81,7 +81,7 @@ impl<'f, R: Files + AllocGlobal + Clock, E: Eprint + IsTerminal> Reopen for Larg
     }
 }
 
-/// The fault of a recording that could not be read to its end.
+/// The fault of a recording that was not read to its end, where a device's failure is that of this name.
 pub(crate) fn fault_of_reading<'a>(name: &'a str, fault: StreamFault) -> Fault<'a> {
     match fault {
         StreamFault::Refused(refusal) => Fault::Recording(refusal),
@@ -102,20 +102,15 @@ pub(crate) fn answer_of_reading<'a, T>(
 }
 
 /// The fault of a recording that was not printed to its end: the reader's, where that failed.
-pub(crate) fn fault_of_dump<'a>(name: &'a str, fault: DumpFault, failed: bool) -> Fault<'a> {
-    match fault {
-        DumpFault::Refused(refusal) => Fault::Recording(refusal),
-        DumpFault::Memory => Fault::Memory,
-        DumpFault::Device if failed => Fault::Device(name),
-        DumpFault::Device => Fault::Device("-"),
-    }
+pub(crate) fn fault_of_dump<'a>(name: &'a str, fault: StreamFault, failed: bool) -> Fault<'a> {
+    fault_of_reading(if failed { name } else { "-" }, fault)
 }
 
 /// What was printed of a recording that is watched, or why it was not printed to its end.
 pub(crate) fn answer_of_watched<'a, R: Files + Clock, E: Eprint + IsTerminal, T>(
     name: &'a str,
     watch: &Watch<'_, R, E>,
-    printed: Result<T, DumpFault>,
+    printed: Result<T, StreamFault>,
 ) -> Result<T, Fault<'a>> {
     match printed {
         Ok(answer) => Ok(answer),

@@ -1,6 +1,7 @@
 //! `bench run --live`, `--pace` and `--show`: actions posted from lines of the standard input, bus time at a pace of
 //! real time, and messages shown as they are recorded.
-ghost use Rattle.std.specs.Prelude.{◌-◌, ◌<◌, ◌^◌};
+ghost use Rattle.bench_run.specs.Live.{AreInboxesOf};
+ghost use Rattle.std.specs.Prelude.{◌-◌, ◌<◌, ◌^◌, IfOk};
 
 use crate::hosts::{Errors, Host};
 use crate::judging::is_for_people;
@@ -8,15 +9,15 @@ use crate::options::{Row, flag, value};
 use bench_core::Settings;
 use bench_decode::Shown;
 use bench_files::leads_to_output;
-use bench_live::{Manner, Pace, Show, Showing, open_desk, record_live, record_paced, start_host};
+use bench_live::{Desk, Manner, Pace, Session, Show, Showing, open_desk, start_host};
 use bench_report::Report;
 use bench_requests::{Fault, RunRequest};
-use bench_run::{LiveError, RunError};
-use bench_run_command::{record_jobs_held, record_jobs_with_progress};
+use bench_run::{Inbox, LiveError, RunError};
+use bench_run_command::record_jobs_with_progress;
 use ch11_writer::Sink;
 use clap::ArgMatches;
 use job_file::Job;
-use std::alloc::AllocError;
+use std::alloc::{AllocError, Global};
 use std::io::BufReader;
 use std::rt::Files;
 use std::sync::Arc;
@@ -142,6 +143,41 @@ pub(crate) fn end_showing<R: Threads, E: Eprint>(rt: &R, errors: &E, showing: Op
     }
 }
 
+/// What posts into the channels of the jobs: a desk, whose lines a thread of its own reads from the standard input, and
+/// the inboxes. A run does not wait for that thread.
+fn start_posting<R: Host, E: Errors>(
+    rt: &R,
+    errors: &E,
+    jobs: &[Job],
+) -> Result<(Arc<Desk, Global>, Vec<Inbox>), AllocError>
+where
+    R::Reader: 'static,
+    ensures { IfOk result (λ r. AreInboxesOf r.0.value.boxes.items r.1.items) }
+{
+    let alloc = rt.alloc();
+    let Ok((desk, hands, inboxes)) = open_desk(alloc, jobs) else {
+        return Err(AllocError);
+    };
+    let Ok(desk) = Arc::new(alloc, desk) else {
+        return Err(AllocError);
+    };
+    let Ok(input) = BufReader::new(alloc, rt.reader()) else {
+        return Err(AllocError);
+    };
+    start_host(rt, alloc, errors, &desk, hands, input)?;
+    Ok((desk, inboxes))
+}
+
+/// What came of a live run, without its inboxes.
+fn without_inboxes<S>(
+    answer: Result<(Report, Vec<Inbox>, S), LiveError<S>>,
+) -> Result<(Report, S), RunError<S>> {
+    match answer {
+        Ok((report, _, sink)) => Ok((report, sink)),
+        Err(LiveError { fault, .. }) => Err(fault),
+    }
+}
+
 /// The report of a recording that is whole, and its sink.
 pub(crate) fn record<R: Host, E: Errors, S: Sink + Drop>(
     rt: &R,
@@ -151,53 +187,27 @@ pub(crate) fn record<R: Host, E: Errors, S: Sink + Drop>(
 ) -> Result<(Report, S), RunError<S>>
 where
     R::Reader: 'static,
-    requires countable { S.failures sink < 2 ^ 64 - 1 }
+    requires { S.failures sink < 2 ^ 64 - 1 }
 {
+    let (jobs, settings, manner, show) = (run.jobs, run.settings, run.way.manner, run.show);
+    let session = Session {
+        rt,
+        alloc: rt.alloc(),
+        errors,
+        jobs,
+        settings,
+        manner,
+        show,
+    };
     if run.way.live {
-        return record_beside(rt, errors, run, sink);
+        let Ok((desk, inboxes)) = start_posting(rt, errors, jobs) else {
+            return Err(RunError::Memory { sink });
+        };
+        let answer = session.record_live(&desk, inboxes, sink);
+        return without_inboxes(answer);
     }
-    let (jobs, settings, manner, show) = (run.jobs, run.settings, run.way.manner, run.show);
     if manner.pace.is_some() || show.is_some() {
-        return record_paced(rt, rt.alloc(), errors, jobs, settings, manner, show, sink);
+        return session.record_paced(sink);
     }
-    if manner.drops {
-        record_jobs_with_progress(rt, rt.alloc(), errors, jobs, settings, sink)
-    } else {
-        record_jobs_held(rt, rt.alloc(), errors, jobs, settings, sink)
-    }
-}
-
-/// The same while a thread of its own posts what the lines of the standard input ask for. The run does not wait for
-/// that thread.
-fn record_beside<R: Host, E: Errors, S: Sink + Drop>(
-    rt: &R,
-    errors: &E,
-    run: Run<'_, '_>,
-    sink: S,
-) -> Result<(Report, S), RunError<S>>
-where
-    R::Reader: 'static,
-    requires countable { S.failures sink < 2 ^ 64 - 1 }
-{
-    let alloc = rt.alloc();
-    let (jobs, settings, manner, show) = (run.jobs, run.settings, run.way.manner, run.show);
-    let Ok((desk, hands, inboxes)) = open_desk(alloc, jobs) else {
-        return Err(RunError::Memory { sink });
-    };
-    let Ok(desk) = Arc::new(alloc, desk) else {
-        return Err(RunError::Memory { sink });
-    };
-    let Ok(input) = BufReader::new(alloc, rt.reader()) else {
-        return Err(RunError::Memory { sink });
-    };
-    if start_host(rt, alloc, errors, &desk, hands, input).is_err() {
-        return Err(RunError::Memory { sink });
-    }
-    let answer = record_live(
-        rt, alloc, errors, jobs, settings, manner, show, &desk, inboxes, sink,
-    );
-    match answer {
-        Ok((report, _, sink)) => Ok((report, sink)),
-        Err(LiveError { fault, .. }) => Err(fault),
-    }
+    record_jobs_with_progress(rt, rt.alloc(), errors, jobs, settings, manner.drops, sink)
 }

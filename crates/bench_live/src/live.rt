@@ -2,7 +2,7 @@
 ghost use Rattle.bench_core.specs.Lawful.{AreLawful};
 ghost use Rattle.bench_live.specs.Posting.{AreHandsOf};
 ghost use Rattle.bench_run.specs.Live.{AreInboxesOf, HaveMail, RanLive, LeavesLive};
-ghost use Rattle.bench_run.specs.Runs.{Ran, RefusesNoneWithRoom, Leaves};
+ghost use Rattle.bench_run.specs.Runs.{RanOrLeft, RefusesNoneWithRoom};
 ghost use Rattle.std.specs.Prelude.{◌-◌, ◌<◌, ◌^◌, IfOk, IfErr, OnOk};
 
 use crate::desk::{Desk, Hand};
@@ -40,37 +40,6 @@ impl Manner {
     }
 }
 
-/// Runs the jobs as `run` does, in a manner; how far the recording has come is shown as by `Progress`, and its messages
-/// where there is something that shows them. It answers and refuses as `run` does.
-pub fn record_paced<
-    's,
-    R: Threads + Wait + Clock + Sync,
-    E: Eprint + IsTerminal + Sync,
-    S: Sink + Drop,
->(
-    rt: &'s R,
-    alloc: Global,
-    errors: &'s E,
-    jobs: &[Job],
-    settings: &Settings,
-    manner: Manner,
-    show: Option<&'s Show>,
-    sink: S,
-) -> Result<(Report, S), RunError<S>>
-    requires countable { S.failures sink < 2 ^ 64 - 1 }
-    ensures lawful { OnOk result (AreLawful jobs.now settings.now) }
-    ensures ran { IfOk result (λ r. Ran S.taken jobs.now settings.now sink r.0 r.1) }
-    ensures room { IfOk result (λ r. RefusesNoneWithRoom jobs.now settings.now r.0) }
-    ensures refused { IfErr result (Leaves S.taken S.failures jobs.now settings.now sink) }
-{
-    let progress = Progress::begin(rt, errors);
-    let session = SessionGate::around(&progress, rt, rt, manner.pace, None, show);
-    let held = HoldingGate::around(&session, manner.most(settings));
-    let answer = run(rt, alloc, jobs, settings, &held, sink);
-    progress.end();
-    answer
-}
-
 /// Starts a thread that posts what the lines of an input ask for, and lets it go: the end of a run does not wait for
 /// it, and where the input stays open the process ends without it. It fails where memory or the thread is refused.
 pub fn start_host<
@@ -102,42 +71,72 @@ pub fn start_host<
     }
 }
 
-/// Runs the jobs as `run_live` does with the mailboxes of a desk, in a manner; the desk is told which scripts have
-/// ended. It answers and refuses as `run_live` does.
-pub fn record_live<
-    's,
-    R: Threads + Wait + Clock + Sync,
-    E: Eprint + IsTerminal + Sync,
-    S: Sink + Drop,
->(
-    rt: &'s R,
-    alloc: Global,
-    errors: &'s E,
-    jobs: &[Job],
-    settings: &Settings,
-    manner: Manner,
-    show: Option<&'s Show>,
-    desk: &'s Desk,
-    inboxes: Vec<Inbox>,
-    sink: S,
-) -> Result<(Report, Vec<Inbox>, S), LiveError<S>>
-    requires countable { S.failures sink < 2 ^ 64 - 1 }
-    requires ends { AreInboxesOf desk.now.boxes.items inboxes.items }
-    ensures lawful { OnOk result (AreLawful jobs.now settings.now
-        × HaveMail jobs.now desk.now.boxes.items inboxes.items) }
-    ensures ran { IfOk result (λ r. RanLive S.taken settings.now.posts jobs.now settings.now inboxes.items sink r.0
-        r.1.items r.2) }
-    ensures ends { IfOk result (λ r. AreInboxesOf desk.now.boxes.items r.1.items) }
-    ensures room { IfOk result (λ r. RefusesNoneWithRoom jobs.now settings.now r.0) }
-    ensures refused { IfErr result
-        (λ e. LeavesLive S.taken S.failures settings.now.posts jobs.now settings.now desk.now.boxes.items
-        inboxes.items sink e.fault e.inboxes.items) }
-    ensures back { IfErr result (λ e. AreInboxesOf desk.now.boxes.items e.inboxes.items) }
-{
-    let progress = Progress::begin(rt, errors);
-    let session = SessionGate::around(&progress, rt, rt, manner.pace, Some(desk), show);
-    let held = HoldingGate::around(&session, manner.most(settings));
-    let answer = run_live(rt, alloc, jobs, settings, &desk.boxes, inboxes, &held, sink);
-    progress.end();
-    answer
+/// A run that a person watches or drives: its jobs and settings, how it goes on, and where it is shown.
+#[derive(Drop)]
+pub struct Session<'s, R, E> {
+    pub rt: &'s R,
+    pub alloc: Global,
+    /// Where a line says how far the recording has come, as by `Progress`.
+    pub errors: &'s E,
+    pub jobs: &'s [Job],
+    pub settings: &'s Settings,
+    pub manner: Manner,
+    /// What shows its messages, where they are shown.
+    pub show: Option<&'s Show>,
+}
+
+impl<'s, R: Threads + Wait + Clock + Sync, E: Eprint + IsTerminal + Sync> Session<'s, R, E> {
+    /// Runs the jobs as `run` does. It answers and refuses as `run` does.
+    pub fn record_paced<S: Sink + Drop>(&self, sink: S) -> Result<(Report, S), RunError<S>>
+        requires { S.failures sink < 2 ^ 64 - 1 }
+        ensures { RanOrLeft S.taken S.failures self.now.jobs.now self.now.settings.now sink result }
+    {
+        let (rt, manner) = (self.rt, self.manner);
+        let progress = Progress::begin(rt, self.errors);
+        let session = SessionGate::around(&progress, rt, rt, manner.pace, None, self.show);
+        let held = HoldingGate::around(&session, manner.most(self.settings));
+        let answer = run(rt, self.alloc, self.jobs, self.settings, &held, sink);
+        progress.end();
+        answer
+    }
+
+    /// Runs the jobs as `run_live` does with the mailboxes of a desk; the desk is told which scripts have ended. It
+    /// answers and refuses as `run_live` does.
+    pub fn record_live<S: Sink + Drop>(
+        &self,
+        desk: &Desk,
+        inboxes: Vec<Inbox>,
+        sink: S,
+    ) -> Result<(Report, Vec<Inbox>, S), LiveError<S>>
+        requires countable { S.failures sink < 2 ^ 64 - 1 }
+        requires ends { AreInboxesOf desk.now.boxes.items inboxes.items }
+        ensures lawful { OnOk result (AreLawful self.now.jobs.now self.now.settings.now
+            × HaveMail self.now.jobs.now desk.now.boxes.items inboxes.items) }
+        ensures ran { IfOk result (λ r. RanLive S.taken self.now.settings.now.posts self.now.jobs.now
+            self.now.settings.now inboxes.items sink r.0 r.1.items r.2) }
+        ensures ends { IfOk result (λ r. AreInboxesOf desk.now.boxes.items r.1.items) }
+        ensures room { IfOk result (λ r. RefusesNoneWithRoom self.now.jobs.now self.now.settings.now r.0) }
+        ensures refused { IfErr result
+            (λ e. LeavesLive S.taken S.failures self.now.settings.now.posts self.now.jobs.now self.now.settings.now
+            desk.now.boxes.items inboxes.items sink e.fault e.inboxes.items) }
+        ensures back { IfErr result (λ e. AreInboxesOf desk.now.boxes.items e.inboxes.items) }
+    {
+        let (rt, manner) = (self.rt, self.manner);
+        let progress = Progress::begin(rt, self.errors);
+        let session = SessionGate::around(&progress, rt, rt, manner.pace, Some(desk), self.show);
+        let held = HoldingGate::around(&session, manner.most(self.settings));
+        let (jobs, settings) = (self.jobs, self.settings);
+        let answer = run_live(
+            rt,
+            self.alloc,
+            jobs,
+            settings,
+            &desk.boxes,
+            inboxes,
+            &held,
+            sink,
+        );
+        progress.end();
+        answer
+    }
 }

@@ -1,5 +1,7 @@
 //! What is said of lines that were not posted.
 ghost use Rattle.bench_live.specs.Posting.{AreHandsOf};
+ghost use Rattle.bench_live.specs.Telling.{told_text};
+ghost use Rattle.std.specs.Prelude.{Some};
 
 use crate::desk::{Desk, Hand};
 use crate::posting::{PostFault, Told, next_fault};
@@ -11,9 +13,6 @@ use std::sync::Wait;
 
 /// `H2 line 3`, `channel 9 is not there: line 3`.
 impl Display for Told {
-    ghost use Rattle.bench_live.specs.Telling.{told_text};
-    ghost use Rattle.std.specs.Prelude.{Some};
-
     ghost output = { λ told. Some (told_text told.number told.fault) };
 
     fn fmt<W: Write>(&self, f: &mut Formatter<W>) -> fmt::Result {

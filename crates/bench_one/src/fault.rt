@@ -1,6 +1,7 @@
 //! Why there is no packet.
+ghost use Rattle.bench_one.specs.Codes.{fault_text};
 ghost use Rattle.bench_one.specs.declared.fault.OneFault.TheVariants.{Memory};
-ghost use Rattle.std.specs.Prelude.{◌≡◌};
+ghost use Rattle.std.specs.Prelude.{◌≡◌, Some};
 
 use frame_text::{Cause, Place, ScriptError};
 use std::alloc::AllocError;
@@ -17,9 +18,6 @@ pub enum OneFault {
 
 /// `S1 line 1 column 3`, `S4 line 1 column 3 M3`, `memory`.
 impl Display for OneFault {
-    ghost use Rattle.bench_one.specs.Codes.{fault_text};
-    ghost use Rattle.std.specs.Prelude.{Some};
-
     ghost output = { λ e. Some (fault_text e) };
 
     fn fmt<W: Write>(&self, f: &mut Formatter<W>) -> fmt::Result {

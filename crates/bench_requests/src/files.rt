@@ -1,8 +1,9 @@
 //! Files, read and written whole.
 
 use crate::fault::Fault;
-use bench_dump::{DumpFault, read_sized};
+use bench_dump::read_sized;
 use bench_files::{Hold, Kind, OutFile, refuse_other_kind};
+use ch11_stream::StreamFault;
 use std::fs::{self, OpenFile};
 use std::io::Write;
 use std::rt::Files;
@@ -43,7 +44,7 @@ pub fn read_whole<'a, R: Files + AllocGlobal>(rt: &R, name: &'a str) -> Result<V
     let size = size_of(&file);
     match read_sized(rt.alloc(), &mut file, size) {
         Ok(bytes) => Ok(bytes),
-        Err(DumpFault::Memory) => Err(Fault::Memory),
+        Err(StreamFault::Memory) => Err(Fault::Memory),
         Err(_) => Err(Fault::Device(name)),
     }
 }

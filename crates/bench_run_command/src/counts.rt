@@ -1,7 +1,7 @@
 //! How much a recording holds.
 ghost use Rattle.bench_run_command.specs.Counted.{kept_count, messages_of, counts_line};
 ghost use Rattle.std.specs.Io.KnownBytes.{Appends};
-ghost use Rattle.std.specs.Prelude.{◌≡◌, ◌++◌, ◌∷◌, [], OnOk};
+ghost use Rattle.std.specs.Prelude.{◌≡◌, ◌++◌, ◌∷◌, [], OnOk, Some};
 
 use bench_report::{ChannelReport, Report};
 use std::io::Write;
@@ -43,9 +43,6 @@ fn kept(channel: &ChannelReport) -> u64
 
 /// `packets 2 messages 20`
 impl fmt::Display for Counts {
-    ghost use Rattle.bench_run_command.specs.Counted.{counts_line};
-    ghost use Rattle.std.specs.Prelude.{Some};
-
     ghost output = { λ c. Some (counts_line c.packets c.messages) };
 
     fn fmt<W: fmt::Write>(&self, f: &mut fmt::Formatter<W>) -> fmt::Result {

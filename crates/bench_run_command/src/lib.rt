@@ -9,5 +9,5 @@ mod refused;
 
 pub use counts::{Counts, print_counts};
 pub use progress::Progress;
-pub use recording::{record_jobs, record_jobs_held, record_jobs_with_progress};
+pub use recording::{record_jobs, record_jobs_with_progress};
 pub use refused::refusals;

@@ -1,15 +1,9 @@
 //! How far a recording has come, on a terminal.
 use bench_run::Gate;
+use bench_watch::{Elapsed, PAUSE, QUIET};
 use std::io::IsTerminal;
 use std::rt::Clock;
 use std::sync::atomic::{AtomicU64, Ordering};
-use std::time::Duration;
-
-/// How many milliseconds a recording takes before anything is shown.
-const QUIET: u64 = 2000;
-
-/// How many milliseconds lie between two lines at least.
-const PAUSE: u64 = 200;
 
 /// After so many messages the clock is looked at.
 const STRIDE: u64 = 2048;
@@ -18,10 +12,9 @@ const STRIDE: u64 = 2048;
 /// again once the recording has taken two seconds, and only where the errors go to a terminal and there is a clock.
 #[derive(Drop)]
 pub struct Progress<'a, C, E> {
-    clock: &'a C,
     errors: &'a E,
-    /// When the recording began, where anything may be shown.
-    began: Option<Duration>,
+    /// The time since the recording began.
+    elapsed: Elapsed<'a, C>,
     /// How many messages the writer has taken.
     taken: AtomicU64,
     /// How many milliseconds after the beginning the next line may be shown.
@@ -31,15 +24,9 @@ pub struct Progress<'a, C, E> {
 impl<'a, C: Clock, E: Eprint + IsTerminal> Progress<'a, C, E> {
     /// The progress of a recording that begins now.
     pub fn begin(clock: &'a C, errors: &'a E) -> Progress<'a, C, E> {
-        let began = if errors.is_terminal() {
-            clock.monotonic().ok()
-        } else {
-            None
-        };
         Progress {
-            clock,
             errors,
-            began,
+            elapsed: Elapsed::begin(clock, errors),
             taken: AtomicU64::new(0),
             due: AtomicU64::new(QUIET),
         }
@@ -54,11 +41,10 @@ impl<'a, C: Clock, E: Eprint + IsTerminal> Progress<'a, C, E> {
     }
 
     /// Shows how many messages were taken, where it is time to.
-    fn show(&self, began: Duration, taken: u64) {
-        let Ok(now) = self.clock.monotonic() else {
+    fn show(&self, taken: u64) {
+        let Some(passed) = self.elapsed.milliseconds() else {
             return;
         };
-        let passed = milliseconds(now.saturating_sub(began));
         if passed >= self.due.load(Ordering::SeqCst) {
             let _ = eprint!(self.errors; "\r{taken} messages");
             self.due
@@ -74,21 +60,11 @@ impl<C: Clock + Sync, E: Eprint + IsTerminal + Sync> Gate for Progress<'_, C, E>
 
     /// An end mark, with the number 0, is no message.
     fn after_take(&self, _channel: u16, number: u32) {
-        let Some(began) = self.began else {
-            return;
-        };
-        if number > 0 {
+        if number > 0 && self.elapsed.is_shown() {
             let taken = self.taken.fetch_add(1, Ordering::SeqCst).wrapping_add(1);
             if taken % STRIDE == 0 {
-                self.show(began, taken);
+                self.show(taken);
             }
         }
     }
-}
-
-/// A span in whole milliseconds, as far as they can be counted.
-fn milliseconds(span: Duration) -> u64 {
-    span.as_secs()
-        .saturating_mul(1000)
-        .saturating_add(u64::from(span.subsec_millis()))
 }

@@ -1,7 +1,6 @@
 //! Jobs recorded: with or without a word on how far the recording has come, and with buses that are held or not.
-ghost use Rattle.bench_core.specs.Lawful.{AreLawful};
-ghost use Rattle.bench_run.specs.Runs.{Ran, RefusesNoneWithRoom, Leaves};
-ghost use Rattle.std.specs.Prelude.{◌-◌, ◌<◌, ◌^◌, IfOk, IfErr, OnOk};
+ghost use Rattle.bench_run.specs.Runs.{RanOrLeft};
+ghost use Rattle.std.specs.Prelude.{◌-◌, ◌<◌, ◌^◌};
 
 use crate::progress::Progress;
 use bench_core::Settings;
@@ -27,17 +26,15 @@ pub fn record_jobs<R: Threads + Wait + Sync, S: Sink + Drop>(
     settings: &Settings,
     sink: S,
 ) -> Result<(Report, S), RunError<S>>
-    requires countable { S.failures sink < 2 ^ 64 - 1 }
-    ensures lawful { OnOk result (AreLawful jobs.now settings.now) }
-    ensures ran { IfOk result (λ r. Ran S.taken jobs.now settings.now sink r.0 r.1) }
-    ensures room { IfOk result (λ r. RefusesNoneWithRoom jobs.now settings.now r.0) }
-    ensures refused { IfErr result (Leaves S.taken S.failures jobs.now settings.now sink) }
+    requires { S.failures sink < 2 ^ 64 - 1 }
+    ensures { RanOrLeft S.taken S.failures jobs.now settings.now sink result }
 {
     run(rt, alloc, jobs, settings, &OpenGate, sink)
 }
 
 /// The same, and where these errors go to a terminal and the run takes more than two seconds, a line there says how
-/// many messages the writer has taken. It answers and refuses as `record_jobs` does.
+/// many messages the writer has taken. Unless messages may be dropped, buses are held: before each message a channel
+/// waits until the queue has room for it, so that no message is refused. It answers and refuses as `record_jobs` does.
 pub fn record_jobs_with_progress<
     R: Threads + Wait + Clock + Sync,
     E: Eprint + IsTerminal + Sync,
@@ -48,41 +45,18 @@ pub fn record_jobs_with_progress<
     errors: &E,
     jobs: &[Job],
     settings: &Settings,
+    drops: bool,
     sink: S,
 ) -> Result<(Report, S), RunError<S>>
-    requires countable { S.failures sink < 2 ^ 64 - 1 }
-    ensures lawful { OnOk result (AreLawful jobs.now settings.now) }
-    ensures ran { IfOk result (λ r. Ran S.taken jobs.now settings.now sink r.0 r.1) }
-    ensures room { IfOk result (λ r. RefusesNoneWithRoom jobs.now settings.now r.0) }
-    ensures refused { IfErr result (Leaves S.taken S.failures jobs.now settings.now sink) }
+    requires { S.failures sink < 2 ^ 64 - 1 }
+    ensures { RanOrLeft S.taken S.failures jobs.now settings.now sink result }
 {
     let progress = Progress::begin(rt, errors);
-    let answer = run(rt, alloc, jobs, settings, &progress, sink);
-    progress.end();
-    answer
-}
-
-/// The same as `record_jobs_with_progress`, with buses that are held: before each message a channel waits until the
-/// queue has room for it, so that no message is refused. It answers and refuses as `record_jobs` does.
-pub fn record_jobs_held<
-    R: Threads + Wait + Clock + Sync,
-    E: Eprint + IsTerminal + Sync,
-    S: Sink + Drop,
->(
-    rt: &R,
-    alloc: Global,
-    errors: &E,
-    jobs: &[Job],
-    settings: &Settings,
-    sink: S,
-) -> Result<(Report, S), RunError<S>>
-    requires countable { S.failures sink < 2 ^ 64 - 1 }
-    ensures lawful { OnOk result (AreLawful jobs.now settings.now) }
-    ensures ran { IfOk result (λ r. Ran S.taken jobs.now settings.now sink r.0 r.1) }
-    ensures room { IfOk result (λ r. RefusesNoneWithRoom jobs.now settings.now r.0) }
-    ensures refused { IfErr result (Leaves S.taken S.failures jobs.now settings.now sink) }
-{
-    let progress = Progress::begin(rt, errors);
+    if drops {
+        let answer = run(rt, alloc, jobs, settings, &progress, sink);
+        progress.end();
+        return answer;
+    }
     let held = HoldingGate::around(&progress, settings.queue);
     let answer = run(rt, alloc, jobs, settings, &held, sink);
     progress.end();
