@@ -7,6 +7,7 @@ mod images;
 mod job_refusals;
 mod jobs;
 mod jobs_together;
+mod letters;
 mod loading;
 mod many_messages;
 mod placed_lists;

@@ -1,6 +1,6 @@
 //! Steps that post actions of hosts: where these act, what a report says of them, and what is refused.
 use crate::tests::scripts::Found::{Messages, Stamp, Words};
-use crate::tests::scripts::Then::{Finds, Holds, Plays, Reports};
+use crate::tests::scripts::Then::{Holds, Leaves, Plays, Reports};
 use crate::tests::scripts::{Found, MadeOf, Script, are_played};
 use bench_core::PlayError;
 
@@ -59,9 +59,7 @@ const SCRIPTS: &[Script] = &[
         made_of: FOUR_POSTS,
         steps: &[
             Plays("05000TTTT", Ok(())),
-            Holds(84, 0),
-            Finds(FLAG_FROM_SECOND),
-            Reports(ONE_PLACED),
+            Leaves(84, FLAG_FROM_SECOND, ONE_PLACED),
         ],
     },
     Script {
@@ -72,9 +70,7 @@ const SCRIPTS: &[Script] = &[
         },
         steps: &[
             Plays("05000TTTT", Ok(())),
-            Holds(84, 0),
-            Finds(FLAG_FROM_SECOND),
-            Reports(OWN_FIRST),
+            Leaves(84, FLAG_FROM_SECOND, OWN_FIRST),
         ],
     },
     Script {
@@ -97,9 +93,7 @@ const SCRIPTS: &[Script] = &[
             Plays("05", Ok(())),
             Plays("05", Err(PlayError::Posts)),
             Plays("000TTTT", Ok(())),
-            Holds(84, 0),
-            Finds(FLAG_FROM_SECOND),
-            Reports(ONE_PLACED),
+            Leaves(84, FLAG_FROM_SECOND, ONE_PLACED),
         ],
     },
     Script {

@@ -47,6 +47,8 @@ pub(crate) enum Then {
     HasPacket(usize, (u16, u32, u8)),
     /// The file, read as a recording, has these.
     Finds(&'static [Found]),
+    /// The queue is empty: how many bytes the file has, what it has as a recording, and the report, printed.
+    Leaves(usize, &'static [Found], &'static str),
 }
 
 /// What is found in a recording.
@@ -62,7 +64,7 @@ pub(crate) enum Found {
     OneBehindTheOther,
 }
 
-use Then::{Finds, HasPacket, Holds, IsFront, Plays, Reports, Times};
+use Then::{Finds, HasPacket, Holds, IsFront, Leaves, Plays, Reports, Times};
 
 /// Scripts, each in a world of its own.
 pub(crate) fn are_played(rt: &impl Abort, alloc: Global, scripts: &[Script]) {
@@ -87,15 +89,23 @@ fn plays(rt: &impl Abort, alloc: Global, row: &str, world: &mut World, step: The
                 is_answered(rt, alloc, row, world, text, Ok(()));
             }
         }
-        Holds(file, queued) => {
-            let found = (world.file().len(), world.queued().len());
-            same_in(rt, row, &found, &(file, queued));
-        }
+        Holds(file, queued) => holds(rt, row, world, file, queued),
         Reports(text) => reports(rt, alloc, row, world, text),
         IsFront(length) => are_bytes(rt, row, world.file(), front(length)),
         HasPacket(place, shape) => has_packet(rt, row, world.file(), place, shape),
         Finds(found) => are_found(rt, alloc, row, world.file(), found),
+        Leaves(file, found, report) => {
+            holds(rt, row, world, file, 0);
+            are_found(rt, alloc, row, world.file(), found);
+            reports(rt, alloc, row, world, report);
+        }
     }
+}
+
+/// So many bytes stand in the file, and so many items in the queue.
+fn holds(rt: &impl Abort, row: &str, world: &World, file: usize, queued: usize) {
+    let found = (world.file().len(), world.queued().len());
+    same_in(rt, row, &found, &(file, queued));
 }
 
 /// The answer of a world to these steps.

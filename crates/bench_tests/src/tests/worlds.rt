@@ -1,7 +1,9 @@
 //! Steps of a bench: its file, its report, and what is refused.
 use crate::tests::equal::{printed, reads, same_in};
 use crate::tests::scripts::Found::{Messages, OneBehindTheOther, Stamp};
-use crate::tests::scripts::Then::{Finds, HasPacket, Holds, IsFront, Plays, Reports, Times};
+use crate::tests::scripts::Then::{
+    Finds, HasPacket, Holds, IsFront, Leaves, Plays, Reports, Times,
+};
 use crate::tests::scripts::{Found, MadeOf, Script, are_played, made, steps_of};
 use bench_core::{PlayError, WorldError};
 use std::alloc::Global;
@@ -82,32 +84,17 @@ const SCRIPTS: &[Script] = &[
     Script {
         name: "ten messages: 0 1 T T",
         made_of: WIDE,
-        steps: &[
-            Times(11, "0 1 T T"),
-            Holds(456, 0),
-            Finds(TEN_AND_TEN),
-            Reports(ALL_TEN),
-        ],
+        steps: &[Times(11, "0 1 T T"), Leaves(456, TEN_AND_TEN, ALL_TEN)],
     },
     Script {
         name: "ten messages: 1 0 T T",
         made_of: WIDE,
-        steps: &[
-            Times(11, "1 0 T T"),
-            Holds(456, 0),
-            Finds(TEN_AND_TEN),
-            Reports(ALL_TEN),
-        ],
+        steps: &[Times(11, "1 0 T T"), Leaves(456, TEN_AND_TEN, ALL_TEN)],
     },
     Script {
         name: "ten messages: 0 T 1 T",
         made_of: WIDE,
-        steps: &[
-            Times(11, "0 T 1 T"),
-            Holds(456, 0),
-            Finds(TEN_AND_TEN),
-            Reports(ALL_TEN),
-        ],
+        steps: &[Times(11, "0 T 1 T"), Leaves(456, TEN_AND_TEN, ALL_TEN)],
     },
     Script {
         name: "offers before takes",

@@ -4,7 +4,7 @@ use crate::tests::equal::{are_bytes, same, wrote};
 use crate::tests::streamed::{damaged, failing, pair, refusal};
 use crate::tests::streams::{Slow, reader_of};
 use bench_decode::{Output, Selection, Shown, decode, decode_from};
-use bench_dump::DumpFault;
+use ch11_stream::StreamFault;
 use std::alloc::Global;
 use std::process::Abort;
 
@@ -33,7 +33,7 @@ fn output_of(errors: bool, decoded: bool) -> Output {
 }
 
 /// What is printed of a reader's file, and of how many messages or why not.
-fn printed(alloc: Global, input: Slow<'_>, output: &Output) -> (Result<u64, DumpFault>, Vec<u8>) {
+fn printed(alloc: Global, input: Slow<'_>, output: &Output) -> (Result<u64, StreamFault>, Vec<u8>) {
     let mut out = Vec::new(alloc);
     let answer = decode_from(alloc, input, &mut out, output);
     (answer, out)
@@ -73,9 +73,9 @@ fn decoded_lines_come_from_packets(rt: HostRuntime) {
 fn messages_of_a_damaged_file_are_refused(rt: HostRuntime) {
     let alloc = rt.alloc();
     let (all, file, broken) = (output_of(false, false), pair(), damaged());
-    let refused = Err(DumpFault::Refused(refusal()));
+    let refused = Err(StreamFault::Refused(refusal()));
     let found = printed(alloc, reader_of(&broken, 1), &all);
     wrote(&rt, found, refused, "");
     let found = printed(alloc, failing(&file, 150), &all);
-    wrote(&rt, found, Err(DumpFault::Device), "");
+    wrote(&rt, found, Err(StreamFault::Device), "");
 }

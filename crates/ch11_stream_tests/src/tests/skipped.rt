@@ -4,7 +4,7 @@ use crate::tests::equal::{same, wrote};
 use crate::tests::streamed::failing;
 use crate::tests::streams::{Slow, reader_of};
 use bench_clock::Clock;
-use bench_dump::{DumpFault, dump_skipping_from};
+use bench_dump::dump_skipping_from;
 use ch11_header::HeaderError;
 use ch11_reader::{Fault, Index, Packet, Skip};
 use ch11_stream::{StreamFault, Stretch, Stretches};
@@ -51,7 +51,7 @@ fn over_a_packet() -> [u8; 88] {
 }
 
 /// What is printed of a reader's file, and how that ends.
-fn dumped(rt: &impl Abort, alloc: Global, input: Slow<'_>) -> (Result<(), DumpFault>, Vec<u8>) {
+fn dumped(rt: &impl Abort, alloc: Global, input: Slow<'_>) -> (Result<(), StreamFault>, Vec<u8>) {
     let clock = Clock::of(alloc, &[], &[]).ok().expect(rt, "memory");
     let mut out = Vec::new(alloc);
     let answer = dump_skipping_from(alloc, input, &clock, &mut out);
@@ -126,7 +126,7 @@ fn a_failing_reader_is_told(rt: HostRuntime) {
     gives(&rt, &mut stretches, Err(StreamFault::Device));
     gives(&rt, &mut stretches, Err(StreamFault::Device));
     let found = dumped(&rt, rt.alloc(), input);
-    wrote(&rt, found, Err(DumpFault::Device), "");
+    wrote(&rt, found, Err(StreamFault::Device), "");
 }
 
 /// The stretches of a reader are these packets and skips, and no others.

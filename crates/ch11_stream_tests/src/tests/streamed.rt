@@ -2,7 +2,6 @@
 
 use crate::tests::equal::{are, same, wrote};
 use crate::tests::streams::{Slow, reader_of};
-use bench_dump::DumpFault;
 use bench_judge::{Verdict, judge_from};
 use bench_passes::dump_in_two_passes;
 use bench_select::Selection;
@@ -196,7 +195,7 @@ fn a_file_is_checked_to_its_end(rt: HostRuntime) {
 }
 
 /// What is printed of two readers' files, and how that ends.
-fn dumped(alloc: Global, first: Slow<'_>, second: Slow<'_>) -> (Result<(), DumpFault>, Vec<u8>) {
+fn dumped(alloc: Global, first: Slow<'_>, second: Slow<'_>) -> (Result<(), StreamFault>, Vec<u8>) {
     let mut out = Vec::new(alloc);
     let answer = dump_in_two_passes(alloc, first, second, &mut out);
     (answer, out)
@@ -216,12 +215,12 @@ fn a_file_is_printed_in_its_second_pass(rt: HostRuntime) {
 fn nothing_is_printed_where_the_first_pass_fails(rt: HostRuntime) {
     let alloc = rt.alloc();
     let (file, broken) = (pair(), damaged());
-    let refused = Err(DumpFault::Refused(refusal()));
+    let refused = Err(StreamFault::Refused(refusal()));
     let second = reader_of(&file, 7);
     let first = reader_of(&broken, 1);
     wrote(&rt, dumped(alloc, first, second), refused, "");
     let first = failing(&file, 100);
-    let failed = Err(DumpFault::Device);
+    let failed = Err(StreamFault::Device);
     wrote(&rt, dumped(alloc, first, second), failed, "");
 }
 
@@ -229,7 +228,7 @@ fn nothing_is_printed_where_the_first_pass_fails(rt: HostRuntime) {
 #[test]
 fn the_second_pass_has_its_own_fault(rt: HostRuntime) {
     let (file, broken) = (pair(), damaged());
-    let refused = Err(DumpFault::Refused(refusal()));
+    let refused = Err(StreamFault::Refused(refusal()));
     let (first, second) = (reader_of(&file, 7), reader_of(&broken, 7));
     wrote(&rt, dumped(rt.alloc(), first, second), refused, "");
 }

@@ -5,7 +5,7 @@ use crate::tests::equal::{are_bytes, same, wrote};
 use crate::tests::streamed::{PAIR_TEXT, failing, pair};
 use crate::tests::streams::{Slow, reader_of};
 use bench_clock::{Clock, clock_from};
-use bench_dump::{DumpFault, dump_skipping_from};
+use bench_dump::dump_skipping_from;
 use bench_passes::dump_with_times_in_two_passes;
 use ch11_header::{Header, HeaderError, write_header};
 use ch11_reader::{Fault, Refusal};
@@ -167,7 +167,7 @@ fn bytes_of_other_packets_are_passed(rt: HostRuntime) {
 }
 
 /// What is printed of two readers' files with times of day, and how that ends.
-fn dumped(alloc: Global, first: Slow<'_>, second: Slow<'_>) -> (Result<(), DumpFault>, Vec<u8>) {
+fn dumped(alloc: Global, first: Slow<'_>, second: Slow<'_>) -> (Result<(), StreamFault>, Vec<u8>) {
     let mut out = Vec::new(alloc);
     let answer = dump_with_times_in_two_passes(alloc, first, second, &mut out);
     (answer, out)
@@ -200,11 +200,11 @@ fn no_times_are_printed_where_the_first_pass_fails(rt: HostRuntime) {
         offset: 300,
         fault: Fault::End,
     };
-    let refused = Err(DumpFault::Refused(short));
+    let refused = Err(StreamFault::Refused(short));
     let first = reader_of(&file[..363], 1);
     wrote(&rt, dumped(alloc, first, second), refused, "");
     let first = failing(&file, 364);
-    let failed = Err(DumpFault::Device);
+    let failed = Err(StreamFault::Device);
     wrote(&rt, dumped(alloc, first, second), failed, "");
 }
 

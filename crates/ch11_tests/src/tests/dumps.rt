@@ -1,7 +1,8 @@
 //! Dumps against the worked one.
 
 use crate::tests::equal::{are_bytes, reads, same};
-use bench_dump::{DumpFault, dump, read_all};
+use bench_dump::{dump, read_all};
+use ch11_stream::StreamFault;
 use std::alloc::Global;
 use std::io;
 use std::io::Read;
@@ -54,7 +55,7 @@ fn prints_nothing_of_a_refused_file(rt: HostRuntime) {
 }
 
 /// The fault of a file of which nothing is printed.
-fn refused(rt: &impl Abort, alloc: Global, file: &[u8]) -> Option<DumpFault> {
+fn refused(rt: &impl Abort, alloc: Global, file: &[u8]) -> Option<StreamFault> {
     let mut out = Vec::new(alloc);
     let answer = dump(alloc, file, &mut out, false);
     assert!(rt; out.is_empty());
@@ -87,6 +88,6 @@ fn reads_a_long_file_whole(rt: HostRuntime) {
 fn gives_up_after_a_million_reads(rt: HostRuntime) {
     let mut input = Endless { reads: 0 };
     let fault = read_all(rt.alloc(), &mut input).err();
-    same(&rt, &fault, &Some(DumpFault::Device));
+    same(&rt, &fault, &Some(StreamFault::Device));
     same(&rt, &input.reads, &1_000_000);
 }

@@ -210,6 +210,9 @@ fn reads_each_prefix_of_the_foreign_file_both_ways(rt: HostRuntime) {
     }
 }
 
+/// The bytes of the foreign file: its first header and body, then its second header and body.
+const PARTS: [(usize, usize); 4] = [(0, 24), (24, 44), (44, 68), (68, 96)];
+
 /// Each change of one of these bytes of the foreign file is read both ways.
 fn changes_are_read_alike(rt: &impl Abort, alloc: Global, from: usize, to: usize) {
     for place in from..to {
@@ -220,23 +223,10 @@ fn changes_are_read_alike(rt: &impl Abort, alloc: Global, from: usize, to: usize
 }
 
 #[test]
-fn reads_each_change_of_the_first_header_both_ways(rt: HostRuntime) {
-    changes_are_read_alike(&rt, rt.alloc(), 0, 24);
-}
-
-#[test]
-fn reads_each_change_of_the_first_body_both_ways(rt: HostRuntime) {
-    changes_are_read_alike(&rt, rt.alloc(), 24, 44);
-}
-
-#[test]
-fn reads_each_change_of_the_second_header_both_ways(rt: HostRuntime) {
-    changes_are_read_alike(&rt, rt.alloc(), 44, 68);
-}
-
-#[test]
-fn reads_each_change_of_the_second_body_both_ways(rt: HostRuntime) {
-    changes_are_read_alike(&rt, rt.alloc(), 68, 96);
+fn reads_each_change_of_the_foreign_file_both_ways(rt: HostRuntime) {
+    for (from, to) in PARTS {
+        changes_are_read_alike(&rt, rt.alloc(), from, to);
+    }
 }
 
 /// Thirty packets of 52 bytes on three channels in turn.

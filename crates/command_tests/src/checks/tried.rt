@@ -1,6 +1,6 @@
 //! What `bench check` says of jobs, worked out by hand.
 use crate::looks::made::{TRANSFER, job_of};
-use bench_check::{Bits, print_findings, print_summary, tight_frames_in, try_job};
+use bench_check::{Bits, print_findings, tight_frames_in, try_job};
 use std::alloc::Global;
 use std::process::Abort;
 
@@ -185,11 +185,7 @@ fn comes_to(rt: &impl Abort, alloc: Global, row: &Row) {
     if *summary {
         out.clear();
     }
-    let printed = if *summary {
-        print_summary(alloc, &job, &findings, &tight, &mut out)
-    } else {
-        print_findings(alloc, &job, &findings, &tight, &mut out)
-    };
+    let printed = print_findings(alloc, &job, &findings, &tight, *summary, &mut out);
     assert!(rt; printed.is_ok());
     assert_eq!(rt; out.as_slice(), wanted.as_bytes());
 }

@@ -1,9 +1,10 @@
 //! What hosts set, and the data words that terminals hold.
-use crate::steps::made::{NEW_5, NEW_9, prints, subject_of};
-use bench_step::Manner;
+use crate::steps::made::{NEW_5, NEW_9, RunTexts, is_answered};
 
 /// Two terminals whose hosts set each of their marks.
-const MARKED: &str = "\
+const MARKED: RunTexts = RunTexts {
+    jobs: &[
+        "\
 channel 4
 terminal 5
 terminal 9
@@ -17,9 +18,9 @@ at 3 9 control off
 at 3 9 control on
 script
 repeat 3 { send A mode 5 1 }
-";
-
-const MARKED_REPORT: &str = "\
+",
+    ],
+    report: "\
 channel 4
 made 3
 placed 1 5 busy on
@@ -31,7 +32,8 @@ placed 3 5 fault on
 placed 3 9 control off
 placed 3 9 control on
 packets 1
-";
+",
+};
 
 /// Terminal 9 with the mark of its host, before its first message.
 const MARKED_9: &str = "terminal 9 status 4800 last 0000 vector 0000 bit 0000 sync 0000 off -\n\
@@ -56,7 +58,9 @@ const MARKED_STATES: &[&str] = &[
 ];
 
 /// A terminal that is sent words, alone and with all others, and whose host puts words up.
-const FILLED: &str = "\
+const FILLED: RunTexts = RunTexts {
+    jobs: &[
+        "\
 channel 1
 terminal 5
 at 3 5 transmit 4 BEEF CAFE
@@ -64,9 +68,10 @@ script
 send A rx 5 3 [0001 0002]
 send A brx 3 [00AA]
 send A rx 5 30 [0007]
-";
-
-const FILLED_REPORT: &str = "channel 1\nmade 3\nplaced 3 5 transmit 4 BEEF CAFE\npackets 1\n";
+",
+    ],
+    report: "channel 1\nmade 3\nplaced 3 5 transmit 4 BEEF CAFE\npackets 1\n",
+};
 
 const FILLED_DATA: &str = "\
 channel 1 number 0
@@ -102,16 +107,14 @@ unknown
 
 #[test]
 fn marks_of_hosts(rt: HostRuntime) {
-    let one = subject_of(&rt, rt.alloc(), &[MARKED], MARKED_REPORT);
     let lines = "state --all\nforward\nstate --all\nforward\nstate --all\nforward\nstate --all\n";
-    prints(&rt, rt.alloc(), &one, Manner::Given, lines, MARKED_STATES);
+    is_answered(&rt, rt.alloc(), &MARKED, lines, MARKED_STATES);
 }
 
 #[test]
 fn words_at_a_subaddress(rt: HostRuntime) {
-    let one = subject_of(&rt, rt.alloc(), &[FILLED], FILLED_REPORT);
     let lines =
         "data 5 3\nforward\ndata 5 3\ngo 3\ndata 5 3\n data  5 4 \ndata 5 30\ndata 9 1\ndata 5\ndata 5 0\ndata 5 31\n\
          data 31 1\ndata 5 1 1\ndata\n";
-    prints(&rt, rt.alloc(), &one, Manner::Given, lines, &[FILLED_DATA]);
+    is_answered(&rt, rt.alloc(), &FILLED, lines, &[FILLED_DATA]);
 }

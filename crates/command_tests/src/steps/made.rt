@@ -1,5 +1,5 @@
 //! Jobs, recordings and reports to step through.
-use crate::looks::equal::reads_all;
+use crate::looks::equal::{reads, reads_all};
 use crate::looks::made::{job_of, recorded};
 use bench_report::{Report, read_report};
 use bench_step::{Manner, StepFault, step};
@@ -8,27 +8,37 @@ use std::alloc::Global;
 use std::io::{BufRead, Write};
 use std::process::Abort;
 
-/// The job of a message that loses a word on its way, and of two questions for the status.
-pub(crate) const DROPPED: &str =
-    "channel 1\nterminal 5\nfault 1 drop 0 3\nscript\nsend A rx 5 1 [0001 0002 0003]\nsend A mode 5 2\n\
-     send A mode 5 2\n";
+/// The texts of jobs, and that of the report of their run.
+#[derive(Clone, Copy)]
+pub(crate) struct RunTexts {
+    pub(crate) jobs: &'static [&'static str],
+    pub(crate) report: &'static str,
+}
 
-/// Its report.
-pub(crate) const DROPPED_REPORT: &str = "channel 1\nmade 3\npackets 1\n";
+/// A message that loses a word on its way, and two questions for the status.
+pub(crate) const DROPPED: RunTexts = RunTexts {
+    jobs: &[
+        "channel 1\nterminal 5\nfault 1 drop 0 3\nscript\nsend A rx 5 1 [0001 0002 0003]\nsend A mode 5 2\n\
+         send A mode 5 2\n",
+    ],
+    report: "channel 1\nmade 3\npackets 1\n",
+};
 
 /// Three messages of one form, with the stamps 0, 48 and 96 µs.
-pub(crate) const EQUAL: &str = "channel 1\nterminal 5\nscript\nrepeat 3 { send A mode 5 1 }\n";
-
-pub(crate) const EQUAL_REPORT: &str = "channel 1\nmade 3\npackets 1\n";
+pub(crate) const EQUAL: RunTexts = RunTexts {
+    jobs: &["channel 1\nterminal 5\nscript\nrepeat 3 { send A mode 5 1 }\n"],
+    report: "channel 1\nmade 3\npackets 1\n",
+};
 
 /// Two channels, the first with a higher number, one behind the other in the file: places 1 and 2, and 3 and 4. Each
 /// has the stamps 0 and 48 µs.
-pub(crate) const TWO_CHANNELS: [&str; 2] = [
-    "channel 7\nterminal 5\nscript\nsend A mode 5 1\nsend A mode 5 1\n",
-    "channel 2\nterminal 5\nscript\nsend A mode 5 1\nsend A mode 5 1\n",
-];
-
-pub(crate) const TWO_CHANNELS_REPORT: &str = "channel 7\nmade 2\nchannel 2\nmade 2\npackets 2\n";
+pub(crate) const TWO_CHANNELS: RunTexts = RunTexts {
+    jobs: &[
+        "channel 7\nterminal 5\nscript\nsend A mode 5 1\nsend A mode 5 1\n",
+        "channel 2\nterminal 5\nscript\nsend A mode 5 1\nsend A mode 5 1\n",
+    ],
+    report: "channel 7\nmade 2\nchannel 2\nmade 2\npackets 2\n",
+};
 
 /// Terminal 5 before the first message, as `state --all` has it.
 pub(crate) const NEW_5: &str =
@@ -57,12 +67,12 @@ pub(crate) struct Subject {
     pub(crate) file: Vec<u8>,
 }
 
-/// The jobs of these texts, a report and the recordings.
-pub(crate) fn subject_of(rt: &impl Abort, alloc: Global, texts: &[&str], report: &str) -> Subject {
-    let jobs = jobs_of(rt, alloc, texts);
-    let report = read_report(alloc, report.as_bytes());
+/// The jobs and the report of a run, and its recording.
+pub(crate) fn subject_of(rt: &impl Abort, alloc: Global, texts: &RunTexts) -> Subject {
+    let jobs = jobs_of(rt, alloc, texts.jobs);
+    let report = read_report(alloc, texts.report.as_bytes());
     let report = report.ok().expect(rt, "a report");
-    let file = recorded(rt, alloc, texts);
+    let file = recorded(rt, alloc, texts.jobs);
     Subject { jobs, report, file }
 }
 
@@ -117,9 +127,24 @@ pub(crate) fn prints<'a>(
     input
 }
 
-/// Sessions of lines that come from a file end well, and print what stands beside the lines.
-pub(crate) fn answers(rt: &impl Abort, alloc: Global, one: &Subject, sessions: &[(&str, &str)]) {
+/// Sessions of a run, of lines that come from a file, end well and print what stands beside the lines.
+pub(crate) fn answers(rt: &impl Abort, alloc: Global, texts: &RunTexts, sessions: &[(&str, &str)]) {
+    let one = subject_of(rt, alloc, texts);
     for (lines, printed) in sessions {
-        prints(rt, alloc, one, Manner::Given, lines, &[*printed]);
+        prints(rt, alloc, &one, Manner::Given, lines, &[*printed]);
     }
+}
+
+/// A session of a run, of lines that come from a file, reads them all, ends well and prints these texts, one behind the
+/// other.
+pub(crate) fn is_answered(
+    rt: &impl Abort,
+    alloc: Global,
+    texts: &RunTexts,
+    lines: &str,
+    printed: &[&str],
+) {
+    let one = subject_of(rt, alloc, texts);
+    let left = prints(rt, alloc, &one, Manner::Given, lines, printed);
+    reads(rt, left, "");
 }

@@ -1,6 +1,6 @@
 //! Sessions that do not begin, or do not come to their end.
 use crate::looks::equal::reads;
-use crate::steps::made::{DROPPED, DROPPED_REPORT, Subject, subject_of};
+use crate::steps::made::{DROPPED, RunTexts, Subject, subject_of};
 use bench_step::StepFault;
 use std::alloc::Global;
 use std::io;
@@ -43,12 +43,20 @@ fn is_refused(rt: &impl Abort, alloc: Global, one: &Subject, wanted: &str) {
     reads(rt, left, "state\n");
 }
 
-const ONE_MESSAGE: &str = "channel 1\nterminal 5\nscript\nsend A rx 5 1 [0001 0002 0003]\n";
+const ONE_MESSAGE: RunTexts = RunTexts {
+    jobs: &["channel 1\nterminal 5\nscript\nsend A rx 5 1 [0001 0002 0003]\n"],
+    report: "channel 1\nmade 1\npackets 1\n",
+};
+
+/// The job of `DROPPED`, with a report of another channel.
+const OF_ANOTHER: RunTexts = RunTexts {
+    report: "channel 2\nmade 3\npackets 1\n",
+    ..DROPPED
+};
 
 /// The refusal of a session whose recording has one byte changed.
 fn refuses(rt: &impl Abort, alloc: Global, place: usize, value: u8, wanted: &str) {
-    let report = "channel 1\nmade 1\npackets 1\n";
-    let mut one = subject_of(rt, alloc, &[ONE_MESSAGE], report);
+    let mut one = subject_of(rt, alloc, &ONE_MESSAGE);
     *one.file.get_mut(place).expect(rt, "a byte") = value;
     is_refused(rt, alloc, &one, wanted);
 }
@@ -58,14 +66,13 @@ fn refuses(rt: &impl Abort, alloc: Global, place: usize, value: u8, wanted: &str
 fn sessions_that_do_not_begin(rt: HostRuntime) {
     refuses(&rt, rt.alloc(), 44, 0x02, "Y1 channel 1 number 1");
     refuses(&rt, rt.alloc(), 22, 0x7d, "K3 offset 0");
-    let report = "channel 2\nmade 3\npackets 1\n";
-    let other = subject_of(&rt, rt.alloc(), &[DROPPED], report);
+    let other = subject_of(&rt, rt.alloc(), &OF_ANOTHER);
     is_refused(&rt, rt.alloc(), &other, "Y1 channel 1 number 0");
 }
 
 #[test]
 fn a_closed_output(rt: HostRuntime) {
-    let one = subject_of(&rt, rt.alloc(), &[DROPPED], DROPPED_REPORT);
+    let one = subject_of(&rt, rt.alloc(), &DROPPED);
     let mut out = Short { room: 6 };
     let lines = "forward\nforward\nforward\n";
     let (ended, left) = one.session(rt.alloc(), lines, &mut out);

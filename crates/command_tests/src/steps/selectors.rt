@@ -1,9 +1,10 @@
 //! Moves to the messages that a selector is about.
-use crate::steps::made::{DROPPED, DROPPED_REPORT, answers, prints, subject_of};
-use bench_step::Manner;
+use crate::steps::made::{DROPPED, RunTexts, answers};
 
 /// A message of each of several forms.
-const FORMS: &str = "\
+const FORMS: RunTexts = RunTexts {
+    jobs: &[
+        "\
 channel 1
 terminal 5
 terminal 7
@@ -15,9 +16,10 @@ send A brx 3 [00AA]
 send A rt 7 3 5 4 1
 send A rx 7 3 [0002]
 send A tx 5 3 1
-";
-
-const FORMS_REPORT: &str = "channel 1\nmade 7\npackets 1\n";
+",
+    ],
+    report: "channel 1\nmade 7\npackets 1\n",
+};
 
 /// The lines of a session of them, and what is printed.
 const SESSIONS: [(&str, &str); 5] = [
@@ -49,17 +51,13 @@ const SESSIONS: [(&str, &str); 5] = [
 
 #[test]
 fn messages_of_selectors(rt: HostRuntime) {
-    let one = subject_of(&rt, rt.alloc(), &[FORMS], FORMS_REPORT);
-    answers(&rt, rt.alloc(), &one, &SESSIONS);
+    answers(&rt, rt.alloc(), &FORMS, &SESSIONS);
 }
 
 /// The state at the place is that behind the message, and a condition is one as before.
-#[test]
-fn states_behind_selectors(rt: HostRuntime) {
-    let one = subject_of(&rt, rt.alloc(), &[DROPPED], DROPPED_REPORT);
-    let lines =
-        "find rx 5 1\nstate\nfind any ( fail silent )\nfind mode 5 2\nfind mode 5 2\nstate\nfind back fail\n";
-    let printed = "\
+const STATES: [(&str, &str); 1] = [(
+    "find rx 5 1\nstate\nfind any ( fail silent )\nfind mode 5 2\nfind mode 5 2\nstate\nfind back fail\n",
+    "\
 at 1
 channel 1 number 1
 terminal 5 status 2C00 last 2823 vector 0000 bit 0000 sync 0000 off -
@@ -69,6 +67,10 @@ at 3
 channel 1 number 3
 terminal 5 status 2C00 last 2FE2 vector 0000 bit 0000 sync 0000 off -
 at 1
-";
-    prints(&rt, rt.alloc(), &one, Manner::Given, lines, &[printed]);
+",
+)];
+
+#[test]
+fn states_behind_selectors(rt: HostRuntime) {
+    answers(&rt, rt.alloc(), &DROPPED, &STATES);
 }

@@ -1,6 +1,5 @@
 //! What sessions print.
-use crate::steps::made::{DROPPED, DROPPED_REPORT, NEW_5, NEW_9, answers, prints, subject_of};
-use bench_step::Manner;
+use crate::steps::made::{DROPPED, NEW_5, NEW_9, RunTexts, answers, is_answered};
 
 /// The lines of sessions of one job, and the whole of what each prints.
 const SESSIONS: [(&str, &str); 5] = [
@@ -34,13 +33,13 @@ const SESSIONS: [(&str, &str); 5] = [
 ];
 
 /// Two channels, the first with a higher number.
-const FIRST: &str =
-    "channel 7\nterminal 9\nterminal 5\nat 1 9 vector 00AF\nscript\nsend A mode 5 4\nsend B mode 5 4\n";
-
-const SECOND: &str = "channel 2\nterminal 30\nscript\nsend B mode 30 4\nsend A mode 30 17 [BEEF]\n";
-
-const BOTH_REPORT: &str =
-    "channel 7\nmade 2\nplaced 1 9 vector 00AF\nchannel 2\nmade 2\npackets 2\n";
+const BOTH: RunTexts = RunTexts {
+    jobs: &[
+        "channel 7\nterminal 9\nterminal 5\nat 1 9 vector 00AF\nscript\nsend A mode 5 4\nsend B mode 5 4\n",
+        "channel 2\nterminal 30\nscript\nsend B mode 30 4\nsend A mode 30 17 [BEEF]\n",
+    ],
+    report: "channel 7\nmade 2\nplaced 1 9 vector 00AF\nchannel 2\nmade 2\npackets 2\n",
+};
 
 /// The second channel before its first message.
 const NEW_SECOND: &str =
@@ -63,7 +62,9 @@ const BOTH_STATES: &[&str] = &[
 ];
 
 /// Two terminals whose hosts have made them deaf and mute, and one whose host has not.
-const FAILING: &str = "\
+const FAILING: RunTexts = RunTexts {
+    jobs: &[
+        "\
 channel 3
 terminal 9
 terminal 5
@@ -77,9 +78,9 @@ at 3 5 mute A off
 at 3 9 deaf B on
 script
 repeat 3 { send A mode 5 1 }
-";
-
-const FAILING_REPORT: &str = "\
+",
+    ],
+    report: "\
 channel 3
 made 3
 placed 1 5 mute A on
@@ -90,7 +91,8 @@ placed 2 9 mute B on
 placed 3 5 mute A off
 placed 3 9 deaf B on
 packets 1
-";
+",
+};
 
 /// The registers of terminal 5 behind a poll.
 const POLLED_5: &str = "terminal 5 status 2800 last 2FE1 vector 0000 bit 0000 sync 0000 off -\n";
@@ -129,21 +131,22 @@ const FAILING_STATES: &[&str] = &[
 
 #[test]
 fn lines_are_answered(rt: HostRuntime) {
-    let one = subject_of(&rt, rt.alloc(), &[DROPPED], DROPPED_REPORT);
-    answers(&rt, rt.alloc(), &one, &SESSIONS);
+    answers(&rt, rt.alloc(), &DROPPED, &SESSIONS);
 }
 
-#[test]
-fn channels_in_the_order_of_jobs(rt: HostRuntime) {
-    let both = subject_of(&rt, rt.alloc(), &[FIRST, SECOND], BOTH_REPORT);
-    let lines = "state\nforward\nstate\ngo 4\nstate\n";
-    prints(&rt, rt.alloc(), &both, Manner::Given, lines, BOTH_STATES);
-}
+/// Runs, the lines of a session of each, and what it prints: channels in the order of jobs, and what hosts set.
+const STATES: [(RunTexts, &str, &[&str]); 2] = [
+    (BOTH, "state\nforward\nstate\ngo 4\nstate\n", BOTH_STATES),
+    (
+        FAILING,
+        "state --all\nforward\n  state   --all \nforward\nstate --all\ngo 3\nstate --all\nstate\n",
+        FAILING_STATES,
+    ),
+];
 
 #[test]
-fn what_hosts_set(rt: HostRuntime) {
-    let one = subject_of(&rt, rt.alloc(), &[FAILING], FAILING_REPORT);
-    let lines =
-        "state --all\nforward\n  state   --all \nforward\nstate --all\ngo 3\nstate --all\nstate\n";
-    prints(&rt, rt.alloc(), &one, Manner::Given, lines, FAILING_STATES);
+fn states_of_channels_and_hosts(rt: HostRuntime) {
+    for (texts, lines, printed) in STATES {
+        is_answered(&rt, rt.alloc(), &texts, lines, printed);
+    }
 }

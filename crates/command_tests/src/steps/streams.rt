@@ -1,6 +1,6 @@
 //! Readers and writers of sessions: answers are flushed one by one, and a fault ends a session with what was answered.
 use crate::looks::equal::reads;
-use crate::steps::made::{DROPPED, DROPPED_REPORT, subject_of};
+use crate::steps::made::{DROPPED, subject_of};
 use bench_step::{Manner, StepFault};
 use std::alloc::Global;
 use std::io;
@@ -63,7 +63,7 @@ impl Read for Broken {
 
 #[test]
 fn each_answer_is_flushed(rt: HostRuntime) {
-    let one = subject_of(&rt, rt.alloc(), &[DROPPED], DROPPED_REPORT);
+    let one = subject_of(&rt, rt.alloc(), &DROPPED);
     let mut out = Barred {
         text: Vec::new(rt.alloc()),
     };
@@ -74,7 +74,7 @@ fn each_answer_is_flushed(rt: HostRuntime) {
 
 #[test]
 fn a_flush_that_fails(rt: HostRuntime) {
-    let one = subject_of(&rt, rt.alloc(), &[DROPPED], DROPPED_REPORT);
+    let one = subject_of(&rt, rt.alloc(), &DROPPED);
     let mut out = Unflushed { taken: 0 };
     let (ended, left) = one.session(rt.alloc(), "forward\nback\n", &mut out);
     assert_eq!(&rt; ended, Err(StepFault::Output));
@@ -84,7 +84,7 @@ fn a_flush_that_fails(rt: HostRuntime) {
 
 /// How a session ends whose reader fails in this way behind its first line, which is answered.
 fn breaks(rt: &impl Abort, alloc: Global, kind: ErrorKind, fault: StepFault) {
-    let one = subject_of(rt, alloc, &[DROPPED], DROPPED_REPORT);
+    let one = subject_of(rt, alloc, &DROPPED);
     let reader = Broken {
         is_read: false,
         kind,

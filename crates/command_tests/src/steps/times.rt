@@ -1,7 +1,5 @@
 //! Moves by time.
-use crate::steps::made::{
-    EQUAL, EQUAL_REPORT, TWO_CHANNELS, TWO_CHANNELS_REPORT, prints, subject_of,
-};
+use crate::steps::made::{EQUAL, TWO_CHANNELS, is_answered, prints, subject_of};
 use bench_step::Manner;
 
 /// The lines of a session of `EQUAL`, how the lines come, and what is printed.
@@ -35,7 +33,7 @@ const SESSIONS: [(&str, Manner, &str); 4] = [
 
 #[test]
 fn places_of_times(rt: HostRuntime) {
-    let one = subject_of(&rt, rt.alloc(), &[EQUAL], EQUAL_REPORT);
+    let one = subject_of(&rt, rt.alloc(), &EQUAL);
     for (lines, manner, printed) in SESSIONS {
         prints(&rt, rt.alloc(), &one, manner, lines, &[printed]);
     }
@@ -43,8 +41,7 @@ fn places_of_times(rt: HostRuntime) {
 
 #[test]
 fn nothing_later_is_past(rt: HostRuntime) {
-    let both = subject_of(&rt, rt.alloc(), &TWO_CHANNELS, TWO_CHANNELS_REPORT);
     let lines = "go 47.9us\ngo 48us\n";
     let printed = "at 1\nat 4\n";
-    prints(&rt, rt.alloc(), &both, Manner::Given, lines, &[printed]);
+    is_answered(&rt, rt.alloc(), &TWO_CHANNELS, lines, &[printed]);
 }

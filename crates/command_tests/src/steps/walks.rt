@@ -1,9 +1,6 @@
 //! Moves by number, by channel and backwards, and messages as people read them.
 use crate::looks::equal::reads;
-use crate::steps::made::{
-    DROPPED, DROPPED_REPORT, EQUAL, EQUAL_REPORT, TWO_CHANNELS, TWO_CHANNELS_REPORT, prints,
-    subject_of,
-};
+use crate::steps::made::{DROPPED, EQUAL, TWO_CHANNELS, is_answered, prints, subject_of};
 use bench_step::Manner;
 
 /// The lines of a session of `EQUAL`, how the lines come, what is printed, and what is left.
@@ -78,7 +75,7 @@ at 1
 
 #[test]
 fn moves_and_messages(rt: HostRuntime) {
-    let one = subject_of(&rt, rt.alloc(), &[EQUAL], EQUAL_REPORT);
+    let one = subject_of(&rt, rt.alloc(), &EQUAL);
     for (lines, manner, printed, left) in SESSIONS {
         let rest = prints(&rt, rt.alloc(), &one, manner, lines, &[printed]);
         reads(&rt, rest, left);
@@ -87,17 +84,14 @@ fn moves_and_messages(rt: HostRuntime) {
 
 #[test]
 fn back_to_what_failed(rt: HostRuntime) {
-    let one = subject_of(&rt, rt.alloc(), &[DROPPED], DROPPED_REPORT);
     let lines = "find back fail\ngo 3\nfind back fail\nfind back fail\ngo 3\nfind back not fail\n\
          find back not fail\n  find   back any(fail silent)\n";
     let printed = "Y2\nat 3\nat 1\nY2\nat 3\nat 2\nY2\nat 1\n";
-    let left = prints(&rt, rt.alloc(), &one, Manner::Given, lines, &[printed]);
-    reads(&rt, left, "");
+    is_answered(&rt, rt.alloc(), &DROPPED, lines, &[printed]);
 }
 
 #[test]
 fn messages_of_a_channel(rt: HostRuntime) {
-    let both = subject_of(&rt, rt.alloc(), &TWO_CHANNELS, TWO_CHANNELS_REPORT);
     let lines =
         "go channel 2 1\nshow\ngo channel 7 2\ngo channel 2 2\ngo channel 2 3\ngo channel 3 1\ngo channel 2 0\n\
          go  channel  7  01 \n";
@@ -111,6 +105,5 @@ Y2
 Y2
 at 1
 ";
-    let left = prints(&rt, rt.alloc(), &both, Manner::Given, lines, &[printed]);
-    reads(&rt, left, "");
+    is_answered(&rt, rt.alloc(), &TWO_CHANNELS, lines, &[printed]);
 }

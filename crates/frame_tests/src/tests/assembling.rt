@@ -1,43 +1,47 @@
 //! A frame and its image.
 
-use crate::tests::equal::each_prints;
 use crate::tests::images::is_written;
-use crate::tests::worked::{LOOPS, POLLING, boxed, polling, retry};
-use frame_asm::{AsmError, assemble};
+use crate::tests::worked::{LOOPS, POLLING, polling, repeat, retry};
+use frame_asm::assemble;
+use frame_code::Image;
+use frame_text::parse;
 use frame_tree::Frame;
 use std::alloc::Global;
 use std::process::Abort;
 
-/// The frame is sound, and its image is written as these bytes.
-fn is_assembled(rt: &impl Abort, alloc: Global, frame: &Frame<Global>, bytes: &[u8]) {
+/// A frame with a period in a repeat.
+const PACED_TURNS: &str = "repeat 3 { frame 1000 { send A rx 5 1 [0001] } }";
+
+/// The bytes of its image.
+const PACED_LOOP: [u8; 42] = [
+    0x42, 0x43, 0x30, 0x33, 6, 0, 1, 0, // the mark and the counts
+    4, 0, 3, 0, 12, 0, 0, 0, 1, 0, 0, 0, // Loop 3, Begin, Send 0
+    13, 0, 10, 0, 5, 0, 1, 0, 0, 0, 0, 0, // Pace 10, Again 1, Halt
+    0, 0, 0x21, 0x28, 0, 0, 1, 0, 1, 0, // a word to terminal 5
+];
+
+/// The frame that a text spells.
+pub(crate) fn spelled(rt: &impl Abort, alloc: Global, text: &str) -> Frame<Global> {
+    parse(alloc, text.as_bytes()).expect(rt, text)
+}
+
+/// The image of a frame, which is sound.
+fn assembled(rt: &impl Abort, alloc: Global, frame: &Frame<Global>) -> Image {
     assert!(rt; frame.sound());
-    let image = assemble(alloc, frame).expect(rt, "the image");
+    assemble(alloc, frame).expect(rt, "the image")
+}
+
+/// The image of the frame is written as these bytes.
+fn is_assembled(rt: &impl Abort, alloc: Global, frame: Frame<Global>, bytes: &[u8]) {
+    let image = assembled(rt, alloc, &frame);
     is_written(rt, alloc, &image, bytes);
 }
 
+// A repeat of a retry, a routine and its calls, and a frame with a period in a repeat.
 #[test]
-fn a_repeat_of_a_retry(rt: HostRuntime) {
-    let frame = Frame::Repeat {
-        count: 3,
-        body: boxed(&rt, rt.alloc(), retry(&rt)),
-    };
-    is_assembled(&rt, rt.alloc(), &frame, &LOOPS);
-}
-
-#[test]
-fn a_routine_and_its_calls(rt: HostRuntime) {
-    let frame = polling(&rt, rt.alloc());
-    is_assembled(&rt, rt.alloc(), &frame, &POLLING);
-}
-
-/// Refusals, and their letters.
-const LETTERS: &[(AsmError, &str)] = &[
-    (AsmError::Operations, "A1"),
-    (AsmError::Messages, "A2"),
-    (AsmError::Memory, "A3"),
-];
-
-#[test]
-fn refusals_are_printed_by_their_letters(rt: HostRuntime) {
-    each_prints(&rt, rt.alloc(), LETTERS);
+fn frames_and_their_images(rt: HostRuntime) {
+    let alloc = rt.alloc();
+    is_assembled(&rt, alloc, repeat(&rt, alloc, 3, retry(&rt)), &LOOPS);
+    is_assembled(&rt, alloc, polling(&rt, alloc), &POLLING);
+    is_assembled(&rt, alloc, spelled(&rt, alloc, PACED_TURNS), &PACED_LOOP);
 }

@@ -2,7 +2,7 @@
 
 use crate::tests::equal::same;
 use crate::tests::loading::loaded;
-use crate::tests::records::{Row, are_rows, has_ended, sends, sent};
+use crate::tests::records::{Row, has_ended, sends};
 use crate::tests::worked::LOOPS;
 use bc_machine::{Actions, Machine, Placed};
 use mil_bus::Bus;
@@ -57,9 +57,61 @@ const DROPPED: [Row; 3] = [
 
 /// What `ASKED` sends, where terminal 5 is busy.
 const BUSY: [Row; 2] = [
-    (None, Some((0x0000, 0x0050)), &[0x2C41, 0x2808]),
-    (None, Some((0x0000, 0x0050)), &[0x2FF2, 0x2808, 0x2C41]),
+    (Some(0), Some((0x0000, 0x0050)), &[0x2C41, 0x2808]),
+    (Some(480), Some((0x0000, 0x0050)), &[0x2FF2, 0x2808, 0x2C41]),
 ];
+
+/// What a controller does.
+#[derive(Clone, Copy)]
+enum Play {
+    /// It sends these rows in so many steps, and halts then.
+    Out(u32, &'static [Row]),
+    /// It sends what `WRITTEN` sends without a word of the first message.
+    Drops,
+    /// Its terminal 5 is busy, and answers, and so is that of a copy.
+    Busy,
+}
+
+/// The controller sends these rows in so many steps, and halts then.
+fn plays_out(rt: &impl Abort, machine: &mut Machine, steps: u32, rows: &[Row]) {
+    sends(rt, "no fault and no action", machine, steps, rows);
+    has_ended(rt, machine, rows.len());
+}
+
+/// The controller sends what `WRITTEN` sends without a word of the first message.
+fn drops_one(rt: &impl Abort, machine: &mut Machine) {
+    sends(rt, "a fault", machine, 4, &DROPPED);
+    same(rt, &machine.bus().clock(), &(1240 + 460));
+}
+
+/// The last outcome: its status bits, whether it failed, and whether nothing answered.
+fn last(machine: &Machine) -> Option<(u16, bool, bool)> {
+    let last = machine.last_outcome()?;
+    Some((last.bits, last.failed, last.silent))
+}
+
+/// Terminal 5 of the controller is busy, and answers.
+fn is_busy(rt: &impl Abort, machine: &mut Machine) {
+    same(rt, &last(machine), &None);
+    sends(rt, "an action", machine, 3, &BUSY);
+    same(rt, &last(machine), &Some((0x0008, false, false)));
+}
+
+/// So is that of a copy that was made before.
+fn are_busy(rt: &impl Abort, machine: &mut Machine) {
+    let mut copy = machine.copy().expect(rt, "memory");
+    is_busy(rt, machine);
+    is_busy(rt, &mut copy);
+}
+
+/// The controller does this.
+fn does(rt: &impl Abort, machine: &mut Machine, play: &Play) {
+    match play {
+        Play::Out(steps, rows) => plays_out(rt, machine, *steps, rows),
+        Play::Drops => drops_one(rt, machine),
+        Play::Busy => are_busy(rt, machine),
+    }
+}
 
 /// A controller of the image with these bytes, on a bus with terminal 5 alone, at tick 0.
 fn controller(
@@ -73,28 +125,29 @@ fn controller(
     Machine::start(loaded(rt, alloc, image), bus, plan, placed)
 }
 
-/// One with no fault and no action sends these rows in so many steps, and halts then.
-fn plays_out(rt: &impl Abort, alloc: Global, image: &[u8], steps: u32, rows: &[Row]) {
-    let mut machine = controller(rt, alloc, image, Plan::make(alloc), Actions::new(alloc));
-    sends(
+/// The controller of this image, with these faults and these actions, does this.
+fn plays(rt: &impl Abort, alloc: Global, image: &[u8], plan: Plan, placed: Actions, play: &Play) {
+    let mut machine = controller(rt, alloc, image, plan, placed);
+    does(rt, &mut machine, play);
+}
+
+/// One with no fault and no action does this.
+fn plays_alone(rt: &impl Abort, alloc: Global, image: &[u8], play: &Play) {
+    plays(
         rt,
         alloc,
-        "no fault and no action",
-        &mut machine,
-        steps,
-        rows,
+        image,
+        Plan::make(alloc),
+        Actions::new(alloc),
+        play,
     );
-    has_ended(rt, &mut machine, rows.len());
 }
 
+// Retries take turns on the lines; before any message each test is false.
 #[test]
-fn retries_take_turns_on_the_lines(rt: HostRuntime) {
-    plays_out(&rt, rt.alloc(), &LOOPS, 47, &NINE);
-}
-
-#[test]
-fn before_any_message_each_test_is_false(rt: HostRuntime) {
-    plays_out(&rt, rt.alloc(), &CHOSEN, 6, &[]);
+fn images_that_are_played_out(rt: HostRuntime) {
+    plays_alone(&rt, rt.alloc(), &LOOPS, &Play::Out(47, &NINE));
+    plays_alone(&rt, rt.alloc(), &CHOSEN, &Play::Out(6, &[]));
 }
 
 /// No fault but a word of the first message that is not sent.
@@ -103,15 +156,6 @@ fn one_drop(rt: &impl Abort, alloc: Global) -> Plan {
     plan.add(1, Fault::Drop { run: 0, index: 3 })
         .expect(rt, "a fault");
     plan
-}
-
-#[test]
-fn faults_of_the_first_message_alone(rt: HostRuntime) {
-    let alloc = rt.alloc();
-    let plan = one_drop(&rt, alloc);
-    let mut machine = controller(&rt, alloc, &WRITTEN, plan, Actions::new(alloc));
-    sends(&rt, alloc, "a fault", &mut machine, 4, &DROPPED);
-    same(&rt, &machine.bus().clock(), &(1240 + 460));
 }
 
 /// Before the first message, terminal 5 becomes busy.
@@ -126,35 +170,19 @@ fn one_action(rt: &impl Abort, alloc: Global) -> Actions {
     placed
 }
 
-/// The last outcome: its status bits, whether it failed, and whether nothing answered.
-fn last(machine: &Machine) -> Option<(u16, bool, bool)> {
-    let last = machine.last_outcome()?;
-    Some((last.bits, last.failed, last.silent))
-}
-
-/// The copy sends what the other sends, which is these rows.
-fn send_alike(
-    rt: &impl Abort,
-    alloc: Global,
-    machine: &mut Machine,
-    copy: &mut Machine,
-    rows: &[Row],
-) {
-    let records = sent(rt, alloc, machine, 3);
-    are_rows(rt, "an action", &records, rows);
-    let copied = sent(rt, alloc, copy, 3);
-    same(rt, &copied.as_slice(), &records.as_slice());
-}
-
-// Its action comes before the first message, also in a copy that was made before.
+// Faults of the first message alone, and an action before it.
 #[test]
-fn an_action_before_the_first_message(rt: HostRuntime) {
+fn a_fault_and_an_action(rt: HostRuntime) {
     let alloc = rt.alloc();
+    let plan = one_drop(&rt, alloc);
+    plays(
+        &rt,
+        alloc,
+        &WRITTEN,
+        plan,
+        Actions::new(alloc),
+        &Play::Drops,
+    );
     let placed = one_action(&rt, alloc);
-    let mut machine = controller(&rt, alloc, &ASKED, Plan::make(alloc), placed);
-    same(&rt, &last(&machine), &None);
-    let mut copy = machine.copy().expect(&rt, "memory");
-    send_alike(&rt, alloc, &mut machine, &mut copy, &BUSY);
-    // terminal 5 was busy, and answered
-    same(&rt, &last(&machine), &Some((0x0008, false, false)));
+    plays(&rt, alloc, &ASKED, Plan::make(alloc), placed, &Play::Busy);
 }

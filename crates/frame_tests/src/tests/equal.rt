@@ -36,6 +36,20 @@ pub(crate) fn prints<T: Display>(
     reads(rt, row, text.as_str(), wanted);
 }
 
+/// A fault is printed as this text, and none as `none`; a failure names the row.
+pub(crate) fn is_fault<T: Copy + Display>(
+    rt: &impl Abort,
+    alloc: Global,
+    row: &str,
+    found: Option<T>,
+    wanted: &str,
+) {
+    match found {
+        Some(fault) => prints(rt, alloc, row, &fault, wanted),
+        None => reads(rt, row, "none", wanted),
+    }
+}
+
 /// Each value of a table is printed as the letters beside it.
 pub(crate) fn each_prints<T: Display>(rt: &impl Abort, alloc: Global, table: &[(T, &str)]) {
     for (value, letters) in table {

@@ -1,7 +1,8 @@
 //! The first fault of a text, with its line.
-use crate::tests::equal::{prints, reads};
+use crate::tests::equal::is_fault;
+use crate::tests::many_messages::REFUSED;
 use crate::tests::text_faults::repeated;
-use job_file::{JobError, LineFault, read_job};
+use job_file::read_job;
 use std::alloc::Global;
 use std::process::Abort;
 
@@ -9,7 +10,7 @@ use std::process::Abort;
 pub(crate) type Told = (&'static str, &'static str);
 
 /// Faults of lines.
-const LINES: [Told; 21] = [
+const LINES: &[Told] = &[
     ("channel 1\nterminal 5\nterminal 5", "J4 line 3"),
     ("terminal 5\nscript", "J3 line 2"),
     ("channel 1\nterminal 5", "J3 line 3"),
@@ -34,7 +35,7 @@ const LINES: [Told; 21] = [
 ];
 
 /// Faults of actions, and of planned faults.
-const ACTIONS: [Told; 28] = [
+const ACTIONS: &[Told] = &[
     ("terminal 5\nat 1 5", "J1 line 2"),
     ("terminal 5\nat 1", "J1 line 2"),
     ("terminal 5\nat 0 5 busy on", "J2 line 2"),
@@ -69,7 +70,7 @@ const ACTIONS: [Told; 28] = [
 ];
 
 /// Faults of scripts.
-const SCRIPTS: [Told; 6] = [
+const SCRIPTS: &[Told] = &[
     (
         "channel 1\nterminal 5\nscript\nrepeat 0 { }",
         "J7 line 4 column 8 S7",
@@ -92,14 +93,12 @@ const SCRIPTS: [Told; 6] = [
 
 /// The fault of this text.
 fn has_fault(rt: &impl Abort, alloc: Global, row: &str, text: &str, fault: &str) {
-    match read_job(alloc, text.as_bytes()) {
-        Ok(_) => reads(rt, row, "accepted", fault),
-        Err(error) => prints(rt, alloc, row, &error, fault),
-    }
+    let found = read_job(alloc, text.as_bytes()).err();
+    is_fault(rt, alloc, row, found, fault);
 }
 
 /// Each text of the table is refused with its fault.
-pub(crate) fn each_fault(rt: &impl Abort, alloc: Global, table: &[Told]) {
+fn each_fault(rt: &impl Abort, alloc: Global, table: &[Told]) {
     for (text, fault) in table {
         has_fault(rt, alloc, text, text, fault);
     }
@@ -107,29 +106,27 @@ pub(crate) fn each_fault(rt: &impl Abort, alloc: Global, table: &[Told]) {
 
 #[test]
 fn texts_at_fault(rt: HostRuntime) {
-    each_fault(&rt, rt.alloc(), &LINES);
-    each_fault(&rt, rt.alloc(), &ACTIONS);
-    each_fault(&rt, rt.alloc(), &SCRIPTS);
+    for table in [LINES, ACTIONS, SCRIPTS, REFUSED] {
+        each_fault(&rt, rt.alloc(), table);
+    }
+}
+
+/// How often a frame stands in a script, and the fault of the job.
+const LENGTHS: &[(u32, &str, &str)] = &[
+    (4095, "gap 40\n", "none"),
+    (4096, "gap 40\n", "J7 line 2 A1"),
+    (1025, "send A mode 5 1\n", "J7 line 2 A2"),
+];
+
+/// The fault of a job whose script is one frame so many times.
+fn has_fault_of_length(rt: &impl Abort, alloc: Global, count: u32, frame: &str, fault: &str) {
+    let text = repeated(rt, alloc, "channel 1\nscript\n", frame, count, "");
+    has_fault(rt, alloc, frame, text.as_str(), fault);
 }
 
 #[test]
 fn images_that_are_too_long(rt: HostRuntime) {
-    for (count, frame, fault) in [
-        (4095, "gap 40\n", "accepted"),
-        (4096, "gap 40\n", "J7 line 2 A1"),
-        (1025, "send A mode 5 1\n", "J7 line 2 A2"),
-    ] {
-        let text = repeated(&rt, rt.alloc(), "channel 1\nscript\n", frame, count, "");
-        has_fault(&rt, rt.alloc(), frame, text.as_str(), fault);
+    for (count, frame, fault) in LENGTHS {
+        has_fault_of_length(&rt, rt.alloc(), *count, frame, fault);
     }
-}
-
-#[test]
-fn refused_memory_prints_its_code(rt: HostRuntime) {
-    prints(&rt, rt.alloc(), "memory", &JobError::Memory, "J8");
-    let first = JobError::Line {
-        line: 1,
-        fault: LineFault::Word,
-    };
-    assert_ne!(rt; first, JobError::Memory);
 }

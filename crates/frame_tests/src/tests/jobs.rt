@@ -1,6 +1,8 @@
 //! Jobs played to their end, record by record.
 use crate::tests::controllers::NINE;
-use crate::tests::equal::{are_bytes, same};
+use crate::tests::equal::same_in;
+use crate::tests::frames::PACED;
+use crate::tests::many_messages::{MUTED, SERIES};
 use crate::tests::records::{Row, sends};
 use bc_machine::{Actions, Machine};
 use job_file::{Job, job_runs, read_job};
@@ -208,29 +210,24 @@ const TURNS: &[Played] = &[
 pub(crate) const RETRIES: &str =
     "channel 1\nterminal 5\nscript\nrepeat 3 { retry 2 send A rx 9 1 [0001] }";
 
-/// A job with a line of each kind.
-const ALL_LINES: &str =
-    "# a note\nchannel 7\nstart 140737488355328\nterminal 5\nterminal 30\n\nat 2 30 busy on\nfault 3 mute 1\nscript\n\
-     send A mode 5 1\n";
-
 /// The job of this text.
-pub(crate) fn job_of(rt: &impl Abort, alloc: Global, text: &str) -> Job {
+fn job_of(rt: &impl Abort, alloc: Global, text: &str) -> Job {
     read_job(alloc, text.as_bytes()).expect(rt, text)
 }
 
 /// The machine of a job under its own actions.
-pub(crate) fn machine_of(rt: &impl Abort, alloc: Global, text: &str) -> Machine {
+fn machine_of(rt: &impl Abort, alloc: Global, text: &str) -> Machine {
     let job = job_of(rt, alloc, text);
     job.machine(alloc, job.actions()).expect(rt, "memory")
 }
 
 fn plays(rt: &impl Abort, alloc: Global, text: &str, rows: &[Row]) {
     let mut machine = machine_of(rt, alloc, text);
-    sends(rt, alloc, text, &mut machine, 1_000, rows);
+    sends(rt, text, &mut machine, 1_000, rows);
 }
 
 /// Each job of the table sends the messages of its rows.
-pub(crate) fn each_plays(rt: &impl Abort, alloc: Global, table: &[Played]) {
+fn each_plays(rt: &impl Abort, alloc: Global, table: &[Played]) {
     for (text, rows) in table {
         plays(rt, alloc, text, rows);
     }
@@ -241,40 +238,96 @@ fn jobs_and_their_records(rt: HostRuntime) {
     for table in [DATA, BETWEEN, FAULTS, MODES, HOSTS, TURNS] {
         each_plays(&rt, rt.alloc(), table);
     }
-}
-
-/// There is one action, of this message and this address.
-fn is_placed(rt: &impl Abort, placed: &Actions, number: u32, address: u8) {
-    same(rt, &placed.len(), &1);
-    if placed.len() == 1 {
-        let first = placed.get(0);
-        same(rt, &first.number, &number);
-        same(rt, &first.address, &address);
+    for table in [PACED, SERIES, MUTED] {
+        each_plays(&rt, rt.alloc(), table);
     }
 }
 
-/// Its channel and its start, and how many faults its first and its third message have.
-fn has_lines(rt: &impl Abort, job: &Job) {
-    same(rt, &job.channel(), &7);
-    same(rt, &job.start(), &140_737_488_355_328);
-    same(rt, &job.plan().faults(3).len(), &1);
-    same(rt, &job.plan().faults(1).len(), &0);
+/// The channel of a job, and how many steps it makes and how many messages it sends at most.
+pub(crate) type Numbers = (u16, u64, u64);
+
+/// Those of a job.
+pub(crate) fn numbers(job: &Job) -> Numbers {
+    let program = job.program();
+    (job.channel(), program.budget(), program.worst_messages())
 }
 
-/// How many steps it makes and how many messages it sends at most.
-fn has_bounds(rt: &impl Abort, job: &Job, steps: Option<u64>, messages: u64) {
-    let budget = job.program().budget();
-    same(rt, &budget, &steps.unwrap_or(budget));
-    same(rt, &job.program().worst_messages(), &messages);
+/// What the lines of a job say.
+struct Lines {
+    text: &'static str,
+    numbers: Numbers,
+    start: u64,
+    /// How many faults the first and the third message have.
+    faults: (usize, usize),
+    addresses: &'static [u8],
+    /// How many placed actions there are, and the message and the terminal of the first.
+    actions: (usize, Option<(u32, u8)>),
+}
+
+/// A line of each kind, and many actions of a series, alone and beside another one.
+const LINES: &[Lines] = &[
+    Lines {
+        text: "# a note\nchannel 7\nstart 140737488355328\nterminal 5\nterminal 30\n\nat 2 30 busy on\n\
+               fault 3 mute 1\nscript\nsend A mode 5 1\n",
+        numbers: (7, 2, 1),
+        start: 140_737_488_355_328,
+        faults: (0, 1),
+        addresses: &[5, 30],
+        actions: (1, Some((2, 30))),
+    },
+    Lines {
+        text: "channel 1\nterminal 5\nseries 1 1000000 3 5 3 0000 0001\nscript\n",
+        numbers: (1, 1, 0),
+        start: 0,
+        faults: (0, 0),
+        addresses: &[5],
+        actions: (333_334, Some((1, 5))),
+    },
+    Lines {
+        text: "channel 1\nterminal 5\nseries 1 999999 3 5 3 0000 0001\nat 1 5 busy on\nscript\n",
+        numbers: (1, 1, 0),
+        start: 0,
+        faults: (0, 0),
+        addresses: &[5],
+        actions: (333_334, Some((1, 5))),
+    },
+];
+
+/// The message and the terminal of the first action.
+fn first(placed: &Actions) -> Option<(u32, u8)> {
+    if placed.is_empty() {
+        return None;
+    }
+    let first = placed.get(0);
+    Some((first.number, first.address))
+}
+
+/// How many faults a message has.
+fn faults(job: &Job, number: u32) -> usize {
+    job.plan().faults(number).len()
+}
+
+/// The job has these lines.
+fn has_lines(rt: &impl Abort, job: &Job, lines: &Lines) {
+    let text = lines.text;
+    same_in(rt, text, &numbers(job), &lines.numbers);
+    same_in(rt, text, &job.start(), &lines.start);
+    same_in(rt, text, &(faults(job, 1), faults(job, 3)), &lines.faults);
+    same_in(rt, text, &job.addresses(), &lines.addresses);
+    let placed = job.actions();
+    same_in(rt, text, &(placed.len(), first(placed)), &lines.actions);
+}
+
+/// The job of a text has its lines.
+fn are_lines(rt: &impl Abort, alloc: Global, lines: &Lines) {
+    let job = job_of(rt, alloc, lines.text);
+    has_lines(rt, &job, lines);
 }
 
 #[test]
 fn accessors_of_a_job(rt: HostRuntime) {
-    let job = job_of(&rt, rt.alloc(), ALL_LINES);
     job_runs();
-    has_lines(&rt, &job);
-    has_bounds(&rt, &job, None, 1);
-    are_bytes(&rt, job.addresses(), &[5, 30]);
-    is_placed(&rt, job.actions(), 2, 30);
-    has_bounds(&rt, &job_of(&rt, rt.alloc(), RETRIES), Some(47), 9);
+    for lines in LINES {
+        are_lines(&rt, rt.alloc(), lines);
+    }
 }

@@ -2,10 +2,10 @@
 
 ghost use Rattle.std.specs.Prelude.{◌≤◌};
 
-use crate::tests::equal::{each_prints, same};
+use crate::tests::equal::same;
 use crate::tests::worked::{LOOPS, POLLING, with_byte};
 use frame_code::{Op, read_image};
-use frame_load::LoadError::{Budget, End, Jumps, Memory, Messages, Nesting, Periods, Routines};
+use frame_load::LoadError::{Budget, End, Jumps, Messages, Nesting, Periods, Routines};
 use frame_load::{LoadError, Program, load};
 use std::alloc::Global;
 use std::process::Abort;
@@ -16,20 +16,19 @@ pub(crate) fn loaded(rt: &impl Abort, alloc: Global, bytes: &[u8]) -> Program {
     load(alloc, image).expect(rt, "a program")
 }
 
-fn has_sums(rt: &impl Abort, program: &Program, budget: u64, messages: u64) {
-    same(rt, &program.budget(), &budget);
-    same(rt, &program.worst_messages(), &messages);
+/// A copy of the program of these bytes makes so many steps and sends so many messages at most, and has this operation
+/// at place 7.
+fn has_sums(rt: &impl Abort, alloc: Global, bytes: &[u8], sums: (u64, u64), op: Op) {
+    let program = loaded(rt, alloc, bytes).copy().expect(rt, "memory");
+    same(rt, &(program.budget(), program.worst_messages()), &sums);
+    same(rt, &program.image().operations().get(7).copied(), &Some(op));
 }
 
 #[test]
 fn programs_and_their_sums(rt: HostRuntime) {
-    let first = loaded(&rt, rt.alloc(), &LOOPS);
-    let program = first.copy().expect(&rt, "memory");
-    has_sums(&rt, &program, 47, 9);
-    let op = program.image().operations().get(7).copied();
-    same(&rt, &op, &Some(Op::Leave(9)));
+    has_sums(&rt, rt.alloc(), &LOOPS, (47, 9), Op::Leave(9));
     // a routine counts with its calls
-    has_sums(&rt, &loaded(&rt, rt.alloc(), &POLLING), 70, 10);
+    has_sums(&rt, rt.alloc(), &POLLING, (70, 10), Op::Again(2));
 }
 
 // Why the image with these bytes is not loaded; None where they are no image.
@@ -43,7 +42,7 @@ fn is_refused(rt: &impl Abort, alloc: Global, bytes: &[u8], fault: LoadError) {
 }
 
 /// Images that are refused, with their faults.
-const REFUSED: [(&[u8], LoadError); 13] = [
+const REFUSED: &[(&[u8], LoadError)] = &[
     (
         &[
             0x42, 0x43, 0x30, 0x32, 2, 0, 0, 0, 10, 0, 0, 0, 0, 0, 0, 0, // Call 0, Halt
@@ -130,16 +129,7 @@ const REFUSED: [(&[u8], LoadError); 13] = [
     ),
 ];
 
-#[test]
-fn images_that_are_refused(rt: HostRuntime) {
-    for (bytes, fault) in REFUSED {
-        is_refused(&rt, rt.alloc(), bytes, fault);
-    }
-    // jumps that lead elsewhere
-    is_refused(&rt, rt.alloc(), &with_byte(LOOPS, 36, 7), Jumps);
-    is_refused(&rt, rt.alloc(), &with_byte(LOOPS, 38, 8), Jumps);
-}
-
+/// Puts bytes behind others.
 fn put(rt: &impl Abort, bytes: &mut Vec<u8>, more: &[u8]) {
     bytes.extend_from_slice(more).expect(rt, "memory");
 }
@@ -161,27 +151,21 @@ fn nested(rt: &impl Abort, alloc: Global, depth: u8) -> Vec<u8>
     bytes
 }
 
-#[test]
-fn seventeen_loops_and_one_more(rt: HostRuntime) {
-    let bytes = nested(&rt, rt.alloc(), 17);
-    is_refused(&rt, rt.alloc(), &bytes, Budget);
-    let bytes = nested(&rt, rt.alloc(), 18);
-    is_refused(&rt, rt.alloc(), &bytes, Nesting);
+/// So many loops in one another are refused.
+fn are_refused(rt: &impl Abort, alloc: Global, depth: u8, fault: LoadError)
+    requires { depth ≤ 18 }
+{
+    is_refused(rt, alloc, nested(rt, alloc, depth).as_slice(), fault);
 }
 
-/// Refusals, and their letters.
-const LETTERS: &[(LoadError, &str)] = &[
-    (Jumps, "P1"),
-    (Nesting, "P2"),
-    (Messages, "P3"),
-    (End, "P4"),
-    (Budget, "P5"),
-    (Memory, "P6"),
-    (Routines, "P7"),
-    (Periods, "P8"),
-];
-
 #[test]
-fn refusals_are_printed_by_their_letters(rt: HostRuntime) {
-    each_prints(&rt, rt.alloc(), LETTERS);
+fn images_that_are_refused(rt: HostRuntime) {
+    for (bytes, fault) in REFUSED {
+        is_refused(&rt, rt.alloc(), bytes, *fault);
+    }
+    // jumps that lead elsewhere
+    is_refused(&rt, rt.alloc(), &with_byte(LOOPS, 36, 7), Jumps);
+    is_refused(&rt, rt.alloc(), &with_byte(LOOPS, 38, 8), Jumps);
+    are_refused(&rt, rt.alloc(), 17, Budget);
+    are_refused(&rt, rt.alloc(), 18, Nesting);
 }

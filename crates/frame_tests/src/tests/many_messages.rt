@@ -1,41 +1,50 @@
 //! Lines of a job that speak of many messages: `faults` and `series`.
-use crate::tests::equal::{same, same_in};
-use crate::tests::job_refusals::{Told, each_fault};
-use crate::tests::jobs::{Played, each_plays, job_of, machine_of};
-use crate::tests::records::sent;
-use std::alloc::Global;
-use std::process::Abort;
+use crate::tests::job_refusals::Told;
+use crate::tests::jobs::Played;
 
-/// The text of a job of commands to send the word at subaddress 3 of terminal 5, and the words that are sent.
-type Sent = (&'static str, &'static [u16]);
-
-/// What series place: the words of five messages, the wrap at 65,536, and actions at one message in the order of the
-/// lines.
-const SERIES: [Sent; 5] = [
+/// What series place at subaddress 3 of terminal 5, which is asked for it: the words of five messages, the wrap at
+/// 65,536, and actions at one message in the order of the lines.
+pub(crate) const SERIES: &[Played] = &[
     (
         "channel 1\nterminal 5\nseries 1 5 2 5 3 0010 FFFF\nscript\nrepeat 5 { send A tx 5 3 1 }",
-        &[0x10, 0x10, 0xf, 0xf, 0xe],
+        &[
+            (None, None, &[0x2c61, 0x2800, 0x10]),
+            (None, None, &[0x2c61, 0x2800, 0x10]),
+            (None, None, &[0x2c61, 0x2800, 0xf]),
+            (None, None, &[0x2c61, 0x2800, 0xf]),
+            (None, None, &[0x2c61, 0x2800, 0xe]),
+        ],
     ),
     (
         "channel 1\nterminal 5\nseries 2 5 2 5 3 00aa 0001\nscript\nrepeat 5 { send A tx 5 3 1 }",
-        &[0, 0xaa, 0xaa, 0xab, 0xab],
+        &[
+            (None, None, &[0x2c61, 0x2800, 0]),
+            (None, None, &[0x2c61, 0x2800, 0xaa]),
+            (None, None, &[0x2c61, 0x2800, 0xaa]),
+            (None, None, &[0x2c61, 0x2800, 0xab]),
+            (None, None, &[0x2c61, 0x2800, 0xab]),
+        ],
     ),
     (
         "channel 1\nterminal 5\nseries 1 3 1 5 3 FFFF 0002\nscript\nrepeat 3 { send A tx 5 3 1 }",
-        &[0xffff, 1, 3],
+        &[
+            (None, None, &[0x2c61, 0x2800, 0xffff]),
+            (None, None, &[0x2c61, 0x2800, 1]),
+            (None, None, &[0x2c61, 0x2800, 3]),
+        ],
     ),
     (
         "channel 1\nterminal 5\nat 1 5 transmit 3 AAAA\nseries 1 1 1 5 3 0001 0000\nscript\nsend A tx 5 3 1",
-        &[1],
+        &[(None, None, &[0x2c61, 0x2800, 1])],
     ),
     (
         "channel 1\nterminal 5\nseries 1 1 1000000 5 3 0001 0000\nat 1 5 transmit 3 AAAA\nscript\nsend A tx 5 3 1",
-        &[0xaaaa],
+        &[(None, None, &[0x2c61, 0x2800, 0xaaaa])],
     ),
 ];
 
 /// A terminal that does not answer three of five messages, and one that does not answer each second.
-const FAULTS: [Played; 2] = [
+pub(crate) const MUTED: &[Played] = &[
     (
         "channel 1\nterminal 5\nfaults 2 4 1 mute 1\nscript\nrepeat 5 { send A mode 5 1 }",
         &[
@@ -56,26 +65,8 @@ const FAULTS: [Played; 2] = [
     ),
 ];
 
-/// The job of this text sends these words, each behind its command and its status.
-fn sends_words(rt: &impl Abort, alloc: Global, text: &str, words: &[u16]) {
-    let records = sent(rt, alloc, &mut machine_of(rt, alloc, text), 1_000);
-    same_in(rt, text, &records.len(), &words.len());
-    for (record, word) in records.iter().zip(words) {
-        let wanted = [0x2c61, 0x2800, *word];
-        same_in(rt, text, &record.words.as_slice(), &wanted.as_slice());
-    }
-}
-
-#[test]
-fn records(rt: HostRuntime) {
-    for (text, words) in SERIES {
-        sends_words(&rt, rt.alloc(), text, words);
-    }
-    each_plays(&rt, rt.alloc(), &FAULTS);
-}
-
 /// Lines that are refused.
-const REFUSED: [Told; 32] = [
+pub(crate) const REFUSED: &[Told] = &[
     ("faults 1 5 mute 1", "J1 line 1"),
     ("faults 1 5 1 mute", "J1 line 1"),
     ("faults 1 5 1 mute 1 1", "J1 line 1"),
@@ -121,11 +112,8 @@ const REFUSED: [Told; 32] = [
     ("terminal 5\nseries 1 5 1 5 3 0000", "J1 line 2"),
     ("terminal 5\nseries 1 5 1 5 3 0000 0001 0002", "J1 line 2"),
     ("series 1 5 1 5 3 0000 0001\nterminal 5", "J4 line 1"),
-];
-
-/// A million actions come from the series of a job at most: of two lines, of two with one too many, and of one line
-/// beside other actions.
-const MANY: [Told; 3] = [
+    // a million actions come from the series of a job at most: of two lines, of two with one too many, and of one line
+    // beside other actions
     (
         "terminal 5\nseries 7 7 1 5 3 0000 0001\nseries 1 999999 1 5 3 0000 0001\nseries 7 7 1 6 3 0000 0001",
         "J2 line 4",
@@ -139,28 +127,3 @@ const MANY: [Told; 3] = [
         "J3 line 5",
     ),
 ];
-
-#[test]
-fn refusals(rt: HostRuntime) {
-    each_fault(&rt, rt.alloc(), &REFUSED);
-}
-
-#[test]
-fn a_million_of_series(rt: HostRuntime) {
-    each_fault(&rt, rt.alloc(), &MANY);
-}
-
-/// The job of this text has so many placed actions.
-fn places(rt: &impl Abort, alloc: Global, text: &str, count: usize) {
-    same(rt, &job_of(rt, alloc, text).actions().len(), &count);
-}
-
-#[test]
-fn counts(rt: HostRuntime) {
-    for text in [
-        "channel 1\nterminal 5\nseries 1 1000000 3 5 3 0000 0001\nscript\n",
-        "channel 1\nterminal 5\nseries 1 999999 3 5 3 0000 0001\nat 1 5 busy on\nscript\n",
-    ] {
-        places(&rt, rt.alloc(), text, 333_334);
-    }
-}

@@ -1,11 +1,13 @@
 //! Lists of placed actions: what is put into them, in which order, and copies.
 ghost use Rattle.bc_machine.specs.Rising.{IsRising};
+ghost use Rattle.std.specs.Prelude.{◌≤◌};
 
 use crate::tests::equal::{reads, same};
 use bc_machine::{Actions, Placed, Schedule};
 use mil_bus::Bus;
 use mil_host::read_action;
 use std::alloc::Global;
+use std::fmt::Write;
 use std::process::Abort;
 
 /// Actions of each kind of row: one data word, several, and none.
@@ -76,24 +78,35 @@ fn given(rt: &impl Abort, alloc: Global) -> Actions {
     actions
 }
 
+/// Shows an action behind others.
+fn show(rt: &impl Abort, text: &mut String, one: &Placed) {
+    let (number, address) = (one.number, one.address);
+    write!(text, "{number} {address} {}, ", one.action).expect(rt, "memory");
+}
+
 /// A list is shown as this text.
 fn is_shown(rt: &impl Abort, alloc: Global, actions: &Actions, wanted: &str) {
     let mut text = String::new(alloc);
     for place in 0..actions.len() {
-        let one = actions.get(place);
-        let line = format!(in alloc; "{} {} {}, ", one.number, one.address, one.action).expect(
-            rt, "memory",
-        );
-        text.push_str(&line).expect(rt, "memory");
+        show(rt, &mut text, &actions.get(place));
     }
     reads(rt, "shown", text.as_str(), wanted);
 }
 
+/// These actions are the given ones, of which one is kept. The copy keeps all.
+fn is_cut(rt: &impl Abort, alloc: Global, actions: &mut Actions, copy: &Actions) {
+    is_shown(rt, alloc, actions, GIVEN_SHOWN);
+    same(rt, &actions.is_empty(), &false);
+    actions.truncate(1);
+    is_shown(rt, alloc, actions, "3 5 busy on, ");
+    is_shown(rt, alloc, copy, GIVEN_SHOWN);
+}
+
 #[test]
-fn what_was_pushed(rt: HostRuntime) {
-    let actions = given(&rt, rt.alloc());
-    is_shown(&rt, rt.alloc(), &actions, GIVEN_SHOWN);
-    same(&rt, &actions.is_empty(), &false);
+fn what_was_pushed_and_its_copy(rt: HostRuntime) {
+    let mut actions = given(&rt, rt.alloc());
+    let copy = actions.copy().expect(&rt, "memory");
+    is_cut(&rt, rt.alloc(), &mut actions, &copy);
 }
 
 /// The list of the given actions, sorted.
@@ -105,71 +118,103 @@ fn sorted(rt: &impl Abort, alloc: Global) -> Actions
     actions
 }
 
-#[test]
-fn sorted_by_number(rt: HostRuntime) {
-    let actions = sorted(&rt, rt.alloc());
-    is_shown(&rt, rt.alloc(), &actions, SORTED_SHOWN);
-    let last = actions.len().saturating_sub(1);
-    if last < actions.len() {
-        same(&rt, &actions.number(last), &3);
+/// The number of the last action.
+fn last(actions: &Actions) -> Option<u32> {
+    let count = actions.len();
+    if count == 0 {
+        return None;
     }
-    // three have the number 1, and one has the number 2
-    same(&rt, &actions.behind(0), &0);
-    same(&rt, &actions.behind(2), &4);
-    same(&rt, &actions.behind(3), &6);
+    Some(actions.number(count - 1))
+}
+
+/// Three of the sorted actions have the number 1, one has the number 2, and two have the number 3.
+fn are_parted(rt: &impl Abort, actions: &Actions)
+    requires { IsRising actions.now }
+{
+    let behind = (actions.behind(0), actions.behind(2), actions.behind(3));
+    same(rt, &behind, &(0, 4, 6));
+    same(rt, &last(actions), &Some(3));
 }
 
 #[test]
-fn a_copy_is_its_own(rt: HostRuntime) {
-    let mut actions = given(&rt, rt.alloc());
-    let copy = actions.copy().expect(&rt, "memory");
-    actions.truncate(1);
-    is_shown(&rt, rt.alloc(), &actions, "3 5 busy on, ");
-    is_shown(&rt, rt.alloc(), &copy, GIVEN_SHOWN);
+fn sorted_by_number(rt: HostRuntime) {
+    let actions = sorted(&rt, rt.alloc());
+    are_parted(&rt, &actions);
+    is_shown(&rt, rt.alloc(), &actions, SORTED_SHOWN);
+}
+
+/// Whether there is room for one more action, which is put behind the others then.
+fn fits(rt: &impl Abort, schedule: &mut Schedule, number: u32, address: u8, text: &str) -> bool {
+    schedule.add(placed(rt, number, address, text)).is_ok()
+}
+
+/// The number of the action at a place, where there is one.
+fn number_at(schedule: &Schedule, place: usize) -> Option<u32> {
+    if place >= schedule.len() {
+        return None;
+    }
+    Some(schedule.number(place))
+}
+
+/// There is room for two more than the given actions.
+fn two_fit(rt: &impl Abort, schedule: &mut Schedule) {
+    schedule.room(2).expect(rt, "memory");
+    same(rt, &schedule.capacity(), &8);
+    let fit = [
+        fits(rt, schedule, 4, 5, "vector 00AA"),
+        fits(rt, schedule, 2, 5, "transmit 2 0003 0004"),
+        fits(rt, schedule, 2, 5, "busy off"),
+    ];
+    same(rt, &fit, &[true, true, false]);
+    same(rt, &(schedule.len(), number_at(schedule, 7)), &(8, Some(2)));
+}
+
+/// A copy of the schedule has so much room, and its actions are shown as this text.
+fn is_copied(rt: &impl Abort, alloc: Global, schedule: &Schedule, room: usize, text: &str) {
+    let copy = schedule.copy().expect(rt, "memory");
+    same(rt, &copy.capacity(), &room);
+    is_shown(rt, alloc, &Actions::of(copy), text);
 }
 
 #[test]
 fn room_for_two(rt: HostRuntime) {
     let mut schedule = Schedule::of(given(&rt, rt.alloc()));
-    schedule.room(2).expect(&rt, "memory");
-    same(&rt, &schedule.capacity(), &8);
-    let first = schedule.add(placed(&rt, 4, 5, "vector 00AA"));
-    same(&rt, &first.is_ok(), &true);
-    let second = schedule.add(placed(&rt, 2, 5, "transmit 2 0003 0004"));
-    same(&rt, &second.is_ok(), &true);
-    let third = schedule.add(placed(&rt, 2, 5, "busy off"));
-    same(&rt, &third.is_ok(), &false);
-    same(&rt, &schedule.len(), &8);
-    if schedule.len() == 8 {
-        same(&rt, &schedule.number(7), &2);
-    }
-    let copy = schedule.copy().expect(&rt, "memory");
-    same(&rt, &copy.capacity(), &8);
-    let actions = Actions::of(copy);
-    is_shown(&rt, rt.alloc(), &actions, GROWN_SHOWN);
+    two_fit(&rt, &mut schedule);
+    is_copied(&rt, rt.alloc(), &schedule, 8, GROWN_SHOWN);
+}
+
+/// A schedule of nothing that had room for none and for five, and has room for one.
+fn shrunk(rt: &impl Abort, alloc: Global) -> Schedule {
+    let mut schedule = Schedule::none(alloc);
+    let none = schedule.capacity();
+    schedule.reserve_rows(3).expect(rt, "memory");
+    same(rt, &(none, schedule.capacity()), &(0, 0));
+    schedule.grow(5).expect(rt, "memory");
+    schedule.grow(2).expect(rt, "memory");
+    let five = schedule.capacity();
+    schedule.shrink(1);
+    same(rt, &(five, schedule.capacity()), &(5, 1));
+    schedule
+}
+
+/// There is room for one action, which a copy keeps when it is left out.
+fn one_fits(rt: &impl Abort, alloc: Global, schedule: &mut Schedule) {
+    let fit = [
+        fits(rt, schedule, 7, 9, "transmit 29 0A0B 0C0D"),
+        fits(rt, schedule, 7, 9, "busy on"),
+    ];
+    same(rt, &fit, &[true, false]);
+    schedule.sort().expect(rt, "memory");
+    let copy = schedule.copy().expect(rt, "memory");
+    schedule.truncate(0);
+    same(rt, &schedule.len(), &0);
+    is_shown(rt, alloc, &Actions::of(copy), "7 9 transmit 29 0A0B 0C0D, ");
 }
 
 #[test]
 fn a_schedule_grows_and_shrinks(rt: HostRuntime) {
-    let mut schedule = Schedule::none(rt.alloc());
-    same(&rt, &schedule.capacity(), &0);
-    schedule.reserve_rows(3).expect(&rt, "memory");
-    same(&rt, &schedule.capacity(), &0);
-    schedule.grow(5).expect(&rt, "memory");
-    schedule.grow(2).expect(&rt, "memory");
-    same(&rt, &schedule.capacity(), &5);
-    schedule.shrink(1);
-    same(&rt, &schedule.capacity(), &1);
-    let one = schedule.add(placed(&rt, 7, 9, "transmit 29 0A0B 0C0D"));
-    same(&rt, &one.is_ok(), &true);
-    let other = schedule.add(placed(&rt, 7, 9, "busy on"));
-    same(&rt, &other.is_ok(), &false);
-    schedule.sort().expect(&rt, "memory");
-    let copy = schedule.copy().expect(&rt, "memory");
-    schedule.truncate(0);
-    same(&rt, &schedule.len(), &0);
-    let actions = Actions::of(copy);
-    is_shown(&rt, rt.alloc(), &actions, "7 9 transmit 29 0A0B 0C0D, ");
+    let mut schedule = shrunk(&rt, rt.alloc());
+    one_fits(&rt, rt.alloc(), &mut schedule);
 }
 
 /// One more action in a sorted list goes behind those of its number.
@@ -180,42 +225,55 @@ fn put_in(rt: &impl Abort, alloc: Global, number: u32, text: &str) -> Actions {
     Actions::of(schedule)
 }
 
+/// The list is shown as this text then.
+fn is_put_in(rt: &impl Abort, alloc: Global, number: u32, text: &str, shown: &str) {
+    let actions = put_in(rt, alloc, number, text);
+    is_shown(rt, alloc, &actions, shown);
+}
+
 #[test]
 fn put_in_by_their_numbers(rt: HostRuntime) {
     for (number, text, shown) in PUT_IN {
-        let actions = put_in(&rt, rt.alloc(), *number, text);
-        is_shown(&rt, rt.alloc(), &actions, shown);
+        is_put_in(&rt, rt.alloc(), *number, text, shown);
     }
 }
 
 /// The words that a terminal of a bus has put up at a subaddress.
-fn has_put_up(rt: &impl Abort, bus: &Bus, address: u8, subaddress: u8, words: &[u16]) {
-    assert!(rt; 1 <= subaddress && subaddress <= 30);
+fn has_put_up(rt: &impl Abort, bus: &Bus, address: u8, subaddress: u8, words: &[u16])
+    requires { (1 ≤ subaddress) × (subaddress ≤ 30) }
+{
     let terminal = bus.terminal(address).expect(rt, "a terminal");
     same(rt, &terminal.transmit_words(subaddress), &words);
 }
 
-/// Actions of one number act, and no others.
-fn acts(rt: &impl Abort, alloc: Global, schedule: &Schedule) {
-    let mut bus = Bus::make(alloc, 0, &[5, 6, 30]).expect(rt, "a bus");
-    schedule.act_at(&mut bus, 3);
-    has_put_up(rt, &bus, 6, 29, &[0x0001, 0x0002, 0xffff]);
-    has_put_up(rt, &bus, 6, 3, &[]);
-    schedule.act_at(&mut bus, 1);
-    has_put_up(rt, &bus, 6, 3, &[0x00aa]);
-    has_put_up(rt, &bus, 5, 1, &[0x1111, 0x2222]);
-    has_put_up(rt, &bus, 6, 29, &[0x0001, 0x0002, 0xffff]);
+/// Actions of one number act on the bus, and no others.
+fn act(rt: &impl Abort, schedule: &Schedule, bus: &mut Bus) {
+    schedule.act_at(bus, 3);
+    has_put_up(rt, bus, 6, 29, &[0x0001, 0x0002, 0xffff]);
+    has_put_up(rt, bus, 6, 3, &[]);
+    schedule.act_at(bus, 1);
+    has_put_up(rt, bus, 6, 3, &[0x00aa]);
+    has_put_up(rt, bus, 5, 1, &[0x1111, 0x2222]);
+    has_put_up(rt, bus, 6, 29, &[0x0001, 0x0002, 0xffff]);
 }
 
+/// Those of a schedule act on a new bus.
+fn act_alone(rt: &impl Abort, alloc: Global, schedule: Schedule) {
+    let mut bus = Bus::make(alloc, 0, &[5, 6, 30]).expect(rt, "a bus");
+    act(rt, &schedule, &mut bus);
+}
+
+/// A schedule of the given actions, in a copy.
+fn copied(rt: &impl Abort, alloc: Global) -> Schedule {
+    let schedule = Schedule::of(given(rt, alloc));
+    schedule.copy().expect(rt, "memory")
+}
+
+// Given ones, sorted ones, and a copy.
 #[test]
 fn those_of_a_number_act(rt: HostRuntime) {
-    acts(&rt, rt.alloc(), &Schedule::of(given(&rt, rt.alloc())));
-    acts(&rt, rt.alloc(), &Schedule::of(sorted(&rt, rt.alloc())));
-}
-
-#[test]
-fn those_of_a_number_act_in_a_copy(rt: HostRuntime) {
-    let schedule = Schedule::of(given(&rt, rt.alloc()));
-    let copy = schedule.copy().expect(&rt, "memory");
-    acts(&rt, rt.alloc(), &copy);
+    let alloc = rt.alloc();
+    act_alone(&rt, alloc, Schedule::of(given(&rt, alloc)));
+    act_alone(&rt, alloc, Schedule::of(sorted(&rt, alloc)));
+    act_alone(&rt, alloc, copied(&rt, alloc));
 }

@@ -1,6 +1,6 @@
 //! Texts with each fault at the first, a middle and the last place where it may stand; lines and columns are counted by
 //! hand.
-use crate::tests::equal::{prints, reads};
+use crate::tests::equal::is_fault;
 use frame_text::{parse, read_send};
 use std::alloc::Global;
 use std::fmt::Write;
@@ -113,14 +113,30 @@ const NAMES: &[Told] = &[
     ),
 ];
 
+/// Texts of a message alone.
+const MESSAGES: &[Told] = &[
+    ("A rx 5 1 [0001 0002 0003]", "none"),
+    ("A rx 5 1 []", "S4 line 1 column 3 M3"),
+    ("A rx 31 1 [0001]", "S4 line 1 column 3 M1"),
+    ("A rx 5 0 [0001]", "S4 line 1 column 3 M2"),
+    ("C rx 5 1 [0001]", "S2 line 1 column 1"),
+    ("A rx 5 1 [0001] send", "S2 line 1 column 17"),
+    ("B", "S5 line 1 column 2"),
+];
+
 /// Why this text is no script.
 fn has_fault(rt: &impl Abort, alloc: Global, text: &str, fault: &str) {
-    match parse(alloc, text.as_bytes()) {
-        Ok(_) => reads(rt, text, "none", fault),
-        Err(error) => prints(rt, alloc, text, &error, fault),
-    }
+    let found = parse(alloc, text.as_bytes()).err();
+    is_fault(rt, alloc, text, found, fault);
 }
 
+/// Why this text is no message.
+fn message_has_fault(rt: &impl Abort, alloc: Global, text: &str, fault: &str) {
+    let found = read_send(text.as_bytes()).err();
+    is_fault(rt, alloc, text, found, fault);
+}
+
+/// Why the texts of a table are no scripts.
 fn each_fault(rt: &impl Abort, alloc: Global, table: &[Told]) {
     for (text, fault) in table {
         has_fault(rt, alloc, text, fault);
@@ -132,6 +148,9 @@ fn faults_and_their_places(rt: HostRuntime) {
     for table in [MISPLACED, WRONG_NUMBERS, EARLY_ENDS, RANGES, NAMES] {
         each_fault(&rt, rt.alloc(), table);
     }
+    for (text, fault) in MESSAGES {
+        message_has_fault(&rt, rt.alloc(), text, fault);
+    }
 }
 
 /// A text, then one piece a number of times, then another text; and what is printed of the fault of the whole.
@@ -139,7 +158,7 @@ type Repeated = (&'static str, &'static str, u32, &'static str, &'static str);
 
 /// Sixteen blocks may stand in one another, and sixteen operators above a test. A call counts as deep as what it stands
 /// for; the braces of a definition are no block.
-const DEPTHS: [Repeated; 12] = [
+const DEPTHS: &[Repeated] = &[
     ("", "repeat 1 { ", 17, "", "S6 line 1 column 186"),
     (
         "gap 50\n",
@@ -184,6 +203,7 @@ const DEPTHS: [Repeated; 12] = [
     ),
 ];
 
+/// Puts a text behind another.
 fn put(rt: &impl Abort, text: &mut String, more: &str) {
     text.push_str(more).expect(rt, "memory");
 }
@@ -205,14 +225,6 @@ pub(crate) fn repeated(
     text
 }
 
-#[test]
-fn depths(rt: HostRuntime) {
-    for (before, piece, times, after, fault) in DEPTHS {
-        let text = repeated(&rt, rt.alloc(), before, piece, times, after);
-        has_fault(&rt, rt.alloc(), text.as_str(), fault);
-    }
-}
-
 /// Definitions of nothing.
 fn definitions_of_nothing(rt: &impl Abort, alloc: Global, count: u32) -> String {
     let mut text = String::new(alloc);
@@ -222,50 +234,45 @@ fn definitions_of_nothing(rt: &impl Abort, alloc: Global, count: u32) -> String 
     text
 }
 
-/// Definitions that call definitions, each twice the one before.
-fn definitions_that_double(rt: &impl Abort, alloc: Global) -> String {
+/// Definitions that call definitions, each twice the one before, and this text behind them.
+fn definitions_that_double(rt: &impl Abort, alloc: Global, behind: &str) -> String {
     let mut text = String::new(alloc);
     put(rt, &mut text, "define d0 { send A mode 5 1 }\n");
     for below in 0..31 {
         let next = below + 1;
         write!(text, "define d{next} {{ call d{below} call d{below} }}\n").expect(rt, "memory");
     }
+    put(rt, &mut text, behind);
     text
+}
+
+/// Why a text that was made is no script.
+fn made_has_fault(rt: &impl Abort, alloc: Global, text: String, fault: &str) {
+    has_fault(rt, alloc, text.as_str(), fault);
+}
+
+/// Why the text of a row is no script.
+fn repeated_has_fault(rt: &impl Abort, alloc: Global, row: &Repeated) {
+    let (before, piece, times, after, fault) = *row;
+    let text = repeated(rt, alloc, before, piece, times, after);
+    has_fault(rt, alloc, text.as_str(), fault);
+}
+
+#[test]
+fn depths(rt: HostRuntime) {
+    for row in DEPTHS {
+        repeated_has_fault(&rt, rt.alloc(), row);
+    }
 }
 
 // At most 32 definitions. The sum of those that double is found without writing them out.
 #[test]
 fn definitions(rt: HostRuntime) {
-    let text = definitions_of_nothing(&rt, rt.alloc(), 33);
-    has_fault(&rt, rt.alloc(), text.as_str(), "S11 line 33 column 1");
-    let mut text = definitions_that_double(&rt, rt.alloc());
-    has_fault(&rt, rt.alloc(), text.as_str(), "none");
-    put(&rt, &mut text, "call d31");
-    has_fault(&rt, rt.alloc(), text.as_str(), "S8 line 1 column 1");
-}
-
-/// Texts of a message alone.
-const MESSAGES: [Told; 7] = [
-    ("A rx 5 1 [0001 0002 0003]", "none"),
-    ("A rx 5 1 []", "S4 line 1 column 3 M3"),
-    ("A rx 31 1 [0001]", "S4 line 1 column 3 M1"),
-    ("A rx 5 0 [0001]", "S4 line 1 column 3 M2"),
-    ("C rx 5 1 [0001]", "S2 line 1 column 1"),
-    ("A rx 5 1 [0001] send", "S2 line 1 column 17"),
-    ("B", "S5 line 1 column 2"),
-];
-
-/// Why this text is no message.
-fn has_fault_of_message(rt: &impl Abort, alloc: Global, text: &str, fault: &str) {
-    match read_send(text.as_bytes()) {
-        Ok(_) => reads(rt, text, "none", fault),
-        Err(error) => prints(rt, alloc, text, &error, fault),
-    }
-}
-
-#[test]
-fn one_message(rt: HostRuntime) {
-    for (text, fault) in MESSAGES {
-        has_fault_of_message(&rt, rt.alloc(), text, fault);
-    }
+    let alloc = rt.alloc();
+    let nothing = definitions_of_nothing(&rt, alloc, 33);
+    made_has_fault(&rt, alloc, nothing, "S11 line 33 column 1");
+    let uncalled = definitions_that_double(&rt, alloc, "");
+    made_has_fault(&rt, alloc, uncalled, "none");
+    let called = definitions_that_double(&rt, alloc, "call d31");
+    made_has_fault(&rt, alloc, called, "S8 line 1 column 1");
 }

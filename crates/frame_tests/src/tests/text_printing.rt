@@ -1,6 +1,7 @@
 //! What frames print as.
+use crate::tests::assembling::spelled;
 use crate::tests::equal::reads;
-use crate::tests::worked::{boxed, sequence};
+use crate::tests::worked::{boxed, copied, sequence};
 use bumpalo::Bump;
 use frame_text::{parse, print};
 use frame_tree::{Cond, Frame};
@@ -10,7 +11,7 @@ use std::alloc::{Allocator, Global};
 use std::process::Abort;
 
 /// Texts, and what they print as.
-const PRINTED: [(&str, &str); 11] = [
+const PRINTED: &[(&str, &str)] = &[
     (
         "frame 0020000{frame 100{}gap 50}",
         "frame 20000 {\n  frame 100 {\n  }\n  gap 50\n}\n",
@@ -65,7 +66,7 @@ const MESSAGES: &str = "send A rx 5 1 [0001 BEEF]\n\
     retry 8 send B rx 0 1 [0000]\n";
 
 /// Each named bit, as it is printed.
-const BITS: [&str; 8] = [
+const BITS: &[&str] = &[
     "if bit message_error {\n}\n",
     "if bit instrumentation {\n}\n",
     "if bit service_request {\n}\n",
@@ -87,15 +88,16 @@ fn is_printed<A: Allocator + Clone>(
     reads(rt, expected, printed.as_str(), expected);
 }
 
-/// The frame that a text spells.
-fn spelled(rt: &impl Abort, alloc: Global, text: &str) -> Frame<Global> {
-    parse(alloc, text.as_bytes()).expect(rt, text)
+/// The frame of a text prints as another text.
+fn prints(rt: &impl Abort, alloc: Global, text: &str, expected: &str) {
+    let frame = spelled(rt, alloc, text);
+    is_printed(rt, alloc, &frame, expected);
 }
 
 /// A text prints as another, which prints as itself.
 fn prints_as(rt: &impl Abort, alloc: Global, text: &str, expected: &str) {
-    is_printed(rt, alloc, &spelled(rt, alloc, text), expected);
-    is_printed(rt, alloc, &spelled(rt, alloc, expected), expected);
+    prints(rt, alloc, text, expected);
+    prints(rt, alloc, expected, expected);
 }
 
 #[test]
@@ -117,22 +119,28 @@ const NESTED: &str =
 const NESTED_PRINTED: &str =
     "repeat 3 {\n  if any ( fail silent ) {\n    retry 2 send A rx 9 1 [0001]\n  } else {\n    gap 50\n  }\n}\n";
 
-fn copied(rt: &impl Abort, alloc: Global, frame: &Frame<&Bump>) -> Frame<Global> {
-    frame.copy_in(alloc).expect(rt, "memory")
+/// The frame that `NESTED` spells, in an arena.
+fn nested<'a>(rt: &impl Abort, arena: &'a Bump) -> Frame<&'a Bump> {
+    parse(arena, NESTED.as_bytes()).expect(rt, NESTED)
 }
 
-// A tree of an arena, and its copy elsewhere.
+/// The frame is printed as `NESTED_PRINTED`, and so is its copy elsewhere.
+fn print_alike(rt: &impl Abort, alloc: Global, frame: &Frame<&Bump>) {
+    is_printed(rt, alloc, frame, NESTED_PRINTED);
+    let copy = copied(rt, alloc, frame);
+    is_printed(rt, alloc, &copy, NESTED_PRINTED);
+}
+
+/// A frame of an arena.
+fn arena_prints(rt: &impl Abort, alloc: Global, arena: &Bump) {
+    let frame = nested(rt, arena);
+    print_alike(rt, alloc, &frame);
+}
+
 #[test]
 fn arena(rt: HostRuntime) {
-    let bump = Bump::new(rt.alloc());
-    let frame = parse(&bump, NESTED.as_bytes()).expect(&rt, "a frame");
-    is_printed(&rt, rt.alloc(), &frame, NESTED_PRINTED);
-    is_printed(
-        &rt,
-        rt.alloc(),
-        &copied(&rt, rt.alloc(), &frame),
-        NESTED_PRINTED,
-    );
+    let arena = Bump::new(rt.alloc());
+    arena_prints(&rt, rt.alloc(), &arena);
 }
 
 /// Two gaps, of which the first stands in a sequence of its own.
@@ -148,20 +156,24 @@ fn nothing(rt: &impl Abort, alloc: Global) -> Frame<Global> {
     sequence(rt, alloc, first, Frame::Seq(Vec::new(alloc)))
 }
 
+/// A choice between these.
+fn choice(rt: &impl Abort, alloc: Global) -> Frame<Global> {
+    let then = boxed(rt, alloc, gaps(rt, alloc));
+    let otherwise = boxed(rt, alloc, nothing(rt, alloc));
+    Frame::If {
+        condition: Cond::Test(OutcomeTest::Bit(StatusBit::Broadcast)),
+        then,
+        otherwise,
+    }
+}
+
+/// As it is printed.
+const CHOICE_PRINTED: &str = "if bit broadcast {\n  gap 40\n  gap 50\n}\n";
+
 // Frames that no text has: a sequence in a sequence stands in line, and an else without a frame is left out.
 #[test]
 fn sequences(rt: HostRuntime) {
     let alloc = rt.alloc();
     is_printed(&rt, alloc, &gaps(&rt, alloc), "gap 40\ngap 50\n");
-    let frame = Frame::If {
-        condition: Cond::Test(OutcomeTest::Bit(StatusBit::Broadcast)),
-        then: boxed(&rt, alloc, gaps(&rt, alloc)),
-        otherwise: boxed(&rt, alloc, nothing(&rt, alloc)),
-    };
-    is_printed(
-        &rt,
-        alloc,
-        &frame,
-        "if bit broadcast {\n  gap 40\n  gap 50\n}\n",
-    );
+    is_printed(&rt, alloc, &choice(&rt, alloc), CHOICE_PRINTED);
 }

@@ -3,7 +3,7 @@
 use frame_tree::{Cond, Frame, Name};
 use mil_message::{Draft, Message, ModeSubaddress, OutcomeTest};
 use mil_word::Line;
-use std::alloc::Global;
+use std::alloc::{Allocator, Global};
 use std::process::Abort;
 
 /// The bytes of the image of `repeat 3 { retry 2 send A rx 9 1 [0001] }`.
@@ -84,6 +84,26 @@ pub(crate) fn define(
     }
 }
 
+/// `repeat .. { .. }`
+pub(crate) fn repeat(
+    rt: &impl Abort,
+    alloc: Global,
+    count: u16,
+    body: Frame<Global>,
+) -> Frame<Global> {
+    let body = boxed(rt, alloc, body);
+    Frame::Repeat { count, body }
+}
+
+/// `retry .. send A ..`
+fn retry_of(rt: &impl Abort, count: u8, draft: Draft) -> Frame<Global> {
+    Frame::Retry {
+        count,
+        line: Line::A,
+        message: Message::check(draft).expect(rt, "a message"),
+    }
+}
+
 /// `retry 2 send A rx 9 1 [0001]`
 pub(crate) fn retry(rt: &impl Abort) -> Frame<Global> {
     let draft = Draft::ToTerminal {
@@ -91,11 +111,7 @@ pub(crate) fn retry(rt: &impl Abort) -> Frame<Global> {
         subaddress: 1,
         words: &[1],
     };
-    Frame::Retry {
-        count: 2,
-        line: Line::A,
-        message: Message::check(draft).expect(rt, "a message"),
-    }
+    retry_of(rt, 2, draft)
 }
 
 /// `retry 1 send A mode 5 1`
@@ -106,24 +122,31 @@ fn poll(rt: &impl Abort) -> Frame<Global> {
         subaddress: ModeSubaddress::ThirtyOne,
         words: None,
     };
-    Frame::Retry {
-        count: 1,
-        line: Line::A,
-        message: Message::check(draft).expect(rt, "a message"),
+    retry_of(rt, 1, draft)
+}
+
+/// `until fail at most 3 { call poll }`
+fn until_fail(rt: &impl Abort, alloc: Global) -> Frame<Global> {
+    let body = boxed(rt, alloc, call(rt, b"poll"));
+    Frame::Until {
+        condition: Cond::Test(OutcomeTest::Failed),
+        count: 3,
+        body,
     }
 }
 
 /// `define poll { retry 1 send A mode 5 1 } repeat 2 { call poll } until fail at most 3 { call poll }`
 pub(crate) fn polling(rt: &impl Abort, alloc: Global) -> Frame<Global> {
-    let twice = Frame::Repeat {
-        count: 2,
-        body: boxed(rt, alloc, call(rt, b"poll")),
-    };
-    let thrice = Frame::Until {
-        condition: Cond::Test(OutcomeTest::Failed),
-        count: 3,
-        body: boxed(rt, alloc, call(rt, b"poll")),
-    };
-    let main = sequence(rt, alloc, twice, thrice);
+    let twice = repeat(rt, alloc, 2, call(rt, b"poll"));
+    let main = sequence(rt, alloc, twice, until_fail(rt, alloc));
     define(rt, alloc, b"poll", poll(rt), main)
+}
+
+/// The same frame, in memory of its own.
+pub(crate) fn copied<A: Allocator + Clone>(
+    rt: &impl Abort,
+    alloc: Global,
+    frame: &Frame<A>,
+) -> Frame<Global> {
+    frame.copy_in(alloc).expect(rt, "memory")
 }

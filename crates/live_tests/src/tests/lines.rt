@@ -5,7 +5,9 @@ use std::alloc::Global;
 use std::process::Abort;
 
 /// A line and what it asks for: the channel, the address and the action's text.
-const GOOD: [(&str, u16, u8, &str); 4] = [
+type Asked = (&'static str, u16, u8, &'static str);
+
+const GOOD: [Asked; 4] = [
     ("1 5 busy on", 1, 5, "busy on"),
     ("  65535   30  vector 00aa  ", 65_535, 30, "vector 00AA"),
     ("7 0 deaf A on", 7, 0, "deaf A on"),
@@ -26,7 +28,8 @@ const BAD: [(&str, BadAction); 10] = [
     ("1 5 vector 1", BadAction::Number),
 ];
 
-fn is_read(rt: &impl Abort, alloc: Global, line: &str, channel: u16, address: u8, action: &str) {
+fn is_read(rt: &impl Abort, alloc: Global, asked: Asked) {
+    let (line, channel, address, action) = asked;
     let post = read_post(line.as_bytes()).ok().expect(rt, "a post");
     assert_eq!(rt; (post.channel, post.address), (channel, address), "{line}");
     let text = post.action.to_string(alloc).expect(rt, "memory");
@@ -35,8 +38,8 @@ fn is_read(rt: &impl Abort, alloc: Global, line: &str, channel: u16, address: u8
 
 #[test]
 fn what_lines_ask_for(rt: HostRuntime) {
-    for (line, channel, address, action) in GOOD {
-        is_read(&rt, rt.alloc(), line, channel, address, action);
+    for asked in GOOD {
+        is_read(&rt, rt.alloc(), asked);
     }
 }
 

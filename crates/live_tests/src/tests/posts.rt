@@ -3,7 +3,7 @@ ghost use Rattle.bench_live.specs.Posting.{AreHandsOf, IsOpened};
 ghost use Rattle.bench_run.specs.Live.{AreInboxesOf};
 
 use bench_core::Settings;
-use bench_live::{Desk, Hand, Manner, Pace, next_fault, open_desk, record_live};
+use bench_live::{Desk, Hand, Manner, Pace, Session, next_fault, open_desk};
 use bench_report::{ChannelReport, Report};
 use bench_run::Inbox;
 use ch11_writer::MemorySink;
@@ -75,25 +75,31 @@ fn settings(alloc: Global) -> Settings {
 }
 
 /// The report of a run that takes what was posted.
-fn report_of<R: Threads + Wait + Clock + Abort + Sync, E: Eprint + IsTerminal + Sync>(
-    rt: &R,
-    errors: &E,
+fn report_of<'s, R: Threads + Wait + Clock + Abort + Sync, E: Eprint + IsTerminal + Sync>(
+    rt: &'s R,
+    errors: &'s E,
     alloc: Global,
-    jobs: &[Job],
+    jobs: &'s [Job],
+    settings: &'s Settings,
     desk: &Desk,
     inboxes: Vec<Inbox>,
 ) -> Report
     requires { AreInboxesOf desk.now.boxes.items inboxes.items }
 {
-    let settings = settings(alloc);
     let manner = Manner {
         drops: false,
         pace: Pace::read(b"1000"),
     };
-    let sink = MemorySink::make(alloc);
-    let answer = record_live(
-        rt, alloc, errors, jobs, &settings, manner, None, desk, inboxes, sink,
-    );
+    let session = Session {
+        rt,
+        alloc,
+        errors,
+        jobs,
+        settings,
+        manner,
+        show: None,
+    };
+    let answer = session.record_live(desk, inboxes, MemorySink::make(alloc));
     let (report, _, _) = answer.ok().expect(rt, "a run that ends well");
     report
 }
@@ -142,7 +148,8 @@ fn each_line_is_posted_or_told(rt: HostRuntime) {
             "",
         ],
     );
-    let report = report_of(&rt, &rt.stderr(), alloc, &jobs, &desk, inboxes);
+    let settings = settings(alloc);
+    let report = report_of(&rt, &rt.stderr(), alloc, &jobs, &settings, &desk, inboxes);
     let first = report.channels().first().expect(&rt, "channel 1");
     has_placed(&rt, alloc, first, &[(5, "fault on")]);
     let second = report.channels().get(1).expect(&rt, "channel 2");

@@ -4,12 +4,14 @@ use mil_host::{Action, BadAction, read_action};
 use std::alloc::Global;
 use std::process::Abort;
 
+/// The action that a text spells.
+pub(super) fn action(rt: &impl Abort, text: &str) -> Action {
+    read_action(text.as_bytes()).expect(rt, text)
+}
+
 /// The fault of a text, if it spells no action.
 fn fault(text: &str) -> Option<BadAction> {
-    match read_action(text.as_bytes()) {
-        Ok(_) => None,
-        Err(fault) => Some(fault),
-    }
+    read_action(text.as_bytes()).err()
 }
 
 /// Texts that spell no action, and the first fault of each.
@@ -38,13 +40,13 @@ fn names_the_first_fault(rt: HostRuntime) {
 
 #[test]
 fn reads_an_action(rt: HostRuntime) {
-    is_transmit(&rt, read_action(b" transmit  1 aAaA 5555 "));
+    is_transmit(&rt, &action(&rt, " transmit  1 aAaA 5555 "));
 }
 
 /// The action puts up two words at subaddress 1.
-fn is_transmit(rt: &impl Abort, action: Result<Action, BadAction>) {
+fn is_transmit(rt: &impl Abort, action: &Action) {
     match action {
-        Ok(Action::Transmit(put)) => {
+        Action::Transmit(put) => {
             same_in(rt, "subaddress", &put.sub(), &1);
             are_in(rt, "words", put.words(), &[0xaaaa, 0x5555]);
         }
@@ -69,8 +71,7 @@ const PRINTED: &[&str] = &[
 
 /// The action that a text spells is printed as that text.
 fn is_printed_alike(rt: &impl Abort, alloc: Global, text: &str) {
-    let action = read_action(text.as_bytes()).expect(rt, text);
-    prints(rt, alloc, &action, text);
+    prints(rt, alloc, &action(rt, text), text);
 }
 
 #[test]

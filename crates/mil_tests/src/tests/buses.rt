@@ -1,10 +1,12 @@
 //! A bus with its planned faults, driven message by message, and what a monitor keeps of each: the figures of the tests
 //! below it are worked out by hand from the rules.
+use crate::tests::actions::action;
 use crate::tests::equal::{are_in, same_in};
+use crate::tests::messages::message;
+use crate::tests::terminals::{has_received, has_received_from_all};
 use mil_bus::{Bus, Talk, TalkCounts};
-use mil_host::read_action;
 use mil_line::{Fault, Gap, LineError, Plan};
-use mil_message::{Draft, Message, ModeSubaddress};
+use mil_message::{Draft, ModeSubaddress};
 use mil_monitor::{Record, observe_with};
 use mil_word::{Line, Sync, Wave, Word};
 use std::alloc::Global;
@@ -38,6 +40,8 @@ type Parts = &'static [&'static [u16]];
 enum Step {
     /// An action of a terminal's host, by its text.
     Act(u8, &'static str),
+    /// There is no terminal of this address, which takes an action.
+    NoTerminal(u8),
     /// One more fault of a message.
     Plan(u32, Flaw),
     /// The next message, on a line, has a record of these words.
@@ -52,6 +56,10 @@ enum Step {
     Received(u8, u8, &'static [u16]),
     /// At a terminal, a receive command to all left these words at a subaddress.
     ReceivedFromAll(u8, u8, &'static [u16]),
+    /// At each of 31 terminals but one, a receive command to all left these words at a subaddress, and none there.
+    AllReceivedBut(Option<u8>, u8, &'static [u16]),
+    /// Each of 31 terminals, asked for its status word alone, has these bits in it.
+    AllTell(u16),
     /// The bus's clock.
     Clock(u64),
     /// No talk starts before this tick.
@@ -191,12 +199,8 @@ fn fault_of(flaw: Flaw) -> Fault {
 
 /// New terminals of these addresses, and no fault.
 fn fresh(rt: &impl Abort, alloc: Global, addresses: &[u8]) -> Setting {
-    Setting {
-        bus: Bus::make(alloc, 0, addresses).expect(rt, "a bus"),
-        plan: Plan::make(alloc),
-        number: 0,
-        room: Talk::none(),
-    }
+    let bus = Bus::make(alloc, 0, addresses).expect(rt, "a bus");
+    Setting::of(bus, Plan::make(alloc), 0)
 }
 
 /// Scripts, each on a bus of its own with new terminals of these addresses and no fault.
@@ -234,6 +238,16 @@ fn is_kept(rt: &impl Abort, row: &str, record: &Record, beside: Beside, parts: &
 }
 
 impl Setting {
+    /// A bus and its plan behind so many messages.
+    fn of(bus: Bus, plan: Plan, number: u32) -> Setting {
+        Setting {
+            bus,
+            plan,
+            number,
+            room: Talk::none(),
+        }
+    }
+
     /// These steps, one after the other.
     fn plays(&mut self, rt: &impl Abort, row: &str, steps: &[Step]) {
         for step in steps {
@@ -244,6 +258,7 @@ impl Setting {
     fn step(&mut self, rt: &impl Abort, row: &str, step: Step) {
         match step {
             Step::Act(address, text) => self.act(rt, row, address, text),
+            Step::NoTerminal(address) => self.has_none(rt, row, address),
             Step::Plan(number, flaw) => self.answers(rt, row, number, flaw, Ok(())),
             Step::TooMany(number, flaw) => {
                 self.answers(rt, row, number, flaw, Err(LineError::TooMany))
@@ -263,6 +278,10 @@ impl Setting {
             Step::ReceivedFromAll(address, subaddress, words) => {
                 self.has_received_from_all(rt, row, address, subaddress, words)
             }
+            Step::AllReceivedBut(none, subaddress, words) => {
+                self.all_received_but(rt, row, none, subaddress, words)
+            }
+            Step::AllTell(bits) => self.all_tell(rt, row, bits),
             Step::Clock(ticks) => same_in(rt, row, &self.bus.clock(), &ticks),
             Step::Pace(tick) => self.bus.pace(tick),
             Step::Now(ticks) => same_in(rt, row, &self.bus.now(), &ticks),
@@ -271,18 +290,15 @@ impl Setting {
 
     /// The same bus and plan once more.
     fn copy(&self, rt: &impl Abort) -> Setting {
-        Setting {
-            bus: self.bus.copy().expect(rt, "memory"),
-            plan: self.plan.copy().expect(rt, "memory"),
-            number: self.number,
-            room: Talk::none(),
-        }
+        let plan = self.plan.copy().expect(rt, "memory");
+        let bus = self.bus.copy().expect(rt, "memory");
+        Setting::of(bus, plan, self.number)
     }
 
     /// The record of the next message.
     fn send(&mut self, rt: &impl Abort, line: Line, draft: Draft<'_>) -> Record {
-        let message = Message::check(draft).expect(rt, "a draft in range");
         assert!(rt; self.bus.now() < 1 << 60);
+        let message = message(rt, draft);
         self.number = self.number.wrapping_add(1);
         let faults = self.plan.faults(self.number);
         let mut seen = TalkCounts::none();
@@ -325,15 +341,21 @@ impl Setting {
 
     /// An action of a terminal's host, by its text.
     fn act(&mut self, rt: &impl Abort, row: &str, address: u8, text: &str) {
-        let action = read_action(text.as_bytes()).expect(rt, row);
-        same_in(rt, row, &self.bus.act(address, &action), &true);
+        let acted = self.bus.act(address, &action(rt, text));
+        same_in(rt, row, &acted, &true);
+    }
+
+    /// No terminal of this address takes an action.
+    fn has_none(&mut self, rt: &impl Abort, row: &str, address: u8) {
+        let acted = self.bus.act(address, &action(rt, "busy on"));
+        let found = (acted, self.bus.terminal(address).is_none());
+        same_in(rt, row, &found, &(false, true));
     }
 
     /// A receive command to a terminal left these words there.
     fn has_received(&self, rt: &impl Abort, row: &str, address: u8, subaddress: u8, words: &[u16]) {
-        assert!(rt; 1 <= subaddress && subaddress <= 30);
         let terminal = self.bus.terminal(address).expect(rt, "no such terminal");
-        are_in(rt, row, terminal.received(subaddress), words);
+        has_received(rt, row, terminal, subaddress, words);
     }
 
     /// A receive command to all left these words at a terminal.
@@ -345,8 +367,7 @@ impl Setting {
         subaddress: u8,
         words: &[u16],
     ) {
-        assert!(rt; 1 <= subaddress && subaddress <= 30);
         let terminal = self.bus.terminal(address).expect(rt, "no such terminal");
-        are_in(rt, row, terminal.received_from_all(subaddress), words);
+        has_received_from_all(rt, row, terminal, subaddress, words);
     }
 }

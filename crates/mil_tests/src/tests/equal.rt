@@ -9,18 +9,13 @@ pub(crate) fn same_in<T: PartialEq + Debug>(rt: &impl Abort, row: &str, found: &
     assert_eq!(rt; *found, *wanted, "{row}");
 }
 
-/// The words are these; a failure names the row.
-pub(crate) fn are_in(rt: &impl Abort, row: &str, words: &[u16], wanted: &[u16]) {
-    assert_eq!(rt; words, wanted, "{row}");
+/// The lists are equal; a failure names the row.
+pub(crate) fn are_in<T: PartialEq + Debug>(rt: &impl Abort, row: &str, found: &[T], wanted: &[T]) {
+    assert_eq!(rt; found, wanted, "{row}");
 }
 
 /// A value is printed as this text.
 pub(crate) fn prints<T: Display>(rt: &impl Abort, alloc: Global, value: &T, wanted: &str) {
     let printed = value.to_string(alloc).expect(rt, wanted);
-    reads(rt, printed.as_str(), wanted);
-}
-
-/// The texts are the same.
-fn reads(rt: &impl Abort, text: &str, wanted: &str) {
-    assert_eq!(rt; text, wanted);
+    same_in(rt, "printed", &printed.as_str(), &wanted);
 }

@@ -197,14 +197,15 @@ fn mode_commands(rt: HostRuntime) {
 }
 
 /// A mode command to terminal 5, or to all.
-fn mode<'a>(to: Option<ModeSubaddress>, code: u32, written: Option<&'a [u16]>) -> Draft<'a> {
+fn mode(to: Option<ModeSubaddress>, code: u32, written: Option<&'static [u16]>) -> Draft<'static> {
     match to {
         Some(subaddress) => Draft::mode_command(5, subaddress, code, written),
         None => Draft::mode_command_to_all(ThirtyOne, code, written),
     }
 }
 
-fn message(rt: &impl Abort, draft: Draft<'_>) -> Message {
+/// The message of a draft.
+pub(super) fn message(rt: &impl Abort, draft: Draft<'_>) -> Message {
     Message::check(draft).expect(rt, "a draft in range")
 }
 
@@ -216,7 +217,7 @@ fn stands(rt: &impl Abort, draft: Draft<'_>, commands: &[u16], words: &[u16], du
 fn is_message(rt: &impl Abort, message: &Message, commands: &[u16], words: &[u16], due: &[Due]) {
     sends(rt, message, commands, words);
     are_in(rt, "data words", message.data_words(), words);
-    awaits(rt, message, due);
+    are_in(rt, "replies", message.replies_due().as_slice(), due);
     is_its_draft(rt, message);
     is_its_parts(rt, message, words);
     has_values(rt, message, commands, words);
@@ -226,10 +227,10 @@ fn is_message(rt: &impl Abort, message: &Message, commands: &[u16], words: &[u16
 fn sends(rt: &impl Abort, message: &Message, commands: &[u16], words: &[u16]) {
     let mut sent: ArrayVec<Word, 34> = ArrayVec::new();
     for &value in commands {
-        put(rt, &mut sent, Sync::CommandSync, value);
+        let _ = sent.try_push(word(Sync::CommandSync, value));
     }
     for &value in words {
-        put(rt, &mut sent, Sync::DataSync, value);
+        let _ = sent.try_push(word(Sync::DataSync, value));
     }
     same_in(
         rt,
@@ -237,29 +238,25 @@ fn sends(rt: &impl Abort, message: &Message, commands: &[u16], words: &[u16]) {
         &message.controller_count(),
         &sent.len(),
     );
-    assert_eq!(rt; message.controller_words().as_slice(), sent.as_slice());
+    are_in(rt, "words", message.controller_words().as_slice(), &sent);
 }
 
-/// One more word.
-fn put(rt: &impl Abort, sent: &mut ArrayVec<Word, 34>, sync: Sync, value: u16) {
-    assert!(rt; !sent.is_full());
-    sent.push(Word { sync, value });
-}
-
-/// The replies due are these.
-fn awaits(rt: &impl Abort, message: &Message, due: &[Due]) {
-    assert_eq!(rt; message.replies_due().as_slice(), due);
+fn word(sync: Sync, value: u16) -> Word {
+    Word { sync, value }
 }
 
 /// The message is what its draft is read as, and the same in the place of another.
 fn is_its_draft(rt: &impl Abort, message: &Message) {
-    let mut back = Message::check(message.draft()).expect(rt, "a draft in range");
-    assert!(rt; back == message.copy());
-    message.copy_into(&mut back);
-    assert!(rt; back == *message);
-    let mut other = Message::default();
-    message.copy_into(&mut other);
-    assert!(rt; other == *message);
+    let mut back = self::message(rt, message.draft());
+    same_in(rt, "of its draft", &back, &message.copy());
+    is_copied(rt, message, &mut back);
+    is_copied(rt, message, &mut Message::default());
+}
+
+/// A message is the same in the place of another.
+fn is_copied(rt: &impl Abort, message: &Message, other: &mut Message) {
+    message.copy_into(other);
+    same_in(rt, "copied", other, message);
 }
 
 /// The values of the controller's words are those of these commands and of these data words.
@@ -272,10 +269,17 @@ fn has_values(rt: &impl Abort, message: &Message, commands: &[u16], words: &[u16
 
 /// The message is made again of its parts.
 fn is_its_parts(rt: &impl Abort, message: &Message, words: &[u16]) {
-    let commands = message.commands();
-    let second = commands.second.map_or(0, |command| command.value());
-    let back = Message::of_parts(message.form_number(), commands.first.value(), second, words);
-    assert!(rt; back.expect(rt, "a message") == *message);
+    let first = message.commands().first.value();
+    let back = Message::of_parts(message.form_number(), first, second_of(message), words);
+    same_in(rt, "of its parts", &back.expect(rt, "a message"), message);
+}
+
+/// The second command word of a message; 0 where there is none.
+fn second_of(message: &Message) -> u16 {
+    match message.commands().second {
+        Some(command) => command.value(),
+        None => 0,
+    }
 }
 
 const ONE_WORD: Draft<'static> = ToTerminal {
@@ -287,7 +291,12 @@ const ONE_WORD: Draft<'static> = ToTerminal {
 #[test]
 fn waves(rt: HostRuntime) {
     let message = message(&rt, ONE_WORD);
-    has_second_wave(&rt, &message.clone().expect(&rt, "a clone"));
+    has_second_wave(&rt, &cloned(&rt, &message));
+}
+
+/// A clone of a message.
+fn cloned(rt: &impl Abort, message: &Message) -> Message {
+    message.clone().expect(rt, "a clone")
 }
 
 /// Of two waves the second is that of a data word of zeros.
@@ -304,7 +313,7 @@ fn has_second_wave(rt: &impl Abort, message: &Message) {
 fn default(rt: HostRuntime) {
     let commands = Message::default().commands();
     same_in(&rt, "command", &commands.first.value(), &0x0402);
-    assert!(rt; commands.second.is_none());
+    same_in(&rt, "no second", &commands.second.is_none(), &true);
 }
 
 /// Parts of which no message is made: the number of the form, the commands and the words.
@@ -319,9 +328,14 @@ const NO_PARTS: &[(u8, u16, u16, &[u16])] = &[
 #[test]
 fn parts_of_no_message(rt: HostRuntime) {
     for (form, first, second, words) in NO_PARTS {
-        let made = Message::of_parts(*form, *first, *second, words).is_some();
-        assert!(rt; !made, "form {form}, words {words:?}");
+        are_no_parts(&rt, *form, *first, *second, words);
     }
+}
+
+/// No message is made of these parts.
+fn are_no_parts(rt: &impl Abort, form: u8, first: u16, second: u16, words: &[u16]) {
+    let made = Message::of_parts(form, first, second, words).is_some();
+    assert!(rt; !made, "form {form}, words {words:?}");
 }
 
 /// Faults, and how they are printed.
@@ -357,5 +371,5 @@ fn has_form_from_5(rt: &impl Abort, message: &Message) {
         subaddress: 2,
         count: 32,
     };
-    assert!(rt; *message.form() == wanted);
+    same_in(rt, "form", message.form(), &wanted);
 }

@@ -2,6 +2,7 @@
 //! with Notice 2); that terminals carry out neither 20 nor 21 is an own choice.
 ghost use Rattle.std.specs.Prelude.{◌≤◌};
 
+use crate::tests::equal::same_in;
 use mil_mode::ModeRow::{Known, Reserved, Undefined};
 use mil_mode::{ModeRow, broadcast_allowed, data_words, is_legal_mode, mode_of};
 use std::process::Abort;
@@ -115,19 +116,15 @@ fn said_of(transmit: bool, code: u8) -> Said
 }
 
 /// All codes with a T/R bit are as in a table.
-fn are_as_in(rt: &impl Abort, transmit: bool, table: &[Said; 32]) {
+fn are_as_in(rt: &impl Abort, row: &str, transmit: bool, table: &[Said; 32]) {
     for code in 0..32u8 {
-        let wanted = table[code as usize];
-        assert_eq!(rt;
-            said_of(transmit, code),
-            wanted,
-            "T/R {transmit}, code {code}"
-        );
+        let found = (code, said_of(transmit, code));
+        same_in(rt, row, &found, &(code, table[code as usize]));
     }
 }
 
 #[test]
 fn all_pairs_are_as_in_the_table(rt: HostRuntime) {
-    are_as_in(&rt, true, &TRANSMIT);
-    are_as_in(&rt, false, &RECEIVE);
+    are_as_in(&rt, "T/R 1, code", true, &TRANSMIT);
+    are_as_in(&rt, "T/R 0, code", false, &RECEIVE);
 }

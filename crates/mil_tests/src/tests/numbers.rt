@@ -3,7 +3,7 @@ use crate::tests::equal::same_in;
 use numerals::{digit, spelled};
 
 /// Bytes, and their values as digits; 36 is none.
-const DIGITS: [(u8, u8); 12] = [
+const DIGITS: &[(u8, u8)] = &[
     (b'/', 36),
     (b'0', 0),
     (b'9', 9),
@@ -21,59 +21,45 @@ const DIGITS: [(u8, u8); 12] = [
 #[test]
 fn values_of_digits(rt: HostRuntime) {
     for (byte, value) in DIGITS {
-        assert_eq!(rt; digit(byte), value, "of {byte}");
+        let found = (*byte, digit(*byte));
+        same_in(&rt, "byte, digit", &found, &(*byte, *value));
     }
 }
 
-/// Words of one to seven decimal digits, and the numbers that they spell.
-const DECIMAL: &[(&str, u64)] = &[("0", 0), ("0000012", 12), ("9999999", 9_999_999)];
-
-/// Words that are none of these.
-const NOT_DECIMAL: &[&str] = &["", "00000012", "-1", "+1", "1a", "a", "1 "];
-
-/// Words of four hexadecimal digits, and the numbers that they spell.
-const HEXADECIMAL: &[(&str, u64)] = &[
-    ("0000", 0),
-    ("12aF", 0x12AF),
-    ("FFFF", 0xFFFF),
-    ("ffff", 0xFFFF),
+/// Words, and the numbers that they spell as one to seven decimal digits.
+const DECIMAL: &[(&str, Option<u64>)] = &[
+    ("0", Some(0)),
+    ("0000012", Some(12)),
+    ("9999999", Some(9_999_999)),
+    ("", None),
+    ("00000012", None),
+    ("-1", None),
+    ("+1", None),
+    ("1a", None),
+    ("a", None),
+    ("1 ", None),
 ];
 
-/// Words that are none of these.
-const NOT_HEXADECIMAL: &[&str] = &["fff", "0ffff", "000g", "0x12"];
+/// Words, and the numbers that they spell as four hexadecimal digits.
+const HEXADECIMAL: &[(&str, Option<u64>)] = &[
+    ("0000", Some(0)),
+    ("12aF", Some(0x12AF)),
+    ("FFFF", Some(0xFFFF)),
+    ("ffff", Some(0xFFFF)),
+    ("fff", None),
+    ("0ffff", None),
+    ("000g", None),
+    ("0x12", None),
+];
 
 #[test]
-fn decimal_numbers(rt: HostRuntime) {
+fn words_that_spell_numbers(rt: HostRuntime) {
     for (word, number) in DECIMAL {
-        same_in(&rt, word, &decimal(word), &Some(*number));
+        same_in(&rt, word, &spelled(10, 1, 7, word.as_bytes()), number);
     }
-}
-
-/// What a word spells as one to seven decimal digits.
-fn decimal(word: &str) -> Option<u64> {
-    spelled(10, 1, 7, word.as_bytes())
-}
-
-#[test]
-fn hexadecimal_numbers(rt: HostRuntime) {
     for (word, number) in HEXADECIMAL {
-        same_in(&rt, word, &hexadecimal(word), &Some(*number));
+        same_in(&rt, word, &spelled(16, 4, 4, word.as_bytes()), number);
     }
     let fifteen = spelled(16, 15, 15, b"fffffffffffffff");
     same_in(&rt, "fifteen", &fifteen, &Some(0xFFF_FFFF_FFFF_FFFF));
-}
-
-/// What a word spells as four hexadecimal digits.
-fn hexadecimal(word: &str) -> Option<u64> {
-    spelled(16, 4, 4, word.as_bytes())
-}
-
-#[test]
-fn words_that_spell_no_number(rt: HostRuntime) {
-    for word in NOT_DECIMAL {
-        same_in(&rt, word, &decimal(word), &None);
-    }
-    for word in NOT_HEXADECIMAL {
-        same_in(&rt, word, &hexadecimal(word), &None);
-    }
 }

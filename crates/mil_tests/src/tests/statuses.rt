@@ -2,6 +2,7 @@
 use crate::tests::equal::same_in;
 use bitflags::Flags;
 use mil_status::{BlockBits, StatusBit, StatusBits, status_word};
+use std::process::Abort;
 
 /// Bits, and the status word of terminal 5 that has them.
 const SENT: &[(StatusBits, u16)] = &[
@@ -15,15 +16,11 @@ const SENT: &[(StatusBits, u16)] = &[
 #[test]
 fn statuses(rt: HostRuntime) {
     for (bits, wanted) in SENT {
-        assert_eq!(rt; status_word(5, *bits), *wanted);
+        same_in(&rt, "one bit", &status_word(5, *bits), wanted);
     }
-    assert_eq!(rt; status_word(5, StatusBits::empty()), 0x2800);
-    let unknown = StatusBits::from_bits_retain(0xf8e0);
-    assert_eq!(rt;
-        status_word(7, unknown),
-        0x3800,
-        "bits that mean nothing are not sent"
-    );
+    same_in(&rt, "no bit", &status_word(5, StatusBits::empty()), &0x2800);
+    let unknown = status_word(7, StatusBits::from_bits_retain(0xf8e0));
+    same_in(&rt, "bits that mean nothing", &unknown, &0x3800);
 }
 
 /// The bits by name, and the places at which they stand.
@@ -38,22 +35,33 @@ const BITS: &[(&str, u16, StatusBit)] = &[
     ("terminal", 0, StatusBit::Terminal),
 ];
 
+/// Places at which no bit stands.
+const NO_PLACES: &[u16] = &[5, 6, 7, 11, 12, 13, 14, 15, 16];
+
+/// Names that no bit has.
+const NO_NAMES: &[&str] = &["", "Busy", "busy ", "reserved"];
+
 #[test]
 fn bits(rt: HostRuntime) {
     for (name, place, bit) in BITS {
-        same_in(&rt, name, &StatusBit::named(name.as_bytes()), &Some(*bit));
-        same_in(&rt, name, &StatusBit::at(*place), &Some(*bit));
-        same_in(&rt, name, &u16::from(bit.place()), place);
-        same_in(&rt, name, &bit.name(), name);
+        is_bit(&rt, name, *place, *bit);
     }
-    for place in [5, 6, 7, 11, 12, 13, 14, 15, 16] {
-        assert_eq!(rt; StatusBit::at(place), None);
+    for place in NO_PLACES {
+        same_in(&rt, "no bit", &StatusBit::at(*place), &None);
     }
-    for name in ["", "Busy", "busy ", "reserved"] {
+    for name in NO_NAMES {
         same_in(&rt, name, &StatusBit::named(name.as_bytes()), &None);
     }
     let control = StatusBits::from_name("control");
     same_in(&rt, "control", &control, &Some(StatusBits::CONTROL));
+}
+
+/// A bit has this name, and stands at this place.
+fn is_bit(rt: &impl Abort, name: &str, place: u16, bit: StatusBit) {
+    same_in(rt, name, &StatusBit::named(name.as_bytes()), &Some(bit));
+    same_in(rt, name, &StatusBit::at(place), &Some(bit));
+    same_in(rt, name, &u16::from(bit.place()), &place);
+    same_in(rt, name, &bit.name(), &name);
 }
 
 #[test]
@@ -61,6 +69,6 @@ fn block_of_a_short_message_on_line_b(rt: HostRuntime) {
     let bits = BlockBits::LINE_B
         .union(BlockBits::MESSAGE_ERROR)
         .union(BlockBits::RESPONSE_TIMEOUT);
-    assert_eq!(rt; bits.bits(), 0x3200);
-    assert!(rt; !bits.contains(BlockBits::WORD_COUNT_ERROR));
+    let found = (bits.bits(), bits.contains(BlockBits::WORD_COUNT_ERROR));
+    same_in(&rt, "bits", &found, &(0x3200, false));
 }

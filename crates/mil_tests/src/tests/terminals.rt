@@ -2,9 +2,8 @@
 mod saves;
 mod wholes;
 
+use crate::tests::actions::action;
 use crate::tests::equal::{are_in, same_in};
-use arrayvec::ArrayVec;
-use mil_host::{Action, Mark, TransmitWords};
 use mil_line::Gap;
 use mil_terminal::{Reply, Terminal, TerminalError};
 use mil_word::Line::{A, B};
@@ -34,11 +33,10 @@ enum Step {
     Quiet(Line),
     /// A quiet on a line is answered with these words.
     Replies(Line, &'static [u16]),
-    /// A quiet on a line brings no answer of terminal 5: its status has a message error, and no words came to it at
-    /// subaddress 1.
-    Fails(Line),
-    /// The host acts.
-    Act(Deed),
+    /// A quiet on a line is answered after so many ticks with these words.
+    RepliesAfter(Line, u16, &'static [u16]),
+    /// An action of the host, by its text.
+    Act(&'static str),
     /// These words came to the terminal at a subaddress.
     Received(u8, &'static [u16]),
     /// These words came to all at a subaddress.
@@ -52,22 +50,9 @@ enum Step {
     FlagInhibited,
 }
 
-/// An action of the host.
-#[derive(Clone, Copy)]
-enum Deed {
-    Fault,
-    Busy,
-    /// Receive commands for four words at subaddress 3 are illegal.
-    Illegal,
-    /// They are legal again.
-    Legal,
-    /// Two words at subaddress 1.
-    Transmit,
-}
-
 use Step::{
-    Act, Answers, Behind, Command, Data, Fails, FlagInhibited, IsSilent, LastCommand, PutUp, Quiet,
-    Received, ReceivedFromAll, Replies, Status, Transmitter, Values,
+    Act, Answers, Behind, Command, Data, FlagInhibited, IsSilent, LastCommand, PutUp, Quiet,
+    Received, ReceivedFromAll, Replies, RepliesAfter, Status, Transmitter, Values,
 };
 
 /// Each with terminal 5.
@@ -109,7 +94,7 @@ const SCRIPTS: &[Script] = &[
     (
         "an inhibited flag comes back after a reset",
         &[
-            Act(Deed::Fault),
+            Act("fault on"),
             Answers(A, 0x2fe6, &[], &[0x2800]),
             FlagInhibited,
             Answers(A, 0x2fe1, &[], &[0x2800]),
@@ -120,7 +105,7 @@ const SCRIPTS: &[Script] = &[
     (
         "a busy terminal tells its last command",
         &[
-            Act(Deed::Busy),
+            Act("busy on"),
             Answers(A, 0x2c41, &[], &[0x2808]),
             Answers(A, 0x2ff2, &[], &[0x2808, 0x2c41]),
             LastCommand(0x2c41),
@@ -141,10 +126,14 @@ const SCRIPTS: &[Script] = &[
     (
         "a marked command is answered with a message error",
         &[
-            Act(Deed::Illegal),
+            Act("illegal receive 3 4"),
             Answers(A, 0x2864, &[1, 2, 3, 4], &[0x2c00]),
             Received(3, &[]),
         ],
+    ),
+    (
+        "zeros are sent where nothing was put up",
+        &[Command(A, 0x2c41), RepliesAfter(A, 80, &[0x2800, 0])],
     ),
 ];
 
@@ -152,7 +141,7 @@ const SCRIPTS: &[Script] = &[
 const PUT_UP: &[Script] = &[(
     "words that were put up are sent",
     &[
-        Act(Deed::Transmit),
+        Act("transmit 1 AAAA 5555"),
         Answers(A, 0x3c22, &[], &[0x3800, 0xaaaa, 0x5555]),
     ],
 )];
@@ -172,9 +161,14 @@ fn runs_of_a_terminal(rt: HostRuntime) {
 /// Scripts, each on a new terminal of this address.
 fn are_played(rt: &impl Abort, alloc: Global, address: u8, scripts: &[Script]) {
     for (name, steps) in scripts {
-        let mut terminal = Terminal::make(alloc, address).expect(rt, name);
+        let mut terminal = make(rt, name, alloc, address);
         play_all(rt, name, &mut terminal, steps);
     }
+}
+
+/// A new terminal.
+fn make(rt: &impl Abort, row: &str, alloc: Global, address: u8) -> Terminal {
+    Terminal::make(alloc, address).expect(rt, row)
 }
 
 /// Steps on a terminal, one after the other.
@@ -188,17 +182,23 @@ fn play_all(rt: &impl Abort, row: &str, terminal: &mut Terminal, steps: &[Step])
 fn plays(rt: &impl Abort, row: &str, terminal: &mut Terminal, step: Step) {
     match step {
         Answers(line, value, sent, wanted) => {
-            answers(rt, row, &say(terminal, line, value, sent), wanted)
+            say(terminal, line, value, sent);
+            replies(rt, row, terminal, line, wanted)
         }
-        IsSilent(line, value, sent) => is_silent(rt, row, &say(terminal, line, value, sent)),
+        IsSilent(line, value, sent) => {
+            say(terminal, line, value, sent);
+            is_silent(rt, row, terminal, line)
+        }
         Command(line, value) => terminal.hear(line, command(value), Gap::of(65535)),
         Behind(line, gap, value) => terminal.hear(line, command(value), gap_of(rt, row, gap)),
         Data(line, value) => terminal.hear(line, data(value), Gap::contiguous()),
         Values(line, gap, values) => terminal.hear_values(line, gap_of(rt, row, gap), values),
-        Quiet(line) => is_silent(rt, row, &terminal.quiet(line)),
-        Replies(line, wanted) => answers(rt, row, &terminal.quiet(line), wanted),
-        Fails(line) => fails(rt, row, terminal, line),
-        Act(deed) => terminal.act(&action_of(deed)),
+        Quiet(line) => is_silent(rt, row, terminal, line),
+        Replies(line, wanted) => replies(rt, row, terminal, line, wanted),
+        RepliesAfter(line, ticks, wanted) => {
+            replies_after(rt, row, terminal, line, ticks, wanted)
+        }
+        Act(text) => terminal.act(&action(rt, text)),
         Received(subaddress, words) => has_received(rt, row, terminal, subaddress, words),
         ReceivedFromAll(subaddress, words) => {
             has_received_from_all(rt, row, terminal, subaddress, words)
@@ -217,31 +217,44 @@ fn gap_of(rt: &impl Abort, row: &str, ticks: u16) -> Gap {
     Gap::of(ticks)
 }
 
-/// A reply has these words.
-fn answers(rt: &impl Abort, row: &str, reply: &Option<Reply>, wanted: &[u16]) {
-    are_in(rt, row, words(reply), wanted);
+/// A quiet brings a reply of these words.
+fn replies(rt: &impl Abort, row: &str, terminal: &mut Terminal, line: Line, wanted: &[u16]) {
+    are_in(rt, row, words(&terminal.quiet(line)), wanted);
 }
 
-/// There is no reply.
-fn is_silent(rt: &impl Abort, row: &str, reply: &Option<Reply>) {
-    same_in(rt, row, &reply.is_none(), &true);
+/// A quiet brings a reply of these words after so many ticks.
+fn replies_after(
+    rt: &impl Abort,
+    row: &str,
+    terminal: &mut Terminal,
+    line: Line,
+    ticks: u16,
+    wanted: &[u16],
+) {
+    let reply = terminal.quiet(line);
+    same_in(rt, row, &ticks_of(&reply), &ticks);
+    are_in(rt, row, words(&reply), wanted);
 }
 
-/// A quiet brings no answer of terminal 5, whose message failed.
-fn fails(rt: &impl Abort, row: &str, terminal: &mut Terminal, line: Line) {
-    is_silent(rt, row, &terminal.quiet(line));
-    same_in(rt, row, &terminal.status(), &0x2c00);
-    has_received(rt, row, terminal, 1, &[]);
+/// A quiet brings no reply.
+fn is_silent(rt: &impl Abort, row: &str, terminal: &mut Terminal, line: Line) {
+    same_in(rt, row, &terminal.quiet(line).is_none(), &true);
 }
 
 /// These words came to a terminal at a subaddress.
-fn has_received(rt: &impl Abort, row: &str, terminal: &Terminal, subaddress: u8, words: &[u16]) {
+pub(super) fn has_received(
+    rt: &impl Abort,
+    row: &str,
+    terminal: &Terminal,
+    subaddress: u8,
+    words: &[u16],
+) {
     assert!(rt; 1 <= subaddress && subaddress <= 30);
     are_in(rt, row, terminal.received(subaddress), words);
 }
 
 /// These words came to all at a subaddress.
-fn has_received_from_all(
+pub(super) fn has_received_from_all(
     rt: &impl Abort,
     row: &str,
     terminal: &Terminal,
@@ -259,22 +272,6 @@ fn has_put_up(rt: &impl Abort, row: &str, terminal: &Terminal, subaddress: u8, w
     are_in(rt, row, copy.transmit_words(subaddress), words);
 }
 
-/// The action that is meant.
-fn action_of(deed: Deed) -> Action {
-    match deed {
-        Deed::Fault => Action::Fault(true),
-        Deed::Busy => Action::Busy(true),
-        Deed::Illegal => Action::Illegal(Mark::make(false, 3, 4)),
-        Deed::Legal => Action::Legal(Mark::make(false, 3, 4)),
-        Deed::Transmit => {
-            let mut put = ArrayVec::new();
-            put.push(0xaaaa);
-            put.push(0x5555);
-            Action::Transmit(TransmitWords::make(1, put))
-        }
-    }
-}
-
 fn command(value: u16) -> Wave {
     encode(Word {
         sync: Sync::CommandSync,
@@ -289,13 +286,12 @@ fn data(value: u16) -> Wave {
     })
 }
 
-/// A command and data words on a line, one after the other, and then a quiet.
-fn say(terminal: &mut Terminal, line: Line, value: u16, words: &[u16]) -> Option<Reply> {
+/// A command and data words on a line, one after the other.
+fn say(terminal: &mut Terminal, line: Line, value: u16, words: &[u16]) {
     terminal.hear(line, command(value), Gap::of(65535));
     for word in words {
         terminal.hear(line, data(*word), Gap::contiguous());
     }
-    terminal.quiet(line)
 }
 
 /// The words of a reply; none where there is none.
@@ -306,17 +302,12 @@ fn words(reply: &Option<Reply>) -> &[u16] {
     }
 }
 
-#[test]
-fn answers_zeros_where_nothing_was_put_up(rt: HostRuntime) {
-    let mut terminal = Terminal::make(rt.alloc(), 5).expect(&rt, "a terminal");
-    has_zeros(&rt, &say(&mut terminal, A, 0x2c41, &[]));
-}
-
-/// A reply comes 80 ticks later, and has a status and a word of zeros.
-fn has_zeros(rt: &impl Abort, reply: &Option<Reply>) {
-    let ticks = reply.as_ref().map(|reply| reply.gap.ticks());
-    same_in(rt, "gap", &ticks, &Some(80));
-    are_in(rt, "zeros", words(reply), &[0x2800, 0]);
+/// How many ticks a reply comes later; 0 where there is none.
+fn ticks_of(reply: &Option<Reply>) -> u16 {
+    match reply {
+        Some(reply) => reply.gap.ticks(),
+        None => 0,
+    }
 }
 
 #[test]

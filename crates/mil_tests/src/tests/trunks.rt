@@ -42,11 +42,18 @@ fn refusal_of(alloc: Global, capacity: u32) -> Option<TrunkError> {
     made.err()
 }
 
+/// Capacities, and why a trunk is refused there.
+const CAPACITIES: &[(&str, u32, Option<TrunkError>)] = &[
+    ("0", 0, Some(TrunkError::Capacity)),
+    ("1", 1, None),
+    ("4096", 4096, None),
+    ("4097", 4097, Some(TrunkError::Capacity)),
+];
+
 #[test]
 fn capacities(rt: HostRuntime) {
-    let refused = Some(TrunkError::Capacity);
-    for (capacity, wanted) in [(0, refused), (1, None), (4096, None), (4097, refused)] {
-        assert_eq!(rt; refusal_of(rt.alloc(), capacity), wanted, "at {capacity}");
+    for (row, capacity, wanted) in CAPACITIES {
+        same_in(&rt, row, &refusal_of(rt.alloc(), *capacity), wanted);
     }
 }
 
@@ -61,7 +68,8 @@ fn settling_takes_what_is_left(rt: HostRuntime) {
     let made = Trunk::make(rt.alloc(), 3, &[BOUND; 64]);
     let (trunk, mut ticket, mut taker) = made.expect(&rt, "a trunk");
     let tags = Tags::none().with(5).with(63);
-    assert!(rt; tags.holds(5) && tags.holds(63) && !tags.holds(6) && !tags.holds(64));
+    let held = (tags.holds(5), tags.holds(63), tags.holds(6), tags.holds(64));
+    same_in(&rt, "tags", &held, &(true, true, false, false));
     let (low, high) = (make_item(5, 1), make_item(62, 2));
     let first = trunk.offer(&rt, &mut ticket, low);
     same_in(&rt, "first offer", &first, &Ok(()));

@@ -29,20 +29,23 @@ fn damaged(wave: Wave, half_bits: u64) -> Wave {
 fn waves_of_words(rt: HostRuntime) {
     has_wave(&rt, data_word(), 0x1D_5555_5556);
     has_wave(&rt, command_word(), 0xE1_6655_6569);
-    assert_eq!(rt; raw_bits(Wave::of(0xE1_6655_6569)), 0x2823);
+    let raw = raw_bits(Wave::of(0xE1_6655_6569));
+    same_in(&rt, "raw bits", &raw, &0x2823);
 }
 
 /// The wave of a word has these half bits, and is read as the word.
 fn has_wave(rt: &impl Abort, word: Word, half_bits: u64)
     requires { half_bits < 2 ^ 40 }
 {
-    assert_eq!(rt; encode(word).half_bits(), half_bits);
+    same_in(rt, "half bits", &encode(word).half_bits(), &half_bits);
     is_read(rt, Wave::of(half_bits), Some(word));
 }
 
 /// A wave is read as this word, or as none.
 fn is_read(rt: &impl Abort, wave: Wave, word: Option<Word>) {
-    assert_eq!(rt; decode(wave), word, "of {:010x}", wave.half_bits());
+    let half_bits = wave.half_bits();
+    let found = (half_bits, decode(wave));
+    same_in(rt, "half bits, word", &found, &(half_bits, word));
 }
 
 #[test]
@@ -75,13 +78,11 @@ fn is_coded_alike(rt: &impl Abort, value: u16) {
         value,
     };
     let wave = encode(word);
-    assert!(rt; plain::encode(word) == wave, "value {value}");
+    same_in(rt, "wave", &(value, plain::encode(word)), &(value, wave));
     let unsound = damaged(wave, u64::from(value) << 8);
-    assert!(rt; plain::decode(unsound) == decode(unsound), "value {value}");
-    assert!(rt;
-        plain::raw_bits(unsound) == raw_bits(unsound),
-        "value {value}"
-    );
+    let found = (value, plain::decode(unsound), plain::raw_bits(unsound));
+    let wanted = (value, decode(unsound), raw_bits(unsound));
+    same_in(rt, "word and raw bits", &found, &wanted);
 }
 
 #[test]
@@ -103,52 +104,75 @@ fn fields_of_commands(rt: HostRuntime) {
     same_in(&rt, "code and value", &fields, &(1, 0xFFE1));
 }
 
-/// A bit of a status word.
-#[derive(Clone, Copy)]
-enum Bit {
-    MessageError,
-    Instrumentation,
-    ServiceRequest,
-    BroadcastReceived,
-    Busy,
-    SubsystemFlag,
-    ControlAcceptance,
-    TerminalFlag,
-}
+/// What a status word says: message error, instrumentation, service request, broadcast command received, busy,
+/// subsystem flag, dynamic bus control acceptance and terminal flag.
+type Flags = [bool; 8];
 
-fn has(status: Status, bit: Bit) -> bool {
-    match bit {
-        Bit::MessageError => status.has_message_error(),
-        Bit::Instrumentation => status.has_instrumentation(),
-        Bit::ServiceRequest => status.has_service_request(),
-        Bit::BroadcastReceived => status.has_broadcast_received(),
-        Bit::Busy => status.has_busy(),
-        Bit::SubsystemFlag => status.has_subsystem_flag(),
-        Bit::ControlAcceptance => status.has_control_acceptance(),
-        Bit::TerminalFlag => status.has_terminal_flag(),
-    }
-}
-
-/// Status words, each with a bit, and whether it has it.
-const STATUSES: &[(&str, u16, Bit, bool)] = &[
-    ("2C00", 0x2C00, Bit::MessageError, true),
-    ("2800", 0x2800, Bit::MessageError, false),
-    ("2A00", 0x2A00, Bit::Instrumentation, true),
-    ("2900", 0x2900, Bit::ServiceRequest, true),
-    ("2810", 0x2810, Bit::BroadcastReceived, true),
-    ("2808", 0x2808, Bit::Busy, true),
-    ("2804", 0x2804, Bit::SubsystemFlag, true),
-    ("2802", 0x2802, Bit::ControlAcceptance, true),
-    ("2801", 0x2801, Bit::TerminalFlag, true),
-    ("2810, terminal flag", 0x2810, Bit::TerminalFlag, false),
+/// Status words, each with at most one bit, and what it says.
+const STATUSES: &[(&str, u16, Flags)] = &[
+    ("none", 0x2800, [false; 8]),
+    (
+        "message error",
+        0x2C00,
+        [true, false, false, false, false, false, false, false],
+    ),
+    (
+        "instrumentation",
+        0x2A00,
+        [false, true, false, false, false, false, false, false],
+    ),
+    (
+        "service request",
+        0x2900,
+        [false, false, true, false, false, false, false, false],
+    ),
+    (
+        "broadcast",
+        0x2810,
+        [false, false, false, true, false, false, false, false],
+    ),
+    (
+        "busy",
+        0x2808,
+        [false, false, false, false, true, false, false, false],
+    ),
+    (
+        "subsystem flag",
+        0x2804,
+        [false, false, false, false, false, true, false, false],
+    ),
+    (
+        "control",
+        0x2802,
+        [false, false, false, false, false, false, true, false],
+    ),
+    (
+        "terminal flag",
+        0x2801,
+        [false, false, false, false, false, false, false, true],
+    ),
 ];
+
+/// What a status word says.
+fn flags_of(status: Status) -> Flags {
+    [
+        status.has_message_error(),
+        status.has_instrumentation(),
+        status.has_service_request(),
+        status.has_broadcast_received(),
+        status.has_busy(),
+        status.has_subsystem_flag(),
+        status.has_control_acceptance(),
+        status.has_terminal_flag(),
+    ]
+}
 
 #[test]
 fn fields_of_statuses(rt: HostRuntime) {
     let status = Status::of(0x2800);
     let fields = (status.address(), status.value());
     same_in(&rt, "address and value", &fields, &(5, 0x2800));
-    for (row, value, bit, wanted) in STATUSES {
-        same_in(&rt, row, &has(Status::of(*value), *bit), wanted);
+    for (row, value, wanted) in STATUSES {
+        same_in(&rt, row, &flags_of(Status::of(*value)), wanted);
     }
 }

@@ -1,5 +1,6 @@
 //! As many channels as a run may have, and one more.
-use crate::tests::fixtures::{TO_FIVE, bench_repeating, has_messages, has_packets_of, ran};
+use crate::tests::equal::{prints, same_in};
+use crate::tests::fixtures::{TO_FIVE, bench_repeating, has_packets_of, messages_of, ran};
 use bench_report::Report;
 use bench_run::{OpenGate, RunError};
 use ch11_writer::MemorySink;
@@ -29,20 +30,28 @@ fn whole_channels(report: &Report) -> u32 {
     whole
 }
 
+/// The recording of 32 channels of ten messages, of which none was refused.
+fn are_whole(rt: &impl Abort, alloc: Global, report: &Report, file: &[u8]) {
+    has_packets_of(rt, alloc, file, 7296, 228);
+    let found = (whole_channels(report), messages_of(rt, alloc, file, 32));
+    same_in(
+        rt,
+        "whole channels, messages of the last",
+        &found,
+        &(32, 10),
+    );
+}
+
 #[test]
 fn thirty_two_channels(rt: HostRuntime) {
     let answer = ran_tens(&rt, rt.alloc(), &[10; 32]);
     let (report, sink) = answer.ok().expect(&rt, "a run that ends well");
-    assert_eq!(rt; whole_channels(&report), 32);
-    assert_eq!(rt; sink.bytes().len(), 7296);
-    has_packets_of(&rt, rt.alloc(), sink.bytes(), 228, 0);
-    has_messages(&rt, rt.alloc(), sink.bytes(), 32, 10);
+    are_whole(&rt, rt.alloc(), &report, sink.bytes());
 }
 
 #[test]
 fn thirty_three_channels(rt: HostRuntime) {
     let answer = ran_tens(&rt, rt.alloc(), &[10; 33]);
     let fault = answer.err().expect(&rt, "a run that is refused");
-    let text = fault.to_string(rt.alloc()).expect(&rt, "memory");
-    assert_eq!(rt; text.as_str(), "U2");
+    prints(&rt, rt.alloc(), &fault, "U2");
 }

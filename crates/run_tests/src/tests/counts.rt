@@ -23,14 +23,11 @@ fn the_line(rt: HostRuntime) {
     assert_eq!(rt; line.as_slice(), b"packets 4 messages 32\n".as_slice());
 }
 
+/// Refused messages are not in the recording, and nothing is in that of an empty report.
 #[test]
-fn refused_messages_are_not_in_the_recording(rt: HostRuntime) {
+fn what_is_in_the_recording(rt: HostRuntime) {
     let text = "channel 1\nmade 5\nrefused 3\nrefused 4\nchannel 2\nmade 1\npackets 2\n";
     has_counts(&rt, rt.alloc(), text, 2, 4);
-}
-
-#[test]
-fn an_empty_report(rt: HostRuntime) {
     has_counts(&rt, rt.alloc(), "packets 0\n", 0, 0);
 }
 

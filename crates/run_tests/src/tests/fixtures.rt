@@ -1,6 +1,7 @@
 //! Jobs and settings of the runs, and what is asked of a file.
+use crate::tests::equal::same_in;
 use bench_core::Settings;
-use bench_report::{Report, print_report};
+use bench_report::{ChannelReport, Report, print_report};
 use bench_run::{Gate, RunError, run};
 use ch11_reader::Index;
 use ch11_writer::MemorySink;
@@ -146,65 +147,95 @@ pub(crate) fn recorded<R: Threads + Wait + Abort + Sync, G: Gate>(
 
 /// A report is printed as this text.
 pub(crate) fn is_printed(rt: &impl Abort, alloc: Global, report: &Report, wanted: &str) {
-    let printed = print_report(alloc, report).expect(rt, "memory");
+    let printed = print_report(alloc, report).expect(rt, wanted);
     assert_eq!(rt; printed.as_str(), wanted);
 }
 
-/// Channel, length in bytes and flags of each packet of a file.
-fn shapes_of(rt: &impl Abort, alloc: Global, file: &[u8]) -> Vec<(u16, u32, u8)> {
-    let index = Index::build(alloc, file).ok().expect(rt, "readable");
-    let mut shapes = Vec::new(alloc);
-    for packet in index.packets() {
+/// A recording that can be read.
+pub(crate) fn index_of<'a>(rt: &impl Abort, alloc: Global, file: &'a [u8]) -> Index<'a> {
+    Index::build(alloc, file).ok().expect(rt, "readable")
+}
+
+/// A packet: its channel, its length in bytes and its flags.
+pub(crate) type Shape = (u16, u32, u8);
+
+/// Whether the packets of a recording are these, in this order.
+pub(crate) fn are_packets(index: &Index<'_>, wanted: &[Shape]) -> bool {
+    for (packet, shape) in index.packets().iter().zip(wanted) {
         let header = packet.header;
-        let shape = (header.channel, header.packet_length, header.flags);
-        shapes.push(shape).expect(rt, "memory");
+        if (header.channel, header.packet_length, header.flags) != *shape {
+            return false;
+        }
     }
-    shapes
+    index.packets().len() == wanted.len()
 }
 
-/// The stamps of a channel's messages, in the file's order.
-pub(crate) fn stamps_of(rt: &impl Abort, alloc: Global, file: &[u8], channel: u16) -> Vec<u64> {
-    let index = Index::build(alloc, file).ok().expect(rt, "readable");
-    let mut stamps = Vec::new(alloc);
-    for seen in index.channel(channel) {
-        stamps.push(seen.stamp).expect(rt, "memory");
+/// Whether each packet of a recording has this length in bytes, and no flags.
+fn are_of(index: &Index<'_>, length: u32) -> bool {
+    for packet in index.packets() {
+        if (packet.header.packet_length, packet.header.flags) != (length, 0) {
+            return false;
+        }
     }
-    stamps
+    true
 }
 
-/// The packets of a file, each by its channel, its length in bytes and its flags.
-pub(crate) fn has_shapes(rt: &impl Abort, alloc: Global, file: &[u8], wanted: &[(u16, u32, u8)]) {
-    let shapes = shapes_of(rt, alloc, file);
-    assert_eq!(rt; shapes.as_slice(), wanted);
-}
-
-/// Each packet of a file has this length in bytes and these flags.
-pub(crate) fn has_packets_of(rt: &impl Abort, alloc: Global, file: &[u8], length: u32, flags: u8) {
-    for shape in shapes_of(rt, alloc, file) {
-        assert_eq!(rt; (shape.1, shape.2), (length, flags));
-    }
-}
-
-/// The stamps of a channel's messages in a file.
-pub(crate) fn has_stamps(
+/// A recording has so many bytes, in packets that each have this length in bytes and no flags.
+pub(crate) fn has_packets_of(
     rt: &impl Abort,
     alloc: Global,
     file: &[u8],
-    channel: u16,
-    wanted: &[u64],
+    bytes: usize,
+    length: u32,
 ) {
-    let stamps = stamps_of(rt, alloc, file, channel);
-    assert_eq!(rt; stamps.as_slice(), wanted);
+    let index = index_of(rt, alloc, file);
+    same_in(
+        rt,
+        "packets",
+        &(file.len(), are_of(&index, length)),
+        &(bytes, true),
+    );
 }
 
-/// How many messages of a channel a file has.
-pub(crate) fn has_messages(
-    rt: &impl Abort,
-    alloc: Global,
-    file: &[u8],
-    channel: u16,
-    count: usize,
-) {
-    let stamps = stamps_of(rt, alloc, file, channel);
-    assert_eq!(rt; stamps.len(), count);
+/// Whether the messages of a channel have these stamps, in the file's order.
+pub(crate) fn are_stamps(index: &Index<'_>, channel: u16, wanted: &[u64]) -> bool {
+    let mut messages = index.channel(channel);
+    for stamp in wanted {
+        match messages.next() {
+            Some(seen) if seen.stamp == *stamp => {}
+            _ => return false,
+        }
+    }
+    messages.next().is_none()
+}
+
+/// How many messages of a channel a recording has.
+pub(crate) fn messages_of(rt: &impl Abort, alloc: Global, file: &[u8], channel: u16) -> u32 {
+    let index = index_of(rt, alloc, file);
+    let mut count = 0u32;
+    for _ in index.channel(channel) {
+        count = count.saturating_add(1);
+    }
+    count
+}
+
+/// How many messages of a channel were kept, where the file holds in their order those that were made but for the
+/// refused.
+pub(crate) fn kept_of(index: &Index<'_>, part: &ChannelReport) -> Option<u64> {
+    let mut messages = index.channel(part.channel());
+    let mut kept = 0u64;
+    for place in 0..part.made() {
+        if part.refused().contains(&(place + 1)) {
+            continue;
+        }
+        let seen = messages.next()?;
+        if seen.stamp != STEP * u64::from(place) {
+            return None;
+        }
+        kept = kept.wrapping_add(1);
+    }
+    match messages.next() {
+        Some(_) => None,
+        None => Some(kept),
+    }
 }

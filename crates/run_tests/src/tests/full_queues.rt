@@ -1,32 +1,29 @@
 //! A full queue: each message is read or listed as refused, and never both.
-use crate::tests::fixtures::{STEP, TEN_MESSAGES, recorded, stamps_of};
-use crate::tests::gates::HeldFromTheFirst;
-use bench_report::ChannelReport;
-use std::alloc::Global;
-use std::process::Abort;
+use crate::tests::fixtures::{TEN_MESSAGES, index_of, kept_of, recorded};
+use crate::tests::gates::{OrderingGate, Rules};
+use bench_report::Report;
+use ch11_reader::Index;
 
-/// How many of the numbers 1 to 10 a channel has in the file, of which each that it has not is listed, and none that it
-/// has.
-fn kept_of(rt: &impl Abort, alloc: Global, file: &[u8], part: &ChannelReport) -> usize {
-    let stamps = stamps_of(rt, alloc, file, part.channel());
-    for number in 1..=10u32 {
-        let is_read = stamps.contains(&(STEP * u64::from(number - 1)));
-        let is_listed = part.refused().contains(&number);
-        assert!(rt; is_read != is_listed, "at {number}");
+/// How many messages of all channels were read, where each channel made ten, and each of these was read or is listed as
+/// refused, and never both.
+fn kept_in(index: &Index<'_>, report: &Report) -> Option<u64> {
+    let mut all = 0u64;
+    for part in report.channels() {
+        let kept = kept_of(index, part)?;
+        let refused = part.refused().len() as u64;
+        if part.made() != 10 || kept.saturating_add(refused) != 10 {
+            return None;
+        }
+        all = all.saturating_add(kept);
     }
-    assert_eq!(rt; part.made(), 10);
-    assert_eq!(rt; stamps.len() + part.refused().len(), 10);
-    stamps.len()
+    Some(all)
 }
 
 #[test]
 fn a_writer_that_is_held_from_its_first_item(rt: HostRuntime) {
-    let gate = HeldFromTheFirst::until_the_tenth();
+    let gate = OrderingGate::by(Rules::UntilTheTenth);
     let (report, sink) = recorded(&rt, rt.alloc(), &TEN_MESSAGES, 1, &[], &gate);
-    assert!(rt; gate.waits.all_came());
-    let mut kept = 0usize;
-    for part in report.channels() {
-        kept = kept.saturating_add(kept_of(&rt, rt.alloc(), sink.bytes(), part));
-    }
-    assert!(rt; kept == 1 || kept == 2);
+    assert!(rt; gate.all_came());
+    let kept = kept_in(&index_of(&rt, rt.alloc(), sink.bytes()), &report);
+    assert!(rt; matches!(kept, Some(1 | 2)));
 }

@@ -2,10 +2,10 @@
 ghost use Rattle.std.specs.Prelude.{◌-◌, ◌<◌, ◌^◌};
 
 use crate::tests::fixtures::{Bench, TO_FIVE, bench_repeating, has_packets_of, is_printed};
-use crate::tests::sinks::is_fault;
+use crate::tests::sinks::is_cut;
 use bench_report::Report;
 use bench_run::RunError;
-use bench_run_command::record_jobs_held;
+use bench_run_command::record_jobs_with_progress;
 use ch11_writer::{FuseSink, MemorySink, Sink};
 use std::alloc::Global;
 use std::io::IsTerminal;
@@ -35,11 +35,17 @@ fn held<R: Threads + Wait + Clock + Abort + Sync, E: Eprint + IsTerminal + Sync,
     requires { S.failures sink < 2 ^ 64 - 1 }
 {
     let Bench { jobs, settings } = bench_repeating(rt, alloc, &[50; 8], &TO_FIVE, queue);
-    record_jobs_held(rt, alloc, errors, &jobs, &settings, sink)
+    record_jobs_with_progress(rt, alloc, errors, &jobs, &settings, false, sink)
+}
+
+/// All messages of the eight channels are recorded.
+fn is_whole(rt: &impl Abort, alloc: Global, report: &Report, file: &[u8]) {
+    is_printed(rt, alloc, report, WHOLE);
+    has_packets_of(rt, alloc, file, 8224, 1028);
 }
 
 /// All messages are recorded on a queue of so many items.
-fn is_whole<R: Threads + Wait + Clock + Abort + Sync, E: Eprint + IsTerminal + Sync>(
+fn records_all<R: Threads + Wait + Clock + Abort + Sync, E: Eprint + IsTerminal + Sync>(
     rt: &R,
     alloc: Global,
     errors: &E,
@@ -47,33 +53,22 @@ fn is_whole<R: Threads + Wait + Clock + Abort + Sync, E: Eprint + IsTerminal + S
 ) {
     let answer = held(rt, alloc, errors, queue, MemorySink::make(alloc));
     let (report, sink) = answer.ok().expect(rt, "a run that ends well");
-    is_printed(rt, alloc, &report, WHOLE);
-    assert_eq!(rt; sink.bytes().len(), 8224);
-    has_packets_of(rt, alloc, sink.bytes(), 1028, 0);
-}
-
-/// A sink of a hundred bytes fails, and the channels run to their ends.
-fn is_cut<R: Threads + Wait + Clock + Abort + Sync, E: Eprint + IsTerminal + Sync>(
-    rt: &R,
-    alloc: Global,
-    errors: &E,
-    queue: u32,
-) {
-    let answer = held(rt, alloc, errors, queue, FuseSink::make(alloc, 100));
-    let fault = answer.err().expect(rt, "a fault");
-    is_fault(rt, alloc, &fault, "U4 taken 100", 100, NONE_WHOLE);
+    is_whole(rt, alloc, &report, sink.bytes());
 }
 
 #[test]
 fn every_message_is_recorded(rt: HostRuntime) {
     for queue in [1, 2, 64] {
-        is_whole(&rt, rt.alloc(), &rt.stderr(), queue);
+        records_all(&rt, rt.alloc(), &rt.stderr(), queue);
     }
 }
 
+/// A sink of a hundred bytes fails, and the channels run to their ends.
 #[test]
 fn held_buses_before_a_sink_that_fails(rt: HostRuntime) {
+    let alloc = rt.alloc();
     for queue in [1, 2, 64] {
-        is_cut(&rt, rt.alloc(), &rt.stderr(), queue);
+        let answer = held(&rt, alloc, &rt.stderr(), queue, FuseSink::make(alloc, 100));
+        is_cut(&rt, alloc, answer, 100, "U4 taken 100", NONE_WHOLE);
     }
 }

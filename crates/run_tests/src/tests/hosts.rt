@@ -5,7 +5,7 @@ ghost use Rattle.run_tests.specs.Hosts.{MayPost};
 ghost use Rattle.std.specs.Prelude.{◌≡◌, [], ◌∷◌, IfOk};
 
 use crate::tests::fixtures::Bench;
-use crate::tests::gates::HeldForPosts;
+use crate::tests::gates::OrderingGate;
 use bench_report::Report;
 use bench_run::{Inbox, LiveError, Mailbox, Poster, run_live};
 use ch11_reader::Index;
@@ -63,7 +63,7 @@ pub(crate) fn lives_beside<
     bench: &Bench,
     boxes: &[Mailbox],
     inboxes: Vec<Inbox>,
-    gate: &HeldForPosts,
+    gate: &OrderingGate,
     hosts: H,
 ) -> (T, (Report, Vec<Inbox>, MemorySink))
     requires hosts { H.pre hosts }
@@ -81,19 +81,11 @@ pub(crate) fn lives_beside<
     };
     let (posted, answer) = join(rt, hosts, live);
     let left = answer.ok().expect(rt, "a run that ends well");
-    assert!(rt; gate.waits.all_came());
+    assert!(rt; gate.all_came());
     (posted, left)
 }
 
-/// The debugger accepts a recording of the jobs under its report.
-pub(crate) fn is_replayed(
-    rt: &impl Abort,
-    alloc: Global,
-    jobs: &[Job],
-    report: &Report,
-    file: &[u8],
-) {
-    let index = Index::build(alloc, file).ok().expect(rt, "readable");
-    let refused = Replay::open(alloc, jobs, report, index).err();
-    assert_eq!(rt; refused, None);
+/// Whether the debugger accepts a recording of the jobs under its report.
+pub(crate) fn is_accepted(alloc: Global, jobs: &[Job], report: &Report, index: Index<'_>) -> bool {
+    Replay::open(alloc, jobs, report, index).is_ok()
 }

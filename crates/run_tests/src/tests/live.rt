@@ -1,9 +1,10 @@
 //! Live runs in which a host posts while message 2 is held: what is recorded, and what the report says.
 ghost use Rattle.run_tests.specs.Hosts.{MayPost};
 
-use crate::tests::fixtures::{Bench, bench_of, has_stamps, is_printed};
-use crate::tests::gates::HeldForPosts;
-use crate::tests::hosts::{alone, is_replayed, lives_beside, taking};
+use crate::tests::equal::same_in;
+use crate::tests::fixtures::{Bench, are_stamps, bench_of, index_of, is_printed};
+use crate::tests::gates::{OrderingGate, Rules};
+use crate::tests::hosts::{alone, is_accepted, lives_beside, taking};
 use bench_report::Report;
 use bench_run::{Mailbox, Poster};
 use ch11_reader::Index;
@@ -23,7 +24,7 @@ const WITH_OWN: &str =
     "channel 1\nterminal 5\nat 2 5 fault off\nscript\nrepeat 3 { send A mode 5 1 }\n";
 
 /// Host 0 waits until message 2 is held, posts a fault for terminal 5, and lets the message go.
-fn post_fault<R: Wait + Abort>(rt: &R, gate: &HeldForPosts, mailbox: &Mailbox, poster: Poster)
+fn post_fault<R: Wait + Abort>(rt: &R, gate: &OrderingGate, mailbox: &Mailbox, poster: Poster)
     requires { MayPost 0 mailbox.now poster }
 {
     gate.wait_for_hold();
@@ -45,7 +46,7 @@ fn run_held<R: Threads + Wait + Abort + Sync>(
     let boxes = alone(rt, alloc, mailbox);
     let mailbox = boxes.first().expect(rt, "a mailbox");
     let inboxes = alone(rt, alloc, inbox);
-    let gate = HeldForPosts::make(2, 1);
+    let gate = OrderingGate::by(Rules::UntilAPost);
     let held = &gate;
     let host = move ||
         requires { MayPost 0 mailbox.now poster }
@@ -54,61 +55,78 @@ fn run_held<R: Threads + Wait + Abort + Sync>(
     (report, sink)
 }
 
-/// The status words of the three messages have these low bytes.
-fn has_statuses(rt: &impl Abort, alloc: Global, file: &[u8], lows: [u8; 3]) {
-    let index = Index::build(alloc, file).ok().expect(rt, "readable");
-    for (number, low) in (1u64..4).zip(lows) {
-        let (_, seen) = index.message(number).expect(rt, "a message");
-        assert_eq!(rt; seen.words, [0xE1, 0x2F, low, 0x28].as_slice());
+/// Whether a message of a recording is a mode command to terminal 5, whose status word has this low byte.
+fn has_status(index: &Index<'_>, number: u64, low: u8) -> bool {
+    match index.message(number) {
+        Some((_, seen)) => seen.words == [0xE1, 0x2F, low, 0x28].as_slice(),
+        None => false,
     }
 }
 
-/// The file of a run has the three messages, the second and third with this low byte of the status word; the report is
-/// printed as this text, and the debugger accepts both.
-fn is_recorded(
+/// Whether a recording has the three messages, the second and third with this low byte of the status word.
+fn has_three(index: &Index<'_>, low: u8) -> bool {
+    are_stamps(index, 1, &[0, 480, 960])
+        && has_status(index, 1, 0)
+        && has_status(index, 2, low)
+        && has_status(index, 3, low)
+}
+
+/// What a file has: its length in bytes, whether it has the three messages, the second and third with this low byte of
+/// the status word, and whether the debugger accepts it under its report.
+fn three_in(
     rt: &impl Abort,
     alloc: Global,
     jobs: &[Job],
     report: &Report,
     file: &[u8],
     low: u8,
-    wanted: &str,
-) {
-    assert_eq!(rt; file.len(), 84);
-    has_stamps(rt, alloc, file, 1, &[0, 480, 960]);
-    has_statuses(rt, alloc, file, [0, low, low]);
-    is_printed(rt, alloc, report, wanted);
-    is_replayed(rt, alloc, jobs, report, file);
+) -> (usize, bool, bool) {
+    let index = index_of(rt, alloc, file);
+    let has_all = has_three(&index, low);
+    (file.len(), has_all, is_accepted(alloc, jobs, report, index))
 }
 
-/// A live run of the job of a text that takes so many posts is recorded so.
-fn records<R: Threads + Wait + Abort + Sync>(
-    rt: &R,
-    alloc: Global,
-    text: &str,
-    posts: u32,
-    low: u8,
-    wanted: &str,
-) {
-    let bench = taking(bench_of(rt, alloc, &[text], 4096, &[]), posts);
+/// A name, the text of a job, how many posts a live run of it takes, the low byte of the second and third status words,
+/// and the report.
+type Row = (&'static str, &'static str, u32, u8, &'static str);
+
+const ROWS: &[Row] = &[
+    (
+        "a post acts at the message that was held",
+        THREE,
+        4,
+        1,
+        "channel 1\nmade 3\nplaced 2 5 fault on\npackets 1\n",
+    ),
+    (
+        "a post acts behind the job's own action",
+        WITH_OWN,
+        4,
+        1,
+        "channel 1\nmade 3\nplaced 2 5 fault off\nplaced 2 5 fault on\npackets 1\n",
+    ),
+    (
+        "no posts are taken",
+        THREE,
+        0,
+        0,
+        "channel 1\nmade 3\npackets 1\n",
+    ),
+];
+
+/// A live run of the job of a row is recorded so.
+fn is_recorded<R: Threads + Wait + Abort + Sync>(rt: &R, alloc: Global, row: &Row) {
+    let (name, text, posts, low, wanted) = row;
+    let bench = taking(bench_of(rt, alloc, &[*text], 4096, &[]), *posts);
     let (report, sink) = run_held(rt, alloc, &bench);
-    is_recorded(rt, alloc, &bench.jobs, &report, sink.bytes(), low, wanted);
+    is_printed(rt, alloc, &report, wanted);
+    let found = three_in(rt, alloc, &bench.jobs, &report, sink.bytes(), *low);
+    same_in(rt, name, &found, &(84, true, true));
 }
 
 #[test]
-fn a_post_acts_at_the_message_that_was_held(rt: HostRuntime) {
-    let wanted = "channel 1\nmade 3\nplaced 2 5 fault on\npackets 1\n";
-    records(&rt, rt.alloc(), THREE, 4, 1, wanted);
-}
-
-#[test]
-fn a_post_acts_behind_the_job_s_own_action(rt: HostRuntime) {
-    let wanted = "channel 1\nmade 3\nplaced 2 5 fault off\nplaced 2 5 fault on\npackets 1\n";
-    records(&rt, rt.alloc(), WITH_OWN, 4, 1, wanted);
-}
-
-#[test]
-fn no_posts_are_taken(rt: HostRuntime) {
-    let wanted = "channel 1\nmade 3\npackets 1\n";
-    records(&rt, rt.alloc(), THREE, 0, 0, wanted);
+fn a_host_posts_while_a_message_is_held(rt: HostRuntime) {
+    for row in ROWS {
+        is_recorded(&rt, rt.alloc(), row);
+    }
 }

@@ -1,11 +1,15 @@
 //! Live runs in which two hosts post 20 vector words each while a hundred messages are made.
-use crate::tests::fixtures::bench_of;
-use crate::tests::gates::HeldForPosts;
-use crate::tests::hosts::{is_replayed, taking};
+use crate::tests::equal::same_in;
+use crate::tests::fixtures::{Bench, bench_of, index_of};
+use crate::tests::gates::{OrderingGate, Rules};
+use crate::tests::hosts::{is_accepted, taking};
 use crate::tests::posting::run_with_hosts;
-use bench_report::{ChannelReport, Report};
+use bench_report::ChannelReport;
 use mil_host::Action;
+use std::alloc::Global;
 use std::process::Abort;
+use std::sync::Wait;
+use std::thread::Threads;
 
 /// How many words each host posts.
 const WORDS: u16 = 20;
@@ -33,26 +37,43 @@ fn first_words(part: &ChannelReport, address: u8) -> Option<u16> {
     Some(count)
 }
 
-/// Of each host's words the first were placed, one at least, and no other action was.
-fn has_first_words(rt: &impl Abort, report: &Report) {
-    let part = report.channels().first().expect(rt, "a channel");
-    let at_five = first_words(part, 5).expect(rt, "the first words");
-    let at_six = first_words(part, 6).expect(rt, "the first words");
-    assert!(rt; at_five >= 1 && at_five <= WORDS, "{at_five}");
-    assert!(rt; at_six >= 1 && at_six <= WORDS, "{at_six}");
-    assert_eq!(rt;
-        part.placed().len(),
-        usize::from(at_five) + usize::from(at_six)
-    );
-    assert_eq!(rt; part.made(), 100);
+/// Whether a number of words is one at least, and at most as many as a host posts.
+fn are_some(words: u16) -> bool {
+    words >= 1 && words <= WORDS
 }
 
-/// Message 50 waits until 21 words were posted, so that one of each host's is among them.
+/// Whether of each host's words the first were placed, one at least, and no other action was.
+fn are_first_words(part: &ChannelReport) -> bool {
+    match (first_words(part, 5), first_words(part, 6)) {
+        (Some(five), Some(six)) => {
+            are_some(five)
+                && are_some(six)
+                && part.placed().len() == usize::from(five) + usize::from(six)
+        }
+        _ => false,
+    }
+}
+
+/// What a live run beside which both hosts post comes to: how many messages were made, whether the first words of each
+/// host were placed, and whether the debugger accepts the recording.
+fn comes_to<R: Threads + Wait + Abort + Sync>(
+    rt: &R,
+    alloc: Global,
+    bench: &Bench,
+) -> (u32, bool, bool) {
+    let gate = OrderingGate::by(Rules::UntilTwentyOnePosts);
+    let (report, sink) = run_with_hosts(rt, alloc, bench, 64, WORDS, &gate);
+    let index = index_of(rt, alloc, sink.bytes());
+    let is_right = is_accepted(alloc, &bench.jobs, &report, index);
+    match report.channels().first() {
+        Some(part) => (part.made(), are_first_words(part), is_right),
+        None => (0, false, is_right),
+    }
+}
+
 #[test]
 fn twenty_words_of_each_host(rt: HostRuntime) {
     let bench = taking(bench_of(&rt, rt.alloc(), &[HUNDRED], 4096, &[]), 40);
-    let gate = HeldForPosts::make(50, 21);
-    let (report, sink) = run_with_hosts(&rt, rt.alloc(), &bench, 64, WORDS, &gate);
-    has_first_words(&rt, &report);
-    is_replayed(&rt, rt.alloc(), &bench.jobs, &report, sink.bytes());
+    let found = comes_to(&rt, rt.alloc(), &bench);
+    same_in(&rt, "twenty words", &found, &(100, true, true));
 }

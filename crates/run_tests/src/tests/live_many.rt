@@ -1,13 +1,11 @@
 //! A thousand live runs of eight channels, to each of which two hosts post beside the run: the debugger accepts each
 //! recording under its report.
-use crate::tests::fixtures::{Bench, Round, bench_repeating};
-use crate::tests::gates::HeldForPosts;
-use crate::tests::hosts::taking;
+use crate::tests::fixtures::{Bench, Round, bench_repeating, index_of};
+use crate::tests::gates::{OrderingGate, Rules};
+use crate::tests::hosts::{is_accepted, taking};
 use crate::tests::posting::run_with_hosts;
 use bench_report::{ChannelReport, Report};
-use ch11_reader::Index;
 use job_file::Job;
-use replay::Replay;
 use std::alloc::Global;
 use std::process::Abort;
 use std::sync::Wait;
@@ -24,13 +22,6 @@ const WORDS: u16 = 3;
 
 /// How many posts of each channel are taken at most.
 const MOST: u32 = 4;
-
-/// Each channel waits before this message until the hosts have posted `WANTED` words.
-const HELD: u32 = 3;
-
-/// One more than a host posts to a channel. Each host begins with channel 1, so that channel has as many posts as one
-/// host's by then.
-const WANTED: u32 = 4;
 
 /// The two questions.
 const BOTH: Round = Round {
@@ -65,11 +56,6 @@ fn placed_in(report: &Report) -> u64 {
     placed
 }
 
-/// Whether the debugger accepts a file under its report.
-fn is_accepted(alloc: Global, jobs: &[Job], report: &Report, index: Index<'_>) -> bool {
-    Replay::open(alloc, jobs, report, index).is_ok()
-}
-
 /// Whether a file has as many messages as the report says were kept, and the debugger accepts it.
 fn is_read_back(
     rt: &impl Abort,
@@ -78,7 +64,7 @@ fn is_read_back(
     report: &Report,
     file: &[u8],
 ) -> bool {
-    let index = Index::build(alloc, file).ok().expect(rt, "readable");
+    let index = index_of(rt, alloc, file);
     report.channels().len() == ROUNDS.len()
         && kept_in(report) == Some(index.total())
         && is_accepted(alloc, jobs, report, index)
@@ -90,7 +76,7 @@ fn placed_once<R: Threads + Wait + Abort + Sync>(
     alloc: Global,
     bench: &Bench,
 ) -> Option<u64> {
-    let gate = HeldForPosts::make_up_to(8, HELD, WANTED);
+    let gate = OrderingGate::by(Rules::UntilFourPosts);
     let (report, sink) = run_with_hosts(rt, alloc, bench, 8, WORDS, &gate);
     if is_read_back(rt, alloc, &bench.jobs, &report, sink.bytes()) {
         Some(placed_in(&report))
@@ -126,51 +112,8 @@ fn are_read_back<R: Threads + Wait + Abort + Sync>(rt: &R, alloc: Global, queue:
 }
 
 #[test]
-fn on_a_queue_of_one(rt: HostRuntime) {
-    are_read_back(&rt, rt.alloc(), 1);
-}
-
-#[test]
-fn on_a_queue_of_two(rt: HostRuntime) {
-    are_read_back(&rt, rt.alloc(), 2);
-}
-
-#[test]
-fn on_a_queue_of_three(rt: HostRuntime) {
-    are_read_back(&rt, rt.alloc(), 3);
-}
-
-#[test]
-fn on_a_queue_of_four(rt: HostRuntime) {
-    are_read_back(&rt, rt.alloc(), 4);
-}
-
-#[test]
-fn on_a_queue_of_five(rt: HostRuntime) {
-    are_read_back(&rt, rt.alloc(), 5);
-}
-
-#[test]
-fn on_a_queue_of_six(rt: HostRuntime) {
-    are_read_back(&rt, rt.alloc(), 6);
-}
-
-#[test]
-fn on_a_queue_of_seven(rt: HostRuntime) {
-    are_read_back(&rt, rt.alloc(), 7);
-}
-
-#[test]
-fn on_a_queue_of_eight(rt: HostRuntime) {
-    are_read_back(&rt, rt.alloc(), 8);
-}
-
-#[test]
-fn on_a_queue_of_nine(rt: HostRuntime) {
-    are_read_back(&rt, rt.alloc(), 9);
-}
-
-#[test]
-fn on_a_queue_of_ten(rt: HostRuntime) {
-    are_read_back(&rt, rt.alloc(), 10);
+fn queues_of_one_to_ten(rt: HostRuntime) {
+    for queue in 1..=10u32 {
+        are_read_back(&rt, rt.alloc(), queue);
+    }
 }

@@ -1,7 +1,7 @@
 //! A thousand runs of eight channels on short queues: what is read back is what was made, but for what the report
 //! lists.
-use crate::tests::fixtures::{Bench, STEP, TO_FIVE, bench_repeating, ran};
-use bench_report::{ChannelReport, Report};
+use crate::tests::fixtures::{Bench, TO_FIVE, bench_repeating, index_of, kept_of, ran};
+use bench_report::Report;
 use bench_run::OpenGate;
 use ch11_reader::Index;
 use std::alloc::Global;
@@ -14,27 +14,6 @@ const RUNS: u32 = 125;
 
 /// How many messages the channels 1 to 8 make.
 const COUNTS: [u32; 8] = [2, 3, 4, 2, 3, 4, 2, 3];
-
-/// How many messages of a channel were kept, where the file holds in their order those that were made but for the
-/// refused.
-fn kept_of(index: &Index<'_>, part: &ChannelReport) -> Option<u64> {
-    let mut messages = index.channel(part.channel());
-    let mut kept = 0u64;
-    for place in 0..part.made() {
-        if part.refused().contains(&(place + 1)) {
-            continue;
-        }
-        let seen = messages.next()?;
-        if seen.stamp != STEP * u64::from(place) {
-            return None;
-        }
-        kept = kept.wrapping_add(1);
-    }
-    match messages.next() {
-        Some(_) => None,
-        None => Some(kept),
-    }
-}
 
 /// Whether a file holds of each channel what its report says, and nothing else.
 fn agrees(index: &Index<'_>, report: &Report) -> bool {
@@ -53,8 +32,7 @@ fn agrees(index: &Index<'_>, report: &Report) -> bool {
 
 /// Whether a file can be read, and holds what its report says.
 fn is_read_as(rt: &impl Abort, alloc: Global, file: &[u8], report: &Report) -> bool {
-    let index = Index::build(alloc, file).ok().expect(rt, "readable");
-    agrees(&index, report)
+    agrees(&index_of(rt, alloc, file), report)
 }
 
 /// Runs the jobs once: whether the file is what the report says.
@@ -83,41 +61,8 @@ fn all_agree<R: Threads + Wait + Abort + Sync>(rt: &R, alloc: Global, queue: u32
 }
 
 #[test]
-fn a_queue_of_one(rt: HostRuntime) {
-    all_agree(&rt, rt.alloc(), 1);
-}
-
-#[test]
-fn a_queue_of_two(rt: HostRuntime) {
-    all_agree(&rt, rt.alloc(), 2);
-}
-
-#[test]
-fn a_queue_of_three(rt: HostRuntime) {
-    all_agree(&rt, rt.alloc(), 3);
-}
-
-#[test]
-fn a_queue_of_four(rt: HostRuntime) {
-    all_agree(&rt, rt.alloc(), 4);
-}
-
-#[test]
-fn a_queue_of_five(rt: HostRuntime) {
-    all_agree(&rt, rt.alloc(), 5);
-}
-
-#[test]
-fn a_queue_of_six(rt: HostRuntime) {
-    all_agree(&rt, rt.alloc(), 6);
-}
-
-#[test]
-fn a_queue_of_seven(rt: HostRuntime) {
-    all_agree(&rt, rt.alloc(), 7);
-}
-
-#[test]
-fn a_queue_of_eight(rt: HostRuntime) {
-    all_agree(&rt, rt.alloc(), 8);
+fn queues_of_one_to_eight(rt: HostRuntime) {
+    for queue in 1..=8u32 {
+        all_agree(&rt, rt.alloc(), queue);
+    }
 }

@@ -5,7 +5,7 @@ ghost use Rattle.run_tests.specs.Hosts.{MayPost, MayPostToAll, IsMail};
 ghost use Rattle.std.specs.Prelude.{◌≡◌, ◌++◌, [], ◌∷◌};
 
 use crate::tests::fixtures::Bench;
-use crate::tests::gates::HeldForPosts;
+use crate::tests::gates::OrderingGate;
 use crate::tests::hosts::{lives_beside, two_hosts};
 use bench_report::Report;
 use bench_run::{Inbox, Mailbox, Poster};
@@ -20,7 +20,7 @@ use std::thread::{Threads, join};
 /// A host posts the vector words 1 to `words` for the terminal at an address.
 fn post_words<R: Wait + Abort>(
     rt: &R,
-    gate: &HeldForPosts,
+    gate: &OrderingGate,
     mailbox: &Mailbox,
     poster: Poster,
     host: u8,
@@ -110,7 +110,7 @@ fn mail_for(rt: &impl Abort, alloc: Global, jobs: &[Job], room: u32) -> Mail
 /// A host posts so many words for the terminal at an address to one channel after another.
 fn post_to_all<R: Wait + Abort>(
     rt: &R,
-    gate: &HeldForPosts,
+    gate: &OrderingGate,
     boxes: &[Mailbox],
     posters: Vec<Poster>,
     host: u8,
@@ -129,7 +129,7 @@ fn post_to_all<R: Wait + Abort>(
 /// Host 0 posts for terminal 5, and host 1 for terminal 6 at the same time.
 fn both_post<R: Threads + Wait + Abort + Sync>(
     rt: &R,
-    gate: &HeldForPosts,
+    gate: &OrderingGate,
     boxes: &[Mailbox],
     firsts: Vec<Poster>,
     seconds: Vec<Poster>,
@@ -158,7 +158,7 @@ fn run_with<R: Threads + Wait + Abort + Sync>(
     seconds: Vec<Poster>,
     inboxes: Vec<Inbox>,
     words: u16,
-    gate: &HeldForPosts,
+    gate: &OrderingGate,
 ) -> (Report, MemorySink)
     requires posters { MayPostToAll 0 boxes.now firsts.items × MayPostToAll 1 boxes.now seconds.items }
     requires inboxes { AreInboxesOf boxes.now inboxes.items }
@@ -178,7 +178,7 @@ pub(crate) fn run_with_hosts<R: Threads + Wait + Abort + Sync>(
     bench: &Bench,
     room: u32,
     words: u16,
-    gate: &HeldForPosts,
+    gate: &OrderingGate,
 ) -> (Report, MemorySink) {
     let Mail {
         boxes,

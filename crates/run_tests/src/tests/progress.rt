@@ -94,12 +94,8 @@ fn shows_nothing<R: Wait + AllocGlobal + Abort + Sync>(rt: &R, is_terminal: bool
 }
 
 #[test]
-fn a_short_recording_shows_nothing(rt: HostRuntime) {
+fn a_short_recording_and_a_file_show_nothing(rt: HostRuntime) {
     shows_nothing(&rt, true, 1999);
-}
-
-#[test]
-fn a_file_shows_nothing(rt: HostRuntime) {
     shows_nothing(&rt, false, 10_000);
 }
 

@@ -1,4 +1,5 @@
 //! What is not run, and what each fault prints: the sink comes back as it was.
+use crate::tests::equal::{prints, same_in};
 use crate::tests::fixtures::{Bench, TEN_MESSAGES, TEN_REPORT, bench_of, ran};
 use bench_report::read_report;
 use bench_run::{LiveError, OpenGate, RunError};
@@ -11,7 +12,9 @@ use test_values::FOREIGN;
 
 const ONE_MESSAGE: &str = "channel 1\nterminal 5\nscript\nsend A rx 5 1 [0001]\n";
 
-const TWICE: [&str; 2] = [ONE_MESSAGE, ONE_MESSAGE];
+const ONE: &[&str] = &[ONE_MESSAGE];
+
+const TWICE: &[&str] = &[ONE_MESSAGE, ONE_MESSAGE];
 
 /// How many bytes the sink took that a fault hands back.
 fn taken_by(fault: &RunError<MemorySink>) -> usize {
@@ -24,126 +27,113 @@ fn taken_by(fault: &RunError<MemorySink>) -> usize {
     }
 }
 
-/// What is printed of the fault of a run, and how many bytes the sink has then taken; `ok` where there is no fault.
-fn refusal_of<R: Threads + Wait + Abort + Sync>(
-    rt: &R,
-    alloc: Global,
-    bench: &Bench,
-) -> (String, usize) {
-    match ran(rt, alloc, bench, &OpenGate) {
-        Ok((_, sink)) => {
-            let ok = String::from_str(alloc, "ok").expect(rt, "memory");
-            (ok, sink.bytes().len())
-        }
-        Err(fault) => {
-            let text = fault.to_string(alloc).expect(rt, "memory");
-            (text, taken_by(&fault))
-        }
-    }
-}
-
-/// What a run comes to is printed as this text; how many bytes the sink has then taken.
+/// What a run comes to is printed as this text, `ok` where there is no fault; how many bytes the sink has then taken.
 fn taken_with<R: Threads + Wait + Abort + Sync>(
     rt: &R,
     alloc: Global,
     bench: &Bench,
     wanted: &str,
 ) -> usize {
-    let (text, taken) = refusal_of(rt, alloc, bench);
-    assert_eq!(rt; text.as_str(), wanted);
-    taken
-}
-
-/// Limit, queue, posts, and what is printed.
-const RANGES: &[(u32, u32, u32, &str)] = &[
-    (255, 1, 0, "U2"),
-    (524_289, 1, 0, "U2"),
-    (4096, 0, 0, "U2"),
-    (4096, 4097, 0, "U2"),
-    (4096, 1, 65_537, "U2"),
-    (256, 1, 0, "ok"),
-    (524_288, 1, 0, "ok"),
-    (4096, 4096, 0, "ok"),
-    (4096, 1, 65_536, "ok"),
-];
-
-/// What a run of one message comes to with these settings: the sink takes something where it is not refused.
-fn is_judged<R: Threads + Wait + Abort + Sync>(
-    rt: &R,
-    alloc: Global,
-    limit: u32,
-    queue: u32,
-    posts: u32,
-    wanted: &str,
-) {
-    let mut bench = bench_of(rt, alloc, &[ONE_MESSAGE], queue, &[]);
-    bench.settings.limit = limit;
-    bench.settings.posts = posts;
-    let taken = taken_with(rt, alloc, &bench, wanted);
-    assert_eq!(rt; taken == 0, wanted == "U2", "at {limit} {queue} {posts}");
-}
-
-#[test]
-fn settings_out_of_range(rt: HostRuntime) {
-    for (limit, queue, posts, wanted) in RANGES {
-        is_judged(&rt, rt.alloc(), *limit, *queue, *posts, wanted);
+    match ran(rt, alloc, bench, &OpenGate) {
+        Ok((_, sink)) => {
+            same_in(rt, wanted, &"ok", &wanted);
+            sink.bytes().len()
+        }
+        Err(fault) => {
+            prints(rt, alloc, &fault, wanted);
+            taken_by(&fault)
+        }
     }
 }
 
-/// What a run of jobs of these texts comes to with this queue and prologue, and how many bytes its sink takes.
-fn comes_to<R: Threads + Wait + Abort + Sync>(
-    rt: &R,
-    alloc: Global,
-    texts: &[&str],
-    queue: u32,
-    prologue: &[u8],
-    wanted: &str,
-    bytes: usize,
-) {
-    let bench = bench_of(rt, alloc, texts, queue, prologue);
-    let taken = taken_with(rt, alloc, &bench, wanted);
-    assert_eq!(rt; taken, bytes);
+/// A run: a name, the texts of its jobs, its limit, queue and posts, and of how many of the first bytes of the foreign
+/// recording its prologue is; what is printed of it, and how many bytes its sink takes.
+type Case = (
+    &'static str,
+    &'static [&'static str],
+    (u32, u32, u32),
+    usize,
+    &'static str,
+    usize,
+);
+
+const CASES: &[Case] = &[
+    ("a limit too small", ONE, (255, 1, 0), 0, "U2", 0),
+    ("a limit too large", ONE, (524_289, 1, 0), 0, "U2", 0),
+    ("no queue", ONE, (4096, 0, 0), 0, "U2", 0),
+    ("a queue too long", ONE, (4096, 4097, 0), 0, "U2", 0),
+    ("too many posts", ONE, (4096, 1, 65_537), 0, "U2", 0),
+    ("the least limit", ONE, (256, 1, 0), 0, "ok", 48),
+    ("the largest limit", ONE, (524_288, 1, 0), 0, "ok", 48),
+    ("the longest queue", ONE, (4096, 4096, 0), 0, "ok", 48),
+    ("the most posts", ONE, (4096, 1, 65_536), 0, "ok", 48),
+    ("no job", &[], (4096, 4096, 65_536), 0, "U2", 0),
+    ("a channel twice", TWICE, (4096, 4096, 65_536), 0, "U1", 0),
+    (
+        "a prologue that is cut",
+        &TEN_MESSAGES,
+        (4096, 4096, 65_536),
+        30,
+        "U5",
+        0,
+    ),
+    (
+        "a prologue of messages",
+        &TEN_MESSAGES,
+        (4096, 4096, 65_536),
+        96,
+        "U5",
+        0,
+    ),
+    (
+        "a lawful prologue",
+        &TEN_MESSAGES,
+        (4096, 4096, 65_536),
+        32,
+        "ok",
+        488,
+    ),
+    (
+        "of three faults the first, U2",
+        TWICE,
+        (4096, 0, 65_536),
+        96,
+        "U2",
+        0,
+    ),
+    (
+        "of two faults the first, U1",
+        TWICE,
+        (4096, 1, 65_536),
+        96,
+        "U1",
+        0,
+    ),
+    ("the last fault, U5", ONE, (4096, 1, 65_536), 96, "U5", 0),
+];
+
+/// A run comes to what its case says.
+fn is_case<R: Threads + Wait + Abort + Sync>(rt: &R, alloc: Global, case: &Case) {
+    let (row, texts, (limit, queue, posts), length, wanted, taken) = case;
+    let (prologue, _) = FOREIGN.split_at(FOREIGN.len().min(*length));
+    let mut bench = bench_of(rt, alloc, texts, *queue, prologue);
+    bench.settings.limit = *limit;
+    bench.settings.posts = *posts;
+    same_in(rt, row, &taken_with(rt, alloc, &bench, wanted), taken);
 }
 
 #[test]
-fn no_job_and_a_channel_twice(rt: HostRuntime) {
-    let alloc = rt.alloc();
-    comes_to(&rt, alloc, &[], 4096, &[], "U2", 0);
-    comes_to(&rt, alloc, &TWICE, 4096, &[], "U1", 0);
+fn what_is_run_and_what_is_not(rt: HostRuntime) {
+    for case in CASES {
+        is_case(&rt, rt.alloc(), case);
+    }
 }
 
-#[test]
-fn prologues(rt: HostRuntime) {
-    let alloc = rt.alloc();
-    comes_to(&rt, alloc, &TEN_MESSAGES, 4096, &FOREIGN[..30], "U5", 0);
-    comes_to(&rt, alloc, &TEN_MESSAGES, 4096, &FOREIGN, "U5", 0);
-    comes_to(&rt, alloc, &TEN_MESSAGES, 4096, &FOREIGN[..32], "ok", 488);
-}
-
-/// Of several faults the first in this order counts: U2, U1, U5.
-#[test]
-fn the_first_fault_counts(rt: HostRuntime) {
-    let alloc = rt.alloc();
-    comes_to(&rt, alloc, &TWICE, 0, &FOREIGN, "U2", 0);
-    comes_to(&rt, alloc, &TWICE, 1, &FOREIGN, "U1", 0);
-    comes_to(&rt, alloc, &[ONE_MESSAGE], 1, &FOREIGN, "U5", 0);
-}
-
-#[test]
-fn want_of_memory_prints_its_number(rt: HostRuntime) {
-    let fault = RunError::Memory {
-        sink: MemorySink::make(rt.alloc()),
-    };
-    let text = fault.to_string(rt.alloc()).expect(&rt, "memory");
-    assert_eq!(rt; text.as_str(), "U3");
-}
-
-/// A live run's fault, without an inbox, prints this text.
-fn prints(rt: &impl Abort, alloc: Global, fault: RunError<MemorySink>, wanted: &str) {
+/// A fault prints this text, and so does a live run's, without an inbox.
+fn both_print(rt: &impl Abort, alloc: Global, fault: RunError<MemorySink>, wanted: &str) {
+    prints(rt, alloc, &fault, wanted);
     let inboxes = Vec::new(alloc);
-    let live = LiveError { fault, inboxes };
-    let text = live.to_string(alloc).expect(rt, "memory");
-    assert_eq!(rt; text.as_str(), wanted);
+    prints(rt, alloc, &LiveError { fault, inboxes }, wanted);
 }
 
 /// A sink that failed once it had taken as many bytes as can be counted.
@@ -157,16 +147,16 @@ fn full(rt: &impl Abort, alloc: Global) -> RunError<MemorySink> {
 }
 
 #[test]
-fn a_live_run_prints_its_fault(rt: HostRuntime) {
+fn faults_print_their_numbers(rt: HostRuntime) {
     let alloc = rt.alloc();
     let sink = MemorySink::make(alloc);
-    prints(&rt, alloc, RunError::Settings { sink }, "U2");
+    both_print(&rt, alloc, RunError::Settings { sink }, "U2");
     let sink = MemorySink::make(alloc);
-    prints(&rt, alloc, RunError::ChannelTwice { sink }, "U1");
+    both_print(&rt, alloc, RunError::ChannelTwice { sink }, "U1");
     let sink = MemorySink::make(alloc);
-    prints(&rt, alloc, RunError::Prologue { sink }, "U5");
+    both_print(&rt, alloc, RunError::Prologue { sink }, "U5");
     let sink = MemorySink::make(alloc);
-    prints(&rt, alloc, RunError::Memory { sink }, "U3");
+    both_print(&rt, alloc, RunError::Memory { sink }, "U3");
     let wanted = "U4 taken 18446744073709551615";
-    prints(&rt, alloc, full(&rt, alloc), wanted);
+    both_print(&rt, alloc, full(&rt, alloc), wanted);
 }

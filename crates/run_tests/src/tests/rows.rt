@@ -1,12 +1,13 @@
 //! Worked runs: which messages are kept, the packets of the file, and the report.
+use crate::tests::equal::same_in;
 use crate::tests::fixtures::{
-    TEN_MESSAGES, TEN_REPORT, has_messages, has_packets_of, has_shapes, has_stamps, is_printed,
+    Shape, TEN_MESSAGES, TEN_REPORT, are_packets, are_stamps, index_of, is_printed, messages_of,
     recorded,
 };
-use crate::tests::gates::{GoesFirst, HeldFromTheFirst, HeldWriter, InTurn, Meeting};
+use crate::tests::gates::{Counts, OrderingGate, Rules};
 use bench_report::Report;
-use bench_run::{Gate, OpenGate};
-use ch11_writer::MemorySink;
+use bench_run::OpenGate;
+use ch11_reader::Index;
 use std::alloc::Global;
 use std::process::Abort;
 use std::sync::Wait;
@@ -27,95 +28,134 @@ const FIVE_ACTIONS: &str =
 
 const NO_MESSAGE: &str = "channel 1\nterminal 5\nscript\nif fail { send A mode 5 1 }\n";
 
-/// The file of the held writer: one message of channel 2, and the first, second and fifth of channel 1.
-fn holds_four(rt: &impl Abort, alloc: Global, file: &[u8]) {
-    assert_eq!(rt; file.len(), 136);
-    has_shapes(rt, alloc, file, &[(2, 48, 0), (1, 88, 0x10)]);
-    has_stamps(rt, alloc, file, 1, &[0, 680, 2720]);
-    has_stamps(rt, alloc, file, 2, &[0]);
+/// What the file of the held writer has: its length in bytes, whether its packets are one of channel 2 and one of
+/// channel 1, and whether these have one message, and the first, second and fifth.
+fn four_in(rt: &impl Abort, alloc: Global, file: &[u8]) -> (usize, bool, bool) {
+    let index = index_of(rt, alloc, file);
+    let is_kept = are_stamps(&index, 1, &[0, 680, 2720]) && are_stamps(&index, 2, &[0]);
+    (
+        file.len(),
+        are_packets(&index, &[(2, 48, 0), (1, 88, 0x10)]),
+        is_kept,
+    )
 }
 
 #[test]
 fn a_queue_of_one_and_a_held_writer(rt: HostRuntime) {
-    let gate = HeldWriter::make();
+    let gate = OrderingGate::by(Rules::HeldWriter);
     let (report, sink) = recorded(&rt, rt.alloc(), &FIVE_AND_ONE, 1, &[], &gate);
-    assert!(rt; gate.waits.all_came());
+    let found = (gate.all_came(), gate.counts());
+    same_in(&rt, "the gate", &found, &(true, (0, 1, 2, 1)));
     let text = "channel 1\nmade 5\nrefused 3\nrefused 4\nchannel 2\nmade 1\npackets 2\n";
     is_printed(&rt, rt.alloc(), &report, text);
-    holds_four(&rt, rt.alloc(), sink.bytes());
+    let found = four_in(&rt, rt.alloc(), sink.bytes());
+    same_in(&rt, "the file", &found, &(136, true, true));
+}
+
+/// The packets of two channels in an order that they may have.
+type Order = [Shape; 2];
+
+const ONE_AND_TWO: Order = [(1, 228, 0), (2, 228, 0)];
+
+const TWO_AND_ONE: Order = [(2, 228, 0), (1, 228, 0)];
+
+const EITHER: &[Order] = &[ONE_AND_TWO, TWO_AND_ONE];
+
+/// Whether the packets of a recording stand in one of these orders.
+fn stand_in(index: &Index<'_>, orders: &[Order]) -> bool {
+    for order in orders {
+        if are_packets(index, order) {
+            return true;
+        }
+    }
+    false
+}
+
+/// What the file of two channels of ten messages has: its length in bytes, whether its packets stand in one of these
+/// orders, and whether they have all messages.
+fn ten_in(rt: &impl Abort, alloc: Global, file: &[u8], orders: &[Order]) -> (usize, bool, bool) {
+    let index = index_of(rt, alloc, file);
+    let is_kept = are_stamps(&index, 1, &TEN_STAMPS) && are_stamps(&index, 2, &TEN_STAMPS);
+    (file.len(), stand_in(&index, orders), is_kept)
 }
 
 /// Nothing was refused of two channels of ten messages: each has one packet with all of its messages, in 456 bytes.
-fn is_whole(rt: &impl Abort, alloc: Global, report: &Report, file: &[u8]) {
-    is_printed(rt, alloc, report, TEN_REPORT);
-    assert_eq!(rt; file.len(), 456);
-    has_packets_of(rt, alloc, file, 228, 0);
-    has_stamps(rt, alloc, file, 1, &TEN_STAMPS);
-    has_stamps(rt, alloc, file, 2, &TEN_STAMPS);
-}
-
-/// Runs two channels of ten messages, none of which may be refused, and gives the file.
-fn ten_and_ten<R: Threads + Wait + Abort + Sync, G: Gate>(
-    rt: &R,
+fn is_whole(
+    rt: &impl Abort,
     alloc: Global,
-    queue: u32,
-    gate: &G,
-) -> MemorySink {
-    let (report, sink) = recorded(rt, alloc, &TEN_MESSAGES, queue, &[], gate);
-    is_whole(rt, alloc, &report, sink.bytes());
-    sink
-}
-
-#[test]
-fn room_for_all(rt: HostRuntime) {
-    ten_and_ten(&rt, rt.alloc(), 4096, &OpenGate);
-}
-
-#[test]
-fn room_for_all_while_the_writer_waits(rt: HostRuntime) {
-    let gate = HeldFromTheFirst::until_the_end_marks();
-    ten_and_ten(&rt, rt.alloc(), 4096, &gate);
-    assert!(rt; gate.waits.all_came());
-}
-
-/// The packet of this channel stands in front of the other's, where its messages go first.
-fn stands_in_front<R: Threads + Wait + Abort + Sync>(
-    rt: &R,
-    alloc: Global,
-    first: u16,
-    second: u16,
+    row: &str,
+    report: &Report,
+    file: &[u8],
+    orders: &[Order],
 ) {
-    let gate = GoesFirst::make(first);
-    let sink = ten_and_ten(rt, alloc, 4096, &gate);
-    assert!(rt; gate.waits.all_came());
-    let shapes = &[(first, 228, 0), (second, 228, 0)];
-    has_shapes(rt, alloc, sink.bytes(), shapes);
+    is_printed(rt, alloc, report, TEN_REPORT);
+    same_in(
+        rt,
+        row,
+        &ten_in(rt, alloc, file, orders),
+        &(456, true, true),
+    );
+}
+
+/// How two channels of ten messages are held, none of which is refused: a name, the rules of the gate, the items of the
+/// queue, what the gate has counted at the end, and the orders in which the packets may stand.
+type Turns = (&'static str, Rules, u32, Counts, &'static [Order]);
+
+/// A queue of one has room for each message that waits until all before it were taken. Where two channels meet, neither
+/// waits for the other to end, and no lock is held between them.
+const TURNS: &[Turns] = &[
+    ("room for all", Rules::Open, 4096, (0, 0, 0, 0), EITHER),
+    (
+        "room for all while the writer waits",
+        Rules::UntilTheEndMarks,
+        4096,
+        (0, 2, 0, 0),
+        EITHER,
+    ),
+    (
+        "the end mark of channel 1 comes first",
+        Rules::OneFirst,
+        4096,
+        (0, 0, 0, 1),
+        &[ONE_AND_TWO],
+    ),
+    (
+        "the end mark of channel 2 comes first",
+        Rules::TwoFirst,
+        4096,
+        (0, 0, 0, 1),
+        &[TWO_AND_ONE],
+    ),
+    (
+        "turns in a queue of one",
+        Rules::InTurn,
+        1,
+        (0, 0, 22, 1),
+        &[ONE_AND_TWO],
+    ),
+    (
+        "two channels meet",
+        Rules::Meeting,
+        4096,
+        (2, 0, 0, 0),
+        EITHER,
+    ),
+];
+
+/// Two channels of ten messages are recorded whole where they are held so.
+fn takes_turns<R: Threads + Wait + Abort + Sync>(rt: &R, alloc: Global, turns: &Turns) {
+    let (row, rules, queue, counts, orders) = turns;
+    let gate = OrderingGate::by(*rules);
+    let (report, sink) = recorded(rt, alloc, &TEN_MESSAGES, *queue, &[], &gate);
+    same_in(rt, row, &(gate.all_came(), gate.counts()), &(true, *counts));
+    is_whole(rt, alloc, row, &report, sink.bytes(), orders);
 }
 
 #[test]
-fn packets_stand_in_the_order_of_the_end_marks(rt: HostRuntime) {
-    stands_in_front(&rt, rt.alloc(), 1, 2);
-    stands_in_front(&rt, rt.alloc(), 2, 1);
-}
-
-/// A queue of one has room for each message that waits until all before it were taken: nothing is refused.
-#[test]
-fn turns_in_a_queue_of_one(rt: HostRuntime) {
-    let gate = InTurn::make();
-    let sink = ten_and_ten(&rt, rt.alloc(), 1, &gate);
-    assert!(rt; gate.waits.all_came());
-    let shapes = &[(1, 228, 0), (2, 228, 0)];
-    has_shapes(&rt, rt.alloc(), sink.bytes(), shapes);
-}
-
-/// Two channels come to their first messages at one time: neither waits for the other to end, and no lock is held
-/// between them.
-#[test]
-fn two_channels_meet(rt: HostRuntime) {
-    let gate = Meeting::make();
-    ten_and_ten(&rt, rt.alloc(), 4096, &gate);
-    assert!(rt; gate.waits.all_came());
-    assert!(rt; gate.both_came());
+fn two_channels_of_ten_messages(rt: HostRuntime) {
+    for turns in TURNS {
+        takes_turns(&rt, rt.alloc(), turns);
+    }
 }
 
 /// A script that sends nothing, behind this prologue.
@@ -125,25 +165,27 @@ fn gives_the_prologue<R: Threads + Wait + Abort + Sync>(rt: &R, alloc: Global, p
     is_printed(rt, alloc, &report, "channel 1\nmade 0\npackets 0\n");
 }
 
-#[test]
-fn a_script_that_sends_nothing(rt: HostRuntime) {
-    gives_the_prologue(&rt, rt.alloc(), &[]);
-    gives_the_prologue(&rt, rt.alloc(), &FOREIGN[..32]);
-}
-
 /// A whole recording of two channels of ten messages, behind this prologue.
 fn is_whole_behind(rt: &impl Abort, alloc: Global, report: &Report, file: &[u8], prologue: &[u8]) {
     let parts = file.split_at_checked(prologue.len());
     let (front, packets) = parts.expect(rt, "a prologue");
     assert_eq!(rt; front, prologue);
-    is_whole(rt, alloc, report, packets);
+    is_whole(rt, alloc, "behind a prologue", report, packets, EITHER);
+}
+
+/// Two channels of ten messages are recorded whole behind this prologue.
+fn stands_in_front<R: Threads + Wait + Abort + Sync>(rt: &R, alloc: Global, prologue: &[u8]) {
+    let (report, sink) = recorded(rt, alloc, &TEN_MESSAGES, 4096, prologue, &OpenGate);
+    is_whole_behind(rt, alloc, &report, sink.bytes(), prologue);
 }
 
 #[test]
 fn a_prologue_stands_in_front(rt: HostRuntime) {
-    let prologue = &FOREIGN[..32];
-    let (report, sink) = recorded(&rt, rt.alloc(), &TEN_MESSAGES, 4096, prologue, &OpenGate);
-    is_whole_behind(&rt, rt.alloc(), &report, sink.bytes(), prologue);
+    let alloc = rt.alloc();
+    gives_the_prologue(&rt, alloc, &[]);
+    gives_the_prologue(&rt, alloc, &FOREIGN[..32]);
+    stands_in_front(&rt, alloc, &[]);
+    stands_in_front(&rt, alloc, &FOREIGN[..32]);
 }
 
 /// The actions at the messages that were made, by their numbers, and in the job's order at one number.
@@ -154,5 +196,6 @@ fn placed_actions(rt: HostRuntime) {
         "channel 1\nmade 3\nplaced 1 6 fault on\nplaced 1 5 busy off\nplaced 3 5 busy on\nplaced 3 6 service on\n\
          packets 1\n";
     is_printed(&rt, rt.alloc(), &report, text);
-    has_messages(&rt, rt.alloc(), sink.bytes(), 1, 3);
+    let count = messages_of(&rt, rt.alloc(), sink.bytes(), 1);
+    same_in(&rt, "messages of channel 1", &count, &3);
 }

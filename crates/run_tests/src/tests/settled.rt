@@ -5,7 +5,7 @@ ghost use Rattle.run_tests.specs.Hosts.{HasPosted};
 ghost use Rattle.std.specs.Prelude.{◌≡◌, [], ◌∷◌};
 
 use crate::tests::fixtures::{Bench, bench_of};
-use crate::tests::gates::HeldForPosts;
+use crate::tests::gates::{OrderingGate, Rules};
 use crate::tests::hosts::{alone, lives_beside, taking};
 use bench_run::{Inbox, Mailbox, Post, Poster};
 use job_file::Job;
@@ -38,7 +38,7 @@ fn mail_of(rt: &impl Abort, alloc: Global, job: &Job) -> (Mailbox, Poster, Inbox
 /// Host 0 waits until message 2 is held, posts the vector words 1, 2 and 3 for terminal 5, and lets the message go.
 fn post_three<R: Wait + Abort>(
     rt: &R,
-    gate: &HeldForPosts,
+    gate: &OrderingGate,
     mailbox: &Mailbox,
     poster: Poster,
 ) -> Poster
@@ -72,7 +72,7 @@ fn run_beside<R: Threads + Wait + Abort + Sync>(
     ensures poster { HasPosted 3 mailbox.now result.0 }
     ensures inboxes { AreInboxesOf boxes.now result.1.items }
 {
-    let gate = HeldForPosts::make(2, 3);
+    let gate = OrderingGate::by(Rules::UntilThreePosts);
     let held = &gate;
     let inboxes = alone(rt, alloc, inbox);
     let host = move || -> Poster

@@ -3,8 +3,9 @@ use super::Asked::{Between, Mode, Receive};
 use super::Beside::{All, Nothing};
 use super::Flaw::{Add, Drop, Late, Mask, Mute};
 use super::Step::{Act, Clock, Gives, Plan, Planned, Received, TooMany};
-use super::{Script, Step, are_played, fresh};
+use super::{Script, Setting, Step, are_played, fresh};
 use mil_word::Line::A;
+use std::process::Abort;
 
 /// What is on the line where both terminals of a transfer answer.
 const SIX: &[u16] = &[0x1882, 0x3c22, 0x3800, 0xaaaa, 0x5555, 0x1800];
@@ -117,13 +118,9 @@ const SCRIPTS: &[Script] = &[
 ];
 
 #[test]
-fn transfers(rt: HostRuntime) {
-    are_played(&rt, rt.alloc(), &[3, 7], TRANSFERS);
-}
-
-#[test]
 fn messages_with_faults(rt: HostRuntime) {
     are_played(&rt, rt.alloc(), &[5], SCRIPTS);
+    are_played(&rt, rt.alloc(), &[3, 7], TRANSFERS);
 }
 
 /// What happens before a bus and its plan are copied: the second message has a fault, too.
@@ -151,7 +148,12 @@ const ALIKE: &[Step] = &[
 fn a_copied_bus_and_plan_go_on_alike(rt: HostRuntime) {
     let mut first = fresh(&rt, rt.alloc(), &[5]);
     first.plays(&rt, "before", BEFORE);
-    let mut second = first.copy(&rt);
-    first.plays(&rt, "the first", ALONE);
-    second.plays(&rt, "the copy", ALIKE);
+    goes_on_alike(&rt, &mut first);
+}
+
+/// A copy of a bus and its plan goes on as the first would have, whatever that does alone.
+fn goes_on_alike(rt: &impl Abort, first: &mut Setting) {
+    let mut second = first.copy(rt);
+    first.plays(rt, "the first", ALONE);
+    second.plays(rt, "the copy", ALIKE);
 }

@@ -2,7 +2,7 @@
 use super::Asked::Mode;
 use super::Beside::All;
 use super::Step::{Clock, Gives, Now, Pace};
-use super::{Script, Setting, are_played, fresh};
+use super::{Script, Setting, Step, are_played, fresh};
 use mil_word::Line::A;
 use std::process::Abort;
 
@@ -64,8 +64,18 @@ fn goes_back(rt: &impl Abort, setting: &mut Setting) {
     let saved = setting.bus.save().expect(rt, "memory");
     setting.plays(rt, "later", &[Pace(9000), Now(9000)]);
     setting.bus.restore(&saved).expect(rt, "memory");
+    is_copied(rt, setting);
+    setting.plays(rt, "restored", RESTORED);
+}
+
+/// A copy of a bus has its least start.
+fn is_copied(rt: &impl Abort, setting: &Setting) {
     let mut copy = setting.copy(rt);
     copy.plays(rt, "copied", &[Now(500)]);
-    let first = Gives(A, Mode(5, 1), All(500, 0x0000, 0x0050), &[0x2fe1, 0x2800]);
-    setting.plays(rt, "restored", &[Now(500), first]);
 }
+
+/// What is found of a bus that has gone back to its least start of 500.
+const RESTORED: &[Step] = &[
+    Now(500),
+    Gives(A, Mode(5, 1), All(500, 0x0000, 0x0050), &[0x2fe1, 0x2800]),
+];

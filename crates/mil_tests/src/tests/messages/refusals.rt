@@ -165,27 +165,21 @@ const TO_ITSELF: &[Draft<'static>] = &[Between {
     count: 1,
 }];
 
-/// The drafts are refused with this fault.
-fn are_refused(rt: &impl Abort, drafts: &[Draft<'_>], fault: BadMessage) {
-    for draft in drafts {
-        is_refused(rt, *draft, fault);
-    }
-}
-
-fn is_refused(rt: &impl Abort, draft: Draft<'_>, fault: BadMessage) {
-    assert!(rt; Message::check(draft) == Err(fault), "{draft:?}");
-}
-
-#[test]
-fn numbers_out_of_range(rt: HostRuntime) {
-    are_refused(&rt, ADDRESSES, BadMessage::Address);
-    are_refused(&rt, SUBADDRESSES, BadMessage::Subaddress);
-    are_refused(&rt, COUNTS_AND_CODES, BadMessage::CountOrCode);
-    are_refused(&rt, TO_ITSELF, BadMessage::SameEnds);
-}
+/// Drafts of numbers out of range, and the fault of each.
+const OUT_OF_RANGE: &[(BadMessage, &[Draft<'static>])] = &[
+    (BadMessage::Address, ADDRESSES),
+    (BadMessage::Subaddress, SUBADDRESSES),
+    (BadMessage::CountOrCode, COUNTS_AND_CODES),
+    (BadMessage::SameEnds, TO_ITSELF),
+];
 
 /// Mode commands to terminal 5, or to all: the code, what is written, and the fault.
-const MODES: &[(Option<ModeSubaddress>, u32, Option<&[u16]>, BadMessage)] = &[
+const MODES: &[(
+    Option<ModeSubaddress>,
+    u32,
+    Option<&'static [u16]>,
+    BadMessage,
+)] = &[
     (Some(ThirtyOne), 32, None, BadMessage::CountOrCode),
     (None, 16, None, BadMessage::CountOrCode),
     (Some(ThirtyOne), 20, None, BadMessage::ModeWord),
@@ -198,8 +192,29 @@ const MODES: &[(Option<ModeSubaddress>, u32, Option<&[u16]>, BadMessage)] = &[
 ];
 
 #[test]
-fn mode_commands(rt: HostRuntime) {
-    for (to, code, written, fault) in MODES {
-        is_refused(&rt, mode(*to, *code, *written), *fault);
+fn refused_drafts(rt: HostRuntime) {
+    for (fault, drafts) in OUT_OF_RANGE {
+        are_refused(&rt, drafts, *fault);
     }
+    mode_commands_are_refused(&rt);
+}
+
+/// The drafts are refused with this fault.
+fn are_refused(rt: &impl Abort, drafts: &[Draft<'static>], fault: BadMessage) {
+    for draft in drafts {
+        is_refused(rt, *draft, fault);
+    }
+}
+
+/// The mode commands are refused with their faults.
+fn mode_commands_are_refused(rt: &impl Abort) {
+    for (to, code, written, fault) in MODES {
+        is_refused(rt, mode(*to, *code, *written), *fault);
+    }
+}
+
+/// A draft is refused with this fault.
+fn is_refused(rt: &impl Abort, draft: Draft<'static>, fault: BadMessage) {
+    let found = Message::check(draft).err();
+    assert!(rt; found == Some(fault), "{draft:?}");
 }

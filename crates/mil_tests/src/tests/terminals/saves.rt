@@ -3,7 +3,7 @@ use super::Step::{
     Act, Answers, Command, Data, FlagInhibited, IsSilent, LastCommand, PutUp, Received,
     ReceivedFromAll, Replies, Status, Transmitter,
 };
-use super::{Deed, FULL, Step, play_all};
+use super::{FULL, Step, make, play_all};
 use mil_terminal::{SavedTerminal, Terminal};
 use mil_word::Line::{A, B};
 use std::alloc::Global;
@@ -26,7 +26,7 @@ const ROWS: &[Row] = &[
             Answers(A, 0x2840, FULL, &[0x2800]),
             IsSilent(A, 0xfba0, FULL),
             Answers(B, 0x2bc1, &[0xffff], &[0x2800]),
-            Act(Deed::Transmit),
+            Act("transmit 1 AAAA 5555"),
         ],
         after: &[
             Answers(A, 0x2823, &[1, 2, 3], &[0x2800]),
@@ -56,7 +56,7 @@ const ROWS: &[Row] = &[
         after: &[
             Answers(A, 0x2840, FULL, &[0x2800]),
             IsSilent(A, 0xf821, &[10]),
-            Act(Deed::Transmit),
+            Act("transmit 1 AAAA 5555"),
         ],
         found: &[
             Received(2, &[]),
@@ -83,9 +83,9 @@ const ROWS: &[Row] = &[
     },
     Row {
         name: "a mark",
-        before: &[Act(Deed::Illegal)],
+        before: &[Act("illegal receive 3 4")],
         after: &[
-            Act(Deed::Legal),
+            Act("legal receive 3 4"),
             Answers(A, 0x2864, &[1, 2, 3, 4], &[0x2800]),
         ],
         found: &[
@@ -97,7 +97,7 @@ const ROWS: &[Row] = &[
         name: "no mark",
         before: &[],
         after: &[
-            Act(Deed::Illegal),
+            Act("illegal receive 3 4"),
             Answers(A, 0x2864, &[1, 2, 3, 4], &[0x2c00]),
         ],
         found: &[Answers(A, 0x2864, &[1, 2, 3, 4], &[0x2800])],
@@ -105,10 +105,10 @@ const ROWS: &[Row] = &[
     Row {
         name: "a shutdown, an inhibited flag and a busy terminal",
         before: &[
-            Act(Deed::Fault),
+            Act("fault on"),
             Answers(A, 0x2fe4, &[], &[0x2801]),
             Answers(A, 0x2fe6, &[], &[0x2800]),
-            Act(Deed::Busy),
+            Act("busy on"),
         ],
         after: &[Answers(A, 0x2fe8, &[], &[0x2808])],
         found: &[
@@ -130,11 +130,16 @@ fn terminals_go_back_to_what_was_saved(rt: HostRuntime) {
 
 /// A terminal goes back; so does one at another address, and so does a new one.
 fn goes_back(rt: &impl Abort, alloc: Global, row: &Row) {
-    let mut terminal = Terminal::make(alloc, 5).expect(rt, row.name);
+    let mut terminal = make(rt, row.name, alloc, 5);
     play_all(rt, row.name, &mut terminal, row.before);
+    is_saved(rt, alloc, row, &mut terminal);
+}
+
+/// What is saved of a terminal is found again, whatever it meets after that.
+fn is_saved(rt: &impl Abort, alloc: Global, row: &Row, terminal: &mut Terminal) {
     let saved = terminal.save().expect(rt, row.name);
-    play_all(rt, row.name, &mut terminal, row.after);
-    is_found(rt, row, &mut terminal, &saved);
+    play_all(rt, row.name, terminal, row.after);
+    is_found(rt, row, terminal, &saved);
     takes_over(rt, alloc, row, &saved);
     is_made_anew(rt, alloc, row, &saved);
 }
@@ -147,7 +152,7 @@ fn is_found(rt: &impl Abort, row: &Row, terminal: &mut Terminal, saved: &SavedTe
 
 /// A terminal at another address, with words of its own, is found as terminal 5 was saved.
 fn takes_over(rt: &impl Abort, alloc: Global, row: &Row, saved: &SavedTerminal) {
-    let mut other = Terminal::make(alloc, 7).expect(rt, row.name);
+    let mut other = make(rt, row.name, alloc, 7);
     play_all(rt, row.name, &mut other, OTHER);
     is_found(rt, row, &mut other, saved);
 }
@@ -156,8 +161,8 @@ fn takes_over(rt: &impl Abort, alloc: Global, row: &Row, saved: &SavedTerminal) 
 const OTHER: &[Step] = &[
     Answers(A, 0x3860, FULL, &[0x3800]),
     IsSilent(A, 0xfbc1, &[1]),
-    Act(Deed::Transmit),
-    Act(Deed::Illegal),
+    Act("transmit 1 AAAA 5555"),
+    Act("illegal receive 3 4"),
     Command(B, 0x3822),
 ];
 

@@ -1,5 +1,5 @@
 //! Data words that a terminal hears by their values, several at once.
-use super::Step::{Behind, Command, Data, Fails, Quiet, Received, Replies, Status, Values};
+use super::Step::{Behind, Command, Data, Quiet, Received, Replies, Status, Values};
 use super::{FULL, Script, are_played};
 use mil_word::Line::{A, B};
 
@@ -30,16 +30,30 @@ const SCRIPTS: &[Script] = &[
             Command(A, 0x2823),
             Values(A, 20, &[1, 2]),
             Values(A, 20, &[3, 4]),
-            Fails(A),
+            Quiet(A),
+            Status(0x2c00),
+            Received(1, &[]),
         ],
     ),
     (
         "one less than due",
-        &[Command(A, 0x2823), Values(A, 20, &[1, 2]), Fails(A)],
+        &[
+            Command(A, 0x2823),
+            Values(A, 20, &[1, 2]),
+            Quiet(A),
+            Status(0x2c00),
+            Received(1, &[]),
+        ],
     ),
     (
         "words that do not follow at once",
-        &[Command(A, 0x2823), Values(A, 21, &[1, 2, 3]), Fails(A)],
+        &[
+            Command(A, 0x2823),
+            Values(A, 21, &[1, 2, 3]),
+            Quiet(A),
+            Status(0x2c00),
+            Received(1, &[]),
+        ],
     ),
     (
         "words on the other line, and no words at all",
@@ -90,7 +104,9 @@ const SCRIPTS: &[Script] = &[
             Behind(A, 20, 0x3c22),
             Quiet(A),
             Values(A, 80, &[1, 2]),
-            Fails(A),
+            Quiet(A),
+            Status(0x2c00),
+            Received(1, &[]),
         ],
     ),
 ];
