@@ -12,7 +12,7 @@ use std::fmt::{self, Display, Formatter, Write};
 /// Why a script has no image. Faults of the text count before those of its code, and want of memory comes last.
 #[derive(Clone, Copy, Debug, PartialEq, Eq)]
 pub enum AssembleFault {
-    /// S1 to S8: the first fault of the text, and its place.
+    /// S1 to S8, S10 or S11: the first fault of the text, and its place.
     Text { cause: Cause, place: Place },
     /// A1: there are more than 4096 operations.
     Operations,

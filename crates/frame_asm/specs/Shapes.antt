@@ -72,7 +72,7 @@ entries (chained a b) = entries a + entries b
 entries (call n) = 0
 entries (define n b r) = entries b + entries r
 
--- the first attempt, and a loop of the further ones, each on the other_line line, that is left where one did not fail
+-- the first attempt, and a loop of the further ones, each on the other line, that is left where one did not fail
 abbrev pub retry_shape : ℕ → ℕ → ℕ → List Op
 retry_shape p m n =
     op.Send m ∷ op.Loop n ∷ op.Test Failed ∷ op.JumpFalse (p + 6) ∷ op.Alt m ∷ op.Jump (p + 7) ∷ op.Leave (p + 8)

@@ -50,7 +50,7 @@ pub enum JobError {
     /// J1 to J6: the first line at fault. A missing `script` is found behind the last line, a missing `channel` at
     /// `script`.
     Line { line: u64, fault: LineFault },
-    /// J7 with S1 to S8: the first fault of the script.
+    /// J7 with S1 to S8, S10 or S11: the first fault of the script.
     Script { cause: Cause, place: Place },
     /// J7 with A1 or A2, at the line `script`: the script has no image.
     Assembly { line: u64, fault: AsmError },

@@ -1,11 +1,11 @@
 -- One run and what follows it.
-use Rattle.std.proofs.Common.{◌≡◌, ℕ, ◌+◌, ◌-◌, List, ◌++◌, take, length, zero, suc, refl, Option, Some, None, add-one}
+use Rattle.std.proofs.Common.{◌≡◌, ◌≢◌, ℕ, ◌+◌, ◌-◌, List, [], ◌∷◌, ◌++◌, map, take, length, length-append, zero, suc, refl, sym, ap, ◌∙◌, arith, Option, Some, None, add-one}
 use Rattle.mil_word.specs.declared.Line.{Line}
 use Rattle.mil_line.specs.declared.faults.Fault.{Fault}
 use Rattle.mil_line.specs.Faults.{altered, gap_of}
 use Rattle.mil_bus.specs.declared.talks.Sent.{Sent}
 use Rattle.mil_terminal.specs.Station.{Station}
-use Rattle.mil_bus.specs.Exchange.{Offer, Standing, words_of, run_sent, quiet_after, next_offer, all_hearing, runs}
+use Rattle.mil_bus.specs.Exchange.{Offer, Standing, words_of, run_sent, quieted, first_reply, quiet_after, next_offer, all_hearing, runs}
 
 pub run_sent-some : (room : ℕ) (faults : List Fault) (run : ℕ) (o : Offer) (gap : ℕ) (ws : List ℕ) → ws ≡ take room (altered faults run o.waves) → gap ≡ gap_of faults run o.gap → run_sent room faults run o ≡ words_of run o.source gap ws
 unfolding run_sent
@@ -23,3 +23,47 @@ pub runs-some : (left : ℕ) (line : Line) (faults : List Fault) (run : ℕ) (o 
     → runs left line faults (run + 1) next (record { sent = sent_after; stations = stations_after }) ≡ runs (left + 1) line faults run (Some o) (record { sent = sent; stations = stations })
 unfolding runs
 runs-some left line faults run o sent sent_after stations stations_after next e1 e2 e3 = rw (e1, e2, e3, add-one left, add-one run) refl
+
+-- behind a run of no word nothing comes
+none-after : (line : Line) (words : List Sent) (stations : List Station) → length words ≡ 0 → quiet_after line words stations ≡ stations
+none-after line [] stations none = refl
+none-after line (w ∷ words) stations none = absurd (omega (arith, none))
+
+none-next : (line : Line) (words : List Sent) (stations : List Station) → length words ≡ 0 → next_offer line words stations ≡ None
+none-next line [] stations none = refl
+none-next line (w ∷ words) stations none = absurd (omega (arith, none))
+
+some-after : (line : Line) (words : List Sent) (stations : List Station) → length words ≢ 0 → quiet_after line words stations ≡ map (quieted line) stations
+some-after line [] stations some = absurd (some refl)
+some-after line (w ∷ words) stations some = refl
+
+some-next : (line : Line) (words : List Sent) (stations : List Station) → length words ≢ 0 → next_offer line words stations ≡ first_reply line stations
+some-next line [] stations some = absurd (some refl)
+some-next line (w ∷ words) stations some = refl
+
+-- a run that puts no word on the line is the last
+pub runs-unsaid : (left : ℕ) (line : Line) (faults : List Fault) (run : ℕ) (o : Offer) (sent sent_after : List Sent) (stations stations_after : List Station)
+    → sent_after ≡ sent ++ run_sent (40 - length sent) faults run o
+    → stations_after ≡ all_hearing line (run_sent (40 - length sent) faults run o) stations
+    → length sent_after ≡ length sent
+    → runs left line faults (run + 1) None (record { sent = sent_after; stations = stations_after }) ≡ runs (left + 1) line faults run (Some o) (record { sent = sent; stations = stations })
+runs-unsaid left line faults run o sent sent_after stations stations_after e1 e2 same =
+    let words = run_sent (40 - length sent) faults run o in
+    let none : length words ≡ 0 = omega (arith, ap length e1, length-append sent words, same) in
+    let said = all_hearing line words stations in
+    runs-some left line faults run o sent sent_after stations stations_after None e1 (e2 ∙ sym (none-after line words said none)) (sym (none-next line words said none))
+
+-- behind one that does, a quiet comes to all
+pub runs-said : (left : ℕ) (line : Line) (faults : List Fault) (run : ℕ) (o : Offer) (sent sent_after : List Sent) (stations said stations_after : List Station) (next : Option Offer)
+    → sent_after ≡ sent ++ run_sent (40 - length sent) faults run o
+    → said ≡ all_hearing line (run_sent (40 - length sent) faults run o) stations
+    → length sent_after ≢ length sent
+    → stations_after ≡ map (quieted line) said
+    → next ≡ first_reply line said
+    → runs left line faults (run + 1) next (record { sent = sent_after; stations = stations_after }) ≡ runs (left + 1) line faults run (Some o) (record { sent = sent; stations = stations })
+runs-said left line faults run o sent sent_after stations said stations_after next e1 e2 other e3 e4 =
+    let words = run_sent (40 - length sent) faults run o in
+    let some : length words ≢ 0 = λ none. other (omega (arith, ap length e1, length-append sent words, none)) in
+    let heard = all_hearing line words stations in
+    runs-some left line faults run o sent sent_after stations stations_after next e1
+    (e3 ∙ ap (map (quieted line)) e2 ∙ sym (some-after line words heard some)) (e4 ∙ ap (first_reply line) e2 ∙ sym (some-next line words heard some))

@@ -69,11 +69,6 @@ all_hearing line (w ∷ ws) stations = all_hearing line ws (map (hearing line w)
 abbrev pub quieted : Line → Station → Station
 quieted line s = if is_deaf line s.history then s else after s (Quiet line)
 
--- the wave of a word of a reply, by its place: its status comes first
-abbrev pub reply_wave : ℕ → ℕ → ℕ
-reply_wave zero status = command_wave status
-reply_wave (suc place) value = data_wave value
-
 -- a status and its data words, as waves
 abbrev pub reply_waves : List ℕ → List ℕ
 reply_waves [] = []

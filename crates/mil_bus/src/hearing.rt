@@ -1,15 +1,14 @@
 //! A word that comes to all terminals of a bus.
 ghost use Rattle.mil_bus.specs.Exchange.{hearing, sends, misses};
-ghost use Rattle.mil_bus.specs.Index.{IsClosed, AreClosed, HasCome, is_command_to};
-ghost use Rattle.mil_terminal.specs.Station.{Station};
-ghost use Rattle.mil_terminal.specs.Windows.{is_listening, opens};
+ghost use Rattle.mil_bus.specs.Index.{IsClosed, is_command_to};
+ghost use Rattle.mil_terminal.specs.Windows.{opens};
 ghost use Rattle.mil_terminal.specs.declared.events.Event.TheVariants.{Heard};
 ghost use Rattle.mil_word.specs.Wave.{word_of};
 ghost use Rattle.std.specs.Int.{bit_at};
-ghost use Rattle.std.specs.Prelude.{◌≡◌, ℕ, ◌<◌, ◌≤◌, false, List, length, map, get_or, slice_index};
+ghost use Rattle.std.specs.Prelude.{◌≡◌, ℕ, ◌<◌, false, slice_index};
 
-use crate::bits::{next_set, with_bit};
 use crate::counts::is_command;
+use crate::telling::Coming;
 use crate::{Sent, Source};
 use mil_terminal::Terminal;
 use mil_word::{Command, Line, Word};
@@ -54,18 +53,6 @@ pub fn misses(terminal: &Terminal, line: Line, source: Source) -> bool
     is_sender(source, terminal.address()) || terminal.deaf(line)
 }
 
-/// A word comes to a terminal; whether a window of it is open afterwards.
-fn tell(terminal: &mut Terminal, line: Line, sent: &Sent, decoded: Option<Word>) -> bool
-    requires { decoded ≡ word_of sent.now.wave }
-    ensures after { terminal.new ≡ hearing line sent.now terminal.old }
-    ensures closed { result ≡ false → IsClosed terminal.new }
-{
-    if !misses(terminal, line, sent.source) {
-        terminal.hear_word(line, sent.wave, decoded, sent.gap);
-    }
-    terminal.is_listening(Line::A) || terminal.is_listening(Line::B)
-}
-
 /// A word that does not concern a terminal comes to it: its history alone grows, which costs nothing.
 #[inline]
 pub fn pass(terminal: &mut Terminal, line: Line, sent: &Sent)
@@ -79,53 +66,33 @@ pub fn pass(terminal: &mut Terminal, line: Line, sent: &Sent)
     }
 }
 
-/// A word that does not concern the terminals from one place up to another comes to them.
-#[inline]
-fn pass_between(terminals: &mut Vec<Terminal>, from: usize, to: usize, line: Line, sent: &Sent)
-    requires order { from ≤ to }
-    requires end { to ≤ length terminals.old.items }
-    requires other { (k : ℕ) (d : Station) → from ≤ k → k < to
-        → opens (get_or terminals.old.items k d).own (Heard line sent.now.wave sent.now.gap) ≡ false }
-    requires closed { (k : ℕ) (d : Station) → from ≤ k → k < to → IsClosed (get_or terminals.old.items k d) }
-    ensures { (old : List Station) (opened : ℕ) → HasCome (hearing line sent.now) old terminals.old.items from opened
-        → HasCome (hearing line sent.now) old terminals.new.items to opened }
-{
-    for i in from..to {
-        let terminal = &mut terminals[i];
-        pass(terminal, line, sent);
-    }
+/// A word on a line, as it was decoded.
+#[derive(Drop)]
+pub struct HeardWord<'a> {
+    pub line: Line,
+    pub sent: &'a Sent,
+    pub decoded: Option<Word>,
+    ghost is_decoded: { decoded ≡ word_of sent.now.wave },
 }
 
-/// A word comes to all terminals; a mask that is clear only where no window is open afterwards. The word concerns only
-/// those that the mask given has.
-pub fn tell_all(
-    terminals: &mut Vec<Terminal>,
-    mask: u32,
-    line: Line,
-    sent: &Sent,
-    decoded: Option<Word>,
-) -> u32
-    requires decoded { decoded ≡ word_of sent.now.wave }
-    requires few { length terminals.old.items ≤ 31 }
-    requires other { (k : ℕ) (d : Station) → k < length terminals.old.items → bit_at mask k ≡ 0
-        → opens (get_or terminals.old.items k d).own (Heard line sent.now.wave sent.now.gap) ≡ false }
-    requires closed { AreClosed mask terminals.old.items }
-    ensures heard { terminals.new.items ≡ map (hearing line sent.now) terminals.old.items }
-    ensures closed { AreClosed result terminals.new.items }
-{
-    let count = terminals.len();
-    let mut opened = 0;
-    let mut from = 0;
-    for _step in 0..32_usize {
-        let at = next_set(mask, from).min(count);
-        pass_between(terminals, from, at, line, sent);
-        if at == count {
-            return opened;
-        }
-        let terminal = &mut terminals[at];
-        let is_open = tell(terminal, line, sent, decoded);
-        opened = with_bit(opened, at, is_open);
-        from = at + 1;
+impl<'a> Coming for HeardWord<'a> {
+    ghost use Rattle.mil_bus.specs.Exchange.{hearing};
+    ghost use Rattle.mil_terminal.specs.Windows.{opens};
+    ghost use Rattle.mil_terminal.specs.declared.events.Event.TheVariants as event;
+    ghost use Rattle.std.specs.Prelude.{◌≡◌, false};
+
+    ghost makes = { λ h. hearing h.line h.sent.now };
+
+    ghost passes = { λ h s. opens s.own (event.Heard h.line h.sent.now.wave h.sent.now.gap) ≡ false };
+
+    #[inline]
+    fn pass(&self, terminal: &mut Terminal) {
+        pass(terminal, self.line, self.sent);
     }
-    opened
+
+    fn tell(&self, terminal: &mut Terminal) {
+        if !misses(terminal, self.line, self.sent.source) {
+            terminal.hear_word(self.line, self.sent.wave, self.decoded, self.sent.gap);
+        }
+    }
 }

@@ -22,6 +22,7 @@ mod saved_terminals;
 pub mod sent_words;
 mod talk_runs;
 pub mod talks;
+mod telling;
 mod terminals;
 mod times;
 mod wholes;

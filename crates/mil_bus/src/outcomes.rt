@@ -1,7 +1,8 @@
 //! The block status word of a finished talk, and what a program learns of it.
 ghost use Rattle.mil_bus.specs.BlockStatus.{first_due, second_due, is_late, is_excuse, is_miscounted};
-ghost use Rattle.mil_bus.specs.BlockStatus.{has_other_address, bit_if, is_line_b, is_transfer, has_response_time_out};
-ghost use Rattle.mil_bus.specs.BlockStatus.{has_word_count_error, has_error, block_of, came_bits, outcome_of};
+ghost use Rattle.mil_bus.specs.BlockStatus.{is_from_other, has_other_address, status_bits, came_bits, bit_if};
+ghost use Rattle.mil_bus.specs.BlockStatus.{is_line_b, is_transfer, has_response_time_out, has_word_count_error};
+ghost use Rattle.mil_bus.specs.BlockStatus.{has_error, block_of, outcome_of};
 ghost use Rattle.mil_bus.specs.Counts.{seen_of};
 ghost use Rattle.mil_message.specs.Forms.{controller_words, replies_due};
 ghost use Rattle.std.specs.Prelude.{◌≡◌, ◌≤◌, length};
@@ -60,12 +61,10 @@ fn due_of(message: &Message) -> DueReplies
 fn is_late(due: Option<Due>, came: Option<Came>) -> bool
     ensures { result ≡ is_late due came }
 {
-    match due {
-        None => false,
-        Some(_) => match came {
-            None => true,
-            Some(came) => came.gap.ticks() > RESPONSE_TIME_OUT,
-        },
+    match (due, came) {
+        (None, _) => false,
+        (Some(_), None) => true,
+        (Some(_), Some(came)) => came.gap.ticks() > RESPONSE_TIME_OUT,
     }
 }
 
@@ -84,51 +83,48 @@ fn is_excuse(word: Option<Word>) -> bool
 fn is_miscounted(due: Option<Due>, came: Option<Came>) -> bool
     ensures { result ≡ is_miscounted due came }
 {
-    match due {
+    match (due, came) {
+        (Some(due), Some(came)) => {
+            u16::from(came.count) != u16::from(due.words) + 1
+                && !(came.count == 1 && is_excuse(came.first))
+        }
+        _ => false,
+    }
+}
+
+fn is_from_other(address: u8, word: Option<Word>) -> bool
+    ensures { result ≡ is_from_other address word }
+{
+    match word {
         None => false,
-        Some(due) => match came {
-            None => false,
-            Some(came) => {
-                u16::from(came.count) != u16::from(due.words) + 1
-                    && !(came.count == 1 && is_excuse(came.first))
-            }
-        },
+        Some(word) => is_command(word) && Status::of(word.value).address() != address,
     }
 }
 
 fn has_other_address(due: Option<Due>, came: Option<Came>) -> bool
     ensures { result ≡ has_other_address due came }
 {
-    match due {
-        None => false,
-        Some(due) => match came {
-            None => false,
-            Some(came) => match came.first {
-                None => false,
-                Some(word) => is_command(word) && Status::of(word.value).address() != due.address,
-            },
-        },
+    match (due, came) {
+        (Some(due), Some(came)) => is_from_other(due.address, came.first),
+        _ => false,
+    }
+}
+
+fn status_bits(word: Option<Word>) -> u16
+    ensures { result ≡ status_bits word }
+{
+    match word {
+        Some(word) if is_command(word) => word.value & StatusBits::ALL.0,
+        _ => 0,
     }
 }
 
 fn came_bits(due: Option<Due>, came: Option<Came>) -> u16
     ensures { result ≡ came_bits due came }
 {
-    match due {
-        None => 0,
-        Some(_) => match came {
-            None => 0,
-            Some(came) => match came.first {
-                None => 0,
-                Some(word) => {
-                    if is_command(word) {
-                        word.value & StatusBits::ALL.0
-                    } else {
-                        0
-                    }
-                }
-            },
-        },
+    match (due, came) {
+        (Some(_), Some(came)) => status_bits(came.first),
+        _ => 0,
     }
 }
 

@@ -3,12 +3,12 @@ ghost use Rattle.mil_bus.specs.Exchange.{quieted, answer, first_reply};
 ghost use Rattle.mil_bus.specs.Index.{IsClosed, AreClosed, HasCome};
 ghost use Rattle.mil_bus.specs.Offers.{given};
 ghost use Rattle.mil_terminal.specs.Station.{Station};
-ghost use Rattle.mil_terminal.specs.Windows.{is_listening};
 ghost use Rattle.std.specs.Option.{option_or};
-ghost use Rattle.std.specs.Prelude.{◌≡◌, ℕ, ◌<◌, ◌≤◌, false, None, List, length, map, get_or, take};
+ghost use Rattle.std.specs.Prelude.{◌≡◌, ℕ, ◌<◌, ◌≤◌, None, List, length, map, get_or, take};
 
 use crate::bits::{next_set, with_bit};
 use crate::offers::Offered;
+use crate::telling::is_open;
 use mil_terminal::Terminal;
 use mil_word::Line;
 
@@ -44,13 +44,6 @@ fn quiet_one(terminal: &mut Terminal, line: Line, answered: bool, offer: &mut Of
         }
         None => answered,
     }
-}
-
-/// Whether a window of a terminal is open.
-fn is_open(terminal: &Terminal) -> bool
-    ensures { result ≡ false → IsClosed terminal.now }
-{
-    terminal.is_listening(Line::A) || terminal.is_listening(Line::B)
 }
 
 /// A quiet comes to a terminal with no open window: its history alone grows, which costs nothing.

@@ -1,11 +1,12 @@
 //! The runs of an exchange: words and quiets, told to all terminals.
-ghost use Rattle.mil_bus.specs.Exchange.{all_hearing, quiet_after, next_offer, words_of, run_sent, runs};
-ghost use Rattle.mil_bus.specs.Offers.{offered, given};
+ghost use Rattle.mil_bus.specs.Exchange.{all_hearing, words_of, run_sent, runs};
+ghost use Rattle.mil_bus.specs.Offers.{offered, offer_in, given};
 ghost use Rattle.mil_bus.specs.Wholes.{value_waves};
+ghost use Rattle.mil_line.specs.Faults.{altered};
 ghost use Rattle.mil_line.specs.Ranges.{is_in_range};
 ghost use Rattle.mil_word.specs.Words.{command_wave};
 ghost use Rattle.std.specs.List.{list_all};
-ghost use Rattle.std.specs.Prelude.{◌≡◌, ℕ, ◌+◌, ◌-◌, ◌≤◌, true, [], ◌∷◌, ◌++◌, length, Some};
+ghost use Rattle.std.specs.Prelude.{◌≡◌, ℕ, ◌+◌, ◌-◌, ◌≤◌, true, [], ◌∷◌, ◌++◌, length, take, Some};
 
 use crate::offers::Offered;
 use crate::talk_runs::Run;
@@ -80,33 +81,43 @@ fn waves_of(values: &Values) -> Waves
     waves
 }
 
+/// What the planned faults make of the words of a run, as far as there is room for so many.
+#[inline(never)]
+fn altered_waves(faults: &[Fault], run: u8, values: &Values, room: usize) -> ArrayVec<Wave, 40>
+    requires { room ≤ 40 }
+    ensures { result.items
+        ≡ take room (altered faults.now run (value_waves values.now.commands values.now.words.items)) }
+{
+    let given = waves_of(values);
+    altered(faults, u32::from(run), given.as_slice(), room)
+}
+
 /// What the planned faults make of a run comes on the line, as far as there is room for it among the words sent, and to
-/// all terminals.
+/// all terminals. (What it holds stays out of the way of runs that no fault touches.)
 #[inline(never)]
 fn say_altered(
     terminals: &mut Terminals,
     sent: &mut SentWords,
     line: Line,
     faults: &[Fault],
-    number: u8,
-    offer: &Offered,
+    run: &Run,
+    values: &Values,
 )
     requires in_range { list_all is_in_range faults.now ≡ true }
     ensures sent { sent.new.items ≡ sent.old.items
-        ++ run_sent (40 - length sent.old.items) faults.now number (offered offer.now) }
-    ensures stations { terminals.new
-        ≡ all_hearing line (run_sent (40 - length sent.old.items) faults.now number (offered offer.now)) terminals.old }
+        ++ run_sent (40 - length sent.old.items) faults.now run.now.number (offer_in run.now values.now) }
+    ensures stations { terminals.new ≡ all_hearing line
+        (run_sent (40 - length sent.old.items) faults.now run.now.number (offer_in run.now values.now)) terminals.old }
 {
     let room = 40 - sent.len();
-    let given = waves_of(&offer.values);
-    let run = Run {
-        number,
-        source: offer.source,
-        gap: late_gap(faults, u32::from(number), offer.gap),
+    let late = Run {
+        number: run.number,
+        source: run.source,
+        gap: late_gap(faults, u32::from(run.number), run.gap),
     };
-    let waves = altered(faults, u32::from(number), given.as_slice(), room);
-    sent.put_each(&run, waves.as_slice());
-    terminals.hear_each(line, &run, waves.as_slice());
+    let waves = altered_waves(faults, run.number, values, room);
+    sent.put_each(&late, waves.as_slice());
+    terminals.hear_each(line, &late, waves.as_slice());
 }
 
 /// What comes on the line of a run, as far as there is room for it among the words sent, comes to all terminals.
@@ -115,69 +126,49 @@ fn say_run(
     sent: &mut SentWords,
     line: Line,
     faults: &[Fault],
-    number: u8,
-    offer: &Offered,
+    run: &Run,
+    values: &Values,
 )
     requires in_range { list_all is_in_range faults.now ≡ true }
     ensures sent { sent.new.items ≡ sent.old.items
-        ++ run_sent (40 - length sent.old.items) faults.now number (offered offer.now) }
-    ensures stations { terminals.new
-        ≡ all_hearing line (run_sent (40 - length sent.old.items) faults.now number (offered offer.now)) terminals.old }
+        ++ run_sent (40 - length sent.old.items) faults.now run.now.number (offer_in run.now values.now) }
+    ensures stations { terminals.new ≡ all_hearing line
+        (run_sent (40 - length sent.old.items) faults.now run.now.number (offer_in run.now values.now)) terminals.old }
+{
+    if faults.is_empty() && sent.put_whole(run, values) {
+        terminals.hear_whole(line, run, values);
+    } else {
+        say_altered(terminals, sent, line, faults, run, values);
+    }
+}
+
+/// A run, and what all that follow make of it: its words come on the line and to all terminals, then a quiet does, and
+/// the first to answer is taken; whether one answers.
+fn turn(
+    terminals: &mut Terminals,
+    sent: &mut SentWords,
+    line: Line,
+    faults: &[Fault],
+    number: u8,
+    offer: &mut Offered,
+) -> bool
+    requires in_range { list_all is_in_range faults.now ≡ true }
+    ensures { (left : ℕ) → runs left line faults.now (number + 1) (given result offer.new)
+        (record { sent = sent.new.items; stations = terminals.new })
+        ≡ runs (left + 1) line faults.now number (Some (offered offer.old))
+        (record { sent = sent.old.items; stations = terminals.old }) }
 {
     let run = Run {
         number,
         source: offer.source,
         gap: offer.gap,
     };
-    if faults.is_empty() && sent.put_whole(&run, &offer.values) {
-        terminals.hear_whole(line, &run, &offer.values);
-    } else {
-        say_altered(terminals, sent, line, faults, number, offer);
-    }
-}
-
-/// One run: its words come on the line and to all terminals, then a quiet does, and the first to answer is taken;
-/// whether one answers.
-fn run_once(
-    terminals: &mut Terminals,
-    sent: &mut SentWords,
-    line: Line,
-    faults: &[Fault],
-    run: u8,
-    offer: &mut Offered,
-) -> bool
-    requires in_range { list_all is_in_range faults.now ≡ true }
-    ensures sent { sent.new.items ≡ sent.old.items
-        ++ run_sent (40 - length sent.old.items) faults.now run (offered offer.old) }
-    ensures stations { let words = run_sent (40 - length sent.old.items) faults.now run (offered offer.old) in
-        terminals.new ≡ quiet_after line words (all_hearing line words terminals.old) }
-    ensures next { let words = run_sent (40 - length sent.old.items) faults.now run (offered offer.old) in
-        given result offer.new ≡ next_offer line words (all_hearing line words terminals.old) }
-{
     let before = sent.len();
-    say_run(terminals, sent, line, faults, run, offer);
+    say_run(terminals, sent, line, faults, &run, &offer.values);
     if sent.len() == before {
         return false;
     }
     terminals.quiet(line, offer)
-}
-
-/// A run, and what all that follow make of it.
-fn turn(
-    terminals: &mut Terminals,
-    sent: &mut SentWords,
-    line: Line,
-    faults: &[Fault],
-    run: u8,
-    offer: &mut Offered,
-) -> bool
-    requires in_range { list_all is_in_range faults.now ≡ true }
-    ensures { (left : ℕ) → runs left line faults.now (run + 1) (given result offer.new)
-        (record { sent = sent.new.items; stations = terminals.new })
-        ≡ runs (left + 1) line faults.now run (Some (offered offer.old))
-        (record { sent = sent.old.items; stations = terminals.old }) }
-{
-    run_once(terminals, sent, line, faults, run, offer)
 }
 
 /// All runs of an exchange, from what the controller offers.

@@ -14,11 +14,12 @@ use crate::Sent;
 use crate::addresses::fresh;
 use crate::bits::with_bit;
 use crate::copies::copied;
-use crate::data_runs::tell_data;
-use crate::hearing::{concerned, tell_all};
+use crate::data_runs::HeardData;
+use crate::hearing::{HeardWord, concerned};
 use crate::offers::Offered;
 use crate::quieting::quiet_all;
 use crate::talk_runs::Run;
+use crate::telling::tell_all;
 use mil_host::Action;
 use mil_line::Gap;
 use mil_message::Values;
@@ -77,7 +78,12 @@ impl Terminals {
         ensures { self.new ≡ map (hearing line sent.now) self.old }
     {
         let mask = concerned(&self.places, self.opened, decoded);
-        self.opened = tell_all(&mut self.list, mask, line, sent, decoded);
+        let heard = HeardWord {
+            line,
+            sent,
+            decoded,
+        };
+        self.opened = tell_all(&mut self.list, mask, &heard);
     }
 
     /// The words of a run come to all terminals, one after the other.
@@ -113,7 +119,8 @@ impl Terminals {
     fn hear_data(&mut self, line: Line, run: &Run, values: &[u16])
         ensures { self.new ≡ map (hearing_all line (run_words run.now (map data_wave values.now))) self.old }
     {
-        self.opened = tell_data(&mut self.list, self.opened, line, run, values);
+        let words = HeardData { line, run, values };
+        self.opened = tell_all(&mut self.list, self.opened, &words);
     }
 
     /// The words of a run that is sent as it should come to all terminals: its commands or its status word one after

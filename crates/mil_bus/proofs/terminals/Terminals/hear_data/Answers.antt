@@ -7,6 +7,6 @@ use Rattle.mil_bus.proofs.terminals.Terminals.hear_data.Goals as goal
 
 pub invariant_of-self : goal.invariant_of-self
 invariant_of-self c = (
-  rw c.tell_data-self-inside.ensures.heard (index-map (hearing_all c.args.line (run_words c.args.run.now (map data_wave c.args.values.now))) c.self.inside.places c.self.inside.list.items (hearing_all-own c.args.line (run_words c.args.run.now (map data_wave c.args.values.now))) c.self.invariant.0),
-  c.tell_data-self-inside.ensures.closed,
+  rw c.tell_all-self-inside.ensures.heard (index-map (hearing_all c.args.line (run_words c.args.run.now (map data_wave c.args.values.now))) c.self.inside.places c.self.inside.list.items (hearing_all-own c.args.line (run_words c.args.run.now (map data_wave c.args.values.now))) c.self.invariant.0),
+  c.tell_all-self-inside.ensures.closed,
 )

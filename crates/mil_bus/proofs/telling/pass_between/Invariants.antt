@@ -1,12 +1,11 @@
 use Rattle.std.proofs.Common.{◌≡◌, ℕ, ◌≤◌, List, length, get_or}
 use Rattle.mil_terminal.specs.Station.{Station}
-use Rattle.mil_bus.specs.Exchange.{hearing}
 use Rattle.mil_bus.specs.Index.{HasCome}
-use Rattle.mil_bus.proofs.hearing.pass_between.Given as goal
+use Rattle.mil_bus.proofs.telling.pass_between.Given as goal
 
 abbrev pub invariant-loop-i : goal.invariant-loop-i
-invariant-loop-i l = record {
+invariant-loop-i g l = record {
   long : length l.terminals.items ≡ length l.fn.terminals.items;
   rest : (k : ℕ) (d : Station) → l.i ≤ k → get_or l.terminals.items k d ≡ get_or l.fn.terminals.items k d;
-  come : (old : List Station) (opened : ℕ) → HasCome (hearing l.line l.sent) old l.fn.terminals.items l.from opened → HasCome (hearing l.line l.sent) old l.terminals.items l.i opened;
+  come : (old : List Station) (opened : ℕ) → HasCome (g.C.Coming.makes l.coming) old l.fn.terminals.items l.from opened → HasCome (g.C.Coming.makes l.coming) old l.terminals.items l.i opened;
 }
