@@ -1,6 +1,7 @@
 -- What a bus keeps beside its stations, to find those that an event concerns (inside the bus).
 use Rattle.std.specs.Prelude.{◌≡◌, ℕ, ◌<◌, ◌≤◌, ◌==◌, Bool, false, ◌&&◌, ◌||◌, List, length, get_or, slice_index}
-use Rattle.std.specs.Prelude.{Option, Some, None}
+use Rattle.std.specs.Prelude.{Option, Some, None, [], ◌∷◌}
+use Rattle.std.specs.Option.{option_or}
 use Rattle.std.specs.Int.{bit_at}
 use Rattle.mil_word.specs.declared.Line.{Line}
 use Rattle.mil_word.specs.declared.Word.{Word}
@@ -8,6 +9,7 @@ use Rattle.mil_word.specs.Words.{is_command_sync}
 use Rattle.mil_word.specs.Fields.{address_of, all_terminals, is_broadcast}
 use Rattle.mil_terminal.specs.Station.{Station}
 use Rattle.mil_terminal.specs.Windows.{is_listening}
+use Rattle.mil_bus.specs.Exchange.{Offer}
 
 -- no window is open on either line
 abbrev pub IsClosed : Station → Type 0
@@ -31,6 +33,11 @@ pub record HasCome (f : Station → Station) (old new : List Station) (place ope
   pub met : (k : ℕ) (d : Station) → k < place → get_or new k d ≡ f (get_or old k d)
   pub rest : (k : ℕ) (d : Station) → place ≤ k → get_or new k d ≡ get_or old k d
   pub closed : (k : ℕ) (d : Station) → k < place → bit_at opened k ≡ 0 → IsClosed (get_or new k d)
+
+-- the first that stations answer to what comes to them, in order of address
+abbrev pub first_answer : (Station → Option Offer) → List Station → Option Offer
+first_answer f [] = None
+first_answer f (s ∷ ss) = option_or (f s) (first_answer f ss)
 
 -- whether the word is a command to this address or to all
 abbrev pub is_command_to : ℕ → Option Word → Bool

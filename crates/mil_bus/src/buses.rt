@@ -247,6 +247,7 @@ impl Bus {
             source: Source::Controller,
             gap: self.gap_on(line, start),
             values: message.values(),
+            answered: false,
         };
         talk.start = start;
         talk.line = line;

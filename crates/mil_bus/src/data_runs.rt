@@ -48,9 +48,15 @@ pub struct HeardData<'a> {
 impl<'a> Coming for HeardData<'a> {
     ghost use Rattle.mil_bus.specs.DataRuns.{hearing_all, run_words};
     ghost use Rattle.mil_word.specs.Words.{data_wave};
-    ghost use Rattle.std.specs.Prelude.{⊤, map};
+    ghost use Rattle.std.specs.Prelude.{⊤, None, map};
+
+    type Answer = ();
+
+    ghost answered = { λ o. None };
 
     ghost makes = { λ d. hearing_all d.line (run_words d.run.now (map data_wave d.values.now)) };
+
+    ghost answers = { λ d s. None };
 
     ghost passes = { λ d s. ⊤ };
 
@@ -59,7 +65,7 @@ impl<'a> Coming for HeardData<'a> {
         pass_all(terminal, self.line, self.run, self.values);
     }
 
-    fn tell(&self, terminal: &mut Terminal) {
+    fn tell(&self, terminal: &mut Terminal, _answer: &mut ()) {
         hear_words(terminal, self.line, self.run, self.values);
     }
 }

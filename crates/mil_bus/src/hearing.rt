@@ -79,9 +79,15 @@ impl<'a> Coming for HeardWord<'a> {
     ghost use Rattle.mil_bus.specs.Exchange.{hearing};
     ghost use Rattle.mil_terminal.specs.Windows.{opens};
     ghost use Rattle.mil_terminal.specs.declared.events.Event.TheVariants as event;
-    ghost use Rattle.std.specs.Prelude.{◌≡◌, false};
+    ghost use Rattle.std.specs.Prelude.{◌≡◌, false, None};
+
+    type Answer = ();
+
+    ghost answered = { λ o. None };
 
     ghost makes = { λ h. hearing h.line h.sent.now };
+
+    ghost answers = { λ h s. None };
 
     ghost passes = { λ h s. opens s.own (event.Heard h.line h.sent.now.wave h.sent.now.gap) ≡ false };
 
@@ -90,7 +96,7 @@ impl<'a> Coming for HeardWord<'a> {
         pass(terminal, self.line, self.sent);
     }
 
-    fn tell(&self, terminal: &mut Terminal) {
+    fn tell(&self, terminal: &mut Terminal, _answer: &mut ()) {
         if !misses(terminal, self.line, self.sent.source) {
             terminal.hear_word(self.line, self.sent.wave, self.decoded, self.sent.gap);
         }

@@ -1,7 +1,7 @@
 //! What a sender gives to the line.
 ghost use Rattle.mil_bus.specs.Exchange.{offer_of};
 ghost use Rattle.mil_bus.specs.Offers.{offered};
-ghost use Rattle.std.specs.Prelude.{◌≡◌};
+ghost use Rattle.std.specs.Prelude.{◌≡◌, true};
 
 use crate::Source;
 use arrayvec::ArrayVec;
@@ -15,13 +15,17 @@ pub struct Offered {
     pub source: Source,
     pub gap: Gap,
     pub values: Values,
+    /// Whether a terminal gave it, as its answer to the last quiet.
+    pub answered: bool,
 }
 
 impl Offered {
     /// Puts what a terminal gives as its reply in place of what was given before.
     pub fn put(&mut self, own: u8, reply: &Reply)
-        ensures { offered self.new ≡ offer_of own reply.now }
+        ensures reply { offered self.new ≡ offer_of own reply.now }
+        ensures answered { self.new.answered ≡ true }
     {
+        self.answered = true;
         self.source = Source::Terminal(own);
         self.gap = reply.gap;
         self.values.commands = 1;

@@ -17,7 +17,7 @@ use crate::copies::copied;
 use crate::data_runs::HeardData;
 use crate::hearing::{HeardWord, concerned};
 use crate::offers::Offered;
-use crate::quieting::quiet_all;
+use crate::quieting::Quiet;
 use crate::talk_runs::Run;
 use crate::telling::tell_all;
 use mil_host::Action;
@@ -83,7 +83,7 @@ impl Terminals {
             sent,
             decoded,
         };
-        self.opened = tell_all(&mut self.list, mask, &heard);
+        self.opened = tell_all(&mut self.list, mask, &heard, &mut ());
     }
 
     /// The words of a run come to all terminals, one after the other.
@@ -120,7 +120,7 @@ impl Terminals {
         ensures { self.new ≡ map (hearing_all line (run_words run.now (map data_wave values.now))) self.old }
     {
         let words = HeardData { line, run, values };
-        self.opened = tell_all(&mut self.list, self.opened, &words);
+        self.opened = tell_all(&mut self.list, self.opened, &words, &mut ());
     }
 
     /// The words of a run that is sent as it should come to all terminals: its commands or its status word one after
@@ -142,9 +142,9 @@ impl Terminals {
         ensures after { self.new ≡ map (quieted line) self.old }
         ensures first { given result offer.new ≡ first_reply line self.old }
     {
-        let quieted = quiet_all(&mut self.list, self.opened, line, offer);
-        self.opened = quieted.opened;
-        quieted.answered
+        offer.answered = false;
+        self.opened = tell_all(&mut self.list, self.opened, &Quiet { line }, offer);
+        offer.answered
     }
 
     /// Where the terminal with this address stands.
