@@ -1,5 +1,6 @@
-//! The bus controller (own choice): a loaded program under way on a real bus, step by step. Its tests are in
-//! `frame_tests`.
+//! The bus controller (own choice): a loaded program under way on a real bus, step by step.
+//!
+//! It may know: the loader, the bus and its monitor. Its tests: `frame_tests`. Its wrong bodies: `edits/`.
 #![tactic(auto)]
 
 mod actions;

@@ -1,5 +1,7 @@
-//! The command `bench check`: a job tried without a recording, message by message, and what is probably a mistake in
-//! it. Its tests are in `command_tests`.
+//! The command `bench check`: a job tried without a recording, message by message, and what is probably a mistake
+//! in it.
+//!
+//! It may know: jobs, controllers, the bus. Its tests: `command_tests`. Its wrong bodies: `edits/`.
 #![tactic(auto)]
 
 mod calls;

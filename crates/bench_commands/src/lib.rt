@@ -1,5 +1,8 @@
 //! The commands of `bench`: the command line, the files, the faults and the exit statuses; each command calls one
 //! proved function of a crate below.
+//!
+//! It may know: all commands. It has no tests: each command is tried by `.ci/commands`, and its faults by
+//! `.ci/faults`. It has no wrong bodies.
 #![tactic(auto)]
 
 mod checking;

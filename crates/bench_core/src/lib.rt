@@ -1,6 +1,7 @@
 //! The pure bench: every interleaving of buses and writer, one step at a time, and one channel from its job to a
 //! recording.
-//! Its tests are in `bench_tests`.
+//!
+//! It may know: jobs, recordings, reports. Its tests: `bench_tests`. Its wrong bodies: `edits/`.
 #![tactic(auto)]
 
 mod alone;

@@ -1,5 +1,7 @@
 //! The messages of a recording as people read them: what `bench dump --decode` prints, a line a message.
-//! Its tests are in `command_tests`, and in `ch11_stream_tests` what it prints of packets as they come.
+//!
+//! It may know: selections, layouts, the reader, the packets of a stream, mode codes, words. Its tests:
+//! `command_tests`, and of packets as they come `ch11_stream_tests`. Its wrong bodies: `edits/`.
 #![tactic(auto)]
 
 mod chosen;

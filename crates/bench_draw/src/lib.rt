@@ -1,5 +1,7 @@
 //! A recording as a picture: the bus over time.
-//! Its tests are in `command_tests`, and in `ch11_stream_tests` those of recordings that are read anew.
+//!
+//! It may know: selections, layouts, the reader, the packets of a stream, watched files, decoded messages. Its
+//! tests: `command_tests`, and of recordings that are read anew `ch11_stream_tests`. Its wrong bodies: `edits/`.
 #![tactic(auto)]
 
 mod axis;

@@ -1,5 +1,7 @@
 //! The command `bench dump`: a recording as lines of text.
-//! Its tests are in `ch11_tests`.
+//!
+//! It may know: headers, bodies, the reader, the packets of a stream, times. Its tests: `ch11_tests`. Its wrong
+//! bodies: `edits/`.
 #![tactic(auto)]
 
 mod digits;

@@ -1,5 +1,6 @@
 //! The command `bench explain`: what a fault code means, and what to do.
-//! Its tests are in `command_tests`.
+//!
+//! It may know: nothing of the house. Its tests: `command_tests`. Its wrong bodies: `edits/`.
 #![tactic(auto)]
 
 mod buses;

@@ -1,5 +1,7 @@
 //! The command `bench export`: a recording as comma-separated values, a row a message, or as a value change dump.
-//! Its tests are in `command_tests`, and in `ch11_stream_tests` what it writes of packets as they come.
+//!
+//! It may know: the reader, the packets of a stream, layouts, selections, dumps, times. Its tests: `command_tests`,
+//! and of packets as they come `ch11_stream_tests`. Its wrong bodies: `edits/`.
 #![tactic(auto)]
 
 mod changes;

@@ -1,5 +1,8 @@
 //! Files that are written beside their place and take it once they are whole, so that what was there is kept until
 //! then.
+//!
+//! It may know: nothing of the house. It has no tests: files are tried by `.ci/commands`. Its wrong bodies:
+//! `edits/`.
 #![tactic(auto)]
 
 mod beginnings;

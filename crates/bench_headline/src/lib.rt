@@ -1,5 +1,7 @@
 //! A run and the debugger: what a finished run recorded, of the jobs alone or with the posts of hosts, is what the
 //! debugger plays again.
+//!
+//! It may know: runs and the debugger. It has no tests: it is laws alone. It has no wrong bodies.
 #![tactic(auto)]
 
 ghost use Rattle.bench_headline.specs.Headline.{RunIsReplayed, LiveRunIsReplayed};

@@ -1,5 +1,8 @@
-//! The command `bench judge`: which messages of a recording a rule selects, which of them miss it, and whether it is
-//! held. Its tests are in `command_tests`, and in `ch11_stream_tests` what it says of packets as they come.
+//! The command `bench judge`: which messages of a recording a rule selects, which of them miss it, and whether it
+//! is held.
+//!
+//! It may know: rules, selections, layouts, the reader, the packets of a stream, watched files, decoded messages,
+//! places. Its tests: `command_tests`, and of packets as they come `ch11_stream_tests`. Its wrong bodies: `edits/`.
 #![tactic(auto)]
 
 mod checks;

@@ -1,5 +1,8 @@
-//! A run that a person or a shell drives: lines of actions posted while it goes on, bus time at a pace of real time,
-//! and messages that are shown as they are recorded. Its tests are in `live_tests`.
+//! A run that a person or a shell drives: lines of actions posted while it goes on, bus time at a pace of real
+//! time, and messages that are shown as they are recorded.
+//!
+//! It may know: runs, mailboxes, host actions, decoded messages. Its tests: `live_tests`. Its wrong bodies:
+//! `edits/`.
 #![tactic(auto)]
 
 mod desk;

@@ -1,5 +1,6 @@
 //! Mailboxes: hosts post actions for the terminals of a channel while its thread runs the channel's job.
-//! Its tests are in `run_tests`.
+//!
+//! It may know: the trunk, host actions, jobs. Its tests: `run_tests`. Its wrong bodies: `edits/`.
 #![tactic(auto)]
 
 mod mail_error;

@@ -1,5 +1,7 @@
 //! The command `bench one`: a message on fresh terminals, as the bytes of a packet and as lines of pairs.
-//! Its tests are in `command_tests`.
+//!
+//! It may know: the text of messages, the bus and its monitor, the builder. Its tests: `command_tests`. Its wrong
+//! bodies: `edits/`.
 #![tactic(auto)]
 
 mod fault;

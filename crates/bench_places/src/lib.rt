@@ -1,6 +1,7 @@
-//! Where messages of a recording stand in the file: the N-th that is sought, the latest one before a place, the place
-//! before the first one, and the number of a message in its channel.
-//! Its tests are in `command_tests`.
+//! Where messages of a recording stand in the file: the N-th that is sought, the latest one before a place, the
+//! place before the first one, and the number of a message in its channel.
+//!
+//! It may know: selections, the reader, bodies. Its tests: `command_tests`. Its wrong bodies: `edits/`.
 #![tactic(auto)]
 
 mod messages;

@@ -1,5 +1,7 @@
 //! Why a text is refused, in words: which of its words is at fault, what is wrong with it, and what to do. What is
-//! said here stands behind a fault's line, and changes nothing of that line. Its tests are in `command_tests`.
+//! said here stands behind a fault's line, and changes nothing of that line.
+//!
+//! It may know: the words of lines, the tokens of scripts. Its tests: `command_tests`. Its wrong bodies: `edits/`.
 #![tactic(auto)]
 
 mod fault;

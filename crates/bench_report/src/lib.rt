@@ -1,5 +1,6 @@
 //! The report of a run as a value and as text.
-//! Its tests are in `bench_tests`.
+//!
+//! It may know: placed actions. Its tests: `bench_tests`. Its wrong bodies: `edits/`.
 #![tactic(auto)]
 
 mod channels;

@@ -1,5 +1,8 @@
-//! What the commands of `bench` make of a request: its files, its jobs, its settings, and why it is refused with which
-//! exit status.
+//! What the commands of `bench` make of a request: its files, its jobs, its settings, and why it is refused with
+//! which exit status.
+//!
+//! It may know: the faults of all commands. It has no tests: what it says is tried by `.ci/commands` and
+//! `.ci/faults`. Its wrong bodies: `edits/`.
 #![tactic(auto)]
 
 mod apart;

@@ -1,5 +1,7 @@
 //! Jobs on threads of their own, one for each bus, and one recording of them all.
-//! Its tests are in `run_tests`.
+//!
+//! It may know: the bench one step at a time (`bench_core`), the trunk, mailboxes. Its tests: `run_tests`. Its
+//! wrong bodies: `edits/`.
 #![tactic(auto)]
 
 mod channel;

@@ -1,5 +1,6 @@
 //! The command `bench run`: jobs on threads of their own, one recording of them all, and how much is in it.
-//! Its tests are in `run_tests`.
+//!
+//! It may know: runs, reports, jobs, sinks, watched files. Its tests: `run_tests`. Its wrong bodies: `edits/`.
 #![tactic(auto)]
 
 mod counts;

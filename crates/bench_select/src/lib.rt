@@ -1,5 +1,7 @@
-//! One way to choose messages of a recording, for all commands that look at one: by channel, line, form, errors, number
-//! and time; and a mark for each channel. Its tests are in `command_tests`.
+//! One way to choose messages of a recording, for all commands that look at one: by channel, line, form, errors,
+//! number and time; and a mark for each channel.
+//!
+//! It may know: rules, layouts, bodies, words. Its tests: `command_tests`. Its wrong bodies: `edits/`.
 #![tactic(auto)]
 
 mod bounds;

@@ -1,5 +1,7 @@
 //! The command `bench stat`: figures of each channel and each terminal of a recording.
-//! Its tests are in `command_tests`, and in `ch11_stream_tests` what it counts of packets as they come.
+//!
+//! It may know: selections, layouts, the reader, the packets of a stream, times. Its tests: `command_tests`, and of
+//! packets as they come `ch11_stream_tests`. Its wrong bodies: `edits/`.
 #![tactic(auto)]
 
 mod calls;

@@ -1,5 +1,6 @@
 //! What the terminals of a bus hold, as lines: their registers, what their hosts set, and their data words.
-//! Its tests are in `command_tests`.
+//!
+//! It may know: terminals, the bus, placed actions. Its tests: `command_tests`. Its wrong bodies: `edits/`.
 #![tactic(auto)]
 
 mod data;

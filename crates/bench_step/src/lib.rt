@@ -1,5 +1,7 @@
 //! The command `bench step`: a debugger that walks through a recording, driven by lines of text.
-//! Its tests are in `command_tests`.
+//!
+//! It may know: the debugger, places, selections, decoded messages, what terminals hold. Its tests:
+//! `command_tests`. Its wrong bodies: `edits/`.
 #![tactic(auto)]
 
 mod backwards;

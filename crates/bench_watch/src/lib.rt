@@ -1,5 +1,7 @@
-//! Recordings that are read more than once: opened anew for each pass, and watched while they are read; and how long a
-//! command has been at work. Its tests are in `ch11_stream_tests`.
+//! Recordings that are read more than once: opened anew for each pass, and watched while they are read; and how
+//! long a command has been at work.
+//!
+//! It may know: the packets of a stream. Its tests: `ch11_stream_tests`. Its wrong bodies: `edits/`.
 #![tactic(auto)]
 
 mod elapsed;

@@ -1,5 +1,6 @@
 //! The records of a channel as packets (IRIG 106-17 Chapter 11, MIL-STD-1553 bus data packets, Format 1).
-//! Its tests are in `ch11_tests`.
+//!
+//! It may know: records, headers and bodies. Its tests: `ch11_tests`. Its wrong bodies: `edits/`.
 #![tactic(auto)]
 
 mod builder;

@@ -1,6 +1,8 @@
-//! Whether a recording can be read, as its bytes come from a reader (IRIG 106-17 Chapter 11): a first pass over a file
-//! whose second pass then prints something. It knows the packets of `ch11_stream`, and nothing of what is made of them.
-//! Its tests are in `ch11_stream_tests`.
+//! Whether a recording can be read, as its bytes come from a reader (IRIG 106-17 Chapter 11): a first pass over a
+//! file whose second pass then prints something.
+//!
+//! It may know: the packets of `ch11_stream`, and nothing of what is made of them. Its tests: `ch11_stream_tests`.
+//! Its wrong bodies: `edits/`.
 #![tactic(auto)]
 
 mod checking;

@@ -1,5 +1,7 @@
-//! The header of a packet: its fields, its 24 bytes, and which bytes are a header
-//! (IRIG 106-17 Chapter 11, packet header). All numbers are little-endian. Its tests are in `ch11_tests`.
+//! The header of a packet: its fields, its 24 bytes, and which bytes are a header (IRIG 106-17 Chapter 11, packet
+//! header). All numbers are little-endian.
+//!
+//! It may know: nothing of the house. Its tests: `ch11_tests`. Its wrong bodies: `edits/`.
 #![tactic(auto)]
 
 mod error;

@@ -1,5 +1,6 @@
 //! Which words of a recorded message are commands, status words and data words.
-//! Its tests are in `command_tests`.
+//!
+//! It may know: bodies and words. Its tests: `command_tests`. Its wrong bodies: `edits/`.
 #![tactic(auto)]
 
 mod layouts;

@@ -1,5 +1,7 @@
-//! A recording as a whole (IRIG 106-17 Chapter 11): which packets stand in it, how it is written, and what it is read
-//! as. Its tests are in `ch11_tests`.
+//! A recording as a whole (IRIG 106-17 Chapter 11): which packets stand in it, how it is written, and what it is
+//! read as.
+//!
+//! It may know: the builder, the reader, the writer. Its tests: `ch11_tests`. Its wrong bodies: `edits/`.
 #![tactic(auto)]
 
 mod item;

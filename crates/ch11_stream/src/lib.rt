@@ -1,7 +1,9 @@
 //! The packets of a recording read one after the other from a reader (IRIG 106-17 Chapter 11), in memory for the
 //! largest packet of messages or of time; and the stretches of one that may be damaged, in memory for the largest
-//! packet of any type. Which bytes are a recording, and what it holds, is said by `ch11_reader`. Its tests are in
-//! `ch11_stream_tests`.
+//! packet of any type. Which bytes are a recording, and what it holds, is said by `ch11_reader`.
+//!
+//! It may know: headers, bodies, and what `ch11_reader` calls a recording. Its tests: `ch11_stream_tests`. Its
+//! wrong bodies: `edits/`.
 #![tactic(auto)]
 
 mod advance;

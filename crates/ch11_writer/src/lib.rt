@@ -1,4 +1,6 @@
-//! Bytes of a recording into a sink that may fail. Its tests are in `ch11_tests`.
+//! Bytes of a recording into a sink that may fail.
+//!
+//! It may know: nothing of the house. Its tests: `ch11_tests`. Its wrong bodies: `edits/`.
 #![tactic(auto)]
 
 mod device;

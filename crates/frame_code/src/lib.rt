@@ -1,5 +1,6 @@
-//! The code of the bus controller (own choice): fourteen operations, images of them, and the bytes of an image. Its
-//! tests are in `frame_tests`.
+//! The code of the bus controller (own choice): fourteen operations, images of them, and the bytes of an image.
+//!
+//! It may know: messages, mode codes. Its tests: `frame_tests`. Its wrong bodies: `edits/`.
 #![tactic(auto)]
 
 ghost use Rattle.frame_code.specs.Ranges.{IsImage};

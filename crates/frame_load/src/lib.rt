@@ -1,5 +1,7 @@
-//! The loader (own choice): which images the controller may run, how many steps a run takes, and how many messages it
-//! sends. Its tests are in `frame_tests`.
+//! The loader (own choice): which images the controller may run, how many steps a run takes, and how many messages
+//! it sends.
+//!
+//! It may know: code. Its tests: `frame_tests`. Its wrong bodies: `edits/`.
 #![tactic(auto)]
 
 ghost use Rattle.frame_code.specs.Loadable.{IsLoadable};

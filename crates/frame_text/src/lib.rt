@@ -1,5 +1,7 @@
 //! Scripts: frames as text (own choice). A text has at most one tree, and every other text is refused by its first
-//! fault from left to right. Its tests are in `frame_tests`.
+//! fault from left to right.
+//!
+//! It may know: trees, messages, numerals. Its tests: `frame_tests`. Its wrong bodies: `edits/`.
 #![tactic(auto)]
 
 ghost use Rattle.frame_text.specs.Chains.{IsScript};
@@ -13,7 +15,7 @@ mod boxes;
 mod builder;
 mod conditions;
 mod definitions;
-pub mod faults;
+mod faults;
 mod frames;
 mod keywords;
 mod laws;

@@ -1,5 +1,7 @@
-//! Frames, the programs of a bus controller, as trees under any allocator (own choice): what a script says, before it
-//! is assembled. Its tests are in `frame_tests`.
+//! Frames, the programs of a bus controller, as trees under any allocator (own choice): what a script says, before
+//! it is assembled.
+//!
+//! It may know: messages. Its tests: `frame_tests`. Its wrong bodies: `edits/`.
 #![tactic(auto)]
 
 mod bounds;

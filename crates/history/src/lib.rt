@@ -1,7 +1,8 @@
-//! What has happened so far, as a list that proofs alone know: no byte of it is kept at run time. A value holds one in
-//! place of the list, so that its contracts can speak of all that it met.
+//! What has happened so far, as a list that proofs alone know: no byte of it is kept at run time. A value holds one
+//! in place of the list, so that its contracts can speak of all that it met.
 //!
-//! It has no tests: a history has nothing that a program could look at.
+//! It may know: nothing of the house. It has no tests: a history has nothing that a program could look at. Its
+//! wrong bodies: `edits/`.
 #![tactic(auto)]
 
 ghost use Rattle.std.specs.Prelude.{◌≡◌, ◌∷◌, ◌++◌, []};

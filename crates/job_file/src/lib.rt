@@ -1,4 +1,7 @@
-//! Jobs: all that is to be known of a channel's bus, as one text (own choice). Its tests are in `frame_tests`.
+//! Jobs: all that is to be known of a channel's bus, as one text (own choice).
+//!
+//! It may know: scripts, controllers, host actions, planned faults. Its tests: `frame_tests`. Its wrong bodies:
+//! `edits/`.
 #![tactic(auto)]
 
 mod drafts;

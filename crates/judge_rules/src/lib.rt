@@ -1,5 +1,7 @@
 //! Rules by which a recording is judged: what they are, and the rules that a text spells.
-//! Its tests are in `command_tests`.
+//!
+//! It may know: the numbers and lines of texts, and what a host sets. Its tests: `command_tests`. Its wrong bodies:
+//! `edits/`.
 #![tactic(auto)]
 
 mod channels;

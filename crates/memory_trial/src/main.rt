@@ -1,6 +1,8 @@
-//! The public calls that take memory, each under a name, for `.ci/memory`, which has one growth of memory after another
-//! refused while this program makes such a call. With a name on the command line it makes that call and prints what it
-//! came to; with none it prints the names, a line each.
+//! The public calls that take memory, each under a name, for `.ci/memory`, which has one growth of memory after
+//! another refused while this program makes such a call. With a name on the command line it makes that call and
+//! prints what it came to; with none it prints the names, a line each.
+//!
+//! It may know: the public surface.
 #![tactic(auto)]
 
 mod benches;

@@ -1,27 +1,27 @@
 //! A bus: terminals that hear and answer what a controller sends, and the talks that come of it.
 //!
-//! Its tests are in `mil_tests`.
+//! It may know: messages, lines, host actions, terminals. Its tests: `mil_tests`. Its wrong bodies: `edits/`.
 #![tactic(auto)]
 
 mod addresses;
 mod bits;
-pub mod buses;
+mod buses;
 mod copies;
 mod counted_runs;
-pub mod counts;
+mod counts;
 mod data_runs;
-pub mod error;
+mod error;
 mod hearing;
-pub mod laws;
+mod laws;
 mod offers;
-pub mod outcomes;
+mod outcomes;
 mod quieting;
 mod runs;
 mod saved;
 mod saved_terminals;
-pub mod sent_words;
+mod sent_words;
 mod talk_runs;
-pub mod talks;
+mod talks;
 mod telling;
 mod terminals;
 mod times;
@@ -30,6 +30,7 @@ mod wholes;
 pub use buses::Bus;
 pub use counts::{Came, TalkCounts};
 pub use error::BusError;
+pub use laws::forty_runs_are_enough;
 pub use outcomes::{Finished, Outcome};
 pub use saved::SavedBus;
 pub use sent_words::SentWords;

@@ -1,13 +1,13 @@
 //! What stands between the words of a line, the faults that are planned for messages, and what they make of a run.
 //!
-//! Its tests are in `mil_tests`.
+//! It may know: words. Its tests: `mil_tests`. Its wrong bodies: `edits/`.
 #![tactic(auto)]
 
-pub mod error;
-pub mod faults;
-pub mod gaps;
-pub mod on_line;
-pub mod plans;
+mod error;
+mod faults;
+mod gaps;
+mod on_line;
+mod plans;
 
 pub use error::LineError;
 pub use faults::Fault;

@@ -1,9 +1,9 @@
 //! What a bus monitor keeps of a message: one record for each message on the bus.
 //!
-//! Its tests are in `mil_tests`.
+//! It may know: the talks of a bus. Its tests: `mil_tests`. Its wrong bodies: `edits/`.
 #![tactic(auto)]
 
-pub mod observations;
+mod observations;
 
 use arrayvec::ArrayVec;
 pub use observations::{observe, observe_by, observe_with};

@@ -1,12 +1,12 @@
 //! The bits of status words (MIL-STD-1553B 4.3.3.5.3) and of the block status words of a recording (IRIG 106-17
 //! Chapter 11, MIL-STD-1553 bus data packets, Format 1).
 //!
-//! Its tests are in `mil_tests`.
+//! It may know: nothing of the house. Its tests: `mil_tests`. Its wrong bodies: `edits/`.
 #![tactic(auto)]
 
-pub mod bit;
-pub mod block;
-pub mod status;
+mod bit;
+mod block;
+mod status;
 
 pub use bit::StatusBit;
 pub use block::BlockBits;

@@ -1,6 +1,7 @@
 //! A remote terminal of MIL-STD-1553B with Notice 2.
 //!
-//! Its tests are in `mil_tests`.
+//! It may know: words, mode codes, status bits, host actions, lines. Its tests: `mil_tests`. Its wrong bodies:
+//! `edits/`.
 #![tactic(auto)]
 
 mod addresses;
@@ -23,7 +24,7 @@ mod sounds;
 mod switches;
 mod synced;
 mod terminals;
-pub mod values;
+mod values;
 
 pub use conditions::Conditions;
 pub use error::TerminalError;

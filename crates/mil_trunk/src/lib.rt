@@ -1,6 +1,8 @@
-//! One bounded queue that several buses share with one writer: what was sent is what is received, once and in order.
+//! One bounded queue that several buses share with one writer: what was sent is what is received, once and in
+//! order.
 //!
-//! Its tests are in `mil_tests`.
+//! It may know: nothing of the house but the kit's `crossbeam_queue`. Its tests: `mil_tests`. Its wrong bodies:
+//! `edits/`.
 #![tactic(auto)]
 
 mod error;

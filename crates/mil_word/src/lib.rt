@@ -1,17 +1,17 @@
-//! The words of a MIL-STD-1553B data bus: a word and its wave of forty half bits, the fields of
-//! command and status words, and lists of data words.
+//! The words of a MIL-STD-1553B data bus: a word and its wave of forty half bits, the fields of command and status
+//! words, and lists of data words.
 //!
-//! Its tests are in `mil_tests`.
+//! It may know: nothing of the house. Its tests: `mil_tests`. Its wrong bodies: `edits/`.
 #![tactic(auto)]
 
-pub mod code;
-pub mod commands;
+mod code;
+mod commands;
 pub mod fields;
 mod lists;
-pub mod statuses;
+mod statuses;
 mod tables;
 pub mod timing;
-pub mod waves;
+mod waves;
 
 pub use code::{decode, encode, raw_bits};
 pub use commands::Command;

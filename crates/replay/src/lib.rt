@@ -1,4 +1,6 @@
 //! The debugger of recordings: jobs and the report of a run played again, place by place of the recording.
+//!
+//! It may know: jobs, reports, the reader. Its tests: `replay_tests`. Its wrong bodies: `edits/`.
 #![tactic(auto)]
 
 mod checkpoints;

@@ -1,4 +1,6 @@
 //! What the debugger of recordings answers, by worked values.
+//!
+//! It may know: the public surface.
 #![tactic(auto)]
 
 #[cfg(test)]

@@ -1,6 +1,8 @@
-//! What tests of several crates share: recordings, packets and dumps that are worked out by hand, the item that they
-//! send through a trunk, as `speed` does, and a screen that keeps what is written to it. (Comparisons stand in each
-//! crate of tests, since a function that ends a failed test may stand in no library.)
+//! What tests of several crates share: recordings, packets and dumps that are worked out by hand, the item that
+//! they send through a trunk, as `speed` does, and a screen that keeps what is written to it. (Comparisons stand in
+//! each crate of tests, since a function that ends a failed test may stand in no library.)
+//!
+//! It may know: the trunk.
 #![tactic(auto)]
 
 mod changes;

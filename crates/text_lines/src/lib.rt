@@ -1,6 +1,8 @@
-//! The lines of a text and the words of a line, for every text that the bench reads: jobs, reports, rules, actions and
-//! the lines of a session; and why a text was not written. LF ends a line, and spaces alone part words (own choice).
-//! Its tests are in `mil_tests`.
+//! The lines of a text and the words of a line, for every text that the bench reads: jobs, reports, rules, actions
+//! and the lines of a session; and why a text was not written. LF ends a line, and spaces alone part words (own
+//! choice).
+//!
+//! It may know: nothing of the house. Its tests: `mil_tests`. Its wrong bodies: `edits/`.
 #![tactic(auto)]
 
 mod fault;

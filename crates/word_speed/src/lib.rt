@@ -1,4 +1,6 @@
 //! The word codec for callers in C: `benches/words` measures it beside the same in C and in Rust.
+//!
+//! It may know: words. It has no tests: what it answers is compared by `benches/words`. Its wrong bodies: `edits/`.
 #![tactic(auto)]
 
 ghost use Rattle.mil_word.specs.Wave.{raw_of, word_of};

@@ -41,8 +41,8 @@ returns-then-at-count-clause-first g c =
     let f = g.C.Coming.answers c.args.coming.now in
     c.loop-step.invariant.first
     ∙ ap (option_or (g.C.Coming.answered c.args.answer.now))
-      (sym (c.pass_between.ensures.silent c.args.terminals.now.items c.loop-step.opened c.loop-step.invariant.come)
-       ∙ ap (first_answer f) (take_all c.min-at.result c.args.terminals.now.items (omega (arith, c.loop-step.invariant.count))))
+    (sym (c.pass_between.ensures.silent c.args.terminals.now.items c.loop-step.opened c.loop-step.invariant.come)
+    ∙ ap (first_answer f) (take_all c.min-at.result c.args.terminals.now.items (omega (arith, c.loop-step.invariant.count))))
 
 pub returns-then-at-count-clause-closed : goal.returns-then-at-count-clause-closed
 returns-then-at-count-clause-closed g c =
@@ -63,7 +63,7 @@ pub returns-clause-first : goal.returns-clause-first
 returns-clause-first g c =
     c.loop-step.invariant.first
     ∙ ap (λ xs. option_or (g.C.Coming.answered c.args.answer.now) (first_answer (g.C.Coming.answers c.args.coming.now) xs))
-      (take_all c.loop-step.from c.args.terminals.now.items (omega (arith, c.loop-step.invariant.near, c.requires.few)))
+    (take_all c.loop-step.from c.args.terminals.now.items (omega (arith, c.loop-step.invariant.near, c.requires.few)))
 
 pub returns-clause-closed : goal.returns-clause-closed
 returns-clause-closed g c =
@@ -78,8 +78,8 @@ loop-step-preserved g c =
     let f = g.C.Coming.answers c.args.coming.now in
     let before = g.C.Coming.answered c.args.answer.now in
     let kept : g.C.Coming.answered c.loop-step.answer ≡ option_or before (first_answer f (take c.min-at.result c.args.terminals.now.items)) =
-        c.loop-step.invariant.first
-        ∙ ap (option_or before) (sym (c.pass_between.ensures.silent c.args.terminals.now.items c.loop-step.opened c.loop-step.invariant.come)) in
+    c.loop-step.invariant.first
+    ∙ ap (option_or before) (sym (c.pass_between.ensures.silent c.args.terminals.now.items c.loop-step.opened c.loop-step.invariant.come)) in
     let is : z ≡ get_or c.args.terminals.now.items c.min-at.result z = c.index_mut-terminal.ensures.value ∙ come.rest c.min-at.result z (omega arith) in
     record {
       come = one_more (g.C.Coming.makes c.args.coming.now) c.args.terminals.now.items c.pass_between.new.terminals.items c.min-at.result c.loop-step.opened c.with_bit-opened.result c.tell.new.terminal c.index_mut-terminal.result.now at_lt
