@@ -1,7 +1,7 @@
 -- The ranges of an action's values.
 use Rattle.std.specs.Prelude.{◌≤◌, ◌<◌, length, All}
 use Rattle.mil_word.specs.Timing.{least_response, latest_response}
-use Rattle.mil_word.specs.Fields.{most_words}
+use Rattle.mil_word.specs.Fields.{highest_subaddress, most_words}
 use Rattle.mil_host.specs.Values.{PutUp, Marked}
 use Rattle.mil_host.specs.declared.actions.Action.{Action}
 use Rattle.mil_host.specs.declared.actions.Action.TheVariants.{Transmit, Busy, Service, Subsystem, Fault, Control}
@@ -18,7 +18,7 @@ pub record IsPutUp (put : PutUp) : Type 0 where
 -- a subaddress of 1 to 30, and a count of 1 to 32
 pub record IsMark (mark : Marked) : Type 0 where
   pub sub_low : 1 ≤ mark.sub
-  pub sub_high : mark.sub ≤ 30
+  pub sub_high : mark.sub ≤ highest_subaddress
   pub count_low : 1 ≤ mark.count
   pub count_high : mark.count ≤ most_words
 

@@ -7,7 +7,7 @@ use Rattle.numerals.specs.Numerals.{spelled}
 use Rattle.mil_word.specs.declared.Line.{Line}
 use Rattle.mil_word.specs.declared.Line.TheVariants.{A, B}
 use Rattle.mil_word.specs.Timing.{least_response, latest_response}
-use Rattle.mil_word.specs.Fields.{most_words}
+use Rattle.mil_word.specs.Fields.{highest_subaddress, most_words}
 use Rattle.mil_host.specs.Values.{PutUp, Marked}
 use Rattle.text_lines.specs.Words.{Text, words}
 use Rattle.mil_host.specs.declared.reading.BadAction.{BadAction}
@@ -118,7 +118,7 @@ only_words rest =
 abbrev pub only_mark : List Text → Read Marked
 only_mark rest =
     and_then (direction_in rest) (λ transmit.
-    and_then (number_in 1 30 (drop 1 rest)) (λ sub.
+    and_then (number_in 1 highest_subaddress (drop 1 rest)) (λ sub.
     and_then (number_in 1 most_words (drop 2 rest)) (λ count.
     and_end (drop 3 rest) (record { transmit = transmit; sub = sub; count = count }))))
 

@@ -1,9 +1,9 @@
 -- Which requests are messages: MIL-STD-1553B 4.3.3.5.1 for the ranges, 4.3.3.6 for the forms.
 use Rattle.std.specs.Prelude.{ℕ, ◌≡◌, Bool, true, false, not, ◌&&◌, ◌==◌, nat_le, List, [], ◌∷◌, length, Option, Some}
 use Rattle.std.specs.Prelude.{None, Result, Ok, Err, MatchResult}
-use Rattle.mil_word.specs.Fields.{most_words}
+use Rattle.mil_word.specs.Fields.{highest_address, highest_subaddress, most_words}
 use Rattle.mil_mode.specs.Table.{data_word_count}
-use Rattle.mil_mode.specs.Codes.{synchronize, last_code}
+use Rattle.mil_mode.specs.Codes.{last_code}
 use Rattle.mil_message.specs.declared.faults.BadMessage.{BadMessage}
 use Rattle.mil_message.specs.declared.faults.BadMessage.TheVariants.{Address, Subaddress, CountOrCode, SameEnds}
 use Rattle.mil_message.specs.declared.faults.BadMessage.TheVariants.{ModeWord}
@@ -15,11 +15,11 @@ use Rattle.mil_message.specs.Request.{between_all, mode_all, mode_all_to}
 
 -- the address of one terminal; 31 is that of all (4.3.3.5.1.2)
 abbrev pub is_address : ℕ → Bool
-is_address n = nat_le n 30
+is_address n = nat_le n highest_address
 
 -- a subaddress for data; 0 and 31 mark mode commands (4.3.3.5.1.4)
 abbrev pub is_subaddress : ℕ → Bool
-is_subaddress n = nat_le 1 n && nat_le n 30
+is_subaddress n = nat_le 1 n && nat_le n highest_subaddress
 
 -- a count of data words (4.3.3.5.1.5)
 abbrev pub is_count : ℕ → Bool
@@ -31,11 +31,11 @@ is_code_alone code = nat_le code 15
 
 -- a mode code with a data word that the terminal sends: T/R 1 (4.3.3.6.5)
 abbrev pub is_code_from : ℕ → Bool
-is_code_from code = nat_le code last_code && data_word_count true code == synchronize
+is_code_from code = nat_le code last_code && data_word_count true code == 1
 
 -- a mode code with a data word that the terminal receives: T/R 0 (4.3.3.6.6)
 abbrev pub is_code_to : ℕ → Bool
-is_code_to code = nat_le code last_code && data_word_count false code == synchronize
+is_code_to code = nat_le code last_code && data_word_count false code == 1
 
 abbrev pub is_no_word : Option (List ℕ) → Bool
 is_no_word None = true

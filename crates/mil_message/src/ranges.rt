@@ -2,7 +2,7 @@
 ghost use Rattle.mil_message.specs.Request.{written};
 ghost use Rattle.mil_message.specs.Rules.{is_address, is_subaddress, is_count, is_code_alone, is_code_from, is_code_to};
 ghost use Rattle.mil_message.specs.Rules.{is_no_word, is_one_word, mode_word, Meets};
-ghost use Rattle.mil_mode.specs.Codes.{last_code, synchronize};
+ghost use Rattle.mil_mode.specs.Codes.{last_code};
 ghost use Rattle.mil_mode.specs.Table.{data_word_count};
 ghost use Rattle.std.specs.Prelude.{⊤, ◌≡◌, ◌==◌, ◌&&◌, nat_le, not, length};
 
@@ -66,7 +66,7 @@ pub fn code_alone(code: u32) -> Result<u8, BadMessage>
 
 /// A code that goes with a data word under this T/R bit.
 fn code_with_word(code: u32, transmit: bool) -> Result<u8, BadMessage>
-    ensures { Meets result (nat_le code last_code && data_word_count transmit code == synchronize)
+    ensures { Meets result (nat_le code last_code && data_word_count transmit code == 1)
         (λ n. n ≡ code) BadMessage.CountOrCode }
 {
     if code <= u32::from(LAST_CODE) && mode_data_words(transmit, code as u8) == 1 {

@@ -13,6 +13,10 @@ address_of value = value / 2 ^ 11
 abbrev pub all_terminals : ℕ
 all_terminals = 31
 
+-- the highest address of one terminal (4.3.3.5.1.2)
+abbrev pub highest_address : ℕ
+highest_address = 30
+
 abbrev pub is_broadcast : ℕ → Bool
 is_broadcast command = address_of command == all_terminals
 
@@ -45,6 +49,10 @@ mode_subaddress_of_ones = 31
 
 abbrev pub is_mode : ℕ → Bool
 is_mode command = sub_of command == mode_subaddress_of_zeros || sub_of command == mode_subaddress_of_ones
+
+-- the highest subaddress for data (4.3.3.5.1.4)
+abbrev pub highest_subaddress : ℕ
+highest_subaddress = 30
 
 -- the subaddress that wraps around: a transmit command there sends what was received there (Notice 2)
 abbrev pub wrap_around : ℕ
