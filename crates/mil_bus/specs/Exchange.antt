@@ -23,16 +23,13 @@ use Rattle.mil_terminal.specs.Station.{Station, after}
 use Rattle.mil_terminal.specs.Replies.{reply}
 use Rattle.mil_terminal.specs.Host.{is_deaf, is_mute}
 pub use Rattle.mil_bus.specs.RunWords.{words_of}
+pub use Rattle.mil_line.specs.Ranges.{most_sent}
 
 -- what a sender gives: a gap, and the waves of its words
 pub record Offer : Type 0 where
   pub source : Source
   pub gap : ℕ
   pub waves : List ℕ
-
--- how many words of a talk come on the line; none past them is sent (own choice)
-abbrev pub most_sent : ℕ
-most_sent = 40
 
 -- as many runs are enough, since each but the last puts a word on the line
 abbrev pub most_runs : ℕ

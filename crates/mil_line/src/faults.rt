@@ -1,9 +1,11 @@
 //! A planned fault, and what it asks at a place of a run.
 ghost use Rattle.mil_line.specs.Faults.{mask_at, drops, added_at, mutes, late_by};
-ghost use Rattle.mil_line.specs.Ranges.{is_in_range};
+ghost use Rattle.mil_line.specs.Ranges.{is_in_range, most_sent};
 ghost use Rattle.mil_line.specs.declared.faults.Fault.TheVariants.{Mute};
-ghost use Rattle.std.specs.Prelude.{◌≡◌, ◌&&◌, nat_le};
+ghost use Rattle.std.specs.Prelude.{◌≡◌, ◌&&◌, nat_le, nat_lt};
 
+use crate::MOST_SENT;
+use mil_word::timing::LATEST_RESPONSE;
 use mil_word::{Wave, Word, encode};
 
 /// A fault of one message, with numbers as they are asked for: `Plan::add` judges their ranges.
@@ -44,9 +46,9 @@ pub enum Fault {
 
 /// Whether a run and an index are in their ranges.
 fn is_place(run: u32, index: u32) -> bool
-    ensures { result ≡ (nat_le run 2 && nat_le index 39) }
+    ensures { result ≡ (nat_le run 2 && nat_lt index most_sent) }
 {
-    run <= 2 && index <= 39
+    run <= 2 && index < MOST_SENT as u32
 }
 
 /// Whether a run is that of a reply.
@@ -82,7 +84,9 @@ impl Fault {
             } => is_place(*run, *index) && half_bits.half_bits() != 0,
             Fault::Drop { run, index } => is_place(*run, *index),
             Fault::Add { run, index, .. } => is_place(*run, *index),
-            Fault::Late { run, ticks } => is_reply_run(*run) && 121 <= *ticks && *ticks <= 255,
+            Fault::Late { run, ticks } => is_reply_run(*run)
+                && u32::from(LATEST_RESPONSE) < *ticks
+                && *ticks <= 255,
             Fault::Mute { run } => is_reply_run(*run),
         }
     }

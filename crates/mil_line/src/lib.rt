@@ -12,5 +12,5 @@ mod plans;
 pub use error::LineError;
 pub use faults::Fault;
 pub use gaps::Gap;
-pub use on_line::{altered, late_gap};
+pub use on_line::{MOST_SENT, altered, late_gap};
 pub use plans::Plan;

@@ -1,12 +1,15 @@
 //! What the planned faults make of one run.
 ghost use Rattle.mil_line.specs.Faults.{mask_at, drops, added_at, mutes, inverted, at_place, altered, gap_of};
-ghost use Rattle.mil_line.specs.Ranges.{is_in_range};
+ghost use Rattle.mil_line.specs.Ranges.{is_in_range, most_sent};
 ghost use Rattle.std.specs.List.{list_any, list_all, filter_map};
 ghost use Rattle.std.specs.Prelude.{◌≡◌, ◌+◌, ◌<◌, ◌≤◌, ◌^◌, take, length, ◌++◌, ◌∷◌, [], true};
 
 use crate::{Fault, Gap};
 use arrayvec::ArrayVec;
 use mil_word::Wave;
+
+/// How many words of a talk come on the line; none past them is sent (own choice).
+pub const MOST_SENT: usize = 40;
 
 fn is_dropped(faults: &[Fault], run: u32, index: u32) -> bool
     ensures { result ≡ list_any (drops run index) faults.now }
@@ -48,8 +51,8 @@ pub fn late_gap(faults: &[Fault], run: u32, gap: Gap) -> Gap
 }
 
 /// Puts a wave behind the others while there is room.
-fn put(waves: &mut ArrayVec<Wave, 40>, room: usize, wave: Wave)
-    requires small { room ≤ 40 }
+fn put(waves: &mut ArrayVec<Wave, MOST_SENT>, room: usize, wave: Wave)
+    requires small { room ≤ most_sent }
     requires within { length waves.old.items ≤ room }
     ensures items { waves.new.items ≡ take room (waves.old.items ++ wave ∷ []) }
     ensures within { length waves.new.items ≤ room }
@@ -60,8 +63,14 @@ fn put(waves: &mut ArrayVec<Wave, 40>, room: usize, wave: Wave)
 }
 
 /// Puts what is added after a place.
-fn put_added(waves: &mut ArrayVec<Wave, 40>, room: usize, faults: &[Fault], run: u32, index: u32)
-    requires small { room ≤ 40 }
+fn put_added(
+    waves: &mut ArrayVec<Wave, MOST_SENT>,
+    room: usize,
+    faults: &[Fault],
+    run: u32,
+    index: u32,
+)
+    requires small { room ≤ most_sent }
     requires within { length waves.old.items ≤ room }
     ensures items { waves.new.items ≡ take room (waves.old.items ++ filter_map (added_at run index) faults.now) }
     ensures within { length waves.new.items ≤ room }
@@ -75,14 +84,14 @@ fn put_added(waves: &mut ArrayVec<Wave, 40>, room: usize, faults: &[Fault], run:
 
 /// Puts what comes of the word at a place.
 fn put_place(
-    waves: &mut ArrayVec<Wave, 40>,
+    waves: &mut ArrayVec<Wave, MOST_SENT>,
     room: usize,
     faults: &[Fault],
     run: u32,
     index: u32,
     wave: Wave,
 )
-    requires small { room ≤ 40 }
+    requires small { room ≤ most_sent }
     requires within { length waves.old.items ≤ room }
     ensures items { waves.new.items ≡ take room (waves.old.items ++ at_place faults.now run index wave) }
     ensures within { length waves.new.items ≤ room }
@@ -95,8 +104,8 @@ fn put_place(
 
 /// What comes on the line of a run whose sender gives these waves, as far as there is room, which is at most forty
 /// words.
-pub fn altered(faults: &[Fault], run: u32, given: &[Wave], room: usize) -> ArrayVec<Wave, 40>
-    requires room { room ≤ 40 }
+pub fn altered(faults: &[Fault], run: u32, given: &[Wave], room: usize) -> ArrayVec<Wave, MOST_SENT>
+    requires room { room ≤ most_sent }
     requires few { length given.now < 2 ^ 32 }
     ensures { result.items ≡ take room (altered faults.now run given.now) }
 {
