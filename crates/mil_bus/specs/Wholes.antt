@@ -1,5 +1,6 @@
 -- Runs that are sent as they should, by the values of their words (inside the bus).
 use Rattle.std.specs.Prelude.{◌≡◌, ℕ, ◌+◌, ◌≤◌, List, [], ◌∷◌, ◌++◌, length, map, take, drop}
+use Rattle.mil_line.specs.Ranges.{most_sent}
 use Rattle.mil_word.specs.Words.{command_wave, data_wave}
 use Rattle.mil_terminal.specs.Runs.{AreSmall}
 use Rattle.mil_bus.specs.declared.talks.Sent.{Sent}
@@ -32,5 +33,5 @@ words_in (r ∷ rs) = r.count + words_in rs
 pub record IsKept (runs : List Whole) (values : List ℕ) (each : List Sent) : Type 0 where
   pub counted : words_in runs ≡ length values
   pub many : length runs ≤ length values
-  pub few : length values + length each ≤ 40
+  pub few : length values + length each ≤ most_sent
   pub small : AreSmall values

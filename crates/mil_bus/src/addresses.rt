@@ -1,10 +1,12 @@
 //! The addresses of a new bus.
 ghost use Rattle.mil_bus.specs.Addresses.{is_fit, stations_of};
 ghost use Rattle.mil_bus.specs.Index.{IsIndex, IsIndexBelow};
+ghost use Rattle.mil_word.specs.Fields.{highest_address};
 ghost use Rattle.std.specs.List.{list_any};
 ghost use Rattle.std.specs.Prelude.{◌≡◌, ◌+◌, ◌≤◌, ◌==◌, ◌++◌, ◌∷◌, [], if◌then◌else◌, IfOk, OnOk};
 
 use mil_terminal::Terminal;
+use mil_word::fields::{ALL_TERMINALS, HIGHEST_ADDRESS};
 use std::alloc::{AllocError, Global};
 
 /// Whether an address is among those given.
@@ -20,7 +22,7 @@ pub fn is_fit(addresses: &[u8]) -> bool
 {
     for i in 0..addresses.len() {
         let address = addresses[i];
-        if address > 30 || has(&addresses[i + 1..], address) {
+        if address > HIGHEST_ADDRESS || has(&addresses[i + 1..], address) {
             return false;
         }
     }
@@ -29,7 +31,7 @@ pub fn is_fit(addresses: &[u8]) -> bool
 
 /// A new terminal of an address, 0 to 30.
 fn terminal(alloc: Global, own: u8) -> Result<Terminal, AllocError>
-    requires { own ≤ 30 }
+    requires { own ≤ highest_address }
     ensures { IfOk result (λ t. t ≡ record { own = own; history = [] }) }
 {
     match Terminal::make(alloc, own) {
@@ -46,7 +48,7 @@ fn add(
     own: u8,
     wanted: bool,
 ) -> Result<(), AllocError>
-    requires own { own ≤ 30 }
+    requires own { own ≤ highest_address }
     requires index { IsIndexBelow own places.old terminals.old.items }
     ensures stations { OnOk result
         (terminals.new.items ≡ terminals.old.items
@@ -72,7 +74,7 @@ pub fn fresh(
     ensures index { IfOk result (λ v. IsIndex places.new v.items) }
 {
     let mut terminals = Vec::new(alloc);
-    for own in 0..31 {
+    for own in 0..ALL_TERMINALS {
         let wanted = has(addresses, own);
         add(alloc, &mut terminals, places, own, wanted)?;
     }

@@ -2,6 +2,7 @@
 ghost use Rattle.mil_bus.specs.Counts.{counts_of};
 ghost use Rattle.mil_bus.specs.Wholes.{whole_words, all_words, words_in};
 ghost use Rattle.mil_bus.specs.declared.talks.Sent.{Sent as SentValue};
+ghost use Rattle.mil_line.specs.Ranges.{most_sent};
 ghost use Rattle.mil_word.specs.declared.Sync.TheVariants.{CommandSync};
 ghost use Rattle.std.specs.Prelude.{◌≡◌, ℕ, ◌+◌, ◌<◌, ◌≤◌, take, length, get_or, Some};
 
@@ -14,7 +15,7 @@ use mil_word::{Sync, Word};
 #[inline]
 fn came_of(run: &Whole, own: &[u16]) -> Came
     requires some { 0 < length own.now }
-    requires few { length own.now ≤ 40 }
+    requires few { length own.now ≤ most_sent }
     ensures { (d : ℕ) → result ≡ record {
       gap = run.now.gap;
       first = Some (record { sync = CommandSync; value = get_or own.now 0 d });
@@ -44,7 +45,7 @@ fn note_run(
     runs: &[Whole],
     values: &[u16],
 )
-    requires few { length (all_words runs.now values.now) ≤ 40 }
+    requires few { length (all_words runs.now values.now) ≤ most_sent }
     requires two { due ≤ 2 }
     requires within { from + length own.now ≤ length (all_words runs.now values.now) }
     requires there { (k : ℕ) (d : SentValue) → k < length own.now
@@ -77,7 +78,7 @@ fn note_run(
 /// What is seen of runs that are kept as a whole, where so many commands are sent and so many replies are due.
 pub fn counted_runs(commands: u8, due: u8, runs: &[Whole], values: &[u16]) -> TalkCounts
     requires counted { words_in runs.now ≡ length values.now }
-    requires few { length values.now ≤ 40 }
+    requires few { length values.now ≤ most_sent }
     requires two { due ≤ 2 }
     ensures { result ≡ counts_of commands due (all_words runs.now values.now) }
 {

@@ -2,11 +2,12 @@
 ghost use Rattle.mil_bus.specs.Counts.{counts_of, takes_command, differs};
 ghost use Rattle.mil_bus.specs.Lengthened.{is_data, AreLike, longer, goes_on, lengthened};
 ghost use Rattle.mil_bus.specs.Pass.{noted, one_more, words_in, place_in};
+ghost use Rattle.mil_line.specs.Ranges.{most_sent};
 ghost use Rattle.mil_word.specs.Words.{is_command_sync};
 ghost use Rattle.std.specs.Prelude.{◌≡◌, ℕ, ◌+◌, ◌<◌, ◌≤◌, [], length};
 
 use crate::Sent;
-use mil_line::Gap;
+use mil_line::{Gap, MOST_SENT};
 use mil_word::{Sync, Word, decode};
 
 /// A reply that came.
@@ -234,13 +235,13 @@ fn count_like(run: u8, words: &[Sent]) -> usize
 /// One pass over the words of a talk, where so many commands are sent and so many replies are due. The data words of a
 /// run, once the first is in its place, are counted together.
 pub fn counted(commands: u8, due: u8, sent: &[Sent]) -> TalkCounts
-    requires few { length sent.now ≤ 40 }
+    requires few { length sent.now ≤ most_sent }
     requires two { due ≤ 2 }
     ensures { result ≡ counts_of commands due sent.now }
 {
     let mut seen = TalkCounts::none();
     let mut from = 0;
-    for _step in 0..40_usize {
+    for _step in 0..MOST_SENT {
         if from == sent.len() {
             return seen;
         }

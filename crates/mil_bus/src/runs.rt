@@ -1,9 +1,10 @@
 //! The runs of an exchange: words and quiets, told to all terminals.
-ghost use Rattle.mil_bus.specs.Exchange.{all_hearing, words_of, run_sent, runs};
+ghost use Rattle.mil_bus.specs.Exchange.{all_hearing, words_of, run_sent, runs, most_runs};
 ghost use Rattle.mil_bus.specs.Offers.{offered, offer_in, given};
 ghost use Rattle.mil_bus.specs.Wholes.{value_waves};
 ghost use Rattle.mil_line.specs.Faults.{altered};
-ghost use Rattle.mil_line.specs.Ranges.{is_in_range};
+ghost use Rattle.mil_line.specs.Ranges.{is_in_range, most_sent};
+ghost use Rattle.mil_word.specs.Timing.{contiguous_gap};
 ghost use Rattle.mil_word.specs.Words.{command_wave};
 ghost use Rattle.std.specs.List.{list_all};
 ghost use Rattle.std.specs.Prelude.{◌≡◌, ℕ, ◌+◌, ◌-◌, ◌≤◌, true, [], ◌∷◌, ◌++◌, length, take, Some};
@@ -13,16 +14,19 @@ use crate::talk_runs::Run;
 use crate::terminals::Terminals;
 use crate::{Sent, SentWords, Source};
 use arrayvec::ArrayVec;
-use mil_line::{Fault, Gap, altered, late_gap};
+use mil_line::{Fault, Gap, MOST_SENT, altered, late_gap};
 use mil_message::{Values, Waves};
 use mil_word::{Line, Sync, Wave, Word};
 
+/// As many runs are enough, since each but the last puts a word on the line.
+const MOST_RUNS: u8 = MOST_SENT as u8;
+
 /// Puts words behind those sent, each like this one but for its wave.
 #[inline(never)]
-fn send_like(sent: &mut ArrayVec<Sent, 40>, word: &Sent, waves: &[Wave])
-    requires room { length sent.old.items + length waves.now ≤ 40 }
-    requires contiguous { word.now.gap ≡ 20 }
-    ensures { sent.new.items ≡ sent.old.items ++ words_of word.now.run word.now.source 20 waves.now }
+fn send_like(sent: &mut ArrayVec<Sent, MOST_SENT>, word: &Sent, waves: &[Wave])
+    requires room { length sent.old.items + length waves.now ≤ most_sent }
+    requires contiguous { word.now.gap ≡ contiguous_gap }
+    ensures { sent.new.items ≡ sent.old.items ++ words_of word.now.run word.now.source contiguous_gap waves.now }
 {
     for wave in waves {
         let mut next = *word;
@@ -32,8 +36,8 @@ fn send_like(sent: &mut ArrayVec<Sent, 40>, word: &Sent, waves: &[Wave])
 }
 
 /// Puts the words of a run behind those sent.
-pub fn send(sent: &mut ArrayVec<Sent, 40>, run: u8, source: Source, gap: Gap, waves: &[Wave])
-    requires { length sent.old.items + length waves.now ≤ 40 }
+pub fn send(sent: &mut ArrayVec<Sent, MOST_SENT>, run: u8, source: Source, gap: Gap, waves: &[Wave])
+    requires { length sent.old.items + length waves.now ≤ most_sent }
     ensures { sent.new.items ≡ sent.old.items ++ words_of run source gap waves.now }
 {
     let Some((first, others)) = waves.split_first() else {
@@ -83,8 +87,13 @@ fn waves_of(values: &Values) -> Waves
 
 /// What the planned faults make of the words of a run, as far as there is room for so many.
 #[inline(never)]
-fn altered_waves(faults: &[Fault], run: u8, values: &Values, room: usize) -> ArrayVec<Wave, 40>
-    requires { room ≤ 40 }
+fn altered_waves(
+    faults: &[Fault],
+    run: u8,
+    values: &Values,
+    room: usize,
+) -> ArrayVec<Wave, MOST_SENT>
+    requires { room ≤ most_sent }
     ensures { result.items
         ≡ take room (altered faults.now run (value_waves values.now.commands values.now.words.items)) }
 {
@@ -105,11 +114,13 @@ fn say_altered(
 )
     requires in_range { list_all is_in_range faults.now ≡ true }
     ensures sent { sent.new.items ≡ sent.old.items
-        ++ run_sent (40 - length sent.old.items) faults.now run.now.number (offer_in run.now values.now) }
+        ++ run_sent (most_sent - length sent.old.items) faults.now run.now.number
+        (offer_in run.now values.now) }
     ensures stations { terminals.new ≡ all_hearing line
-        (run_sent (40 - length sent.old.items) faults.now run.now.number (offer_in run.now values.now)) terminals.old }
+        (run_sent (most_sent - length sent.old.items) faults.now run.now.number
+        (offer_in run.now values.now)) terminals.old }
 {
-    let room = 40 - sent.len();
+    let room = MOST_SENT - sent.len();
     let late = Run {
         number: run.number,
         source: run.source,
@@ -131,9 +142,11 @@ fn say_run(
 )
     requires in_range { list_all is_in_range faults.now ≡ true }
     ensures sent { sent.new.items ≡ sent.old.items
-        ++ run_sent (40 - length sent.old.items) faults.now run.now.number (offer_in run.now values.now) }
+        ++ run_sent (most_sent - length sent.old.items) faults.now run.now.number
+        (offer_in run.now values.now) }
     ensures stations { terminals.new ≡ all_hearing line
-        (run_sent (40 - length sent.old.items) faults.now run.now.number (offer_in run.now values.now)) terminals.old }
+        (run_sent (most_sent - length sent.old.items) faults.now run.now.number
+        (offer_in run.now values.now)) terminals.old }
 {
     if faults.is_empty() && sent.put_whole(run, values) {
         terminals.hear_whole(line, run, values);
@@ -181,10 +194,10 @@ pub fn all_runs(
 )
     requires in_range { list_all is_in_range faults.now ≡ true }
     ensures { record { sent = sent.new.items; stations = terminals.new }
-        ≡ runs 40 line faults.now 0 (Some (offered offer.old))
+        ≡ runs most_runs line faults.now 0 (Some (offered offer.old))
         (record { sent = sent.old.items; stations = terminals.old }) }
 {
-    for run in 0..40 {
+    for run in 0..MOST_RUNS {
         if !turn(terminals, sent, line, faults, run, offer) {
             return;
         }

@@ -4,6 +4,7 @@ ghost use Rattle.mil_bus.specs.DataRuns.{run_words};
 ghost use Rattle.mil_bus.specs.Times.{end_from, is_last_or, is_controllers_last};
 ghost use Rattle.mil_bus.specs.Wholes.{value_waves, whole_words, all_words, words_in};
 ghost use Rattle.mil_bus.specs.declared.talks.Sent.{Sent as SentValue};
+ghost use Rattle.mil_line.specs.Ranges.{most_sent};
 ghost use Rattle.mil_word.specs.Wave.{raw_of};
 ghost use Rattle.std.specs.Prelude.{◌≡◌, ℕ, ◌+◌, ◌*◌, ◌<◌, ◌≤◌, ◌^◌, ◌==◌, true, false, List, [], ◌++◌, length, map};
 
@@ -15,6 +16,7 @@ use crate::talk_runs::Run;
 use crate::talks::lasting;
 use crate::wholes::Whole;
 use arrayvec::ArrayVec;
+use mil_line::MOST_SENT;
 use mil_message::Values;
 use mil_terminal::are_small;
 use mil_word::timing::WORD_TIME;
@@ -29,11 +31,11 @@ const WORD: u64 = WORD_TIME as u64;
 #[derive(Debug, Drop)]
 pub struct SentWords {
     /// The runs that are kept as a whole.
-    runs: ArrayVec<Whole, 40>,
+    runs: ArrayVec<Whole, MOST_SENT>,
     /// The values of their words.
-    values: ArrayVec<u16, 40>,
+    values: ArrayVec<u16, MOST_SENT>,
     /// The words behind them.
-    each: ArrayVec<Sent, 40>,
+    each: ArrayVec<Sent, MOST_SENT>,
 }
 
 impl Model for SentWords {
@@ -50,8 +52,8 @@ impl Model for SentWords {
 }
 
 /// Puts the words of a run that is kept as a whole behind others.
-fn put_words(words: &mut ArrayVec<Sent, 40>, run: &Whole, values: &[u16])
-    requires { length words.old.items + length values.now ≤ 40 }
+fn put_words(words: &mut ArrayVec<Sent, MOST_SENT>, run: &Whole, values: &[u16])
+    requires { length words.old.items + length values.now ≤ most_sent }
     ensures { words.new.items ≡ words.old.items ++ whole_words run.now values.now }
 {
     for i in 0..values.len() {
@@ -60,9 +62,9 @@ fn put_words(words: &mut ArrayVec<Sent, 40>, run: &Whole, values: &[u16])
 }
 
 /// The words of runs that are kept as a whole.
-fn words_of(runs: &[Whole], values: &[u16]) -> ArrayVec<Sent, 40>
+fn words_of(runs: &[Whole], values: &[u16]) -> ArrayVec<Sent, MOST_SENT>
     requires counted { words_in runs.now ≡ length values.now }
-    requires few { length values.now ≤ 40 }
+    requires few { length values.now ≤ most_sent }
     ensures { result.items ≡ all_words runs.now values.now }
 {
     let mut words = ArrayVec::new();
@@ -79,7 +81,7 @@ fn words_of(runs: &[Whole], values: &[u16]) -> ArrayVec<Sent, 40>
 /// The ticks from the end of the word before to the end of a run, by the place of its first word in the talk.
 #[inline]
 fn lasting_all(place: usize, run: &Whole) -> u64
-    requires { run.now.count ≤ 40 }
+    requires { run.now.count ≤ most_sent }
     ensures small { result ≤ run.now.count * 2 ^ 17 }
     ensures value { (tick : ℕ) (values : List ℕ) (more : List SentValue) → length values ≡ run.now.count
         → end_from place tick (whole_words run.now values ++ more)
@@ -95,7 +97,7 @@ fn lasting_all(place: usize, run: &Whole) -> u64
 /// When the last word of runs that are kept as a whole ended, where the first started at a tick.
 fn end_of_runs(runs: &[Whole], values: &[u16], start: u64) -> u64
     requires counted { words_in runs.now ≡ length values.now }
-    requires few { length values.now ≤ 40 }
+    requires few { length values.now ≤ most_sent }
     requires small { start < 2 ^ 61 }
     ensures value { (more : List SentValue)
         → end_from 0 start (all_words runs.now values.now ++ more) ≡ end_from (length values.now) result more }
@@ -115,7 +117,7 @@ fn end_of_runs(runs: &[Whole], values: &[u16], start: u64) -> u64
 
 /// When the last of these words ended, which stand in the talk from a place on, where the one before ended at a tick.
 fn end_of_each(sent: &[Sent], from: usize, start: u64) -> u64
-    requires few { from + length sent.now ≤ 40 }
+    requires few { from + length sent.now ≤ most_sent }
     requires small { start < 2 ^ 61 + 2 ^ 23 }
     ensures value { result ≡ end_from from start sent.now }
     ensures soon { result ≤ start + length sent.now * 2 ^ 17 }
@@ -160,8 +162,8 @@ fn is_controllers_word(last: bool, sent: &[Sent]) -> bool
 }
 
 /// The information bits of words, each sound or not.
-fn raw_of_each(sent: &[Sent]) -> ArrayVec<u16, 40>
-    requires { length sent.now ≤ 40 }
+fn raw_of_each(sent: &[Sent]) -> ArrayVec<u16, MOST_SENT>
+    requires { length sent.now ≤ most_sent }
     ensures { result.items ≡ map (λ (w : SentValue). raw_of w.wave) sent.now }
 {
     let mut words = ArrayVec::new();
@@ -188,7 +190,7 @@ impl SentWords {
     #[inline]
     pub fn len(&self) -> usize
         ensures value { result ≡ length self.now.items }
-        ensures few { result ≤ 40 }
+        ensures few { result ≤ most_sent }
     {
         self.values.len() + self.each.len()
     }
@@ -212,7 +214,7 @@ impl SentWords {
     }
 
     /// The words one by one.
-    pub fn list(&self) -> ArrayVec<Sent, 40>
+    pub fn list(&self) -> ArrayVec<Sent, MOST_SENT>
         ensures { result ≡ self.now }
     {
         let mut words = words_of(self.runs.as_slice(), self.values.as_slice());
@@ -226,11 +228,11 @@ impl SentWords {
     pub(crate) fn put_whole(&mut self, run: &Run, values: &Values) -> bool
         ensures put { result ≡ true → self.new.items ≡ self.old.items
             ++ run_words run.now (value_waves values.now.commands values.now.words.items) }
-        ensures room { result ≡ true → length self.old.items + length values.now.words.items ≤ 40 }
+        ensures room { result ≡ true → length self.old.items + length values.now.words.items ≤ most_sent }
         ensures kept { result ≡ false → self.new ≡ self.old }
     {
         let words = values.words.as_slice();
-        let room = 40 - self.values.len();
+        let room = MOST_SENT - self.values.len();
         if !self.each.is_empty() || words.is_empty() || room < words.len() {
             return false;
         }
@@ -248,7 +250,7 @@ impl SentWords {
 
     /// Puts the words of a run behind the others, by their waves.
     pub(crate) fn put_each(&mut self, run: &Run, waves: &[Wave])
-        requires { length self.old.items + length waves.now ≤ 40 }
+        requires { length self.old.items + length waves.now ≤ most_sent }
         ensures { self.new.items ≡ self.old.items ++ run_words run.now waves.now }
     {
         send(&mut self.each, run.number, run.source, run.gap, waves);
@@ -296,7 +298,7 @@ impl SentWords {
 
     /// The information bits of the words, each sound or not.
     #[inline]
-    pub fn raw_bits(&self) -> ArrayVec<u16, 40>
+    pub fn raw_bits(&self) -> ArrayVec<u16, MOST_SENT>
         ensures { result.items ≡ map (λ (w : SentValue). raw_of w.wave) self.now.items }
     {
         if !self.each.is_empty() {
@@ -309,7 +311,7 @@ impl SentWords {
 
     /// The same, word by word.
     #[inline(never)]
-    fn raw_each(&self) -> ArrayVec<u16, 40>
+    fn raw_each(&self) -> ArrayVec<u16, MOST_SENT>
         ensures { result.items ≡ map (λ (w : SentValue). raw_of w.wave) self.now.items }
     {
         raw_of_each(self.list().as_slice())

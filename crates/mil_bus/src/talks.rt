@@ -2,6 +2,7 @@
 ghost use Rattle.mil_bus.specs.Times.{end_of, lasting, is_controllers_last};
 ghost use Rattle.mil_bus.specs.declared.talks.Sent.{Sent};
 ghost use Rattle.mil_bus.specs.declared.talks.Source.TheVariants.{Controller};
+ghost use Rattle.mil_word.specs.Timing.{contiguous_gap};
 ghost use Rattle.std.specs.Prelude.{◌≡◌, ◌+◌, ◌<◌, ◌≤◌, ◌^◌, []};
 
 use crate::SentWords;
@@ -44,11 +45,12 @@ pub struct Sent {
 
 impl Default for Sent {
     ghost use Rattle.mil_bus.specs.declared.talks.Source.TheVariants.{Controller};
+    ghost use Rattle.mil_word.specs.Timing.{contiguous_gap};
 
-    ghost is_default = { λ s. s ≡ record { wave = 0; gap = 20; run = 0; source = Controller } };
+    ghost is_default = { λ s. s ≡ record { wave = 0; gap = contiguous_gap; run = 0; source = Controller } };
 
     fn default() -> Sent
-        ensures { result ≡ record { wave = 0; gap = 20; run = 0; source = Controller } }
+        ensures { result ≡ record { wave = 0; gap = contiguous_gap; run = 0; source = Controller } }
     {
         Sent {
             wave: Wave::default(),

@@ -1,6 +1,7 @@
 //! What comes to all terminals of a bus: one walk over those that it concerns, which passes the others.
 ghost use Rattle.mil_bus.specs.Index.{IsClosed, AreClosed, HasCome, first_answer};
 ghost use Rattle.mil_terminal.specs.Station.{Station};
+ghost use Rattle.mil_word.specs.Fields.{all_terminals};
 ghost use Rattle.std.specs.Int.{bit_at};
 ghost use Rattle.std.specs.Option.{option_or};
 ghost use Rattle.std.specs.Prelude.{◌≡◌, ℕ, ◌<◌, ◌≤◌, false, List, length, map, get_or, take};
@@ -78,7 +79,7 @@ pub fn tell_all<C: Coming>(
     coming: &C,
     answer: &mut C::Answer,
 ) -> u32
-    requires few { length terminals.old.items ≤ 31 }
+    requires few { length terminals.old.items ≤ all_terminals }
     requires other { (k : ℕ) (d : Station) → k < length terminals.old.items → bit_at mask k ≡ 0
         → C.passes coming.now (get_or terminals.old.items k d) }
     requires closed { AreClosed mask terminals.old.items }

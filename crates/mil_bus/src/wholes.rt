@@ -25,8 +25,10 @@ pub struct Whole {
 
 impl Default for Whole {
     ghost use Rattle.mil_bus.specs.declared.talks.Source.TheVariants.{Controller};
+    ghost use Rattle.mil_word.specs.Timing.{contiguous_gap};
 
-    ghost is_default = { λ w. w ≡ record { number = 0; source = Controller; gap = 20; commands = 0; count = 0 } };
+    ghost is_default = { λ w.
+        w ≡ record { number = 0; source = Controller; gap = contiguous_gap; commands = 0; count = 0 } };
 
     fn default() -> Whole {
         Whole {
