@@ -15,12 +15,12 @@ use Rattle.mil_terminal.specs.Windows.{Window, Ended, latest_window, is_decided,
 use Rattle.mil_terminal.specs.Verdicts.{verdict, is_good, is_bad, is_illegal, is_unknown, has_good_shape}
 use Rattle.mil_terminal.specs.Registers.{words_of, received, transmit_words, is_transmitter_on}
 use Rattle.mil_terminal.specs.Status.{status, status_word}
-use Rattle.mil_terminal.specs.Replies.{mode_data, data_sent, answer_to, reply}
+use Rattle.mil_terminal.specs.Replies.{data_sent, answer_to, reply}
 use Rattle.mil_terminal.specs.declared.pending.Pending.{Pending}
 use Rattle.mil_terminal.specs.declared.switches.Switches.{Switches}
 use Rattle.mil_terminal.specs.declared.registers.Registers.{Registers}
 use Rattle.mil_terminal.specs.Phases.{IsPending, window_of}
-use Rattle.mil_terminal.specs.Updates.{settled, off_on, is_barred, put_up_at, mode_data_now, data_now, answer_now}
+use Rattle.mil_terminal.specs.Updates.{settled, off_on, is_barred, put_up_at, data_now, answer_now}
 use Rattle.mil_terminal.specs.StandsFor.{AreSettings, AreSwitches, StandsFor}
 use Rattle.mil_terminal.proofs.Steps.{Decided}
 use Rattle.mil_terminal.proofs.Ends.{with_item, window_on, ends_by_quiet, is_undecided}
@@ -105,9 +105,6 @@ put_up_is r sub h lt is = go (sub == 30)
     go : (b : Bool) → (if b then slice_index_or r.block 30 [] else slice_index_or r.block (64 + sub) []) ≡ (if b then received r.own 30 h else words_put_up sub h)
     go true = is.received.addressed 30 (omega arith)
     go false = is.put_up.words sub lt
-
-mode_data_is : (r : Registers) (code : ℕ) (h : History) → StandsFor r h → mode_data_now r code ≡ mode_data r.own code h
-mode_data_is r code h is = rw (is.last_command, is.settings.busy, is.settings.vector, is.synced.bit) refl
 
 data_is : (r : Registers) (c : ℕ) (h : History) → StandsFor r h → data_now r c ≡ data_sent r.own c h
 data_is r c h is = rw (put_up_is r (sub_of c) h (code_range c) is, is.last_command, is.settings.busy, is.settings.vector, is.synced.bit) refl

@@ -1,9 +1,8 @@
 -- Words that come one after the other, none of which is a command or a status.
-use Rattle.std.proofs.Common.{◌≡◌, ◌⊎◌, inl, inr, ℕ, zero, suc, ◌+◌, ◌^◌, ◌-◌, ◌<◌, ◌≤◌, List, [], ◌∷◌, ◌++◌, map, take, drop, length, get_or, slice_set, refl, sym, ap, ◌∙◌, arith, zero-le, length-append, append_assoc, append-nil}
-use Rattle.std.specs.Prelude.{Bool, true, false, ◌&&◌, ◌==◌, nat_lt, Option, Some, None, unwrap_or, if◌then◌else◌}
-use Rattle.std.specs.Option.{is_some}
+use Rattle.std.proofs.Common.{◌≡◌, ◌⊎◌, inl, inr, ℕ, zero, suc, ◌^◌, ◌-◌, ◌<◌, ◌≤◌, List, [], ◌∷◌, ◌++◌, map, length, refl, sym, ap, ◌∙◌, arith, zero-le, length-append, append_assoc, append-nil}
+use Rattle.std.specs.Prelude.{Bool, true, false, ◌==◌, nat_lt, Option, Some, None, if◌then◌else◌}
 use Rattle.std.proofs.lemmas.Bool.Decides.{nat_tests}
-use Rattle.std.proofs.lemmas.List.{take_more, take_more_set, map-append, length-map}
+use Rattle.std.proofs.lemmas.List.{length-map}
 use Rattle.mil_word.specs.declared.Line.{Line}
 use Rattle.mil_word.specs.declared.Sync.TheVariants.{DataSync}
 use Rattle.mil_word.specs.Wave.{word_of}
@@ -18,7 +17,7 @@ use Rattle.mil_terminal.specs.declared.pending.Phase.{Phase}
 use Rattle.mil_terminal.specs.declared.pending.Phase.TheVariants.{Start, Taking, Called, Waiting, LostTransfer, Lost}
 use Rattle.mil_terminal.specs.declared.pending.Pending.{Pending}
 use Rattle.mil_terminal.specs.declared.registers.Registers.{Registers}
-use Rattle.mil_terminal.specs.Phases.{with_due, due_value, with_first, is_answer, after_word, after_run}
+use Rattle.mil_terminal.specs.Phases.{with_due, due_value, with_first, after_word, after_run}
 use Rattle.mil_terminal.specs.StandsFor.{StandsFor}
 use Rattle.mil_terminal.proofs.Steps.{after_word-pending}
 use Rattle.mil_terminal.proofs.Hears.{hear_none, hear_item, hear_silent}
@@ -101,64 +100,7 @@ pub run_heard : (r : Registers) (w : Option Pending) (p : Pending) (line : Line)
     → StandsFor (record r { window = w }) h → StandsFor (record r { window = Some (after_run r.own p gap waves) }) (met (heard line gap waves) h)
 run_heard r w p line gap waves h was none same is = heard_go r p line gap waves h none same (rw was at is)
 
--- ---- the state of a window after a run, by its first word and the others
-
-pub empty_run : (own : ℕ) (p : Pending) (gap : ℕ) (waves : List ℕ) → (length waves == 0) ≡ true → p ≡ after_run own p gap waves
-empty_run own p gap [] h = refl
-empty_run own p gap (w ∷ ws) h = absurd (grind (arith, nat_tests))
-
-pub first_then : (own : ℕ) (p : Pending) (gap w : ℕ) (waves : List ℕ) → 0 < length waves → w ≡ get_or waves 0 w
-    → after_run own (after_word own p p.phase w gap) 20 (drop 1 waves) ≡ after_run own p gap waves
-first_then own p gap w [] lt is = absurd (omega arith)
-first_then own p gap w (v ∷ vs) lt is = rw is refl
-
--- whether no further word changes the state
-abbrev pub is_over : Phase → Bool
-is_over Start = false
-is_over Taking = false
-is_over (Called sender) = false
-is_over (Waiting sender) = false
-is_over LostTransfer = true
-is_over Lost = true
-
-over_step : (own : ℕ) (p : Pending) (phase : Phase) (wave gap : ℕ) → is_over phase ≡ true → after_word own p phase wave gap ≡ p
-over_step own p Start wave gap h = cc
-over_step own p Taking wave gap h = cc
-over_step own p (Called sender) wave gap h = cc
-over_step own p (Waiting sender) wave gap h = cc
-over_step own p LostTransfer wave gap h = refl
-over_step own p Lost wave gap h = refl
-
-pub over_run : (own : ℕ) (p : Pending) (gap : ℕ) (waves : List ℕ) → is_over p.phase ≡ true → p ≡ after_run own p gap waves
-over_run own p gap [] over = refl
-over_run own p gap (w ∷ ws) over =
-    over_run own p 20 ws over ∙ ap (λ q. after_run own q 20 ws) (sym (over_step own p p.phase w gap over))
-
-due_over : (d : Option ℕ) (p : Pending) → ((with_due d p).phase ≡ Taking → ⊥) → is_over (with_due d p).phase ≡ true
-due_over None p not_taking = refl
-due_over (Some value) p not_taking = absurd (not_taking refl)
-
-answer_over : (own : ℕ) (p : Pending) (sender wave gap : ℕ) → command_in wave ≡ None → is_over (if is_answer sender wave gap then Taking else Lost) ≡ true
-answer_over own p sender wave gap none = rw none refl
-
--- after a word that is no command, more words are due or none is
-pub word_over : (own : ℕ) (p : Pending) (phase : Phase) (wave gap : ℕ) → p.phase ≡ phase → command_in wave ≡ None
-    → ((after_word own p phase wave gap).phase ≡ Taking → ⊥) → is_over (after_word own p phase wave gap).phase ≡ true
-word_over own p Start wave gap at_phase none not_taking = go (sender_called own p.command wave gap) (rw none refl) not_taking
-  where
-    go : (s : Option ℕ) → s ≡ None → ((with_first s p wave gap).phase ≡ Taking → ⊥) → is_over (with_first s p wave gap).phase ≡ true
-    go None h not_taking = due_over (due_value p wave gap) p not_taking
-    go (Some sender) h not_taking = cc
-word_over own p Taking wave gap at_phase none not_taking = due_over (due_value p wave gap) p not_taking
-word_over own p (Called sender) wave gap at_phase none not_taking = refl
-word_over own p (Waiting sender) wave gap at_phase none not_taking = answer_over own p sender wave gap none
-word_over own p LostTransfer wave gap at_phase none not_taking = rw at_phase refl
-word_over own p Lost wave gap at_phase none not_taking = rw at_phase refl
-
 -- ---- a word in a place where a due word may stand
-
-taking_is : (p : Pending) → p.phase ≡ Taking → p ≡ record p { phase = Taking }
-taking_is p at_phase = ap (λ f. let q : Pending = record p { phase = f } in q) at_phase
 
 taking_word : (own : ℕ) (p : Pending) (phase : Phase) (wave : ℕ) → phase ≡ Taking → after_word own p phase wave 20 ≡ with_due (if nat_lt (length p.words.items) (words_due p.command) then data_in wave else None) p
 taking_word own p phase wave at_phase = rw at_phase refl
@@ -171,27 +113,7 @@ word_taken own p q v w ws at_phase value is =
     let same : with_due (Some v) p ≡ q = sym (is ∙ ap (λ f. let x : Pending = record p { phase = f; words = record { items = p.words.items ++ v ∷ [] } } in x) at_phase) in
     ap (λ x. after_run own x 20 ws) (sym (step ∙ same))
 
--- a word is not taken, and so none after it
-pub word_lost : (own : ℕ) (p : Pending) (w : ℕ) (ws : List ℕ) → p.phase ≡ Taking → None ≡ (if nat_lt (length p.words.items) (words_due p.command) then data_in w else None)
-    → record p { phase = Lost } ≡ after_run own p 20 (w ∷ ws)
-word_lost own p w ws at_phase value =
-    let lost : Pending = record p { phase = Lost } in
-    let step : after_word own p p.phase w 20 ≡ lost = taking_word own p p.phase w at_phase ∙ ap (λ d. with_due d p) (sym value) in
-    over_run own lost 20 ws refl ∙ ap (λ x. after_run own x 20 ws) (sym step)
-
 -- ---- words in places where due words may stand, all of which are taken
-
--- the values of so many words, and one more
-pub value_put : (all : Bool) (values waves : List ℕ) (i wave : ℕ) (value : Option ℕ) → i < length values → i < length waves → wave ≡ get_or waves i wave → data_in wave ≡ value
-    → (all ≡ true → map Some (take i values) ≡ map data_in (take i waves)) → (all && is_some value) ≡ true
-    → map Some (take (i + 1) (slice_set values i (unwrap_or value 0))) ≡ map data_in (take (i + 1) waves)
-value_put false values waves i wave value some place is at before after = cc
-value_put true values waves i wave None some place is at before after = cc
-value_put true values waves i wave (Some v) some place is at before after =
-    let last : data_in (get_or waves i wave) ≡ Some v = ap data_in (sym is) ∙ at in
-    ap (map Some) (take_more_set values i v some) ∙ map-append Some (take i values) (v ∷ [])
-    ∙ ap (λ (ds : List (Option ℕ)). ds ++ Some v ∷ []) (before refl) ∙ ap (λ (d : Option ℕ). map data_in (take i waves) ++ d ∷ []) (sym last)
-    ∙ sym (ap (map data_in) (take_more waves i wave place) ∙ map-append data_in (take i waves) (get_or waves i wave ∷ []))
 
 -- a window after words all of which are due
 pub run_taken : (own : ℕ) (p : Pending) (values waves items : List ℕ) → p.phase ≡ Taking → map Some values ≡ map data_in waves

@@ -1,17 +1,15 @@
 //! An undecided window, by a small state for each word.
 ghost use Rattle.mil_terminal.specs.Phases as phases;
 ghost use Rattle.mil_terminal.specs.Registers.{value_of};
-ghost use Rattle.mil_terminal.specs.Runs.{heard, AreNoCommands, AreSmall};
+ghost use Rattle.mil_terminal.specs.Runs.{AreSmall};
 ghost use Rattle.mil_terminal.specs.Verdicts as verdicts;
 ghost use Rattle.mil_terminal.specs.Windows as windows;
 ghost use Rattle.mil_terminal.specs.declared.events.Event.TheVariants.{Heard, Quiet};
 ghost use Rattle.mil_terminal.specs.declared.events.Event.{Event};
-ghost use Rattle.mil_terminal.specs.declared.pending.Phase.TheVariants.{Taking};
-ghost use Rattle.mil_word.specs.Words.{same_line as same, command_in, data_in, data_wave};
+ghost use Rattle.mil_word.specs.Words.{same_line as same, command_in, data_wave};
 ghost use Rattle.std.specs.List.{filter_map};
-ghost use Rattle.std.specs.Option.{is_some};
-ghost use Rattle.std.specs.Prelude.{Some, None, IfSome, IfNone, unwrap_or, true, false, if◌then◌else◌};
-ghost use Rattle.std.specs.Prelude.{◌≡◌, ℕ, ◌<◌, ◌≤◌, nat_lt, ◌&&◌, List, [], ◌∷◌, ◌++◌, length, map, take, slice_set};
+ghost use Rattle.std.specs.Prelude.{Some, None, IfSome, IfNone, true, false, if◌then◌else◌};
+ghost use Rattle.std.specs.Prelude.{◌≡◌, ℕ, ◌≤◌, List, [], ◌∷◌, ◌++◌, map};
 
 use crate::addresses::Address;
 use crate::sounds::Sound;
@@ -19,7 +17,7 @@ use arrayvec::ArrayVec;
 use mil_line::Gap;
 use mil_mode::codes::FIRST_WITH_WORD;
 use mil_word::timing::{CONTIGUOUS_GAP, SYNC_TO_PARITY, TRANSFER_TIME_OUT};
-use mil_word::{Command, Line, Sync, Wave, Word, copied, decode, encode};
+use mil_word::{Command, Line, Sync, Word, copied, encode};
 
 /// The latest gap of the status of the sender of a transfer, so that the first data word comes to the receiver in time.
 const LATEST_ANSWER: u16 = TRANSFER_TIME_OUT - 2 * (SYNC_TO_PARITY + CONTIGUOUS_GAP);
@@ -108,47 +106,6 @@ fn is_answer(sender: u8, sound: &Sound, gap: Gap) -> bool
     }
 }
 
-/// The value of a sound word with data sync.
-#[inline]
-fn value_in(wave: Wave) -> Option<u16>
-    ensures { result ≡ data_in wave }
-{
-    Sound::of(wave, decode(wave)).data()
-}
-
-/// The value of a sound word with data sync, where so many of those due were taken.
-#[inline]
-fn due_in(due: usize, taken: usize, wave: Wave) -> Option<u16>
-    ensures { result ≡ (if nat_lt taken due then data_in wave else None) }
-{
-    if taken < due { value_in(wave) } else { None }
-}
-
-/// Puts the value of a sound word with data sync into a place; whether it is one, where all before it were.
-#[inline]
-fn put_value(values: &mut [u16; 32], place: usize, wave: Wave, all: bool) -> bool
-    requires { place < 32 }
-    ensures values { values.new ≡ slice_set values.old place (unwrap_or (data_in wave) 0) }
-    ensures all { result ≡ (all && is_some (data_in wave)) }
-{
-    let value = value_in(wave);
-    values[place] = value.unwrap_or(0);
-    all && value.is_some()
-}
-
-/// Puts the values of sound words with data sync into the first places; whether all of these are such words.
-#[inline]
-fn put_values(values: &mut [u16; 32], waves: &[Wave]) -> bool
-    requires { length waves.now ≤ 32 }
-    ensures { result ≡ true → map Some (take (length waves.now) values.new) ≡ map data_in waves.now }
-{
-    let mut all = true;
-    for i in 0..waves.len() {
-        all = put_value(values, i, waves[i], all);
-    }
-    all
-}
-
 impl Pending {
     ghost use Rattle.mil_terminal.specs.Phases.{phase_after_quiet, window_of, IsPending};
     ghost use Rattle.mil_terminal.specs.Phases.{with_due, due_value, after_word, after_run, decides, shape_now};
@@ -209,58 +166,6 @@ impl Pending {
         ensures command { self.new.command ≡ self.old.command }
     {
         self.follow_word(own, sound, gap);
-    }
-
-    /// More words on the line, none of which is a command or a status: the first has this gap, and the others follow at
-    /// once.
-    #[inline]
-    pub fn take_run(&mut self, own: Address, gap: Gap, waves: &[Wave])
-        requires { AreNoCommands 0 waves.now }
-        ensures { self.new ≡ after_run own self.old gap waves.now }
-    {
-        if waves.is_empty() {
-            return;
-        }
-        let first = waves[0];
-        self.follow_data(own, &Sound::of(first, decode(first)), gap);
-        if let Phase::Taking = self.phase {
-            self.take_rest(own, &waves[1..]);
-        }
-    }
-
-    /// More words in places where due words may stand. How many are due is asked once.
-    #[inline(never)]
-    fn take_rest(&mut self, own: Address, waves: &[Wave])
-        requires taking { self.old.phase ≡ Taking }
-        requires data { AreNoCommands 0 waves.now }
-        ensures { self.new ≡ after_run own self.old 20 waves.now }
-    {
-        let due = words_due(self.command);
-        let room = due.saturating_sub(self.words.len());
-        let mut values = [0; 32];
-        if waves.len() <= room && put_values(&mut values, waves) {
-            let _ = self.words.try_extend_from_slice(&values[..waves.len()]);
-            return;
-        }
-        self.take_each(own, due, waves);
-    }
-
-    /// The same, one after the other, where so many are due.
-    fn take_each(&mut self, own: Address, due: usize, waves: &[Wave])
-        requires taking { self.old.phase ≡ Taking }
-        requires due { due ≡ verdicts.words_due self.old.command }
-        ensures { self.new ≡ after_run own self.old 20 waves.now }
-    {
-        let _ = own;
-        for wave in waves {
-            match due_in(due, self.words.len(), *wave) {
-                Some(value) => self.words.push(value),
-                None => {
-                    self.phase = Phase::Lost;
-                    return;
-                }
-            }
-        }
     }
 
     /// More data words on the line, by their values: the first has this gap, and the others follow at once.

@@ -3,7 +3,6 @@ ghost use Rattle.mil_terminal.specs.History.{History};
 ghost use Rattle.mil_terminal.specs.Host.{is_deaf, is_mute};
 ghost use Rattle.mil_terminal.specs.Registers as registers;
 ghost use Rattle.mil_terminal.specs.Replies as replies;
-ghost use Rattle.mil_terminal.specs.Runs.{heard, met, AreNoCommands};
 ghost use Rattle.mil_terminal.specs.Status.{status};
 ghost use Rattle.mil_terminal.specs.Windows.{is_listening};
 ghost use Rattle.mil_terminal.specs.declared.events.Event.TheVariants.{Heard, Quiet, Host};
@@ -28,7 +27,7 @@ use mil_host::Action;
 use mil_line::Gap;
 use mil_mode::codes::{TRANSMIT_BIT_WORD, TRANSMIT_LAST_COMMAND, TRANSMIT_VECTOR_WORD};
 use mil_word::fields::WRAP_AROUND;
-use mil_word::{Command, Line, Wave};
+use mil_word::{Command, Line};
 use std::alloc::{AllocError, Global};
 
 /// All that a terminal keeps.
@@ -80,20 +79,6 @@ impl Registers {
                         pending.take_word(self.own, sound, gap);
                     }
                 }
-            }
-        }
-    }
-
-    /// Words on a line, none of which is a command or a status: the first has this gap, and the others follow at once.
-    #[inline]
-    pub fn hear_run(&mut self, line: Line, gap: Gap, waves: &[Wave])
-        requires { AreNoCommands 0 waves.now }
-        ensures stands { (h : History) → StandsFor self.old h → StandsFor self.new (met (heard line gap waves.now) h) }
-        ensures own { self.new.own ≡ self.old.own }
-    {
-        if let Some(pending) = &mut self.window {
-            if same_line(line, pending.line) {
-                pending.take_run(self.own, gap, waves);
             }
         }
     }

@@ -2,13 +2,13 @@
 ghost use Rattle.mil_terminal.specs.Host.{is_deaf, is_mute};
 ghost use Rattle.mil_terminal.specs.Registers as registers;
 ghost use Rattle.mil_terminal.specs.Replies as replies;
-ghost use Rattle.mil_terminal.specs.Runs.{heard, met, after_all, AreNoCommands};
+ghost use Rattle.mil_terminal.specs.Runs.{heard, met, after_all};
 ghost use Rattle.mil_terminal.specs.Station.{after};
 ghost use Rattle.mil_terminal.specs.Status as statuses;
 ghost use Rattle.mil_terminal.specs.Windows as windows;
 ghost use Rattle.mil_terminal.specs.declared.events.Event.TheVariants.{Heard, Quiet, Host};
 ghost use Rattle.mil_word.specs.Wave.{word_of};
-ghost use Rattle.mil_word.specs.Words.{command_in, data_wave};
+ghost use Rattle.mil_word.specs.Words.{data_wave};
 ghost use Rattle.mil_word.specs.declared.Line.{Line as LineValue};
 ghost use Rattle.std.specs.Prelude.{◌≡◌, ◌<◌, ◌≤◌, ◌↔◌, ◌/◌, ◌%◌, ◌^◌, ◌==◌, Err, None, [], false, IfOk, map};
 
@@ -24,7 +24,6 @@ use mil_word::fields::HIGHEST_ADDRESS;
 use mil_word::{Line, Sync, Wave, Word, decode, encode};
 use std::alloc::{AllocError, Global};
 use std::marker::Model;
-use std::slice;
 
 /// A remote terminal. Contracts see its address and the history of what it has met, the newest event first; it holds no
 /// list of events, and each of its readers and replies is a query on that history, whatever the history is.
@@ -82,28 +81,6 @@ impl Terminal {
     {
         self.registers.hear(line, &Sound::of(wave, decoded), gap);
         self.past = self.past.put_before(&Event::Heard { line, wave, gap });
-    }
-
-    /// The same, for a wave that was decoded before and is no command and no status.
-    #[inline]
-    pub fn hear_data(&mut self, line: Line, wave: Wave, decoded: Option<Word>, gap: Gap)
-        requires decoded { decoded ≡ word_of wave }
-        requires data { command_in wave ≡ None }
-        ensures { self.new ≡ after self.old (Heard line wave gap) }
-    {
-        let _ = decoded;
-        self.hear_run(line, gap, slice::from_ref(&wave));
-    }
-
-    /// Words one after the other, none of which is a command or a status: the first has this gap, and the others follow
-    /// at once. It asks once whether a window is open on their line, and how many words it is due.
-    #[inline]
-    pub fn hear_run(&mut self, line: Line, gap: Gap, waves: &[Wave])
-        requires { AreNoCommands 0 waves.now }
-        ensures { self.new ≡ after_all self.old (heard line gap waves.now) }
-    {
-        self.registers.hear_run(line, gap, waves);
-        self.past = past_of(&self.past, line, gap, waves);
     }
 
     /// Data words one after the other, by their values: the first has this gap, and the others follow at once. Where
@@ -292,21 +269,6 @@ fn begins_high(wave: Wave) -> bool
     ensures { result ≡ (wave / 2 ^ 39 % 2 == 1) }
 {
     wave.half_bits() >> 39 & 1 == 1
-}
-
-/// A history and the words of a run, which costs nothing.
-#[inline]
-fn past_of(past: &History<Event>, line: Line, gap: Gap, waves: &[Wave]) -> History<Event>
-    ensures { result ≡ met (heard line gap waves.now) past.now }
-{
-    let mut events = past.same();
-    let mut gap = gap;
-    for wave in waves {
-        let wave = *wave;
-        events = events.put_before(&Event::Heard { line, wave, gap });
-        gap = Gap::contiguous();
-    }
-    events
 }
 
 /// A history and data words by their values, which costs nothing.
