@@ -6,7 +6,7 @@
 mod observations;
 
 use arrayvec::ArrayVec;
-pub use observations::{observe, observe_by, observe_with};
+pub use observations::{observe, observe_with};
 
 /// A recorded message (IRIG 106-17 Chapter 11, MIL-STD-1553 bus data packets, Format 1).
 #[derive(Debug, Drop, PartialEq, Eq)]

@@ -26,7 +26,7 @@ pub fn observe(talk: &Talk) -> Record
 }
 
 /// The same, from what is seen of the talk.
-pub fn observe_by(talk: &Talk, seen: &TalkCounts) -> Record
+pub(crate) fn observe_by(talk: &Talk, seen: &TalkCounts) -> Record
     requires seen { seen.now ≡ seen_of talk.now.message talk.now.sent.items }
     ensures { result ≡ observed talk.now }
 {

@@ -1,10 +1,11 @@
--- Lists of at most 32 words in one flat list (inside the terminal).
+-- Lists of at most as many words as a message has, in one flat list (inside the terminal).
 use Rattle.std.specs.Prelude.{◌≡◌, ℕ, ◌+◌, ◌*◌, ◌≤◌, List, [], ◌∷◌, ◌++◌, length, take, drop, slice_index_or}
+use Rattle.mil_word.specs.Fields.{most_words}
 
--- the lists with these counts, each in 32 places of its own
+-- the lists with these counts, each in as many places as a message has words at most
 abbrev pub slots : List ℕ → List ℕ → List (List ℕ)
 slots [] words = []
-slots (n ∷ counts) words = take n words ∷ slots counts (drop 32 words)
+slots (n ∷ counts) words = take n words ∷ slots counts (drop most_words words)
 
 -- what is kept of a slot: its number and how many words it holds, in one head, and the words; of an empty one nothing
 abbrev pub entry : ℕ → List ℕ → List ℕ
@@ -20,4 +21,4 @@ entries slot (words ∷ lists) = entry slot words ++ entries (slot + 1) lists
 pub record IsPacked (words : List ℕ) (lists : List (List ℕ)) : Type 0 where
   pub whole : words ≡ entries 0 lists
   pub long : length lists ≡ 96
-  pub few : (slot : ℕ) → length (slice_index_or lists slot []) ≤ 32
+  pub few : (slot : ℕ) → length (slice_index_or lists slot []) ≤ most_words

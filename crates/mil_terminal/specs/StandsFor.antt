@@ -2,6 +2,7 @@
 use Rattle.std.specs.Prelude.{◌≡◌, ℕ, ◌+◌, ◌<◌, ◌≤◌, Bool, not, List, [], Option, Some, None, slice_index_or, length}
 use Rattle.mil_word.specs.declared.Line.{Line}
 use Rattle.mil_word.specs.declared.Line.TheVariants.{A, B}
+use Rattle.mil_word.specs.Fields.{most_words}
 use Rattle.mil_terminal.specs.declared.events.Event.{Event}
 use Rattle.mil_terminal.specs.History.{History}
 use Rattle.mil_terminal.specs.Host.{is_busy, requests_service, has_subsystem_fault, has_fault, accepts_control}
@@ -29,7 +30,8 @@ pub record AreSettings (s : Settings) (h : History) : Type 0 where
   pub vector : s.vector ≡ vector h
   pub self_test : s.self_test ≡ self_test h
   pub response : s.response ≡ response_gap h
-  pub marks : (t : Bool) (sub n : ℕ) → sub < 32 → 1 ≤ n → n ≤ 32 → is_set s.marks t sub n ≡ is_marked_illegal t sub n h
+  pub marks : (t : Bool) (sub n : ℕ) → sub < 32 → 1 ≤ n → n ≤ most_words
+      → is_set s.marks t sub n ≡ is_marked_illegal t sub n h
   pub deaf : (line : Line) → on_line s.deaf line ≡ is_deaf line h
   pub mute : (line : Line) → on_line s.mute line ≡ is_mute line h
 

@@ -1,4 +1,5 @@
 //! The words that a terminal keeps, in one flat block.
+ghost use Rattle.mil_word.specs.Fields.{most_words};
 ghost use Rattle.std.specs.Prelude.{◌≡◌, ℕ, ◌<◌, ◌≤◌, List, [], IfOk, length, replicate, slice_set, slice_index_or};
 
 use std::alloc::{AllocError, Global};
@@ -14,6 +15,7 @@ pub struct Block {
 
 impl Model for Block {
     ghost use Rattle.mil_terminal.specs.Slots.{slots};
+    ghost use Rattle.mil_word.specs.Fields.{most_words};
     ghost use Rattle.std.specs.Prelude.{◌≡◌, ℕ, ◌≤◌, ◌<◌, List, length, vec_len, slice_index};
 
     ghost Value = { List (List ℕ) };
@@ -21,7 +23,7 @@ impl Model for Block {
     ghost view = { λ b. slots b.counts b.words.items };
 
     ghost invariant = { λ b. (vec_len b.words ≡ 3072) × (length b.counts ≡ 96)
-        × ((i : ℕ) → i < 96 → slice_index b.counts i ≤ 32) };
+        × ((i : ℕ) → i < 96 → slice_index b.counts i ≤ most_words) };
 }
 
 impl Block {
@@ -40,7 +42,7 @@ impl Block {
     pub fn at(&self, slot: usize) -> &[u16]
         requires { slot < 96 }
         ensures value { result.now ≡ slice_index_or self.now slot [] }
-        ensures few { length result.now ≤ 32 }
+        ensures few { length result.now ≤ most_words }
     {
         let start = 32 * slot;
         &self.words[start..start + self.counts[slot] as usize]
@@ -49,7 +51,7 @@ impl Block {
     /// Puts words into a slot, in place of those that were there.
     pub fn store(&mut self, slot: usize, words: &[u16])
         requires slot { slot < 96 }
-        requires few { length words.now ≤ 32 }
+        requires few { length words.now ≤ most_words }
         ensures { self.new ≡ slice_set self.old slot words.now }
     {
         let start = 32 * slot;

@@ -27,7 +27,7 @@ fn bit_if(on: bool, bit: StatusBits) -> u16
 
 impl Conditions {
     /// What a terminal tells before any window has ended.
-    pub fn none() -> Conditions
+    pub(crate) fn none() -> Conditions
         ensures { result ≡ no_conditions }
     {
         Conditions {
@@ -57,7 +57,7 @@ impl Conditions {
     }
 
     /// The status word that tells them.
-    pub fn word(&self, own: Address) -> u16
+    pub(crate) fn word(&self, own: Address) -> u16
         ensures { result ≡ word_of own self.now }
     {
         status_word(own.value(), self.bits())

@@ -1,5 +1,6 @@
 //! The commands that the host has marked as illegal.
 ghost use Rattle.mil_terminal.specs.Host.{is_mark};
+ghost use Rattle.mil_word.specs.Fields.{most_words};
 ghost use Rattle.std.specs.Prelude.{◌≡◌, ℕ, ◌+◌, Bool, true, false, replicate, ◌<◌, ◌≤◌, if◌then◌else◌};
 
 use mil_host::Mark;
@@ -35,7 +36,7 @@ impl Marks {
 
     /// Sets or clears a mark.
     pub fn set(&mut self, mark: Mark, on: bool)
-        ensures { (t : Bool) (s n : ℕ) → s < 32 → 1 ≤ n → n ≤ 32
+        ensures { (t : Bool) (s n : ℕ) → s < 32 → 1 ≤ n → n ≤ most_words
             → is_set self.new t s n ≡ (if is_mark t s n mark then on else is_set self.old t s n) }
     {
         let row = row_of(mark.transmit(), mark.sub());
@@ -51,7 +52,7 @@ impl Marks {
     pub fn has(&self, transmit: bool, sub: u8, count: u8) -> bool
         requires sub_range { sub < 32 }
         requires count_low { 1 ≤ count }
-        requires count_high { count ≤ 32 }
+        requires count_high { count ≤ most_words }
         ensures { result ≡ is_set self.now transmit sub count }
     {
         self.rows[row_of(transmit, sub)] >> (count - 1) & 1 == 1

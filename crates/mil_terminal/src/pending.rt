@@ -6,6 +6,7 @@ ghost use Rattle.mil_terminal.specs.Verdicts as verdicts;
 ghost use Rattle.mil_terminal.specs.Windows as windows;
 ghost use Rattle.mil_terminal.specs.declared.events.Event.TheVariants.{Heard, Quiet};
 ghost use Rattle.mil_terminal.specs.declared.events.Event.{Event};
+ghost use Rattle.mil_word.specs.Fields.{most_words};
 ghost use Rattle.mil_word.specs.Words.{same_line as same, command_in, data_wave};
 ghost use Rattle.std.specs.List.{filter_map};
 ghost use Rattle.std.specs.Prelude.{Some, None, IfSome, IfNone, true, false, if◌then◌else◌};
@@ -63,7 +64,7 @@ pub fn same_line(one: Line, other: Line) -> bool
 #[inline]
 pub fn words_due(command: Command) -> usize
     ensures value { result ≡ verdicts.words_due command }
-    ensures few { result ≤ 32 }
+    ensures few { result ≤ most_words }
 {
     if command.is_receive() {
         command.count() as usize

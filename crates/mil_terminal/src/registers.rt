@@ -6,7 +6,7 @@ ghost use Rattle.mil_terminal.specs.Replies as replies;
 ghost use Rattle.mil_terminal.specs.Status.{status};
 ghost use Rattle.mil_terminal.specs.Windows.{is_listening};
 ghost use Rattle.mil_terminal.specs.declared.events.Event.TheVariants.{Heard, Quiet, Host};
-ghost use Rattle.mil_word.specs.Fields.{address_of};
+ghost use Rattle.mil_word.specs.Fields.{address_of, most_words};
 ghost use Rattle.std.specs.Option.{option_to_list};
 ghost use Rattle.std.specs.Prelude.{None, if◌then◌else◌};
 ghost use Rattle.std.specs.Prelude.{◌≡◌, ◌+◌, ◌≤◌, ◌<◌, ◌==◌, ◌&&◌, not, [], ◌∷◌, IfOk, length, Some};
@@ -172,7 +172,7 @@ impl Registers {
     }
 
     fn conclude(&mut self, line: Line, command: Command, good: bool, words: &[u16])
-        requires { length words.now ≤ 32 }
+        requires { length words.now ≤ most_words }
         ensures { self.new ≡ settled self.old line command good words.now }
     {
         self.tell(command, good);
@@ -185,7 +185,7 @@ impl Registers {
 
     /// The words of a good receive command go into their slot.
     fn store(&mut self, command: Command, words: &[u16])
-        requires { length words.now ≤ 32 }
+        requires { length words.now ≤ most_words }
         ensures { self.new ≡ record self.old { block = stored self.old.block command self.old.host.busy words.now } }
     {
         if command.is_receive() && !self.host.busy {
@@ -239,7 +239,7 @@ impl Registers {
     fn put_up(&self, sub: u8) -> &[u16]
         requires { sub < 32 }
         ensures value { result.now ≡ put_up_at self.now sub }
-        ensures few { length result.now ≤ 32 }
+        ensures few { length result.now ≤ most_words }
     {
         if sub == WRAP_AROUND {
             self.block.at(usize::from(WRAP_AROUND))

@@ -1,5 +1,6 @@
 //! The words of a terminal, packed.
 ghost use Rattle.mil_terminal.specs.Slots.{entry, entries};
+ghost use Rattle.mil_word.specs.Fields.{most_words};
 ghost use Rattle.std.specs.Prelude.{◌≡◌, ◌≤◌, ◌<◌, ◌++◌, IfOk, OnOk, length};
 
 use crate::blocks::Block;
@@ -30,7 +31,7 @@ impl Model for SavedBlock {
 #[inline]
 fn put_entry(kept: &mut Vec<u16>, slot: usize, words: &[u16]) -> Result<(), AllocError>
     requires slot { slot < 96 }
-    requires few { length words.now ≤ 32 }
+    requires few { length words.now ≤ most_words }
     ensures { OnOk result (kept.new.items ≡ kept.old.items ++ entry slot words.now) }
 {
     if words.is_empty() {
