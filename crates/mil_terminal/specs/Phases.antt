@@ -6,7 +6,7 @@ use Rattle.std.specs.List.{filter_map}
 use Rattle.mil_terminal.specs.declared.events.Event.{Event}
 use Rattle.mil_word.specs.Words.{command_in, data_in}
 use Rattle.mil_word.specs.Timing.{contiguous_gap}
-use Rattle.mil_terminal.specs.Windows.{Window, sender_called, sender_in, has_quiets}
+use Rattle.mil_terminal.specs.Windows.{Window, follows_at_once, sender_called, sender_in, has_quiets}
 use Rattle.mil_terminal.specs.Verdicts.{words_due, are_due_words, is_sent_by, is_answered_by, is_from, is_in_time}
 use Rattle.mil_terminal.specs.Verdicts.{has_shape}
 use Rattle.mil_terminal.specs.Registers.{value_of}
@@ -68,7 +68,7 @@ with_due None p = record p { phase = Lost }
 with_due (Some value) p = record p { phase = Taking; words = record { items = p.words.items ++ value ∷ [] } }
 
 abbrev pub due_value : Pending → ℕ → ℕ → Option ℕ
-due_value p wave gap = if gap == contiguous_gap && nat_lt (length p.words.items) (words_due p.command)
+due_value p wave gap = if follows_at_once gap && nat_lt (length p.words.items) (words_due p.command)
     then data_in wave else None
 
 abbrev pub with_first : Option ℕ → Pending → ℕ → ℕ → Pending

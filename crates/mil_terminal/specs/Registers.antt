@@ -31,18 +31,22 @@ value_of (Host action) = None
 abbrev pub words_of : Ended → List ℕ
 words_of e = filter_map value_of e.window.items
 
+-- a mode command with this T/R bit and mode code (4.3.3.5.1.7)
+abbrev pub has_mode_code : Bool → ℕ → ℕ → Bool
+has_mode_code transmit code c = is_mode c && same_bool (is_transmit c) transmit && code_of c == code
+
 -- a good window of a mode command
 abbrev pub is_good_mode : ℕ → Bool → ℕ → Ended → Bool
-is_good_mode own transmit code e =
-    is_good (verdict own e) && is_mode e.window.command && same_bool (is_transmit e.window.command) transmit
-    && code_of e.window.command == code
+is_good_mode own transmit code e = is_good (verdict own e) && has_mode_code transmit code e.window.command
 
--- a good window of a receive command at a subaddress, to all terminals or to this one, that ended while the terminal
--- was not busy (4.3.3.5.3.8)
+-- a receive command at a subaddress, to all terminals or to one
+abbrev pub is_receive_at : Bool → ℕ → ℕ → Bool
+is_receive_at to_all sub c = is_receive c && sub_of c == sub && same_bool (is_broadcast c) to_all
+
+-- a good window of a receive command at a subaddress that ended while the terminal was not busy (4.3.3.5.3.8)
 abbrev pub is_good_receive : ℕ → Bool → ℕ → Ended → Bool
 is_good_receive own to_all sub e =
-    is_good (verdict own e) && is_receive e.window.command && sub_of e.window.command == sub
-    && same_bool (is_broadcast e.window.command) to_all && not (is_busy e.before)
+    is_good (verdict own e) && is_receive_at to_all sub e.window.command && not (is_busy e.before)
 
 -- the words of the latest receive command to this terminal at the subaddress
 unfoldable pub received : ℕ → ℕ → History → List ℕ
@@ -76,12 +80,17 @@ bit_word own h = latest own (is_good_mode own true initiate_self_test) (λ e. se
 unfoldable pub vector : History → ℕ
 vector h = latest_set told_vector 0 h
 
+-- a good window of a shutdown of the transmitter (4) or of an override of that (5)
+abbrev pub is_good_shutdown_or_override : ℕ → Ended → Bool
+is_good_shutdown_or_override own e =
+    is_good_mode own true transmitter_shutdown e || is_good_mode own true override_shutdown e
+
 -- a shutdown (4) on the other line is later than each override (5) there and each reset (8)
 unfoldable pub is_transmitter_on : ℕ → Line → History → Bool
 is_transmitter_on own line h =
     latest own
     (λ e. is_good_mode own true reset_remote_terminal e || not (same_line e.window.line line)
-    && (is_good_mode own true transmitter_shutdown e || is_good_mode own true override_shutdown e))
+    && is_good_shutdown_or_override own e)
     (λ e. not (code_of e.window.command == transmitter_shutdown)) true h
 
 -- an inhibition of the terminal flag (6) is later than each override (7) and each reset (8)
@@ -91,10 +100,15 @@ is_flag_inhibited own h =
     || is_good_mode own true reset_remote_terminal e)
     (λ e. code_of e.window.command == inhibit_terminal_flag) false h
 
--- a question of the controller: transmit status word (2) or transmit last command (18), to this terminal
-abbrev pub is_question : ℕ → ℕ → Bool
-is_question own c = address_of c == own && is_transmit c && is_mode c
+-- transmit status word (2) or transmit last command (18), which leave the status word as it was (4.3.3.5.1.7.3,
+-- 4.3.3.5.1.7.11)
+abbrev pub keeps_status : ℕ → Bool
+keeps_status c = is_transmit c && is_mode c
     && (code_of c == transmit_status_word || code_of c == transmit_last_command)
+
+-- a question of the controller to this terminal
+abbrev pub is_question : ℕ → ℕ → Bool
+is_question own c = address_of c == own && keeps_status c
 
 abbrev pub opened_or : ℕ → Option (Line × ℕ) → ℕ → ℕ
 opened_or own None before = before

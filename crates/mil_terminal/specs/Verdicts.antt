@@ -12,7 +12,7 @@ use Rattle.mil_terminal.specs.declared.events.Event.{Event}
 use Rattle.mil_terminal.specs.declared.events.Event.TheVariants.{Heard, Quiet}
 use Rattle.mil_terminal.specs.History.{History}
 use Rattle.mil_terminal.specs.Host.{is_marked_illegal}
-use Rattle.mil_terminal.specs.Windows.{Window, Ended, sender_in}
+use Rattle.mil_terminal.specs.Windows.{Window, Ended, follows_at_once, sender_in}
 
 -- the data words that a command announces: those of a receive command, and one with a mode command that is no
 -- transmit command and has code 16 or more (4.3.3.6.1, 4.3.3.6.6)
@@ -24,7 +24,7 @@ words_due c =
 -- these are so many sound data words, each contiguous to the word before, and then a quiet
 abbrev pub are_due_words : ℕ → List Event → Bool
 are_due_words zero (Quiet line ∷ []) = true
-are_due_words (suc n) (Heard line wave gap ∷ items) = gap == contiguous_gap && is_some (data_in wave)
+are_due_words (suc n) (Heard line wave gap ∷ items) = follows_at_once gap && is_some (data_in wave)
     && are_due_words n items
 are_due_words _ _ = false
 

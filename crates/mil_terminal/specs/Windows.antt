@@ -51,17 +51,27 @@ latest_window own h =
     option_map (λ (o : Line × ℕ). record
     { line = o.0; command = o.1; items = filter (is_on o.0) (since_opening own h) }) (latest_opening own h)
 
+-- a command to transmit data words from a subaddress
+abbrev pub transmits_data : ℕ → Bool
+transmits_data c = is_transmit c && not (is_mode c)
+
 -- a transmit command to a terminal that is neither this one nor all
 abbrev pub calls_another : ℕ → ℕ → Bool
-calls_another own c = is_transmit c && not (is_mode c) && not (address_of c == own) && not (is_broadcast c)
+calls_another own c = transmits_data c && not (address_of c == own) && not (is_broadcast c)
 
--- the terminal that is told to send, where a word follows a receive command at once and calls another terminal to
--- transmit (4.3.3.6.3)
+-- whether a word with this gap is contiguous to the word before
+abbrev pub follows_at_once : ℕ → Bool
+follows_at_once gap = gap == contiguous_gap
+
+-- the commands of a transfer from another terminal: a receive command, and contiguous to it the transmit command to
+-- the other one (4.3.3.6.3)
+abbrev pub begins_transfer : ℕ → ℕ → ℕ → ℕ → Bool
+begins_transfer own command gap c = is_receive command && follows_at_once gap && calls_another own c
+
+-- the terminal that is told to send, where a word behind the command of a window begins a transfer
 abbrev pub sender_called : ℕ → ℕ → ℕ → ℕ → Option ℕ
 sender_called own command wave gap =
-    option_and_then
-    (λ c. value_if (is_receive command && gap == contiguous_gap && calls_another own c) (address_of c))
-    (command_in wave)
+    option_and_then (λ c. value_if (begins_transfer own command gap c) (address_of c)) (command_in wave)
 
 -- the sender that the first item calls
 abbrev pub sender_in : ℕ → ℕ → List Event → Option ℕ

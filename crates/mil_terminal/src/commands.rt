@@ -1,11 +1,12 @@
 //! What a terminal asks about a command.
+ghost use Rattle.mil_mode.specs.Codes.{dynamic_bus_control};
 ghost use Rattle.mil_terminal.specs.Registers as registers;
 ghost use Rattle.mil_terminal.specs.Updates.{is_code};
 ghost use Rattle.mil_terminal.specs.Verdicts.{is_unknown as unknown};
 ghost use Rattle.std.specs.Prelude.{◌≡◌};
 
 use crate::addresses::Address;
-use mil_mode::codes::{TRANSMIT_LAST_COMMAND, TRANSMIT_STATUS_WORD};
+use mil_mode::codes::{DYNAMIC_BUS_CONTROL, TRANSMIT_LAST_COMMAND, TRANSMIT_STATUS_WORD};
 use mil_mode::{broadcast_allowed, is_legal_mode};
 use mil_word::Command;
 
@@ -33,7 +34,7 @@ pub fn is_unknown(command: Command) -> bool
 
 /// Whether this is the mode code that offers dynamic bus control.
 pub fn is_bus_control(command: Command) -> bool
-    ensures { result ≡ is_code command 0 }
+    ensures { result ≡ is_code command dynamic_bus_control }
 {
-    command.is_mode() && command.is_transmit() && command.code() == 0
+    command.is_mode() && command.is_transmit() && command.code() == DYNAMIC_BUS_CONTROL
 }

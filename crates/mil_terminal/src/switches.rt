@@ -1,6 +1,10 @@
 //! What mode codes 4 to 8 switch.
 ghost use Rattle.std.specs.Prelude.{◌≡◌, not, false};
 
+use mil_mode::codes::{
+    INHIBIT_TERMINAL_FLAG, OVERRIDE_INHIBIT, OVERRIDE_SHUTDOWN, RESET_REMOTE_TERMINAL,
+    TRANSMITTER_SHUTDOWN,
+};
 use mil_word::{Command, Line};
 
 /// The transmitters that are off, and whether the terminal flag is inhibited.
@@ -42,13 +46,13 @@ impl Switches {
     {
         if command.is_mode() && command.is_transmit() {
             match (command.code(), line) {
-                (4, Line::A) => self.off_b = true,
-                (4, Line::B) => self.off_a = true,
-                (5, Line::A) => self.off_b = false,
-                (5, Line::B) => self.off_a = false,
-                (6, _) => self.inhibited = true,
-                (7, _) => self.inhibited = false,
-                (8, _) => *self = Switches::none(),
+                (TRANSMITTER_SHUTDOWN, Line::A) => self.off_b = true,
+                (TRANSMITTER_SHUTDOWN, Line::B) => self.off_a = true,
+                (OVERRIDE_SHUTDOWN, Line::A) => self.off_b = false,
+                (OVERRIDE_SHUTDOWN, Line::B) => self.off_a = false,
+                (INHIBIT_TERMINAL_FLAG, _) => self.inhibited = true,
+                (OVERRIDE_INHIBIT, _) => self.inhibited = false,
+                (RESET_REMOTE_TERMINAL, _) => *self = Switches::none(),
                 _ => {}
             }
         }
@@ -60,8 +64,8 @@ impl Switches {
     {
         if good && command.is_mode() && command.is_transmit() {
             match command.code() {
-                6 => true,
-                7 => false,
+                INHIBIT_TERMINAL_FLAG => true,
+                OVERRIDE_INHIBIT => false,
                 _ => self.inhibited,
             }
         } else {
