@@ -1,5 +1,7 @@
 //! The values of an action that keep their ranges.
 ghost use Rattle.mil_host.specs.Ranges.{IsPutUp, IsMark};
+ghost use Rattle.mil_word.specs.Fields.{highest_subaddress, most_words};
+ghost use Rattle.mil_word.specs.Timing.{least_response, latest_response};
 ghost use Rattle.std.specs.Prelude.{◌≡◌, ◌≤◌, ◌<◌, length, All};
 
 use arrayvec::ArrayVec;
@@ -16,6 +18,7 @@ pub struct TransmitWords {
 
 impl Model for TransmitWords {
     ghost use Rattle.mil_host.specs.Values.{PutUp};
+    ghost use Rattle.mil_word.specs.Fields.{most_words};
     ghost use Rattle.std.specs.Prelude.{◌≤◌, length};
 
     ghost Value = { PutUp };
@@ -23,7 +26,7 @@ impl Model for TransmitWords {
     ghost view = { λ w. record { sub = w.place; words = w.words.items } };
 
     ghost invariant = { λ w. (1 ≤ w.place) × (w.place ≤ 29) × (1 ≤ length w.words.items)
-        × (length w.words.items ≤ 32) };
+        × (length w.words.items ≤ most_words) };
 }
 
 impl TransmitWords {
@@ -51,7 +54,7 @@ impl TransmitWords {
     pub fn words(&self) -> &[u16]
         ensures value { result.now ≡ self.now.words }
         ensures some { 1 ≤ length result.now }
-        ensures few { length result.now ≤ 32 }
+        ensures few { length result.now ≤ most_words }
     {
         self.words.as_slice()
     }
@@ -91,13 +94,14 @@ pub struct Mark {
 
 impl Model for Mark {
     ghost use Rattle.mil_host.specs.Values.{Marked};
+    ghost use Rattle.mil_word.specs.Fields.{highest_subaddress, most_words};
     ghost use Rattle.std.specs.Prelude.{◌≤◌};
 
     ghost Value = { Marked };
 
     ghost view = { λ m. record { transmit = m.transmit; sub = m.sub; count = m.count } };
 
-    ghost invariant = { λ m. (1 ≤ m.sub) × (m.sub ≤ 30) × (1 ≤ m.count) × (m.count ≤ 32) };
+    ghost invariant = { λ m. (1 ≤ m.sub) × (m.sub ≤ highest_subaddress) × (1 ≤ m.count) × (m.count ≤ most_words) };
 
     ghost inverse = { λ m. record { transmit = m.transmit; sub = m.sub; count = m.count } };
 }
@@ -106,9 +110,9 @@ impl Mark {
     /// The mark of transmit commands (`transmit`) or of receive commands.
     pub fn make(transmit: bool, sub: u8, count: u8) -> Mark
         requires sub_low { 1 ≤ sub }
-        requires sub_high { sub ≤ 30 }
+        requires sub_high { sub ≤ highest_subaddress }
         requires count_low { 1 ≤ count }
-        requires count_high { count ≤ 32 }
+        requires count_high { count ≤ most_words }
         ensures { result ≡ record { transmit = transmit; sub = sub; count = count } }
     {
         Mark {
@@ -129,7 +133,7 @@ impl Mark {
     pub fn sub(&self) -> u8
         ensures value { result ≡ self.now.sub }
         ensures low { 1 ≤ result }
-        ensures high { result ≤ 30 }
+        ensures high { result ≤ highest_subaddress }
     {
         self.sub
     }
@@ -138,7 +142,7 @@ impl Mark {
     pub fn count(&self) -> u8
         ensures value { result ≡ self.now.count }
         ensures low { 1 ≤ result }
-        ensures high { result ≤ 32 }
+        ensures high { result ≤ most_words }
     {
         self.count
     }
@@ -158,13 +162,14 @@ pub struct ResponseGap {
 }
 
 impl Model for ResponseGap {
+    ghost use Rattle.mil_word.specs.Timing.{least_response, latest_response};
     ghost use Rattle.std.specs.Prelude.{ℕ, ◌≤◌};
 
     ghost Value = { ℕ };
 
     ghost view = { λ g. g.ticks };
 
-    ghost invariant = { λ g. (40 ≤ g.ticks) × (g.ticks ≤ 120) };
+    ghost invariant = { λ g. (least_response ≤ g.ticks) × (g.ticks ≤ latest_response) };
 
     ghost inverse = { λ n. record { ticks = n } };
 }
@@ -172,8 +177,8 @@ impl Model for ResponseGap {
 impl ResponseGap {
     /// The response time of so many ticks.
     pub fn make(ticks: u8) -> ResponseGap
-        requires low { 40 ≤ ticks }
-        requires high { ticks ≤ 120 }
+        requires low { least_response ≤ ticks }
+        requires high { ticks ≤ latest_response }
         ensures { result ≡ ticks }
     {
         ResponseGap { ticks }
@@ -182,8 +187,8 @@ impl ResponseGap {
     /// The ticks, 40 to 120.
     pub fn ticks(&self) -> u8
         ensures value { result ≡ self.now }
-        ensures low { 40 ≤ result }
-        ensures high { result ≤ 120 }
+        ensures low { least_response ≤ result }
+        ensures high { result ≤ latest_response }
     {
         self.ticks
     }

@@ -4,6 +4,7 @@ ghost use Rattle.mil_message.specs.Forms.{controller_waves, command_of, replies_
 ghost use Rattle.mil_message.specs.Request.{request_of};
 ghost use Rattle.mil_message.specs.Rules.{checked, request_for, IsLawful};
 ghost use Rattle.mil_message.specs.declared.forms.Form.{Form as FormValue};
+ghost use Rattle.mil_word.specs.Fields.{most_words};
 ghost use Rattle.mil_word.specs.Words.{command_wave, data_wave};
 ghost use Rattle.std.specs.Option.{option_to_list};
 ghost use Rattle.std.specs.Prelude.{◌≡◌, ◌≤◌, ◌↔◌, ◌∷◌, ◌++◌, Ok, length, map, take, drop};
@@ -134,7 +135,7 @@ impl Message {
     /// The data words that the controller sends after its commands.
     pub fn data_words(&self) -> &[u16]
         ensures words { result.now ≡ data_words self.now }
-        ensures at_most_32 { length result.now ≤ 32 }
+        ensures at_most_32 { length result.now ≤ most_words }
     {
         match &self.form {
             Form::ToTerminal { words, .. } | Form::ToAll { words, .. } => words.as_slice(),

@@ -9,7 +9,7 @@
 
 pub mod codes;
 
-ghost use Rattle.mil_mode.specs.Codes.{override_selected_shutdown, selected_shutdown, synchronize_with_word};
+ghost use Rattle.mil_mode.specs.Codes.{last_code, override_selected_shutdown, selected_shutdown, synchronize_with_word};
 ghost use Rattle.mil_mode.specs.Codes.{transmit_bit_word, transmit_last_command, transmit_vector_word};
 ghost use Rattle.mil_mode.specs.Table.{is_legal_mode as is_legal};
 ghost use Rattle.mil_mode.specs.Table.{row_of, is_known, is_reserved, is_broadcast_mode, data_word_count};
@@ -35,7 +35,7 @@ pub enum ModeRow {
 
 /// What the mode table has for this pair.
 pub fn mode_of(transmit: bool, code: u8) -> ModeRow
-    requires { code ≤ 31 }
+    requires { code ≤ last_code }
     ensures row { result ≡ row_of transmit code }
     ensures known { (result ≡ ModeRow.Known) ↔ IsTrue (is_known transmit code) }
     ensures reserved { (result ≡ ModeRow.Reserved) ↔ IsTrue (is_reserved transmit code) }
@@ -55,7 +55,7 @@ pub fn mode_of(transmit: bool, code: u8) -> ModeRow
 
 /// Whether the standard assigns this pair a meaning.
 fn is_assigned(transmit: bool, code: u8) -> bool
-    requires { code ≤ 31 }
+    requires { code ≤ last_code }
     ensures { result ≡ is_known transmit code }
 {
     if transmit {
@@ -82,7 +82,7 @@ fn is_synchronize_or_selected(code: u8) -> bool
 
 /// Whether the pair may be sent to all terminals at once, with address 31: true for known pairs alone.
 pub fn broadcast_allowed(transmit: bool, code: u8) -> bool
-    requires { code ≤ 31 }
+    requires { code ≤ last_code }
     ensures { result ≡ is_broadcast_mode transmit code }
 {
     if transmit {
@@ -95,7 +95,7 @@ pub fn broadcast_allowed(transmit: bool, code: u8) -> bool
 /// How many data words go with the pair, 0 or 1: sent by the terminal where T/R is 1, received by it where it is 0.
 /// Codes 22 to 31 have one in either direction.
 pub fn data_words(transmit: bool, code: u8) -> u8
-    requires { code ≤ 31 }
+    requires { code ≤ last_code }
     ensures { result ≡ data_word_count transmit code }
 {
     if transmit {
@@ -108,7 +108,7 @@ pub fn data_words(transmit: bool, code: u8) -> u8
 /// Whether the terminals of this bench carry the pair out: known, and neither that shuts down nor that starts one of
 /// several further lines (own choice).
 pub fn is_legal_mode(transmit: bool, code: u8) -> bool
-    requires { code ≤ 31 }
+    requires { code ≤ last_code }
     ensures { result ≡ is_legal transmit code }
 {
     is_assigned(transmit, code) && code != SELECTED_SHUTDOWN && code != OVERRIDE_SELECTED_SHUTDOWN

@@ -5,6 +5,10 @@ use Rattle.std.specs.Prelude.{ℕ, ◌/◌, ◌%◌, ◌^◌, Bool, ◌&&◌, �
 abbrev pub has_bit : ℕ → ℕ → Bool
 has_bit place value = value / 2 ^ place % 2 == 1
 
+-- the greatest value of a field of five bits (4.3.3.5.1)
+abbrev pub greatest_field : ℕ
+greatest_field = 31
+
 -- the terminal address, the first five bits of a command word and of a status word (4.3.3.5.1.2, 4.3.3.5.3.2)
 abbrev pub address_of : ℕ → ℕ
 address_of value = value / 2 ^ 11

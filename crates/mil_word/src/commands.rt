@@ -1,6 +1,6 @@
 //! The fields of a command word (MIL-STD-1553B 4.3.3.5.1).
 ghost use Rattle.mil_word.specs.Fields.{address_of, is_transmit, sub_of, code_of, count_of, is_mode, is_receive};
-ghost use Rattle.mil_word.specs.Fields.{is_broadcast};
+ghost use Rattle.mil_word.specs.Fields.{is_broadcast, most_words};
 ghost use Rattle.std.specs.Prelude.{◌≡◌, ◌≤◌, ◌<◌, ◌^◌};
 
 use crate::fields::{ALL_TERMINALS, MODE_SUBADDRESS_OF_ONES, MODE_SUBADDRESS_OF_ZEROS, MOST_WORDS};
@@ -98,7 +98,7 @@ impl Command {
     pub fn count(self) -> u8
         ensures field { result ≡ count_of self }
         ensures at_least_one { 1 ≤ result }
-        ensures at_most_32 { result ≤ 32 }
+        ensures at_most_32 { result ≤ most_words }
     {
         let code = self.code();
         if code == 0 { MOST_WORDS } else { code }
