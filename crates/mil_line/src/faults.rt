@@ -102,7 +102,7 @@ impl Fault {
     }
 
     /// Whether this silences a run.
-    pub fn mutes(&self, at_run: u32) -> bool
+    pub(crate) fn mutes(&self, at_run: u32) -> bool
         ensures { result ≡ mutes at_run self.now }
     {
         match self {

@@ -1,5 +1,5 @@
 -- The parts of a lawful message are read back.
-use Rattle.std.proofs.Common.{◌≡◌, ℕ, ◌%◌, ◌≤◌, List, length, refl, ap, sym, ◌∙◌, subst, arith}
+use Rattle.std.proofs.Common.{◌≡◌, ℕ, ◌%◌, ◌≤◌, List, length, refl, ap, sym, ◌∙◌, arith}
 use Rattle.std.specs.Prelude.{Bool, true, false, ◌&&◌, not, nat_le, Option, Some, None, Ok, Err, ◌==◌, ◌↔◌, if◌then◌else◌, unwrap_or, option_map}
 use Rattle.std.proofs.lemmas.Bool.{leb-true}
 use Rattle.mil_mode.specs.Table.{data_word_count}
@@ -14,7 +14,7 @@ use Rattle.mil_message.specs.Forms.{command_word, count_field, mode_subaddress, 
 use Rattle.mil_message.specs.Parts.{Parts, parts_of, request_at}
 use Rattle.mil_message.specs.declared.drafts.Draft.{Draft}
 use Rattle.mil_message.specs.Request.{Request, request_of}
-use Rattle.mil_message.proofs.Checked.{head_met, second_met, middle_met, third_met, four_met, checked-request_for, lawful-checked}
+use Rattle.mil_message.proofs.Checked.{head_met, second_met, middle_met, third_met, four_met, checked-request_for}
 use Rattle.mil_message.specs.Rules.{IsLawful, request_for, checked, is_count, is_subaddress, is_address, is_code_alone, is_code_from, is_code_to}
 
 pub address_of-command_word : (address : ℕ) (transmit : Bool) (subaddress field : ℕ) → subaddress ≤ 31 → field ≤ 31 → address_of (command_word address transmit subaddress field) ≡ address
@@ -177,10 +177,6 @@ Answers p answer = (form : Form) → (answer ≡ Some form) ↔ (IsLawful form �
 asked_for : (p : Parts) (form : Form) → IsLawful form → parts_of form ≡ p → request_at p ≡ Some (request_for form)
 asked_for p form lawful same = ap request_at (sym same) ∙ read_back form lawful
 
--- no request can have these parts
-pub no_request : (p : Parts) → None ≡ request_at p → Answers p None
-no_request p at form = (λ e. cc, λ both. let there = asked_for p form both.0 both.1 in cc)
-
 -- what the one request comes to
 found_is : (p : Parts) (request : Request) (form : Form) → Some request ≡ request_at p → IsLawful form → parts_of form ≡ p → checked request ≡ Ok form
 found_is p request form at lawful same =
@@ -190,13 +186,3 @@ found_is p request form at lawful same =
 
 pub is_refused : (p : Parts) (request : Request) (fault : BadMessage) → Some request ≡ request_at p → Err fault ≡ checked request → Answers p None
 is_refused p request fault at is form = (λ e. cc, λ both. let there = found_is p request form at both.0 both.1 in cc)
-
-pub has_other_parts : (p : Parts) (request : Request) (found : Form) → Some request ≡ request_at p → Ok found ≡ checked request → ¬ (parts_of found ≡ p) → Answers p None
-has_other_parts p request found at is other form =
-    (λ e. cc, λ both. let there = found_is p request form at both.0 both.1 in let same : found ≡ form = cc in absurd (other (ap parts_of same ∙ both.1)))
-
-pub has_these_parts : (p : Parts) (request : Request) (found : Form) → Some request ≡ request_at p → Ok found ≡ checked request → parts_of found ≡ p → Answers p (Some found)
-has_these_parts p request found at is same form = (
-  λ e. let one : found ≡ form = cc in (subst IsLawful one (lawful-checked request found (sym is)), ap parts_of (sym one) ∙ same),
-  λ both. let there = found_is p request form at both.0 both.1 in cc,
-)

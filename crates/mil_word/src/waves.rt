@@ -78,7 +78,7 @@ impl Wave {
 
     /// The wave of a word.
     #[inline]
-    pub fn of_word(word: Word) -> Wave
+    pub(crate) fn of_word(word: Word) -> Wave
         ensures { result ≡ wave_of word }
     {
         Wave {
