@@ -26,7 +26,7 @@ response_timeout = 512
 abbrev pub word_count_error : ℕ
 word_count_error = 32
 
--- bit 4: a sound word with the other sync than its place
+-- bit 4: a sound word with the wrong sync for its place
 abbrev pub sync_type_error : ℕ
 sync_type_error = 16
 

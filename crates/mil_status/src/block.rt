@@ -54,7 +54,7 @@ impl BlockBits {
     pub const RESPONSE_TIMEOUT: BlockBits = BlockBits(512);
     /// Bit 5: another number of words than due.
     pub const WORD_COUNT_ERROR: BlockBits = BlockBits(32);
-    /// Bit 4: a sound word with the other sync than its place has.
+    /// Bit 4: a sound word with the wrong sync for its place.
     pub const SYNC_TYPE_ERROR: BlockBits = BlockBits(16);
     /// Bit 3: a word that is not sound.
     pub const INVALID_WORD_ERROR: BlockBits = BlockBits(8);
