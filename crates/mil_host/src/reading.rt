@@ -238,8 +238,8 @@ fn read_named(name: Name, words: &mut Words<'_>) -> Result<Action, BadAction>
     }
 }
 
-/// The action that a text spells, of words separated by one or more spaces: `transmit SUB WORD..`, `busy on|off`, `service
-/// on|off`, `subsystem on|off`, `fault on|off`, `control on|off`, `vector WORD`, `selftest WORD`, `illegal
+/// The action that a text spells, of words separated by one or more spaces: `transmit SUB WORD..`, `busy on|off`,
+/// `service on|off`, `subsystem on|off`, `fault on|off`, `control on|off`, `vector WORD`, `selftest WORD`, `illegal
 /// receive|transmit SUB COUNT`, `legal receive|transmit SUB COUNT`, `response TICKS`, `deaf A|B on|off` or `mute A|B
 /// on|off` (own choice). The first fault from left to right is answered.
 #[tactic(auto, unfolding(crate::specs::Reading::action_in))]
