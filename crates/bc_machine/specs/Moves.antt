@@ -15,8 +15,8 @@ gone m place = record m { taken = m.taken + 1; at = at_place m.at place }
 abbrev pub gap_set : MachineState → ℕ → MachineState
 gap_set m ticks = record m { point = record m.point { gap = ticks } }
 
-abbrev pub opened : MachineState → ℕ → MachineState
-opened m count = with_registers m (record m.at { counters = count ∷ m.at.counters })
+abbrev pub with_counter : MachineState → ℕ → MachineState
+with_counter m count = with_registers m (record m.at { counters = count ∷ m.at.counters })
 
 -- a frame begins now
 abbrev pub framed : MachineState → MachineState

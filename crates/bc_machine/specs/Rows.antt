@@ -10,13 +10,13 @@ use Rattle.bc_machine.specs.declared.kept.Kept.TheVariants as kept
 use Rattle.bc_machine.specs.declared.kept.Row.{Row}
 
 -- the data words at a place of the list beside the rows
-abbrev pub words_at : List PutUp → ℕ → PutUp
-words_at words place = slice_index_or words place (record { sub = 0; words = [] })
+abbrev pub put_up_beside : List PutUp → ℕ → PutUp
+put_up_beside words place = slice_index_or words place (record { sub = 0; words = [] })
 
 -- the action that is kept
 abbrev pub action_of : List PutUp → Kept → Action
 action_of words (kept.Word sub word) = host.Transmit (record { sub = sub; words = word ∷ [] })
-action_of words (kept.Words place) = host.Transmit (words_at words place)
+action_of words (kept.Words place) = host.Transmit (put_up_beside words place)
 action_of words (kept.Busy on) = host.Busy on
 action_of words (kept.Service on) = host.Service on
 action_of words (kept.Subsystem on) = host.Subsystem on
@@ -31,10 +31,10 @@ action_of words (kept.Deaf line on) = host.Deaf line on
 action_of words (kept.Mute line on) = host.Mute line on
 
 -- a subaddress of 1 to 29, or a place below this one
-abbrev pub IsKept : ℕ → Kept → Type 0
-IsKept count (kept.Word sub word) = (1 ≤ sub) × (sub ≤ 29)
-IsKept count (kept.Words place) = place < count
-IsKept count _ = Unit {0}
+abbrev pub IsKeptAction : ℕ → Kept → Type 0
+IsKeptAction count (kept.Word sub word) = (1 ≤ sub) × (sub ≤ 29)
+IsKeptAction count (kept.Words place) = place < count
+IsKeptAction count _ = Unit {0}
 
 -- the placed action of a row
 abbrev pub placed_of : List PutUp → Row → Placed
@@ -45,7 +45,7 @@ abbrev pub all_placed : List PutUp → List Row → List Placed
 all_placed words rows = map (placed_of words) rows
 
 abbrev pub IsRow : ℕ → Row → Type 0
-IsRow count r = IsKept count r.kept
+IsRow count r = IsKeptAction count r.kept
 
 -- the rows of a number
 abbrev pub rows_at : ℕ → List Row → List Row

@@ -1,6 +1,6 @@
 //! Placed actions as rows of 16 bytes.
 ghost use Rattle.bc_machine.specs.Controller.{ready};
-ghost use Rattle.bc_machine.specs.Rows.{action_of, placed_of, all_placed, IsKept, IsRow, IsMore};
+ghost use Rattle.bc_machine.specs.Rows.{action_of, placed_of, all_placed, IsKeptAction, IsRow, IsMore};
 ghost use Rattle.mil_bus.specs.Exchange.{now_of};
 ghost use Rattle.mil_host.specs.declared.actions.Action.TheVariants.{Transmit};
 ghost use Rattle.std.specs.List.{insert};
@@ -47,7 +47,7 @@ fn kept_words(put: TransmitWords, words: &mut Vec<TransmitWords>) -> Kept
     requires room { vec_len words.old < vec_capacity words.old }
     requires few { vec_len words.old < 4294967295 }
     ensures action { action_of words.new.items result ≡ Transmit put }
-    ensures kept { IsKept (length words.new.items) result }
+    ensures kept { IsKeptAction (length words.new.items) result }
     ensures more { IsMore words.old.items words.new.items }
     ensures capacity { vec_capacity words.new ≡ vec_capacity words.old }
 {
@@ -67,7 +67,7 @@ fn kept_action(action: Action, words: &mut Vec<TransmitWords>) -> Kept
     requires room { vec_len words.old < vec_capacity words.old }
     requires few { vec_len words.old < 4294967295 }
     ensures action { action_of words.new.items result ≡ action }
-    ensures kept { IsKept (length words.new.items) result }
+    ensures kept { IsKeptAction (length words.new.items) result }
     ensures more { IsMore words.old.items words.new.items }
     ensures capacity { vec_capacity words.new ≡ vec_capacity words.old }
 {
@@ -91,7 +91,7 @@ fn kept_action(action: Action, words: &mut Vec<TransmitWords>) -> Kept
 impl Kept {
     /// The action that is kept, with its data words from the list.
     fn action(&self, words: &[TransmitWords]) -> Action
-        requires { IsKept (length words.now) self.now }
+        requires { IsKeptAction (length words.now) self.now }
         ensures { result ≡ action_of words.now self.now }
     {
         match self {

@@ -136,7 +136,7 @@ impl Parts {
     /// Opens a loop.
     fn open_loop(&mut self, count: u16)
         requires { length self.old.at.counters < 17 }
-        ensures { self.new ≡ moves.opened self.old count }
+        ensures { self.new ≡ moves.with_counter self.old count }
     {
         self.progress.counters.push(count);
     }

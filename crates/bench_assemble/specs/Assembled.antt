@@ -27,8 +27,8 @@ pub data Refusal : Type 0 where
   too_slow : Refusal
 
 -- a code that may be run, or the first cause for which it may not
-unfoldable pub judged : Code → Result Code Refusal
-judged code =
+unfoldable pub judged_code : Code → Result Code Refusal
+judged_code code =
     if nat_lt 4096 (length code.operations) then Err too_long
     else if nat_lt 1024 (length code.messages) then Err too_many_messages
     else if nat_lt 100000000 (budget code.operations) || nat_lt 1000000 (worst_messages code.operations)
@@ -52,7 +52,7 @@ with_sizes (Ok code) = Ok (image_bytes code, sizes_of code)
 with_sizes (Err refusal) = Err refusal
 
 abbrev pub image_of_tree : Tree → Result Sized Refusal
-image_of_tree tree = with_sizes (judged (code_of_tree tree))
+image_of_tree tree = with_sizes (judged_code (code_of_tree tree))
 
 abbrev pub image_of_reading : Result Tree Cause → Result Sized Refusal
 image_of_reading (Ok tree) = image_of_tree tree

@@ -1,5 +1,5 @@
 //! A script as the bytes of its image.
-ghost use Rattle.bench_assemble.specs.Assembled.{image_of_text, image_of_tree, judged, IsRefusal, told_as};
+ghost use Rattle.bench_assemble.specs.Assembled.{image_of_text, image_of_tree, judged_code, IsRefusal, told_as};
 ghost use Rattle.frame_asm.specs.Shapes.{code_of_tree};
 ghost use Rattle.frame_code.specs.Loadable.{IsLoadable};
 ghost use Rattle.frame_tree.specs.Bounds.{IsSound};
@@ -48,8 +48,8 @@ fn assemble_frame(alloc: Global, frame: &Frame<Global>) -> Result<(Vec<u8>, Size
 /// The program of a frame.
 fn program_of(alloc: Global, frame: &Frame<Global>) -> Result<Program, AssembleFault>
     requires { IsSound (tree_of frame.now) }
-    ensures program { IfOk result (λ p. judged (code_of_tree (tree_of frame.now)) ≡ Ok p) }
-    ensures refused { IfErr result (IsRefusal (judged (code_of_tree (tree_of frame.now)))) }
+    ensures program { IfOk result (λ p. judged_code (code_of_tree (tree_of frame.now)) ≡ Ok p) }
+    ensures refused { IfErr result (IsRefusal (judged_code (code_of_tree (tree_of frame.now)))) }
 {
     match assemble(alloc, frame) {
         Ok(image) => loaded(alloc, image),
@@ -62,8 +62,8 @@ fn program_of(alloc: Global, frame: &Frame<Global>) -> Result<Program, AssembleF
 /// The program of an image that breaks no rule of the loader but the last two.
 fn loaded(alloc: Global, image: Image) -> Result<Program, AssembleFault>
     requires loadable { IsLoadable image }
-    ensures program { IfOk result (λ p. judged image ≡ Ok p) }
-    ensures refused { IfErr result (IsRefusal (judged image)) }
+    ensures program { IfOk result (λ p. judged_code image ≡ Ok p) }
+    ensures refused { IfErr result (IsRefusal (judged_code image)) }
 {
     match load(alloc, image) {
         Ok(program) => Ok(program),

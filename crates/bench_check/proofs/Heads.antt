@@ -13,7 +13,7 @@ use Rattle.job_file.specs.Options.{◌>>=◌}
 use Rattle.job_file.specs.Numbers.{number_of, number_within, start_of}
 use Rattle.job_file.specs.Lines.{Said, blank, script, channel, start, terminal, action, fault, faults, series, said, said_in, is_comment, keyword_of, of_keyword, fault_word_of, fault_of, first, one, four, front, span_of, series_of, channel_in, start_in, terminal_in, action_in, fault_in, faults_in, series_in}
 use Rattle.job_file.specs.HeadLines.{Head, head_of}
-use Rattle.job_file.specs.Spelled.{ChannelJob, text_of, is_script, parted, all_said, lawful, first_of, job_with, job_of, spelled}
+use Rattle.job_file.specs.Spelled.{ChannelJob, joined_lines, is_script, parted, all_said, lawful, first_of, job_with, job_of, spelled}
 use Rattle.text_lines.specs.Lines.{is_line_end, lines_of}
 use Rattle.job_file.specs.declared.keywords.Keyword.{Keyword}
 use Rattle.job_file.specs.declared.keywords.Keyword.TheVariants as keyword
@@ -41,15 +41,15 @@ of_said job None text e = absurd (cc)
 of_said job (Some said) text e = of_heads job (lawful [] said) text e
 
 of_parts : (job : ChannelJob) (o : Option (List Text × List Text)) (text : Text) → behind o ≡ Some text
-    → (o >>= (λ parts. all_said parts.0 >>= (λ said. lawful [] said >>= (λ heads. job_of (head_of heads) (text_of parts.1))))) ≡ Some job
+    → (o >>= (λ parts. all_said parts.0 >>= (λ said. lawful [] said >>= (λ heads. job_of (head_of heads) (joined_lines parts.1))))) ≡ Some job
     → tree_of_text text ≡ Ok job.tree
 of_parts job None text is e = absurd (cc)
 of_parts job (Some parts) text is e =
-    let same : text_of parts.1 ≡ text = cc in
-    subst (λ (t : Text). tree_of_text t ≡ Ok job.tree) same (of_said job (all_said parts.0) (text_of parts.1) e)
+    let same : joined_lines parts.1 ≡ text = cc in
+    subst (λ (t : Text). tree_of_text t ≡ Ok job.tree) same (of_said job (all_said parts.0) (joined_lines parts.1) e)
 
 of_none : (job : ChannelJob) (o : Option (List Text × List Text)) → behind o ≡ None
-    → (o >>= (λ parts. all_said parts.0 >>= (λ said. lawful [] said >>= (λ heads. job_of (head_of heads) (text_of parts.1))))) ≡ Some job → ⊥
+    → (o >>= (λ parts. all_said parts.0 >>= (λ said. lawful [] said >>= (λ heads. job_of (head_of heads) (joined_lines parts.1))))) ≡ Some job → ⊥
 of_none job None is e = absurd (cc)
 of_none job (Some parts) is e = absurd (cc)
 
@@ -63,7 +63,7 @@ no_script text job is e = of_none job (parted (lines_of text)) is e
 
 -- line by line
 
-here : (line : Text) (lines : List Text) → is_script (said line) ≡ true → behind (parted (line ∷ lines)) ≡ Some (text_of lines)
+here : (line : Text) (lines : List Text) → is_script (said line) ≡ true → behind (parted (line ∷ lines)) ≡ Some (joined_lines lines)
 here line lines e = rw e refl
 
 behind_more : (line : Text) (o : Option (List Text × List Text)) → behind (o >>= (λ (parts : List Text × List Text). Some (line ∷ parts.0, parts.1))) ≡ behind o

@@ -15,7 +15,7 @@ use Rattle.bc_machine.specs.Running.{MachineState, stepped}
 use Rattle.bc_machine.specs.Coming.{IsComing, IsStill}
 use Rattle.job_file.specs.Jobs.{JobState, tree_in, job_in}
 use Rattle.job_file.specs.Machines.{IsOf, BusSoFar}
-use Rattle.bench_check.specs.Meeting.{meets, sent_under}
+use Rattle.bench_check.specs.Meeting.{meets_something, sent_under}
 use Rattle.bench_check.specs.Unmet.{bus_at, met_behind, unmet_of, unmet_behind, unmet_up_to, numbered, planned_behind, made, unmet}
 
 -- the actions of hosts leave the least start of a bus alone, and have nothing to do with it
@@ -35,7 +35,7 @@ unmet_played b (t ∷ ts) faults = refl
 
 -- the faults of a message that is coming and meet nothing are those that the definition has
 coming_is : BusSoFar → (job : JobState) (m n : MachineState) (u : Upcoming) → IsSound (tree_in job) → IsOf (job_in job) job.actions m → IsOf (job_in job) job.actions n → n ≡ stepped m → IsComing m u
-    → unmet_behind job m.point.number ≡ numbered (m.point.number + 1) (filter (λ f. not (meets u.bus u.talk (faults_of (m.point.number + 1) job.plan) f)) (faults_of (m.point.number + 1) job.plan))
+    → unmet_behind job m.point.number ≡ numbered (m.point.number + 1) (filter (λ f. not (meets_something u.bus u.talk (faults_of (m.point.number + 1) job.plan) f)) (faults_of (m.point.number + 1) job.plan))
 unfolding unmet_behind
 coming_is so_far job m n u sound of next is h =
     let k = m.point.number in
@@ -51,13 +51,13 @@ coming_is so_far job m n u sound of next is h =
 -- one more message
 pub one_more : BusSoFar → (job : JobState) (m n : MachineState) (u : Upcoming) (number : ℕ) (old new : List Planned) → IsSound (tree_in job) → IsOf (job_in job) job.actions m → IsOf (job_in job) job.actions n → n ≡ stepped m → IsComing m u
     → number ≡ m.point.number + 1 → old ≡ unmet_up_to job m.point.number
-    → new ≡ old ++ numbered number (filter (λ f. not (meets u.bus u.talk (faults_of number job.plan) f)) (faults_of number job.plan))
+    → new ≡ old ++ numbered number (filter (λ f. not (meets_something u.bus u.talk (faults_of number job.plan) f)) (faults_of number job.plan))
     → new ≡ unmet_up_to job n.point.number
 one_more so_far job m n u number old new sound of next is h counted so_far_unmet adds =
     let k = m.point.number in
     let next_number : n.point.number ≡ suc k = ap (λ (z : MachineState). z.point.number) is ∙ h.number ∙ add-one k in
-    let this : numbered number (filter (λ f. not (meets u.bus u.talk (faults_of number job.plan) f)) (faults_of number job.plan)) ≡ unmet_behind job k =
-    ap (λ i. numbered i (filter (λ f. not (meets u.bus u.talk (faults_of i job.plan) f)) (faults_of i job.plan))) counted ∙ sym (coming_is so_far job m n u sound of next is h) in
+    let this : numbered number (filter (λ f. not (meets_something u.bus u.talk (faults_of number job.plan) f)) (faults_of number job.plan)) ≡ unmet_behind job k =
+    ap (λ i. numbered i (filter (λ f. not (meets_something u.bus u.talk (faults_of i job.plan) f)) (faults_of i job.plan))) counted ∙ sym (coming_is so_far job m n u sound of next is h) in
     adds ∙ ap₂ (λ xs ys. xs ++ ys) so_far_unmet this ∙ sym (ap (unmet_up_to job) next_number)
 
 -- a step that sends nothing

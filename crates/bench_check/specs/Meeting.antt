@@ -9,20 +9,20 @@ use Rattle.mil_bus.specs.declared.talks.Talk.{Talk}
 use Rattle.mil_bus.specs.Exchange.{BusState, controllers, most_runs, runs}
 
 -- the run that a fault is planned for
-abbrev pub run_of : Fault → ℕ
-run_of (Mask run index half_bits) = run
-run_of (Drop run index) = run
-run_of (Add run index word) = run
-run_of (Late run ticks) = run
-run_of (Mute run) = run
+abbrev pub planned_run : Fault → ℕ
+planned_run (Mask run index half_bits) = run
+planned_run (Drop run index) = run
+planned_run (Add run index word) = run
+planned_run (Late run ticks) = run
+planned_run (Mute run) = run
 
 -- whether a fault is planned for a run before this one
 abbrev pub is_before : ℕ → Fault → Bool
-is_before run f = nat_lt (run_of f) run
+is_before run f = nat_lt (planned_run f) run
 
 -- the words of a run
-abbrev pub words_of : ℕ → List Sent → List Sent
-words_of run sent = filter (λ (w : Sent). w.run == run) sent
+abbrev pub words_in_run : ℕ → List Sent → List Sent
+words_in_run run sent = filter (λ (w : Sent). w.run == run) sent
 
 -- whether a run of so many words has the place of a fault: its word, or any word where the fault is of the whole run
 abbrev pub is_there : ℕ → Fault → Bool
@@ -40,5 +40,6 @@ sent_under b t faults =
 
 -- A fault meets something where its run has its place, as the run's sender gives it: under the faults of earlier runs
 -- alone, since these say whether and how the run comes about.
-abbrev pub meets : BusState → Talk → List Fault → Fault → Bool
-meets b t faults f = is_there (length (words_of (run_of f) (sent_under b t (filter (is_before (run_of f)) faults)))) f
+abbrev pub meets_something : BusState → Talk → List Fault → Fault → Bool
+meets_something b t faults f = is_there
+    (length (words_in_run (planned_run f) (sent_under b t (filter (is_before (planned_run f)) faults)))) f

@@ -8,7 +8,7 @@ use Rattle.mil_bus.specs.Exchange.{BusState}
 use Rattle.bc_machine.specs.Controller.{ready}
 use Rattle.job_file.specs.Jobs.{JobState, job_in}
 use Rattle.job_file.specs.Meaning.{records, bus_after}
-use Rattle.bench_check.specs.Meeting.{meets}
+use Rattle.bench_check.specs.Meeting.{meets_something}
 
 -- how many messages a job sends under its own actions
 abbrev pub made : JobState → ℕ
@@ -25,7 +25,7 @@ met_behind job k = ready job.actions (k + 1) (bus_at job k)
 -- the faults of these that meet nothing of the latest talk
 abbrev pub unmet_of : BusState → List Talk → List Fault → List Fault
 unmet_of b [] faults = faults
-unmet_of b (t ∷ ts) faults = filter (λ f. not (meets b t faults f)) faults
+unmet_of b (t ∷ ts) faults = filter (λ f. not (meets_something b t faults f)) faults
 
 -- each fault with the number of its message
 abbrev pub numbered : ℕ → List Fault → List Planned

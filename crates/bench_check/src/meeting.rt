@@ -12,7 +12,7 @@ use std::alloc::{AllocError, Global};
 
 /// The run that a fault is planned for: 0 is the controller's, 1 and 2 are the replies.
 fn run_of(fault: &Fault) -> u32
-    ensures { result ≡ spec.run_of fault.now }
+    ensures { result ≡ spec.planned_run fault.now }
 {
     match fault {
         Fault::Mask { run, .. } => *run,
@@ -38,7 +38,7 @@ fn is_there(words: usize, fault: &Fault) -> bool
 
 /// How many words a run has.
 fn count_of(sent: &[Sent], run: u32) -> usize
-    ensures { result ≡ length (spec.words_of run sent.now) }
+    ensures { result ≡ length (spec.words_in_run run sent.now) }
 {
     sent.iter()
         .filter(|word| u32::from(word.run) == run)
@@ -66,7 +66,7 @@ fn words_under(coming: &Upcoming, faults: &[Fault], run: u32) -> Result<usize, A
     requires start { coming.now.talk.start ≡ talk_start coming.now.bus coming.now.gap }
     requires in_range { list_all is_in_range faults.now ≡ true }
     ensures { IfOk result
-        (λ n. n ≡ length (spec.words_of run (spec.sent_under coming.now.bus coming.now.talk faults.now))) }
+        (λ n. n ≡ length (spec.words_in_run run (spec.sent_under coming.now.bus coming.now.talk faults.now))) }
 {
     let mut bus = coming.bus.copy()?;
     let talk = &coming.talk;
@@ -86,7 +86,7 @@ pub fn meets(
     requires clock { now_of coming.now.bus < 2 ^ 60 }
     requires start { coming.now.talk.start ≡ talk_start coming.now.bus coming.now.gap }
     requires in_range { list_all is_in_range faults.now ≡ true }
-    ensures { IfOk result (λ b. b ≡ spec.meets coming.now.bus coming.now.talk faults.now fault.now) }
+    ensures { IfOk result (λ b. b ≡ spec.meets_something coming.now.bus coming.now.talk faults.now fault.now) }
 {
     let run = run_of(fault);
     let before = earlier(alloc, faults, run)?;

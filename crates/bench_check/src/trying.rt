@@ -1,6 +1,6 @@
 //! A job, tried message by message.
 ghost use Rattle.bc_machine.specs.Rising.{IsRising};
-ghost use Rattle.bench_check.specs.Meeting.{meets as is_met};
+ghost use Rattle.bench_check.specs.Meeting.{meets_something as is_met};
 ghost use Rattle.bench_check.specs.Overruns.{overruns, overruns_at};
 ghost use Rattle.bench_check.specs.Trying.{IsTried, StepsOn, HasEnded};
 ghost use Rattle.bench_check.specs.Unmet as spec;

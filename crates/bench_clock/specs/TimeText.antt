@@ -7,8 +7,8 @@ abbrev pub digit : ℕ → ℕ
 digit n = 48 + n % 10
 
 -- a day, a second of it, and ticks of 0.1 µs of that second
-abbrev pub text_of : Day → ℕ → ℕ → List ℕ
-text_of d second ticks =
+abbrev pub time_of_day_text : Day → ℕ → ℕ → List ℕ
+time_of_day_text d second ticks =
     digit (d.year / 1000) ∷ digit (d.year / 100) ∷ digit (d.year / 10) ∷ digit d.year
     ∷ 45 ∷ digit (d.month / 10) ∷ digit d.month
     ∷ 45 ∷ digit (d.day / 10) ∷ digit d.day
@@ -21,4 +21,5 @@ text_of d second ticks =
 
 -- the time so many ticks of 0.1 µs behind 1970-01-01T00:00:00
 abbrev pub time_text : ℕ → List ℕ
-time_text ticks = text_of (day_numbered (ticks / 10000000 / 86400)) (ticks / 10000000 % 86400) (ticks % 10000000)
+time_text ticks = time_of_day_text (day_numbered (ticks / 10000000 / 86400)) (ticks / 10000000 % 86400)
+    (ticks % 10000000)

@@ -1,7 +1,7 @@
 //! The time of day at the stamps of a recording.
 ghost use Rattle.bench_clock.specs.Clock as spec;
 ghost use Rattle.ch11_reader.specs.Listing.{listing};
-ghost use Rattle.ch11_stream.specs.Folding.{Finds};
+ghost use Rattle.ch11_stream.specs.Folding.{FoldsPackets};
 ghost use Rattle.std.specs.Prelude.{◌≡◌, ℕ, List, Some, IfOk, option_map};
 
 use crate::marks::marks_of;
@@ -86,7 +86,7 @@ impl Clock {
 /// others.
 pub fn clock_from<R: Advance + Drop>(alloc: Global, input: R) -> Result<Clock, StreamFault>
     ensures { (file : List ℕ) → R.remaining input ≡ Some file
-        → Finds (λ ps clock. clock ≡ spec.marks_in file (listing ps)) result file }
+        → FoldsPackets (λ ps clock. clock ≡ spec.marks_in file (listing ps)) result file }
 {
     Ok(Clock {
         marks: marks_from(alloc, input)?,

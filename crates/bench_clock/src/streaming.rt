@@ -2,7 +2,7 @@
 ghost use Rattle.bench_clock.specs.Clock.{marks_in};
 ghost use Rattle.bench_clock.specs.Rising.{IsRising};
 ghost use Rattle.ch11_reader.specs.Listing.{listing};
-ghost use Rattle.ch11_stream.specs.Folding.{Finds};
+ghost use Rattle.ch11_stream.specs.Folding.{FoldsPackets};
 ghost use Rattle.std.specs.Prelude.{◌≡◌, ℕ, List, Some, IfOk};
 
 use crate::clock::Mark;
@@ -17,7 +17,7 @@ pub(crate) fn marks_from<R: Advance + Drop>(
 ) -> Result<Vec<Mark>, StreamFault>
     ensures rising { IfOk result (λ ms. IsRising ms.items) }
     ensures found { (file : List ℕ) → R.remaining input ≡ Some file
-        → Finds (λ ps ms. ms.items ≡ marks_in file (listing ps)) result file }
+        → FoldsPackets (λ ps ms. ms.items ≡ marks_in file (listing ps)) result file }
 {
     let mut packets = Packets::over(alloc, input)?;
     let mut marks = Vec::new(alloc);

@@ -25,7 +25,7 @@ fn digit(number: u32) -> u8
 /// A day, a second of it, and ticks of that second.
 fn text_of(day: u64, second: u32, ticks: u32) -> [u8; 27]
     requires { day ≤ 2932896 }
-    ensures { result ≡ spec.text_of (day_numbered day) second ticks }
+    ensures { result ≡ spec.time_of_day_text (day_numbered day) second ticks }
 {
     let date = date_of(day);
     let (year, month, day) = (date.year as u32, u32::from(date.month), u32::from(date.day));

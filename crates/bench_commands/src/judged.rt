@@ -2,7 +2,7 @@
 
 use crate::large::Large;
 use bench_judge::{
-    PassFault, Verdict, judge, judge_from, junit_text, junit_text_from, write_colored,
+    PassFault, RuleVerdict, judge, judge_from, junit_text, junit_text_from, write_colored,
     write_colored_from, write_verdicts, write_verdicts_from,
 };
 use bench_watch::Reopen;
@@ -34,7 +34,7 @@ impl<R: Files + AllocGlobal + Clock, E: Eprint + IsTerminal> Judged<'_, R, E> {
         &self,
         alloc: Global,
         rules: &[Rule],
-    ) -> Result<Vec<Verdict>, PassFault> {
+    ) -> Result<Vec<RuleVerdict>, PassFault> {
         match self {
             Judged::Whole(index) => Ok(judge(alloc, index, rules)?),
             Judged::Large(large) => match large.reopen() {
@@ -50,7 +50,7 @@ impl<R: Files + AllocGlobal + Clock, E: Eprint + IsTerminal> Judged<'_, R, E> {
         alloc: Global,
         rules: &[Rule],
         out: &mut W,
-    ) -> Result<Vec<Verdict>, PassFault> {
+    ) -> Result<Vec<RuleVerdict>, PassFault> {
         match self {
             Judged::Whole(index) => Ok(write_verdicts(alloc, index, rules, out)?),
             Judged::Large(large) => write_verdicts_from(alloc, *large, rules, out),
@@ -62,7 +62,7 @@ impl<R: Files + AllocGlobal + Clock, E: Eprint + IsTerminal> Judged<'_, R, E> {
         &self,
         alloc: Global,
         spelled: Spelled<'_>,
-        verdicts: &[Verdict],
+        verdicts: &[RuleVerdict],
         out: &mut W,
     ) -> Result<(), PassFault> {
         let (text, rules) = (spelled.text, spelled.rules);
@@ -77,7 +77,7 @@ impl<R: Files + AllocGlobal + Clock, E: Eprint + IsTerminal> Judged<'_, R, E> {
         &self,
         alloc: Global,
         spelled: Spelled<'_>,
-        verdicts: &[Verdict],
+        verdicts: &[RuleVerdict],
     ) -> Result<Vec<u8>, PassFault> {
         let (text, rules) = (spelled.text, spelled.rules);
         match self {

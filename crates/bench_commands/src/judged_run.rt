@@ -6,7 +6,7 @@ use crate::judging::{fault_of_printing, print_verdicts, verdict_on};
 use crate::looking::index_of;
 use crate::options::{Row, value};
 use bench_files::leads_to_output;
-use bench_judge::{PrintFault, Verdict, write_verdicts};
+use bench_judge::{PrintFault, RuleVerdict, write_verdicts};
 use bench_requests::{Fault, RunRequest, read_whole, rules_of};
 use ch11_reader::Index;
 use judge_rules::Rule;
@@ -89,7 +89,7 @@ fn tell_verdicts<E: Eprint>(
     errors: &E,
     index: &Index<'_>,
     rules: &[Rule],
-) -> Result<Vec<Verdict>, PrintFault> {
+) -> Result<Vec<RuleVerdict>, PrintFault> {
     let mut out = BufWriter::new(alloc, ErrorStream { errors })?;
     write_verdicts(alloc, index, rules, &mut out)
 }

@@ -8,7 +8,7 @@ use crate::options::{argument, command_of, file, flag, force, optional};
 use crate::replacing::may_write;
 use crate::watching::{Watch, prints_to_terminal};
 use bench_files::{Hold, Kind};
-use bench_judge::{PassFault, PrintFault, Verdict, not_held};
+use bench_judge::{PassFault, PrintFault, RuleVerdict, not_held};
 use bench_requests::{Fault, is_large, open_to_read, read_whole, rules_of, write_new};
 use clap::{ArgMatches, Command};
 use std::alloc::{AllocError, Global};
@@ -188,7 +188,7 @@ pub(crate) fn print_verdicts<'a, R: System, E: Eprint + IsTerminal>(
     name: &'a str,
     judged: &Judged<'_, R, E>,
     spelled: Spelled<'_>,
-) -> Result<Vec<Verdict>, Fault<'a>> {
+) -> Result<Vec<RuleVerdict>, Fault<'a>> {
     match print_judged(rt, judged, spelled) {
         Ok(verdicts) => Ok(verdicts),
         Err(fault) => Err(fault_of_pass(name, fault)),
@@ -200,7 +200,7 @@ fn print_judged<R: System, E: Eprint + IsTerminal>(
     rt: &R,
     judged: &Judged<'_, R, E>,
     spelled: Spelled<'_>,
-) -> Result<Vec<Verdict>, PassFault> {
+) -> Result<Vec<RuleVerdict>, PassFault> {
     let mut out = BufWriter::new(rt.alloc(), io::writer(rt))?;
     if !is_for_people(rt) {
         return judged.write_lines(rt.alloc(), spelled.rules, &mut out);
@@ -249,7 +249,7 @@ pub(crate) fn fault_of_printing<'a>(fault: PrintFault) -> Fault<'a> {
 }
 
 /// The fault of a rule that is not held, where there is one.
-pub(crate) fn verdict_on<'a>(verdicts: &[Verdict]) -> Result<(), Fault<'a>> {
+pub(crate) fn verdict_on<'a>(verdicts: &[RuleVerdict]) -> Result<(), Fault<'a>> {
     if not_held(verdicts) == 0 {
         Ok(())
     } else {

@@ -2,7 +2,7 @@
 use Rattle.std.proofs.Common.{◌≡◌, ℕ, ◌+◌, Bool, true, false, not, eqb, List, [], ◌∷◌, ◌++◌, length, map, drop, Ok, refl, sym, ap, ◌∙◌, arith}
 use Rattle.std.proofs.lemmas.Bool.{eqb-true}
 use Rattle.ch11_f1.specs.BodyReading.{Message}
-use Rattle.ch11_reader.specs.Recording.{Found, holds_messages, messages_of, packet_at, packets_from, packets_in}
+use Rattle.ch11_reader.specs.Recording.{Found, holds_messages, packet_messages, packet_at, packets_from, packets_in}
 use Rattle.ch11_reader.specs.Contents.{reading}
 use Rattle.ch11_reader.specs.Joined.{later}
 use Rattle.ch11_reader.proofs.Joined.{recordings_join}
@@ -23,13 +23,13 @@ AreWhole (p ∷ ps) = IsWhole p × AreWhole ps
 -- what packets are read as, from an offset on
 abbrev pub found_from : ℕ → List Piece → List Found
 found_from offset [] = []
-found_from offset (p ∷ ps) = record { offset = offset; header = p.header; messages = messages_of p.header p.bytes } ∷ found_from (offset + length p.bytes) ps
+found_from offset (p ∷ ps) = record { offset = offset; header = p.header; messages = packet_messages p.header p.bytes } ∷ found_from (offset + length p.bytes) ps
 
 all_later : (by offset : ℕ) (ps : List Piece) → map (later by) (found_from offset ps) ≡ found_from (by + offset) ps
 all_later by offset [] = refl
 all_later by offset (p ∷ ps) =
     let place : by + (offset + length p.bytes) ≡ (by + offset) + length p.bytes = omega arith in
-    ap (λ (l : List Found). record { offset = by + offset; header = p.header; messages = messages_of p.header p.bytes } ∷ l)
+    ap (λ (l : List Found). record { offset = by + offset; header = p.header; messages = packet_messages p.header p.bytes } ∷ l)
     (all_later by (offset + length p.bytes) ps ∙ ap (λ (k : ℕ). found_from k ps) place)
 
 nothing_is_read : packets_in [] ≡ Ok []
@@ -42,18 +42,18 @@ read_again (p ∷ ps) all =
     let one = one_packet p.bytes p.header all.0.size all.0.read in
     let rest = read_again ps all.1 in
     let place : length p.bytes + 0 ≡ 0 + length p.bytes = omega arith in
-    recordings_join p.bytes (bytes_of ps) (record { offset = 0; header = p.header; messages = messages_of p.header p.bytes } ∷ []) (found_from 0 ps) one rest
-    ∙ ap (λ (l : List Found). Ok (record { offset = 0; header = p.header; messages = messages_of p.header p.bytes } ∷ l)) (all_later (length p.bytes) 0 ps ∙ ap (λ (k : ℕ). found_from k ps) place)
+    recordings_join p.bytes (bytes_of ps) (record { offset = 0; header = p.header; messages = packet_messages p.header p.bytes } ∷ []) (found_from 0 ps) one rest
+    ∙ ap (λ (l : List Found). Ok (record { offset = 0; header = p.header; messages = packet_messages p.header p.bytes } ∷ l)) (all_later (length p.bytes) 0 ps ∙ ap (λ (k : ℕ). found_from k ps) place)
 
 -- ---- the messages of a channel
 
 abbrev pub messages_in : List Piece → List Message
 messages_in [] = []
-messages_in (p ∷ ps) = messages_of p.header p.bytes ++ messages_in ps
+messages_in (p ∷ ps) = packet_messages p.header p.bytes ++ messages_in ps
 
 heard_by : (channel offset : ℕ) (p : Piece) (ps : List Piece) (own : Bool) → eqb p.header.channel channel ≡ own → reading (found_from (offset + length p.bytes) ps) channel ≡ messages_in (of_channel channel ps)
     → reading (found_from offset (p ∷ ps)) channel ≡ messages_in (of_channel channel (p ∷ ps))
-heard_by channel offset p ps true o rest = rw o (ap (λ (l : List Message). messages_of p.header p.bytes ++ l) rest)
+heard_by channel offset p ps true o rest = rw o (ap (λ (l : List Message). packet_messages p.header p.bytes ++ l) rest)
 heard_by channel offset p ps false o rest = rw o rest
 
 -- what a channel is read as
@@ -78,7 +78,7 @@ silent_index : (p : Found) (file : List ℕ) → ReadsAt file p → goes_over p.
 silent_index p file r left =
     let kind : p.header.kind ≡ 3 = eqb-true p.header.kind 3 (is_index (eqb p.header.kind 3) left) in
     let other : holds_messages p.header ≡ false = ap (λ (k : ℕ). eqb k 0x19) kind in
-    let none : messages_of p.header (drop p.offset file) ≡ [] = rw other refl in
+    let none : packet_messages p.header (drop p.offset file) ≡ [] = rw other refl in
     r.messages ∙ none
   where
     is_index : (b : Bool) → not b ≡ false → b ≡ true

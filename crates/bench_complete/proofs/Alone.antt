@@ -6,7 +6,7 @@ use Rattle.ch11_header.specs.declared.header.Header.{Header}
 use Rattle.ch11_header.specs.declared.error.HeaderError.{HeaderError}
 use Rattle.ch11_header.specs.HeaderBytes.{word_sum, header_sum}
 use Rattle.ch11_header.specs.HeaderReading.{header_in, fields_of, with_lawful_lengths, is_packet_length, has_room, body_start}
-use Rattle.ch11_reader.specs.Recording.{Found, body_of, messages_of, with_rest, packet_at, packets_from, packets_in, ◌>>=◌}
+use Rattle.ch11_reader.specs.Recording.{Found, body_of, packet_messages, with_rest, packet_at, packets_from, packets_in, ◌>>=◌}
 use Rattle.ch11_reader.proofs.Joined.{number_front}
 use Rattle.bench_complete.proofs.Sound.{lawful, front}
 
@@ -86,7 +86,7 @@ rest_front : (h : Header) (xs r : List ℕ) → HasRoom h → h.packet_length �
 rest_front h xs r room whole =
     rw (le-ltb (length (xs ++ r)) h.packet_length (omega (arith, whole, length-append xs r)), le-ltb (length xs) h.packet_length whole, body_front h xs r room whole) refl
 
-messages_front : (h : Header) (xs r : List ℕ) → HasRoom h → h.packet_length ≤ length xs → messages_of h (xs ++ r) ≡ messages_of h xs
+messages_front : (h : Header) (xs r : List ℕ) → HasRoom h → h.packet_length ≤ length xs → packet_messages h (xs ++ r) ≡ packet_messages h xs
 messages_front h xs r room whole = rw (body_front h xs r room whole) refl
 
 -- ---- the bytes of one packet
@@ -107,8 +107,8 @@ module _ (bytes : List ℕ) (h : Header) (is : packet_at bytes ≡ Ok h) where
   own_rest : with_rest h own ≡ Ok h
   own_rest = sym (rest_front h own (drop h.packet_length bytes) (room_of bytes h is) (omega (arith, own_size))) ∙ ap (with_rest h) whole ∙ (front bytes h is).rest
 
-  pub own_messages : messages_of h own ≡ messages_of h bytes
-  own_messages = sym (messages_front h own (drop h.packet_length bytes) (room_of bytes h is) (omega (arith, own_size))) ∙ ap (messages_of h) whole
+  pub own_messages : packet_messages h own ≡ packet_messages h bytes
+  own_messages = sym (messages_front h own (drop h.packet_length bytes) (room_of bytes h is) (omega (arith, own_size))) ∙ ap (packet_messages h) whole
 
   pub own_packet : packet_at own ≡ Ok h
   unfolding packet_at
@@ -121,12 +121,12 @@ nothing_behind (suc most) offset p = refl
 
 -- bytes that are one packet and no more are a recording of that packet
 one_by : (xs : List ℕ) (h : Header) → 0 < length xs → length xs ≡ h.packet_length → packet_at xs ≡ Ok h
-    → packets_in xs ≡ Ok (record { offset = 0; header = h; messages = messages_of h xs } ∷ [])
+    → packets_in xs ≡ Ok (record { offset = 0; header = h; messages = packet_messages h xs } ∷ [])
 unfolding packets_from
 one_by [] h some size is = absurd (omega arith)
 one_by (x ∷ xs) h some size is =
     let none : drop h.packet_length (x ∷ xs) ≡ [] = drop_all h.packet_length (x ∷ xs) (omega (arith, size)) in
-    rw (is, none) (nothing_behind (length xs) (0 + h.packet_length) (record { offset = 0; header = h; messages = messages_of h (x ∷ xs) }))
+    rw (is, none) (nothing_behind (length xs) (0 + h.packet_length) (record { offset = 0; header = h; messages = packet_messages h (x ∷ xs) }))
 
-pub one_packet : (xs : List ℕ) (h : Header) → length xs ≡ h.packet_length → packet_at xs ≡ Ok h → packets_in xs ≡ Ok (record { offset = 0; header = h; messages = messages_of h xs } ∷ [])
+pub one_packet : (xs : List ℕ) (h : Header) → length xs ≡ h.packet_length → packet_at xs ≡ Ok h → packets_in xs ≡ Ok (record { offset = 0; header = h; messages = packet_messages h xs } ∷ [])
 one_packet xs h size is = one_by xs h (let room = room_of xs h is in omega (arith, room.least, size)) size is

@@ -2,12 +2,12 @@
 use Rattle.std.proofs.Common.{◌≡◌, ◌⊎◌, inl, inr, ℕ, cond, eqb, List, [], ◌∷◌, ◌++◌, refl, sym, ap, subst, ◌∙◌, append_assoc, append-nil}
 use Rattle.std.proofs.lemmas.Bool.{eq-eqb, ne_eqb, cases_eq}
 use Rattle.bench_complete.specs.Pieces.{Piece, bytes_of}
-use Rattle.bench_complete.specs.Merging.{of_channel, IsNotBehind, IsInOrder, IsMerge}
+use Rattle.bench_complete.specs.Merging.{of_channel, IsNotBehind, IsMergeOrder, IsMerge}
 
 -- a merge of what each channel has left
 pub record IsMergeOf (rest : ℕ → List Piece) (ms : List Piece) : Type 0 where
   pub channels : (channel : ℕ) → of_channel channel ms ≡ rest channel
-  pub order : IsInOrder ms
+  pub order : IsMergeOrder ms
 
 -- the same, but for one channel
 abbrev pub put : (ℕ → List Piece) → ℕ → List Piece → ℕ → List Piece

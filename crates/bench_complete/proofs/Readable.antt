@@ -3,7 +3,7 @@ use Rattle.std.proofs.Common.{◌≡◌, ◌⊎◌, inl, inr, ℕ, zero, suc, �
 use Rattle.std.proofs.lemmas.Bool.{cases_eq, ltb-true}
 use Rattle.std.proofs.lemmas.List.Elements.{filter-append}
 use Rattle.ch11_f1.specs.BodyReading.{Message}
-use Rattle.ch11_reader.specs.Recording.{Found, messages_of, packets_in}
+use Rattle.ch11_reader.specs.Recording.{Found, packet_messages, packets_in}
 use Rattle.ch11_reader.specs.Contents.{reading}
 use Rattle.bench_complete.specs.declared.additions.Additions.{Additions}
 use Rattle.bench_complete.specs.declared.additions.UtcSecond.{UtcSecond}
@@ -15,7 +15,7 @@ use Rattle.bench_complete.specs.Merging.{of_channel, IsMerge}
 use Rattle.bench_complete.specs.TimePackets.{time_piece, times_from, times_in}
 use Rattle.bench_complete.specs.SetupRecord.{setup_piece}
 use Rattle.bench_complete.specs.Complete.{IsComplete, plan_for, extent_of, low_of, times_between, front_of}
-use Rattle.bench_complete.specs.Judging.{AllReadAt, is_setup, judged, judged_recording, misuse, unless_misused}
+use Rattle.bench_complete.specs.Judging.{AllReadAt, is_setup, judged_additions, judged_recording, misuse, unless_misused}
 use Rattle.bench_complete.specs.Laws.{AreOptions, ReadingStays}
 use Rattle.bench_complete.proofs.Merged.{of_channel-same, of_channel-other}
 use Rattle.bench_complete.proofs.Sound.{all_read}
@@ -58,9 +58,9 @@ merged_whole parts merged m all = whole_by_channels merged (λ channel. subst Ar
 heard_append : (ps qs : List Piece) → messages_in (ps ++ qs) ≡ messages_in ps ++ messages_in qs
 heard_append [] qs = refl
 heard_append (p ∷ ps) qs =
-    ap (λ (l : List Message). messages_of p.header p.bytes ++ l) (heard_append ps qs) ∙ sym (append_assoc (messages_of p.header p.bytes) (messages_in ps) (messages_in qs))
+    ap (λ (l : List Message). packet_messages p.header p.bytes ++ l) (heard_append ps qs) ∙ sym (append_assoc (packet_messages p.header p.bytes) (messages_in ps) (messages_in qs))
 
-times_silent_by : (channel : ℕ) (p : Piece) (ps : List Piece) → messages_of p.header p.bytes ≡ [] → messages_in (of_channel channel ps) ≡ []
+times_silent_by : (channel : ℕ) (p : Piece) (ps : List Piece) → packet_messages p.header p.bytes ≡ [] → messages_in (of_channel channel ps) ≡ []
     → (p.header.channel ≡ channel) ⊎ (p.header.channel ≡ channel → ⊥) → messages_in (of_channel channel (p ∷ ps)) ≡ []
 times_silent_by channel p ps none rest (inl same) =
     ap messages_in (of_channel-same channel p ps same) ∙ ap (λ (l : List Message). l ++ messages_in (of_channel channel ps)) none ∙ rest
@@ -111,7 +111,7 @@ front_whole (Some text) version counter is small low = (setup_whole version coun
 -- ---- the law
 
 module _ (file bytes : List ℕ) (a : Additions) (ps : List Found) (small_bytes : (k : ℕ) → get_or file k 0 < 256) (options : AreOptions a) (read : packets_in file ≡ Ok ps)
-    (sound : judged file (Ok ps) a ≡ Ok ps) (complete : IsComplete (plan_for file ps a) bytes) where
+    (sound : judged_additions file (Ok ps) a ≡ Ok ps) (complete : IsComplete (plan_for file ps a) bytes) where
   abbrev extent : Option Extent
   extent = extent_of (kept_packets file ps)
 

@@ -12,7 +12,7 @@ use Rattle.ch11_f1.specs.BodyReading.{Message, messages_in}
 use Rattle.ch11_reader.specs.declared.error.Fault.{Fault}
 use Rattle.ch11_reader.specs.declared.packet.Packet.{Packet}
 use Rattle.ch11_reader.specs.Listing.{listed_behind, listing_behind}
-use Rattle.ch11_reader.specs.Recording.{Found, holds_messages, body_of, messages_of, with_body, with_rest, with_header, packet_at, packets_from, packets_in}
+use Rattle.ch11_reader.specs.Recording.{Found, holds_messages, body_of, packet_messages, with_body, with_rest, with_header, packet_at, packets_from, packets_in}
 use Rattle.ch11_reader.specs.Skipping.{stretches_from, packets_among, packets_read, first_stretch, first_size}
 use Rattle.ch11_reader.proofs.Joined.{first_of, nothing_found}
 use Rattle.bench_complete.specs.Pieces.{Piece, piece_at, goes_over, kept_packets, kept_entries}
@@ -87,13 +87,13 @@ front bytes h is = front_of bytes h (header_in bytes) refl is
 -- ---- all packets of a file
 
 reads_at : (file : List ℕ) (offset b : ℕ) (bs : List ℕ) (h : Header) → AreBytes file → drop offset file ≡ b ∷ bs → packet_at (b ∷ bs) ≡ Ok h
-    → ReadsAt file (record { offset = offset; header = h; messages = messages_of h (b ∷ bs) })
+    → ReadsAt file (record { offset = offset; header = h; messages = packet_messages h (b ∷ bs) })
 reads_at file offset b bs h small behind is =
     let f = front (b ∷ bs) h is in
     let size = length-drop offset file in
     record {
       packet = ap packet_at behind ∙ is;
-      messages = ap (messages_of h) (sym behind);
+      messages = ap (packet_messages h) (sym behind);
       within = omega (arith, f.whole, size, ap length behind);
       counter = counter_below (b ∷ bs) h (subst AreBytes behind (bytes-drop offset file small)) f.header;
     }

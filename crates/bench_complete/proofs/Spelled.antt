@@ -1,7 +1,7 @@
 -- The digits of the text of a second.
 use Rattle.std.proofs.Common.{◌≡◌, ℕ, ◌+◌, ◌*◌, ◌/◌, ◌%◌, ◌<◌, List, take, slice_index_or, ap, ◌∙◌, arith}
 use Rattle.bench_clock.specs.Calendar.{Day, day_numbered}
-use Rattle.bench_clock.specs.TimeText.{digit, text_of}
+use Rattle.bench_clock.specs.TimeText.{digit, time_of_day_text}
 use Rattle.bench_clock.proofs.Days.{small_parts}
 use Rattle.bench_complete.specs.UtcText.{second_text}
 
@@ -23,10 +23,10 @@ pub spells : (text : List ℕ) (s : ℕ) → s < 4102444800 → text ≡ second_
 spells text s small is =
     let whole : s * 10000000 / 10000000 ≡ s = omega arith in
     let d : Day = day_numbered (s / 86400) in
-    let same : text ≡ take 19 (text_of d (s % 86400) (s * 10000000 % 10000000)) =
-    is ∙ ap (λ (k : ℕ). take 19 (text_of (day_numbered (k / 86400)) (k % 86400) (s * 10000000 % 10000000))) whole in
+    let same : text ≡ take 19 (time_of_day_text d (s % 86400) (s * 10000000 % 10000000)) =
+    is ∙ ap (λ (k : ℕ). take 19 (time_of_day_text (day_numbered (k / 86400)) (k % 86400) (s * 10000000 % 10000000))) whole in
     let parts = small_parts (s / 86400) (omega (arith, small)) in
-    let byte : (k : ℕ) → slice_index_or text k 0 ≡ slice_index_or (take 19 (text_of d (s % 86400) (s * 10000000 % 10000000))) k 0 =
+    let byte : (k : ℕ) → slice_index_or text k 0 ≡ slice_index_or (take 19 (time_of_day_text d (s % 86400) (s * 10000000 % 10000000))) k 0 =
     λ k. ap (λ (xs : List ℕ). slice_index_or xs k 0) same in
     record {
       few = omega (arith, small);

@@ -12,14 +12,14 @@ use Rattle.bench_complete.specs.declared.times.Times.{Times}
 use Rattle.bench_complete.specs.Pieces.{Piece, kept_entries}
 use Rattle.bench_complete.specs.Merging.{of_channel}
 use Rattle.bench_complete.specs.TimePackets.{time_piece, times_from, times_in}
-use Rattle.bench_complete.specs.Lanes.{lane, piece_in, IsNext, AreLinked, IsRecorded, IsTimed, IsFrom, Stands, Follows, Pushes, AreHeads, begun, parts_of, steps, steps_by}
+use Rattle.bench_complete.specs.Lanes.{lane, piece_in, IsNext, AreLinked, IsRecordedHead, IsTimed, IsFrom, Stands, Follows, Pushes, AreHeads, begun, parts_of, steps, steps_by}
 use Rattle.bench_complete.proofs.Merged.{of_channel-same, of_channel-other}
 use Rattle.bench_complete.proofs.Linked.{split_at, lane_same, lane_is}
 use Rattle.bench_complete.proofs.Heads.{no_heads, same_heads, adds}
 
 -- ---- packets of a recording
 
-pub stands_recorded : (file : List ℕ) (es : List Packet) (t : Times) (channel i place : ℕ) (h : Head) → IsNext es channel i place → IsRecorded es place h
+pub stands_recorded : (file : List ℕ) (es : List Packet) (t : Times) (channel i place : ℕ) (h : Head) → IsNext es channel i place → IsRecordedHead es place h
     → (h.channel ≡ channel) × Stands file es t h (map (piece_in file) (lane channel (drop i es)))
 stands_recorded file es t channel i place h n r =
     let e : Packet = r.entry in
@@ -88,7 +88,7 @@ module _ (file : List ℕ) (es : List Packet) (t : Times) (first next : List ℕ
       (subst (λ (k : ℕ). IsNext es k (suc place) (get_or next place 0)) own (links.next_is place entry (omega arith) there over), slice_get_within es place entry there, others)
 
   pub follows_recorded : (h : Head) (place : ℕ) (rest : List Piece) (r : Option Head) → h.source ≡ Recorded place → Stands file es t h rest
-      → MatchOption r (length es ≤ get_or next place 0) (IsRecorded es (get_or next place 0)) → Follows file es t h r
+      → MatchOption r (length es ≤ get_or next place 0) (IsRecordedHead es (get_or next place 0)) → Follows file es t h r
   follows_recorded h place rest None e stands m = λ p ps z.
       let n = next_of h place p ps e z in
       n.2 ∙ ap (map (piece_in file)) (no_next es h.channel (suc place) (get_or next place 0) n.0 m)
@@ -104,12 +104,12 @@ module _ (file : List ℕ) (es : List Packet) (t : Times) (first next : List ℕ
       )
 
   pub follows_at : (h : Head) (place : ℕ) (rest : List Piece) (r : Option Head) (at : ℕ) → h.source ≡ Recorded place → Stands file es t h rest → at ≡ get_or next place at
-      → MatchOption r (length es ≤ at) (IsRecorded es at) → Follows file es t h r
+      → MatchOption r (length es ≤ at) (IsRecordedHead es at) → Follows file es t h r
   follows_at h place rest r at e stands is m =
       let here : Stands file es t h (stands.first ∷ stands.others) = subst (Stands file es t h) stands.is stands in
       let n = next_of h place stands.first stands.others e here in
       let same : at ≡ get_or next place 0 = is ∙ get_or_default next place at 0 (omega (arith, n.1, links.places)) in
-      follows_recorded h place rest r e stands (subst (λ (k : ℕ). MatchOption r (length es ≤ k) (IsRecorded es k)) same m)
+      follows_recorded h place rest r e stands (subst (λ (k : ℕ). MatchOption r (length es ≤ k) (IsRecordedHead es k)) same m)
 
 pub follows_timed : (file : List ℕ) (es : List Packet) (t : Times) (h : Head) (second : ℕ) (rest : List Piece) (r : Option Head) → h.source ≡ Time second → Stands file es t h rest
     → MatchOption r (t.end ≤ second + 1) (IsTimed t (second + 1)) → Follows file es t h r
@@ -181,7 +181,7 @@ module _ (file : List ℕ) (es : List Packet) (t : Times) where
       ap (λ (k : ℕ). of_channel channel (times_from t k t.first)) count
 
   pub channel_heads : (channel place : ℕ) (r : Option Head) (heads new : List Head) → (t.first < t.end → of_channel t.channel (kept_entries file es) ≡ []) → IsNext es channel 0 place
-      → MatchOption r (length es ≤ place) (IsRecorded es place) → Pushes r heads new → AreHeads file es t heads (begun file es t channel) → AreHeads file es t new (begun file es t (channel + 1))
+      → MatchOption r (length es ≤ place) (IsRecordedHead es place) → Pushes r heads new → AreHeads file es t heads (begun file es t channel) → AreHeads file es t new (begun file es t (channel + 1))
   channel_heads channel place None heads new free n m p a =
       let none : lane channel es ≡ [] = no_next es channel 0 place n m in
       let same : begun file es t channel channel ≡ begun file es t (channel + 1) channel =

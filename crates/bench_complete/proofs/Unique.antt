@@ -3,7 +3,7 @@ use Rattle.std.proofs.Common.{◌≡◌, ◌⊎◌, inl, inr, ℕ, ◌<◌, ◌�
 use Rattle.std.proofs.lemmas.Bool.{cases_eq}
 use Rattle.ch11_header.specs.declared.header.Header.{Header}
 use Rattle.bench_complete.specs.Pieces.{Piece}
-use Rattle.bench_complete.specs.Merging.{of_channel, turn, IsNotBehind, IsHead, IsInOrder, IsMerge}
+use Rattle.bench_complete.specs.Merging.{of_channel, turn, IsNotBehind, IsHead, IsMergeOrder, IsMerge}
 use Rattle.bench_complete.specs.Laws.{NeverFalls}
 use Rattle.bench_complete.proofs.Merged.{of_channel-same, of_channel-other}
 
@@ -33,7 +33,7 @@ tails p q us vs channel one same (inl is) =
 tails p q us vs channel one same (inr ne) =
     sym (of_channel-other channel p us ne) ∙ same ∙ of_channel-other channel q vs (λ e. ne (ap (λ (x : Piece). x.header.channel) one ∙ e))
 
-pub unique : (a b : List Piece) → IsInOrder a → IsInOrder b → ((channel : ℕ) → of_channel channel a ≡ of_channel channel b) → a ≡ b
+pub unique : (a b : List Piece) → IsMergeOrder a → IsMergeOrder b → ((channel : ℕ) → of_channel channel a ≡ of_channel channel b) → a ≡ b
 unique [] [] x y same = refl
 unique [] (q ∷ vs) x y same = absurd (none_there q vs (same q.header.channel))
 unique (p ∷ us) [] x y same = absurd (none_there p us (sym (same p.header.channel)))
@@ -65,7 +65,7 @@ behind_by : (p : Piece) (ps : List Piece) (channel : ℕ) → NeverFalls (of_cha
 behind_by p ps channel n (inl is) = falls_behind p (of_channel channel ps) (subst NeverFalls (of_channel-same channel p ps is) n)
 behind_by p ps channel n (inr ne) = subst NeverFalls (of_channel-other channel p ps ne) n
 
-next_by : (p q : Piece) (ms : List Piece) → IsInOrder (p ∷ (q ∷ ms)) → NeverFalls (of_channel p.header.channel (p ∷ (q ∷ ms))) → (q.header.channel ≡ p.header.channel) ⊎ (q.header.channel ≡ p.header.channel → ⊥) → p.header.counter ≤ q.header.counter
+next_by : (p q : Piece) (ms : List Piece) → IsMergeOrder (p ∷ (q ∷ ms)) → NeverFalls (of_channel p.header.channel (p ∷ (q ∷ ms))) → (q.header.channel ≡ p.header.channel) ⊎ (q.header.channel ≡ p.header.channel → ⊥) → p.header.counter ≤ q.header.counter
 next_by p q ms o n (inl same) =
     let whole : of_channel p.header.channel (p ∷ (q ∷ ms)) ≡ p ∷ (q ∷ of_channel p.header.channel ms) = own p (q ∷ ms) ∙ ap (λ (l : List Piece). p ∷ l) (of_channel-same p.header.channel q ms same) in
     let pair : NeverFalls (p ∷ (q ∷ of_channel p.header.channel ms)) = subst NeverFalls whole n in
@@ -73,7 +73,7 @@ next_by p q ms o n (inl same) =
 next_by p q ms o n (inr ne) =
     at_most p.header q.header (o.0 q (of_channel q.header.channel ms, of_channel-other q.header.channel p (q ∷ ms) (λ e. ne (sym e)) ∙ own q ms))
 
-pub in_order_rises : (ms : List Piece) → IsInOrder ms → ((channel : ℕ) → NeverFalls (of_channel channel ms)) → NeverFalls ms
+pub in_order_rises : (ms : List Piece) → IsMergeOrder ms → ((channel : ℕ) → NeverFalls (of_channel channel ms)) → NeverFalls ms
 in_order_rises [] o n = tt
 in_order_rises (p ∷ []) o n = tt
 in_order_rises (p ∷ (q ∷ ms)) o n =

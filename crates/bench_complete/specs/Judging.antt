@@ -6,7 +6,7 @@ use Rattle.std.specs.List.{list_any, AllByRecursion}
 use Rattle.ch11_header.specs.Kinds.{setup_record}
 use Rattle.ch11_reader.specs.declared.error.Refusal.{Refusal}
 use Rattle.ch11_reader.specs.declared.packet.Packet.{Packet}
-use Rattle.ch11_reader.specs.Recording.{Found, found_or_none, messages_of, packet_at}
+use Rattle.ch11_reader.specs.Recording.{Found, found_or_none, packet_messages, packet_at}
 use Rattle.bench_complete.specs.declared.additions.Additions.{Additions}
 use Rattle.bench_complete.specs.declared.extent.Extent.{Extent}
 use Rattle.bench_complete.specs.declared.fault.CompleteFault.{CompleteFault}
@@ -65,26 +65,26 @@ judged_recording file (Ok ps) a = unless_misused (misuse file ps a) ps
 
 -- the packets that are completed, or the first fault: the size of the setup text, then the recording's own, then usage
 -- faults that hang on the recording
-abbrev pub judged : List ℕ → Result (List Found) Refusal → Additions → Result (List Found) CompleteFault
-judged file read a =
+abbrev pub judged_additions : List ℕ → Result (List Found) Refusal → Additions → Result (List Found) CompleteFault
+judged_additions file read a =
     if is_setup (option_map (λ text. text.now) a.setup) then judged_recording file read a else Err faults.SetupSize
 
 -- what each refusal of judging says: it is the first fault; want of memory only where the size of the setup text is
 -- right and the recording can be read
-abbrev pub Refuses : List ℕ → Result (List Found) Refusal → Additions → CompleteFault → Type 0
-Refuses file read a faults.Memory = (is_setup (option_map (λ text. text.now) a.setup) ≡ true)
+abbrev pub RefusesCompletion : List ℕ → Result (List Found) Refusal → Additions → CompleteFault → Type 0
+RefusesCompletion file read a faults.Memory = (is_setup (option_map (λ text. text.now) a.setup) ≡ true)
     × (read ≡ Ok (found_or_none read))
-Refuses file read a faults.SetupSize = judged file read a ≡ Err faults.SetupSize
-Refuses file read a (faults.Refused r) = judged file read a ≡ Err (faults.Refused r)
-Refuses file read a faults.SetupTwice = judged file read a ≡ Err faults.SetupTwice
-Refuses file read a faults.ChannelTaken = judged file read a ≡ Err faults.ChannelTaken
-Refuses file read a faults.TooLong = judged file read a ≡ Err faults.TooLong
-Refuses file read a faults.Device = ⊥
+RefusesCompletion file read a faults.SetupSize = judged_additions file read a ≡ Err faults.SetupSize
+RefusesCompletion file read a (faults.Refused r) = judged_additions file read a ≡ Err (faults.Refused r)
+RefusesCompletion file read a faults.SetupTwice = judged_additions file read a ≡ Err faults.SetupTwice
+RefusesCompletion file read a faults.ChannelTaken = judged_additions file read a ≡ Err faults.ChannelTaken
+RefusesCompletion file read a faults.TooLong = judged_additions file read a ≡ Err faults.TooLong
+RefusesCompletion file read a faults.Device = ⊥
 
 -- what judging comes to: a plan, or a refusal
 abbrev pub Plans : List ℕ → Result (List Found) Refusal → Additions → Result Plan CompleteFault → Type 0
-Plans file read a (Ok c) = (ps : List Found) × (judged file read a ≡ Ok ps) × (c ≡ plan_for file ps a)
-Plans file read a (Err f) = Refuses file read a f
+Plans file read a (Ok c) = (ps : List Found) × (judged_additions file read a ≡ Ok ps) × (c ≡ plan_for file ps a)
+Plans file read a (Err f) = RefusesCompletion file read a f
 
 -- what stops the writing of a file: want of memory, or the writer
 abbrev pub StopsWriting : CompleteFault → Type 0
@@ -92,12 +92,13 @@ StopsWriting f = (f ≡ faults.Memory) ⊎ (f ≡ faults.Device)
 
 -- what completing a recording fails with: a refusal of judging; or where nothing is refused, what stops the writing
 abbrev pub Fails : List ℕ → Result (List Found) Refusal → Additions → CompleteFault → Type 0
-Fails file read a f = Refuses file read a f ⊎ ((judged file read a ≡ Ok (found_or_none read)) × StopsWriting f)
+Fails file read a f = RefusesCompletion file read a f
+    ⊎ ((judged_additions file read a ≡ Ok (found_or_none read)) × StopsWriting f)
 
 -- a packet of a file: it reads as this at its offset
 pub record ReadsAt (file : List ℕ) (p : Found) : Type 0 where
   pub packet : packet_at (drop p.offset file) ≡ Ok p.header
-  pub messages : p.messages ≡ messages_of p.header (drop p.offset file)
+  pub messages : p.messages ≡ packet_messages p.header (drop p.offset file)
   pub within : p.offset + p.header.packet_length ≤ length file
   pub counter : p.header.counter < 2 ^ 48
 
@@ -115,5 +116,5 @@ pub record IsPlanned (file : List ℕ) (ps : List Found) (t : Times) (low : ℕ)
 
 -- a recording that could be read was completed: a writer got the file of its plan
 abbrev pub IsCompleted : List ℕ → Result (List Found) Refusal → Additions → Option (List ℕ) → Option (List ℕ) → Type 0
-IsCompleted file read a got gets = (ps : List Found) × (judged file read a ≡ Ok ps)
+IsCompleted file read a got gets = (ps : List Found) × (judged_additions file read a ≡ Ok ps)
     × Completes (plan_for file ps a) got gets

@@ -70,7 +70,7 @@ pub record Stands (file : List ℕ) (es : List Packet) (t : Times) (h : Head) (r
   pub from : IsFrom file es t h.channel h.source first others
 
 -- the head of the packet at a place of a recording
-pub record IsRecorded (es : List Packet) (place : ℕ) (h : Head) : Type 0 where
+pub record IsRecordedHead (es : List Packet) (place : ℕ) (h : Head) : Type 0 where
   pub entry : Packet
   pub there : slice_get es place ≡ Some entry
   pub counter : h.counter ≡ entry.header.counter

@@ -6,7 +6,7 @@ use Rattle.bench_complete.specs.declared.additions.Additions.{Additions}
 use Rattle.bench_complete.specs.Pieces.{Piece}
 use Rattle.bench_complete.specs.Merging.{of_channel, IsMerge}
 use Rattle.bench_complete.specs.Complete.{IsComplete, plan_for}
-use Rattle.bench_complete.specs.Judging.{judged}
+use Rattle.bench_complete.specs.Judging.{judged_additions}
 
 -- counters never fall
 abbrev pub NeverFalls : List Piece → Type 0
@@ -37,5 +37,5 @@ pub record AreOptions (a : Additions) : Type 0 where
 abbrev pub ReadingStays : Type 0
 ReadingStays =
     (file bytes : List ℕ) (a : Additions) (ps : List Found) → ((k : ℕ) → slice_index file k < 256) → AreOptions a
-    → packets_in file ≡ Ok ps → judged file (Ok ps) a ≡ Ok ps → IsComplete (plan_for file ps a) bytes
+    → packets_in file ≡ Ok ps → judged_additions file (Ok ps) a ≡ Ok ps → IsComplete (plan_for file ps a) bytes
     → (qs : List Found) × (packets_in bytes ≡ Ok qs) × ((channel : ℕ) → reading qs channel ≡ reading ps channel)

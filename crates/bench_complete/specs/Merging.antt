@@ -25,11 +25,11 @@ abbrev pub IsHead : List Piece → Piece → Type 0
 IsHead ps p = (others : List Piece) × (of_channel p.header.channel ps ≡ p ∷ others)
 
 -- the packet in front does not stand behind the head of any channel, and so on behind it
-abbrev pub IsInOrder : List Piece → Type 0
-IsInOrder [] = Unit {0}
-IsInOrder (p ∷ ps) = ((q : Piece) → IsHead (p ∷ ps) q → IsNotBehind p.header q.header) × IsInOrder ps
+abbrev pub IsMergeOrder : List Piece → Type 0
+IsMergeOrder [] = Unit {0}
+IsMergeOrder (p ∷ ps) = ((q : Piece) → IsHead (p ∷ ps) q → IsNotBehind p.header q.header) × IsMergeOrder ps
 
 -- the packets merged
 pub record IsMerge (parts merged : List Piece) : Type 0 where
   pub channels : (channel : ℕ) → of_channel channel merged ≡ of_channel channel parts
-  pub order : IsInOrder merged
+  pub order : IsMergeOrder merged

@@ -1,6 +1,6 @@
 //! A recording that was judged, and the complete file of it.
 ghost use Rattle.bench_complete.specs.Complete.{Completes, low_by, plan_for, times_between};
-ghost use Rattle.bench_complete.specs.Judging.{AllReadAt, Fails, IsCompleted, Plans, Refuses, StopsWriting};
+ghost use Rattle.bench_complete.specs.Judging.{AllReadAt, Fails, IsCompleted, Plans, RefusesCompletion, StopsWriting};
 ghost use Rattle.bench_complete.specs.Judging.{is_setup};
 ghost use Rattle.bench_complete.specs.Judging.{misuse};
 ghost use Rattle.ch11_reader.specs.Recording.{packets_in};
@@ -151,7 +151,7 @@ impl<'a> Completion<'a> {
         ensures planned { IfOk result (λ x. x.0 ≡ plan_for file.now (packets_read file.now) additions.now) }
         ensures skipped { IfOk result (λ x. x.1.items ≡ skips_in file.now) }
         ensures judged { IfOk result (λ x. misuse file.now (packets_read file.now) additions.now ≡ None) }
-        ensures refused { IfErr result (λ f. Refuses file.now (Ok (packets_read file.now)) additions.now f) }
+        ensures refused { IfErr result (λ f. RefusesCompletion file.now (Ok (packets_read file.now)) additions.now f) }
     {
         if !is_setup(additions.setup) {
             return Err(CompleteFault::SetupSize);

@@ -40,7 +40,7 @@ impl<'a> Lanes<'a> {
     /// The packet at a place of the recording as a head; None where there is none.
     fn recorded(&self, place: usize) -> Option<Head>
         ensures { MatchOption result (length self.now.packets.now ≤ place)
-            (spec.IsRecorded self.now.packets.now place) }
+            (spec.IsRecordedHead self.now.packets.now place) }
     {
         let packet = self.packets.get(place)?;
         Some(Head {

@@ -12,7 +12,7 @@ use Rattle.bench_core.specs.Lawful.{channels_of}
 use Rattle.bench_core.specs.Bench.{LaneState, begun_lane, begun}
 use Rattle.bench_core.specs.Settled.{IsFresh}
 use Rattle.bench_core.specs.Channels.{IsMade}
-use Rattle.bench_core.specs.World.{IsKept}
+use Rattle.bench_core.specs.World.{IsKeptWorld}
 use Rattle.bench_core.proofs.Fields.{state}
 
 abbrev pub lanes_of : List JobState → List LaneState
@@ -44,7 +44,7 @@ no_packets f = refl
 
 pub begun_kept : (f : Format) (prologue : List ℕ) (most : ℕ) (jobs : List JobState) (capacity slots : ℕ) → AllByRecursion (λ (j : JobState). j.channel < 2 ^ 16) jobs → AreDistinct (channels_of jobs)
     → IsFormat f → IsPrologue prologue → length jobs ≤ 32 → capacity ≤ slots
-    → IsKept slots (map (λ (j : JobState). fresh (channel_in f j.channel)) jobs) prologue 0 (state f prologue most (lanes_of jobs) capacity [] [])
+    → IsKeptWorld slots (map (λ (j : JobState). fresh (channel_in f j.channel)) jobs) prologue 0 (state f prologue most (lanes_of jobs) capacity [] [])
 begun_kept f prologue most jobs capacity slots low distinct format first few room = record {
   reached = record {
     lanes = lanes_of jobs;
@@ -76,12 +76,12 @@ module _ (f : Format) (prologue : List ℕ) (most : ℕ) (jobs : List JobState) 
 
   pub begun_fields : (slots : ℕ) (builders : List Held) (bytes : List ℕ) → builders ≡ map (λ (j : JobState). fresh (channel_in f j.channel)) jobs → bytes ≡ prologue
       → AllByRecursion (λ (j : JobState). j.channel < 2 ^ 16) jobs → AreDistinct (channels_of jobs) → IsFormat f → IsPrologue prologue → length jobs ≤ 32 → capacity ≤ slots
-      → IsKept slots builders bytes 0 (state f shown most ls capacity queue taken)
+      → IsKeptWorld slots builders bytes 0 (state f shown most ls capacity queue taken)
   begun_fields slots builders bytes held file low distinct format first few room =
-      subst (λ (ps : List ℕ). IsKept slots builders bytes 0 (state f ps most ls capacity queue taken)) (sym same)
-      (subst (λ (bs : List LaneState). IsKept slots builders bytes 0 (state f prologue most bs capacity queue taken)) (sym lanes)
-      (subst (λ (xs : List Item). IsKept slots builders bytes 0 (state f prologue most (lanes_of jobs) capacity xs taken)) (sym no_items)
-      (subst (λ (xs : List Item). IsKept slots builders bytes 0 (state f prologue most (lanes_of jobs) capacity [] xs)) (sym none_taken)
-      (subst (λ (hs : List Held). IsKept slots hs bytes 0 (state f prologue most (lanes_of jobs) capacity [] [])) (sym held)
-      (subst (λ (bs : List ℕ). IsKept slots (map (λ (j : JobState). fresh (channel_in f j.channel)) jobs) bs 0 (state f prologue most (lanes_of jobs) capacity [] [])) (sym file)
+      subst (λ (ps : List ℕ). IsKeptWorld slots builders bytes 0 (state f ps most ls capacity queue taken)) (sym same)
+      (subst (λ (bs : List LaneState). IsKeptWorld slots builders bytes 0 (state f prologue most bs capacity queue taken)) (sym lanes)
+      (subst (λ (xs : List Item). IsKeptWorld slots builders bytes 0 (state f prologue most (lanes_of jobs) capacity xs taken)) (sym no_items)
+      (subst (λ (xs : List Item). IsKeptWorld slots builders bytes 0 (state f prologue most (lanes_of jobs) capacity [] xs)) (sym none_taken)
+      (subst (λ (hs : List Held). IsKeptWorld slots hs bytes 0 (state f prologue most (lanes_of jobs) capacity [] [])) (sym held)
+      (subst (λ (bs : List ℕ). IsKeptWorld slots (map (λ (j : JobState). fresh (channel_in f j.channel)) jobs) bs 0 (state f prologue most (lanes_of jobs) capacity [] [])) (sym file)
       (begun_kept f prologue most jobs capacity slots low distinct format first few room))))))

@@ -16,7 +16,7 @@ use Rattle.bench_core.specs.Bench.{LaneState, Bench, has_room, with_end, offered
 use Rattle.bench_core.specs.Settled.{IsSettled}
 use Rattle.bench_core.specs.Writing.{MayCome}
 use Rattle.bench_core.specs.Channels.{after_next, queued_next, next_in, IsMade}
-use Rattle.bench_core.specs.World.{WorldState, with_bench, IsReached, IsKept}
+use Rattle.bench_core.specs.World.{WorldState, with_bench, IsReached, IsKeptWorld}
 use Rattle.bench_core.proofs.Steps.{IsBench, channels_in, one_of}
 use Rattle.bench_core.proofs.Tidy.{Stands, IsTidy, packets_at_most}
 use Rattle.bench_core.proofs.Coming.{holds, held_set, may_come}
@@ -59,11 +59,11 @@ reached_offer b i r = reached_more b (Offer i) r
 
 module _ (slots : ℕ) (builders : List Held) (bytes : List ℕ) (count : ℕ) where
   pub offer_kept : (w : WorldState) (i : ℕ) (l : LaneState) → slice_get w.bench.lanes i ≡ Some l → IsMade (after_next l (next_in l) (has_room w.bench))
-      → IsKept slots builders bytes count w → IsKept slots builders bytes count (with_bench w (offered i w.bench))
+      → IsKeptWorld slots builders bytes count w → IsKeptWorld slots builders bytes count (with_bench w (offered i w.bench))
   offer_kept w i l at made is =
       let new : LaneState = after_next l (next_in l) (has_room w.bench) in
       let goes : offer_made i w.bench new (queued_next l (next_in l) (has_room w.bench)) ≡ offered i w.bench = offer_is i w.bench l at in
-      subst (λ (b : Bench). IsKept slots builders bytes count (with_bench w b)) goes (record {
+      subst (λ (b : Bench). IsKeptWorld slots builders bytes count (with_bench w b)) goes (record {
         reached = subst IsReached (sym goes) (reached_offer w.bench i is.reached);
         made = all_set_to IsMade w.bench.lanes i new is.made made;
         format = is.format;
@@ -94,8 +94,8 @@ took_is b x behind at = ap (λ (q : List Item). taken_from q b) (sym at)
 
 module _ (goes : FileGoesOn) (more : PacketsGoOn) (latest : LatestIsLast) (slots : ℕ) (builders : List Held) (bytes : List ℕ) (count : ℕ) where
   pub take_kept : (w : WorldState) (x : Item) (behind : List Item) (i : ℕ) (l : LaneState) (h k : Held) → w.bench.queue ≡ x ∷ behind → slice_get w.bench.lanes i ≡ Some l → channel_of x ≡ l.channel
-      → h ≡ held_in w.format l.channel w.bench.taken → k ≡ met h x → IsKept slots builders bytes count w
-      → IsKept slots (slice_set builders i k) (bytes ++ closing h x) (count + cond (closes h x) 1 0) (with_bench w (took w.bench x behind))
+      → h ≡ held_in w.format l.channel w.bench.taken → k ≡ met h x → IsKeptWorld slots builders bytes count w
+      → IsKeptWorld slots (slice_set builders i k) (bytes ++ closing h x) (count + cond (closes h x) 1 0) (with_bench w (took w.bench x behind))
   take_kept w x behind i l h k at here of holding next is =
       let f : Format = w.format in
       let items : List Item = w.bench.taken in
@@ -126,7 +126,7 @@ module _ (goes : FileGoesOn) (more : PacketsGoOn) (latest : LatestIsLast) (slots
   settled_of b l i at is = (one_of _ b.lanes i l at is.lanes).settled
 
   pub take_may : (w : WorldState) (x : Item) (behind : List Item) (i : ℕ) (l : LaneState) (h : Held) → w.bench.queue ≡ x ∷ behind → slice_get w.bench.lanes i ≡ Some l → channel_of x ≡ l.channel
-      → h ≡ held_in w.format l.channel w.bench.taken → IsKept slots builders bytes count w → MayCome h x
+      → h ≡ held_in w.format l.channel w.bench.taken → IsKeptWorld slots builders bytes count w → MayCome h x
   take_may w x behind i l h at here of holding is =
       let bench : IsBench w.bench = reached_bench w.bench is.reached in
       let items : AllByRecursion IsItem (w.bench.taken ++ x ∷ behind) = subst (λ (q : List Item). AllByRecursion IsItem (w.bench.taken ++ q)) at (bench.items (all_recorded w.bench.lanes is.made)) in
@@ -157,7 +157,7 @@ never_nowhere w ls x behind lanes at reached all =
     let known : AllByRecursion (λ y. Stands (channel_of y) (channels_in w.bench.lanes)) (x ∷ behind) = subst (AllByRecursion (λ y. Stands (channel_of y) (channels_in w.bench.lanes))) at tidy.known in
     nowhere ls (channel_of x) known.0.0 all (ap (λ (ls : List LaneState). slice_get (channels_in ls) known.0.0) (sym lanes) ∙ known.0.1)
 
-pub few_packets : (slots : ℕ) (builders : List Held) (bytes : List ℕ) (count : ℕ) (w : WorldState) → IsKept slots builders bytes count w → count ≤ 32000032
+pub few_packets : (slots : ℕ) (builders : List Held) (bytes : List ℕ) (count : ℕ) (w : WorldState) → IsKeptWorld slots builders bytes count w → count ≤ 32000032
 few_packets slots builders bytes count w is =
     let most = packets_at_most w.format w.bench (reached_tidy w.bench is.reached) is.made is.few in omega (arith, is.packets, most)
 
@@ -176,17 +176,17 @@ module _ {U E : Type 0} (f : Format) (prologue : List ℕ) (most : ℕ) (ls : Li
       → OnOk r (v ≡ after_next old (next_in old) (ltb (length queue) capacity))
       → OnOk r (more ≡ queue ++ option_to_list (queued_next old (next_in old) (ltb (length queue) capacity)))
       → OnOk r (IsMade v) → OnErr r (v ≡ old) → OnErr r (more ≡ queue)
-      → IsKept slots builders bytes count (state f prologue most ls capacity queue taken) → IsKept after builders bytes count (state f prologue most (slice_set ls i v) capacity more taken)
+      → IsKeptWorld slots builders bytes count (state f prologue most ls capacity queue taken) → IsKeptWorld after builders bytes count (state f prologue most (slice_set ls i v) capacity more taken)
   offer_keeps (Ok u) slots builders bytes count after room lane items made one none is =
       let w : WorldState = state f prologue most ls capacity queue taken in
-      subst (λ (k : ℕ). IsKept k builders bytes count (state f prologue most (slice_set ls i v) capacity more taken)) (sym room)
-      (subst (IsKept slots builders bytes count) (sym (offer_state f prologue most ls capacity queue taken i old v more at lane items))
+      subst (λ (k : ℕ). IsKeptWorld k builders bytes count (state f prologue most (slice_set ls i v) capacity more taken)) (sym room)
+      (subst (IsKeptWorld slots builders bytes count) (sym (offer_state f prologue most ls capacity queue taken i old v more at lane items))
       (offer_kept slots builders bytes count w i old at (subst IsMade lane made) is))
   offer_keeps (Err e) slots builders bytes count after room lane items made one none is =
       let lanes_same : slice_set ls i v ≡ ls = ap (slice_set ls i) one ∙ set_same ls i old at in
-      subst (λ (k : ℕ). IsKept k builders bytes count (state f prologue most (slice_set ls i v) capacity more taken)) (sym room)
-      (subst (λ (bs : List LaneState). IsKept slots builders bytes count (state f prologue most bs capacity more taken)) (sym lanes_same)
-      (subst (λ (q : List Item). IsKept slots builders bytes count (state f prologue most ls capacity q taken)) (sym none) is))
+      subst (λ (k : ℕ). IsKeptWorld k builders bytes count (state f prologue most (slice_set ls i v) capacity more taken)) (sym room)
+      (subst (λ (bs : List LaneState). IsKeptWorld slots builders bytes count (state f prologue most bs capacity more taken)) (sym lanes_same)
+      (subst (λ (q : List Item). IsKeptWorld slots builders bytes count (state f prologue most ls capacity q taken)) (sym none) is))
 
 -- ---- a post
 
@@ -200,10 +200,10 @@ module _ (i address : ℕ) (action : Action) where
   post_is b l at = ap (λ (o : Option LaneState). lane_posts i o address action b) (sym at)
 
   post_kept : (slots : ℕ) (builders : List Held) (bytes : List ℕ) (count : ℕ) (w : WorldState) (l : LaneState) → slice_get w.bench.lanes i ≡ Some l → IsMade (with_post l address action)
-      → IsKept slots builders bytes count w → IsKept slots builders bytes count (with_bench w (posted i address action w.bench))
+      → IsKeptWorld slots builders bytes count w → IsKeptWorld slots builders bytes count (with_bench w (posted i address action w.bench))
   post_kept slots builders bytes count w l at made is =
       let new : LaneState = with_post l address action in
-      subst (λ (b : Bench). IsKept slots builders bytes count (with_bench w b)) (post_is w.bench l at) (record {
+      subst (λ (b : Bench). IsKeptWorld slots builders bytes count (with_bench w b)) (post_is w.bench l at) (record {
         reached = subst IsReached (sym (post_is w.bench l at)) (reached_post w.bench i address action is.reached);
         made = all_set_to IsMade w.bench.lanes i new is.made made;
         format = is.format;
@@ -236,12 +236,12 @@ module _ (i address : ℕ) (action : Action) where
         ∙ ap (λ (xs : List LaneState). state f prologue most xs capacity queue taken) (set_same ls i old at) ∙ view
 
     pub post_keeps : {U E : Type 0} (r : Result U E) (slots : ℕ) (builders : List Held) (bytes : List ℕ) (count : ℕ) → OnOk r (v ≡ with_post old address action) → OnOk r (IsMade v) → OnErr r (v ≡ old)
-        → IsKept slots builders bytes count (state f prologue most ls capacity queue taken) → IsKept slots builders bytes count (state f prologue most (slice_set ls i v) capacity queue taken)
+        → IsKeptWorld slots builders bytes count (state f prologue most ls capacity queue taken) → IsKeptWorld slots builders bytes count (state f prologue most (slice_set ls i v) capacity queue taken)
     post_keeps (Ok u) slots builders bytes count is made one kept =
-        subst (IsKept slots builders bytes count) (sym (post_state is))
+        subst (IsKeptWorld slots builders bytes count) (sym (post_state is))
         (post_kept slots builders bytes count (state f prologue most ls capacity queue taken) old at (subst IsMade is made) kept)
     post_keeps (Err e) slots builders bytes count is made one kept =
-        subst (λ (xs : List LaneState). IsKept slots builders bytes count (state f prologue most xs capacity queue taken))
+        subst (λ (xs : List LaneState). IsKeptWorld slots builders bytes count (state f prologue most xs capacity queue taken))
         (sym (ap (slice_set ls i) one ∙ set_same ls i old at)) kept
 
 -- ---- what stands in front is taken
@@ -269,7 +269,7 @@ front_done f prologue most ls capacity queue taken x behind later all now at vie
     ∙ ap (λ (w : WorldState). with_bench w (taken_from w.bench.queue w.bench)) view
 
 module _ (slots : ℕ) (builders : List Held) (bytes : List ℕ) (count : ℕ) (f : Format) (prologue : List ℕ) (most : ℕ) (ls : List LaneState) (capacity : ℕ) (queue taken : List Item) (x : Item) (behind : List Item) (i : ℕ)
-    (at : queue ≡ x ∷ behind) (is : IsKept slots builders bytes count (state f prologue most ls capacity queue taken)) where
+    (at : queue ≡ x ∷ behind) (is : IsKeptWorld slots builders bytes count (state f prologue most ls capacity queue taken)) where
   pub front_somewhere : AllByRecursion (λ (l : LaneState). l.channel ≢ channel_of x) ls → ⊥
   front_somewhere none = never_nowhere (state f prologue most ls capacity queue taken) ls x behind refl at is.reached none
 
@@ -292,14 +292,14 @@ module _ (slots : ℕ) (builders : List Held) (bytes : List ℕ) (count : ℕ) (
 
     pub front_kept : FileGoesOn → PacketsGoOn → LatestIsLast → (h d k : Held) (room : ℕ) (hs : List Held) (file : List ℕ) (packets : ℕ) (later all : List Item) → h ≡ slice_index_or builders i d → k ≡ met h x
         → room ≡ slots → hs ≡ slice_set builders i k → file ≡ bytes ++ closing h x → packets ≡ count + cond (closes h x) 1 0 → later ≡ behind → all ≡ taken ++ x ∷ []
-        → IsKept room hs file packets (state f prologue most ls capacity later all)
+        → IsKeptWorld room hs file packets (state f prologue most ls capacity later all)
     front_kept goes more latest h d k room hs file packets later all from next same_room set written counted rest items =
         let found = which (λ (l : LaneState). l.channel) ls i (channel_of x) placed in
-        let kept : IsKept slots (slice_set builders i k) (bytes ++ closing h x) (count + cond (closes h x) 1 0) (state f prologue most ls capacity behind (taken ++ x ∷ [])) =
+        let kept : IsKeptWorld slots (slice_set builders i k) (bytes ++ closing h x) (count + cond (closes h x) 1 0) (state f prologue most ls capacity behind (taken ++ x ∷ [])) =
         take_kept goes more latest slots builders bytes count (state f prologue most ls capacity queue taken) x behind i found.0 h k at found.1 found.2 (its_builder h d found.0 found.1 from) next is in
-        subst (λ (n : ℕ). IsKept n hs file packets (state f prologue most ls capacity later all)) (sym same_room)
-        (subst (λ (ks : List Held). IsKept slots ks file packets (state f prologue most ls capacity later all)) (sym set)
-        (subst (λ (bs : List ℕ). IsKept slots (slice_set builders i k) bs packets (state f prologue most ls capacity later all)) (sym written)
-        (subst (λ (n : ℕ). IsKept slots (slice_set builders i k) (bytes ++ closing h x) n (state f prologue most ls capacity later all)) (sym counted)
-        (subst (λ (q : List Item). IsKept slots (slice_set builders i k) (bytes ++ closing h x) (count + cond (closes h x) 1 0) (state f prologue most ls capacity q all)) (sym rest)
-        (subst (λ (xs : List Item). IsKept slots (slice_set builders i k) (bytes ++ closing h x) (count + cond (closes h x) 1 0) (state f prologue most ls capacity behind xs)) (sym items) kept)))))
+        subst (λ (n : ℕ). IsKeptWorld n hs file packets (state f prologue most ls capacity later all)) (sym same_room)
+        (subst (λ (ks : List Held). IsKeptWorld slots ks file packets (state f prologue most ls capacity later all)) (sym set)
+        (subst (λ (bs : List ℕ). IsKeptWorld slots (slice_set builders i k) bs packets (state f prologue most ls capacity later all)) (sym written)
+        (subst (λ (n : ℕ). IsKeptWorld slots (slice_set builders i k) (bytes ++ closing h x) n (state f prologue most ls capacity later all)) (sym counted)
+        (subst (λ (q : List Item). IsKeptWorld slots (slice_set builders i k) (bytes ++ closing h x) (count + cond (closes h x) 1 0) (state f prologue most ls capacity q all)) (sym rest)
+        (subst (λ (xs : List Item). IsKeptWorld slots (slice_set builders i k) (bytes ++ closing h x) (count + cond (closes h x) 1 0) (state f prologue most ls capacity behind xs)) (sym items) kept)))))

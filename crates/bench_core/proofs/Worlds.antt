@@ -6,7 +6,7 @@ use Rattle.bench_core.specs.declared.step.Step.{Step}
 use Rattle.bench_core.specs.Bench.{LaneState, Bench, begun, stepped, after_steps}
 use Rattle.bench_core.specs.Settled.{IsSettled, HasRecorded, ReadsBack, SettledAfterEachStep, ReadsBackAfterEachStep}
 use Rattle.bench_core.specs.Channels.{IsMade}
-use Rattle.bench_core.specs.World.{WorldState, with_bench, IsReached, IsKept, IsWhole}
+use Rattle.bench_core.specs.World.{WorldState, with_bench, IsReached, IsKeptWorld, IsWhole}
 use Rattle.bench_core.proofs.Steps.{IsBench, at_first, after_all}
 use Rattle.bench_core.proofs.Tidy.{IsTidy, tidy_first, tidy_all}
 
@@ -36,7 +36,7 @@ reached_more b s r = record {
   is = ap (stepped s) r.is ∙ sym (steps_more (begun r.capacity r.lanes) r.steps s);
 }
 
-pub is_whole : SettledAfterEachStep → ReadsBackAfterEachStep → (slots : ℕ) (builders : List Held) (bytes : List ℕ) (count : ℕ) (w : WorldState) → IsKept slots builders bytes count w → IsWhole w
+pub is_whole : SettledAfterEachStep → ReadsBackAfterEachStep → (slots : ℕ) (builders : List Held) (bytes : List ℕ) (count : ℕ) (w : WorldState) → IsKeptWorld slots builders bytes count w → IsWhole w
 is_whole settled read slots builders bytes count w is =
     let r = is.reached in
     record {

@@ -15,7 +15,7 @@ abbrev pub channels_of : List JobState → List ℕ
 channels_of jobs = map (λ (j : JobState). j.channel) jobs
 
 -- 1 to 32 jobs, and each setting in its range
-pub record AreInRange (jobs : List JobState) (s : Settings) : Type 0 where
+pub record AreSettingsInRange (jobs : List JobState) (s : Settings) : Type 0 where
   pub some : 1 ≤ length jobs
   pub few : length jobs ≤ 32
   pub limit_low : 256 ≤ s.limit
@@ -27,16 +27,17 @@ pub record AreInRange (jobs : List JobState) (s : Settings) : Type 0 where
 -- they may be run: no channel is named by two jobs, and the prologue is one of sound packets without one of
 -- MIL-STD-1553 messages
 pub record AreLawful (jobs : List JobState) (s : Settings) : Type 0 where
-  pub ranges : AreInRange jobs s
+  pub ranges : AreSettingsInRange jobs s
   pub distinct : AreDistinct (channels_of jobs)
   pub prologue : IsPrologue s.prologue.items
 
 -- the fault is the first of theirs; memory is refused only to what may be run
-abbrev pub Refuses : List JobState → Settings → WorldError → Type 0
-Refuses jobs s fault.Settings = ¬ AreInRange jobs s
-Refuses jobs s fault.ChannelTwice = AreInRange jobs s × ¬ AreDistinct (channels_of jobs)
-Refuses jobs s fault.Prologue = AreInRange jobs s × AreDistinct (channels_of jobs) × ¬ IsPrologue s.prologue.items
-Refuses jobs s fault.Memory = AreLawful jobs s
+abbrev pub RefusesJobs : List JobState → Settings → WorldError → Type 0
+RefusesJobs jobs s fault.Settings = ¬ AreSettingsInRange jobs s
+RefusesJobs jobs s fault.ChannelTwice = AreSettingsInRange jobs s × ¬ AreDistinct (channels_of jobs)
+RefusesJobs jobs s fault.Prologue = AreSettingsInRange jobs s × AreDistinct (channels_of jobs)
+    × ¬ IsPrologue s.prologue.items
+RefusesJobs jobs s fault.Memory = AreLawful jobs s
 
 abbrev pub fault_code : WorldError → List ℕ
 fault_code fault.Settings = codes "U2"

@@ -40,13 +40,13 @@ abbrev pub with_bench : WorldState → Bench → WorldState
 with_bench w b = record { format = w.format; prologue = w.prologue; most = w.most; bench = b }
 
 -- a step of a channel is of one of so many
-abbrev pub IsStep : ℕ → Step → Type 0
-IsStep channels (Offer index) = index < channels
-IsStep channels Take = Unit {0}
-IsStep channels (Post index address action) = index < channels
+abbrev pub IsBenchStep : ℕ → Step → Type 0
+IsBenchStep channels (Offer index) = index < channels
+IsBenchStep channels Take = Unit {0}
+IsBenchStep channels (Post index address action) = index < channels
 
 abbrev pub AreSteps : ℕ → List Step → Type 0
-AreSteps channels steps = AllByRecursion (IsStep channels) steps
+AreSteps channels steps = AllByRecursion (IsBenchStep channels) steps
 
 abbrev pub channel_count : WorldState → ℕ
 channel_count w = length w.bench.lanes
@@ -137,7 +137,7 @@ state_in w = record {
   bench = record { lanes = w.lanes.items; capacity = w.capacity; queue = w.queue.items; taken = w.taken };
 }
 
-pub record IsKept (slots : ℕ) (builders : List Held) (bytes : List ℕ) (count : ℕ) (w : WorldState) : Type 0 where
+pub record IsKeptWorld (slots : ℕ) (builders : List Held) (bytes : List ℕ) (count : ℕ) (w : WorldState) : Type 0 where
   pub reached : IsReached w.bench
   pub made : AllByRecursion IsMade w.bench.lanes
   pub format : IsFormat w.format
@@ -149,4 +149,4 @@ pub record IsKept (slots : ℕ) (builders : List Held) (bytes : List ℕ) (count
   pub room : w.bench.capacity ≤ slots
 
 abbrev pub IsWorld : Inside → Type 0
-IsWorld w = IsKept (deque_capacity w.queue) w.builders.items w.file.items w.packets (state_in w)
+IsWorld w = IsKeptWorld (deque_capacity w.queue) w.builders.items w.file.items w.packets (state_in w)

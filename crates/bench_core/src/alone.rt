@@ -1,6 +1,6 @@
 //! One channel from its job to a recording, on the calling thread.
 ghost use Rattle.bench_core.specs.OneChannel.{format_of, channel_file, IsReadAs};
-ghost use Rattle.bench_core.specs.OneChannelFaults.{Leaves};
+ghost use Rattle.bench_core.specs.OneChannelFaults.{LeavesChannelInSink};
 ghost use Rattle.ch11_recording.specs.Recording.{IsLimit, IsRecordingOf};
 ghost use Rattle.job_file.specs.Jobs.{job_in};
 ghost use Rattle.job_file.specs.Machines.{IsOf};
@@ -36,7 +36,7 @@ fn record_all<S: Sink>(
         (channel_file job.now.channel version limit (records (job_in job.now) job.now.actions))) }
     ensures read { IfOk result (λ _. IsReadAs job.now.channel (records (job_in job.now) job.now.actions)
         (channel_file job.now.channel version limit (records (job_in job.now) job.now.actions))) }
-    ensures refused { IfErr result (Leaves S.taken S.failures limit
+    ensures refused { IfErr result (LeavesChannelInSink S.taken S.failures limit
         (channel_file job.now.channel version limit (records (job_in job.now) job.now.actions)) recorder.writing.sink) }
 {
     let mut machine = machine;
@@ -78,7 +78,7 @@ pub fn one_channel<S: Sink>(
     ensures read { IfOk result (λ _. IsReadAs job.now.channel (records (job_in job.now) job.now.actions)
         (channel_file job.now.channel version limit (records (job_in job.now) job.now.actions))) }
     ensures limit { OnOk result (IsLimit limit) }
-    ensures refused { IfErr result (Leaves S.taken S.failures limit
+    ensures refused { IfErr result (LeavesChannelInSink S.taken S.failures limit
         (channel_file job.now.channel version limit (records (job_in job.now) job.now.actions)) sink) }
 {
     let recorder = match Recorder::make(alloc, version, limit, &[job.channel()], sink) {

@@ -1,5 +1,5 @@
 //! Which jobs may be run, and with which settings.
-ghost use Rattle.bench_core.specs.Lawful.{AreInRange, AreLawful, Refuses, channels_of};
+ghost use Rattle.bench_core.specs.Lawful.{AreSettingsInRange, AreLawful, RefusesJobs, channels_of};
 ghost use Rattle.ch11_recording.specs.Recording.{AreDistinct};
 ghost use Rattle.job_file.specs.Jobs.{JobState};
 ghost use Rattle.std.specs.List.{list_any};
@@ -14,7 +14,7 @@ use job_file::Job;
 pub fn judge(jobs: &[Job], settings: &Settings) -> Result<(), WorldError>
     ensures lawful { OnOk result (AreLawful jobs.now settings.now) }
     ensures accepted { AreLawful jobs.now settings.now → IsOk result }
-    ensures refused { IfErr result (Refuses jobs.now settings.now) }
+    ensures refused { IfErr result (RefusesJobs jobs.now settings.now) }
 {
     if !in_range(jobs, settings) {
         return Err(WorldError::Settings);
@@ -30,7 +30,7 @@ pub fn judge(jobs: &[Job], settings: &Settings) -> Result<(), WorldError>
 
 /// Whether there are 1 to 32 jobs, and each setting is in its range.
 fn in_range(jobs: &[Job], settings: &Settings) -> bool
-    ensures { IsTrue result ↔ AreInRange jobs.now settings.now }
+    ensures { IsTrue result ↔ AreSettingsInRange jobs.now settings.now }
 {
     (1..=32).contains(&jobs.len())
         && (256..=524_288).contains(&settings.limit)

@@ -1,6 +1,6 @@
 //! Which steps may be taken.
 ghost use Rattle.bench_core.specs.World.{AreFewPosts};
-ghost use Rattle.bench_core.specs.World.{IsStep, AreSteps, IsForTerminal, AreForTerminals, is_post_for, posts_for};
+ghost use Rattle.bench_core.specs.World.{IsBenchStep, AreSteps, IsForTerminal, AreForTerminals, is_post_for, posts_for};
 ghost use Rattle.std.specs.Prelude.{◌≡◌, ◌↔◌, ◌+◌, ◌≤◌, IsTrue};
 
 use crate::lane::Lane;
@@ -8,7 +8,7 @@ use crate::step::Step;
 
 /// Whether a step of a channel is of one of so many.
 fn is_step(channels: usize, step: &Step) -> bool
-    ensures { IsTrue result ↔ IsStep channels step.now }
+    ensures { IsTrue result ↔ IsBenchStep channels step.now }
 {
     match step {
         Step::Offer(index) | Step::Post(index, _, _) => usize::from(*index) < channels,

@@ -1,7 +1,7 @@
 //! The bench of jobs, one step at a time.
 ghost use Rattle.bench_core.specs.Bench.{LaneState, begun_lane, offered, posted, taken_from, stepped};
 ghost use Rattle.bench_core.specs.Channels.{after_next, queued_next, next_in, IsMade};
-ghost use Rattle.bench_core.specs.Lawful.{AreLawful, Refuses};
+ghost use Rattle.bench_core.specs.Lawful.{AreLawful, RefusesJobs};
 ghost use Rattle.bench_core.specs.World.{world_of, with_bench, file_of, report_of, IsWhole};
 ghost use Rattle.ch11_builder.specs.Held.{fresh};
 ghost use Rattle.ch11_recording.specs.WrittenFile.{channel_in};
@@ -131,7 +131,7 @@ impl World {
     pub fn make(alloc: Global, jobs: &[Job], settings: &Settings) -> Result<World, WorldError>
         ensures world { IfOk result (λ w. w ≡ world_of jobs.now settings.now) }
         ensures lawful { OnOk result (AreLawful jobs.now settings.now) }
-        ensures refused { IfErr result (Refuses jobs.now settings.now) }
+        ensures refused { IfErr result (RefusesJobs jobs.now settings.now) }
     {
         judge(jobs, settings)?;
         match World::begin(alloc, jobs, settings) {

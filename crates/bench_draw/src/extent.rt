@@ -1,6 +1,6 @@
 //! What is to be drawn: which channels, which time, and how.
 ghost use Rattle.bench_draw.specs.Chosen.{capped, chosen, chosen_in};
-ghost use Rattle.ch11_stream.specs.Folding.{Finds};
+ghost use Rattle.ch11_stream.specs.Folding.{FoldsPackets};
 ghost use Rattle.std.specs.Prelude.{◌≡◌, ◌+◌, ◌<◌, ◌^◌, ℕ, List, Some, length, IfOk, OnOk};
 
 use crate::rows::Rows;
@@ -77,7 +77,7 @@ impl Extent {
         selection: &Selection,
     ) -> Result<Extent, StreamFault>
         ensures { (file : List ℕ) → R.remaining input ≡ Some file
-            → Finds (λ ps extent. extent.messages ≡ capped (chosen selection.now ps)) result file }
+            → FoldsPackets (λ ps extent. extent.messages ≡ capped (chosen selection.now ps)) result file }
     {
         let mut packets = Packets::over(alloc, input)?;
         let mut extent = Extent::none(alloc);

@@ -14,12 +14,12 @@ use Rattle.ch11_reader.proofs.Stretches.{in_turn, some_before}
 use Rattle.ch11_stream.specs.Reading.{IsEnd, IsStep, Reading, at_start, last_found}
 use Rattle.ch11_stream.specs.declared.stretch.Stretch as stretch
 use Rattle.ch11_stream.specs.declared.stretch.Stretch.TheVariants as stretches
-use Rattle.ch11_stream.specs.Stretches.{Gives, IsSkip}
+use Rattle.ch11_stream.specs.Stretches.{IsNextStretch, IsSkip}
 use Rattle.ch11_stream.proofs.Skips.{IsBetween, between_end, between_sound, between_skipped, between_start}
 use Rattle.bench_clock.specs.declared.clock.Mark.{Mark}
 use Rattle.bench_dump.specs.DumpText.{packet_line}
 use Rattle.bench_dump.specs.Printing.{Carries}
-use Rattle.bench_dump.specs.SkippingText.{skip_line, skip_lines, skips_before, skips_behind, text_of}
+use Rattle.bench_dump.specs.SkippingText.{skip_line, skip_lines, skips_before, skips_behind, file_text}
 use Rattle.bench_dump.specs.StretchText.{IsFew, stretch_lines}
 use Rattle.bench_dump.specs.TimedText.{timed_in_order, timed_lines, timed_text}
 use Rattle.bench_dump.proofs.Packets.{carries_both}
@@ -138,13 +138,13 @@ skip_printed clock file got mid gets waits then before now s k g on = record {
       ∙ ap (λ (l : List ℕ). g.more ++ l) (rw (append-nil (skip_line s), k.same) refl) ∙ g.lines (Skipped s ∷ others);
 }
 
-pub stretch_printed : (clock : List Mark) (file : List ℕ) (got mid gets : Option (List ℕ)) (waits then : List ℕ) (before now : Reading) (s : stretch.Stretch) → Gives (Ok (Some s)) before now
+pub stretch_printed : (clock : List Mark) (file : List ℕ) (got mid gets : Option (List ℕ)) (waits then : List ℕ) (before now : Reading) (s : stretch.Stretch) → IsNextStretch (Ok (Some s)) before now
     → IsPrinted clock file got mid waits before → Carries mid waits gets then (stretch_lines clock s now.given) → IsPrinted clock file got gets then now
 stretch_printed clock file got mid gets waits then before now (stretches.Sound p) s g on = sound_printed clock file got mid gets waits then before now p s g on
 stretch_printed clock file got mid gets waits then before now (stretches.Skipped k) s g on = skip_printed clock file got mid gets waits then before now k s g on
 
 -- the messages of a stretch that was read can be numbered
-pub stretch_few : (before now : Reading) (s : stretch.Stretch) → Gives (Ok (Some s)) before now → IsFew s now.given
+pub stretch_few : (before now : Reading) (s : stretch.Stretch) → IsNextStretch (Ok (Some s)) before now → IsFew s now.given
 stretch_few before now (stretches.Sound p) s =
     let front : p.before ≡ total_in before.earlier = ap (λ (x : Packet). x.before) s.listed in
     let few : length now.given + total_in before.earlier < 2 ^ 64 = rw s.entered at s.few in
@@ -158,5 +158,5 @@ all_printed clock file got mid gets waits now last e g then =
     subst (Appends got gets) (g.carried.kept ∙ whole ∙ whole_text clock file) (appends_both got mid gets g.carried.sent waits g.carried.taken then)
 
 -- by a clock that tells no time it is the dump
-pub plain_skipping : (clock : List Mark) (file : List ℕ) (got gets : Option (List ℕ)) → clock ≡ [] → Appends got gets (timed_text clock (skips_in file) (packets_read file)) → Appends got gets (text_of true file)
+pub plain_skipping : (clock : List Mark) (file : List ℕ) (got gets : Option (List ℕ)) → clock ≡ [] → Appends got gets (timed_text clock (skips_in file) (packets_read file)) → Appends got gets (file_text true file)
 plain_skipping clock file got gets none is = subst (Appends got gets) (ap (λ (c : List Mark). timed_text c (skips_in file) (packets_read file)) none ∙ plain_text true file) is

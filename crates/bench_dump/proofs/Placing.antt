@@ -7,12 +7,12 @@ use Rattle.std.specs.Fmt.{decimal}
 use Rattle.itoa.proofs.Decimal.{decimal_pair, decimal_four}
 use Rattle.numerals.specs.Numerals.{digit_of}
 use Rattle.bench_dump.specs.DumpText.{bus_words, byte_digits}
-use Rattle.bench_dump.specs.Places.{IsPlaced, two_digits, four_digits, eight_digits}
+use Rattle.bench_dump.specs.Places.{IsPutInBuffer, two_digits, four_digits, eight_digits}
 use Rattle.bench_dump.proofs.Steps.{bus_words_more, bus_words_end}
 use Rattle.bench_dump.specs.declared.digits.TheConstants.{HEXADECIMAL, DECIMAL}
 
 -- what was placed behind other bytes follows them
-pub placed_then : (before middle after : List ℕ) (at between end : ℕ) (first second : List ℕ) → IsPlaced before middle at first between → IsPlaced middle after between second end → IsPlaced before after at (first ++ second) end
+pub placed_then : (before middle after : List ℕ) (at between end : ℕ) (first second : List ℕ) → IsPutInBuffer before middle at first between → IsPutInBuffer middle after between second end → IsPutInBuffer before after at (first ++ second) end
 placed_then before middle after at between end first second a b = record {
   text = b.text ∙ ap (λ (l : List ℕ). l ++ second) a.text ∙ append_assoc (take at before) first second;
   moved = omega (arith, a.moved, b.moved, length-append first second);
@@ -20,10 +20,10 @@ placed_then before middle after at between end first second a b = record {
 }
 
 -- a byte, and two bytes, that were stored
-pub placed_one : (buffer : List ℕ) (at byte : ℕ) → at < length buffer → IsPlaced buffer (set buffer at byte) at (byte ∷ []) (at + 1)
+pub placed_one : (buffer : List ℕ) (at byte : ℕ) → at < length buffer → IsPutInBuffer buffer (set buffer at byte) at (byte ∷ []) (at + 1)
 placed_one buffer at byte within = record { text = take_more_set buffer at byte within; moved = refl; size = length-set buffer at byte }
 
-pub placed_pair : (buffer : List ℕ) (at first second : ℕ) → at + 2 ≤ length buffer → IsPlaced buffer (set (set buffer at first) (at + 1) second) at (first ∷ second ∷ []) (at + 2)
+pub placed_pair : (buffer : List ℕ) (at first second : ℕ) → at + 2 ≤ length buffer → IsPutInBuffer buffer (set (set buffer at first) (at + 1) second) at (first ∷ second ∷ []) (at + 2)
 placed_pair buffer at first second within =
     let one = placed_one buffer at first (omega arith) in
     let two = placed_one (set buffer at first) (at + 1) second (omega (arith, length-set buffer at first)) in
@@ -76,7 +76,7 @@ pub record IsPlacing (before after : List ℕ) (start at : ℕ) (words rest : Li
   pub size : length after ≡ length before
 
 pub word_placed : (before middle after : List ℕ) (start at end : ℕ) (words rest : List ℕ) → IsPlacing before middle start at words rest → 2 ≤ length rest
-    → IsPlaced middle after at (32 ∷ (byte_digits (slice_index rest 1) ++ byte_digits (slice_index rest 0))) end → IsPlacing before after start end words (drop 2 rest)
+    → IsPutInBuffer middle after at (32 ∷ (byte_digits (slice_index rest 1) ++ byte_digits (slice_index rest 0))) end → IsPlacing before after start end words (drop 2 rest)
 word_placed before middle after start at end words rest p long w = record {
   text = ap (λ (l : List ℕ). l ++ bus_words (drop 2 rest)) w.text ∙ append_assoc (take at middle) word (bus_words (drop 2 rest)) ∙ ap (λ (l : List ℕ). take at middle ++ l) (sym (bus_words_more rest long)) ∙ p.text;
   moved = omega (arith, p.moved, w.moved, length-drop 2 rest);
@@ -86,7 +86,7 @@ word_placed before middle after start at end words rest p long w = record {
     word : List ℕ
     word = 32 ∷ (byte_digits (slice_index rest 1) ++ byte_digits (slice_index rest 0))
 
-pub words_placed : (before after : List ℕ) (start at : ℕ) (words rest : List ℕ) → IsPlacing before after start at words rest → length rest < 2 → IsPlaced before after start (bus_words words) at
+pub words_placed : (before after : List ℕ) (start at : ℕ) (words rest : List ℕ) → IsPlacing before after start at words rest → length rest < 2 → IsPutInBuffer before after start (bus_words words) at
 words_placed before after start at words rest p short = record {
   text = sym (append-nil (take at after)) ∙ ap (λ (l : List ℕ). take at after ++ l) (sym (bus_words_end rest short)) ∙ p.text;
   moved = omega (arith, p.moved, length_bus_words words);

@@ -9,7 +9,7 @@ use Rattle.ch11_reader.specs.Indexed.{found_in}
 use Rattle.ch11_reader.proofs.Loop.{in_order}
 use Rattle.ch11_stream.specs.declared.fault.StreamFault.{StreamFault}
 use Rattle.ch11_stream.specs.declared.fault.StreamFault.TheVariants.{Device, Memory, Refused}
-use Rattle.ch11_stream.specs.Reading.{IsEnd, IsStep, IsStop, Reading, last_found}
+use Rattle.ch11_stream.specs.Reading.{IsEnd, IsStep, IsReadingStopped, Reading, last_found}
 use Rattle.ch11_stream.proofs.Readings.{IsAmid, amid_end, amid_stop}
 use Rattle.bench_clock.specs.declared.clock.Mark.{Mark}
 use Rattle.bench_dump.specs.DumpText.{packet_line}
@@ -62,7 +62,7 @@ all_put clock file got mid gets waits now last e a g then =
     )
 
 -- no packet could be read
-pub not_read : (clock : List Mark) (file : List ℕ) (got gets : Option (List ℕ)) (now last : Reading) (f : StreamFault) → IsStop now last f → IsAmid file now → DumpsBy {A = Unit {0}} clock (Err f) file got gets
+pub not_read : (clock : List Mark) (file : List ℕ) (got gets : Option (List ℕ)) (now last : Reading) (f : StreamFault) → IsReadingStopped now last f → IsAmid file now → DumpsBy {A = Unit {0}} clock (Err f) file got gets
 not_read clock file got gets now last (Refused r) s a = amid_stop file now last r s a
 not_read clock file got gets now last Memory s a = tt
 not_read clock file got gets now last Device s a = tt

@@ -9,7 +9,7 @@ use Rattle.ch11_reader.specs.Skipping.{packets_read, skips_in}
 use Rattle.bench_clock.specs.declared.clock.Mark.{Mark}
 use Rattle.bench_clock.specs.Clock.{marks_in, time_at}
 use Rattle.bench_dump.specs.DumpText.{message_line, message_lines, packet_lines, dump_text}
-use Rattle.bench_dump.specs.SkippingText.{skips_behind, lines_in_order, skipping_text, text_of}
+use Rattle.bench_dump.specs.SkippingText.{skips_behind, lines_in_order, skipping_text, file_text}
 use Rattle.bench_dump.specs.TimedText.{timed_line, timed_lines, timed_in_order, text_by, TimelessIsPlain}
 
 -- a clock that tells no time
@@ -38,7 +38,7 @@ nothing_skipped : (ps : List Found) → skipping_text [] ps ≡ dump_text ps
 nothing_skipped ps = no_skips 0 ps
 
 -- the dump without times of day
-pub plain_text : (skip : Bool) (file : List ℕ) → text_by false skip file ≡ text_of skip file
+pub plain_text : (skip : Bool) (file : List ℕ) → text_by false skip file ≡ file_text skip file
 plain_text false file = plain_in_order [] (λ stamp. refl) 0 [] (found_in file) ∙ nothing_skipped (found_in file)
 plain_text true file = plain_in_order [] (λ stamp. refl) 0 (skips_in file) (packets_read file)
 

@@ -2,7 +2,7 @@
 use Rattle.std.specs.Prelude.{◌≡◌, ℕ, ◌+◌, ◌/◌, ◌%◌, List, [], ◌∷◌, ◌++◌, length, take}
 
 -- bytes were placed in a buffer, up to an end; in front of them it is as before
-pub record IsPlaced (before after : List ℕ) (at : ℕ) (bytes : List ℕ) (end : ℕ) : Type 0 where
+pub record IsPutInBuffer (before after : List ℕ) (at : ℕ) (bytes : List ℕ) (end : ℕ) : Type 0 where
   pub text : take end after ≡ take at before ++ bytes
   pub moved : end ≡ at + length bytes
   pub size : length after ≡ length before

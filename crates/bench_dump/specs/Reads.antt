@@ -5,7 +5,7 @@ use Rattle.ch11_stream.specs.declared.fault.StreamFault.{StreamFault}
 use Rattle.ch11_stream.specs.declared.fault.StreamFault.TheVariants as faults
 
 -- the bytes that the reader lost were appended, and the reader is at its end where there is no more
-pub record IsRead (left leaves : Option (List ℕ)) (before after : List ℕ) (more : Bool) : Type 0 where
+pub record IsReadBehind (left leaves : Option (List ℕ)) (before after : List ℕ) (more : Bool) : Type 0 where
   pub given : List ℕ
   pub taken : Consumes left leaves given
   pub kept : after ≡ before ++ given
@@ -18,7 +18,7 @@ given (Err e) piece = []
 
 -- What a read comes to behind which no more is read: want of memory for what it gave, or a device's fault where it
 -- failed.
-abbrev pub IsFaultOf : {E : Type 0} → Result ℕ E → StreamFault → Type 0
-IsFaultOf read (faults.Refused r) = ⊥
-IsFaultOf read faults.Memory = IsOk read
-IsFaultOf read faults.Device = IsErr read
+abbrev pub IsReadFault : {E : Type 0} → Result ℕ E → StreamFault → Type 0
+IsReadFault read (faults.Refused r) = ⊥
+IsReadFault read faults.Memory = IsOk read
+IsReadFault read faults.Device = IsErr read

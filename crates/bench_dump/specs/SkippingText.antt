@@ -42,6 +42,6 @@ abbrev pub skipping_text : List Skip → List Found → List ℕ
 skipping_text skips ps = lines_in_order 0 skips ps
 
 -- the dump of a file: of a sound one, or of whatever is sound in it
-abbrev pub text_of : Bool → List ℕ → List ℕ
-text_of false file = dump_text (found_in file)
-text_of true file = skipping_text (skips_in file) (packets_read file)
+abbrev pub file_text : Bool → List ℕ → List ℕ
+file_text false file = dump_text (found_in file)
+file_text true file = skipping_text (skips_in file) (packets_read file)

@@ -12,7 +12,7 @@ use Rattle.bench_clock.specs.declared.clock.Mark.{Mark}
 use Rattle.bench_clock.specs.Clock.{marks_in, time_at}
 use Rattle.bench_clock.specs.TimeText.{time_text}
 use Rattle.bench_dump.specs.DumpText.{bus_words, packet_line, word_digits}
-use Rattle.bench_dump.specs.SkippingText.{skip_lines, skips_before, skips_behind, text_of}
+use Rattle.bench_dump.specs.SkippingText.{skip_lines, skips_before, skips_behind, file_text}
 
 abbrev pub time_words : Option ℕ → List ℕ
 time_words None = []
@@ -61,5 +61,5 @@ text_by timed true file = timed_text (clock_of timed file (packets_read file)) (
 -- without a time packet that counts, the dump with times of day is the dump
 abbrev pub TimelessIsPlain : Type 0
 TimelessIsPlain =
-    (file : List ℕ) → (marks_in file (listing (found_in file)) ≡ [] → text_by true false file ≡ text_of false file)
-    × (marks_in file (listing (packets_read file)) ≡ [] → text_by true true file ≡ text_of true file)
+    (file : List ℕ) → (marks_in file (listing (found_in file)) ≡ [] → text_by true false file ≡ file_text false file)
+    × (marks_in file (listing (packets_read file)) ≡ [] → text_by true true file ≡ file_text true file)

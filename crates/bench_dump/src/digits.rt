@@ -1,6 +1,6 @@
 //! Digits, written two at a time at a place of a buffer that has room for them.
 ghost use Rattle.bench_dump.specs.DumpText.{byte_digits};
-ghost use Rattle.bench_dump.specs.Places.{IsPlaced, eight_digits, four_digits, two_digits};
+ghost use Rattle.bench_dump.specs.Places.{IsPutInBuffer, eight_digits, four_digits, two_digits};
 ghost use Rattle.std.specs.Prelude.{◌≡◌, ℕ, ◌+◌, ◌<◌, ◌≤◌, ◌^◌, List, length, decimal};
 
 /// The two upper-case hexadecimal digits of each byte.
@@ -22,7 +22,7 @@ static DECIMAL: [u8; 200] =
 #[inline(always)]
 pub(crate) fn place_byte(buffer: &mut [u8], at: usize, byte: u8) -> usize
     requires { at + 2 ≤ length buffer.old }
-    ensures placed { IsPlaced buffer.old buffer.new at (byte_digits byte) result }
+    ensures placed { IsPutInBuffer buffer.old buffer.new at (byte_digits byte) result }
     ensures end { result ≡ at + 2 }
 {
     let from = byte as usize * 2;
@@ -43,14 +43,14 @@ trait Digits {
     fn place_padded(buffer: &mut [u8], at: usize, number: u32) -> usize
         requires small { number < 10 ^ count }
         requires room { at + count ≤ length buffer.old }
-        ensures placed { IsPlaced buffer.old buffer.new at (padded number) result }
+        ensures placed { IsPutInBuffer buffer.old buffer.new at (padded number) result }
         ensures end { result ≡ at + count };
 
     /// Places a number without noughts in front, in one digit at least.
     fn place(buffer: &mut [u8], at: usize, number: u32) -> usize
         requires small { number < 10 ^ count }
         requires room { at + count ≤ length buffer.old }
-        ensures placed { IsPlaced buffer.old buffer.new at (decimal number) result }
+        ensures placed { IsPutInBuffer buffer.old buffer.new at (decimal number) result }
         ensures few { result ≤ at + count };
 }
 
@@ -134,7 +134,7 @@ impl Digits for Eight {
 fn place_high(buffer: &mut [u8], at: usize, number: u64) -> usize
     requires small { number < 1000000000000 }
     requires room { at + 12 ≤ length buffer.old }
-    ensures placed { IsPlaced buffer.old buffer.new at (decimal number) result }
+    ensures placed { IsPutInBuffer buffer.old buffer.new at (decimal number) result }
     ensures few { result ≤ at + 12 }
 {
     if number < 100_000_000 {
@@ -149,7 +149,7 @@ fn place_high(buffer: &mut [u8], at: usize, number: u64) -> usize
 #[inline]
 pub fn place_decimal(buffer: &mut [u8], at: usize, number: u64) -> usize
     requires { at + 20 ≤ length buffer.old }
-    ensures placed { IsPlaced buffer.old buffer.new at (decimal number) result }
+    ensures placed { IsPutInBuffer buffer.old buffer.new at (decimal number) result }
     ensures few { result ≤ at + 20 }
 {
     if number < 100_000_000 {

@@ -1,5 +1,5 @@
 //! A file read whole.
-ghost use Rattle.bench_dump.specs.Reads.{IsRead, IsFaultOf, given};
+ghost use Rattle.bench_dump.specs.Reads.{IsReadBehind, IsReadFault, given};
 ghost use Rattle.ch11_stream.specs.Feeding.{IsOther};
 ghost use Rattle.std.specs.Io.KnownBytes.{IsAtEnd};
 ghost use Rattle.std.specs.Prelude.{◌≡◌, ◌+◌, ◌*◌, ◌<◌, ◌≤◌, ◌++◌, length, [], false, Ok, IfOk, IfErr, IfSome, OnOk};
@@ -22,7 +22,7 @@ fn keep(read: io::Result<usize>, piece: &[u8], bytes: &mut Vec<u8>) -> Result<bo
     ensures kept { OnOk result (bytes.new.items ≡ bytes.old.items ++ given read piece.now) }
     ensures few { OnOk result (length bytes.new.items ≤ length bytes.old.items + length piece.now) }
     ensures ended { IfOk result (λ more. more ≡ false → read ≡ Ok 0) }
-    ensures fault { IfErr result (IsFaultOf read) }
+    ensures fault { IfErr result (IsReadFault read) }
     ensures failed { IfErr result IsOther }
 {
     match read {
@@ -43,7 +43,7 @@ fn read_piece<R: Read>(
     bytes: &mut Vec<u8>,
 ) -> Result<bool, StreamFault>
     requires { 0 < length piece.old }
-    ensures read { IfOk result (IsRead (R.remaining input.old)
+    ensures read { IfOk result (IsReadBehind (R.remaining input.old)
         (R.remaining input.new) bytes.old.items bytes.new.items) }
     ensures few { OnOk result (length bytes.new.items ≤ length bytes.old.items + length piece.old) }
     ensures failed { IfErr result IsOther }

@@ -1,7 +1,7 @@
 //! The whole dump, through one buffer.
 ghost use Rattle.bench_dump.specs.DumpText.{packet_line};
 ghost use Rattle.bench_dump.specs.Printing.{Carries, IsAnswerBy};
-ghost use Rattle.bench_dump.specs.SkippingText.{text_of};
+ghost use Rattle.bench_dump.specs.SkippingText.{file_text};
 ghost use Rattle.bench_dump.specs.TimedText.{clock_of, text_by, timed_lines, timed_text};
 ghost use Rattle.ch11_reader.specs.Recording.{packets_in};
 ghost use Rattle.ch11_reader.specs.declared.error.Refusal.{Refusal};
@@ -88,7 +88,7 @@ pub fn dump<W: Write>(
     skip: bool,
 ) -> Result<(), StreamFault>
     ensures answer { IsAnswerBy skip result (packets_in bytes.now) }
-    ensures printed { OnOk result (Appends (W.contents out.old) (W.contents out.new) (text_of skip bytes.now)) }
+    ensures printed { OnOk result (Appends (W.contents out.old) (W.contents out.new) (file_text skip bytes.now)) }
     ensures refused { (r : Refusal) → skip ≡ false → packets_in bytes.now ≡ Err r → out.new ≡ out.old }
 {
     dump_by(alloc, bytes, out, skip, false)

@@ -1,6 +1,6 @@
 //! The parts of a message's line, written one behind the other into a buffer that has room for all of them.
 ghost use Rattle.bench_dump.specs.DumpText.{bus_words, byte_digits, word_digits};
-ghost use Rattle.bench_dump.specs.Places.{IsPlaced};
+ghost use Rattle.bench_dump.specs.Places.{IsPutInBuffer};
 ghost use Rattle.bench_dump.specs.TimedText.{time_words, timed_line};
 ghost use Rattle.ch11_f1.specs.Views.{message_of};
 ghost use Rattle.std.specs.Prelude.{◌≡◌, ◌+◌, ◌*◌, ◌/◌, ◌≤◌, ◌∷◌, ◌++◌, length, decimal, option_map};
@@ -17,7 +17,7 @@ pub(crate) const MESSAGE_HEAD: usize = 145;
 #[inline(always)]
 pub fn place_bytes(buffer: &mut [u8], at: usize, bytes: &[u8]) -> usize
     requires { at + length bytes.now ≤ length buffer.old }
-    ensures { IsPlaced buffer.old buffer.new at bytes.now result }
+    ensures { IsPutInBuffer buffer.old buffer.new at bytes.now result }
 {
     let end = at + bytes.len();
     buffer[at..end].copy_from_slice(bytes);
@@ -28,7 +28,7 @@ pub fn place_bytes(buffer: &mut [u8], at: usize, bytes: &[u8]) -> usize
 #[inline(always)]
 fn place_label<const N: usize>(buffer: &mut [u8], at: usize, label: &[u8; N]) -> usize
     requires { at + N ≤ length buffer.old }
-    ensures placed { IsPlaced buffer.old buffer.new at label.now result }
+    ensures placed { IsPutInBuffer buffer.old buffer.new at label.now result }
     ensures end { result ≡ at + N }
 {
     place_bytes(buffer, at, label)
@@ -38,7 +38,7 @@ fn place_label<const N: usize>(buffer: &mut [u8], at: usize, label: &[u8; N]) ->
 #[inline(always)]
 fn place_number<const N: usize>(buffer: &mut [u8], at: usize, label: &[u8; N], number: u64) -> usize
     requires { at + N + 20 ≤ length buffer.old }
-    ensures placed { IsPlaced buffer.old buffer.new at (label.now ++ decimal number) result }
+    ensures placed { IsPutInBuffer buffer.old buffer.new at (label.now ++ decimal number) result }
     ensures few { result ≤ at + N + 20 }
 {
     let middle = place_label(buffer, at, label);
@@ -49,7 +49,7 @@ fn place_number<const N: usize>(buffer: &mut [u8], at: usize, label: &[u8; N], n
 #[inline(always)]
 fn place_word<const N: usize>(buffer: &mut [u8], at: usize, label: &[u8; N], word: u16) -> usize
     requires { at + N + 4 ≤ length buffer.old }
-    ensures placed { IsPlaced buffer.old buffer.new at (label.now ++ word_digits word) result }
+    ensures placed { IsPutInBuffer buffer.old buffer.new at (label.now ++ word_digits word) result }
     ensures end { result ≡ at + N + 4 }
 {
     let first = place_label(buffer, at, label);
@@ -61,7 +61,7 @@ fn place_word<const N: usize>(buffer: &mut [u8], at: usize, label: &[u8; N], wor
 #[inline(always)]
 fn place_bus_word(buffer: &mut [u8], at: usize, high: u8, low: u8) -> usize
     requires { at + 5 ≤ length buffer.old }
-    ensures placed { IsPlaced buffer.old buffer.new at (32 ∷ (byte_digits high ++ byte_digits low)) result }
+    ensures placed { IsPutInBuffer buffer.old buffer.new at (32 ∷ (byte_digits high ++ byte_digits low)) result }
     ensures end { result ≡ at + 5 }
 {
     buffer[at] = b' ';
@@ -74,7 +74,7 @@ fn place_bus_word(buffer: &mut [u8], at: usize, high: u8, low: u8) -> usize
 #[inline]
 pub fn place_bus_words(buffer: &mut [u8], start: usize, words: &[u8]) -> usize
     requires { start + 5 * (length words.now / 2) ≤ length buffer.old }
-    ensures placed { IsPlaced buffer.old buffer.new start (bus_words words.now) result }
+    ensures placed { IsPutInBuffer buffer.old buffer.new start (bus_words words.now) result }
     ensures end { result ≡ start + 5 * (length words.now / 2) }
 {
     let mut at = start;
@@ -91,7 +91,7 @@ pub fn place_bus_words(buffer: &mut [u8], start: usize, words: &[u8]) -> usize
 #[inline(always)]
 fn place_time(buffer: &mut [u8], at: usize, time: Option<UtcTime>) -> usize
     requires { at + 33 ≤ length buffer.old }
-    ensures placed { IsPlaced buffer.old buffer.new at (time_words (option_map (λ t. t.ticks) time)) result }
+    ensures placed { IsPutInBuffer buffer.old buffer.new at (time_words (option_map (λ t. t.ticks) time)) result }
     ensures few { result ≤ at + 33 }
 {
     match time {
@@ -115,7 +115,7 @@ pub(crate) fn place_message(
     seen: &Seen<'_>,
 ) -> usize
     requires { start + (MESSAGE_HEAD + 5 * (length seen.now.words.now / 2)) ≤ length buffer.old }
-    ensures { IsPlaced buffer.old buffer.new start
+    ensures { IsPutInBuffer buffer.old buffer.new start
         (timed_line (option_map (λ t. t.ticks) time) number channel (message_of seen.now)) result }
 {
     let at = place_number(buffer, start, b"message ", number);

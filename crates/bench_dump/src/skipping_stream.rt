@@ -1,6 +1,6 @@
 //! A dump of whatever is sound in a recording that a reader gives.
 ghost use Rattle.bench_dump.specs.Printing.{Carries};
-ghost use Rattle.bench_dump.specs.SkippingText.{text_of};
+ghost use Rattle.bench_dump.specs.SkippingText.{file_text};
 ghost use Rattle.bench_dump.specs.StretchText.{IsFew, stretch_lines};
 ghost use Rattle.bench_dump.specs.TimedText.{timed_text};
 ghost use Rattle.ch11_reader.specs.Skipping.{packets_read, skips_in};
@@ -50,7 +50,7 @@ pub fn dump_skipping_from<R: Read + Drop, W: Write>(
         → OnOk result (Appends (W.contents out.old) (W.contents out.new)
         (timed_text clock.now (skips_in file) (packets_read file))) }
     ensures plain { clock.now ≡ [] → (file : List ℕ) → R.remaining input ≡ Some file
-        → OnOk result (Appends (W.contents out.old) (W.contents out.new) (text_of true file)) }
+        → OnOk result (Appends (W.contents out.old) (W.contents out.new) (file_text true file)) }
     ensures failed { IfErr result IsOther }
 {
     let mut stretches = Stretches::over(alloc, input)?;

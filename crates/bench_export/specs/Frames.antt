@@ -7,7 +7,7 @@ use Rattle.ch11_f1.specs.BodyReading.{Message}
 use Rattle.ch11_layout.specs.Layouts.{size_of, word_of, is_between, first_word, first_gap, second_gap, commands_in}
 use Rattle.ch11_layout.specs.Layouts.{data_start, data_end}
 use Rattle.bench_dump.specs.DumpText.{word_digits}
-use Rattle.bench_export.specs.Rows.{gap_text, line_text, form_text, called_fields}
+use Rattle.bench_export.specs.Rows.{gap_text, message_line_text, form_text, called_fields}
 
 -- so many decimal digits of a number
 unfoldable pub digits_of : ℕ → ℕ → List ℕ
@@ -94,7 +94,7 @@ data_names (suc place) = data_names place ++ (codes "word" ++ decimal (place + 1
 
 -- how it was sent; what was answered
 abbrev pub sent_columns : Message → List (List ℕ)
-sent_columns m = line_text m ∷ form_text m ∷ direction_text m ∷ []
+sent_columns m = message_line_text m ∷ form_text m ∷ direction_text m ∷ []
 
 abbrev pub answered_columns : Bool → Message → List (List ℕ)
 answered_columns prefixed m =

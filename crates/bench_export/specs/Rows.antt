@@ -27,8 +27,8 @@ micros ticks = decimal (ticks / 10) ++ (46 ∷ decimal (ticks % 10))
 abbrev pub gap_text : ℕ → List ℕ
 gap_text gap = if gap == 0 then [] else micros gap
 
-abbrev pub line_text : Message → List ℕ
-line_text m = if has_bit 13 m.block then codes "B" else codes "A"
+abbrev pub message_line_text : Message → List ℕ
+message_line_text m = if has_bit 13 m.block then codes "B" else codes "A"
 
 -- the form of a message by its commands (MIL-STD-1553B 4.3.3.6)
 abbrev pub form_text : Message → List ℕ
@@ -96,7 +96,7 @@ block_text block =
 
 -- how it was sent; whom it calls; what was answered
 abbrev pub sent_fields : Message → List (List ℕ)
-sent_fields m = line_text m ∷ form_text m ∷ []
+sent_fields m = message_line_text m ∷ form_text m ∷ []
 
 abbrev pub called_fields : Message → List (List ℕ)
 called_fields m = first_fields m ++ second_fields m

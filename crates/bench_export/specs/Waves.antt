@@ -83,8 +83,8 @@ unfoldable pub opening_text : Bool → List ℕ
 opening_text on_b = codes "$scope module " ++ (letter_text on_b ++ codes " $end\n")
 
 -- the signals of a line are declared
-unfoldable pub line_text : Bool → ℕ → List ℕ
-line_text on_b channel =
+unfoldable pub line_scope_text : Bool → ℕ → List ℕ
+line_scope_text on_b channel =
     opening_text on_b
     ++ (declared_text (codes "reg 16") (codes "w") (codes "word") on_b channel
     ++ (declared_text (codes "reg 2") (codes "k") (codes "kind") on_b channel
@@ -97,7 +97,7 @@ channel_text channel = codes "$scope module channel_" ++ (decimal channel ++ cod
 -- a channel's signals are declared
 unfoldable pub scope_text : ℕ → List ℕ
 scope_text channel = channel_text channel
-    ++ (line_text false channel ++ (line_text true channel ++ codes "$upscope $end\n"))
+    ++ (line_scope_text false channel ++ (line_scope_text true channel ++ codes "$upscope $end\n"))
 
 -- a channel's lines are idle
 abbrev pub idle_text : ℕ → List ℕ

@@ -35,7 +35,7 @@ fn push_sent(row: &mut Row, seen: &Seen<'_>) -> Result<(), AllocError>
 
 /// The line of a message.
 pub(crate) fn line_name(seen: &Seen<'_>) -> &'static [u8]
-    ensures { result.now ≡ spec.line_text (message_of seen.now) }
+    ensures { result.now ≡ spec.message_line_text (message_of seen.now) }
 {
     if is_set(seen.block, 13) { b"B" } else { b"A" }
 }

@@ -52,9 +52,9 @@ fn put_opening(text: &mut Vec<u8>, on_b: bool) -> Result<(), AllocError>
 }
 
 /// Puts the declarations of the signals of a line.
-#[tactic(auto, unfolding(crate::specs::Waves::line_text))]
+#[tactic(auto, unfolding(crate::specs::Waves::line_scope_text))]
 fn put_line(text: &mut Vec<u8>, wire: Wire) -> Result<(), AllocError>
-    ensures { OnOk result (text.new.items ≡ text.old.items ++ spec.line_text wire.on_b wire.channel) }
+    ensures { OnOk result (text.new.items ≡ text.old.items ++ spec.line_scope_text wire.on_b wire.channel) }
 {
     put_opening(text, wire.on_b)?;
     put_declared(text, b"reg 16", b"w", b"word", wire)?;

@@ -11,7 +11,7 @@ use Rattle.ch11_reader.specs.Contents.{heard_of, heard_in, total_in}
 use Rattle.bench_dump.proofs.Packets.{IsAt}
 use Rattle.judge_rules.specs.declared.rules.Rule.{Rule}
 use Rattle.bench_judge.specs.declared.tallies.Tally.{Tally}
-use Rattle.bench_judge.specs.declared.verdicts.Verdict.{Verdict}
+use Rattle.bench_judge.specs.declared.verdicts.RuleVerdict.{RuleVerdict}
 use Rattle.bench_judge.specs.Verdicts.{Heard, IsVerdict, IsVerdictWith, AreVerdicts}
 use Rattle.bench_judge.specs.Tallies.{IsTally, AreTallies, heard_on}
 
@@ -109,11 +109,11 @@ packets-more known ps place e at is = subst known (sym same) is
     same = rw at.header (ap reverse heard ∙ reverse-append (heard_in (take place ps)) (heard_of at.packet))
 
 -- the tallies so far have their verdicts
-pub record IsJudging (rules : List Rule) (all rest : List Tally) (verdicts : List Verdict) : Type 0 where
+pub record IsJudging (rules : List Rule) (all rest : List Tally) (verdicts : List RuleVerdict) : Type 0 where
   pub done : List Tally
   pub split : done ++ rest ≡ all
   pub many : length verdicts ≡ length done
-  pub each : (k : ℕ) (rule : Rule) (tally : Tally) (verdict : Verdict) → slice_get rules k ≡ Some rule → slice_get done k ≡ Some tally → slice_get verdicts k ≡ Some verdict → IsVerdictWith rule tally.selected tally.missed verdict
+  pub each : (k : ℕ) (rule : Rule) (tally : Tally) (verdict : RuleVerdict) → slice_get rules k ≡ Some rule → slice_get done k ≡ Some tally → slice_get verdicts k ≡ Some verdict → IsVerdictWith rule tally.selected tally.missed verdict
 
 pub judging-none : (rules : List Rule) (all : List Tally) → IsJudging rules all all []
 judging-none rules all = record { done = []; split = refl; many = refl; each = λ k rule tally verdict there got has. absurd cc }
@@ -121,10 +121,10 @@ judging-none rules all = record { done = []; split = refl; many = refl; each = �
 some_same : {X : Type 0} (x y : X) → Some x ≡ Some y → x ≡ y
 some_same x y is = cc
 
-pub judging-within : (rules : List Rule) (all rest others : List Tally) (tally : Tally) (verdicts : List Verdict) → IsJudging rules all rest verdicts → length all ≡ length rules → rest ≡ tally ∷ others → length verdicts < length rules
+pub judging-within : (rules : List Rule) (all rest others : List Tally) (tally : Tally) (verdicts : List RuleVerdict) → IsJudging rules all rest verdicts → length all ≡ length rules → rest ≡ tally ∷ others → length verdicts < length rules
 judging-within rules all rest others tally verdicts j many is = omega (arith, j.many, many, ap length j.split, length-append j.done rest, ap length is)
 
-pub judging-more : (rules : List Rule) (all rest others : List Tally) (tally : Tally) (verdicts : List Verdict) (rule : Rule) (verdict : Verdict) → IsJudging rules all rest verdicts → rest ≡ tally ∷ others → slice_get rules (length verdicts) ≡ Some rule
+pub judging-more : (rules : List Rule) (all rest others : List Tally) (tally : Tally) (verdicts : List RuleVerdict) (rule : Rule) (verdict : RuleVerdict) → IsJudging rules all rest verdicts → rest ≡ tally ∷ others → slice_get rules (length verdicts) ≡ Some rule
     → IsVerdictWith rule tally.selected tally.missed verdict → IsJudging rules all others (verdicts ++ verdict ∷ [])
 judging-more rules all rest others tally verdicts rule verdict j is there one = record {
   done = j.done ++ tally ∷ [];
@@ -133,19 +133,19 @@ judging-more rules all rest others tally verdicts rule verdict j is there one = 
   each = λ k r t v asked got has. go k r t v asked (place_of j.done tally k t got) (place_of verdicts verdict k v has);
 }
   where
-    go : (k : ℕ) (r : Rule) (t : Tally) (v : Verdict) → slice_get rules k ≡ Some r → Place Tally j.done tally k t → Place Verdict verdicts verdict k v → IsVerdictWith r t.selected t.missed v
+    go : (k : ℕ) (r : Rule) (t : Tally) (v : RuleVerdict) → slice_get rules k ≡ Some r → Place Tally j.done tally k t → Place RuleVerdict verdicts verdict k v → IsVerdictWith r t.selected t.missed v
     go k r t v asked (Earlier a got) (Earlier b has) = j.each k r t v asked got has
     go k r t v asked (Earlier a got) (Last b has) = absurd (omega (arith, a, b, j.many))
     go k r t v asked (Last a got) (Earlier b has) = absurd (omega (arith, a, b, j.many))
     go k r t v asked (Last a got) (Last b has) =
         let same : rule ≡ r = some_same rule r (sym there ∙ ap (slice_get rules) (sym b) ∙ asked) in
         subst (λ (x : Rule). IsVerdictWith x t.selected t.missed v) same
-        (subst (λ (x : Tally). IsVerdictWith rule x.selected x.missed v) got (subst (λ (x : Verdict). IsVerdictWith rule tally.selected tally.missed x) has one))
+        (subst (λ (x : Tally). IsVerdictWith rule x.selected x.missed v) got (subst (λ (x : RuleVerdict). IsVerdictWith rule tally.selected tally.missed x) has one))
 
-verdict_with : (rule : Rule) (history : List Heard) (tally : Tally) (verdict : Verdict) → IsTally rule history tally → IsVerdictWith rule tally.selected tally.missed verdict → IsVerdict rule history verdict
+verdict_with : (rule : Rule) (history : List Heard) (tally : Tally) (verdict : RuleVerdict) → IsTally rule history tally → IsVerdictWith rule tally.selected tally.missed verdict → IsVerdict rule history verdict
 verdict_with rule history tally verdict is with = rw (is.selected, is.missed) at with
 
-pub judging-all : (rules : List Rule) (all rest : List Tally) (verdicts : List Verdict) (history : List Heard) → IsJudging rules all rest verdicts → rest ≡ [] → AreTallies rules history all → AreVerdicts rules history verdicts
+pub judging-all : (rules : List Rule) (all rest : List Tally) (verdicts : List RuleVerdict) (history : List Heard) → IsJudging rules all rest verdicts → rest ≡ [] → AreTallies rules history all → AreVerdicts rules history verdicts
 judging-all rules all rest verdicts history j none are = record {
   many = omega (arith, j.many, are.many, ap length whole);
   each = λ k rule verdict asked has. go k rule verdict asked has (slice_get j.done k) refl;
@@ -162,7 +162,7 @@ judging-all rules all rest verdicts history j none are = record {
         past (x ∷ xs) zero is = absurd cc
         past (x ∷ xs) (suc k) is = omega (arith, past xs k is)
 
-    go : (k : ℕ) (rule : Rule) (verdict : Verdict) → slice_get rules k ≡ Some rule → slice_get verdicts k ≡ Some verdict → (found : Option Tally) → slice_get j.done k ≡ found → IsVerdict rule history verdict
+    go : (k : ℕ) (rule : Rule) (verdict : RuleVerdict) → slice_get rules k ≡ Some rule → slice_get verdicts k ≡ Some verdict → (found : Option Tally) → slice_get j.done k ≡ found → IsVerdict rule history verdict
     go k rule verdict asked has None is = absurd (omega (arith, missing k is, j.many, slice_get_within verdicts k verdict has))
     go k rule verdict asked has (Some tally) is =
         verdict_with rule history tally verdict (are.each k rule tally asked (ap (λ (ts : List Tally). slice_get ts k) (sym whole) ∙ is)) (j.each k rule tally verdict asked is has)

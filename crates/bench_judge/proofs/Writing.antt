@@ -10,7 +10,7 @@ use Rattle.bench_dump.proofs.Steps.{appends_both, appends_nothing}
 use Rattle.judge_rules.specs.declared.rules.Rule.{Rule}
 use Rattle.bench_judge.specs.declared.tallies.Tally.{Tally}
 use Rattle.bench_judge.specs.declared.verdicts.Miss.{Miss}
-use Rattle.bench_judge.specs.declared.verdicts.Verdict.{Verdict}
+use Rattle.bench_judge.specs.declared.verdicts.RuleVerdict.{RuleVerdict}
 use Rattle.bench_judge.specs.Selection.{selects}
 use Rattle.bench_judge.specs.Checks.{meets}
 use Rattle.bench_judge.specs.Verdicts.{Heard, latest_stamp, missed, misses, miss_of, AreVerdicts, not_held, rules_not_held, holds}
@@ -90,7 +90,7 @@ rules-more rules place rule history got mid gets there before line =
     subst (Appends got gets) (sym (lines-more rules place rule history there)) (appends_both got mid gets (rules_lines (take place rules) history) (verdict_lines rule history) before line)
 
 -- as many verdicts are not held as rules
-pub same-held : (rules : List Rule) (history : List Heard) (verdicts : List Verdict) → AreVerdicts rules history verdicts → not_held verdicts ≡ rules_not_held rules history
+pub same-held : (rules : List Rule) (history : List Heard) (verdicts : List RuleVerdict) → AreVerdicts rules history verdicts → not_held verdicts ≡ rules_not_held rules history
 same-held [] history [] are = refl
 same-held [] history (v ∷ vs) are = absurd (omega (arith, are.many))
 same-held (r ∷ rs) history [] are = absurd (omega (arith, are.many))
@@ -99,5 +99,5 @@ same-held (r ∷ rs) history (v ∷ vs) are =
     let rest = same-held rs history vs (record { many = omega (arith, are.many); each = λ k rule verdict asked has. are.each (suc k) rule verdict asked has }) in
     rw (first, rest) refl
 
-pub whole-text : (rules : List Rule) (history : List Heard) (verdicts : List Verdict) → AreVerdicts rules history verdicts → rules_lines rules history ++ last_line (length verdicts) (not_held verdicts) ≡ verdict_text rules history
+pub whole-text : (rules : List Rule) (history : List Heard) (verdicts : List RuleVerdict) → AreVerdicts rules history verdicts → rules_lines rules history ++ last_line (length verdicts) (not_held verdicts) ≡ verdict_text rules history
 whole-text rules history verdicts are = rw (are.many, same-held rules history verdicts are) refl

@@ -15,9 +15,10 @@ history_of file = reverse (heard_in (found_in file))
 
 -- The file can be read, and the lines that are said of its messages were written behind what the writer had; or the
 -- file is refused with its first fault. Want of memory and failures of devices may come with any file.
-abbrev pub Writes : {A : Type 0} → (List Heard → List ℕ) → Result A PassFault → List ℕ → Option (List ℕ)
+abbrev pub WritesLinesOf : {A : Type 0} → (List Heard → List ℕ) → Result A PassFault → List ℕ → Option (List ℕ)
     → Option (List ℕ) → Type 0
-Writes lines (Ok x) file got gets = (packets_in file ≡ Ok (found_in file)) × Appends got gets (lines (history_of file))
-Writes lines (Err (faults.Recording e)) file got gets = IsFaultOf file e
-Writes lines (Err (faults.Printing e)) file got gets = Unit {0}
-Writes lines (Err (faults.Opening e)) file got gets = Unit {0}
+WritesLinesOf lines (Ok x) file got gets = (packets_in file ≡ Ok (found_in file))
+    × Appends got gets (lines (history_of file))
+WritesLinesOf lines (Err (faults.Recording e)) file got gets = IsFaultOf file e
+WritesLinesOf lines (Err (faults.Printing e)) file got gets = Unit {0}
+WritesLinesOf lines (Err (faults.Opening e)) file got gets = Unit {0}

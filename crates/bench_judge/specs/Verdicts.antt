@@ -5,7 +5,7 @@ use Rattle.std.specs.List.{filter}
 use Rattle.ch11_f1.specs.BodyReading.{Message}
 use Rattle.judge_rules.specs.declared.rules.Rule.{Rule}
 use Rattle.bench_judge.specs.declared.verdicts.Miss.{Miss}
-use Rattle.bench_judge.specs.declared.verdicts.Verdict.{Verdict}
+use Rattle.bench_judge.specs.declared.verdicts.RuleVerdict.{RuleVerdict}
 use Rattle.bench_judge.specs.Selection.{selects}
 use Rattle.bench_judge.specs.Checks.{meets, counts, is_count}
 
@@ -58,24 +58,24 @@ abbrev pub is_held : Rule → ℕ → ℕ → Bool
 is_held rule selected missed = (missed == 0) && counts rule.check selected && (is_count rule.check || nat_lt 0 selected)
 
 -- the verdict of a rule that selects so many messages, of which so many miss it
-abbrev pub IsVerdictWith : Rule → ℕ → ℕ → Verdict → Type 0
+abbrev pub IsVerdictWith : Rule → ℕ → ℕ → RuleVerdict → Type 0
 IsVerdictWith rule selected missed verdict =
     (verdict.line ≡ rule.line) × (verdict.selected ≡ selected) × (verdict.missed ≡ missed)
     × (verdict.miscounted ≡ not (counts rule.check selected)) × (verdict.held ≡ is_held rule selected missed)
 
 -- the verdict of a rule on the messages of a history
-abbrev pub IsVerdict : Rule → List Heard → Verdict → Type 0
+abbrev pub IsVerdict : Rule → List Heard → RuleVerdict → Type 0
 IsVerdict rule history verdict = IsVerdictWith rule (length (selected rule history))
     (length (missed rule history)) verdict
 
 -- a verdict for each rule, in their order
-pub record AreVerdicts (rules : List Rule) (history : List Heard) (verdicts : List Verdict) : Type 0 where
+pub record AreVerdicts (rules : List Rule) (history : List Heard) (verdicts : List RuleVerdict) : Type 0 where
   pub many : length verdicts ≡ length rules
-  pub each : (place : ℕ) (rule : Rule) (verdict : Verdict) → slice_get rules place ≡ Some rule
+  pub each : (place : ℕ) (rule : Rule) (verdict : RuleVerdict) → slice_get rules place ≡ Some rule
       → slice_get verdicts place ≡ Some verdict → IsVerdict rule history verdict
 
 -- how many of these verdicts are of rules that are not held
-abbrev pub not_held : List Verdict → ℕ
+abbrev pub not_held : List RuleVerdict → ℕ
 not_held [] = 0
 not_held (verdict ∷ verdicts) = (if verdict.held then 0 else 1) + not_held verdicts
 

@@ -3,7 +3,7 @@ use crate::names::Names;
 use crate::numbers::put_number;
 use crate::pass_fault::PassFault;
 use crate::sought::{Anew, Sought, Wanted};
-use crate::verdicts::{Judged, Verdict, not_held};
+use crate::verdicts::{Judged, RuleVerdict, not_held};
 use bench_decode::{Line, Shown};
 use bench_watch::Reopen;
 use ch11_reader::Index;
@@ -33,7 +33,7 @@ fn put_name(text: &mut Vec<u8>, name: &[u8]) -> Result<(), AllocError> {
 }
 
 /// Appends a rule with its numbers.
-fn put_rule(text: &mut Vec<u8>, name: &[u8], verdict: &Verdict) -> Result<(), AllocError> {
+fn put_rule(text: &mut Vec<u8>, name: &[u8], verdict: &RuleVerdict) -> Result<(), AllocError> {
     let held = verdict.held;
     text.extend_from_slice(if held { GREEN } else { RED })?;
     text.extend_from_slice(if held { b"held   " } else { b"missed " })?;
@@ -51,7 +51,7 @@ fn put_rule(text: &mut Vec<u8>, name: &[u8], verdict: &Verdict) -> Result<(), Al
 }
 
 /// Appends how many rules there are and how many are not held.
-fn put_last(text: &mut Vec<u8>, verdicts: &[Verdict]) -> Result<(), AllocError> {
+fn put_last(text: &mut Vec<u8>, verdicts: &[RuleVerdict]) -> Result<(), AllocError> {
     let missed = not_held(verdicts);
     text.extend_from_slice(if missed == 0 { GREEN } else { RED })?;
     put_number(text, b"", verdicts.len() as u64)?;
@@ -68,7 +68,7 @@ fn write_rule<S: Sought, W: Write>(
     line: &mut Line,
     recording: &S,
     rule: &Rule,
-    verdict: &Verdict,
+    verdict: &RuleVerdict,
     out: &mut W,
 ) -> Result<(), PassFault> {
     out.write_all(text.as_slice())?;
@@ -118,7 +118,7 @@ pub fn write_colored<W: Write>(
     index: &Index<'_>,
     rules_text: &[u8],
     rules: &[Rule],
-    verdicts: &[Verdict],
+    verdicts: &[RuleVerdict],
     out: &mut W,
 ) -> Result<(), PassFault> {
     write_for_people(alloc, index, Judged::of(rules_text, rules, verdicts), out)
@@ -131,7 +131,7 @@ pub fn write_colored_from<S: Reopen, W: Write>(
     recording: &S,
     rules_text: &[u8],
     rules: &[Rule],
-    verdicts: &[Verdict],
+    verdicts: &[RuleVerdict],
     out: &mut W,
 ) -> Result<(), PassFault> {
     let anew = Anew { recording };

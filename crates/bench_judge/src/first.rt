@@ -3,7 +3,7 @@ ghost use Rattle.bench_judge.specs.Tallies.{IsFinding, heard_on};
 ghost use Rattle.bench_judge.specs.Verdicts.{Heard, misses};
 ghost use Rattle.ch11_f1.specs.Views.{message_of};
 ghost use Rattle.ch11_reader.specs.Contents.{heard_in};
-ghost use Rattle.ch11_stream.specs.Folding.{Finds};
+ghost use Rattle.ch11_stream.specs.Folding.{FoldsPackets};
 ghost use Rattle.std.specs.Prelude.{OnOk};
 ghost use Rattle.std.specs.Prelude.{◌≡◌, ◌+◌, ◌<◌, ◌≤◌, ◌^◌, ◌∷◌, ◌++◌, [], ℕ, List, Some, length, take, reverse};
 
@@ -109,7 +109,7 @@ pub fn first_misses_from<R: Advance + Drop>(
     most: usize,
 ) -> Result<Vec<Miss>, StreamFault>
     ensures { (file : List ℕ) → R.remaining input ≡ Some file
-        → Finds (λ ps found. found.items ≡ take most (misses rule.now (reverse (heard_in ps)))) result file }
+        → FoldsPackets (λ ps found. found.items ≡ take most (misses rule.now (reverse (heard_in ps)))) result file }
 {
     let mut packets = Packets::over(alloc, input)?;
     let mut found = Vec::new(alloc);

@@ -7,7 +7,7 @@ ghost use Rattle.judge_rules.specs.declared.rules.Rule.{Rule};
 ghost use Rattle.std.specs.Prelude.{◌≡◌, ◌+◌, ◌<◌, ◌≤◌, ◌^◌, ◌∷◌, ◌++◌, [], List, length, reverse, IfOk, OnOk};
 
 use crate::tallies::Tally;
-use crate::verdicts::{Verdict, verdict_of};
+use crate::verdicts::{RuleVerdict, verdict_of};
 use bench_select::no_channels;
 use ch11_f1::{Messages, Seen};
 use ch11_reader::Index;
@@ -21,7 +21,11 @@ const STAMPS: usize = 65536;
 /// the recording, in which it is worked out at most once whether a message is clean; but where there are more rules
 /// than 65,536 by the number of channels, only as many as that share one, so that what is kept does not grow with rules
 /// times channels.
-pub fn judge(alloc: Global, index: &Index<'_>, rules: &[Rule]) -> Result<Vec<Verdict>, AllocError>
+pub fn judge(
+    alloc: Global,
+    index: &Index<'_>,
+    rules: &[Rule],
+) -> Result<Vec<RuleVerdict>, AllocError>
     ensures { IfOk result (λ verdicts. AreVerdicts rules.now (reverse (heard_in index.now)) verdicts.items) }
 {
     let most = rules_of_a_pass(alloc, index)?;
@@ -76,7 +80,7 @@ fn judge_more(
     alloc: Global,
     index: &Index<'_>,
     rules: &[Rule],
-    verdicts: &mut Vec<Verdict>,
+    verdicts: &mut Vec<RuleVerdict>,
 ) -> Result<(), AllocError>
     ensures { (done : List Rule) → AreVerdicts done (reverse (heard_in index.now)) verdicts.old.items
         → OnOk result (AreVerdicts (done ++ rules.now) (reverse (heard_in index.now)) verdicts.new.items) }
@@ -91,7 +95,7 @@ fn judge_together(
     alloc: Global,
     index: &Index<'_>,
     rules: &[Rule],
-) -> Result<Vec<Verdict>, AllocError>
+) -> Result<Vec<RuleVerdict>, AllocError>
     ensures { IfOk result (λ verdicts. AreVerdicts rules.now (reverse (heard_in index.now)) verdicts.items) }
 {
     let mut tallies = no_tallies(alloc, rules)?;
@@ -161,7 +165,7 @@ pub(crate) fn verdicts_of(
     alloc: Global,
     rules: &[Rule],
     tallies: Vec<Tally>,
-) -> Result<Vec<Verdict>, AllocError>
+) -> Result<Vec<RuleVerdict>, AllocError>
     requires { length tallies.items ≡ length rules.now }
     ensures { (history : List Heard) → AreTallies rules.now history tallies.items
         → IfOk result (λ verdicts. AreVerdicts rules.now history verdicts.items) }

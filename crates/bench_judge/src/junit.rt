@@ -3,7 +3,7 @@ use crate::names::Names;
 use crate::numbers::put_number;
 use crate::pass_fault::PassFault;
 use crate::sought::{Anew, Sought, Wanted};
-use crate::verdicts::{Judged, Miss, Verdict, not_held};
+use crate::verdicts::{Judged, Miss, RuleVerdict, not_held};
 use bench_watch::Reopen;
 use ch11_reader::Index;
 use judge_rules::Rule;
@@ -60,7 +60,7 @@ fn put_escaped(text: &mut Vec<u8>, value: &[u8]) -> Result<(), AllocError> {
 }
 
 /// Appends why a rule is not held.
-fn put_reason(text: &mut Vec<u8>, verdict: &Verdict) -> Result<(), AllocError> {
+fn put_reason(text: &mut Vec<u8>, verdict: &RuleVerdict) -> Result<(), AllocError> {
     if verdict.miscounted {
         return put_number(text, b"count ", verdict.selected);
     }
@@ -87,7 +87,7 @@ fn put_case<S: Sought>(
     recording: &S,
     name: &[u8],
     rule: &Rule,
-    verdict: &Verdict,
+    verdict: &RuleVerdict,
 ) -> Result<(), PassFault> {
     put_number(text, b"  <testcase classname=\"line ", verdict.line)?;
     text.extend_from_slice(b"\" name=\"")?;
@@ -143,7 +143,7 @@ pub fn junit_text(
     index: &Index<'_>,
     rules_text: &[u8],
     rules: &[Rule],
-    verdicts: &[Verdict],
+    verdicts: &[RuleVerdict],
 ) -> Result<Vec<u8>, PassFault> {
     let judged = Judged::of(rules_text, rules, verdicts);
     report_of(alloc, index, judged)
@@ -156,7 +156,7 @@ pub fn junit_text_from<S: Reopen>(
     recording: &S,
     rules_text: &[u8],
     rules: &[Rule],
-    verdicts: &[Verdict],
+    verdicts: &[RuleVerdict],
 ) -> Result<Vec<u8>, PassFault> {
     let judged = Judged::of(rules_text, rules, verdicts);
     report_of(alloc, &Anew { recording }, judged)

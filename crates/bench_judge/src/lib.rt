@@ -37,4 +37,4 @@ pub use pass_fault::PassFault;
 pub use passes::{write_misses_from, write_verdicts_from};
 pub use selection::selects;
 pub use streaming::judge_from;
-pub use verdicts::{Miss, Verdict, not_held};
+pub use verdicts::{Miss, RuleVerdict, not_held};

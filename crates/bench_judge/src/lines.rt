@@ -12,7 +12,7 @@ ghost use Rattle.std.specs.Prelude.{◌≡◌, ◌+◌, ◌<◌, ◌^◌, ◌∷
 use crate::fault::PrintFault;
 use crate::judging::judge;
 use crate::tallies::Tally;
-use crate::verdicts::{Miss, Verdict, not_held};
+use crate::verdicts::{Miss, RuleVerdict, not_held};
 use ch11_f1::{Messages, Seen};
 use ch11_reader::{Index, Packet};
 use judge_rules::Rule;
@@ -101,7 +101,7 @@ fn write_misses<W: Write>(
 }
 
 /// Writes that the count of a rule is not met, of which this is the verdict.
-pub(crate) fn write_count<W: Write>(out: &mut W, verdict: &Verdict) -> io::Result<()>
+pub(crate) fn write_count<W: Write>(out: &mut W, verdict: &RuleVerdict) -> io::Result<()>
     ensures { OnOk result (Appends (W.contents out.old) (W.contents out.new)
         (count_lines verdict.now.line verdict.now.selected)) }
 {
@@ -113,7 +113,7 @@ pub(crate) fn write_count<W: Write>(out: &mut W, verdict: &Verdict) -> io::Resul
 }
 
 /// Writes how many messages a rule selects, and how many miss it, of which this is the verdict.
-pub(crate) fn write_numbers<W: Write>(out: &mut W, verdict: &Verdict) -> io::Result<()>
+pub(crate) fn write_numbers<W: Write>(out: &mut W, verdict: &RuleVerdict) -> io::Result<()>
     ensures { OnOk result (Appends (W.contents out.old) (W.contents out.new)
         (rule_line verdict.now.line verdict.now.selected verdict.now.missed)) }
 {
@@ -126,7 +126,7 @@ fn write_rule<W: Write>(
     alloc: Global,
     index: &Index<'_>,
     rule: &Rule,
-    verdict: &Verdict,
+    verdict: &RuleVerdict,
     out: &mut W,
 ) -> Result<(), PrintFault>
     requires { IsVerdict rule.now (reverse (heard_in index.now)) verdict.now }
@@ -145,7 +145,7 @@ fn write_rules<W: Write>(
     alloc: Global,
     index: &Index<'_>,
     rules: &[Rule],
-    verdicts: &[Verdict],
+    verdicts: &[RuleVerdict],
     out: &mut W,
 ) -> Result<(), PrintFault>
     requires { AreVerdicts rules.now (reverse (heard_in index.now)) verdicts.now }
@@ -159,7 +159,7 @@ fn write_rules<W: Write>(
 }
 
 /// Writes the line behind those of the rules: how many there are, and how many are not held.
-pub(crate) fn write_last<W: Write>(out: &mut W, verdicts: &[Verdict]) -> io::Result<()>
+pub(crate) fn write_last<W: Write>(out: &mut W, verdicts: &[RuleVerdict]) -> io::Result<()>
     ensures { OnOk result (Appends (W.contents out.old) (W.contents out.new)
         (last_line (length verdicts.now) (spec.not_held verdicts.now))) }
 {
@@ -177,7 +177,7 @@ pub fn write_verdicts<W: Write>(
     index: &Index<'_>,
     rules: &[Rule],
     out: &mut W,
-) -> Result<Vec<Verdict>, PrintFault>
+) -> Result<Vec<RuleVerdict>, PrintFault>
     ensures verdicts { IfOk result (λ verdicts. AreVerdicts rules.now (reverse (heard_in index.now)) verdicts.items) }
     ensures written { OnOk result (Appends (W.contents out.old) (W.contents out.new)
         (verdict_text rules.now (reverse (heard_in index.now)))) }

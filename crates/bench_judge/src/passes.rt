@@ -1,6 +1,6 @@
 //! Verdicts as plain lines, of a recording that is read anew for each pass and never kept.
 ghost use Rattle.bench_judge.specs.Lines.{rules_lines, verdict_lines, verdict_text};
-ghost use Rattle.bench_judge.specs.Streaming.{Writes, history_of};
+ghost use Rattle.bench_judge.specs.Streaming.{WritesLinesOf, history_of};
 ghost use Rattle.bench_judge.specs.Tallies.{miss_lines};
 ghost use Rattle.bench_judge.specs.Verdicts as spec;
 ghost use Rattle.bench_judge.specs.Verdicts.{AreVerdicts, IsVerdict};
@@ -13,7 +13,7 @@ use crate::lines::{write_count, write_last, write_messages, write_numbers};
 use crate::pass_fault::PassFault;
 use crate::streaming::judge_from;
 use crate::tallies::Tally;
-use crate::verdicts::Verdict;
+use crate::verdicts::RuleVerdict;
 use bench_watch::Reopen;
 use ch11_stream::{Advance, Packets, StreamFault};
 use judge_rules::Rule;
@@ -30,7 +30,7 @@ pub fn write_misses_from<R: Advance + Drop, W: Write>(
     out: &mut W,
 ) -> Result<(), PassFault>
     ensures { (file : List ℕ) → R.remaining input ≡ Some file
-        → Writes (miss_lines rule.now) result file (W.contents out.old) (W.contents out.new) }
+        → WritesLinesOf (miss_lines rule.now) result file (W.contents out.old) (W.contents out.new) }
 {
     let mut packets = Packets::over(alloc, input)?;
     let mut tally = Tally::new(alloc);
@@ -56,7 +56,7 @@ fn write_missed_from<S: Reopen, W: Write>(
 ) -> Result<(), PassFault>
     ensures { (file : List ℕ) → S.bytes recording.now ≡ Some file → packets_in file ≡ Ok (found_in file)
         → missed ≡ length (spec.missed rule.now (history_of file))
-        → Writes (miss_lines rule.now) result file (W.contents out.old) (W.contents out.new) }
+        → WritesLinesOf (miss_lines rule.now) result file (W.contents out.old) (W.contents out.new) }
 {
     if missed == 0 {
         return Ok(());
@@ -72,12 +72,12 @@ fn write_rule_from<S: Reopen, W: Write>(
     alloc: Global,
     recording: &S,
     rule: &Rule,
-    verdict: &Verdict,
+    verdict: &RuleVerdict,
     out: &mut W,
 ) -> Result<(), PassFault>
     ensures { (file : List ℕ) → S.bytes recording.now ≡ Some file → packets_in file ≡ Ok (found_in file)
         → IsVerdict rule.now (history_of file) verdict.now
-        → Writes (verdict_lines rule.now) result file (W.contents out.old) (W.contents out.new) }
+        → WritesLinesOf (verdict_lines rule.now) result file (W.contents out.old) (W.contents out.new) }
 {
     if verdict.miscounted {
         return Ok(write_count(out, verdict)?);
@@ -91,13 +91,13 @@ fn write_rules_from<S: Reopen, W: Write>(
     alloc: Global,
     recording: &S,
     rules: &[Rule],
-    verdicts: &[Verdict],
+    verdicts: &[RuleVerdict],
     out: &mut W,
 ) -> Result<(), PassFault>
     requires { length verdicts.now ≡ length rules.now }
     ensures { (file : List ℕ) → S.bytes recording.now ≡ Some file → packets_in file ≡ Ok (found_in file)
         → AreVerdicts rules.now (history_of file) verdicts.now
-        → Writes (rules_lines rules.now) result file (W.contents out.old) (W.contents out.new) }
+        → WritesLinesOf (rules_lines rules.now) result file (W.contents out.old) (W.contents out.new) }
 {
     'rules: for place in 0..rules.len() {
         write_rule_from(alloc, recording, &rules[place], &verdicts[place], out)?;
@@ -115,11 +115,11 @@ pub fn write_verdicts_from<S: Reopen, W: Write>(
     recording: &S,
     rules: &[Rule],
     out: &mut W,
-) -> Result<Vec<Verdict>, PassFault>
+) -> Result<Vec<RuleVerdict>, PassFault>
     ensures verdicts { (file : List ℕ) → S.bytes recording.now ≡ Some file
         → IfOk result (λ verdicts. AreVerdicts rules.now (history_of file) verdicts.items) }
     ensures written { (file : List ℕ) → S.bytes recording.now ≡ Some file
-        → Writes (verdict_text rules.now) result file (W.contents out.old) (W.contents out.new) }
+        → WritesLinesOf (verdict_text rules.now) result file (W.contents out.old) (W.contents out.new) }
     ensures refused { (file : List ℕ) (r : Refusal) → S.bytes recording.now ≡ Some file → packets_in file ≡ Err r
         → out.new ≡ out.old }
 {

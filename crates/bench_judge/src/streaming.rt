@@ -1,11 +1,11 @@
 //! One pass for all rules over a recording whose packets come from a reader.
 ghost use Rattle.bench_judge.specs.Verdicts.{AreVerdicts};
 ghost use Rattle.ch11_reader.specs.Contents.{heard_in};
-ghost use Rattle.ch11_stream.specs.Folding.{Finds};
+ghost use Rattle.ch11_stream.specs.Folding.{FoldsPackets};
 ghost use Rattle.std.specs.Prelude.{◌≡◌, ℕ, List, Some, IfOk, length, reverse};
 
 use crate::judging::{no_tallies, note_messages, verdicts_of};
-use crate::verdicts::Verdict;
+use crate::verdicts::RuleVerdict;
 use ch11_stream::{Advance, Packets, StreamFault};
 use judge_rules::Rule;
 use std::alloc::Global;
@@ -18,10 +18,10 @@ pub fn judge_from<R: Advance + Drop>(
     alloc: Global,
     input: R,
     rules: &[Rule],
-) -> Result<Vec<Verdict>, StreamFault>
+) -> Result<Vec<RuleVerdict>, StreamFault>
     ensures many { IfOk result (λ verdicts. length verdicts.items ≡ length rules.now) }
     ensures judged { (file : List ℕ) → R.remaining input ≡ Some file
-        → Finds (λ ps verdicts. AreVerdicts rules.now (reverse (heard_in ps)) verdicts.items) result file }
+        → FoldsPackets (λ ps verdicts. AreVerdicts rules.now (reverse (heard_in ps)) verdicts.items) result file }
 {
     let mut packets = Packets::over(alloc, input)?;
     let mut tallies = no_tallies(alloc, rules)?;

@@ -18,7 +18,7 @@ pub struct Miss {
 
 /// What became of a rule: how many messages it selects, and how many of them miss it.
 #[derive(Clone, Copy, Debug, PartialEq, Eq)]
-pub struct Verdict {
+pub struct RuleVerdict {
     /// The line of the rule.
     pub line: u64,
     /// How many messages it selects.
@@ -37,12 +37,12 @@ pub struct Verdict {
 pub(crate) struct Judged<'j> {
     pub(crate) text: &'j [u8],
     pub(crate) rules: &'j [Rule],
-    pub(crate) verdicts: &'j [Verdict],
+    pub(crate) verdicts: &'j [RuleVerdict],
 }
 
 impl<'j> Judged<'j> {
     /// These rules, which this text spells, with these verdicts.
-    pub(crate) fn of(text: &'j [u8], rules: &'j [Rule], verdicts: &'j [Verdict]) -> Judged<'j> {
+    pub(crate) fn of(text: &'j [u8], rules: &'j [Rule], verdicts: &'j [RuleVerdict]) -> Judged<'j> {
         Judged {
             text,
             rules,
@@ -52,12 +52,12 @@ impl<'j> Judged<'j> {
 }
 
 /// The verdict of a rule that selects so many messages, of which so many miss it.
-pub(crate) fn verdict_of(rule: &Rule, selected: u64, missed: u64) -> Verdict
+pub(crate) fn verdict_of(rule: &Rule, selected: u64, missed: u64) -> RuleVerdict
     ensures { spec.IsVerdictWith rule.now selected missed result }
 {
     let counted = counts(&rule.check, selected);
     let held = missed == 0 && counted && (is_count(&rule.check) || selected > 0);
-    Verdict {
+    RuleVerdict {
         line: rule.line,
         selected,
         missed,
@@ -67,7 +67,7 @@ pub(crate) fn verdict_of(rule: &Rule, selected: u64, missed: u64) -> Verdict
 }
 
 /// How many rules are not held.
-pub fn not_held(verdicts: &[Verdict]) -> u64
+pub fn not_held(verdicts: &[RuleVerdict]) -> u64
     ensures value { result ≡ spec.not_held verdicts.now }
     ensures few { result ≤ length verdicts.now }
 {

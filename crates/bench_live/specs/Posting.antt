@@ -68,33 +68,33 @@ pub record HavePosted (desk : Desk) (posts : List LivePost) (before after : List
 
 -- why an action is not posted to a channel: there is no terminal, or so many were posted; nothing is said of when a
 -- script ended
-abbrev pub IsRefusal : Mailbox → Hand → LivePost → PostFault → Type 0
-IsRefusal box h post (fault.Line bad) = ⊥
-IsRefusal box h post (fault.NoChannel channel) = ⊥
-IsRefusal box h post fault.NoTerminal = stands_in box post.address ≡ false
-IsRefusal box h post (fault.Spent channel) = (channel ≡ post.channel) × (length (posted h.poster) ≡ 65536)
-IsRefusal box h post (fault.Ended channel) = channel ≡ post.channel
+abbrev pub IsPostRefusal : Mailbox → Hand → LivePost → PostFault → Type 0
+IsPostRefusal box h post (fault.Line bad) = ⊥
+IsPostRefusal box h post (fault.NoChannel channel) = ⊥
+IsPostRefusal box h post fault.NoTerminal = stands_in box post.address ≡ false
+IsPostRefusal box h post (fault.Spent channel) = (channel ≡ post.channel) × (length (posted h.poster) ≡ 65536)
+IsPostRefusal box h post (fault.Ended channel) = channel ≡ post.channel
 
 -- a refusal posts nothing
 abbrev pub LeavesHand : Mailbox → Hand → Hand → LivePost → PostFault → Type 0
-LeavesHand box old new post f = (posted new.poster ≡ posted old.poster) × IsRefusal box old post f
+LeavesHand box old new post f = (posted new.poster ≡ posted old.poster) × IsPostRefusal box old post f
 
 -- the fault of a line that asks for a post, at its channel's place
-abbrev pub IsFaultAt : Desk → List Hand → LivePost → PostFault → Type 0
-IsFaultAt desk hands post (fault.Line bad) = ⊥
-IsFaultAt desk hands post (fault.NoChannel channel) =
+abbrev pub IsPostFaultAt : Desk → List Hand → LivePost → PostFault → Type 0
+IsPostFaultAt desk hands post (fault.Line bad) = ⊥
+IsPostFaultAt desk hands post (fault.NoChannel channel) =
     (channel ≡ post.channel) × (position_or_len (is_channel post.channel) desk.channels.items
     ≡ length desk.channels.items)
-IsFaultAt desk hands post f =
+IsPostFaultAt desk hands post f =
     (box : Mailbox) × (h : Hand) ×
     (slice_get desk.boxes.items (position_or_len (is_channel post.channel) desk.channels.items) ≡ Some box)
     × (slice_get hands (position_or_len (is_channel post.channel) desk.channels.items) ≡ Some h)
-    × IsRefusal box h post f
+    × IsPostRefusal box h post f
 
 -- the fault of a line
 abbrev pub IsFault : Desk → List Hand → Text → PostFault → Type 0
 IsFault desk hands line (fault.Line bad) = post_of line ≡ Err bad
-IsFault desk hands line f = (post : LivePost) × (post_of line ≡ Ok post) × IsFaultAt desk hands post f
+IsFault desk hands line f = (post : LivePost) × (post_of line ≡ Ok post) × IsPostFaultAt desk hands post f
 
 -- a line was posted, or has a fault and was not
 abbrev pub IsLineDone : Desk → Text → List Hand → List Hand → Result ⊤ PostFault → Type 0

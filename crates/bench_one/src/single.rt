@@ -43,7 +43,7 @@ fn packet(
 }
 
 /// The addresses that a message names.
-fn named(message: &Message) -> ArrayVec<u8, 2>
+fn addresses_named(message: &Message) -> ArrayVec<u8, 2>
     ensures all { result.items ≡ addresses_named message.now }
     ensures fit { is_fit result.items ≡ true }
 {
@@ -60,7 +60,7 @@ fn only_talk(alloc: Global, line: Line, message: &Message) -> Result<Talk, Alloc
     ensures talk { IfOk result (λ talk. talk ≡ only_talk line message.now) }
     ensures start { IfOk result (λ talk. talk.start ≡ 0) }
 {
-    let addresses = named(message);
+    let addresses = addresses_named(message);
     match Bus::make(alloc, 0, addresses.as_slice()) {
         Ok(mut bus) => Ok(bus.exchange(line, message, Gap::of(40), &[])),
         Err(_) => Err(AllocError),

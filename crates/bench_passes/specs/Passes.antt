@@ -13,6 +13,6 @@ IsRefusedBy r (Err faults.Memory) = Unit {0}
 IsRefusedBy r (Err faults.Device) = Unit {0}
 
 -- where the first pass reads a recording that is refused, that is the answer, and the writer gets nothing
-abbrev pub Refuses : {A W : Type 0} → Option (List ℕ) → W → W → Result A StreamFault → Type 0
-Refuses first old new result =
+abbrev pub RefusesFirstPass : {A W : Type 0} → Option (List ℕ) → W → W → Result A StreamFault → Type 0
+RefusesFirstPass first old new result =
     (file : List ℕ) (r : Refusal) → first ≡ Some file → packets_in file ≡ Err r → (new ≡ old) × IsRefusedBy r result

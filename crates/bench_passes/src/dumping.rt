@@ -1,7 +1,7 @@
 //! Dumps of a recording that is not kept in memory.
 ghost use Rattle.bench_clock.specs.Clock.{marks_in};
 ghost use Rattle.bench_dump.specs.Streaming.{Dumps, DumpsBy};
-ghost use Rattle.bench_passes.specs.Passes.{Refuses};
+ghost use Rattle.bench_passes.specs.Passes.{RefusesFirstPass};
 ghost use Rattle.ch11_reader.specs.Indexed.{found_in};
 ghost use Rattle.ch11_reader.specs.Listing.{listing};
 ghost use Rattle.ch11_reader.specs.Recording.{packets_in};
@@ -24,7 +24,7 @@ pub fn dump_in_two_passes<R: Advance + Drop, S: Advance + Drop, W: Write>(
     second: S,
     out: &mut W,
 ) -> Result<(), StreamFault>
-    ensures refused { Refuses (R.remaining first) out.old out.new result }
+    ensures refused { RefusesFirstPass (R.remaining first) out.old out.new result }
     ensures dumped { (file other : List ℕ) → R.remaining first ≡ Some file → S.remaining second ≡ Some other
         → packets_in file ≡ Ok (found_in file) → Dumps result other (W.contents out.old) (W.contents out.new) }
 {
@@ -43,7 +43,7 @@ pub fn dump_with_times_in_two_passes<R: Advance + Drop, S: Advance + Drop, W: Wr
     second: S,
     out: &mut W,
 ) -> Result<(), StreamFault>
-    ensures refused { Refuses (R.remaining first) out.old out.new result }
+    ensures refused { RefusesFirstPass (R.remaining first) out.old out.new result }
     ensures dumped { (file other : List ℕ) → R.remaining first ≡ Some file → S.remaining second ≡ Some other
         → packets_in file ≡ Ok (found_in file)
         → DumpsBy (marks_in file (listing (found_in file))) result other (W.contents out.old) (W.contents out.new) }

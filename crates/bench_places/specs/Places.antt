@@ -13,16 +13,17 @@ use Rattle.bench_places.specs.declared.sought.Sought.TheVariants.{Channel, Later
 abbrev pub Heard : Type 0
 Heard = ℕ × Message
 
-abbrev pub meets : Sought → Heard → Bool
-meets (Channel one) h = h.0 == one
-meets (Later ticks) h = nat_lt ticks h.1.stamp
-meets (Commands selector) h = selects_commands selector h.1
+abbrev pub is_sought : Sought → Heard → Bool
+is_sought (Channel one) h = h.0 == one
+is_sought (Later ticks) h = nat_lt ticks h.1.stamp
+is_sought (Commands selector) h = selects_commands selector h.1
 
 -- the places of those that meet it, of messages that stand behind so many others
 abbrev pub places_behind : ℕ → Sought → List Heard → List ℕ
 places_behind before sought [] = []
 places_behind before sought (h ∷ hs) =
-    if meets sought h then (before + 1) ∷ places_behind (before + 1) sought hs else places_behind (before + 1) sought hs
+    if is_sought sought h then (before + 1) ∷ places_behind (before + 1) sought hs
+    else places_behind (before + 1) sought hs
 
 -- the one of a number, counted from 1
 abbrev pub numbered : ℕ → List ℕ → Option ℕ
@@ -39,13 +40,13 @@ latest_of sought place found = last_or None (places_behind 0 sought (take (place
 
 -- the place before the first message that meets it, that of the last message where none does
 abbrev pub place_before : Sought → List Found → ℕ
-place_before sought found = position_or_len (meets sought) (heard_in found)
+place_before sought found = position_or_len (is_sought sought) (heard_in found)
 
 -- how many messages are of a channel
-abbrev pub count_of : ℕ → List Heard → ℕ
-count_of channel [] = 0
-count_of channel (h ∷ hs) = (if h.0 == channel then 1 else 0) + count_of channel hs
+abbrev pub count_in_channel : ℕ → List Heard → ℕ
+count_in_channel channel [] = 0
+count_in_channel channel (h ∷ hs) = (if h.0 == channel then 1 else 0) + count_in_channel channel hs
 
 -- how many of them there are up to a place
 abbrev pub count_to : ℕ → ℕ → List Found → ℕ
-count_to channel place found = count_of channel (take place (heard_in found))
+count_to channel place found = count_in_channel channel (take place (heard_in found))

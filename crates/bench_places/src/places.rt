@@ -1,5 +1,6 @@
 //! The places of messages.
-ghost use Rattle.bench_places.specs.Places.{count_of, count_to, latest_of, meets, numbered, place_before, place_of};
+ghost use Rattle.bench_places.specs.Places.{count_in_channel, count_to, latest_of, is_sought, numbered, place_before};
+ghost use Rattle.bench_places.specs.Places.{place_of};
 ghost use Rattle.bench_places.specs.Places.{places_behind};
 ghost use Rattle.ch11_f1.specs.Views.{message_of};
 ghost use Rattle.std.specs.Prelude.{◌≡◌, ◌≤◌, ◌<◌, ◌+◌, ◌^◌, ◌∷◌, [], drop, length, MatchOption, Some, if◌then◌else◌};
@@ -65,7 +66,7 @@ fn later_of(
     place: u64,
 ) -> Option<u64>
     ensures { MatchOption heard.now (result ≡ latest)
-        (λ h. result ≡ (if meets sought.now (h.0, message_of h.1) then Some place else latest)) }
+        (λ h. result ≡ (if is_sought sought.now (h.0, message_of h.1) then Some place else latest)) }
 {
     match heard {
         Some((channel, seen)) if sought.is_met(*channel, seen) => Some(place),
@@ -101,7 +102,8 @@ pub fn place_before(index: &Index<'_>, sought: &Sought) -> u64
 
 /// 1 where the message is of the channel, and else 0.
 fn one_if_of(heard: &Option<(u16, Seen<'_>)>, channel: u16) -> u64
-    ensures value { MatchOption heard.now (result ≡ 0) (λ h. result ≡ count_of channel ((h.0, message_of h.1) ∷ [])) }
+    ensures value { MatchOption heard.now (result ≡ 0)
+        (λ h. result ≡ count_in_channel channel ((h.0, message_of h.1) ∷ [])) }
     ensures few { result ≤ 1 }
 {
     match heard {

@@ -1,5 +1,5 @@
 //! What is asked of a message.
-ghost use Rattle.bench_places.specs.Places.{meets};
+ghost use Rattle.bench_places.specs.Places.{is_sought};
 ghost use Rattle.ch11_f1.specs.Views.{message_of};
 ghost use Rattle.std.specs.Prelude.{◌≡◌};
 
@@ -20,7 +20,7 @@ pub enum Sought {
 impl Sought {
     /// Whether a message of a channel meets it.
     pub(crate) fn is_met(&self, channel: u16, seen: &Seen<'_>) -> bool
-        ensures { result ≡ meets self.now (channel, message_of seen.now) }
+        ensures { result ≡ is_sought self.now (channel, message_of seen.now) }
     {
         match self {
             Sought::Channel(one) => channel == *one,

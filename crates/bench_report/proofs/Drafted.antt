@@ -10,7 +10,7 @@ use Rattle.bench_report.specs.Reports.{ChannelPart, RunReport}
 use Rattle.bench_report.specs.Lines.{said}
 use Rattle.bench_report.specs.Spelling.{part_lines, report_lines, Spells}
 use Rattle.text_lines.specs.Lines.{text_lines}
-use Rattle.bench_report.specs.Drafts.{Draft, no_lines, with_line, with_said, with_lines, option_bind, finished, report_at, with_refused, with_placed, in_body, last_number, numbers}
+use Rattle.bench_report.specs.Drafts.{Draft, no_lines, with_line, with_line_said, with_lines, option_bind, finished, report_at, with_refused, with_placed, in_body, last_number, numbers}
 use Rattle.bench_report.specs.declared.lines.Line.{Line}
 use Rattle.bench_report.specs.declared.lines.Line.TheVariants as line
 use Rattle.bench_report.specs.declared.stages.Stage.{Stage}
@@ -111,7 +111,7 @@ are_said [] d d' is =
     record { lines = []; are = refl; behind = sym same ∙ sym (append-nil (draft_lines d)) }
 are_said (text ∷ texts) d d' is = go (said text) refl is (are_said texts)
   where
-    go : (m : Option Line) → said text ≡ m → option_bind (with_said d m) (with_lines texts) ≡ Some d'
+    go : (m : Option Line) → said text ≡ m → option_bind (with_line_said d m) (with_lines texts) ≡ Some d'
         → ((e e' : Draft) → with_lines texts e ≡ Some e' → AreSaid texts e e') → AreSaid (text ∷ texts) d d'
     go None says is rest = cc
     go (Some l) says is rest = on (with_line d l) refl is rest

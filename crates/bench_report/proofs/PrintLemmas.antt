@@ -7,19 +7,19 @@ use Rattle.std.proofs.lemmas.List.Folds.{flat_map-map}
 use Rattle.text_lines.specs.Words.{Text}
 use Rattle.bench_report.specs.Reports.{ChannelPart, RunReport}
 use Rattle.bench_report.specs.Spelling.{part_lines}
-use Rattle.bench_report.specs.Printing.{line_text, refused_text, placed_text, part_text, report_text}
+use Rattle.bench_report.specs.Printing.{report_line_text, refused_text, placed_text, part_text, report_text}
 use Rattle.bench_report.specs.declared.lines.Line.TheVariants as line
 
-lines_of_lists : (p : ChannelPart) → flat_map line_text (map line.Refused p.refused ++ map line.Placed p.placed) ≡ flat_map refused_text p.refused ++ flat_map placed_text p.placed
+lines_of_lists : (p : ChannelPart) → flat_map report_line_text (map line.Refused p.refused ++ map line.Placed p.placed) ≡ flat_map refused_text p.refused ++ flat_map placed_text p.placed
 lines_of_lists p =
-    rw (flat_map-append line_text (map line.Refused p.refused) (map line.Placed p.placed), flat_map-map line_text line.Refused p.refused, flat_map-map line_text line.Placed p.placed) refl
+    rw (flat_map-append report_line_text (map line.Refused p.refused) (map line.Placed p.placed), flat_map-map report_line_text line.Refused p.refused, flat_map-map report_line_text line.Placed p.placed) refl
 
 -- the lines of a channel
 pub part_written : (p : ChannelPart) → part_text p
     ≡ codes "channel " ++ (decimal p.channel ++ (codes "\nmade " ++ (decimal p.made ++ (codes "\n" ++ (flat_map refused_text p.refused ++ flat_map placed_text p.placed)))))
 part_written p = go (flat_map refused_text p.refused ++ flat_map placed_text p.placed) (lines_of_lists p)
   where
-    go : (lists : Text) → flat_map line_text (map line.Refused p.refused ++ map line.Placed p.placed) ≡ lists
+    go : (lists : Text) → flat_map report_line_text (map line.Refused p.refused ++ map line.Placed p.placed) ≡ lists
         → part_text p ≡ codes "channel " ++ (decimal p.channel ++ (codes "\nmade " ++ (decimal p.made ++ (codes "\n" ++ lists))))
     go lists is =
         rw (
@@ -30,12 +30,12 @@ part_written p = go (flat_map refused_text p.refused ++ flat_map placed_text p.p
           append_assoc (decimal p.made) (codes "\n") lists,
         ) refl
 
-flat_map-flat_map : (ps : List ChannelPart) → flat_map line_text (flat_map part_lines ps) ≡ flat_map part_text ps
+flat_map-flat_map : (ps : List ChannelPart) → flat_map report_line_text (flat_map part_lines ps) ≡ flat_map part_text ps
 flat_map-flat_map [] = refl
-flat_map-flat_map (p ∷ ps) = rw (flat_map-append line_text (part_lines p) (flat_map part_lines ps), flat_map-flat_map ps) refl
+flat_map-flat_map (p ∷ ps) = rw (flat_map-append report_line_text (part_lines p) (flat_map part_lines ps), flat_map-flat_map ps) refl
 
 -- the lines of a report
 pub report_written : (r : RunReport) → report_text r ≡ flat_map part_text r.channels ++ (codes "packets " ++ (decimal r.packets ++ codes "\n"))
 unfolding report_text
 report_written r =
-    rw (flat_map-append line_text (flat_map part_lines r.channels) (line.Packets r.packets ∷ []), flat_map-flat_map r.channels, append-nil (decimal r.packets), append-nil (decimal r.packets ++ codes "\n")) refl
+    rw (flat_map-append report_line_text (flat_map part_lines r.channels) (line.Packets r.packets ∷ []), flat_map-flat_map r.channels, append-nil (decimal r.packets), append-nil (decimal r.packets ++ codes "\n")) refl

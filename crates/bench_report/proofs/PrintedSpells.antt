@@ -9,21 +9,21 @@ use Rattle.numerals.proofs.Back.{decimal_back}
 use Rattle.bc_machine.specs.declared.placed.Placed.{Placed}
 use Rattle.text_lines.specs.Words.{Text, words}
 use Rattle.mil_host.specs.Reading.{in_words, action_in}
-use Rattle.mil_host.specs.Printing.{spaced, spaced_word, text_of}
+use Rattle.mil_host.specs.Printing.{spaced, spaced_word, action_text}
 use Rattle.mil_host.proofs.Spacing.{IsWord, words-word, words-spaced, one_line-word}
 use Rattle.mil_host.proofs.ReadingBack.{digits_visible, has_bytes_of, named, reads-back, one_line}
 use Rattle.bench_report.specs.Reports.{ChannelPart, RunReport, IsPart, IsPlaced, IsReport, Rises}
-use Rattle.bench_report.specs.Lines.{said, line_in, number_of, IsLine}
+use Rattle.bench_report.specs.Lines.{said, line_in, bounded_number, IsLine}
 use Rattle.bench_report.specs.Spelling.{part_lines, report_lines, Spells}
 use Rattle.text_lines.specs.Lines.{is_line_end, text_lines}
-use Rattle.bench_report.specs.Printing.{line_words, line_text, report_text}
+use Rattle.bench_report.specs.Printing.{line_words, report_line_text, report_text}
 use Rattle.bench_report.specs.declared.lines.Line.{Line}
 use Rattle.bench_report.specs.declared.lines.Line.TheVariants as line
 use Rattle.text_lines.proofs.LineLemmas.{text_lines-line, text_lines-none}
 
 -- a printed number reads back
 record IsNumber (most low high n : ℕ) : Type 0 where
-  reads : number_of most low high (decimal n) ≡ Some n
+  reads : bounded_number most low high (decimal n) ≡ Some n
   is : IsWord (decimal n)
 
 number : (most low high n : ℕ) → 0 < most → n < 10 ^ most → n < 18446744073709551616 → low ≤ n → n ≤ high → IsNumber most low high n
@@ -75,9 +75,9 @@ said_line (line.Refused n) is =
 said_line (line.Placed p) is =
     let n_is = message_number p.number is.place.number_low is.place.number_high in
     let a_is = address_number p.address is.place.address in
-    let back : in_words (words (text_of p.action)) ≡ Ok p.action = reads-back p.action is.action in
-    let parted : words (spaced (line_words (line.Placed p))) ≡ codes "placed" ∷ decimal p.number ∷ decimal p.address ∷ words (text_of p.action) =
-    placed_words (codes "placed") (decimal p.number) (decimal p.address) (text_of p.action) (named (codes "placed") refl refl) n_is.is a_is.is in
+    let back : in_words (words (action_text p.action)) ≡ Ok p.action = reads-back p.action is.action in
+    let parted : words (spaced (line_words (line.Placed p))) ≡ codes "placed" ∷ decimal p.number ∷ decimal p.address ∷ words (action_text p.action) =
+    placed_words (codes "placed") (decimal p.number) (decimal p.address) (action_text p.action) (named (codes "placed") refl refl) n_is.is a_is.is in
     ap line_in parted ∙ rw (n_is.reads, a_is.reads, back) refl
 said_line (line.Packets n) is =
     let n_is = packets_number n is in
@@ -112,7 +112,7 @@ line_on_line (line.Made n) is =
 line_on_line (line.Refused n) is =
     together (codes "refused" ∷ decimal n ∷ []) (on_line (codes "refused") (named (codes "refused") refl refl), (on_line (decimal n) (message_number n is.0 is.1).is, tt))
 line_on_line (line.Placed p) is =
-    together (codes "placed" ∷ decimal p.number ∷ decimal p.address ∷ text_of p.action ∷ []) (
+    together (codes "placed" ∷ decimal p.number ∷ decimal p.address ∷ action_text p.action ∷ []) (
       on_line (codes "placed") (named (codes "placed") refl refl),
       (
         on_line (decimal p.number) (message_number p.number is.place.number_low is.place.number_high).is,
@@ -136,12 +136,12 @@ abbrev AreLines : List Line → Type 0
 AreLines [] = Unit {0}
 AreLines (l ∷ ls) = IsLine l × AreLines ls
 
-printed_lines : (ls : List Line) → AreLines ls → map said (text_lines (flat_map line_text ls)) ≡ map Some ls
+printed_lines : (ls : List Line) → AreLines ls → map said (text_lines (flat_map report_line_text ls)) ≡ map Some ls
 printed_lines [] are = rw (text_lines-none [] refl) refl
 printed_lines (l ∷ ls) are =
     rw (
-      append_assoc (spaced (line_words l)) (codes "\n") (flat_map line_text ls),
-      text_lines-line (spaced (line_words l)) (flat_map line_text ls) (no_end (spaced (line_words l)) (line_on_line l are.0)),
+      append_assoc (spaced (line_words l)) (codes "\n") (flat_map report_line_text ls),
+      text_lines-line (spaced (line_words l)) (flat_map report_line_text ls) (no_end (spaced (line_words l)) (line_on_line l are.0)),
       said_line l are.0,
       printed_lines ls are.1,
     ) refl

@@ -3,10 +3,10 @@ use Rattle.std.proofs.Common.{◌≡◌, ℕ, ◌+◌, List, [], ◌∷◌, ◌+
 use Rattle.std.proofs.lemmas.List.{length-map, length-append}
 use Rattle.std.specs.Prelude.{map, Option, Some, None, IsSome}
 use Rattle.text_lines.specs.Words.{Text}
-use Rattle.bench_report.specs.Faults.{IsFirstFault, IsFaultAt, HasPlace, HasNoPlace}
+use Rattle.bench_report.specs.Faults.{IsFirstReportFault, IsReportFaultAt, HasPlace, HasNoPlace}
 use Rattle.bench_report.specs.Lines.{said}
 use Rattle.text_lines.specs.Lines.{text_lines}
-use Rattle.bench_report.specs.Drafts.{Draft, IsRefusal, IsRefusedLine, no_lines, with_line, with_said, with_lines, option_bind, finished}
+use Rattle.bench_report.specs.Drafts.{Draft, IsNotMemory, IsRefusedLine, no_lines, with_line, with_line_said, with_lines, option_bind, finished}
 use Rattle.bench_report.specs.declared.fault.ReportFault.{ReportFault}
 use Rattle.bench_report.specs.declared.fault.ReportFault.TheVariants as fault
 use Rattle.bench_report.specs.declared.lines.Line.{Line}
@@ -23,7 +23,7 @@ pub record IsReadTo (text rest : Text) (draft : Draft) (line : ℕ) : Type 0 whe
 
 texts-append : (xs ys : List Text) (d e : Draft) → with_lines xs d ≡ Some e → with_lines (xs ++ ys) d ≡ with_lines ys e
 texts-append [] ys d e is = ap (λ (m : Option Draft). option_bind m (with_lines ys)) is
-texts-append (x ∷ xs) ys d e is = go (with_said d (said x)) is (λ f. texts-append xs ys f e)
+texts-append (x ∷ xs) ys d e is = go (with_line_said d (said x)) is (λ f. texts-append xs ys f e)
   where
     go : (m : Option Draft) → option_bind m (with_lines xs) ≡ Some e → ((f : Draft) → with_lines xs f ≡ Some e → with_lines (xs ++ ys) f ≡ with_lines ys e)
         → option_bind m (with_lines (xs ++ ys)) ≡ with_lines ys e
@@ -38,7 +38,7 @@ left text rest d line is = rw is.all (texts-append is.texts (text_lines rest) no
 pub none_left : (text rest : Text) (d : Draft) (line : ℕ) → IsReadTo text rest d line → text_lines rest ≡ [] → with_lines (text_lines text) no_lines ≡ Some d
 none_left text rest d line is none = left text rest d line is ∙ (rw none refl)
 
-refused_none : (d : Draft) (text : Text) (f : ReportFault) → IsRefusedLine d text f → IsRefusal f → with_said d (said text) ≡ None
+refused_none : (d : Draft) (text : Text) (f : ReportFault) → IsRefusedLine d text f → IsNotMemory f → with_line_said d (said text) ≡ None
 refused_none d text fault.Word is refusal = rw is.1 refl
 refused_none d text fault.Number is refusal = rw is.1 refl
 refused_none d text fault.Order is refusal = is.1
@@ -46,7 +46,7 @@ refused_none d text fault.Memory is refusal = absurd refusal
 
 -- a line is refused, and not for want of memory
 pub left_refused : (text rest first behind : Text) (d : Draft) (line : ℕ) (f : ReportFault) → IsReadTo text rest d line
-    → text_lines rest ≡ first ∷ text_lines behind → IsRefusedLine d first f → IsRefusal f → with_lines (text_lines text) no_lines ≡ None
+    → text_lines rest ≡ first ∷ text_lines behind → IsRefusedLine d first f → IsNotMemory f → with_lines (text_lines text) no_lines ≡ None
 left_refused text rest first behind d line f is lines refused refusal =
     left text rest d line is ∙ (rw (lines, refused_none d first f refused refusal) refl)
 
@@ -56,7 +56,7 @@ read_none text = record { texts = []; all = refl; taken = refl; counted = refl }
 
 -- one more line was read
 pub read_one : (text rest first behind : Text) (d e : Draft) (line : ℕ) → IsReadTo text rest d line → text_lines rest ≡ first ∷ text_lines behind
-    → with_said d (said first) ≡ Some e → IsReadTo text behind e (line + 1)
+    → with_line_said d (said first) ≡ Some e → IsReadTo text behind e (line + 1)
 read_one text rest first behind d e line is lines step =
     record {
       texts = is.texts ++ first ∷ [];
@@ -76,10 +76,10 @@ came texts d taken =
     let said_all = are_said texts no_lines d taken in
     record { lines = said_all.lines; are = said_all.are; taken = sym (texts_as_lines texts said_all.lines no_lines said_all.are) ∙ taken }
 
-place : (lines : List Line) (d : Draft) (text : Text) → with_all lines no_lines ≡ Some d → IsSome (with_said d (said text)) → HasPlace lines text
+place : (lines : List Line) (d : Draft) (text : Text) → with_all lines no_lines ≡ Some d → IsSome (with_line_said d (said text)) → HasPlace lines text
 place lines d text taken some = go (said text) refl some
   where
-    go : (m : Option Line) → said text ≡ m → IsSome (with_said d m) → HasPlace lines text
+    go : (m : Option Line) → said text ≡ m → IsSome (with_line_said d m) → HasPlace lines text
     go None says some = cc
     go (Some l) says some = on (with_line d l) refl some
       where
@@ -89,15 +89,15 @@ place lines d text taken some = go (said text) refl some
             let all : with_all (lines ++ l ∷ []) no_lines ≡ Some e = all-append lines (l ∷ []) no_lines d taken ∙ (rw step refl) in
             record { line = l; says = says; begins = lines_begin (lines ++ l ∷ []) e all }
 
-no_place : (lines : List Line) (d : Draft) (text : Text) → with_all lines no_lines ≡ Some d → IsSome (said text) → with_said d (said text) ≡ None → HasNoPlace lines text
+no_place : (lines : List Line) (d : Draft) (text : Text) → with_all lines no_lines ≡ Some d → IsSome (said text) → with_line_said d (said text) ≡ None → HasNoPlace lines text
 no_place lines d text taken some none = go (said text) refl some none
   where
-    go : (m : Option Line) → said text ≡ m → IsSome m → with_said d m ≡ None → HasNoPlace lines text
+    go : (m : Option Line) → said text ≡ m → IsSome m → with_line_said d m ≡ None → HasNoPlace lines text
     go None says some none = cc
     go (Some l) says some none = record { line = l; says = says; begins_not = begins_not lines d l taken none }
 
 at_fault : (lines : List Line) (d : Draft) (text : Text) (rest : List Text) (f : ReportFault) → with_all lines no_lines ≡ Some d
-    → IsRefusedLine d text f → IsFaultAt lines (text ∷ rest) f
+    → IsRefusedLine d text f → IsReportFaultAt lines (text ∷ rest) f
 at_fault lines d text rest fault.Word taken is = is.0
 at_fault lines d text rest fault.Number taken is = is
 at_fault lines d text rest fault.Order taken is = no_place lines d text taken is.0 is.1
@@ -108,7 +108,7 @@ as_many lines texts are = sym (length-map lines Some) ∙ sym (ap length are) �
 
 -- a line that is refused is the first fault
 pub first_fault : (text rest first behind : Text) (d : Draft) (line : ℕ) (f : ReportFault) → IsReadTo text rest d line
-    → text_lines rest ≡ first ∷ text_lines behind → IsRefusedLine d first f → IsFirstFault text f line
+    → text_lines rest ≡ first ∷ text_lines behind → IsRefusedLine d first f → IsFirstReportFault text f line
 first_fault text rest first behind d line f is lines refused =
     let said_all = came is.texts d is.taken in
     record {
@@ -124,7 +124,7 @@ first_fault text rest first behind d line f is lines refused =
 
 -- where no line is left and the draft is not finished, the last line is missing
 pub last_missing : (text rest : Text) (d : Draft) (line : ℕ) → IsReadTo text rest d line → text_lines rest ≡ [] → finished d ≡ None
-    → IsFirstFault text fault.Order line
+    → IsFirstReportFault text fault.Order line
 last_missing text rest d line is none unfinished =
     let said_all = came is.texts d is.taken in
     record {

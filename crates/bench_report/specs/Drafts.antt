@@ -34,16 +34,16 @@ abbrev pub last_number : ℕ → List ℕ → ℕ
 last_number above [] = above
 last_number above (n ∷ ns) = last_number n ns
 
-abbrev pub is_none_yet : List Placed → Bool
-is_none_yet [] = true
-is_none_yet (p ∷ ps) = false
+abbrev pub is_none_placed : List Placed → Bool
+is_none_placed [] = true
+is_none_placed (p ∷ ps) = false
 
 abbrev pub numbers : List Placed → List ℕ
 numbers placed = map (λ (p : Placed). p.number) placed
 
 abbrev pub with_refused : ChannelPart → ℕ → Option ChannelPart
 with_refused p n =
-    if is_none_yet p.placed && (nat_lt (last_number 0 p.refused) n && nat_le n p.made)
+    if is_none_placed p.placed && (nat_lt (last_number 0 p.refused) n && nat_le n p.made)
     then Some (record { channel = p.channel; made = p.made; refused = p.refused ++ n ∷ []; placed = p.placed })
     else None
 
@@ -95,9 +95,9 @@ with_line d (line.Refused n) = refused_line d.done d.stage n
 with_line d (line.Placed x) = placed_line d.done d.stage x
 with_line d (line.Packets n) = at_stage (closed d.done d.stage) (End n)
 
-abbrev pub with_said : Draft → Option Line → Option Draft
-with_said d None = None
-with_said d (Some l) = with_line d l
+abbrev pub with_line_said : Draft → Option Line → Option Draft
+with_line_said d None = None
+with_line_said d (Some l) = with_line d l
 
 abbrev pub option_bind : {X Y : Type 0} → Option X → (X → Option Y) → Option Y
 option_bind None next = None
@@ -106,7 +106,7 @@ option_bind (Some x) next = next x
 -- the same with more lines
 abbrev pub with_lines : List Text → Draft → Option Draft
 with_lines [] d = Some d
-with_lines (text ∷ rest) d = option_bind (with_said d (said text)) (with_lines rest)
+with_lines (text ∷ rest) d = option_bind (with_line_said d (said text)) (with_lines rest)
 
 -- the report of channels that are done, once the last line is there
 abbrev pub report_at : List ChannelPart → Stage → Option RunReport
@@ -123,20 +123,20 @@ abbrev pub made_of : Text → Option RunReport
 made_of text = option_bind (with_lines (text_lines text) no_lines) finished
 
 -- a fault that is not want of memory
-abbrev pub IsRefusal : ReportFault → Type 0
-IsRefusal fault.Word = Unit {0}
-IsRefusal fault.Number = Unit {0}
-IsRefusal fault.Order = Unit {0}
-IsRefusal fault.Memory = ⊥
+abbrev pub IsNotMemory : ReportFault → Type 0
+IsNotMemory fault.Word = Unit {0}
+IsNotMemory fault.Number = Unit {0}
+IsNotMemory fault.Order = Unit {0}
+IsNotMemory fault.Memory = ⊥
 
 -- what a call answers that takes something in: the new value; or that it has no place, or that it has one and memory
 -- was refused
-abbrev pub Takes : {X U : Type 0} → Result U ReportFault → Option X → X → Type 0
-Takes (Ok u) after new = after ≡ Some new
-Takes (Err fault.Word) after new = ⊥
-Takes (Err fault.Number) after new = ⊥
-Takes (Err fault.Order) after new = after ≡ None
-Takes (Err fault.Memory) after new = IsSome after
+abbrev pub TakesIntoDraft : {X U : Type 0} → Result U ReportFault → Option X → X → Type 0
+TakesIntoDraft (Ok u) after new = after ≡ Some new
+TakesIntoDraft (Err fault.Word) after new = ⊥
+TakesIntoDraft (Err fault.Number) after new = ⊥
+TakesIntoDraft (Err fault.Order) after new = after ≡ None
+TakesIntoDraft (Err fault.Memory) after new = IsSome after
 
 -- what is wrong with the words of a line, or with a number of it
 abbrev pub IsBad : Bool → ReportFault → Type 0
@@ -149,12 +149,12 @@ IsBad well fault.Memory = ⊥
 abbrev pub IsRefusedLine : Draft → Text → ReportFault → Type 0
 IsRefusedLine d text fault.Word = (are_line_words (words text) ≡ false) × (said text ≡ None)
 IsRefusedLine d text fault.Number = (are_line_words (words text) ≡ true) × (said text ≡ None)
-IsRefusedLine d text fault.Order = IsSome (said text) × (with_said d (said text) ≡ None)
-IsRefusedLine d text fault.Memory = IsSome (with_said d (said text))
+IsRefusedLine d text fault.Order = IsSome (said text) × (with_line_said d (said text) ≡ None)
+IsRefusedLine d text fault.Memory = IsSome (with_line_said d (said text))
 
 -- what a call answers that takes in the line of a text
 abbrev pub TakesText : {U : Type 0} → Result U ReportFault → Text → Draft → Draft → Type 0
-TakesText (Ok u) text d new = with_said d (said text) ≡ Some new
+TakesText (Ok u) text d new = with_line_said d (said text) ≡ Some new
 TakesText (Err fault) text d new = IsRefusedLine d text fault
 
 -- what a call answers that reads

@@ -72,18 +72,18 @@ pub record HasNoPlace (before : List Line) (text : Text) : Type 0 where
 -- what is at fault where these lines were read, and these are still to come: X1 the words of the next, X2 a number of
 -- it, X3 its place, or that no line is left where the last is missing; memory may be refused only at a line without a
 -- fault
-abbrev pub IsFaultAt : List Line → List Text → ReportFault → Type 0
-IsFaultAt before [] fault.Word = ⊥
-IsFaultAt before [] fault.Number = ⊥
-IsFaultAt before [] fault.Order = AreNoReport before
-IsFaultAt before [] fault.Memory = ⊥
-IsFaultAt before (text ∷ rest) fault.Word = are_line_words (words text) ≡ false
-IsFaultAt before (text ∷ rest) fault.Number = (are_line_words (words text) ≡ true) × (said text ≡ None)
-IsFaultAt before (text ∷ rest) fault.Order = HasNoPlace before text
-IsFaultAt before (text ∷ rest) fault.Memory = HasPlace before text
+abbrev pub IsReportFaultAt : List Line → List Text → ReportFault → Type 0
+IsReportFaultAt before [] fault.Word = ⊥
+IsReportFaultAt before [] fault.Number = ⊥
+IsReportFaultAt before [] fault.Order = AreNoReport before
+IsReportFaultAt before [] fault.Memory = ⊥
+IsReportFaultAt before (text ∷ rest) fault.Word = are_line_words (words text) ≡ false
+IsReportFaultAt before (text ∷ rest) fault.Number = (are_line_words (words text) ≡ true) × (said text ≡ None)
+IsReportFaultAt before (text ∷ rest) fault.Order = HasNoPlace before text
+IsReportFaultAt before (text ∷ rest) fault.Memory = HasPlace before text
 
 -- the first fault of a text, and the number of its line, counted from 1: all lines before it begin a report
-pub record IsFirstFault (text : Text) (fault : ReportFault) (line : ℕ) : Type 0 where
+pub record IsFirstReportFault (text : Text) (fault : ReportFault) (line : ℕ) : Type 0 where
   pub before : List Line
   pub texts : List Text
   pub rest : List Text
@@ -91,4 +91,4 @@ pub record IsFirstFault (text : Text) (fault : ReportFault) (line : ℕ) : Type 
   pub said_before : map said texts ≡ map Some before
   pub begins : Begin before
   pub counted : length before + 1 ≡ line
-  pub at_fault : IsFaultAt before rest fault
+  pub at_fault : IsReportFaultAt before rest fault

@@ -17,28 +17,29 @@ within low high None = None
 within low high (Some n) = if nat_le low n && nat_le n high then Some n else None
 
 -- the number that a word of one to so many decimal digits spells, from low to high
-abbrev pub number_of : ℕ → ℕ → ℕ → Text → Option ℕ
-number_of most low high word = within low high (spelled 10 1 most word)
+abbrev pub bounded_number : ℕ → ℕ → ℕ → Text → Option ℕ
+bounded_number most low high word = within low high (spelled 10 1 most word)
 
 -- one number, and no more
 abbrev pub only_number : ℕ → ℕ → ℕ → List Text → Option ℕ
 only_number most low high [] = None
-only_number most low high (word ∷ []) = number_of most low high word
+only_number most low high (word ∷ []) = bounded_number most low high word
 only_number most low high (word ∷ more ∷ rest) = None
 
 -- an action at a message and a terminal
-abbrev pub placing : Option ℕ → Option ℕ → Result Action BadAction → Option Line
-placing (Some number) (Some address) (Ok action) = Some
+abbrev pub placed_line_of : Option ℕ → Option ℕ → Result Action BadAction → Option Line
+placed_line_of (Some number) (Some address) (Ok action) = Some
     (line.Placed (record { number = number; address = address; action = action }))
-placing (Some number) (Some address) (Err bad) = None
-placing (Some number) None action = None
-placing None address action = None
+placed_line_of (Some number) (Some address) (Err bad) = None
+placed_line_of (Some number) None action = None
+placed_line_of None address action = None
 
 -- the number of a message, the address of a terminal, and the text of an action
 abbrev pub placed_in : List Text → Option Line
 placed_in [] = None
 placed_in (number ∷ []) = None
-placed_in (number ∷ address ∷ action) = placing (number_of 7 1 1000000 number) (number_of 7 0 30 address)
+placed_in (number ∷ address ∷ action) = placed_line_of (bounded_number 7 1 1000000 number)
+    (bounded_number 7 0 30 address)
     (in_words action)
 
 abbrev pub line_in : List Text → Option Line

@@ -3,7 +3,7 @@ use Rattle.std.specs.Prelude.{ℕ, List, [], ◌∷◌, ◌++◌, codes, decimal
 use Rattle.std.specs.List.{flat_map}
 use Rattle.bc_machine.specs.declared.placed.Placed.{Placed}
 use Rattle.text_lines.specs.Words.{Text}
-use Rattle.mil_host.specs.Printing.{spaced, text_of}
+use Rattle.mil_host.specs.Printing.{spaced, action_text}
 use Rattle.bench_report.specs.Reports.{ChannelPart, RunReport}
 use Rattle.bench_report.specs.Spelling.{part_lines, report_lines}
 use Rattle.bench_report.specs.declared.lines.Line.{Line}
@@ -17,24 +17,24 @@ abbrev pub line_words : Line → List Text
 line_words (line.Channel n) = codes "channel" ∷ decimal n ∷ []
 line_words (line.Made n) = codes "made" ∷ decimal n ∷ []
 line_words (line.Refused n) = codes "refused" ∷ decimal n ∷ []
-line_words (line.Placed p) = codes "placed" ∷ decimal p.number ∷ decimal p.address ∷ text_of p.action ∷ []
+line_words (line.Placed p) = codes "placed" ∷ decimal p.number ∷ decimal p.address ∷ action_text p.action ∷ []
 line_words (line.Packets n) = codes "packets" ∷ decimal n ∷ []
 
 -- a line and its end
-abbrev pub line_text : Line → Text
-line_text l = spaced (line_words l) ++ codes "\n"
+abbrev pub report_line_text : Line → Text
+report_line_text l = spaced (line_words l) ++ codes "\n"
 
 abbrev pub refused_text : ℕ → Text
-refused_text n = line_text (line.Refused n)
+refused_text n = report_line_text (line.Refused n)
 
 abbrev pub placed_text : Placed → Text
-placed_text p = line_text (line.Placed p)
+placed_text p = report_line_text (line.Placed p)
 
 abbrev pub part_text : ChannelPart → Text
-part_text p = flat_map line_text (part_lines p)
+part_text p = flat_map report_line_text (part_lines p)
 
 unfoldable pub report_text : RunReport → Text
-report_text r = flat_map line_text (report_lines r)
+report_text r = flat_map report_line_text (report_lines r)
 
 abbrev pub fault_code : ReportFault → Text
 fault_code fault.Word = codes "X1"

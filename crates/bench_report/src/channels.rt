@@ -1,6 +1,6 @@
 //! The report of one channel.
 ghost use Rattle.bc_machine.specs.declared.placed.Placed.{Placed};
-ghost use Rattle.bench_report.specs.Drafts.{Takes, last_number, numbers, with_refused, with_placed};
+ghost use Rattle.bench_report.specs.Drafts.{TakesIntoDraft, last_number, numbers, with_refused, with_placed};
 ghost use Rattle.bench_report.specs.Reports.{IsPart, IsPlaced, IsPlace, Rises, NeverFalls};
 ghost use Rattle.mil_host.specs.Ranges.{IsInRange};
 ghost use Rattle.std.specs.Prelude.{◌≡◌, ◌≤◌, All, []};
@@ -107,7 +107,7 @@ impl ChannelReport {
 
     /// A refused number behind those that are there.
     pub(crate) fn add_refused(&mut self, number: u32) -> Result<(), ReportFault>
-        ensures { Takes result (with_refused self.old number) self.new }
+        ensures { TakesIntoDraft result (with_refused self.old number) self.new }
     {
         if !self.placed.is_empty() || number <= last_refused(&self.refused) || self.made < number {
             return Err(ReportFault::Order);
@@ -119,7 +119,7 @@ impl ChannelReport {
     /// A placed action behind those that are there.
     pub(crate) fn add_placed(&mut self, placed: Placed) -> Result<(), ReportFault>
         requires { IsPlaced placed }
-        ensures { Takes result (with_placed self.old placed) self.new }
+        ensures { TakesIntoDraft result (with_placed self.old placed) self.new }
     {
         if placed.number < last_placed(&self.placed) {
             return Err(ReportFault::Order);

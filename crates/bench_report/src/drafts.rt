@@ -1,5 +1,5 @@
 //! A report as far as its lines have come.
-ghost use Rattle.bench_report.specs.Drafts.{Takes, TakesText, Gives, no_lines, closed, with_line, finished};
+ghost use Rattle.bench_report.specs.Drafts.{TakesIntoDraft, TakesText, Gives, no_lines, closed, with_line, finished};
 ghost use Rattle.bench_report.specs.Lines.{IsLine};
 ghost use Rattle.bench_report.specs.declared.fault.ReportFault.TheVariants.{Order};
 ghost use Rattle.std.specs.Prelude.{◌≡◌, IfErr};
@@ -54,7 +54,7 @@ impl Draft {
     /// One more line.
     fn take(&mut self, line: Line) -> Result<(), ReportFault>
         requires { IsLine line }
-        ensures { Takes result (with_line self.old line) self.new }
+        ensures { TakesIntoDraft result (with_line self.old line) self.new }
     {
         match line {
             Line::Channel(channel) => {
@@ -87,7 +87,7 @@ impl Draft {
 
     /// The channel whose lines were read is done.
     fn close(&mut self) -> Result<(), ReportFault>
-        ensures { Takes result (closed self.old.done self.old.stage) self.new.done }
+        ensures { TakesIntoDraft result (closed self.old.done self.old.stage) self.new.done }
     {
         match mem::replace(&mut self.stage, Stage::Begin) {
             Stage::Begin => Ok(()),

@@ -1,7 +1,7 @@
 //! Numbers in the lines of a report.
 ghost use Rattle.bench_report.specs.Drafts.{Gives, IsBad};
 ghost use Rattle.bench_report.specs.Faults.{is_one_word};
-ghost use Rattle.bench_report.specs.Lines.{number_of, only_number};
+ghost use Rattle.bench_report.specs.Lines.{bounded_number, only_number};
 ghost use Rattle.bench_report.specs.declared.fault.ReportFault.TheVariants.{Number};
 ghost use Rattle.std.specs.Prelude.{◌≡◌, ◌≤◌, IfOk, IfErr};
 ghost use Rattle.text_lines.specs.Words.{words};
@@ -13,7 +13,7 @@ use text_lines::next_word;
 /// The number of a word of one to `most` digits, from `low` to `high`.
 pub fn number(word: &[u8], most: usize, low: u64, high: u64) -> Result<u64, ReportFault>
     requires { most ≤ 10 }
-    ensures value { Gives (λ n. n) result (number_of most low high word.now) }
+    ensures value { Gives (λ n. n) result (bounded_number most low high word.now) }
     ensures range { IfOk result (λ n. (low ≤ n) × (n ≤ high)) }
     ensures fault { IfErr result (λ f. f ≡ Number) }
 {

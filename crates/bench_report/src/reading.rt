@@ -1,6 +1,6 @@
 //! The report that a text spells.
-ghost use Rattle.bench_report.specs.Drafts.{IsRefusal};
-ghost use Rattle.bench_report.specs.Faults.{IsFirstFault};
+ghost use Rattle.bench_report.specs.Drafts.{IsNotMemory};
+ghost use Rattle.bench_report.specs.Faults.{IsFirstReportFault};
 ghost use Rattle.bench_report.specs.Reports.{RunReport, IsReport};
 ghost use Rattle.bench_report.specs.Spelling.{Spells};
 ghost use Rattle.std.specs.Prelude.{IfOk, IfErr};
@@ -17,8 +17,8 @@ use text_lines::next_line;
 /// where memory was refused.
 pub fn read_report(alloc: Global, text: &[u8]) -> Result<Report, ReportError>
     ensures spelled { IfOk result (λ r. Spells text.now r) }
-    ensures refused { IfErr result (λ e. IsRefusal e.fault → (r : RunReport) → IsReport r → Spells text.now r → ⊥) }
-    ensures first { IfErr result (λ e. IsFirstFault text.now e.fault e.line) }
+    ensures refused { IfErr result (λ e. IsNotMemory e.fault → (r : RunReport) → IsReport r → Spells text.now r → ⊥) }
+    ensures first { IfErr result (λ e. IsFirstReportFault text.now e.fault e.line) }
 {
     let mut draft = Draft::empty(alloc);
     let mut rest = text;

@@ -12,7 +12,7 @@ use Rattle.ch11_recording.specs.Recording.{AreDistinct}
 use Rattle.bench_run.specs.declared.entry.Entry.{Entry}
 use Rattle.bench_run.specs.declared.entry.Entry.TheVariants as entry
 use Rattle.bench_run.specs.Entries.{index_of, item_of, entry_of, entries_to_the_end}
-use Rattle.bench_run.specs.Writer.{record_of, records_at, Fits, IsUnfit, AreOrdered}
+use Rattle.bench_run.specs.Writer.{record_of, records_at, FitsRecording, IsUnfit, AreOrdered}
 use Rattle.bench_run.proofs.Channels.{part_is, ended_is}
 use Rattle.bench_run.proofs.Tagged.{all_by_index}
 
@@ -104,7 +104,7 @@ module _ (channels : List ℕ) (got : List Entry) (sent : ℕ → List Numbered)
       ⊎_elim (λ low. low) (λ high. absurd (not_none (with_tag index_of (index_of x) earlier) (with_tag index_of (index_of x) later) x (sym (ended.1 (index_of x) high) ∙ tag_split got earlier later x e)))
       (cases_lt (index_of x) (length channels))
 
-  fits_there : AreEnded → ((t : ℕ) → t < length channels → AreOrdered 0 (sent t)) → (earlier later : List Entry) (x : Entry) → got ≡ earlier ++ x ∷ later → Fits channels earlier x
+  fits_there : AreEnded → ((t : ℕ) → t < length channels → AreOrdered 0 (sent t)) → (earlier later : List Entry) (x : Entry) → got ≡ earlier ++ x ∷ later → FitsRecording channels earlier x
   fits_there ended ordered earlier later (entry.End index) e = low_index ended earlier later (entry.End index) e
   fits_there ended ordered earlier later (entry.Message index number message) e =
       let x : Entry = entry.Message index number message in

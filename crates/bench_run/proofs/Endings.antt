@@ -25,7 +25,7 @@ use Rattle.bench_core.specs.Settled.{kept_records, is_kept}
 use Rattle.bench_run.specs.declared.entry.Entry.{Entry}
 use Rattle.bench_run.specs.declared.entry.Entry.TheVariants as entry
 use Rattle.bench_run.specs.Entries.{index_of, item_of, entry_of, entries_to_the_end}
-use Rattle.bench_run.specs.Runs.{ArePairs, IsPartOf, IsReadAs, records_of, kept_below, most_in_all, others_than, IsOther}
+use Rattle.bench_run.specs.Runs.{ArePairs, IsPartOf, IsReadAs, records_of, kept_below, most_in_all, others_than, IsOtherChannel}
 use Rattle.job_file.specs.Rooms.{most_items}
 use Rattle.bench_run.specs.Threads.{IsCountedIn}
 use Rattle.bench_run.specs.Writer.{IsUnfit, AreOrdered}
@@ -136,12 +136,12 @@ module _ (capacity : ℕ) (jobs : List JobState) (parts : List ChannelPart) (got
       (closed f job.channel (map (item_of (channels_of jobs)) got) (kept_records part.refused (records_of job)) (part_taken distinct k job part at at')))
 
   -- nothing is recorded, and nothing read, of a channel that no job has
-  pub others_none : (channel : ℕ) → IsOther jobs channel → part_of channel (map (item_of (channels_of jobs)) got) ≡ []
+  pub others_none : (channel : ℕ) → IsOtherChannel jobs channel → part_of channel (map (item_of (channels_of jobs)) got) ≡ []
   others_none channel other = no_part (channels_of jobs) channel got other indexed
 
   pub others_silent : RecordsAreKept → (f : Format) (found : List Found)
       → ((channel : ℕ) → reading found channel ≡ map as_message (messages_of (closed_records f channel (map (item_of (channels_of jobs)) got))))
-      → (channel : ℕ) → IsOther jobs channel → reading found channel ≡ []
+      → (channel : ℕ) → IsOtherChannel jobs channel → reading found channel ≡ []
   others_silent keeps f found read channel other =
       let items = map (item_of (channels_of jobs)) got in
       read channel

@@ -21,7 +21,7 @@ use Rattle.bench_run.specs.Runs.{ArePairs, records_of, most_in_all, others_than}
 use Rattle.job_file.specs.Rooms.{most_items}
 use Rattle.bench_mail.specs.Mail.{received_by, IsInboxOf}
 use Rattle.bench_run.specs.Live.{with_posts, LiveChannel, live_job, ArePlaced, AreLive, AreInboxesOf}
-use Rattle.bench_run.specs.Threads.{IsCounted, IsCountedIn, AreEnded}
+use Rattle.bench_run.specs.Threads.{IsThreadReport, IsCountedIn, AreEnded}
 use Rattle.bench_run.specs.Ending.{IsAll, IsAllLive}
 use Rattle.bench_run.proofs.Rows.{same_some, some_at, place_below, none_at}
 use Rattle.bench_run.proofs.Beginning.{all_got}
@@ -120,7 +120,7 @@ row_at P (c ∷ rows) (suc k) live part at at' each = row_at P rows k live part 
 module _ (capacity queue most : ℕ) (jobs : List JobState) (boxes : List Mailbox) (before : List Inbox) (joined : List Joined) (sent got : List Entry) (bounds : List ℕ) where
   abbrev IsOfRow : ℕ → LiveChannel → Type 0
   IsOfRow k c =
-      ArePlaced most c.part.made (received_by c.before) (received_by c.after) c.posts × IsCounted capacity (most_in_all (others_than c.job.channel jobs)) (live_job c) c.part
+      ArePlaced most c.part.made (received_by c.before) (received_by c.after) c.posts × IsThreadReport capacity (most_in_all (others_than c.job.channel jobs)) (live_job c) c.part
       × (with_tag index_of k sent ≡ entries_to_the_end k (kept_records c.part.refused (records_of (live_job c))))
 
   pub all_live : capacity ≡ queue → length jobs ≤ 32 → bounds ≡ map most_items jobs → length boxes ≡ length jobs → length before ≡ length jobs → length joined ≡ length jobs
@@ -136,7 +136,7 @@ module _ (capacity queue most : ℕ) (jobs : List JobState) (boxes : List Mailbo
       let lives : List JobState = lives_in has.rows in
       let parts : List ChannelPart = map (λ (c : LiveChannel). c.part) has.rows in
       let counted_in : (k : ℕ) (c : LiveChannel) → slice_get has.rows k ≡ Some c → IsCountedIn capacity lives (live_job c) c.part =
-      λ k c at. subst (λ m. IsCounted capacity m (live_job c) c.part) (sym (others_alike c.job.channel has.rows ∙ ap (λ l. most_in_all (others_than c.job.channel l)) has.jobs_are)) (has.each k c at).1 in
+      λ k c at. subst (λ m. IsThreadReport capacity m (live_job c) c.part) (sym (others_alike c.job.channel has.rows ∙ ap (λ l. most_in_all (others_than c.job.channel l)) has.jobs_are)) (has.each k c at).1 in
       let long : length lives ≤ 32 = let l = ap length has.jobs_are in omega (arith, few, l, length-map has.rows live_job, length-map has.rows (λ (c : LiveChannel). c.job)) in
       let all = all_got capacity queue lives parts sent got bounds same long (bounds_are ∙ ap (map most_items) (sym has.jobs_are) ∙ sym (bounds_alike has.rows))
       (pairs_rows (IsCountedIn capacity lives) has.rows counted_in)

@@ -12,7 +12,7 @@ use Rattle.ch11_recording.specs.Recording.{Recording, AreDistinct, GoesOn}
 use Rattle.bench_run.specs.declared.entry.Entry.{Entry}
 use Rattle.bench_run.specs.declared.entry.Entry.TheVariants as entry
 use Rattle.bench_run.specs.Entries.{index_of, item_of}
-use Rattle.bench_run.specs.Writer.{item_with, records_at, Fits, IsLogged, IsTakenBy}
+use Rattle.bench_run.specs.Writer.{item_with, records_at, FitsRecording, IsLogged, IsTakenBy}
 use Rattle.bench_run.proofs.Channels.{item_is, records_are}
 
 lane_at : (g : ℕ → Held) (channels : List ℕ) (i : ℕ) → i < length channels → slice_get (map g channels) i ≡ Some (g (slice_index channels i))
@@ -44,7 +44,7 @@ module _ {S : Type 0} (taken : S → Option (List ℕ)) (failures : S → ℕ) (
       ∙ ap (λ (items : List Item). Some (held_in f (slice_index channels t) items)) (is.all refl)
 
   -- an entry that fits is taken
-  pub fitting : LatestIsLast → AreDistinct channels → (got : List Entry) (r : Recording S) (x : Entry) → IsLogged taken failures f prologue before channels got r true → Fits channels got x
+  pub fitting : LatestIsLast → AreDistinct channels → (got : List Entry) (r : Recording S) (x : Entry) → IsLogged taken failures f prologue before channels got r true → FitsRecording channels got x
       → IsTakenBy r.lanes x (holding (index_of x) got)
   fitting latest distinct got r (entry.End index) is fits = lane_is got r index is fits
   fitting latest distinct got r (entry.Message index number message) is fits =
@@ -80,7 +80,7 @@ module _ {S : Type 0} (taken : S → Option (List ℕ)) (failures : S → ℕ) (
   }
 
   -- one that is not kept
-  pub not_kept : (got : List Entry) (r s : Recording S) (x : Entry) → s ≡ r → IsLogged taken failures f prologue before channels got r true → ¬ Fits channels got x
+  pub not_kept : (got : List Entry) (r s : Recording S) (x : Entry) → s ≡ r → IsLogged taken failures f prologue before channels got r true → ¬ FitsRecording channels got x
       → IsLogged taken failures f prologue before channels (got ++ x ∷ []) s false
   not_kept got r s x same is unfit = subst (λ (q : Recording S). IsLogged taken failures f prologue before channels (got ++ x ∷ []) q false) (sym same) (record {
     items = is.items;
@@ -95,7 +95,7 @@ module _ {S : Type 0} (taken : S → Option (List ℕ)) (failures : S → ℕ) (
   })
 
   -- one that has no job
-  pub has_index : (got : List Entry) (x : Entry) → Fits channels got x → index_of x < length channels
+  pub has_index : (got : List Entry) (x : Entry) → FitsRecording channels got x → index_of x < length channels
   has_index got (entry.Message index number message) fits = fits.0
   has_index got (entry.End index) fits = fits
 

@@ -14,7 +14,7 @@ use Rattle.bench_core.specs.Placing.{placed_up_to}
 use Rattle.bench_mail.specs.Mail.{received_by}
 use Rattle.bench_run.specs.Live.{with_posts}
 use Rattle.bench_run.specs.Posted.{IsPosted}
-use Rattle.bench_run.specs.Threads.{SoFar, IsStage}
+use Rattle.bench_run.specs.Threads.{RecordsOfferedSoFar, IsThreadStage}
 use Rattle.bench_run.proofs.Stages.{so_far_alike}
 use Rattle.bench_run.proofs.PlacedPosts.{nothing_placed, posted_on}
 
@@ -26,13 +26,13 @@ module _ (trunk : Trunk Entry) (own : ℕ) (limits : List ℕ) (index most : ℕ
   -- nothing was taken or offered yet
   pub stage_first : (m : MachineState) (t : Ticket Entry) (refused : List ℕ) (p : Posts) → p.left ≡ most → received_by p.inbox ≡ before
       → IsOf (job_in job) job.actions m → p.ordered.actions ≡ placed_up_to 1000000 job.actions
-      → SoFar trunk own limits index (with_posts job []) m.point.number t refused → IsStage trunk own limits index most before job m t refused p
+      → RecordsOfferedSoFar trunk own limits index (with_posts job []) m.point.number t refused → IsThreadStage trunk own limits index most before job m t refused p
   unfolding nothing_placed
   stage_first m t refused p left received of ordered so_far = record { posted = nothing_placed most before job m p left received of ordered; so_far = so_far }
 
   -- posts at messages to come change nothing of what was offered
   pub so_far_placed : (m m' : MachineState) (t : Ticket Entry) (refused : List ℕ) (p p' : Posts) → RecordsAre job → m'.point ≡ m.point
-      → IsStage trunk own limits index most before job m t refused p → (is : IsPosted most before job m' p') → SoFar trunk own limits index (with_posts job is.posts) m'.point.number t refused
+      → IsThreadStage trunk own limits index most before job m t refused p → (is : IsPosted most before job m' p') → RecordsOfferedSoFar trunk own limits index (with_posts job is.posts) m'.point.number t refused
   so_far_placed m m' t refused p p' law point st is =
       let n : ℕ = m.point.number in
       let number : n ≡ m'.point.number = ap (λ z. z.number) (sym point) in
@@ -40,12 +40,12 @@ module _ (trunk : Trunk Entry) (own : ℕ) (limits : List ℕ) (index most : ℕ
       let now : List Placed = job.actions ++ is.posts in
       let same : take n (records (job_in job) earlier) ≡ take n (records (job_in job) now) =
       sym (law earlier m st.posted.of) ∙ ap (λ z. records_in z.state) (sym point) ∙ law now m' is.of ∙ ap (λ k. take k (records (job_in job) now)) (sym number) in
-      subst (λ k. SoFar trunk own limits index (with_posts job is.posts) k t refused) number
+      subst (λ k. RecordsOfferedSoFar trunk own limits index (with_posts job is.posts) k t refused) number
       (so_far_alike trunk own limits index (with_posts job st.posted.posts) (with_posts job is.posts) n t refused same st.so_far)
 
   -- one message more was offered
   pub stage_on : (m m' : MachineState) (t : Ticket Entry) (refused : List ℕ) (p : Posts) → (is : IsPosted most before job m p)
       → m.point.number ≤ m'.point.number → IsOf (job_in job) (job.actions ++ is.posts) m'
-      → SoFar trunk own limits index (with_posts job is.posts) m'.point.number t refused → IsStage trunk own limits index most before job m' t refused p
+      → RecordsOfferedSoFar trunk own limits index (with_posts job is.posts) m'.point.number t refused → IsThreadStage trunk own limits index most before job m' t refused p
   unfolding posted_on
   stage_on m m' t refused p is up of so_far = record { posted = posted_on most before job m m' p is up of; so_far = so_far }

@@ -7,7 +7,7 @@ use Rattle.bench_mail.specs.declared.mailbox.Mailbox.{Mailbox}
 use Rattle.bench_mail.specs.declared.mailbox.Inbox.{Inbox}
 use Rattle.bench_run.specs.declared.error.RunError.{RunError}
 use Rattle.bench_run.specs.declared.error.RunError.TheVariants as fault
-use Rattle.bench_run.specs.Runs.{Ran, IsCut, Leaves}
+use Rattle.bench_run.specs.Runs.{Ran, IsCut, LeavesRunInSink}
 use Rattle.bench_run.specs.Live.{RanLive, HaveMail, LeavesLate, LeavesLive}
 use Rattle.bench_run.proofs.Lives.{lives_are_jobs}
 
@@ -18,7 +18,7 @@ module _ {S : Type 0} (taken : S → Option (List ℕ)) where
       subst (λ (js : List JobState). Ran taken js s before report after) (lives_are_jobs jobs inboxes back report.channels live.0 live.1) live.2
 
   pub left_alone : (failures : S → ℕ) (jobs : List JobState) (s : Settings) (inboxes : List Inbox) (before : S) (e : RunError S) (back : List Inbox)
-      → LeavesLate taken failures 0 jobs s inboxes before e back → Leaves taken failures jobs s before e
+      → LeavesLate taken failures 0 jobs s inboxes before e back → LeavesRunInSink taken failures jobs s before e
   left_alone failures jobs s inboxes before (fault.Settings sink) back left = absurd left
   left_alone failures jobs s inboxes before (fault.ChannelTwice sink) back left = absurd left
   left_alone failures jobs s inboxes before (fault.Prologue sink) back left = absurd left

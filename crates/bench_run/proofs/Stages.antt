@@ -22,14 +22,14 @@ use Rattle.bench_run.specs.declared.entry.Entry.TheVariants as entry
 use Rattle.bench_run.specs.Entries.{index_of, entry_of}
 use Rattle.bench_run.specs.Runs.{records_of, kept_below}
 use Rattle.job_file.specs.Rooms.{most_items}
-use Rattle.bench_run.specs.Threads.{SoFar, AllOffered}
+use Rattle.bench_run.specs.Threads.{RecordsOfferedSoFar, AllOffered}
 use Rattle.bench_run.proofs.Offering.{take_more, all_more, none_above, rises_on, rises_more, rises_length, length-kept, full_more}
 
 module _ (trunk : Trunk Entry) (own : ℕ) (limits : List ℕ) (index : ℕ) (job : JobState) where
   -- nothing was offered yet
   pub first_stage : (made : ℕ) (t : Ticket Entry) (refused : List ℕ) → made ≡ 0 → refused ≡ [] → IsTicketOf trunk t → tags_of t ≡ own → bounds_of t ≡ limits → sent t ≡ []
-      → SoFar trunk own limits index job made t refused
-  first_stage made t refused none unrefused ours tags bounds empty = subst (λ (z : ℕ × List ℕ). SoFar trunk own limits index job z.0 t z.1) (λ i. (sym none i, sym unrefused i)) (record {
+      → RecordsOfferedSoFar trunk own limits index job made t refused
+  first_stage made t refused none unrefused ours tags bounds empty = subst (λ (z : ℕ × List ℕ). RecordsOfferedSoFar trunk own limits index job z.0 t z.1) (λ i. (sym none i, sym unrefused i)) (record {
     ours = ours;
     tags = tags;
     bounds = bounds;
@@ -41,20 +41,20 @@ module _ (trunk : Trunk Entry) (own : ℕ) (limits : List ℕ) (index : ℕ) (jo
   })
 
   -- no more was sent than made
-  pub few_sent : (made : ℕ) (t : Ticket Entry) (refused : List ℕ) → SoFar trunk own limits index job made t refused → length (sent t) ≤ made
+  pub few_sent : (made : ℕ) (t : Ticket Entry) (refused : List ℕ) → RecordsOfferedSoFar trunk own limits index job made t refused → length (sent t) ≤ made
   few_sent made t refused st = omega (arith, ap length st.all_sent, length-kept index refused (take made (records_of job)), st.count)
 
-  pub few_of_tag : (made : ℕ) (t : Ticket Entry) (refused : List ℕ) → SoFar trunk own limits index job made t refused → length (with_tag index_of index (sent t)) ≤ made
+  pub few_of_tag : (made : ℕ) (t : Ticket Entry) (refused : List ℕ) → RecordsOfferedSoFar trunk own limits index job made t refused → length (with_tag index_of index (sent t)) ≤ made
   few_of_tag made t refused st = let fewer = length-filter_le (λ (e : Entry). index_of e == index) (sent t) in omega (arith, fewer, few_sent made t refused st)
 
-  pub few_refused : (made : ℕ) (t : Ticket Entry) (refused : List ℕ) → SoFar trunk own limits index job made t refused → length refused ≤ made
+  pub few_refused : (made : ℕ) (t : Ticket Entry) (refused : List ℕ) → RecordsOfferedSoFar trunk own limits index job made t refused → length refused ≤ made
   few_refused made t refused st = let h = rises_length 0 made refused (omega arith) st.rising in omega (arith, h)
 
   -- one record more, which the queue kept
-  pub kept_stage : (made : ℕ) (t s : Ticket Entry) (refused : List ℕ) (r : Record) → SoFar trunk own limits index job made t refused
+  pub kept_stage : (made : ℕ) (t s : Ticket Entry) (refused : List ℕ) (r : Record) → RecordsOfferedSoFar trunk own limits index job made t refused
       → slice_get (records_of job) made ≡ Some r → IsRecorded (numbered 0 r)
       → IsTicketOf trunk s → tags_of s ≡ tags_of t → bounds_of s ≡ bounds_of t → sent s ≡ sent t ++ entry.Message index (made + 1) r ∷ []
-      → SoFar trunk own limits index job (made + 1) s refused
+      → RecordsOfferedSoFar trunk own limits index job (made + 1) s refused
   kept_stage made t s refused r st at fits ours tags bounds more =
       let rs : List Record = records_of job in
       let longer : take (made + 1) rs ≡ take made rs ++ r ∷ [] = take_more made rs r at in
@@ -72,11 +72,11 @@ module _ (trunk : Trunk Entry) (own : ℕ) (limits : List ℕ) (index : ℕ) (jo
       }
 
   -- one record more, which came back
-  pub refused_stage : (made : ℕ) (t s : Ticket Entry) (refused : List ℕ) (r : Record) → SoFar trunk own limits index job made t refused
+  pub refused_stage : (made : ℕ) (t s : Ticket Entry) (refused : List ℕ) (r : Record) → RecordsOfferedSoFar trunk own limits index job made t refused
       → slice_get (records_of job) made ≡ Some r → IsRecorded (numbered 0 r)
       → IsTicketOf trunk s → tags_of s ≡ tags_of t → bounds_of s ≡ bounds_of t → sent s ≡ sent t
       → capacity_of trunk ≤ length (sent t) + bounds_outside own limits
-      → SoFar trunk own limits index job (made + 1) s (refused ++ (made + 1) ∷ [])
+      → RecordsOfferedSoFar trunk own limits index job (made + 1) s (refused ++ (made + 1) ∷ [])
   refused_stage made t s refused r st at fits ours tags bounds same room =
       let rs : List Record = records_of job in
       let longer : take (made + 1) rs ≡ take made rs ++ r ∷ [] = take_more made rs r at in
@@ -95,7 +95,7 @@ module _ (trunk : Trunk Entry) (own : ℕ) (limits : List ℕ) (index : ℕ) (jo
 
 -- all records were offered, and then the end mark was kept
 pub last_stage : (trunk : Trunk Entry) (given : Ticket Entry) (index : ℕ) (job : JobState) (made : ℕ) (t s : Ticket Entry) (refused : List ℕ) (part : ChannelPart)
-    → SoFar trunk (tags_of given) (bounds_of given) index job made t refused → made ≡ length (records_of job)
+    → RecordsOfferedSoFar trunk (tags_of given) (bounds_of given) index job made t refused → made ≡ length (records_of job)
     → IsTicketOf trunk s → tags_of s ≡ tags_of t → bounds_of s ≡ bounds_of t → sent s ≡ sent t ++ entry.End index ∷ []
     → part.channel ≡ job.channel → part.made ≡ made → part.refused ≡ refused → part.placed ≡ placed_up_to made job.actions
     → job.channel ≤ 65535 → made ≤ 1000000 → made < most_items job
@@ -124,15 +124,15 @@ last_stage trunk given index job made t s refused part st whole ours tags bounds
 
 -- the same by the tags and bounds that the ticket has by now
 module _ (trunk : Trunk Entry) (own : ℕ) (limits : List ℕ) (index : ℕ) (job : JobState) where
-  pub by_ticket : (made number : ℕ) (t : Ticket Entry) (refused : List ℕ) → number ≡ made + 1 → SoFar trunk own limits index job made t refused
-      → SoFar trunk (tags_of t) (bounds_of t) index job (number - 1) t refused
+  pub by_ticket : (made number : ℕ) (t : Ticket Entry) (refused : List ℕ) → number ≡ made + 1 → RecordsOfferedSoFar trunk own limits index job made t refused
+      → RecordsOfferedSoFar trunk (tags_of t) (bounds_of t) index job (number - 1) t refused
   by_ticket made number t refused is st =
       let before : made ≡ number - 1 = omega (arith, is) in
-      subst (λ (z : ℕ × List ℕ × ℕ). SoFar trunk z.0 z.1 index job z.2 t refused) (λ i. (sym st.tags i, sym st.bounds i, before i)) st
+      subst (λ (z : ℕ × List ℕ × ℕ). RecordsOfferedSoFar trunk z.0 z.1 index job z.2 t refused) (λ i. (sym st.tags i, sym st.bounds i, before i)) st
 
-  pub by_given : (made : ℕ) (t s : Ticket Entry) (refused : List ℕ) → tags_of t ≡ own → bounds_of t ≡ limits → SoFar trunk (tags_of t) (bounds_of t) index job made s refused
-      → SoFar trunk own limits index job made s refused
-  by_given made t s refused tags bounds st = subst (λ (z : ℕ × List ℕ). SoFar trunk z.0 z.1 index job made s refused) (λ i. (tags i, bounds i)) st
+  pub by_given : (made : ℕ) (t s : Ticket Entry) (refused : List ℕ) → tags_of t ≡ own → bounds_of t ≡ limits → RecordsOfferedSoFar trunk (tags_of t) (bounds_of t) index job made s refused
+      → RecordsOfferedSoFar trunk own limits index job made s refused
+  by_given made t s refused tags bounds st = subst (λ (z : ℕ × List ℕ). RecordsOfferedSoFar trunk z.0 z.1 index job made s refused) (λ i. (tags i, bounds i)) st
 
 -- ---- two jobs whose records are the same so far
 
@@ -152,7 +152,7 @@ full_alike capacity others made a b refused (n ∷ ns) same low all =
     (subst (λ (rs : List Record). capacity ≤ length (kept_records refused rs) + others) is all.0, full_alike capacity others made a b refused ns same low.1 all.1)
 
 pub so_far_alike : (trunk : Trunk Entry) (own : ℕ) (limits : List ℕ) (index : ℕ) (a b : JobState) (made : ℕ) (t : Ticket Entry) (refused : List ℕ)
-    → take made (records_of a) ≡ take made (records_of b) → SoFar trunk own limits index a made t refused → SoFar trunk own limits index b made t refused
+    → take made (records_of a) ≡ take made (records_of b) → RecordsOfferedSoFar trunk own limits index a made t refused → RecordsOfferedSoFar trunk own limits index b made t refused
 so_far_alike trunk own limits index a b made t refused same st = record {
   ours = st.ours;
   tags = st.tags;

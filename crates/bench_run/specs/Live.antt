@@ -13,7 +13,7 @@ use Rattle.ch11_recording.specs.Recording.{AreDistinct}
 use Rattle.ch11_recording.specs.Laws.{IsPrologue}
 use Rattle.bench_report.specs.Reports.{ChannelPart, RunReport, NeverFalls}
 use Rattle.bench_core.specs.declared.settings.Settings.{Settings}
-use Rattle.bench_core.specs.Lawful.{AreInRange, AreLawful, channels_of}
+use Rattle.bench_core.specs.Lawful.{AreSettingsInRange, AreLawful, channels_of}
 use Rattle.bench_mail.specs.declared.mailbox.Post.{Post}
 use Rattle.bench_mail.specs.declared.mailbox.Mailbox.{Mailbox}
 use Rattle.bench_mail.specs.declared.mailbox.Inbox.{Inbox}
@@ -120,12 +120,12 @@ pub record RanLiveOrLeft {S : Type 0} (taken : S → Option (List ℕ)) (failure
 abbrev pub LeavesLive : {S : Type 0} → (S → Option (List ℕ)) → (S → ℕ) → ℕ → List JobState → Settings → List Mailbox
     → List Inbox → S → RunError S → List Inbox → Type 0
 LeavesLive taken failures most jobs s boxes inboxes before (fault.Settings sink) back =
-    (sink ≡ before) × (back ≡ inboxes) × ¬ (AreInRange jobs s × HaveMail jobs boxes inboxes)
+    (sink ≡ before) × (back ≡ inboxes) × ¬ (AreSettingsInRange jobs s × HaveMail jobs boxes inboxes)
 LeavesLive taken failures most jobs s boxes inboxes before (fault.ChannelTwice sink) back =
-    (sink ≡ before) × (back ≡ inboxes) × AreInRange jobs s × HaveMail jobs boxes inboxes
+    (sink ≡ before) × (back ≡ inboxes) × AreSettingsInRange jobs s × HaveMail jobs boxes inboxes
     × ¬ AreDistinct (channels_of jobs)
 LeavesLive taken failures most jobs s boxes inboxes before (fault.Prologue sink) back =
-    (sink ≡ before) × (back ≡ inboxes) × AreInRange jobs s × HaveMail jobs boxes inboxes
+    (sink ≡ before) × (back ≡ inboxes) × AreSettingsInRange jobs s × HaveMail jobs boxes inboxes
     × AreDistinct (channels_of jobs) × ¬ IsPrologue s.prologue.items
 LeavesLive taken failures most jobs s boxes inboxes before (fault.Memory sink) back =
     HaveMail jobs boxes inboxes × LeavesLate taken failures most jobs s inboxes before (fault.Memory sink) back

@@ -18,7 +18,7 @@ use Rattle.ch11_recording.specs.Recording.{AreDistinct}
 use Rattle.ch11_recording.specs.Laws.{IsFormat, IsPrologue, IsItem}
 use Rattle.bench_report.specs.Reports.{ChannelPart, RunReport, Rises}
 use Rattle.bench_core.specs.declared.settings.Settings.{Settings}
-use Rattle.bench_core.specs.Lawful.{format_of, channels_of, AreInRange, AreLawful}
+use Rattle.bench_core.specs.Lawful.{format_of, channels_of, AreSettingsInRange, AreLawful}
 use Rattle.bench_core.specs.Placing.{placed_up_to}
 use Rattle.bench_core.specs.Settled.{kept_records}
 use Rattle.bench_run.specs.declared.error.RunError.{RunError}
@@ -67,8 +67,8 @@ ArePairs P [] (y ∷ ys) = ⊥
 ArePairs P (x ∷ xs) [] = ⊥
 
 -- no job has the channel
-abbrev pub IsOther : List JobState → ℕ → Type 0
-IsOther jobs channel = AllByRecursion (λ c. c ≢ channel) (channels_of jobs)
+abbrev pub IsOtherChannel : List JobState → ℕ → Type 0
+IsOtherChannel jobs channel = AllByRecursion (λ c. c ≢ channel) (channels_of jobs)
 
 -- A finished run: one list of items was taken, each of them with a channel and a message that fit a packet, none of
 -- them of another channel than the jobs', and the bytes are their file, which is readable and gives each channel's
@@ -79,12 +79,12 @@ pub record IsRun (jobs : List JobState) (s : Settings) (report : RunReport) (byt
   pub sound : AllByRecursion IsItem items
   pub file : bytes ≡ written_file (format_of s) s.prologue.items items
   pub parts : ArePairs (IsPartOf jobs s items) jobs report.channels
-  pub others : (channel : ℕ) → IsOther jobs channel → part_of channel items ≡ []
+  pub others : (channel : ℕ) → IsOtherChannel jobs channel → part_of channel items ≡ []
   pub packets : report.packets ≡ length (closed_packets (format_of s) items)
   pub found : List Found
   pub readable : packets_in bytes ≡ Ok found
   pub read : ArePairs (IsReadAs found) jobs report.channels
-  pub silent : (channel : ℕ) → IsOther jobs channel → reading found channel ≡ []
+  pub silent : (channel : ℕ) → IsOtherChannel jobs channel → reading found channel ≡ []
 
 -- a queue with room for all that the jobs may send refuses none
 abbrev pub RefusesNoneWithRoom : List JobState → Settings → RunReport → Type 0
@@ -109,20 +109,21 @@ pub record IsCut {S : Type 0} (taken : S → Option (List ℕ)) (jobs : List Job
   pub bytes : TookPart taken s items count before after
   pub within : count ≤ length (written_file (format_of s) s.prologue.items items)
   pub parts : ArePairs (IsPartOf jobs s items) jobs report.channels
-  pub others : (channel : ℕ) → IsOther jobs channel → part_of channel items ≡ []
+  pub others : (channel : ℕ) → IsOtherChannel jobs channel → part_of channel items ≡ []
   pub packets : report.packets ≡ whole_packets (count - length s.prologue.items) (closed_packets (format_of s) items)
 
 -- What a refusal says and leaves: U2, U1 and U5 put nothing into the sink; U3 and U4 come only where none of these does
 -- and leave a part of a recording there, and U4 stands only where the sink failed.
-abbrev pub Leaves : {S : Type 0} → (S → Option (List ℕ)) → (S → ℕ) → List JobState → Settings → S → RunError S → Type 0
-Leaves taken failures jobs s before (fault.Settings sink) = (sink ≡ before) × ¬ AreInRange jobs s
-Leaves taken failures jobs s before (fault.ChannelTwice sink) = (sink ≡ before) × AreInRange jobs s
+abbrev pub LeavesRunInSink : {S : Type 0} → (S → Option (List ℕ)) → (S → ℕ) → List JobState → Settings → S
+    → RunError S → Type 0
+LeavesRunInSink taken failures jobs s before (fault.Settings sink) = (sink ≡ before) × ¬ AreSettingsInRange jobs s
+LeavesRunInSink taken failures jobs s before (fault.ChannelTwice sink) = (sink ≡ before) × AreSettingsInRange jobs s
     × ¬ AreDistinct (channels_of jobs)
-Leaves taken failures jobs s before (fault.Prologue sink) =
-    (sink ≡ before) × AreInRange jobs s × AreDistinct (channels_of jobs) × ¬ IsPrologue s.prologue.items
-Leaves taken failures jobs s before (fault.Memory sink) =
+LeavesRunInSink taken failures jobs s before (fault.Prologue sink) =
+    (sink ≡ before) × AreSettingsInRange jobs s × AreDistinct (channels_of jobs) × ¬ IsPrologue s.prologue.items
+LeavesRunInSink taken failures jobs s before (fault.Memory sink) =
     AreLawful jobs s × ((items : List Item) × (count : ℕ) × TookPart taken s items count before sink)
-Leaves taken failures jobs s before (fault.Sink sink report count) =
+LeavesRunInSink taken failures jobs s before (fault.Sink sink report count) =
     AreLawful jobs s × (failures before < failures sink) × IsCut taken jobs s before report count sink
 
 -- What a run answers, in one statement: where it ends well its jobs and settings were lawful, the sink took the file of
@@ -132,4 +133,4 @@ pub record RanOrLeft {S : Type 0} (taken : S → Option (List ℕ)) (failures : 
   pub lawful : OnOk answer (AreLawful jobs s)
   pub ran : IfOk answer (λ r. Ran taken jobs s before r.0 r.1)
   pub room : IfOk answer (λ r. RefusesNoneWithRoom jobs s r.0)
-  pub refused : IfErr answer (Leaves taken failures jobs s before)
+  pub refused : IfErr answer (LeavesRunInSink taken failures jobs s before)

@@ -38,7 +38,7 @@ use Rattle.job_file.specs.Rooms.{most_items}
 -- What the thread of a job reports: all of the job's messages were made, and they are a bus monitor's; the placed
 -- actions are the job's; a message was refused only where the capacity is at most what the channel kept before and what
 -- the others may have sent.
-pub record IsCounted (capacity others : ℕ) (job : JobState) (part : ChannelPart) : Type 0 where
+pub record IsThreadReport (capacity others : ℕ) (job : JobState) (part : ChannelPart) : Type 0 where
   pub channel : part.channel ≡ job.channel
   pub channel_high : job.channel ≤ 65535
   pub made : part.made ≡ length (records_of job)
@@ -51,7 +51,7 @@ pub record IsCounted (capacity others : ℕ) (job : JobState) (part : ChannelPar
 
 -- a job of a run and what its thread reports
 abbrev pub IsCountedIn : ℕ → List JobState → JobState → ChannelPart → Type 0
-IsCountedIn capacity jobs job part = IsCounted capacity (most_in_all (others_than job.channel jobs)) job part
+IsCountedIn capacity jobs job part = IsThreadReport capacity (most_in_all (others_than job.channel jobs)) job part
 
 -- Each record of a job was offered once, in order: its ticket sent those that were not refused, and then the end mark.
 -- `given` is the ticket as the thread got it.
@@ -61,7 +61,7 @@ pub record AllOffered (trunk : Trunk Entry) (given : Ticket Entry) (index : ℕ)
   pub tags : tags_of t ≡ tags_of given
   pub bounds : bounds_of t ≡ bounds_of given
   pub all_sent : sent t ≡ entries_to_the_end index (kept_records part.refused (records_of job))
-  pub counted : IsCounted (capacity_of trunk) (bounds_outside (tags_of given) (bounds_of given)) job part
+  pub counted : IsThreadReport (capacity_of trunk) (bounds_outside (tags_of given) (bounds_of given)) job part
 
 -- The thread of a job took posts from its mailbox, at most `most` of them, and offered the records of the job with
 -- these.
@@ -73,7 +73,7 @@ pub record Offered (trunk : Trunk Entry) (given : Ticket Entry) (index : ℕ) (j
   pub offered : AllOffered trunk given index (with_posts job posts) r.ticket r.part
 
 -- The same of the first `made` records, where these are the tags and bounds of the thread's ticket.
-pub record SoFar (trunk : Trunk Entry) (own : ℕ) (limits : List ℕ) (index : ℕ) (job : JobState) (made : ℕ)
+pub record RecordsOfferedSoFar (trunk : Trunk Entry) (own : ℕ) (limits : List ℕ) (index : ℕ) (job : JobState) (made : ℕ)
     (t : Ticket Entry) (refused : List ℕ) : Type 0 where
   pub ours : IsTicketOf trunk t
   pub tags : tags_of t ≡ own
@@ -85,10 +85,10 @@ pub record SoFar (trunk : Trunk Entry) (own : ℕ) (limits : List ℕ) (index : 
   pub recorded : AllByRecursion (λ m. IsRecorded (numbered 0 m)) (take made (records_of job))
 
 -- The same of the job with the posts that were placed so far, where the controller stands behind as many messages.
-pub record IsStage (trunk : Trunk Entry) (own : ℕ) (limits : List ℕ) (index : ℕ) (most : ℕ) (before : List Post)
+pub record IsThreadStage (trunk : Trunk Entry) (own : ℕ) (limits : List ℕ) (index : ℕ) (most : ℕ) (before : List Post)
     (job : JobState) (m : MachineState) (t : Ticket Entry) (refused : List ℕ) (p : Posts) : Type 0 where
   pub posted : IsPosted most before job m p
-  pub so_far : SoFar trunk own limits index (with_posts job posted.posts) m.point.number t refused
+  pub so_far : RecordsOfferedSoFar trunk own limits index (with_posts job posted.posts) m.point.number t refused
 
 -- what a thread takes along fits its job: the controller at the job's beginning, an empty list with room for all
 -- numbers, and the job's actions in their order
@@ -124,13 +124,13 @@ ArePromised trunk bounds jobs most boxes inboxes handles =
     → IsPromised trunk bounds jobs most boxes inboxes k h.promise
 
 -- What is known of a thread that was joined and of the entries of its index, where the others may have sent so many.
-pub record IsEnded (capacity others index : ℕ) (job : JobState) (box : Mailbox) (most : ℕ) (before : Inbox)
+pub record IsThreadEnded (capacity others index : ℕ) (job : JobState) (box : Mailbox) (most : ℕ) (before : Inbox)
     (j : Joined) (own : List Entry) : Type 0 where
   pub posts : List Placed
   pub inbox : IsInboxOf box j.inbox
   pub placed : ArePlaced most j.part.made (received_by before) (received_by j.inbox) posts
   pub own_are : own ≡ entries_to_the_end index (kept_records j.part.refused (records_of (with_posts job posts)))
-  pub counted : IsCounted capacity others (with_posts job posts) j.part
+  pub counted : IsThreadReport capacity others (with_posts job posts) j.part
 
 -- the same of each thread that was joined
 abbrev pub AreEnded : ℕ → List Entry → List JobState → ℕ → List Mailbox → List Inbox → List Joined → Type 0
@@ -138,7 +138,7 @@ AreEnded capacity entries jobs most boxes inboxes joined =
     (k : ℕ) (j : Joined) → slice_get joined k ≡ Some j
     → (job : JobState) (box : Mailbox) (before : Inbox) → slice_get jobs k ≡ Some job → slice_get boxes k ≡ Some box
     → slice_get inboxes k ≡ Some before
-    → IsEnded capacity (most_in_all (others_than job.channel jobs)) k job box most before j
+    → IsThreadEnded capacity (most_in_all (others_than job.channel jobs)) k job box most before j
     (with_tag index_of k entries)
 
 -- Each job whose thread was joined has the part of it, and the entries of its index are its records but for the

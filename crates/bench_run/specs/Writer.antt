@@ -30,15 +30,15 @@ records_at index (x ∷ later) = (if index_of x == index then record_of x else [
 
 -- it can be recorded behind the earlier ones: there is a job at its index, the number of a message is above that of the
 -- job's message before, and its stamp is below 2^48
-abbrev pub Fits : List ℕ → List Entry → Entry → Type 0
-Fits channels earlier (entry.Message index number message) =
+abbrev pub FitsRecording : List ℕ → List Entry → Entry → Type 0
+FitsRecording channels earlier (entry.Message index number message) =
     (index < length channels) × (last_number (records_at index earlier) < number) × (message.stamp < 2 ^ 48)
-Fits channels earlier (entry.End index) = index < length channels
+FitsRecording channels earlier (entry.End index) = index < length channels
 
 -- some entry could not be recorded where it stood
 abbrev pub IsUnfit : List ℕ → List Entry → Type 0
 IsUnfit channels got = (earlier : List Entry) × (later : List Entry) × (x : Entry) × (got ≡ earlier ++ x ∷ later)
-    × ¬ Fits channels earlier x
+    × ¬ FitsRecording channels earlier x
 
 -- What a recorder has of the entries `got`: all of them, where `whole`, and else some could not be recorded.
 pub record IsLogged {S : Type 0} (taken : S → Option (List ℕ)) (failures : S → ℕ) (f : Format) (prologue : List ℕ)

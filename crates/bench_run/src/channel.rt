@@ -1,7 +1,7 @@
 //! One channel's thread.
 ghost use Rattle.bench_mail.specs.Mail.{IsInboxOf};
 ghost use Rattle.bench_run.specs.Runs.{records_of};
-ghost use Rattle.bench_run.specs.Threads.{IsRoom, Offered, SoFar};
+ghost use Rattle.bench_run.specs.Threads.{IsRoom, Offered, RecordsOfferedSoFar};
 ghost use Rattle.bench_run.specs.declared.entry.Entry.TheVariants.{End};
 ghost use Rattle.ch11_builder.specs.Recorded.{IsRecorded};
 ghost use Rattle.ch11_recording.specs.Items.{numbered};
@@ -115,7 +115,7 @@ fn offer_message<R: Wait, G: Gate>(
     refused: &mut Vec<u32>,
 )
     requires so_far { (live : JobState)
-        × SoFar trunk.now (tags_of ticket.old) (bounds_of ticket.old) index live
+        × RecordsOfferedSoFar trunk.now (tags_of ticket.old) (bounds_of ticket.old) index live
         (number - 1) ticket.old refused.old.items }
     requires tag { has (tags_of ticket.old) index ≡ true }
     requires bound { number < bound_of (bounds_of ticket.old) index }
@@ -123,10 +123,10 @@ fn offer_message<R: Wait, G: Gate>(
     requires recorded { IsRecorded (numbered 0 message) }
     requires room { number ≤ vec_capacity refused.old }
     ensures so_far { (live : JobState)
-        → SoFar trunk.now (tags_of ticket.old) (bounds_of ticket.old) index live
+        → RecordsOfferedSoFar trunk.now (tags_of ticket.old) (bounds_of ticket.old) index live
         (number - 1) ticket.old refused.old.items
         → slice_get (records_of live) (number - 1) ≡ Some message
-        → SoFar trunk.now (tags_of ticket.old)
+        → RecordsOfferedSoFar trunk.now (tags_of ticket.old)
         (bounds_of ticket.old) index live number ticket.new refused.new.items }
     ensures room { vec_capacity refused.new ≡ vec_capacity refused.old }
 {

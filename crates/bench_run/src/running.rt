@@ -3,7 +3,7 @@ ghost use Rattle.bench_core.specs.Lawful.{AreLawful};
 ghost use Rattle.bench_mail.specs.Mail.{IsMadeFor};
 ghost use Rattle.bench_mail.specs.declared.mailbox.Mailbox.{Mailbox};
 ghost use Rattle.bench_run.specs.Live.{AreInboxesOf, HaveMail, RanLive, RanLiveOrLeft, LeavesLive};
-ghost use Rattle.bench_run.specs.Runs.{ArePairs, Ran, RefusesNoneWithRoom, Leaves};
+ghost use Rattle.bench_run.specs.Runs.{ArePairs, Ran, RefusesNoneWithRoom, LeavesRunInSink};
 ghost use Rattle.std.specs.Prelude.{◌≡◌, ◌-◌, ◌<◌, ◌^◌, length, vec_len, IfOk, IfErr, OnOk, IsTrue};
 
 use crate::ending::Before;
@@ -116,7 +116,7 @@ pub fn run<R: Threads + Wait + Sync, G: Gate, S: Sink + Drop>(
     ensures lawful { OnOk result (AreLawful jobs.now settings.now) }
     ensures ran { IfOk result (λ r. Ran S.taken jobs.now settings.now sink r.0 r.1) }
     ensures room { IfOk result (λ r. RefusesNoneWithRoom jobs.now settings.now r.0) }
-    ensures refused { IfErr result (Leaves S.taken S.failures jobs.now settings.now sink) }
+    ensures refused { IfErr result (LeavesRunInSink S.taken S.failures jobs.now settings.now sink) }
 {
     match judge(jobs, settings) {
         Ok(()) => {}

@@ -4,7 +4,7 @@ ghost use Rattle.bench_mail.specs.Mail.{IsInboxOf};
 ghost use Rattle.bench_run.specs.Entries.{index_of};
 ghost use Rattle.bench_run.specs.Live.{AreInboxesOf};
 ghost use Rattle.bench_run.specs.Runs.{ArePairs};
-ghost use Rattle.bench_run.specs.Threads.{Offered, IsRoom, HasOnly, ArePromised, IsEnded, AreEnded};
+ghost use Rattle.bench_run.specs.Threads.{Offered, IsRoom, HasOnly, ArePromised, IsThreadEnded, AreEnded};
 ghost use Rattle.bench_run.specs.declared.channel.Room.{Room};
 ghost use Rattle.bench_run.specs.declared.threads.Joined.{Joined};
 ghost use Rattle.ch11_recording.specs.Recording.{AreDistinct};
@@ -233,7 +233,7 @@ fn join_one<R: Threads>(
     ensures ticket { IsTicketOf trunk.now rest.new × (bounds_of rest.new ≡ bounds_of rest.old) }
     ensures tags { (t : ℕ) → has (tags_of rest.new) t
         ≡ (has (tags_of rest.old) t || has (tags_of handle.entry.promise.ticket.value) t) }
-    ensures ended { (own : List Entry) × (sent rest.new ≡ sent rest.old ++ own) × IsEnded (capacity_of trunk.now)
+    ensures ended { (own : List Entry) × (sent rest.new ≡ sent rest.old ++ own) × IsThreadEnded (capacity_of trunk.now)
         (bounds_outside (tags_of handle.entry.promise.ticket.value) (bounds_of handle.entry.promise.ticket.value))
         handle.entry.promise.index
         handle.entry.promise.job.now handle.entry.promise.mailbox.now handle.entry.promise.most

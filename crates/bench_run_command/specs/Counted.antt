@@ -8,8 +8,8 @@ abbrev pub kept_count : ChannelPart → ℕ
 kept_count part = part.made - length part.refused
 
 -- the messages of all channels, as far as 64 bits count them
-abbrev pub messages_of : List ChannelPart → ℕ
-messages_of parts = min (sum_by kept_count parts) (2 ^ 64 - 1)
+abbrev pub message_count : List ChannelPart → ℕ
+message_count parts = min (sum_by kept_count parts) (2 ^ 64 - 1)
 
 abbrev pub counts_line : ℕ → ℕ → List ℕ
 counts_line packets messages = codes "packets " ++ decimal packets ++ codes " messages " ++ decimal messages

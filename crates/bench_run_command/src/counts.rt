@@ -1,5 +1,5 @@
 //! How much a recording holds.
-ghost use Rattle.bench_run_command.specs.Counted.{kept_count, messages_of, counts_line};
+ghost use Rattle.bench_run_command.specs.Counted.{kept_count, message_count, counts_line};
 ghost use Rattle.std.specs.Io.KnownBytes.{Appends};
 ghost use Rattle.std.specs.Prelude.{◌≡◌, ◌++◌, ◌∷◌, [], OnOk, Some};
 
@@ -21,11 +21,11 @@ impl Counts {
     /// The counts of the recording that a report tells of.
     pub fn of_report(report: &Report) -> Counts
         ensures packets { result.packets ≡ report.now.packets }
-        ensures messages { result.messages ≡ messages_of report.now.channels }
+        ensures messages { result.messages ≡ message_count report.now.channels }
     {
         let mut messages: u64 = 0;
         for channel in report.channels() {
-            messages = messages.saturating_add(kept(channel));
+            messages = messages.saturating_add(kept_count(channel));
         }
         Counts {
             packets: report.packets(),
@@ -35,7 +35,7 @@ impl Counts {
 }
 
 /// How many messages of a channel are in the recording.
-fn kept(channel: &ChannelReport) -> u64
+fn kept_count(channel: &ChannelReport) -> u64
     ensures { result ≡ kept_count channel.now }
 {
     u64::from(channel.made()).saturating_sub(channel.refused().len() as u64)

@@ -9,11 +9,11 @@ use Rattle.ch11_reader.specs.Recording.{Found}
 use Rattle.ch11_reader.specs.Contents.{total_in}
 use Rattle.bench_select.specs.declared.selection.Selection.{Selection}
 use Rattle.bench_stat.specs.Chosen.{history_of, picked}
-use Rattle.bench_stat.specs.Streaming.{IsBehind}
+use Rattle.bench_stat.specs.Streaming.{IsPacketBehind}
 use Rattle.bench_stat.proofs.Streamed.{history_more, history_other}
 
 -- a packet of the channel
-pub counted_here : (P : List Message → Type 0) (s : Selection) (channel : ℕ) (ps : List Found) (q : Found) (p : Packet) (messages : List Message) → IsBehind ps q p messages → p.header.channel ≡ channel
+pub counted_here : (P : List Message → Type 0) (s : Selection) (channel : ℕ) (ps : List Found) (q : Found) (p : Packet) (messages : List Message) → IsPacketBehind ps q p messages → p.header.channel ≡ channel
     → P (reverse (picked s channel p.before messages) ++ history_of s ps channel) → P (history_of s (ps ++ q ∷ []) channel)
 counted_here P s channel ps q p messages b here is = subst P (sym same) is
   where
@@ -28,6 +28,6 @@ counted_here P s channel ps q p messages b here is = subst P (sym same) is
         ∙ ap (λ (ms : List Message). reverse (picked s channel p.before ms) ++ history_of s ps channel) b.given
 
 -- one of another channel
-pub passed_elsewhere : (P : List Message → Type 0) (s : Selection) (channel : ℕ) (ps : List Found) (q : Found) (p : Packet) (messages : List Message) → IsBehind ps q p messages → (p.header.channel ≡ channel → ⊥) → P (history_of s ps channel)
+pub passed_elsewhere : (P : List Message → Type 0) (s : Selection) (channel : ℕ) (ps : List Found) (q : Found) (p : Packet) (messages : List Message) → IsPacketBehind ps q p messages → (p.header.channel ≡ channel → ⊥) → P (history_of s ps channel)
     → P (history_of s (ps ++ q ∷ []) channel)
 passed_elsewhere P s channel ps q p messages b other is = subst P (sym (history_other s channel ps q (λ e. other (ap (λ (h : Header). h.channel) (sym b.header) ∙ e)))) is

@@ -10,7 +10,7 @@ use Rattle.ch11_reader.specs.Contents.{total_in}
 use Rattle.ch11_reader.specs.Listing.{listing}
 use Rattle.bench_dump.proofs.Packets.{IsAt, same_count}
 use Rattle.bench_select.specs.declared.selection.Selection.{Selection}
-use Rattle.bench_stat.specs.Chosen.{picked, chosen, IsNext}
+use Rattle.bench_stat.specs.Chosen.{picked, chosen, IsNextChosen}
 
 -- behind the last packet nothing is chosen
 pub behind_all : (s : Selection) (channel place : ℕ) (ps : List Found) (entries : List Packet) → entries ≡ listing ps → length entries ≤ place → chosen s channel (total_in (take place ps)) (drop place ps) ≡ []
@@ -28,7 +28,7 @@ behind s channel place ps e a =
 
 -- one of the channel
 pub next_of : (channel place : ℕ) (ps : List Found) (entries : List Packet) (e : Packet) (before : ℕ) (messages : List Message) → (a : IsAt 0 ps place e) → place < length entries → entries ≡ listing ps
-    → total_in ps < 2 ^ 64 → e.header.channel ≡ channel → before ≡ e.before → messages ≡ a.packet.messages → IsNext ps channel place (place + 1) before messages
+    → total_in ps < 2 ^ 64 → e.header.channel ≡ channel → before ≡ e.before → messages ≡ a.packet.messages → IsNextChosen ps channel place (place + 1) before messages
 next_of channel place ps entries e before messages a within listed few of from are = record {
   after = omega arith;
   within = omega (arith, within, same_count ps entries listed);
@@ -48,7 +48,7 @@ next_of channel place ps entries e before messages a within listed few of from a
 
 -- one of another channel
 pub next_other : (channel place : ℕ) (ps : List Found) (entries : List Packet) (e : Packet) (messages : List Message) → (a : IsAt 0 ps place e) → place < length entries → entries ≡ listing ps
-    → (e.header.channel ≡ channel → ⊥) → messages ≡ [] → IsNext ps channel place (place + 1) 0 messages
+    → (e.header.channel ≡ channel → ⊥) → messages ≡ [] → IsNextChosen ps channel place (place + 1) 0 messages
 next_other channel place ps entries e messages a within listed other none = record {
   after = omega arith;
   within = omega (arith, within, same_count ps entries listed);

@@ -14,12 +14,12 @@ use Rattle.ch11_stream.proofs.Folding.{one_behind, total_reverse}
 use Rattle.bench_select.specs.declared.selection.Selection.{Selection}
 use Rattle.bench_select.specs.Selectors.{is_chosen}
 use Rattle.bench_stat.specs.declared.channels.ChannelFigures.{ChannelFigures}
-use Rattle.bench_stat.specs.declared.streaming.SoFar.{SoFar}
+use Rattle.bench_stat.specs.declared.streaming.TallyByChannel.{TallyByChannel}
 use Rattle.bench_stat.specs.declared.tally.Tally.{Tally}
 use Rattle.bench_stat.specs.Chosen.{picked, chosen, history_of}
 use Rattle.bench_stat.specs.Figures.{channels_below, figures_among, figures_of_channel, has_channel, headers, is_listed}
 use Rattle.bench_stat.specs.Steps.{tally_of}
-use Rattle.bench_stat.specs.Streaming.{AreSoFar, IsBehind, tally_in, tally_or_none, with_figures}
+use Rattle.bench_stat.specs.Streaming.{AreTalliesOf, IsPacketBehind, tally_in, tally_or_none, with_figures}
 use Rattle.bench_stat.proofs.Present.{at_channel, channel_absent, channel_present, of_other_channel, of_other_kind}
 
 -- ---- one packet more
@@ -88,14 +88,14 @@ tally_absent s channel ps is has =
 
 -- ---- all channels
 
-pub nothing_yet : (s : Selection) (t : SoFar) → ((channel : ℕ) → get nat_eq t.channels channel ≡ None) → AreSoFar s [] t
+pub nothing_yet : (s : Selection) (t : TallyByChannel) → ((channel : ℕ) → get nat_eq t.channels channel ≡ None) → AreTalliesOf s [] t
 nothing_yet s t empty = record { each = λ channel. empty channel ∙ sym (go (is_chosen s.channel channel) channel); none = λ channel is. refl }
   where
     go : (b : Bool) (channel : ℕ) → (if b && false then Some (tally_of channel []) else None) ≡ None
     go true channel = refl
     go false channel = refl
 
-none_more : (s : Selection) (ps : List Found) (q : Found) (t : SoFar) → AreSoFar s ps t → (holds_messages q.header ≡ false → q.messages ≡ []) → (channel : ℕ) → has_channel channel (headers (ps ++ q ∷ [])) ≡ false
+none_more : (s : Selection) (ps : List Found) (q : Found) (t : TallyByChannel) → AreTalliesOf s ps t → (holds_messages q.header ≡ false → q.messages ≡ []) → (channel : ℕ) → has_channel channel (headers (ps ++ q ∷ [])) ≡ false
     → history_of s (ps ++ q ∷ []) channel ≡ []
 none_more s ps q t are empty channel absent = elim (cases_eq q.header.channel channel) [
   | inl here ↦ elim (cases_eq q.header.kind 25) [
@@ -109,7 +109,7 @@ none_more s ps q t are empty channel absent = elim (cases_eq q.header.channel ch
     both b absent present = absurd cc
 
 -- a packet of another data type
-pub passed_other : (s : Selection) (ps : List Found) (q : Found) (t : SoFar) → AreSoFar s ps t → (holds_messages q.header ≡ false → q.messages ≡ []) → (q.header.kind ≡ 25 → ⊥) → AreSoFar s (ps ++ q ∷ []) t
+pub passed_other : (s : Selection) (ps : List Found) (q : Found) (t : TallyByChannel) → AreTalliesOf s ps t → (holds_messages q.header ≡ false → q.messages ≡ []) → (q.header.kind ≡ 25 → ⊥) → AreTalliesOf s (ps ++ q ∷ []) t
 passed_other s ps q t are empty other = record {
   each = λ channel.
       are.each channel
@@ -118,7 +118,7 @@ passed_other s ps q t are empty other = record {
 }
 
 -- a packet of a channel that the selection isn't of
-pub passed_channel : (s : Selection) (ps : List Found) (q : Found) (t : SoFar) → AreSoFar s ps t → (holds_messages q.header ≡ false → q.messages ≡ []) → is_chosen s.channel q.header.channel ≡ false → AreSoFar s (ps ++ q ∷ []) t
+pub passed_channel : (s : Selection) (ps : List Found) (q : Found) (t : TallyByChannel) → AreTalliesOf s ps t → (holds_messages q.header ≡ false → q.messages ≡ []) → is_chosen s.channel q.header.channel ≡ false → AreTalliesOf s (ps ++ q ∷ []) t
 passed_channel s ps q t are empty unchosen = record {
   each = λ channel. are.each channel ∙ elim (cases_eq q.header.channel channel) [
     | inl here ↦
@@ -130,7 +130,7 @@ passed_channel s ps q t are empty unchosen = record {
 }
 
 -- the figures of a channel that the selection is of
-pub begun : (s : Selection) (ps : List Found) (t : SoFar) (channel : ℕ) → AreSoFar s ps t → is_chosen s.channel channel ≡ true → tally_or_none channel (get nat_eq t.channels channel) ≡ tally_of channel (history_of s ps channel)
+pub begun : (s : Selection) (ps : List Found) (t : TallyByChannel) (channel : ℕ) → AreTalliesOf s ps t → is_chosen s.channel channel ≡ true → tally_or_none channel (get nat_eq t.channels channel) ≡ tally_of channel (history_of s ps channel)
 begun s ps t channel are is = ap (tally_or_none channel) (are.each channel) ∙ go (has_channel channel (headers ps)) refl
   where
     go : (b : Bool) → has_channel channel (headers ps) ≡ b → tally_or_none channel (tally_in s ps channel) ≡ tally_of channel (history_of s ps channel)
@@ -138,9 +138,9 @@ begun s ps t channel are is = ap (tally_or_none channel) (are.each channel) ∙ 
     go false has = ap (tally_or_none channel) (tally_absent s channel ps is has) ∙ ap (tally_of channel) (sym (are.none channel has))
 
 -- a packet whose messages were counted
-pub counted : (s : Selection) (ps : List Found) (q : Found) (t next : SoFar) (tally : Tally) → AreSoFar s ps t → (holds_messages q.header ≡ false → q.messages ≡ []) → q.header.kind ≡ 25 → is_chosen s.channel q.header.channel ≡ true
+pub counted : (s : Selection) (ps : List Found) (q : Found) (t next : TallyByChannel) (tally : Tally) → AreTalliesOf s ps t → (holds_messages q.header ≡ false → q.messages ≡ []) → q.header.kind ≡ 25 → is_chosen s.channel q.header.channel ≡ true
     → tally ≡ tally_of q.header.channel (reverse (picked s q.header.channel (total_in ps) q.messages) ++ history_of s ps q.header.channel)
-    → ((channel : ℕ) → get nat_eq next.channels channel ≡ (if q.header.channel == channel then Some tally else get nat_eq t.channels channel)) → AreSoFar s (ps ++ q ∷ []) next
+    → ((channel : ℕ) → get nat_eq next.channels channel ≡ (if q.header.channel == channel then Some tally else get nat_eq t.channels channel)) → AreTalliesOf s (ps ++ q ∷ []) next
 counted s ps q t next tally are empty kind is one put = record {
   each = λ channel. elim (cases_eq q.header.channel channel) [
     | inl here ↦ subst (λ (k : ℕ). get nat_eq next.channels k ≡ tally_in s (ps ++ q ∷ []) k) here own_channel
@@ -159,10 +159,10 @@ counted s ps q t next tally are empty kind is one put = record {
         put q.header.channel ∙ ap (λ (b : Bool). if b then Some tally else get nat_eq t.channels q.header.channel) (eq-eqb q.header.channel q.header.channel refl)
         ∙ ap Some (one ∙ ap (tally_of q.header.channel) (sym (history_here s ps q))) ∙ sym (tally_listed s q.header.channel (ps ++ q ∷ []) is there)
 
-pub packet_counted : (s : Selection) (ps : List Found) (q : Found) (p : Packet) (messages : List Message) (t next : SoFar) (before after : Tally) → AreSoFar s ps t → IsBehind ps q p messages
+pub packet_counted : (s : Selection) (ps : List Found) (q : Found) (p : Packet) (messages : List Message) (t next : TallyByChannel) (before after : Tally) → AreTalliesOf s ps t → IsPacketBehind ps q p messages
     → p.header.kind ≡ 25 → is_chosen s.channel p.header.channel ≡ true → before ≡ tally_or_none p.header.channel (get nat_eq t.channels p.header.channel)
     → ((history : List Message) → before ≡ tally_of p.header.channel history → after ≡ tally_of p.header.channel (reverse (picked s p.header.channel p.before messages) ++ history))
-    → ((channel : ℕ) → get nat_eq next.channels channel ≡ (if p.header.channel == channel then Some after else get nat_eq t.channels channel)) → AreSoFar s (ps ++ q ∷ []) next
+    → ((channel : ℕ) → get nat_eq next.channels channel ≡ (if p.header.channel == channel then Some after else get nat_eq t.channels channel)) → AreTalliesOf s (ps ++ q ∷ []) next
 packet_counted s ps q p messages t next before after are b kind is begins noted put =
     counted s ps q t next after are b.other (ap (λ (h : Header). h.kind) b.header ∙ kind) (ap (λ (h : Header). is_chosen s.channel h.channel) b.header ∙ is) one
     (λ channel. put channel ∙ ap (λ (h : Header). if h.channel == channel then Some after else get nat_eq t.channels channel) (sym b.header))
@@ -176,17 +176,17 @@ packet_counted s ps q p messages t next before after are b kind is begins noted 
         ∙ ap (λ (n : ℕ). tally_of q.header.channel (reverse (picked s q.header.channel n messages) ++ history_of s ps q.header.channel)) b.before
         ∙ ap (λ (ms : List Message). tally_of q.header.channel (reverse (picked s q.header.channel (total_in ps) ms) ++ history_of s ps q.header.channel)) (sym b.given)
 
-pub packet_of_other_kind : (s : Selection) (ps : List Found) (q : Found) (p : Packet) (messages : List Message) (t : SoFar) → AreSoFar s ps t → IsBehind ps q p messages → (p.header.kind ≡ 25 → ⊥) → AreSoFar s (ps ++ q ∷ []) t
+pub packet_of_other_kind : (s : Selection) (ps : List Found) (q : Found) (p : Packet) (messages : List Message) (t : TallyByChannel) → AreTalliesOf s ps t → IsPacketBehind ps q p messages → (p.header.kind ≡ 25 → ⊥) → AreTalliesOf s (ps ++ q ∷ []) t
 packet_of_other_kind s ps q p messages t are b other = passed_other s ps q t are b.other (λ e. other (ap (λ (h : Header). h.kind) (sym b.header) ∙ e))
 
-pub packet_of_other_channel : (s : Selection) (ps : List Found) (q : Found) (p : Packet) (messages : List Message) (t : SoFar) → AreSoFar s ps t → IsBehind ps q p messages → is_chosen s.channel p.header.channel ≡ false
-    → AreSoFar s (ps ++ q ∷ []) t
+pub packet_of_other_channel : (s : Selection) (ps : List Found) (q : Found) (p : Packet) (messages : List Message) (t : TallyByChannel) → AreTalliesOf s ps t → IsPacketBehind ps q p messages → is_chosen s.channel p.header.channel ≡ false
+    → AreTalliesOf s (ps ++ q ∷ []) t
 packet_of_other_channel s ps q p messages t are b unchosen = passed_channel s ps q t are b.other (ap (λ (h : Header). is_chosen s.channel h.channel) b.header ∙ unchosen)
 
 -- ---- packets as they are read
 
 -- the packet that was read of a file that is known
-pub next_one : (before now : Reading) (p : Packet) (messages : List Message) (rest : List ℕ) → IsStep before now p → before.left ≡ Some rest → messages ≡ now.given → IsBehind (reverse before.earlier) (last_found now p) p messages
+pub next_one : (before now : Reading) (p : Packet) (messages : List Message) (rest : List ℕ) → IsStep before now p → before.left ≡ Some rest → messages ≡ now.given → IsPacketBehind (reverse before.earlier) (last_found now p) p messages
 next_one before now p messages rest s left are = record {
   header = refl;
   before = ap (λ (x : Packet). x.before) s.listed ∙ sym (total_reverse before.earlier);
@@ -195,8 +195,8 @@ next_one before now p messages rest s left are = record {
 }
 
 -- the packets so far in their order, with one more
-pub counted_on : (s : Selection) (before now : Reading) (p : Packet) (t : SoFar) → IsStep before now p → AreSoFar s (reverse before.earlier ++ last_found now p ∷ []) t → AreSoFar s (reverse now.earlier) t
-counted_on s before now p t step are = subst (λ (ps : List Found). AreSoFar s ps t) (sym (ap reverse step.entered ∙ one_behind (last_found now p) before.earlier)) are
+pub counted_on : (s : Selection) (before now : Reading) (p : Packet) (t : TallyByChannel) → IsStep before now p → AreTalliesOf s (reverse before.earlier ++ last_found now p ∷ []) t → AreTalliesOf s (reverse now.earlier) t
+counted_on s before now p t step are = subst (λ (ps : List Found). AreTalliesOf s ps t) (sym (ap reverse step.entered ∙ one_behind (last_found now p) before.earlier)) are
 
 -- ---- the channels that are listed
 
@@ -204,7 +204,7 @@ record IsListed (s : Selection) (ps : List Found) (channel : ℕ) (tally : Tally
   there : is_listed s (headers ps) channel ≡ true
   is : tally ≡ tally_of channel (history_of s ps channel)
 
-pub more_figures : (s : Selection) (n : ℕ) (ps : List Found) (t : SoFar) (figures : List ChannelFigures) (tally : Tally) → AreSoFar s ps t → get nat_eq t.channels n ≡ Some tally
+pub more_figures : (s : Selection) (n : ℕ) (ps : List Found) (t : TallyByChannel) (figures : List ChannelFigures) (tally : Tally) → AreTalliesOf s ps t → get nat_eq t.channels n ≡ Some tally
     → figures ≡ figures_among s (channels_below s n (headers ps)) ps → figures ++ tally.figures ∷ [] ≡ figures_among s (channels_below s (n + 1) (headers ps)) ps
 more_figures s n ps t figures tally are got is =
     ap (λ (x : ChannelFigures). figures ++ x ∷ []) (ap (λ (x : Tally). x.figures) listed.is) ∙ ap (λ (xs : List ChannelFigures). xs ++ figures_of_channel n (history_of s ps n) ∷ []) is
@@ -218,7 +218,7 @@ more_figures s n ps t figures tally are got is =
     listed : IsListed s ps n tally
     listed = go (is_listed s (headers ps) n) refl (sym (are.each n) ∙ got)
 
-pub same_figures : (s : Selection) (n : ℕ) (ps : List Found) (t : SoFar) (figures : List ChannelFigures) → AreSoFar s ps t → get nat_eq t.channels n ≡ None
+pub same_figures : (s : Selection) (n : ℕ) (ps : List Found) (t : TallyByChannel) (figures : List ChannelFigures) → AreTalliesOf s ps t → get nat_eq t.channels n ≡ None
     → figures ≡ figures_among s (channels_below s n (headers ps)) ps → figures ≡ figures_among s (channels_below s (n + 1) (headers ps)) ps
 same_figures s n ps t figures are got is = is ∙ ap (λ (cs : List ℕ). figures_among s cs ps) (sym (channel_absent s n (headers ps) (go (is_listed s (headers ps) n) refl (sym (are.each n) ∙ got))))
   where
@@ -226,7 +226,7 @@ same_figures s n ps t figures are got is = is ∙ ap (λ (cs : List ℕ). figure
     go true there has = absurd cc
     go false there has = there
 
-pub next_figures : (s : Selection) (n : ℕ) (ps : List Found) (t : SoFar) (figures more : List ChannelFigures) → AreSoFar s ps t → figures ≡ figures_among s (channels_below s n (headers ps)) ps
+pub next_figures : (s : Selection) (n : ℕ) (ps : List Found) (t : TallyByChannel) (figures more : List ChannelFigures) → AreTalliesOf s ps t → figures ≡ figures_among s (channels_below s n (headers ps)) ps
     → more ≡ with_figures (get nat_eq t.channels n) figures → more ≡ figures_among s (channels_below s (n + 1) (headers ps)) ps
 next_figures s n ps t figures more are is with = with ∙ go (get nat_eq t.channels n) refl
   where

@@ -28,7 +28,7 @@ history_of s ps channel = reverse (chosen s channel 0 ps)
 
 -- the packet at a place, in front of the next one, has these messages behind so many of the file, as far as any
 -- selection of the channel tells
-pub record IsNext (ps : List Found) (channel place next before : ℕ) (messages : List Message) : Type 0 where
+pub record IsNextChosen (ps : List Found) (channel place next before : ℕ) (messages : List Message) : Type 0 where
   pub after : place < next
   pub within : next ≤ length ps
   pub few : before + length messages < 2 ^ 64

@@ -7,7 +7,7 @@ use Rattle.ch11_reader.specs.Recording.{Found, holds_messages}
 use Rattle.ch11_reader.specs.Contents.{total_in}
 use Rattle.bench_select.specs.declared.selection.Selection.{Selection}
 use Rattle.bench_stat.specs.declared.channels.ChannelFigures.{ChannelFigures}
-use Rattle.bench_stat.specs.declared.streaming.SoFar.{SoFar}
+use Rattle.bench_stat.specs.declared.streaming.TallyByChannel.{TallyByChannel}
 use Rattle.bench_stat.specs.declared.tally.Tally.{Tally}
 use Rattle.bench_stat.specs.Chosen.{history_of}
 use Rattle.bench_stat.specs.Figures.{has_channel, headers, is_listed}
@@ -29,12 +29,12 @@ with_figures None figures = figures
 with_figures (Some tally) figures = figures ++ tally.figures ∷ []
 
 -- each channel that is listed has its figures, and no other; a channel without packets of messages has no messages
-pub record AreSoFar (s : Selection) (ps : List Found) (so_far : SoFar) : Type 0 where
+pub record AreTalliesOf (s : Selection) (ps : List Found) (so_far : TallyByChannel) : Type 0 where
   pub each : (channel : ℕ) → get nat_eq so_far.channels channel ≡ tally_in s ps channel
   pub none : (channel : ℕ) → has_channel channel (headers ps) ≡ false → history_of s ps channel ≡ []
 
 -- the packet behind others is listed so, and has these messages
-pub record IsBehind (ps : List Found) (q : Found) (p : Packet) (messages : List Message) : Type 0 where
+pub record IsPacketBehind (ps : List Found) (q : Found) (p : Packet) (messages : List Message) : Type 0 where
   pub header : q.header ≡ p.header
   pub before : p.before ≡ total_in ps
   pub given : q.messages ≡ messages

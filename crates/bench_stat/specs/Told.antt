@@ -17,7 +17,7 @@ use Rattle.bench_stat.specs.Chosen.{history_of}
 use Rattle.bench_stat.specs.Details.{details_of, losses_of}
 use Rattle.bench_stat.specs.Entries.{AreEntries}
 use Rattle.bench_stat.specs.Slices.{AreBusy}
-use Rattle.bench_stat.specs.Streaming.{IsBehind}
+use Rattle.bench_stat.specs.Streaming.{IsPacketBehind}
 
 -- this is told of messages, newest first
 pub record IsFollowed (shown : Shown) (history : List Message) (f : Followed) : Type 0 where
@@ -42,6 +42,6 @@ pub record AreTold (shown : Shown) (s : Selection) (figures : List ChannelFigure
 
 -- the packet behind others is so in all that an index tells of it, and has these messages
 pub record IsListedBehind (ps : List Found) (q : Found) (p : Packet) (messages : List Message) : Type 0 where
-  pub behind : IsBehind ps q p messages
+  pub behind : IsPacketBehind ps q p messages
   pub listed : p ≡ listed_behind (reverse ps) q
   pub few : length ps < 2 ^ 64 - 1

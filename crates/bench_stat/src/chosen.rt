@@ -1,6 +1,6 @@
 //! The selected messages of a channel.
 ghost use Rattle.bench_select.specs.declared.selection.Selection.{Selection as SelectionValue};
-ghost use Rattle.bench_stat.specs.Chosen.{picked, chosen, IsNext};
+ghost use Rattle.bench_stat.specs.Chosen.{picked, chosen, IsNextChosen};
 ghost use Rattle.ch11_f1.specs.Views.{message_of};
 ghost use Rattle.ch11_reader.specs.Contents.{total_in};
 ghost use Rattle.std.specs.Iterator.{YieldsFirstBy, item_count};
@@ -86,7 +86,7 @@ fn messages_at<'a>(
 ) -> Option<(usize, (u64, Messages<'a>))>
     ensures { MatchOption result ((s : SelectionValue)
         → chosen s channel (total_in (take place index.now)) (drop place index.now) ≡ [])
-        (λ x. IsNext index.now channel place x.0 x.1.0 x.1.1) }
+        (λ x. IsNextChosen index.now channel place x.0 x.1.0 x.1.1) }
 {
     let packets = index.packets();
     if place >= packets.len() {

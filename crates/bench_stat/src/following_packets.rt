@@ -4,7 +4,7 @@ ghost use Rattle.bench_stat.specs.Told.{AreTold, IsListedBehind};
 ghost use Rattle.bench_stat.specs.declared.channels.ChannelFigures.{ChannelFigures as FiguresValue};
 ghost use Rattle.bench_stat.specs.declared.shown.Shown.{Shown as ShownValue};
 ghost use Rattle.ch11_reader.specs.Recording.{Found};
-ghost use Rattle.ch11_stream.specs.Folding.{Finds};
+ghost use Rattle.ch11_stream.specs.Folding.{FoldsPackets};
 ghost use Rattle.std.specs.HashMap.{get};
 ghost use Rattle.std.specs.Option.{option_copied};
 ghost use Rattle.std.specs.Prelude.{nat_eq};
@@ -108,7 +108,7 @@ pub fn told_from<R: Advance + Drop>(
     shown: &Shown,
 ) -> Result<ToldChannels, StreamFault>
     ensures { (file : List ℕ) → R.remaining input ≡ Some file
-        → Finds (λ ps told. AreTold shown.now selection.now figures.now ps told) result file }
+        → FoldsPackets (λ ps told. AreTold shown.now selection.now figures.now ps told) result file }
 {
     let mut packets = Packets::over(alloc, input)?;
     let mut told = ToldChannels::before_packets(alloc, figures, shown)?;

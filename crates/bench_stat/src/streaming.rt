@@ -3,10 +3,10 @@ ghost use Rattle.bench_select.specs.declared.selection.Selection.{Selection as S
 ghost use Rattle.bench_stat.specs.Chosen.{picked};
 ghost use Rattle.bench_stat.specs.Figures.{statistics};
 ghost use Rattle.bench_stat.specs.Steps.{tally_of};
-ghost use Rattle.bench_stat.specs.Streaming.{AreSoFar, IsBehind, tally_or_none, with_figures};
+ghost use Rattle.bench_stat.specs.Streaming.{AreTalliesOf, IsPacketBehind, tally_or_none, with_figures};
 ghost use Rattle.ch11_f1.specs.BodyReading.{Message};
 ghost use Rattle.ch11_reader.specs.Recording.{Found};
-ghost use Rattle.ch11_stream.specs.Folding.{Finds};
+ghost use Rattle.ch11_stream.specs.Folding.{FoldsPackets};
 ghost use Rattle.std.specs.HashMap.{get};
 ghost use Rattle.std.specs.Prelude.{None, Some, IfOk, OnOk};
 ghost use Rattle.std.specs.Prelude.{◌≡◌, ◌+◌, ◌<◌, ◌^◌, ◌++◌, ◌∷◌, [], ℕ, List, length, nat_eq, reverse};
@@ -24,16 +24,16 @@ use std::collections::HashMap;
 
 /// The figures so far of each channel that has any, by its number.
 #[derive(Drop)]
-pub(crate) struct SoFar {
+pub(crate) struct TallyByChannel {
     pub(crate) channels: HashMap<u16, Tally>,
 }
 
-impl SoFar {
+impl TallyByChannel {
     /// No figures.
-    fn none(alloc: Global) -> SoFar
+    fn none(alloc: Global) -> TallyByChannel
         ensures { (channel : ℕ) → get nat_eq result.channels channel ≡ None }
     {
-        SoFar {
+        TallyByChannel {
             channels: HashMap::new(alloc),
         }
     }
@@ -48,10 +48,10 @@ pub fn stat_from<R: Advance + Drop>(
     selection: &Selection,
 ) -> Result<Vec<ChannelFigures>, StreamFault>
     ensures { (file : List ℕ) → R.remaining input ≡ Some file
-        → Finds (λ ps figures. figures.items ≡ statistics selection.now ps) result file }
+        → FoldsPackets (λ ps figures. figures.items ≡ statistics selection.now ps) result file }
 {
     let mut packets = Packets::over(alloc, input)?;
-    let mut so_far = SoFar::none(alloc);
+    let mut so_far = TallyByChannel::none(alloc);
     'packets: for _made in 0..u64::MAX {
         match packets.next() {
             Ok(Some(packet)) => note_packet(&mut so_far, selection, &packet, packets.messages())?,
@@ -67,14 +67,15 @@ pub fn stat_from<R: Advance + Drop>(
 
 /// One more packet: its selected messages, where it is one of messages and the selection is of its channel.
 fn note_packet(
-    so_far: &mut SoFar,
+    so_far: &mut TallyByChannel,
     selection: &Selection,
     packet: &Packet,
     messages: Messages<'_>,
 ) -> Result<(), AllocError>
     requires { packet.now.before + length messages < 2 ^ 64 }
-    ensures { (ps : List Found) (q : Found) → AreSoFar selection.now ps so_far.old
-        → IsBehind ps q packet.now messages.entry → OnOk result (AreSoFar selection.now (ps ++ q ∷ []) so_far.new) }
+    ensures { (ps : List Found) (q : Found) → AreTalliesOf selection.now ps so_far.old
+        → IsPacketBehind ps q packet.now messages.entry
+        → OnOk result (AreTalliesOf selection.now (ps ++ q ∷ []) so_far.new) }
 {
     if packet.header.kind != BUS_MESSAGES {
         return Ok(());
@@ -90,7 +91,7 @@ fn note_packet(
 }
 
 /// The figures so far of a channel, which may have none yet.
-fn tally_at(so_far: &SoFar, channel: u16) -> Tally
+fn tally_at(so_far: &TallyByChannel, channel: u16) -> Tally
     ensures { result ≡ tally_or_none channel (get nat_eq so_far.now.channels channel) }
 {
     match so_far.channels.get(&channel) {
@@ -119,8 +120,8 @@ fn note_selected(
 }
 
 /// The figures of the channels that have any, in rising order of their numbers.
-fn figures_of(alloc: Global, so_far: &SoFar) -> Result<Vec<ChannelFigures>, AllocError>
-    ensures { (s : SelectionValue) (ps : List Found) → AreSoFar s ps so_far.now
+fn figures_of(alloc: Global, so_far: &TallyByChannel) -> Result<Vec<ChannelFigures>, AllocError>
+    ensures { (s : SelectionValue) (ps : List Found) → AreTalliesOf s ps so_far.now
         → IfOk result (λ figures. figures.items ≡ statistics s ps) }
 {
     let mut figures = Vec::new(alloc);
@@ -132,7 +133,7 @@ fn figures_of(alloc: Global, so_far: &SoFar) -> Result<Vec<ChannelFigures>, Allo
 
 /// Appends the figures of a channel, where it has any.
 fn push_figures(
-    so_far: &SoFar,
+    so_far: &TallyByChannel,
     channel: u16,
     figures: &mut Vec<ChannelFigures>,
 ) -> Result<(), AllocError>

@@ -62,15 +62,15 @@ terminal_text Host number placed s = terminal_line s ++ set_lines number placed 
 terminal_text (Data address subaddress) number placed s = data_shown address subaddress s
 
 -- what is shown of the terminal at an address, if there is one
-abbrev pub text_of : Detail → ℕ → List Placed → Option Station → Text
-text_of detail number placed None = []
-text_of detail number placed (Some s) = terminal_text detail number placed s
+abbrev pub station_text : Detail → ℕ → List Placed → Option Station → Text
+station_text detail number placed None = []
+station_text detail number placed (Some s) = terminal_text detail number placed s
 
 -- what is shown of the terminals below an address, in order of address
 abbrev pub lines_below : Detail → ℕ → List Placed → ℕ → BusState → Text
 lines_below detail number placed zero bus = []
 lines_below detail number placed (suc address) bus =
-    lines_below detail number placed address bus ++ text_of detail number placed (station_of address bus.stations)
+    lines_below detail number placed address bus ++ station_text detail number placed (station_of address bus.stations)
 
 unfoldable pub terminal_lines : Detail → ℕ → List Placed → BusState → Text
 terminal_lines detail number placed bus = lines_below detail number placed 31 bus

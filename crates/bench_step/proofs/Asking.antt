@@ -6,7 +6,7 @@ use Rattle.replay.specs.declared.error.ReplayError.TheVariants as error
 use Rattle.replay.specs.Moves.{ReplayState}
 use Rattle.judge_rules.specs.Faults.{Read}
 use Rattle.judge_rules.specs.declared.rules.Selector.{Selector}
-use Rattle.bench_step.specs.Commands.{Asked, forward, back, go, go_time, seek, find, find_back, select, select_back, state, show, show_at, help, quit, no_condition, unknown, finding, meets, selecting, selects, TakesMemory}
+use Rattle.bench_step.specs.Commands.{Asked, forward, back, go, go_time, seek, find, find_back, select, select_back, state, show, show_at, help, quit, no_condition, unknown, finding, condition_asked, selecting, selects, TakesMemory}
 use Rattle.bench_step.specs.Session.{Replies}
 use Rattle.bench_step.specs.declared.commands.Way.{Way}
 use Rattle.bench_step.specs.declared.commands.Way.TheVariants.{On, Back}
@@ -18,7 +18,7 @@ selecting_takes On (Err fault) = tt
 selecting_takes Back (Ok selector) = tt
 selecting_takes Back (Err fault) = tt
 
-pub finding_takes : (way : Way) (read : Result Condition Cause) (other : Read Selector) → TakesMemory (finding (meets way) (selects way) read other)
+pub finding_takes : (way : Way) (read : Result Condition Cause) (other : Read Selector) → TakesMemory (finding (condition_asked way) (selects way) read other)
 finding_takes On (Ok test) other = tt
 finding_takes On (Err cause) other = selecting_takes On other
 finding_takes Back (Ok test) other = tt

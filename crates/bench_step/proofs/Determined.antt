@@ -10,8 +10,8 @@ use Rattle.bench_places.specs.Places.{latest_of, place_before, place_of}
 use Rattle.bench_places.specs.declared.sought.Sought.TheVariants.{Later, Commands}
 use Rattle.bench_state.specs.declared.details.Detail.{Detail}
 use Rattle.bench_step.specs.Commands.{Asked, forward, back, go, go_time, seek, find, find_back, select, select_back, state, show, show_at, help, quit, no_condition, unknown, asked}
-use Rattle.bench_step.specs.Backwards.{IsLatest}
-use Rattle.bench_step.specs.Session.{Replies, IsMoveTo, Finds, IsNoneBefore, IsThere, IsAbsent, after_reply, is_memory, AreReplies, any_memory, RepliesAreDetermined}
+use Rattle.bench_step.specs.Backwards.{IsLatestBefore}
+use Rattle.bench_step.specs.Session.{Replies, IsMoveTo, RepliesPlaceFound, IsNoneBefore, HasMessageNumbered, IsAbsent, after_reply, is_memory, AreReplies, any_memory, RepliesAreDetermined}
 use Rattle.bench_step.specs.declared.manners.Manner.{Manner}
 use Rattle.bench_step.specs.declared.replies.Reply.{Reply}
 use Rattle.bench_step.specs.declared.replies.Reply.TheVariants as reply
@@ -86,7 +86,7 @@ to_sought s what n reply.Quit h m = absurd h
 to_sought s what n reply.Unknown h m = absurd h
 
 -- where a selector leads
-to_found : (place : Option ℕ) (r : Reply) → Finds place r → is_memory r ≡ false → AtOrNowhere place r
+to_found : (place : Option ℕ) (r : Reply) → RepliesPlaceFound place r → is_memory r ≡ false → AtOrNowhere place r
 to_found place (reply.At k) h m = inl (k, h, refl)
 to_found place (reply.Refused (error.Mismatch c k)) h m = elim h [ inl x ↦ absurd x | inr x ↦ absurd x ]
 to_found place (reply.Refused error.Past) h m = elim h [ inl none ↦ inr (none, refl) | inr x ↦ absurd x ]
@@ -139,14 +139,14 @@ one_found s test r q (inr x) (inl y) = absurd (x.0 y.0 y.1.past y.1.met)
 one_found s test r q (inr x) (inr y) = x.1 ∙ sym y.1
 
 -- the latest message before the place that meets a condition is one
-latest_is_one : (s : ReplayState) (test : Condition) (n k : ℕ) → IsLatest s test s.place n → IsLatest s test s.place k → n ≡ k
+latest_is_one : (s : ReplayState) (test : Condition) (n k : ℕ) → IsLatestBefore s test s.place n → IsLatestBefore s test s.place k → n ≡ k
 latest_is_one s test n k x y =
     elim (cases_order n k) [
       | inl same ↦ same
       | inr other ↦ elim other [ inl below ↦ absurd (x.latest k below y.before y.met) | inr above ↦ absurd (y.latest n above x.before x.met) ]
     ]
 
-to_find_back : (s : ReplayState) (test : Condition) (r : Reply) → Replies s (find_back test) r → is_memory r ≡ false → ((n : ℕ) × IsLatest s test s.place n × (r ≡ reply.At n)) ⊎ (IsNoneBefore s test × (r ≡ reply.Refused error.Past))
+to_find_back : (s : ReplayState) (test : Condition) (r : Reply) → Replies s (find_back test) r → is_memory r ≡ false → ((n : ℕ) × IsLatestBefore s test s.place n × (r ≡ reply.At n)) ⊎ (IsNoneBefore s test × (r ≡ reply.Refused error.Past))
 to_find_back s test (reply.At k) h m = inl (k, h, refl)
 to_find_back s test (reply.Refused (error.Mismatch c k)) h m = elim h [ inl x ↦ absurd x | inr x ↦ absurd x ]
 to_find_back s test (reply.Refused error.Past) h m = elim h [ inl nowhere ↦ inr (nowhere, refl) | inr x ↦ absurd x ]
@@ -158,8 +158,8 @@ to_find_back s test reply.Help h m = absurd h
 to_find_back s test reply.Quit h m = absurd h
 to_find_back s test reply.Unknown h m = absurd h
 
-one_found_back : (s : ReplayState) (test : Condition) (r q : Reply) → ((n : ℕ) × IsLatest s test s.place n × (r ≡ reply.At n)) ⊎ (IsNoneBefore s test × (r ≡ reply.Refused error.Past))
-    → ((n : ℕ) × IsLatest s test s.place n × (q ≡ reply.At n)) ⊎ (IsNoneBefore s test × (q ≡ reply.Refused error.Past)) → r ≡ q
+one_found_back : (s : ReplayState) (test : Condition) (r q : Reply) → ((n : ℕ) × IsLatestBefore s test s.place n × (r ≡ reply.At n)) ⊎ (IsNoneBefore s test × (r ≡ reply.Refused error.Past))
+    → ((n : ℕ) × IsLatestBefore s test s.place n × (q ≡ reply.At n)) ⊎ (IsNoneBefore s test × (q ≡ reply.Refused error.Past)) → r ≡ q
 one_found_back s test r q (inl x) (inl y) = x.2 ∙ ap reply.At (latest_is_one s test x.0 y.0 x.1 y.1) ∙ sym y.2
 one_found_back s test r q (inl x) (inr y) = absurd (y.0 x.0 x.1.before x.1.met)
 one_found_back s test r q (inr x) (inl y) = absurd (x.0 y.0 y.1.before y.1.met)
@@ -174,7 +174,7 @@ to_state s d reply.Help h = absurd h
 to_state s d reply.Quit h = absurd h
 to_state s d reply.Unknown h = absurd h
 
-to_show : (s : ReplayState) (r : Reply) → Replies s show r → is_memory r ≡ false → Is (IsThere s s.place) (reply.Message s.place) (IsAbsent s s.place) (reply.Refused error.Past) r
+to_show : (s : ReplayState) (r : Reply) → Replies s show r → is_memory r ≡ false → Is (HasMessageNumbered s s.place) (reply.Message s.place) (IsAbsent s s.place) (reply.Refused error.Past) r
 to_show s (reply.At n) h m = absurd h
 to_show s (reply.Refused (error.Mismatch c k)) h m = absurd h
 to_show s (reply.Refused error.Past) h m = inr (h, refl)
@@ -186,7 +186,7 @@ to_show s reply.Help h m = absurd h
 to_show s reply.Quit h m = absurd h
 to_show s reply.Unknown h m = absurd h
 
-to_show_at : (s : ReplayState) (n : ℕ) (r : Reply) → Replies s (show_at n) r → is_memory r ≡ false → Is (IsThere s n) (reply.Message n) (IsAbsent s n) (reply.Refused error.Past) r
+to_show_at : (s : ReplayState) (n : ℕ) (r : Reply) → Replies s (show_at n) r → is_memory r ≡ false → Is (HasMessageNumbered s n) (reply.Message n) (IsAbsent s n) (reply.Refused error.Past) r
 to_show_at s n (reply.At k) h m = absurd h
 to_show_at s n (reply.Refused (error.Mismatch c k)) h m = absurd h
 to_show_at s n (reply.Refused error.Past) h m = inr (h, refl)
@@ -251,8 +251,8 @@ one_reply s (select selector) r q h k m n =
 one_reply s (select_back selector) r q h k m n =
     let place = latest_of (Commands selector) s.place s.found in one_place place r q (to_found place r h m) (to_found place q k n)
 one_reply s (state d) r q h k m n = to_state s d r h ∙ sym (to_state s d q k)
-one_reply s show r q h k m n = agree (IsThere s s.place) (IsAbsent s s.place) _ _ r q (λ x y. x y) (to_show s r h m) (to_show s q k n)
-one_reply s (show_at p) r q h k m n = agree (IsThere s p) (IsAbsent s p) _ _ r q (λ x y. x y) (to_show_at s p r h m) (to_show_at s p q k n)
+one_reply s show r q h k m n = agree (HasMessageNumbered s s.place) (IsAbsent s s.place) _ _ r q (λ x y. x y) (to_show s r h m) (to_show s q k n)
+one_reply s (show_at p) r q h k m n = agree (HasMessageNumbered s p) (IsAbsent s p) _ _ r q (λ x y. x y) (to_show_at s p r h m) (to_show_at s p q k n)
 one_reply s help r q h k m n = to_help s r h ∙ sym (to_help s q k)
 one_reply s quit r q h k m n = to_quit s r h ∙ sym (to_quit s q k)
 one_reply s no_condition r q h k m n = to_no_condition s r h m ∙ sym (to_no_condition s q k n)

@@ -13,8 +13,8 @@ use Rattle.text_lines.specs.Lines.{is_line_end, text_lines}
 use Rattle.text_lines.proofs.LineLemmas.{text_lines-none}
 use Rattle.replay.specs.Moves.{ReplayState}
 use Rattle.bench_step.specs.Commands.{asked}
-use Rattle.bench_step.specs.Session.{Replies, after_reply, reply_text, is_memory, is_end, MayTell, AreReplies, after_replies, AreTold, session_text, any_memory}
-use Rattle.bench_step.specs.Answering.{IsAnswered, IsSession, IsAllRead, IsAccepted, IsThrough, IsEnded, IsReaders, IsCutShort, is_quit, up_to_quit, any_quit, opened}
+use Rattle.bench_step.specs.Session.{Replies, after_reply, reply_text, is_memory, is_end, MayTell, AreReplies, after_replies, AreMessagesTold, session_text, any_memory}
+use Rattle.bench_step.specs.Answering.{IsLineAnswered, IsSession, IsAllRead, MayBeDebugged, IsThrough, IsEnded, IsReaders, IsCutShort, is_quit, up_to_quit, any_quit, opened_on}
 use Rattle.bench_step.specs.declared.manners.Manner.{Manner}
 use Rattle.bench_step.specs.declared.replies.Reply.{Reply}
 use Rattle.bench_step.proofs.Ending.{end_is, one_more_quit, last_quits, all_to_quit, none_quits}
@@ -34,14 +34,14 @@ one_more_after : (s : ReplayState) (replies : List Reply) (r : Reply) → after_
 one_more_after s [] r = refl
 one_more_after s (q ∷ qs) r = one_more_after (after_reply q s) qs r
 
-one_more_told : (manner : Manner) (replies : List Reply) (ts : List Text) (r : Reply) (t : Text) → AreTold manner replies ts → MayTell manner r t
-    → AreTold manner (replies ++ r ∷ []) (ts ++ t ∷ [])
+one_more_told : (manner : Manner) (replies : List Reply) (ts : List Text) (r : Reply) (t : Text) → AreMessagesTold manner replies ts → MayTell manner r t
+    → AreMessagesTold manner (replies ++ r ∷ []) (ts ++ t ∷ [])
 one_more_told manner [] [] r t are this = (this, tt)
 one_more_told manner [] (u ∷ us) r t are this = absurd are
 one_more_told manner (q ∷ qs) [] r t are this = absurd are
 one_more_told manner (q ∷ qs) (u ∷ us) r t are this = (are.0, one_more_told manner qs us r t are.1 this)
 
-one_more_text : (manner : Manner) (s : ReplayState) (replies : List Reply) (ts : List Text) (r : Reply) (t : Text) → AreTold manner replies ts
+one_more_text : (manner : Manner) (s : ReplayState) (replies : List Reply) (ts : List Text) (r : Reply) (t : Text) → AreMessagesTold manner replies ts
     → session_text (replies ++ r ∷ []) (ts ++ t ∷ []) s ≡ session_text replies ts s ++ (reply_text r (after_reply r (after_replies replies s)) ++ t)
 one_more_text manner s [] [] r t are = append-nil (reply_text r (after_reply r s) ++ t)
 one_more_text manner s [] (u ∷ us) r t are = absurd are
@@ -100,7 +100,7 @@ more_read (Some text) (Some xs) then lines line bytes some is gave drops so_far 
 goes_on : (manner : Manner) (s mid new : ReplayState) (left leaves then got gets last : Option (List ℕ)) (line bytes : Text) (before this after ends : Bool)
     → IsSession manner s mid left leaves got gets before
     → 0 < length bytes → line ≡ before_first is_line_end bytes → IfSome leaves (λ xs. bytes ≡ take_through 10 xs) → DropsThrough leaves then 10
-    → IsAnswered manner mid new line gets last this ends → after ≡ (before || this) → IsSession manner s new left then got last after
+    → IsLineAnswered manner mid new line gets last this ends → after ≡ (before || this) → IsSession manner s new left then got last after
 goes_on manner s mid new left leaves then got gets last line bytes before this after ends h some is gave drops a both = record {
   lines = h.lines ++ line ∷ [];
   replies = h.replies ++ a.reply ∷ [];
@@ -114,7 +114,7 @@ goes_on manner s mid new left leaves then got gets last line bytes before this a
 }
 
 -- whether a line that was answered ends the session
-ends_is : (manner : Manner) (old new : ReplayState) (line : Text) (got gets : Option (List ℕ)) (refused ends : Bool) → IsAnswered manner old new line got gets refused ends
+ends_is : (manner : Manner) (old new : ReplayState) (line : Text) (got gets : Option (List ℕ)) (refused ends : Bool) → IsLineAnswered manner old new line got gets refused ends
     → is_quit (asked manner line) ≡ ends
 ends_is manner old new line got gets refused ends a = end_is old (asked manner line) a.reply a.lawful ∙ sym a.end
 
@@ -122,7 +122,7 @@ ends_is manner old new line got gets refused ends a = end_is old (asked manner l
 pub still_on : (manner : Manner) (s mid new : ReplayState) (left leaves then got gets last : Option (List ℕ)) (line bytes : Text) (before this after ends : Bool)
     → IsGoingOn manner s mid left leaves got gets before → ends ≡ false
     → 0 < length bytes → line ≡ before_first is_line_end bytes → IfSome leaves (λ xs. bytes ≡ take_through 10 xs) → DropsThrough leaves then 10
-    → IsAnswered manner mid new line gets last this ends → after ≡ (before || this) → IsGoingOn manner s new left then got last after
+    → IsLineAnswered manner mid new line gets last this ends → after ≡ (before || this) → IsGoingOn manner s new left then got last after
 unfolding goes_on
 still_on manner s mid new left leaves then got gets last line bytes before this after ends h other some is gave drops a both = record {
   session = goes_on manner s mid new left leaves then got gets last line bytes before this after ends h.session some is gave drops a both;
@@ -141,7 +141,7 @@ quit_read manner (Some text) leaves lines line none quits read =
 pub quits : (manner : Manner) (s mid new : ReplayState) (left leaves then got gets last : Option (List ℕ)) (line bytes : Text) (before this after ends : Bool)
     → IsGoingOn manner s mid left leaves got gets before → ends ≡ true
     → 0 < length bytes → line ≡ before_first is_line_end bytes → IfSome leaves (λ xs. bytes ≡ take_through 10 xs) → DropsThrough leaves then 10
-    → IsAnswered manner mid new line gets last this ends → after ≡ (before || this) → IsAllRead manner s new left then got last after
+    → IsLineAnswered manner mid new line gets last this ends → after ≡ (before || this) → IsAllRead manner s new left then got last after
 unfolding goes_on
 quits manner s mid new left leaves then got gets last line bytes before this after ends h over some is gave drops a both =
     let here : is_quit (asked manner line) ≡ true = ends_is manner mid new line gets last this ends a ∙ over in
@@ -212,7 +212,7 @@ cut_short manner s last left leaves got gets refused kind fault.Output h is = ab
 
 -- a session of all lines, and whether memory was refused for one of them
 pub through : (manner known_manner : Manner) (jobs : List JobState) (parts : List ChannelPart) (recording : List ℕ) (s last : ReplayState)
-    (left leaves got gets : Option (List ℕ)) (refused known : Bool) → IsAccepted jobs parts recording → s ≡ opened jobs parts recording → known_manner ≡ manner
+    (left leaves got gets : Option (List ℕ)) (refused known : Bool) → MayBeDebugged jobs parts recording → s ≡ opened_on jobs parts recording → known_manner ≡ manner
     → refused ≡ known → IsAllRead known_manner s last left leaves got gets refused
     → IsThrough manner jobs parts recording left leaves got gets known
 through manner known_manner jobs parts recording s last left leaves got gets refused known accepted is same told h =

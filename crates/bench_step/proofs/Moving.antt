@@ -9,8 +9,8 @@ use Rattle.bench_step.specs.Commands.{forward, back, seek, selects, show, show_a
 use Rattle.job_file.specs.Jobs.{JobState}
 use Rattle.ch11_reader.specs.Recording.{Found}
 use Rattle.bench_report.specs.Reports.{ChannelPart}
-use Rattle.bench_step.specs.Answering.{IsOpen}
-use Rattle.bench_step.specs.Session.{Replies, IsMoveIfAny, IsMoveTo, Finds, after_reply, selected_place}
+use Rattle.bench_step.specs.Answering.{IsDebuggerOpen}
+use Rattle.bench_step.specs.Session.{Replies, IsMoveIfAny, IsMoveTo, RepliesPlaceFound, after_reply, selected_place}
 use Rattle.bench_step.specs.declared.commands.Way.{Way}
 use Rattle.bench_step.specs.declared.commands.Way.TheVariants.{On, Back}
 use Rattle.bench_step.specs.declared.replies.Reply.{Reply}
@@ -57,7 +57,7 @@ sought s what k None r none is = rw is (sym none)
 sought s what k (Some place) r there is = sought_at s what k place r (sym there) is
 
 -- what is replied where a selector leads to a message
-finds_place : (found : Option ℕ) (place : ℕ) (r : Reply) → found ≡ Some place → IsMoveTo place r → Finds found r
+finds_place : (found : Option ℕ) (place : ℕ) (r : Reply) → found ≡ Some place → IsMoveTo place r → RepliesPlaceFound found r
 finds_place found place (reply.At n) there is = there ∙ ap Some (sym is)
 finds_place found place (reply.Refused (error.Mismatch c n)) there is = absurd is
 finds_place found place (reply.Refused error.Past) there is = absurd is
@@ -70,19 +70,19 @@ finds_place found place reply.Quit there is = absurd is
 finds_place found place reply.Unknown there is = absurd is
 
 -- and where it leads to one, or to none
-finds_any : (found : Option ℕ) (r : Reply) → IsMoveIfAny found r → Finds found r
+finds_any : (found : Option ℕ) (r : Reply) → IsMoveIfAny found r → RepliesPlaceFound found r
 finds_any None r is = rw is (inl refl)
 finds_any (Some place) r is = finds_place (Some place) place r refl is
 
 pub selected : (way : Way) (s : ReplayState) (found : List Found) (stands : ℕ) (place : Option ℕ) (selector : Selector) (r : Reply) → found ≡ s.found → stands ≡ s.place
     → place ≡ selected_place way selector stands found → IsMoveIfAny place r → Replies s (selects way selector) r
-selected On s found stands place selector r same here there is = subst (λ (p : Option ℕ). Finds p r) (rw (same, here) at there) (finds_any place r is)
-selected Back s found stands place selector r same here there is = subst (λ (p : Option ℕ). Finds p r) (rw (same, here) at there) (finds_any place r is)
+selected On s found stands place selector r same here there is = subst (λ (p : Option ℕ). RepliesPlaceFound p r) (rw (same, here) at there) (finds_any place r is)
+selected Back s found stands place selector r same here there is = subst (λ (p : Option ℕ). RepliesPlaceFound p r) (rw (same, here) at there) (finds_any place r is)
 
 -- a reply leaves the debugger on the same recording
 pub still_open : (s new : ReplayState) (jobs : List JobState) (parts : List ChannelPart) (found : List Found) (recording : List ℕ) (r : Reply)
-    → IsOpen s jobs parts found recording → new ≡ after_reply r s → IsOpen new jobs parts found recording
-still_open s new jobs parts found recording (reply.At n) h is = subst (λ (t : ReplayState). IsOpen t jobs parts found recording) (sym is) (record { jobs_are = h.jobs_are; parts_are = h.parts_are; found_is = h.found_is; read = h.read })
+    → IsDebuggerOpen s jobs parts found recording → new ≡ after_reply r s → IsDebuggerOpen new jobs parts found recording
+still_open s new jobs parts found recording (reply.At n) h is = subst (λ (t : ReplayState). IsDebuggerOpen t jobs parts found recording) (sym is) (record { jobs_are = h.jobs_are; parts_are = h.parts_are; found_is = h.found_is; read = h.read })
 still_open s new jobs parts found recording (reply.Refused e) h is = rw is h
 still_open s new jobs parts found recording (reply.Shown detail) h is = rw is h
 still_open s new jobs parts found recording (reply.Message n) h is = rw is h

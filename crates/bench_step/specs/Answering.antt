@@ -16,7 +16,7 @@ use Rattle.replay.specs.Differences.{IsFirstDifference}
 use Rattle.replay.specs.Moves.{ReplayState}
 use Rattle.bench_step.specs.Commands.{Asked, quit, asked}
 use Rattle.bench_step.specs.Session.{Replies, after_reply, reply_text, is_memory, is_end, MayTell, AreReplies}
-use Rattle.bench_step.specs.Session.{after_replies, AreTold, session_text, any_memory}
+use Rattle.bench_step.specs.Session.{after_replies, AreMessagesTold, session_text, any_memory}
 use Rattle.bench_step.specs.declared.manners.Manner.{Manner}
 use Rattle.bench_step.specs.declared.replies.Reply.{Reply}
 use Rattle.bench_step.specs.declared.fault.StepFault.{StepFault}
@@ -24,7 +24,7 @@ use Rattle.bench_step.specs.declared.fault.StepFault.TheVariants as fault
 
 -- a line was answered: from one state to the next, with what the writer got, and whether memory was refused, and the
 -- session ends
-pub record IsAnswered (manner : Manner) (old new : ReplayState) (line : Text) (got gets : Option (List ℕ))
+pub record IsLineAnswered (manner : Manner) (old new : ReplayState) (line : Text) (got gets : Option (List ℕ))
     (refused ends : Bool) : Type 0 where
   pub reply : Reply
   pub told : Text
@@ -45,7 +45,7 @@ pub record IsSession (manner : Manner) (s new : ReplayState) (left leaves got ge
   pub read : IfSome left (λ text. (rest : List ℕ) × (leaves ≡ Some rest) × (text_lines text ≡ lines ++ text_lines rest))
   pub lawful : AreReplies manner s lines replies
   pub after : new ≡ after_replies replies s
-  pub tells : AreTold manner replies told
+  pub tells : AreMessagesTold manner replies told
   pub printed : Appends got gets (session_text replies told s)
   pub memory : refused ≡ any_memory replies
 
@@ -64,11 +64,11 @@ abbrev pub any_quit : Manner → List Text → Bool
 any_quit manner lines = list_any (λ (line : Text). is_quit (asked manner line)) lines
 
 -- the state in which a debugger is opened
-abbrev pub opened : List JobState → List ChannelPart → List ℕ → ReplayState
-opened jobs parts recording = record { jobs = jobs; parts = parts; found = found_in recording; place = 0 }
+abbrev pub opened_on : List JobState → List ChannelPart → List ℕ → ReplayState
+opened_on jobs parts recording = record { jobs = jobs; parts = parts; found = found_in recording; place = 0 }
 
 -- jobs, report and recording are accepted
-pub record IsAccepted (jobs : List JobState) (parts : List ChannelPart) (recording : List ℕ) : Type 0 where
+pub record MayBeDebugged (jobs : List JobState) (parts : List ChannelPart) (recording : List ℕ) : Type 0 where
   pub readable : packets_in recording ≡ Ok (found_in recording)
   pub agrees : Agrees jobs parts (found_in recording)
 
@@ -86,13 +86,13 @@ pub record IsAllRead (manner : Manner) (s new : ReplayState) (left leaves got ge
 -- they were accepted, and all those lines were answered; whether memory was refused for one of them
 pub record IsThrough (manner : Manner) (jobs : List JobState) (parts : List ChannelPart) (recording : List ℕ)
     (left leaves got gets : Option (List ℕ)) (refused : Bool) : Type 0 where
-  pub accepted : IsAccepted jobs parts recording
+  pub accepted : MayBeDebugged jobs parts recording
   pub last : ReplayState
-  pub read : IsAllRead manner (opened jobs parts recording) last left leaves got gets refused
+  pub read : IsAllRead manner (opened_on jobs parts recording) last left leaves got gets refused
 
 -- a debugger on a recording: jobs, report and recording are those that it was opened with, and this is what the file
 -- holds
-pub record IsOpen (s : ReplayState) (jobs : List JobState) (parts : List ChannelPart) (found : List Found)
+pub record IsDebuggerOpen (s : ReplayState) (jobs : List JobState) (parts : List ChannelPart) (found : List Found)
     (recording : List ℕ) : Type 0 where
   pub jobs_are : s.jobs ≡ jobs
   pub parts_are : s.parts ≡ parts
@@ -105,9 +105,10 @@ pub record SessionState : Type 0 where
   pub manner : Manner
 
 -- they were, and all those lines were answered, for none of which memory was refused
-abbrev pub IsWhole : Manner → List JobState → List ChannelPart → List ℕ
+abbrev pub IsWholeSession : Manner → List JobState → List ChannelPart → List ℕ
     → Option (List ℕ) → Option (List ℕ) → Option (List ℕ) → Option (List ℕ) → Type 0
-IsWhole manner jobs parts recording left leaves got gets = IsThrough manner jobs parts recording left leaves got gets
+IsWholeSession manner jobs parts recording left leaves got gets = IsThrough manner jobs parts recording left leaves
+    got gets
     false
 
 -- the fault of a reader whose error is of this kind
@@ -137,14 +138,14 @@ IsCutShort manner s left got gets fault.Output = Unit {0}
 
 -- Why a debugger was not opened. The recording's fault comes first, and only where it has one; then the first
 -- difference between jobs, report and recording; want of memory where the recording can be read.
-abbrev pub IsRefusal : List JobState → List ChannelPart → List ℕ → StepFault → Type 0
-IsRefusal jobs parts recording (fault.Refused r) = packets_in recording ≡ Err r
-IsRefusal jobs parts recording (fault.Mismatch channel number) =
+abbrev pub IsOpeningRefusal : List JobState → List ChannelPart → List ℕ → StepFault → Type 0
+IsOpeningRefusal jobs parts recording (fault.Refused r) = packets_in recording ≡ Err r
+IsOpeningRefusal jobs parts recording (fault.Mismatch channel number) =
     (packets_in recording ≡ Ok (found_in recording)) × IsFirstDifference jobs parts (found_in recording) channel number
-IsRefusal jobs parts recording fault.Memory = packets_in recording ≡ Ok (found_in recording)
-IsRefusal jobs parts recording fault.LineMemory = ⊥
-IsRefusal jobs parts recording fault.Input = ⊥
-IsRefusal jobs parts recording fault.Output = ⊥
+IsOpeningRefusal jobs parts recording fault.Memory = packets_in recording ≡ Ok (found_in recording)
+IsOpeningRefusal jobs parts recording fault.LineMemory = ⊥
+IsOpeningRefusal jobs parts recording fault.Input = ⊥
+IsOpeningRefusal jobs parts recording fault.Output = ⊥
 
 -- nothing was read, and nothing printed
 pub record IsUntouched (left leaves got gets : Option (List ℕ)) : Type 0 where
@@ -154,14 +155,14 @@ pub record IsUntouched (left leaves got gets : Option (List ℕ)) : Type 0 where
 -- they were accepted, and the session was cut short
 abbrev pub IsBegun : Manner → List JobState → List ChannelPart → List ℕ → Option (List ℕ) → Option (List ℕ)
     → Option (List ℕ) → StepFault → Type 0
-IsBegun manner jobs parts recording left got gets f = IsAccepted jobs parts recording
-    × IsCutShort manner (opened jobs parts recording) left got gets f
+IsBegun manner jobs parts recording left got gets f = MayBeDebugged jobs parts recording
+    × IsCutShort manner (opened_on jobs parts recording) left got gets f
 
 -- The debugger was not opened, and no line was read; or its session was cut short; or all lines were answered, up to
 -- the first that ends it, and memory was refused for what some of them asks.
 abbrev pub Ends : Manner → List JobState → List ChannelPart → List ℕ → Option (List ℕ) → Option (List ℕ)
     → Option (List ℕ) → Option (List ℕ) → StepFault → Type 0
 Ends manner jobs parts recording left leaves got gets f =
-    (IsRefusal jobs parts recording f × IsUntouched left leaves got gets)
+    (IsOpeningRefusal jobs parts recording f × IsUntouched left leaves got gets)
     ⊎ (IsBegun manner jobs parts recording left got gets f
     ⊎ ((f ≡ fault.Memory) × IsThrough manner jobs parts recording left leaves got gets true))

@@ -5,11 +5,11 @@ use Rattle.frame_tree.specs.Tree.{Condition}
 use Rattle.replay.specs.Moves.{ReplayState, IsMet}
 
 -- it is before the place, and none between them is one
-pub record IsLatest (s : ReplayState) (test : Condition) (place n : ℕ) : Type 0 where
+pub record IsLatestBefore (s : ReplayState) (test : Condition) (place n : ℕ) : Type 0 where
   pub before : n < place
   pub met : IsMet s test n
   pub latest : (m : ℕ) → n < m → m < place → ¬ IsMet s test m
 
 -- the latest, if there is one
 abbrev pub Latest : ReplayState → Condition → ℕ → Option ℕ → Type 0
-Latest s test place r = MatchOption r ((m : ℕ) → m < place → ¬ IsMet s test m) (λ n. IsLatest s test place n)
+Latest s test place r = MatchOption r ((m : ℕ) → m < place → ¬ IsMet s test m) (λ n. IsLatestBefore s test place n)

@@ -142,9 +142,9 @@ finding asks selects (Ok test) selector = asks test
 finding asks selects (Err cause) selector = selecting selects selector
 
 -- what a condition and a selector ask of the messages behind the place, or of those before it
-abbrev pub meets : Way → Condition → Asked
-meets On test = find test
-meets Back test = find_back test
+abbrev pub condition_asked : Way → Condition → Asked
+condition_asked On test = find test
+condition_asked Back test = find_back test
 
 abbrev pub selects : Way → Selector → Asked
 selects On selector = select selector
@@ -152,7 +152,7 @@ selects Back selector = select_back selector
 
 -- all that stands behind `find`, and behind `find back`
 abbrev pub finding_to : Way → Text → Asked
-finding_to way text = finding (meets way) (selects way) (condition_of_text text) (selector_of text)
+finding_to way text = finding (condition_asked way) (selects way) (condition_of_text text) (selector_of text)
 
 abbrev pub finding_in : Text → Asked
 finding_in rest =
@@ -169,14 +169,14 @@ showing manner [] = state (plain manner)
 showing manner (word ∷ rest) = if bytes_eq word (codes "--all") then alone (state Host) rest else unknown
 
 -- a terminal and one of its subaddresses for data (MIL-STD-1553B 4.3.3.5.1.2, 4.3.3.5.1.4)
-abbrev pub words_at : Option ℕ → Option ℕ → Asked
-words_at None subaddress = unknown
-words_at (Some address) None = unknown
-words_at (Some address) (Some subaddress) = if nat_le 1 subaddress then state (Data address subaddress) else unknown
+abbrev pub data_asked : Option ℕ → Option ℕ → Asked
+data_asked None subaddress = unknown
+data_asked (Some address) None = unknown
+data_asked (Some address) (Some subaddress) = if nat_le 1 subaddress then state (Data address subaddress) else unknown
 
 abbrev pub holding : Option (Text × Text) → Asked
 holding None = unknown
-holding (Some x) = words_at (number_up_to 30 x.0) (number_up_to 30 x.1)
+holding (Some x) = data_asked (number_up_to 30 x.0) (number_up_to 30 x.1)
 
 -- behind `show`: nothing, or the number of a message
 abbrev pub telling : List Text → Asked

@@ -13,7 +13,7 @@ use Rattle.bench_report.specs.Reports.{ChannelPart}
 use Rattle.replay.specs.declared.error.ReplayError.{ReplayError}
 use Rattle.replay.specs.declared.error.ReplayError.TheVariants as error
 use Rattle.replay.specs.Codes.{error_text}
-use Rattle.replay.specs.Places.{number_at}
+use Rattle.replay.specs.Places.{latest_kept_number}
 use Rattle.replay.specs.Moves.{ReplayState, at_place, total_of, IsMet, IsNextMet, IsNowhere, PastWhere, StartWhere}
 use Rattle.bench_state.specs.declared.details.Detail.{Detail}
 use Rattle.bench_state.specs.StateText.{channel_text}
@@ -22,7 +22,7 @@ use Rattle.bench_places.specs.declared.sought.Sought.TheVariants.{Later, Command
 use Rattle.bench_step.specs.Commands.{Asked, forward, back, go, go_time, seek, find, find_back, select, select_back}
 use Rattle.bench_step.specs.Commands.{state, show, show_at, help, quit, no_condition, unknown, asked}
 use Rattle.bench_step.specs.HelpText.{help_text}
-use Rattle.bench_step.specs.Backwards.{IsLatest}
+use Rattle.bench_step.specs.Backwards.{IsLatestBefore}
 use Rattle.bench_step.specs.declared.commands.Way.{Way}
 use Rattle.bench_step.specs.declared.commands.Way.TheVariants.{On, Back}
 use Rattle.bench_step.specs.declared.manners.Manner.{Manner}
@@ -35,7 +35,7 @@ use Rattle.bench_step.specs.declared.replies.Reply.TheVariants as reply
 -- the lines of a job's channel at the place where the debugger stands
 abbrev pub job_text : Detail → ReplayState → JobState → ChannelPart → Text
 job_text detail s job part =
-    let number = number_at s.found s.place job part in
+    let number = latest_kept_number s.found s.place job part in
     channel_text detail job.channel number part.placed (bus_after (job_in job) part.placed number)
 
 -- the lines of all channels, in the order of the jobs
@@ -56,8 +56,8 @@ abbrev pub IsNoneBefore : ReplayState → Condition → Type 0
 IsNoneBefore s test = (m : ℕ) → m < s.place → ¬ IsMet s test m
 
 -- the file has a message of this number
-abbrev pub IsThere : ReplayState → ℕ → Type 0
-IsThere s n = message_numbered s.found n ≢ None
+abbrev pub HasMessageNumbered : ReplayState → ℕ → Type 0
+HasMessageNumbered s n = message_numbered s.found n ≢ None
 
 abbrev pub IsAbsent : ReplayState → ℕ → Type 0
 IsAbsent s n = message_numbered s.found n ≡ None
@@ -79,10 +79,10 @@ selected_place On selector place found = place_of (Commands selector) place 1 fo
 selected_place Back selector place found = latest_of (Commands selector) place found
 
 -- what is replied where this is the place that was looked for, if there is one
-abbrev pub Finds : Option ℕ → Reply → Type 0
-Finds place (reply.At n) = place ≡ Some n
-Finds place (reply.Refused e) = PastWhere (place ≡ None) e ⊎ IsMemory e
-Finds place _ = ⊥
+abbrev pub RepliesPlaceFound : Option ℕ → Reply → Type 0
+RepliesPlaceFound place (reply.At n) = place ≡ Some n
+RepliesPlaceFound place (reply.Refused e) = PastWhere (place ≡ None) e ⊎ IsMemory e
+RepliesPlaceFound place _ = ⊥
 
 -- What may be replied in a state to a line that asks this. Memory may be refused for a move that can be made, for a
 -- message that is there, and for what stands behind `find`, before it is known whether that is a condition that some
@@ -99,14 +99,14 @@ Replies s (seek sought n) (reply.At m) = place_of sought 0 n s.found ≡ Some m
 Replies s (seek sought n) (reply.Refused e) = PastWhere (place_of sought 0 n s.found ≡ None) e
 Replies s (find test) (reply.At n) = IsNextMet s test n
 Replies s (find test) (reply.Refused e) = PastWhere (IsNowhere s test) e ⊎ IsMemory e
-Replies s (find_back test) (reply.At n) = IsLatest s test s.place n
+Replies s (find_back test) (reply.At n) = IsLatestBefore s test s.place n
 Replies s (find_back test) (reply.Refused e) = PastWhere (IsNoneBefore s test) e ⊎ IsMemory e
-Replies s (select selector) r = Finds (place_of (Commands selector) s.place 1 s.found) r
-Replies s (select_back selector) r = Finds (latest_of (Commands selector) s.place s.found) r
+Replies s (select selector) r = RepliesPlaceFound (place_of (Commands selector) s.place 1 s.found) r
+Replies s (select_back selector) r = RepliesPlaceFound (latest_of (Commands selector) s.place s.found) r
 Replies s (state detail) (reply.Shown shown) = shown ≡ detail
-Replies s show (reply.Message n) = IsThere s s.place × (n ≡ s.place)
+Replies s show (reply.Message n) = HasMessageNumbered s s.place × (n ≡ s.place)
 Replies s show (reply.Refused e) = PastWhere (IsAbsent s s.place) e
-Replies s (show_at n) (reply.Message m) = IsThere s n × (m ≡ n)
+Replies s (show_at n) (reply.Message m) = HasMessageNumbered s n × (m ≡ n)
 Replies s (show_at n) (reply.Refused e) = PastWhere (IsAbsent s n) e
 Replies s help reply.Help = Unit {0}
 Replies s quit reply.Quit = Unit {0}
@@ -167,11 +167,11 @@ after_replies [] s = s
 after_replies (r ∷ rs) s = after_replies rs (after_reply r s)
 
 -- to each reply the text of the message that is shown behind it, if one is
-abbrev pub AreTold : Manner → List Reply → List Text → Type 0
-AreTold manner [] [] = Unit {0}
-AreTold manner [] (t ∷ ts) = ⊥
-AreTold manner (r ∷ rs) [] = ⊥
-AreTold manner (r ∷ rs) (t ∷ ts) = MayTell manner r t × AreTold manner rs ts
+abbrev pub AreMessagesTold : Manner → List Reply → List Text → Type 0
+AreMessagesTold manner [] [] = Unit {0}
+AreMessagesTold manner [] (t ∷ ts) = ⊥
+AreMessagesTold manner (r ∷ rs) [] = ⊥
+AreMessagesTold manner (r ∷ rs) (t ∷ ts) = MayTell manner r t × AreMessagesTold manner rs ts
 
 -- all that is printed
 abbrev pub session_text : List Reply → List Text → ReplayState → Text

@@ -1,5 +1,5 @@
 //! The latest message before a place whose outcome makes a condition true.
-ghost use Rattle.bench_step.specs.Answering.{IsOpen, opened};
+ghost use Rattle.bench_step.specs.Answering.{IsDebuggerOpen, opened_on};
 ghost use Rattle.bench_step.specs.Backwards.{Latest};
 ghost use Rattle.bench_step.specs.Commands.{find_back};
 ghost use Rattle.bench_step.specs.Session.{Replies, after_reply};
@@ -53,7 +53,7 @@ fn latest_of(
     condition: &Cond<Global>,
     place: u64,
 ) -> Result<Option<u64>, AllocError>
-    ensures { IfOk result (λ n. Latest (opened jobs.now report.now.channels recording.now)
+    ensures { IfOk result (λ n. Latest (opened_on jobs.now report.now.channels recording.now)
         (condition_in condition.now) place n) }
 {
     match open_replay(alloc, jobs, report, recording) {
@@ -75,7 +75,7 @@ pub(crate) fn back_to(
     recording: &[u8],
     condition: &Cond<Global>,
 ) -> Reply
-    requires { IsOpen replay.old.state jobs.now report.now.channels (found_in recording.now) recording.now }
+    requires { IsDebuggerOpen replay.old.state jobs.now report.now.channels (found_in recording.now) recording.now }
     ensures lawful { Replies replay.old.state (find_back (condition_in condition.now)) result }
     ensures after { replay.new.state ≡ after_reply result replay.old.state }
 {

@@ -1,6 +1,6 @@
 //! What a line of a session asks.
 ghost use Rattle.bench_step.specs.Commands.{Asked, asked, asked_of, asked_by, alone, finding_in, finding_to};
-ghost use Rattle.bench_step.specs.Commands.{forward, back, go, show_at, going, holding, meets, number_up_to};
+ghost use Rattle.bench_step.specs.Commands.{forward, back, go, show_at, going, holding, condition_asked, number_up_to};
 ghost use Rattle.bench_step.specs.Commands.{of_channel, only_number, only_time, plain, selecting, selects};
 ghost use Rattle.bench_step.specs.Commands.{showing, steps, telling, two_words, with_number, TakesMemory};
 ghost use Rattle.frame_tree.specs.Tree.{condition_in};
@@ -198,7 +198,7 @@ fn selecting(way: Way, rest: &[u8]) -> Command
 
 /// A condition, on the messages that way.
 fn meeting(way: Way, condition: Cond<Global>) -> Command
-    ensures { asked_of result ≡ meets way (condition_in condition) }
+    ensures { asked_of result ≡ condition_asked way (condition_in condition) }
 {
     match way {
         Way::On => Command::Find(condition),

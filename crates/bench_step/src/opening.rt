@@ -1,5 +1,5 @@
 //! Opening a recording under the debugger.
-ghost use Rattle.bench_step.specs.Answering.{IsAccepted, IsRefusal, opened};
+ghost use Rattle.bench_step.specs.Answering.{MayBeDebugged, IsOpeningRefusal, opened_on};
 ghost use Rattle.ch11_reader.specs.Indexed.{found_in};
 ghost use Rattle.std.specs.Prelude.{◌≡◌, IfOk, IfErr, OnOk};
 
@@ -17,9 +17,9 @@ pub(crate) fn open_replay<'a>(
     report: &Report,
     recording: &'a [u8],
 ) -> Result<Replay<'a>, StepFault>
-    ensures ok { IfOk result (λ r. r.state ≡ opened jobs.now report.now.channels recording.now) }
-    ensures accepted { OnOk result (IsAccepted jobs.now report.now.channels recording.now) }
-    ensures refused { IfErr result (IsRefusal jobs.now report.now.channels recording.now) }
+    ensures ok { IfOk result (λ r. r.state ≡ opened_on jobs.now report.now.channels recording.now) }
+    ensures accepted { OnOk result (MayBeDebugged jobs.now report.now.channels recording.now) }
+    ensures refused { IfErr result (IsOpeningRefusal jobs.now report.now.channels recording.now) }
 {
     let index = match Index::build(alloc, recording) {
         Ok(index) => index,

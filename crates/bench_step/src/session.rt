@@ -1,5 +1,5 @@
 //! A recording under the debugger, and the answer to a line.
-ghost use Rattle.bench_step.specs.Answering.{IsAccepted, IsAnswered, IsRefusal, opened};
+ghost use Rattle.bench_step.specs.Answering.{MayBeDebugged, IsLineAnswered, IsOpeningRefusal, opened_on};
 ghost use Rattle.bench_step.specs.Commands.{asked, asked_of, show_at};
 ghost use Rattle.bench_step.specs.Session.{Replies, after_reply, reply_text};
 ghost use Rattle.std.specs.Io.KnownBytes.{Appends};
@@ -36,7 +36,7 @@ pub(crate) struct Session<'a> {
 }
 
 impl<'a> Model for Session<'a> {
-    ghost use Rattle.bench_step.specs.Answering.{IsOpen, SessionState};
+    ghost use Rattle.bench_step.specs.Answering.{IsDebuggerOpen, SessionState};
     ghost use Rattle.job_file.specs.contracts.scripts.Script as scripts;
     ghost use Rattle.std.specs.Coded.{codes};
 
@@ -46,7 +46,7 @@ impl<'a> Model for Session<'a> {
 
     ghost view = { λ s. record { debugger = s.replay.state; manner = s.manner } };
 
-    ghost invariant = { λ s. IsOpen s.replay.state s.jobs.now s.report.now.channels s.index s.recording.now };
+    ghost invariant = { λ s. IsDebuggerOpen s.replay.state s.jobs.now s.report.now.channels s.index s.recording.now };
 }
 
 /// What became of a line: whether memory was refused for what it asks, and whether it ends the session.
@@ -83,10 +83,10 @@ impl<'a> Session<'a> {
         report: &'a Report,
         recording: &'a [u8],
     ) -> Result<Session<'a>, StepFault>
-        ensures ok { IfOk result (λ s. s.debugger ≡ opened jobs.now report.now.channels recording.now) }
+        ensures ok { IfOk result (λ s. s.debugger ≡ opened_on jobs.now report.now.channels recording.now) }
         ensures manner { IfOk result (λ s. s.manner ≡ manner) }
-        ensures accepted { OnOk result (IsAccepted jobs.now report.now.channels recording.now) }
-        ensures refused { IfErr result (IsRefusal jobs.now report.now.channels recording.now) }
+        ensures accepted { OnOk result (MayBeDebugged jobs.now report.now.channels recording.now) }
+        ensures refused { IfErr result (IsOpeningRefusal jobs.now report.now.channels recording.now) }
     {
         let replay = open_replay(alloc, jobs, report, recording)?;
         match (packets_of(alloc, recording), Decoder::make(alloc)) {
@@ -181,7 +181,7 @@ impl<'a> Session<'a> {
         line: &[u8],
         out: &mut W,
     ) -> io::Result<Answered>
-        ensures answered { IfOk result (λ a. IsAnswered self.old.manner self.old.debugger self.new.debugger line.now
+        ensures answered { IfOk result (λ a. IsLineAnswered self.old.manner self.old.debugger self.new.debugger line.now
             (W.contents out.old) (W.contents out.new) a.refused a.ends) }
         ensures manner { self.new.manner ≡ self.old.manner }
     {

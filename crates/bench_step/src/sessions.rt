@@ -1,5 +1,5 @@
 //! The lines of a session, one after the other.
-ghost use Rattle.bench_step.specs.Answering.{IsAllRead, IsCutShort, IsWhole, Ends};
+ghost use Rattle.bench_step.specs.Answering.{IsAllRead, IsCutShort, IsWholeSession, Ends};
 ghost use Rattle.std.specs.List.{before_first, position_or_len};
 ghost use Rattle.std.specs.Prelude.{◌≡◌, ◌≤◌, length, IfOk, IfErr, OnOk};
 ghost use Rattle.text_lines.specs.Lines.{is_line_end};
@@ -66,7 +66,8 @@ pub fn step<R: BufRead, W: Write>(
     input: &mut R,
     out: &mut W,
 ) -> Result<(), StepFault>
-    ensures whole { OnOk result (IsWhole manner jobs.now report.now.channels recording.now (R.remaining input.old)
+    ensures whole { OnOk result (IsWholeSession manner jobs.now report.now.channels recording.now
+        (R.remaining input.old)
         (R.remaining input.new) (W.contents out.old) (W.contents out.new)) }
     ensures ended { IfErr result (Ends manner jobs.now report.now.channels recording.now (R.remaining input.old)
         (R.remaining input.new) (W.contents out.old) (W.contents out.new)) }

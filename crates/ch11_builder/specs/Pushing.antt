@@ -11,6 +11,6 @@ ClosesWhereFull s n Kept = fits s n ≡ true
 ClosesWhereFull s n (Closed bytes) = (fits s n ≡ false) × (bytes.now ≡ packet_of s)
 
 -- a packet has at most 524,288 bytes
-abbrev pub IsSmall : Pushed → Type 0
-IsSmall Kept = Unit {0}
-IsSmall (Closed bytes) = length bytes.now ≤ 524288
+abbrev pub IsSmallPacket : Pushed → Type 0
+IsSmallPacket Kept = Unit {0}
+IsSmallPacket (Closed bytes) = length bytes.now ≤ 524288

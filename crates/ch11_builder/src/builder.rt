@@ -37,7 +37,7 @@ impl Model for Builder {
 }
 
 impl Builder {
-    ghost use Rattle.ch11_builder.specs.Pushing.{ClosesWhereFull, IsSmall};
+    ghost use Rattle.ch11_builder.specs.Pushing.{ClosesWhereFull, IsSmallPacket};
     ghost use Rattle.ch11_builder.specs.contracts.builder.Builder.{the_row};
 
     /// A builder for the packets of a channel, each of at most `limit` bytes. G1 where the limit is outside 256 to
@@ -67,7 +67,7 @@ impl Builder {
         ensures* after { sem 𝓛 (Rests the_row self.entry
             (λ b. b ≡ pushed self.old (record { number = number; message = message.now }))) }
         ensures answer { ClosesWhereFull self.old (record { number = number; message = message.now }) result }
-        ensures small { IsSmall result }
+        ensures small { IsSmallPacket result }
     {
         if self.packing.advance(number, message) {
             Pushed::Closed(self.packing.lent())

@@ -1,5 +1,5 @@
 //! A pass over a recording that keeps nothing of it.
-ghost use Rattle.ch11_stream.specs.Folding.{Finds};
+ghost use Rattle.ch11_stream.specs.Folding.{FoldsPackets};
 ghost use Rattle.std.specs.Prelude.{◌≡◌, ℕ, List, Some};
 
 use ch11_stream::{Advance, Packets, StreamFault};
@@ -9,7 +9,7 @@ use std::alloc::Global;
 /// fault, K1 to K5, N2 or F1 to F3, with the packet's offset; want of memory and the reader's failure are the others.
 /// Otherwise each packet of it can be read.
 pub fn check_from<R: Advance + Drop>(alloc: Global, input: R) -> Result<(), StreamFault>
-    ensures { (file : List ℕ) → R.remaining input ≡ Some file → Finds (λ ps none. Unit {0}) result file }
+    ensures { (file : List ℕ) → R.remaining input ≡ Some file → FoldsPackets (λ ps none. Unit {0}) result file }
 {
     let mut packets = Packets::over(alloc, input)?;
     'packets: for _made in 0..u64::MAX {

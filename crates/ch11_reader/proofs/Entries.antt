@@ -6,7 +6,7 @@ use Rattle.ch11_f1.specs.declared.seen.Seen.{Seen}
 use Rattle.ch11_f1.specs.Views.{message_of}
 use Rattle.ch11_f1.specs.BodyReading.{Message}
 use Rattle.ch11_reader.specs.declared.packet.Packet.{Packet}
-use Rattle.ch11_reader.specs.Recording.{Found, messages_of}
+use Rattle.ch11_reader.specs.Recording.{Found, packet_messages}
 use Rattle.ch11_reader.specs.Contents.{heard_of, heard_in, total_in, message_numbered}
 use Rattle.ch11_reader.specs.Listing.{listed_behind, listing_behind}
 use Rattle.ch11_reader.specs.Indexed.{AreWithin, IsIndex, found_of, indexed}
@@ -79,7 +79,7 @@ within_at file (f ∷ es) (suc i) e all h = within_at file es i e all.1 h
 -- the packet that message n stands in, and its place there
 pub message_at_entry : (file : List ℕ) (entries : List Packet) (total n i : ℕ) (e : Packet) → IsIndex file entries total → 0 < n → n ≤ total → slice_get entries i ≡ Some e → e.before ≤ n - 1
     → ((f : Packet) → slice_get entries (i + 1) ≡ Some f → n - 1 < f.before)
-    → message_numbered (indexed file entries) n ≡ option_map {U = ℕ × Message} (λ (m : Message). (e.header.channel, m)) (slice_get (messages_of e.header (drop e.offset file)) (n - 1 - e.before))
+    → message_numbered (indexed file entries) n ≡ option_map {U = ℕ × Message} (λ (m : Message). (e.header.channel, m)) (slice_get (packet_messages e.header (drop e.offset file)) (n - 1 - e.before))
 message_at_entry file entries total zero i e x some most at from next = absurd (omega arith)
 message_at_entry file entries total (suc m) i e x some most at from next =
     let listed : slice_get (listing_behind [] (indexed file entries)) i ≡ Some e = rw x.listed at at in
@@ -90,7 +90,7 @@ message_at_entry file entries total (suc m) i e x some most at from next =
     let before : suc m - 1 < e.before + length r.packet.messages = r.last (suc m - 1) (λ f h. next f (following f h)) (omega (arith, x.counted)) in
     let k : suc m - 1 - e.before < length r.packet.messages = omega arith in
     let here : slice_get (heard_in (indexed file entries)) m ≡ slice_get (heard_of r.packet) (suc m - 1 - e.before) = ap (slice_get (heard_in (indexed file entries))) (omega (arith, r.before)) ∙ r.heard (suc m - 1 - e.before) k in
-    here ∙ ap (λ (p : Found). slice_get (heard_of p) (suc m - 1 - e.before)) is ∙ slice_get-map (λ (y : Message). (e.header.channel, y)) (messages_of e.header (drop e.offset file)) (suc m - 1 - e.before)
+    here ∙ ap (λ (p : Found). slice_get (heard_of p) (suc m - 1 - e.before)) is ∙ slice_get-map (λ (y : Message). (e.header.channel, y)) (packet_messages e.header (drop e.offset file)) (suc m - 1 - e.before)
 
 heard_total : (ps : List Found) → length (heard_in ps) ≡ total_in ps
 heard_total [] = refl
@@ -118,13 +118,13 @@ entry_read entries lent i e same within read = slice_get_read entries (length en
 -- message n, as it was found in its packet
 pub message_is : (file : List ℕ) (entries lent : List Packet) (total n i : ℕ) (e : Packet) (seen : Option Seen) → IsIndex file entries total → (n ≡ 0 → ⊥) → n ≤ total
     → lent ≡ entries → i < length lent → e ≡ get_or entries i e → ((f : Packet) → slice_get lent i ≡ Some f → f.before ≤ n - 1) → ((f : Packet) → slice_get lent (i + 1) ≡ Some f → n - 1 < f.before)
-    → option_map message_of seen ≡ slice_get (messages_of e.header (drop e.offset file)) (n - 1 - e.before)
+    → option_map message_of seen ≡ slice_get (packet_messages e.header (drop e.offset file)) (n - 1 - e.before)
     → option_map {U = ℕ × Message} (λ (x : ℕ × Seen). (x.0, message_of x.1)) (option_map {U = ℕ × Seen} (λ (s : Seen). (e.header.channel, s)) seen) ≡ message_numbered (indexed file entries) n
 message_is file entries lent total n i e seen x some most same within read from next found =
     let at = entry_read entries lent i e same within read in
     let low : e.before ≤ n - 1 = from e (ap (λ (es : List Packet). slice_get es i) same ∙ at) in
     let high : (f : Packet) → slice_get entries (i + 1) ≡ Some f → n - 1 < f.before = λ f h. next f (ap (λ (es : List Packet). slice_get es (i + 1)) same ∙ h) in
-    seen_with_channel e.header.channel seen (slice_get (messages_of e.header (drop e.offset file)) (n - 1 - e.before)) found ∙ sym (message_at_entry file entries total n i e x (omega (arith, some)) most at low high)
+    seen_with_channel e.header.channel seen (slice_get (packet_messages e.header (drop e.offset file)) (n - 1 - e.before)) found ∙ sym (message_at_entry file entries total n i e x (omega (arith, some)) most at low high)
 
 -- the entry at a place of the recording's packets
 pub entry_there : (file : List ℕ) (entries : List Packet) (total : ℕ) (ps : List Found) (i : ℕ) (e : Packet) → IsIndex file entries total → indexed file entries ≡ ps → i < length ps → e ≡ get_or entries i e → slice_get entries i ≡ Some e
@@ -133,7 +133,7 @@ entry_there file entries total ps i e x same within read =
 
 -- the packet at a place holds the messages that are read at its entry
 pub messages_there : (file : List ℕ) (entries : List Packet) (total : ℕ) (ps : List Found) (i : ℕ) (e : Packet) (p : Found) → IsIndex file entries total → indexed file entries ≡ ps → slice_get entries i ≡ Some e → slice_get ps i ≡ Some p
-    → messages_of e.header (drop e.offset file) ≡ p.messages
+    → packet_messages e.header (drop e.offset file) ≡ p.messages
 messages_there file entries total ps i e p x same at there =
     let both : Some p ≡ Some (found_of file e) = sym there ∙ ap (λ (qs : List Found). slice_get qs i) (sym same) ∙ slice_get-map (found_of file) entries i ∙ ap (option_map (found_of file)) at in
     let is : p ≡ found_of file e = cc in

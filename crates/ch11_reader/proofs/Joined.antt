@@ -12,7 +12,7 @@ use Rattle.ch11_f1.specs.declared.error.BodyError.{BodyError}
 use Rattle.ch11_f1.specs.BodyReading.{Message, messages_in}
 use Rattle.ch11_reader.specs.declared.error.Fault.{Fault}
 use Rattle.ch11_reader.specs.declared.error.Refusal.{Refusal}
-use Rattle.ch11_reader.specs.Recording.{Found, holds_messages, body_of, messages_of, with_body, with_rest, with_header, packet_at, packets_from, packets_in, located, ◌>>=◌}
+use Rattle.ch11_reader.specs.Recording.{Found, holds_messages, body_of, packet_messages, with_body, with_rest, with_header, packet_at, packets_from, packets_in, located, ◌>>=◌}
 use Rattle.ch11_reader.specs.Joined.{later}
 
 -- ---- a header is read off its 24 bytes
@@ -138,7 +138,7 @@ body_front h bytes r room whole =
     rw (drop-append-le (body_start h) bytes r (omega (arith, room.body, whole)))
     (take-append-le h.data_length (drop (body_start h) bytes) r (omega (arith, room.body, whole, length-drop (body_start h) bytes)))
 
-pub messages_front : (h : Header) (bytes r : List ℕ) → HasRoom h → h.packet_length ≤ length bytes → messages_of h (bytes ++ r) ≡ messages_of h bytes
+pub messages_front : (h : Header) (bytes r : List ℕ) → HasRoom h → h.packet_length ≤ length bytes → packet_messages h (bytes ++ r) ≡ packet_messages h bytes
 messages_front h bytes r room whole = rw (body_front h bytes r room whole) refl
 
 pub rest_front : (h : Header) (bytes r : List ℕ) → HasRoom h → h.packet_length ≤ length bytes → with_rest h (bytes ++ r) ≡ with_rest h bytes
@@ -154,7 +154,7 @@ packet_front bytes r h is =
 -- ---- packets
 
 abbrev pub found_at : ℕ → Header → List ℕ → Found
-found_at offset h bytes = record { offset = offset; header = h; messages = messages_of h bytes }
+found_at offset h bytes = record { offset = offset; header = h; messages = packet_messages h bytes }
 
 pub record IsFirst (most offset : ℕ) (bytes : List ℕ) (ps : List Found) : Type 0 where
   pub header : Header

@@ -7,7 +7,7 @@ use Rattle.ch11_header.specs.declared.header.Header.{Header}
 use Rattle.ch11_reader.specs.declared.error.Fault.{Fault}
 use Rattle.ch11_reader.specs.declared.error.Refusal.{Refusal}
 use Rattle.ch11_reader.specs.declared.packet.Packet.{Packet}
-use Rattle.ch11_reader.specs.Recording.{◌>>=◌, Found, messages_of, packet_at, packets_from, packets_in}
+use Rattle.ch11_reader.specs.Recording.{◌>>=◌, Found, packet_messages, packet_at, packets_from, packets_in}
 use Rattle.ch11_reader.specs.Contents.{total_in}
 use Rattle.ch11_reader.specs.Listing.{jumps, latest_sequence, listed_behind, listing_behind, listing}
 use Rattle.ch11_reader.specs.Indexed.{AreWithin, IsIndex, found_of, indexed}
@@ -31,7 +31,7 @@ pub record Going (file rest : List ℕ) (earlier : List Found) : Type 0 where
 
 -- the packet that begins what is left
 abbrev pub next_found : List ℕ → List ℕ → Header → Found
-next_found file rest h = record { offset = length file - length rest; header = h; messages = messages_of h rest }
+next_found file rest h = record { offset = length file - length rest; header = h; messages = packet_messages h rest }
 
 pub begins : (file : List ℕ) → Going file file []
 begins file = record {
@@ -170,7 +170,7 @@ pub record IsNext (file rest : List ℕ) (h : Header) (counted : ℕ) : Type 0 w
   pub long : 24 ≤ h.packet_length
   pub whole : h.packet_length ≤ length rest
   pub body : body_start h + h.data_length ≤ h.packet_length
-  pub count : counted ≡ length (messages_of h rest)
+  pub count : counted ≡ length (packet_messages h rest)
   pub few : counted ≤ h.packet_length
 
 -- the entry of the packet that begins what is left
@@ -204,7 +204,7 @@ one_entered file rest earlier entries before latest h counted jump next b known 
     is = entry_is file rest earlier entries before latest h counted jump next b known
 
     here : next_found file rest h ≡ found_of file e
-    here = ap (λ (bytes : List ℕ). record { offset = length file - length rest; header = h; messages = messages_of h bytes }) b.place
+    here = ap (λ (bytes : List ℕ). record { offset = length file - length rest; header = h; messages = packet_messages h bytes }) b.place
 
     past : length file - length (drop h.packet_length rest) ≡ length file - length rest + h.packet_length
     past = omega (arith, length-drop h.packet_length rest, next.whole, b.shorter)

@@ -2,7 +2,7 @@
 use Rattle.std.specs.Prelude.{◌≡◌, ℕ, ◌+◌, ◌≤◌, List, [], ◌∷◌, length, drop, map}
 use Rattle.ch11_header.specs.HeaderReading.{body_start}
 use Rattle.ch11_reader.specs.declared.packet.Packet.{Packet}
-use Rattle.ch11_reader.specs.Recording.{Found, messages_of, packets_in, found_or_none}
+use Rattle.ch11_reader.specs.Recording.{Found, packet_messages, packets_in, found_or_none}
 use Rattle.ch11_reader.specs.Contents.{total_in}
 use Rattle.ch11_reader.specs.Listing.{listing}
 
@@ -12,7 +12,11 @@ found_in file = found_or_none (packets_in file)
 
 -- the packet of an entry, its messages read from the file
 abbrev pub found_of : List ℕ → Packet → Found
-found_of file e = record { offset = e.offset; header = e.header; messages = messages_of e.header (drop e.offset file) }
+found_of file e = record {
+  offset = e.offset;
+  header = e.header;
+  messages = packet_messages e.header (drop e.offset file);
+}
 
 -- the bodies of the packets lie in the file
 abbrev pub AreWithin : List ℕ → List Packet → Type 0

@@ -30,8 +30,8 @@ abbrev pub body_of : Header → List ℕ → List ℕ
 body_of h bytes = take h.data_length (drop (body_start h) bytes)
 
 -- the messages of the packet that begins these bytes; a packet of another type has none
-abbrev pub messages_of : Header → List ℕ → List Message
-messages_of h bytes = if holds_messages h then ok_or_none (messages_in (body_of h bytes)) else []
+abbrev pub packet_messages : Header → List ℕ → List Message
+packet_messages h bytes = if holds_messages h then ok_or_none (messages_in (body_of h bytes)) else []
 
 abbrev pub with_body : Header → Result (List Message) BodyError → Result Header Fault
 with_body h (Ok ms) = Ok h
@@ -70,7 +70,7 @@ packets_from (suc most) offset [] = Ok []
 packets_from (suc most) offset (b ∷ bs) = do
   h ← located offset (packet_at (b ∷ bs))
   others ← packets_from most (offset + h.packet_length) (drop h.packet_length (b ∷ bs))
-  Ok (record { offset = offset; header = h; messages = messages_of h (b ∷ bs) } ∷ others)
+  Ok (record { offset = offset; header = h; messages = packet_messages h (b ∷ bs) } ∷ others)
 
 -- the packets of a recording, which has no more of them than bytes, or its first fault
 abbrev pub packets_in : List ℕ → Result (List Found) Refusal
@@ -88,7 +88,7 @@ HoldsNoMessages file = (ps : List Found) × (packets_in file ≡ Ok ps)
 
 -- What a function returned is what reading gives: the packets, or the first fault and its offset. Want of
 -- memory is answered only where there is no fault.
-abbrev pub Gives : Result (List Found) ReadError → Result (List Found) Refusal → Type 0
-Gives (Ok ps) read = read ≡ Ok ps
-Gives (Err (errors.Refused e)) read = read ≡ Err e
-Gives (Err errors.Memory) read = read ≡ Ok (found_or_none read)
+abbrev pub ReadsRecording : Result (List Found) ReadError → Result (List Found) Refusal → Type 0
+ReadsRecording (Ok ps) read = read ≡ Ok ps
+ReadsRecording (Err (errors.Refused e)) read = read ≡ Err e
+ReadsRecording (Err errors.Memory) read = read ≡ Ok (found_or_none read)

@@ -5,7 +5,7 @@ use Rattle.std.specs.Prelude.{◌≡◌, ℕ, zero, suc, ◌+◌, List, [], ◌�
 use Rattle.ch11_header.specs.declared.header.Header.{Header}
 use Rattle.ch11_reader.specs.declared.error.Fault.{Fault}
 use Rattle.ch11_reader.specs.declared.skip.Skip.{Skip}
-use Rattle.ch11_reader.specs.Recording.{Found, messages_of, packet_at, packets_in}
+use Rattle.ch11_reader.specs.Recording.{Found, packet_messages, packet_at, packets_in}
 
 -- a stretch of a file: a packet that is read, or bytes that are skipped
 pub data Stretch : Type 0 where
@@ -23,7 +23,7 @@ bytes_before (b ∷ bs) = none_or_behind (packet_at (b ∷ bs)) (bytes_before bs
 
 -- the packet that begins these bytes, which stand at an offset
 abbrev pub read_at : ℕ → Header → List ℕ → Stretch
-read_at offset h bytes = Read (record { offset = offset; header = h; messages = messages_of h bytes })
+read_at offset h bytes = Read (record { offset = offset; header = h; messages = packet_messages h bytes })
 
 -- the bytes in front of the next packet; at the first of them there is a fault
 abbrev pub skip_at : ℕ → Fault → List ℕ → Stretch

@@ -1,6 +1,6 @@
 //! One pass over the bytes of a recording.
 ghost use Rattle.ch11_reader.specs.Listing.{jumps};
-ghost use Rattle.ch11_reader.specs.Recording.{Gives, packets_in};
+ghost use Rattle.ch11_reader.specs.Recording.{ReadsRecording, packets_in};
 ghost use Rattle.ch11_reader.specs.declared.error.ReadError.TheVariants.{Refused};
 ghost use Rattle.ch11_reader.specs.declared.error.Refusal.{Refusal};
 ghost use Rattle.std.specs.Prelude.{Some, Ok, Err};
@@ -97,7 +97,7 @@ pub(crate) fn read_packets<'a>(alloc: Global, file: &'a [u8]) -> Result<Index<'a
 
 /// The first fault of a recording, or want of memory where it has none.
 pub(crate) fn fault_or_memory(file: &[u8]) -> ReadError
-    ensures { Gives (Err result) (packets_in file.now) }
+    ensures { ReadsRecording (Err result) (packets_in file.now) }
 {
     let mut rest = file;
     while !rest.is_empty() {

@@ -2,7 +2,7 @@
 ghost use Rattle.ch11_f1.specs.Views.{message_of};
 ghost use Rattle.ch11_reader.specs.Contents.{message_numbered, reading, total_in};
 ghost use Rattle.ch11_reader.specs.Listing.{listing};
-ghost use Rattle.ch11_reader.specs.Recording.{Found, Gives, packets_in};
+ghost use Rattle.ch11_reader.specs.Recording.{Found, ReadsRecording, packets_in};
 ghost use Rattle.ch11_reader.specs.Skipping.{packets_read, skips_in};
 ghost use Rattle.ch11_reader.specs.declared.error.ReadError.TheVariants.{Memory};
 ghost use Rattle.std.specs.Prelude.{◌≡◌, ◌<◌, ◌^◌, length, slice_get, Some, IfOk, IfErr, option_map};
@@ -42,7 +42,7 @@ impl<'a> Index<'a> {
     /// Reads a recording: its packets, or the first fault, K1 to K5, N2, F1 to F3, with the packet's offset.
     /// Memory is answered only where the recording can be read.
     pub fn build(alloc: Global, file: &'a [u8]) -> Result<Index<'a>, ReadError>
-        ensures { Gives result (packets_in file.now) }
+        ensures { ReadsRecording result (packets_in file.now) }
     {
         match read_packets(alloc, file) {
             Err(ReadError::Memory) => Err(fault_or_memory(file)),

@@ -1,6 +1,6 @@
 //! Packets judged at any place of a file, in time that stays in proportion to its bytes.
 ghost use Rattle.ch11_header.specs.HeaderReading.{body_start};
-ghost use Rattle.ch11_reader.specs.Recording.{messages_of, packet_at};
+ghost use Rattle.ch11_reader.specs.Recording.{packet_messages, packet_at};
 ghost use Rattle.ch11_reader.specs.Skipping.{bytes_before};
 ghost use Rattle.ch11_reader.specs.Walking.{IsRest};
 ghost use Rattle.std.specs.Prelude.{◌≡◌, ◌+◌, ◌≤◌, length, drop, IfOk, IfSome, MatchResult, Ok, Err};
@@ -104,7 +104,7 @@ impl<'a> Judge<'a> {
     pub(crate) fn check(&mut self, rest: &[u8]) -> Result<Checked, Fault>
         requires rest { IsRest self.old rest.now }
         ensures read { MatchResult result (λ c. packet_at rest.now ≡ Ok c.header) (λ f. packet_at rest.now ≡ Err f) }
-        ensures count { IfOk result (λ c. c.count ≡ length (messages_of c.header rest.now)) }
+        ensures count { IfOk result (λ c. c.count ≡ length (packet_messages c.header rest.now)) }
         ensures few { IfOk result (λ c. c.count ≤ c.header.packet_length) }
         ensures whole { IfOk result
             (λ c. (24 ≤ c.header.packet_length) × (c.header.packet_length ≤ length rest.now)

@@ -1,7 +1,7 @@
 //! One packet of a recording.
 ghost use Rattle.ch11_f1.specs.Views.{message_of};
 ghost use Rattle.ch11_header.specs.HeaderReading.{body_start};
-ghost use Rattle.ch11_reader.specs.Recording.{messages_of, packet_at};
+ghost use Rattle.ch11_reader.specs.Recording.{packet_messages, packet_at};
 ghost use Rattle.std.specs.Prelude.{◌≡◌, ◌+◌, ◌≤◌, length, drop, IfOk, MatchResult, Ok, Err, option_map, slice_get};
 
 use crate::error::Fault;
@@ -45,7 +45,7 @@ pub struct Checked {
 #[tactic(auto, unfolding(crate::specs::Recording::packet_at))]
 pub fn check_packet(bytes: &[u8]) -> Result<Checked, Fault>
     ensures read { MatchResult result (λ c. packet_at bytes.now ≡ Ok c.header) (λ f. packet_at bytes.now ≡ Err f) }
-    ensures count { IfOk result (λ c. c.count ≡ length (messages_of c.header bytes.now)) }
+    ensures count { IfOk result (λ c. c.count ≡ length (packet_messages c.header bytes.now)) }
     ensures few { IfOk result (λ c. c.count ≤ c.header.packet_length) }
     ensures whole { IfOk result (λ c. (24 ≤ c.header.packet_length) × (c.header.packet_length ≤ length bytes.now)
         × (body_start c.header + c.header.data_length ≤ c.header.packet_length)) }
@@ -75,7 +75,7 @@ pub fn check_packet(bytes: &[u8]) -> Result<Checked, Fault>
 /// Condition: its body lies in the bytes.
 pub fn messages_of_packet<'a>(bytes: &'a [u8], header: &Header) -> Messages<'a>
     requires { body_start header.now + header.now.data_length ≤ length bytes.now }
-    ensures { result ≡ messages_of header.now bytes.now }
+    ensures { result ≡ packet_messages header.now bytes.now }
 {
     let Header {
         kind,
@@ -96,7 +96,7 @@ pub fn messages_of_packet<'a>(bytes: &'a [u8], header: &Header) -> Messages<'a>
 /// The messages of a packet of the file; it holds none where it is of another data type.
 pub(crate) fn messages_in_packet<'a>(file: &'a [u8], packet: &Packet) -> Messages<'a>
     requires { packet.now.offset + (body_start packet.now.header + packet.now.header.data_length) ≤ length file.now }
-    ensures { result ≡ messages_of packet.now.header (drop packet.now.offset file.now) }
+    ensures { result ≡ packet_messages packet.now.header (drop packet.now.offset file.now) }
 {
     let (_, behind) = file.split_at(packet.offset);
     messages_of_packet(behind, &packet.header)
@@ -106,7 +106,7 @@ pub(crate) fn messages_in_packet<'a>(file: &'a [u8], packet: &Packet) -> Message
 pub(crate) fn message_in_packet<'a>(file: &'a [u8], packet: &Packet, k: u64) -> Option<Seen<'a>>
     requires { packet.now.offset + (body_start packet.now.header + packet.now.header.data_length) ≤ length file.now }
     ensures { option_map message_of result
-        ≡ slice_get (messages_of packet.now.header (drop packet.now.offset file.now)) k }
+        ≡ slice_get (packet_messages packet.now.header (drop packet.now.offset file.now)) k }
 {
     let mut messages = messages_in_packet(file, packet);
     messages.nth(k as usize)

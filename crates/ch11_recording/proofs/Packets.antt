@@ -139,11 +139,11 @@ module _ (size : PacketHasItsLength) (header : HeaderIsReadAgain) (messages : Me
       rw (header_is h good piece, whole, read_is h good piece) refl
 
   found_in : (h : Held) → IsGood h → is_piece h.channel.limit h.records ≡ true
-      → reader.messages_of (header_of_held h) (packet_of h) ≡ map as_message (messages_of h.records)
+      → reader.packet_messages (header_of_held h) (packet_of h) ≡ map as_message (messages_of h.records)
   found_in h good piece = rw (read_is h good piece) refl
 
   one_packet : (bytes : List ℕ) (g : Header) → 0 < length bytes → length bytes ≡ g.packet_length → packet_at bytes ≡ Ok g
-      → packets_in bytes ≡ Ok (record { offset = 0; header = g; messages = reader.messages_of g bytes } ∷ [])
+      → packets_in bytes ≡ Ok (record { offset = 0; header = g; messages = reader.packet_messages g bytes } ∷ [])
   unfolding packets_from
   one_packet [] g some whole at = absurd (omega (arith, some))
   one_packet (b ∷ bs) g some whole at = rw (at, drop_all g.packet_length (b ∷ bs) (omega (arith, whole))) (rw (nothing (length bs) (0 + g.packet_length)) refl)

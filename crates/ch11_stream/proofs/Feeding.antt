@@ -3,7 +3,7 @@ use Rattle.std.proofs.Common.{◌≡◌, ℕ, ◌+◌, ◌-◌, ◌<◌, ◌≤�
 use Rattle.std.proofs.lemmas.List.{drop-append-le, drop-drop, length-append, length-drop}
 use Rattle.std.proofs.Math.Seq.{drop-append_seam}
 use Rattle.std.specs.Io.KnownBytes.{IsAtEnd, prepend_known}
-use Rattle.ch11_stream.specs.Feeding.{IsAdvanced, IsMore, IsPassed}
+use Rattle.ch11_stream.specs.Feeding.{IsAdvanced, AreMoreReady, IsPassed}
 
 -- so many bytes were passed of those that are to be, and the rest is left
 pub record Passing (count rest : ℕ) (left leaves : Option (List ℕ)) (before after : List ℕ) : Type 0 where
@@ -22,7 +22,7 @@ both_of ready None bytes is = absurd cc
 both_of ready (Some ys) bytes is = record { others = ys; known = refl; all = cc }
 
 -- what is ready when nothing was
-given_all : (middle leaves : Option (List ℕ)) (after others : List ℕ) (more : Bool) → IsMore middle leaves [] after more → middle ≡ Some others → prepend_known after leaves ≡ Some others
+given_all : (middle leaves : Option (List ℕ)) (after others : List ℕ) (more : Bool) → AreMoreReady middle leaves [] after more → middle ≡ Some others → prepend_known after leaves ≡ Some others
 given_all None leaves after others more is known = absurd cc
 given_all (Some xs) None after others more is known = absurd is.taken
 given_all (Some xs) (Some ys) after others more is known =
@@ -63,7 +63,7 @@ pub both_passed : (count rest size passed : ℕ) (left middle leaves : Option (L
 both_passed count rest size passed left middle leaves before mid whole short fewer is p =
     skims_on count (rest - size) passed left middle leaves before fewer is (rw whole (ready_passed count rest left middle before mid (rw (sym whole) short) p))
 
-pub reads_on : (count rest : ℕ) (left middle leaves : Option (List ℕ)) (before after : List ℕ) (more : Bool) → IsMore middle leaves [] after more → Passing count rest left middle before []
+pub reads_on : (count rest : ℕ) (left middle leaves : Option (List ℕ)) (before after : List ℕ) (more : Bool) → AreMoreReady middle leaves [] after more → Passing count rest left middle before []
     → Passing count rest left leaves before after
 reads_on count rest left middle leaves before after more is p = record {
   within = p.within;
@@ -96,7 +96,7 @@ pub at_end : (leaves : Option (List ℕ)) (others : List ℕ) → IsAtEnd leaves
 at_end None others end known = absurd cc
 at_end (Some xs) others end known = let same : xs ≡ others = cc in sym same ∙ end
 
-pub ends_few : (count rest : ℕ) (left middle leaves : Option (List ℕ)) (before after : List ℕ) → 0 < rest → IsMore middle leaves [] after false → Passing count rest left middle before []
+pub ends_few : (count rest : ℕ) (left middle leaves : Option (List ℕ)) (before after : List ℕ) → 0 < rest → AreMoreReady middle leaves [] after false → Passing count rest left middle before []
     → IsPassed count left leaves before after false
 ends_few count rest left middle leaves before after some is p = record {
   enough = λ e. absurd cc;

@@ -8,7 +8,7 @@ use Rattle.ch11_reader.proofs.Loop.{in_order}
 use Rattle.ch11_stream.specs.declared.fault.StreamFault.{StreamFault}
 use Rattle.ch11_stream.specs.declared.fault.StreamFault.TheVariants.{Device, Memory, Refused}
 use Rattle.ch11_stream.specs.Folding.{IsFaultOf}
-use Rattle.ch11_stream.specs.Reading.{IsEnd, IsStop, Reading}
+use Rattle.ch11_stream.specs.Reading.{IsEnd, IsReadingStopped, Reading}
 use Rattle.ch11_stream.proofs.Readings.{IsAmid, amid_end, amid_stop}
 
 -- one packet more
@@ -32,7 +32,7 @@ all_found file now last e a =
     let found : reverse now.earlier ≡ found_in file = sym (ap found_or_none read) in (read ∙ ap Ok found, found)
 
 -- no packet could be read
-pub not_found : (file : List ℕ) (now last : Reading) (f : StreamFault) → IsStop now last f → IsAmid file now → IsFaultOf file f
+pub not_found : (file : List ℕ) (now last : Reading) (f : StreamFault) → IsReadingStopped now last f → IsAmid file now → IsFaultOf file f
 not_found file now last (Refused r) s a = amid_stop file now last r s a
 not_found file now last Memory s a = tt
 not_found file now last Device s a = tt

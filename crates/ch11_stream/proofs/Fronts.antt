@@ -11,14 +11,14 @@ use Rattle.ch11_header.specs.HeaderReading.{header_in}
 use Rattle.ch11_reader.specs.declared.error.Fault.{Fault}
 use Rattle.ch11_reader.specs.declared.error.Fault.TheVariants as faults
 use Rattle.ch11_reader.specs.declared.packet.Checked.{Checked}
-use Rattle.ch11_reader.specs.Recording.{messages_of, packet_at}
+use Rattle.ch11_reader.specs.Recording.{packet_messages, packet_at}
 use Rattle.ch11_reader.specs.Skipping.{bytes_before}
 use Rattle.ch11_reader.proofs.Joined.{header_front, header_long, header_room, least_of, messages_front, number_front, packet_front, rest_front}
 use Rattle.ch11_reader.proofs.Stretches.{none_before, one_before}
 use Rattle.ch11_stream.specs.Feeding.{IsFilled}
 use Rattle.ch11_stream.specs.declared.looking.Coming.{Coming}
 use Rattle.ch11_stream.specs.declared.looking.Coming.TheVariants as fronts
-use Rattle.ch11_stream.specs.Looking.{Begins, IsFaulty, IsPast, IsPastOf, IsSettled, IsSkipped, IsSound}
+use Rattle.ch11_stream.specs.Looking.{Begins, IsFaulty, IsPast, IsPastOf, BeginsSound, IsSkipped, IsSoundReady}
 use Rattle.ch11_stream.specs.Stretches.{IsSkipOf, IsSoundAt}
 use Rattle.ch11_stream.specs.Holding.{is_kept}
 use Rattle.ch11_stream.specs.Taking.{held}
@@ -102,13 +102,13 @@ body_faulty left leaves before ready there h e all is more f wrong = record {
 -- ---- bytes that are passed
 
 -- a packet without a fault begins the bytes that are ready, and so those to come
-settled_by : (left : Option (List ℕ)) (ready : List ℕ) (c : Checked) → IsSound ready c → IsSettled (prepend_known ready left)
+settled_by : (left : Option (List ℕ)) (ready : List ℕ) (c : Checked) → IsSoundReady ready c → BeginsSound (prepend_known ready left)
 settled_by left ready c s bytes known =
     let b = both_of ready left bytes known in
     none_before bytes c.header (ap packet_at (sym b.all) ∙ packet_front ready b.others c.header s.packet)
 
 -- no fault begins the bytes to come
-pub settled_unless_faulty : (front : Coming) (coming left : Option (List ℕ)) (ready : List ℕ) → ((f : Fault) → front ≡ fronts.Faulty f → ⊥) → Begins front coming (prepend_known ready left) ready → IsSettled (prepend_known ready left)
+pub settled_unless_faulty : (front : Coming) (coming left : Option (List ℕ)) (ready : List ℕ) → ((f : Fault) → front ≡ fronts.Faulty f → ⊥) → Begins front coming (prepend_known ready left) ready → BeginsSound (prepend_known ready left)
 settled_unless_faulty fronts.End coming left ready sound b = λ bytes known. ap bytes_before (at_end (prepend_known ready left) bytes b.1 known)
 settled_unless_faulty (fronts.Sound c) coming left ready sound b = settled_by left ready c b
 settled_unless_faulty (fronts.Faulty f) coming left ready sound b = absurd (sound f refl)
@@ -155,7 +155,7 @@ pub faulty_past : (coming left : Option (List ℕ)) (ready : List ℕ) (f : Faul
 faulty_past coming left ready f k is bytes known = first_past left ready bytes f is.some (known_on coming (prepend_known ready left) bytes k known) (is.known bytes known)
 
 -- the first byte and those behind it are passed, up to the next packet
-pub all_skipped : (n : ℕ) (left comes : Option (List ℕ)) (ready : List ℕ) → 0 < length ready → IsPast n (prepend_known (drop 1 ready) left) comes → IsSettled comes → IsSkipped (n + 1) (prepend_known ready left) comes
+pub all_skipped : (n : ℕ) (left comes : Option (List ℕ)) (ready : List ℕ) → 0 < length ready → IsPast n (prepend_known (drop 1 ready) left) comes → BeginsSound comes → IsSkipped (n + 1) (prepend_known ready left) comes
 all_skipped n left comes ready some past settled bytes f known is =
     let p = first_past left ready bytes f some known is in
     let q = past (drop 1 bytes) p.left in
@@ -204,7 +204,7 @@ quiet_past count left ready fits quiet bytes known =
 -- ---- stretches
 
 -- a packet that is ready was taken
-pub sound_at : (coming left : Option (List ℕ)) (ready : List ℕ) (c : Checked) → Keeps coming (prepend_known ready left) → IsSound ready c → IsSoundAt coming left ready c
+pub sound_at : (coming left : Option (List ℕ)) (ready : List ℕ) (c : Checked) → Keeps coming (prepend_known ready left) → IsSoundReady ready c → IsSoundAt coming left ready c
 sound_at coming left ready c k s = record {
   count = s.count;
   few = s.few;
@@ -213,7 +213,7 @@ sound_at coming left ready c k s = record {
   packet = λ bytes known. let b = both bytes known in ap packet_at (sym b.all) ∙ packet_front ready b.others c.header s.packet;
   messages = λ bytes known.
       let b = both bytes known in
-      sym (messages_front c.header ready b.others (record { least = (least_of ready c.header s.packet).0; body = s.room }) s.whole) ∙ ap (messages_of c.header) b.all;
+      sym (messages_front c.header ready b.others (record { least = (least_of ready c.header s.packet).0; body = s.room }) s.whole) ∙ ap (packet_messages c.header) b.all;
   kept = λ bytes known.
       let b = both bytes known in
       sym (take-append-le (held c.header) ready b.others (omega (arith, s.whole, held_most c.header (is_kept c.header) refl))) ∙ ap (take (held c.header)) b.all;

@@ -9,7 +9,7 @@ use Rattle.ch11_header.specs.HeaderReading.{body_start, header_in}
 use Rattle.ch11_reader.specs.declared.error.Fault.{Fault}
 use Rattle.ch11_reader.specs.declared.error.Fault.TheVariants as faults
 use Rattle.ch11_reader.specs.declared.packet.Checked.{Checked}
-use Rattle.ch11_reader.specs.Recording.{holds_messages, located, messages_of, packet_at}
+use Rattle.ch11_reader.specs.Recording.{holds_messages, located, packet_messages, packet_at}
 use Rattle.ch11_reader.proofs.Joined.{HasRoom, front, header_front, header_long, messages_front, packet_front, rest_front}
 use Rattle.ch11_stream.specs.declared.fault.StreamFault.{StreamFault}
 use Rattle.ch11_stream.specs.declared.fault.StreamFault.TheVariants.{Device, Memory, Refused}
@@ -129,7 +129,7 @@ body_fault offset left leaves before after there h f all next filled is bytes kn
     (omega (arith, header_long bytes h header), ap (located offset) same)
 
 pub kept_taken : (left leaves : Option (List ℕ)) (before after : List ℕ) (there : Bool) (h : Header) (c : Checked) → is_kept h ≡ true → IsNextHeader (prepend_known before left) h → IsFilled h.packet_length left leaves before after there
-    → packet_at after ≡ Ok c.header → c.count ≡ length (messages_of c.header after) → c.count ≤ c.header.packet_length → 24 ≤ c.header.packet_length → c.header.packet_length ≤ length after → body_start c.header + c.header.data_length ≤ c.header.packet_length
+    → packet_at after ≡ Ok c.header → c.count ≡ length (packet_messages c.header after) → c.count ≤ c.header.packet_length → 24 ≤ c.header.packet_length → c.header.packet_length ≤ length after → body_start c.header + c.header.data_length ≤ c.header.packet_length
     → IsTaken (prepend_known before left) leaves after c
 kept_taken left leaves before after there h c holds next filled is count few long whole room = record {
   count = count;
@@ -139,7 +139,7 @@ kept_taken left leaves before after there h c holds next filled is count few lon
   packet = packet;
   messages = λ bytes known.
       let b = both bytes known in
-      sym (messages_front c.header after b.others (record { least = long; body = room }) whole) ∙ ap (messages_of c.header) b.all;
+      sym (messages_front c.header after b.others (record { least = long; body = room }) whole) ∙ ap (packet_messages c.header) b.all;
   kept = λ bytes known.
       let b = both bytes known in
       rw (all bytes known) (sym (take-append-le c.header.packet_length after b.others whole) ∙ ap (take c.header.packet_length) b.all);

@@ -11,7 +11,7 @@ use Rattle.ch11_reader.specs.Listing.{listing_behind, listing}
 use Rattle.ch11_reader.proofs.Joined.{least_of}
 use Rattle.ch11_reader.proofs.Loop.{Going, begins, ends, goes_on, in_order, next_found, stops}
 use Rattle.ch11_stream.specs.declared.fault.StreamFault.TheVariants.{Refused}
-use Rattle.ch11_stream.specs.Reading.{IsEnd, IsRead, IsStep, IsStop, Reading, at_start, last_found}
+use Rattle.ch11_stream.specs.Reading.{IsEnd, IsPacketRead, IsStep, IsReadingStopped, Reading, at_start, last_found}
 use Rattle.ch11_stream.specs.Whole.{Steps}
 
 -- a reading of a file that is known, somewhere in it
@@ -26,7 +26,7 @@ pub amid_start : (file : List ℕ) → IsAmid file (at_start (Some file))
 amid_start file = record { rest = file; left = refl; place = omega arith; sound = refl; going = begins file }
 
 -- the packet that was read is the next one of the file
-found_next : (file rest : List ℕ) (before now : Reading) (p : Packet) → before.offset ≡ length file - length rest → IsStep before now p → IsRead rest now p → last_found now p ≡ next_found file rest p.header
+found_next : (file rest : List ℕ) (before now : Reading) (p : Packet) → before.offset ≡ length file - length rest → IsStep before now p → IsPacketRead rest now p → last_found now p ≡ next_found file rest p.header
 found_next file rest before now p place s r = rw (s.place, place, r.messages) refl
 
 pub amid_on : (file : List ℕ) (before now : Reading) (p : Packet) → IsStep before now p → IsAmid file before → IsAmid file now
@@ -62,7 +62,7 @@ refused_at file rest earlier offset r (Err f) at place some is g =
     stops file rest earlier f some at g ∙ ap Err (rw (← place) same)
 
 -- at the first fault
-pub amid_stop : (file : List ℕ) (now last : Reading) (r : Refusal) → IsStop now last (Refused r) → IsAmid file now → packets_in file ≡ Err r
+pub amid_stop : (file : List ℕ) (now last : Reading) (r : Refusal) → IsReadingStopped now last (Refused r) → IsAmid file now → packets_in file ≡ Err r
 amid_stop file now last r s a =
     let f = s.first a.sound a.rest a.left in
     refused_at file a.rest now.earlier now.offset r (packet_at a.rest) refl a.place f.0 f.1 a.going
@@ -91,7 +91,7 @@ so_far file entries (p ∷ ps) before now s f =
 
 pub all_read : (file : List ℕ) (ps : List Packet) (now last : Reading) → Steps (at_start (Some file)) ps now
     → (IsEnd now last → (packets_in file ≡ Ok (reverse now.earlier)) × (ps ≡ listing (reverse now.earlier)))
-    × ((r : Refusal) → IsStop now last (Refused r) → packets_in file ≡ Err r)
+    × ((r : Refusal) → IsReadingStopped now last (Refused r) → packets_in file ≡ Err r)
 all_read file ps now last s =
     let start : IsSoFar file [] (at_start (Some file)) = record { amid = amid_start file; listed = record { all = λ qs. refl } } in
     let f : IsSoFar file ps now = so_far file [] ps (at_start (Some file)) now s start in

@@ -8,7 +8,7 @@ use Rattle.ch11_reader.specs.Skipping.{Stretch, Read, Skipped, packets_among, st
 use Rattle.ch11_reader.proofs.Joined.{least_of}
 use Rattle.ch11_reader.proofs.Loop.{next_found}
 use Rattle.ch11_reader.proofs.Stretches.{IsUnderWay, bytes_skipped, few_before, in_turn, packet_read, sets_out, skip_next}
-use Rattle.ch11_stream.specs.Reading.{IsEnd, IsRead, IsStep, Reading, at_start, last_found}
+use Rattle.ch11_stream.specs.Reading.{IsEnd, IsPacketRead, IsStep, Reading, at_start, last_found}
 use Rattle.ch11_stream.specs.Stretches.{IsSkip}
 use Rattle.ch11_stream.proofs.Readings.{known_end}
 
@@ -25,7 +25,7 @@ pub between_start : (file : List ℕ) → IsBetween file (at_start (Some file)) 
 between_start file = record { rest = file; left = refl; place = omega arith; shorter = omega arith; going = sets_out file; packets = refl }
 
 -- the packet that was read is the next one of the file
-found_next : (file rest : List ℕ) (before now : Reading) (p : Packet) → before.offset ≡ length file - length rest → IsStep before now p → IsRead rest now p → last_found now p ≡ next_found file rest p.header
+found_next : (file rest : List ℕ) (before now : Reading) (p : Packet) → before.offset ≡ length file - length rest → IsStep before now p → IsPacketRead rest now p → last_found now p ≡ next_found file rest p.header
 found_next file rest before now p place s r = rw (s.place, place, r.messages) refl
 
 pub between_sound : (file : List ℕ) (before now : Reading) (earlier : List Stretch) (p : Packet) → IsStep before now p → IsBetween file before earlier → IsBetween file now (Read (last_found now p) ∷ earlier)

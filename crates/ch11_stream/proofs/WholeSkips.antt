@@ -11,7 +11,7 @@ use Rattle.ch11_reader.proofs.Stretches.{in_turn}
 use Rattle.ch11_stream.specs.declared.stretch.Stretch.{Stretch}
 use Rattle.ch11_stream.specs.declared.stretch.Stretch.TheVariants.{Sound, Skipped}
 use Rattle.ch11_stream.specs.Reading.{IsEnd, Reading, at_start, last_found}
-use Rattle.ch11_stream.specs.WholeStretches.{Reads, skipped_among, sound_among}
+use Rattle.ch11_stream.specs.WholeStretches.{ReadsStretches, skipped_among, sound_among}
 use Rattle.ch11_stream.proofs.Readings.{IsListed, one_listed}
 use Rattle.ch11_stream.proofs.Skips.{IsBetween, between_end, between_skipped, between_sound, between_start}
 
@@ -22,7 +22,7 @@ record IsGiven (file : List ℕ) (entries : List Packet) (skips : List Skip) (no
   listed : IsListed entries now.earlier
   skipped : (others : List reader.Stretch) → reader.skips_among (in_turn earlier others) ≡ skips ++ reader.skips_among others
 
-given_on : (file : List ℕ) (entries : List Packet) (skips : List Skip) (ss : List Stretch) (before now : Reading) → Reads before ss now → IsGiven file entries skips before
+given_on : (file : List ℕ) (entries : List Packet) (skips : List Skip) (ss : List Stretch) (before now : Reading) → ReadsStretches before ss now → IsGiven file entries skips before
     → IsGiven file (entries ++ sound_among ss) (skips ++ skipped_among ss) now
 given_on file entries skips [] before now r g = rw (append-nil entries, append-nil skips) (subst (IsGiven file entries skips) r g)
 given_on file entries skips (Sound p ∷ ss) before now r g =
@@ -47,7 +47,7 @@ packets_in_turn [] others = refl
 packets_in_turn (reader.Read p ∷ earlier) others = packets_in_turn earlier (reader.Read p ∷ others)
 packets_in_turn (reader.Skipped s ∷ earlier) others = packets_in_turn earlier (reader.Skipped s ∷ others)
 
-pub all_given : (file : List ℕ) (ss : List Stretch) (now last : Reading) → Reads (at_start (Some file)) ss now → IsEnd now last → (sound_among ss ≡ listing (reader.packets_read file)) × (skipped_among ss ≡ reader.skips_in file)
+pub all_given : (file : List ℕ) (ss : List Stretch) (now last : Reading) → ReadsStretches (at_start (Some file)) ss now → IsEnd now last → (sound_among ss ≡ listing (reader.packets_read file)) × (skipped_among ss ≡ reader.skips_in file)
 all_given file ss now last r e =
     let start : IsGiven file [] [] (at_start (Some file)) = record { earlier = []; between = between_start file; listed = record { all = λ qs. refl }; skipped = λ others. refl } in
     let g = given_on file [] [] ss (at_start (Some file)) now r start in

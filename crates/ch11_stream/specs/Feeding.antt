@@ -11,12 +11,12 @@ pub record Buffered : Type 0 where
   pub room : ℕ
 
 -- how many bytes a read gave
-abbrev pub count_of : {E : Type 0} → Result ℕ E → ℕ
-count_of (Ok count) = count
-count_of (Err e) = 0
+abbrev pub bytes_given : {E : Type 0} → Result ℕ E → ℕ
+bytes_given (Ok count) = count
+bytes_given (Err e) = 0
 
 -- a read gave bytes, which are ready behind the others; there were none where the reader is at its end
-pub record IsMore (left leaves : Option (List ℕ)) (before after : List ℕ) (more : Bool) : Type 0 where
+pub record AreMoreReady (left leaves : Option (List ℕ)) (before after : List ℕ) (more : Bool) : Type 0 where
   pub given : List ℕ
   pub taken : Consumes left leaves given
   pub kept : after ≡ before ++ given

@@ -12,6 +12,6 @@ IsFaultOf file faults.Memory = Unit {0}
 IsFaultOf file faults.Device = Unit {0}
 
 -- The file can be read, and what was found is so related to its packets; or there is a fault.
-abbrev pub Finds : {A : Type 0} → (List Found → A → Type 0) → Result A StreamFault → List ℕ → Type 0
-Finds P (Ok x) file = (packets_in file ≡ Ok (found_in file)) × P (found_in file) x
-Finds P (Err e) file = IsFaultOf file e
+abbrev pub FoldsPackets : {A : Type 0} → (List Found → A → Type 0) → Result A StreamFault → List ℕ → Type 0
+FoldsPackets P (Ok x) file = (packets_in file ≡ Ok (found_in file)) × P (found_in file) x
+FoldsPackets P (Err e) file = IsFaultOf file e

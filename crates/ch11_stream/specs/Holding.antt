@@ -5,7 +5,7 @@ use Rattle.ch11_header.specs.declared.header.Header.{Header}
 use Rattle.ch11_header.specs.HeaderReading.{body_start}
 use Rattle.ch11_header.specs.Kinds.{time_data}
 use Rattle.ch11_reader.specs.Contents.{total_in}
-use Rattle.ch11_reader.specs.Recording.{Found, holds_messages, messages_of}
+use Rattle.ch11_reader.specs.Recording.{Found, holds_messages, packet_messages}
 use Rattle.ch11_stream.specs.declared.fault.StreamFault.{StreamFault}
 
 -- the packet's bytes are kept until the next one is read: it is of messages, or a time packet
@@ -24,7 +24,7 @@ held_of (Some h) = h.packet_length
 -- the messages of the last packet
 abbrev pub given_of : Option Header → List ℕ → List Message
 given_of None ready = []
-given_of (Some h) ready = messages_of h ready
+given_of (Some h) ready = packet_messages h ready
 
 -- the last packet's bytes are ready, and there are no more messages than bytes in front of the next packet
 pub record IsHolding (earlier : List Found) (offset : ℕ) (last : Option Header) (ready : List ℕ)

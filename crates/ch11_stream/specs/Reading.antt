@@ -3,7 +3,7 @@ use Rattle.std.specs.Prelude.{◌≡◌, ℕ, ◌+◌, ◌<◌, ◌^◌, List, [
 use Rattle.std.specs.Io.KnownBytes.{IsAtEnd}
 use Rattle.ch11_f1.specs.BodyReading.{Message}
 use Rattle.ch11_reader.specs.declared.packet.Packet.{Packet}
-use Rattle.ch11_reader.specs.Recording.{Found, messages_of, packet_at}
+use Rattle.ch11_reader.specs.Recording.{Found, packet_messages, packet_at}
 use Rattle.ch11_reader.specs.Contents.{total_in}
 use Rattle.ch11_reader.specs.Listing.{listed_behind}
 use Rattle.ch11_stream.specs.declared.fault.StreamFault.{StreamFault}
@@ -29,9 +29,9 @@ abbrev pub last_found : Reading → Packet → Found
 last_found now p = record { offset = p.offset; header = p.header; messages = now.given }
 
 -- the packet is the one that begins these bytes; all its own are kept of one of messages and of a time packet
-pub record IsRead (bytes : List ℕ) (now : Reading) (p : Packet) : Type 0 where
+pub record IsPacketRead (bytes : List ℕ) (now : Reading) (p : Packet) : Type 0 where
   pub packet : packet_at bytes ≡ Ok p.header
-  pub messages : now.given ≡ messages_of p.header bytes
+  pub messages : now.given ≡ packet_messages p.header bytes
   pub kept : now.kept ≡ take (held p.header) bytes
   pub left : now.left ≡ Some (drop p.header.packet_length bytes)
 
@@ -44,7 +44,7 @@ pub record IsStep (before now : Reading) (p : Packet) : Type 0 where
   pub moved : now.offset ≡ before.offset + p.header.packet_length
   pub few : total_in now.earlier < 2 ^ 64
   pub sound : (before.fault ≡ None) × (now.fault ≡ None)
-  pub read : (bytes : List ℕ) → before.left ≡ Some bytes → IsRead bytes now p
+  pub read : (bytes : List ℕ) → before.left ≡ Some bytes → IsPacketRead bytes now p
 
 -- the reader is at its end
 pub record IsEnd (before now : Reading) : Type 0 where
@@ -57,7 +57,7 @@ pub record IsEnd (before now : Reading) : Type 0 where
   pub left : IsAtEnd now.left
 
 -- no packet was read, and none will be
-pub record IsStop (before now : Reading) (e : StreamFault) : Type 0 where
+pub record IsReadingStopped (before now : Reading) (e : StreamFault) : Type 0 where
   pub same : now.earlier ≡ before.earlier
   pub none : now.given ≡ []
   pub passed : now.kept ≡ []
@@ -67,7 +67,7 @@ pub record IsStop (before now : Reading) (e : StreamFault) : Type 0 where
   pub first : before.fault ≡ None → IsFaultAt before.offset before.left e
 
 -- what an attempt to read a packet comes to
-abbrev pub Answers : Result (Option Packet) StreamFault → Reading → Reading → Type 0
-Answers (Ok (Some p)) before now = IsStep before now p
-Answers (Ok None) before now = IsEnd before now
-Answers (Err e) before now = IsStop before now e
+abbrev pub IsNextPacket : Result (Option Packet) StreamFault → Reading → Reading → Type 0
+IsNextPacket (Ok (Some p)) before now = IsStep before now p
+IsNextPacket (Ok None) before now = IsEnd before now
+IsNextPacket (Err e) before now = IsReadingStopped before now e

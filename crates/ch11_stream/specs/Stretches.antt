@@ -7,7 +7,7 @@ use Rattle.ch11_header.specs.HeaderReading.{body_start}
 use Rattle.ch11_reader.specs.declared.packet.Checked.{Checked}
 use Rattle.ch11_reader.specs.declared.skip.Skip.{Skip}
 use Rattle.ch11_reader.specs.Contents.{total_in}
-use Rattle.ch11_reader.specs.Recording.{Found, messages_of, packet_at}
+use Rattle.ch11_reader.specs.Recording.{Found, packet_messages, packet_at}
 use Rattle.ch11_reader.specs.Skipping.{bytes_before}
 use Rattle.ch11_stream.specs.declared.fault.StreamFault.{StreamFault}
 use Rattle.ch11_stream.specs.declared.stretch.Stretch.{Stretch}
@@ -27,7 +27,7 @@ bytes_in None ready = []
 bytes_in (Some h) ready = take (held h) ready
 
 -- the last packet's bytes are ready, and there are no more messages than bytes in front of what is to come
-pub record IsKeeping (earlier : List Found) (offset : ℕ) (last : Option Header) (ready : List ℕ)
+pub record HasPacketReady (earlier : List Found) (offset : ℕ) (last : Option Header) (ready : List ℕ)
     (fault : Option StreamFault) : Type 0 where
   pub few : total_in earlier ≤ offset
   pub whole : held_of last ≤ length ready
@@ -38,12 +38,13 @@ pub record IsKeeping (earlier : List Found) (offset : ℕ) (last : Option Header
 
 -- a packet was taken, all bytes of which are ready
 pub record IsSoundAt (coming left : Option (List ℕ)) (ready : List ℕ) (c : Checked) : Type 0 where
-  pub count : c.count ≡ length (messages_of c.header ready)
+  pub count : c.count ≡ length (packet_messages c.header ready)
   pub few : c.count ≤ c.header.packet_length
   pub whole : c.header.packet_length ≤ length ready
   pub room : body_start c.header + c.header.data_length ≤ c.header.packet_length
   pub packet : (bytes : List ℕ) → coming ≡ Some bytes → packet_at bytes ≡ Ok c.header
-  pub messages : (bytes : List ℕ) → coming ≡ Some bytes → messages_of c.header ready ≡ messages_of c.header bytes
+  pub messages : (bytes : List ℕ) → coming ≡ Some bytes
+      → packet_messages c.header ready ≡ packet_messages c.header bytes
   pub kept : (bytes : List ℕ) → coming ≡ Some bytes → take (held c.header) ready ≡ take (held c.header) bytes
   pub behind : (bytes : List ℕ) → coming ≡ Some bytes
       → prepend_known (drop c.header.packet_length ready) left ≡ Some (drop c.header.packet_length bytes)
@@ -55,14 +56,14 @@ pub record IsSkipOf (bytes : List ℕ) (comes : Option (List ℕ)) (s : Skip) : 
   pub left : comes ≡ Some (drop s.length bytes)
 
 -- what taking a stretch of the bytes to come, which stand at an offset, comes to
-abbrev pub Takes : Result Taken StreamFault → ℕ → Option (List ℕ) → Option (List ℕ) → List ℕ → Type 0
-Takes (Ok (takes.Sound c)) offset coming left ready =
+abbrev pub TakesStretch : Result Taken StreamFault → ℕ → Option (List ℕ) → Option (List ℕ) → List ℕ → Type 0
+TakesStretch (Ok (takes.Sound c)) offset coming left ready =
     IsSoundAt coming left ready c × (offset + c.header.packet_length < 2 ^ 64)
-Takes (Ok (takes.Skipped s)) offset coming left ready =
+TakesStretch (Ok (takes.Skipped s)) offset coming left ready =
     (s.offset ≡ offset) × (offset + s.length < 2 ^ 64) × (0 < s.length)
     × ((bytes : List ℕ) → coming ≡ Some bytes → IsSkipOf bytes (prepend_known ready left) s)
-Takes (Ok takes.End) offset coming left ready = IsAtEnd coming × IsAtEnd (prepend_known ready left)
-Takes (Err e) offset coming left ready = IsOther e
+TakesStretch (Ok takes.End) offset coming left ready = IsAtEnd coming × IsAtEnd (prepend_known ready left)
+TakesStretch (Err e) offset coming left ready = IsOther e
 
 -- ---- stretches
 
@@ -88,8 +89,8 @@ pub record IsFailure (before now : Reading) (e : StreamFault) : Type 0 where
   pub other : IsOther e
 
 -- what an attempt to read a stretch comes to
-abbrev pub Gives : Result (Option Stretch) StreamFault → Reading → Reading → Type 0
-Gives (Ok (Some (stretches.Sound p))) before now = IsStep before now p
-Gives (Ok (Some (stretches.Skipped s))) before now = IsSkip before now s
-Gives (Ok None) before now = IsEnd before now
-Gives (Err e) before now = IsFailure before now e
+abbrev pub IsNextStretch : Result (Option Stretch) StreamFault → Reading → Reading → Type 0
+IsNextStretch (Ok (Some (stretches.Sound p))) before now = IsStep before now p
+IsNextStretch (Ok (Some (stretches.Skipped s))) before now = IsSkip before now s
+IsNextStretch (Ok None) before now = IsEnd before now
+IsNextStretch (Err e) before now = IsFailure before now e

@@ -5,7 +5,7 @@ use Rattle.std.specs.Io.KnownBytes.{IsAtEnd, Keeps, prepend_known}
 use Rattle.ch11_header.specs.declared.header.Header.{Header}
 use Rattle.ch11_header.specs.HeaderReading.{body_start, header_in}
 use Rattle.ch11_reader.specs.declared.packet.Checked.{Checked}
-use Rattle.ch11_reader.specs.Recording.{located, messages_of, packet_at}
+use Rattle.ch11_reader.specs.Recording.{located, packet_messages, packet_at}
 use Rattle.ch11_stream.specs.declared.fault.StreamFault.{StreamFault}
 use Rattle.ch11_stream.specs.declared.fault.StreamFault.TheVariants as faults
 use Rattle.ch11_stream.specs.Holding.{is_kept}
@@ -36,19 +36,20 @@ held h = if is_kept h then h.packet_length else 0
 
 -- a packet was taken: the bytes of one that is kept are ready, and those of another were passed
 pub record IsTaken (coming left : Option (List ℕ)) (ready : List ℕ) (c : Checked) : Type 0 where
-  pub count : c.count ≡ length (messages_of c.header ready)
+  pub count : c.count ≡ length (packet_messages c.header ready)
   pub few : c.count ≤ c.header.packet_length
   pub whole : held c.header ≤ length ready
   pub room : body_start c.header + c.header.data_length ≤ c.header.packet_length
   pub packet : (bytes : List ℕ) → coming ≡ Some bytes → packet_at bytes ≡ Ok c.header
-  pub messages : (bytes : List ℕ) → coming ≡ Some bytes → messages_of c.header ready ≡ messages_of c.header bytes
+  pub messages : (bytes : List ℕ) → coming ≡ Some bytes
+      → packet_messages c.header ready ≡ packet_messages c.header bytes
   pub kept : (bytes : List ℕ) → coming ≡ Some bytes → take (held c.header) ready ≡ take (held c.header) bytes
   pub behind : (bytes : List ℕ) → coming ≡ Some bytes
       → prepend_known (drop (held c.header) ready) left ≡ Some (drop c.header.packet_length bytes)
 
-abbrev pub Takes : Result Checked StreamFault → ℕ → Option (List ℕ) → Option (List ℕ) → List ℕ → Type 0
-Takes (Ok c) offset coming left ready = IsTaken coming left ready c
-Takes (Err e) offset coming left ready = IsFaultAt offset coming e
+abbrev pub TakesPacket : Result Checked StreamFault → ℕ → Option (List ℕ) → Option (List ℕ) → List ℕ → Type 0
+TakesPacket (Ok c) offset coming left ready = IsTaken coming left ready c
+TakesPacket (Err e) offset coming left ready = IsFaultAt offset coming e
 
 -- what taking the next packet comes to
 abbrev pub Nexts : Result (Option Checked) StreamFault → ℕ → Option (List ℕ) → Option (List ℕ) → List ℕ → Type 0

@@ -5,7 +5,7 @@ use Rattle.ch11_reader.specs.declared.packet.Packet.{Packet}
 use Rattle.ch11_reader.specs.Recording.{packets_in}
 use Rattle.ch11_reader.specs.Listing.{listing}
 use Rattle.ch11_stream.specs.declared.fault.StreamFault.TheVariants.{Refused}
-use Rattle.ch11_stream.specs.Reading.{IsEnd, IsStep, IsStop, Reading, at_start}
+use Rattle.ch11_stream.specs.Reading.{IsEnd, IsStep, IsReadingStopped, Reading, at_start}
 
 -- these packets were read, one after the other
 abbrev pub Steps : Reading → List Packet → Reading → Type 0
@@ -18,4 +18,4 @@ abbrev pub StepsReadTheFile : Type 0
 StepsReadTheFile =
     (file : List ℕ) (ps : List Packet) (now last : Reading) → Steps (at_start (Some file)) ps now
     → (IsEnd now last → (packets_in file ≡ Ok (reverse now.earlier)) × (ps ≡ listing (reverse now.earlier)))
-    × ((r : Refusal) → IsStop now last (Refused r) → packets_in file ≡ Err r)
+    × ((r : Refusal) → IsReadingStopped now last (Refused r) → packets_in file ≡ Err r)

@@ -7,12 +7,13 @@ use Rattle.ch11_reader.specs.Skipping.{packets_read, skips_in}
 use Rattle.ch11_stream.specs.declared.stretch.Stretch.{Stretch}
 use Rattle.ch11_stream.specs.declared.stretch.Stretch.TheVariants.{Sound, Skipped}
 use Rattle.ch11_stream.specs.Reading.{IsEnd, Reading, at_start}
-use Rattle.ch11_stream.specs.Stretches.{Gives}
+use Rattle.ch11_stream.specs.Stretches.{IsNextStretch}
 
 -- these stretches were read, one after the other
-abbrev pub Reads : Reading → List Stretch → Reading → Type 0
-Reads before [] now = before ≡ now
-Reads before (s ∷ ss) now = (next : Reading) × Gives (Ok (Some s)) before next × Reads next ss now
+abbrev pub ReadsStretches : Reading → List Stretch → Reading → Type 0
+ReadsStretches before [] now = before ≡ now
+ReadsStretches before (s ∷ ss) now = (next : Reading) × IsNextStretch (Ok (Some s)) before next
+    × ReadsStretches next ss now
 
 -- the packets among them, and the skips
 abbrev pub sound_among : List Stretch → List Packet
@@ -29,5 +30,6 @@ skipped_among (Skipped s ∷ others) = s ∷ skipped_among others
 -- damaged or not, as an index lists them, and their skips are its.
 abbrev pub StretchesReadTheFile : Type 0
 StretchesReadTheFile =
-    (file : List ℕ) (ss : List Stretch) (now last : Reading) → Reads (at_start (Some file)) ss now → IsEnd now last
+    (file : List ℕ) (ss : List Stretch) (now last : Reading) → ReadsStretches (at_start (Some file)) ss now
+    → IsEnd now last
     → (sound_among ss ≡ listing (packets_read file)) × (skipped_among ss ≡ skips_in file)

@@ -1,5 +1,5 @@
 //! Bytes that a reader gave, on their way to whoever uses them.
-ghost use Rattle.ch11_stream.specs.Feeding.{IsMore, IsOther, count_of};
+ghost use Rattle.ch11_stream.specs.Feeding.{AreMoreReady, IsOther, bytes_given};
 ghost use Rattle.std.specs.Io.KnownBytes.{Consumes, IsAtEnd};
 ghost use Rattle.std.specs.Prelude.{false, Ok, IfOk, IfErr, OnOk};
 ghost use Rattle.std.specs.Prelude.{◌≡◌, ◌+◌, ◌-◌, ◌<◌, ◌≤◌, [], ◌++◌, length, take, drop, slice_range, vec_len};
@@ -71,7 +71,7 @@ struct Gave {
 /// What a read came to. One that was interrupted gave nothing; one that failed otherwise is a device's fault, unless
 /// the reader itself wanted memory.
 fn judge(read: io::Result<usize>) -> Result<Gave, StreamFault>
-    ensures count { IfOk result (λ gave. gave.count ≡ count_of read) }
+    ensures count { IfOk result (λ gave. gave.count ≡ bytes_given read) }
     ensures ended { IfOk result (λ gave. gave.more ≡ false → read ≡ Ok 0) }
     ensures failed { IfErr result IsOther }
 {
@@ -182,7 +182,7 @@ impl Buffer {
     pub(crate) fn read<R: Read>(&mut self, input: &mut R) -> Result<bool, StreamFault>
         requires { 0 < self.old.room }
         ensures read { IfOk result
-            (IsMore (R.remaining input.old) (R.remaining input.new) self.old.ready self.new.ready) }
+            (AreMoreReady (R.remaining input.old) (R.remaining input.new) self.old.ready self.new.ready) }
         ensures failed { IfErr result IsOther }
     {
         let gave = read_behind(input, self.bytes.as_mut_slice(), self.end, self.most)?;

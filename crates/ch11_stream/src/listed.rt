@@ -1,7 +1,7 @@
 //! What is known of the packets so far: how many messages they have, and the latest sequence number of each channel.
 ghost use Rattle.ch11_reader.specs.Contents.{total_in};
 ghost use Rattle.ch11_reader.specs.Listing.{listed_behind};
-ghost use Rattle.ch11_reader.specs.Recording.{messages_of};
+ghost use Rattle.ch11_reader.specs.Recording.{packet_messages};
 ghost use Rattle.ch11_stream.specs.Listed.{found_at};
 ghost use Rattle.std.specs.Prelude.{◌≡◌, ◌+◌, ◌<◌, ◌^◌, [], ◌∷◌, length, IfOk};
 
@@ -22,14 +22,14 @@ pub(crate) struct Listed {
 
 impl Model for Listed {
     ghost use Rattle.ch11_reader.specs.Recording.{Found};
-    ghost use Rattle.ch11_stream.specs.Listed.{IsTally};
+    ghost use Rattle.ch11_stream.specs.Listed.{IsListingTally};
     ghost use Rattle.std.specs.Prelude.{List};
 
     ghost Value = { List Found };
 
     ghost view = { λ l. l.past };
 
-    ghost invariant = { λ l. IsTally l.latest.items l.before l.past };
+    ghost invariant = { λ l. IsListingTally l.latest.items l.before l.past };
 }
 
 impl Listed {
@@ -47,7 +47,7 @@ impl Listed {
 
     /// Enters the packet at an offset that begins the bytes that are ready, and answers what there is to tell of it.
     pub(crate) fn enter(&mut self, offset: usize, checked: Checked, buffer: &Buffer) -> Packet
-        requires count { checked.count ≡ length (messages_of checked.header buffer.now.ready) }
+        requires count { checked.count ≡ length (packet_messages checked.header buffer.now.ready) }
         requires few { total_in self.old + checked.count < 2 ^ 64 }
         ensures listed { result ≡ listed_behind self.old (found_at offset checked.header buffer.now.ready) }
         ensures entered { self.new ≡ found_at offset checked.header buffer.now.ready ∷ self.old }

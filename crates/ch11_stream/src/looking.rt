@@ -2,7 +2,7 @@
 ghost use Rattle.ch11_header.specs.HeaderReading.{header_in};
 ghost use Rattle.ch11_reader.specs.Skipping.{bytes_before};
 ghost use Rattle.ch11_stream.specs.Feeding.{IsOther};
-ghost use Rattle.ch11_stream.specs.Looking.{Begins, IsPast, IsSettled, IsSkipped};
+ghost use Rattle.ch11_stream.specs.Looking.{Begins, IsPast, BeginsSound, IsSkipped};
 ghost use Rattle.std.specs.Io.KnownBytes.{Keeps, prepend_known};
 ghost use Rattle.std.specs.Prelude.{◌≡◌, ◌+◌, ◌<◌, ◌≤◌, List, ℕ, ◌++◌, length, drop, false, Ok, IfOk, IfErr, OnOk};
 
@@ -95,7 +95,7 @@ fn pass_some<R: Read>(buffer: &mut Buffer, input: &mut R) -> Result<Gone, Stream
     ensures passed { IfOk result (λ gone. IsPast gone.count (prepend_known buffer.old.ready (R.remaining input.old))
         (prepend_known buffer.new.ready (R.remaining input.new))) }
     ensures settled { IfOk result (λ gone. gone.more ≡ false
-        → IsSettled (prepend_known buffer.new.ready (R.remaining input.new))) }
+        → BeginsSound (prepend_known buffer.new.ready (R.remaining input.new))) }
     ensures failed { IfErr result IsOther }
 {
     let quiet = bytes_without_sync(buffer.ready());
@@ -120,7 +120,7 @@ fn pass_some<R: Read>(buffer: &mut Buffer, input: &mut R) -> Result<Gone, Stream
 fn pass_faulty<R: Read>(buffer: &mut Buffer, input: &mut R) -> Result<usize, StreamFault>
     ensures passed { IfOk result (λ count. IsPast count (prepend_known buffer.old.ready (R.remaining input.old))
         (prepend_known buffer.new.ready (R.remaining input.new))) }
-    ensures settled { OnOk result (IsSettled (prepend_known buffer.new.ready (R.remaining input.new))) }
+    ensures settled { OnOk result (BeginsSound (prepend_known buffer.new.ready (R.remaining input.new))) }
     ensures failed { IfErr result IsOther }
 {
     let mut passed = 0usize;

@@ -1,6 +1,6 @@
 //! The packets of a recording, one after the other.
 ghost use Rattle.ch11_stream.specs.Holding.{last_of};
-ghost use Rattle.ch11_stream.specs.Reading.{Answers, at_start};
+ghost use Rattle.ch11_stream.specs.Reading.{IsNextPacket, at_start};
 ghost use Rattle.std.specs.Prelude.{◌≡◌, IfOk};
 
 use crate::advance::Advance;
@@ -69,7 +69,7 @@ impl<R: Advance> Packets<R> {
     /// the packet's offset, is the answer from then on, and so is want of memory for a packet whose bytes are
     /// kept, and a failure of the reader. A read that was interrupted is made again.
     pub fn next(&mut self) -> Result<Option<Packet>, StreamFault>
-        ensures { Answers result self.old self.new }
+        ensures { IsNextPacket result self.old self.new }
     {
         if let Some(fault) = self.at.fault {
             return Err(fault);

@@ -3,7 +3,7 @@ ghost use Rattle.ch11_header.specs.HeaderReading.{body_start};
 ghost use Rattle.ch11_header.specs.declared.header.Header.{Header as HeaderValue};
 ghost use Rattle.ch11_reader.specs.Contents.{total_in};
 ghost use Rattle.ch11_reader.specs.Listing.{listed_behind};
-ghost use Rattle.ch11_reader.specs.Recording.{messages_of};
+ghost use Rattle.ch11_reader.specs.Recording.{packet_messages};
 ghost use Rattle.ch11_stream.specs.Holding.{given_of, held_of};
 ghost use Rattle.ch11_stream.specs.Listed.{found_at};
 ghost use Rattle.std.specs.Prelude.{◌≡◌, ◌+◌, ◌<◌, ◌≤◌, ◌^◌, [], ◌∷◌, length, take, None, Some, IfOk};
@@ -57,7 +57,7 @@ impl Standing {
     /// Enters the packet that was taken, which becomes the last one under this header, if its bytes are ready. Answers
     /// what there is to tell of it.
     pub(crate) fn enter(&mut self, checked: Checked, last: Option<Header>) -> Packet
-        requires count { checked.count ≡ length (messages_of checked.header self.old.buffer.ready) }
+        requires count { checked.count ≡ length (packet_messages checked.header self.old.buffer.ready) }
         requires few { total_in self.old.listed + checked.count < 2 ^ 64 }
         requires offset { self.old.offset + checked.header.packet_length < 2 ^ 64 }
         ensures listed { result

@@ -1,6 +1,6 @@
 //! The stretches of a recording that may be damaged, one after the other.
 ghost use Rattle.ch11_stream.specs.Reading.{at_start};
-ghost use Rattle.ch11_stream.specs.Stretches.{Gives, Takes};
+ghost use Rattle.ch11_stream.specs.Stretches.{IsNextStretch, TakesStretch};
 ghost use Rattle.std.specs.Io.KnownBytes.{prepend_known};
 ghost use Rattle.std.specs.Prelude.{◌≡◌, ◌≤◌, length, drop, IfOk};
 
@@ -37,7 +37,7 @@ pub struct Stretches<R: Read> {
 impl<R: Read> Model for Stretches<R> {
     ghost use Rattle.ch11_stream.specs.Holding.{given_of, held_of};
     ghost use Rattle.ch11_stream.specs.Reading.{Reading};
-    ghost use Rattle.ch11_stream.specs.Stretches.{IsKeeping, bytes_in};
+    ghost use Rattle.ch11_stream.specs.Stretches.{HasPacketReady, bytes_in};
     ghost use Rattle.std.specs.Io.KnownBytes.{prepend_known};
     ghost use Rattle.std.specs.Prelude.{drop};
 
@@ -52,7 +52,7 @@ impl<R: Read> Model for Stretches<R> {
       fault = s.at.fault;
     } };
 
-    ghost invariant = { λ s. IsKeeping s.at.listed s.at.offset s.at.last s.at.buffer.ready s.at.fault };
+    ghost invariant = { λ s. HasPacketReady s.at.listed s.at.offset s.at.last s.at.buffer.ready s.at.fault };
 }
 
 /// Takes the stretch that begins the bytes to come, which stand at an offset.
@@ -61,7 +61,7 @@ fn take_stretch<R: Read>(
     input: &mut R,
     offset: usize,
 ) -> Result<Taken, StreamFault>
-    ensures { Takes result offset (prepend_known buffer.old.ready (R.remaining input.old))
+    ensures { TakesStretch result offset (prepend_known buffer.old.ready (R.remaining input.old))
         (R.remaining input.new) buffer.new.ready }
 {
     match look(buffer, input)? {
@@ -99,7 +99,7 @@ impl<R: Read> Stretches<R> {
     /// The next stretch. None at the reader's end. Nothing is refused: want of memory for a packet, and a failure of
     /// the reader, are the answer from then on. A read that was interrupted is made again.
     pub fn next(&mut self) -> Result<Option<Stretch>, StreamFault>
-        ensures { Gives result self.old self.new }
+        ensures { IsNextStretch result self.old self.new }
     {
         if let Some(fault) = self.at.fault {
             return Err(fault);

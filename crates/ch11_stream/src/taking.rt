@@ -1,6 +1,6 @@
 //! The packet that begins the bytes to come.
 ghost use Rattle.ch11_stream.specs.Holding.{is_kept};
-ghost use Rattle.ch11_stream.specs.Taking.{Heads, IsNextHeader, Nexts, Takes};
+ghost use Rattle.ch11_stream.specs.Taking.{Heads, IsNextHeader, Nexts, TakesPacket};
 ghost use Rattle.std.specs.Io.KnownBytes.{prepend_known};
 ghost use Rattle.std.specs.Prelude.{◌≡◌, ◌≤◌, length, drop, false, true};
 
@@ -56,7 +56,7 @@ fn take_other<R: Advance>(
 ) -> Result<Checked, StreamFault>
     requires kind { is_kept header ≡ false }
     requires next { IsNextHeader (prepend_known buffer.old.ready (R.remaining input.old)) header }
-    ensures { Takes result offset (prepend_known buffer.old.ready (R.remaining input.old))
+    ensures { TakesPacket result offset (prepend_known buffer.old.ready (R.remaining input.old))
         (R.remaining input.new) buffer.new.ready }
 {
     if !pass(buffer, input, header.packet_length as usize)? {
@@ -74,7 +74,7 @@ fn take_kept<R: Read>(
 ) -> Result<Checked, StreamFault>
     requires kind { is_kept header ≡ true }
     requires next { IsNextHeader (prepend_known buffer.old.ready (R.remaining input.old)) header }
-    ensures { Takes result offset (prepend_known buffer.old.ready (R.remaining input.old))
+    ensures { TakesPacket result offset (prepend_known buffer.old.ready (R.remaining input.old))
         (R.remaining input.new) buffer.new.ready }
 {
     if !fill(buffer, input, header.packet_length as usize)? {
@@ -94,7 +94,7 @@ pub(crate) fn take_packet<R: Advance>(
     header: Header,
 ) -> Result<Checked, StreamFault>
     requires { IsNextHeader (prepend_known buffer.old.ready (R.remaining input.old)) header }
-    ensures { Takes result offset (prepend_known buffer.old.ready (R.remaining input.old))
+    ensures { TakesPacket result offset (prepend_known buffer.old.ready (R.remaining input.old))
         (R.remaining input.new) buffer.new.ready }
 {
     if is_kept_by(&header) {

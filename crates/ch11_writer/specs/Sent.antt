@@ -15,7 +15,7 @@ abbrev pub shown_by : {S : Type 0} → (S → Option (List ℕ)) → (S → ℕ)
 shown_by taken failures finished s = record { taken = taken s; failures = failures s; finished = finished s }
 
 -- so many of the bytes were taken, and all of them exactly where no call failed
-pub record IsSent (sent : Sent) (bytes : List ℕ) (old new : Shown) : Type 0 where
+pub record AreBytesSent (sent : Sent) (bytes : List ℕ) (old new : Shown) : Type 0 where
   pub within : sent.count ≤ length bytes
   pub appended : Appends old.taken new.taken (take sent.count bytes)
   pub all : sent.whole ≡ true → (sent.count ≡ length bytes) × (new.failures ≡ old.failures)

@@ -1,7 +1,7 @@
 //! The writer of packets into a sink.
 ghost use Rattle.ch11_writer.specs.Codes.{fault_text};
 ghost use Rattle.ch11_writer.specs.Putting.{IsPut};
-ghost use Rattle.ch11_writer.specs.Sent.{shown_by, IsSent};
+ghost use Rattle.ch11_writer.specs.Sent.{shown_by, AreBytesSent};
 ghost use Rattle.ch11_writer.specs.Writing.{IsWritten, Puts, PutsNone, progress_of, Writing};
 ghost use Rattle.std.specs.Io.KnownBytes.{Keeps};
 ghost use Rattle.std.specs.Prelude.{if◌then◌else◌, IfErr, IsOk, OnOk, Some};
@@ -35,7 +35,7 @@ struct Sent {
 /// Gives the sink the bytes until it has taken all or failed.
 fn send<S: Sink>(sink: &mut S, bytes: &[u8]) -> Sent
     requires { S.failures sink.old < 2 ^ 64 - 1 }
-    ensures { IsSent result bytes.now (shown_by S.taken S.failures S.finished sink.old)
+    ensures { AreBytesSent result bytes.now (shown_by S.taken S.failures S.finished sink.old)
         (shown_by S.taken S.failures S.finished sink.new) }
 {
     let mut count = 0;

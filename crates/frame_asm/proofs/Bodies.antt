@@ -12,7 +12,7 @@ use Rattle.frame_code.specs.Routines.{routine_at}
 use Rattle.frame_code.specs.Table.{Code, calls, then_run, run}
 use Rattle.frame_asm.proofs.Lengths.{length_branch, length_shape, length_messages_of}
 use Rattle.frame_asm.proofs.Runs.{HasAt, has_front, has_back, regs, one, next, here, both_do, at_end, send_runs, branch_runs, retry_runs, repeat_runs, choose_runs, until_runs, Does}
-use Rattle.frame_asm.specs.Shapes.{branch_size, branch, size, messages_of, entries, shape}
+use Rattle.frame_asm.specs.Shapes.{branch_size, branch, size, tree_messages, entries, shape}
 
 module _ {State Outcome : Type 0} (w : World State Outcome) (code : Code) where
   -- the routine of this number does what the tree means, wherever it is called from
@@ -50,7 +50,7 @@ module _ {State Outcome : Type 0} (w : World State Outcome) (code : Code) where
   AreThere rs ds = (n : List ℕ) → is_known rs n ≡ true → Routine (meant_by 0 rs n) (meant_by nothing ds n)
 
   module _ (rs : Scope ℕ) (ds : Scope Tree) (there : AreThere rs ds) where
-    pub tree_runs : (t : Tree) (i m : ℕ) (is fs cs : List ℕ) (p : Point State Outcome) → IsInRange t → CallsKnown rs t → HasAt code.operations i (shape rs i m t) → HasAt code.messages m (messages_of t)
+    pub tree_runs : (t : Tree) (i m : ℕ) (is fs cs : List ℕ) (p : Point State Outcome) → IsInRange t → CallsKnown rs t → HasAt code.operations i (shape rs i m t) → HasAt code.messages m (tree_messages t)
         → Does w code is fs i cs p (i + size t) cs (plain_meaning w (expanded ds t) p)
     tree_runs (send l x) i m is fs cs p c q h g f l0 =
         next w code is fs i (i + 1) (i + 1) cs cs cs f f l0 l p _ _ (send_runs w code is fs i m cs p l x h.0 g.0 f l0) (here w code is fs (i + 1) (i + 1) cs f l _ refl)
@@ -71,9 +71,9 @@ module _ {State Outcome : Type 0} (w : World State Outcome) (code : Code) where
         at_end w code is fs i _ _ cs cs f0 l0 p _ e
         (choose_runs w code is fs (condition_meaning w c p) i t f (f + size b) cs p (plain_meaning w (expanded ds a) p) (plain_meaning w (expanded ds b) p) (t + size a)
         (branch_runs w code is fs c i t f cs p (has_front code.operations i (branch i c t f) _ h))
-        (tree_runs a t m is fs cs p n.1 q.0 (has_front code.operations t (shape rs t m a) rest ht) (has_front code.messages m (messages_of a) (messages_of b) g))
+        (tree_runs a t m is fs cs p n.1 q.0 (has_front code.operations t (shape rs t m a) rest ht) (has_front code.messages m (tree_messages a) (tree_messages b) g))
         hr.0
-        (tree_runs b f (m + entries a) is fs cs p n.2 q.1 hr.1 (has_back code.messages m (m + entries a) (messages_of a) (messages_of b) (ap (λ z. m + z) (length_messages_of a)) g))
+        (tree_runs b f (m + entries a) is fs cs p n.2 q.1 hr.1 (has_back code.messages m (m + entries a) (tree_messages a) (tree_messages b) (ap (λ z. m + z) (length_messages_of a)) g))
         f0 l0)
     tree_runs (until c n b) i m is fs cs p s q h g f l0 =
         let l = i + 1 + branch_size c in
@@ -97,7 +97,7 @@ module _ {State Outcome : Type 0} (w : World State Outcome) (code : Code) where
         let e : i + size a + size b ≡ i + (size a + size b) = omega arith in
         at_end w code is fs i _ _ cs cs f l0 p _ e
         (both_do w code is fs i (i + size a) (i + size a + size b) cs cs cs f l0 p _ _
-        (tree_runs a i m is fs cs p c.0 q.0 (has_front code.operations i (shape rs i m a) _ h) (has_front code.messages m (messages_of a) (messages_of b) g) f l0)
-        (tree_runs b (i + size a) (m + entries a) is fs cs _ c.1 q.1 (has_back code.operations i (i + size a) (shape rs i m a) _ (ap (λ z. i + z) (length_shape a rs i m)) h) (has_back code.messages m (m + entries a) (messages_of a) (messages_of b) (ap (λ z. m + z) (length_messages_of a)) g)))
+        (tree_runs a i m is fs cs p c.0 q.0 (has_front code.operations i (shape rs i m a) _ h) (has_front code.messages m (tree_messages a) (tree_messages b) g) f l0)
+        (tree_runs b (i + size a) (m + entries a) is fs cs _ c.1 q.1 (has_back code.operations i (i + size a) (shape rs i m a) _ (ap (λ z. i + z) (length_shape a rs i m)) h) (has_back code.messages m (m + entries a) (tree_messages a) (tree_messages b) (ap (λ z. m + z) (length_messages_of a)) g)))
     tree_runs (call n) i m is fs cs p c q h g f l0 = call_runs (meant_by 0 rs n) i (meant_by nothing ds n) is fs cs p (there n q) h.0 f l0
     tree_runs (define n b r) i m is fs cs p c q h g f l0 = absurd q

@@ -9,7 +9,7 @@ use Rattle.frame_tree.specs.Bounds.{CallsKnown, IsDefined}
 use Rattle.frame_tree.specs.declared.Frame.{Frame}
 use Rattle.frame_code.specs.declared.Op.{Op}
 use Rattle.frame_code.specs.declared.Op.TheVariants as op
-use Rattle.frame_asm.specs.Shapes.{branch_size, branch, size, entries, messages_of, until_front, shape, AreRoutines}
+use Rattle.frame_asm.specs.Shapes.{branch_size, branch, size, entries, tree_messages, until_front, shape, AreRoutines}
 use Rattle.frame_asm.proofs.Lengths.{length_branch, length_shape, length_messages_of}
 use Rattle.frame_asm.proofs.Chains.{front, front_more}
 
@@ -41,16 +41,16 @@ length_fronted c n c0 c1 p s e =
     let last = op.Leave (l + s + 2) ∷ [] in
     omega (arith, ap length e, length-append c0 (until_front p c n s), length-append (branch (p + 1) c l (l + 1)) last, length_branch c (p + 1) l (l + 1))
 
-pub length_entered : (t : Tree) (m0 m1 : List (Line × Message)) → m1 ≡ m0 ++ messages_of t → length m1 ≡ length m0 + entries t
-length_entered t m0 m1 e = ap length e ∙ length-append m0 (messages_of t) ∙ ap (λ n. length m0 + n) (length_messages_of t)
+pub length_entered : (t : Tree) (m0 m1 : List (Line × Message)) → m1 ≡ m0 ++ tree_messages t → length m1 ≡ length m0 + entries t
+length_entered t m0 m1 e = ap length e ∙ length-append m0 (tree_messages t) ∙ ap (λ n. length m0 + n) (length_messages_of t)
 
-pub messages_done : (tree a a1 b b1 : Tree) (c : Condition) (m0 m1 m2 : List (Line × Message)) → tree ≡ choose c a b → a1 ≡ a → b1 ≡ b → m1 ≡ m0 ++ messages_of a1 → m2 ≡ m1 ++ messages_of b1 → m2 ≡ m0 ++ messages_of tree
+pub messages_done : (tree a a1 b b1 : Tree) (c : Condition) (m0 m1 m2 : List (Line × Message)) → tree ≡ choose c a b → a1 ≡ a → b1 ≡ b → m1 ≡ m0 ++ tree_messages a1 → m2 ≡ m1 ++ tree_messages b1 → m2 ≡ m0 ++ tree_messages tree
 messages_done tree a a1 b b1 c m0 m1 m2 is ia ib e1 e2 =
-    e2 ∙ ap₂ (λ x y. x ++ messages_of y) (e1 ∙ ap (λ z. m0 ++ messages_of z) ia) ib ∙ append_assoc m0 (messages_of a) (messages_of b) ∙ ap (λ z. m0 ++ messages_of z) (sym is)
+    e2 ∙ ap₂ (λ x y. x ++ tree_messages y) (e1 ∙ ap (λ z. m0 ++ tree_messages z) ia) ib ∙ append_assoc m0 (tree_messages a) (tree_messages b) ∙ ap (λ z. m0 ++ tree_messages z) (sym is)
 
-pub messages_more : (ts : List Tree) (t : Tree) → messages_of (chain (ts ++ t ∷ [])) ≡ messages_of (chain ts) ++ messages_of t
-messages_more [] t = append-nil (messages_of t)
-messages_more (s ∷ ts) t = ap (λ z. messages_of s ++ z) (messages_more ts t) ∙ sym (append_assoc (messages_of s) _ _)
+pub messages_more : (ts : List Tree) (t : Tree) → tree_messages (chain (ts ++ t ∷ [])) ≡ tree_messages (chain ts) ++ tree_messages t
+messages_more [] t = append-nil (tree_messages t)
+messages_more (s ∷ ts) t = ap (λ z. tree_messages s ++ z) (messages_more ts t) ∙ sym (append_assoc (tree_messages s) _ _)
 
 pub room_at : {A : Type 0} (fs : List (Frame A)) (i : ℕ) (f : Frame A) → i < length fs → f ≡ get_or fs i f → size (front i fs) + size (tree_of f) ≤ size (chain (map tree_of fs))
 room_at [] i f h is = absurd (omega arith)
@@ -63,11 +63,11 @@ table_at (x ∷ fs) zero f h is = omega (arith, ap (λ z. entries (tree_of z)) i
 table_at (x ∷ fs) (suc i) f h is = omega (arith, table_at fs i f (omega arith) is)
 
 pub front_entered : {A : Type 0} (fs : List (Frame A)) (i : ℕ) (f : Frame A) → i < length fs → f ≡ get_or fs i f → (m0 m1 m2 : List (Line × Message))
-    → m1 ≡ m0 ++ messages_of (front i fs) → m2 ≡ m1 ++ messages_of (tree_of f) → m2 ≡ m0 ++ messages_of (front (i + 1) fs)
+    → m1 ≡ m0 ++ tree_messages (front i fs) → m2 ≡ m1 ++ tree_messages (tree_of f) → m2 ≡ m0 ++ tree_messages (front (i + 1) fs)
 front_entered fs i f h is m0 m1 m2 e1 e2 =
-    e2 ∙ ap (λ z. z ++ messages_of (tree_of f)) e1 ∙ append_assoc m0 _ _
+    e2 ∙ ap (λ z. z ++ tree_messages (tree_of f)) e1 ∙ append_assoc m0 _ _
     ∙ ap (λ z. m0 ++ z) (sym (messages_more (map tree_of (take i fs)) (tree_of f)))
-    ∙ ap (λ z. m0 ++ messages_of z) (sym (front_more fs i f h is))
+    ∙ ap (λ z. m0 ++ tree_messages z) (sym (front_more fs i f h is))
 
 -- a part of a frame whose calls are known
 pub known_in : (ds : Scope ℕ) (tree whole part part1 : Tree) → tree ≡ whole → part1 ≡ part → CallsKnown ds tree → (CallsKnown ds whole → CallsKnown ds part) → CallsKnown ds part1
@@ -111,7 +111,7 @@ module _ (rs : Scope ℕ) where
 
   pub choose_done : (tree a a1 b b1 : Tree) (c k : Condition) (c0 c1 c2 c3 c4 : List Op) (m0 m1 : List (Line × Message)) (t f e : ℕ)
       → tree ≡ choose c a b → k ≡ c → a1 ≡ a → b1 ≡ b → t ≡ length c0 + branch_size c → f ≡ t + size a + 1 → e ≡ f + size b
-      → c1 ≡ c0 ++ branch (length c0) k t f → c2 ≡ c1 ++ shape rs (length c1) (length m0) a1 → m1 ≡ m0 ++ messages_of a1 → c3 ≡ c2 ++ op.Jump e ∷ [] → c4 ≡ c3 ++ shape rs (length c3) (length m1) b1
+      → c1 ≡ c0 ++ branch (length c0) k t f → c2 ≡ c1 ++ shape rs (length c1) (length m0) a1 → m1 ≡ m0 ++ tree_messages a1 → c3 ≡ c2 ++ op.Jump e ∷ [] → c4 ≡ c3 ++ shape rs (length c3) (length m1) b1
       → c4 ≡ c0 ++ shape rs (length c0) (length m0) tree
   choose_done tree a a1 b b1 c k c0 c1 c2 c3 c4 m0 m1 t f e is ik ia ib it if ie e1 e2 em e3 e4 =
       let l1 : length c1 ≡ t = length_branched k c0 c1 (length c0) t f e1 ∙ ap (λ z. length c0 + branch_size z) ik ∙ sym it in
@@ -145,7 +145,7 @@ module _ (rs : Scope ℕ) where
 
   -- one more turn of the loop over a chain
   pub front_done : {A : Type 0} (fs : List (Frame A)) (i : ℕ) (f : Frame A) → i < length fs → f ≡ get_or fs i f → (c0 c1 c2 : List Op) (m0 m1 : List (Line × Message))
-      → c1 ≡ c0 ++ shape rs (length c0) (length m0) (front i fs) → m1 ≡ m0 ++ messages_of (front i fs) → c2 ≡ c1 ++ shape rs (length c1) (length m1) (tree_of f)
+      → c1 ≡ c0 ++ shape rs (length c0) (length m0) (front i fs) → m1 ≡ m0 ++ tree_messages (front i fs) → c2 ≡ c1 ++ shape rs (length c1) (length m1) (tree_of f)
       → c2 ≡ c0 ++ shape rs (length c0) (length m0) (front (i + 1) fs)
   front_done fs i f h is c0 c1 c2 m0 m1 e1 em e2 =
       let l1 = length_grown (front i fs) c0 c1 (length c0) (length m0) e1 in
@@ -159,7 +159,7 @@ module _ (rs : Scope ℕ) where
 
 -- a definition: its body, a Return, and the rest
 pub define_done : (rs : Scope ℕ) (tree b b1 r r1 : Tree) (n : List ℕ) (k : ℕ) (sc : Scope ℕ) (c0 c1 c2 c3 : List Op) (m0 m1 : List (Line × Message)) → tree ≡ define n b r → b1 ≡ b → r1 ≡ r → length rs ≡ k → sc ≡ (n, k) ∷ rs
-    → c1 ≡ c0 ++ shape rs (length c0) (length m0) b1 → m1 ≡ m0 ++ messages_of b1 → c2 ≡ c1 ++ op.Return ∷ [] → c3 ≡ c2 ++ shape sc (length c2) (length m1) r1
+    → c1 ≡ c0 ++ shape rs (length c0) (length m0) b1 → m1 ≡ m0 ++ tree_messages b1 → c2 ≡ c1 ++ op.Return ∷ [] → c3 ≡ c2 ++ shape sc (length c2) (length m1) r1
     → c3 ≡ c0 ++ shape rs (length c0) (length m0) tree
 define_done rs tree b b1 r r1 n k sc c0 c1 c2 c3 m0 m1 is ib ir ik isc e1 em e2 e3 =
     let p = length c0 in
@@ -175,9 +175,9 @@ define_done rs tree b b1 r r1 n k sc c0 c1 c2 c3 m0 m1 is ib ir ik isc e1 em e2 
     let flat : ((c0 ++ pa) ++ op.Return ∷ []) ++ pc ≡ c0 ++ (pa ++ (op.Return ∷ pc)) = simp append_assoc in
     d3 ∙ flat ∙ ap (λ t. c0 ++ shape rs p m t) (sym is)
 
-pub define_entered : (tree b b1 r r1 : Tree) (n : List ℕ) (m0 m1 m2 : List (Line × Message)) → tree ≡ define n b r → b1 ≡ b → r1 ≡ r → m1 ≡ m0 ++ messages_of b1 → m2 ≡ m1 ++ messages_of r1 → m2 ≡ m0 ++ messages_of tree
+pub define_entered : (tree b b1 r r1 : Tree) (n : List ℕ) (m0 m1 m2 : List (Line × Message)) → tree ≡ define n b r → b1 ≡ b → r1 ≡ r → m1 ≡ m0 ++ tree_messages b1 → m2 ≡ m1 ++ tree_messages r1 → m2 ≡ m0 ++ tree_messages tree
 define_entered tree b b1 r r1 n m0 m1 m2 is ib ir e1 e2 =
-    e2 ∙ ap₂ (λ x y. x ++ messages_of y) (e1 ∙ ap (λ z. m0 ++ messages_of z) ib) ir ∙ append_assoc m0 (messages_of b) (messages_of r) ∙ ap (λ z. m0 ++ messages_of z) (sym is)
+    e2 ∙ ap₂ (λ x y. x ++ tree_messages y) (e1 ∙ ap (λ z. m0 ++ tree_messages z) ib) ir ∙ append_assoc m0 (tree_messages b) (tree_messages r) ∙ ap (λ z. m0 ++ tree_messages z) (sym is)
 
 -- what a definition leaves in scope for the rest
 pub rest_defined : (rs sc : Scope ℕ) (tree b r r1 : Tree) (n : List ℕ) (k : ℕ) → tree ≡ define n b r → r1 ≡ r → length rs ≡ k → sc ≡ (n, k) ∷ rs → IsDefined rs tree → IsDefined sc r1

@@ -3,7 +3,7 @@ use Rattle.std.proofs.Common.{◌≡◌, ℕ, ◌+◌, [], ◌∷◌, ◌++◌, 
 use Rattle.frame_tree.specs.Tree.{Condition, asked, negated, both, either, Tree, send, retry, gap, repeat, choose, until, timed, nothing, chained, call, define}
 use Rattle.frame_tree.specs.Names.{Scope}
 use Rattle.frame_code.specs.declared.Op.TheVariants as op
-use Rattle.frame_asm.specs.Shapes.{branch_size, branch, size, messages_of, entries, shape}
+use Rattle.frame_asm.specs.Shapes.{branch_size, branch, size, tree_messages, entries, shape}
 
 pub length_branch : (c : Condition) (p t f : ℕ) → length (branch p c t f) ≡ branch_size c
 length_branch (asked k) p t f = refl
@@ -37,15 +37,15 @@ length_shape (define n b r) rs p m =
 length_shape (chained a b) rs p m =
     omega (arith, length-append (shape rs p m a) (shape rs (p + size a) (m + entries a) b), length_shape a rs p m, length_shape b rs (p + size a) (m + entries a))
 
-pub length_messages_of : (t : Tree) → length (messages_of t) ≡ entries t
+pub length_messages_of : (t : Tree) → length (tree_messages t) ≡ entries t
 length_messages_of (send l x) = refl
 length_messages_of (retry n l x) = refl
 length_messages_of (gap t) = refl
 length_messages_of (repeat n b) = length_messages_of b
-length_messages_of (choose c a b) = omega (arith, length-append (messages_of a) (messages_of b), length_messages_of a, length_messages_of b)
+length_messages_of (choose c a b) = omega (arith, length-append (tree_messages a) (tree_messages b), length_messages_of a, length_messages_of b)
 length_messages_of (until c n b) = length_messages_of b
 length_messages_of (timed h b) = length_messages_of b
 length_messages_of nothing = refl
 length_messages_of (call n) = refl
-length_messages_of (define n b r) = omega (arith, length-append (messages_of b) (messages_of r), length_messages_of b, length_messages_of r)
-length_messages_of (chained a b) = omega (arith, length-append (messages_of a) (messages_of b), length_messages_of a, length_messages_of b)
+length_messages_of (define n b r) = omega (arith, length-append (tree_messages b) (tree_messages r), length_messages_of b, length_messages_of r)
+length_messages_of (chained a b) = omega (arith, length-append (tree_messages a) (tree_messages b), length_messages_of a, length_messages_of b)

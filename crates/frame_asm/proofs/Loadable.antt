@@ -19,7 +19,7 @@ use Rattle.frame_asm.proofs.Starts.{inner_shape, starts, starts_of, owned}
 use Rattle.frame_asm.proofs.Counts.{brackets_in, loops_in, frames_in, AreFew, few_brackets}
 use Rattle.frame_asm.proofs.Opened.{loops_at, frames_at}
 use Rattle.frame_asm.proofs.Loads.{IsGood, AreGood, good_at, good_both, AreKept, good_shape}
-use Rattle.frame_asm.specs.Shapes.{size, entries, messages_of, shape, code_of_tree}
+use Rattle.frame_asm.specs.Shapes.{size, entries, tree_messages, shape, code_of_tree}
 
 -- how many brackets of a kind stand in one another in each routine, and in main
 abbrev pub rooms : ℕ → ℕ → Scope ℕ → Tree → List ℕ
@@ -172,7 +172,7 @@ code_is_loadable t s h k =
       kept' = λ x e. absurd (cc);
     } in
     let good = all_good os room space (entries t) [] [] [] t 0 0 s.defined all begin in
-    let table : entries t ≡ length (messages_of t) = sym (length_messages_of t) in
+    let table : entries t ≡ length (tree_messages t) = sym (length_messages_of t) in
     let each : (p : ℕ) (o : Op) → slice_get os p ≡ Some o → IsGood os room space (entries t) p o = λ p o e. let here : 0 + p ≡ p = omega arith in subst (λ q. IsGood os room space (entries t) q o) here (good_at os room space (entries t) 0 p os o good e) in
     let level_end : open_at os (size t) ≡ [] = (let z : 0 + size t ≡ size t = omega arith in sym (ap (open_at os) z)) ∙ level os [] 0 0 t has in
     let count : routines os ≡ length (starts 0 t) = ap length (starts_of [] t 0 0 s.defined) in

@@ -10,7 +10,7 @@ use Rattle.frame_code.specs.declared.Op.{Op}
 use Rattle.frame_code.specs.declared.Op.TheVariants as op
 use Rattle.frame_code.specs.Table.{Code}
 use Rattle.frame_code.specs.Ranges.{is_gap, is_count, is_index, is_routine, is_period, AreInRange, IsImage}
-use Rattle.frame_asm.specs.Shapes.{branch_size, branch, size, entries, messages_of, shape, code_of_tree, AreRoutines}
+use Rattle.frame_asm.specs.Shapes.{branch_size, branch, size, entries, tree_messages, shape, code_of_tree, AreRoutines}
 use Rattle.frame_asm.proofs.Lengths.{length_shape, length_messages_of}
 
 abbrev pub code : List Op → List (Line × Message) → Code
@@ -96,11 +96,11 @@ code_is_image t c s h k = record {
   operands = both_in (shape [] 0 0 t) (op.Halt ∷ []) (all_in [] t 0 0 tt c s (omega arith) (omega arith)) (search rules, tt);
 }
 
-pub assembled : (t : Tree) (sc : Scope ℕ) (o0 o1 o2 : List Op) (m0 m1 : List (Line × Message)) → sc ≡ [] → o0 ≡ [] → m0 ≡ [] → o1 ≡ o0 ++ shape sc (length o0) (length m0) t → m1 ≡ m0 ++ messages_of t → o2 ≡ o1 ++ op.Halt ∷ []
+pub assembled : (t : Tree) (sc : Scope ℕ) (o0 o1 o2 : List Op) (m0 m1 : List (Line × Message)) → sc ≡ [] → o0 ≡ [] → m0 ≡ [] → o1 ≡ o0 ++ shape sc (length o0) (length m0) t → m1 ≡ m0 ++ tree_messages t → o2 ≡ o1 ++ op.Halt ∷ []
     → code o2 m1 ≡ code_of_tree t
 assembled t sc o0 o1 o2 m0 m1 es eo em e1 e2 e3 =
     let f1 : o1 ≡ shape [] 0 0 t = e1 ∙ ap₂ (λ x y. x ++ shape sc (length x) (length y) t) eo em ∙ ap (λ z. shape z 0 0 t) es in
-    let f2 : m1 ≡ messages_of t = e2 ∙ ap (λ x. x ++ messages_of t) em in
+    let f2 : m1 ≡ tree_messages t = e2 ∙ ap (λ x. x ++ tree_messages t) em in
     ap₂ code (e3 ∙ ap (λ x. x ++ op.Halt ∷ []) f1) f2
 
 -- how many operations and messages the code has

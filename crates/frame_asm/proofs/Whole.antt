@@ -15,7 +15,7 @@ use Rattle.frame_asm.proofs.Runs.{HasAt, has_front, has_back, has_all, regs, Doe
 use Rattle.frame_asm.proofs.Bodies.{Routine, AreThere, tree_runs}
 use Rattle.frame_asm.proofs.Starts.{starts, starts_of, Stands, stands_first, stands_next, routine_there, main_there}
 use Rattle.frame_asm.specs.Behaves.{Behaves}
-use Rattle.frame_asm.specs.Shapes.{size, messages_of, entries, shape, code_of_tree}
+use Rattle.frame_asm.specs.Shapes.{size, tree_messages, entries, shape, code_of_tree}
 
 module _ {State Outcome : Type 0} (w : World State Outcome) (code : Code) where
   -- main comes to a Halt, where the tree leads
@@ -31,7 +31,7 @@ module _ {State Outcome : Type 0} (w : World State Outcome) (code : Code) where
   picked true known k k' e e' h one others = one
   picked false known k k' e e' h one others = others h
 
-  main_runs : (rs : Scope ℕ) (ds : Scope Tree) (t : Tree) (i m : ℕ) (p : Point State Outcome) → starts i t ≡ [] → CallsKnown rs t → IsInRange t → HasAt code.operations i (shape rs i m t ++ op.Halt ∷ []) → HasAt code.messages m (messages_of t)
+  main_runs : (rs : Scope ℕ) (ds : Scope Tree) (t : Tree) (i m : ℕ) (p : Point State Outcome) → starts i t ≡ [] → CallsKnown rs t → IsInRange t → HasAt code.operations i (shape rs i m t ++ op.Halt ∷ []) → HasAt code.messages m (tree_messages t)
       → Stands code.operations (length rs) i t → AreThere w code rs ds → Ends (expanded ds t) p
   main_runs rs ds t i m p none k c h g s there =
       let main : i ≡ main_of code.operations = sym (main_there code.operations (length rs) i t none s) in
@@ -42,7 +42,7 @@ module _ {State Outcome : Type 0} (w : World State Outcome) (code : Code) where
         halt = (has_back code.operations i (i + size t) (shape rs i m t) (op.Halt ∷ []) (ap (λ z. i + z) (length_shape t rs i m)) h).0;
       }
 
-  all_runs : (rs : Scope ℕ) (ds : Scope Tree) (t : Tree) (i m : ℕ) (p : Point State Outcome) → IsDefined rs t → IsInRange t → HasAt code.operations i (shape rs i m t ++ op.Halt ∷ []) → HasAt code.messages m (messages_of t)
+  all_runs : (rs : Scope ℕ) (ds : Scope Tree) (t : Tree) (i m : ℕ) (p : Point State Outcome) → IsDefined rs t → IsInRange t → HasAt code.operations i (shape rs i m t ++ op.Halt ∷ []) → HasAt code.messages m (tree_messages t)
       → Stands code.operations (length rs) i t → AreThere w code rs ds → Ends (expanded ds t) p
   all_runs rs ds (send l x) i m p k c h g s there = main_runs rs ds (send l x) i m p refl k c h g s there
   all_runs rs ds (retry n l x) i m p k c h g s there = main_runs rs ds (retry n l x) i m p refl k c h g s there
@@ -64,8 +64,8 @@ module _ {State Outcome : Type 0} (w : World State Outcome) (code : Code) where
       let h' = subst (HasAt os i) (append_assoc (shape rs i m b) (op.Return ∷ rest) (op.Halt ∷ [])) h in
       let hb = has_front os i (shape rs i m b) (op.Return ∷ (rest ++ op.Halt ∷ [])) h' in
       let hr = has_back os i (i + size b) (shape rs i m b) (op.Return ∷ (rest ++ op.Halt ∷ [])) (ap (λ z. i + z) (length_shape b rs i m)) h' in
-      let gb = has_front code.messages m (messages_of b) (messages_of r) g in
-      let gr = has_back code.messages m (m + entries b) (messages_of b) (messages_of r) (ap (λ z. m + z) (length_messages_of b)) g in
+      let gb = has_front code.messages m (tree_messages b) (tree_messages r) g in
+      let gr = has_back code.messages m (m + entries b) (tree_messages b) (tree_messages r) (ap (λ z. m + z) (length_messages_of b)) g in
       let routine : Routine w code (length rs) body = record {
         begins = i;
         ends = i + size b;
@@ -79,7 +79,7 @@ module _ {State Outcome : Type 0} (w : World State Outcome) (code : Code) where
 pub behaves : {State Outcome : Type 0} (w : World State Outcome) (t : Tree) (p : Point State Outcome) → IsInRange t → IsDefined [] t → Behaves w t (code_of_tree t) p
 behaves w t p c k =
     let code = code_of_tree t in
-    let r = all_runs w code [] [] t 0 0 p k c (has_all (code.operations) []) (has_all (messages_of t) []) (stands_first code.operations t (starts_of [] t 0 0 k)) (none_there w code) in
+    let r = all_runs w code [] [] t 0 0 p k c (has_all (code.operations) []) (has_all (tree_messages t) []) (stands_first code.operations t (starts_of [] t 0 0 k)) (none_there w code) in
     let d = r.does false (start code).line in
     let a = d.by 0 in
     let last = regs [] [] r.place [] d.flag d.line in

@@ -45,18 +45,18 @@ size (call n) = 1
 size (define n b r) = size b + 1 + size r
 
 -- the messages in the order of the text, one for each send and retry, none shared
-abbrev pub messages_of : Tree → List (Line × Message)
-messages_of (send l x) = (l, x) ∷ []
-messages_of (retry n l x) = (l, x) ∷ []
-messages_of (gap t) = []
-messages_of (repeat n b) = messages_of b
-messages_of (choose c a b) = messages_of a ++ messages_of b
-messages_of (until c n b) = messages_of b
-messages_of (timed h b) = messages_of b
-messages_of nothing = []
-messages_of (chained a b) = messages_of a ++ messages_of b
-messages_of (call n) = []
-messages_of (define n b r) = messages_of b ++ messages_of r
+abbrev pub tree_messages : Tree → List (Line × Message)
+tree_messages (send l x) = (l, x) ∷ []
+tree_messages (retry n l x) = (l, x) ∷ []
+tree_messages (gap t) = []
+tree_messages (repeat n b) = tree_messages b
+tree_messages (choose c a b) = tree_messages a ++ tree_messages b
+tree_messages (until c n b) = tree_messages b
+tree_messages (timed h b) = tree_messages b
+tree_messages nothing = []
+tree_messages (chained a b) = tree_messages a ++ tree_messages b
+tree_messages (call n) = []
+tree_messages (define n b r) = tree_messages b ++ tree_messages r
 
 -- how many they are
 abbrev pub entries : Tree → ℕ
@@ -114,7 +114,7 @@ with_shape rs os m t = os ++ shape rs (length os) m t
 
 -- the code of a tree
 abbrev pub code_of_tree : Tree → Code
-code_of_tree t = record { operations = shape [] 0 0 t ++ op.Halt ∷ []; messages = messages_of t }
+code_of_tree t = record { operations = shape [] 0 0 t ++ op.Halt ∷ []; messages = tree_messages t }
 
 -- each name in scope is that of a routine, whose number is at most 31
 abbrev pub AreRoutines : Scope ℕ → Type 0

@@ -1,5 +1,5 @@
 //! Writing the operations and messages of a frame behind those that are there.
-ghost use Rattle.frame_asm.specs.Shapes.{branch_size, probe, branch, size, entries, messages_of, retry_shape};
+ghost use Rattle.frame_asm.specs.Shapes.{branch_size, probe, branch, size, entries, tree_messages, retry_shape};
 ghost use Rattle.frame_asm.specs.Shapes.{until_front, with_shape, AreRoutines};
 ghost use Rattle.frame_code.specs.declared.Op.TheVariants as op;
 ghost use Rattle.frame_tree.specs.Bounds.{CallsKnown, IsDefined};
@@ -192,7 +192,7 @@ pub fn emit<A: Allocator + Clone>(
     requires routines { AreRoutines (scope_of scope.now) }
     ensures operations { OnOk result (operations.new.items
         ≡ with_shape (scope_of scope.now) operations.old.items (length messages.old.items) (tree_of frame.now)) }
-    ensures messages { OnOk result (messages.new.items ≡ messages.old.items ++ messages_of (tree_of frame.now)) }
+    ensures messages { OnOk result (messages.new.items ≡ messages.old.items ++ tree_messages (tree_of frame.now)) }
 {
     match frame {
         Frame::Send { line, message } => emit_send(operations, messages, *line, message),
@@ -254,7 +254,7 @@ fn emit_sequence<A: Allocator + Clone>(
         ≡ with_shape (scope_of scope.now) operations.old.items (length messages.old.items)
         (chain (map tree_of frames.now.items))) }
     ensures messages { OnOk result
-        (messages.new.items ≡ messages.old.items ++ messages_of (chain (map tree_of frames.now.items))) }
+        (messages.new.items ≡ messages.old.items ++ tree_messages (chain (map tree_of frames.now.items))) }
 {
     for frame in frames {
         emit(operations, messages, scope, frame)?;
@@ -292,7 +292,7 @@ pub fn emit_all<'a, A: Allocator + Clone>(
     requires routines { AreRoutines (scope_of scope.now) }
     ensures operations { OnOk result (operations.new.items
         ≡ with_shape (scope_of scope.now) operations.old.items (length messages.old.items) (tree_of frame.now)) }
-    ensures messages { OnOk result (messages.new.items ≡ messages.old.items ++ messages_of (tree_of frame.now)) }
+    ensures messages { OnOk result (messages.new.items ≡ messages.old.items ++ tree_messages (tree_of frame.now)) }
 {
     match frame {
         Frame::Define { name, body, rest } => {

@@ -25,8 +25,8 @@ use Rattle.frame_code.specs.declared.Op.TheVariants.{Halt, Send, Alt, SetGap, Lo
 use Rattle.frame_code.specs.Table.{Code}
 use Rattle.frame_code.specs.Ranges as ranges
 use Rattle.frame_code.specs.Fields.{receives, transmits, calls_one, first_fits, sends_for, second_fits, words_due}
-use Rattle.frame_code.specs.Bytes.{version_of, version_for, mark, two_bytes, number_of, number_of_test, operand_of, operation_bytes, line_number, message_bytes, header_bytes, image_bytes, AreLawful}
-use Rattle.frame_code.specs.Reading.{two_at, mark_at, header_at, test_of, operation_of, known, operation_at, many, line_at, message_with, words_at, message_at, image_of}
+use Rattle.frame_code.specs.Bytes.{version_of, version_for, mark, two_bytes, operation_number, number_of_test, operand_of, operation_bytes, line_number, message_bytes, header_bytes, image_bytes, AreLawful}
+use Rattle.frame_code.specs.Reading.{two_at, mark_at, header_at, test_of, operation_of, known, operation_at, many, line_at, message_with, message_words_at, message_at, image_of}
 use Rattle.frame_code.proofs.Lawful.{both}
 use Rattle.frame_code.proofs.Images.{image_reads, equal_true, words_read}
 use Rattle.frame_code.proofs.Many.{many_none, many_cons}
@@ -252,7 +252,7 @@ test_found (Bit Subsystem) = refl
 test_found (Bit Control) = refl
 test_found (Bit Terminal) = refl
 
-operation_found : (o : Op) → IsTrue (ranges.in_range o) → operation_of (number_of o) (operand_of o) ≡ Some o
+operation_found : (o : Op) → IsTrue (ranges.in_range o) → operation_of (operation_number o) (operand_of o) ≡ Some o
 unfolding operation_of
 operation_found Halt h = refl
 operation_found (Send m) h = refl
@@ -274,7 +274,7 @@ unfolding operation_at
 operation_step v number operand rest o h e = rw (h, two_back operand rest, e) refl
 
 operation_back : (v : ℕ) (o : Op) (rest : List ℕ) → IsTrue (ranges.in_range o) → version_of o ≤ v → operation_at v (operation_bytes o ++ rest) ≡ Ok (o, rest)
-operation_back v o rest h k = operation_step v (number_of o) (operand_of o) rest o (number_small v o k) (operation_found o h)
+operation_back v o rest h k = operation_step v (operation_number o) (operand_of o) rest o (number_small v o k) (operation_found o h)
 
 operations_back : (v : ℕ) (os : List Op) (rest : List ℕ) → ranges.AreInRange os → version_for os ≤ v → many (operation_at v) (length os) (flat_map operation_bytes os ++ rest) ≡ Ok (os, rest)
 operations_back v [] rest h k = many_none (operation_at v) rest
@@ -294,7 +294,7 @@ line_back A rest = refl
 line_back B rest = refl
 
 message_step : (form : ℕ) (line : Line) (first second : ℕ) (tail : List ℕ) → nat_lt form 10 ≡ true → first_fits form first ≡ true → second_fits form first second ≡ true
-    → message_at (form ∷ line_number line ∷ two_bytes first ++ (two_bytes second ++ tail)) ≡ words_at form line first second tail
+    → message_at (form ∷ line_number line ∷ two_bytes first ++ (two_bytes second ++ tail)) ≡ message_words_at form line first second tail
 unfolding message_at
 message_step form line first second tail h f s = rw (h, line_back line (two_bytes first ++ (two_bytes second ++ tail)), two_back first (two_bytes second ++ tail), f, two_back second tail, s) refl
 

@@ -11,7 +11,7 @@ use Rattle.frame_code.specs.declared.Op.{Op}
 use Rattle.frame_code.specs.declared.error.ImageError.TheVariants as fault
 use Rattle.frame_code.specs.Bytes.{version_for, two_bytes, line_number, parts_bytes, message_bytes}
 use Rattle.frame_code.specs.Fields.{words_due}
-use Rattle.frame_code.specs.Reading.{many, two_at, words_at, header_at, operation_at, message_at, message_with, image_of, Faults}
+use Rattle.frame_code.specs.Reading.{many, two_at, message_words_at, header_at, operation_at, message_at, message_with, image_of, Faults}
 use Rattle.frame_code.proofs.Lawful.{parts}
 
 pub image_reads : (v : ℕ) (bs r0 r1 : List ℕ) (n m : ℕ) (os : List Op) (ms : List (Line × Message)) → header_at bs ≡ Ok (v, n, m, r0) → many (operation_at v) n r0 ≡ Ok (os, r1) → many message_at m r1 ≡ Ok (ms, []) → nat_le v (version_for os) ≡ true → image_of bs ≡ Ok (record { operations = os; messages = ms })
@@ -22,14 +22,14 @@ pub equal_true : (a b : ℕ) → a ≡ b → (a == b) ≡ true
 equal_true a b e = grind (arith, nat_tests)
 
 -- the data words are not read
-pub words_fail : (form : ℕ) (line : Line) (first second : ℕ) (bs r : List ℕ) (count : ℕ) (e : ImageError) → two_at bs ≡ Ok (count, r) → count ≡ words_due form first → many two_at count r ≡ Err e → words_at form line first second bs ≡ Err e
-unfolding words_at
+pub words_fail : (form : ℕ) (line : Line) (first second : ℕ) (bs r : List ℕ) (count : ℕ) (e : ImageError) → two_at bs ≡ Ok (count, r) → count ≡ words_due form first → many two_at count r ≡ Err e → message_words_at form line first second bs ≡ Err e
+unfolding message_words_at
 words_fail form line first second bs r count e a d b = rw (a, equal_true count (words_due form first) d, b) refl
 
 -- the message is read
 pub words_read : (form : ℕ) (line : Line) (first second : ℕ) (bs r : List ℕ) (count : ℕ) (ws rest : List ℕ) (m : Message) → two_at bs ≡ Ok (count, r) → count ≡ words_due form first → many two_at count r ≡ Ok (ws, rest)
-    → message_with (request_at (parts form first second ws)) ≡ Some m → words_at form line first second bs ≡ Ok ((line, m), rest)
-unfolding words_at
+    → message_with (request_at (parts form first second ws)) ≡ Some m → message_words_at form line first second bs ≡ Ok ((line, m), rest)
+unfolding message_words_at
 words_read form line first second bs r count ws rest m a d b f = rw (a, equal_true count (words_due form first) d, b, f) refl
 
 -- the bytes of a message

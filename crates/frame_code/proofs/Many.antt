@@ -11,10 +11,10 @@ use Rattle.frame_code.specs.Bytes.{AreLawful}
 use Rattle.std.specs.List.{flat_map}
 use Rattle.frame_code.specs.declared.Op.{Op}
 use Rattle.frame_code.specs.Ranges.{in_range, AreInRange}
-use Rattle.frame_code.specs.Reading.{◌>>=◌, Read, many, behind, Faults}
+use Rattle.frame_code.specs.Reading.{◌>>=◌, FieldRead, many, behind, Faults}
 
 -- what is read comes behind this list
-abbrev pub onto : {X : Type 0} → List X → Read (List X) → Read (List X)
+abbrev pub onto : {X : Type 0} → List X → FieldRead (List X) → FieldRead (List X)
 onto xs (Ok y) = Ok (xs ++ y.0, y.1)
 onto xs (Err e) = Err e
 
@@ -39,11 +39,11 @@ spelled_more f [] x rest = sym (append_assoc (f x) [] rest)
 spelled_more f (y ∷ xs) x rest = append_assoc (f y) (flat_map f xs) (f x ++ rest) ∙ ap (λ z. f y ++ z) (spelled_more f xs x rest) ∙ sym (append_assoc (f y) (flat_map f (xs ++ x ∷ [])) rest)
 
 -- what was read, where what is behind it is known
-pub behind_ok : {X : Type 0} (r : Read X) (rest : List ℕ) → behind r ≡ Ok rest → (x : X) × (r ≡ Ok (x, rest))
+pub behind_ok : {X : Type 0} (r : FieldRead X) (rest : List ℕ) → behind r ≡ Ok rest → (x : X) × (r ≡ Ok (x, rest))
 behind_ok (Ok x) rest e = let same : x.1 ≡ rest = cc in (x.0, ap (λ z. Ok (x.0, z)) same)
 behind_ok (Err y) rest e = absurd (cc)
 
-module _ {X : Type 0} (one : List ℕ → Read X) where
+module _ {X : Type 0} (one : List ℕ → FieldRead X) where
   pub many_none : (bs : List ℕ) → many one 0 bs ≡ Ok ([], bs)
   unfolding many
   many_none bs = refl
@@ -65,11 +65,11 @@ module _ {X : Type 0} (one : List ℕ → Read X) where
   pub left : (n i : ℕ) → i < n → n - i ≡ suc (n - (i + 1))
   left n i h = omega arith
 
-  onto_with : (xs : List X) (x : X) (r : Read (List X)) → onto xs (r >>= (λ ys. Ok (x ∷ ys.0, ys.1))) ≡ onto (xs ++ x ∷ []) r
+  onto_with : (xs : List X) (x : X) (r : FieldRead (List X)) → onto xs (r >>= (λ ys. Ok (x ∷ ys.0, ys.1))) ≡ onto (xs ++ x ∷ []) r
   onto_with xs x (Ok y) = ap (λ z. Ok (z, y.1)) (sym (append_assoc xs (x ∷ []) y.0))
   onto_with xs x (Err e) = refl
 
-  behind_with : (x : X) (r : Read (List X)) → behind (r >>= (λ ys. Ok (x ∷ ys.0, ys.1))) ≡ behind r
+  behind_with : (x : X) (r : FieldRead (List X)) → behind (r >>= (λ ys. Ok (x ∷ ys.0, ys.1))) ≡ behind r
   behind_with x (Ok y) = refl
   behind_with x (Err e) = refl
 

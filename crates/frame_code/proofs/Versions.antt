@@ -5,15 +5,15 @@ use Rattle.std.proofs.lemmas.Bool.Decides.{nat_tests}
 use Rattle.frame_code.specs.declared.error.ImageError.{ImageError}
 use Rattle.frame_code.specs.declared.Op.{Op}
 use Rattle.frame_code.specs.declared.Op.TheVariants.{Halt, Send, Alt, SetGap, Loop, Again, Leave, Jump, Test, JumpFalse, Call, Return, Begin, Pace}
-use Rattle.frame_code.specs.Bytes.{version_of, version_for, number_of}
-use Rattle.frame_code.specs.Reading.{◌>>=◌, Read, known, many, many_versions, operation_at}
+use Rattle.frame_code.specs.Bytes.{version_of, version_for, operation_number}
+use Rattle.frame_code.specs.Reading.{◌>>=◌, FieldRead, known, many, many_versions, operation_at}
 use Rattle.frame_code.proofs.Many.{left, many_none, many_with, many_fails}
 
 -- the version that an operation needs is one of the three, and knows it
 record HasVersion (o : Op) : Type 0 where
   least : 1 ≤ version_of o
   most : version_of o ≤ 3
-  number : number_of o < known (version_of o)
+  number : operation_number o < known (version_of o)
 
 version_is : (o : Op) → HasVersion o
 version_is Halt = record { least = omega arith; most = omega arith; number = omega arith }
@@ -38,12 +38,12 @@ known_rises a b low h = grind (arith, nat_tests)
 lt_true : (a b : ℕ) → a < b → nat_lt a b ≡ true
 lt_true a b h = grind (arith, nat_tests)
 
-pub number_small : (v : ℕ) (o : Op) → version_of o ≤ v → nat_lt (number_of o) (known v) ≡ true
+pub number_small : (v : ℕ) (o : Op) → version_of o ≤ v → nat_lt (operation_number o) (known v) ≡ true
 number_small v o h =
     let is = version_is o in
     let rises = known_rises (version_of o) v is.least h in
     let number = is.number in
-    lt_true (number_of o) (known v) (omega arith)
+    lt_true (operation_number o) (known v) (omega arith)
 
 pub some_version : (os : List Op) → 1 ≤ version_for os
 some_version [] = omega arith
@@ -61,11 +61,11 @@ abbrev pub at_least : ℕ → Result (ℕ × List ℕ) ImageError → Result (�
 at_least v (Ok x) = Ok (max v x.0, x.1)
 at_least v (Err e) = Err e
 
-pub at_least_one : (r : Read (List Op)) → many_versions r ≡ at_least 1 (many_versions r)
+pub at_least_one : (r : FieldRead (List Op)) → many_versions r ≡ at_least 1 (many_versions r)
 at_least_one (Ok x) = let h = some_version x.0 in let same : version_for x.0 ≡ max 1 (version_for x.0) = omega arith in ap (λ k. Ok (k, x.1)) same
 at_least_one (Err e) = refl
 
-at_least_with : (v : ℕ) (o : Op) (r : Read (List Op)) → at_least v (many_versions (r >>= (λ ys. Ok (o ∷ ys.0, ys.1)))) ≡ at_least (max (version_of o) v) (many_versions r)
+at_least_with : (v : ℕ) (o : Op) (r : FieldRead (List Op)) → at_least v (many_versions (r >>= (λ ys. Ok (o ∷ ys.0, ys.1)))) ≡ at_least (max (version_of o) v) (many_versions r)
 at_least_with v o (Ok y) =
     let same : max v (max (version_of o) (version_for y.0)) ≡ max (max (version_of o) v) (version_for y.0) = omega arith in
     ap (λ k. Ok (k, y.1)) same
@@ -95,7 +95,7 @@ got : Result (ℕ × List ℕ) ImageError → ℕ × List ℕ
 got (Ok x) = x
 got (Err e) = (0, [])
 
-pub versions_ok : (r : Read (List Op)) (v : ℕ) (rest : List ℕ) → many_versions r ≡ Ok (v, rest) → (os : List Op) × (r ≡ Ok (os, rest)) × (version_for os ≡ v)
+pub versions_ok : (r : FieldRead (List Op)) (v : ℕ) (rest : List ℕ) → many_versions r ≡ Ok (v, rest) → (os : List Op) × (r ≡ Ok (os, rest)) × (version_for os ≡ v)
 unfolding got
 versions_ok (Ok x) v rest e = (x.0, ap (λ z. Ok (x.0, z)) (ap (λ r. (got r).1) e), ap (λ r. (got r).0) e)
 versions_ok (Err y) v rest e = absurd (cc)

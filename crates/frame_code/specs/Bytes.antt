@@ -37,21 +37,21 @@ abbrev pub mark : ℕ → List ℕ
 mark version = codes "BC0" ++ (48 + version) ∷ []
 
 -- the number of an operation
-abbrev pub number_of : Op → ℕ
-number_of Halt = 0
-number_of (Send m) = 1
-number_of (Alt m) = 2
-number_of (SetGap t) = 3
-number_of (Loop n) = 4
-number_of (Again i) = 5
-number_of (Leave i) = 6
-number_of (Jump i) = 7
-number_of (Test k) = 8
-number_of (JumpFalse i) = 9
-number_of (Call r) = 10
-number_of Return = 11
-number_of Begin = 12
-number_of (Pace h) = 13
+abbrev pub operation_number : Op → ℕ
+operation_number Halt = 0
+operation_number (Send m) = 1
+operation_number (Alt m) = 2
+operation_number (SetGap t) = 3
+operation_number (Loop n) = 4
+operation_number (Again i) = 5
+operation_number (Leave i) = 6
+operation_number (Jump i) = 7
+operation_number (Test k) = 8
+operation_number (JumpFalse i) = 9
+operation_number (Call r) = 10
+operation_number Return = 11
+operation_number Begin = 12
+operation_number (Pace h) = 13
 
 -- the number of a test: 0 failed, 1 silent, and 16 more than the place of a status bit
 abbrev pub number_of_test : OutcomeTest → ℕ
@@ -78,7 +78,7 @@ operand_of (Pace h) = h
 
 -- four bytes: the number, 00, and the operand
 abbrev pub operation_bytes : Op → List ℕ
-operation_bytes o = number_of o ∷ 0 ∷ two_bytes (operand_of o)
+operation_bytes o = operation_number o ∷ 0 ∷ two_bytes (operand_of o)
 
 abbrev pub line_number : Line → ℕ
 line_number A = 0

@@ -27,27 +27,27 @@ Ok x >>= f = f x
 Err e >>= f = Err e
 
 -- what is read, and the bytes behind it
-abbrev pub Read : Type 0 → Type 0
-Read X = Result (X × List ℕ) ImageError
+abbrev pub FieldRead : Type 0 → Type 0
+FieldRead X = Result (X × List ℕ) ImageError
 
 -- the value where the field may have it, else the fault
 abbrev pub must : {X : Type 0} → Bool → ImageError → X → Result X ImageError
 must fits e x = if fits then Ok x else Err e
 
 -- a field of one byte; the bytes may end too early
-abbrev pub byte_at : List ℕ → Read ℕ
+abbrev pub byte_at : List ℕ → FieldRead ℕ
 byte_at [] = Err fault.Length
 byte_at (b ∷ bs) = Ok (b, bs)
 
 -- a field of two bytes, the low one first
-unfoldable pub two_at : List ℕ → Read ℕ
+unfoldable pub two_at : List ℕ → FieldRead ℕ
 two_at bs = do
   low ← byte_at bs
   high ← byte_at low.1
   Ok (low.0 + 256 * high.0, high.1)
 
 -- the mark BC01, BC02 or BC03: the version, 1 to 3
-unfoldable pub mark_at : List ℕ → Read ℕ
+unfoldable pub mark_at : List ℕ → FieldRead ℕ
 mark_at (a ∷ b ∷ c ∷ d ∷ bs) = must (a == 66 && b == 67 && c == 48 && (d == 49 || d == 50 || d == 51)) fault.Mark
     (d - 48, bs)
 mark_at _ = Err fault.Mark
@@ -89,7 +89,7 @@ present e None = Err e
 present e (Some x) = Ok x
 
 -- four bytes: a number that the version knows, 00, and an operand in its range
-unfoldable pub operation_at : ℕ → List ℕ → Read Op
+unfoldable pub operation_at : ℕ → List ℕ → FieldRead Op
 operation_at version bs = do
   number ← byte_at bs
   _ ← must (nat_lt number.0 (known version)) fault.Operations number
@@ -100,13 +100,13 @@ operation_at version bs = do
   Ok (operation, operand.1)
 
 -- so many of something, one after the other
-module _ {X : Type 0} (one : List ℕ → Read X) where
-  unfoldable pub many : ℕ → List ℕ → Read (List X)
+module _ {X : Type 0} (one : List ℕ → FieldRead X) where
+  unfoldable pub many : ℕ → List ℕ → FieldRead (List X)
   many zero bs = Ok ([], bs)
   many (suc n) bs = one bs >>= (λ x. many n x.1 >>= (λ xs. Ok (x.0 ∷ xs.0, xs.1)))
 
 -- the line of a message, 0 or 1
-unfoldable pub line_at : List ℕ → Read Line
+unfoldable pub line_at : List ℕ → FieldRead Line
 line_at bs = do
   line ← byte_at bs
   _ ← must (nat_lt line.0 2) fault.Messages line
@@ -118,8 +118,8 @@ message_with None = None
 message_with (Some request) = Some (form_of request)
 
 -- the number of data words, and those; the fields before them are known
-unfoldable pub words_at : ℕ → Line → ℕ → ℕ → List ℕ → Read (Line × Message)
-words_at form line first second bs = do
+unfoldable pub message_words_at : ℕ → Line → ℕ → ℕ → List ℕ → FieldRead (Line × Message)
+message_words_at form line first second bs = do
   count ← two_at bs
   _ ← must (count.0 == words_due form first) fault.Messages count
   words ← many two_at count.0 count.1
@@ -128,7 +128,7 @@ words_at form line first second bs = do
   Ok ((line, message), words.1)
 
 -- the form, the line, the commands, and the data words
-unfoldable pub message_at : List ℕ → Read (Line × Message)
+unfoldable pub message_at : List ℕ → FieldRead (Line × Message)
 message_at bs = do
   form ← byte_at bs
   _ ← must (nat_lt form.0 10) fault.Messages form
@@ -137,7 +137,7 @@ message_at bs = do
   _ ← must (first_fits form.0 first.0) fault.Messages first
   second ← two_at first.1
   _ ← must (second_fits form.0 first.0 second.0) fault.Messages second
-  words_at form.0 line.0 first.0 second.0 second.1
+  message_words_at form.0 line.0 first.0 second.0 second.1
 
 -- nothing may be left behind the last message
 abbrev pub at_end : List ℕ → Code → Result Code ImageError
@@ -167,9 +167,9 @@ image_of bs = do
   fitting header.0 code
 
 -- a reader in the code answers what its definition reads
-abbrev pub Gives : {X Y : Type 0} → (X → Y) → Result X ImageError → Result Y ImageError → Type 0
-Gives view (Ok x) read = read ≡ Ok (view x)
-Gives view (Err e) read = read ≡ Err e
+abbrev pub ReadsImage : {X Y : Type 0} → (X → Y) → Result X ImageError → Result Y ImageError → Type 0
+ReadsImage view (Ok x) read = read ≡ Ok (view x)
+ReadsImage view (Err e) read = read ≡ Err e
 
 -- the definition reads this fault; of want of memory it says nothing
 abbrev pub Faults : {Y : Type 0} → ImageError → Result Y ImageError → Type 0
@@ -181,16 +181,16 @@ Faults fault.Version read = read ≡ Err fault.Version
 Faults fault.Memory read = Unit {0}
 
 -- the same, but that it may also be refused memory
-abbrev pub Builds : {X Y : Type 0} → (X → Y) → Result X ImageError → Result Y ImageError → Type 0
-Builds view (Ok x) read = read ≡ Ok (view x)
-Builds view (Err e) read = Faults e read
+abbrev pub ReadsImageInMemory : {X Y : Type 0} → (X → Y) → Result X ImageError → Result Y ImageError → Type 0
+ReadsImageInMemory view (Ok x) read = read ≡ Ok (view x)
+ReadsImageInMemory view (Err e) read = Faults e read
 
 -- what is behind that which was read
-abbrev pub behind : {X : Type 0} → Read X → Result (List ℕ) ImageError
+abbrev pub behind : {X : Type 0} → FieldRead X → Result (List ℕ) ImageError
 behind (Ok x) = Ok x.1
 behind (Err e) = Err e
 
 -- the version that the operations that were read need, and what is behind them
-abbrev pub many_versions : Read (List Op) → Result (ℕ × List ℕ) ImageError
+abbrev pub many_versions : FieldRead (List Op) → Result (ℕ × List ℕ) ImageError
 many_versions (Ok x) = Ok (version_for x.0, x.1)
 many_versions (Err e) = Err e

@@ -1,11 +1,11 @@
 //! The image that bytes spell. The bytes are judged first, which takes no memory, and then the image is made.
 ghost use Rattle.frame_code.specs.Bytes.{image_bytes};
 ghost use Rattle.frame_code.specs.Bytes.{number_of_test, operand_of, operation_bytes, line_number, message_bytes};
-ghost use Rattle.frame_code.specs.Bytes.{version_of, version_for, two_bytes, mark, header_bytes, number_of};
+ghost use Rattle.frame_code.specs.Bytes.{version_of, version_for, two_bytes, mark, header_bytes, operation_number};
 ghost use Rattle.frame_code.specs.Fields as table;
 ghost use Rattle.frame_code.specs.Ranges.{in_range, is_routine, AreInRange};
 ghost use Rattle.frame_code.specs.Reading as spelled;
-ghost use Rattle.frame_code.specs.Reading.{Gives, Builds, behind, many_versions, image_of};
+ghost use Rattle.frame_code.specs.Reading.{ReadsImage, ReadsImageInMemory, behind, many_versions, image_of};
 ghost use Rattle.frame_code.specs.Table.{Code};
 ghost use Rattle.frame_code.specs.declared.Op.TheVariants as op;
 ghost use Rattle.frame_code.specs.declared.error.ImageError.{ImageError};
@@ -25,7 +25,7 @@ use std::alloc::Global;
 
 // A field of one byte.
 fn byte(bytes: &[u8]) -> Result<(u8, &[u8]), ImageError>
-    ensures byte { Gives (λ x. (x.0, x.1.now)) result (spelled.byte_at bytes.now) }
+    ensures byte { ReadsImage (λ x. (x.0, x.1.now)) result (spelled.byte_at bytes.now) }
     ensures spelled { IfOk result (λ x. bytes.now ≡ x.0 ∷ x.1.now) }
     ensures range { IfOk result (λ x. x.0 < 256) }
 {
@@ -38,7 +38,7 @@ fn byte(bytes: &[u8]) -> Result<(u8, &[u8]), ImageError>
 // A field of two bytes, the low one first.
 #[tactic(auto, unfolding(crate::specs::Reading::two_at))]
 fn two(bytes: &[u8]) -> Result<(u16, &[u8]), ImageError>
-    ensures two { Gives (λ x. (x.0, x.1.now)) result (spelled.two_at bytes.now) }
+    ensures two { ReadsImage (λ x. (x.0, x.1.now)) result (spelled.two_at bytes.now) }
     ensures spelled { IfOk result (λ x. bytes.now ≡ two_bytes x.0 ++ x.1.now) }
 {
     let (low, rest) = byte(bytes)?;
@@ -49,7 +49,7 @@ fn two(bytes: &[u8]) -> Result<(u16, &[u8]), ImageError>
 // The version that the mark tells, 1 to 3, and the bytes behind it.
 #[tactic(auto, unfolding(crate::specs::Reading::mark_at))]
 fn mark(bytes: &[u8]) -> Result<(u8, &[u8]), ImageError>
-    ensures mark { Gives (λ x. (x.0, x.1.now)) result (spelled.mark_at bytes.now) }
+    ensures mark { ReadsImage (λ x. (x.0, x.1.now)) result (spelled.mark_at bytes.now) }
     ensures spelled { IfOk result (λ x. bytes.now ≡ mark x.0 ++ x.1.now) }
     ensures range { IfOk result (λ x. 1 ≤ x.0) }
 {
@@ -71,7 +71,7 @@ struct Opening<'a> {
 // The mark and the two counts, and the bytes behind them.
 #[tactic(auto, unfolding(crate::specs::Reading::header_at))]
 fn header(bytes: &[u8]) -> Result<Opening<'_>, ImageError>
-    ensures fields { Gives (λ x. (x.version, x.operations, x.messages, x.rest.now)) result
+    ensures fields { ReadsImage (λ x. (x.version, x.operations, x.messages, x.rest.now)) result
         (spelled.header_at bytes.now) }
     ensures spelled { IfOk result (λ x. bytes.now ≡ header_bytes x.version x.operations x.messages ++ x.rest.now) }
     ensures operations { IfOk result (λ x. x.operations ≤ 4096) }
@@ -127,7 +127,7 @@ fn call_of(number: u16) -> Option<Op>
 fn operation_of(number: u8, operand: u16) -> Option<Op>
     ensures operation { result ≡ spelled.operation_of number operand }
     ensures range { IfSome result (λ op. IsTrue (in_range op)) }
-    ensures number { IfSome result (λ op. number_of op ≡ number) }
+    ensures number { IfSome result (λ op. operation_number op ≡ number) }
     ensures operand { IfSome result (λ op. operand_of op ≡ operand) }
 {
     match number {
@@ -163,7 +163,7 @@ fn known(version: u8) -> u8
 // An operation: a number that the version knows, 00, and an operand in its range.
 #[tactic(auto, unfolding(crate::specs::Reading::operation_at))]
 fn operation(version: u8, bytes: &[u8]) -> Result<(Op, &[u8]), ImageError>
-    ensures operation { Gives (λ x. (x.0, x.1.now)) result (spelled.operation_at version bytes.now) }
+    ensures operation { ReadsImage (λ x. (x.0, x.1.now)) result (spelled.operation_at version bytes.now) }
     ensures range { IfOk result (λ x. IsTrue (in_range x.0)) }
     ensures spelled { IfOk result (λ x. bytes.now ≡ operation_bytes x.0 ++ x.1.now) }
     ensures known { IfOk result (λ x. (1 ≤ version) → version_of x.0 ≤ version) }
@@ -186,7 +186,7 @@ fn operation(version: u8, bytes: &[u8]) -> Result<(Op, &[u8]), ImageError>
 // The line of a message, 0 or 1.
 #[tactic(auto, unfolding(crate::specs::Reading::line_at))]
 fn line(bytes: &[u8]) -> Result<(Line, &[u8]), ImageError>
-    ensures line { Gives (λ x. (x.0, x.1.now)) result (spelled.line_at bytes.now) }
+    ensures line { ReadsImage (λ x. (x.0, x.1.now)) result (spelled.line_at bytes.now) }
     ensures spelled { IfOk result (λ x. bytes.now ≡ line_number x.0 ∷ x.1.now) }
 {
     let (line, rest) = byte(bytes)?;
@@ -200,7 +200,7 @@ fn line(bytes: &[u8]) -> Result<(Line, &[u8]), ImageError>
 // So many data words, at most 32.
 fn words(count: u16, bytes: &[u8]) -> Result<(ArrayVec<u16, 32>, &[u8]), ImageError>
     requires { count ≤ 32 }
-    ensures words { Gives (λ x. (x.0.items, x.1.now)) result (spelled.many spelled.two_at count bytes.now) }
+    ensures words { ReadsImage (λ x. (x.0.items, x.1.now)) result (spelled.many spelled.two_at count bytes.now) }
     ensures count { IfOk result (λ x. length x.0.items ≡ count) }
     ensures spelled { IfOk result (λ x. bytes.now ≡ flat_map two_bytes x.0.items ++ x.1.now) }
 {
@@ -215,7 +215,7 @@ fn words(count: u16, bytes: &[u8]) -> Result<(ArrayVec<u16, 32>, &[u8]), ImageEr
 }
 
 // The data words of a message whose other fields are known, and so the message.
-#[tactic(auto, unfolding(crate::specs::Reading::words_at))]
+#[tactic(auto, unfolding(crate::specs::Reading::message_words_at))]
 fn body(
     form: u8,
     line: Line,
@@ -226,7 +226,8 @@ fn body(
     requires form { form < 10 }
     requires first { IsTrue (table.first_fits form first) }
     requires second { IsTrue (table.second_fits form first second) }
-    ensures message { Gives (λ x. (x.0, x.1.now)) result (spelled.words_at form line first second bytes.now) }
+    ensures message { ReadsImage (λ x. (x.0, x.1.now)) result
+        (spelled.message_words_at form line first second bytes.now) }
     ensures spelled { IfOk result (λ x. form ∷ line_number line ∷ two_bytes first ++ two_bytes second ++ bytes.now
         ≡ message_bytes x.0 ++ x.1.now) }
 {
@@ -244,7 +245,7 @@ fn body(
 // A message with its line.
 #[tactic(auto, unfolding(crate::specs::Reading::message_at))]
 fn message(bytes: &[u8]) -> Result<((Line, Message), &[u8]), ImageError>
-    ensures message { Gives (λ x. (x.0, x.1.now)) result (spelled.message_at bytes.now) }
+    ensures message { ReadsImage (λ x. (x.0, x.1.now)) result (spelled.message_at bytes.now) }
     ensures spelled { IfOk result (λ x. bytes.now ≡ message_bytes x.0 ++ x.1.now) }
 {
     let (form, rest) = byte(bytes)?;
@@ -265,7 +266,7 @@ fn message(bytes: &[u8]) -> Result<((Line, Message), &[u8]), ImageError>
 
 // The version that so many operations need, and the bytes behind them.
 fn past_operations(version: u8, count: u16, bytes: &[u8]) -> Result<(u8, &[u8]), ImageError>
-    ensures { Gives (λ x. (x.0, x.1.now)) result
+    ensures { ReadsImage (λ x. (x.0, x.1.now)) result
         (many_versions (spelled.many (spelled.operation_at version) count bytes.now)) }
 {
     let mut rest = bytes;
@@ -280,7 +281,7 @@ fn past_operations(version: u8, count: u16, bytes: &[u8]) -> Result<(u8, &[u8]),
 
 // The bytes behind so many messages.
 fn past_messages(count: u16, bytes: &[u8]) -> Result<&[u8], ImageError>
-    ensures { Gives (λ rest. rest.now) result (behind (spelled.many spelled.message_at count bytes.now)) }
+    ensures { ReadsImage (λ rest. rest.now) result (behind (spelled.many spelled.message_at count bytes.now)) }
 {
     let mut rest = bytes;
     for _ in 0..count {
@@ -325,7 +326,7 @@ fn operations(
     count: u16,
     bytes: &[u8],
 ) -> Result<(Vec<Op>, &[u8]), ImageError>
-    ensures operations { Builds (λ x. (x.0.items, x.1.now)) result
+    ensures operations { ReadsImageInMemory (λ x. (x.0.items, x.1.now)) result
         (spelled.many (spelled.operation_at version) count bytes.now) }
     ensures known { IfOk result (λ x. (1 ≤ version) → version_for x.0.items ≤ version) }
     ensures range { IfOk result (λ x. AreInRange x.0.items) }
@@ -348,7 +349,8 @@ fn messages(
     count: u16,
     bytes: &[u8],
 ) -> Result<(Vec<(Line, Message)>, &[u8]), ImageError>
-    ensures messages { Builds (λ x. (x.0.items, x.1.now)) result (spelled.many spelled.message_at count bytes.now) }
+    ensures messages { ReadsImageInMemory
+        (λ x. (x.0.items, x.1.now)) result (spelled.many spelled.message_at count bytes.now) }
     ensures count { IfOk result (λ x. length x.0.items ≡ count) }
     ensures spelled { IfOk result (λ x. bytes.now ≡ flat_map message_bytes x.0.items ++ x.1.now) }
 {
@@ -365,7 +367,7 @@ fn messages(
 // The image that the bytes spell.
 #[tactic(auto, unfolding(crate::specs::Reading::image_of))]
 fn build(alloc: Global, bytes: &[u8]) -> Result<Image, ImageError>
-    ensures image { Builds (λ image. image) result (image_of bytes.now) }
+    ensures image { ReadsImageInMemory (λ image. image) result (image_of bytes.now) }
     ensures spelled { IfOk result (λ image. bytes.now ≡ image_bytes image) }
 {
     let header = header(bytes)?;

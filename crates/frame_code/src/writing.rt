@@ -23,7 +23,7 @@ fn put_two(bytes: &mut Vec<u8>, number: u16) -> Result<(), AllocError>
 
 // The number of an operation.
 fn number_of(op: Op) -> u8
-    ensures { result ≡ spelled.number_of op }
+    ensures { result ≡ spelled.operation_number op }
 {
     match op {
         Op::Halt => 0,

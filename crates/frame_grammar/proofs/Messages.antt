@@ -16,7 +16,7 @@ use Rattle.mil_message.proofs.Checked.{request_of-checked, lawful-checked, secon
 use Rattle.frame_text.specs.Tokens.{tokens}
 use Rattle.frame_text.specs.Reading.{Tokens, ◌>>=◌, same_bytes, misplaced, to_the_end}
 use Rattle.frame_text.specs.Words.{number_at, bracketed_at, optional_at}
-use Rattle.frame_text.specs.Messages.{line_at, message_at, message_of, message_word, made, judged, send_at, send_of_text, receive_at, transmit_at, transfer_at, mode_at, receive_all_at, transfer_all_at, mode_all_at}
+use Rattle.frame_text.specs.Messages.{line_at, message_at, message_of, message_word, made, judged_request, send_at, send_of_text, receive_at, transmit_at, transfer_at, mode_at, receive_all_at, transfer_all_at, mode_all_at}
 use Rattle.frame_text.specs.declared.keywords.MessageWord.{MessageWord}
 use Rattle.frame_text.specs.declared.keywords.MessageWord.TheVariants as word
 use Rattle.frame_text.proofs.Soundness.{bind_ok, ok_is}
@@ -68,7 +68,7 @@ few_mode_to_all s c (Some ns) m e =
 made_ok : (r : Request) (ts : Tokens) (x : Form × Tokens) → made r ts ≡ Ok x → (checked r ≡ Ok x.0) × (ts ≡ x.1)
 made_ok r ts x e = by (checked r) e
   where
-    by : (c : Result Form BadMessage) → judged c ts ≡ Ok x → (c ≡ Ok x.0) × (ts ≡ x.1)
+    by : (c : Result Form BadMessage) → judged_request c ts ≡ Ok x → (c ≡ Ok x.0) × (ts ≡ x.1)
     by (Ok form) i = let g : (form, ts) ≡ x = ok_is (form, ts) x i in (ap (λ z. Ok z.0) g, ap (λ z. z.1) g)
     by (Err bad) i = absurd (cc)
 
@@ -288,24 +288,24 @@ send_stands ts x e =
 message_read : {ws : Tokens} {r : Request} → rule ws r → (m : Form) → checked r ≡ Ok m → (rest : Tokens) → MayFollow rest → message_at (ws ++ rest) ≡ Ok (m, rest)
 unfolding message_at message_of message_word receive_at transmit_at transfer_at mode_at receive_all_at transfer_all_at mode_all_at
 message_read (rule.rx {address = address} {sub = sub} {words = words} {a = a} {s = s} {ns = ns} p q v) m e rest f =
-    rw (number_read address a p (sub ∷ words ++ rest), number_read sub s q (words ++ rest), words_read v (few_received a s ns m e) rest) (ap (λ z. judged z rest) e)
+    rw (number_read address a p (sub ∷ words ++ rest), number_read sub s q (words ++ rest), words_read v (few_received a s ns m e) rest) (ap (λ z. judged_request z rest) e)
 message_read (rule.tx {address = address} {sub = sub} {count = count} {a = a} {s = s} {n = n} p q v) m e rest f =
-    rw (number_read address a p (sub ∷ count ∷ rest), number_read sub s q (count ∷ rest), number_read count n v rest) (ap (λ z. judged z rest) e)
+    rw (number_read address a p (sub ∷ count ∷ rest), number_read sub s q (count ∷ rest), number_read count n v rest) (ap (λ z. judged_request z rest) e)
 message_read (rule.rt {sender = sender} {from = from} {receiver = receiver} {to = to} {count = count} {a = a} {s = s} {b = b} {t = t} {n = n} p q u v k) m e rest f =
     rw (number_read sender a p (from ∷ receiver ∷ to ∷ count ∷ rest), number_read from s q (receiver ∷ to ∷ count ∷ rest), number_read receiver b u (to ∷ count ∷ rest), number_read to t v (count ∷ rest), number_read count n k rest)
-    (ap (λ z. judged z rest) e)
+    (ap (λ z. judged_request z rest) e)
 message_read (rule.mode {address = address} {code = code} {words = words} {a = a} {c = c} {ns = ns} p q v) m e rest f =
-    rw (number_read address a p (code ∷ words ++ rest), number_read code c q (words ++ rest), words_may_read v (few_mode a ThirtyOne c ns m e) rest f) (ap (λ z. judged z rest) e)
+    rw (number_read address a p (code ∷ words ++ rest), number_read code c q (words ++ rest), words_may_read v (few_mode a ThirtyOne c ns m e) rest f) (ap (λ z. judged_request z rest) e)
 message_read (rule.mode0 {address = address} {code = code} {words = words} {a = a} {c = c} {ns = ns} p q v) m e rest f =
-    rw (number_read address a p (code ∷ words ++ rest), number_read code c q (words ++ rest), words_may_read v (few_mode a Zero c ns m e) rest f) (ap (λ z. judged z rest) e)
+    rw (number_read address a p (code ∷ words ++ rest), number_read code c q (words ++ rest), words_may_read v (few_mode a Zero c ns m e) rest f) (ap (λ z. judged_request z rest) e)
 message_read (rule.brx {sub = sub} {words = words} {s = s} {ns = ns} q v) m e rest f =
-    rw (number_read sub s q (words ++ rest), words_read v (few_received_by_all s ns m e) rest) (ap (λ z. judged z rest) e)
+    rw (number_read sub s q (words ++ rest), words_read v (few_received_by_all s ns m e) rest) (ap (λ z. judged_request z rest) e)
 message_read (rule.brt {sender = sender} {from = from} {to = to} {count = count} {a = a} {s = s} {t = t} {n = n} p q v k) m e rest f =
-    rw (number_read sender a p (from ∷ to ∷ count ∷ rest), number_read from s q (to ∷ count ∷ rest), number_read to t v (count ∷ rest), number_read count n k rest) (ap (λ z. judged z rest) e)
+    rw (number_read sender a p (from ∷ to ∷ count ∷ rest), number_read from s q (to ∷ count ∷ rest), number_read to t v (count ∷ rest), number_read count n k rest) (ap (λ z. judged_request z rest) e)
 message_read (rule.bmode {code = code} {words = words} {c = c} {ns = ns} q v) m e rest f =
-    rw (number_read code c q (words ++ rest), words_may_read v (few_mode_to_all ThirtyOne c ns m e) rest f) (ap (λ z. judged z rest) e)
+    rw (number_read code c q (words ++ rest), words_may_read v (few_mode_to_all ThirtyOne c ns m e) rest f) (ap (λ z. judged_request z rest) e)
 message_read (rule.bmode0 {code = code} {words = words} {c = c} {ns = ns} q v) m e rest f =
-    rw (number_read code c q (words ++ rest), words_may_read v (few_mode_to_all Zero c ns m e) rest f) (ap (λ z. judged z rest) e)
+    rw (number_read code c q (words ++ rest), words_may_read v (few_mode_to_all Zero c ns m e) rest f) (ap (λ z. judged_request z rest) e)
 
 line_read : {w : List ℕ} {l : Line} → SpellsLine w l → (ts : Tokens) → line_at (w ∷ ts) ≡ Ok (l, ts)
 unfolding line_at

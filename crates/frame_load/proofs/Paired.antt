@@ -36,8 +36,8 @@ module _ (kind : Kind) (os : List Op) where
   open_next i o at pair = ap (λ v. count_in kind os (after v i (open_at os i))) at ∙ count_after os kind o i (open_at os i) at pair
 
   -- no operation so far has too many open
-  abbrev pub SoFar : ℕ → Type 0
-  SoFar i = (p : ℕ) (o : Op) → p < i → slice_get os p ≡ Some o → peak_of (effect_of o kind) (open_of kind os p) (depths_at kind os p).ended ≤ most_of kind
+  abbrev pub PeaksSoFar : ℕ → Type 0
+  PeaksSoFar i = (p : ℕ) (o : Op) → p < i → slice_get os p ≡ Some o → peak_of (effect_of o kind) (open_of kind os p) (depths_at kind os p).ended ≤ most_of kind
 
   -- what is known at a place: how many are open, and the depths of the routine so far and of those that ended
   pub record Going (i depth deepest routine : ℕ) (ended : List ℕ) : Type 0 where
@@ -49,7 +49,7 @@ module _ (kind : Kind) (os : List Op) where
     pub long : length ended ≡ 32
     pub depths : (r : ℕ) → r < owner_at os i → get_or ended r 0 ≡ get_or (depths_at kind os i).ended r 0
     pub ended_low : (r : ℕ) → r < owner_at os i → get_or ended r 0 ≤ most_of kind
-    pub so_far : SoFar i
+    pub so_far : PeaksSoFar i
 
   module _ (i : ℕ) (o : Op) (at : slice_get os i ≡ Some o) (calls : (r : ℕ) → o ≡ Call r → r < owner_at os i) {depth deepest routine : ℕ} {ended : List ℕ} (g : Going i depth deepest routine ended) where
     pub peak_is : peak_of (effect_of o kind) depth ended ≡ peak_of (effect_of o kind) (open_of kind os i) (depths_at kind os i).ended

@@ -64,7 +64,7 @@ fn cost(op: Op, what: Counted) -> u64
 }
 
 // What the routine of a Call costs, or the cap; 0 for every other operation.
-fn called(op: Op, ended: &[u64; 32]) -> u64
+fn cost_called(op: Op, ended: &[u64; 32]) -> u64
     requires { (r : ℕ) → op ≡ op_of.Call r → r < 32 }
     ensures { result ≡ sums.cost_called op ended.now }
 {
@@ -99,7 +99,7 @@ pub fn count(operations: &[Op], weights: &[u64; 4096], what: Counted) -> u64
     let mut routine: u8 = 0;
     for i in 0..operations.len() {
         let op = operations[i];
-        let one = cost(op, what) + called(op, &ended);
+        let one = cost(op, what) + cost_called(op, &ended);
         now = added(now, weights[i], one);
         if let Op::Return = op {
             ended[routine as usize] = now;

@@ -7,7 +7,7 @@ use Rattle.frame_tree.specs.Bounds.{depth_in, worst_messages}
 use Rattle.frame_tree.specs.Names.{Scope}
 use Rattle.frame_tree.specs.Scopes.{scope_of}
 use Rattle.frame_tree.specs.declared.names.Scope.{Empty, the_lemmas}
-use Rattle.frame_text.specs.Reading.{◌>>=◌, Tokens, same_bytes, Fails, Breaks, IsOfText}
+use Rattle.frame_text.specs.Reading.{◌>>=◌, Tokens, same_bytes, FailsReadingTokens, Breaks, IsOfText}
 use Rattle.frame_text.specs.Frames.{block_at, fresh_name_at, script_at, bounded}
 use Rattle.frame_text.specs.declared.faults.Cause.{Cause}
 use Rattle.frame_text.specs.declared.faults.Cause.TheVariants as cause
@@ -22,7 +22,7 @@ module _ (k : ℕ) (ds : Scope ℕ) (w : List ℕ) (text ts : Tokens) (is : text
   abbrev whole : Result ((List ℕ × Tree) × Tokens) Cause → Result Tree Cause
   whole r = r >>= (λ x. script_at (k - 1) ((x.0.0, depth_in ds x.0.1) ∷ ds) x.1 >>= (λ t. Ok (define x.0.0 x.0.1 t)))
 
-  pub name_fails : (R : Type 0) (f : Fault) → Fails f (fresh_name_at ds ts) → IsOfText f → Breaks R f (script_at k ds text)
+  pub name_fails : (R : Type 0) (f : Fault) → FailsReadingTokens f (fresh_name_at ds ts) → IsOfText f → Breaks R f (script_at k ds text)
   name_fails R (fault.Text c left) e of_text = defines k ds w text ts is h some ∙ ap (λ r. whole (r >>= (λ n. block_at ds 17 n.1 >>= (λ b. Ok ((n.0, b.0), b.1))))) e
   name_fails R (fault.Memory left) e of_text = absurd of_text
 

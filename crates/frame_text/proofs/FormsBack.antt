@@ -15,7 +15,7 @@ use Rattle.mil_message.specs.Rules.{IsLawful, first_fault, request_for, checked,
 use Rattle.mil_message.proofs.Checked.{head_met, middle_met, checked-request_for}
 use Rattle.frame_text.specs.Reading.{Tokens, ◌>>=◌, same_bytes, past}
 use Rattle.frame_text.specs.Words.{number_at, words_at, counted, bracketed_at, optional_at, spelled}
-use Rattle.frame_text.specs.Messages.{line_at, message_at, message_of, message_word, made, judged, send_at, receive_at, transmit_at, transfer_at, mode_at, receive_all_at, transfer_all_at, mode_all_at}
+use Rattle.frame_text.specs.Messages.{line_at, message_at, message_of, message_word, made, judged_request, send_at, receive_at, transmit_at, transfer_at, mode_at, receive_all_at, transfer_all_at, mode_all_at}
 use Rattle.frame_text.specs.PrintedMessages.{data_word_text, line_text}
 use Rattle.frame_text.proofs.Tables.{pick}
 use Rattle.frame_text.proofs.Digits.{number_back, data_word_back}
@@ -74,7 +74,7 @@ none_back (w ∷ ts) h = rw h.0 refl
 
 -- a request that asks for a lawful form
 made_back : (request : Request) (m : Form) (ts : Tokens) → IsLawful m → request ≡ request_for m → made request ts ≡ Ok (m, ts)
-made_back request m ts h e = ap (λ r. judged r ts) (ap checked e ∙ checked-request_for m h)
+made_back request m ts h e = ap (λ r. judged_request r ts) (ap checked e ∙ checked-request_for m h)
 
 alone_met : (a c : ℕ) → first_fault ((is_address a, Address) ∷ (is_code_alone c, CountOrCode) ∷ (true, ModeWord) ∷ []) ≡ None → is_code_alone c ≡ true
 alone_met a c h = middle_met (is_address a) (is_code_alone c) true Address CountOrCode ModeWord h

@@ -14,7 +14,7 @@ use Rattle.mil_message.proofs.Checked.{lawful-checked}
 use Rattle.numerals.proofs.Back.{spelled_below}
 use Rattle.frame_text.specs.Reading.{Tokens, ◌>>=◌, same_bytes, past}
 use Rattle.frame_text.specs.Words.{data_word_of, spelled, number_at, words_at, counted, bracketed_at, optional_at}
-use Rattle.frame_text.specs.Messages.{line_at, message_at, message_of, message_word, made, judged, send_at, receive_at, transmit_at, transfer_at, mode_at, receive_all_at, transfer_all_at, mode_all_at}
+use Rattle.frame_text.specs.Messages.{line_at, message_at, message_of, message_word, made, judged_request, send_at, receive_at, transmit_at, transfer_at, mode_at, receive_all_at, transfer_all_at, mode_all_at}
 use Rattle.frame_text.specs.declared.keywords.MessageWord.{MessageWord}
 use Rattle.frame_text.specs.declared.keywords.MessageWord.TheVariants as key
 use Rattle.frame_text.proofs.Soundness.{bind_ok, ok_is}
@@ -79,7 +79,7 @@ judged_form (Some bad) f g e = absurd (cc)
 made_ok : (request : Request) (ts : Tokens) (x : Form × Tokens) → AreWords (data_words (form_of request)) → made request ts ≡ Ok x → IsReadable x.0
 made_ok request ts x w e = by (checked request) refl e
   where
-    by : (r : Result Form BadMessage) → checked request ≡ r → judged r ts ≡ Ok x → IsReadable x.0
+    by : (r : Result Form BadMessage) → checked request ≡ r → judged_request r ts ≡ Ok x → IsReadable x.0
     by (Ok form) i h =
         subst (λ (z : Form × Tokens). IsReadable z.0) (ok_is (form, ts) x h)
         (lawful-checked request form i, subst (λ f. AreWords (data_words f)) (judged_form (rules.first_fault (rules.rules request)) (form_of request) form i) w)

@@ -1,6 +1,6 @@
 -- Want of memory, and what is answered then.
 use Rattle.std.proofs.Common.{◌≡◌, Result, Ok, Err, sym, ap, ◌∙◌}
-use Rattle.frame_text.specs.Reading.{Fails, Breaks, HasNoFault, IsOfText, IsLocated, Refuses}
+use Rattle.frame_text.specs.Reading.{FailsReadingTokens, Breaks, HasNoFault, IsOfText, IsLocated, RefusesScript}
 use Rattle.frame_text.specs.declared.faults.Cause.{Cause}
 use Rattle.frame_text.specs.declared.faults.Fault.{Fault}
 use Rattle.frame_text.specs.declared.faults.Fault.TheVariants as fault
@@ -8,12 +8,12 @@ use Rattle.frame_text.specs.declared.faults.ScriptError.{ScriptError}
 use Rattle.frame_text.specs.declared.faults.ScriptError.TheVariants as error
 
 -- a fault of the text, whatever is known where memory was refused
-pub of_text : (R : Type 0) {Y : Type 0} (f : Fault) (read : Result Y Cause) → Fails f read → IsOfText f → Breaks R f read
+pub of_text : (R : Type 0) {Y : Type 0} (f : Fault) (read : Result Y Cause) → FailsReadingTokens f read → IsOfText f → Breaks R f read
 of_text R (fault.Text c left) read e is = e
 of_text R (fault.Memory left) read e is = absurd is
 
 -- nothing needs to be known
-pub unsure : (R : Type 0) {Y : Type 0} (f : Fault) (read : Result Y Cause) → Breaks R f read → Fails f read
+pub unsure : (R : Type 0) {Y : Type 0} (f : Fault) (read : Result Y Cause) → Breaks R f read → FailsReadingTokens f read
 unsure R (fault.Text c left) read e = e
 unsure R (fault.Memory left) read e = tt
 
@@ -23,12 +23,12 @@ sure R (fault.Text c left) read e = e
 sure R (fault.Memory left) read e = absurd e
 
 -- the text was read once more
-pub read_again : {Y : Type 0} (f : Fault) (read : Result Y Cause) (y : Y) → Fails f read → read ≡ Ok y → Breaks (HasNoFault read) f read
+pub read_again : {Y : Type 0} (f : Fault) (read : Result Y Cause) (y : Y) → FailsReadingTokens f read → read ≡ Ok y → Breaks (HasNoFault read) f read
 read_again (fault.Text c left) read y e r = e
 read_again (fault.Memory left) read y e r = (y, r)
 
 -- with its place
-pub told : {Y : Type 0} (f : Fault) (e : ScriptError) (read : Result Y Cause) → Breaks (HasNoFault read) f read → IsLocated f e → Refuses e read
+pub told : {Y : Type 0} (f : Fault) (e : ScriptError) (read : Result Y Cause) → Breaks (HasNoFault read) f read → IsLocated f e → RefusesScript e read
 told (fault.Text c left) (error.Text d place) read r same = r ∙ ap Err (sym same)
 told (fault.Text c left) (error.Memory place) read r same = absurd same
 told (fault.Memory left) (error.Text d place) read r same = absurd same

@@ -4,7 +4,7 @@ use Rattle.std.specs.Prelude.{codes, Some, None, if◌then◌else◌}
 use Rattle.frame_tree.specs.Tree.{Tree, chain, nothing, chained, define}
 use Rattle.frame_tree.specs.Bounds.{depth_in}
 use Rattle.frame_tree.specs.Names.{is_name, Scope}
-use Rattle.frame_text.specs.Reading.{◌>>=◌, Tokens, Reading, same_bytes, misplaced, Fails, Breaks, IsCause}
+use Rattle.frame_text.specs.Reading.{◌>>=◌, Tokens, TokenReading, same_bytes, misplaced, FailsReadingTokens, Breaks, IsCause}
 use Rattle.frame_text.specs.Frames.{Reader, frame_at, frames_at, inner_at, label_at, main_at, definition_at, script_at}
 use Rattle.frame_text.specs.declared.faults.Cause.{Cause}
 use Rattle.frame_text.specs.declared.faults.Cause.TheVariants as cause
@@ -25,17 +25,17 @@ abbrev before : List Tree → Tree → Tree
 before [] t = t
 before (u ∷ us) t = chained u (before us t)
 
-abbrev put_before : List Tree → Reading Tree → Reading Tree
+abbrev put_before : List Tree → TokenReading Tree → TokenReading Tree
 put_before ts r = r >>= (λ x. Ok (before ts x.0, x.1))
 
-abbrev pub onto : List Tree → Reading Tree → Reading Tree
+abbrev pub onto : List Tree → TokenReading Tree → TokenReading Tree
 onto us r = put_before us r
 
-put_none : (r : Reading Tree) → r ≡ put_before [] r
+put_none : (r : TokenReading Tree) → r ≡ put_before [] r
 put_none (Ok x) = refl
 put_none (Err e) = refl
 
-pub onto_none : (us : List Tree) (r : Reading Tree) → us ≡ [] → r ≡ onto us r
+pub onto_none : (us : List Tree) (r : TokenReading Tree) → us ≡ [] → r ≡ onto us r
 onto_none us r e = put_none r ∙ ap (λ vs. onto vs r) (sym e)
 
 pub before_nothing : (ts : List Tree) → before ts nothing ≡ chain ts
@@ -46,18 +46,18 @@ before_more : (ts : List Tree) (t u : Tree) → before ts (chained t u) ≡ befo
 before_more [] t u = refl
 before_more (s ∷ ts) t u = ap (chained s) (before_more ts t u)
 
-put_more : (ts : List Tree) (t : Tree) (r : Reading Tree) → put_before ts (r >>= (λ y. Ok (chained t y.0, y.1))) ≡ put_before (ts ++ t ∷ []) r
+put_more : (ts : List Tree) (t : Tree) (r : TokenReading Tree) → put_before ts (r >>= (λ y. Ok (chained t y.0, y.1))) ≡ put_before (ts ++ t ∷ []) r
 put_more ts t (Ok x) = ap (λ z. Ok (z, x.1)) (before_more ts t x.0)
 put_more ts t (Err e) = refl
 
-pub frames_end : (frame : Reader) (n : ℕ) (ts : Tokens) (fs : List Tree) (whole : Reading Tree) → ts ≡ [] → whole ≡ onto fs (frames_at frame n ts) → whole ≡ Err cause.End
+pub frames_end : (frame : Reader) (n : ℕ) (ts : Tokens) (fs : List Tree) (whole : TokenReading Tree) → ts ≡ [] → whole ≡ onto fs (frames_at frame n ts) → whole ≡ Err cause.End
 unfolding frames_at
 frames_end frame n ts fs whole h e = e ∙ ap (λ z. onto fs (frames_at frame n z)) h
 
-abbrev goes : Reader → ℕ → List ℕ → Tokens → Bool → Reading Tree
+abbrev goes : Reader → ℕ → List ℕ → Tokens → Bool → TokenReading Tree
 goes frame n w ts b = cond b (Ok (nothing, ts)) (frame (w ∷ ts) >>= (λ x. frames_at frame n x.1 >>= (λ y. Ok (chained x.0 y.0, y.1))))
 
-pub frames_close : (frame : Reader) (n : ℕ) (w : List ℕ) (text ts : Tokens) (fs : List Tree) (whole : Reading Tree) → text ≡ w ∷ ts → length text ≤ n → same_bytes w (codes "}") ≡ true → whole ≡ onto fs (frames_at frame n text) → whole ≡ Ok (chain fs, ts)
+pub frames_close : (frame : Reader) (n : ℕ) (w : List ℕ) (text ts : Tokens) (fs : List Tree) (whole : TokenReading Tree) → text ≡ w ∷ ts → length text ≤ n → same_bytes w (codes "}") ≡ true → whole ≡ onto fs (frames_at frame n text) → whole ≡ Ok (chain fs, ts)
 unfolding frames_at
 frames_close frame zero w text ts fs whole is h b e = absurd (omega (arith, h, ap length is))
 frames_close frame (suc n) w text ts fs whole is h b e =
@@ -71,7 +71,7 @@ frames_on frame n w text ts is b =
     ap (frames_at frame (suc n)) is ∙ ap (λ t. goes frame n w ts t) b
     ∙ ap (λ z. frame z >>= (λ x. frames_at frame n x.1 >>= (λ y. Ok (chained x.0 y.0, y.1)))) (sym is)
 
-pub frames_more : (frame : Reader) (n : ℕ) (w : List ℕ) (text ts left : Tokens) (fs : List Tree) (f : Tree) (whole : Reading Tree) → text ≡ w ∷ ts → length text ≤ n → same_bytes w (codes "}") ≡ false
+pub frames_more : (frame : Reader) (n : ℕ) (w : List ℕ) (text ts left : Tokens) (fs : List Tree) (f : Tree) (whole : TokenReading Tree) → text ≡ w ∷ ts → length text ≤ n → same_bytes w (codes "}") ≡ false
     → frame text ≡ Ok (f, left) → length left < length text → whole ≡ onto fs (frames_at frame n text) → (m : ℕ) × (length left ≤ m) × (whole ≡ onto (fs ++ f ∷ []) (frames_at frame m left))
 frames_more frame zero w text ts left fs f whole is h b r s e = absurd (omega (arith, h, ap length is))
 frames_more frame (suc n) w text ts left fs f whole is h b r s e = (
@@ -81,16 +81,16 @@ frames_more frame (suc n) w text ts left fs f whole is h b r s e = (
       ∙ put_more fs f (frames_at frame n left),
 )
 
-frames_fail : (frame : Reader) (n : ℕ) (w : List ℕ) (text ts : Tokens) (fs : List Tree) (c : Cause) (whole : Reading Tree) → text ≡ w ∷ ts → length text ≤ n → same_bytes w (codes "}") ≡ false → frame text ≡ Err c → whole ≡ onto fs (frames_at frame n text) → whole ≡ Err c
+frames_fail : (frame : Reader) (n : ℕ) (w : List ℕ) (text ts : Tokens) (fs : List Tree) (c : Cause) (whole : TokenReading Tree) → text ≡ w ∷ ts → length text ≤ n → same_bytes w (codes "}") ≡ false → frame text ≡ Err c → whole ≡ onto fs (frames_at frame n text) → whole ≡ Err c
 frames_fail frame zero w text ts fs c whole is h b r e = absurd (omega (arith, h, ap length is))
 frames_fail frame (suc n) w text ts fs c whole is h b r e =
     e ∙ ap (onto fs) (frames_on frame n w text ts is b ∙ ap (λ z. z >>= (λ x. frames_at frame n x.1 >>= (λ y. Ok (chained x.0 y.0, y.1)))) r)
 
-pub frames_refused : (R : Type 0) (f : Fault) (frame : Reader) (n : ℕ) (w : List ℕ) (text ts : Tokens) (fs : List Tree) (whole : Reading Tree) → text ≡ w ∷ ts → length text ≤ n → same_bytes w (codes "}") ≡ false → Breaks R f (frame text) → whole ≡ onto fs (frames_at frame n text) → Breaks R f whole
+pub frames_refused : (R : Type 0) (f : Fault) (frame : Reader) (n : ℕ) (w : List ℕ) (text ts : Tokens) (fs : List Tree) (whole : TokenReading Tree) → text ≡ w ∷ ts → length text ≤ n → same_bytes w (codes "}") ≡ false → Breaks R f (frame text) → whole ≡ onto fs (frames_at frame n text) → Breaks R f whole
 frames_refused R (fault.Text c left) frame n w text ts fs whole is h b r e = frames_fail frame n w text ts fs c whole is h b r e
 frames_refused R (fault.Memory left) frame n w text ts fs whole is h b r e = r
 
-pub fails_with : (f : Fault) (c : Cause) {Y : Type 0} (read : Result Y Cause) → IsCause c f → read ≡ Err c → Fails f read
+pub fails_with : (f : Fault) (c : Cause) {Y : Type 0} (read : Result Y Cause) → IsCause c f → read ≡ Err c → FailsReadingTokens f read
 fails_with (fault.Text d left) c read h e = e ∙ ap Err (sym h)
 fails_with (fault.Memory left) c read h e = absurd h
 

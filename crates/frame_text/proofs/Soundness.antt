@@ -7,7 +7,7 @@ use Rattle.frame_tree.specs.Bounds.{depth_in, worst_messages, operators, IsInRan
 use Rattle.frame_tree.specs.Names.{Scope, is_known}
 use Rattle.frame_tree.specs.Names as names
 use Rattle.std.proofs.lemmas.Bool.{leb-true}
-use Rattle.frame_text.specs.Reading.{◌>>=◌, Tokens, Reading, same_bytes, misplaced, past}
+use Rattle.frame_text.specs.Reading.{◌>>=◌, Tokens, TokenReading, same_bytes, misplaced, past}
 use Rattle.frame_text.specs.Words.{number_at, number_within, period_at}
 use Rattle.frame_text.specs.Messages.{send_at}
 use Rattle.frame_text.specs.Conditions.{condition_at, condition_from, condition_of, condition_word, below_at, name_at, pair_at}
@@ -60,7 +60,7 @@ abbrev IsWithin : ℕ → Condition → Type 0
 IsWithin d c = operators c ≤ d
 
 abbrev ConditionReader : Type 0
-ConditionReader = Tokens → Reading Condition
+ConditionReader = Tokens → TokenReading Condition
 
 abbrev ReadsWithin : ℕ → ConditionReader → Type 0
 ReadsWithin d reader = (ts : Tokens) (c : Condition × Tokens) → reader ts ≡ Ok c → IsWithin d c.0

@@ -5,7 +5,7 @@ use Rattle.mil_status.specs.declared.bit.StatusBit.{StatusBit}
 use Rattle.mil_message.specs.declared.outcome_test.OutcomeTest.TheVariants.{Failed, Silent, Bit}
 use Rattle.frame_tree.specs.Tree.{Condition, asked, negated, both, either}
 use Rattle.frame_text.specs.Tokens.{tokens}
-use Rattle.frame_text.specs.Reading.{Tokens, Reading, ◌>>=◌, same_bytes, misplaced, past, to_the_end}
+use Rattle.frame_text.specs.Reading.{Tokens, TokenReading, ◌>>=◌, same_bytes, misplaced, past, to_the_end}
 use Rattle.frame_text.specs.declared.faults.Cause.{Cause}
 use Rattle.frame_text.specs.declared.faults.Cause.TheVariants as cause
 use Rattle.frame_text.specs.declared.keywords.ConditionWord.{ConditionWord}
@@ -22,26 +22,26 @@ condition_word w =
     word.NoCondition
 
 -- the status bit of a name
-abbrev pub bit_or_misplaced : List ℕ → Option StatusBit → Tokens → Reading StatusBit
+abbrev pub bit_or_misplaced : List ℕ → Option StatusBit → Tokens → TokenReading StatusBit
 bit_or_misplaced w (Some bit) ts = Ok (bit, ts)
 bit_or_misplaced w None ts = Err (misplaced w)
 
-unfoldable pub name_at : Tokens → Reading StatusBit
+unfoldable pub name_at : Tokens → TokenReading StatusBit
 name_at [] = Err cause.End
 name_at (w ∷ ts) = bit_or_misplaced w (bit_named w) ts
 
 abbrev pub Reader : Type 0
-Reader = Tokens → Reading Condition
+Reader = Tokens → TokenReading Condition
 
 -- two conditions in their brackets
-unfoldable pub pair_at : Reader → Tokens → Reading (Condition × Condition)
+unfoldable pub pair_at : Reader → Tokens → TokenReading (Condition × Condition)
 pair_at below ts =
     past (codes "(") ts
     >>= (λ us. below us
     >>= (λ a. below a.1 >>= (λ b. past (codes ")") b.1 >>= (λ rest. Ok ((a.0, b.0), rest)))))
 
 -- a condition by its first word; below reads those in it, or is the fault of one level too many
-unfoldable pub condition_of : Result Reader Cause → ConditionWord → List ℕ → Tokens → Reading Condition
+unfoldable pub condition_of : Result Reader Cause → ConditionWord → List ℕ → Tokens → TokenReading Condition
 condition_of below word.Fail w ts = Ok (asked Failed, ts)
 condition_of below word.Silent w ts = Ok (asked Silent, ts)
 condition_of below word.Bit w ts = name_at ts >>= (λ name. Ok (asked (Bit name.0), name.1))

@@ -5,7 +5,7 @@ use Rattle.frame_tree.specs.Tree.{Tree, send, retry, gap, repeat, choose, until,
 use Rattle.frame_tree.specs.Bounds.{worst_messages, depth_in}
 use Rattle.frame_tree.specs.Names.{is_name, Scope, meant_by, is_known}
 use Rattle.frame_text.specs.Tokens.{tokens}
-use Rattle.frame_text.specs.Reading.{Tokens, Reading, ◌>>=◌, same_bytes, misplaced, past}
+use Rattle.frame_text.specs.Reading.{Tokens, TokenReading, ◌>>=◌, same_bytes, misplaced, past}
 use Rattle.frame_text.specs.Words.{number_within, period_at}
 use Rattle.frame_text.specs.Messages.{send_at}
 use Rattle.frame_text.specs.Conditions.{condition_at}
@@ -27,7 +27,7 @@ frame_word w =
     word.NoFrame
 
 abbrev pub Reader : Type 0
-Reader = Tokens → Reading Tree
+Reader = Tokens → TokenReading Tree
 
 -- what stands behind an else, or nothing
 unfoldable pub else_at : Reader → Reader
@@ -60,13 +60,13 @@ abbrev pub timed_at : Reader → Reader
 timed_at block ts = period_at ts >>= (λ n. block n.1 >>= (λ b. Ok (timed n.0 b.0, b.1)))
 
 -- the name of a definition
-unfoldable pub label_at : Tokens → Reading (List ℕ)
+unfoldable pub label_at : Tokens → TokenReading (List ℕ)
 label_at [] = Err cause.End
 label_at (w ∷ ts) = if is_name w then Ok (w, ts) else Err (misplaced w)
 
 -- behind the word call: a name in scope, where each name in scope has the depth of its body, and no more than so many
 -- blocks in the body
-abbrev pub call_of : Scope ℕ → ℕ → List ℕ → Tokens → Reading Tree
+abbrev pub call_of : Scope ℕ → ℕ → List ℕ → Tokens → TokenReading Tree
 call_of ds d n ts =
     if is_known ds n then (if nat_le (meant_by 0 ds n) d then Ok (call n, ts) else Err cause.Depth) else Err cause.Name
 
@@ -74,7 +74,7 @@ abbrev pub call_at : Scope ℕ → ℕ → Reader
 call_at ds d ts = label_at ts >>= (λ n. call_of ds d n.0 n.1)
 
 -- a frame by its first word
-unfoldable pub frame_of : Reader → Reader → FrameWord → List ℕ → Tokens → Reading Tree
+unfoldable pub frame_of : Reader → Reader → FrameWord → List ℕ → Tokens → TokenReading Tree
 frame_of calls block word.Send w ts = send_at ts >>= (λ x. Ok (send x.0.0 x.0.1, x.1))
 frame_of calls block word.Retry w ts = retry_at ts
 frame_of calls block word.Gap w ts = number_within least_gap 65535 ts >>= (λ n. Ok (gap n.0, n.1))
@@ -121,14 +121,14 @@ main_at ds zero (w ∷ ts) = Err cause.End
 main_at ds (suc n) (w ∷ ts) = frame_at ds 16 (w ∷ ts) >>= (λ x. main_at ds n x.1 >>= (λ t. Ok (chained x.0 t)))
 
 -- a name that is not in scope yet
-abbrev pub fresh : Scope ℕ → List ℕ × Tokens → Reading (List ℕ)
+abbrev pub fresh : Scope ℕ → List ℕ × Tokens → TokenReading (List ℕ)
 fresh ds n = if is_known ds n.0 then Err cause.Name else Ok n
 
-abbrev pub fresh_name_at : Scope ℕ → Tokens → Reading (List ℕ)
+abbrev pub fresh_name_at : Scope ℕ → Tokens → TokenReading (List ℕ)
 fresh_name_at ds ts = label_at ts >>= (λ n. fresh ds n)
 
 -- behind the word define: a fresh name, and the body in braces, which are no block of their own
-abbrev pub definition_at : Scope ℕ → Tokens → Reading (List ℕ × Tree)
+abbrev pub definition_at : Scope ℕ → Tokens → TokenReading (List ℕ × Tree)
 definition_at ds ts = fresh_name_at ds ts >>= (λ n. block_at ds 17 n.1 >>= (λ b. Ok ((n.0, b.0), b.1)))
 
 -- definitions, at most so many, and the frames behind them

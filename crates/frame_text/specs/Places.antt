@@ -23,10 +23,10 @@ abbrev pub IsPlaceOf : List ℕ → Place → Type 0
 IsPlaceOf text place = (before : List ℕ) × (after : List ℕ) × (text ≡ before ++ after) × (place ≡ place_behind before)
 
 -- a fault of the text stands where that many bytes are left
-abbrev pub IsPlaced : List ℕ → Fault → ScriptError → Type 0
-IsPlaced text (fault.Text c left) (error.Text d place) = place ≡ place_behind (take (length text - left) text)
-IsPlaced text (fault.Memory left) (error.Memory place) = Unit {0}
-IsPlaced text _ _ = ⊥
+abbrev pub HasPlaceOfFault : List ℕ → Fault → ScriptError → Type 0
+HasPlaceOfFault text (fault.Text c left) (error.Text d place) = place ≡ place_behind (take (length text - left) text)
+HasPlaceOfFault text (fault.Memory left) (error.Memory place) = Unit {0}
+HasPlaceOfFault text _ _ = ⊥
 
 abbrev pub StandsIn : List ℕ → ScriptError → Type 0
 StandsIn text (error.Text c place) = IsPlaceOf text place

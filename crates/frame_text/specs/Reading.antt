@@ -14,8 +14,8 @@ abbrev pub Tokens : Type 0
 Tokens = List (List ℕ)
 
 -- an X and the tokens after it, or the first fault
-abbrev pub Reading : Type 0 → Type 0
-Reading X = Result (X × Tokens) Cause
+abbrev pub TokenReading : Type 0 → Type 0
+TokenReading X = Result (X × Tokens) Cause
 
 infixl 10 ◌>>=◌
 abbrev pub ◌>>=◌ : {X Y : Type 0} → Result X Cause → (X → Result Y Cause) → Result Y Cause
@@ -23,26 +23,26 @@ abbrev pub ◌>>=◌ : {X Y : Type 0} → Result X Cause → (X → Result Y Cau
 (Err e) >>= f = Err e
 
 -- a fault of the text is the one that reading comes to; want of memory says nothing
-abbrev pub Fails : {Y : Type 0} → Fault → Result Y Cause → Type 0
-Fails (fault.Text c left) read = read ≡ Err c
-Fails (fault.Memory left) read = Unit {0}
+abbrev pub FailsReadingTokens : {Y : Type 0} → Fault → Result Y Cause → Type 0
+FailsReadingTokens (fault.Text c left) read = read ≡ Err c
+FailsReadingTokens (fault.Memory left) read = Unit {0}
 
 -- what a call answered is what reading comes to, but for want of memory
-abbrev pub Gives : {X Y : Type 0} → (X → Y) → Result X Fault → Result Y Cause → Type 0
-Gives view (Ok x) read = read ≡ Ok (view x)
-Gives view (Err e) read = Fails e read
+abbrev pub ReadsTokens : {X Y : Type 0} → (X → Y) → Result X Fault → Result Y Cause → Type 0
+ReadsTokens view (Ok x) read = read ≡ Ok (view x)
+ReadsTokens view (Err e) read = FailsReadingTokens e read
 
 -- the same where this is known when memory was refused
 abbrev pub Breaks : {Y : Type 0} → Type 0 → Fault → Result Y Cause → Type 0
 Breaks refused (fault.Text c left) read = read ≡ Err c
 Breaks refused (fault.Memory left) read = refused
 
-abbrev pub Builds : {X Y : Type 0} → Type 0 → (X → Y) → Result X Fault → Result Y Cause → Type 0
-Builds refused view (Ok x) read = read ≡ Ok (view x)
-Builds refused view (Err e) read = Breaks refused e read
+abbrev pub ReadsTokensInMemory : {X Y : Type 0} → Type 0 → (X → Y) → Result X Fault → Result Y Cause → Type 0
+ReadsTokensInMemory refused view (Ok x) read = read ≡ Ok (view x)
+ReadsTokensInMemory refused view (Err e) read = Breaks refused e read
 
 -- what a call made of a text is what reading its tokens comes to, and fewer of them are left
-abbrev pub Makes : {X Y : Type 0} → Type 0 → (X → Y × Tokens) → (Tokens → Reading Y) → List ℕ → Result X Fault
+abbrev pub Makes : {X Y : Type 0} → Type 0 → (X → Y × Tokens) → (Tokens → TokenReading Y) → List ℕ → Result X Fault
     → Type 0
 Makes refused view reader text (Ok x) =
     (reader (tokens text) ≡ Ok (view x)) × (length (view x).1 < length (tokens text))
@@ -53,13 +53,13 @@ abbrev pub HasNoFault : {Y : Type 0} → Result Y Cause → Type 0
 HasNoFault {Y} read = (y : Y) × (read ≡ Ok y)
 
 -- The same of the public calls: want of memory is answered only where reading comes to no fault.
-abbrev pub Refuses : {Y : Type 0} → ScriptError → Result Y Cause → Type 0
-Refuses (error.Text c place) read = read ≡ Err c
-Refuses (error.Memory place) read = HasNoFault read
+abbrev pub RefusesScript : {Y : Type 0} → ScriptError → Result Y Cause → Type 0
+RefusesScript (error.Text c place) read = read ≡ Err c
+RefusesScript (error.Memory place) read = HasNoFault read
 
-abbrev pub Answers : {X Y : Type 0} → (X → Y) → Result X ScriptError → Result Y Cause → Type 0
-Answers view (Ok x) read = read ≡ Ok (view x)
-Answers view (Err e) read = Refuses e read
+abbrev pub ReadsScript : {X Y : Type 0} → (X → Y) → Result X ScriptError → Result Y Cause → Type 0
+ReadsScript view (Ok x) read = read ≡ Ok (view x)
+ReadsScript view (Err e) read = RefusesScript e read
 
 abbrev pub is_word : List ℕ → Bool
 is_word [] = false

@@ -2,7 +2,7 @@
 use Rattle.std.specs.Prelude.{ℕ, ◌/◌, ◌%◌, nat_eq, nat_le, ◌&&◌, if◌then◌else◌, List, [], ◌∷◌, take, Option, Some, None}
 use Rattle.std.specs.Prelude.{Result, Ok, Err, codes}
 use Rattle.numerals.specs.Numerals as numerals
-use Rattle.frame_text.specs.Reading.{Tokens, Reading, ◌>>=◌, same_bytes, is_word, misplaced, past}
+use Rattle.frame_text.specs.Reading.{Tokens, TokenReading, ◌>>=◌, same_bytes, is_word, misplaced, past}
 use Rattle.frame_text.specs.declared.faults.Cause.{Cause}
 use Rattle.frame_text.specs.declared.faults.Cause.TheVariants as cause
 
@@ -23,40 +23,40 @@ spelled w (Some n) = Ok n
 spelled w None = Err (unspelled w)
 
 -- a number
-unfoldable pub number_at : Tokens → Reading ℕ
+unfoldable pub number_at : Tokens → TokenReading ℕ
 number_at [] = Err cause.End
 number_at (w ∷ ts) = spelled w (number_of w) >>= (λ n. Ok (n, ts))
 
 -- a number from low to high
-unfoldable pub number_within : ℕ → ℕ → Tokens → Reading ℕ
+unfoldable pub number_within : ℕ → ℕ → Tokens → TokenReading ℕ
 number_within low high ts =
     number_at ts >>= (λ n. if nat_le low n.0 && nat_le n.0 high then Ok n else Err cause.Range)
 
 -- a period in hundreds of µs, of its number of µs
-abbrev pub hundreds_of : ℕ → Tokens → Reading ℕ
+abbrev pub hundreds_of : ℕ → Tokens → TokenReading ℕ
 hundreds_of n ts = if nat_eq (n % 100) 0 then Ok (n / 100, ts) else Err cause.Range
 
 -- a period: a number of µs, a multiple of 100 from 100 to 6,553,500
-unfoldable pub period_at : Tokens → Reading ℕ
+unfoldable pub period_at : Tokens → TokenReading ℕ
 period_at ts = number_within 100 6553500 ts >>= (λ n. hundreds_of n.0 n.1)
 
 -- data words up to the closing bracket
-unfoldable pub words_at : Tokens → Reading (List ℕ)
+unfoldable pub words_at : Tokens → TokenReading (List ℕ)
 words_at [] = Err cause.End
 words_at (w ∷ ts) =
     if same_bytes w (codes "]") then Ok ([], ts)
     else (spelled w (data_word_of w) >>= (λ n. words_at ts >>= (λ ns. Ok (n ∷ ns.0, ns.1))))
 
 -- the first 33 words: a message with more is refused as one with 33 is
-abbrev pub counted : Reading (List ℕ) → Reading (List ℕ)
+abbrev pub counted : TokenReading (List ℕ) → TokenReading (List ℕ)
 counted words = words >>= (λ ns. Ok (take 33 ns.0, ns.1))
 
 -- data words in their brackets
-unfoldable pub bracketed_at : Tokens → Reading (List ℕ)
+unfoldable pub bracketed_at : Tokens → TokenReading (List ℕ)
 bracketed_at ts = past (codes "[") ts >>= (λ us. counted (words_at us))
 
 -- data words in their brackets, where a bracket opens here
-unfoldable pub optional_at : Tokens → Reading (Option (List ℕ))
+unfoldable pub optional_at : Tokens → TokenReading (Option (List ℕ))
 optional_at [] = Ok (None, [])
 optional_at (w ∷ ts) =
     if same_bytes w (codes "[") then (counted (words_at ts) >>= (λ ns. Ok (Some ns.0, ns.1))) else Ok (None, w ∷ ts)

@@ -1,7 +1,7 @@
 //! The text of a condition.
 
 ghost use Rattle.frame_text.specs.Conditions.{name_at, pair_at, condition_at, below_at};
-ghost use Rattle.frame_text.specs.Reading.{Gives, Builds, IsOfText};
+ghost use Rattle.frame_text.specs.Reading.{ReadsTokens, ReadsTokensInMemory, IsOfText};
 ghost use Rattle.frame_text.specs.Tokens.{tokens};
 ghost use Rattle.std.specs.Prelude.{◌<◌, length, IfOk, IfErr};
 
@@ -16,7 +16,7 @@ use mil_status::StatusBit;
 // The status bit of a name.
 #[tactic(auto, unfolding(crate::specs::Conditions::name_at))]
 fn name(text: &[u8]) -> Result<(StatusBit, &[u8]), Fault>
-    ensures tree { Gives (λ x. (x.0, tokens x.1.now)) result (name_at (tokens text.now)) }
+    ensures tree { ReadsTokens (λ x. (x.0, tokens x.1.now)) result (name_at (tokens text.now)) }
     ensures fewer { IfOk result (λ x. length (tokens x.1.now) < length (tokens text.now)) }
     ensures of_text { IfErr result (λ e. IsOfText e) }
 {
@@ -32,7 +32,7 @@ fn name(text: &[u8]) -> Result<(StatusBit, &[u8]), Fault>
 // How many operators may stand above a test within an operator, which is the first token of the text.
 #[tactic(auto, using(crate::proofs::Below::below_some, crate::proofs::Below::below_none))]
 fn within(depth: u8, text: &[u8]) -> Result<u8, Fault>
-    ensures tree { Gives (λ d. condition_at d) result (below_at depth) }
+    ensures tree { ReadsTokens (λ d. condition_at d) result (below_at depth) }
     ensures fewer { IfOk result (λ d. d < depth) }
     ensures of_text { IfErr result (λ e. IsOfText e) }
 {
@@ -50,7 +50,7 @@ fn pair<'a, B: Builder>(
     text: &'a [u8],
     depth: u8,
 ) -> Result<(B::Cond, B::Cond, &'a [u8]), Fault>
-    ensures tree { Builds B.refused (λ x. ((B.condition x.0, B.condition x.1), tokens x.2.now)) result
+    ensures tree { ReadsTokensInMemory B.refused (λ x. ((B.condition x.0, B.condition x.1), tokens x.2.now)) result
         (pair_at (condition_at depth) (tokens text.now)) }
     ensures fewer { IfOk result (λ x. length (tokens x.2.now) < length (tokens text.now)) }
 {
@@ -69,7 +69,7 @@ pub fn condition<'a, B: Builder>(
     text: &'a [u8],
     depth: u8,
 ) -> Result<(B::Cond, &'a [u8]), Fault>
-    ensures tree { Builds B.refused (λ x. (B.condition x.0, tokens x.1.now)) result
+    ensures tree { ReadsTokensInMemory B.refused (λ x. (B.condition x.0, tokens x.1.now)) result
         (condition_at depth (tokens text.now)) }
     ensures fewer { IfOk result (λ x. length (tokens x.1.now) < length (tokens text.now)) }
 {

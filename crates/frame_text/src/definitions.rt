@@ -1,7 +1,7 @@
 //! The text of a script: definitions, and the frames behind them.
 
 ghost use Rattle.frame_text.specs.Frames.{fresh_name_at, main_at, script_at};
-ghost use Rattle.frame_text.specs.Reading.{Gives, Builds, IsOfText};
+ghost use Rattle.frame_text.specs.Reading.{ReadsTokens, ReadsTokensInMemory, IsOfText};
 ghost use Rattle.frame_text.specs.Tokens.{tokens};
 ghost use Rattle.frame_tree.specs.Scopes.{scope_of};
 ghost use Rattle.std.specs.Prelude.{length, IfOk, IfErr};
@@ -16,7 +16,8 @@ use frame_tree::{Name, Scope};
 
 // A name that is not in scope yet.
 fn fresh_name<'a>(text: &'a [u8], scope: &Scope<'_>) -> Result<(Name, &'a [u8]), Fault>
-    ensures tree { Gives (λ x. (x.0, tokens x.1.now)) result (fresh_name_at (scope_of scope.now) (tokens text.now)) }
+    ensures tree { ReadsTokens (λ x. (x.0, tokens x.1.now)) result
+        (fresh_name_at (scope_of scope.now) (tokens text.now)) }
     ensures of_text { IfErr result (λ e. IsOfText e) }
 {
     let (name, rest) = label(text)?;
@@ -33,7 +34,7 @@ fn main<B: Builder>(
     scope: &Scope<'_>,
     costs: &Scope<'_>,
 ) -> Result<B::Frame, Fault>
-    ensures tree { Builds B.refused B.tree result
+    ensures tree { ReadsTokensInMemory B.refused B.tree result
         (main_at (scope_of scope.now) (length (tokens text.now)) (tokens text.now)) }
     ensures fits { IfOk result (λ f. B.fits (scope_of scope.now) (scope_of costs.now) f) }
 {
@@ -63,7 +64,7 @@ pub fn script<'s, B: Builder>(
     costs: &'s Scope<'s>,
     left: u8,
 ) -> Result<B::Frame, Fault>
-    ensures tree { Builds B.refused B.tree result (script_at left (scope_of scope.now) (tokens text.now)) }
+    ensures tree { ReadsTokensInMemory B.refused B.tree result (script_at left (scope_of scope.now) (tokens text.now)) }
     ensures fits { IfOk result (λ f. B.fits (scope_of scope.now) (scope_of costs.now) f) }
 {
     let Some((word, rest)) = next(text) else {

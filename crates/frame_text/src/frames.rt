@@ -2,7 +2,7 @@
 
 ghost use Rattle.frame_text.specs.Frames.{call_at, frame_at, frames_at, block_at, inner_at};
 ghost use Rattle.frame_text.specs.Frames.{else_at, retry_at, choice_at, until_at, label_at};
-ghost use Rattle.frame_text.specs.Reading.{Tokens, Gives, Builds, Makes, IsOfText};
+ghost use Rattle.frame_text.specs.Reading.{Tokens, ReadsTokens, ReadsTokensInMemory, Makes, IsOfText};
 ghost use Rattle.frame_text.specs.Tokens.{tokens};
 ghost use Rattle.frame_tree.specs.Names as names;
 ghost use Rattle.frame_tree.specs.Scopes.{scope_of};
@@ -35,7 +35,7 @@ pub struct Around<'a, B: Builder> {
 
 // No frames, where the rest of the text goes on.
 fn no_frames<'a, B: Builder>(builder: &B, rest: &'a [u8]) -> Read<'a, B::Frame>
-    ensures tree { Builds {Y = Tree × Tokens} B.refused (λ x. (B.tree x.0, tokens x.1.now)) result
+    ensures tree { ReadsTokensInMemory {Y = Tree × Tokens} B.refused (λ x. (B.tree x.0, tokens x.1.now)) result
         (Ok (nothing, tokens rest.now)) }
     ensures rest { IfOk result (λ x. x.1.now ≡ rest.now) }
     ensures fits { IfOk result (λ x. (ds ms : names.Scope ℕ) → B.fits ds ms x.0) }
@@ -47,7 +47,7 @@ fn no_frames<'a, B: Builder>(builder: &B, rest: &'a [u8]) -> Read<'a, B::Frame>
 // How many blocks may stand in a block, whose opening brace is the first token of the text.
 #[tactic(auto, using(crate::proofs::Scripts::inner_some, crate::proofs::Scripts::inner_none))]
 fn within(scope: &Scope<'_>, depth: u8, text: &[u8]) -> Result<u8, Fault>
-    ensures tree { Gives (λ d. λ ts. frames_at (frame_at (scope_of scope.now) d) (length ts) ts) result
+    ensures tree { ReadsTokens (λ d. λ ts. frames_at (frame_at (scope_of scope.now) d) (length ts) ts) result
         (inner_at (scope_of scope.now) depth) }
     ensures fewer { IfOk result (λ d. d < depth) }
     ensures of_text { IfErr result (λ e. IsOfText e) }
@@ -106,7 +106,7 @@ fn frames<'a, B: Builder>(around: &Around<'_, B>, text: &'a [u8]) -> Read<'a, B:
 #[cycle(frames)]
 #[tactic(auto, unfolding(crate::specs::Frames::else_at))]
 fn else_part<'a, B: Builder>(around: &Around<'_, B>, text: &'a [u8]) -> Read<'a, B::Frame>
-    ensures tree { Builds B.refused (λ x. (B.tree x.0, tokens x.1.now)) result
+    ensures tree { ReadsTokensInMemory B.refused (λ x. (B.tree x.0, tokens x.1.now)) result
         (else_at (block_at (scope_of around.now.scope.now) around.now.depth) (tokens text.now)) }
     ensures fewer { IfOk result (λ x. length (tokens x.1.now) ≤ length (tokens text.now)) }
     ensures fits { IfOk result (λ x. B.fits (scope_of around.now.scope.now) (scope_of around.now.costs.now) x.0) }
@@ -134,7 +134,7 @@ fn retry<'a, B: Builder>(builder: &B, text: &'a [u8]) -> Read<'a, B::Frame>
 /// The name of a definition.
 #[tactic(auto, unfolding(crate::specs::Frames::label_at))]
 pub fn label(text: &[u8]) -> Result<(Name, &[u8]), Fault>
-    ensures tree { Gives (λ x. (x.0, tokens x.1.now)) result (label_at (tokens text.now)) }
+    ensures tree { ReadsTokens (λ x. (x.0, tokens x.1.now)) result (label_at (tokens text.now)) }
     ensures fewer { IfOk result (λ x. length (tokens x.1.now) < length (tokens text.now)) }
     ensures of_text { IfErr result (λ e. IsOfText e) }
 {

@@ -1,7 +1,7 @@
 //! The text of a message.
 
 ghost use Rattle.frame_text.specs.Messages as reads;
-ghost use Rattle.frame_text.specs.Reading.{Gives, IsOfText};
+ghost use Rattle.frame_text.specs.Reading.{ReadsTokens, IsOfText};
 ghost use Rattle.frame_text.specs.Tokens.{tokens};
 ghost use Rattle.mil_message.specs.Request.{request_of};
 ghost use Rattle.std.specs.Prelude.{◌≡◌, ◌<◌, length, IfOk, IfErr};
@@ -15,7 +15,7 @@ use mil_word::Line;
 
 #[tactic(auto, unfolding(crate::specs::Messages::line_at))]
 fn line(text: &[u8]) -> Result<(Line, &[u8]), Fault>
-    ensures tree { Gives (λ x. (x.0, tokens x.1.now)) result (reads.line_at (tokens text.now)) }
+    ensures tree { ReadsTokens (λ x. (x.0, tokens x.1.now)) result (reads.line_at (tokens text.now)) }
     ensures fewer { IfOk result (λ x. length (tokens x.1.now) < length (tokens text.now)) }
     ensures of_text { IfErr result (λ e. IsOfText e) }
 {
@@ -33,7 +33,8 @@ fn line(text: &[u8]) -> Result<(Line, &[u8]), Fault>
 
 // The message that a draft asks for; `text` begins with its first word, and `rest` comes after it.
 fn made<'a>(draft: Draft<'_>, text: &[u8], rest: &'a [u8]) -> Result<(Message, &'a [u8]), Fault>
-    ensures tree { Gives (λ x. (x.0, tokens x.1.now)) result (reads.made (request_of draft.entry) (tokens rest.now)) }
+    ensures tree { ReadsTokens (λ x. (x.0, tokens x.1.now)) result
+        (reads.made (request_of draft.entry) (tokens rest.now)) }
     ensures rest { IfOk result (λ x. x.1.now ≡ rest.now) }
     ensures of_text { IfErr result (λ e. IsOfText e) }
 {
@@ -45,7 +46,7 @@ fn made<'a>(draft: Draft<'_>, text: &[u8], rest: &'a [u8]) -> Result<(Message, &
 
 #[tactic(auto, unfolding(crate::specs::Messages::receive_at))]
 fn receive<'a>(text: &[u8], rest: &'a [u8]) -> Result<(Message, &'a [u8]), Fault>
-    ensures tree { Gives (λ x. (x.0, tokens x.1.now)) result (reads.receive_at (tokens rest.now)) }
+    ensures tree { ReadsTokens (λ x. (x.0, tokens x.1.now)) result (reads.receive_at (tokens rest.now)) }
     ensures fewer { IfOk result (λ x. length (tokens x.1.now) < length (tokens rest.now)) }
     ensures of_text { IfErr result (λ e. IsOfText e) }
 {
@@ -65,7 +66,7 @@ fn receive<'a>(text: &[u8], rest: &'a [u8]) -> Result<(Message, &'a [u8]), Fault
 
 #[tactic(auto, unfolding(crate::specs::Messages::transmit_at))]
 fn transmit<'a>(text: &[u8], rest: &'a [u8]) -> Result<(Message, &'a [u8]), Fault>
-    ensures tree { Gives (λ x. (x.0, tokens x.1.now)) result (reads.transmit_at (tokens rest.now)) }
+    ensures tree { ReadsTokens (λ x. (x.0, tokens x.1.now)) result (reads.transmit_at (tokens rest.now)) }
     ensures fewer { IfOk result (λ x. length (tokens x.1.now) < length (tokens rest.now)) }
     ensures of_text { IfErr result (λ e. IsOfText e) }
 {
@@ -85,7 +86,7 @@ fn transmit<'a>(text: &[u8], rest: &'a [u8]) -> Result<(Message, &'a [u8]), Faul
 
 #[tactic(auto, unfolding(crate::specs::Messages::transfer_at))]
 fn transfer<'a>(text: &[u8], rest: &'a [u8]) -> Result<(Message, &'a [u8]), Fault>
-    ensures tree { Gives (λ x. (x.0, tokens x.1.now)) result (reads.transfer_at (tokens rest.now)) }
+    ensures tree { ReadsTokens (λ x. (x.0, tokens x.1.now)) result (reads.transfer_at (tokens rest.now)) }
     ensures fewer { IfOk result (λ x. length (tokens x.1.now) < length (tokens rest.now)) }
     ensures of_text { IfErr result (λ e. IsOfText e) }
 {
@@ -113,7 +114,7 @@ fn mode<'a>(
     rest: &'a [u8],
     subaddress: ModeSubaddress,
 ) -> Result<(Message, &'a [u8]), Fault>
-    ensures tree { Gives (λ x. (x.0, tokens x.1.now)) result (reads.mode_at subaddress (tokens rest.now)) }
+    ensures tree { ReadsTokens (λ x. (x.0, tokens x.1.now)) result (reads.mode_at subaddress (tokens rest.now)) }
     ensures fewer { IfOk result (λ x. length (tokens x.1.now) < length (tokens rest.now)) }
     ensures of_text { IfErr result (λ e. IsOfText e) }
 {
@@ -130,7 +131,7 @@ fn mode<'a>(
 
 #[tactic(auto, unfolding(crate::specs::Messages::receive_all_at))]
 fn receive_all<'a>(text: &[u8], rest: &'a [u8]) -> Result<(Message, &'a [u8]), Fault>
-    ensures tree { Gives (λ x. (x.0, tokens x.1.now)) result (reads.receive_all_at (tokens rest.now)) }
+    ensures tree { ReadsTokens (λ x. (x.0, tokens x.1.now)) result (reads.receive_all_at (tokens rest.now)) }
     ensures fewer { IfOk result (λ x. length (tokens x.1.now) < length (tokens rest.now)) }
     ensures of_text { IfErr result (λ e. IsOfText e) }
 {
@@ -148,7 +149,7 @@ fn receive_all<'a>(text: &[u8], rest: &'a [u8]) -> Result<(Message, &'a [u8]), F
 
 #[tactic(auto, unfolding(crate::specs::Messages::transfer_all_at))]
 fn transfer_all<'a>(text: &[u8], rest: &'a [u8]) -> Result<(Message, &'a [u8]), Fault>
-    ensures tree { Gives (λ x. (x.0, tokens x.1.now)) result (reads.transfer_all_at (tokens rest.now)) }
+    ensures tree { ReadsTokens (λ x. (x.0, tokens x.1.now)) result (reads.transfer_all_at (tokens rest.now)) }
     ensures fewer { IfOk result (λ x. length (tokens x.1.now) < length (tokens rest.now)) }
     ensures of_text { IfErr result (λ e. IsOfText e) }
 {
@@ -174,7 +175,7 @@ fn mode_all<'a>(
     rest: &'a [u8],
     subaddress: ModeSubaddress,
 ) -> Result<(Message, &'a [u8]), Fault>
-    ensures tree { Gives (λ x. (x.0, tokens x.1.now)) result (reads.mode_all_at subaddress (tokens rest.now)) }
+    ensures tree { ReadsTokens (λ x. (x.0, tokens x.1.now)) result (reads.mode_all_at subaddress (tokens rest.now)) }
     ensures fewer { IfOk result (λ x. length (tokens x.1.now) < length (tokens rest.now)) }
     ensures of_text { IfErr result (λ e. IsOfText e) }
 {
@@ -190,7 +191,7 @@ fn mode_all<'a>(
 
 #[tactic(auto, unfolding(crate::specs::Messages::message_at, crate::specs::Messages::message_of))]
 fn message(text: &[u8]) -> Result<(Message, &[u8]), Fault>
-    ensures tree { Gives (λ x. (x.0, tokens x.1.now)) result (reads.message_at (tokens text.now)) }
+    ensures tree { ReadsTokens (λ x. (x.0, tokens x.1.now)) result (reads.message_at (tokens text.now)) }
     ensures fewer { IfOk result (λ x. length (tokens x.1.now) < length (tokens text.now)) }
     ensures of_text { IfErr result (λ e. IsOfText e) }
 {
@@ -214,7 +215,7 @@ fn message(text: &[u8]) -> Result<(Message, &[u8]), Fault>
 /// A line and a message.
 #[tactic(auto, unfolding(crate::specs::Messages::send_at))]
 pub fn send(text: &[u8]) -> Result<(Line, Message, &[u8]), Fault>
-    ensures tree { Gives (λ x. ((x.0, x.1), tokens x.2.now)) result (reads.send_at (tokens text.now)) }
+    ensures tree { ReadsTokens (λ x. ((x.0, x.1), tokens x.2.now)) result (reads.send_at (tokens text.now)) }
     ensures fewer { IfOk result (λ x. length (tokens x.2.now) < length (tokens text.now)) }
     ensures of_text { IfErr result (λ e. IsOfText e) }
 {

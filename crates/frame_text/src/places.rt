@@ -1,6 +1,6 @@
 //! Places in a text.
 
-ghost use Rattle.frame_text.specs.Places.{place_behind, IsPlaced, StandsIn};
+ghost use Rattle.frame_text.specs.Places.{place_behind, HasPlaceOfFault, StandsIn};
 ghost use Rattle.frame_text.specs.Reading.{IsLocated, IsOfText, IsTextError};
 ghost use Rattle.std.specs.Prelude.{◌≡◌, ◌++◌, ◌-◌, List, ℕ, length, take};
 
@@ -55,7 +55,7 @@ fn without_last(text: &[u8], left: usize) -> &[u8]
 pub fn located(text: &[u8], fault: Fault) -> ScriptError
     ensures same { IsLocated fault result }
     ensures of_text { IsOfText fault → IsTextError result }
-    ensures place { IsPlaced text.now fault result }
+    ensures place { HasPlaceOfFault text.now fault result }
     ensures inside { StandsIn text.now result }
 {
     match fault {

@@ -1,6 +1,6 @@
 //! The tokens of a text, one by one: no list of them is ever made.
 
-ghost use Rattle.frame_text.specs.Reading.{Gives, IsAtToken, IsCause, IsOfText, past};
+ghost use Rattle.frame_text.specs.Reading.{ReadsTokens, IsAtToken, IsCause, IsOfText, past};
 ghost use Rattle.frame_text.specs.Tokens.{is_space, tokens, BeginsToken};
 ghost use Rattle.std.specs.Prelude.{◌≡◌, ◌<◌, ◌≤◌, ◌++◌, ℕ, List, [], ◌∷◌, length, MatchOption, IfSome, IfOk, IfErr};
 
@@ -77,7 +77,7 @@ pub fn fault(cause: Cause, text: &[u8]) -> Fault
 /// What comes after a token that has to stand here.
 #[tactic(auto, unfolding(crate::specs::Reading::past))]
 pub fn after_token<'a>(text: &'a [u8], expected: &[u8]) -> Result<&'a [u8], Fault>
-    ensures tree { Gives (λ x. tokens x.now) result (past expected.now (tokens text.now)) }
+    ensures tree { ReadsTokens (λ x. tokens x.now) result (past expected.now (tokens text.now)) }
     ensures fewer { IfOk result (λ x. length (tokens x.now) < length (tokens text.now)) }
     ensures of_text { IfErr result (λ e. IsOfText e) }
 {

@@ -5,7 +5,8 @@ ghost use Rattle.frame_text.specs.Conditions.{condition_of_text};
 ghost use Rattle.frame_text.specs.Frames.{tree_of_text};
 ghost use Rattle.frame_text.specs.Messages.{send_of_text};
 ghost use Rattle.frame_text.specs.Places.{StandsIn};
-ghost use Rattle.frame_text.specs.Reading.{Gives, Builds, Fails, Breaks, HasNoFault, IsOfText, Answers, IsTextError};
+ghost use Rattle.frame_text.specs.Reading.{ReadsTokens, ReadsTokensInMemory, FailsReadingTokens, Breaks, HasNoFault};
+ghost use Rattle.frame_text.specs.Reading.{IsOfText, ReadsScript, IsTextError};
 ghost use Rattle.frame_tree.specs.Bounds.{IsSound};
 ghost use Rattle.frame_tree.specs.Tree.{condition_in, tree_of};
 ghost use Rattle.std.specs.Prelude.{IfOk, IfErr};
@@ -25,7 +26,7 @@ use std::alloc::Allocator;
 
 // The frame of a script, with at most 1,000,000 messages at worst.
 fn script<B: Builder>(builder: &B, text: &[u8]) -> Result<B::Frame, Fault>
-    ensures tree { Builds B.refused B.tree result (tree_of_text text.now) }
+    ensures tree { ReadsTokensInMemory B.refused B.tree result (tree_of_text text.now) }
     ensures sound { IfOk result (λ f. IsSound (B.tree f)) }
     ensures script { IfOk result (λ f. IsScript (B.tree f)) }
 {
@@ -39,7 +40,7 @@ fn script<B: Builder>(builder: &B, text: &[u8]) -> Result<B::Frame, Fault>
 // The line and the message of a whole text.
 #[tactic(auto, unfolding(crate::specs::Reading::to_the_end))]
 fn send(text: &[u8]) -> Result<(Line, Message), Fault>
-    ensures tree { Gives (λ x. x) result (send_of_text text.now) }
+    ensures tree { ReadsTokens (λ x. x) result (send_of_text text.now) }
     ensures of_text { IfErr result (λ e. IsOfText e) }
 {
     let (line, message, rest) = messages::send(text)?;
@@ -52,7 +53,7 @@ fn send(text: &[u8]) -> Result<(Line, Message), Fault>
 // The condition of a whole text.
 #[tactic(auto, unfolding(crate::specs::Reading::to_the_end))]
 fn condition<B: Builder>(builder: &B, text: &[u8]) -> Result<B::Cond, Fault>
-    ensures { Builds B.refused B.condition result (condition_of_text text.now) }
+    ensures { ReadsTokensInMemory B.refused B.condition result (condition_of_text text.now) }
 {
     let (condition, rest) = conditions::condition(builder, text, 16)?;
     match next(rest) {
@@ -65,7 +66,7 @@ fn condition<B: Builder>(builder: &B, text: &[u8]) -> Result<B::Cond, Fault>
 // text comes before want of memory.
 #[tactic(auto, using(crate::proofs::Refusing::read_again, crate::proofs::Refusing::sure))]
 fn script_fault(text: &[u8], fault: Fault) -> Fault
-    requires { Fails fault (tree_of_text text.now) }
+    requires { FailsReadingTokens fault (tree_of_text text.now) }
     ensures { Breaks (HasNoFault (tree_of_text text.now)) result (tree_of_text text.now) }
 {
     if let Fault::Text(..) = fault {
@@ -80,7 +81,7 @@ fn script_fault(text: &[u8], fault: Fault) -> Fault
 // The same of a condition.
 #[tactic(auto, using(crate::proofs::Refusing::read_again, crate::proofs::Refusing::sure))]
 fn condition_fault(text: &[u8], fault: Fault) -> Fault
-    requires { Fails fault (condition_of_text text.now) }
+    requires { FailsReadingTokens fault (condition_of_text text.now) }
     ensures { Breaks (HasNoFault (condition_of_text text.now)) result (condition_of_text text.now) }
 {
     if let Fault::Text(..) = fault {
@@ -97,7 +98,7 @@ fn condition_fault(text: &[u8], fault: Fault) -> Fault
 /// of frames behind its definitions.
 #[tactic(auto, using(crate::proofs::Refusing::told, crate::proofs::Refusing::unsure))]
 pub fn parse<A: Allocator + Clone>(alloc: A, text: &[u8]) -> Result<Frame<A>, ScriptError>
-    ensures tree { Answers tree_of result (tree_of_text text.now) }
+    ensures tree { ReadsScript tree_of result (tree_of_text text.now) }
     ensures place { IfErr result (λ e. StandsIn text.now e) }
     ensures sound { IfOk result (λ f. IsSound (tree_of f)) }
     ensures script { IfOk result (λ f. IsScript (tree_of f)) }
@@ -111,7 +112,7 @@ pub fn parse<A: Allocator + Clone>(alloc: A, text: &[u8]) -> Result<Frame<A>, Sc
 /// The line and the message of a text such as `A rx 5 1 [0001]`. It takes no memory, and is never refused for want of
 /// it.
 pub fn read_send(text: &[u8]) -> Result<(Line, Message), ScriptError>
-    ensures tree { Answers (λ x. x) result (send_of_text text.now) }
+    ensures tree { ReadsScript (λ x. x) result (send_of_text text.now) }
     ensures no_memory { IfErr result (λ e. IsTextError e) }
     ensures place { IfErr result (λ e. StandsIn text.now e) }
 {
@@ -125,7 +126,7 @@ pub fn read_send(text: &[u8]) -> Result<(Line, Message), ScriptError>
 /// want of memory only where it has none.
 #[tactic(auto, using(crate::proofs::Refusing::told, crate::proofs::Refusing::unsure))]
 pub fn read_cond<A: Allocator + Clone>(alloc: A, text: &[u8]) -> Result<Cond<A>, ScriptError>
-    ensures tree { Answers condition_in result (condition_of_text text.now) }
+    ensures tree { ReadsScript condition_in result (condition_of_text text.now) }
     ensures place { IfErr result (λ e. StandsIn text.now e) }
 {
     match condition(&Boxes { alloc }, text) {

@@ -1,6 +1,6 @@
 //! Numbers, periods and data words.
 
-ghost use Rattle.frame_text.specs.Reading.{Gives, IsAtToken, IsCause, IsOfText};
+ghost use Rattle.frame_text.specs.Reading.{ReadsTokens, IsAtToken, IsCause, IsOfText};
 ghost use Rattle.frame_text.specs.Tokens.{tokens};
 ghost use Rattle.frame_text.specs.Words.{number_of, data_word_of, unspelled, number_at, number_within, period_at};
 ghost use Rattle.frame_text.specs.Words.{words_at, counted, bracketed_at, optional_at};
@@ -48,7 +48,7 @@ fn unspelled_fault(word: &[u8], text: &[u8]) -> Fault
 /// A number of one to seven digits.
 #[tactic(auto, unfolding(crate::specs::Words::number_at))]
 pub fn number(text: &[u8]) -> Result<(u32, &[u8]), Fault>
-    ensures tree { Gives (λ x. (x.0, tokens x.1.now)) result (number_at (tokens text.now)) }
+    ensures tree { ReadsTokens (λ x. (x.0, tokens x.1.now)) result (number_at (tokens text.now)) }
     ensures fewer { IfOk result (λ x. length (tokens x.1.now) < length (tokens text.now)) }
     ensures of_text { IfErr result (λ e. IsOfText e) }
     ensures place { IfErr result (λ e. IsAtToken text.now e) }
@@ -65,7 +65,7 @@ pub fn number(text: &[u8]) -> Result<(u32, &[u8]), Fault>
 /// A number from `low` to `high`.
 #[tactic(auto, unfolding(crate::specs::Words::number_within))]
 pub fn number_in_range(text: &[u8], low: u32, high: u32) -> Result<(u32, &[u8]), Fault>
-    ensures tree { Gives (λ x. (x.0, tokens x.1.now)) result (number_within low high (tokens text.now)) }
+    ensures tree { ReadsTokens (λ x. (x.0, tokens x.1.now)) result (number_within low high (tokens text.now)) }
     ensures fewer { IfOk result (λ x. length (tokens x.1.now) < length (tokens text.now)) }
     ensures of_text { IfErr result (λ e. IsOfText e) }
     ensures place { IfErr result (λ e. IsAtToken text.now e) }
@@ -81,7 +81,7 @@ pub fn number_in_range(text: &[u8], low: u32, high: u32) -> Result<(u32, &[u8]),
 /// A period: a number of µs, a multiple of 100 from 100 to 6,553,500. The answer is in hundreds of µs.
 #[tactic(auto, unfolding(crate::specs::Words::period_at))]
 pub fn period(text: &[u8]) -> Result<(u16, &[u8]), Fault>
-    ensures tree { Gives (λ x. (x.0, tokens x.1.now)) result (period_at (tokens text.now)) }
+    ensures tree { ReadsTokens (λ x. (x.0, tokens x.1.now)) result (period_at (tokens text.now)) }
     ensures fewer { IfOk result (λ x. length (tokens x.1.now) < length (tokens text.now)) }
     ensures place { IfErr result (λ e. IsAtToken text.now e) }
 {
@@ -103,7 +103,7 @@ fn keep(found: &mut DataWords, value: u16)
 
 // Data words up to the closing bracket.
 fn words(text: &[u8]) -> Result<(DataWords, &[u8]), Fault>
-    ensures tree { Gives (λ x. (x.0.items, tokens x.1.now)) result (counted (words_at (tokens text.now))) }
+    ensures tree { ReadsTokens (λ x. (x.0.items, tokens x.1.now)) result (counted (words_at (tokens text.now))) }
     ensures fewer { IfOk result (λ x. length (tokens x.1.now) < length (tokens text.now)) }
     ensures of_text { IfErr result (λ e. IsOfText e) }
 {
@@ -125,7 +125,7 @@ fn words(text: &[u8]) -> Result<(DataWords, &[u8]), Fault>
 /// Data words in their brackets.
 #[tactic(auto, unfolding(crate::specs::Words::bracketed_at))]
 pub fn bracketed(text: &[u8]) -> Result<(DataWords, &[u8]), Fault>
-    ensures tree { Gives (λ x. (x.0.items, tokens x.1.now)) result (bracketed_at (tokens text.now)) }
+    ensures tree { ReadsTokens (λ x. (x.0.items, tokens x.1.now)) result (bracketed_at (tokens text.now)) }
     ensures fewer { IfOk result (λ x. length (tokens x.1.now) < length (tokens text.now)) }
     ensures of_text { IfErr result (λ e. IsOfText e) }
 {
@@ -136,7 +136,8 @@ pub fn bracketed(text: &[u8]) -> Result<(DataWords, &[u8]), Fault>
 /// Data words in their brackets, where a bracket opens here.
 #[tactic(auto, unfolding(crate::specs::Words::optional_at))]
 pub fn optional(text: &[u8]) -> Result<(Option<DataWords>, &[u8]), Fault>
-    ensures tree { Gives (λ x. (option_map (λ w. w.items) x.0, tokens x.1.now)) result (optional_at (tokens text.now)) }
+    ensures tree { ReadsTokens (λ x. (option_map (λ w. w.items) x.0, tokens x.1.now)) result
+        (optional_at (tokens text.now)) }
     ensures fewer { IfOk result (λ x. length (tokens x.1.now) ≤ length (tokens text.now)) }
     ensures of_text { IfErr result (λ e. IsOfText e) }
 {

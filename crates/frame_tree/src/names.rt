@@ -88,13 +88,13 @@ fn is_letter(byte: u8) -> bool
 }
 
 // Whether all bytes are letters, digits or `_`.
-fn is_word(bytes: &[u8]) -> bool
+fn are_word_bytes(bytes: &[u8]) -> bool
     ensures { result ≡ are_word_bytes bytes.now }
 {
     match bytes.split_first() {
         None => true,
         Some((byte, rest)) => {
-            (is_letter(*byte) || byte.is_ascii_digit() || *byte == b'_') && is_word(rest)
+            (is_letter(*byte) || byte.is_ascii_digit() || *byte == b'_') && are_word_bytes(rest)
         }
     }
 }
@@ -111,7 +111,7 @@ fn begins(bytes: &[u8]) -> bool
 fn is_name(bytes: &[u8]) -> bool
     ensures { result ≡ is_name bytes.now }
 {
-    begins(bytes) && is_word(bytes) && bytes.len() <= 16
+    begins(bytes) && are_word_bytes(bytes) && bytes.len() <= 16
 }
 
 /// The definitions in scope, the latest first, each with a number of its own, as how many messages a call of it sends.

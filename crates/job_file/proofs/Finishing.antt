@@ -17,8 +17,8 @@ use Rattle.job_file.specs.HeadLines.{Head, is_none_yet}
 use Rattle.job_file.specs.Drafts.{shown}
 use Rattle.job_file.specs.Spelled.{ChannelJob, job_with, job_of, first_of, spelled}
 use Rattle.job_file.specs.Scripts.{tree_or_nothing, tree_spelled, IsProgramOf}
-use Rattle.job_file.specs.Reading.{IsCodeRefusal, IsRefusal, HasProgram}
-use Rattle.job_file.specs.Faults.{IsHead, IsFirstFault}
+use Rattle.job_file.specs.Reading.{IsCodeRefusal, IsJobRefusal, HasProgram}
+use Rattle.job_file.specs.Faults.{IsJobHead, IsFirstFault}
 use Rattle.job_file.specs.Jobs.{JobState, tree_in, job_in}
 use Rattle.job_file.specs.Texts.{IsAccepted}
 use Rattle.job_file.specs.declared.drafts.Draft.{Draft}
@@ -29,7 +29,7 @@ use Rattle.job_file.proofs.FirstFaults.{script_refused}
 job_is : (d : Draft) (channel : ℕ) (text : Text) (tree : Tree) → d.channel ≡ Some channel → tree_of_text text ≡ Ok tree → job_of (shown d) text ≡ Some (job_with channel (shown d) tree)
 job_is d channel text tree named read = rw (named, read) refl
 
-refused : (spelled : Option ChannelJob) (job : ChannelJob) (e : JobError) → spelled ≡ Some job → IsCodeRefusal (code_of_tree job.tree) e → IsRefusal spelled e
+refused : (spelled : Option ChannelJob) (job : ChannelJob) (e : JobError) → spelled ≡ Some job → IsCodeRefusal (code_of_tree job.tree) e → IsJobRefusal spelled e
 refused spelled job (error.Line line why) is r = absurd r
 refused spelled job (error.Script cause place) is r = absurd r
 refused spelled job (error.Assembly line why) is r = (job, is, r)
@@ -38,7 +38,7 @@ refused spelled job error.Memory is r = tt
 
 -- a script without a program
 pub code_refused : (d : Draft) (channel : ℕ) (text : Text) (tree : Tree) (e : JobError) → d.channel ≡ Some channel → tree_of_text text ≡ Ok tree
-    → IsCodeRefusal (code_of_tree tree) e → IsRefusal (job_of (shown d) text) e
+    → IsCodeRefusal (code_of_tree tree) e → IsJobRefusal (job_of (shown d) text) e
 code_refused d channel text tree e named read r = refused _ (job_with channel (shown d) tree) e (job_is d channel text tree named read) r
 
 -- an image that was made, and that the loader accepted
@@ -94,7 +94,7 @@ named [] next y e = absurd (cc)
 named (n ∷ ns) next y e = refl
 
 -- and may want memory at its script at the latest
-pub room_wanted : (text : Text) (head : Head) (n : ℕ) (behind : Text) (r : Result JobState JobError) → IsHead text head n behind → IfOk r (λ j. job_of head behind ≡ Some (job_in j))
+pub room_wanted : (text : Text) (head : Head) (n : ℕ) (behind : Text) (r : Result JobState JobError) → IsJobHead text head n behind → IfOk r (λ j. job_of head behind ≡ Some (job_in j))
     → IfOk r (λ _. IsFirstFault text error.Memory)
 room_wanted text head n behind (Ok j) h is = script_refused text head n behind error.Memory h (named head.channels _ (job_in j) is)
 room_wanted text head n behind (Err e) h is = tt

@@ -8,11 +8,11 @@ use Rattle.job_file.specs.Options.{◌>>=◌}
 use Rattle.job_file.specs.Lines.{Said, blank, script, channel, start, terminal, action, fault, faults, series, said, said_in}
 use Rattle.job_file.specs.HeadLines.{Head, head_of, may_stand, are_lawful, is_none_yet}
 use Rattle.job_file.specs.Drafts.{with_line}
-use Rattle.job_file.specs.Spelled.{text_of, is_script, all_said}
+use Rattle.job_file.specs.Spelled.{joined_lines, is_script, all_said}
 use Rattle.text_lines.specs.Lines.{is_line_end, lines_of}
 use Rattle.job_file.specs.Reading.{TakesLine}
 use Rattle.job_file.specs.Errors.{IsOfLine}
-use Rattle.job_file.specs.Faults.{Reached, IsHead, IsFirstFault, IsLineRefused, IsScriptRefused, are_line_words, line_fault, fault_at, takes_room}
+use Rattle.job_file.specs.Faults.{Reached, IsJobHead, IsFirstFault, IsLineRefused, IsScriptRefused, are_line_words, line_fault, fault_at, takes_room}
 use Rattle.job_file.specs.declared.drafts.Taken.{Taken}
 use Rattle.job_file.specs.declared.drafts.Taken.TheVariants as taken
 use Rattle.job_file.specs.declared.error.LineFault.{LineFault}
@@ -83,7 +83,7 @@ record Next (rest : Text) (lines : List Text) : Type 0 where
   behind : List Text
   are : lines ≡ before_first is_line_end rest ∷ behind
   left : (behind ≡ lines_of (after_first is_line_end rest)) ⊎ ((behind ≡ []) × (after_first is_line_end rest ≡ []))
-  text : text_of behind ≡ after_first is_line_end rest
+  text : joined_lines behind ≡ after_first is_line_end rest
 
 next : (rest : Text) (lines : List Text) → lines ≡ lines_of rest → Next rest lines
 next rest lines are =
@@ -132,7 +132,7 @@ is_script_line (Some (series s)) is = cc
 
 module _ (text rest line behind : Text) (old new : Head) (n : ℕ) (i : IsReadTo text rest old n) (some : 1 ≤ length rest)
     (first : line ≡ before_first is_line_end rest) (after : behind ≡ after_first is_line_end rest) where
-  at_line : (lines : List Text) × (i.at.rest ≡ line ∷ lines) × ((lines ≡ lines_of behind) ⊎ ((lines ≡ []) × (behind ≡ []))) × (text_of lines ≡ behind)
+  at_line : (lines : List Text) × (i.at.rest ≡ line ∷ lines) × ((lines ≡ lines_of behind) ⊎ ((lines ≡ []) × (behind ≡ []))) × (joined_lines lines ≡ behind)
   at_line = let x = next_of text rest old n i some in (x.behind, rw first x.are, rw after x.left, rw after x.text)
 
   -- another line
@@ -153,7 +153,7 @@ module _ (text rest line behind : Text) (old new : Head) (n : ℕ) (i : IsReadTo
           }
 
   -- the line of the script
-  pub read_script : (r : Result Taken Refusal) → r ≡ Ok taken.Script → TakesLine (said line) old new r → are_line_words (words line) ≡ true → IsHead text new n behind
+  pub read_script : (r : Result Taken Refusal) → r ≡ Ok taken.Script → TakesLine (said line) old new r → are_line_words (words line) ≡ true → IsJobHead text new n behind
   read_script r is takes well =
       let t : TakesLine (said line) old new (Ok taken.Script) = rw is at takes in
       let l = at_line in
@@ -208,7 +208,7 @@ read_all text [] head n i none =
 read_all text (b ∷ rest) head n i none = absurd (omega arith)
 
 -- what is wrong with the line of the script: that no line above it names the channel
-at_last : (text : Text) (head : Head) (n : ℕ) (behind : Text) → (h : IsHead text head n behind)
+at_last : (text : Text) (head : Head) (n : ℕ) (behind : Text) → (h : IsJobHead text head n behind)
     → fault_at (head_of h.at.above) h.at.rest ≡ (if is_none_yet (head_of h.at.above).channels then Some Order else None)
 at_last text head n behind h =
     let says = is_script_line (said h.last) h.is in
@@ -216,7 +216,7 @@ at_last text head n behind h =
     rw (h.rest, fault_line (head_of h.at.above) h.last h.lines some, h.words, says) refl
 
 -- what the script answers
-pub script_refused : (text : Text) (head : Head) (n : ℕ) (behind : Text) (e : JobError) → IsHead text head n behind → IsScriptRefused head n behind e → IsFirstFault text e
+pub script_refused : (text : Text) (head : Head) (n : ℕ) (behind : Text) (e : JobError) → IsJobHead text head n behind → IsScriptRefused head n behind e → IsFirstFault text e
 script_refused text head n behind (error.Line m why) h is =
     let none : is_none_yet (head_of h.at.above).channels ≡ true = rw h.says at is.0 in
     record { at = h.at; counted = h.counted ∙ sym is.1; fault = at_last text head n behind h ∙ (rw (none, is.2) refl) }
@@ -237,7 +237,7 @@ script_refused text head n behind error.Memory h is =
     }
 
 -- what the reading of a job answers
-pub first_fault : {T : Type 0} (text : Text) (head : Head) (n : ℕ) (behind : Text) (r : Result T JobError) → IsHead text head n behind
+pub first_fault : {T : Type 0} (text : Text) (head : Head) (n : ℕ) (behind : Text) (r : Result T JobError) → IsJobHead text head n behind
     → IfErr r (IsScriptRefused head n behind) → IfErr r (IsFirstFault text)
 first_fault text head n behind (Ok x) h is = tt
 first_fault text head n behind (Err e) h is = script_refused text head n behind e h is

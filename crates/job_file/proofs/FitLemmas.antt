@@ -14,7 +14,7 @@ use Rattle.mil_bus.specs.Addresses.{is_fit}
 use Rattle.bc_machine.specs.declared.placed.Placed.{Placed}
 use Rattle.job_file.specs.Lines.{Said, blank, script, channel, start, terminal, action, fault, faults, series}
 use Rattle.job_file.specs.declared.spans.Series.{Series}
-use Rattle.job_file.specs.Spans.{IsSpan, count_of, number_at, placed_at, placed_by}
+use Rattle.job_file.specs.Spans.{IsSpan, span_count, span_number, placed_at, placed_by}
 use Rattle.job_file.proofs.SpanLemmas.{number_high, all_counted}
 use Rattle.job_file.specs.Entries.{IsInRange}
 use Rattle.job_file.specs.HeadLines.{Head, has, has_room, placing, may_stand, is_none_yet}
@@ -85,13 +85,13 @@ first_start h (m ∷ ms) n is fit high none = cc
 -- the actions of a series
 series_acts : (xs : List ℕ) (s : Series) → IsSpan s.span → has s.address xs ≡ true → list_all (may_act xs) (placed_by s) ≡ true
 series_acts xs s i here =
-    list_all-map (may_act xs) (placed_at s) (range_with_len 0 (count_of s.span))
-    ∙ all_counted (λ k. may_act xs (placed_at s k)) 0 (count_of s.span) (λ k lt. one k lt)
+    list_all-map (may_act xs) (placed_at s) (range_with_len 0 (span_count s.span))
+    ∙ all_counted (λ k. may_act xs (placed_at s k)) 0 (span_count s.span) (λ k lt. one k lt)
   where
-    one : (k : ℕ) → k < 0 + count_of s.span → may_act xs (placed_at s k) ≡ true
+    one : (k : ℕ) → k < 0 + span_count s.span → may_act xs (placed_at s k) ≡ true
     one k lt =
-        let low : 1 ≤ number_at s.span k = omega (arith, i.low) in
-        rw (le-leb 1 (number_at s.span k) low, le-leb (number_at s.span k) 1000000 (number_high s.span k i (omega (arith, lt))), here) refl
+        let low : 1 ≤ span_number s.span k = omega (arith, i.low) in
+        rw (le-leb 1 (span_number s.span k) low, le-leb (span_number s.span k) 1000000 (number_high s.span k i (omega (arith, lt))), here) refl
 
 -- one more line
 pub fit_with : (s : Said) (h : Head) → IsInRange s → may_stand s h ≡ true → IsFit h → IsFit (with_line s h)
@@ -115,7 +115,7 @@ fit_with (series s) h range stands fit = record {
   channels = fit.channels;
   starts = fit.starts;
   addresses = fit.addresses;
-  actions = list_all-append (may_act h.addresses) h.actions (placed_by s) ∙ both fit.actions (series_acts h.addresses s range.0 (and_right (has_room (count_of s.span) h) (has s.address h.addresses) stands));
+  actions = list_all-append (may_act h.addresses) h.actions (placed_by s) ∙ both fit.actions (series_acts h.addresses s range.0 (and_right (has_room (span_count s.span) h) (has s.address h.addresses) stands));
 }
 fit_with (faults span f) h range stands fit = record { channels = fit.channels; starts = fit.starts; addresses = fit.addresses; actions = fit.actions }
 fit_with (fault number f) h range stands fit = record { channels = fit.channels; starts = fit.starts; addresses = fit.addresses; actions = fit.actions }

@@ -12,12 +12,12 @@ use Rattle.job_file.specs.Options.{◌>>=◌}
 use Rattle.job_file.specs.Lines.{Said, blank, script, channel, start, terminal, action, fault, faults, series, said, said_in}
 use Rattle.job_file.specs.HeadLines.{Head, head_of, may_stand, are_lawful}
 use Rattle.job_file.specs.Drafts.{with_line}
-use Rattle.job_file.specs.Spans.{count_of}
-use Rattle.job_file.specs.Spelled.{ChannelJob, text_of, is_script, with_line_above, parted, all_said, lawful, job_of, spelled}
+use Rattle.job_file.specs.Spans.{span_count}
+use Rattle.job_file.specs.Spelled.{ChannelJob, joined_lines, is_script, with_line_above, parted, all_said, lawful, job_of, spelled}
 use Rattle.text_lines.specs.Lines.{is_line_end, lines_of}
 use Rattle.job_file.specs.Errors.{IsOfLine}
 use Rattle.job_file.specs.JobRanges.{IsFit}
-use Rattle.job_file.specs.Reading.{stands, TakesLine, IsRefusal, AreInRange}
+use Rattle.job_file.specs.Reading.{stands, TakesLine, IsJobRefusal, IsLineInRange}
 use Rattle.job_file.specs.declared.drafts.Taken.{Taken}
 use Rattle.job_file.specs.declared.drafts.Taken.TheVariants as taken
 use Rattle.job_file.specs.declared.error.Refusal.{Refusal}
@@ -31,10 +31,10 @@ use Rattle.job_file.proofs.LineLemmas.{first_line, text_again}
 abbrev pub job_behind : List Said → List Text → Option ChannelJob
 job_behind above lines =
     parted lines >>= (λ parts. all_said parts.0 >>= (λ said. lawful above said >>= (λ heads.
-    job_of (head_of (above ++ heads)) (text_of parts.1))))
+    job_of (head_of (above ++ heads)) (joined_lines parts.1))))
 
 script_line : (above : List Said) (line : Text) (lines : List Text) → is_script (said line) ≡ true
-    → job_behind above (line ∷ lines) ≡ job_of (head_of above) (text_of lines)
+    → job_behind above (line ∷ lines) ≡ job_of (head_of above) (joined_lines lines)
 script_line above line lines e = rw (e, append-nil) refl
 
 bad_line : (above : List Said) (line : Text) (lines : List Text) → is_script (said line) ≡ false → stands (said line) (head_of above) ≡ false
@@ -42,13 +42,13 @@ bad_line : (above : List Said) (line : Text) (lines : List Text) → is_script (
 bad_line above line lines e bad = rw e (by_parts (parted lines))
   where
     by_said : (o : Option Said) (rest : Option (List Said)) (behind : List Text) → stands o (head_of above) ≡ false
-        → ((o >>= (λ s. rest >>= (λ ss. Some (s ∷ ss)))) >>= (λ said. lawful above said >>= (λ heads. job_of (head_of (above ++ heads)) (text_of behind)))) ≡ None
+        → ((o >>= (λ s. rest >>= (λ ss. Some (s ∷ ss)))) >>= (λ said. lawful above said >>= (λ heads. job_of (head_of (above ++ heads)) (joined_lines behind)))) ≡ None
     by_said None rest behind not = refl
     by_said (Some s) None behind not = refl
     by_said (Some s) (Some ss) behind not = rw not refl
 
     by_parts : (o : Option (List Text × List Text))
-        → ((o >>= (λ (parts : List Text × List Text). Some (with_line_above line parts))) >>= (λ parts. all_said parts.0 >>= (λ said. lawful above said >>= (λ heads. job_of (head_of (above ++ heads)) (text_of parts.1))))) ≡ None
+        → ((o >>= (λ (parts : List Text × List Text). Some (with_line_above line parts))) >>= (λ parts. all_said parts.0 >>= (λ said. lawful above said >>= (λ heads. job_of (head_of (above ++ heads)) (joined_lines parts.1))))) ≡ None
     by_parts None = refl
     by_parts (Some parts) = by_said (said line) (all_said parts.0) parts.1 bad
 
@@ -57,20 +57,20 @@ good_line : (above : List Said) (line : Text) (lines : List Text) (s : Said) →
 good_line above line lines s is e good = rw (is, e) (by_parts (parted lines))
   where
     by_lawful : (b : Bool) (ss : List Said) (behind : List Text)
-        → (cond b (Some (s ∷ ss)) None >>= (λ heads. job_of (head_of (above ++ heads)) (text_of behind)))
-        ≡ (cond b (Some ss) None >>= (λ heads. job_of (head_of ((above ++ s ∷ []) ++ heads)) (text_of behind)))
+        → (cond b (Some (s ∷ ss)) None >>= (λ heads. job_of (head_of (above ++ heads)) (joined_lines behind)))
+        ≡ (cond b (Some ss) None >>= (λ heads. job_of (head_of ((above ++ s ∷ []) ++ heads)) (joined_lines behind)))
     by_lawful true ss behind = rw append_assoc refl
     by_lawful false ss behind = refl
 
     by_said : (rest : Option (List Said)) (behind : List Text)
-        → ((rest >>= (λ ss. Some (s ∷ ss))) >>= (λ said. lawful above said >>= (λ heads. job_of (head_of (above ++ heads)) (text_of behind))))
-        ≡ (rest >>= (λ said. lawful (above ++ s ∷ []) said >>= (λ heads. job_of (head_of ((above ++ s ∷ []) ++ heads)) (text_of behind))))
+        → ((rest >>= (λ ss. Some (s ∷ ss))) >>= (λ said. lawful above said >>= (λ heads. job_of (head_of (above ++ heads)) (joined_lines behind))))
+        ≡ (rest >>= (λ said. lawful (above ++ s ∷ []) said >>= (λ heads. job_of (head_of ((above ++ s ∷ []) ++ heads)) (joined_lines behind))))
     by_said None behind = refl
     by_said (Some ss) behind = rw good (by_lawful (are_lawful (above ++ s ∷ []) ss) ss behind)
 
     by_parts : (o : Option (List Text × List Text))
-        → ((o >>= (λ (parts : List Text × List Text). Some (with_line_above line parts))) >>= (λ parts. all_said parts.0 >>= (λ said. lawful above said >>= (λ heads. job_of (head_of (above ++ heads)) (text_of parts.1)))))
-        ≡ (o >>= (λ parts. all_said parts.0 >>= (λ said. lawful (above ++ s ∷ []) said >>= (λ heads. job_of (head_of ((above ++ s ∷ []) ++ heads)) (text_of parts.1)))))
+        → ((o >>= (λ (parts : List Text × List Text). Some (with_line_above line parts))) >>= (λ parts. all_said parts.0 >>= (λ said. lawful above said >>= (λ heads. job_of (head_of (above ++ heads)) (joined_lines parts.1)))))
+        ≡ (o >>= (λ parts. all_said parts.0 >>= (λ said. lawful (above ++ s ∷ []) said >>= (λ heads. job_of (head_of ((above ++ s ∷ []) ++ heads)) (joined_lines parts.1)))))
     by_parts None = refl
     by_parts (Some parts) = rw is (by_said (all_said parts.0) parts.1)
 
@@ -91,14 +91,14 @@ head_with above (fault number f) = simp (filter_map-append, flat_map-append, sum
 head_with above (faults span f) = simp (filter_map-append, flat_map-append, sum_by-append, add-zero, append-nil)
 head_with above (series s) =
     simp (filter_map-append, flat_map-append, sum_by-append, append-nil)
-    (ap (λ n. record (with_line (series s) (head_of above)) { from_series = (head_of above).from_series + n }) (zero-add (count_of s.span)))
+    (ap (λ n. record (with_line (series s) (head_of above)) { from_series = (head_of above).from_series + n }) (zero-add (span_count s.span)))
 
 -- the job of a text that is left, behind lines that said this
 abbrev pub job_left : List Said → Text → Option ChannelJob
 job_left above text = job_behind above (lines_of text)
 
 -- the text that is left behind a first line
-left_behind : (above : List Said) (text : Text) → (lines : List Text) × (lines_of text ≡ before_first is_line_end text ∷ lines) × (text_of lines ≡ after_first is_line_end text)
+left_behind : (above : List Said) (text : Text) → (lines : List Text) × (lines_of text ≡ before_first is_line_end text ∷ lines) × (joined_lines lines ≡ after_first is_line_end text)
     × (((heads : List Said) → job_behind heads lines ≡ job_left heads (after_first is_line_end text)))
 left_behind above text =
     elim (first_line text) [
@@ -145,11 +145,11 @@ module _ (text rest line behind : Text) (above : List Said) (old new : Head) (sh
   script_fits r is takes fit = let t : TakesLine (said line) old new (Ok taken.Script) = rw is at takes in rw t.1 fit
 
   -- another line
-  pub line_taken : (r : Result Taken Refusal) → r ≡ Ok taken.Line → TakesLine (said line) old new r → AreInRange (said line) → IsFit old
+  pub line_taken : (r : Result Taken Refusal) → r ≡ Ok taken.Line → TakesLine (said line) old new r → IsLineInRange (said line) → IsFit old
       → (x : List Said) × (new ≡ head_of x) × (spelled text ≡ job_left x behind) × IsFit new
   line_taken r is takes range fit = go (said line) refl (rw is at takes) range
     where
-      go : (o : Option Said) → said line ≡ o → TakesLine o old new (Ok taken.Line) → AreInRange o → (x : List Said) × (new ≡ head_of x) × (spelled text ≡ job_left x behind) × IsFit new
+      go : (o : Option Said) → said line ≡ o → TakesLine o old new (Ok taken.Line) → IsLineInRange o → (x : List Said) × (new ≡ head_of x) × (spelled text ≡ job_left x behind) × IsFit new
       go None says t r = absurd (cc)
       go (Some s) says t r = (
         above ++ s ∷ [],
@@ -159,7 +159,7 @@ module _ (text rest line behind : Text) (above : List Said) (old new : Head) (sh
       )
 
   -- a line that was refused
-  pub line_refused : (n : ℕ) (r : Result Taken Refusal) (why : Refusal) (e : JobError) → r ≡ Err why → TakesLine (said line) old new r → IsOfLine n why e → IsRefusal (spelled text) e
+  pub line_refused : (n : ℕ) (r : Result Taken Refusal) (why : Refusal) (e : JobError) → r ≡ Err why → TakesLine (said line) old new r → IsOfLine n why e → IsJobRefusal (spelled text) e
   line_refused n r (refusal.Line f) (error.Line m g) is takes of =
       let t : TakesLine (said line) old new (Err (refusal.Line f)) = rw is at takes in
       left ∙ at_bad above rest (rw first at t.0) (rw (first, shows) at t.1)

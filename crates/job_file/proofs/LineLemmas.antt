@@ -6,7 +6,7 @@ use Rattle.std.proofs.lemmas.Bool.{cases_lt}
 use Rattle.std.proofs.lemmas.List.{take_all, drop_all}
 use Rattle.std.proofs.lemmas.List.Splits.{slice_split_first, join_with_byte-slice_split}
 use Rattle.text_lines.specs.Words.{Text}
-use Rattle.job_file.specs.Spelled.{text_of}
+use Rattle.job_file.specs.Spelled.{joined_lines}
 use Rattle.text_lines.specs.Lines.{is_line_end, lines_of}
 
 one_more : (n : ℕ) → 1 + n ≡ suc n
@@ -33,5 +33,5 @@ first_line text =
     ]
 
 -- the lines of a text, put together, are the text
-pub text_again : (text : Text) → text_of (lines_of text) ≡ text
+pub text_again : (text : Text) → joined_lines (lines_of text) ≡ text
 text_again text = join_with_byte-slice_split 10 text

@@ -13,7 +13,7 @@ use Rattle.bc_machine.specs.Running.{MachineState, stepped, turn_of}
 use Rattle.bc_machine.specs.UnderWay.{IsUnderWay, IsSent}
 use Rattle.job_file.specs.Spelled.{ChannelJob}
 use Rattle.job_file.specs.Meaning.{records_in, records}
-use Rattle.job_file.specs.Machines.{IsOf, GoesOn, RecordsSoFar, AllRecords, Counts}
+use Rattle.job_file.specs.Machines.{IsOf, StaysMachineOf, RecordsSoFar, AllRecords, CountsMessagesSent}
 use Rattle.job_file.proofs.JobRuns.{kept}
 
 at_place : (xs ys : List Record) (x : Record) → slice_get (xs ++ x ∷ ys) (length xs) ≡ Some x
@@ -29,7 +29,7 @@ records_sent m n r s =
     ap (λ (ts : List Talk). map observed (reverse ts)) s.talks ∙ one_behind s.talk m.point.state.talks ∙ ap (λ q. records_in m.point.state ++ q ∷ []) (sym s.recorded)
 
 -- the record of a message is the next of the job's
-pub next_is : RecordsSoFar → Counts → (job : ChannelJob) (placed : List Placed) (m n : MachineState) (r : Record) (k : ℕ) → IsSound job.tree → IsOf job placed m → IsOf job placed n → IsSent m n r
+pub next_is : RecordsSoFar → CountsMessagesSent → (job : ChannelJob) (placed : List Placed) (m n : MachineState) (r : Record) (k : ℕ) → IsSound job.tree → IsOf job placed m → IsOf job placed n → IsSent m n r
     → m.point.number ≡ k → slice_get (records job placed) k ≡ Some r
 next_is so_far counts job placed m n r k sound of of_next s is =
     let long : k ≡ length (records_in m.point.state) = sym is ∙ counts job placed m of in
@@ -40,7 +40,7 @@ next_is so_far counts job placed m n r k sound of of_next s is =
     ap (λ (xs : List Record). slice_get xs k) whole ∙ ap (λ i. slice_get (records_in m.point.state ++ r ∷ rest) i) long ∙ at_place (records_in m.point.state) rest r
 
 -- where it halts, all records were given
-pub all_given : AllRecords → Counts → (job : ChannelJob) (placed : List Placed) (m : MachineState) (k : ℕ) → IsSound job.tree → IsOf job placed m → turn_of m ≡ halted → m.point.number ≡ k
+pub all_given : AllRecords → CountsMessagesSent → (job : ChannelJob) (placed : List Placed) (m : MachineState) (k : ℕ) → IsSound job.tree → IsOf job placed m → turn_of m ≡ halted → m.point.number ≡ k
     → k ≡ length (records job placed)
 all_given whole counts job placed m k sound of e is = sym is ∙ counts job placed m of ∙ ap length (whole job placed m sound of e)
 
@@ -57,6 +57,6 @@ smaller m n is took way =
     omega (arith, code, took, low)
 
 -- and leaves it a job's
-pub next_of : GoesOn → (job : ChannelJob) (placed : List Placed) (m n : MachineState) → n ≡ stepped m → IsOf job placed m → IsUnderWay n → IsOf job placed n
+pub next_of : StaysMachineOf → (job : ChannelJob) (placed : List Placed) (m n : MachineState) → n ≡ stepped m → IsOf job placed m → IsUnderWay n → IsOf job placed n
 next_of goes_on job placed m n is of way =
     subst (λ (v : MachineState). IsOf job placed v) (sym is) (goes_on job placed m of (subst IsUnderWay is way))

@@ -15,10 +15,10 @@ use Rattle.job_file.specs.declared.error.LineFault.TheVariants.{Fault as BadFaul
 use Rattle.job_file.specs.declared.spans.Span.{Span}
 use Rattle.job_file.specs.HeadLines.{may_plan}
 use Rattle.job_file.specs.Faults.{plan_fault, first_fault}
-use Rattle.job_file.specs.Spans.{IsSpan, count_of, number_at}
+use Rattle.job_file.specs.Spans.{IsSpan, span_count, span_number}
 
 -- the numbers of a span stand in its range
-pub number_high : (s : Span) (k : ℕ) → IsSpan s → k < count_of s → number_at s k ≤ 1000000
+pub number_high : (s : Span) (k : ℕ) → IsSpan s → k < span_count s → span_number s k ≤ 1000000
 number_high s k i lt =
     let few : k ≤ (s.last - s.first) / s.step = omega (arith, lt) in
     let below = mul-le-mul_right s.step few in

@@ -3,7 +3,7 @@ use Rattle.std.specs.Prelude.{◌≡◌, ◌+◌, true, false, [], ◌∷◌, �
 use Rattle.std.specs.Option.{option_to_list}
 use Rattle.mil_host.specs.Reading.{in_words}
 use Rattle.job_file.specs.Lines.{Said, blank, script, channel, start, terminal, action, fault, faults, series}
-use Rattle.job_file.specs.Spans.{count_of, numbers_of, placed_by}
+use Rattle.job_file.specs.Spans.{span_count, numbers_of, placed_by}
 use Rattle.job_file.specs.HeadLines.{Head, placing, may_stand}
 use Rattle.job_file.specs.declared.drafts.Draft.{Draft}
 use Rattle.job_file.specs.declared.error.Refusal.{Refusal}
@@ -29,7 +29,10 @@ with_line (action number address text) h = record h
     { actions = h.actions ++ option_to_list (placing number address (in_words text)) }
 with_line (fault number f) h = record h { plan = h.plan ++ (number, f) ∷ [] }
 with_line (faults span f) h = record h { plan = h.plan ++ map (λ number. (number, f)) (numbers_of span) }
-with_line (series s) h = record h { actions = h.actions ++ placed_by s; from_series = h.from_series + count_of s.span }
+with_line (series s) h = record h {
+  actions = h.actions ++ placed_by s;
+  from_series = h.from_series + span_count s.span;
+}
 
 -- the line may stand there, and was taken in; or it may not, but for want of memory
 abbrev pub Takes : Said → Head → Head → Result (Unit {0}) Refusal → Type 0

@@ -19,9 +19,9 @@ use Rattle.frame_asm.specs.Shapes.{code_of_tree}
 use Rattle.job_file.specs.Lines.{Said, blank, script, channel, start, terminal, action, fault, faults, series}
 use Rattle.job_file.specs.Lines.{keyword_of, fault_word_of, sync_of, first, ended, one, two, three, four, front}
 use Rattle.job_file.specs.Lines.{is_comment, said}
-use Rattle.job_file.specs.Spans.{count_of, numbers_of}
+use Rattle.job_file.specs.Spans.{span_count, numbers_of}
 use Rattle.job_file.specs.HeadLines.{Head, head_of, has, has_room, is_none_yet, are_lawful}
-use Rattle.job_file.specs.Spelled.{text_of, is_script, all_said}
+use Rattle.job_file.specs.Spelled.{joined_lines, is_script, all_said}
 use Rattle.text_lines.specs.Lines.{lines_of}
 use Rattle.job_file.specs.Reading.{IsTooLong, IsTooMuch}
 use Rattle.job_file.specs.declared.keywords.Keyword.{Keyword}
@@ -98,7 +98,7 @@ place_fault (action number address text) above = if has address above.addresses 
 place_fault (fault number f) above = plan_fault above.plan f number
 place_fault (faults span f) above = first_fault (map (plan_fault above.plan f) (numbers_of span))
 place_fault (series s) above =
-    if has_room (count_of s.span) above
+    if has_room (span_count s.span) above
     then (if has s.address above.addresses then None else Some Terminal)
     else Some Number
 
@@ -155,7 +155,7 @@ pub record IsRoomRefused (text : Text) : Type 0 where
   pub room : takes_room_at at.rest ≡ true
 
 -- what the lines above the script say together, the number of the line `script`, and the script behind it
-pub record IsHead (text : Text) (head : Head) (line : ℕ) (below : Text) : Type 0 where
+pub record IsJobHead (text : Text) (head : Head) (line : ℕ) (below : Text) : Type 0 where
   pub at : Reached text
   pub says : head ≡ head_of at.above
   pub last : Text
@@ -164,24 +164,24 @@ pub record IsHead (text : Text) (head : Head) (line : ℕ) (below : Text) : Type
   pub words : are_line_words (words last) ≡ true
   pub is : is_script (said last) ≡ true
   pub counted : length at.before + 1 ≡ line
-  pub behind : text_of lines ≡ below
+  pub behind : joined_lines lines ≡ below
 
 -- a script behind lines that are well and name the channel
-pub record IsReached (text : Text) (line : ℕ) (below : Text) : Type 0 where
+pub record IsScriptReached (text : Text) (line : ℕ) (below : Text) : Type 0 where
   pub head : Head
-  pub is : IsHead text head line below
+  pub is : IsJobHead text head line below
   pub named : is_none_yet head.channels ≡ false
 
 pub record IsScriptFault (text : Text) (cause : Cause) : Type 0 where
   pub line : ℕ
   pub below : Text
-  pub reached : IsReached text line below
+  pub reached : IsScriptReached text line below
   pub fault : tree_of_text below ≡ Err cause
 
 -- the image of the script is refused for this
 pub record IsImageFault (text : Text) (line : ℕ) (IsRefused : Code → Type 0) : Type 0 where
   pub below : Text
-  pub reached : IsReached text line below
+  pub reached : IsScriptReached text line below
   pub tree : Tree
   pub spells : tree_of_text below ≡ Ok tree
   pub fault : IsRefused (code_of_tree tree)

@@ -11,7 +11,7 @@ use Rattle.mil_line.specs.declared.faults.Fault.{Fault}
 use Rattle.mil_line.specs.Plans.{Planned, faults_of}
 use Rattle.mil_line.specs.Ranges.{is_number, is_in_range}
 use Rattle.job_file.specs.Lines.{Said, blank, script, channel, start, terminal, action, fault, faults, series}
-use Rattle.job_file.specs.Spans.{count_of, numbers_of, placed_by}
+use Rattle.job_file.specs.Spans.{span_count, numbers_of, placed_by}
 use Rattle.bc_machine.specs.declared.placed.Placed.{Placed}
 
 -- the channels that are named, the start ticks, the addresses of the terminals, the hosts' actions and the planned
@@ -51,7 +51,7 @@ planned_of (faults span f) = map (λ number. (number, f)) (numbers_of span)
 planned_of _ = []
 
 abbrev pub in_series : Said → ℕ
-in_series (series s) = count_of s.span
+in_series (series s) = span_count s.span
 in_series _ = 0
 
 abbrev pub head_of : List Said → Head
@@ -91,7 +91,7 @@ may_stand (terminal n) above = not (has n above.addresses)
 may_stand (action number address text) above = has address above.addresses && is_ok (in_words text)
 may_stand (fault number f) above = may_plan number f above.plan
 may_stand (faults span f) above = list_all (λ number. may_plan number f above.plan) (numbers_of span)
-may_stand (series s) above = has_room (count_of s.span) above && has s.address above.addresses
+may_stand (series s) above = has_room (span_count s.span) above && has s.address above.addresses
 
 -- each line may stand behind those before it
 abbrev pub are_lawful : List Said → List Said → Bool

@@ -28,8 +28,8 @@ latest_outcome [] = None
 latest_outcome (talk ∷ earlier) = Some (outcome_in talk)
 
 -- the last outcome is that of the latest talk
-abbrev pub IsTold : MachineState → Type 0
-IsTold m = m.point.last ≡ latest_outcome m.point.state.talks
+abbrev pub IsLatestOutcome : MachineState → Type 0
+IsLatestOutcome m = m.point.last ≡ latest_outcome m.point.state.talks
 
 -- its controller at the beginning is the job's
 abbrev pub Starts : Type 0
@@ -39,13 +39,14 @@ Starts =
     → IsOf job placed (started (code_of_tree job.tree) (bus_of job) job.plan placed)
 
 -- and stays so with each step
-abbrev pub GoesOn : Type 0
-GoesOn = (job : ChannelJob) (placed : List Placed) (m : MachineState) → IsOf job placed m → IsUnderWay (stepped m)
+abbrev pub StaysMachineOf : Type 0
+StaysMachineOf = (job : ChannelJob) (placed : List Placed) (m : MachineState) → IsOf job placed m
+    → IsUnderWay (stepped m)
     → IsOf job placed (stepped m)
 
 -- as many records as messages were sent
-abbrev pub Counts : Type 0
-Counts =
+abbrev pub CountsMessagesSent : Type 0
+CountsMessagesSent =
     (job : ChannelJob) (placed : List Placed) (m : MachineState) → IsOf job placed m
     → m.point.number ≡ length (records_in m.point.state)
 

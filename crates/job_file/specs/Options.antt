@@ -7,6 +7,6 @@ None >>= next = None
 (Some x) >>= next = next x
 
 -- what a call answered is what reading comes to
-abbrev pub Gives : {X Y E : Type 0} → (X → Y) → Result X E → Option Y → Type 0
-Gives view (Ok x) read = read ≡ Some (view x)
-Gives view (Err e) read = read ≡ None
+abbrev pub IsOkOption : {X Y E : Type 0} → (X → Y) → Result X E → Option Y → Type 0
+IsOkOption view (Ok x) read = read ≡ Some (view x)
+IsOkOption view (Err e) read = read ≡ None

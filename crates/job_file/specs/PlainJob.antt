@@ -12,5 +12,5 @@ state_in j = record {
   script = j.script;
 }
 
-abbrev pub IsKept : Inside → Type 0
-IsKept j = IsJob (state_in j) j.program
+abbrev pub IsKeptJob : Inside → Type 0
+IsKeptJob j = IsJob (state_in j) j.program

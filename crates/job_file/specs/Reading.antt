@@ -38,9 +38,9 @@ TakesLine line old new (Err refusal.Memory) = Unit {0}
 TakesLine line old new (Err (refusal.Line why)) = (is_script line ≡ false) × (stands line old ≡ false)
 
 -- what a line says is in its ranges
-abbrev pub AreInRange : Option Said → Type 0
-AreInRange None = Unit {0}
-AreInRange (Some line) = IsInRange line
+abbrev pub IsLineInRange : Option Said → Type 0
+IsLineInRange None = Unit {0}
+IsLineInRange (Some line) = IsInRange line
 
 -- what a script comes to: its tree, or a fault; want of memory says nothing
 abbrev pub IsScriptRefusal : Result Tree Cause → JobError → Type 0
@@ -76,11 +76,11 @@ IsCodeRefusal code _ = ⊥
 
 -- A refusal for another cause than memory: there is no job, or its script has an image that is too long or that the
 -- loader refuses for its budget or its periods.
-abbrev pub IsRefusal : Option ChannelJob → JobError → Type 0
-IsRefusal spelled (error.Line line why) = spelled ≡ None
-IsRefusal spelled (error.Script cause place) = spelled ≡ None
-IsRefusal spelled (error.Assembly line why) = (job : ChannelJob) × (spelled ≡ Some job)
+abbrev pub IsJobRefusal : Option ChannelJob → JobError → Type 0
+IsJobRefusal spelled (error.Line line why) = spelled ≡ None
+IsJobRefusal spelled (error.Script cause place) = spelled ≡ None
+IsJobRefusal spelled (error.Assembly line why) = (job : ChannelJob) × (spelled ≡ Some job)
     × IsTooLong (code_of_tree job.tree) why
-IsRefusal spelled (error.Loading line why) = (job : ChannelJob) × (spelled ≡ Some job)
+IsJobRefusal spelled (error.Loading line why) = (job : ChannelJob) × (spelled ≡ Some job)
     × IsTooMuch (code_of_tree job.tree) why
-IsRefusal spelled error.Memory = Unit {0}
+IsJobRefusal spelled error.Memory = Unit {0}

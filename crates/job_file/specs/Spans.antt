@@ -14,16 +14,16 @@ pub record IsSpan (s : Span) : Type 0 where
   pub apart : 1 ≤ s.step
 
 -- how many messages there are from the first to the last, one at each step
-abbrev pub count_of : Span → ℕ
-count_of s = (s.last - s.first) / s.step + 1
+abbrev pub span_count : Span → ℕ
+span_count s = (s.last - s.first) / s.step + 1
 
 -- the number of the k-th of them, k from 0
-abbrev pub number_at : Span → ℕ → ℕ
-number_at s k = s.first + k * s.step
+abbrev pub span_number : Span → ℕ → ℕ
+span_number s k = s.first + k * s.step
 
 -- FIRST, FIRST + STEP and so on, up to LAST
 abbrev pub numbers_of : Span → List ℕ
-numbers_of s = map (number_at s) (range_with_len 0 (count_of s))
+numbers_of s = map (span_number s) (range_with_len 0 (span_count s))
 
 -- the data word of the k-th message of a series
 abbrev pub word_at : Series → ℕ → ℕ
@@ -32,10 +32,10 @@ word_at s k = (s.start + k * s.add) % 65536
 -- its action: the terminal puts this word up for a transmit command at the subaddress
 abbrev pub placed_at : Series → ℕ → Placed
 placed_at s k = record {
-  number = number_at s.span k;
+  number = span_number s.span k;
   address = s.address;
   action = Transmit (record { sub = s.sub; words = word_at s k ∷ [] });
 }
 
 abbrev pub placed_by : Series → List Placed
-placed_by s = map (placed_at s) (range_with_len 0 (count_of s.span))
+placed_by s = map (placed_at s) (range_with_len 0 (span_count s.span))

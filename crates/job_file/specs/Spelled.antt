@@ -27,8 +27,8 @@ pub record ChannelJob : Type 0 where
   pub tree : Tree
 
 -- lines as a text again
-abbrev pub text_of : List Text → Text
-text_of lines = join_with_byte 10 lines
+abbrev pub joined_lines : List Text → Text
+joined_lines lines = join_with_byte 10 lines
 
 abbrev pub is_script : Option Said → Bool
 is_script (Some script) = true
@@ -80,7 +80,7 @@ job_of head text =
 abbrev pub job_of_lines : List Text → Option ChannelJob
 job_of_lines lines =
     parted lines >>= (λ parts. all_said parts.0 >>= (λ said. lawful [] said >>= (λ heads.
-    job_of (head_of heads) (text_of parts.1))))
+    job_of (head_of heads) (joined_lines parts.1))))
 
 -- the job that a text spells, if it spells one
 unfoldable pub spelled : Text → Option ChannelJob

@@ -4,7 +4,7 @@ use Rattle.text_lines.specs.Words.{Text}
 use Rattle.frame_asm.specs.Shapes.{code_of_tree}
 use Rattle.frame_load.specs.Judging.{IsWithin, HasShortPeriods}
 use Rattle.job_file.specs.Spelled.{ChannelJob, spelled}
-use Rattle.job_file.specs.Reading.{IsRefusal}
+use Rattle.job_file.specs.Reading.{IsJobRefusal}
 use Rattle.job_file.specs.Faults.{IsFirstFault}
 use Rattle.job_file.specs.declared.error.JobError.{JobError}
 
@@ -25,6 +25,6 @@ pub record IsAccepted (text : Text) : Type 0 where
 pub record IsFirstRefused (texts : List Text) (index : ℕ) (fault : JobError) : Type 0 where
   pub text : Text
   pub there : slice_get texts index ≡ Some text
-  pub refused : IsRefusal (spelled text) fault
+  pub refused : IsJobRefusal (spelled text) fault
   pub first : IsFirstFault text fault
   pub before : (i : ℕ) (earlier : Text) → i < index → slice_get texts i ≡ Some earlier → IsAccepted earlier

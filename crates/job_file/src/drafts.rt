@@ -5,7 +5,7 @@ ghost use Rattle.job_file.specs.Faults.{IsEntryRefused, IsLineRefused, are_line_
 ghost use Rattle.job_file.specs.HeadLines.{has};
 ghost use Rattle.job_file.specs.Lines as says;
 ghost use Rattle.job_file.specs.Lines.{terminal, action, said};
-ghost use Rattle.job_file.specs.Reading.{TakesLine, AreInRange};
+ghost use Rattle.job_file.specs.Reading.{TakesLine, IsLineInRange};
 ghost use Rattle.job_file.specs.Spans.{IsSpan, numbers_of};
 ghost use Rattle.job_file.specs.declared.error.LineFault.TheVariants.{Order};
 ghost use Rattle.job_file.specs.declared.error.Refusal.TheVariants as refusal;
@@ -227,7 +227,7 @@ impl Draft {
     /// Takes in one more line.
     pub fn take_line(&mut self, line: &[u8]) -> Result<Taken, Refusal>
         ensures taken { TakesLine (said line.now) (shown self.old) (shown self.new) result }
-        ensures range { OnOk result (AreInRange (said line.now)) }
+        ensures range { OnOk result (IsLineInRange (said line.now)) }
         ensures words { OnOk result (are_line_words (words line.now) ≡ true) }
         ensures refused { IfErr result (IsLineRefused line.now (shown self.old)) }
     {

@@ -5,7 +5,7 @@ ghost use Rattle.frame_tree.specs.Bounds.{IsSound};
 ghost use Rattle.job_file.specs.Drafts.{shown};
 ghost use Rattle.job_file.specs.JobRanges.{may_act, IsFit};
 ghost use Rattle.job_file.specs.Jobs.{tree_in, job_in};
-ghost use Rattle.job_file.specs.Machines.{IsOf, IsTold};
+ghost use Rattle.job_file.specs.Machines.{IsOf, IsLatestOutcome};
 ghost use Rattle.job_file.specs.Meaning.{bus_of};
 ghost use Rattle.job_file.specs.Scripts.{tree_spelled, IsProgramOf};
 ghost use Rattle.job_file.specs.Spelled.{job_with};
@@ -44,11 +44,11 @@ impl Model for Job {
 
     ghost coded = { Prim.hlevel (codes, scripts.the_row.coded) };
 
-    ghost use Rattle.job_file.specs.PlainJob.{state_in, IsKept};
+    ghost use Rattle.job_file.specs.PlainJob.{state_in, IsKeptJob};
 
     ghost view = { state_in };
 
-    ghost invariant = { IsKept };
+    ghost invariant = { IsKeptJob };
 }
 
 impl Job {
@@ -126,7 +126,7 @@ impl Job {
         ensures value { IfOk result
             (λ m. m ≡ started (code_of_tree (tree_in self.now)) (bus_of (job_in self.now)) self.now.plan placed.now) }
         ensures of_job { IfOk result (λ m. IsOf (job_in self.now) placed.now m) }
-        ensures told { IfOk result (λ m. IsTold m) }
+        ensures told { IfOk result (λ m. IsLatestOutcome m) }
     {
         let program = self.program.copy()?;
         let plan = self.plan.copy()?;

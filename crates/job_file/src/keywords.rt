@@ -1,6 +1,6 @@
 //! The words that stand in the lines of a job.
 ghost use Rattle.job_file.specs.Lines.{keyword_of, fault_word_of, sync_of};
-ghost use Rattle.job_file.specs.Options.{Gives};
+ghost use Rattle.job_file.specs.Options.{IsOkOption};
 ghost use Rattle.job_file.specs.declared.error.LineFault.TheVariants.{Word};
 ghost use Rattle.std.specs.Prelude.{◌≡◌, IfErr};
 
@@ -59,7 +59,7 @@ const SYNCS: [(&[u8], Sync); 2] = [(b"c", Sync::CommandSync), (b"d", Sync::DataS
 
 /// The keyword that a word is.
 pub fn keyword_in(word: &[u8]) -> Result<Keyword, LineFault>
-    ensures value { Gives (λ k. k) result (keyword_of word.now) }
+    ensures value { IsOkOption (λ k. k) result (keyword_of word.now) }
     ensures fault { IfErr result (λ f. f ≡ Word) }
 {
     meaning(&KEYWORDS, word).ok_or(LineFault::Word)
@@ -67,7 +67,7 @@ pub fn keyword_in(word: &[u8]) -> Result<Keyword, LineFault>
 
 /// The kind of fault that a word names.
 pub fn fault_word_in(word: &[u8]) -> Result<FaultWord, LineFault>
-    ensures value { Gives (λ k. k) result (fault_word_of word.now) }
+    ensures value { IsOkOption (λ k. k) result (fault_word_of word.now) }
     ensures fault { IfErr result (λ f. f ≡ Word) }
 {
     meaning(&FAULT_WORDS, word).ok_or(LineFault::Word)
@@ -75,7 +75,7 @@ pub fn fault_word_in(word: &[u8]) -> Result<FaultWord, LineFault>
 
 /// The sync that `c` (command and status words) or `d` (data words) names.
 pub fn sync_in(word: &[u8]) -> Result<Sync, LineFault>
-    ensures value { Gives (λ s. s) result (sync_of word.now) }
+    ensures value { IsOkOption (λ s. s) result (sync_of word.now) }
     ensures fault { IfErr result (λ f. f ≡ Word) }
 {
     meaning(&SYNCS, word).ok_or(LineFault::Word)

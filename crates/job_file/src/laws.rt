@@ -1,5 +1,6 @@
 //! Laws of the definitions of this crate, the contract of a function that does nothing.
-ghost use Rattle.job_file.specs.Machines.{Starts, GoesOn, Counts, RecordsSoFar, BusSoFar, AllRecords};
+ghost use Rattle.job_file.specs.Machines.{Starts, StaysMachineOf, CountsMessagesSent, RecordsSoFar, BusSoFar};
+ghost use Rattle.job_file.specs.Machines.{AllRecords};
 
 use bc_machine::BusSetting;
 use frame_asm::code_means;
@@ -9,8 +10,8 @@ use frame_asm::code_means;
 /// halts, they are all of the job's records.
 pub fn job_runs()
     ensures starts { Starts }
-    ensures goes_on { GoesOn }
-    ensures counts { Counts }
+    ensures goes_on { StaysMachineOf }
+    ensures counts { CountsMessagesSent }
     ensures so_far { RecordsSoFar }
     ensures bus { BusSoFar }
     ensures whole { AllRecords }

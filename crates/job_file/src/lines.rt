@@ -2,7 +2,7 @@
 ghost use Rattle.job_file.specs.Entries.{said_by, IsInRange};
 ghost use Rattle.job_file.specs.Faults.{IsFaultOfWords, are_fault_words, are_words_behind, are_line_words};
 ghost use Rattle.job_file.specs.Lines as lines;
-ghost use Rattle.job_file.specs.Options.{Gives};
+ghost use Rattle.job_file.specs.Options.{IsOkOption};
 ghost use Rattle.job_file.specs.Spans.{IsSpan};
 ghost use Rattle.job_file.specs.declared.error.LineFault.TheVariants.{Word as BadWord, Number as BadNumber};
 ghost use Rattle.job_file.specs.declared.keywords.FaultWord.TheVariants as kinds;
@@ -54,7 +54,7 @@ pub enum Entry<'a> {
 
 /// The first word, and what comes after it.
 fn first_word(text: &[u8]) -> Result<(&[u8], &[u8]), LineFault>
-    ensures value { Gives (λ x. (x.0.now, words x.1.now)) result (lines.first (words text.now)) }
+    ensures value { IsOkOption (λ x. (x.0.now, words x.1.now)) result (lines.first (words text.now)) }
     ensures words { IfErr result (λ f. f ≡ BadWord) }
 {
     match next_word(text) {
@@ -65,7 +65,7 @@ fn first_word(text: &[u8]) -> Result<(&[u8], &[u8]), LineFault>
 
 /// No word is left.
 fn end(text: &[u8]) -> Result<(), LineFault>
-    ensures value { Gives (λ x. x) result (lines.ended (words text.now) tt) }
+    ensures value { IsOkOption (λ x. x) result (lines.ended (words text.now) tt) }
     ensures words { IfErr result (λ f. f ≡ BadWord) }
 {
     match next_word(text) {
@@ -77,7 +77,7 @@ fn end(text: &[u8]) -> Result<(), LineFault>
 /// The only word.
 #[tactic(auto, unfolding(crate::specs::Lines::one))]
 fn one_word(text: &[u8]) -> Result<&[u8], LineFault>
-    ensures value { Gives (λ x. x.now) result (lines.one (words text.now)) }
+    ensures value { IsOkOption (λ x. x.now) result (lines.one (words text.now)) }
     ensures words { IfErr result (λ f. f ≡ BadWord) }
 {
     let (word, rest) = first_word(text)?;
@@ -88,7 +88,7 @@ fn one_word(text: &[u8]) -> Result<&[u8], LineFault>
 /// The only two words.
 #[tactic(auto, unfolding(crate::specs::Lines::two))]
 fn two_words(text: &[u8]) -> Result<(&[u8], &[u8]), LineFault>
-    ensures value { Gives (λ x. (x.0.now, x.1.now)) result (lines.two (words text.now)) }
+    ensures value { IsOkOption (λ x. (x.0.now, x.1.now)) result (lines.two (words text.now)) }
     ensures words { IfErr result (λ f. f ≡ BadWord) }
 {
     let (first, rest) = first_word(text)?;
@@ -99,7 +99,7 @@ fn two_words(text: &[u8]) -> Result<(&[u8], &[u8]), LineFault>
 /// The only three words.
 #[tactic(auto, unfolding(crate::specs::Lines::three))]
 fn three_words(text: &[u8]) -> Result<(&[u8], &[u8], &[u8]), LineFault>
-    ensures value { Gives (λ x. (x.0.now, x.1.now, x.2.now)) result (lines.three (words text.now)) }
+    ensures value { IsOkOption (λ x. (x.0.now, x.1.now, x.2.now)) result (lines.three (words text.now)) }
     ensures words { IfErr result (λ f. f ≡ BadWord) }
 {
     let (first, rest) = first_word(text)?;
@@ -110,7 +110,7 @@ fn three_words(text: &[u8]) -> Result<(&[u8], &[u8], &[u8]), LineFault>
 /// The only four words.
 #[tactic(auto, unfolding(crate::specs::Lines::four))]
 fn four_words(text: &[u8]) -> Result<(&[u8], &[u8], &[u8], &[u8]), LineFault>
-    ensures value { Gives (λ x. (x.0.now, x.1.now, x.2.now, x.3.now)) result (lines.four (words text.now)) }
+    ensures value { IsOkOption (λ x. (x.0.now, x.1.now, x.2.now, x.3.now)) result (lines.four (words text.now)) }
     ensures words { IfErr result (λ f. f ≡ BadWord) }
 {
     let (first, rest) = first_word(text)?;
@@ -121,7 +121,8 @@ fn four_words(text: &[u8]) -> Result<(&[u8], &[u8], &[u8], &[u8]), LineFault>
 /// The first three words, and what comes after them.
 #[tactic(auto, unfolding(crate::specs::Lines::front))]
 fn front(text: &[u8]) -> Result<(&[u8], &[u8], &[u8], &[u8]), LineFault>
-    ensures value { Gives (λ x. ((x.0.now, x.1.now, x.2.now), words x.3.now)) result (lines.front (words text.now)) }
+    ensures value { IsOkOption (λ x. ((x.0.now, x.1.now, x.2.now), words x.3.now)) result
+        (lines.front (words text.now)) }
     ensures words { IfErr result (λ f. f ≡ BadWord) }
 {
     let (first, rest) = first_word(text)?;
@@ -133,7 +134,7 @@ fn front(text: &[u8]) -> Result<(&[u8], &[u8], &[u8], &[u8]), LineFault>
 /// The only two words, each a number.
 #[tactic(auto, unfolding(crate::specs::Lines::two_numbers))]
 fn two_numbers(text: &[u8]) -> Result<(u32, u32), LineFault>
-    ensures value { Gives (λ x. x) result (lines.two_numbers (words text.now)) }
+    ensures value { IsOkOption (λ x. x) result (lines.two_numbers (words text.now)) }
     ensures words { IsFaultOfWords result (is_some (lines.two (words text.now))) }
 {
     let (first, second) = two_words(text)?;
@@ -144,7 +145,7 @@ fn two_numbers(text: &[u8]) -> Result<(u32, u32), LineFault>
 
 #[tactic(auto, unfolding(crate::specs::Lines::mask_in))]
 fn mask(text: &[u8]) -> Result<Fault, LineFault>
-    ensures value { Gives (λ f. f) result (lines.mask_in (words text.now)) }
+    ensures value { IsOkOption (λ f. f) result (lines.mask_in (words text.now)) }
     ensures words { IsFaultOfWords result (are_fault_words kinds.Mask (words text.now)) }
 {
     let (run, index, mask) = three_words(text)?;
@@ -157,7 +158,7 @@ fn mask(text: &[u8]) -> Result<Fault, LineFault>
 
 #[tactic(auto, unfolding(crate::specs::Lines::add_in))]
 fn added(text: &[u8]) -> Result<Fault, LineFault>
-    ensures value { Gives (λ f. f) result (lines.add_in (words text.now)) }
+    ensures value { IsOkOption (λ f. f) result (lines.add_in (words text.now)) }
     ensures words { IsFaultOfWords result (are_fault_words kinds.Add (words text.now)) }
 {
     let (run, index, name, value) = four_words(text)?;
@@ -174,7 +175,7 @@ fn added(text: &[u8]) -> Result<Fault, LineFault>
 
 #[tactic(auto, unfolding(crate::specs::Lines::fault_of))]
 fn fault_named(kind: FaultWord, text: &[u8]) -> Result<Fault, LineFault>
-    ensures value { Gives (λ f. f) result (lines.fault_of kind (words text.now)) }
+    ensures value { IsOkOption (λ f. f) result (lines.fault_of kind (words text.now)) }
     ensures words { IsFaultOfWords result (are_fault_words kind (words text.now)) }
 {
     match kind {
@@ -198,7 +199,7 @@ fn fault_named(kind: FaultWord, text: &[u8]) -> Result<Fault, LineFault>
 /// The number of the channel.
 #[tactic(auto, unfolding(crate::specs::Lines::channel_in))]
 fn channel(text: &[u8]) -> Result<u16, LineFault>
-    ensures said { Gives lines.channel result (lines.channel_in (words text.now)) }
+    ensures said { IsOkOption lines.channel result (lines.channel_in (words text.now)) }
     ensures range { IfOk result (λ n. (1 ≤ n) × (n ≤ 65535)) }
     ensures words { IsFaultOfWords result (are_words_behind keywords.Channel (words text.now)) }
 {
@@ -209,7 +210,7 @@ fn channel(text: &[u8]) -> Result<u16, LineFault>
 /// The address of a terminal.
 #[tactic(auto, unfolding(crate::specs::Lines::terminal_in))]
 fn terminal(text: &[u8]) -> Result<u8, LineFault>
-    ensures said { Gives lines.terminal result (lines.terminal_in (words text.now)) }
+    ensures said { IsOkOption lines.terminal result (lines.terminal_in (words text.now)) }
     ensures range { IfOk result (λ n. n ≤ 30) }
     ensures words { IsFaultOfWords result (are_words_behind keywords.Terminal (words text.now)) }
 {
@@ -220,7 +221,7 @@ fn terminal(text: &[u8]) -> Result<u8, LineFault>
 /// An action of a terminal's host.
 #[tactic(auto, unfolding(crate::specs::Lines::action_in))]
 fn action(text: &[u8]) -> Result<Entry<'_>, LineFault>
-    ensures said { Gives said_by result (lines.action_in (words text.now)) }
+    ensures said { IsOkOption said_by result (lines.action_in (words text.now)) }
     ensures range { IfOk result (λ e. IsInRange (said_by e)) }
     ensures words { IsFaultOfWords result (are_words_behind keywords.At (words text.now)) }
 {
@@ -239,7 +240,7 @@ fn action(text: &[u8]) -> Result<Entry<'_>, LineFault>
 /// The number of a message, and a fault of it.
 #[tactic(auto, unfolding(crate::specs::Lines::fault_in))]
 fn fault(text: &[u8]) -> Result<(u32, Fault), LineFault>
-    ensures said { Gives (λ x. lines.fault x.0 x.1) result (lines.fault_in (words text.now)) }
+    ensures said { IsOkOption (λ x. lines.fault x.0 x.1) result (lines.fault_in (words text.now)) }
     ensures words { IsFaultOfWords result (are_words_behind keywords.Fault (words text.now)) }
 {
     let (message, rest) = first_word(text)?;
@@ -251,7 +252,7 @@ fn fault(text: &[u8]) -> Result<(u32, Fault), LineFault>
 /// The messages of three words: the first, the last, and the step.
 #[tactic(auto, unfolding(crate::specs::Lines::span_of))]
 fn span(first: &[u8], last: &[u8], step: &[u8]) -> Result<Span, LineFault>
-    ensures value { Gives (λ s. s) result (lines.span_of (first.now, last.now, step.now)) }
+    ensures value { IsOkOption (λ s. s) result (lines.span_of (first.now, last.now, step.now)) }
     ensures range { IfOk result IsSpan }
     ensures fault { IfErr result (λ f. f ≡ BadNumber) }
 {
@@ -264,7 +265,7 @@ fn span(first: &[u8], last: &[u8], step: &[u8]) -> Result<Span, LineFault>
 /// Messages, and a fault of each of them.
 #[tactic(auto, unfolding(crate::specs::Lines::faults_in))]
 fn faults(text: &[u8]) -> Result<Entry<'_>, LineFault>
-    ensures said { Gives said_by result (lines.faults_in (words text.now)) }
+    ensures said { IsOkOption said_by result (lines.faults_in (words text.now)) }
     ensures range { IfOk result (λ e. IsInRange (said_by e)) }
     ensures words { IsFaultOfWords result (are_words_behind keywords.Faults (words text.now)) }
 {
@@ -279,7 +280,7 @@ fn faults(text: &[u8]) -> Result<Entry<'_>, LineFault>
 /// subaddress, the first data word and what is added.
 #[tactic(auto, unfolding(crate::specs::Lines::series_in, crate::specs::Lines::series_of))]
 fn series(text: &[u8]) -> Result<Series, LineFault>
-    ensures said { Gives lines.series result (lines.series_in (words text.now)) }
+    ensures said { IsOkOption lines.series result (lines.series_in (words text.now)) }
     ensures range { IfOk result (λ s. IsInRange (lines.series s)) }
     ensures words { IsFaultOfWords result (are_words_behind keywords.Series (words text.now)) }
 {
@@ -297,7 +298,7 @@ fn series(text: &[u8]) -> Result<Series, LineFault>
 
 #[tactic(auto, unfolding(crate::specs::Lines::of_keyword, crate::specs::Lines::start_in))]
 fn after_keyword(keyword: Keyword, text: &[u8]) -> Result<Entry<'_>, LineFault>
-    ensures said { Gives said_by result (lines.of_keyword keyword (words text.now)) }
+    ensures said { IsOkOption said_by result (lines.of_keyword keyword (words text.now)) }
     ensures range { IfOk result (λ e. IsInRange (said_by e)) }
     ensures words { IsFaultOfWords result (are_words_behind keyword (words text.now)) }
 {
@@ -336,7 +337,7 @@ fn is_comment(word: &[u8]) -> bool
 /// then J2.
 #[tactic(auto, unfolding(crate::specs::Lines::said_in))]
 pub fn read_line(line: &[u8]) -> Result<Entry<'_>, LineFault>
-    ensures said { Gives said_by result (lines.said line.now) }
+    ensures said { IsOkOption said_by result (lines.said line.now) }
     ensures range { IfOk result (λ e. IsInRange (said_by e)) }
     ensures words { IsFaultOfWords result (are_line_words (words line.now)) }
 {

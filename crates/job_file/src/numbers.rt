@@ -1,6 +1,6 @@
 //! Numbers in the lines of a job.
 ghost use Rattle.job_file.specs.Numbers.{number_of, number_within, data_word_of, half_bits_of, start_of};
-ghost use Rattle.job_file.specs.Options.{Gives};
+ghost use Rattle.job_file.specs.Options.{IsOkOption};
 ghost use Rattle.job_file.specs.declared.error.LineFault.TheVariants.{Number};
 ghost use Rattle.numerals.specs.Numerals.{spelled};
 ghost use Rattle.std.specs.Prelude.{◌≡◌, ◌≤◌, ◌<◌, ◌^◌, IfOk, IfErr};
@@ -13,7 +13,7 @@ use numerals::spelled;
 fn read(base: u8, least: usize, most: usize, word: &[u8]) -> Result<u64, LineFault>
     requires base { base ≤ 16 }
     requires few { most ≤ 15 }
-    ensures value { Gives (λ n. n) result (spelled base least most word.now) }
+    ensures value { IsOkOption (λ n. n) result (spelled base least most word.now) }
     ensures small { IfOk result (λ n. n < 16 ^ most) }
     ensures fault { IfErr result (λ f. f ≡ Number) }
 {
@@ -22,7 +22,7 @@ fn read(base: u8, least: usize, most: usize, word: &[u8]) -> Result<u64, LineFau
 
 /// A number of one to seven decimal digits.
 pub fn number(word: &[u8]) -> Result<u32, LineFault>
-    ensures value { Gives (λ n. n) result (number_of word.now) }
+    ensures value { IsOkOption (λ n. n) result (number_of word.now) }
     ensures fault { IfErr result (λ f. f ≡ Number) }
 {
     let value = read(10, 1, 7, word)?;
@@ -31,7 +31,7 @@ pub fn number(word: &[u8]) -> Result<u32, LineFault>
 
 /// A number of one to seven decimal digits, from `low` to `high`.
 pub fn number_within(word: &[u8], low: u32, high: u32) -> Result<u32, LineFault>
-    ensures value { Gives (λ n. n) result (number_within low high word.now) }
+    ensures value { IsOkOption (λ n. n) result (number_within low high word.now) }
     ensures low { IfOk result (λ n. low ≤ n) }
     ensures high { IfOk result (λ n. n ≤ high) }
     ensures fault { IfErr result (λ f. f ≡ Number) }
@@ -46,7 +46,7 @@ pub fn number_within(word: &[u8], low: u32, high: u32) -> Result<u32, LineFault>
 
 /// A start tick: one to fifteen decimal digits, at most 2^47.
 pub fn start_tick(word: &[u8]) -> Result<u64, LineFault>
-    ensures value { Gives (λ n. n) result (start_of word.now) }
+    ensures value { IsOkOption (λ n. n) result (start_of word.now) }
     ensures high { IfOk result (λ n. n ≤ 140737488355328) }
     ensures fault { IfErr result (λ f. f ≡ Number) }
 {
@@ -60,7 +60,7 @@ pub fn start_tick(word: &[u8]) -> Result<u64, LineFault>
 
 /// A data word of four hexadecimal digits.
 pub fn data_word(word: &[u8]) -> Result<u16, LineFault>
-    ensures value { Gives (λ n. n) result (data_word_of word.now) }
+    ensures value { IsOkOption (λ n. n) result (data_word_of word.now) }
     ensures fault { IfErr result (λ f. f ≡ Number) }
 {
     let value = read(16, 4, 4, word)?;
@@ -69,7 +69,7 @@ pub fn data_word(word: &[u8]) -> Result<u16, LineFault>
 
 /// Forty half bits as ten hexadecimal digits.
 pub fn half_bits(word: &[u8]) -> Result<Wave, LineFault>
-    ensures value { Gives (λ n. n) result (half_bits_of word.now) }
+    ensures value { IsOkOption (λ n. n) result (half_bits_of word.now) }
     ensures fault { IfErr result (λ f. f ≡ Number) }
 {
     let value = read(16, 10, 10, word)?;

@@ -4,10 +4,10 @@ ghost use Rattle.frame_text.specs.Frames.{tree_of_text};
 ghost use Rattle.frame_tree.specs.Bounds.{IsSound};
 ghost use Rattle.frame_tree.specs.Tree.{tree_of};
 ghost use Rattle.job_file.specs.Drafts.{shown};
-ghost use Rattle.job_file.specs.Faults.{IsHead, IsFirstFault, IsScriptRefused, IsLineOf};
+ghost use Rattle.job_file.specs.Faults.{IsJobHead, IsFirstFault, IsScriptRefused, IsLineOf};
 ghost use Rattle.job_file.specs.JobRanges.{IsFit};
 ghost use Rattle.job_file.specs.Jobs.{tree_in, job_in};
-ghost use Rattle.job_file.specs.Reading.{IsRefusal, IsScriptRefusal, IsCodeRefusal, HasProgram};
+ghost use Rattle.job_file.specs.Reading.{IsJobRefusal, IsScriptRefusal, IsCodeRefusal, HasProgram};
 ghost use Rattle.job_file.specs.Spelled.{spelled, job_of};
 ghost use Rattle.job_file.specs.Texts.{IsAccepted};
 ghost use Rattle.std.specs.Prelude.{◌≡◌, Ok, Some, MatchResult, IfOk, IfErr};
@@ -35,9 +35,9 @@ struct Head<'a> {
 /// The lines of a text up to the line of the script.
 fn read_head(alloc: Global, text: &[u8]) -> Result<Head<'_>, JobError>
     ensures read { MatchResult result
-        (λ h. spelled text.now ≡ job_of (shown h.draft) h.script.now) (IsRefusal (spelled text.now)) }
+        (λ h. spelled text.now ≡ job_of (shown h.draft) h.script.now) (IsJobRefusal (spelled text.now)) }
     ensures fit { IfOk result (λ h. IsFit (shown h.draft)) }
-    ensures head { IfOk result (λ h. IsHead text.now (shown h.draft) h.line h.script.now) }
+    ensures head { IfOk result (λ h. IsJobHead text.now (shown h.draft) h.line h.script.now) }
     ensures first { IfErr result (IsFirstFault text.now) }
 {
     let mut draft = Draft::make(alloc);
@@ -127,7 +127,7 @@ fn finish(
 ) -> Result<Job, JobError>
     requires { IsFit (shown draft) }
     ensures job { IfOk result (λ j. job_of (shown draft) script.now ≡ Some (job_in j)) }
-    ensures refused { IfErr result (IsRefusal (job_of (shown draft) script.now)) }
+    ensures refused { IfErr result (IsJobRefusal (job_of (shown draft) script.now)) }
     ensures first { IfErr result (IsScriptRefused (shown draft) line script.now) }
     ensures well { IfOk result (λ j. HasProgram (code_of_tree (tree_in j))) }
 {
@@ -148,7 +148,7 @@ fn finish(
 pub(crate) fn read_in(alloc: Global, arena: &mut Bump, text: &[u8]) -> Result<Job, JobError>
     ensures job { IfOk result (λ j. spelled text.now ≡ Some (job_in j)) }
     ensures accepted { IfOk result (λ _. IsAccepted text.now) }
-    ensures refused { IfErr result (IsRefusal (spelled text.now)) }
+    ensures refused { IfErr result (IsJobRefusal (spelled text.now)) }
     ensures first { IfErr result (IsFirstFault text.now) }
 
     // Want of memory may still be answered of a text that gives a job, where there is no room for the job itself.
@@ -169,7 +169,7 @@ pub(crate) fn read_in(alloc: Global, arena: &mut Bump, text: &[u8]) -> Result<Jo
 pub fn read_job(alloc: Global, text: &[u8]) -> Result<Job, JobError>
     ensures job { IfOk result (λ j. spelled text.now ≡ Some (job_in j)) }
     ensures accepted { IfOk result (λ _. IsAccepted text.now) }
-    ensures refused { IfErr result (IsRefusal (spelled text.now)) }
+    ensures refused { IfErr result (IsJobRefusal (spelled text.now)) }
     ensures first { IfErr result (IsFirstFault text.now) }
 {
     let mut arena = Bump::new(alloc);

@@ -1,5 +1,5 @@
 //! Lines that speak of many messages, and what a series places at them.
-ghost use Rattle.job_file.specs.Spans.{IsSpan, count_of, number_at, word_at, placed_at};
+ghost use Rattle.job_file.specs.Spans.{IsSpan, span_count, span_number, word_at, placed_at};
 ghost use Rattle.std.specs.Prelude.{◌≡◌, ◌<◌, ◌≤◌};
 
 use arrayvec::ArrayVec;
@@ -19,7 +19,7 @@ impl Span {
     /// How many there are.
     pub fn count(self) -> u32
         requires { IsSpan self }
-        ensures value { result ≡ count_of self }
+        ensures value { result ≡ span_count self }
         ensures few { result ≤ 1000000 }
     {
         (self.last - self.first) / self.step + 1
@@ -29,8 +29,8 @@ impl Span {
     #[tactic(auto, using(crate::proofs::SpanLemmas::number_high))]
     pub fn number(self, before: u32) -> u32
         requires span { IsSpan self }
-        requires before { before < count_of self }
-        ensures value { result ≡ number_at self before }
+        requires before { before < span_count self }
+        ensures value { result ≡ span_number self before }
         ensures low { 1 ≤ result }
         ensures high { result ≤ 1000000 }
     {
@@ -61,7 +61,7 @@ impl Series {
     /// The action before that message.
     pub fn placed(&self, before: u32) -> Placed
         requires span { IsSpan self.now.span }
-        requires before { before < count_of self.now.span }
+        requires before { before < span_count self.now.span }
         requires low { 1 ≤ self.now.sub }
         requires high { self.now.sub ≤ 29 }
         ensures { result ≡ placed_at self.now before }

@@ -4,7 +4,7 @@ ghost use Rattle.bc_machine.specs.UnderWay.{IsUnderWay};
 ghost use Rattle.bc_machine.specs.declared.placed.Placed.{Placed};
 ghost use Rattle.frame_code.specs.Table.{halted};
 ghost use Rattle.frame_tree.specs.Bounds.{IsSound};
-ghost use Rattle.job_file.specs.Machines.{IsOf, IsTold};
+ghost use Rattle.job_file.specs.Machines.{IsOf, IsLatestOutcome};
 ghost use Rattle.job_file.specs.Meaning.{records};
 ghost use Rattle.job_file.specs.Spelled.{ChannelJob};
 ghost use Rattle.std.specs.Prelude.{◌≡◌, ◌+◌, ◌<◌, ◌≤◌, ◌^◌, List, Some, length, slice_get, IfSome, IfNone};
@@ -20,7 +20,7 @@ pub fn next_record(machine: &mut Machine) -> Option<Record>
     ensures under_way { IsUnderWay machine.new }
     ensures of_job { (job : ChannelJob) (placed : List Placed) → IsOf job placed machine.old
         → IsOf job placed machine.new }
-    ensures told { IsTold machine.old → IsTold machine.new }
+    ensures told { IsLatestOutcome machine.old → IsLatestOutcome machine.new }
     ensures record { IfSome result
         (λ r. (job : ChannelJob) (placed : List Placed) → IsSound job.tree → IsOf job placed machine.old
         → slice_get (records job placed) machine.old.point.number ≡ Some r) }

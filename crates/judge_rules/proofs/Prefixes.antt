@@ -8,7 +8,7 @@ use Rattle.judge_rules.specs.declared.fault.RuleFault.{RuleFault}
 use Rattle.judge_rules.specs.declared.fault.RuleFault.TheVariants.{Memory, Range}
 use Rattle.judge_rules.specs.declared.rules.Rule.{Rule}
 use Rattle.judge_rules.specs.Lines.{said}
-use Rattle.judge_rules.specs.Rules.{AllRules, in_front, rules_from, Fits, FitsAt}
+use Rattle.judge_rules.specs.Rules.{AllRules, in_front, rules_from, IsRuleError, FitsAt}
 
 -- rules in front of those that the rest gives
 abbrev pub prefixed : List Rule → AllRules → AllRules
@@ -28,7 +28,7 @@ pub fits-more : (line : ℕ) (e : RuleError) (rule : Rule) (rest : AllRules) →
 fits-more line e rule (Ok more) fits = fits
 fits-more line e rule (Err f) fits = fits
 
-pub fits-whole : (line : ℕ) (e : RuleError) (rules : List Rule) (rule : Rule) (rest : AllRules) → FitsAt line e rest → Fits e (prefixed rules (in_front rule rest))
+pub fits-whole : (line : ℕ) (e : RuleError) (rules : List Rule) (rule : Rule) (rest : AllRules) → FitsAt line e rest → IsRuleError e (prefixed rules (in_front rule rest))
 fits-whole line e rules rule (Ok more) fits = ap (λ (x : RuleError). x.fault) fits
 fits-whole line e rules rule (Err f) fits = fits
 

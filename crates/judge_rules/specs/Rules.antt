@@ -37,9 +37,9 @@ unfoldable pub rules_in : Text → AllRules
 rules_in text = rules_from 0 1 (text_lines text)
 
 -- an answer that gives no rules: the fault of the text, or want of memory where it has none
-abbrev pub Fits : RuleError → AllRules → Type 0
-Fits e (Ok rules) = e.fault ≡ Memory
-Fits e (Err first) = e ≡ first
+abbrev pub IsRuleError : RuleError → AllRules → Type 0
+IsRuleError e (Ok rules) = e.fault ≡ Memory
+IsRuleError e (Err first) = e ≡ first
 
 -- the same, with the line at which memory was refused
 abbrev pub FitsAt : ℕ → RuleError → AllRules → Type 0

@@ -1,5 +1,5 @@
 //! The rules that a text spells.
-ghost use Rattle.judge_rules.specs.Rules.{rules_in, rules_from, Fits, FitsAt};
+ghost use Rattle.judge_rules.specs.Rules.{rules_in, rules_from, IsRuleError, FitsAt};
 ghost use Rattle.std.specs.Prelude.{◌≡◌, ◌+◌, ◌≤◌, ◌<◌, ◌^◌, Ok, Err, IfOk, IfErr, length};
 ghost use Rattle.text_lines.specs.Lines.{text_lines};
 
@@ -18,7 +18,7 @@ pub const MOST_RULES: usize = 10_000;
 /// a rule is I1 at the line behind its last. I4, want of memory, is answered only for a text without a fault.
 pub fn read_rules(alloc: Global, text: &[u8]) -> Result<Vec<Rule>, RuleError>
     ensures rules { IfOk result (λ rules. rules_in text.now ≡ Ok rules.items) }
-    ensures fault { IfErr result (λ e. Fits e (rules_in text.now)) }
+    ensures fault { IfErr result (λ e. IsRuleError e (rules_in text.now)) }
 {
     let mut rules = Vec::new(alloc);
     let mut rest = text;

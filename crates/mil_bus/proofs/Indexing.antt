@@ -10,7 +10,7 @@ use Rattle.mil_terminal.specs.Station.{Station, after}
 use Rattle.mil_bus.specs.declared.talks.Sent.{Sent}
 use Rattle.mil_terminal.specs.Host.{is_deaf}
 use Rattle.mil_bus.specs.Exchange.{hearing, misses, quieted}
-use Rattle.mil_bus.specs.Index.{IsClosed, AreClosed, IsIndex, IsIndexBelow}
+use Rattle.mil_bus.specs.Index.{IsClosed, AreClosed, IsAddressIndex, IsIndexBelow}
 
 -- hearing changes no address
 pub hearing-own : (line : Line) (w : Sent) (s : Station) → (hearing line w s).own ≡ s.own
@@ -28,7 +28,7 @@ quieted-own line s = go (is_deaf line s.history)
     go true = refl
     go false = refl
 
-pub index-map : (f : Station → Station) (places : List ℕ) (xs : List Station) → ((s : Station) → (f s).own ≡ s.own) → IsIndex places xs → IsIndex places (map f xs)
+pub index-map : (f : Station → Station) (places : List ℕ) (xs : List Station) → ((s : Station) → (f s).own ≡ s.own) → IsAddressIndex places xs → IsAddressIndex places (map f xs)
 index-map f places xs same is =
     let at : (k : ℕ) (d : Station) → k < length xs → (get_or (map f xs) k d).own ≡ (get_or xs k d).own =
     λ k d lt. ap (λ (s : Station). s.own) (get_or-map f xs k d d lt) ∙ same (get_or xs k d) in
@@ -40,7 +40,7 @@ index-map f places xs same is =
     }
 
 -- one station is replaced by another of its address
-pub index-set : (places : List ℕ) (xs : List Station) (i : ℕ) (y : Station) → i < length xs → ((d : Station) → y.own ≡ (get_or xs i d).own) → IsIndex places xs → IsIndex places (set xs i y)
+pub index-set : (places : List ℕ) (xs : List Station) (i : ℕ) (y : Station) → i < length xs → ((d : Station) → y.own ≡ (get_or xs i d).own) → IsAddressIndex places xs → IsAddressIndex places (set xs i y)
 index-set places xs i y lt same is =
     let at : (k : ℕ) (d : Station) → (get_or (set xs i y) k d).own ≡ (get_or xs k d).own = λ k d. go k d (nat_eq k i) refl in
     record {
@@ -107,7 +107,7 @@ index-push own place places xs y small own_is place_is is = record {
         let other : (get_or xs k d).own ≢ own = (λ h. absurd (omega (arith, is.low k d there, h))) in
         rw (get_or_append_left xs (y ∷ []) d k there) (get_or-set_other places own (get_or xs k d).own place 0 other ∙ is.stands k d there)
 
-pub index-whole : (places : List ℕ) (xs : List Station) (own : ℕ) → own ≤ 31 → IsIndexBelow own places xs → IsIndex places xs
+pub index-whole : (places : List ℕ) (xs : List Station) (own : ℕ) → own ≤ 31 → IsIndexBelow own places xs → IsAddressIndex places xs
 index-whole places xs own le is = record {
   long = is.long;
   few = omega (arith, is.few);

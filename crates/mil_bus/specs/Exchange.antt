@@ -22,7 +22,7 @@ use Rattle.mil_terminal.specs.declared.replies.Reply.{Reply}
 use Rattle.mil_terminal.specs.Station.{Station, after}
 use Rattle.mil_terminal.specs.Replies.{reply}
 use Rattle.mil_terminal.specs.Host.{is_deaf, is_mute}
-pub use Rattle.mil_bus.specs.RunWords.{words_of}
+pub use Rattle.mil_bus.specs.RunWords.{words_of_run}
 pub use Rattle.mil_line.specs.Ranges.{most_sent}
 
 -- what a sender gives: a gap, and the waves of its words
@@ -42,7 +42,7 @@ pub record Standing : Type 0 where
 
 -- what comes on the line of a run, where there is room for so many words
 unfoldable pub run_sent : ℕ → List Fault → ℕ → Offer → List Sent
-run_sent room faults run offer = words_of run offer.source (gap_of faults run offer.gap)
+run_sent room faults run offer = words_of_run run offer.source (gap_of faults run offer.gap)
     (take room (altered faults run offer.waves))
 
 abbrev pub sends : Source → ℕ → Bool

@@ -21,7 +21,7 @@ AreClosed opened stations = (k : ℕ) (d : Station) → k < length stations → 
     → IsClosed (get_or stations k d)
 
 -- under each address stands the place of its station
-pub record IsIndex (places : List ℕ) (stations : List Station) : Type 0 where
+pub record IsAddressIndex (places : List ℕ) (stations : List Station) : Type 0 where
   pub long : length places ≡ 32
   pub few : length stations ≤ all_terminals
   pub low : (k : ℕ) (d : Station) → k < length stations → (get_or stations k d).own < 32

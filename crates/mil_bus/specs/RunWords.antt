@@ -5,7 +5,7 @@ use Rattle.mil_bus.specs.declared.talks.Source.{Source}
 use Rattle.mil_bus.specs.declared.talks.Sent.{Sent}
 
 -- the words of a run: the first has the run's gap, the others are contiguous
-abbrev pub words_of : ℕ → Source → ℕ → List ℕ → List Sent
-words_of run source gap [] = []
-words_of run source gap (wave ∷ waves) = record { wave = wave; gap = gap; run = run; source = source }
-    ∷ words_of run source contiguous_gap waves
+abbrev pub words_of_run : ℕ → Source → ℕ → List ℕ → List Sent
+words_of_run run source gap [] = []
+words_of_run run source gap (wave ∷ waves) = record { wave = wave; gap = gap; run = run; source = source }
+    ∷ words_of_run run source contiguous_gap waves

@@ -1,6 +1,6 @@
 //! The addresses of a new bus.
 ghost use Rattle.mil_bus.specs.Addresses.{is_fit, stations_of};
-ghost use Rattle.mil_bus.specs.Index.{IsIndex, IsIndexBelow};
+ghost use Rattle.mil_bus.specs.Index.{IsAddressIndex, IsIndexBelow};
 ghost use Rattle.mil_word.specs.Fields.{highest_address};
 ghost use Rattle.std.specs.List.{list_any};
 ghost use Rattle.std.specs.Prelude.{◌≡◌, ◌+◌, ◌≤◌, ◌==◌, ◌++◌, ◌∷◌, [], if◌then◌else◌, IfOk, OnOk};
@@ -71,7 +71,7 @@ pub fn fresh(
     places: &mut [u8; 32],
 ) -> Result<Vec<Terminal>, AllocError>
     ensures stations { IfOk result (λ v. v.items ≡ stations_of addresses.now) }
-    ensures index { IfOk result (λ v. IsIndex places.new v.items) }
+    ensures index { IfOk result (λ v. IsAddressIndex places.new v.items) }
 {
     let mut terminals = Vec::new(alloc);
     for own in 0..ALL_TERMINALS {

@@ -15,7 +15,7 @@ pub struct SavedTerminals {
 }
 
 impl Model for SavedTerminals {
-    ghost use Rattle.mil_bus.specs.Index.{AreClosed, IsIndex};
+    ghost use Rattle.mil_bus.specs.Index.{AreClosed, IsAddressIndex};
     ghost use Rattle.mil_terminal.specs.Station.{Station};
     ghost use Rattle.std.specs.Prelude.{List};
 
@@ -23,7 +23,7 @@ impl Model for SavedTerminals {
 
     ghost view = { λ t. t.list.items };
 
-    ghost invariant = { λ t. IsIndex t.places t.list.items × AreClosed t.opened t.list.items };
+    ghost invariant = { λ t. IsAddressIndex t.places t.list.items × AreClosed t.opened t.list.items };
 }
 
 /// What is kept of terminals, in their order.

@@ -40,7 +40,7 @@ pub struct SentWords {
 
 impl Model for SentWords {
     ghost use Rattle.arrayvec.specs.ArrayVec.{ArrayVec as Items};
-    ghost use Rattle.mil_bus.specs.Wholes.{all_words, IsKept};
+    ghost use Rattle.mil_bus.specs.Wholes.{all_words, AreKeptWords};
     ghost use Rattle.mil_bus.specs.declared.talks.Sent.{Sent as SentValue};
     ghost use Rattle.std.specs.Prelude.{◌++◌};
 
@@ -48,7 +48,7 @@ impl Model for SentWords {
 
     ghost view = { λ s. record { items = all_words s.runs.items s.values.items ++ s.each.items } };
 
-    ghost invariant = { λ s. IsKept s.runs.items s.values.items s.each.items };
+    ghost invariant = { λ s. AreKeptWords s.runs.items s.values.items s.each.items };
 }
 
 /// Puts the words of a run that is kept as a whole behind others.

@@ -40,7 +40,7 @@ pub struct Terminals {
 }
 
 impl Model for Terminals {
-    ghost use Rattle.mil_bus.specs.Index.{AreClosed, IsIndex};
+    ghost use Rattle.mil_bus.specs.Index.{AreClosed, IsAddressIndex};
     ghost use Rattle.mil_terminal.specs.Station.{Station};
     ghost use Rattle.std.specs.Prelude.{List};
 
@@ -48,7 +48,7 @@ impl Model for Terminals {
 
     ghost view = { λ t. t.list.items };
 
-    ghost invariant = { λ t. IsIndex t.places t.list.items × AreClosed t.opened t.list.items };
+    ghost invariant = { λ t. IsAddressIndex t.places t.list.items × AreClosed t.opened t.list.items };
 }
 
 impl Terminals {

@@ -14,7 +14,7 @@ use Rattle.mil_word.specs.declared.Line.TheVariants.{A, B}
 use Rattle.mil_host.specs.Values.{PutUp, Marked}
 use Rattle.text_lines.specs.Words.{Text, has_bytes}
 use Rattle.mil_host.specs.Reading.{action_in, in_words, of_word, name_of, number_of, data_of, value_or_fault, all_data, only_switch, only_line_switch, only_mark}
-use Rattle.mil_host.specs.Printing.{text_of, words_of, data_text, switch_text, line_text, direction_text, mark_words}
+use Rattle.mil_host.specs.Printing.{action_text, action_words, data_text, switch_text, line_text, direction_text, mark_words}
 use Rattle.mil_host.specs.Ranges.{IsInRange, IsPutUp, IsMark}
 use Rattle.mil_host.specs.declared.actions.Action.{Action}
 use Rattle.mil_host.specs.declared.actions.Action.TheVariants.{Transmit, Busy, Service, Subsystem, Fault, Control, Vector, SelfTest, Illegal, Legal, Response, Deaf, Mute}
@@ -84,11 +84,11 @@ data_words [] small = tt
 data_words (w ∷ values) small = ((data_word w (small 0 0 (omega arith))).is, data_words values (All-tail (λ w. w < 65536) w values small))
 
 -- words that are put up
-put_up_back : (put : PutUp) → IsPutUp put → in_words (words_of (Transmit put)) ≡ Ok (Transmit put)
+put_up_back : (put : PutUp) → IsPutUp put → in_words (action_words (Transmit put)) ≡ Ok (Transmit put)
 put_up_back put range = go put.words range.some range.few range.of_16_bits
   where
     go : (values : List ℕ) → 1 ≤ length values → length values ≤ 32 → All (λ w. w < 65536) values
-        → in_words (words_of (Transmit (record { sub = put.sub; words = values }))) ≡ Ok (Transmit (record { sub = put.sub; words = values }))
+        → in_words (action_words (Transmit (record { sub = put.sub; words = values }))) ≡ Ok (Transmit (record { sub = put.sub; words = values }))
     go [] some few small = absurd (omega arith)
     go (w ∷ values) some few small =
         rw ((number 1 29 put.sub range.sub_low range.sub_high (omega arith)).reads, all_data_back 32 (w ∷ values) few small) refl
@@ -136,7 +136,7 @@ visible (b ∷ word) each = go (nat_lt 32 b) refl each (visible word)
 pub named : (name : Text) → has_bytes name ≡ true → list_all (λ b. nat_lt 32 b) name ≡ true → IsWord name
 named name some each = record { some = some; visible = visible name each }
 
-are_words : (a : Action) → IsInRange a → AreWords (words_of a)
+are_words : (a : Action) → IsInRange a → AreWords (action_words a)
 are_words (Transmit put) range =
     (named (codes "transmit") refl refl, ((number 1 29 put.sub range.sub_low range.sub_high (omega arith)).is, data_words put.words range.of_16_bits))
 are_words (Busy on) range = (named (codes "busy") refl refl, (switch_word on, tt))
@@ -162,7 +162,7 @@ line_switch_back A false = refl
 line_switch_back B true = refl
 line_switch_back B false = refl
 
-words_back : (a : Action) → IsInRange a → in_words (words_of a) ≡ Ok a
+words_back : (a : Action) → IsInRange a → in_words (action_words a) ≡ Ok a
 words_back (Transmit put) range = put_up_back put range
 words_back (Busy on) range = rw (switch_back on) refl
 words_back (Service on) range = rw (switch_back on) refl
@@ -178,11 +178,11 @@ words_back (Deaf line on) range = rw (line_switch_back line on) refl
 words_back (Mute line on) range = rw (line_switch_back line on) refl
 
 -- the text of an action in range spells it
-pub reads-back : (a : Action) → IsInRange a → action_in (text_of a) ≡ Ok a
-unfolding action_in text_of
-reads-back a range = rw (words-spaced (words_of a) (are_words a range)) (words_back a range)
+pub reads-back : (a : Action) → IsInRange a → action_in (action_text a) ≡ Ok a
+unfolding action_in action_text
+reads-back a range = rw (words-spaced (action_words a) (are_words a range)) (words_back a range)
 
 -- the text of an action in range stands on one line
-pub one_line : (a : Action) → IsInRange a → All (λ b. 32 ≤ b) (text_of a)
-unfolding text_of
-one_line a range = one_line-spaced (words_of a) (are_words a range)
+pub one_line : (a : Action) → IsInRange a → All (λ b. 32 ≤ b) (action_text a)
+unfolding action_text
+one_line a range = one_line-spaced (action_words a) (are_words a range)

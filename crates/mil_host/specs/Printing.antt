@@ -37,20 +37,20 @@ abbrev pub mark_words : Marked → List Text
 mark_words m = direction_text m.transmit ∷ decimal m.sub ∷ decimal m.count ∷ []
 
 -- the words of an action's text
-abbrev pub words_of : Action → List Text
-words_of (Transmit put) = codes "transmit" ∷ decimal put.sub ∷ map data_text put.words
-words_of (Busy on) = codes "busy" ∷ switch_text on ∷ []
-words_of (Service on) = codes "service" ∷ switch_text on ∷ []
-words_of (Subsystem on) = codes "subsystem" ∷ switch_text on ∷ []
-words_of (Fault on) = codes "fault" ∷ switch_text on ∷ []
-words_of (Control on) = codes "control" ∷ switch_text on ∷ []
-words_of (Vector value) = codes "vector" ∷ data_text value ∷ []
-words_of (SelfTest value) = codes "selftest" ∷ data_text value ∷ []
-words_of (Illegal mark) = codes "illegal" ∷ mark_words mark
-words_of (Legal mark) = codes "legal" ∷ mark_words mark
-words_of (Response ticks) = codes "response" ∷ decimal ticks ∷ []
-words_of (Deaf line on) = codes "deaf" ∷ line_text line ∷ switch_text on ∷ []
-words_of (Mute line on) = codes "mute" ∷ line_text line ∷ switch_text on ∷ []
+abbrev pub action_words : Action → List Text
+action_words (Transmit put) = codes "transmit" ∷ decimal put.sub ∷ map data_text put.words
+action_words (Busy on) = codes "busy" ∷ switch_text on ∷ []
+action_words (Service on) = codes "service" ∷ switch_text on ∷ []
+action_words (Subsystem on) = codes "subsystem" ∷ switch_text on ∷ []
+action_words (Fault on) = codes "fault" ∷ switch_text on ∷ []
+action_words (Control on) = codes "control" ∷ switch_text on ∷ []
+action_words (Vector value) = codes "vector" ∷ data_text value ∷ []
+action_words (SelfTest value) = codes "selftest" ∷ data_text value ∷ []
+action_words (Illegal mark) = codes "illegal" ∷ mark_words mark
+action_words (Legal mark) = codes "legal" ∷ mark_words mark
+action_words (Response ticks) = codes "response" ∷ decimal ticks ∷ []
+action_words (Deaf line on) = codes "deaf" ∷ line_text line ∷ switch_text on ∷ []
+action_words (Mute line on) = codes "mute" ∷ line_text line ∷ switch_text on ∷ []
 
 -- a space, and then a word
 abbrev pub spaced_word : Text → Text
@@ -66,8 +66,8 @@ spaced [] = []
 spaced (word ∷ rest) = word ++ flat_map spaced_word rest
 
 -- the text of an action
-unfoldable pub text_of : Action → Text
-text_of action = spaced (words_of action)
+unfoldable pub action_text : Action → Text
+action_text action = spaced (action_words action)
 
 -- the code of a fault
 abbrev pub fault_code : BadAction → Text

@@ -1,5 +1,5 @@
 //! What a host sets.
-ghost use Rattle.mil_host.specs.Printing.{text_of};
+ghost use Rattle.mil_host.specs.Printing.{action_text};
 ghost use Rattle.mil_host.specs.Ranges.{IsInRange};
 ghost use Rattle.mil_host.specs.Reading.{action_in};
 ghost use Rattle.std.specs.Prelude.{◌≡◌, ◌≤◌, Ok, All};
@@ -75,8 +75,8 @@ impl Action {
     /// character.
     pub fn reads_back(&self)
         ensures ranges { IsInRange self.now }
-        ensures back { action_in (text_of self.now) ≡ Ok self.now }
-        ensures one_line { All (λ b. 32 ≤ b) (text_of self.now) }
+        ensures back { action_in (action_text self.now) ≡ Ok self.now }
+        ensures one_line { All (λ b. 32 ≤ b) (action_text self.now) }
     {
         self.keeps_ranges();
     }

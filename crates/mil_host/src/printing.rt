@@ -1,5 +1,5 @@
 //! The text of an action, and the code of a fault in such a text.
-ghost use Rattle.mil_host.specs.Printing.{text_of, switch_text, direction_text, line_text, fault_code, mark_words};
+ghost use Rattle.mil_host.specs.Printing.{action_text, switch_text, direction_text, line_text, fault_code, mark_words};
 ghost use Rattle.mil_host.specs.Printing.{spaced};
 ghost use Rattle.std.specs.Prelude.{◌≡◌, Some};
 
@@ -62,9 +62,9 @@ impl Display for Mark {
 
 /// The action as its text: single spaces, and data words in upper case.
 impl Display for Action {
-    ghost output = { λ a. Some (text_of a) };
+    ghost output = { λ a. Some (action_text a) };
 
-    #[tactic(auto, unfolding(crate::specs::Printing::text_of))]
+    #[tactic(auto, unfolding(crate::specs::Printing::action_text))]
     fn fmt<W: Write>(&self, f: &mut Formatter<W>) -> fmt::Result {
         match self {
             Action::Transmit(put) => {

@@ -10,7 +10,7 @@ use Rattle.arrayvec.specs.ArrayVec.{ArrayVec}
 use Rattle.mil_line.specs.declared.faults.Fault.{Fault}
 use Rattle.mil_line.specs.Plans.{Planned, fault_of, faults_of}
 use Rattle.mil_line.specs.Ranges.{is_in_range}
-use Rattle.mil_line.specs.StandsFor.{items_in, StandsFor}
+use Rattle.mil_line.specs.StandsFor.{items_in, AreFaultsByNumber}
 use Rattle.std.proofs.lemmas.Grind.{common_steps}
 
 at_same : (number q : ℕ) → is_at (nat_cmp number) q ≡ (number == q)
@@ -33,8 +33,8 @@ all_more : (same : Bool) (fault : Fault) (xs : List Fault) → list_all is_in_ra
 all_more true fault xs all one = list_all-append is_in_range xs (fault ∷ []) ∙ rw (all, one) refl
 all_more false fault xs all one = all
 
-pub stands_more : (m n : BTreeMap ℕ (ArrayVec Fault)) (plan : List Planned) (number : ℕ) (fault : Fault) (new : ArrayVec Fault) → StandsFor m plan → is_in_range fault ≡ true
-    → new.items ≡ faults_of number plan ++ fault ∷ [] → ((q : ℕ) → get nat_cmp n q ≡ cond (is_at (nat_cmp number) q) (Some new) (get nat_cmp m q)) → StandsFor n (plan ++ (number, fault) ∷ [])
+pub stands_more : (m n : BTreeMap ℕ (ArrayVec Fault)) (plan : List Planned) (number : ℕ) (fault : Fault) (new : ArrayVec Fault) → AreFaultsByNumber m plan → is_in_range fault ≡ true
+    → new.items ≡ faults_of number plan ++ fault ∷ [] → ((q : ℕ) → get nat_cmp n q ≡ cond (is_at (nat_cmp number) q) (Some new) (get nat_cmp m q)) → AreFaultsByNumber n (plan ++ (number, fault) ∷ [])
 stands_more m n plan number fault new stands one more found = record {
   faults = λ q. ap items_in (found q ∙ ap (λ b. cond b (Some new) (get nat_cmp m q)) (at_same number q))
       ∙ kept_more (number == q) new (get nat_cmp m q) fault (faults_of q plan) (faults_of number plan) (stands.faults q) more (λ e. ap (λ k. faults_of k plan) (eqb-true number q e))

@@ -38,15 +38,15 @@ inverted [] wave = wave
 inverted (mask ∷ masks) wave = inverted masks (bit_xor wave mask)
 
 -- what comes on the line for one word: it, unless it is dropped, and then what is added, in the plan's order
-abbrev pub at_place : List Fault → ℕ → ℕ → ℕ → List ℕ
-at_place faults run index wave =
+abbrev pub wave_under_faults : List Fault → ℕ → ℕ → ℕ → List ℕ
+wave_under_faults faults run index wave =
     (if list_any (drops run index) faults then [] else inverted (filter_map (mask_at run index) faults) wave ∷ [])
     ++ filter_map (added_at run index) faults
 
 -- what comes on the line for the words from an index on
 abbrev pub altered_from : List Fault → ℕ → ℕ → List ℕ → List ℕ
 altered_from faults run index [] = []
-altered_from faults run index (wave ∷ waves) = at_place faults run index wave
+altered_from faults run index (wave ∷ waves) = wave_under_faults faults run index wave
     ++ altered_from faults run (suc index) waves
 
 -- what comes on the line for the words of a run: nothing of a run that is silenced

@@ -13,6 +13,6 @@ items_in None = []
 items_in (Some faults) = faults.items
 
 -- each message's faults are kept at its number, and are in range
-pub record StandsFor (by_number : BTreeMap ℕ (ArrayVec Fault)) (plan : List Planned) : Type 0 where
+pub record AreFaultsByNumber (by_number : BTreeMap ℕ (ArrayVec Fault)) (plan : List Planned) : Type 0 where
   pub faults : (number : ℕ) → items_in (get nat_cmp by_number number) ≡ faults_of number plan
   pub in_range : (number : ℕ) → list_all is_in_range (faults_of number plan) ≡ true

@@ -1,5 +1,5 @@
 //! What the planned faults make of one run.
-ghost use Rattle.mil_line.specs.Faults.{mask_at, drops, added_at, mutes, inverted, at_place, altered, gap_of};
+ghost use Rattle.mil_line.specs.Faults.{mask_at, drops, added_at, mutes, inverted, wave_under_faults, altered, gap_of};
 ghost use Rattle.mil_line.specs.Ranges.{is_in_range, most_sent};
 ghost use Rattle.std.specs.List.{list_any, list_all, filter_map};
 ghost use Rattle.std.specs.Prelude.{◌≡◌, ◌+◌, ◌<◌, ◌≤◌, ◌^◌, take, length, ◌++◌, ◌∷◌, [], true};
@@ -93,7 +93,7 @@ fn put_place(
 )
     requires small { room ≤ most_sent }
     requires within { length waves.old.items ≤ room }
-    ensures items { waves.new.items ≡ take room (waves.old.items ++ at_place faults.now run index wave) }
+    ensures items { waves.new.items ≡ take room (waves.old.items ++ wave_under_faults faults.now run index wave) }
     ensures within { length waves.new.items ≤ room }
 {
     if !is_dropped(faults, run, index) {

@@ -22,14 +22,14 @@ pub struct Plan {
 
 impl Model for Plan {
     ghost use Rattle.mil_line.specs.Plans.{Planned};
-    ghost use Rattle.mil_line.specs.StandsFor.{StandsFor};
+    ghost use Rattle.mil_line.specs.StandsFor.{AreFaultsByNumber};
     ghost use Rattle.std.specs.Prelude.{List};
 
     ghost Value = { List Planned };
 
     ghost view = { λ p. p.added };
 
-    ghost invariant = { λ p. StandsFor p.by_number p.added };
+    ghost invariant = { λ p. AreFaultsByNumber p.by_number p.added };
 }
 
 /// Whether the number of a message is 1 to 1,000,000, and the fault's place and value are in their ranges.

@@ -82,13 +82,13 @@ words_with no_word = 0
 words_with sent_by_terminal = 1
 words_with received_by_terminal = 1
 
-abbrev words_of : Option Mode → ℕ → ℕ
-words_of (Some m) code = words_with m.word
-words_of None code = if nat_le first_reserved_with_word code && nat_le code last_code then 1 else 0
+abbrev words_in_mode : Option Mode → ℕ → ℕ
+words_in_mode (Some m) code = words_with m.word
+words_in_mode None code = if nat_le first_reserved_with_word code && nat_le code last_code then 1 else 0
 
 -- how many data words go with the code: a known one's, one with codes 22 to 31, else none
 abbrev pub data_word_count : Bool → ℕ → ℕ
-data_word_count transmit code = words_of (known_mode transmit code) code
+data_word_count transmit code = words_in_mode (known_mode transmit code) code
 
 -- whether a terminal here carries the code out: known, and not one of the two that select a transmitter
 -- by a data word, which are for more than two lines (own choice)

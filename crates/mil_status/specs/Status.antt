@@ -82,13 +82,13 @@ abbrev pub bit_of_name : List ℕ → Option ℕ
 bit_of_name name = option_map (λ b. 2 ^ place_of b) (bit_named name)
 
 -- the bit at a place, as it stands there
-abbrev at_place : ℕ → ℕ → ℕ
-at_place bits place = bits / 2 ^ place % 2 * 2 ^ place
+abbrev bit_in_place : ℕ → ℕ → ℕ
+bit_in_place bits place = bits / 2 ^ place % 2 * 2 ^ place
 
 -- the word of an address and a set of bits: the address in the first five bits (4.3.3.5.3.2), then each bit that has
 -- a meaning in its place, the others zero
 abbrev pub status_of : ℕ → ℕ → ℕ
 status_of address bits =
     address * 2 ^ 11
-    + at_place bits 10 + at_place bits 9 + at_place bits 8
-    + at_place bits 4 + at_place bits 3 + at_place bits 2 + at_place bits 1 + at_place bits 0
+    + bit_in_place bits 10 + bit_in_place bits 9 + bit_in_place bits 8
+    + bit_in_place bits 4 + bit_in_place bits 3 + bit_in_place bits 2 + bit_in_place bits 1 + bit_in_place bits 0

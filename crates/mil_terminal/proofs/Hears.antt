@@ -16,7 +16,7 @@ use Rattle.mil_terminal.specs.declared.pending.Phase.TheVariants.{Start}
 use Rattle.mil_terminal.specs.declared.pending.Pending.{Pending}
 use Rattle.mil_terminal.specs.declared.registers.Registers.{Registers}
 use Rattle.mil_terminal.specs.Phases.{IsPending, window_of}
-use Rattle.mil_terminal.specs.Updates.{opened}
+use Rattle.mil_terminal.specs.Updates.{with_open_window}
 use Rattle.mil_terminal.specs.StandsFor.{AreSettings, ArePutUp, IsOpen, StandsFor}
 use Rattle.mil_terminal.proofs.Ends.{with_item, window_on, window_opened, stays_decided, nothing_open, still_open, cut_short, is_undecided}
 use Rattle.mil_terminal.proofs.Switching.{switches-none, switches-bad}
@@ -147,7 +147,7 @@ unfolding last_command
 last_opened own n line c e h is_opening is = rw (is_opening, is) refl
 
 pub hear_opening : (r : Registers) (w : Option Pending) (line : Line) (c wave gap : ℕ) (h : History) → opening r.own (Heard line wave gap) ≡ Some (line, c)
-    → StandsFor (record r { window = w }) h → StandsFor (opened (record r { window = w }) line c) (Heard line wave gap ∷ h)
+    → StandsFor (record r { window = w }) h → StandsFor (with_open_window (record r { window = w }) line c) (Heard line wave gap ∷ h)
 hear_opening r None line c wave gap h is_opening is =
     let e : Event = Heard line wave gap in
     let none = nothing_open r.own e h is.window in

@@ -13,7 +13,7 @@ use Rattle.mil_terminal.specs.Host.{words_put_up}
 use Rattle.std.proofs.lemmas.Bool.Decides.{nat_tests}
 use Rattle.mil_terminal.specs.Windows.{Window, Ended, latest_window, is_decided, ended_by}
 use Rattle.mil_terminal.specs.Verdicts.{verdict, is_good, is_bad, is_illegal, is_unknown, has_good_shape}
-use Rattle.mil_terminal.specs.Registers.{words_of, received, transmit_words, is_transmitter_on}
+use Rattle.mil_terminal.specs.Registers.{window_data, received, transmit_words, is_transmitter_on}
 use Rattle.mil_terminal.specs.Status.{status, status_word}
 use Rattle.mil_terminal.specs.Replies.{data_sent, answer_to, reply}
 use Rattle.mil_terminal.specs.declared.pending.Pending.{Pending}
@@ -123,7 +123,7 @@ settles_at : (r : Registers) (p : Pending) (h : History) (w : Ended) (good : Boo
     → latest_window r.own (Quiet p.line ∷ h) ≡ Some w.window → is_decided r.own w.window ≡ true
     → ended_by r.own (Quiet p.line) h ≡ Some w
     → is_good (verdict r.own w) ≡ good
-    → (good ≡ true → words_of w ≡ p.words.items)
+    → (good ≡ true → window_data w ≡ p.words.items)
     → StandsFor (record r { window = Some p }) h
     → StandsFor (settled (record r { window = None }) w.window.line w.window.command good p.words.items) (Quiet p.line ∷ h)
 settles_at r p h w true same_l same_c before now done ends good words is =

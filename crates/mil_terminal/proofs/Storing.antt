@@ -9,7 +9,7 @@ use Rattle.mil_terminal.specs.History.{History}
 use Rattle.mil_terminal.specs.Host.{is_busy}
 use Rattle.mil_terminal.specs.Windows.{Ended, ended_by}
 use Rattle.mil_terminal.specs.Verdicts.{verdict, is_good}
-use Rattle.mil_terminal.specs.Registers.{words_of, received, received_from_all}
+use Rattle.mil_terminal.specs.Registers.{window_data, received, received_from_all}
 use Rattle.mil_terminal.specs.Updates.{stored}
 use Rattle.mil_terminal.specs.StandsFor.{AreReceived, ArePutUp}
 use Rattle.mil_terminal.proofs.Ends.{latest_none, latest_some}
@@ -101,7 +101,7 @@ sub_lt c = omega arith
 
 -- a good window ended
 pub received-good : (own : ℕ) (block : List (List ℕ)) (e : Event) (past : History) (w : Ended) (words : List ℕ) (busy : Bool) → ended_by own e past ≡ Some w → is_good (verdict own w) ≡ true
-    → words_of w ≡ words → busy ≡ is_busy w.before → length block ≡ 96
+    → window_data w ≡ words → busy ≡ is_busy w.before → length block ≡ 96
     → AreReceived own block past → AreReceived own (stored block w.window.command busy words) (e ∷ past)
 unfolding received received_from_all
 received-good own block e past w words busy ends good words_are busy_is long is =

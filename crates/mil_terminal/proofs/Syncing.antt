@@ -9,7 +9,7 @@ use Rattle.mil_terminal.specs.History.{History}
 use Rattle.mil_terminal.specs.Host.{self_test}
 use Rattle.mil_terminal.specs.Windows.{Ended, ended_by}
 use Rattle.mil_terminal.specs.Verdicts.{verdict, is_good}
-use Rattle.mil_terminal.specs.Registers.{words_of, first_or_zero, sync_word, bit_word}
+use Rattle.mil_terminal.specs.Registers.{window_data, first_or_zero, sync_word, bit_word}
 use Rattle.mil_terminal.specs.declared.synced.Synced.{Synced}
 use Rattle.mil_terminal.specs.Updates.{synchronized}
 use Rattle.mil_terminal.specs.StandsFor.{AreSynced}
@@ -48,7 +48,7 @@ bit_is true false code was word = refl
 
 -- a good window ended
 pub synced-good : (own : ℕ) (s : Synced) (e : Event) (past : History) (w : Ended) (words : List ℕ) (tested : ℕ) → ended_by own e past ≡ Some w → is_good (verdict own w) ≡ true
-    → words_of w ≡ words → tested ≡ self_test w.before
+    → window_data w ≡ words → tested ≡ self_test w.before
     → AreSynced own s past → AreSynced own (synchronized s w.window.command words tested) (e ∷ past)
 unfolding sync_word bit_word
 synced-good own s e past w words tested ends good words_are tested_is is =

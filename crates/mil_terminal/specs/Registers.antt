@@ -28,8 +28,8 @@ value_of (Quiet line) = None
 value_of (Host action) = None
 
 -- the data words of a window
-abbrev pub words_of : Ended → List ℕ
-words_of e = filter_map value_of e.window.items
+abbrev pub window_data : Ended → List ℕ
+window_data e = filter_map value_of e.window.items
 
 -- a mode command with this T/R bit and mode code (4.3.3.5.1.7)
 abbrev pub has_mode_code : Bool → ℕ → ℕ → Bool
@@ -50,11 +50,11 @@ is_good_receive own to_all sub e =
 
 -- the words of the latest receive command to this terminal at the subaddress
 unfoldable pub received : ℕ → ℕ → History → List ℕ
-received own sub h = latest own (is_good_receive own false sub) words_of [] h
+received own sub h = latest own (is_good_receive own false sub) window_data [] h
 
 -- the words of the latest receive command to all terminals there (Notice 2: kept apart)
 unfoldable pub received_from_all : ℕ → ℕ → History → List ℕ
-received_from_all own sub h = latest own (is_good_receive own true sub) words_of [] h
+received_from_all own sub h = latest own (is_good_receive own true sub) window_data [] h
 
 -- the words that a transmit command sends: those that the host put up, and at subaddress 30, which wraps around,
 -- those that were received there (Notice 2)
@@ -70,7 +70,7 @@ unfoldable pub sync_word : ℕ → History → ℕ
 sync_word own h =
     latest own (λ e. is_good_mode own false synchronize_with_word e || is_good_mode own true synchronize e
     || is_good_mode own true reset_remote_terminal e)
-    (λ e. if code_of e.window.command == synchronize_with_word then first_or_zero (words_of e) else 0) 0 h
+    (λ e. if code_of e.window.command == synchronize_with_word then first_or_zero (window_data e) else 0) 0 h
 
 -- the result of the self test when one was initiated last (3)
 unfoldable pub bit_word : ℕ → History → ℕ

@@ -108,8 +108,8 @@ abbrev pub cut : Option Pending → Registers → Registers
 cut None r = r
 cut (Some p) r = told r p.command false
 
-abbrev pub opened : Registers → Line → ℕ → Registers
-opened r line c = record (cut r.window r) {
+abbrev pub with_open_window : Registers → Line → ℕ → Registers
+with_open_window r line c = record (cut r.window r) {
   window = Some (record { line = line; command = c; phase = Start; words = record { items = [] } });
   last_command = if is_question r.own c && code_of c == transmit_last_command then r.last_command else c;
 }

@@ -46,7 +46,8 @@ pub struct Registers {
 impl Registers {
     ghost use Rattle.mil_terminal.specs.StandsFor.{StandsFor};
     ghost use Rattle.mil_terminal.specs.Updates.{put_up_at, is_barred};
-    ghost use Rattle.mil_terminal.specs.Updates.{told, opened, settled, stored, off_on, answer_now, mode_data_now};
+    ghost use Rattle.mil_terminal.specs.Updates.{told, with_open_window, settled, stored, off_on, answer_now};
+    ghost use Rattle.mil_terminal.specs.Updates.{mode_data_now};
 
     /// The registers of a terminal that has met nothing yet. All room is made here.
     pub fn make(alloc: Global, own: Address) -> Result<Registers, AllocError>
@@ -101,7 +102,7 @@ impl Registers {
     }
 
     fn open(&mut self, line: Line, command: Command)
-        ensures { self.new ≡ opened self.old line command }
+        ensures { self.new ≡ with_open_window self.old line command }
     {
         if let Some(pending) = self.window.take() {
             self.tell(pending.command, false);

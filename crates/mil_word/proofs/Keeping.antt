@@ -6,12 +6,12 @@ use Rattle.mil_word.specs.declared.Sync.{Sync}
 use Rattle.mil_word.specs.declared.Sync.TheVariants.{CommandSync, DataSync}
 use Rattle.mil_word.specs.declared.Word.{Word}
 use Rattle.mil_word.specs.Wave.{wave_of, raw_of}
-use Rattle.mil_word.specs.Kept.{number_of, word_at, half_bits_if, half_bits_in, IsKept}
+use Rattle.mil_word.specs.Kept.{word_number, word_at, half_bits_if, half_bits_in, IsKept}
 use Rattle.mil_word.proofs.WaveLemmas.{raw_of-wave, wave_below}
 use Rattle.mil_word.proofs.Reading.{word_of-wave}
 
 -- a word is read back from its number
-at_number : (s : Sync) (value : ℕ) → value < 2 ^ 16 → (let w : Word = record { sync = s; value = value } in word_at (2 ^ 40 + number_of w - 2 ^ 40) ≡ w)
+at_number : (s : Sync) (value : ℕ) → value < 2 ^ 16 → (let w : Word = record { sync = s; value = value } in word_at (2 ^ 40 + word_number w - 2 ^ 40) ≡ w)
 at_number DataSync value small =
     let whole : 2 ^ 40 + value - 2 ^ 40 ≡ value = omega arith in
     let high : value / 2 ^ 16 ≡ 0 = omega arith in
@@ -23,17 +23,17 @@ at_number CommandSync value small =
     let low : (2 ^ 16 + value) % 2 ^ 16 ≡ value = omega arith in
     rw (whole, high, low) refl
 
-pub word_back : (w : Word) → w.value < 2 ^ 16 → word_at (2 ^ 40 + number_of w - 2 ^ 40) ≡ w
+pub word_back : (w : Word) → w.value < 2 ^ 16 → word_at (2 ^ 40 + word_number w - 2 ^ 40) ≡ w
 word_back w small = at_number w.sync w.value small
 
 is_above : (n : ℕ) → nat_lt (2 ^ 40 + n) (2 ^ 40) ≡ false
 is_above n = grind (arith, nat_tests)
 
 -- a sound wave is kept as its word
-pub keeps_word : (w : Word) → w.value < 2 ^ 16 → IsKept (2 ^ 40 + number_of w)
+pub keeps_word : (w : Word) → w.value < 2 ^ 16 → IsKept (2 ^ 40 + word_number w)
 keeps_word w small =
     let back = word_back w small in
-    rw (is_above (number_of w), back) (word_of-wave w small, ap (λ (v : Word). 2 ^ 40 + number_of v) back)
+    rw (is_above (word_number w), back) (word_of-wave w small, ap (λ (v : Word). 2 ^ 40 + word_number v) back)
 
 small_if : (b : Bool) (kept : ℕ) → nat_lt kept (2 ^ 40) ≡ b → half_bits_if b kept < 2 ^ 40
 small_if true kept below = grind (arith, nat_tests)

@@ -13,8 +13,8 @@ abbrev pub number_if : Sync → ℕ → ℕ
 number_if DataSync value = value
 number_if CommandSync value = 2 ^ 16 + value
 
-abbrev pub number_of : Word → ℕ
-number_of word = number_if word.sync word.value
+abbrev pub word_number : Word → ℕ
+word_number word = number_if word.sync word.value
 
 abbrev pub word_at : ℕ → Word
 word_at n = record { sync = if n / 2 ^ 16 == 0 then DataSync else CommandSync; value = n % 2 ^ 16 }
@@ -31,7 +31,7 @@ half_bits_in kept = half_bits_if (nat_lt kept (2 ^ 40)) kept
 abbrev pub IsKeptIf : Bool → ℕ → Type 0
 IsKeptIf true kept = word_of kept ≡ None
 IsKeptIf false kept = (word_of (wave_of (word_at (kept - 2 ^ 40))) ≡ Some (word_at (kept - 2 ^ 40)))
-    × (2 ^ 40 + number_of (word_at (kept - 2 ^ 40)) ≡ kept)
+    × (2 ^ 40 + word_number (word_at (kept - 2 ^ 40)) ≡ kept)
 
 abbrev pub IsKept : ℕ → Type 0
 IsKept kept = IsKeptIf (nat_lt kept (2 ^ 40)) kept
@@ -39,7 +39,7 @@ IsKept kept = IsKeptIf (nat_lt kept (2 ^ 40)) kept
 -- how the wave of these half bits is kept
 abbrev pub kept_as : ℕ → Option Word → ℕ
 kept_as half_bits None = half_bits
-kept_as half_bits (Some word) = 2 ^ 40 + number_of word
+kept_as half_bits (Some word) = 2 ^ 40 + word_number word
 
 abbrev pub kept_for : ℕ → ℕ
 kept_for half_bits = kept_as half_bits (word_of half_bits)

@@ -39,7 +39,7 @@ impl Model for Wave {
 /// A word as a number.
 #[inline]
 fn number_of(word: Word) -> u64
-    ensures value { result ≡ kept.number_of word }
+    ensures value { result ≡ kept.word_number word }
     ensures small { result < 2 ^ 17 }
 {
     match word.sync {

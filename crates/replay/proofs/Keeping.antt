@@ -12,7 +12,7 @@ use Rattle.replay.specs.declared.checkpoints.Due.{Due}
 use Rattle.replay.specs.Finding.{count_to}
 use Rattle.replay.specs.Tracks.{Pair}
 use Rattle.replay.specs.Standings.{IsAt, AreKept, IsStop, AreCheckpoints, saved_of}
-use Rattle.replay.specs.Keeping.{AreKeptTo, IsBehind, IsCounted, IsDue, KeepsOn, AddsStates}
+use Rattle.replay.specs.Keeping.{AreStatesKeptTo, IsBehind, IsCounted, IsDue, KeepsMoreStates, AddsStates}
 use Rattle.replay.proofs.Counting.{is_of}
 use Rattle.replay.proofs.Lists.{one_of, each_more, each_set}
 use Rattle.replay.proofs.Standing.{heard_on}
@@ -34,15 +34,15 @@ module _ (before : List Pair) (p : Pair) (channels : List ℕ) where
         i x there q pair;
   }
 
-  pub keeping_begins : (stops : List Stop) → AreCheckpoints before channels stops → AreKeptTo before p channels 0 stops
+  pub keeping_begins : (stops : List Stop) → AreCheckpoints before channels stops → AreStatesKeptTo before p channels 0 stops
   keeping_begins stops are = record {
     kept = λ k stop less at. absurd (omega (arith, less));
     left = λ k stop le at. are k stop at;
   }
 
   -- at one place more
-  pub keeps_one : (n : ℕ) (stops : List Stop) (stop new : Stop) (k : Kept) → AreKeptTo before p channels n stops → slice_get stops n ≡ Some stop → new.place ≡ stop.place
-      → new.states.items ≡ stop.states.items ++ k ∷ [] → IsAt channels (64 * n) p k.heard k.saved → AreKeptTo before p channels (n + 1) (slice_set stops n new)
+  pub keeps_one : (n : ℕ) (stops : List Stop) (stop new : Stop) (k : Kept) → AreStatesKeptTo before p channels n stops → slice_get stops n ≡ Some stop → new.place ≡ stop.place
+      → new.states.items ≡ stop.states.items ++ k ∷ [] → IsAt channels (64 * n) p k.heard k.saved → AreStatesKeptTo before p channels (n + 1) (slice_set stops n new)
   keeps_one n stops stop new k are there place states at = record {
     kept = λ i s low at_i.
         each_set (λ x (y : Stop). x < n + 1 → (y.place ≡ 64 * x) × IsStop (before ++ p ∷ []) channels y) stops n new less
@@ -66,7 +66,7 @@ module _ (before : List Pair) (p : Pair) (channels : List ℕ) where
           (more_there stop.place stop.states.items k here.1 (subst (λ (at_place : ℕ). IsAt channels at_place p k.heard k.saved) (sym here.0) at)))
 
   -- at all of them
-  pub keeping_ends : (done : ℕ) (stops : List Stop) → AreKeptTo before p channels done stops → length stops ≤ done → AreCheckpoints (before ++ p ∷ []) channels stops
+  pub keeping_ends : (done : ℕ) (stops : List Stop) → AreStatesKeptTo before p channels done stops → length stops ≤ done → AreCheckpoints (before ++ p ∷ []) channels stops
   keeping_ends done stops are le k stop at =
       are.kept k stop (let within : k < length stops = slice_get_within stops k stop at in omega (arith, within, le)) at
 
@@ -116,11 +116,11 @@ at_place p channels due s own counted now behind = record {
 }
 
 pub kept_on : (channel : ℕ) (channels : List ℕ) (s : Standing) (first : ℕ) (old stops : List Stop) (due next : Due) (stop new : Stop) (k : Kept)
-    → KeepsOn channel channels s first old due.stop stops → IsDue channels channel s.heard (length stops) due → due.heard ≡ s.heard → slice_get stops due.stop ≡ Some stop
+    → KeepsMoreStates channel channels s first old due.stop stops → IsDue channels channel s.heard (length stops) due → due.heard ≡ s.heard → slice_get stops due.stop ≡ Some stop
     → new.place ≡ stop.place → new.states.items ≡ stop.states.items ++ k ∷ [] → k ≡ saved_of s → next.stop ≡ due.stop + 1
-    → KeepsOn channel channels s first old next.stop (slice_set stops due.stop new)
+    → KeepsMoreStates channel channels s first old next.stop (slice_set stops due.stop new)
 kept_on channel channels s first old stops due next stop new k so_far is now there place states kept more before p own behind are =
-    subst (λ (n : ℕ). AreKeptTo before p channels n (slice_set stops due.stop new)) (sym more)
+    subst (λ (n : ℕ). AreStatesKeptTo before p channels n (slice_set stops due.stop new)) (sym more)
     (keeps_one before p channels due.stop stops stop new k (so_far before p own behind are) there place states
     (subst (λ (v : Kept). IsAt channels (64 * due.stop) p v.heard v.saved) (sym kept) (at_place p channels due s (own ∙ sym is.channel_is) is.counted now behind)))
 

@@ -22,8 +22,8 @@ use Rattle.replay.specs.Accord.{played, kept_in, AgreesOn}
 use Rattle.replay.specs.Places.{heard_channels, heard_of}
 use Rattle.replay.specs.Finding.{count_to}
 use Rattle.replay.specs.Tracks.{Pair, IsThere, IsMarked, AreMarks}
-use Rattle.replay.specs.Playing.{IsKept, IsPassed, IsOver, IsPlaying}
-use Rattle.replay.specs.Keeping.{AreKeptTo, IsBehind, IsDue, KeepsOn, AddsStates, IsPlayed}
+use Rattle.replay.specs.Playing.{IsNextRecorded, IsNextRefused, IsOver, IsPlaying}
+use Rattle.replay.specs.Keeping.{AreStatesKeptTo, IsBehind, IsDue, KeepsMoreStates, AddsStates, IsPlayed}
 use Rattle.replay.proofs.Counting.{room}
 use Rattle.replay.proofs.KeptLists.{kept_next, HasMore, has_more}
 use Rattle.replay.proofs.PlayingOn.{last_is, keeps_at, passes_at, accords_at}
@@ -49,7 +49,7 @@ module _ (found : List Found) (job : JobState) (part : ChannelPart) where
       ap (λ (ns : List Numbered). take (length (so_far n)) ns) whole ∙ take-append-le (length (so_far n)) (so_far n) more.later (omega arith) ∙ take_all (length (so_far n)) (so_far n) (omega arith)
 
   -- behind a message that was kept the controller stands behind the last of as many
-  behind_kept : (n heard : ℕ) (next : MachineState) (hs rest : List Message) (marks : List Mark) → IsKept job part n next hs rest → IsPlaying found job part (n + 1) next rest marks
+  behind_kept : (n heard : ℕ) (next : MachineState) (hs rest : List Message) (marks : List Mark) → IsNextRecorded job part n next hs rest → IsPlaying found job part (n + 1) next rest marks
       → length marks ≡ heard + 1 → IsThere job part (last_number (take heard (kept_in job part))) next
   behind_kept n heard next hs rest marks told is long =
       let within : n < length rs = slice_get_within rs n told.message told.comes in
@@ -67,7 +67,7 @@ module _ (found : List Found) (job : JobState) (part : ChannelPart) where
 
   pub played_begins : (channels : List ℕ) (s : Standing) (hs : List Message) (mark : Mark) (marks : List Mark) (due next : Due) (old new : List Stop) → s.heard ≡ 0 → IsThere job part 0 s.machine
       → hs ≡ reading found job.channel → mark.number ≡ s.machine.point.number → mark.last ≡ s.machine.point.last → marks ≡ mark ∷ [] → due.stop ≡ 0 → due.channel ≡ job.channel → length new ≡ length old
-      → IsDue channels due.channel (s.heard + 1) (length new) next → KeepsOn due.channel channels s due.stop old next.stop new → IsPlayed found job part channels 0 s hs marks next old new
+      → IsDue channels due.channel (s.heard + 1) (length new) next → KeepsMoreStates due.channel channels s due.stop old next.stop new → IsPlayed found job part channels 0 s hs marks next old new
   played_begins channels s hs mark marks due next old new none there heard number last pushed first channel count is keeps = record {
     playing = record {
       there = there;
@@ -82,7 +82,7 @@ module _ (found : List Found) (job : JobState) (part : ChannelPart) where
     keeping = record {
       due_is = subst (λ (c : ℕ). IsDue channels c (s.heard + 1) (length new) next) channel is;
       count = count;
-      kept = λ before are. keeps before own (sym channel) behind (subst (λ (n : ℕ). AreKeptTo before own channels n old) (sym first) (keeping_begins before own channels old are));
+      kept = λ before are. keeps before own (sym channel) behind (subst (λ (n : ℕ). AreStatesKeptTo before own channels n old) (sym first) (keeping_begins before own channels old are));
     };
   }
     where
@@ -90,9 +90,9 @@ module _ (found : List Found) (job : JobState) (part : ChannelPart) where
       behind = subst (λ (n : ℕ). IsThere job part (last_number (take n (kept_in job part))) s.machine) (sym none) there
 
   pub plays_kept : (channels : List ℕ) (n : ℕ) (s : Standing) (next : MachineState) (mark : Mark) (hs rest : List Message) (marks others : List Mark) (due later : Due) (old new newer : List Stop)
-      → IsPlayed found job part channels n s hs marks due old new → IsKept job part s.machine.point.number next hs rest → mark.number ≡ next.point.number → mark.last ≡ next.point.last
+      → IsPlayed found job part channels n s hs marks due old new → IsNextRecorded job part s.machine.point.number next hs rest → mark.number ≡ next.point.number → mark.last ≡ next.point.last
       → others ≡ marks ++ mark ∷ [] → length newer ≡ length new → IsDue channels due.channel (s.heard + 1 + 1) (length newer) later
-      → KeepsOn due.channel channels (record { heard = s.heard + 1; machine = next }) due.stop new later.stop newer
+      → KeepsMoreStates due.channel channels (record { heard = s.heard + 1; machine = next }) due.stop new later.stop newer
       → IsPlayed found job part channels (n + 1) (record { heard = s.heard + 1; machine = next }) rest others later old newer
   plays_kept channels n s next mark hs rest marks others due later old new newer is told number last pushed count due_is keeps = record {
     playing = playing;
@@ -103,7 +103,7 @@ module _ (found : List Found) (job : JobState) (part : ChannelPart) where
       count = count ∙ is.keeping.count;
       kept = λ before are.
           keeps before own (sym is.keeping.due_is.channel_is)
-          (behind_kept n (s.heard + 1) next hs rest others (subst (λ (k : ℕ). IsKept job part k next hs rest) is.playing.there.number_is told) playing long)
+          (behind_kept n (s.heard + 1) next hs rest others (subst (λ (k : ℕ). IsNextRecorded job part k next hs rest) is.playing.there.number_is told) playing long)
           (is.keeping.kept before are);
     };
   }
@@ -115,7 +115,7 @@ module _ (found : List Found) (job : JobState) (part : ChannelPart) where
       long = ap length pushed ∙ length-append marks (mark ∷ []) ∙ ap (λ (k : ℕ). k + 1) is.heard
 
   pub plays_refused : (channels : List ℕ) (n : ℕ) (s : Standing) (next : MachineState) (hs rest : List Message) (marks : List Mark) (due : Due) (old new : List Stop)
-      → IsPlayed found job part channels n s hs marks due old new → IsPassed job part s.machine.point.number next hs rest
+      → IsPlayed found job part channels n s hs marks due old new → IsNextRefused job part s.machine.point.number next hs rest
       → IsPlayed found job part channels (n + 1) (record { heard = s.heard; machine = next }) rest marks due old new
   plays_refused channels n s next hs rest marks due old new is told = record {
     playing = passes_at found job part n s.machine next hs rest marks is.playing told;

@@ -4,19 +4,19 @@ use Rattle.std.specs.List.{slice_get, list_any}
 use Rattle.mil_monitor.specs.declared.Record.{Record}
 use Rattle.bc_machine.specs.Running.{MachineState}
 use Rattle.job_file.specs.Jobs.{JobState, job_in}
-use Rattle.job_file.specs.Machines.{IsOf, IsTold}
+use Rattle.job_file.specs.Machines.{IsOf, IsLatestOutcome}
 use Rattle.ch11_f1.specs.BodyReading.{Message}
 use Rattle.ch11_f1.specs.Again.{as_message}
 use Rattle.bench_report.specs.Reports.{ChannelPart}
 use Rattle.replay.specs.Accord.{played}
-use Rattle.replay.specs.Playing.{is_listed, IsKept, IsPassed, IsOther}
+use Rattle.replay.specs.Playing.{is_listed, IsNextRecorded, IsNextRefused, IsNextMissing}
 
 module _ (job : JobState) (part : ChannelPart) (n : ℕ) (r : Record) (comes : slice_get (played job part) n ≡ Some r)
     (number : ℕ) (refused : Bool) (lists : refused ≡ list_any (λ (k : ℕ). eqb k number) part.refused) (next : number ≡ n + 1) where
   listed : is_listed part (n + 1) ≡ refused
   listed = ap (λ (k : ℕ). list_any (λ (i : ℕ). eqb i k) part.refused) (sym next) ∙ sym lists
 
-  pub passed : (m : MachineState) (hs : List Message) → IsOf (job_in job) part.placed m → m.point.number ≡ n + 1 → IsTold m → refused ≡ true → IsPassed job part n m hs hs
+  pub passed : (m : MachineState) (hs : List Message) → IsOf (job_in job) part.placed m → m.point.number ≡ n + 1 → IsLatestOutcome m → refused ≡ true → IsNextRefused job part n m hs hs
   passed m hs of number_is told e = record {
     message = r;
     comes = comes;
@@ -25,8 +25,8 @@ module _ (job : JobState) (part : ChannelPart) (n : ℕ) (r : Record) (comes : s
     heard_is = refl;
   }
 
-  pub kept : (m : MachineState) (hs rest : List Message) (seen : Message) → IsOf (job_in job) part.placed m → m.point.number ≡ n + 1 → IsTold m → refused ≡ false
-      → hs ≡ seen ∷ rest → seen ≡ as_message r → IsKept job part n m hs rest
+  pub kept : (m : MachineState) (hs rest : List Message) (seen : Message) → IsOf (job_in job) part.placed m → m.point.number ≡ n + 1 → IsLatestOutcome m → refused ≡ false
+      → hs ≡ seen ∷ rest → seen ≡ as_message r → IsNextRecorded job part n m hs rest
   kept m hs rest seen of number_is told e heard is = record {
     message = r;
     comes = comes;
@@ -35,7 +35,7 @@ module _ (job : JobState) (part : ChannelPart) (n : ℕ) (r : Record) (comes : s
     heard_is = heard ∙ ap (λ (x : Message). x ∷ rest) is;
   }
 
-  pub another : (hs rest : List Message) (seen : Message) → refused ≡ false → hs ≡ seen ∷ rest → seen ≢ as_message r → IsOther job part n hs
+  pub another : (hs rest : List Message) (seen : Message) → refused ≡ false → hs ≡ seen ∷ rest → seen ≢ as_message r → IsNextMissing job part n hs
   another hs rest seen e heard differ = record {
     message = r;
     comes = comes;
@@ -43,7 +43,7 @@ module _ (job : JobState) (part : ChannelPart) (n : ℕ) (r : Record) (comes : s
     other = λ at. differ (let here : slice_get (seen ∷ rest) 0 ≡ Some (as_message r) = ap (λ (ms : List Message). slice_get ms 0) (sym heard) ∙ at in cc);
   }
 
-  pub missing : (hs : List Message) → refused ≡ false → hs ≡ [] → IsOther job part n hs
+  pub missing : (hs : List Message) → refused ≡ false → hs ≡ [] → IsNextMissing job part n hs
   missing hs e heard = record {
     message = r;
     comes = comes;

@@ -18,10 +18,10 @@ use Rattle.bench_report.specs.Reports.{ChannelPart}
 use Rattle.bench_core.specs.Settled.{kept_records}
 use Rattle.bench_core.proofs.Offers.{map_at}
 use Rattle.replay.specs.Accord.{played, kept_in, AgreesOn}
-use Rattle.replay.specs.Differences.{awaited, IsUnlike, IsLeftOver, IsMiscounted, IsAtFault, IsFirstFault}
+use Rattle.replay.specs.Differences.{awaited, IsUnlike, IsLeftOver, IsMiscounted, IsAtFault, IsFirstNumberAtFault}
 use Rattle.replay.specs.declared.tracks.Mark.{Mark}
 use Rattle.replay.specs.Tracks.{IsMarked, AreMarks}
-use Rattle.replay.specs.Playing.{IsKept, IsPassed, IsOther, IsOver, GoesOn, IsPlaying}
+use Rattle.replay.specs.Playing.{IsNextRecorded, IsNextRefused, IsNextMissing, IsOver, HasOneMore, IsPlaying}
 use Rattle.replay.proofs.KeptLists.{heard, heard_both, heard_length, kept_next, kept_same, HasMore, has_more, in_front, at_seam, stands_early}
 
 pub last_is : (before : ℕ) (ns : List Numbered) (x : Numbered) → packet.last_number before (ns ++ x ∷ []) ≡ x.number
@@ -60,7 +60,7 @@ module _ (found : List Found) (job : JobState) (part : ChannelPart) where
           let whole : take k (ns ++ x ∷ []) ≡ ns ++ x ∷ [] = take_all k (ns ++ x ∷ []) (omega (arith, here, all.counted, length-append ns (x ∷ []))) in
           subst (λ (n : ℕ). IsMarked job part n s) (sym (ap last_number whole ∙ last_is 0 ns x)) (subst (IsMarked job part x.number) same there)
 
-  pub keeps : (n : ℕ) (m next : MachineState) (hs rest : List Message) (states : List Mark) (mark : Mark) → IsPlaying found job part n m hs states → IsKept job part n next hs rest
+  pub keeps : (n : ℕ) (m next : MachineState) (hs rest : List Message) (states : List Mark) (mark : Mark) → IsPlaying found job part n m hs states → IsNextRecorded job part n next hs rest
       → IsMarked job part (n + 1) mark → IsPlaying found job part (n + 1) next rest (states ++ mark ∷ [])
   keeps n m next hs rest states mark is kept_records marked = record {
     there = kept_records.there;
@@ -75,7 +75,7 @@ module _ (found : List Found) (job : JobState) (part : ChannelPart) where
       longer : so_far (n + 1) ≡ so_far n ++ numbered (n + 1) kept_records.message ∷ []
       longer = kept_next part.refused n rs kept_records.message kept_records.comes kept_records.listed
 
-  pub passes : (n : ℕ) (m next : MachineState) (hs rest : List Message) (states : List Mark) → IsPlaying found job part n m hs states → IsPassed job part n next hs rest
+  pub passes : (n : ℕ) (m next : MachineState) (hs rest : List Message) (states : List Mark) → IsPlaying found job part n m hs states → IsNextRefused job part n next hs rest
       → IsPlaying found job part (n + 1) next rest states
   passes n m next hs rest states is passed = record {
     there = passed.there;
@@ -110,17 +110,17 @@ module _ (found : List Found) (job : JobState) (part : ChannelPart) where
       (λ (c : IsMiscounted job part number). absurd (omega (arith, c.number_is, le, short, low))) other) fault
 
   first_at : (n : ℕ) (hs : List Message) → reading found job.channel ≡ heard (so_far n) ++ hs → n ≤ part.made → n ≤ length rs → IsAtFault found job part (n + 1)
-      → IsFirstFault found job part (n + 1)
+      → IsFirstNumberAtFault found job part (n + 1)
   first_at n hs read le short fault = record { fault = fault; least = λ number less. sound_below n number hs read le short (omega (arith, less)) }
 
   -- the job makes no more messages, and the report says that it does
-  pub ends_early : (n : ℕ) (hs : List Message) → reading found job.channel ≡ heard (so_far n) ++ hs → n < part.made → n ≡ length rs → IsFirstFault found job part (n + 1)
+  pub ends_early : (n : ℕ) (hs : List Message) → reading found job.channel ≡ heard (so_far n) ++ hs → n < part.made → n ≡ length rs → IsFirstNumberAtFault found job part (n + 1)
   ends_early n hs read less last =
       first_at n hs read (omega (arith, less)) (omega (arith, last))
       (inr (inr (record { wrong = λ e. absurd (omega (arith, less, last, e)); number_is = omega (arith, less, last) })))
 
   -- the file has another message, or none
-  pub differs : (n : ℕ) (hs : List Message) → reading found job.channel ≡ heard (so_far n) ++ hs → n < part.made → IsOther job part n hs → IsFirstFault found job part (n + 1)
+  pub differs : (n : ℕ) (hs : List Message) → reading found job.channel ≡ heard (so_far n) ++ hs → n < part.made → IsNextMissing job part n hs → IsFirstNumberAtFault found job part (n + 1)
   differs n hs read less other =
       let within : n < length rs = slice_get_within rs n other.message other.comes in
       let more : HasMore part.refused 1 (n + 1) part.made rs = has_more part.refused 1 (n + 1) part.made rs (omega (arith, less)) in
@@ -138,14 +138,14 @@ module _ (found : List Found) (job : JobState) (part : ChannelPart) where
       }))
 
   -- the job makes more messages than the report says
-  pub goes_on : (hs : List Message) (r : Record) → reading found job.channel ≡ heard (so_far part.made) ++ hs → slice_get rs part.made ≡ Some r → IsFirstFault found job part (part.made + 1)
+  pub goes_on : (hs : List Message) (r : Record) → reading found job.channel ≡ heard (so_far part.made) ++ hs → slice_get rs part.made ≡ Some r → IsFirstNumberAtFault found job part (part.made + 1)
   goes_on hs r read at =
       let within : part.made < length rs = slice_get_within rs part.made r at in
       first_at part.made hs read (omega arith) (omega (arith, within))
       (inr (inr (record { wrong = λ e. absurd (omega (arith, within, e)); number_is = omega (arith, within) })))
 
   -- the file has one record too many
-  pub left_over : (x : Message) (hs : List Message) → reading found job.channel ≡ heard (so_far part.made) ++ x ∷ hs → part.made ≡ length rs → IsFirstFault found job part (part.made + 1)
+  pub left_over : (x : Message) (hs : List Message) → reading found job.channel ≡ heard (so_far part.made) ++ x ∷ hs → part.made ≡ length rs → IsFirstNumberAtFault found job part (part.made + 1)
   left_over x hs read all =
       let longer : length (reading found job.channel) ≡ length (so_far part.made) + suc (length hs) =
       ap length read ∙ length-append (heard (so_far part.made)) (x ∷ hs) ∙ ap (λ n. n + suc (length hs)) (heard_length (so_far part.made)) in
@@ -168,27 +168,27 @@ module _ (found : List Found) (job : JobState) (part : ChannelPart) where
   -- ---- as the code meets them
 
   pub keeps_at : (n : ℕ) (m next : MachineState) (mark : Mark) (hs rest : List Message) (states others : List Mark) → IsPlaying found job part n m hs states
-      → IsKept job part m.point.number next hs rest → mark.number ≡ next.point.number → mark.last ≡ next.point.last → others ≡ states ++ mark ∷ []
+      → IsNextRecorded job part m.point.number next hs rest → mark.number ≡ next.point.number → mark.last ≡ next.point.last → others ≡ states ++ mark ∷ []
       → IsPlaying found job part (n + 1) next rest others
   keeps_at n m next mark hs rest states others is kept_records number last pushed =
-      let here : IsKept job part n next hs rest = subst (λ (k : ℕ). IsKept job part k next hs rest) is.there.number_is kept_records in
+      let here : IsNextRecorded job part n next hs rest = subst (λ (k : ℕ). IsNextRecorded job part k next hs rest) is.there.number_is kept_records in
       subst (λ (ms : List Mark). IsPlaying found job part (n + 1) next rest ms) (sym pushed)
       (keeps n m next hs rest states mark is here (record { machine = next; there = here.there; number_is = number; last_is = last }))
 
   pub passes_at : (n : ℕ) (m next : MachineState) (hs rest : List Message) (states : List Mark) → IsPlaying found job part n m hs states
-      → IsPassed job part m.point.number next hs rest → IsPlaying found job part (n + 1) next rest states
+      → IsNextRefused job part m.point.number next hs rest → IsPlaying found job part (n + 1) next rest states
   passes_at n m next hs rest states is passed =
-      passes n m next hs rest states is (subst (λ (k : ℕ). IsPassed job part k next hs rest) is.there.number_is passed)
+      passes n m next hs rest states is (subst (λ (k : ℕ). IsNextRefused job part k next hs rest) is.there.number_is passed)
 
   pub stops_at : (n : ℕ) (m : MachineState) (hs : List Message) (states : List Mark) → IsPlaying found job part n m hs states → n < part.made
-      → (m.point.number ≡ length rs) ⊎ IsOther job part m.point.number hs → IsFirstFault found job part (n + 1)
+      → (m.point.number ≡ length rs) ⊎ IsNextMissing job part m.point.number hs → IsFirstNumberAtFault found job part (n + 1)
   stops_at n m hs states is less told =
       ⊎_elim
       (λ last. ends_early n hs is.read less (sym is.there.number_is ∙ last))
-      (λ (other : IsOther job part m.point.number hs). differs n hs is.read less (subst (λ (k : ℕ). IsOther job part k hs) is.there.number_is other)) told
+      (λ (other : IsNextMissing job part m.point.number hs). differs n hs is.read less (subst (λ (k : ℕ). IsNextMissing job part k hs) is.there.number_is other)) told
 
   pub ends_at : (n : ℕ) (m : MachineState) (hs : List Message) (states : List Mark) → IsPlaying found job part n m hs states → n ≡ part.made
-      → GoesOn job part m.point.number hs → IsFirstFault found job part (part.made + 1)
+      → HasOneMore job part m.point.number hs → IsFirstNumberAtFault found job part (part.made + 1)
   ends_at n m hs states is all told =
       ⊎_elim
       (λ more. goes_on hs more.0 read (ap (slice_get rs) (sym number) ∙ more.1))

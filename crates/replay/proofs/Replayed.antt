@@ -12,7 +12,7 @@ use Rattle.replay.specs.Opening.{AgreeBefore}
 use Rattle.replay.specs.Places.{heard_channels}
 use Rattle.replay.specs.Moves.{ReplayState}
 use Rattle.replay.specs.Tracks.{Pair, jobs_in, parts_in}
-use Rattle.replay.specs.Standings.{HaveRoom, IsTimeline}
+use Rattle.replay.specs.Standings.{HaveNoExtraMessages, IsTimeline}
 use Rattle.replay.specs.Replaying.{IsReplay}
 use Rattle.replay.proofs.Counting.{room}
 
@@ -25,9 +25,9 @@ agreed jobs parts found channels known each = record {
 }
 
 -- no job has more messages in the file than were kept
-pub have_room : (pairs : List Pair) (found : List Found) (channels : List ℕ) → Agrees (jobs_in pairs) (parts_in pairs) found → channels ≡ heard_channels found → HaveRoom pairs channels
+pub have_room : (pairs : List Pair) (found : List Found) (channels : List ℕ) → Agrees (jobs_in pairs) (parts_in pairs) found → channels ≡ heard_channels found → HaveNoExtraMessages pairs channels
 have_room pairs found channels agrees is =
-    subst (HaveRoom pairs) (sym is)
+    subst (HaveNoExtraMessages pairs) (sym is)
     (λ i p at. room found (length (heard_channels found)) p.job p.part
     (agrees.each i p.job p.part (map_at (λ (q : Pair). q.job) pairs i p at) (map_at (λ (q : Pair). q.part) pairs i p at)))
 

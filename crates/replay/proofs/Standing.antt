@@ -16,7 +16,7 @@ use Rattle.bc_machine.specs.Alike.{AreAlike}
 use Rattle.job_file.specs.Spelled.{ChannelJob}
 use Rattle.job_file.specs.Jobs.{JobState, tree_in, job_in}
 use Rattle.job_file.specs.Meaning.{records}
-use Rattle.job_file.specs.Machines.{IsOf, IsTold}
+use Rattle.job_file.specs.Machines.{IsOf, IsLatestOutcome}
 use Rattle.ch11_recording.specs.Items.{last_number}
 use Rattle.bench_report.specs.Reports.{ChannelPart}
 use Rattle.bench_core.proofs.Offers.{map_at}
@@ -33,7 +33,7 @@ use Rattle.replay.proofs.Lists.{one_of, each_more, each_set, each_mapped}
 
 -- one message more
 pub played_one : (job : JobState) (part : ChannelPart) (n : ℕ) (m next : MachineState) (r : Option Record) → IsSound (tree_in job) → IsThere job part n m
-    → ((j : ChannelJob) (placed : List Placed) → IsOf j placed m → IsOf j placed next) → (IsTold m → IsTold next) → IfSome r (λ _. next.point.number ≡ m.point.number + 1)
+    → ((j : ChannelJob) (placed : List Placed) → IsOf j placed m → IsOf j placed next) → (IsLatestOutcome m → IsLatestOutcome next) → IfSome r (λ _. next.point.number ≡ m.point.number + 1)
     → IfNone r ((j : ChannelJob) (placed : List Placed) → IsSound j.tree → IsOf j placed m → m.point.number ≡ length (records j placed))
     → n < length (played job part) → IsThere job part (n + 1) next
 played_one job part n m next (Some r) sound is of told more all less =

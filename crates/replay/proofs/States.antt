@@ -4,7 +4,7 @@ use Rattle.std.specs.List.{slice_get, count_by}
 use Rattle.std.proofs.lemmas.Option.{slice_get_read}
 use Rattle.bc_machine.specs.Running.{MachineState}
 use Rattle.frame_tree.specs.Bounds.{IsSound}
-use Rattle.job_file.specs.Machines.{IsTold}
+use Rattle.job_file.specs.Machines.{IsLatestOutcome}
 use Rattle.job_file.specs.Jobs.{JobState, tree_in, job_in}
 use Rattle.job_file.specs.Meaning.{bus_after}
 use Rattle.job_file.specs.Machines.{BusSoFar}
@@ -13,7 +13,7 @@ use Rattle.ch11_reader.specs.Recording.{Found}
 use Rattle.bench_report.specs.Reports.{ChannelPart}
 use Rattle.bench_core.proofs.Offers.{map_at}
 use Rattle.replay.specs.Accord.{kept_in, Agrees}
-use Rattle.replay.specs.Places.{heard_channels, heard_of, number_at, IsAfter}
+use Rattle.replay.specs.Places.{heard_channels, heard_of, latest_kept_number, IsAfter}
 use Rattle.replay.specs.declared.tracks.Mark.{Mark}
 use Rattle.replay.specs.declared.standings.Standing.{Standing}
 use Rattle.replay.specs.declared.timeline.Timeline.{Timeline}
@@ -85,10 +85,10 @@ heard_is found place channel own heard cs channels count same list is =
 
 pub after_there : (found : List Found) (place : ℕ) (p : Pair) (job : JobState) (part : ChannelPart) (k : ℕ) (m : MachineState)
     → IsAfter p.job p.part (last_number (take k (kept_in p.job p.part))) m → k ≡ heard_of found place p.job.channel → p.job ≡ job → p.part ≡ part
-    → IsAfter job part (number_at found place job part) m
+    → IsAfter job part (latest_kept_number found place job part) m
 after_there found place p job part k m is count same_job same_part =
-    subst (λ (v : ChannelPart). IsAfter job v (number_at found place job v) m) same_part
-    (subst (λ (v : JobState). IsAfter v p.part (number_at found place v p.part) m) same_job
+    subst (λ (v : ChannelPart). IsAfter job v (latest_kept_number found place job v) m) same_part
+    (subst (λ (v : JobState). IsAfter v p.part (latest_kept_number found place v p.part) m) same_job
     (subst (λ (n : ℕ). IsAfter p.job p.part (last_number (take n (kept_in p.job p.part))) m) count is))
 
 -- the controller that stands at a place is the job's after the messages before it
@@ -96,7 +96,7 @@ pub shown : (t : Timeline) (found : List Found) (place replayed index : ℕ) (p 
     → IsReplay (record { jobs = jobs_in t.tracks.items; parts = parts_in t.tracks.items; found = found; place = place }) t replayed
     → p ≡ get_or t.tracks.items index p → standing ≡ get_or t.live.items index standing → index < length t.tracks.items
     → ((number : ℕ) → IsThere p.job p.part number standing.machine → IsAfter p.job p.part number m)
-    → slice_get (jobs_in t.tracks.items) index ≡ Some job → slice_get (parts_in t.tracks.items) index ≡ Some part → IsAfter job part (number_at found place job part) m
+    → slice_get (jobs_in t.tracks.items) index ≡ Some job → slice_get (parts_in t.tracks.items) index ≡ Some part → IsAfter job part (latest_kept_number found place job part) m
 shown t found place replayed index p standing m job part is at_p at_standing less law j q =
     let there : slice_get t.tracks.items index ≡ Some p = slice_get_read t.tracks.items (length t.tracks.items) index p refl less at_p in
     let stands : slice_get t.live.items index ≡ Some standing = slice_get_read t.live.items (length t.live.items) index standing refl (omega (arith, less, is.stands.live.long)) at_standing in
@@ -109,7 +109,7 @@ shown t found place replayed index p standing m job part is at_p at_standing les
 pub told_at : (t : Timeline) (found : List Found) (place replayed index : ℕ) (p : Pair) (standing : Standing) (m : MachineState)
     → IsReplay (record { jobs = jobs_in t.tracks.items; parts = parts_in t.tracks.items; found = found; place = place }) t replayed
     → p ≡ get_or t.tracks.items index p → standing ≡ get_or t.live.items index standing → index < length t.tracks.items
-    → ((number : ℕ) → IsThere p.job p.part number standing.machine → IsAfter p.job p.part number m) → IsTold m
+    → ((number : ℕ) → IsThere p.job p.part number standing.machine → IsAfter p.job p.part number m) → IsLatestOutcome m
 told_at t found place replayed index p standing m is at_p at_standing less law =
     let there : slice_get t.tracks.items index ≡ Some p = slice_get_read t.tracks.items (length t.tracks.items) index p refl less at_p in
     let stands : slice_get t.live.items index ≡ Some standing = slice_get_read t.live.items (length t.live.items) index standing refl (omega (arith, less, is.stands.live.long)) at_standing in

@@ -68,7 +68,7 @@ IsAtFault found job part number = IsUnlike found job part number
     ⊎ (IsLeftOver found job part number ⊎ IsMiscounted job part number)
 
 -- it is the least such number
-pub record IsFirstFault (found : List Found) (job : JobState) (part : ChannelPart) (number : ℕ) : Type 0 where
+pub record IsFirstNumberAtFault (found : List Found) (job : JobState) (part : ChannelPart) (number : ℕ) : Type 0 where
   pub fault : IsAtFault found job part number
   pub least : (n : ℕ) → n < number → ¬ IsAtFault found job part n
 
@@ -85,7 +85,7 @@ pub record IsFirstJob (jobs : List JobState) (parts : List ChannelPart) (found :
   pub before : (i : ℕ) (j : JobState) (p : ChannelPart) → i < index → slice_get jobs i ≡ Some j
       → slice_get parts i ≡ Some p → AgreesOn found j p
   pub named : job.channel ≡ channel
-  pub first : IsFirstFault found job part number
+  pub first : IsFirstNumberAtFault found job part number
 
 -- The channels of jobs and report are looked at first, then those of the file, then the messages of job after job.
 abbrev pub IsFirstDifference : List JobState → List ChannelPart → List Found → ℕ → ℕ → Type 0

@@ -22,7 +22,8 @@ pub record AreSpaced (messages count : ℕ) : Type 0 where
   pub within : 64 * count ≤ messages + 64
 
 -- at the first so many of these places the states of one job more are kept than at the others
-pub record AreKeptTo (before : List Pair) (p : Pair) (channels : List ℕ) (done : ℕ) (stops : List Stop) : Type 0 where
+pub record AreStatesKeptTo (before : List Pair) (p : Pair) (channels : List ℕ) (done : ℕ)
+    (stops : List Stop) : Type 0 where
   pub kept : (k : ℕ) (stop : Stop) → k < done → slice_get stops k ≡ Some stop → (stop.place ≡ 64 * k)
       × IsStop (before ++ p ∷ []) channels stop
   pub left : (k : ℕ) (stop : Stop) → done ≤ k → slice_get stops k ≡ Some stop → (stop.place ≡ 64 * k)
@@ -43,10 +44,11 @@ pub record IsDue (channels : List ℕ) (channel least count : ℕ) (due : Due) :
   pub from : due.stop < count → least ≤ due.heard
 
 -- from the first so many places on to more of them the states of the job are kept whose controller this is
-abbrev pub KeepsOn : ℕ → List ℕ → Standing → ℕ → List Stop → ℕ → List Stop → Type 0
-KeepsOn channel channels s done old more new =
-    (before : List Pair) (p : Pair) → p.job.channel ≡ channel → IsBehind p s → AreKeptTo before p channels done old
-    → AreKeptTo before p channels more new
+abbrev pub KeepsMoreStates : ℕ → List ℕ → Standing → ℕ → List Stop → ℕ → List Stop → Type 0
+KeepsMoreStates channel channels s done old more new =
+    (before : List Pair) (p : Pair) → p.job.channel ≡ channel → IsBehind p s
+    → AreStatesKeptTo before p channels done old
+    → AreStatesKeptTo before p channels more new
 
 -- the states of one job more are kept at all of them
 abbrev pub AddsStates : Pair → List ℕ → List Stop → List Stop → Type 0
@@ -58,7 +60,7 @@ AddsStates p channels old new = (before : List Pair) → AreCheckpoints before c
 pub record IsKeeping (p : Pair) (channels : List ℕ) (s : Standing) (due : Due) (old new : List Stop) : Type 0 where
   pub due_is : IsDue channels p.job.channel (s.heard + 1) (length new) due
   pub count : length new ≡ length old
-  pub kept : (before : List Pair) → AreCheckpoints before channels old → AreKeptTo before p channels due.stop new
+  pub kept : (before : List Pair) → AreCheckpoints before channels old → AreStatesKeptTo before p channels due.stop new
 
 -- So many messages were played, a mark is left of those that were kept, and the states that came before the one that is
 -- due are kept.

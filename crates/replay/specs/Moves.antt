@@ -13,7 +13,7 @@ use Rattle.bench_report.specs.Reports.{ChannelPart}
 use Rattle.replay.specs.declared.error.ReplayError.{ReplayError}
 use Rattle.replay.specs.declared.error.ReplayError.TheVariants as error
 use Rattle.replay.specs.Differences.{IsFirstDifference}
-use Rattle.replay.specs.Places.{heard_channels, number_at}
+use Rattle.replay.specs.Places.{heard_channels, latest_kept_number}
 
 -- the jobs, their parts of the report, the packets of the file, and behind how many of its messages the debugger stands
 pub record ReplayState : Type 0 where
@@ -65,7 +65,7 @@ pub record IsMet (s : ReplayState) (test : Condition) (n : ℕ) : Type 0 where
   pub before : ℕ
   pub next : n ≡ suc before
   pub channel : slice_get (heard_channels s.found) before ≡ Some job.channel
-  pub true_there : says test job part (number_at s.found n job part) ≡ true
+  pub true_there : says test job part (latest_kept_number s.found n job part) ≡ true
 
 -- the first such message past the place
 pub record IsNextMet (s : ReplayState) (test : Condition) (n : ℕ) : Type 0 where

@@ -4,7 +4,7 @@ use Rattle.mil_bus.specs.Exchange.{played}
 use Rattle.bc_machine.specs.Running.{MachineState}
 use Rattle.job_file.specs.Jobs.{JobState, job_in}
 use Rattle.job_file.specs.Meaning.{bus_after}
-use Rattle.job_file.specs.Machines.{IsOf, IsTold}
+use Rattle.job_file.specs.Machines.{IsOf, IsLatestOutcome}
 use Rattle.ch11_f1.specs.BodyReading.{Message}
 use Rattle.ch11_recording.specs.Items.{last_number}
 use Rattle.ch11_reader.specs.Recording.{Found}
@@ -22,8 +22,8 @@ heard_of found place channel = count_by (λ c. c == channel) (take place (heard_
 
 -- the number in its channel of the latest of them, 0 where there is none: the file has the kept messages of the job, in
 -- order
-abbrev pub number_at : List Found → ℕ → JobState → ChannelPart → ℕ
-number_at found place job part = last_number (take (heard_of found place job.channel) (kept_in job part))
+abbrev pub latest_kept_number : List Found → ℕ → JobState → ChannelPart → ℕ
+latest_kept_number found place job part = last_number (take (heard_of found place job.channel) (kept_in job part))
 
 -- A controller that stands where a job is after so many messages, under the placed actions of the report. Messages that
 -- were refused have happened, and the bus is as they left it.
@@ -31,4 +31,4 @@ pub record IsAfter (job : JobState) (part : ChannelPart) (number : ℕ) (m : Mac
   pub of_job : IsOf (job_in job) part.placed m
   pub number_is : m.point.number ≡ number
   pub bus : played m.point.state ≡ bus_after (job_in job) part.placed number
-  pub told : IsTold m
+  pub told : IsLatestOutcome m

@@ -17,7 +17,7 @@ use Rattle.replay.specs.declared.error.ReplayError.TheVariants as error
 use Rattle.replay.specs.declared.playing.Played.{Played}
 use Rattle.replay.specs.declared.playing.Played.TheVariants.{Kept, Refused, Unlike}
 use Rattle.replay.specs.Accord.{played}
-use Rattle.replay.specs.Differences.{IsFirstFault}
+use Rattle.replay.specs.Differences.{IsFirstNumberAtFault}
 use Rattle.replay.specs.declared.tracks.Mark.{Mark}
 use Rattle.replay.specs.Tracks.{IsThere, AreMarks}
 
@@ -26,7 +26,7 @@ abbrev pub is_listed : ChannelPart → ℕ → Bool
 is_listed part number = list_any (λ n. n == number) part.refused
 
 -- the next message was made, behind so many, and the file has it next
-pub record IsKept (job : JobState) (part : ChannelPart) (n : ℕ) (m : MachineState)
+pub record IsNextRecorded (job : JobState) (part : ChannelPart) (n : ℕ) (m : MachineState)
     (heard rest : List Message) : Type 0 where
   pub message : Record
   pub comes : slice_get (played job part) n ≡ Some message
@@ -35,7 +35,7 @@ pub record IsKept (job : JobState) (part : ChannelPart) (n : ℕ) (m : MachineSt
   pub heard_is : heard ≡ as_message message ∷ rest
 
 -- it was made, and the report lists it as refused
-pub record IsPassed (job : JobState) (part : ChannelPart) (n : ℕ) (m : MachineState)
+pub record IsNextRefused (job : JobState) (part : ChannelPart) (n : ℕ) (m : MachineState)
     (heard rest : List Message) : Type 0 where
   pub message : Record
   pub comes : slice_get (played job part) n ≡ Some message
@@ -44,7 +44,7 @@ pub record IsPassed (job : JobState) (part : ChannelPart) (n : ℕ) (m : Machine
   pub heard_is : heard ≡ rest
 
 -- it was made and should be in the file, which has none or another one next
-pub record IsOther (job : JobState) (part : ChannelPart) (n : ℕ) (heard : List Message) : Type 0 where
+pub record IsNextMissing (job : JobState) (part : ChannelPart) (n : ℕ) (heard : List Message) : Type 0 where
   pub message : Record
   pub comes : slice_get (played job part) n ≡ Some message
   pub listed : is_listed part (n + 1) ≡ false
@@ -52,12 +52,12 @@ pub record IsOther (job : JobState) (part : ChannelPart) (n : ℕ) (heard : List
 
 -- the job makes no more, or its next message should be in the file, which has none or another one next
 abbrev pub StopsBehind : JobState → ChannelPart → ℕ → List Message → Type 0
-StopsBehind job part n heard = (n ≡ length (played job part)) ⊎ IsOther job part n heard
+StopsBehind job part n heard = (n ≡ length (played job part)) ⊎ IsNextMissing job part n heard
 
 -- what is told of the message behind so many
 abbrev pub TellsMessage : JobState → ChannelPart → ℕ → Played → MachineState → List Message → List Message → Type 0
-TellsMessage job part n Kept m heard rest = IsKept job part n m heard rest
-TellsMessage job part n Refused m heard rest = IsPassed job part n m heard rest
+TellsMessage job part n Kept m heard rest = IsNextRecorded job part n m heard rest
+TellsMessage job part n Refused m heard rest = IsNextRefused job part n m heard rest
 TellsMessage job part n Unlike m heard rest = StopsBehind job part n heard
 
 -- the job makes no more, and the file has no more
@@ -65,8 +65,8 @@ abbrev pub IsOver : JobState → ChannelPart → ℕ → List Message → Type 0
 IsOver job part n heard = (n ≡ length (played job part)) × (heard ≡ [])
 
 -- the job makes one more, or else the file has one more
-abbrev pub GoesOn : JobState → ChannelPart → ℕ → List Message → Type 0
-GoesOn job part n heard =
+abbrev pub HasOneMore : JobState → ChannelPart → ℕ → List Message → Type 0
+HasOneMore job part n heard =
     ((message : Record) × (slice_get (played job part) n ≡ Some message))
     ⊎ ((n ≡ length (played job part)) × ((message : Message) × (rest : List Message) × (heard ≡ message ∷ rest)))
 
@@ -80,7 +80,8 @@ pub record IsPlaying (found : List Found) (job : JobState) (part : ChannelPart) 
 
 -- Y1 only at the first number at fault, or want of memory
 abbrev pub FailsAt : List Found → JobState → ChannelPart → ReplayError → Type 0
-FailsAt found job part (error.Mismatch channel number) = (job.channel ≡ channel) × IsFirstFault found job part number
+FailsAt found job part (error.Mismatch channel number) = (job.channel ≡ channel)
+    × IsFirstNumberAtFault found job part number
 FailsAt found job part error.Past = ⊥
 FailsAt found job part error.Start = ⊥
 FailsAt found job part error.Memory = Unit {0}

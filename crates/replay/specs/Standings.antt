@@ -21,12 +21,12 @@ pub record IsAt (channels : List ℕ) (place : ℕ) (p : Pair) (heard : ℕ) (m 
   pub there : IsThere p.job p.part (last_number (take heard (kept_in p.job p.part))) m
 
 -- a job has no more messages in the file than were kept
-abbrev pub HasRoom : List ℕ → Pair → Type 0
-HasRoom channels p = count_to channels (length channels) p.job.channel ≤ length (kept_in p.job p.part)
+abbrev pub HasNoExtraMessages : List ℕ → Pair → Type 0
+HasNoExtraMessages channels p = count_to channels (length channels) p.job.channel ≤ length (kept_in p.job p.part)
 
 -- no job has more
-abbrev pub HaveRoom : List Pair → List ℕ → Type 0
-HaveRoom pairs channels = (i : ℕ) (p : Pair) → slice_get pairs i ≡ Some p → HasRoom channels p
+abbrev pub HaveNoExtraMessages : List Pair → List ℕ → Type 0
+HaveNoExtraMessages pairs channels = (i : ℕ) (p : Pair) → slice_get pairs i ≡ Some p → HasNoExtraMessages channels p
 
 -- each job has a controller of its own
 pub record AreOf (pairs : List Pair) (all : List Standing) : Type 0 where
@@ -89,7 +89,7 @@ abbrev pub StandAt : List Pair → List ℕ → Option ℕ → List Standing →
 StandAt pairs channels at all = IfSome at (λ place. AreAt pairs channels place all)
 
 pub record IsTimeline (t : Timeline) (place : ℕ) : Type 0 where
-  pub room : HaveRoom t.tracks.items t.channels.items
+  pub room : HaveNoExtraMessages t.tracks.items t.channels.items
   pub live : AreAt t.tracks.items t.channels.items place t.live.items
   pub next : AreOf t.tracks.items t.next.items
   pub next_at : StandAt t.tracks.items t.channels.items t.next_at t.next.items

@@ -4,7 +4,7 @@ use Rattle.frame_tree.specs.Bounds.{IsSound}
 use Rattle.mil_bus.specs.declared.outcomes.Outcome.{Outcome}
 use Rattle.bc_machine.specs.Running.{MachineState}
 use Rattle.job_file.specs.Jobs.{JobState, tree_in, job_in}
-use Rattle.job_file.specs.Machines.{IsOf, IsTold}
+use Rattle.job_file.specs.Machines.{IsOf, IsLatestOutcome}
 use Rattle.ch11_builder.specs.Packet.{Numbered}
 use Rattle.ch11_recording.specs.Items.{last_number}
 use Rattle.bench_report.specs.Reports.{ChannelPart}
@@ -27,7 +27,7 @@ parts_in pairs = map (λ (p : Pair). p.part) pairs
 pub record IsThere (job : JobState) (part : ChannelPart) (number : ℕ) (m : MachineState) : Type 0 where
   pub of_job : IsOf (job_in job) part.placed m
   pub number_is : m.point.number ≡ number
-  pub told : IsTold m
+  pub told : IsLatestOutcome m
 
 -- a mark that the job's controller left behind the message of a number
 pub record IsMarked (job : JobState) (part : ChannelPart) (number : ℕ) (mark : Mark) : Type 0 where

@@ -1,5 +1,5 @@
 //! The states of all jobs at checkpoints, which are kept while job after job is played.
-ghost use Rattle.replay.specs.Keeping.{AreSpaced, IsCounted, IsDue, KeepsOn};
+ghost use Rattle.replay.specs.Keeping.{AreSpaced, IsCounted, IsDue, KeepsMoreStates};
 ghost use Rattle.replay.specs.Standings.{AreCheckpoints};
 ghost use Rattle.std.specs.Prelude.{◌≡◌, ◌+◌, ◌*◌, ◌<◌, ◌≤◌, [], ◌∷◌, ◌++◌, length, IfOk, OnOk};
 
@@ -99,7 +99,7 @@ impl Due {
         ensures due { OnOk result (IsDue channels.now self.old.channel (standing.now.heard + 1)
             (length stops.new.items) self.new) }
         ensures kept { OnOk result
-            (KeepsOn self.old.channel channels.now standing.now self.old.stop stops.old.items self.new.stop
+            (KeepsMoreStates self.old.channel channels.now standing.now self.old.stop stops.old.items self.new.stop
             stops.new.items) }
     {
         'each: while self.stop < stops.len() {

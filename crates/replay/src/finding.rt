@@ -1,7 +1,7 @@
 //! The first message past a place whose outcome makes a condition true.
 ghost use Rattle.frame_tree.specs.Tree.{condition_in};
 ghost use Rattle.replay.specs.Finding.{earlier, IsMetBy, IsMetIn, Finds};
-ghost use Rattle.replay.specs.Standings.{HasRoom};
+ghost use Rattle.replay.specs.Standings.{HasNoExtraMessages};
 ghost use Rattle.std.specs.List.{AllByRecursion};
 ghost use Rattle.std.specs.Prelude.{◌≡◌, ◌≤◌, length};
 
@@ -19,7 +19,7 @@ fn first_of_job<A: Allocator + Clone>(
     condition: &Cond<A>,
 ) -> Option<usize>
     requires place { place ≤ length channels.now }
-    requires room { HasRoom channels.now track.now }
+    requires room { HasNoExtraMessages channels.now track.now }
     ensures { Finds place (IsMetBy channels.now (condition_in condition.now) track.now) result }
 {
     let channel = track.channel();
@@ -55,7 +55,7 @@ pub(crate) fn first_met<A: Allocator + Clone>(
     condition: &Cond<A>,
 ) -> Option<usize>
     requires place { place ≤ length channels.now }
-    requires room { AllByRecursion (HasRoom channels.now) tracks.now }
+    requires room { AllByRecursion (HasNoExtraMessages channels.now) tracks.now }
     ensures { Finds place (IsMetIn channels.now (condition_in condition.now) tracks.now) result }
 {
     let mut first = None;

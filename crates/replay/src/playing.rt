@@ -2,7 +2,7 @@
 ghost use Rattle.replay.specs.Accord.{AgreesOn, kept_in};
 ghost use Rattle.replay.specs.Keeping.{AreSpaced, AddsStates, IsDue, IsUnplayed, PlaysOn};
 ghost use Rattle.replay.specs.Places.{heard_channels};
-ghost use Rattle.replay.specs.Playing.{TellsMessage, IsOver, GoesOn, StopsBehind, FailsAt};
+ghost use Rattle.replay.specs.Playing.{TellsMessage, IsOver, HasOneMore, StopsBehind, FailsAt};
 ghost use Rattle.replay.specs.Tracks.{IsThere, AreMarks};
 ghost use Rattle.std.specs.Prelude.{◌≡◌, ◌+◌, ◌<◌, ◌^◌, true, false, MatchBool, IfOk, IfErr, OnOk, length};
 
@@ -69,7 +69,7 @@ fn is_over(
 ) -> bool
     requires { IsThere job.now part.now machine.old.point.number machine.old }
     ensures { MatchBool result (IsOver job.now part.now machine.old.point.number heard.old)
-        (GoesOn job.now part.now machine.old.point.number heard.old) }
+        (HasOneMore job.now part.now machine.old.point.number heard.old) }
 {
     let _sound = job.program();
     match next_record(machine) {

@@ -1,13 +1,13 @@
 //! The debugger: a recording, and behind how many of its messages it stands.
 ghost use Rattle.frame_tree.specs.Tree.{condition_in};
 ghost use Rattle.job_file.specs.Jobs.{JobState, job_in};
-ghost use Rattle.job_file.specs.Machines.{IsOf, IsTold};
+ghost use Rattle.job_file.specs.Machines.{IsOf, IsLatestOutcome};
 ghost use Rattle.job_file.specs.Meaning.{bus_after};
 ghost use Rattle.mil_bus.specs.Exchange.{played};
 ghost use Rattle.replay.specs.Accord.{Agrees};
 ghost use Rattle.replay.specs.Moves.{OpensNot, PastWhere, StartWhere, IsMemory};
 ghost use Rattle.replay.specs.Moves.{opened, at_place, total_of, OfJob, IsNextMet, IsNowhere};
-ghost use Rattle.replay.specs.Places.{number_at};
+ghost use Rattle.replay.specs.Places.{latest_kept_number};
 ghost use Rattle.std.specs.Prelude.{◌≡◌, ◌+◌, ◌-◌, ◌<◌, ◌≤◌, ◌%◌, length, slice_get, Some, IfOk, IfErr, OnOk, OnErr};
 
 use crate::checkpoints::empty_stops;
@@ -224,11 +224,13 @@ impl<'a> Replay<'a> {
         requires { index < length self.now.state.jobs }
         ensures of_job { OfJob self.now.state index (λ job part. IsOf (job_in job) part.placed result.now) }
         ensures number { OfJob self.now.state index
-            (λ job part. result.now.point.number ≡ number_at self.now.state.found self.now.state.place job part) }
+            (λ job part. result.now.point.number
+            ≡ latest_kept_number self.now.state.found self.now.state.place job part) }
         ensures bus { OfJob self.now.state index
             (λ job part. played result.now.point.state
-            ≡ bus_after (job_in job) part.placed (number_at self.now.state.found self.now.state.place job part)) }
-        ensures outcome { IsTold result.now }
+            ≡ bus_after (job_in job) part.placed
+            (latest_kept_number self.now.state.found self.now.state.place job part)) }
+        ensures outcome { IsLatestOutcome result.now }
     {
         let track = &self.timeline.tracks[index];
         track.machine(&self.timeline.live[index])

@@ -1,6 +1,6 @@
 //! The controllers of all jobs at a place of the file.
 ghost use Rattle.bc_machine.specs.Alike.{AreAlike};
-ghost use Rattle.replay.specs.Standings.{HaveRoom, AreOf, AreAt, AreKept, AreBegun, saved_of};
+ghost use Rattle.replay.specs.Standings.{HaveNoExtraMessages, AreOf, AreAt, AreKept, AreBegun, saved_of};
 ghost use Rattle.replay.specs.Tracks.{IsThere};
 ghost use Rattle.std.specs.Prelude.{◌≡◌, ◌≤◌, length, map, IfOk, OnOk, OnErr};
 
@@ -87,7 +87,7 @@ pub(crate) fn play_all(
 )
     requires order { from ≤ to }
     requires end { to ≤ length channels.now }
-    requires room { HaveRoom tracks.now channels.now }
+    requires room { HaveNoExtraMessages tracks.now channels.now }
     requires at { AreAt tracks.now channels.now from all.old.items }
     ensures { AreAt tracks.now channels.now to all.new.items }
 {

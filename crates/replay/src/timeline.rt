@@ -1,6 +1,7 @@
 //! The jobs of a recording from place to place: where their controllers stand, and the states that are kept.
 ghost use Rattle.replay.specs.Standings.{AreApart, IsTimeline, IsNearest, IsNoted, Has, Keeps};
-ghost use Rattle.replay.specs.Standings.{HaveRoom, AreAt, AreOf, StandAt, AreCheckpoints, IsStop, StopsStay, StopsTurn};
+ghost use Rattle.replay.specs.Standings.{HaveNoExtraMessages, AreAt, AreOf, StandAt, AreCheckpoints, IsStop, StopsStay};
+ghost use Rattle.replay.specs.Standings.{StopsTurn};
 ghost use Rattle.std.specs.Prelude.{◌≡◌, ◌≤◌, ◌<◌, ◌-◌, ◌*◌, ◌%◌, length, IfOk, IfSome, OnOk, OnErr, true};
 
 use crate::checkpoints::{APART, Stop};
@@ -121,7 +122,7 @@ impl Timeline {
         live: Vec<Standing>,
         next: Vec<Standing>,
     ) -> Result<Timeline, AllocError>
-        requires room { HaveRoom tracks.items channels.items }
+        requires room { HaveNoExtraMessages tracks.items channels.items }
         requires checkpoints { AreCheckpoints tracks.items channels.items checkpoints.items }
         requires enough { length channels.items < 64 * length checkpoints.items }
         requires live { AreAt tracks.items channels.items 0 live.items }

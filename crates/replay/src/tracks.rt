@@ -4,7 +4,7 @@ ghost use Rattle.frame_tree.specs.Bounds.{IsSound};
 ghost use Rattle.job_file.specs.Jobs.{tree_in};
 ghost use Rattle.replay.specs.Accord.{kept_in, played};
 ghost use Rattle.replay.specs.Places.{IsAfter};
-ghost use Rattle.replay.specs.Standings.{HasRoom, IsAt};
+ghost use Rattle.replay.specs.Standings.{HasNoExtraMessages, IsAt};
 ghost use Rattle.replay.specs.Tracks.{IsThere, IsLast, AreMarks};
 ghost use Rattle.std.specs.Prelude.{◌≡◌, ◌≤◌, ◌==◌, ℕ, count_by, length, take};
 
@@ -114,7 +114,7 @@ impl Track {
     pub(crate) fn play_on(&self, standing: &mut Standing, channels: &[u16], from: usize, to: usize)
         requires order { from ≤ to }
         requires end { to ≤ length channels.now }
-        requires room { HasRoom channels.now self.now }
+        requires room { HasNoExtraMessages channels.now self.now }
         requires at { IsAt channels.now from self.now standing.old.heard standing.old.machine }
         ensures { IsAt channels.now to self.now standing.new.heard standing.new.machine }
     {

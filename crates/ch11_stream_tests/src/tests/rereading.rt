@@ -4,8 +4,8 @@ use crate::tests::equal::{are_bytes, same};
 use crate::tests::streamed::{damaged, pair, refusal};
 use crate::tests::streams::{Slow, reader_of};
 use bench_judge::{
-    Miss, PassFault, Verdict, first_misses_from, judge_from, junit_text_from, write_colored_from,
-    write_misses_from, write_verdicts_from,
+    Miss, PassFault, RuleVerdict, first_misses_from, judge_from, junit_text_from,
+    write_colored_from, write_misses_from, write_verdicts_from,
 };
 use bench_watch::Reopen;
 use ch11_stream::StreamFault;
@@ -92,7 +92,7 @@ fn judged(
     alloc: Global,
     recording: &Changing<'_>,
     text: &str,
-) -> Result<Vec<Verdict>, PassFault> {
+) -> Result<Vec<RuleVerdict>, PassFault> {
     let rules = rules_of(rt, alloc);
     let mut out = Vec::new(alloc);
     let found = write_verdicts_from(alloc, recording, rules.as_slice(), &mut out);
@@ -169,7 +169,7 @@ pub(crate) fn apart() -> [u8; 192] {
 }
 
 /// The rules of that file, and the verdicts on it.
-fn apart_verdicts(rt: &impl Abort, alloc: Global) -> (Vec<Rule>, Vec<Verdict>) {
+fn apart_verdicts(rt: &impl Abort, alloc: Global) -> (Vec<Rule>, Vec<RuleVerdict>) {
     let rules = read_rules(alloc, APART_RULES).ok().expect(rt, "rules");
     let file = apart();
     let verdicts = judge_from(alloc, reader_of(&file, 7), rules.as_slice())

@@ -2,7 +2,7 @@
 
 use crate::tests::equal::{are, same, wrote};
 use crate::tests::streams::{Slow, reader_of};
-use bench_judge::{Verdict, judge_from};
+use bench_judge::{RuleVerdict, judge_from};
 use bench_passes::dump_in_two_passes;
 use bench_select::Selection;
 use bench_stat::{ChannelFigures, Errors, TerminalFigures, Traffic, stat_from};
@@ -140,8 +140,8 @@ fn figures_are_of_the_selection(rt: HostRuntime) {
 }
 
 /// One of two messages had an error.
-fn of_errors() -> Verdict {
-    Verdict {
+fn of_errors() -> RuleVerdict {
+    RuleVerdict {
         line: 1,
         selected: 2,
         missed: 1,
@@ -151,8 +151,8 @@ fn of_errors() -> Verdict {
 }
 
 /// The second of two messages stands 1 ms behind the first.
-fn of_periods() -> Verdict {
-    Verdict {
+fn of_periods() -> RuleVerdict {
+    RuleVerdict {
         line: 2,
         selected: 2,
         missed: 0,
@@ -162,7 +162,11 @@ fn of_periods() -> Verdict {
 }
 
 /// The verdicts of a reader's file by two rules.
-fn judged(rt: &impl Abort, alloc: Global, input: Slow<'_>) -> Result<Vec<Verdict>, StreamFault> {
+fn judged(
+    rt: &impl Abort,
+    alloc: Global,
+    input: Slow<'_>,
+) -> Result<Vec<RuleVerdict>, StreamFault> {
     let text = "expect any ok\nexpect any period 1000 1000\n";
     let rules = read_rules(alloc, text.as_bytes()).ok().expect(rt, "rules");
     judge_from(alloc, input, rules.as_slice())

@@ -1,5 +1,5 @@
 use Rattle.std.proofs.Common.{◌∙◌, ap, sym, subst, Ok}
-use Rattle.bench_assemble.specs.Assembled.{judged, IsRefusal}
+use Rattle.bench_assemble.specs.Assembled.{judged_code, IsRefusal}
 use Rattle.bench_assemble.proofs.Judged.{judged_within, judged_refused}
 use Rattle.bench_assemble.proofs.assembling.loaded.Goals as goal
 
@@ -10,4 +10,4 @@ returns-in-Ok-clause-program c =
 
 pub returns-in-Err-clause-refused : goal.returns-in-Err-clause-refused
 returns-in-Err-clause-refused c =
-    subst (IsRefusal (judged c.args.image)) (sym c.told.ensures) (judged_refused c.args.image c.in-Err.why c.requires.loadable c.in-Err.ensures.judged)
+    subst (IsRefusal (judged_code c.args.image)) (sym c.told.ensures) (judged_refused c.args.image c.in-Err.why c.requires.loadable c.in-Err.ensures.judged)

@@ -2,7 +2,7 @@ use Rattle.std.proofs.Common.{◌≡◌, ap, subst, ◌∙◌}
 use Rattle.std.specs.Prelude.{Ok, Err}
 use Rattle.std.proofs.lemmas.Result.{IfOk-weaker}
 use Rattle.frame_tree.specs.Tree.{tree_of}
-use Rattle.frame_text.specs.Reading.{Refuses}
+use Rattle.frame_text.specs.Reading.{RefusesScript}
 use Rattle.frame_text.specs.Frames.{tree_of_text}
 use Rattle.bench_check.specs.Fitting.{tight_frames}
 use Rattle.bench_check.proofs.Heads.{tree_of_script, no_script}
@@ -22,6 +22,6 @@ returns-in-Ok c =
 pub returns-in-Err-Text : goal.returns-in-Err-Text
 returns-in-Err-Text c = λ job e.
     let read : tree_of_text c.in-Some.script.now ≡ Err c.in-Err-Text.field-0-0 =
-    subst (λ why. Refuses why (tree_of_text c.in-Some.script.now)) c.in-Err-Text.field-0-is c.in-Err-Text.ensures.tree in
+    subst (λ why. RefusesScript why (tree_of_text c.in-Some.script.now)) c.in-Err-Text.field-0-is c.in-Err-Text.ensures.tree in
     let due : tree_of_text c.in-Some.script.now ≡ Ok job.tree = tree_of_script c.args.text.now c.in-Some.script.now job c.in-Some.ensures e in
     absurd (cc)

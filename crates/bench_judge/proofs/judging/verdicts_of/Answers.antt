@@ -5,7 +5,7 @@ use Rattle.std.proofs.lemmas.Option.{slice_get-get_or}
 use Rattle.std.proofs.lemmas.List.{nil_from_length}
 use Rattle.std.proofs.lemmas.Grind.{common_steps}
 use Rattle.judge_rules.specs.declared.rules.Rule.{Rule}
-use Rattle.bench_judge.specs.declared.verdicts.Verdict.{Verdict}
+use Rattle.bench_judge.specs.declared.verdicts.RuleVerdict.{RuleVerdict}
 use Rattle.bench_judge.proofs.Whole.{IsJudging, judging-none, judging-more, judging-within, judging-all}
 use Rattle.bench_judge.proofs.judging.verdicts_of.Goals as goal
 
@@ -24,7 +24,7 @@ tallies-preserved c =
     let there : slice_get c.args.rules.now c.len-place.result ≡ Some c.index-rules-place.result =
     slice_get-get_or c.args.rules.now c.len-place.result c.index-rules-place.result (omega (arith, w, same)) ∙ ap (λ (r : Rule). Some r) (sym c.index-rules-place.is) in
     let asked : slice_get c.args.rules.now (length c.tallies.verdicts.items) ≡ Some c.index-rules-place.result = ap (slice_get c.args.rules.now) (sym same) ∙ there in
-    subst (λ (vs : List Verdict). IsJudging c.args.rules.now c.args.tallies.items (into_iter_items c.next.new.self) vs) (sym c.in_ok-push.ensures.items)
+    subst (λ (vs : List RuleVerdict). IsJudging c.args.rules.now c.args.tallies.items (into_iter_items c.next.new.self) vs) (sym c.in_ok-push.ensures.items)
     (judging-more c.args.rules.now c.args.tallies.items (into_iter_items c.tallies.rest) (into_iter_items c.next.new.self) c.in-Some.tally c.tallies.verdicts.items c.index-rules-place.result c.verdict_of.result
     c.tallies.invariant c.in-Some.ensures.items asked c.verdict_of.ensures)
 

@@ -10,7 +10,7 @@ use Rattle.bench_mail.specs.Mail.{received_by}
 use Rattle.bench_run.specs.Live.{with_posts}
 use Rattle.bench_run.specs.Runs.{records_of}
 use Rattle.job_file.specs.Rooms.{most_items}
-use Rattle.bench_run.specs.Threads.{SoFar}
+use Rattle.bench_run.specs.Threads.{RecordsOfferedSoFar}
 use Rattle.bench_run.proofs.Stages.{first_stage, last_stage, few_sent, by_ticket, by_given}
 use Rattle.bench_run.proofs.PlacedPosts.{placed_all}
 use Rattle.bench_run.proofs.PlacedStages.{stage_first, so_far_placed, stage_on}
@@ -85,7 +85,7 @@ messages-preserved g c =
     record {
       stage = stage_on c.args.trunk.now (tags_of c.args.ticket) (bounds_of c.args.ticket) c.args.index room.posts.left (received_by room.posts.inbox) job c.place_all.new.machine c.next_record.new.machine c.offer_message.new.ticket c.offer_message.new.refused.items c.place_all.new.self
           posted (omega (arith, c.in-Some.ensures.number)) of
-          (subst (λ k. SoFar c.args.trunk.now (tags_of c.args.ticket) (bounds_of c.args.ticket) c.args.index live k c.offer_message.new.ticket c.offer_message.new.refused.items) c.number-number.ensures.value next);
+          (subst (λ k. RecordsOfferedSoFar c.args.trunk.now (tags_of c.args.ticket) (bounds_of c.args.ticket) c.args.index live k c.offer_message.new.ticket c.offer_message.new.refused.items) c.number-number.ensures.value next);
       inbox = c.place_all.ensures.inbox;
       ordered = c.place_all.ensures.ordered;
       room = c.offer_message.ensures.room ∙ c.messages.invariant.room;
@@ -132,7 +132,7 @@ returns g c =
       inbox = c.place_all.ensures.inbox;
       placed = placed_all room.posts.left (received_by room.posts.inbox) job c.channel_report.result.made m c.place_all.new.self (received_by c.place_all.new.self.inbox) posted (sym made ∙ sym part.made) refl;
       offered = last_stage c.args.trunk.now c.args.ticket c.args.index live c.number-2.result c.messages.ticket c.offer_end.new.ticket c.messages.refused.items c.channel_report.result
-          (subst (λ k. SoFar c.args.trunk.now (tags_of c.args.ticket) (bounds_of c.args.ticket) c.args.index live k c.messages.ticket c.messages.refused.items) (sym made) st) (made ∙ whole) end.ticket end.tags end.bounds end.sent
+          (subst (λ k. RecordsOfferedSoFar c.args.trunk.now (tags_of c.args.ticket) (bounds_of c.args.ticket) c.args.index live k c.messages.ticket c.messages.refused.items) (sym made) st) (made ∙ whole) end.ticket end.tags end.bounds end.sent
           (part.channel ∙ c.channel-3.ensures.value) part.made part.refused (part.placed live.actions (c.of-ordered.ensures ∙ posted.ordered))
           (omega (arith, c.channel-3.ensures.value)) (omega (arith, c.number-2.ensures.range)) (omega (arith, made, top));
     }

@@ -1,7 +1,7 @@
 use Rattle.std.proofs.Common.{rules, arith, ap, sym, ◌∙◌, ◌≡◌, ◌+◌, ◌-◌, ◌++◌, ◌∷◌, [], length, vec_len, subst}
 use Rattle.mil_trunk.specs.Ends.{tags_of, bounds_of, sent}
 use Rattle.bench_run.specs.declared.entry.Entry.TheVariants as entry
-use Rattle.bench_run.specs.Threads.{SoFar}
+use Rattle.bench_run.specs.Threads.{RecordsOfferedSoFar}
 use Rattle.bench_run.proofs.Stages.{kept_stage, refused_stage, few_of_tag, few_refused}
 use Rattle.bench_run.proofs.channel.offer_message.Goals as goal
 
@@ -25,7 +25,7 @@ returns-in-Ok-clause-so_far g c live st at =
     let more : sent s ≡ sent t ++ entry.Message c.args.index (before + 1) c.args.message ∷ [] = c.in-Ok.ensures.kept ∙ ap (λ n. sent t ++ entry.Message c.args.index n c.args.message ∷ []) (sym is) in
     let next = kept_stage c.args.trunk.now (tags_of t) (bounds_of t) c.args.index live before t s c.args.refused.now.items c.args.message st at c.requires.recorded
     c.offer.ensures.ticket c.offer.ensures.tags c.offer.ensures.bounds more in
-    subst (λ n. SoFar c.args.trunk.now (tags_of t) (bounds_of t) c.args.index live n s c.args.refused.now.items) is next
+    subst (λ n. RecordsOfferedSoFar c.args.trunk.now (tags_of t) (bounds_of t) c.args.index live n s c.args.refused.now.items) is next
 
 pub returns-in-Err-clause-so_far : goal.returns-in-Err-clause-so_far
 returns-in-Err-clause-so_far g c live st at =
@@ -35,4 +35,4 @@ returns-in-Err-clause-so_far g c live st at =
     let is : before + 1 ≡ c.args.number = omega (arith, c.requires.number) in
     let next = refused_stage c.args.trunk.now (tags_of t) (bounds_of t) c.args.index live before t s c.args.refused.now.items c.args.message st at c.requires.recorded
     c.offer.ensures.ticket c.offer.ensures.tags c.offer.ensures.bounds c.in-Err.ensures.not_sent c.in-Err.ensures.full in
-    rw c.push_reserved.ensures.items (subst (λ n. SoFar c.args.trunk.now (tags_of t) (bounds_of t) c.args.index live n s (c.args.refused.now.items ++ n ∷ [])) is next)
+    rw c.push_reserved.ensures.items (subst (λ n. RecordsOfferedSoFar c.args.trunk.now (tags_of t) (bounds_of t) c.args.index live n s (c.args.refused.now.items ++ n ∷ [])) is next)

@@ -1,6 +1,6 @@
 use Rattle.std.proofs.Common.{[], subst}
 use Rattle.bench_core.specs.declared.error.WorldError.TheVariants as fault
-use Rattle.bench_core.specs.Lawful.{format_of, Refuses}
+use Rattle.bench_core.specs.Lawful.{format_of, RefusesJobs}
 use Rattle.ch11_recording.specs.WrittenFile.{written_file}
 use Rattle.bench_run.proofs.Beginning.{nothing_taken}
 use Rattle.bench_run.proofs.Refusing.{ran_alone, left_alone}
@@ -8,8 +8,8 @@ use Rattle.bench_run.proofs.running.run.Goals as goal
 
 pub returns-in-Err-Memory-clause-refused : goal.returns-in-Err-Memory-clause-refused
 returns-in-Err-Memory-clause-refused g c =
-    let fits : Refuses c.args.jobs.now c.args.settings.now fault.Memory =
-    subst (Refuses c.args.jobs.now c.args.settings.now) c.in-Err-Memory.field-0-is c.in-Err-Memory.ensures.refused in (
+    let fits : RefusesJobs c.args.jobs.now c.args.settings.now fault.Memory =
+    subst (RefusesJobs c.args.jobs.now c.args.settings.now) c.in-Err-Memory.field-0-is c.in-Err-Memory.ensures.refused in (
       fits,
       ([], 0, nothing_taken (g.S.Sink.taken c.args.sink) (written_file (format_of c.args.settings.now) c.args.settings.now.prologue.items [])),
     )

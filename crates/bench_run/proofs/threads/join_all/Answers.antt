@@ -16,7 +16,7 @@ use Rattle.bench_mail.specs.Mail.{received_by}
 use Rattle.bench_run.specs.Live.{with_posts, ArePlaced}
 use Rattle.bench_run.specs.Entries.{index_of, entries_to_the_end}
 use Rattle.bench_run.specs.Runs.{records_of, most_in_all, others_than}
-use Rattle.bench_run.specs.Threads.{IsPromised, IsCounted, IsEnded}
+use Rattle.bench_run.specs.Threads.{IsPromised, IsThreadReport, IsThreadEnded}
 use Rattle.bench_run.proofs.Rows.{row_push, row_first, row_rest, place_below, same_some, none_at}
 use Rattle.bench_run.proofs.Sums.{others_bounds, own_entries, other_entries}
 use Rattle.bench_run.proofs.threads.join_all.Goals as goal
@@ -80,12 +80,12 @@ loop-handle-preserved g c =
     ∙ ap (λ l. l ++ with_tag index_of n mine) (was.later n (omega arith)) ∙ own_entries n rs in
     let others : bounds_outside (tags_of p.ticket.value) (bounds_of p.ticket.value) ≡ most_in_all (others_than p.job.now.channel jobs) =
     ap (bounds_outside (tags_of p.ticket.value)) (here.bounds_are ∙ c.requires.bounds) ∙ others_bounds jobs n (tags_of p.ticket.value) p.job.now c.requires.distinct here.job_is here.tags in
-    let mine_ended : IsEnded capacity (most_in_all (others_than p.job.now.channel jobs)) n p.job.now p.mailbox.now most p.inbox.value new (with_tag index_of n now) = record {
+    let mine_ended : IsThreadEnded capacity (most_in_all (others_than p.job.now.channel jobs)) n p.job.now p.mailbox.now most p.inbox.value new (with_tag index_of n now) = record {
       posts = e.posts;
       inbox = e.inbox;
       placed = subst (λ m. ArePlaced m new.part.made (received_by p.inbox.value) (received_by new.inbox) e.posts) here.most_is e.placed;
       own_are = own;
-      counted = subst (λ m. IsCounted capacity m (with_posts p.job.now e.posts) new.part) others e.counted;
+      counted = subst (λ m. IsThreadReport capacity m (with_posts p.job.now e.posts) new.part) others e.counted;
     } in
     let long : length c.loop-handle.joined.items ≡ n = search rules in
     record {
@@ -98,16 +98,16 @@ loop-handle-preserved g c =
           let more : n + suc k ≡ vec_len c.push_reserved.new.self + k = omega (arith, pushed.len) in subst (λ m. IsPromised c.args.trunk.now bounds jobs most boxes inboxes m h.promise) more next;
       ended = row_push
           (λ i y. (job : JobState) (box : Mailbox) (before : Inbox) → slice_get jobs i ≡ Some job → slice_get boxes i ≡ Some box → slice_get inboxes i ≡ Some before
-          → IsEnded capacity (most_in_all (others_than job.channel jobs)) i job box most before y (with_tag index_of i now))
+          → IsThreadEnded capacity (most_in_all (others_than job.channel jobs)) i job box most before y (with_tag index_of i now))
           n c.loop-handle.joined.items c.push_reserved.new.self.items new long pushed.items
           (λ i y at_y job box before at_job at_box at_before.
           let low = place_below c.loop-handle.joined.items i y at_y in
-          subst (λ es. IsEnded capacity (most_in_all (others_than job.channel jobs)) i job box most before y es) (sym (apart i (λ same. absurd (omega (arith, low, long, same)))))
+          subst (λ es. IsThreadEnded capacity (most_in_all (others_than job.channel jobs)) i job box most before y es) (sym (apart i (λ same. absurd (omega (arith, low, long, same)))))
           (was.ended i y at_y job box before at_job at_box at_before))
           (λ job box before at_job at_box at_before.
           let job_is : p.job.now ≡ job = same_some (sym here.job_is ∙ at_job) in
           let box_is : p.mailbox.now ≡ box = same_some (sym here.box_is ∙ at_box) in
           let before_is : p.inbox.value ≡ before = same_some (sym here.inbox_is ∙ at_before) in
-          subst (λ (z : JobState × Mailbox × Inbox). IsEnded capacity (most_in_all (others_than z.0.channel jobs)) n z.0 z.1 most z.2 new (with_tag index_of n now)) (λ i. (job_is i, box_is i, before_is i)) mine_ended);
+          subst (λ (z : JobState × Mailbox × Inbox). IsThreadEnded capacity (most_in_all (others_than z.0.channel jobs)) n z.0 z.1 most z.2 new (with_tag index_of n now)) (λ i. (job_is i, box_is i, before_is i)) mine_ended);
       later = λ t top. apart t (λ e. absurd (omega (arith, pushed.len, e, top))) ∙ was.later t (omega (arith, pushed.len, top));
     }

@@ -4,9 +4,9 @@ use Rattle.mil_bus.specs.Actions.{station_of}
 use Rattle.mil_bus.specs.Exchange.{BusState, played}
 use Rattle.bc_machine.specs.declared.placed.Placed.{Placed}
 use Rattle.bench_report.specs.Reports.{ChannelPart}
-use Rattle.replay.specs.Places.{number_at}
+use Rattle.replay.specs.Places.{latest_kept_number}
 use Rattle.bench_state.specs.declared.details.Detail.{Detail}
-use Rattle.bench_state.specs.StateText.{channel_text, channel_line, terminal_lines, lines_below, text_of}
+use Rattle.bench_state.specs.StateText.{channel_text, channel_line, terminal_lines, lines_below, station_text}
 use Rattle.bench_step.proofs.Pairs.{read_part, no_part}
 use Rattle.bench_step.proofs.replies.print_job.Goals as goal
 
@@ -14,7 +14,7 @@ use Rattle.bench_step.proofs.replies.print_job.Goals as goal
 module _ (detail : Detail) (number : ℕ) (placed : List Placed) (b : BusState) where
   below_played : (address : ℕ) → lines_below detail number placed address b ≡ lines_below detail number placed address (played b)
   below_played zero = refl
-  below_played (suc address) = ap (λ lines. lines ++ text_of detail number placed (station_of address b.stations)) (below_played address)
+  below_played (suc address) = ap (λ lines. lines ++ station_text detail number placed (station_of address b.stations)) (below_played address)
 
   lines_played : terminal_lines detail number placed b ≡ terminal_lines detail number placed (played b)
   unfolding terminal_lines
@@ -34,7 +34,7 @@ returns g c job part job_there part_there =
     ∙ read_part c.channels-parts.result.now c.args.index c.index-parts-index.result part
     (ap (λ (ps : List ChannelPart). slice_get ps c.args.index) (c.channels-parts.ensures.value ∙ c.requires.report) ∙ part_there) in
     let s = c.args.replay.now.state in
-    let number : ℕ = number_at s.found s.place job part in
+    let number : ℕ = latest_kept_number s.found s.place job part in
     rw (
       c.number.ensures.value,
       c.bus.ensures.value,

@@ -6,7 +6,7 @@ use Rattle.frame_tree.specs.Scopes.{scope_of}
 use Rattle.frame_tree.specs.Bounds.{CallsKnown}
 use Rattle.frame_tree.specs.declared.Frame.{the_lemmas}
 use Rattle.frame_tree.proofs.Trees.{tree_repeat, tree_if, tree_until}
-use Rattle.frame_asm.specs.Shapes.{branch_size, size, entries, shape, messages_of}
+use Rattle.frame_asm.specs.Shapes.{branch_size, size, entries, shape, tree_messages}
 use Rattle.frame_asm.proofs.Chains.{front}
 use Rattle.frame_asm.proofs.Frames.{length_put, length_branched, length_fronted, length_grown, length_entered, repeat_done, until_done, choose_done, messages_done, known_in, calls_at, room_at, table_at, front_done, front_entered}
 use Rattle.frame_asm.proofs.emission.+frames.Goals as goal
@@ -106,4 +106,4 @@ emit_sequence-returns-clause-operations g t c =
 pub emit_sequence-returns-clause-messages : goal.emit_sequence-returns-clause-messages
 emit_sequence-returns-clause-messages g t c =
     let all = take_all c.loop-frame.frame-index c.deref-frame-items.result.now (omega arith) ∙ c.deref-frame-items.ensures.value in
-    c.loop-frame.invariant.messages ∙ ap (λ xs. c.args.messages.now.items ++ messages_of (chain (map tree_of xs))) all
+    c.loop-frame.invariant.messages ∙ ap (λ xs. c.args.messages.now.items ++ tree_messages (chain (map tree_of xs))) all

@@ -15,8 +15,8 @@ cost-requires c =
     let os = c.args.operations.now in
     range_at os c.loop-i.i _ c.requires.range (slice_get-get_or os c.loop-i.i Halt c.loop-i-test.true)
 
-pub called-requires : goal.called-requires
-called-requires c = λ r e.
+pub cost_called-requires : goal.cost_called-requires
+cost_called-requires c = λ r e.
     let os = c.args.operations.now in
     let i = c.loop-i.i in
     omega (arith, call_low os c.requires.routines i _ (slice_get-get_or os i Halt c.loop-i-test.true) r e, owner_low os c.requires.routines i (omega (arith, c.loop-i-test.true)))
@@ -25,7 +25,7 @@ pub overflow_add-one : goal.overflow_add-one
 overflow_add-one c =
     let os = c.args.operations.now in
     let i = c.loop-i.i in
-    omega (arith, c.cost.ensures.small, called_capped (2 ^ 46 + 1) (omega arith) (counted c.args.what) os i c.called.result _ c.loop-i.ended c.called.ensures (c.requires.routines.earlier i _ (slice_get-get_or os i Halt c.loop-i-test.true)) c.loop-i.invariant.ended)
+    omega (arith, c.cost.ensures.small, called_capped (2 ^ 46 + 1) (omega arith) (counted c.args.what) os i c.cost_called.result _ c.loop-i.ended c.cost_called.ensures (c.requires.routines.earlier i _ (slice_get-get_or os i Halt c.loop-i-test.true)) c.loop-i.invariant.ended)
 
 pub added-now-requires-clause-now : goal.added-now-requires-clause-now
 added-now-requires-clause-now c = omega (arith, c.loop-i.invariant.now)
@@ -37,7 +37,7 @@ pub added-now-requires-clause-one : goal.added-now-requires-clause-one
 added-now-requires-clause-one c =
     let os = c.args.operations.now in
     let i = c.loop-i.i in
-    omega (arith, c.cost.ensures.small, called_capped (2 ^ 46 + 1) (omega arith) (counted c.args.what) os i c.called.result _ c.loop-i.ended c.called.ensures (c.requires.routines.earlier i _ (slice_get-get_or os i Halt c.loop-i-test.true)) c.loop-i.invariant.ended)
+    omega (arith, c.cost.ensures.small, called_capped (2 ^ 46 + 1) (omega arith) (counted c.args.what) os i c.cost_called.result _ c.loop-i.ended c.cost_called.ensures (c.requires.routines.earlier i _ (slice_get-get_or os i Halt c.loop-i-test.true)) c.loop-i.invariant.ended)
 
 pub bounds-ended-routine : goal.bounds-ended-routine
 bounds-ended-routine c =
@@ -63,14 +63,14 @@ loop-i-preserved c =
     let w = get_or c.args.weights.now i 0 in
     let mark = c.requires.marked i c.loop-i-test.true in
     let o = get_or os i Halt in
-    let k = called_capped cap some cost os i c.called.result o c.loop-i.ended c.called.ensures (c.requires.routines.earlier i o at) g.ended in
-    let sum : c.added-now.result ≡ min (c.loop-i.now + w * (cost o + c.called.result)) cap = omega (arith, c.added-now.ensures, ap (λ z. w * (z + c.called.result)) c.cost.ensures.value) in
+    let k = called_capped cap some cost os i c.cost_called.result o c.loop-i.ended c.cost_called.ensures (c.requires.routines.earlier i o at) g.ended in
+    let sum : c.added-now.result ≡ min (c.loop-i.now + w * (cost o + c.cost_called.result)) cap = omega (arith, c.added-now.ensures, ap (λ z. w * (z + c.cost_called.result)) c.cost.ensures.value) in
     elim c.match-op.branch [
       | in-Return v ↦
           let here = at ∙ ap Some v.in-Return.is in
           let few : c.loop-i.routine < length c.loop-i.ended = omega (arith, g.long, g.number, up_owner os i here, owner_low os c.requires.routines (i + 1) (omega (arith, c.loop-i-test.true))) in
-          let none : c.called.result ≡ 0 = c.called.ensures ∙ ap (λ z. cost_called z c.loop-i.ended) v.in-Return.is in
-          let whole = end_is cap some cost os i c.loop-i.now c.added-now.result w c.called.result here g.now mark none (sum ∙ ap (λ z. min (c.loop-i.now + w * (cost z + c.called.result)) cap) v.in-Return.is) in
+          let none : c.cost_called.result ≡ 0 = c.cost_called.ensures ∙ ap (λ z. cost_called z c.loop-i.ended) v.in-Return.is in
+          let whole = end_is cap some cost os i c.loop-i.now c.added-now.result w c.cost_called.result here g.now mark none (sum ∙ ap (λ z. min (c.loop-i.now + w * (cost z + c.cost_called.result)) cap) v.in-Return.is) in
           record {
             now = v.now-is ∙ ap (min cap) (sym (ap (λ (z : Sums). z.now) (sums_next cap some cost os i Return here)));
             long = ap length v.ended-is ∙ length-set c.loop-i.ended c.loop-i.routine c.added-now.result ∙ g.long;
@@ -78,7 +78,7 @@ loop-i-preserved c =
             ended = subst (λ xs. EndedSums cap some cost os (i + 1) xs) (sym v.ended-is) (one_sum cap some cost os i c.loop-i.routine c.added-now.result c.loop-i.ended here g.number few whole g.ended);
           }
       | in_default v ↦ record {
-        now = v.now-is ∙ now_is cap some cost os i o c.loop-i.now c.added-now.result w c.called.result at (λ e. v.in_default.not-Return e) g.now mark k sum;
+        now = v.now-is ∙ now_is cap some cost os i o c.loop-i.now c.added-now.result w c.cost_called.result at (λ e. v.in_default.not-Return e) g.now mark k sum;
         long = ap length v.ended-is ∙ g.long;
         number = v.routine-is ∙ g.number ∙ sym (same_owner os i o at (λ e. v.in_default.not-Return e));
         ended = subst (λ xs. EndedSums cap some cost os (i + 1) xs) (sym v.ended-is) (no_sum cap some cost os i o c.loop-i.ended at (λ e. v.in_default.not-Return e) g.ended);

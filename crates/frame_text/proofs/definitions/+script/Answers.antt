@@ -3,7 +3,7 @@ use Rattle.std.proofs.lemmas.Result.{err_from_is_err_and}
 use Rattle.frame_tree.specs.Scopes.{scope_of}
 use Rattle.frame_tree.specs.declared.names.Scope.{the_lemmas}
 use Rattle.frame_text.specs.Tokens.{tokens}
-use Rattle.frame_text.specs.Reading.{Builds}
+use Rattle.frame_text.specs.Reading.{ReadsTokensInMemory}
 use Rattle.frame_text.specs.declared.faults.Cause.TheVariants as cause
 use Rattle.frame_text.proofs.Scripts.{breaks_with, full, no_definition, not_here, none_here}
 use Rattle.frame_text.proofs.Soundness.{body_low}
@@ -12,11 +12,11 @@ use Rattle.frame_text.proofs.definitions.+script.Goals as goal
 
 pub returns-in_default-clause-tree : goal.returns-in_default-clause-tree
 returns-in_default-clause-tree g t c =
-    subst (Builds g.B.Builder.refused g.B.Builder.tree c.main.result) (sym (no_definition c.args.left (scope_of c.args.scope.now) (tokens c.args.text.now) (none_here (tokens c.args.text.now) c.in_default.ensures.tokens))) c.main.ensures.tree
+    subst (ReadsTokensInMemory g.B.Builder.refused g.B.Builder.tree c.main.result) (sym (no_definition c.args.left (scope_of c.args.scope.now) (tokens c.args.text.now) (none_here (tokens c.args.text.now) c.in_default.ensures.tokens))) c.main.ensures.tree
 
 pub returns-then-not-is-clause-tree : goal.returns-then-not-is-clause-tree
 returns-then-not-is-clause-tree g t c =
-    subst (Builds g.B.Builder.refused g.B.Builder.tree c.main-then-not-is.result) (sym (no_definition c.args.left (scope_of c.args.scope.now) (tokens c.args.text.now) (not_here (tokens c.args.text.now) c.in-Some.word.now (tokens c.in-Some.rest.now) c.in-Some.ensures.tokens (sym c.is.ensures ∙ c.if-not-is.true)))) c.main-then-not-is.ensures.tree
+    subst (ReadsTokensInMemory g.B.Builder.refused g.B.Builder.tree c.main-then-not-is.result) (sym (no_definition c.args.left (scope_of c.args.scope.now) (tokens c.args.text.now) (not_here (tokens c.args.text.now) c.in-Some.word.now (tokens c.in-Some.rest.now) c.in-Some.ensures.tokens (sym c.is.ensures ∙ c.if-not-is.true)))) c.main-then-not-is.ensures.tree
 
 pub returns-then-left-eq0-clause-tree : goal.returns-then-left-eq0-clause-tree
 returns-then-left-eq0-clause-tree g t c =

@@ -3,7 +3,7 @@ use Rattle.std.specs.Prelude.{Ok, true}
 use Rattle.std.proofs.lemmas.Bool.Decides.{nat_tests}
 use Rattle.std.proofs.lemmas.Result.{IfOk-at_ok, IfErr-at_err}
 use Rattle.job_file.specs.Lines.{said}
-use Rattle.job_file.specs.Reading.{AreInRange}
+use Rattle.job_file.specs.Reading.{IsLineInRange}
 use Rattle.job_file.proofs.HeadLemmas.{spelled_left, nothing_left, script_taken, script_fits, line_taken, line_refused, fit_at_first}
 use Rattle.text_lines.specs.Words.{words}
 use Rattle.job_file.specs.HeadLines.{head_of}
@@ -30,7 +30,7 @@ loop-rest-preserved c =
     let i = c.loop-rest.invariant in
     let some : 1 ≤ length c.loop-rest.rest.now = grind (arith, nat_tests) in
     let is = c.in-Ok-Line.is ∙ ap Ok c.in-Ok-Line.field-0-is in
-    let t = line_taken _ c.loop-rest.rest.now _ _ i.0 _ _ i.1 i.2 c.split_line.ensures.line c.split_line.ensures.rest _ is c.take_line.ensures.taken (IfOk-at_ok (λ _. AreInRange (said c.split_line.result.0.now)) c.in-Ok-Line.is c.take_line.ensures.range) i.3 in
+    let t = line_taken _ c.loop-rest.rest.now _ _ i.0 _ _ i.1 i.2 c.split_line.ensures.line c.split_line.ensures.rest _ is c.take_line.ensures.taken (IfOk-at_ok (λ _. IsLineInRange (said c.split_line.result.0.now)) c.in-Ok-Line.is c.take_line.ensures.range) i.3 in
     let read = read_one c.args.text.now c.loop-rest.rest.now _ _ _ _ c.loop-rest.line i.4 some c.split_line.ensures.line c.split_line.ensures.rest _ is c.take_line.ensures.taken in
     let shorter : length c.split_line.result.1.now + 1 ≤ length c.loop-rest.rest.now = rw c.split_line.ensures.rest (behind_shorter c.loop-rest.rest.now some) in
     (t.0, t.1, t.2, t.3, read, omega (arith, shorter, i.5))

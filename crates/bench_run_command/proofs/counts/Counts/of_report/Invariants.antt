@@ -1,7 +1,7 @@
 use Rattle.std.proofs.Common.{◌≡◌, take}
-use Rattle.bench_run_command.specs.Counted.{messages_of}
+use Rattle.bench_run_command.specs.Counted.{message_count}
 use Rattle.bench_run_command.proofs.counts.Counts.of_report.Given as goal
 
 -- the messages of the channels so far
 abbrev pub invariant-loop-channel : goal.invariant-loop-channel
-invariant-loop-channel l = l.messages ≡ messages_of (take l.channel-index l.channel-items)
+invariant-loop-channel l = l.messages ≡ message_count (take l.channel-index l.channel-items)

@@ -7,7 +7,7 @@ use Rattle.std.proofs.lemmas.List.FromFn.{map-range_with_len_more}
 use Rattle.mil_line.specs.Plans.{Planned}
 use Rattle.job_file.specs.HeadLines.{Head}
 use Rattle.job_file.specs.Drafts.{shown}
-use Rattle.job_file.specs.Spans.{count_of, number_at, numbers_of}
+use Rattle.job_file.specs.Spans.{span_count, span_number, numbers_of}
 use Rattle.job_file.proofs.SpanLemmas.{may_plan_all_is}
 use Rattle.job_file.proofs.drafts.Draft.plan_faults.Goals as goal
 
@@ -20,7 +20,7 @@ pub loop-before-preserved : goal.loop-before-preserved
 loop-before-preserved c =
     let k = c.loop-before.before in
     let plan = c.args.self.now.plan in
-    let at : ℕ → Planned = λ i. (number_at c.args.span i, c.args.fault) in
+    let at : ℕ → Planned = λ i. (span_number c.args.span i, c.args.fault) in
     let was : c.loop-before.self.plan ≡ plan ++ map at (range_with_len 0 k) = ap (λ (h : Head). h.plan) c.loop-before.invariant in
     let more : c.add.new.self ≡ plan ++ map at (range_with_len 0 (k + 1)) =
     c.in-Ok.ensures.ok
@@ -37,6 +37,6 @@ returns-clause-takes c =
       may_plan_all_is plan c.args.fault (numbers_of c.args.span) ∙ ap is_none c.in_ok-may_plan_all.ensures.fine,
       c.loop-before.invariant
           ∙ ap (λ (ps : List Planned). record (shown c.args.self.now) { plan = plan ++ ps })
-          (ap (λ n. map (λ i. at (number_at c.args.span i)) (range_with_len 0 n)) (all ∙ c.count-before-end.ensures.value)
-          ∙ sym (map-map at (number_at c.args.span) (range_with_len 0 (count_of c.args.span)))),
+          (ap (λ n. map (λ i. at (span_number c.args.span i)) (range_with_len 0 n)) (all ∙ c.count-before-end.ensures.value)
+          ∙ sym (map-map at (span_number c.args.span) (range_with_len 0 (span_count c.args.span)))),
     )

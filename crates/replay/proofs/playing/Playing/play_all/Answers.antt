@@ -1,7 +1,7 @@
 use Rattle.std.proofs.Common.{◌≡◌, ℕ, ◌+◌, ◌<◌, length, refl, subst, sym, ap, ◌∙◌, arith}
 use Rattle.ch11_reader.specs.Contents.{reading}
 use Rattle.replay.specs.declared.checkpoints.Due.{Due}
-use Rattle.replay.specs.Differences.{IsFirstFault}
+use Rattle.replay.specs.Differences.{IsFirstNumberAtFault}
 use Rattle.replay.specs.Keeping.{AreSpaced}
 use Rattle.replay.proofs.Keeping.{first_due}
 use Rattle.replay.proofs.PlayingOn.{stops_at, ends_at, accords_at}
@@ -55,7 +55,7 @@ pub returns-then-not-is_over-clause-fault : goal.returns-then-not-is_over-clause
 returns-then-not-is_over-clause-fault c =
     let all : c.loop-played.played ≡ c.args.part.now.made = omega (arith, c.loop-played-test.false, c.loop-played.auto.played-end, c.made-played-end.ensures.value) in (
       sym c.channel-channel.ensures.value,
-      subst (λ (n : ℕ). IsFirstFault c.args.index.now c.args.job.now c.args.part.now (n + 1)) (sym c.made-number.ensures.value)
+      subst (λ (n : ℕ). IsFirstNumberAtFault c.args.index.now c.args.job.now c.args.part.now (n + 1)) (sym c.made-number.ensures.value)
           (ends_at c.args.index.now c.args.job.now c.args.part.now c.loop-played.played c.loop-played.self.standing.machine c.loop-played.heard c.loop-played.self.marks.items c.loop-played.invariant.playing all
           c.if-not-is_over.ensures),
     )

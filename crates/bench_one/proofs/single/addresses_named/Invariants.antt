@@ -1,6 +1,6 @@
 use Rattle.std.proofs.Common.{◌≡◌, map, take}
 use Rattle.mil_message.specs.declared.forms.Due.{Due}
-use Rattle.bench_one.proofs.single.named.Given as goal
+use Rattle.bench_one.proofs.single.addresses_named.Given as goal
 
 -- the addresses of the replies so far
 abbrev pub invariant-loop-due : goal.invariant-loop-due
