@@ -53,8 +53,8 @@ _bench() {
         one) options="--channel --version $options" ;;
         assemble) options="--force $options" ;;
         run)
-            options="--live --pace --show --version --limit --queue --hold --drop --force --prologue --judge --out --report $options"
-            options="--complete --setup --time --time-channel $options"
+            options="--prologue --judge --complete --setup --time --time-channel --out --report --force $options"
+            options="--live --pace --show --version --limit --queue --hold --drop $options"
             ;;
         check) options="--summary --decode $options" ;;
         dump) options="--skip --time --decode --by-time --channel --line --only --errors --from --to $options" ;;

@@ -1,5 +1,6 @@
 /* Measures the three codecs in one run: the best of many short rounds, taken in turn.
- * With a row (0 to 3), a codec (0 to 2) and a number, only so many rounds of these are run, for whoever counts instructions. */
+ * With a row (0 to 3), a codec (0 to 2) and a number, only so many rounds of these are run, for whoever counts
+ * instructions. */
 #include <stdio.h>
 #include <stdlib.h>
 #include <time.h>

@@ -1,6 +1,7 @@
 // The same in plain Rust: buses on threads of their own, and one recording of them all, timed alike. Its bus is that of
 // the twin of benches/exchange. No code of the repository is in it.
-//   twin CHANNELS TIMES ROUNDS open|paced memory|FILE      the nanoseconds of a run, and its messages, refused ones and packets
+//   twin CHANNELS TIMES ROUNDS open|paced memory|FILE      the nanoseconds of a run, and its messages, refused ones and
+//                                                          packets
 //   twin compare FILE FILE                                 whether two recordings give the same for each channel
 //   twin count FILE                                        how many messages a recording has
 #[path = "../../exchange/twin/buses.rs"]

@@ -1,8 +1,8 @@
 // The same in plain Rust: a recording is played again beside its file and kept by checkpoints, and moved about in. Its
 // buses are those of the twin of benches/exchange, its controllers those of the twin of benches/run. No code of the
 // repository is in it.
-//   twin CHANNELS TIMES ROUNDS CHANCE STEPS FILE      what the file's messages are, as the twin of benches/run sends them; how many moves go
-//   to places by chance, and how many steps forward from the start and back
+//   twin CHANNELS TIMES ROUNDS CHANCE STEPS FILE      what the file's messages are, as the twin of benches/run sends
+//   them; how many moves go to places by chance, and how many steps forward from the start and back
 // It prints how many messages there are, the nanoseconds of opening, of the moves by chance, of the steps forward and
 // of those back, and a sum over all places.
 #[path = "../../exchange/twin/buses.rs"]
