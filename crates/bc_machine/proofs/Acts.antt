@@ -6,7 +6,7 @@ use Rattle.mil_line.specs.declared.faults.Fault.{Fault}
 use Rattle.mil_bus.specs.declared.talks.Sent.{Sent}
 use Rattle.mil_bus.specs.declared.talks.Talk.{Talk}
 use Rattle.mil_bus.specs.Times.{end_of, end_from, lasting}
-use Rattle.mil_bus.specs.Exchange.{BusState, exchanged, talk_of, clock_of, next_start, now_of, talk_start}
+use Rattle.mil_bus.specs.Exchange.{BusState, exchanged, talk_of, clock_of, next_start, now_of}
 use Rattle.mil_bus.specs.Actions.{acted}
 use Rattle.bc_machine.specs.declared.placed.Placed.{Placed}
 use Rattle.bc_machine.specs.Controller.{all_acted, placed_at, ready}
@@ -40,10 +40,6 @@ ready_start placed number b = acted_start (placed_at number placed) b
 pub exchanged_talks : (b : BusState) (line : Line) (message : Form) (gap : ℕ) (faults : List Fault) → (exchanged b line message gap faults).talks ≡ talk_of b line message gap faults ∷ b.talks
 unfolding exchanged
 exchanged_talks b line message gap faults = refl
-
-pub exchanged_start : (b : BusState) (line : Line) (message : Form) (gap : ℕ) (faults : List Fault) → (exchanged b line message gap faults).start ≡ b.start
-unfolding exchanged
-exchanged_start b line message gap faults = refl
 
 -- a talk starts where the one before has ended, or later, and ends where it starts, or later
 starts_after : (start : ℕ) (talks : List Talk) (gap : ℕ) → clock_of start talks ≤ next_start start talks gap

@@ -25,7 +25,7 @@ framed m = with_registers m (record m.at { frames = clock_in m ∷ m.at.frames }
 abbrev pub flagged : MachineState → Bool → MachineState
 flagged m flag = with_registers m (record m.at { flag = flag })
 
--- the line of a message, where this was the last one: its own, or the other one than the last
+-- the line of a message, where this was the last one: its own, or the one other than the last
 abbrev pub line_of : Bool → Line → Line → Line
 line_of false last own = own
 line_of true last own = other_line last

@@ -222,7 +222,7 @@ impl Parts {
         }
     }
 
-    /// Sends the message of an index, on its own line or on the other line than the last one.
+    /// Sends the message of an index, on its own line or on the line other than the last one's.
     fn send(&mut self, index: u16, alternates: bool) -> Stepped
         requires taken { self.old.taken < 2 ^ 31 }
         requires place { self.old.at.place < 4096 }

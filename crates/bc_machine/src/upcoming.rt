@@ -52,7 +52,7 @@ fn prepared(
 }
 
 impl Parts {
-    /// The message of an index as it is about to be sent, on its own line or on the other line than the last one.
+    /// The message of an index as it is about to be sent, on its own line or on the line other than the last one's.
     fn about(&self, index: u16, alternates: bool) -> Result<Upcoming, AllocError>
         requires message { index < length self.now.code.messages }
         requires number { self.now.point.number < 2 ^ 31 }

@@ -1,7 +1,5 @@
 -- How long frames take at worst, level by level, where each count is cut at 100 s.
-use Rattle.std.proofs.Common.{◌≡◌, ℕ, zero, suc, ◌+◌, ◌*◌, ◌≤◌, ◌<◌, min, max, Bool, true, false, List, [], ◌∷◌, ◌++◌, drop, get_or, length, refl, ap, ap₂, sym, ◌∙◌, arith, rules, Box, add-one, if◌then◌else◌, append_assoc, append-nil}
-use Rattle.std.proofs.lemmas.List.{drop_all}
-use Rattle.std.proofs.Math.Seq.{drop-cons}
+use Rattle.std.proofs.Common.{◌≡◌, ℕ, zero, suc, ◌+◌, ◌*◌, ◌≤◌, max, Bool, true, false, List, [], ◌∷◌, ◌++◌, length, refl, ap, ap₂, sym, ◌∙◌, arith, rules, Box, if◌then◌else◌, append_assoc, append-nil}
 use Rattle.mil_message.specs.declared.forms.Form.{Form}
 use Rattle.mil_message.specs.declared.forms.Form.TheVariants.{ToTerminal, FromTerminal, Between, Mode, ModeFrom, ModeTo, ToAll, BetweenAll, ModeAll, ModeAllTo}
 use Rattle.mil_message.specs.Forms.{replies_due}
@@ -9,9 +7,8 @@ use Rattle.frame_tree.specs.declared.Frame.{Frame, Timed as timed_frame, the_lem
 use Rattle.frame_tree.specs.Tree.{Tree, tree_of, send, retry, gap, repeat, choose, until, timed, nothing, chained, call, define}
 use Rattle.frame_tree.specs.Names.{Scope, meant_by, same_bytes}
 use Rattle.frame_tree.proofs.Capped.{Alike, alike}
-use Rattle.bench_check.specs.Fitting.{set_gap, ticks_in, most, frames_in, tight_at, tight_from}
+use Rattle.bench_check.specs.Fitting.{set_gap, ticks_in, most, frames_in}
 use Rattle.bench_check.specs.declared.fitting.Timed.{Timed}
-use Rattle.bench_check.specs.declared.fitting.Tight.{Tight}
 
 -- at most two replies are due
 pub few_replies : (form : Form) → length (replies_due form) ≤ 2
@@ -105,18 +102,6 @@ frames_done g ds t so_far all e i = sym (append-nil so_far) ∙ ap (λ u. so_far
 
 pub tree_timed : {A : Type 0} (h : ℕ) (b : Box (Frame A) A) → tree_of (timed_frame h b) ≡ timed h (tree_of b.value)
 tree_timed h b = search (rules, the_lemmas)
-
-pub tight_more : (fs : List Timed) (i : ℕ) (x : Timed) (so_far new all : List Tight) → i < length fs → x ≡ get_or fs i x → new ≡ so_far ++ tight_at (i + 1) x
-    → so_far ++ tight_from (i + 1) (drop i fs) ≡ all → new ++ tight_from (i + 1 + 1) (drop (i + 1) fs) ≡ all
-tight_more fs i x so_far new all lt is added e =
-    let rest = tight_from (i + 1 + 1) (drop (i + 1) fs) in
-    let first : tight_from (i + 1) (drop i fs) ≡ tight_at (i + 1) x ++ rest =
-    ap (tight_from (i + 1)) (drop-cons fs i x lt)
-    ∙ ap₂ (λ y j. tight_at (i + 1) y ++ tight_from (i + 1 + 1) (drop j fs)) (sym is) (sym (add-one i)) in
-    ap (λ ts. ts ++ rest) added ∙ append_assoc so_far (tight_at (i + 1) x) rest ∙ ap (λ ts. so_far ++ ts) (sym first) ∙ e
-
-pub tight_done : (fs : List Timed) (i : ℕ) (so_far all : List Tight) → length fs ≤ i → so_far ++ tight_from (i + 1) (drop i fs) ≡ all → so_far ≡ all
-tight_done fs i so_far all le e = sym (append-nil so_far) ∙ ap (λ gs. so_far ++ tight_from (i + 1) gs) (sym (drop_all i fs le)) ∙ e
 
 -- the frames of two parts, one behind the other
 pub frames_joined : (g : ℕ) (ds : Scope ℕ) (t : Tree) (one two so_far mid new : List Timed) → frames_in g ds t ≡ one ++ two → mid ≡ so_far ++ one → new ≡ mid ++ two → new ≡ so_far ++ frames_in g ds t

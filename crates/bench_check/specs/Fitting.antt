@@ -1,7 +1,7 @@
 -- How long a script's frames may take at worst, and which of those with a period may not fit into it (own choice).
 -- Times are ticks of 0.1 µs: a word takes 200 (MIL-STD-1553B 4.3.3.4), and a gap is counted as on the bus, 20 where
 -- there is no pause.
-use Rattle.std.specs.Prelude.{◌≡◌, ℕ, ◌+◌, ◌-◌, ◌*◌, min, max, nat_lt, if◌then◌else◌, List, [], ◌∷◌, ◌++◌, length}
+use Rattle.std.specs.Prelude.{ℕ, ◌+◌, ◌-◌, ◌*◌, min, max, nat_lt, if◌then◌else◌, List, [], ◌∷◌, ◌++◌, length}
 use Rattle.mil_word.specs.Timing.{word_time, contiguous_gap, longer_gap, latest_response}
 use Rattle.mil_message.specs.declared.forms.Due.{Due}
 use Rattle.mil_message.specs.declared.forms.Form.{Form}
@@ -62,10 +62,6 @@ ticks_in g ds nothing = 0
 ticks_in g ds (chained a b) = ticks_in g ds a + ticks_in g ds b
 ticks_in g ds (call n) = meant_by 0 ds n
 ticks_in g ds (define n b r) = ticks_in g ((n, ticks_in g ds b) ∷ ds) r
-
--- how long a script's tree takes at worst, in which nothing stands for a name
-abbrev pub worst_ticks : Tree → ℕ
-worst_ticks t = ticks_in (longest_gap t) [] t
 
 -- a number of ticks up to 100 s, which is more than any period; 100 s where it is more
 abbrev pub most : ℕ → ℕ

@@ -1,9 +1,8 @@
 -- The text of a value change dump that was written so far.
-use Rattle.std.proofs.Common.{◌≡◌, inl, inr, ℕ, zero, suc, ◌+◌, ◌/◌, ◌%◌, ◌<◌, ◌≤◌, ◌==◌, nat_lt, Bool, true, false, if◌then◌else◌, List, [], ◌∷◌, ◌++◌, length, drop, set, get_or, Option, None, refl, sym, ap, subst, ◌∙◌, append_assoc, add-one, drop-cons, arith}
+use Rattle.std.proofs.Common.{◌≡◌, ℕ, zero, suc, ◌+◌, ◌/◌, ◌%◌, ◌<◌, ◌≤◌, ◌==◌, nat_lt, Bool, true, false, if◌then◌else◌, List, [], ◌∷◌, ◌++◌, length, drop, get_or, Option, None, refl, sym, ap, subst, ◌∙◌, append_assoc, add-one, drop-cons, arith}
 use Rattle.std.specs.Io.KnownBytes.{Appends}
 use Rattle.std.specs.Prelude.{◌||◌, codes}
-use Rattle.std.proofs.lemmas.Bool.{cases_eq, eq-eqb, ne_eqb}
-use Rattle.std.proofs.lemmas.List.{append-nil, drop_all, get_or-set_same, get_or-set_other}
+use Rattle.std.proofs.lemmas.List.{append-nil, drop_all}
 use Rattle.std.proofs.lemmas.List.Folds.{list_any-append}
 use Rattle.bench_dump.proofs.Steps.{appends_both, appends_nothing}
 use Rattle.bench_export.specs.declared.changes.Change.{Change}
@@ -21,17 +20,6 @@ or_true false = refl
 has_one_more : (k : ℕ) (cs : List Change) (c : Change) → has_channel k (cs ++ c ∷ []) ≡ (has_channel k cs || (c.channel == k))
 has_one_more k cs c =
     list_any-append (λ (x : Change). x.channel == k) cs (c ∷ []) ∙ ap (λ (b : Bool). has_channel k cs || b) (or_false (c.channel == k))
-
--- one more change is marked
-pub mark_more : (cs : List Change) (c : Change) (marks : List Bool) → length marks ≡ 65536 → ArePresent marks cs → ArePresent (set marks c.channel true) (cs ++ c ∷ [])
-mark_more cs c marks long present k below = elim (cases_eq c.channel k) [
-  | inl e ↦
-      ap (λ (j : ℕ). get_or (set marks c.channel true) j false) (sym e) ∙ get_or-set_same marks c.channel true false (omega (arith, e, long))
-      ∙ sym (has_one_more k cs c ∙ rw (eq-eqb c.channel k e) (or_true (has_channel k cs)))
-  | inr n ↦
-      get_or-set_other marks c.channel k true false (λ e. n (sym e)) ∙ present k below
-      ∙ sym (has_one_more k cs c ∙ rw (ne_eqb c.channel k n) (or_false (has_channel k cs)))
-]
 
 regroup : (t a b c d e : List ℕ) → ((((t ++ a) ++ b) ++ c) ++ d) ++ e ≡ t ++ (a ++ (b ++ (c ++ (d ++ e))))
 regroup t a b c d e = simp append_assoc

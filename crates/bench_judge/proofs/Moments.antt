@@ -1,16 +1,12 @@
 -- One more message for a tally.
-use Rattle.std.proofs.Common.{◌≡◌, ℕ, suc, ◌+◌, ◌≤◌, List, [], ◌∷◌, ◌++◌, length, reverse, refl, ap, ◌∙◌, arith}
-use Rattle.std.specs.Prelude.{Bool, true, false, not, ◌&&◌, ◌==◌, if◌then◌else◌, Option, Some, None, map}
+use Rattle.std.proofs.Common.{◌≡◌, suc, ◌+◌, ◌≤◌, List, [], ◌∷◌, ◌++◌, length, reverse, refl, ap, ◌∙◌, arith}
+use Rattle.std.specs.Prelude.{Bool, true, false, not, map}
 use Rattle.std.specs.List.{filter}
-use Rattle.std.proofs.lemmas.List.{reverse-append, length-reverse, length-map}
-use Rattle.ch11_f1.specs.BodyReading.{Message}
-use Rattle.judge_rules.specs.declared.rules.Bounds.{Bounds}
-use Rattle.judge_rules.specs.declared.rules.Check.{Check}
-use Rattle.judge_rules.specs.declared.rules.Check.TheVariants.{Sound, Failed, Clean, Status, Data, Response, Period, Count}
+use Rattle.std.proofs.lemmas.List.{reverse-append}
 use Rattle.judge_rules.specs.declared.rules.Rule.{Rule}
 use Rattle.bench_judge.specs.declared.verdicts.Miss.{Miss}
 use Rattle.bench_judge.specs.Selection.{selects}
-use Rattle.bench_judge.specs.Checks.{meets, follows_in, period_of}
+use Rattle.bench_judge.specs.Checks.{meets}
 use Rattle.bench_judge.specs.Verdicts.{Heard, Moment, moments, latest_stamp, is_selected, is_miss, selected, missed, misses, miss_of}
 
 filter_skip : {X : Type 0} (p : X → Bool) (x : X) (xs : List X) → p x ≡ false → filter p (x ∷ xs) ≡ filter p xs
@@ -34,14 +30,6 @@ told_of xs = reverse (map miss_of xs)
 
 pub misses-skip : (rule : Rule) (h : Heard) (history : List Heard) → selects rule h.0 h.1 ≡ false → misses rule (h ∷ history) ≡ misses rule history
 misses-skip rule h history is = ap told_of (missed-skip rule h history is)
-
-if_not : {X : Type 0} (a b : Bool) (x y : X) → b ≡ false → (if a && b then x else y) ≡ y
-if_not true true x y is = cc
-if_not true false x y is = refl
-if_not false b x y is = refl
-
-pub latest-skip : (rule : Rule) (channel : ℕ) (h : Heard) (history : List Heard) → selects rule h.0 h.1 ≡ false → latest_stamp rule channel (h ∷ history) ≡ latest_stamp rule channel history
-latest-skip rule channel h history is = if_not (h.0 == channel) (selects rule h.0 h.1) (Some h.1.stamp) (latest_stamp rule channel history) is
 
 -- one that is
 pub selected-take : (rule : Rule) (h : Heard) (history : List Heard) → selects rule h.0 h.1 ≡ true → selected rule (h ∷ history) ≡ moment h history ∷ selected rule history
@@ -95,36 +83,3 @@ misses-more rule h history is missing =
 -- how many there are: fewer than messages
 pub few-missed : (rule : Rule) (history : List Heard) → length (missed rule history) ≤ length history
 few-missed rule history = omega (arith, length-filter-le (is_miss rule) (selected rule history), few-selected rule history)
-
--- as many as the lines that tell of them
-pub many-misses : (rule : Rule) (history : List Heard) → length (misses rule history) ≡ length (missed rule history)
-many-misses rule history = omega (arith, length-reverse (map miss_of (missed rule history)), length-map (missed rule history) miss_of)
-
-if_both : {X : Type 0} (a b : Bool) (x y : X) → b ≡ true → (if a && b then x else y) ≡ (if a then x else y)
-if_both true true x y is = refl
-if_both true false x y is = cc
-if_both false b x y is = refl
-
-pub latest-take : (rule : Rule) (channel : ℕ) (h : Heard) (history : List Heard) → selects rule h.0 h.1 ≡ true → latest_stamp rule channel (h ∷ history) ≡ (if h.0 == channel then Some h.1.stamp else latest_stamp rule channel history)
-latest-take rule channel h history is = if_both (h.0 == channel) (selects rule h.0 h.1) (Some h.1.stamp) (latest_stamp rule channel history) is
-
--- the stamp before counts for a period alone
-pub meets-none : (check : Check) (before other : Option ℕ) (m : Message) → period_of check ≡ None → meets check before m ≡ meets check other m
-meets-none Sound before other m is = refl
-meets-none Failed before other m is = refl
-meets-none Clean before other m is = refl
-meets-none (Status d) before other m is = refl
-meets-none (Data ds) before other m is = refl
-meets-none (Response b) before other m is = refl
-meets-none (Period b) before other m is = cc
-meets-none (Count b) before other m is = refl
-
-pub meets-period : (check : Check) (b : Bounds) (before : Option ℕ) (m : Message) → period_of check ≡ Some b → meets check before m ≡ follows_in b before m.stamp
-meets-period Sound b before m is = cc
-meets-period Failed b before m is = cc
-meets-period Clean b before m is = cc
-meets-period (Status d) b before m is = cc
-meets-period (Data ds) b before m is = cc
-meets-period (Response x) b before m is = cc
-meets-period (Period x) b before m is = let same : x ≡ b = cc in ap (λ (y : Bounds). follows_in y before m.stamp) same
-meets-period (Count x) b before m is = cc

@@ -4,7 +4,6 @@ use Rattle.std.specs.Prelude.{Bool, true, false, Option, Some, slice_get}
 use Rattle.std.specs.Io.KnownBytes.{Appends}
 use Rattle.std.specs.List.{flat_map}
 use Rattle.std.proofs.lemmas.Grind.{flat_map-append}
-use Rattle.std.proofs.lemmas.List.{nil_from_length}
 use Rattle.ch11_f1.specs.BodyReading.{Message}
 use Rattle.bench_dump.proofs.Steps.{appends_both, appends_nothing}
 use Rattle.judge_rules.specs.declared.rules.Rule.{Rule}
@@ -13,10 +12,10 @@ use Rattle.bench_judge.specs.declared.verdicts.Miss.{Miss}
 use Rattle.bench_judge.specs.declared.verdicts.RuleVerdict.{RuleVerdict}
 use Rattle.bench_judge.specs.Selection.{selects}
 use Rattle.bench_judge.specs.Checks.{meets}
-use Rattle.bench_judge.specs.Verdicts.{Heard, latest_stamp, missed, misses, miss_of, AreVerdicts, not_held, rules_not_held, holds}
+use Rattle.bench_judge.specs.Verdicts.{Heard, latest_stamp, misses, miss_of, AreVerdicts, not_held, rules_not_held, holds}
 use Rattle.bench_judge.specs.Lines.{miss_line, verdict_lines, rules_lines, last_line, verdict_text}
 use Rattle.bench_judge.specs.Tallies.{IsTally, IsWriting, misses_next, miss_lines}
-use Rattle.bench_judge.proofs.Moments.{moment, misses-skip, misses-met, misses-more, many-misses}
+use Rattle.bench_judge.proofs.Moments.{moment, misses-skip, misses-met, misses-more}
 use Rattle.bench_judge.proofs.Tallying.{next-skip, next-met, next-missed}
 use Rattle.bench_judge.proofs.Whole.{take_more}
 
@@ -64,13 +63,6 @@ writing-more rule got mid gets h history tally next miss w grows is told line = 
 pub told : (number channel : ℕ) (m : Message) (history : List Heard) → number ≡ length history + 1
     → (let miss : Miss = record { number = number; channel = channel; stamp = m.stamp } in miss) ≡ miss_of (moment (channel, m) history)
 told number channel m history is = rw is refl
-
--- no message misses the rule
-pub nothing-missed : (rule : Rule) (history : List Heard) → 0 ≡ length (missed rule history) → miss_lines rule history ≡ []
-nothing-missed rule history none = ap (flat_map (miss_line rule.line)) (nil_from_length (misses rule history) (omega (arith, many-misses rule history, none)))
-
-pub nothing-written : (rule : Rule) (got : Option (List ℕ)) (history : List Heard) → 0 ≡ length (missed rule history) → Appends got got (miss_lines rule history)
-nothing-written rule got history none = subst (Appends got got) (sym (nothing-missed rule history none)) (appends_nothing got)
 
 -- one rule more
 lines-append : (xs ys : List Rule) (history : List Heard) → rules_lines (xs ++ ys) history ≡ rules_lines xs history ++ rules_lines ys history

@@ -1,4 +1,4 @@
--- What a line of a report says (own choice): its words, parted by spaces alone.
+-- What a line of a report says (own choice): its words, separated by spaces alone.
 use Rattle.std.specs.Prelude.{ℕ, ◌≤◌, ◌&&◌, nat_le, if◌then◌else◌, List, [], ◌∷◌, Option, Some, None, Ok, Err, Result}
 use Rattle.std.specs.Prelude.{codes, option_map}
 use Rattle.std.specs.Str.{bytes_eq}

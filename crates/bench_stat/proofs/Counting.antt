@@ -2,13 +2,10 @@
 use Rattle.std.proofs.Common.{◌≡◌, ℕ, ◌+◌, ◌==◌, Bool, true, false, if◌then◌else◌, List, ◌∷◌, length, sym, ap, ◌∙◌, arith}
 use Rattle.std.specs.List.{sum_by, count_by}
 use Rattle.std.proofs.lemmas.List.Sums.{sum_by-cons}
-use Rattle.ch11_f1.specs.BodyReading.{Message}
-use Rattle.ch11_layout.specs.Layouts.{size_of}
 use Rattle.bench_stat.specs.declared.calls.Call.{Call}
 use Rattle.bench_stat.specs.declared.terminals.TerminalFigures.{TerminalFigures}
-use Rattle.bench_stat.specs.Figures.{capped, one_if, is_receive_call, is_transmit_call, is_mode_call, responses, figures_of, least, greatest, traffic_of, errors_of, duration, is_silent, is_miscounted, is_of_other_sync, is_unsound, is_otherwise_failed}
-use Rattle.bench_stat.specs.Sendings.{is_failed}
-use Rattle.bench_stat.specs.Steps.{with_kind, with_response, with_call, with_traffic, with_errors}
+use Rattle.bench_stat.specs.Figures.{capped, one_if, is_receive_call, is_transmit_call, is_mode_call, responses, figures_of, least, greatest}
+use Rattle.bench_stat.specs.Steps.{with_kind, with_response, with_call}
 
 -- what was counted so far, and some more
 pub capped_more : (x y : ℕ) → capped (capped x + y) ≡ capped (y + x)
@@ -57,20 +54,3 @@ with_call_by c cs rs false = ap (with_response c.response) (with_kind_more c cs 
 
 pub with_call_more : (c : Call) (cs : List Call) → with_call c (figures_of cs) ≡ figures_of (c ∷ cs)
 with_call_more c cs = with_call_by c cs (responses cs) (c.response == 0)
-
-pub with_traffic_more : (m : Message) (history : List Message) → with_traffic m (traffic_of history) ≡ traffic_of (m ∷ history)
-with_traffic_more m history =
-    let a = one_more m history in
-    let b = summed_more size_of m history in
-    let d = summed_more duration m history in
-    cc
-
-pub with_errors_more : (m : Message) (history : List Message) → with_errors m (errors_of history) ≡ errors_of (m ∷ history)
-with_errors_more m history =
-    let a = counted_more is_failed m history in
-    let b = counted_more is_silent m history in
-    let d = counted_more is_miscounted m history in
-    let e = counted_more is_of_other_sync m history in
-    let f = counted_more is_unsound m history in
-    let g = counted_more is_otherwise_failed m history in
-    cc

@@ -18,7 +18,7 @@ pub struct Errors {
     pub response: u64,
     /// Another number of words than due: bit 5.
     pub word_count: u64,
-    /// A word with the other sync than its place has: bit 4.
+    /// A word with the wrong sync for its place: bit 4.
     pub sync: u64,
     /// A word that is not sound: bit 3.
     pub unsound: u64,

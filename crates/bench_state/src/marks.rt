@@ -10,7 +10,7 @@ use mil_host::Action;
 use std::io;
 use std::io::Write;
 
-/// What is on of that which the host of a terminal sets on or off, its lines excepted.
+/// What is on of that which the host of a terminal sets on or off, except its lines.
 #[derive(Clone, Copy, Debug, PartialEq, Eq)]
 pub(crate) struct Marks {
     busy: bool,

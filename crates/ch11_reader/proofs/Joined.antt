@@ -163,9 +163,6 @@ pub record IsFirst (most offset : ℕ) (bytes : List ℕ) (ps : List Found) : Ty
   pub behind : packets_from most (offset + header.packet_length) (drop header.packet_length bytes) ≡ Ok others
   pub all : ps ≡ found_at offset header bytes ∷ others
 
-pub ok_same : {A E : Type 0} (x y : A) (r : Result A E) → r ≡ Ok x → r ≡ Ok y → x ≡ y
-ok_same x y r a b = cc
-
 -- the value of an answer
 rest_found : (most offset : ℕ) (bytes : List ℕ) (h : Header) (ps : List Found) (read : Result (List Found) Refusal)
     → packets_from most (offset + h.packet_length) (drop h.packet_length bytes) ≡ read → packet_at bytes ≡ Ok h

@@ -138,10 +138,6 @@ nothing_entered file latest none = record {
 pub starts : (file : List ℕ) (latest : List (Option ℕ)) → latest ≡ replicate 65536 None → Building file file [] 0 latest
 starts file latest none = record { earlier = []; going = begins file; entered = nothing_entered file latest none }
 
--- a packet and its entry more
-pub entry_behind : List Found → List ℕ → List ℕ → Header → Packet
-entry_behind earlier file rest h = listed_behind earlier (next_found file rest h)
-
 abbrev pub noted : List (Option ℕ) → Header → List (Option ℕ)
 noted latest h = set latest h.channel (Some h.sequence)
 

@@ -1,9 +1,9 @@
 -- Walks over messages, one by one and by jumps.
-use Rattle.std.proofs.Common.{◌≡◌, ◌≢◌, ◌⊎◌, inl, inr, ℕ, zero, suc, ◌-◌, ◌+◌, ◌*◌, ◌/◌, ◌%◌, ◌≤◌, ◌<◌, true, false, eqb, ltb, List, ◌∷◌, ◌++◌, length, take, drop, set, replicate, get_or, Option, None, Some, Result, Ok, Err, refl, sym, ap, subst, ◌∙◌, arith}
+use Rattle.std.proofs.Common.{◌≡◌, ◌≢◌, ◌⊎◌, inl, inr, ℕ, zero, suc, ◌-◌, ◌+◌, ◌*◌, ◌/◌, ◌%◌, ◌≤◌, ◌<◌, true, false, eqb, ltb, List, ◌∷◌, ◌++◌, length, take, drop, set, get_or, Option, None, Some, Result, Ok, Err, refl, sym, ap, subst, ◌∙◌, arith}
 use Rattle.std.specs.Prelude.{slice_get}
 use Rattle.std.specs.Option.{unwrap_or}
 use Rattle.std.proofs.lemmas.Bool.{cases_eq, le-ltb, lt-ltb}
-use Rattle.std.proofs.lemmas.List.{drop-drop, drop-take, take-append-drop, length-drop, length-take-le, length-set, length-replicate, get_or-replicate, get_or-set_same, get_or-set_other}
+use Rattle.std.proofs.lemmas.List.{drop-drop, drop-take, take-append-drop, length-drop, length-take-le, length-set, get_or-set_same, get_or-set_other}
 use Rattle.std.proofs.lemmas.Option.{slice_get_within, slice_get-get_or, get_or_from_slice_get, unwrap_or-slice_get}
 use Rattle.byteorder.specs.Endian.{little_number}
 use Rattle.ch11_f1.specs.declared.error.BodyError.{BodyError}
@@ -14,7 +14,7 @@ use Rattle.ch11_header.specs.HeaderReading.{header_in, body_start}
 use Rattle.ch11_reader.specs.declared.error.Fault.TheVariants as faults
 use Rattle.ch11_reader.specs.Recording.{holds_messages, body_of, packet_at}
 use Rattle.ch11_reader.specs.declared.jumps.Jump.{Jump}
-use Rattle.ch11_reader.specs.Walking.{between, body_verdict, no_jump, Leads, IsJump, AreJumps, IsRest}
+use Rattle.ch11_reader.specs.Walking.{between, body_verdict, no_jump, Leads, IsJump, AreJumps}
 use Rattle.ch11_reader.proofs.Joined.{number_front}
 
 -- ---- ways one behind the other
@@ -118,12 +118,6 @@ fault_of_all count left bytes rest e so_far some is = err_of (messages_at count 
 
 -- ---- tables of jumps
 
-pub all_stay : (file : List ℕ) (first n : ℕ) → AreJumps file first (replicate n no_jump)
-all_stay file first n i jump there =
-    let low : i < n = omega (arith, slice_get_within (replicate n no_jump) i jump there, length-replicate {A = Jump} n no_jump) in
-    let is : no_jump ≡ jump = sym (get_or-replicate n i no_jump no_jump low) ∙ get_or_from_slice_get (replicate n no_jump) i jump no_jump there in
-    subst (IsJump file (first + 2 * i)) is (stays file (first + 2 * i))
-
 pub jump_kept : (file : List ℕ) (first i : ℕ) (jumps : List Jump) (jump : Jump) → i < length jumps → IsJump file (first + 2 * i) jump → AreJumps file first jumps → AreJumps file first (set jumps i jump)
 jump_kept file first i jumps jump low is all k other there = go (cases_eq k i)
   where
@@ -157,16 +151,6 @@ three_jumps file place next first second order one two three =
     let goal : next + first.bytes + second.bytes ≡ place + (next - place + first.bytes + second.bytes) = omega (arith, order) in
     subst (Leads file place (1 + first.messages + second.messages)) goal all
 
-pub one_jump : (file : List ℕ) (place next : ℕ) → place ≤ next → Leads file place 1 next → Leads file place 1 (place + (next - place))
-one_jump file place next order one = let goal : next ≡ place + (next - place) = omega (arith, order) in subst (Leads file place 1) goal one
-
--- a step of a walk to an end
-pub walks_on : (file : List ℕ) (place goal end left count : ℕ) (all : Result ℕ BodyError) → goal ≤ end → end ≤ length file → count ≤ left → Leads file place count goal
-    → body_verdict (messages_at left (between place end file)) ≡ all → body_verdict (messages_at (left - count) (between goal end file)) ≡ all
-walks_on file place goal end left count all order within few leads so_far =
-    let split : count + (left - count) ≡ left = omega (arith, few) in
-    sym (leads end (left - count) order within) ∙ ap (λ (n : ℕ). body_verdict (messages_at n (between place end file))) split ∙ so_far
-
 -- the jump of a table at a place, even or odd
 pub even_jump : (file : List ℕ) (place : ℕ) (jumps : List Jump) → place % 2 ≡ 0 → AreJumps file 0 jumps → IsJump file place (get_or jumps (place / 2) no_jump)
 even_jump file place jumps even all =
@@ -189,15 +173,6 @@ odd_kept file place jumps jump odd low is all =
     jump_kept file 1 (place / 2) jumps jump low (subst (λ (n : ℕ). IsJump file n jump) here is) all
 
 -- ---- the rest of a file
-
-pub rest_behind : (file rest : List ℕ) (n : ℕ) → n ≤ length rest → IsRest file rest → IsRest file (drop n rest)
-rest_behind file rest n fits r = record {
-  shorter = omega (arith, length-drop n rest, r.shorter);
-  place = rw past (ap (drop n) r.place ∙ drop-drop n (length file - length rest) file);
-}
-  where
-    past : length file - length (drop n rest) ≡ length file - length rest + n
-    past = omega (arith, length-drop n rest, fits, r.shorter)
 
 -- ---- the fault of a body
 

@@ -11,8 +11,7 @@ use Rattle.ch11_reader.specs.declared.error.Fault.TheVariants as faults
 use Rattle.ch11_reader.specs.declared.packet.Checked.{Checked}
 use Rattle.ch11_reader.specs.Recording.{holds_messages, located, packet_messages, packet_at}
 use Rattle.ch11_reader.proofs.Joined.{HasRoom, front, header_front, header_long, messages_front, packet_front, rest_front}
-use Rattle.ch11_stream.specs.declared.fault.StreamFault.{StreamFault}
-use Rattle.ch11_stream.specs.declared.fault.StreamFault.TheVariants.{Device, Memory, Refused}
+use Rattle.ch11_stream.specs.declared.fault.StreamFault.TheVariants.{Refused}
 use Rattle.ch11_stream.specs.Feeding.{IsFilled, IsPassed}
 use Rattle.ch11_stream.specs.Holding.{is_kept}
 use Rattle.ch11_stream.specs.Taking.{IsFaultAt, IsNextHeader, IsTaken, held}
@@ -161,20 +160,3 @@ kept_taken left leaves before after there h c holds next filled is count few lon
         ap is_kept same ∙ holds
 
 -- ---- bytes to come that were kept
-
-pub taken_on : (coming comes left : Option (List ℕ)) (ready : List ℕ) (c : Checked) → Keeps coming comes → IsTaken comes left ready c → IsTaken coming left ready c
-taken_on coming comes left ready c k t = record {
-  count = t.count;
-  few = t.few;
-  whole = t.whole;
-  room = t.room;
-  packet = λ bytes known. t.packet bytes (keeps_known coming comes bytes k known);
-  messages = λ bytes known. t.messages bytes (keeps_known coming comes bytes k known);
-  kept = λ bytes known. t.kept bytes (keeps_known coming comes bytes k known);
-  behind = λ bytes known. t.behind bytes (keeps_known coming comes bytes k known);
-}
-
-pub fault_on : (offset : ℕ) (coming comes : Option (List ℕ)) (e : StreamFault) → Keeps coming comes → IsFaultAt offset comes e → IsFaultAt offset coming e
-fault_on offset coming comes (Refused r) k f = λ bytes known. f bytes (keeps_known coming comes bytes k known)
-fault_on offset coming comes Memory k f = tt
-fault_on offset coming comes Device k f = tt

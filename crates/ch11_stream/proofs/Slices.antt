@@ -1,9 +1,9 @@
 -- Parts of a buffer.
-use Rattle.std.proofs.Common.{◌≡◌, ℕ, ◌+◌, ◌-◌, ◌≤◌, Bool, false, List, [], ◌++◌, length, take, drop, slice_range, Option, None, Some, Result, Ok, Err, sym, ap, ◌∙◌, arith}
+use Rattle.std.proofs.Common.{◌≡◌, ℕ, ◌+◌, ◌-◌, ◌≤◌, Bool, false, List, [], ◌++◌, length, take, drop, slice_range, Option, None, Some, sym, ap, ◌∙◌, arith}
 use Rattle.std.proofs.lemmas.List.{drop-drop, drop-take, length-drop, length-take}
 use Rattle.std.proofs.Math.Seq.{take-add}
-use Rattle.std.specs.Io.KnownBytes.{Consumes, IsAtEnd, Keeps, ReadConsumes}
-use Rattle.ch11_stream.specs.Feeding.{AreMoreReady, bytes_given}
+use Rattle.std.specs.Io.KnownBytes.{Consumes, IsAtEnd, Keeps}
+use Rattle.ch11_stream.specs.Feeding.{AreMoreReady}
 
 -- a part without its first items
 pub range_behind : (xs : List ℕ) (a n e : ℕ) → a + n ≤ e → slice_range xs (a + n) e ≡ drop n (slice_range xs a e)
@@ -33,11 +33,6 @@ pub kept_is_none_lost : (left leaves : Option (List ℕ)) → Keeps left leaves 
 kept_is_none_lost None leaves k = tt
 kept_is_none_lost (Some xs) None k = absurd k
 kept_is_none_lost (Some xs) (Some ys) k = sym k
-
--- what a read gave is what the reader lost
-pub read_is_lost : {E : Type 0} (left leaves : Option (List ℕ)) (read : Result ℕ E) (piece : List ℕ) → ReadConsumes left leaves read piece → Consumes left leaves (take (bytes_given read) piece)
-read_is_lost left leaves (Ok count) piece r = r.0
-read_is_lost left leaves (Err e) piece k = kept_is_none_lost left leaves k
 
 -- a read behind the bytes that are ready
 pub more_given : (left leaves : Option (List ℕ)) (before items new : List ℕ) (a e n : ℕ) (more : Bool) → a ≤ e → slice_range items a e ≡ before → take e new ≡ take e items

@@ -190,6 +190,3 @@ pub rest_routines : (rs sc : Scope ℕ) (tree b r : Tree) (n : List ℕ) (k : �
 rest_routines rs sc tree b r n k is ik isc d z =
     let few = (subst (IsDefined rs) is d).0 in
     subst AreRoutines (sym isc) (subst (λ v. v < 32) ik few, z)
-
-pub body_known : (rs : Scope ℕ) (tree b b1 r : Tree) (n : List ℕ) → tree ≡ define n b r → b1 ≡ b → IsDefined rs tree → CallsKnown rs b1
-body_known rs tree b b1 r n is ib d = subst (CallsKnown rs) (sym ib) (subst (IsDefined rs) is d).2

@@ -27,7 +27,7 @@ pub enum Op {
     Halt,
     /// Number 1: sends the message of this index on its own line.
     Send(u16),
-    /// Number 2: sends the message of this index on the other line than the last one sent (before any, A counts as
+    /// Number 2: sends the message of this index on the line other than the last one's (before any, A counts as
     /// last).
     Alt(u16),
     /// Number 3: sets the gap before the messages after it, 40 to 65,535 ticks of 0.1 µs.

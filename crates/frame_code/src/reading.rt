@@ -9,6 +9,7 @@ ghost use Rattle.frame_code.specs.Reading.{ReadsImage, ReadsImageInMemory, behin
 ghost use Rattle.frame_code.specs.Table.{Code};
 ghost use Rattle.frame_code.specs.declared.Op.TheVariants as op;
 ghost use Rattle.frame_code.specs.declared.error.ImageError.{ImageError};
+ghost use Rattle.mil_word.specs.Fields.{most_words};
 ghost use Rattle.std.specs.List.{flat_map};
 ghost use Rattle.std.specs.Prelude.{IfOk, IfSome, MatchResult, Ok, Err, length};
 ghost use Rattle.std.specs.Prelude.{nat_le, if◌then◌else◌, Some, None, ◌∷◌, ◌++◌, ◌≡◌, ◌≢◌, ◌≤◌, ◌<◌, ◌↔◌, IsTrue};
@@ -199,7 +200,7 @@ fn line(bytes: &[u8]) -> Result<(Line, &[u8]), ImageError>
 
 // So many data words, at most 32.
 fn words(count: u16, bytes: &[u8]) -> Result<(ArrayVec<u16, 32>, &[u8]), ImageError>
-    requires { count ≤ 32 }
+    requires { count ≤ most_words }
     ensures words { ReadsImage (λ x. (x.0.items, x.1.now)) result (spelled.many spelled.two_at count bytes.now) }
     ensures count { IfOk result (λ x. length x.0.items ≡ count) }
     ensures spelled { IfOk result (λ x. bytes.now ≡ flat_map two_bytes x.0.items ++ x.1.now) }

@@ -3,7 +3,7 @@ use Rattle.std.proofs.Common.{◌≡◌, ℕ, zero, suc, ◌+◌, ◌<◌, ◌�
 use Rattle.std.proofs.lemmas.Bool.{cases_lt}
 use Rattle.std.specs.Prelude.{nat_eq, not, ◌&&◌}
 use Rattle.std.proofs.lemmas.Bool.Decides.{nat_tests}
-use Rattle.frame_text.specs.Tokens.{in_word, is_space, goes_on, glued, lex, BeginsToken}
+use Rattle.frame_text.specs.Tokens.{in_word, is_blank, goes_on, glued, lex, BeginsToken}
 
 pub lex_end : (c : Bool) (bs : List ℕ) → length bs ≡ 0 → lex false bs ≡ lex c bs
 unfolding lex
@@ -22,21 +22,21 @@ pub lex_hash : (b : ℕ) (bs : List ℕ) → b ≡ 35 → lex false (b ∷ bs) �
 unfolding lex
 lex_hash b bs e = ap (λ x. lex false (x ∷ bs)) e
 
-pub lex_space : (b : ℕ) (bs : List ℕ) → is_space b ≡ true → lex false (b ∷ bs) ≡ lex false bs
+pub lex_space : (b : ℕ) (bs : List ℕ) → is_blank b ≡ true → lex false (b ∷ bs) ≡ lex false bs
 unfolding lex
 lex_space b bs e = ap (λ t. cond t (lex false bs) (cond (nat_eq b 35) (lex true bs) (cond (in_word b && goes_on bs) (glued b (lex false bs)) ((b ∷ []) ∷ lex false bs)))) e
 
-pub word_apart : (b : ℕ) → in_word b ≡ true → (is_space b ≡ false) × (nat_eq b 35 ≡ false)
+pub word_apart : (b : ℕ) → in_word b ≡ true → (is_blank b ≡ false) × (nat_eq b 35 ≡ false)
 word_apart b h = (grind (arith, nat_tests), grind (arith, nat_tests))
 
 -- at a token
-pub lex_token : (b : ℕ) (bs : List ℕ) → is_space b ≡ false → nat_eq b 35 ≡ false → lex false (b ∷ bs) ≡ cond (in_word b && goes_on bs) (glued b (lex false bs)) ((b ∷ []) ∷ lex false bs)
+pub lex_token : (b : ℕ) (bs : List ℕ) → is_blank b ≡ false → nat_eq b 35 ≡ false → lex false (b ∷ bs) ≡ cond (in_word b && goes_on bs) (glued b (lex false bs)) ((b ∷ []) ∷ lex false bs)
 unfolding lex
 lex_token b bs s h =
     ap (λ t. cond t (lex false bs) (cond (nat_eq b 35) (lex true bs) (cond (in_word b && goes_on bs) (glued b (lex false bs)) ((b ∷ []) ∷ lex false bs)))) s
     ∙ ap (λ t. cond t (lex true bs) (cond (in_word b && goes_on bs) (glued b (lex false bs)) ((b ∷ []) ∷ lex false bs))) h
 
-pub lex_one : (b : ℕ) (bs : List ℕ) → is_space b ≡ false → nat_eq b 35 ≡ false → in_word b ≡ false → lex false (b ∷ bs) ≡ (b ∷ []) ∷ lex false bs
+pub lex_one : (b : ℕ) (bs : List ℕ) → is_blank b ≡ false → nat_eq b 35 ≡ false → in_word b ≡ false → lex false (b ∷ bs) ≡ (b ∷ []) ∷ lex false bs
 lex_one b bs s h w = lex_token b bs s h ∙ ap (λ t. cond (t && goes_on bs) (glued b (lex false bs)) ((b ∷ []) ∷ lex false bs)) w
 
 -- a word as long as it goes
@@ -64,7 +64,7 @@ stops_there n [] h e = absurd (omega (arith, h))
 stops_there zero (b ∷ bs) h e = e
 stops_there (suc n) (b ∷ bs) h e = stops_there n bs (omega (arith, h)) e
 
-pub begins : (text : List ℕ) (b : ℕ) (bs : List ℕ) → text ≡ b ∷ bs → BeginsToken text → (is_space b ≡ false) × (nat_eq b 35 ≡ false)
+pub begins : (text : List ℕ) (b : ℕ) (bs : List ℕ) → text ≡ b ∷ bs → BeginsToken text → (is_blank b ≡ false) × (nat_eq b 35 ≡ false)
 begins text b bs e h = subst BeginsToken e h
 
 pub word_at : (n : ℕ) (bs rest : List ℕ) → 1 ≤ n → n ≤ length bs → ((k : ℕ) → k < n → in_word (get_or bs k 0) ≡ true) → goes_on (drop n bs) ≡ false → rest ≡ drop n bs → lex false bs ≡ take n bs ∷ lex false rest

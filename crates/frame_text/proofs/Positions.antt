@@ -3,7 +3,8 @@ use Rattle.std.proofs.Common.{◌≡◌, ℕ, ◌+◌, ◌≤◌, List, length, 
 use Rattle.std.specs.List.{count_by}
 use Rattle.std.proofs.lemmas.List.{take_all}
 use Rattle.frame_text.specs.declared.faults.Place.{Place}
-use Rattle.frame_text.specs.Places.{is_line_end, since_line_end, place_behind}
+use Rattle.text_lines.specs.Lines.{is_line_end}
+use Rattle.frame_text.specs.Places.{since_line_end, place_behind}
 
 pub place_at_end : (xs : List ℕ) (i line column : ℕ) → length xs ≤ i → line ≡ 1 + count_by is_line_end (take i xs) → column ≡ 1 + since_line_end (take i xs) → let place : Place = record { line = line; column = column } in place ≡ place_behind xs
 place_at_end xs i line column h e c =

@@ -1,14 +1,12 @@
 -- Places in a text: lines count from 1 by LF, columns from 1 by bytes (own choice).
-use Rattle.std.specs.Prelude.{◌≡◌, ℕ, ◌+◌, ◌-◌, ◌==◌, Bool, not, List, ◌++◌, length, take, reverse}
+use Rattle.std.specs.Prelude.{◌≡◌, ℕ, ◌+◌, ◌-◌, not, List, ◌++◌, length, take, reverse}
 use Rattle.std.specs.List.{count_by, take_while}
+use Rattle.text_lines.specs.Lines.{is_line_end}
 use Rattle.frame_text.specs.declared.faults.Place.{Place}
 use Rattle.frame_text.specs.declared.faults.Fault.{Fault}
 use Rattle.frame_text.specs.declared.faults.Fault.TheVariants as fault
 use Rattle.frame_text.specs.declared.faults.ScriptError.{ScriptError}
 use Rattle.frame_text.specs.declared.faults.ScriptError.TheVariants as error
-
-abbrev pub is_line_end : ℕ → Bool
-is_line_end b = b == 10
 
 -- how many bytes stand behind the last line end
 abbrev pub since_line_end : List ℕ → ℕ

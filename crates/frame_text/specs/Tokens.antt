@@ -6,8 +6,8 @@ abbrev pub in_word : ℕ → Bool
 in_word b = (nat_le 48 b && nat_le b 57) || (nat_le 65 b && nat_le b 90) || nat_eq b 95 || (nat_le 97 b && nat_le b 122)
 
 -- space, tab, CR, LF
-abbrev pub is_space : ℕ → Bool
-is_space b = nat_eq b 32 || nat_eq b 9 || nat_eq b 13 || nat_eq b 10
+abbrev pub is_blank : ℕ → Bool
+is_blank b = nat_eq b 32 || nat_eq b 9 || nat_eq b 13 || nat_eq b 10
 
 -- whether a word goes on here
 abbrev pub goes_on : List ℕ → Bool
@@ -25,7 +25,7 @@ unfoldable pub lex : Bool → List ℕ → List (List ℕ)
 lex comment [] = []
 lex true (b ∷ bs) = if nat_eq b 10 then lex false bs else lex true bs
 lex false (b ∷ bs) =
-    if is_space b then lex false bs
+    if is_blank b then lex false bs
     else if nat_eq b 35 then lex true bs
     else if in_word b && goes_on bs then glued b (lex false bs)
     else ((b ∷ []) ∷ lex false bs)
@@ -36,4 +36,4 @@ tokens text = lex false text
 -- a text that is at its end, or at its first token
 abbrev pub BeginsToken : List ℕ → Type 0
 BeginsToken [] = Unit {0}
-BeginsToken (b ∷ bs) = (is_space b ≡ false) × (nat_eq b 35 ≡ false)
+BeginsToken (b ∷ bs) = (is_blank b ≡ false) × (nat_eq b 35 ≡ false)

@@ -1,7 +1,7 @@
 //! The tokens of a text, one by one: no list of them is ever made.
 
 ghost use Rattle.frame_text.specs.Reading.{ReadsTokens, IsAtToken, IsCause, IsOfText, past};
-ghost use Rattle.frame_text.specs.Tokens.{is_space, tokens, BeginsToken};
+ghost use Rattle.frame_text.specs.Tokens.{is_blank, tokens, BeginsToken};
 ghost use Rattle.std.specs.Prelude.{◌≡◌, ◌<◌, ◌≤◌, ◌++◌, ℕ, List, [], ◌∷◌, length, MatchOption, IfSome, IfOk, IfErr};
 
 use crate::faults::{Cause, Fault};
@@ -10,8 +10,8 @@ use crate::keywords::{is, is_word_byte, misplaced};
 /// What was read, and what comes after it.
 pub type Read<'a, T> = Result<(T, &'a [u8]), Fault>;
 
-fn is_space_byte(b: u8) -> bool
-    ensures { result ≡ is_space b }
+fn is_blank_byte(b: u8) -> bool
+    ensures { result ≡ is_blank b }
 {
     b == b' ' || b == b'\t' || b == b'\r' || b == b'\n'
 }
@@ -30,7 +30,7 @@ fn skipped(text: &[u8]) -> &[u8]
             comment = *first != b'\n';
         } else if *first == b'#' {
             comment = true;
-        } else if !is_space_byte(*first) {
+        } else if !is_blank_byte(*first) {
             return rest;
         }
         rest = after;

@@ -36,9 +36,6 @@ one_more done all i y x h is e s =
 abbrev pub left_from : {A : Type 0} → ℕ → List (Frame A) → Tree
 left_from i all = chain (map tree_of (drop i all))
 
-pub left_all : {A : Type 0} → (all : List (Frame A)) → left_from 0 all ≡ chain (map tree_of all)
-left_all all = refl
-
 pub left_first : {A : Type 0} → (all : List (Frame A)) (i : ℕ) (x : Frame A) → i < length all → x ≡ get_or all i x → left_from i all ≡ chained (tree_of x) (left_from (i + 1) all)
 left_first all i x h is =
     ap (λ xs. chain (map tree_of xs)) (drop-cons all i x h)

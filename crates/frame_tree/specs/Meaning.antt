@@ -21,7 +21,7 @@ module _ {State Outcome : Type 0} (w : World State Outcome) where
   condition_meaning (both a b) p = condition_meaning a p && condition_meaning b p
   condition_meaning (either a b) p = condition_meaning a p || condition_meaning b p
 
-  -- at most n further attempts, each on the other line than the one before, while the last outcome is failed
+  -- at most n further attempts, each on the line other than before, while the last outcome is failed
   abbrev pub attempts : ℕ → Line → Message → Point State Outcome → Point State Outcome
   attempts zero line message p = p
   attempts (suc n) line message p =

@@ -36,7 +36,7 @@ pub enum Frame<A: Allocator + Clone> {
         line: Line,
         message: Message,
     },
-    /// Sends a message, and then at most `count` (1 to 8) times more, each time on the other line than before, while
+    /// Sends a message, and then at most `count` (1 to 8) times more, each time on the line other than before, while
     /// the last outcome is failed.
     Retry {
         count: u8,

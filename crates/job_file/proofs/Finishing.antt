@@ -1,7 +1,6 @@
 -- The job of a draft and a script.
-use Rattle.std.proofs.Common.{◌≡◌, ℕ, ◌<◌, ◌≤◌, List, [], ◌∷◌, length, refl, sym, ap, subst, ◌∙◌, ⊎_elim}
-use Rattle.std.specs.Prelude.{◌↔◌, false, Option, Some, Result, Ok, Err, IfOk}
-use Rattle.std.proofs.lemmas.Bool.{cases_lt}
+use Rattle.std.proofs.Common.{◌≡◌, ℕ, List, [], ◌∷◌, refl, sym, ap, subst, ◌∙◌}
+use Rattle.std.specs.Prelude.{false, Option, Some, Result, Ok, Err, IfOk}
 use Rattle.text_lines.specs.Words.{Text}
 use Rattle.frame_tree.specs.Tree.{Tree}
 use Rattle.frame_tree.specs.Bounds.{IsSound}
@@ -10,8 +9,6 @@ use Rattle.frame_code.specs.Table.{Code}
 use Rattle.frame_asm.specs.Shapes.{code_of_tree}
 use Rattle.frame_asm.specs.declared.error.AsmError.{AsmError}
 use Rattle.frame_asm.specs.declared.error.AsmError.TheVariants as assembler
-use Rattle.frame_load.specs.Judging.{IsWithin, HasShortPeriods, Judges}
-use Rattle.frame_load.specs.declared.error.LoadError.{LoadError}
 use Rattle.job_file.specs.Options.{◌>>=◌}
 use Rattle.job_file.specs.HeadLines.{Head, is_none_yet}
 use Rattle.job_file.specs.Drafts.{shown}
@@ -40,18 +37,6 @@ refused spelled job error.Memory is r = tt
 pub code_refused : (d : Draft) (channel : ℕ) (text : Text) (tree : Tree) (e : JobError) → d.channel ≡ Some channel → tree_of_text text ≡ Ok tree
     → IsCodeRefusal (code_of_tree tree) e → IsJobRefusal (job_of (shown d) text) e
 code_refused d channel text tree e named read r = refused _ (job_with channel (shown d) tree) e (job_is d channel text tree named read) r
-
--- an image that was made, and that the loader accepted
-pub program_kept : (code image program : Code) (made : Result Code AsmError) (loaded : Result Code LoadError) → made ≡ Ok image → IfOk made (λ i. i ≡ code)
-    → (made ≡ Err assembler.Operations) ↔ (4096 < length code.operations)
-    → (made ≡ Err assembler.Messages) ↔ ((length code.operations ≤ 4096) × (1024 < length code.messages))
-    → loaded ≡ Ok program → Judges image loaded → HasProgram code
-program_kept code image program made loaded is same long many loads judged =
-    let same_code : image ≡ code = rw is at same in
-    let j : Judges image (Ok program) = rw loads at judged in
-    let operations : length code.operations ≤ 4096 = ⊎_elim (λ more. absurd (let e = long.1 more in cc)) (λ le. le) (cases_lt 4096 (length code.operations)) in
-    let messages : length code.messages ≤ 1024 = ⊎_elim (λ more. absurd (let e = many.1 (operations, more) in cc)) (λ le. le) (cases_lt 1024 (length code.messages)) in
-    record { operations = operations; messages = messages; within = subst IsWithin same_code j.2; short = subst HasShortPeriods same_code j.3 }
 
 -- the tree of a text that has one
 spelled_is : (text : Text) (tree : Tree) → tree_of_text text ≡ Ok tree → tree_spelled text ≡ tree

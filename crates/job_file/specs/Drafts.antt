@@ -1,4 +1,4 @@
--- A draft of a job as what its lines say, and one more line.
+-- A draft of a job: what its lines say, and one more line.
 use Rattle.std.specs.Prelude.{◌≡◌, ◌+◌, true, false, [], ◌∷◌, ◌++◌, map, Result, Ok, Err}
 use Rattle.std.specs.Option.{option_to_list}
 use Rattle.mil_host.specs.Reading.{in_words}

@@ -1,7 +1,8 @@
--- What a line of a job says (own choice): its words, parted by spaces alone.
+-- What a line of a job says (own choice): its words, separated by spaces alone.
 use Rattle.std.specs.Prelude.{ℕ, Bool, false, ◌==◌, if◌then◌else◌, List, [], ◌∷◌, Option, Some, None, codes}
 use Rattle.std.specs.Str.{bytes_eq}
 use Rattle.text_lines.specs.Words.{Text, words}
+use Rattle.mil_word.specs.Fields.{highest_address}
 use Rattle.mil_word.specs.declared.Sync.{Sync}
 use Rattle.mil_word.specs.declared.Sync.TheVariants.{CommandSync, DataSync}
 use Rattle.mil_line.specs.declared.faults.Fault.{Fault}
@@ -117,13 +118,13 @@ unfoldable pub start_in : List Text → Option Said
 start_in ws = one ws >>= (λ w. start_of w >>= (λ n. Some (start n)))
 
 unfoldable pub terminal_in : List Text → Option Said
-terminal_in ws = one ws >>= (λ w. number_within 0 30 w >>= (λ n. Some (terminal n)))
+terminal_in ws = one ws >>= (λ w. number_within 0 highest_address w >>= (λ n. Some (terminal n)))
 
 unfoldable pub action_in : List Text → Option Said
 action_in ws =
     first ws >>= (λ n. first n.1 >>= (λ a. first a.1 >>= (λ more.
     number_within 1 1000000 n.0 >>=
-    (λ number. number_within 0 30 a.0 >>= (λ address. Some (action number address a.1))))))
+    (λ number. number_within 0 highest_address a.0 >>= (λ address. Some (action number address a.1))))))
 
 unfoldable pub fault_in : List Text → Option Said
 fault_in ws =
@@ -145,7 +146,7 @@ faults_in ws =
 -- `ADDRESS SUB START ADD` of these messages
 unfoldable pub series_of : Span → Text × Text × Text × Text → Option Series
 series_of span w =
-    number_within 0 30 w.0 >>= (λ address. number_within 1 29 w.1 >>=
+    number_within 0 highest_address w.0 >>= (λ address. number_within 1 29 w.1 >>=
     (λ sub. data_word_of w.2 >>= (λ begin. data_word_of w.3 >>= (λ add.
     Some (record { span = span; address = address; sub = sub; start = begin; add = add })))))
 

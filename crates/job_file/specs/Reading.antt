@@ -74,7 +74,7 @@ IsCodeRefusal code (error.Loading line why) = IsTooMuch code why
 IsCodeRefusal code error.Memory = Unit {0}
 IsCodeRefusal code _ = ⊥
 
--- A refusal for another cause than memory: there is no job, or its script has an image that is too long or that the
+-- A refusal for a cause other than memory: there is no job, or its script has an image that is too long or that the
 -- loader refuses for its budget or its periods.
 abbrev pub IsJobRefusal : Option ChannelJob → JobError → Type 0
 IsJobRefusal spelled (error.Line line why) = spelled ≡ None

@@ -7,6 +7,7 @@ ghost use Rattle.job_file.specs.JobRanges.{may_act, IsFit};
 ghost use Rattle.job_file.specs.Jobs.{tree_in, job_in};
 ghost use Rattle.job_file.specs.Machines.{IsOf, IsLatestOutcome};
 ghost use Rattle.job_file.specs.Meaning.{bus_of};
+ghost use Rattle.job_file.specs.Rooms.{most_items};
 ghost use Rattle.job_file.specs.Scripts.{tree_spelled, IsProgramOf};
 ghost use Rattle.job_file.specs.Spelled.{job_with};
 ghost use Rattle.mil_bus.specs.Addresses.{is_fit};
@@ -116,6 +117,15 @@ impl Job {
         ensures sound { IsSound (tree_in self.now) }
     {
         &self.program
+    }
+
+    /// How much room of a run's queue the channel takes at most, 1 to 1,000,001 items: one for each message that it may
+    /// send, and its end mark.
+    pub fn most_items(&self) -> u64
+        ensures value { result ≡ most_items self.now }
+        ensures high { result ≤ 1000001 }
+    {
+        self.program().worst_messages() + 1
     }
 
     /// A controller at the beginning of the job's program, on a bus with new terminals, under the job's planned faults

@@ -7,6 +7,7 @@ ghost use Rattle.job_file.specs.Spans.{IsSpan};
 ghost use Rattle.job_file.specs.declared.error.LineFault.TheVariants.{Word as BadWord, Number as BadNumber};
 ghost use Rattle.job_file.specs.declared.keywords.FaultWord.TheVariants as kinds;
 ghost use Rattle.job_file.specs.declared.keywords.Keyword.TheVariants as keywords;
+ghost use Rattle.mil_word.specs.Fields.{highest_address};
 ghost use Rattle.std.specs.Option.{is_some};
 ghost use Rattle.std.specs.Prelude.{◌≡◌, ◌≤◌, IfOk, IfErr};
 ghost use Rattle.text_lines.specs.Words.{words};
@@ -17,6 +18,7 @@ use crate::numbers::{data_word, half_bits, number, number_within, start_tick};
 use crate::spans::{Series, Span};
 use mil_line::Fault;
 use mil_word::Word;
+use mil_word::fields::HIGHEST_ADDRESS;
 use text_lines::next_word;
 
 /// What a line says.
@@ -211,10 +213,10 @@ fn channel(text: &[u8]) -> Result<u16, LineFault>
 #[tactic(auto, unfolding(crate::specs::Lines::terminal_in))]
 fn terminal(text: &[u8]) -> Result<u8, LineFault>
     ensures said { IsOkOption lines.terminal result (lines.terminal_in (words text.now)) }
-    ensures range { IfOk result (λ n. n ≤ 30) }
+    ensures range { IfOk result (λ n. n ≤ highest_address) }
     ensures words { IsFaultOfWords result (are_words_behind keywords.Terminal (words text.now)) }
 {
-    let address = number_within(one_word(text)?, 0, 30)?;
+    let address = number_within(one_word(text)?, 0, u32::from(HIGHEST_ADDRESS))?;
     Ok(address as u8)
 }
 
@@ -229,7 +231,7 @@ fn action(text: &[u8]) -> Result<Entry<'_>, LineFault>
     let (address, text) = first_word(rest)?;
     first_word(text)?;
     let number = number_within(number, 1, 1_000_000)?;
-    let address = number_within(address, 0, 30)?;
+    let address = number_within(address, 0, u32::from(HIGHEST_ADDRESS))?;
     Ok(Entry::Action {
         number,
         address: address as u8,
@@ -289,7 +291,7 @@ fn series(text: &[u8]) -> Result<Series, LineFault>
     let span = span(first, last, step)?;
     Ok(Series {
         span,
-        address: number_within(address, 0, 30)? as u8,
+        address: number_within(address, 0, u32::from(HIGHEST_ADDRESS))? as u8,
         sub: number_within(sub, 1, 29)? as u8,
         start: data_word(start)?,
         add: data_word(add)?,

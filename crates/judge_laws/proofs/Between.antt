@@ -80,10 +80,6 @@ pub three-maps : (f g h : Station → Station) (xs : List Station) → map h (ma
 three-maps f g h [] = refl
 three-maps f g h (x ∷ xs) = ap (λ ys. h (g (f x)) ∷ ys) (three-maps f g h xs)
 
-five-maps : (f g h i : Station → Station) (xs : List Station) → map i (map h (map g (map f xs))) ≡ map (λ x. i (h (g (f x)))) xs
-five-maps f g h i [] = refl
-five-maps f g h i (x ∷ xs) = ap (λ ys. i (h (g (f x))) ∷ ys) (five-maps f g h i xs)
-
 pub record AreEnds (line : Line) (g c1 c2 sender receiver count : ℕ) (s r : Station) : Type 0 where
   pub small_first : c1 < 2 ^ 16
   pub small_second : c2 < 2 ^ 16

@@ -1,11 +1,11 @@
 -- Rules that were read, and what the rest of the text gives.
-use Rattle.std.proofs.Common.{◌≡◌, ℕ, ◌+◌, List, [], ◌∷◌, ◌++◌, refl, ap, sym, ◌∙◌, append_assoc}
-use Rattle.std.specs.Prelude.{Option, Some, None, Ok, Err}
+use Rattle.std.proofs.Common.{◌≡◌, ℕ, ◌+◌, List, ◌∷◌, ◌++◌, refl, ap}
+use Rattle.std.specs.Prelude.{Some, None, Ok, Err}
 use Rattle.std.proofs.lemmas.Bool.{eq-eqb, ne_eqb}
 use Rattle.text_lines.specs.Words.{Text}
 use Rattle.judge_rules.specs.declared.fault.RuleError.{RuleError}
 use Rattle.judge_rules.specs.declared.fault.RuleFault.{RuleFault}
-use Rattle.judge_rules.specs.declared.fault.RuleFault.TheVariants.{Memory, Range}
+use Rattle.judge_rules.specs.declared.fault.RuleFault.TheVariants.{Range}
 use Rattle.judge_rules.specs.declared.rules.Rule.{Rule}
 use Rattle.judge_rules.specs.Lines.{said}
 use Rattle.judge_rules.specs.Rules.{AllRules, in_front, rules_from, IsRuleError, FitsAt}
@@ -14,14 +14,6 @@ use Rattle.judge_rules.specs.Rules.{AllRules, in_front, rules_from, IsRuleError,
 abbrev pub prefixed : List Rule → AllRules → AllRules
 prefixed rules (Ok more) = Ok (rules ++ more)
 prefixed rules (Err e) = Err e
-
-pub prefixed-none : (rest : AllRules) → prefixed [] rest ≡ rest
-prefixed-none (Ok more) = refl
-prefixed-none (Err e) = refl
-
-pub prefixed-one : (rules : List Rule) (rule : Rule) (rest : AllRules) → prefixed rules (in_front rule rest) ≡ prefixed (rules ++ rule ∷ []) rest
-prefixed-one rules rule (Ok more) = ap Ok (sym (append_assoc rules (rule ∷ []) more))
-prefixed-one rules rule (Err e) = refl
 
 -- an answer that fits the rest fits the whole
 pub fits-more : (line : ℕ) (e : RuleError) (rule : Rule) (rest : AllRules) → FitsAt line e rest → FitsAt line e (in_front rule rest)

@@ -5,6 +5,7 @@ use Rattle.std.proofs.Common.{zero, suc}
 use Rattle.std.specs.Str.{bytes_eq}
 use Rattle.numerals.specs.Numerals.{spelled}
 use Rattle.text_lines.specs.Words.{Text}
+use Rattle.mil_word.specs.Fields.{most_words}
 use Rattle.judge_rules.specs.declared.fault.RuleFault.{RuleFault}
 use Rattle.judge_rules.specs.declared.fault.RuleFault.TheVariants.{Word, Number, Range}
 use Rattle.judge_rules.specs.declared.rules.Bounds.{Bounds}
@@ -81,4 +82,4 @@ all_data zero (word ∷ rest) = Err (many_fault (word ∷ rest))
 all_data (suc room) (word ∷ rest) = and_then (datum_of word) (λ d. and_then (all_data room rest) (λ ds. Ok (d ∷ ds)))
 
 abbrev pub data_in : List Text → Read (List Datum)
-data_in rest = all_data 32 rest
+data_in rest = all_data most_words rest

@@ -15,6 +15,6 @@ mod values;
 mod words;
 
 pub use fault::{RuleError, RuleFault};
-pub use reading::{MOST_RULES, read_rules};
+pub use reading::read_rules;
 pub use rules::{Bounds, Bus, Check, Datum, Rule, Selector};
 pub use selectors::selector_of;

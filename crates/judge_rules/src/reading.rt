@@ -10,9 +10,9 @@ use std::alloc::Global;
 use text_lines::next_line;
 
 /// How many rules a text may have.
-pub const MOST_RULES: usize = 10_000;
+pub(crate) const MOST_RULES: usize = 10_000;
 
-/// The rules that a text spells, in their order (own choice): a rule a line, words parted by spaces; a line without
+/// The rules that a text spells, in their order (own choice): a rule a line, words separated by spaces; a line without
 /// words, or whose first word begins with `#`, is passed over. Else the first fault: I1 to I3 of the first line that
 /// has one, in a line I1 before I2 before I3; more than 10,000 rules are I3 at the line of the next, and a text without
 /// a rule is I1 at the line behind its last. I4, want of memory, is answered only for a text without a fault.

@@ -6,29 +6,24 @@ use crate::fault::{RuleFault, both};
 use crate::rules::Selector;
 use crate::values::read_choice;
 use crate::words::ended;
+use mil_word::fields::{HIGHEST_ADDRESS, HIGHEST_SUBADDRESS};
 use text_lines::Words;
 
-/// The greatest address of a terminal.
-const LAST_ADDRESS: u8 = 30;
-/// The first and the last subaddress that is none of mode commands.
-const FIRST_SUBADDRESS: u8 = 1;
-
-const LAST_SUBADDRESS: u8 = 30;
-/// The greatest mode code.
+/// The highest mode code (MIL-STD-1553B 4.3.3.5.1.7).
 const LAST_CODE: u8 = 31;
 
 fn read_address(words: &mut Words<'_>) -> Result<Option<u8>, RuleFault>
     ensures value { result ≡ spec.address_in words.old }
     ensures rest { words.new ≡ drop 1 words.old }
 {
-    read_choice(words, 0, LAST_ADDRESS)
+    read_choice(words, 0, HIGHEST_ADDRESS)
 }
 
 fn read_subaddress(words: &mut Words<'_>) -> Result<Option<u8>, RuleFault>
     ensures value { result ≡ spec.subaddress_in words.old }
     ensures rest { words.new ≡ drop 1 words.old }
 {
-    read_choice(words, FIRST_SUBADDRESS, LAST_SUBADDRESS)
+    read_choice(words, 1, HIGHEST_SUBADDRESS)
 }
 
 fn read_code(words: &mut Words<'_>) -> Result<Option<u8>, RuleFault>

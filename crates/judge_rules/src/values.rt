@@ -5,6 +5,7 @@ ghost use Rattle.std.specs.Prelude.{◌≡◌, ◌≤◌, Ok, Err, IfOk, MatchRe
 use crate::fault::{RuleFault, both};
 use crate::rules::{Bounds, Datum};
 use arrayvec::ArrayVec;
+use mil_word::fields::MOST_WORDS;
 use numerals::spelled;
 use text_lines::Words;
 
@@ -125,7 +126,7 @@ pub(crate) fn read_data(words: &mut Words<'_>) -> Result<ArrayVec<Datum, 32>, Ru
 {
     let mut found = ArrayVec::new();
     while let Some(word) = words.next() {
-        if found.len() == 32 {
+        if found.len() == usize::from(MOST_WORDS) {
             return Err(fault_of_many(word, words));
         }
         let datum = datum(word)?;

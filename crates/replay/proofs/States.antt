@@ -60,10 +60,6 @@ module _ (job : JobState) (part : ChannelPart) (channel : ℕ) (marks : List Mar
 
 -- ---- of all jobs
 
--- the pair at an index
-pub pair_there : (pairs : List Pair) (n index : ℕ) (p : Pair) → n ≡ length pairs → index < n → p ≡ get_or pairs index p → slice_get pairs index ≡ Some p
-pair_there pairs n index p count less at = slice_get_read pairs n index p count less at
-
 pub same_job : (pairs : List Pair) (index : ℕ) (p : Pair) (job : JobState) → slice_get pairs index ≡ Some p → slice_get (jobs_in pairs) index ≡ Some job → p.job ≡ job
 same_job pairs index p job at there = let mapped = map_at (λ (q : Pair). q.job) pairs index p at in cc
 

@@ -141,12 +141,6 @@ module _ (checkpoints recent : List Stop) (place : ℕ) where
   pub nearest_of_all : (n : ℕ) (best : Stop) → IsNearest checkpoints (take n recent) place best → length recent ≤ n → IsNearest checkpoints recent place best
   nearest_of_all n best is le = subst (λ (xs : List Stop). IsNearest checkpoints xs place best) (take_all n recent le) is
 
--- states of the jobs, wherever they were kept
-pub is_stop : (pairs : List Pair) (channels : List ℕ) (checkpoints recent : List Stop) (place : ℕ) (stop : Stop) → AreCheckpoints pairs channels checkpoints → AreStops pairs channels recent
-    → IsNearest checkpoints recent place stop → IsStop pairs channels stop
-is_stop pairs channels checkpoints recent place stop are stops is =
-    ⊎_elim (λ c. (are c.0 stop c.1).1) (λ r. stops r.0 stop r.1) is.one
-
 -- the states are kept of the place that is nearest
 pub keeps_nearest : (checkpoints recent : List Stop) (to place : ℕ) (stop : Stop) → IsNearest checkpoints recent to stop → stop.place ≡ place
     → Has checkpoints (to - (to - place)) ⊎ Has recent (to - (to - place))

@@ -110,7 +110,7 @@ abbrev pub IsNoted : List Stop → ℕ → Type 0
 IsNoted recent place = (place % 64 ≡ 0) ⊎ Has recent place
 
 -- the states of the nearest place at or below this one: at most 63 messages before it, and not before any that were
--- kept of late
+-- kept lately
 pub record IsNearest (checkpoints recent : List Stop) (place : ℕ) (stop : Stop) : Type 0 where
   pub one : ((k : ℕ) × (slice_get checkpoints k ≡ Some stop)) ⊎ ((k : ℕ) × (slice_get recent k ≡ Some stop))
   pub below : stop.place ≤ place

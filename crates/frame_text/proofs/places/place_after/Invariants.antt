@@ -1,6 +1,7 @@
 use Rattle.std.proofs.Common.{◌≡◌, ◌+◌, ◌≤◌, take}
 use Rattle.std.specs.List.{count_by}
-use Rattle.frame_text.specs.Places.{is_line_end, since_line_end}
+use Rattle.text_lines.specs.Lines.{is_line_end}
+use Rattle.frame_text.specs.Places.{since_line_end}
 use Rattle.frame_text.proofs.places.place_after.Given as goal
 
 abbrev pub invariant-loop-b : goal.invariant-loop-b

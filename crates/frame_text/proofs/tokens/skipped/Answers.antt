@@ -19,7 +19,7 @@ loop-first-preserved-then-first-eq35 c = record {
 
 pub loop-first-preserved : goal.loop-first-preserved
 loop-first-preserved c = record {
-  tokens_are = ap (λ t. lex t c.in-Some.after.now) c.if-comment.false ∙ sym (lex_space c.in-Some.first.now c.in-Some.after.now (sym c.is_space_byte.ensures ∙ c.if-not-is_space_byte.false)) ∙ ap (lex false) (sym c.in-Some.ensures.cases.0) ∙ ap (λ t. lex t c.loop-first.rest.now) (sym c.if-comment.false) ∙ c.loop-first.invariant.tokens_are;
+  tokens_are = ap (λ t. lex t c.in-Some.after.now) c.if-comment.false ∙ sym (lex_space c.in-Some.first.now c.in-Some.after.now (sym c.is_blank_byte.ensures ∙ c.if-not-is_blank_byte.false)) ∙ ap (lex false) (sym c.in-Some.ensures.cases.0) ∙ ap (λ t. lex t c.loop-first.rest.now) (sym c.if-comment.false) ∙ c.loop-first.invariant.tokens_are;
   shorter = omega (arith, c.loop-first.invariant.shorter, ap length c.in-Some.ensures.cases.0);
   suffix = shorter_suffix c.args.text.now c.loop-first.rest.now c.in-Some.after.now c.in-Some.first.now c.in-Some.ensures.cases.0 c.loop-first.invariant.suffix;
 }
