@@ -9,8 +9,8 @@ use Rattle.bench_mail.specs.declared.mailbox.Post.{Post}
 use Rattle.bench_mail.specs.declared.mailbox.Mailbox.{Mailbox}
 use Rattle.bench_mail.specs.declared.mailbox.Poster.{Poster}
 use Rattle.bench_mail.specs.declared.mailbox.Inbox.{Inbox}
-use Rattle.bench_mail.specs.declared.mail_error.PostError.{PostError}
-use Rattle.bench_mail.specs.declared.mail_error.PostError.TheVariants as fault
+use Rattle.bench_mail.specs.declared.error.PostError.{PostError}
+use Rattle.bench_mail.specs.declared.error.PostError.TheVariants as fault
 
 -- how many posts the mailbox holds at most
 abbrev pub room_of : Mailbox → ℕ

@@ -1,9 +1,9 @@
 -- The letters of a mailbox's refusals (own choice).
 use Rattle.std.specs.Prelude.{ℕ, List, codes}
-use Rattle.bench_mail.specs.declared.mail_error.MailError.{MailError}
-use Rattle.bench_mail.specs.declared.mail_error.MailError.TheVariants as mail
-use Rattle.bench_mail.specs.declared.mail_error.PostError.{PostError}
-use Rattle.bench_mail.specs.declared.mail_error.PostError.TheVariants as post
+use Rattle.bench_mail.specs.declared.error.MailError.{MailError}
+use Rattle.bench_mail.specs.declared.error.MailError.TheVariants as mail
+use Rattle.bench_mail.specs.declared.error.PostError.{PostError}
+use Rattle.bench_mail.specs.declared.error.PostError.TheVariants as post
 
 abbrev pub mail_code : MailError → List ℕ
 mail_code mail.Capacity = codes "E1"

@@ -3,8 +3,8 @@
 //! It may know: the trunk, host actions, jobs. Its tests: `run_tests`. Its wrong bodies: `edits/`.
 #![tactic(auto)]
 
-mod mail_error;
+mod error;
 mod mailbox;
 
-pub use mail_error::{MailError, PostError};
+pub use error::{MailError, PostError};
 pub use mailbox::{Inbox, Mailbox, Post, Poster};

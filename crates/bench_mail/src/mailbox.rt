@@ -8,7 +8,7 @@ ghost use Rattle.mil_trunk.specs.Views.{with_tag, inside, outside};
 ghost use Rattle.std.specs.Prelude.{IfOk, OnOk, IfErr, IfSome, IfNone, IsTrue};
 ghost use Rattle.std.specs.Prelude.{◌≡◌, ◌<◌, ◌+◌, ◌^◌, ◌↔◌, ◌⊎◌, ◌++◌, ◌∷◌, [], ℕ, true, length, not, ◌&&◌, ◌||◌, Err};
 
-use crate::mail_error::{MailError, PostError};
+use crate::error::{MailError, PostError};
 use job_file::Job;
 use mil_host::Action;
 use mil_trunk::{Tagged, Tags, Taker, Ticket, Trunk, TrunkError};

@@ -158,6 +158,6 @@ TakesText (Ok u) text d new = with_line_said d (said text) ≡ Some new
 TakesText (Err fault) text d new = IsRefusedLine d text fault
 
 -- what a call answers that reads
-abbrev pub Gives : {X Y : Type 0} → (X → Y) → Result X ReportFault → Option Y → Type 0
-Gives view (Ok x) read = read ≡ Some (view x)
-Gives view (Err fault) read = read ≡ None
+abbrev pub IsOkOption : {X Y : Type 0} → (X → Y) → Result X ReportFault → Option Y → Type 0
+IsOkOption view (Ok x) read = read ≡ Some (view x)
+IsOkOption view (Err fault) read = read ≡ None

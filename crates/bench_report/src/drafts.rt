@@ -1,5 +1,5 @@
 //! A report as far as its lines have come.
-ghost use Rattle.bench_report.specs.Drafts.{TakesIntoDraft, TakesText, Gives, no_lines, closed, with_line, finished};
+ghost use Rattle.bench_report.specs.Drafts.{TakesIntoDraft, TakesText, IsOkOption, no_lines, closed, with_line, finished};
 ghost use Rattle.bench_report.specs.Lines.{IsLine};
 ghost use Rattle.bench_report.specs.declared.fault.ReportFault.TheVariants.{Order};
 ghost use Rattle.std.specs.Prelude.{◌≡◌, IfErr};
@@ -101,7 +101,7 @@ impl Draft {
 
     /// The report, once its last line has come.
     pub fn finish(self) -> Result<Report, ReportFault>
-        ensures value { Gives (λ r. r) result (finished self) }
+        ensures value { IsOkOption (λ r. r) result (finished self) }
         ensures order { IfErr result (λ f. f ≡ Order) }
     {
         match self.stage {

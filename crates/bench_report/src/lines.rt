@@ -1,5 +1,5 @@
 //! The lines of a report.
-ghost use Rattle.bench_report.specs.Drafts.{Gives, IsBad};
+ghost use Rattle.bench_report.specs.Drafts.{IsOkOption, IsBad};
 ghost use Rattle.bench_report.specs.Faults.{are_line_words, are_placed_words};
 ghost use Rattle.bench_report.specs.Lines.{placed_in, said, IsLine};
 ghost use Rattle.bench_report.specs.Reports.{IsPlaced};
@@ -30,7 +30,7 @@ pub enum Line {
 /// The words behind `placed`.
 #[tactic(auto, unfolding(mil_host::specs::Reading::action_in))]
 fn read_placed(rest: &[u8]) -> Result<Placed, ReportFault>
-    ensures value { Gives Line.Placed result (placed_in (words rest.now)) }
+    ensures value { IsOkOption Line.Placed result (placed_in (words rest.now)) }
     ensures range { IfOk result IsPlaced }
     ensures fault { IfErr result (λ f. IsBad (are_placed_words (words rest.now)) f) }
 {
@@ -56,7 +56,7 @@ fn read_placed(rest: &[u8]) -> Result<Placed, ReportFault>
 /// What a line says.
 #[tactic(auto, unfolding(crate::specs::Lines::said))]
 pub fn read_line(text: &[u8]) -> Result<Line, ReportFault>
-    ensures value { Gives (λ l. l) result (said text.now) }
+    ensures value { IsOkOption (λ l. l) result (said text.now) }
     ensures range { IfOk result IsLine }
     ensures fault { IfErr result (λ f. IsBad (are_line_words (words text.now)) f) }
 {

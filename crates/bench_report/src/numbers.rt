@@ -1,5 +1,5 @@
 //! Numbers in the lines of a report.
-ghost use Rattle.bench_report.specs.Drafts.{Gives, IsBad};
+ghost use Rattle.bench_report.specs.Drafts.{IsOkOption, IsBad};
 ghost use Rattle.bench_report.specs.Faults.{is_one_word};
 ghost use Rattle.bench_report.specs.Lines.{bounded_number, only_number};
 ghost use Rattle.bench_report.specs.declared.fault.ReportFault.TheVariants.{Number};
@@ -13,7 +13,7 @@ use text_lines::next_word;
 /// The number of a word of one to `most` digits, from `low` to `high`.
 pub fn number(word: &[u8], most: usize, low: u64, high: u64) -> Result<u64, ReportFault>
     requires { most ≤ 10 }
-    ensures value { Gives (λ n. n) result (bounded_number most low high word.now) }
+    ensures value { IsOkOption (λ n. n) result (bounded_number most low high word.now) }
     ensures range { IfOk result (λ n. (low ≤ n) × (n ≤ high)) }
     ensures fault { IfErr result (λ f. f ≡ Number) }
 {
@@ -30,7 +30,7 @@ pub fn number(word: &[u8], most: usize, low: u64, high: u64) -> Result<u64, Repo
 /// A number as the only word.
 pub fn only_number_in(rest: &[u8], most: usize, low: u64, high: u64) -> Result<u64, ReportFault>
     requires { most ≤ 10 }
-    ensures value { Gives (λ n. n) result (only_number most low high (words rest.now)) }
+    ensures value { IsOkOption (λ n. n) result (only_number most low high (words rest.now)) }
     ensures range { IfOk result (λ n. (low ≤ n) × (n ≤ high)) }
     ensures fault { IfErr result (λ f. IsBad (is_one_word (words rest.now)) f) }
 {

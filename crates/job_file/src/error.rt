@@ -94,3 +94,19 @@ impl Display for JobError {
         }
     }
 }
+
+/// The first text that spells no job, or needs too much: its place in the list, from 0 on, and its fault.
+#[derive(Clone, Copy, Debug, PartialEq, Eq)]
+pub struct JobsError {
+    pub index: usize,
+    pub fault: JobError,
+}
+
+/// The fault as it stands for one text.
+impl Display for JobsError {
+    ghost output = { λ e. fault_text e.fault };
+
+    fn fmt<W: Write>(&self, f: &mut Formatter<W>) -> fmt::Result {
+        write!(f, "{}", self.fault)
+    }
+}

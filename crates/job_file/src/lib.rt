@@ -17,9 +17,9 @@ mod spans;
 mod stepping;
 mod texts;
 
-pub use error::{JobError, LineFault};
+pub use error::{JobError, JobsError, LineFault};
 pub use jobs::Job;
 pub use laws::job_runs;
 pub use reading::read_job;
 pub use stepping::next_record;
-pub use texts::{JobsError, read_jobs};
+pub use texts::read_jobs;

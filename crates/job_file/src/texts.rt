@@ -1,31 +1,13 @@
 //! The jobs of several texts.
 ghost use Rattle.job_file.specs.Jobs.{job_in};
-ghost use Rattle.job_file.specs.Printing.{fault_text};
 ghost use Rattle.job_file.specs.Texts.{AreSpelled, IsFirstRefused};
 ghost use Rattle.std.specs.Prelude.{map, IfOk, IfErr};
 
-use crate::error::JobError;
+use crate::error::{JobError, JobsError};
 use crate::jobs::Job;
 use crate::reading::read_in;
 use bumpalo::Bump;
 use std::alloc::Global;
-use std::fmt::{self, Display, Formatter, Write};
-
-/// The first text that spells no job, or needs too much: its place in the list, from 0 on, and its fault.
-#[derive(Clone, Copy, Debug, PartialEq, Eq)]
-pub struct JobsError {
-    pub index: usize,
-    pub fault: JobError,
-}
-
-/// The fault as it stands for one text.
-impl Display for JobsError {
-    ghost output = { λ e. fault_text e.fault };
-
-    fn fmt<W: Write>(&self, f: &mut Formatter<W>) -> fmt::Result {
-        write!(f, "{}", self.fault)
-    }
-}
 
 /// The jobs that texts spell, in their order. The texts are judged in their order: the first that is refused is
 /// answered, with its place in the list and with J1 to J8 as `read_job` has them. One arena holds the trees of their
