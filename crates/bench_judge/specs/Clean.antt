@@ -4,7 +4,7 @@ use Rattle.std.specs.Prelude.{List, [], ◌∷◌, length, Option, Some, None, R
 use Rattle.std.specs.List.{list_all}
 use Rattle.std.specs.Str.{bytes_eq}
 use Rattle.mil_word.specs.Fields.{has_bit, address_of, code_of, is_broadcast, is_transmit, is_mode, has_message_error}
-use Rattle.mil_word.specs.Fields.{has_busy}
+use Rattle.mil_word.specs.Fields.{has_busy, most_words}
 use Rattle.mil_word.specs.Timing.{least_response, latest_response}
 use Rattle.mil_mode.specs.Table.{is_known, is_broadcast_mode, data_word_count}
 use Rattle.mil_message.specs.declared.faults.BadMessage.{BadMessage}
@@ -129,7 +129,7 @@ is_sent_as (Some form) m = data_fit form (data_count m) (statuses m)
 unfoldable pub clean : Message → Bool
 clean m =
     has_no_error m.block && may_be_sent (first_word m)
-    && nat_le (data_count m) 32 && is_sent_as (form_with (parts_in m)) m
+    && nat_le (data_count m) most_words && is_sent_as (form_with (parts_in m)) m
 
 -- what is known of a message, if anything is: whether it is clean
 abbrev pub IsKnown : Option Bool → Message → Type 0

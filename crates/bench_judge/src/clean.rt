@@ -3,6 +3,7 @@ ghost use Rattle.bench_judge.specs.Clean as spec;
 ghost use Rattle.bench_judge.specs.Words.{data_count};
 ghost use Rattle.ch11_f1.specs.Views.{message_of};
 ghost use Rattle.ch11_layout.specs.Layouts.{layout_of};
+ghost use Rattle.mil_word.specs.Fields.{most_words};
 ghost use Rattle.std.specs.Prelude.{◌≡◌, ◌-◌, ◌≤◌, Some, if◌then◌else◌};
 
 use crate::replies::{replies_fit, sends_no_data, words_due};
@@ -12,9 +13,7 @@ use ch11_layout::{Layout, first_gap, is_set, second_gap, word_at};
 use mil_message::Message;
 use mil_mode::{ModeRow, broadcast_allowed, mode_of};
 use mil_word::Command;
-
-/// The greatest number of data words (MIL-STD-1553B 4.3.3.5.1.5).
-const MOST_WORDS: usize = 32;
+use mil_word::fields::MOST_WORDS;
 
 /// Whether a block status word has none of the bits of errors.
 fn has_no_error(block: u16) -> bool
@@ -87,7 +86,7 @@ fn message_with(number: u8, first: u16, second: u16, words: &[u16]) -> Option<Me
 /// data words.
 fn message_in(seen: &Seen<'_>, layout: &Layout) -> Option<Message>
     requires same { layout.now ≡ layout_of (message_of seen.now) }
-    requires few { layout.now.data_end - layout.now.data_start ≤ 32 }
+    requires few { layout.now.data_end - layout.now.data_start ≤ most_words }
     ensures { result ≡ spec.form_with (spec.parts_in (message_of seen.now)) }
 {
     let two = layout.commands == 2;
@@ -113,7 +112,7 @@ fn data_fit(message: &Message, count: usize, statuses: &[u16]) -> bool
 /// Whether a message is as the standard has it: of one of the ten forms, with a mode code that the standard assigns,
 /// all replies in time and no word too many or too few (MIL-STD-1553B 4.3.3.6, with Notice 2).
 #[tactic(auto, unfolding(crate::specs::Clean::clean))]
-pub fn is_clean(seen: &Seen<'_>) -> bool
+pub(crate) fn is_clean(seen: &Seen<'_>) -> bool
     ensures { result ≡ spec.clean (message_of seen.now) }
 {
     if !has_no_error(seen.block) || !may_be_sent(Command::of(word_at(seen.words, 0))) {
@@ -121,7 +120,7 @@ pub fn is_clean(seen: &Seen<'_>) -> bool
     }
     let layout = Layout::of(seen);
     let count = layout.data_end.saturating_sub(layout.data_start);
-    if count > MOST_WORDS {
+    if count > usize::from(MOST_WORDS) {
         return false;
     }
     let Some(message) = message_in(seen, &layout) else {

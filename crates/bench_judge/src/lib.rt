@@ -26,7 +26,6 @@ mod tallies;
 mod verdicts;
 mod words;
 
-pub use clean::is_clean;
 pub use colored::{write_colored, write_colored_from};
 pub use fault::PrintFault;
 pub use first::first_misses_from;

@@ -4,12 +4,8 @@ ghost use Rattle.std.specs.Prelude.{◌≡◌, []};
 
 use ch11_layout::is_set;
 use mil_message::Due;
-use mil_word::Command;
-
-/// The least and the greatest response time in ticks: 4 and 12 µs (MIL-STD-1553B 4.3.3.8).
-const LEAST_RESPONSE: u8 = 40;
-
-const GREATEST_RESPONSE: u8 = 120;
+use mil_word::timing::{LATEST_RESPONSE, LEAST_RESPONSE};
+use mil_word::{Command, Status};
 
 /// Whether a status word has this address, and no reserved bit.
 fn status_fits(address: u8, status: u16) -> bool
@@ -25,7 +21,7 @@ fn status_fits(address: u8, status: u16) -> bool
 fn is_in_time(gap: u8) -> bool
     ensures { result ≡ spec.is_in_time gap }
 {
-    LEAST_RESPONSE <= gap && gap <= GREATEST_RESPONSE
+    LEAST_RESPONSE <= gap && gap <= LATEST_RESPONSE
 }
 
 /// Whether no reply came.
@@ -72,7 +68,10 @@ pub(crate) fn sends_no_data(statuses: &[u16]) -> bool
     ensures { result ≡ spec.sends_no_data statuses.now }
 {
     match statuses.split_first() {
-        Some((status, _)) => is_set(*status, 10) || is_set(*status, 3),
+        Some((status, _)) => {
+            let status = Status::of(*status);
+            status.has_message_error() || status.has_busy()
+        }
         None => false,
     }
 }

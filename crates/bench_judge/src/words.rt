@@ -2,6 +2,7 @@
 ghost use Rattle.bench_judge.specs.Words as spec;
 ghost use Rattle.ch11_f1.specs.Views.{message_of};
 ghost use Rattle.ch11_layout.specs.Layouts.{layout_of};
+ghost use Rattle.mil_word.specs.Fields.{most_words};
 ghost use Rattle.std.specs.Prelude.{◌≡◌, ◌≤◌, ◌-◌};
 
 use arrayvec::ArrayVec;
@@ -26,7 +27,7 @@ pub(crate) fn statuses(seen: &Seen<'_>, layout: &Layout) -> ArrayVec<u16, 2>
 /// The data words of a message. Condition: they are at most 32.
 pub(crate) fn data_words(seen: &Seen<'_>, layout: &Layout) -> ArrayVec<u16, 32>
     requires same { layout.now ≡ layout_of (message_of seen.now) }
-    requires few { layout.now.data_end - layout.now.data_start ≤ 32 }
+    requires few { layout.now.data_end - layout.now.data_start ≤ most_words }
     ensures { result.items ≡ spec.data_words (message_of seen.now) }
 {
     let mut found = ArrayVec::new();

@@ -1,5 +1,6 @@
 //! A report as far as its lines have come.
-ghost use Rattle.bench_report.specs.Drafts.{TakesIntoDraft, TakesText, IsOkOption, no_lines, closed, with_line, finished};
+ghost use Rattle.bench_report.specs.Drafts.{TakesIntoDraft, TakesText, IsOkOption, no_lines, closed, with_line};
+ghost use Rattle.bench_report.specs.Drafts.{finished};
 ghost use Rattle.bench_report.specs.Lines.{IsLine};
 ghost use Rattle.bench_report.specs.declared.fault.ReportFault.TheVariants.{Order};
 ghost use Rattle.std.specs.Prelude.{◌≡◌, IfErr};

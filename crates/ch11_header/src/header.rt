@@ -7,7 +7,7 @@ use crate::error::HeaderError;
 use byteorder::{ByteOrder, LittleEndian};
 
 /// The sync pattern that begins a packet, the bytes 25 EB as a number.
-pub const SYNC: u16 = 0xEB25;
+pub(crate) const SYNC: u16 = 0xEB25;
 
 /// How many bytes a header has.
 pub const HEADER_SIZE: usize = 24;

@@ -1,8 +1,8 @@
 -- Parts of a buffer.
-use Rattle.std.proofs.Common.{◌≡◌, ℕ, ◌+◌, ◌-◌, ◌≤◌, Bool, false, List, [], ◌++◌, length, take, drop, slice_range, Option, None, Some, sym, ap, ◌∙◌, arith}
+use Rattle.std.proofs.Common.{◌≡◌, ℕ, ◌+◌, ◌-◌, ◌≤◌, Bool, false, List, ◌++◌, length, take, drop, slice_range, Option, sym, ap, ◌∙◌, arith}
 use Rattle.std.proofs.lemmas.List.{drop-drop, drop-take, length-drop, length-take}
 use Rattle.std.proofs.Math.Seq.{take-add}
-use Rattle.std.specs.Io.KnownBytes.{Consumes, IsAtEnd, Keeps}
+use Rattle.std.specs.Io.KnownBytes.{Consumes, IsAtEnd}
 use Rattle.ch11_stream.specs.Feeding.{AreMoreReady}
 
 -- a part without its first items
@@ -27,12 +27,6 @@ range_more xs a e n order =
 
 pub range_length : (xs : List ℕ) (a e : ℕ) → e ≤ length xs → length (slice_range xs a e) ≡ e - a
 range_length xs a e within = omega (arith, within, length-take (e - a) (drop a xs), length-drop a xs)
-
--- a reader that kept its bytes lost none
-pub kept_is_none_lost : (left leaves : Option (List ℕ)) → Keeps left leaves → Consumes left leaves []
-kept_is_none_lost None leaves k = tt
-kept_is_none_lost (Some xs) None k = absurd k
-kept_is_none_lost (Some xs) (Some ys) k = sym k
 
 -- a read behind the bytes that are ready
 pub more_given : (left leaves : Option (List ℕ)) (before items new : List ℕ) (a e n : ℕ) (more : Bool) → a ≤ e → slice_range items a e ≡ before → take e new ≡ take e items

@@ -2,7 +2,7 @@
 use Rattle.std.specs.Prelude.{◌≡◌, ℕ, ◌<◌, ◌≤◌, ◌^◌, ◌||◌, true, false, List, [], ◌∷◌, ◌++◌, length, map, Some, None}
 use Rattle.std.specs.List.{list_any, AllByRecursion}
 use Rattle.mil_word.specs.declared.Line.{Line}
-use Rattle.mil_word.specs.Fields.{address_of, has_bit}
+use Rattle.mil_word.specs.Fields.{address_of, has_bit, highest_address}
 use Rattle.mil_word.specs.Words.{command_wave, data_wave}
 use Rattle.mil_word.specs.Timing.{least_response, latest_response}
 use Rattle.mil_message.specs.declared.forms.Due.{Due}
@@ -22,7 +22,7 @@ use Rattle.mil_bus.specs.Index.{IsClosed}
 
 -- the stations of a bus are terminals: none has the address of all (4.3.3.5.1.2)
 abbrev pub AreTerminals : List Station → Type 0
-AreTerminals stations = AllByRecursion (λ s. s.own ≤ 30) stations
+AreTerminals stations = AllByRecursion (λ s. s.own ≤ highest_address) stations
 
 -- a message of one of the ten forms, all its numbers in their ranges, its data words of 16 bits
 pub record IsMessage (form : Form) : Type 0 where
