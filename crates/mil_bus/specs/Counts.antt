@@ -33,7 +33,7 @@ abbrev pub differs : Bool → Option Word → Bool
 differs command None = false
 differs command (Some word) = not (same_bool (is_command_sync word.sync) command)
 
--- whether one of the words is sound and has the other sync than its place, after these
+-- whether one of the words is sound and has the wrong sync for its place, after these
 abbrev pub is_any_other_sync : ℕ → ℕ → List Sent → List Sent → Bool
 is_any_other_sync commands due before [] = false
 is_any_other_sync commands due before (w ∷ ws) =

@@ -34,7 +34,7 @@ pub struct TalkCounts {
     pub beyond: bool,
     /// Whether a word was unsound.
     pub unsound: bool,
-    /// Whether a sound word had the other sync than its place.
+    /// Whether a sound word had the wrong sync for its place.
     pub other_sync: bool,
 }
 
