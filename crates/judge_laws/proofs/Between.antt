@@ -24,7 +24,7 @@ use Rattle.mil_bus.specs.declared.talks.Source.TheVariants.{Controller, Terminal
 use Rattle.mil_bus.specs.declared.talks.Sent.{Sent}
 use Rattle.mil_bus.specs.declared.talk_runs.Run.{Run}
 use Rattle.mil_bus.specs.Actions.{station_of}
-use Rattle.mil_bus.specs.Exchange.{BusState, Offer, words_of, quieted, answer, first_reply, next_offer, all_hearing, quiet_after, controllers, last_on, gap_since, talk_start, exchange_of, talk_of}
+use Rattle.mil_bus.specs.Exchange.{BusState, Offer, words_of_run, quieted, answer, first_reply, next_offer, all_hearing, quiet_after, controllers, last_on, gap_since, talk_start, exchange_of, talk_of}
 use Rattle.mil_bus.specs.DataRuns.{hearing_all}
 use Rattle.mil_bus.specs.Index.{IsClosed}
 use Rattle.mil_bus.proofs.Answering.{answer-none}
@@ -41,7 +41,7 @@ use Rattle.judge_laws.proofs.OneReply.{other-called, or-first, turned, each, of-
 
 -- the two commands of a transfer, as a run of the controller
 abbrev pub commands_run : ℕ → ℕ → ℕ → List Sent
-commands_run g c1 c2 = words_of 0 Controller g (command_wave c1 ∷ command_wave c2 ∷ [])
+commands_run g c1 c2 = words_of_run 0 Controller g (command_wave c1 ∷ command_wave c2 ∷ [])
 
 abbrev pub after_commands : Line → ℕ → ℕ → ℕ → History → History
 after_commands line g c1 c2 h = Heard line (command_wave c2) 20 ∷ Heard line (command_wave c1) g ∷ h
@@ -71,7 +71,7 @@ idle-commands line g c1 c2 s small1 small2 other1 other2 is = go (is_deaf line s
 
 -- a reply heard by a station at rest, in any run
 heard-idle : (line : Line) (run address gap status : ℕ) (values : List ℕ) (s : Station) → status < 2 ^ 16 → AreSmall values → address_of status ≡ address → address ≤ 30 → Idle s
-    → Idle (hearing_all line (words_of run (Terminal address) gap (command_wave status ∷ map data_wave values)) s)
+    → Idle (hearing_all line (words_of_run run (Terminal address) gap (command_wave status ∷ map data_wave values)) s)
 heard-idle line run address gap status values s small words mine low idle =
     idle-run line run (Terminal address) gap status values s small words
     (λ heard. other-called status address s.own mine low (turned address s.own (or-first (address == s.own) (is_deaf line s.history) heard))) idle
@@ -209,7 +209,7 @@ module _ (line : Line) (g c1 c2 sender receiver count : ℕ) (s r : Station) (e 
       ∙ sym (ap (λ k. if k then Some (record { source = Terminal sender; gap = sender_time; waves = command_wave sender_status ∷ map data_wave sender_words }) else None) a)
 
   abbrev second_run : List Sent
-  second_run = words_of 1 (Terminal sender) sender_time (command_wave sender_status ∷ map data_wave sender_words)
+  second_run = words_of_run 1 (Terminal sender) sender_time (command_wave sender_status ∷ map data_wave sender_words)
 
   abbrev then_heard : Station → Station
   then_heard x = hearing_all line second_run (quieted line (hearing_all line (commands_run g c1 c2) x))
@@ -299,8 +299,8 @@ both-reply b line form gap c1 c2 count first second s r is no_words words few re
     let one : Offer = record { source = Terminal sender; gap = time; waves = command_wave st ∷ map data_wave vs } in
     let two : Offer = record { source = Terminal receiver; gap = last_time; waves = command_wave last_st ∷ [] } in
     let run0 = commands_run g c1 c2 in
-    let run1 = words_of 1 (Terminal sender) time (command_wave st ∷ map data_wave vs) in
-    let run2 = words_of 2 (Terminal receiver) last_time (command_wave last_st ∷ []) in
+    let run1 = words_of_run 1 (Terminal sender) time (command_wave st ∷ map data_wave vs) in
+    let run2 = words_of_run 2 (Terminal receiver) last_time (command_wave last_st ∷ []) in
     let all : AllByRecursion (λ (x : Station). Idle x × ((x.own == sender) ≡ true → x ≡ s) × ((x.own == receiver) ≡ true → x ≡ r)) b.stations =
     two-in-one Idle (λ (x : Station). (x.own == sender) ≡ true → x ≡ s) (λ (x : Station). (x.own == receiver) ≡ true → x ≡ r) b.stations idle fs.one fr.one in
     let offers : AllByRecursion (λ (x : Station). answer line (hearing_all line run0 x) ≡ (if x.own == sender then Some one else None)) b.stations =
@@ -310,8 +310,8 @@ both-reply b line form gap c1 c2 count first second s r is no_words words few re
     let more : AllByRecursion (λ (x : Station). answer line (f x) ≡ (if x.own == receiver then Some two else None)) b.stations =
     each (λ (x : Station). Idle x × ((x.own == sender) ≡ true → x ≡ s) × ((x.own == receiver) ≡ true → x ≡ r)) (λ (x : Station). answer line (f x) ≡ (if x.own == receiver then Some two else None))
     (λ x p. second-answers line g c1 c2 sender receiver count s r e x (part-of line g c1 c2 sender receiver count s r e x p.1 p.2) p.0) b.stations all in
-    let sent = words_of 0 Controller g (controller_waves form) in
-    let same : sent ≡ run0 = ap (words_of 0 Controller g) is in
+    let sent = words_of_run 0 Controller g (controller_waves form) in
+    let same : sent ≡ run0 = ap (words_of_run 0 Controller g) is in
     let next : next_offer line sent (all_hearing line sent b.stations) ≡ Some one =
     ap (λ ws. next_offer line ws (all_hearing line ws b.stations)) same
     ∙ ap (first_reply line) (sym (all-hear line run0 b.stations)) ∙ finds-offer line sender one (hearing_all line run0) b.stations offers fs.there in

@@ -27,7 +27,7 @@ use Rattle.mil_bus.specs.declared.talks.Source.TheVariants.{Controller, Terminal
 use Rattle.mil_bus.specs.declared.talks.Sent.{Sent}
 use Rattle.mil_bus.specs.declared.talk_runs.Run.{Run}
 use Rattle.mil_bus.specs.Actions.{station_of}
-use Rattle.mil_bus.specs.Exchange.{BusState, Offer, words_of, quieted, answer, first_reply, next_offer, all_hearing, quiet_after, controllers, last_on, gap_since, talk_start, exchange_of, talk_of}
+use Rattle.mil_bus.specs.Exchange.{BusState, Offer, words_of_run, quieted, answer, first_reply, next_offer, all_hearing, quiet_after, controllers, last_on, gap_since, talk_start, exchange_of, talk_of}
 use Rattle.mil_bus.specs.DataRuns.{hearing_all}
 use Rattle.mil_bus.specs.Index.{IsClosed}
 use Rattle.mil_bus.proofs.Answering.{answer-deaf, answer-none}
@@ -60,7 +60,7 @@ bound-quiet line c x (has_window items hears is) =
     rw hears (has_window (items ++ Quiet line ∷ []) hears (item-comes x.own line c (Quiet line) items x.history refl is (quiet-on line c items)))
 
 bound-run : (line : Line) (c run address gap st : ℕ) (values : List ℕ) (x : Station) → st < 2 ^ 16 → AreSmall values → (address_of st == x.own || is_broadcast st) ≡ false → (address == x.own) ≡ false
-    → IsBound line c x → IsBound line c (hearing_all line (words_of run (Terminal address) gap (command_wave st ∷ map data_wave values)) x)
+    → IsBound line c x → IsBound line c (hearing_all line (words_of_run run (Terminal address) gap (command_wave st ∷ map data_wave values)) x)
 bound-run line c run address gap st values x small words other away (hears_nothing deaf) =
     subst (IsBound line c) (run-missed line (record { number = run; source = Terminal address; gap = gap }) (command_wave st ∷ map data_wave values) x (either (address == x.own) (is_deaf line x.history) deaf)) (hears_nothing deaf)
   where
@@ -132,7 +132,7 @@ first-answer line g c1 c2 a o s x small1 small2 to_all second_is low given one b
 
 last-answer : (line : Line) (g c1 c2 a time st : ℕ) (vs : List ℕ) (s x : Station) → c1 < 2 ^ 16 → c2 < 2 ^ 16 → address_of c1 ≡ 31 → address_of c2 ≡ a → a ≤ 30 → st < 2 ^ 16 → AreSmall vs → address_of st ≡ a → s.own ≡ a
     → Idle (quieted line (hearing_all line (commands_run g c1 c2) s)) → ((x.own == a) ≡ true → x ≡ s) → nat_low x
-    → answer line (hearing_all line (words_of 1 (Terminal a) time (command_wave st ∷ map data_wave vs)) (quieted line (hearing_all line (commands_run g c1 c2) x))) ≡ None
+    → answer line (hearing_all line (words_of_run 1 (Terminal a) time (command_wave st ∷ map data_wave vs)) (quieted line (hearing_all line (commands_run g c1 c2) x))) ≡ None
 last-answer line g c1 c2 a time st vs s x small1 small2 to_all second_is low small words st_mine own rests one below = go (x.own == a) refl
   where
     y : Station
@@ -147,21 +147,21 @@ last-answer line g c1 c2 a time st vs s x small1 small2 to_all second_is low sma
     left : (p q : Bool) → p ≡ true → (p || q) ≡ true
     left p q is = rw is refl
 
-    own-word : (z : Station) → z.own ≡ a → Idle z → answer line (hearing_all line (words_of 1 (Terminal a) time (command_wave st ∷ map data_wave vs)) z) ≡ None
+    own-word : (z : Station) → z.own ≡ a → Idle z → answer line (hearing_all line (words_of_run 1 (Terminal a) time (command_wave st ∷ map data_wave vs)) z) ≡ None
     own-word z same idle =
         ap (answer line) (sym (run-missed line run (command_wave st ∷ map data_wave vs) z (left (a == z.own) (is_deaf line z.history) (eq-eqb a z.own (sym same))))) ∙ idle-answer line z idle
 
     sender-own : (quieted line (hearing_all line (commands_run g c1 c2) s)).own ≡ a
     sender-own = quieted-own line (hearing_all line (commands_run g c1 c2) s) ∙ hearing_all-own line (commands_run g c1 c2) s ∙ own
 
-    go : (k : Bool) → (x.own == a) ≡ k → answer line (hearing_all line (words_of 1 (Terminal a) time (command_wave st ∷ map data_wave vs)) y) ≡ None
+    go : (k : Bool) → (x.own == a) ≡ k → answer line (hearing_all line (words_of_run 1 (Terminal a) time (command_wave st ∷ map data_wave vs)) y) ≡ None
     go true same =
-        ap (λ (z : Station). answer line (hearing_all line (words_of 1 (Terminal a) time (command_wave st ∷ map data_wave vs)) (quieted line (hearing_all line (commands_run g c1 c2) z)))) (one same)
+        ap (λ (z : Station). answer line (hearing_all line (words_of_run 1 (Terminal a) time (command_wave st ∷ map data_wave vs)) (quieted line (hearing_all line (commands_run g c1 c2) z)))) (one same)
         ∙ own-word (quieted line (hearing_all line (commands_run g c1 c2) s)) sender-own rests
     go false other =
         let away : (y.own == a) ≡ false = ap (λ n. n == a) kept ∙ other in
-        let z = hearing_all line (words_of 1 (Terminal a) time (command_wave st ∷ map data_wave vs)) y in
-        let z_own : z.own ≡ x.own = hearing_all-own line (words_of 1 (Terminal a) time (command_wave st ∷ map data_wave vs)) y ∙ kept in
+        let z = hearing_all line (words_of_run 1 (Terminal a) time (command_wave st ∷ map data_wave vs)) y in
+        let z_own : z.own ≡ x.own = hearing_all-own line (words_of_run 1 (Terminal a) time (command_wave st ∷ map data_wave vs)) y ∙ kept in
         bound-answer line c1 z (ap (λ n. address_of c1 == n) z_own ∙ not-31 c1 x.own to_all below)
         (bound-run line c1 1 a time st vs y small words (other-called st a y.own st_mine low away) (turned y.own a away)
         (bound-quiet line c1 (hearing_all line (commands_run g c1 c2) x) (bound-commands line g c1 c2 x small1 small2 to_all (other-called c2 a x.own second_is low other))))
@@ -193,7 +193,7 @@ all-reply b line form gap c1 c2 count due s is small1 small2 to_all second_is lo
     let time = response_gap s.history in
     let o : Offer = record { source = Terminal a; gap = time; waves = command_wave st ∷ map data_wave vs } in
     let run0 = commands_run g c1 c2 in
-    let run1 = words_of 1 (Terminal a) time (command_wave st ∷ map data_wave vs) in
+    let run1 = words_of_run 1 (Terminal a) time (command_wave st ∷ map data_wave vs) in
     let given : answer line (hearing_all line run0 s) ≡ Some o =
     ap (answer line) (hears-commands line g c1 c2 s can.hears)
     ∙ gives-told s.own line c2 20 [] (first ∷ s.history) small2 tt mine can.legal announced tells can.hears can.speaks
@@ -203,8 +203,8 @@ all-reply b line form gap c1 c2 count due s is small1 small2 to_all second_is lo
     each (λ (x : Station). nat_low x × ((x.own == a) ≡ true → x ≡ s)) (λ (x : Station). answer line (hearing_all line run0 x) ≡ (if x.own == a then Some o else None))
     (λ x p. first-answer line g c1 c2 a o s x small1 small2 to_all second_is low given p.1 p.0) b.stations all in
     let f1 = λ (x : Station). hearing_all line run1 (quieted line (hearing_all line run0 x)) in
-    let sent = words_of 0 Controller g (controller_waves form) in
-    let same : sent ≡ run0 = ap (words_of 0 Controller g) is in
+    let sent = words_of_run 0 Controller g (controller_waves form) in
+    let same : sent ≡ run0 = ap (words_of_run 0 Controller g) is in
     let next : next_offer line sent (all_hearing line sent b.stations) ≡ Some o =
     ap (λ ws. next_offer line ws (all_hearing line ws b.stations)) same
     ∙ ap (first_reply line) (sym (all-hear line run0 b.stations)) ∙ finds-offer line a o (hearing_all line run0) b.stations offers f.there in

@@ -15,26 +15,26 @@ use Rattle.mil_bus.specs.declared.counts.TalkCounts.{TalkCounts}
 use Rattle.mil_bus.specs.Counts.{counts_of}
 use Rattle.mil_bus.specs.Pass.{noted}
 use Rattle.mil_bus.specs.Lengthened.{is_data, goes_on, lengthened}
-use Rattle.mil_bus.specs.Exchange.{words_of}
+use Rattle.mil_bus.specs.Exchange.{words_of_run}
 use Rattle.mil_bus.proofs.Passes.{counts_of-push}
 use Rattle.mil_bus.proofs.Lengthening.{counts_of-like}
 use Rattle.judge_laws.proofs.Words.{AreSmall}
 
 like-run : (run : ℕ) (source : Source) (gap : ℕ) (values : List ℕ) → AreSmall values → (k : ℕ) (d : Sent) → k < length values
-    → ((get_or (words_of run source gap (map data_wave values)) k d).run ≡ run) × (is_data (word_of (get_or (words_of run source gap (map data_wave values)) k d).wave) ≡ true)
+    → ((get_or (words_of_run run source gap (map data_wave values)) k d).run ≡ run) × (is_data (word_of (get_or (words_of_run run source gap (map data_wave values)) k d).wave) ≡ true)
 like-run run source gap [] small k d lt = absurd (omega (arith, lt))
 like-run run source gap (v ∷ vs) small zero d lt = (refl, rw (word_of-wave (record { sync = DataSync; value = v }) small.0) refl)
 like-run run source gap (v ∷ vs) small (suc k) d lt = like-run run source 20 vs small.1 k d (omega (arith, lt))
 
-run-long : (run : ℕ) (source : Source) (gap : ℕ) (waves : List ℕ) → length (words_of run source gap waves) ≡ length waves
+run-long : (run : ℕ) (source : Source) (gap : ℕ) (waves : List ℕ) → length (words_of_run run source gap waves) ≡ length waves
 run-long run source gap [] = refl
 run-long run source gap (w ∷ ws) = ap suc (run-long run source 20 ws)
 
 -- data words behind others of their run
 pub counts-data : (commands due : ℕ) → due ≤ 2 → (xs : List Sent) (run : ℕ) (source : Source) (values : List ℕ) → AreSmall values → goes_on commands due (counts_of commands due xs) run ≡ true
-    → counts_of commands due (xs ++ words_of run source 20 (map data_wave values)) ≡ lengthened (counts_of commands due xs) run (length values)
+    → counts_of commands due (xs ++ words_of_run run source 20 (map data_wave values)) ≡ lengthened (counts_of commands due xs) run (length values)
 counts-data commands due few xs run source values small on =
-    let ys = words_of run source 20 (map data_wave values) in
+    let ys = words_of_run run source 20 (map data_wave values) in
     let n = length values in
     let long : length ys ≡ n = run-long run source 20 (map data_wave values) ∙ length-map values data_wave in
     let front : take (length xs) (xs ++ ys) ≡ xs = take_at xs ys (length xs) refl in
@@ -60,7 +60,7 @@ counts-first due g c small = rw (word_of-wave (record { sync = CommandSync; valu
 
 -- a command and its data words
 pub counts-controller : (due g c : ℕ) (values : List ℕ) → due ≤ 2 → c < 2 ^ 16 → AreSmall values
-    → counts_of 1 due (words_of 0 Controller g (command_wave c ∷ map data_wave values)) ≡ nothing_wrong (1 + length values) None None
+    → counts_of 1 due (words_of_run 0 Controller g (command_wave c ∷ map data_wave values)) ≡ nothing_wrong (1 + length values) None None
 counts-controller due g c values few small words =
     let one = counts-first due g c small in
     counts-data 1 due few (first_word g c ∷ []) 0 Controller values words (ap (λ s. goes_on 1 due s 0) one) ∙ ap (λ s. lengthened s 0 (length values)) one
@@ -70,10 +70,10 @@ came gap status values = record { gap = gap; first = Some (record { sync = Comma
 
 -- and then a reply
 pub counts-reply : (n address gap status : ℕ) (values : List ℕ) (xs : List Sent) → status < 2 ^ 16 → AreSmall values → counts_of 1 1 xs ≡ nothing_wrong n None None
-    → counts_of 1 1 (xs ++ words_of 1 (Terminal address) gap (command_wave status ∷ map data_wave values)) ≡ nothing_wrong n (Some (came gap status values)) None
+    → counts_of 1 1 (xs ++ words_of_run 1 (Terminal address) gap (command_wave status ∷ map data_wave values)) ≡ nothing_wrong n (Some (came gap status values)) None
 counts-reply n address gap status values xs small words is =
     let w : Sent = record { wave = command_wave status; gap = gap; run = 1; source = Terminal address } in
-    let ys = words_of 1 (Terminal address) 20 (map data_wave values) in
+    let ys = words_of_run 1 (Terminal address) 20 (map data_wave values) in
     let few : 1 ≤ 2 = omega arith in
     let one : counts_of 1 1 (xs ++ w ∷ []) ≡ nothing_wrong n (Some (came gap status [])) None =
     counts_of-push 1 1 few xs w ∙ ap (λ s. noted 1 1 s w) is ∙ noted-first w in

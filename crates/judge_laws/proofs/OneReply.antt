@@ -22,7 +22,7 @@ use Rattle.mil_bus.specs.declared.talks.Source.TheVariants.{Controller, Terminal
 use Rattle.mil_bus.specs.declared.talks.Sent.{Sent}
 use Rattle.mil_bus.specs.declared.talk_runs.Run.{Run}
 use Rattle.mil_bus.specs.Actions.{station_of}
-use Rattle.mil_bus.specs.Exchange.{BusState, Offer, words_of, quieted, answer, first_reply, next_offer, all_hearing, quiet_after, controllers, last_on, gap_since, talk_start, exchange_of, talk_of}
+use Rattle.mil_bus.specs.Exchange.{BusState, Offer, words_of_run, quieted, answer, first_reply, next_offer, all_hearing, quiet_after, controllers, last_on, gap_since, talk_start, exchange_of, talk_of}
 use Rattle.mil_bus.specs.DataRuns.{hearing_all}
 use Rattle.mil_bus.specs.Index.{IsClosed}
 use Rattle.mil_bus.proofs.DataRuns.{run-heard}
@@ -47,7 +47,7 @@ other-called c address own mine low other =
     or-false (address_of c == own) (is_broadcast c) (ap (λ n. n == own) mine ∙ no) (ap (λ n. n == 31) mine ∙ not-to-all address low)
 
 abbrev controllers_words : ℕ → ℕ → List ℕ → List Sent
-controllers_words c g values = words_of 0 Controller g (command_wave c ∷ map data_wave values)
+controllers_words c g values = words_of_run 0 Controller g (command_wave c ∷ map data_wave values)
 
 module _ (line : Line) (c g : ℕ) (values : List ℕ) (small : c < 2 ^ 16) (words : AreSmall values) where
   -- a terminal that hears the command
@@ -93,7 +93,7 @@ turned m n is = grind (arith, nat_tests)
 
 -- a reply heard by a station at rest
 heard-idle : (line : Line) (address gap status : ℕ) (values : List ℕ) (s : Station) → status < 2 ^ 16 → AreSmall values → address_of status ≡ address → address ≤ 30 → Idle s
-    → Idle (hearing_all line (words_of 1 (Terminal address) gap (command_wave status ∷ map data_wave values)) s)
+    → Idle (hearing_all line (words_of_run 1 (Terminal address) gap (command_wave status ∷ map data_wave values)) s)
 heard-idle line address gap status values s small words mine low idle =
     idle-run line 1 (Terminal address) gap status values s small words
     (λ heard. other-called status address s.own mine low (turned address s.own (or-first (address == s.own) (is_deaf line s.history) heard))) idle
@@ -116,7 +116,7 @@ of-one P address t (s ∷ ss) all one there = go (λ found. of-one P address t s
     go rest true here = let is : s ≡ t = one.0 here in rw (← is) all.0
     go rest false other = rest (ap (λ b. b || list_any (λ (x : Station). x.own == address) ss) (sym other) ∙ there)
 
-pub words-long : (run : ℕ) (source : Source) (gap : ℕ) (waves : List ℕ) → length (words_of run source gap waves) ≡ length waves
+pub words-long : (run : ℕ) (source : Source) (gap : ℕ) (waves : List ℕ) → length (words_of_run run source gap waves) ≡ length waves
 words-long run source gap [] = refl
 words-long run source gap (w ∷ ws) = ap suc (words-long run source 20 ws)
 
@@ -150,8 +150,8 @@ one-reply b line form gap c values due t is small words mine low announced fits 
     let offers : AllByRecursion (λ (s : Station). answer line (hearing_all line first s) ≡ (if s.own == a then Some o else None)) b.stations =
     each (λ (s : Station). Idle s × ((s.own == a) ≡ true → s ≡ t)) (λ (s : Station). answer line (hearing_all line first s) ≡ (if s.own == a then Some o else None))
     (λ s p. answers line c g values small words a o t s mine low given p.1 p.0) b.stations both in
-    let sent = words_of 0 Controller g (controller_waves form) in
-    let same : sent ≡ first = ap (words_of 0 Controller g) is in
+    let sent = words_of_run 0 Controller g (controller_waves form) in
+    let same : sent ≡ first = ap (words_of_run 0 Controller g) is in
     let next : next_offer line sent (all_hearing line sent b.stations) ≡ Some o =
     ap (λ ws. next_offer line ws (all_hearing line ws b.stations)) same
     ∙ ap (first_reply line) (sym (all-hear line first b.stations)) ∙ finds-offer line a o (hearing_all line first) b.stations offers f.there in
@@ -162,7 +162,7 @@ one-reply b line form gap c values due t is small words mine low announced fits 
     all-through (hearing_all line first) (λ (s : Station). Idle s × ((s.own == a) ≡ true → s ≡ t)) (λ s. Idle (quieted line s))
     (λ s p. then-idle line c g values small words a t s mine low f.own can.hears p.1 p.0) b.stations both in
     let idle_now : AllByRecursion Idle quiet_now = all-through (quieted line) (λ s. Idle (quieted line s)) Idle (λ s p. p) (map (hearing_all line first) b.stations) heard_first in
-    let second = words_of 1 (Terminal a) (response_gap t.history) reply in
+    let second = words_of_run 1 (Terminal a) (response_gap t.history) reply in
     let silent_each : AllByRecursion (λ s. answer line s ≡ None) (map (hearing_all line second) quiet_now) =
     all-through (hearing_all line second) Idle (λ s. answer line s ≡ None)
     (λ s p. idle-answer line (hearing_all line second s) (heard-idle line a (response_gap t.history) st vs s s_is.below vs_small st_mine low p)) quiet_now idle_now in
@@ -187,6 +187,6 @@ one-reply b line form gap c values due t is small words mine low announced fits 
         words = vs_small;
         many = many_vs;
       };
-      sent = turn-then 39 0 line (controllers line form (talk_start b gap) b.talks) [] b.stations (Some o) (sent ++ words_of 1 (Terminal a) (response_gap t.history) reply) fits_first next
+      sent = turn-then 39 0 line (controllers line form (talk_start b gap) b.talks) [] b.stations (Some o) (sent ++ words_of_run 1 (Terminal a) (response_gap t.history) reply) fits_first next
           (last-turn 38 1 line o sent (quiet_after line sent (all_hearing line sent b.stations)) fits_second silent);
     }

@@ -16,7 +16,7 @@ use Rattle.mil_bus.specs.declared.talks.Source.{Source}
 use Rattle.mil_bus.specs.declared.talk_runs.Run.{Run}
 use Rattle.mil_bus.specs.Actions.{station_of}
 use Rattle.mil_bus.specs.Addresses.{is_fit}
-use Rattle.mil_bus.specs.Exchange.{Offer, words_of, misses, quieted, answer, first_reply}
+use Rattle.mil_bus.specs.Exchange.{Offer, words_of_run, misses, quieted, answer, first_reply}
 use Rattle.mil_bus.specs.DataRuns.{hearing_all}
 use Rattle.mil_bus.proofs.Answering.{answer-none}
 use Rattle.mil_bus.proofs.DataRuns.{run-missed, run-heard}
@@ -41,7 +41,7 @@ opens-other own line c gap small other = rw (command-read c small, other) refl
 
 -- a run whose first word is a command or a status word of another address
 pub idle-run : (line : Line) (run : ℕ) (source : Source) (gap c : ℕ) (values : List ℕ) (s : Station) → c < 2 ^ 16 → AreSmall values → (misses line source s ≡ false → (address_of c == s.own || is_broadcast c) ≡ false) → Idle s
-    → Idle (hearing_all line (words_of run source gap (command_wave c ∷ map data_wave values)) s)
+    → Idle (hearing_all line (words_of_run run source gap (command_wave c ∷ map data_wave values)) s)
 idle-run line run source gap c values s small words other is = go (misses line source s) refl
   where
     r : Run
@@ -50,10 +50,10 @@ idle-run line run source gap c values s small words other is = go (misses line s
     waves : List ℕ
     waves = command_wave c ∷ map data_wave values
 
-    later : (b : Station) → b ≡ hearing_all line (words_of run source gap waves) s → Idle b → Idle (hearing_all line (words_of run source gap waves) s)
+    later : (b : Station) → b ≡ hearing_all line (words_of_run run source gap waves) s → Idle b → Idle (hearing_all line (words_of_run run source gap waves) s)
     later b same idle = rw (← same) idle
 
-    go : (b : Bool) → misses line source s ≡ b → Idle (hearing_all line (words_of run source gap waves) s)
+    go : (b : Bool) → misses line source s ≡ b → Idle (hearing_all line (words_of_run run source gap waves) s)
     go true missed = later s (run-missed line r waves s missed) is
     go false hears =
         later (after_all s (heard line gap waves)) (run-heard line r waves s hears)

@@ -22,7 +22,7 @@ use Rattle.mil_bus.specs.Counts.{counts_of}
 use Rattle.mil_bus.specs.Pass.{noted}
 use Rattle.mil_bus.specs.Lengthened.{goes_on, lengthened}
 use Rattle.mil_bus.specs.BlockStatus.{first_due, second_due, is_late, is_miscounted, has_other_address, bit_if, is_line_b, is_transfer, has_response_time_out, has_word_count_error, has_error, block_of}
-use Rattle.mil_bus.specs.Exchange.{words_of}
+use Rattle.mil_bus.specs.Exchange.{words_of_run}
 use Rattle.mil_bus.proofs.Passes.{counts_of-push}
 use Rattle.ch11_f1.specs.BodyReading.{Message}
 use Rattle.ch11_layout.specs.Layouts.{size_of, commands_in, is_between, first_gap, second_gap, last_gap, first_word, has_front, has_back, data_start, word_of}
@@ -37,7 +37,7 @@ use Rattle.judge_laws.proofs.Sound.{none-of, none-of-two, none-of-three, counted
 
 -- ---- the counts
 
-pub counts-commands : (due g c1 c2 : ℕ) → c1 < 2 ^ 16 → c2 < 2 ^ 16 → counts_of 2 due (words_of 0 Controller g (command_wave c1 ∷ command_wave c2 ∷ [])) ≡ nothing_wrong 2 None None
+pub counts-commands : (due g c1 c2 : ℕ) → c1 < 2 ^ 16 → c2 < 2 ^ 16 → counts_of 2 due (words_of_run 0 Controller g (command_wave c1 ∷ command_wave c2 ∷ [])) ≡ nothing_wrong 2 None None
 unfolding counts_of
 counts-commands due g c1 c2 small1 small2 = rw (word_of-wave (record { sync = CommandSync; value = c1 }) small1, word_of-wave (record { sync = CommandSync; value = c2 }) small2, none-below due) refl
 
@@ -49,9 +49,9 @@ noted-one due address gap status small some more = rw (word_of-wave (record { sy
 
 -- the sender's reply
 pub counts-sender : (due address gap status : ℕ) (values : List ℕ) (xs : List Sent) → 1 ≤ due → due ≤ 2 → status < 2 ^ 16 → AreSmall values → counts_of 2 due xs ≡ nothing_wrong 2 None None
-    → counts_of 2 due (xs ++ words_of 1 (Terminal address) gap (command_wave status ∷ map data_wave values)) ≡ nothing_wrong 2 (Some (came gap status values)) None
+    → counts_of 2 due (xs ++ words_of_run 1 (Terminal address) gap (command_wave status ∷ map data_wave values)) ≡ nothing_wrong 2 (Some (came gap status values)) None
 counts-sender due address gap status values xs some few small words is =
-    let ys = words_of 1 (Terminal address) 20 (map data_wave values) in
+    let ys = words_of_run 1 (Terminal address) 20 (map data_wave values) in
     let w = status_word 1 address gap status in
     let less : nat_lt due 1 ≡ false = grind (arith, nat_tests) in
     let more : nat_lt 0 due ≡ true = grind (arith, nat_tests) in
@@ -62,7 +62,7 @@ counts-sender due address gap status values xs some few small words is =
 
 -- and the receiver's, a status word alone
 pub counts-receiver : (address gap status : ℕ) (one : Came) (xs : List Sent) → status < 2 ^ 16 → counts_of 2 2 xs ≡ nothing_wrong 2 (Some one) None
-    → counts_of 2 2 (xs ++ words_of 2 (Terminal address) gap (command_wave status ∷ [])) ≡ nothing_wrong 2 (Some one) (Some (came gap status []))
+    → counts_of 2 2 (xs ++ words_of_run 2 (Terminal address) gap (command_wave status ∷ [])) ≡ nothing_wrong 2 (Some one) (Some (came gap status []))
 counts-receiver address gap status one xs small is =
     counts_of-push 2 2 (omega arith) xs (status_word 2 address gap status) ∙ ap (λ s. noted 2 2 s (status_word 2 address gap status)) is ∙ noted-two
   where

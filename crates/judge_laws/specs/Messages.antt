@@ -17,7 +17,7 @@ use Rattle.mil_bus.specs.declared.talks.Source.TheVariants.{Controller, Terminal
 use Rattle.mil_bus.specs.declared.talks.Sent.{Sent}
 use Rattle.mil_bus.specs.Actions.{station_of}
 use Rattle.mil_bus.specs.Addresses.{is_fit}
-use Rattle.mil_bus.specs.Exchange.{BusState, words_of, last_on, gap_since, talk_start, talk_of}
+use Rattle.mil_bus.specs.Exchange.{BusState, words_of_run, last_on, gap_since, talk_start, talk_of}
 use Rattle.mil_bus.specs.Index.{IsClosed}
 
 -- the stations of a bus are terminals: none has the address of all (4.3.3.5.1.2)
@@ -32,7 +32,7 @@ pub record IsMessage (form : Form) : Type 0 where
 -- the words of the controller, as run 0, behind what came on the line before
 abbrev pub controllers_run : BusState → Line → Form → ℕ → List Sent
 controllers_run b line form gap =
-    words_of 0 Controller (gap_since (last_on line b.talks) (talk_start b gap)) (controller_waves form)
+    words_of_run 0 Controller (gap_since (last_on line b.talks) (talk_start b gap)) (controller_waves form)
 
 -- a message to all terminals that no reply is due to
 abbrev pub NobodyAnswersAll : Type 0
@@ -77,7 +77,7 @@ pub record IsDueReply (due : Due) (gap status : ℕ) (values : List ℕ) : Type 
 -- a status word and data words, as a run of this number
 abbrev pub replys_run : ℕ → Due → ℕ → ℕ → List ℕ → List Sent
 replys_run run due gap status values =
-    words_of run (Terminal due.address) gap (command_wave status ∷ map data_wave values)
+    words_of_run run (Terminal due.address) gap (command_wave status ∷ map data_wave values)
 
 -- the controller's words come on the line, then a reply as it is due, and nothing else
 pub record IsAnswered (b : BusState) (line : Line) (form : Form) (gap : ℕ) (due : Due) : Type 0 where

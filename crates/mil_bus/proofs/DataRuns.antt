@@ -9,7 +9,7 @@ use Rattle.mil_bus.specs.declared.talks.Sent.{Sent}
 use Rattle.mil_terminal.specs.Station.{Station, after}
 use Rattle.mil_terminal.specs.Runs.{heard, after_all}
 use Rattle.mil_bus.specs.declared.talks.Source.{Source}
-use Rattle.mil_bus.specs.Exchange.{misses, hearing, all_hearing, words_of}
+use Rattle.mil_bus.specs.Exchange.{misses, hearing, all_hearing, words_of_run}
 use Rattle.mil_bus.specs.Wholes.{run_waves}
 use Rattle.mil_bus.specs.DataRuns.{hearing_all, run_words, gap_at, run_from}
 use Rattle.mil_bus.specs.declared.talk_runs.Run.{Run}
@@ -59,20 +59,20 @@ gap_at-same zero = refl
 gap_at-same (suc place) = refl
 
 words_of-append : (number : ℕ) (source : Source) (gap : ℕ) (vs ws : List ℕ)
-    → words_of number source gap vs ++ words_of number source (gap_at (length vs) gap) ws ≡ words_of number source gap (vs ++ ws)
+    → words_of_run number source gap vs ++ words_of_run number source (gap_at (length vs) gap) ws ≡ words_of_run number source gap (vs ++ ws)
 words_of-append number source gap [] ws = refl
 words_of-append number source gap (v ∷ vs) ws =
     ap (λ xs. record { wave = v; gap = gap; run = number; source = source } ∷ xs)
-    (ap (λ g. words_of number source 20 vs ++ words_of number source g ws) (sym (gap_at-same (length vs))) ∙ words_of-append number source 20 vs ws)
+    (ap (λ g. words_of_run number source 20 vs ++ words_of_run number source g ws) (sym (gap_at-same (length vs))) ∙ words_of-append number source 20 vs ws)
 
 -- the commands of a run, and then its data words
 pub run-parts : (line : Line) (run : Run) (cs vs : List ℕ) (xs : List Station)
     → map (hearing_all line (run_words (run_from (length cs) run) (map data_wave vs))) (all_hearing line (run_words run (map command_wave cs)) xs) ≡ all_hearing line (run_words run (run_waves cs vs)) xs
 run-parts line run cs vs xs =
-    let first = words_of run.number run.source run.gap (map command_wave cs) in
-    let rest = words_of run.number run.source (gap_at (length cs) run.gap) (map data_wave vs) in
+    let first = words_of_run run.number run.source run.gap (map command_wave cs) in
+    let rest = words_of_run run.number run.source (gap_at (length cs) run.gap) (map data_wave vs) in
     sym (all_hearing-map line rest (all_hearing line first xs)) ∙ sym (all_hearing-append line first rest xs)
-    ∙ ap (λ n. all_hearing line (first ++ words_of run.number run.source (gap_at n run.gap) (map data_wave vs)) xs) (sym (length-map cs command_wave))
+    ∙ ap (λ n. all_hearing line (first ++ words_of_run run.number run.source (gap_at n run.gap) (map data_wave vs)) xs) (sym (length-map cs command_wave))
     ∙ ap (λ ws. all_hearing line ws xs) (words_of-append run.number run.source run.gap (map command_wave cs) (map data_wave vs))
 
 -- a run of commands alone
@@ -87,16 +87,16 @@ hearing-missed line w s missed = rw missed refl
 hearing-other : (line : Line) (w : Sent) (s : Station) → misses line w.source s ≡ false → hearing line w s ≡ after s (Heard line w.wave w.gap)
 hearing-other line w s other = rw other refl
 
-missed_go : (line : Line) (number : ℕ) (source : Source) (gap : ℕ) (waves : List ℕ) (s : Station) → misses line source s ≡ true → hearing_all line (words_of number source gap waves) s ≡ s
+missed_go : (line : Line) (number : ℕ) (source : Source) (gap : ℕ) (waves : List ℕ) (s : Station) → misses line source s ≡ true → hearing_all line (words_of_run number source gap waves) s ≡ s
 missed_go line number source gap [] s missed = refl
 missed_go line number source gap (w ∷ ws) s missed =
-    ap (hearing_all line (words_of number source 20 ws)) (hearing-missed line (record { wave = w; gap = gap; run = number; source = source }) s missed) ∙ missed_go line number source 20 ws s missed
+    ap (hearing_all line (words_of_run number source 20 ws)) (hearing-missed line (record { wave = w; gap = gap; run = number; source = source }) s missed) ∙ missed_go line number source 20 ws s missed
 
 heard_go : (line : Line) (number : ℕ) (source : Source) (gap : ℕ) (waves : List ℕ) (s : Station) → misses line source s ≡ false
-    → hearing_all line (words_of number source gap waves) s ≡ after_all s (heard line gap waves)
+    → hearing_all line (words_of_run number source gap waves) s ≡ after_all s (heard line gap waves)
 heard_go line number source gap [] s other = refl
 heard_go line number source gap (w ∷ ws) s other =
-    ap (hearing_all line (words_of number source 20 ws)) (hearing-other line (record { wave = w; gap = gap; run = number; source = source }) s other)
+    ap (hearing_all line (words_of_run number source 20 ws)) (hearing-other line (record { wave = w; gap = gap; run = number; source = source }) s other)
     ∙ heard_go line number source 20 ws (after s (Heard line w gap)) other
 
 -- a station does not hear what it sends, nor anything on a line where it is deaf

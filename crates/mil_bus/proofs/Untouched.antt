@@ -5,7 +5,7 @@ use Rattle.std.proofs.lemmas.List.{take_all}
 use Rattle.std.proofs.lemmas.Bool.Decides.{nat_tests}
 use Rattle.mil_line.specs.declared.faults.Fault.{Fault}
 use Rattle.mil_line.specs.Faults.{altered_from}
-use Rattle.mil_bus.specs.Exchange.{Offer, words_of, run_sent}
+use Rattle.mil_bus.specs.Exchange.{Offer, words_of_run, run_sent}
 
 whole : (run index : ℕ) (waves : List ℕ) → altered_from [] run index waves ≡ waves
 whole run index [] = refl
@@ -21,7 +21,7 @@ take-min n ws = go (nat_le n (length ws)) refl
         let is : min n (length ws) ≡ length ws = omega arith in
         ap (λ k. take k ws) is ∙ take_all (length ws) ws (omega arith) ∙ sym (take_all n ws (omega arith))
 
-pub run_sent-untouched : (room : ℕ) (faults : List Fault) (run : ℕ) (o : Offer) → (length faults == 0) ≡ true → run_sent room faults run o ≡ words_of run o.source o.gap (take room o.waves)
+pub run_sent-untouched : (room : ℕ) (faults : List Fault) (run : ℕ) (o : Offer) → (length faults == 0) ≡ true → run_sent room faults run o ≡ words_of_run run o.source o.gap (take room o.waves)
 unfolding run_sent
-run_sent-untouched room [] run o none = ap (λ ws. words_of run o.source o.gap (take room ws)) (whole run 0 o.waves)
+run_sent-untouched room [] run o none = ap (λ ws. words_of_run run o.source o.gap (take room ws)) (whole run 0 o.waves)
 run_sent-untouched room (f ∷ faults) run o none = absurd (grind (arith, nat_tests))

@@ -6,7 +6,7 @@ use Rattle.mil_word.specs.Timing.{contiguous_gap}
 use Rattle.mil_terminal.specs.Station.{Station}
 use Rattle.mil_bus.specs.declared.talks.Sent.{Sent}
 use Rattle.mil_bus.specs.declared.talk_runs.Run.{Run}
-use Rattle.mil_bus.specs.Exchange.{hearing, words_of}
+use Rattle.mil_bus.specs.Exchange.{hearing, words_of_run}
 pub use Rattle.mil_terminal.specs.Runs.{AreNoCommands}
 
 -- words, each heard by one station
@@ -16,7 +16,7 @@ hearing_all line (w ∷ ws) s = hearing_all line ws (hearing line w s)
 
 -- the words of a run with these waves
 abbrev pub run_words : Run → List ℕ → List Sent
-run_words run waves = words_of run.number run.source run.gap waves
+run_words run waves = words_of_run run.number run.source run.gap waves
 
 -- the gap of a word of a run, by its place
 abbrev pub gap_at : ℕ → ℕ → ℕ

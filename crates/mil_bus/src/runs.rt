@@ -1,5 +1,5 @@
 //! The runs of an exchange: words and quiets, told to all terminals.
-ghost use Rattle.mil_bus.specs.Exchange.{all_hearing, words_of, run_sent, runs, most_runs};
+ghost use Rattle.mil_bus.specs.Exchange.{all_hearing, words_of_run, run_sent, runs, most_runs};
 ghost use Rattle.mil_bus.specs.Offers.{offered, offer_in, given};
 ghost use Rattle.mil_bus.specs.Wholes.{value_waves};
 ghost use Rattle.mil_line.specs.Faults.{altered};
@@ -26,7 +26,7 @@ const MOST_RUNS: u8 = MOST_SENT as u8;
 fn send_like(sent: &mut ArrayVec<Sent, MOST_SENT>, word: &Sent, waves: &[Wave])
     requires room { length sent.old.items + length waves.now ≤ most_sent }
     requires contiguous { word.now.gap ≡ contiguous_gap }
-    ensures { sent.new.items ≡ sent.old.items ++ words_of word.now.run word.now.source contiguous_gap waves.now }
+    ensures { sent.new.items ≡ sent.old.items ++ words_of_run word.now.run word.now.source contiguous_gap waves.now }
 {
     for wave in waves {
         let mut next = *word;
@@ -38,7 +38,7 @@ fn send_like(sent: &mut ArrayVec<Sent, MOST_SENT>, word: &Sent, waves: &[Wave])
 /// Puts the words of a run behind those sent.
 pub fn send(sent: &mut ArrayVec<Sent, MOST_SENT>, run: u8, source: Source, gap: Gap, waves: &[Wave])
     requires { length sent.old.items + length waves.now ≤ most_sent }
-    ensures { sent.new.items ≡ sent.old.items ++ words_of run source gap waves.now }
+    ensures { sent.new.items ≡ sent.old.items ++ words_of_run run source gap waves.now }
 {
     let Some((first, others)) = waves.split_first() else {
         return;

@@ -1,7 +1,7 @@
 use Rattle.std.proofs.Common.{length, ap, arith, length-append}
 use Rattle.arrayvec.specs.ArrayVec.{ArrayVec}
 use Rattle.mil_bus.specs.declared.talks.Sent.{Sent}
-use Rattle.mil_bus.specs.Exchange.{words_of}
+use Rattle.mil_bus.specs.Exchange.{words_of_run}
 use Rattle.mil_bus.specs.Wholes.{all_words}
 use Rattle.mil_bus.proofs.KeptRuns.{all_words-length, words_of-length}
 use Rattle.mil_bus.proofs.sent_words.SentWords.put_each.Goals as goal
@@ -12,7 +12,7 @@ invariant_of-self c =
     let values = c.self.inside.values.items in
     let each = c.self.inside.each.items in
     let run = c.args.run.now in
-    let words = words_of run.number run.source run.gap c.args.waves.now in
+    let words = words_of_run run.number run.source run.gap c.args.waves.now in
     record {
       counted = c.self.invariant.counted;
       many = c.self.invariant.many;
