@@ -11,6 +11,7 @@ ghost use Rattle.frame_code.specs.Routines.{routine_at};
 ghost use Rattle.frame_code.specs.Table.{sends, turns, leaves, calls, comes_back};
 ghost use Rattle.frame_load.specs.Judging.{IsWithin, HasShortPeriods};
 ghost use Rattle.mil_message.specs.World.{sent};
+ghost use Rattle.mil_word.specs.Timing.{least_gap};
 ghost use Rattle.mil_word.specs.declared.Line.{Line};
 ghost use Rattle.std.specs.Prelude.{OnOk, OnErr};
 ghost use Rattle.std.specs.Prelude.{◌≡◌, ◌<◌, ◌≤◌, ◌+◌, ◌^◌, ◌≢◌, Some, None, if◌then◌else◌, slice_get, length, IfOk};
@@ -127,7 +128,7 @@ impl Parts {
 
     /// Sets the gap.
     fn set_gap(&mut self, ticks: u16)
-        requires { 40 ≤ ticks }
+        requires { least_gap ≤ ticks }
         ensures { self.new ≡ moves.gap_set self.old ticks }
     {
         self.progress.gap = Gap::of(ticks);

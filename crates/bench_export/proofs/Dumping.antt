@@ -1,25 +1,12 @@
 -- The text of a value change dump that was written so far.
-use Rattle.std.proofs.Common.{◌≡◌, ℕ, zero, suc, ◌+◌, ◌/◌, ◌%◌, ◌<◌, ◌≤◌, ◌==◌, nat_lt, Bool, true, false, if◌then◌else◌, List, [], ◌∷◌, ◌++◌, length, drop, get_or, Option, None, refl, sym, ap, subst, ◌∙◌, append_assoc, add-one, drop-cons, arith}
+use Rattle.std.proofs.Common.{◌≡◌, ℕ, zero, suc, ◌+◌, ◌/◌, ◌%◌, ◌<◌, ◌≤◌, nat_lt, Bool, true, false, if◌then◌else◌, List, [], ◌∷◌, ◌++◌, length, drop, get_or, Option, None, refl, sym, ap, subst, ◌∙◌, append_assoc, add-one, drop-cons, arith}
 use Rattle.std.specs.Io.KnownBytes.{Appends}
-use Rattle.std.specs.Prelude.{◌||◌, codes}
+use Rattle.std.specs.Prelude.{codes}
 use Rattle.std.proofs.lemmas.List.{append-nil, drop_all}
-use Rattle.std.proofs.lemmas.List.Folds.{list_any-append}
 use Rattle.bench_dump.proofs.Steps.{appends_both, appends_nothing}
 use Rattle.bench_export.specs.declared.changes.Change.{Change}
 use Rattle.std.proofs.lemmas.Bool.Decides.{nat_tests}
 use Rattle.bench_export.specs.Waves.{binary, has_channel, marked, ArePresent, channels_text, present_text, scope_text, idle_text, start_text, head_text, first_tick, notes, change_text, changes_text}
-
-or_false : (b : Bool) → (b || false) ≡ b
-or_false true = refl
-or_false false = refl
-
-or_true : (b : Bool) → (b || true) ≡ true
-or_true true = refl
-or_true false = refl
-
-has_one_more : (k : ℕ) (cs : List Change) (c : Change) → has_channel k (cs ++ c ∷ []) ≡ (has_channel k cs || (c.channel == k))
-has_one_more k cs c =
-    list_any-append (λ (x : Change). x.channel == k) cs (c ∷ []) ∙ ap (λ (b : Bool). has_channel k cs || b) (or_false (c.channel == k))
 
 regroup : (t a b c d e : List ℕ) → ((((t ++ a) ++ b) ++ c) ++ d) ++ e ≡ t ++ (a ++ (b ++ (c ++ (d ++ e))))
 regroup t a b c d e = simp append_assoc

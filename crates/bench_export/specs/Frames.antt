@@ -2,7 +2,7 @@
 -- and of each message as many.
 use Rattle.std.specs.Prelude.{ℕ, zero, suc, ◌+◌, ◌-◌, ◌/◌, ◌%◌, ◌^◌, ◌==◌, Bool, false, not, ◌&&◌, ◌||◌, nat_lt}
 use Rattle.std.specs.Prelude.{if◌then◌else◌, List, [], ◌∷◌, ◌++◌, Option, Some, None, codes, decimal}
-use Rattle.mil_word.specs.Fields.{has_bit, is_transmit}
+use Rattle.mil_word.specs.Fields.{has_bit, is_transmit, most_words}
 use Rattle.ch11_f1.specs.BodyReading.{Message}
 use Rattle.ch11_layout.specs.Layouts.{size_of, word_of, is_between, first_word, first_gap, second_gap, commands_in}
 use Rattle.ch11_layout.specs.Layouts.{data_start, data_end}
@@ -105,7 +105,7 @@ answered_columns prefixed m =
 abbrev pub carried_columns : Bool → Message → List (List ℕ)
 carried_columns prefixed m =
     status_flags (first_status m) (second_status m)
-    ++ (error_flags m.block ++ (decimal (data_end m - data_start m) ∷ data_fields 32 prefixed m))
+    ++ (error_flags m.block ++ (decimal (data_end m - data_start m) ∷ data_fields most_words prefixed m))
 
 -- all these columns
 abbrev pub frame_row : Bool → Message → List (List ℕ)
@@ -136,7 +136,7 @@ error_names =
     ∷ codes "sync_type_error" ∷ codes "invalid_word_error" ∷ []
 
 abbrev pub carried_names : List (List ℕ)
-carried_names = status_names ++ (error_names ++ (codes "data_words" ∷ data_names 32))
+carried_names = status_names ++ (error_names ++ (codes "data_words" ∷ data_names most_words))
 
 abbrev pub frame_names : List (List ℕ)
 frame_names = sent_names ++ (called_names ++ (answered_names ++ carried_names))

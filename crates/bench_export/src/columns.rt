@@ -12,10 +12,11 @@ use crate::values::push_word;
 use ch11_f1::Seen;
 use ch11_layout::{Layout, first_gap, is_set, second_gap, word_at};
 use mil_word::Command;
+use mil_word::fields::MOST_WORDS;
 use std::alloc::AllocError;
 
-/// How many data words have a column: as many as a message has at most (MIL-STD-1553B 4.3.3.5.1.5).
-pub(crate) const DATA_COLUMNS: usize = 32;
+/// How many data words have a column: as many as a message has at most.
+pub(crate) const DATA_COLUMNS: usize = MOST_WORDS as usize;
 
 /// Which columns a row has.
 #[derive(Clone, Copy, Debug, PartialEq, Eq)]

@@ -2,23 +2,22 @@
 ghost use Rattle.bench_export.specs.Moments as spec;
 ghost use Rattle.ch11_f1.specs.Views.{message_of};
 ghost use Rattle.ch11_layout.specs.Layouts.{layout_of, last_gap};
+ghost use Rattle.mil_word.specs.Timing.{contiguous_gap};
 ghost use Rattle.std.specs.Prelude.{◌≡◌, ◌-◌, ◌<◌, ◌≤◌, ◌^◌};
 
 use ch11_f1::Seen;
 use ch11_layout::{Layout, first_gap, is_set, second_gap};
+use mil_word::timing::{CONTIGUOUS_GAP, WORD_TIME};
 
-/// How many ticks of 0.1 µs a word takes (MIL-STD-1553B 4.3.3.3).
-pub(crate) const WORD: u128 = 200;
-
-/// The gap, in ticks, of words with nothing between them (MIL-STD-1553B 4.3.3.7).
-const CLOSE: u8 = 20;
+/// How long a word takes, in ticks of 0.1 µs.
+pub(crate) const WORD: u128 = WORD_TIME as u128;
 
 /// What lies between two words with this gap, in ticks.
 fn pause(gap: u8) -> u128
-    ensures value { result ≡ gap - 20 }
+    ensures value { result ≡ gap - contiguous_gap }
     ensures small { result ≤ 255 }
 {
-    u128::from(gap.saturating_sub(CLOSE))
+    u128::from(u16::from(gap).saturating_sub(CONTIGUOUS_GAP))
 }
 
 /// The gap of the reply behind the data words.
