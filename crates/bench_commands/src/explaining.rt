@@ -6,8 +6,8 @@ use bench_requests::Fault;
 use std::io;
 use std::io::{BufWriter, Write};
 
-/// Prints what codes mean, or a line for each code where none is given. A word may have several codes, parted by
-/// spaces. A code that there is not is refused, and nothing is printed.
+/// Prints what codes mean, or a line for each code where none is given. A word may have several codes, separated by
+/// spaces. An unknown code is refused, and nothing is printed.
 pub fn show_explanations<'a, R: AllocGlobal + Print>(
     rt: &R,
     given: &[&'a str],

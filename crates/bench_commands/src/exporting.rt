@@ -24,7 +24,7 @@ use std::io::{BufWriter, IsTerminal, Write};
 use std::rt::{Clock, Files};
 use text_lines::WriteFault;
 
-/// As what messages are exported.
+/// What messages are exported as.
 #[derive(Clone, Copy, Debug, PartialEq, Eq)]
 pub enum Exported {
     /// Rows of comma-separated values with these columns, and with times of day where `timed` is set.
@@ -53,7 +53,7 @@ impl Exported {
 pub struct ExportRequest<'a> {
     /// Which messages, and the file to write to.
     pub extract: Extract<'a>,
-    /// As what.
+    /// What they are exported as.
     pub exported: Exported,
 }
 
@@ -105,7 +105,7 @@ pub(crate) fn export_command<'a>(alloc: Global) -> Result<Command<'a>, AllocErro
     )
 }
 
-/// The options that say as what messages are exported.
+/// The options that say what messages are exported as.
 fn form_options<'a>() -> [Row<'a>; 4] {
     let frames = "Writes rows with a column for each value, for data frames";
     let hex = "With --frames: puts 0x in front of words";

@@ -22,8 +22,8 @@ pub struct Extract<'a> {
     pub force: bool,
 }
 
-/// What says so on a command line, but for the options that choose messages: the recording and the out file, which the
-/// help tells of like that.
+/// What says so on a command line, but for the options that choose messages: the recording and the out file, as the
+/// help describes them.
 pub(crate) fn extract_options<'a>(recording: &'a str, out: &'a str) -> [Row<'a>; 3] {
     [
         argument("RECORDING", recording),

@@ -1,10 +1,10 @@
-//! The words of the command line, and which of them is no text.
+//! The words of the command line, and which of them is not text.
 
 use std::alloc::AllocError;
 use std::rt::Env;
 use std::{env, io, str};
 
-/// How many bytes of a word are looked at, where it is no text.
+/// How many bytes of a word are looked at, where it is not text.
 const ROOM: usize = 4096;
 
 /// All words, the program's name first.
@@ -12,7 +12,7 @@ pub(crate) fn words_of<R: Env + AllocGlobal>(rt: &R) -> io::Result<Vec<String>> 
     Ok(env::args(rt)?.collect(rt.alloc())?)
 }
 
-/// The first word that is not UTF-8, with each other byte than printable ASCII as `\xE9`; none where there is no such
+/// The first word that is not UTF-8, with each byte other than printable ASCII as `\xE9`; none where there is no such
 /// word, or it is too long to be shown.
 pub(crate) fn word_at_fault<R: Env + AllocGlobal>(rt: &R) -> Result<Option<String>, AllocError> {
     let mut bytes = [0u8; ROOM];
@@ -28,7 +28,7 @@ pub(crate) fn word_at_fault<R: Env + AllocGlobal>(rt: &R) -> Result<Option<Strin
     Ok(None)
 }
 
-/// A word with each other byte than printable ASCII by its number.
+/// A word with each byte other than printable ASCII by its number.
 fn shown<R: AllocGlobal>(rt: &R, word: &[u8]) -> Result<String, AllocError> {
     let mut out = String::new(rt.alloc());
     for byte in word {

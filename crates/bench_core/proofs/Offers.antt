@@ -56,11 +56,6 @@ recorded_on job m n made of is all =
 -- ---- lists, one of them changed
 
 module _ {X Y : Type 0} where
-  pub map_set : (g : X → Y) (xs : List X) (i : ℕ) (v : X) → map g (slice_set xs i v) ≡ slice_set (map g xs) i (g v)
-  map_set g [] i v = refl
-  map_set g (x ∷ xs) zero v = refl
-  map_set g (x ∷ xs) (suc i) v = ap (λ (ys : List Y). g x ∷ ys) (map_set g xs i v)
-
   pub map_at : (g : X → Y) (xs : List X) (i : ℕ) (x : X) → slice_get xs i ≡ Some x → slice_get (map g xs) i ≡ Some (g x)
   map_at g [] i x at = absurd cc
   map_at g (y ∷ xs) zero x at = let same : y ≡ x = cc in ap (λ (z : X). Some (g z)) same
@@ -70,14 +65,6 @@ module _ {X Y : Type 0} where
   map_kept g [] i x v at same = refl
   map_kept g (y ∷ xs) zero x v at same = let here : x ≡ y = cc in ap (λ (z : Y). z ∷ map g xs) (same ∙ ap g here)
   map_kept g (y ∷ xs) (suc i) x v at same = ap (λ (ys : List Y). g y ∷ ys) (map_kept g xs i x v at same)
-
-  pub map_same : (g k : X → Y) (xs : List X) → ((x : X) → g x ≡ k x) → map g xs ≡ map k xs
-  map_same g k [] same = refl
-  map_same g k (x ∷ xs) same = ap (λ (y : Y). y ∷ map g xs) (same x) ∙ ap (λ (ys : List Y). k x ∷ ys) (map_same g k xs same)
-
-  pub length_map : (g : X → Y) (xs : List X) → length (map g xs) ≡ length xs
-  length_map g [] = refl
-  length_map g (x ∷ xs) = ap suc (length_map g xs)
 
 pub set_same : {X : Type 0} (xs : List X) (i : ℕ) (x : X) → slice_get xs i ≡ Some x → slice_set xs i x ≡ xs
 set_same [] i x at = refl
@@ -117,14 +104,6 @@ next_made i b l None at = end_made i b l (l.ended || not (has_room b)) at
 pub offer_is : (i : ℕ) (b : Bench) (l : LaneState) → slice_get b.lanes i ≡ Some l
     → offer_made i b (after_next l (next_in l) (has_room b)) (queued_next l (next_in l) (has_room b)) ≡ offered i b
 offer_is i b l at = next_made i b l (next_in l) at ∙ ap (λ (o : Option LaneState). lane_offers i o b) (sym at)
-
-pub offer_of_none : (i : ℕ) (b : Bench) → length b.lanes ≤ i → b ≡ offered i b
-offer_of_none i b high = ap (λ (o : Option LaneState). lane_offers i o b) (sym (nothing b.lanes i high))
-  where
-    nothing : (lanes : List LaneState) (j : ℕ) → length lanes ≤ j → slice_get lanes j ≡ None
-    nothing [] j le = refl
-    nothing (l ∷ lanes) zero le = absurd (omega (arith, le))
-    nothing (l ∷ lanes) (suc j) le = nothing lanes j (omega (arith, le))
 
 -- ---- a channel after its last message, and after a message
 

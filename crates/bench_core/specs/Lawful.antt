@@ -14,6 +14,10 @@ format_of s = record { version = s.version; limit = s.limit }
 abbrev pub channels_of : List JobState → List ℕ
 channels_of jobs = map (λ (j : JobState). j.channel) jobs
 
+-- so many actions are posted to a channel at most
+abbrev pub most_posts : ℕ
+most_posts = 65536
+
 -- 1 to 32 jobs, and each setting in its range
 pub record AreSettingsInRange (jobs : List JobState) (s : Settings) : Type 0 where
   pub some : 1 ≤ length jobs
@@ -22,7 +26,7 @@ pub record AreSettingsInRange (jobs : List JobState) (s : Settings) : Type 0 whe
   pub limit_high : s.limit ≤ 524288
   pub queue_low : 1 ≤ s.queue
   pub queue_high : s.queue ≤ 4096
-  pub posts : s.posts ≤ 65536
+  pub posts : s.posts ≤ most_posts
 
 -- they may be run: no channel is named by two jobs, and the prologue is one of sound packets without one of
 -- MIL-STD-1553 messages

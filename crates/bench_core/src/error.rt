@@ -5,7 +5,7 @@ use std::fmt::{self, Display, Formatter, Write};
 /// Why steps were not played to their end.
 #[derive(Clone, Copy, Debug, PartialEq, Eq)]
 pub enum PlayError {
-    /// O1: a step is of a channel that there is not. Nothing was done.
+    /// O1: a step is of a channel that does not exist. Nothing was done.
     Index,
     /// O2: memory was refused at the step behind so many, which are done.
     Memory {

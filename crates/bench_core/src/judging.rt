@@ -6,7 +6,7 @@ ghost use Rattle.std.specs.List.{list_any};
 ghost use Rattle.std.specs.Prelude.{◌≡◌, ◌↔◌, ◌==◌, IsTrue, IsOk, OnOk, IfErr};
 
 use crate::error::WorldError;
-use crate::settings::Settings;
+use crate::settings::{MOST_POSTS, Settings};
 use ch11_reader::holds_no_messages;
 use job_file::Job;
 
@@ -35,7 +35,7 @@ fn in_range(jobs: &[Job], settings: &Settings) -> bool
     (1..=32).contains(&jobs.len())
         && (256..=524_288).contains(&settings.limit)
         && (1..=4096).contains(&settings.queue)
-        && settings.posts <= 65_536
+        && settings.posts <= MOST_POSTS
 }
 
 /// Whether no two jobs have the same channel.

@@ -9,6 +9,7 @@ ghost use Rattle.std.specs.Vec.{vec_capacity};
 
 use crate::parts::channel_report;
 use crate::placing::{add_posted, ordered_actions};
+use crate::settings::MOST_POSTS;
 use bc_machine::{Actions, Machine, Placed, Schedule};
 use bench_report::ChannelReport;
 use ch11_recording::{Item, record_fits};
@@ -19,9 +20,6 @@ use mil_word::fields::HIGHEST_ADDRESS;
 use std::alloc::{AllocError, Global};
 use std::marker::Model;
 use std::snapshot::Snapshot;
-
-/// At most so many actions are posted for a channel.
-const MOST_POSTS: u32 = 65_536;
 
 /// A channel's terminals, its controller, the numbers that a full queue refused, whether the end mark was queued, the
 /// placed actions by rising number, and how many of them were posted. Contracts see the job itself too, of which no
@@ -145,8 +143,8 @@ impl Lane {
     }
 
     /// Places an action of a host of a terminal at the channel's next message, behind what is placed there. It fails
-    /// where memory is refused, and for an address above 30 and behind 65,536 posts, which the steps that are played
-    /// never have; then nothing was done.
+    /// where memory is refused, and for an address above 30 and behind `MOST_POSTS` posts, which the steps that are
+    /// played never have; then nothing was done.
     #[tactic(auto, using(crate::proofs::Posting::never_back))]
     pub(crate) fn post(&mut self, address: u8, action: &Action) -> Result<(), AllocError>
         ensures lane { OnOk result (self.new ≡ with_post self.old address action.now) }

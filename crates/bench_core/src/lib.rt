@@ -20,15 +20,12 @@ mod world;
 mod writing;
 
 pub use alone::one_channel;
-pub use bench_report::{
-    ChannelReport, Report, ReportError, ReportFault, print_report, read_report,
-};
 pub use channel_fault::ChannelFault;
 pub use error::{PlayError, WorldError};
 pub use judging::judge;
 pub use laws::bench_is_settled;
 pub use parts::channel_report;
 pub use placing::{add_action, ordered_actions};
-pub use settings::Settings;
+pub use settings::{DEFAULT_LIMIT, DEFAULT_QUEUE, DEFAULT_VERSION, MOST_POSTS, Settings};
 pub use step::Step;
 pub use world::World;

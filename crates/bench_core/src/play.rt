@@ -7,7 +7,7 @@ use crate::stepping::{are_few_posts, are_for_terminals, are_steps};
 use crate::world::World;
 
 impl World {
-    /// Takes the steps, one after the other. O1 where one is of a channel that there is not, O3 where an action is
+    /// Takes the steps, one after the other. O1 where one is of a channel that does not exist, O3 where an action is
     /// posted to an address at which its channel has no terminal, O4 where a channel would have more posts since the
     /// world was made than the settings allow, in this order, and nothing is done; O2 where memory is refused, once the
     /// steps before are done.

@@ -52,7 +52,7 @@ fn part(line: &mut Line, any: bool) {
     }
 }
 
-/// Puts a gap behind which no status word stands, parted from what stands there.
+/// Puts a gap behind which no status word stands, separated from what stands there.
 fn put_missing(line: &mut Line, any: bool, gap: u8) {
     part(line, any);
     line.put(b"no status word");

@@ -26,7 +26,7 @@ pub record IsHandOf (box : Mailbox) (h : Hand) : Type 0 where
   pub counted : h.count ≡ length (posted h.poster)
   pub few : h.count ≤ 65536
 
--- there are a channel, a flag and a hand for each mailbox
+-- there is a channel, a flag and a hand for each mailbox
 pub record AreHandsOf (desk : Desk) (hands : List Hand) : Type 0 where
   pub channels : length desk.channels.items ≡ length desk.boxes.items
   pub ended : length desk.ended.items ≡ length desk.boxes.items

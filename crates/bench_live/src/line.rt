@@ -16,10 +16,10 @@ pub struct LivePost {
     pub action: Action,
 }
 
-/// What a line asks for: `CHANNEL ADDRESS ACTION`, words parted by one or more spaces, with a channel of 1 to 65,535,
-/// an address of 0 to 30 and an action as `read_action` reads it (own choice). The first fault from left to right is
-/// answered: H1 where the channel or the address is missing, H2 where it is not a number of one to seven digits, H3
-/// where it is out of range.
+/// What a line asks for: `CHANNEL ADDRESS ACTION`, words separated by one or more spaces, with a channel of 1 to
+/// 65,535, an address of 0 to 30 and an action as `read_action` reads it (own choice). The first fault from left to
+/// right is answered: H1 where the channel or the address is missing, H2 where it is not a number of one to seven
+/// digits, H3 where it is out of range.
 #[tactic(auto, unfolding(crate::specs::Lines::post_of, mil_host::specs::Reading::action_in))]
 pub fn read_post(line: &[u8]) -> Result<LivePost, BadAction>
     ensures { result ≡ post_of line.now }

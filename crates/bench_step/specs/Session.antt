@@ -120,7 +120,7 @@ abbrev pub after_reply : Reply → ReplayState → ReplayState
 after_reply (reply.At n) s = at_place n s
 after_reply _ s = s
 
--- what is printed in that state, the message as people read it excepted
+-- what is printed in that state, except the message as people read it
 abbrev pub reply_text : Reply → ReplayState → Text
 reply_text (reply.At n) s = codes "at " ++ (decimal n ++ codes "\n")
 reply_text (reply.Refused e) s = error_text e ++ codes "\n"
