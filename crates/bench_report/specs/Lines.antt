@@ -4,6 +4,7 @@ use Rattle.std.specs.Prelude.{codes, option_map}
 use Rattle.std.specs.Str.{bytes_eq}
 use Rattle.numerals.specs.Numerals.{spelled}
 use Rattle.text_lines.specs.Words.{Text, words}
+use Rattle.mil_word.specs.Fields.{highest_address}
 use Rattle.mil_host.specs.Reading.{in_words}
 use Rattle.mil_host.specs.declared.actions.Action.{Action}
 use Rattle.mil_host.specs.declared.reading.BadAction.{BadAction}
@@ -39,7 +40,7 @@ abbrev pub placed_in : List Text → Option Line
 placed_in [] = None
 placed_in (number ∷ []) = None
 placed_in (number ∷ address ∷ action) = placed_line_of (bounded_number 7 1 1000000 number)
-    (bounded_number 7 0 30 address)
+    (bounded_number 7 0 highest_address address)
     (in_words action)
 
 abbrev pub line_in : List Text → Option Line

@@ -1,6 +1,7 @@
 -- A run's report: for each channel, in the order of the jobs, how many messages it made, which of them a full queue
 -- refused, and the hosts' actions that were placed; and how many packets were written (own choice).
 use Rattle.std.specs.Prelude.{ℕ, ◌≤◌, ◌<◌, List, [], ◌∷◌, All}
+use Rattle.mil_word.specs.Fields.{highest_address}
 use Rattle.mil_host.specs.Ranges.{IsInRange}
 use Rattle.bc_machine.specs.declared.placed.Placed.{Placed}
 
@@ -30,7 +31,7 @@ NeverFalls least (p ∷ ps) = (least ≤ p.number) × NeverFalls p.number ps
 pub record IsPlace (p : Placed) : Type 0 where
   pub number_low : 1 ≤ p.number
   pub number_high : p.number ≤ 1000000
-  pub address : p.address ≤ 30
+  pub address : p.address ≤ highest_address
 
 -- the same, with an action whose values are in their ranges
 pub record IsPlaced (p : Placed) : Type 0 where

@@ -10,6 +10,7 @@ use crate::fault::ReportFault;
 use crate::numbers::{number, only_number_in};
 use bc_machine::Placed;
 use mil_host::read_action;
+use mil_word::fields::HIGHEST_ADDRESS;
 use text_lines::next_word;
 
 /// What a line says.
@@ -45,7 +46,7 @@ fn read_placed(rest: &[u8]) -> Result<Placed, ReportFault>
     };
     action.reads_back();
     let placed = number(number_word, 7, 1, 1_000_000)?;
-    let address = number(address_word, 7, 0, 30)?;
+    let address = number(address_word, 7, 0, u64::from(HIGHEST_ADDRESS))?;
     Ok(Placed {
         number: placed as u32,
         address: address as u8,

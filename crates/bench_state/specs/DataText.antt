@@ -4,6 +4,7 @@ use Rattle.std.specs.Prelude.{ℕ, Bool, ◌&&◌, ◌==◌, nat_le, if◌then�
 use Rattle.std.specs.List.{flat_map}
 use Rattle.text_lines.specs.Words.{Text}
 use Rattle.mil_host.specs.Printing.{spaced_data}
+use Rattle.mil_word.specs.Fields.{highest_subaddress}
 use Rattle.mil_terminal.specs.Station.{Station}
 use Rattle.mil_terminal.specs.Registers.{received, received_from_all, transmit_words}
 
@@ -31,7 +32,7 @@ data_lines subaddress s =
 
 -- the subaddresses of data words (MIL-STD-1553B 4.3.3.5.1.4)
 abbrev pub has_data : ℕ → Bool
-has_data subaddress = nat_le 1 subaddress && nat_le subaddress 30
+has_data subaddress = nat_le 1 subaddress && nat_le subaddress highest_subaddress
 
 -- they are shown of the terminal at the address alone
 abbrev pub data_shown : ℕ → ℕ → Station → Text

@@ -5,6 +5,7 @@ use Rattle.std.proofs.Common.{zero, suc}
 use Rattle.text_lines.specs.Words.{Text}
 use Rattle.mil_host.specs.Printing.{data_text}
 use Rattle.mil_word.specs.declared.Line.TheVariants.{A, B}
+use Rattle.mil_word.specs.Fields.{all_terminals}
 use Rattle.mil_terminal.specs.Station.{Station}
 use Rattle.mil_terminal.specs.Host.{is_deaf, is_mute}
 use Rattle.mil_terminal.specs.Status.{status}
@@ -73,7 +74,7 @@ lines_below detail number placed (suc address) bus =
     lines_below detail number placed address bus ++ station_text detail number placed (station_of address bus.stations)
 
 unfoldable pub terminal_lines : Detail → ℕ → List Placed → BusState → Text
-terminal_lines detail number placed bus = lines_below detail number placed 31 bus
+terminal_lines detail number placed bus = lines_below detail number placed all_terminals bus
 
 -- a channel's line: its number, and that of the last message that its bus has met
 unfoldable pub channel_line : ℕ → ℕ → Text

@@ -1,10 +1,12 @@
 //! The data words of a terminal, as lines.
 ghost use Rattle.bench_state.specs.DataText.{data_line, data_lines, data_shown};
+ghost use Rattle.mil_word.specs.Fields.{highest_subaddress};
 ghost use Rattle.std.specs.Io.KnownBytes.{Appends};
 ghost use Rattle.std.specs.Prelude.{◌≡◌, ◌≤◌, OnOk};
 
 use crate::printing::print_words;
 use mil_terminal::Terminal;
+use mil_word::fields::HIGHEST_SUBADDRESS;
 use std::io;
 use std::io::Write;
 
@@ -28,7 +30,7 @@ fn print_line<W: Write>(
 #[tactic(auto, unfolding(crate::specs::DataText::data_lines))]
 fn print_lines<W: Write>(out: &mut W, terminal: &Terminal, subaddress: u8) -> io::Result<()>
     requires low { 1 ≤ subaddress }
-    requires high { subaddress ≤ 30 }
+    requires high { subaddress ≤ highest_subaddress }
     ensures { OnOk result (Appends (W.contents out.old) (W.contents out.new) (data_lines subaddress terminal.now)) }
 {
     let own = terminal.address();
@@ -65,7 +67,7 @@ pub(crate) fn print_data<W: Write>(
     ensures { OnOk result (Appends (W.contents out.old) (W.contents out.new)
         (data_shown address subaddress terminal.now)) }
 {
-    if terminal.address() == address && 1 <= subaddress && subaddress <= 30 {
+    if terminal.address() == address && 1 <= subaddress && subaddress <= HIGHEST_SUBADDRESS {
         return print_lines(out, terminal, subaddress);
     }
     Ok(())
