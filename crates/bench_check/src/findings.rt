@@ -7,6 +7,7 @@ use crate::oddities::Oddities;
 use crate::planned::put_fault;
 use job_file::Job;
 use mil_line::Fault;
+use mil_word::fields::ALL_TERMINALS;
 use std::alloc::{AllocError, Global};
 use std::fmt::Write as _;
 use std::io::Write;
@@ -205,7 +206,7 @@ fn put_strangers(text: &mut String, job: &Job, calls: &Calls) -> Result<(), Allo
 /// The terminals that are there and are never called, also not by a message to all.
 fn put_uncalled(text: &mut String, job: &Job, calls: &Calls) -> Result<(), AllocError> {
     for address in job.addresses() {
-        if calls.count(*address) == 0 && calls.count(31) == 0 {
+        if calls.count(*address) == 0 && calls.count(ALL_TERMINALS) == 0 {
             write!(text, "  terminal {address} is never called\n")?;
         }
     }

@@ -256,7 +256,7 @@ pub fn try_job<W: Write>(
     ensures room { IfOk result (λ f. f.room ≡ most_items job.now) }
     ensures overruns { IfOk result (λ f. f.overruns.items ≡ overruns job.now) }
 {
-    let room = job.program().worst_messages() + 1;
+    let room = job.most_items();
     let filled = filled_by(job)?;
     let mut trial = Trial::begin(alloc, job, bits)?;
     trial.run(alloc, job, &filled, out)?;

@@ -7,7 +7,7 @@ use crate::scale::{LEFT, Run, Scale, WORD, end_of, runs_of};
 use bench_decode::{Place, put_details};
 use ch11_f1::Seen;
 use ch11_layout::{Role, is_set, word_at};
-use mil_word::Command;
+use mil_word::{Command, Status};
 use std::alloc::AllocError;
 use std::str;
 
@@ -96,7 +96,7 @@ fn put_words(
         Role::Status => {
             let (middle, wide) = middle_of(scale, run.begin, run.end());
             if wide >= ROOM.0 {
-                let address = first / 2048;
+                let address = Status::of(first).address();
                 write!(
                     text,
                     "<text x=\"{middle}\" y=\"{base}\" class=\"a\">{address}</text>"

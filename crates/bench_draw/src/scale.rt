@@ -2,6 +2,7 @@
 
 use ch11_f1::Seen;
 use ch11_layout::{Layout, Role, first_gap, is_set, second_gap};
+use mil_word::timing::{CONTIGUOUS_GAP, WORD_TIME};
 
 /// How many pixels the time takes from left to right.
 pub(crate) const WIDTH: u64 = 1200;
@@ -13,7 +14,7 @@ pub(crate) const LEFT: u64 = 90;
 pub(crate) const PARTS: usize = 100;
 
 /// How many ticks a word takes.
-pub(crate) const WORD: u64 = 200;
+pub(crate) const WORD: u64 = WORD_TIME as u64;
 
 /// From which tick to which the picture goes.
 #[derive(Clone, Copy)]
@@ -91,7 +92,7 @@ impl Run {
 
 /// What lies between two words with this gap, in ticks.
 fn pause(gap: u8) -> u64 {
-    u64::from(gap.saturating_sub(20))
+    u64::from(u16::from(gap).saturating_sub(CONTIGUOUS_GAP))
 }
 
 /// The runs of a message: a command, a second one, a status word in front of the data words, data words, a status

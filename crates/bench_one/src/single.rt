@@ -13,6 +13,7 @@ use mil_line::Gap;
 use mil_message::Message;
 use mil_monitor::{Record, observe};
 use mil_word::Line;
+use mil_word::timing::LEAST_GAP;
 use std::alloc::{AllocError, Global};
 
 /// The packet of the message that the text spells, as in `A rx 5 1 [0001]`, run on fresh terminals at the addresses
@@ -62,7 +63,7 @@ fn only_talk(alloc: Global, line: Line, message: &Message) -> Result<Talk, Alloc
 {
     let addresses = addresses_named(message);
     match Bus::make(alloc, 0, addresses.as_slice()) {
-        Ok(mut bus) => Ok(bus.exchange(line, message, Gap::of(40), &[])),
+        Ok(mut bus) => Ok(bus.exchange(line, message, Gap::of(LEAST_GAP), &[])),
         Err(_) => Err(AllocError),
     }
 }

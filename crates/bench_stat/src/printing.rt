@@ -6,6 +6,7 @@ use crate::terminals::TerminalFigures;
 use crate::times::Times;
 use crate::traffic::Traffic;
 use crate::units::{hundredths, tenths, write_hundredths, write_time_of_day, write_us};
+use mil_word::fields::ALL_TERMINALS;
 use std::io;
 use std::io::Write;
 
@@ -129,7 +130,7 @@ fn print_terminal<W: Write>(
     address: usize,
     terminal: &TerminalFigures,
 ) -> io::Result<()> {
-    if address == 31 {
+    if address == usize::from(ALL_TERMINALS) {
         write!(out, "       all")?;
     } else {
         write!(out, "{address:>10}")?;

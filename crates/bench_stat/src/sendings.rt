@@ -39,7 +39,7 @@ impl Sending {
     }
 
     /// Whether it is a retry, on the other line, of the message before it.
-    pub fn is_retry_of(&self, before: &Sending) -> bool
+    pub(crate) fn is_retry_of(&self, before: &Sending) -> bool
         ensures { result ≡ spec.is_retry before.now self.now }
     {
         before.failed

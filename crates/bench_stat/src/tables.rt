@@ -3,6 +3,7 @@
 use crate::flows::Flow;
 use crate::slices::Slice;
 use crate::units::{hundredths, rate, tenths};
+use mil_word::fields::{ALL_TERMINALS, MODE_SUBADDRESS_OF_ONES, MODE_SUBADDRESS_OF_ZEROS};
 use std::io;
 use std::io::Write;
 
@@ -42,7 +43,7 @@ pub(crate) fn print_subaddresses<W: Write>(
 /// 'all', a mode command's subaddress is 'mode 0' or 'mode 31', and the rate is '-' where no time passed.
 fn print_entry<W: Write>(out: &mut W, entry: usize, flow: &Flow, span: u64) -> io::Result<()> {
     let address = entry / 64;
-    if address == 31 {
+    if address == usize::from(ALL_TERMINALS) {
         write!(out, "       all")?;
     } else {
         write!(out, "{address:>10}")?;
@@ -51,7 +52,9 @@ fn print_entry<W: Write>(out: &mut W, entry: usize, flow: &Flow, span: u64) -> i
     let subaddress = entry % 32;
     let (messages, errors) = (flow.messages, flow.errors);
     write!(out, "{direction:>5}")?;
-    if subaddress == 0 || subaddress == 31 {
+    if subaddress == usize::from(MODE_SUBADDRESS_OF_ZEROS)
+        || subaddress == usize::from(MODE_SUBADDRESS_OF_ONES)
+    {
         write!(out, "     mode {subaddress:>2}")?;
     } else {
         write!(out, "{subaddress:>12}")?;

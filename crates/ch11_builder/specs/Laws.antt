@@ -1,6 +1,7 @@
 -- Laws of the cutting, of a builder's run and of the bytes of a packet.
 use Rattle.std.specs.Prelude.{◌≡◌, ℕ, ◌+◌, ◌≤◌, true, if◌then◌else◌, List, [], ◌∷◌, ◌++◌, length, map, take, drop, Ok}
 use Rattle.std.specs.List.{AllByRecursion}
+use Rattle.mil_line.specs.Ranges.{most_sent}
 use Rattle.ch11_header.specs.HeaderReading.{header_in}
 use Rattle.ch11_f1.specs.BodyBytes.{words_of}
 use Rattle.ch11_f1.specs.BodyReading.{messages_in}
@@ -14,7 +15,7 @@ use Rattle.ch11_builder.specs.Recorded.{IsRecorded, IsChannel}
 -- what is computed is a cutting
 abbrev pub CutIsACutting : Type 0
 CutIsACutting =
-    (limit : ℕ) (ns : List Numbered) → 256 ≤ limit → AllByRecursion (λ n. length (words_of n.message) ≤ 40) ns
+    (limit : ℕ) (ns : List Numbered) → 256 ≤ limit → AllByRecursion (λ n. length (words_of n.message) ≤ most_sent) ns
     → IsCutting limit ns (cut limit ns)
 
 -- there is no other cutting of records whose stamps never fall

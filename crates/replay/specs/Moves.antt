@@ -1,5 +1,6 @@
 -- A recording under the debugger, and what moves of it come to (own choice).
 use Rattle.std.specs.Prelude.{◌≡◌, ℕ, suc, ◌<◌, Bool, true, List, length, slice_get, Some}
+use Rattle.mil_word.specs.Timing.{least_gap}
 use Rattle.mil_message.specs.World.{Point}
 use Rattle.mil_bus.specs.declared.outcomes.Outcome.{Outcome}
 use Rattle.mil_bus.specs.Exchange.{BusState}
@@ -49,7 +50,7 @@ OfJob s index P = (job : JobState) (part : ChannelPart) → slice_get s.jobs ind
 abbrev pub point_after : JobState → ChannelPart → ℕ → Point BusState Outcome
 point_after job part number =
     let bus = bus_after (job_in job) part.placed number in
-    record { state = bus; number = number; gap = 40; last = latest_outcome bus.talks }
+    record { state = bus; number = number; gap = least_gap; last = latest_outcome bus.talks }
 
 -- what a test says of the outcome of that message
 abbrev pub says : Condition → JobState → ChannelPart → ℕ → Bool
